@@ -1,0 +1,183 @@
+-- From an assignment that makes all clauses true to the run that it feeds: frame by frame, the values assigned are the frame's.
+-- No contract cites this file. Assumes nothing.
+use Prim.Native.Nat.{ℕ, zero, suc, _+_, _*_, _/_, _<_, _≤_}
+use mathlib.Core.Path.{_≡_, refl, sym, _∙_, ap, ap₂, subst}
+use mathlib.Core.Bool.{Bool, true, false, cond, not, _&&_, and-comm}
+use mathlib.Core.Logic.{_⊎_, inl, inr, ⊎-elim}
+use native.Mathlib.Numerals.{add-one}
+use native.Mathlib.Nat.{le-refl, le-of-suc-le, lt-suc-self, not-suc-le-zero}
+use native.Mathlib.Omega.{arith}
+use lib.Dec.{eqb}
+use borrow.Author.Tests.{eqb-true, eq-eqb}
+use Rattle.model.specs.Bits.{bit, fromBits}
+use Rattle.model.specs.Netlist.{Netlist, Port, port, lastWire, readBits, inputWire, latchWire, readWire, gateWire}
+use Rattle.model.specs.Circuit.{Values, code, State, Feed, addressOf, readData, frame, wordWritten, step, stateAt, run, initial}
+use Rattle.model.specs.Acceptance.{Accepted}
+use Rattle.model.specs.Clauses.{Literal, known, PairLiterals}
+use Rattle.model.specs.Variables.{base, codeIn, none, readBit, pairLiterals, closingLiterals}
+use Rattle.model.specs.Numbers.{Assignment}
+use Rattle.model.specs.Claim.{feedOf, Agrees, Breaks}
+use Rattle.model.proofs.Below.{all-below-suc}
+use Rattle.model.proofs.Booleans.{and-true, iff-eq}
+use Rattle.model.proofs.Bits.{fromBits-same, bit-fromBits}
+use Rattle.model.proofs.Circuit.{code-same, IsFrame, frame-unique}
+use Rattle.model.proofs.Truth.{value, Holds, PairHolds, ClosingHolds}
+use Rattle.model.proofs.InFrame.{assigned, assigned-zero, assigned-wire, readBit-value, codeIn-value}
+use Rattle.model.proofs.Forwarding.{stepped, Chain, selected-read}
+use Rattle.model.proofs.Variables.{none-last}
+use Rattle.model.proofs.Joined.{EachGroup}
+use Rattle.model.proofs.Agreement.{Same, address-bits, code-agrees, address-agrees, word-bit, writes, hits, wordBefore, memory-stepped, wordBefore-agrees}
+use Rattle.model.proofs.Groups.{wires-hold, state-first-holds, state-later-holds, gateClauses-holds, resetClause-holds, latchClauses-holds, pair-holds, closing-holds, property-holds}
+
+module _ (c : Netlist) (a : Assignment) where
+  -- the frames as assigned, the address in a frame, and the literals of a pair
+  abbrev u : ℕ → Values
+  u = assigned c a
+
+  abbrev at : ℕ → ℕ
+  at i = addressOf c (port c) (u i)
+
+  abbrev literals : ℕ → ℕ → PairLiterals
+  literals = pairLiterals c (port c)
+
+  -- E is true exactly where the two addresses are equal
+  E-value : (j i : ℕ) → PairHolds a (c .m) (c .n) (literals j i) → value a (literals j i .E) ≡ eqb (at i) (at j)
+  unfolding pairLiterals addressOf
+  E-value j i h =
+      iff-eq _ _
+      (λ e. eq-eqb _ _ (fromBits-same (c .m) _ _ (λ t b. sym (Ai t) ∙ sym (h .address-bit t b .0 e) ∙ Aj t)))
+      (λ e. h .E-where-all-e (λ t b. h .address-bit t b .1
+      (Aj t ∙ sym (address-bits c (port c) (port c) (u i) (u j) (eqb-true _ _ e) t b) ∙ sym (Ai t))))
+    where
+      Aj : (t : ℕ) → value a (literals j i .Aj t) ≡ code (u j) (c .address t)
+      Aj t = codeIn-value c a j (c .address t)
+
+      Ai : (t : ℕ) → value a (literals j i .Ai t) ≡ code (u i) (c .address t)
+      Ai t = codeIn-value c a i (c .address t)
+
+  -- s is true exactly where frame j writes the word that frame i reads
+  s-value : (j i : ℕ) → PairHolds a (c .m) (c .n) (literals j i) → value a (literals j i .s) ≡ hits c u i j
+  unfolding hits writes pairLiterals
+  s-value j i h =
+      h .valid ∙ and-comm (value a (literals j i .E)) (value a (literals j i .WE))
+      ∙ ap₂ _&&_ (codeIn-value c a j (c .WE)) (E-value j i h)
+
+  module _ (k : ℕ) (holds : EachGroup c k (Holds a)) where
+    pair-at : (j i : ℕ) → j < i → i ≤ k → PairHolds a (c .m) (c .n) (literals j i)
+    pair-at j i b d = pair-holds c a k j i .0 (holds .pairs j i b d)
+
+    closing-at : (i : ℕ) → i ≤ k → ClosingHolds a (c .n) i (closingLiterals c (port c) i)
+    closing-at i d = closing-holds c a k i .0 (holds .closings i d)
+
+    -- N of pair (j, i) is `none` of the next frame
+    N-value : (j i : ℕ) → value a (literals j i .N) ≡ value a (none c (port c) (suc j) i)
+    unfolding pairLiterals
+    N-value j i = ap (λ (x : ℕ). value a (none c (port c) x i)) (add-one j)
+
+    -- the literals `none` of frame i are the chain of the writes to the word it reads
+    chain-at : (i : ℕ) → i ≤ k → Chain i (hits c u i) (λ j. value a (none c (port c) j i))
+    unfolding pairLiterals
+    chain-at i d =
+        record {
+          link = λ j b. let h = pair-at j i b d in
+              h .none-since ∙ ap₂ (λ (x y : Bool). not x && y) (s-value j i h) (N-value j i);
+        }
+
+    -- S is true where frame j's write is the newest to the word that frame i reads
+    S-where-newest : (j i : ℕ) (b : j < i) (d : i ≤ k) → (hits c u i j && value a (none c (port c) (suc j) i)) ≡ true
+        → value a (literals j i .S) ≡ true
+    S-where-newest j i b d h =
+        let p = pair-at j i b d in p .exclusive ∙ ap₂ _&&_ (s-value j i p) (N-value j i) ∙ h
+
+    -- where RE is true, the read bits assigned are the word that the writes assigned leave
+    read-at : (i : ℕ) → i ≤ k → code (u i) (c .RE) ≡ true → (t : ℕ) → t < c .n
+        → u i (readWire c t) ≡ bit (wordBefore c u (c .initialWord) (at i) i) t
+    unfolding closingLiterals pairLiterals value hits
+    read-at i d r t b = sym (readBit-value c a i t) ∙ reads i (le-refl i) RE t b
+      where
+        -- the read bits of frame i are the word w
+        Reads : ℕ → Type 0
+        Reads w = (t : ℕ) → t < c .n → value a (readBit c (port c) i t) ≡ bit w t
+
+        forwarded : (j : ℕ) → j < i → (hits c u i j && value a (none c (port c) (suc j) i)) ≡ true → Reads (wordWritten c (u j))
+        forwarded j b h t l =
+            pair-at j i b d .data-where-S t l (S-where-newest j i b d h)
+            ∙ codeIn-value c a j (c .writeData t) ∙ sym (word-bit c (u j) t l)
+
+        RE : value a (none c (port c) i i) ≡ true
+        RE = ap (value a) (none-last c (port c) i) ∙ codeIn-value c a i (c .RE) ∙ r
+
+        reads : (j : ℕ) → j ≤ i → value a (none c (port c) j i) ≡ true → Reads (wordBefore c u (c .initialWord) (at i) j)
+        reads =
+            selected-read i (hits c u i) (λ j. value a (none c (port c) j i)) (chain-at i d) (c .initialWord)
+            (λ j. wordWritten c (u j)) Reads (λ z t b. closing-at i d .initial-where-Z t b z) forwarded
+
+    module _ (ok : Accepted c) where
+      -- the run that the assignment feeds, and its states
+      abbrev driven : ℕ → Values
+      driven = run c (initial c) (feedOf c a)
+
+      abbrev state : ℕ → State
+      state = stateAt c (initial c) (feedOf c a)
+
+      -- the frames below i agree
+      abbrev Before : ℕ → Type 0
+      Before i = (j : ℕ) → j < i → Same c (u j) (driven j)
+
+      -- the latches assigned are the run's, if the frames before agree
+      latch-at : (i : ℕ) → i ≤ k → Before i → (l : ℕ) → l < c .latches → u i (latchWire c l) ≡ state i .latch l
+      unfolding stateAt initial step run
+      latch-at zero d before l b =
+          let first = state-first-holds c a .0 (wires-hold c a k 0 .0 (holds .wires 0 d) .0) in
+          resetClause-holds c a l .0 (first .1 l b)
+      latch-at (suc i) d before l b =
+          let later = state-later-holds c a i .0 (wires-hold c a k (suc i) .0 (holds .wires (suc i) d) .0) in
+          ap (λ (x : ℕ). u x (latchWire c l)) (sym (add-one i))
+          ∙ latchClauses-holds c a i l .0 (later l b)
+          ∙ code-agrees c (u i) (driven i) (before i (lt-suc-self i)) (c .next l) (ok .codes .next-fits l b)
+
+      -- so is the word that frame i reads
+      word-at : (i : ℕ) → Before i → (x : ℕ) → wordBefore c u (c .initialWord) x i ≡ state i .memory x
+      unfolding initial
+      word-at i before x =
+          wordBefore-agrees c (ok .codes) u driven (c .initialWord) x i before
+          ∙ sym (memory-stepped c (initial c) (feedOf c a) x i)
+
+      -- so is the whole frame
+      frame-at : (i : ℕ) → i ≤ k → Before i → IsFrame c (state i) (feedOf c a i) (u i)
+      unfolding readData feedOf
+      frame-at i d before =
+          record {
+            at-zero = assigned-zero c a i;
+            at-input = λ x b. assigned-wire c a i (inputWire c x) (omega arith);
+            at-latch = latch-at i d before;
+            at-read = λ t b. reads t b (code (u i) (c .RE)) refl;
+            at-gate = λ g b. gateClauses-holds c a i g .0 (wires-hold c a k i .0 (holds .wires i d) .1 g b);
+          }
+        where
+          reads : (t : ℕ) → t < c .n → (r : Bool) → code (u i) (c .RE) ≡ r
+              → u i (readWire c t) ≡ readData c (state i) (feedOf c a i) (u i) t
+          reads t b true e = rw e (read-at i d e t b ∙ ap (λ (w : ℕ). bit w t) (word-at i before (at i)))
+          reads t b false e = rw e (assigned-wire c a i (readWire c t) (omega arith))
+
+      agree-below : (n : ℕ) → n ≤ k + 1 → Before n
+      unfolding run
+      agree-below zero d = λ i b. absurd (not-suc-le-zero b)
+      agree-below (suc n) d =
+          let before = agree-below n (le-of-suc-le d) in
+          all-below-suc (λ i. Same c (u i) (driven i)) n before
+          (frame-unique ok (state n) (feedOf c a n) (u n) (frame-at n (omega arith) before))
+
+      agree : (i : ℕ) → i < k + 1 → Same c (u i) (driven i)
+      agree = agree-below (k + 1) (le-refl (k + 1))
+
+      pub assignment-agrees : Agrees c k a (feedOf c a)
+      unfolding Agrees
+      assignment-agrees i d w l b = sym (assigned-wire c a i w l) ∙ agree i (omega arith) w b
+
+      pub assignment-breaks : Breaks c k (feedOf c a)
+      unfolding Breaks
+      assignment-breaks =
+          let p = property-holds c a k .0 (holds .property) in
+          let i = p .0 in
+          (i, omega (arith, p .1), sym (code-agrees c (u i) (driven i) (agree i (p .1)) (c .P) (ok .codes .P-fits)) ∙ p .2)

@@ -1,0 +1,270 @@
+-- Every literal of every group of depth k is a constant or a variable from 1 to B(k + 1): so every number written for depth k
+-- is within B(k + 1) of 0, and 0 only as an end mark. No contract cites this file. Assumes nothing.
+use Prim.Native.Nat.{ℕ, zero, suc, _+_, _*_, _/_, _≤_, _<_}
+use mathlib.Core.Path.{_≡_, refl}
+use mathlib.Core.Bool.{Bool, true, false, cond}
+use mathlib.Core.List.{List, [], _∷_}
+use native.Mathlib.Omega.{arith}
+use borrow.Author.Tests.{eqb-false}
+use lib.Dec.{eqb, ltb}
+use lib.IntN.{natAbs}
+use Rattle.model.specs.Bits.{odd}
+use Rattle.model.specs.Netlist.{Netlist, port, gateWire, lastWire}
+use Rattle.model.specs.Clauses.{Literal, known, plus, minus, Clause, neg, andClauses, sameClauses, sameIf, bitClauses, PairLiterals, bitOf, notE, allBits, forwarded, pairClauses, ClosingLiterals, initialRead, justS, someSource, closingClauses}
+use Rattle.model.specs.Variables.{stride, base, pairBase, wireAt, codeAt, wireIn, codeIn, none, selected, readBit, pairLiterals, closingLiterals}
+use Rattle.model.specs.Acceptance.{Accepted, IsCode}
+use Rattle.model.specs.Groups.{gateClauses, resetClause, latchClauses, stateClauses, notP, clausesOf, pairOf, frameGroups, groupOrder}
+use Rattle.model.specs.Numbers.{numberOf, written, formula}
+use Rattle.model.specs.declared.Group.{Group}
+use Rattle.model.specs.declared.Group.the-variants.{Wires, Pair, Closing, Property}
+use Rattle.model.proofs.Variables.{base-suc, base-least, base-monotone, pair-within}
+use Rattle.model.proofs.Gather.{All, nothing, also, just, _⧺_, all-gather, all-gatherDown, all-map}
+use Rattle.model.proofs.Joined.{joinedClauses, formula-written}
+
+-- a constant, or a variable from 1 to b
+abbrev pub Within : ℕ → Literal → Type 0
+Within b (known x) = Unit {0}
+Within b (plus v) = (1 ≤ v) × (v ≤ b)
+Within b (minus v) = (1 ≤ v) × (v ≤ b)
+
+-- a property of every literal of every clause
+abbrev pub AllLits : (Literal → Type 0) → List Clause → Type 0
+AllLits P = All (All P)
+
+-- a property of the literals of a pair, as far as its clauses name them
+record PairAll (P : Literal → Type 0) (m n : ℕ) (x : PairLiterals) : Type 0 where
+  E : P (x .E)
+  e : (t : ℕ) → t < m → P (x .e t)
+  s : P (x .s)
+  PS : P (x .PS)
+  S : P (x .S)
+  N : P (x .N)
+  WE : P (x .WE)
+  Aj : (t : ℕ) → t < m → P (x .Aj t)
+  WD : (t : ℕ) → t < n → P (x .WD t)
+  Ai : (t : ℕ) → t < m → P (x .Ai t)
+  RD : (t : ℕ) → t < n → P (x .RD t)
+
+-- and of the literals of a closing
+record ClosingAll (P : Literal → Type 0) (n i : ℕ) (x : ClosingLiterals) : Type 0 where
+  Z : P (x .Z)
+  RE : P (x .RE)
+  S : (j : ℕ) → j < i → P (x .S j)
+  RD : (t : ℕ) → t < n → P (x .RD t)
+  W : (t : ℕ) → t < n → P (x .W t)
+
+-- a property of literals that negation keeps is one of whole clauses, once their literals have it
+module _ {P : Literal → Type 0} (keeps : (l : Literal) → P l → P (neg l)) where
+  -- of a literal, inverted or not
+  either-all : (t : Bool) {q : Literal} → P q → P (cond t q (neg q))
+  either-all true p = p
+  either-all false p = keeps _ p
+
+  -- of a gate's clauses
+  and-all : {g a b : Literal} → P g → P a → P b → AllLits P (andClauses g a b)
+  unfolding andClauses
+  and-all g a b = search (also, nothing, keeps) depth 12
+
+  -- of the clauses of two equal literals
+  same-all : {q d : Literal} → P q → P d → AllLits P (sameClauses q d)
+  unfolding sameClauses
+  same-all q d = search (also, nothing, keeps) depth 12
+
+  -- of the clauses of two literals that are equal where a third is true
+  sameIf-all : {p a b : Literal} → P p → P a → P b → AllLits P (sameIf p a b)
+  unfolding sameIf
+  sameIf-all p a b = search (also, nothing, keeps) depth 12
+
+  -- of an address bit's clauses
+  bit-all : {E e x y : Literal} → P E → P e → P x → P y → AllLits P (bitClauses E e x y)
+  unfolding bitClauses
+  bit-all E e x y = search (also, nothing, keeps) depth 12
+
+  -- of a pair's clauses
+  pair-all : (m n : ℕ) (x : PairLiterals) → PairAll P m n x → AllLits P (pairClauses m n x)
+  unfolding pairClauses bitOf allBits notE forwarded
+  pair-all m n x a =
+      search (_⧺_, just, also, all-gather, bit-all, and-all, sameIf-all, keeps, a .E, a .e, a .s, a .PS, a .S, a .N, a .WE, a .Aj, a .WD, a .Ai, a .RD) depth 20
+
+  -- of a closing's clauses
+  closing-all : (n i : ℕ) (x : ClosingLiterals) → ClosingAll P n i x → AllLits P (closingClauses n i x)
+  unfolding closingClauses initialRead someSource justS
+  closing-all n i x a =
+      search (_⧺_, just, also, all-gather, sameIf-all, keeps, a .Z, a .RE, a .S, a .RD, a .W) depth 20
+
+-- what each group's clauses have, all groups' clauses joined have
+pub joined-all : {Q : Clause → Type 0} (f : Group → List Clause) (gs : List Group)
+    → All (λ g. All Q (f g)) gs → All Q (joinedClauses f gs)
+unfolding joinedClauses
+joined-all f [] nothing = nothing
+joined-all f (g ∷ gs) (also h r) = h ⧺ joined-all f gs r
+
+-- a property of whichever literal a test picks
+cond-has : (P : Literal → Type 0) {l r : Literal} (t : Bool) → (t ≡ true → P l) → (t ≡ false → P r) → P (cond t l r)
+cond-has P true p q = p refl
+cond-has P false p q = q refl
+
+-- negation keeps the variable
+pub within-neg : (b : ℕ) (l : Literal) → Within b l → Within b (neg l)
+unfolding neg
+within-neg b (known x) h = tt
+within-neg b (plus v) h = h
+within-neg b (minus v) h = h
+
+-- the literals of frames 0 to k
+module _ (c : Netlist) (k : ℕ) where
+  -- what depth k has numbers for
+  abbrev pub Bounded : Literal → Type 0
+  Bounded = Within (base c (k + 1))
+
+  -- a variable of frame i
+  variable-within : (i v : ℕ) → i ≤ k → (1 ≤ v) × (v ≤ base c (suc i)) → Bounded (plus v)
+  variable-within i v h r = omega (arith, base-monotone c {i = suc i} {j = k + 1} (omega arith))
+
+  -- a wire
+  pub wire-within : (i w : ℕ) → i ≤ k → w ≤ lastWire c → Bounded (wireIn c i w)
+  unfolding wireAt
+  wire-within i w h r = variable-within i (base c i + w) h (omega (arith, base-least c i, base-suc c i))
+
+  -- a code
+  pub code-within : (i x : ℕ) → i ≤ k → IsCode c x → Bounded (codeIn c i x)
+  unfolding codeAt wireAt
+  code-within i x h r =
+      let wire : Bounded (plus (base c i + x / 2)) = wire-within i (x / 2) h (omega arith) in
+      cond-has Bounded (ltb x 2) (λ e. tt) (λ e. cond-has Bounded (odd x) (λ o. wire) (λ o. wire))
+
+  -- a variable of pair (j, i)
+  pub pair-variable-within : (j i v : ℕ) → j < i → i ≤ k
+      → (pairBase c (port c) j i < v) × (v ≤ pairBase c (port c) j i + stride c) → Bounded (plus v)
+  pair-variable-within j i v l h r = variable-within i v h (omega (arith, pair-within c j i l))
+
+  -- PS, or RE
+  pub none-within : (j i : ℕ) → j ≤ i → i ≤ k → IsCode c (c .RE) → Bounded (none c (port c) j i)
+  unfolding none
+  none-within j i l h r =
+      cond-has Bounded (eqb j i)
+      (λ e. code-within i (c .RE) h r)
+      (λ e. pair-variable-within j i _ (omega (arith, eqb-false j i e)) h (omega arith))
+
+  -- S
+  pub selected-within : (j i : ℕ) → j < i → i ≤ k → Bounded (selected c (port c) j i)
+  unfolding selected
+  selected-within j i l h = pair-variable-within j i _ l h (omega arith)
+
+  -- a read bit
+  pub readBit-within : (i t : ℕ) → i ≤ k → t < c .n → Bounded (readBit c (port c) i t)
+  unfolding readBit
+  readBit-within i t h b = wire-within i _ h (omega arith)
+
+-- the clauses of depth k of an accepted netlist
+module _ {c : Netlist} (accepted : Accepted c) (k : ℕ) where
+  -- a gate's
+  gate-within : (i g : ℕ) → i ≤ k → g < c .gates → AllLits (Bounded c k) (gateClauses c i g)
+  unfolding gateClauses
+  gate-within i g h b =
+      let operand : (x : ℕ) → x < 2 * gateWire c g → IsCode c x = λ x l. omega arith in
+      and-all (within-neg _)
+      (wire-within c k i _ h (omega arith))
+      (code-within c k i _ h (operand _ (accepted .codes .left-fits g b)))
+      (code-within c k i _ h (operand _ (accepted .codes .right-fits g b)))
+
+  -- a latch's in frame 0
+  reset-within : (l : ℕ) → l < c .latches → AllLits (Bounded c k) (resetClause c l)
+  unfolding resetClause
+  reset-within l b =
+      just (just (either-all (within-neg _) (eqb (c .reset l) 1) (wire-within c k 0 _ (omega arith) (omega arith))))
+
+  -- a latch's in a later frame
+  latch-within : (i l : ℕ) → i < k → l < c .latches → AllLits (Bounded c k) (latchClauses c i l)
+  unfolding latchClauses
+  latch-within i l h b =
+      same-all (within-neg _)
+      (wire-within c k (i + 1) _ (omega arith) (omega arith))
+      (code-within c k i _ (omega arith) (accepted .codes .next-fits l b))
+
+  -- all latches'
+  state-within : (i : ℕ) → i ≤ k → AllLits (Bounded c k) (stateClauses c i)
+  unfolding stateClauses
+  state-within zero h =
+      just (just (variable-within c k 0 1 h (omega (arith, base-least c 1))))
+      ⧺ all-gather (c .latches) (resetClause c) (λ l b. reset-within l b)
+  state-within (suc i) h = all-gather (c .latches) (latchClauses c i) (λ l b. latch-within i l h b)
+
+  -- the wires of frame i
+  pub wires-within : (i : ℕ) → i ≤ k → AllLits (Within (base c (k + 1))) (clausesOf c k (Wires i))
+  unfolding clausesOf
+  wires-within i h = state-within i h ⧺ all-gather (c .gates) (gateClauses c i) (λ g b. gate-within i g h b)
+
+  -- pair (j, i)
+  pub pairs-within : (j i : ℕ) → j < i → i ≤ k → AllLits (Within (base c (k + 1))) (clausesOf c k (Pair j i))
+  unfolding clausesOf pairLiterals
+  pairs-within j i l h =
+      pair-all (within-neg _) (c .m) (c .n) _
+      (record {
+        E = pair-variable-within c k j i _ l h (omega arith);
+        e = λ t b. pair-variable-within c k j i _ l h (omega arith);
+        s = pair-variable-within c k j i _ l h (omega arith);
+        PS = none-within c k j i (omega arith) h (accepted .codes .RE-fits);
+        S = selected-within c k j i l h;
+        N = none-within c k (j + 1) i (omega arith) h (accepted .codes .RE-fits);
+        WE = code-within c k _ _ (omega arith) (accepted .codes .WE-fits);
+        Aj = λ t b. code-within c k _ _ (omega arith) (accepted .codes .address-fits t b);
+        WD = λ t b. code-within c k _ _ (omega arith) (accepted .codes .data-fits t b);
+        Ai = λ t b. code-within c k _ _ (omega arith) (accepted .codes .address-fits t b);
+        RD = λ t b. readBit-within c k i t h b;
+      })
+
+  -- the closing of frame i
+  pub closing-within : (i : ℕ) → i ≤ k → AllLits (Within (base c (k + 1))) (clausesOf c k (Closing i))
+  unfolding clausesOf closingLiterals
+  closing-within i h =
+      closing-all (within-neg _) (c .n) i _
+      (record {
+        Z = none-within c k 0 i (omega arith) h (accepted .codes .RE-fits);
+        RE = code-within c k i _ h (accepted .codes .RE-fits);
+        S = λ j l. selected-within c k j i l h;
+        RD = λ t b. readBit-within c k i t h b;
+        W = λ t b. tt;
+      })
+
+  -- the property
+  pub property-within : AllLits (Within (base c (k + 1))) (clausesOf c k Property)
+  unfolding clausesOf notP
+  property-within =
+      let property = accepted .codes .P-fits in
+      just (all-gather (k + 1) (notP c) (λ i h. just (within-neg _ _ (code-within c k i _ (omega arith) property))))
+
+  -- the groups of frame i
+  frame-within : (i : ℕ) → i ≤ k → All (λ g. AllLits (Bounded c k) (clausesOf c k g)) (frameGroups i)
+  unfolding frameGroups pairOf
+  frame-within i h =
+      just (wires-within i h)
+      ⧺ (all-gatherDown i (pairOf i) (λ j l. just (pairs-within j i l h)) ⧺ just (closing-within i h))
+
+  -- all groups
+  pub formula-within : AllLits (Within (base c (k + 1))) (joinedClauses (clausesOf c k) (groupOrder k))
+  unfolding groupOrder
+  formula-within =
+      joined-all (clausesOf c k) _
+      (all-gather (k + 1) frameGroups (λ i h. frame-within i (omega arith)) ⧺ just property-within)
+
+-- a literal's number is within the bound, and no end mark
+pub numberOf-within : (b : ℕ) (l : Literal) → 1 ≤ b → Within b l → (natAbs (numberOf l) ≤ b) × (1 ≤ natAbs (numberOf l))
+unfolding numberOf
+numberOf-within b (known true) h w = (h, omega arith)
+numberOf-within b (known false) h w = (h, omega arith)
+numberOf-within b (plus v) h w = (w .1, w .0)
+numberOf-within b (minus zero) h w = omega arith
+numberOf-within b (minus (suc v)) h w = (w .1, w .0)
+
+-- every number written is within the bound
+pub written-within : (b : ℕ) (xs : List Clause) → 1 ≤ b → AllLits (Within b) xs → All (λ z. natAbs z ≤ b) (written xs)
+unfolding written
+written-within b [] h nothing = nothing
+written-within b (x ∷ xs) h (also p q) =
+    all-map numberOf (λ l w. numberOf-within b l h w .0) p ⧺ just (omega arith) ⧺ written-within b xs h q
+
+-- every number written for depth k is within B(k + 1)
+pub formula-numbers-within : {c : Netlist} → Accepted c → (k : ℕ) → All (λ z. natAbs z ≤ base c (k + 1)) (formula c k)
+formula-numbers-within {c} accepted k =
+    rw (formula-written c k) (written-within (base c (k + 1)) _ (base-least c (k + 1)) (formula-within accepted k))

@@ -1,0 +1,177 @@
+-- Laws of specs/Circuit.antt: a frame is the one solution of its equations. No contract cites this file. Assumes nothing.
+use Prim.Native.Nat.{ℕ, _-_, _/_, _≤_, _<_}
+use mathlib.Core.Path.{_≡_, refl, ap₂, sym, _∙_}
+use mathlib.Core.Bool.{Bool, false, _&&_, true≢false}
+use native.Mathlib.Omega.{arith}
+use borrow.Author.Tests.{lt-ltb, le-ltb}
+use Rattle.model.specs.Netlist.{Netlist, Port, port, readBits, inputWire, latchWire, readWire, gateWire, lastWire}
+use Rattle.model.specs.Circuit.{Values, code, sources, conjunction, evaluate, dependsOnRead, State, Feed, addressOf, readData, firstPass, frame}
+use Rattle.model.specs.Acceptance.{Accepted, CodesFit, IsCode}
+use Rattle.model.proofs.Bits.{fromBits-same}
+use Rattle.model.proofs.Sweep.{OfTwoWires, sweep-outside, sweep-solves, wire-induction}
+use Rattle.model.proofs.Dependence.{depends-read, independent-gate}
+
+-- a code's value needs its wire's value alone
+pub code-same : (u v : Values) (x : ℕ) → u (x / 2) ≡ v (x / 2) → code u x ≡ code v x
+unfolding code
+code-same u v x h = rw h
+
+-- a gate looks at its two wires alone
+conjunction-of-two : OfTwoWires conjunction
+unfolding conjunction
+conjunction-of-two u v a b h k = ap₂ _&&_ (code-same u v a h) (code-same u v b k)
+
+-- the wires of a frame as equations, with the read bits given
+pub record Solves (c : Netlist) (input latch read : ℕ → Bool) (v : Values) : Type 0 where
+  pub at-zero : v 0 ≡ false
+  pub at-input : (x : ℕ) → x < c .inputs → v (inputWire c x) ≡ input x
+  pub at-latch : (l : ℕ) → l < c .latches → v (latchWire c l) ≡ latch l
+  pub at-read : (t : ℕ) → t < readBits c → v (readWire c t) ≡ read t
+  pub at-gate : (g : ℕ) → g < c .gates → v (gateWire c g) ≡ (code v (c .left g) && code v (c .right g))
+
+module _ (c : Netlist) (input latch read : ℕ → Bool) where
+  -- wire 0 is false
+  sources-zero : sources c input latch read 0 ≡ false
+  unfolding sources
+  sources-zero = refl
+
+  -- an input is as given
+  sources-input : (x : ℕ) → x < c .inputs → sources c input latch read (inputWire c x) ≡ input x
+  unfolding sources
+  sources-input x h =
+      let e : inputWire c x - inputWire c 0 ≡ x = omega arith in
+      rw (le-ltb (inputWire c x) (inputWire c 0) (omega arith), lt-ltb (inputWire c x) (latchWire c 0) (omega arith), e)
+
+  -- a latch is as given
+  sources-latch : (l : ℕ) → l < c .latches → sources c input latch read (latchWire c l) ≡ latch l
+  unfolding sources
+  sources-latch l h =
+      let e : latchWire c l - latchWire c 0 ≡ l = omega arith in
+      rw (
+        le-ltb (latchWire c l) (inputWire c 0) (omega arith),
+        le-ltb (latchWire c l) (latchWire c 0) (omega arith),
+        lt-ltb (latchWire c l) (readWire c 0) (omega arith),
+        e,
+      )
+
+  -- a read bit is as given
+  sources-read : (t : ℕ) → t < readBits c → sources c input latch read (readWire c t) ≡ read t
+  unfolding sources
+  sources-read t h =
+      let e : readWire c t - readWire c 0 ≡ t = omega arith in
+      rw (
+        le-ltb (readWire c t) (inputWire c 0) (omega arith),
+        le-ltb (readWire c t) (latchWire c 0) (omega arith),
+        le-ltb (readWire c t) (readWire c 0) (omega arith),
+        lt-ltb (readWire c t) (gateWire c 0) (omega arith),
+        e,
+      )
+
+  -- evaluating leaves inputs, latches and read bits as they are
+  evaluate-source : (w : ℕ) → w < gateWire c 0 → evaluate c input latch read w ≡ sources c input latch read w
+  unfolding evaluate
+  evaluate-source w h = sweep-outside conjunction c (sources c input latch read) (c .gates) w (omega arith)
+
+  -- evaluating solves the equations
+  pub evaluate-solves : CodesFit c → Solves c input latch read (evaluate c input latch read)
+  unfolding evaluate conjunction
+  evaluate-solves q =
+      record {
+        at-zero = evaluate-source 0 (omega arith) ∙ sources-zero;
+        at-input = λ x h. evaluate-source (inputWire c x) (omega arith) ∙ sources-input x h;
+        at-latch = λ l h. evaluate-source (latchWire c l) (omega arith) ∙ sources-latch l h;
+        at-read = λ t h. evaluate-source (readWire c t) (omega arith) ∙ sources-read t h;
+        at-gate = sweep-solves conjunction c (sources c input latch read) conjunction-of-two q;
+      }
+
+-- two solutions agree on a set of wires that holds the two wires of each of its gates, if its read bits agree
+pub solutions-agree : {c : Netlist} → CodesFit c → (Held : ℕ → Type 0)
+    → ((g : ℕ) → g < c .gates → Held (gateWire c g) → Held (c .left g / 2) × Held (c .right g / 2))
+    → {input latch read other : ℕ → Bool} → ((t : ℕ) → t < readBits c → Held (readWire c t) → read t ≡ other t)
+    → {u v : Values} → Solves c input latch read u → Solves c input latch other v → (w : ℕ) → w ≤ lastWire c → Held w → u w ≡ v w
+unfolding conjunction
+solutions-agree {c} q Held closed reads {u} {v} p r =
+    wire-induction c (λ x. Held x → u x ≡ v x)
+    (record {
+      at-zero = λ k. p .at-zero ∙ sym (r .at-zero);
+      at-input = λ x h k. p .at-input x h ∙ sym (r .at-input x h);
+      at-latch = λ l h k. p .at-latch l h ∙ sym (r .at-latch l h);
+      at-read = λ t h k. p .at-read t h ∙ reads t h k ∙ sym (r .at-read t h);
+      at-gate = λ g h below k.
+          let left = below (c .left g / 2) (omega (arith, q .left-fits g h)) (closed g h k .0) in
+          let right = below (c .right g / 2) (omega (arith, q .right-fits g h)) (closed g h k .1) in
+          p .at-gate g h ∙ conjunction-of-two u v (c .left g) (c .right g) left right ∙ sym (r .at-gate g h);
+    })
+
+-- a wire that depends on no read bit has the same value in two solutions, whatever their read bits are
+pub independent-agree : {c : Netlist} → CodesFit c → {input latch read other : ℕ → Bool} {u v : Values} → Solves c input latch read u
+    → Solves c input latch other v → (w : ℕ) → w ≤ lastWire c → dependsOnRead c w ≡ false → u w ≡ v w
+independent-agree {c} q =
+    solutions-agree q (λ x. dependsOnRead c x ≡ false) (independent-gate c q)
+    (λ t h free. absurd (true≢false (sym (depends-read c t h) ∙ free)))
+
+-- equal address codes make the same address
+pub address-same : (c : Netlist) (p : Port) (u v : Values) → ((t : ℕ) → t < c .m → code u (p .address t) ≡ code v (p .address t))
+    → addressOf c p u ≡ addressOf c p v
+unfolding addressOf
+address-same c p u v h = fromBits-same (c .m) (λ t. code u (p .address t)) (λ t. code v (p .address t)) h
+
+-- what is read follows from the address and RE
+pub readData-same : (c : Netlist) (s : State) (f : Feed) (u v : Values) → addressOf c (port c) u ≡ addressOf c (port c) v
+    → code u (port c .RE) ≡ code v (port c .RE) → (t : ℕ) → readData c s f u t ≡ readData c s f v t
+unfolding readData
+readData-same c s f u v a e t = rw (a, e)
+
+-- a frame as equations, without the two passes
+pub record IsFrame (c : Netlist) (s : State) (f : Feed) (v : Values) : Type 0 where
+  pub at-zero : v 0 ≡ false
+  pub at-input : (x : ℕ) → x < c .inputs → v (inputWire c x) ≡ f .input x
+  pub at-latch : (l : ℕ) → l < c .latches → v (latchWire c l) ≡ s .latch l
+  pub at-read : (t : ℕ) → t < readBits c → v (readWire c t) ≡ readData c s f v t
+  pub at-gate : (g : ℕ) → g < c .gates → v (gateWire c g) ≡ (code v (c .left g) && code v (c .right g))
+
+-- what is read is settled before any read bit is
+read-settled : {c : Netlist} → Accepted c → (s : State) (f : Feed) → {read other : ℕ → Bool} {u v : Values}
+    → Solves c (f .input) (s .latch) read u → Solves c (f .input) (s .latch) other v → (t : ℕ) → readData c s f u t ≡ readData c s f v t
+read-settled {c} h s f {u} {v} p q =
+    readData-same c s f u v
+    (address-same c (port c) u v (λ t l. settled (c .address t) (h .codes .address-fits t l) (h .noLoop .address-free t l)))
+    (settled (c .RE) (h .codes .RE-fits) (h .noLoop .RE-free))
+  where
+    settled : (x : ℕ) → IsCode c x → dependsOnRead c (x / 2) ≡ false → code u x ≡ code v x
+    settled x l free = code-same u v x (independent-agree (h .codes) p q (x / 2) (omega arith) free)
+
+-- the first pass is a solution with all read bits false
+firstPass-solves : {c : Netlist} → CodesFit c → (s : State) (f : Feed) → Solves c (f .input) (s .latch) (λ t. false) (firstPass c s f)
+unfolding firstPass
+firstPass-solves {c} q s f = evaluate-solves c (f .input) (s .latch) (λ t. false) q
+
+-- the second pass is a solution with what the first pass reads
+frame-solves : {c : Netlist} → CodesFit c → (s : State) (f : Feed)
+    → Solves c (f .input) (s .latch) (readData c s f (firstPass c s f)) (frame c s f)
+unfolding frame
+frame-solves {c} q s f = evaluate-solves c (f .input) (s .latch) (readData c s f (firstPass c s f)) q
+
+-- the two passes solve a frame's equations
+pub frame-is : {c : Netlist} → Accepted c → (s : State) (f : Feed) → IsFrame c s f (frame c s f)
+frame-is {c} h s f =
+    record {
+      at-zero = q .at-zero;
+      at-input = q .at-input;
+      at-latch = q .at-latch;
+      at-read = λ t l. q .at-read t l ∙ read-settled h s f (firstPass-solves (h .codes) s f) q t;
+      at-gate = q .at-gate;
+    }
+  where
+    q : Solves c (f .input) (s .latch) (readData c s f (firstPass c s f)) (frame c s f)
+    q = frame-solves (h .codes) s f
+
+-- every solution of a frame's equations has the values of the two passes
+pub frame-unique : {c : Netlist} → Accepted c → (s : State) (f : Feed) (v : Values) → IsFrame c s f v
+    → (w : ℕ) → w ≤ lastWire c → v w ≡ frame c s f w
+frame-unique {c} h s f v q w b =
+    solutions-agree (h .codes) (λ x. Unit {0}) (λ g l k. (tt, tt))
+    (λ t l k. read-settled h s f p (firstPass-solves (h .codes) s f) t) p (frame-solves (h .codes) s f) w b tt
+  where
+    p : Solves c (f .input) (s .latch) (readData c s f v) v
+    p = record { at-zero = q .at-zero; at-input = q .at-input; at-latch = q .at-latch; at-read = q .at-read; at-gate = q .at-gate }

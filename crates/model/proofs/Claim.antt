@@ -1,0 +1,89 @@
+-- Demand 3, proved: every accepted netlist is encoded, at every depth; and what a designer relies on. Assumes nothing.
+use Prim.Native.Nat.{ℕ, zero, suc, zero-le, _+_, _≤_}
+use mathlib.Core.Path.{_≡_, refl, sym, _∙_, ap}
+use mathlib.Core.Bool.{Bool, true, false, _&&_, _||_, or-false}
+use mathlib.Core.List.{List, [], _∷_, _++_, map}
+use mathlib.Core.Logic.{_↔_, Iff·trans, inl, inr, ⊎-elim}
+use lib.ListN.{length, length-map}
+use Rattle.model.specs.Netlist.{Netlist}
+use Rattle.model.specs.Circuit.{Feed, run, initial}
+use Rattle.model.specs.Acceptance.{Accepted}
+use Rattle.model.specs.Clauses.{Clause, plus, gather}
+use Rattle.model.specs.Variables.{base}
+use Rattle.model.specs.Groups.{clausesOf, groupOrder, stateClauses}
+use Rattle.model.specs.Numbers.{Assignment, numberOf, written, formula, clausesIn, numberTrue, allTrue}
+use Rattle.model.specs.Claim.{Satisfies, feedOf, Agrees, Breaks, Encodes}
+use Rattle.model.specs.declared.Group.the-variants.{Wires}
+use Rattle.model.proofs.Booleans.{eq-iff, and-true}
+use Rattle.model.proofs.Gather.{Splits}
+use Rattle.model.proofs.Variables.{base-least}
+use Rattle.model.proofs.Joined.{joinedClauses, formula-written, EachGroup, each-group}
+use Rattle.model.proofs.Bounds.{formula-within}
+use Rattle.model.proofs.Truth.{value, someOf, everyOf, everyOf-splits, everyOf-same, Holds, holds-splits}
+use Rattle.model.proofs.Numbers.{clausesIn-written, numberValue, allTrue-numbers, number-value, number-same}
+use Rattle.model.proofs.Groups.{wires-hold, state-first-holds}
+use Rattle.model.proofs.AssignmentToRun.{assignment-agrees, assignment-breaks}
+use Rattle.model.proofs.Witness.{witness, witness-one}
+use Rattle.model.proofs.RunToAssignment.{run-groups, run-agrees}
+
+module _ {c : Netlist} (ok : Accepted c) (k : ℕ) where
+  -- all clauses of depth k
+  abbrev all : List Clause
+  all = joinedClauses (clausesOf c k) (groupOrder k)
+
+  -- the clauses in the numbers of depth k are true as their literals' numbers are
+  satisfies-numbers : (a : Assignment) → allTrue a (clausesIn (formula c k)) ≡ everyOf (numberValue a) all
+  satisfies-numbers a =
+      ap (λ zs. allTrue a (clausesIn zs)) (formula-written c k)
+      ∙ ap (allTrue a) (clausesIn-written (base c (k + 1)) all (formula-within ok k))
+      ∙ allTrue-numbers a all
+
+  first-clause : (a : Assignment) → everyOf (numberValue a) (clausesOf c k (Wires 0)) ≡ true → a 1 ≡ true
+  unfolding clausesOf stateClauses everyOf someOf numberValue numberTrue numberOf
+  first-clause a h = sym (or-false (a 1)) ∙ and-true (a 1 || false) _ .0 h .0
+
+  -- where variable 1 is true, they are true where each group holds
+  satisfies-groups : (a : Assignment) → a 1 ≡ true → Satisfies c k a ↔ EachGroup c k (Holds a)
+  unfolding Satisfies
+  satisfies-groups a one =
+      Iff·trans
+      (eq-iff (satisfies-numbers a ∙ everyOf-same (numberValue a) (value a) _ (number-value a one (base c (k + 1))) all (formula-within ok k)))
+      (each-group c k (Holds a) (holds-splits a))
+
+  -- the first clause makes variable 1 true
+  satisfies-one : (a : Assignment) → Satisfies c k a → a 1 ≡ true
+  unfolding Satisfies
+  satisfies-one a h =
+      first-clause a (each-group c k (λ xs. everyOf (numberValue a) xs ≡ true) (everyOf-splits (numberValue a)) .0 (sym (satisfies-numbers a) ∙ h) .wires 0 zero-le)
+
+  -- Demand 3.
+  pub encodes : Encodes c k
+  encodes =
+      record {
+        assignment→run = λ a h.
+            let groups = satisfies-groups a (satisfies-one a h) .0 h in
+            (assignment-agrees c a k groups ok, assignment-breaks c a k groups ok);
+        run→assignment = λ f h.
+            let groups = run-groups c ok f k h in
+            (witness c k (run c (initial c) f), satisfies-groups (witness c k (run c (initial c) f)) (witness-one c k (run c (initial c) f)) .1 groups, run-agrees c ok f k);
+      }
+
+  -- only variables 1 to B(k + 1) matter
+  pub satisfies-same : (a a′ : Assignment) → ((v : ℕ) → 1 ≤ v → v ≤ base c (k + 1) → a v ≡ a′ v) → Satisfies c k a → Satisfies c k a′
+  unfolding Satisfies
+  satisfies-same a a′ same h =
+      satisfies-numbers a′
+      ∙ sym (everyOf-same (numberValue a) (numberValue a′) _ (number-same a a′ (base c (k + 1)) (base-least c (k + 1)) same) all (formula-within ok k))
+      ∙ sym (satisfies-numbers a) ∙ h
+
+  -- the clauses in the numbers of depth k, counted
+  pub clausesIn-formula : length (clausesIn (formula c k)) ≡ length all
+  clausesIn-formula =
+      ap (λ zs. length (clausesIn zs)) (formula-written c k)
+      ∙ ap length (clausesIn-written (base c (k + 1)) all (formula-within ok k))
+      ∙ length-map all (map numberOf)
+
+-- What a designer relies on: where no assignment satisfies the clauses of depth k, no run breaks the property up to frame k.
+pub unsatisfiable→safe : {c : Netlist} {k : ℕ} → Encodes c k → ((a : Assignment) → Satisfies c k a → ⊥)
+    → (f : ℕ → Feed) → Breaks c k f → ⊥
+unsatisfiable→safe e none f h = let found = e .run→assignment f h in none (found .0) (found .1)

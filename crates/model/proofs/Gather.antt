@@ -1,0 +1,114 @@
+-- Laws of gather and gatherDown (specs/Clauses.antt): what adds up over joined lists, and what holds all over them.
+-- No contract cites this file. Assumes nothing.
+use Prim.Native.Nat.{ℕ, zero, suc, _+_, _*_, _<_}
+use mathlib.Core.Path.{_≡_, refl, sym, _∙_}
+use mathlib.Core.List.{List, [], _∷_, _++_, map}
+use mathlib.Core.Logic.{_↔_, Iff·rfl, Iff·trans, Iff·and}
+use native.Mathlib.Nat.{suc-mul, zero-mul, not-suc-le-zero}
+use native.Mathlib.Omega.{arith}
+use lib.ListN.{length, length-append}
+use Rattle.model.specs.Clauses.{gather, gatherDown}
+use Rattle.model.proofs.Below.{all-below-suc-iff}
+
+-- a count of lists that adds up
+pub record Adds {A : Type 0} (count : List A → ℕ) : Type 0 where
+  pub of-none : count [] ≡ 0
+  pub of-both : (xs ys : List A) → count (xs ++ ys) ≡ count xs + count ys
+
+-- length is one
+pub length-adds : {A : Type 0} → Adds {A = A} length
+length-adds = record { of-none = refl; of-both = length-append }
+
+module _ {A : Type 0} {count : List A → ℕ} (adds : Adds count) where
+  -- a count over gather: any total that starts at 0 and grows by each list's count
+  pub gather-total :
+      (total : ℕ → ℕ) → total 0 ≡ 0 → (n : ℕ) (f : ℕ → List A) → ((t : ℕ) → t < n → total (suc t) ≡ total t + count (f t))
+      → count (gather n f) ≡ total n
+  unfolding gather
+  gather-total total start zero f grows = adds .of-none ∙ sym start
+  gather-total total start (suc n) f grows =
+      let before : count (gather n f) ≡ total n = gather-total total start n f (λ t h. grows t (omega arith)) in
+      adds .of-both (gather n f) (f n) ∙ omega (arith, grows n (omega arith))
+
+  -- the order of the lists is nothing to a count
+  pub gatherDown-total : (n : ℕ) (f : ℕ → List A) → count (gatherDown n f) ≡ count (gather n f)
+  unfolding gather gatherDown
+  gatherDown-total zero f = refl
+  gatherDown-total (suc n) f =
+      omega (arith, adds .of-both (f n) (gatherDown n f), adds .of-both (gather n f) (f n), gatherDown-total n f)
+
+  -- n lists of the same count
+  pub gather-count : (n d : ℕ) (f : ℕ → List A) → ((t : ℕ) → t < n → count (f t) ≡ d) → count (gather n f) ≡ n * d
+  gather-count n d f each =
+      gather-total (λ t. t * d) (zero-mul d) n f (λ t h. omega (arith, suc-mul t d, each t h))
+
+  -- in either order
+  pub gatherDown-count : (n d : ℕ) (f : ℕ → List A) → ((t : ℕ) → t < n → count (f t) ≡ d) → count (gatherDown n f) ≡ n * d
+  gatherDown-count n d f each = gatherDown-total n f ∙ gather-count n d f each
+
+-- n lists of the same length
+pub length-gather : {A : Type 0} (n d : ℕ) (f : ℕ → List A)
+    → ((t : ℕ) → t < n → length (f t) ≡ d) → length (gather n f) ≡ n * d
+length-gather = gather-count length-adds
+
+-- in either order
+pub length-gatherDown : {A : Type 0} (n d : ℕ) (f : ℕ → List A)
+    → ((t : ℕ) → t < n → length (f t) ≡ d) → length (gatherDown n f) ≡ n * d
+length-gatherDown = gatherDown-count length-adds
+
+-- what holds of joined lists exactly where it holds of both
+pub record Splits {A : Type 0} (H : List A → Type 0) : Type 0 where
+  pub of-none : H []
+  pub of-both : (xs ys : List A) → H (xs ++ ys) ↔ (H xs × H ys)
+
+module _ {A : Type 0} {H : List A → Type 0} (splits : Splits H) where
+  -- of the lists gathered
+  pub splits-gather : (n : ℕ) (f : ℕ → List A) → H (gather n f) ↔ ((t : ℕ) → t < n → H (f t))
+  unfolding gather
+  splits-gather zero f = (λ h t b. absurd (not-suc-le-zero b), λ h. splits .of-none)
+  splits-gather (suc n) f =
+      Iff·trans (splits .of-both (gather n f) (f n))
+      (Iff·trans (Iff·and (splits-gather n f) Iff·rfl) (all-below-suc-iff (λ t. H (f t)) n))
+
+  -- in either order
+  pub splits-gatherDown : (n : ℕ) (f : ℕ → List A) → H (gatherDown n f) ↔ ((t : ℕ) → t < n → H (f t))
+  unfolding gatherDown
+  splits-gatherDown zero f = (λ h t b. absurd (not-suc-le-zero b), λ h. splits .of-none)
+  splits-gatherDown (suc n) f =
+      Iff·trans (splits .of-both (f n) (gatherDown n f))
+      (Iff·trans (λ h. (splits-gatherDown n f .0 (h .1), h .0), λ h. (h .1, splits-gatherDown n f .1 (h .0)))
+      (all-below-suc-iff (λ t. H (f t)) n))
+
+-- a property of every element of a list
+pub data All {A : Type 0} (P : A → Type 0) : List A → Type 0 where
+  nothing : All P []
+  also : {x : A} {xs : List A} → P x → All P xs → All P (x ∷ xs)
+
+module _ {A : Type 0} {P : A → Type 0} where
+  -- of a list's one element
+  pub just : {x : A} → P x → All P (x ∷ [])
+  just p = also p nothing
+
+  -- of two joined lists
+  infixl 40 _⧺_
+  pub _⧺_ : {xs ys : List A} → All P xs → All P ys → All P (xs ++ ys)
+  nothing ⧺ q = q
+  also h p ⧺ q = also h (p ⧺ q)
+
+  -- of the lists gathered
+  pub all-gather : (n : ℕ) (f : ℕ → List A) → ((t : ℕ) → t < n → All P (f t)) → All P (gather n f)
+  unfolding gather
+  all-gather zero f each = nothing
+  all-gather (suc n) f each = all-gather n f (λ t h. each t (omega arith)) ⧺ each n (omega arith)
+
+  -- in either order
+  pub all-gatherDown : (n : ℕ) (f : ℕ → List A) → ((t : ℕ) → t < n → All P (f t)) → All P (gatherDown n f)
+  unfolding gatherDown
+  all-gatherDown zero f each = nothing
+  all-gatherDown (suc n) f each = each n (omega arith) ⧺ all-gatherDown n f (λ t h. each t (omega arith))
+
+-- of what a function makes of the elements
+pub all-map : {A B : Type 0} {P : A → Type 0} {Q : B → Type 0} (f : A → B) {xs : List A}
+    → ((x : A) → P x → Q (f x)) → All P xs → All Q (map f xs)
+all-map f each nothing = nothing
+all-map f each (also p r) = also (each _ p) (all-map f each r)

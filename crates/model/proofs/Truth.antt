@@ -1,0 +1,286 @@
+-- What clauses over literals mean: each family of specs/Clauses.antt is true exactly where its equation holds. Nothing here knows a
+-- variable's number. No contract cites this file. Assumes nothing.
+use Prim.Native.Nat.{ℕ, zero, suc, _<_, _≤_}
+use mathlib.Core.Path.{_≡_, refl, sym, _∙_, ap, ap₂, subst}
+use mathlib.Core.Bool.{Bool, true, false, cond, not, _&&_, _||_, Bool·beq, true≢false, false≢true, or-false, or-assoc, and-assoc}
+use mathlib.Core.List.{List, [], _∷_, _++_}
+use mathlib.Core.Logic.{_⊎_, inl, inr, _↔_, Iff·trans, Iff·and, ⊎-elim, ⊎-map}
+use native.Mathlib.Nat.{not-suc-le-zero, lt-suc-self, le-step}
+use native.Mathlib.Omega.{arith}
+use Rattle.model.specs.Clauses.{Literal, known, plus, minus, Clause, neg, gather, andClauses, sameClauses, sameIf, bitClauses, PairLiterals, bitOf, notE, allBits, forwarded, pairClauses, ClosingLiterals, initialRead, justS, someSource, closingClauses}
+use Rattle.model.specs.Numbers.{Assignment}
+use borrow.Author.Tests.{not-true, not-false}
+use Rattle.model.proofs.Below.{below-suc}
+use Rattle.model.proofs.Gather.{Splits, splits-gather, All, nothing, also}
+use Rattle.model.proofs.Booleans.{and-true, or-true, either, not-true-false, beq-true, eq-iff, tables-equal, implies-true, equal-if, if-equal}
+
+-- the value of a literal under an assignment
+unfoldable pub value : Assignment → Literal → Bool
+value a (known b) = b
+value a (plus v) = a v
+value a (minus v) = not (a v)
+
+-- whether some literal of a clause, and every clause of a list, is true, for whatever truth of literals
+unfoldable pub someOf : (Literal → Bool) → Clause → Bool
+someOf t [] = false
+someOf t (l ∷ ls) = t l || someOf t ls
+
+unfoldable pub everyOf : (Literal → Bool) → List Clause → Bool
+everyOf t [] = true
+everyOf t (x ∷ xs) = someOf t x && everyOf t xs
+
+abbrev pub anyTrue : Assignment → Clause → Bool
+anyTrue a = someOf (value a)
+
+abbrev pub allHold : Assignment → List Clause → Bool
+allHold a = everyOf (value a)
+
+abbrev pub Holds : Assignment → List Clause → Type 0
+Holds a xs = allHold a xs ≡ true
+
+pub value-neg : (a : Assignment) (l : Literal) → value a (neg l) ≡ not (value a l)
+unfolding value neg
+value-neg a (known b) = refl
+value-neg a (plus v) = refl
+value-neg a (minus v) = not-not (a v)
+  where
+    not-not : (b : Bool) → b ≡ not (not b)
+    not-not true = refl
+    not-not false = refl
+
+-- joined
+pub someOf-append : (t : Literal → Bool) (x y : Clause) → someOf t (x ++ y) ≡ (someOf t x || someOf t y)
+unfolding someOf
+someOf-append t [] y = refl
+someOf-append t (l ∷ x) y = ap (λ (r : Bool). t l || r) (someOf-append t x y) ∙ sym (or-assoc (t l) (someOf t x) (someOf t y))
+
+pub everyOf-append : (t : Literal → Bool) (xs ys : List Clause) → everyOf t (xs ++ ys) ≡ (everyOf t xs && everyOf t ys)
+unfolding everyOf
+everyOf-append t [] ys = refl
+everyOf-append t (x ∷ xs) ys =
+    ap (λ (r : Bool). someOf t x && r) (everyOf-append t xs ys) ∙ sym (and-assoc (someOf t x) (everyOf t xs) (everyOf t ys))
+
+pub everyOf-splits : (t : Literal → Bool) → Splits (λ xs. everyOf t xs ≡ true)
+unfolding everyOf
+everyOf-splits t =
+    record { of-none = refl; of-both = λ xs ys. rw (everyOf-append t xs ys) (and-true (everyOf t xs) (everyOf t ys)) }
+
+-- one clause
+pub holds-one : (a : Assignment) (x : Clause) → Holds a (x ∷ []) ↔ (anyTrue a x ≡ true)
+unfolding everyOf
+holds-one a x = (λ h. and-true (anyTrue a x) true .0 h .0, λ h. and-true (anyTrue a x) true .1 (h, refl))
+
+-- no clause, and one clause more
+pub holds-none : (a : Assignment) → Holds a [] ↔ Unit {0}
+unfolding everyOf
+holds-none a = (λ h. tt, λ h. refl)
+
+pub holds-cons : (a : Assignment) (x : Clause) (xs : List Clause) → Holds a (x ∷ xs) ↔ ((anyTrue a x ≡ true) × Holds a xs)
+unfolding everyOf
+holds-cons a x xs = and-true (anyTrue a x) (allHold a xs)
+
+-- two truths that agree on the literals of some clauses make the same of them true
+pub someOf-same : (t t′ : Literal → Bool) (P : Literal → Type 0) → ((l : Literal) → P l → t l ≡ t′ l)
+    → (x : Clause) → All P x → someOf t x ≡ someOf t′ x
+unfolding someOf
+someOf-same t t′ P h [] nothing = refl
+someOf-same t t′ P h (l ∷ x) (also p r) = ap₂ _||_ (h l p) (someOf-same t t′ P h x r)
+
+pub everyOf-same : (t t′ : Literal → Bool) (P : Literal → Type 0) → ((l : Literal) → P l → t l ≡ t′ l)
+    → (xs : List Clause) → All (All P) xs → everyOf t xs ≡ everyOf t′ xs
+unfolding everyOf
+everyOf-same t t′ P h [] nothing = refl
+everyOf-same t t′ P h (x ∷ xs) (also p r) = ap₂ _&&_ (someOf-same t t′ P h x p) (everyOf-same t t′ P h xs r)
+
+-- joined clauses hold where each part does
+pub holds-splits : (a : Assignment) → Splits (Holds a)
+holds-splits a = everyOf-splits (value a)
+
+pub holds-append : (a : Assignment) (xs ys : List Clause) → Holds a (xs ++ ys) ↔ (Holds a xs × Holds a ys)
+holds-append a = holds-splits a .of-both
+
+pub holds-gather : (a : Assignment) (n : ℕ) (f : ℕ → List Clause) → Holds a (gather n f) ↔ ((t : ℕ) → t < n → Holds a (f t))
+holds-gather a = splits-gather (holds-splits a)
+
+-- a joined clause is true where some part is
+pub anyTrue-gather : (a : Assignment) (n : ℕ) (f : ℕ → Clause)
+    → (anyTrue a (gather n f) ≡ true) ↔ ((t : ℕ) × (t < n) × (anyTrue a (f t) ≡ true))
+unfolding gather someOf
+anyTrue-gather a zero f = (λ h. absurd (false≢true h), λ h. absurd (not-suc-le-zero (h .1)))
+anyTrue-gather a (suc n) f = (
+  λ h. ⊎-elim (λ e. let p = anyTrue-gather a n f .0 e in (p .0, le-step (p .1), p .2)) (λ e. (n, lt-suc-self n, e))
+      (or-true (anyTrue a (gather n f)) (anyTrue a (f n)) .0 (sym (someOf-append (value a) (gather n f) (f n)) ∙ h)),
+  λ h. someOf-append (value a) (gather n f) (f n) ∙ or-true (anyTrue a (gather n f)) (anyTrue a (f n)) .1
+      (⊎-elim (λ b. inl (anyTrue-gather a n f .1 (h .0, b, h .2)))
+      (λ e. inr (subst (λ t. anyTrue a (f t) ≡ true) e (h .2))) (below-suc (h .0) n (h .1))),
+)
+
+-- a clause of one literal
+pub anyTrue-one : (a : Assignment) (l : Literal) → anyTrue a (l ∷ []) ≡ value a l
+unfolding someOf
+anyTrue-one a l = or-false (value a l)
+
+-- g = x ∧ y
+pub andClauses-holds : (a : Assignment) (g x y : Literal)
+    → Holds a (andClauses g x y) ↔ (value a g ≡ (value a x && value a y))
+unfolding andClauses neg everyOf someOf value
+andClauses-holds a g x y =
+    simp (value-neg a)
+    (Iff·trans
+    (eq-iff (tables-equal (λ _. test) (λ _ g x y. Bool·beq g (x && y)) refl true (value a g) (value a x) (value a y)))
+    (beq-true (value a g) (value a x && value a y)))
+  where
+    test : Bool → Bool → Bool → Bool
+    test g x y = allHold a (andClauses (known g) (known x) (known y))
+
+-- q = d
+pub sameClauses-holds : (a : Assignment) (q d : Literal) → Holds a (sameClauses q d) ↔ (value a q ≡ value a d)
+unfolding sameClauses neg everyOf someOf value
+sameClauses-holds a q d =
+    simp (value-neg a)
+    (Iff·trans
+    (eq-iff (tables-equal (λ _ _. test) (λ _ _. Bool·beq) refl true true (value a q) (value a d)))
+    (beq-true (value a q) (value a d)))
+  where
+    test : Bool → Bool → Bool
+    test q d = allHold a (sameClauses (known q) (known d))
+
+-- where p is true, x = y
+pub sameIf-holds : (a : Assignment) (p x y : Literal)
+    → Holds a (sameIf p x y) ↔ (value a p ≡ true → value a x ≡ value a y)
+unfolding sameIf neg everyOf someOf value
+sameIf-holds a p x y =
+    simp (value-neg a)
+    (Iff·trans
+    (eq-iff (tables-equal (λ _. test) (λ _ p x y. not p || Bool·beq x y) refl true (value a p) (value a x) (value a y)))
+    (equal-if (value a p) (value a x) (value a y)))
+  where
+    test : Bool → Bool → Bool → Bool
+    test p x y = allHold a (sameIf (known p) (known x) (known y))
+
+-- one address bit: E only where the two bits are equal, e wherever they are
+pub bitClauses-holds : (a : Assignment) (E e x y : Literal)
+    → Holds a (bitClauses E e x y)
+    ↔ ((value a E ≡ true → value a x ≡ value a y) × (value a x ≡ value a y → value a e ≡ true))
+unfolding bitClauses neg everyOf someOf value
+bitClauses-holds a E e x y =
+    simp (value-neg a)
+    (Iff·trans
+    (eq-iff (tables-equal test meant refl (value a E) (value a e) (value a x) (value a y)))
+    (Iff·trans
+    (and-true (not (value a E) || Bool·beq (value a x) (value a y)) (not (Bool·beq (value a x) (value a y)) || value a e))
+    (Iff·and (equal-if (value a E) (value a x) (value a y)) (if-equal (value a x) (value a y) (value a e)))))
+  where
+    test : Bool → Bool → Bool → Bool → Bool
+    test E e x y = allHold a (bitClauses (known E) (known e) (known x) (known y))
+
+    meant : Bool → Bool → Bool → Bool → Bool
+    meant E e x y = (not E || Bool·beq x y) && (not (Bool·beq x y) || e)
+
+-- A pair's clauses hold exactly where all of this does.
+pub record PairHolds (a : Assignment) (m n : ℕ) (x : PairLiterals) : Type 0 where
+  -- E only where the bit is equal, e wherever it is
+  pub address-bit : (t : ℕ) → t < m
+      → (value a (x .E) ≡ true → value a (x .Aj t) ≡ value a (x .Ai t)) × (value a (x .Aj t) ≡ value a (x .Ai t) → value a (x .e t) ≡ true)
+  pub E-where-all-e : ((t : ℕ) → t < m → value a (x .e t) ≡ true) → value a (x .E) ≡ true
+  pub valid : value a (x .s) ≡ (value a (x .E) && value a (x .WE))
+  pub none-since : value a (x .PS) ≡ (not (value a (x .s)) && value a (x .N))
+  pub exclusive : value a (x .S) ≡ (value a (x .s) && value a (x .N))
+  pub data-where-S : (t : ℕ) → t < n → value a (x .S) ≡ true → value a (x .RD t) ≡ value a (x .WD t)
+
+-- the literals ¬e: one is true, or every e is
+pub notE-holds : (a : Assignment) (x : PairLiterals) (t : ℕ) → anyTrue a (notE x t) ≡ not (value a (x .e t))
+unfolding notE
+notE-holds a x t = anyTrue-one a (neg (x .e t)) ∙ value-neg a (x .e t)
+
+pub some-notE : (a : Assignment) (m : ℕ) (x : PairLiterals)
+    → (anyTrue a (gather m (notE x)) ≡ true) → ((t : ℕ) → t < m → value a (x .e t) ≡ true) → ⊥
+some-notE a m x h all = go (anyTrue-gather a m (notE x) .0 h)
+  where
+    go : (t : ℕ) × (t < m) × (anyTrue a (notE x t) ≡ true) → ⊥
+    go (t, b, h) = true≢false (sym (all t b) ∙ not-true (value a (x .e t)) (sym (notE-holds a x t) ∙ h))
+
+pub no-notE : (a : Assignment) (m : ℕ) (x : PairLiterals)
+    → (anyTrue a (gather m (notE x)) ≡ false) → (t : ℕ) → t < m → value a (x .e t) ≡ true
+no-notE a m x h t b = not-false (value a (x .e t)) (sym (notE-holds a x t) ∙ not-true-false (anyTrue a (notE x t)) λ e. false≢true (sym h ∙ anyTrue-gather a m (notE x) .1 (t, b, e)))
+
+-- (¬e of bits 0 to m - 1, E): E wherever every e is true
+pub allBits-holds : (a : Assignment) (m : ℕ) (x : PairLiterals)
+    → (anyTrue a (allBits m x) ≡ true) ↔ (((t : ℕ) → t < m → value a (x .e t) ≡ true) → value a (x .E) ≡ true)
+unfolding allBits
+allBits-holds a m x =
+    Iff·trans (eq-iff (someOf-append (value a) (gather m (notE x)) (x .E ∷ [])))
+    (Iff·trans (or-true (anyTrue a (gather m (notE x))) (anyTrue a (x .E ∷ [])))
+    (rw (anyTrue-one a (x .E)) (to, from (either (anyTrue a (gather m (notE x)))))))
+  where
+    to : ((anyTrue a (gather m (notE x)) ≡ true) ⊎ (value a (x .E) ≡ true)) → ((t : ℕ) → t < m → value a (x .e t) ≡ true) → value a (x .E) ≡ true
+    to (inl h) all = absurd (some-notE a m x h all)
+    to (inr h) all = h
+
+    from : ((anyTrue a (gather m (notE x)) ≡ true) ⊎ (anyTrue a (gather m (notE x)) ≡ false)) → (((t : ℕ) → t < m → value a (x .e t) ≡ true) → value a (x .E) ≡ true) → ((anyTrue a (gather m (notE x)) ≡ true) ⊎ (value a (x .E) ≡ true))
+    from (inl h) f = inl h
+    from (inr h) f = inr (f (no-notE a m x h))
+
+pub bitOf-holds : (a : Assignment) (x : PairLiterals) (t : ℕ)
+    → Holds a (bitOf x t)
+    ↔ ((value a (x .E) ≡ true → value a (x .Aj t) ≡ value a (x .Ai t)) × (value a (x .Aj t) ≡ value a (x .Ai t) → value a (x .e t) ≡ true))
+unfolding bitOf
+bitOf-holds a x t = bitClauses-holds a (x .E) (x .e t) (x .Aj t) (x .Ai t)
+
+pub forwarded-holds : (a : Assignment) (x : PairLiterals) (t : ℕ)
+    → Holds a (forwarded x t) ↔ (value a (x .S) ≡ true → value a (x .RD t) ≡ value a (x .WD t))
+unfolding forwarded
+forwarded-holds a x t = Iff·trans (sameIf-holds a _ _ _) (λ h e. let q = h e in (cc), λ h e. let q = h e in (cc))
+
+pub pairClauses-holds : (a : Assignment) (m n : ℕ) (x : PairLiterals) → Holds a (pairClauses m n x) ↔ PairHolds a m n x
+unfolding pairClauses
+pairClauses-holds a m n x =
+    simp
+    (holds-append a, holds-cons a, holds-none a, holds-gather a, allBits-holds a, bitOf-holds a, forwarded-holds a, andClauses-holds a, value-neg a)
+    (λ h. search, λ h. search)
+
+-- The closing's clauses hold exactly where all of this does.
+pub record ClosingHolds (a : Assignment) (n i : ℕ) (x : ClosingLiterals) : Type 0 where
+  pub initial-where-Z : (t : ℕ) → t < n → value a (x .Z) ≡ true → value a (x .RD t) ≡ value a (x .W t)
+  pub source-where-RE : value a (x .RE) ≡ true → (value a (x .Z) ≡ true) ⊎ ((j : ℕ) × (j < i) × (value a (x .S j) ≡ true))
+
+pub initialRead-holds : (a : Assignment) (x : ClosingLiterals) (t : ℕ)
+    → Holds a (initialRead x t) ↔ (value a (x .Z) ≡ true → value a (x .RD t) ≡ value a (x .W t))
+unfolding initialRead
+initialRead-holds a x t = Iff·trans (sameIf-holds a _ _ _) (λ h e. let q = h e in (cc), λ h e. let q = h e in (cc))
+
+pub justS-holds : (a : Assignment) (x : ClosingLiterals) (j : ℕ) → anyTrue a (justS x j) ≡ value a (x .S j)
+unfolding justS
+justS-holds a x j = anyTrue-one a (x .S j)
+
+-- the literals S of the frames below i: one is true
+pub someS-holds : (a : Assignment) (i : ℕ) (x : ClosingLiterals)
+    → (anyTrue a (gather i (justS x)) ≡ true) ↔ ((j : ℕ) × (j < i) × (value a (x .S j) ≡ true))
+someS-holds a i x = (
+  λ h. let p = anyTrue-gather a i (justS x) .0 h in (p .0, p .1, sym (justS-holds a x (p .0)) ∙ p .2),
+  λ h. anyTrue-gather a i (justS x) .1 (h .0, h .1, justS-holds a x (h .0) ∙ h .2),
+)
+
+-- (¬RE Z S(0,i) .. S(i−1,i)): where RE is true, Z or some S is
+pub someSource-holds : (a : Assignment) (i : ℕ) (x : ClosingLiterals)
+    → (anyTrue a (someSource i x) ≡ true)
+    ↔ (value a (x .RE) ≡ true → (value a (x .Z) ≡ true) ⊎ ((j : ℕ) × (j < i) × (value a (x .S j) ≡ true)))
+unfolding someSource someOf
+someSource-holds a i x =
+    rw (value-neg a (x .RE))
+    (Iff·trans (implies-true (value a (x .RE)) (value a (x .Z) || anyTrue a (gather i (justS x)))) (under, back))
+  where
+    under : (value a (x .RE) ≡ true → (value a (x .Z) || anyTrue a (gather i (justS x))) ≡ true)
+        → value a (x .RE) ≡ true → (value a (x .Z) ≡ true) ⊎ ((j : ℕ) × (j < i) × (value a (x .S j) ≡ true))
+    under h r = ⊎-map (λ z. z) (someS-holds a i x .0) (or-true (value a (x .Z)) (anyTrue a (gather i (justS x))) .0 (h r))
+
+    back : (value a (x .RE) ≡ true → (value a (x .Z) ≡ true) ⊎ ((j : ℕ) × (j < i) × (value a (x .S j) ≡ true)))
+        → value a (x .RE) ≡ true → (value a (x .Z) || anyTrue a (gather i (justS x))) ≡ true
+    back h r = or-true (value a (x .Z)) (anyTrue a (gather i (justS x))) .1 (⊎-map (λ z. z) (someS-holds a i x .1) (h r))
+
+pub closingClauses-holds : (a : Assignment) (n i : ℕ) (x : ClosingLiterals)
+    → Holds a (closingClauses n i x) ↔ ClosingHolds a n i x
+unfolding closingClauses
+closingClauses-holds a n i x =
+    simp (holds-append a, holds-cons a, holds-none a, holds-gather a, initialRead-holds a, someSource-holds a)
+    (λ h. search, λ h. search)

@@ -1,0 +1,60 @@
+-- Laws of specs/Variables.antt: where the variables of frames and pairs start. No contract cites this file. Assumes nothing.
+use Prim.Native.Nat.{ℕ, zero, suc, _+_, _-_, _*_, _/_, _≤_, _<_}
+use mathlib.Core.Path.{_≡_, refl}
+use native.Mathlib.Nat.{mul-suc, suc-mul, zero-mul, mul-zero, mul-comm, mul-le-mul-right, le-refl, add-zero, add-suc, add-sub-of-le}
+use native.Mathlib.Numerals.{sub-one}
+use native.Mathlib.Omega.{arith}
+use borrow.Author.Tests.{eq-eqb, ne-eqb}
+use Rattle.model.specs.Netlist.{Netlist, Port, port, lastWire}
+use Rattle.model.specs.Clauses.{plus}
+use Rattle.model.specs.Variables.{stride, base, pairBase, codeIn, none}
+use Rattle.model.specs.Acceptance.{SizesFit}
+
+-- s times i (i - 1) / 2, the number of pairs below i, grows by i times s
+product-half-suc : (s i : ℕ) → s * suc i * (suc i - 1) / 2 ≡ s * i * (i - 1) / 2 + i * s
+product-half-suc s zero = simp (sub-one, mul-zero, zero-mul)
+product-half-suc s (suc n) = simp (sub-one, mul-suc, suc-mul, mul-comm n s) (omega arith)
+
+-- frame 0 starts after variable 1
+pub base-zero : (c : Netlist) → base c 0 ≡ 1
+unfolding base
+base-zero c = simp (zero-mul, mul-zero)
+
+-- a frame has its wires, and its pairs with the frames before it
+pub base-suc : (c : Netlist) (i : ℕ) → base c (suc i) ≡ base c i + lastWire c + i * stride c
+unfolding base
+base-suc c i = simp (product-half-suc (stride c) i, suc-mul) (omega arith)
+
+-- d frames on, a frame starts no earlier
+base-add : (c : Netlist) (i d : ℕ) → base c i ≤ base c (i + d)
+base-add c i zero = simp add-zero (le-refl _)
+base-add c i (suc d) = let before : base c i ≤ base c (i + d) = base-add c i d in simp (add-suc, base-suc) (omega arith)
+
+-- a frame starts after every frame before it
+pub base-monotone : (c : Netlist) {i j : ℕ} → i ≤ j → base c i ≤ base c j
+base-monotone c {i} {j} h = rw (add-sub-of-le h) at (base-add c i (j - i))
+
+-- every frame starts after variable 1
+pub base-least : (c : Netlist) (i : ℕ) → 1 ≤ base c i
+base-least c i = omega (arith, base-zero c, base-monotone c {i = 0} {j = i} (omega arith))
+
+-- the variables of a pair are variables of its reading frame
+pub pair-within : (c : Netlist) (j i : ℕ) → j < i → pairBase c (port c) j i + stride c ≤ base c (suc i)
+unfolding pairBase
+pair-within c j i h =
+    let before : suc j * stride c ≤ i * stride c = mul-le-mul-right (stride c) h in
+    simp base-suc (omega (arith, suc-mul j (stride c)))
+
+-- document 01's most: depth 255, 600 wires and addresses of 12 bits
+pub base-most : (c : Netlist) → SizesFit c → (i : ℕ) → i ≤ 256 → base c i ≤ 675841
+unfolding base
+base-most c h i l = omega (arith, base-monotone c l)
+
+-- `none` is RE where j = i, and else a variable of the pair
+pub none-last : (c : Netlist) (p : Port) (i : ℕ) → none c p i i ≡ codeIn c i (p .RE)
+unfolding none
+none-last c p i = rw (eq-eqb i i refl)
+
+pub none-earlier : (c : Netlist) (p : Port) (j i : ℕ) → j < i → none c p j i ≡ plus (pairBase c p j i + c .m + 3)
+unfolding none
+none-earlier c p j i h = rw (ne-eqb j i (λ e. omega arith))

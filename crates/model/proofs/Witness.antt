@@ -1,0 +1,114 @@
+-- The assignment that a run gives: a variable's number is decoded into its frame, and there into a wire or a pair's variable.
+-- No contract cites this file. Assumes nothing.
+use Prim.Native.Nat.{ℕ, zero, suc, _+_, _-_, _*_, _/_, _%_, _<_, _≤_}
+use mathlib.Core.Path.{_≡_, refl, sym, _∙_, ap, ap₂, subst}
+use mathlib.Core.Bool.{Bool, true, false, cond, not, _&&_, Bool·beq}
+use mathlib.Core.Logic.{_⊎_, inl, inr, ⊎-elim}
+use native.Mathlib.Nat.{le-refl, add-zero, mul-add-div-right, mul-add-mod-self-right, div-eq-of-lt, mod-eq-of-lt, le-suc-iff, suc-le-suc-iff, add-sub-cancel-left}
+use native.Mathlib.Omega.{arith}
+use lib.Dec.{eqb, ltb, leb}
+use borrow.Author.Tests.{lt-ltb, le-ltb, le-leb, lt-leb, eq-eqb, ne-eqb}
+use Rattle.model.specs.Netlist.{Netlist, Port, port, lastWire}
+use Rattle.model.specs.Circuit.{Values, code, addressOf}
+use Rattle.model.specs.Variables.{stride, base, pairBase}
+use Rattle.model.specs.Numbers.{Assignment}
+use Rattle.model.proofs.Variables.{base-suc, base-monotone, base-least, pair-within}
+use Rattle.model.proofs.Agreement.{hits}
+use Rattle.model.proofs.Forwarding.{noneFrom}
+
+-- the frame, from k down, that a variable belongs to
+unfoldable pub frameOf : Netlist → ℕ → ℕ → ℕ
+frameOf c zero v = 0
+frameOf c (suc k) v = cond (ltb (base c (suc k)) v) (suc k) (frameOf c k v)
+
+pub frameOf-at : (c : Netlist) (k i v : ℕ) → i ≤ k → base c i < v → v ≤ base c (suc i) → frameOf c k v ≡ i
+unfolding frameOf
+frameOf-at c zero i v b lo hi = omega arith
+frameOf-at c (suc k) i v b lo hi =
+    ⊎-elim
+    (λ (l : i ≤ k). rw (le-ltb (base c (suc k)) v (omega (arith, base-monotone c (suc-le-suc-iff .1 l)))) (frameOf-at c k i v l lo hi))
+    (λ (e : i ≡ suc k). rw (lt-ltb (base c (suc k)) v (subst (λ (x : ℕ). base c x < v) e lo)) (sym e)) (le-suc-iff .0 b)
+
+-- the chain that the writes to the word that frame i reads make with its RE
+unfoldable pub nones : Netlist → (ℕ → Values) → ℕ → ℕ → Bool
+nones c u i = noneFrom (hits c u i) (code (u i) (c .RE)) i
+
+-- the variables of a pair, counted from 0: E, e of each bit, s, PS, S
+unfoldable pub pairValue : Netlist → (ℕ → Values) → ℕ → ℕ → ℕ → Bool
+pairValue c u j i x =
+    cond (eqb x 0) (eqb (addressOf c (port c) (u i)) (addressOf c (port c) (u j)))
+    (cond (ltb x (c .m + 1)) (Bool·beq (code (u j) (c .address (x - 1))) (code (u i) (c .address (x - 1))))
+    (cond (eqb x (c .m + 1)) (hits c u i j)
+    (cond (eqb x (c .m + 2)) (nones c u i j) (hits c u i j && nones c u i (suc j)))))
+
+-- a variable of frame i, counted from its base
+unfoldable pub valueIn : Netlist → (ℕ → Values) → ℕ → ℕ → Bool
+valueIn c u i x =
+    cond (leb x (lastWire c)) (u i x) (pairValue c u ((x - lastWire c - 1) / stride c) i ((x - lastWire c - 1) % stride c))
+
+-- the assignment that frames with the values u give, up to frame k
+unfoldable pub witness : Netlist → ℕ → (ℕ → Values) → Assignment
+witness c k u v = cond (leb v 1) true (valueIn c u (frameOf c k v) (v - base c (frameOf c k v)))
+
+pub witness-one : (c : Netlist) (k : ℕ) (u : ℕ → Values) → witness c k u 1 ≡ true
+unfolding witness
+witness-one c k u = refl
+
+pub witness-in : (c : Netlist) (k : ℕ) (u : ℕ → Values) (i x : ℕ) → i ≤ k → 1 ≤ x → base c i + x ≤ base c (suc i)
+    → witness c k u (base c i + x) ≡ valueIn c u i x
+unfolding witness
+witness-in c k u i x b lo hi =
+    let e : frameOf c k (base c i + x) ≡ i = frameOf-at c k i (base c i + x) b (omega arith) hi in
+    rw (lt-leb (base c i + x) 1 (omega (arith, base-least c i)), e, add-sub-cancel-left (base c i) x)
+
+pub witness-wire : (c : Netlist) (k : ℕ) (u : ℕ → Values) (i w : ℕ) → i ≤ k → 1 ≤ w → w ≤ lastWire c
+    → witness c k u (base c i + w) ≡ u i w
+witness-wire c k u i w b lo hi =
+    witness-in c k u i w b lo (omega (arith, base-suc c i)) ∙ (unfold valueIn in rw (le-leb w (lastWire c) hi))
+
+pub witness-pair : (c : Netlist) (k : ℕ) (u : ℕ → Values) (j i x : ℕ) → j < i → i ≤ k → x < stride c
+    → witness c k u (pairBase c (port c) j i + 1 + x) ≡ pairValue c u j i x
+unfolding pairBase valueIn
+witness-pair c k u j i x below b lo =
+    let y : ℕ = lastWire c + 1 + (j * stride c + x) in
+    let e : pairBase c (port c) j i + 1 + x ≡ base c i + y = omega arith in
+    let within : base c i + y ≤ base c (suc i) = omega (arith, pair-within c j i below) in
+    let r : y - lastWire c - 1 ≡ j * stride c + x = omega arith in
+    let q : (j * stride c + x) / stride c ≡ j = mul-add-div-right (omega arith) j x ∙ ap (λ (z : ℕ). j + z) (div-eq-of-lt lo) ∙ add-zero j in
+    let m : (j * stride c + x) % stride c ≡ x = mul-add-mod-self-right j (stride c) x ∙ mod-eq-of-lt lo in
+    ap (witness c k u) e ∙ witness-in c k u i y b (omega arith) within
+    ∙ rw (lt-leb y (lastWire c) (omega arith), r, q, m)
+
+-- what each variable of a pair is in the witness
+module _ (c : Netlist) (k : ℕ) (u : ℕ → Values) (j i : ℕ) (below : j < i) (b : i ≤ k) where
+  pair-variable : (v x : ℕ) → v ≡ pairBase c (port c) j i + 1 + x → x < stride c → witness c k u v ≡ pairValue c u j i x
+  pair-variable v x e l = ap (witness c k u) e ∙ witness-pair c k u j i x below b l
+
+  pub witness-E : witness c k u (pairBase c (port c) j i + 1) ≡ eqb (addressOf c (port c) (u i)) (addressOf c (port c) (u j))
+  unfolding pairValue
+  witness-E = pair-variable (pairBase c (port c) j i + 1) 0 (omega arith) (omega arith)
+
+  pub witness-e : (t : ℕ) → t < c .m
+      → witness c k u (pairBase c (port c) j i + 2 + t) ≡ Bool·beq (code (u j) (c .address t)) (code (u i) (c .address t))
+  unfolding pairValue
+  witness-e t l =
+      pair-variable (pairBase c (port c) j i + 2 + t) (1 + t) (omega arith) (omega arith)
+      ∙ rw (ne-eqb (1 + t) 0 (λ e. omega arith), lt-ltb (1 + t) (c .m + 1) (omega arith), add-sub-cancel-left 1 t)
+
+  pub witness-s : witness c k u (pairBase c (port c) j i + c .m + 2) ≡ hits c u i j
+  unfolding pairValue
+  witness-s =
+      pair-variable (pairBase c (port c) j i + c .m + 2) (c .m + 1) (omega arith) (omega arith)
+      ∙ rw (ne-eqb (c .m + 1) 0 (λ e. omega arith), le-ltb (c .m + 1) (c .m + 1) (le-refl _), eq-eqb (c .m + 1) (c .m + 1) refl)
+
+  pub witness-PS : witness c k u (pairBase c (port c) j i + c .m + 3) ≡ nones c u i j
+  unfolding pairValue
+  witness-PS =
+      pair-variable (pairBase c (port c) j i + c .m + 3) (c .m + 2) (omega arith) (omega arith)
+      ∙ rw (ne-eqb (c .m + 2) 0 (λ e. omega arith), le-ltb (c .m + 2) (c .m + 1) (omega arith), ne-eqb (c .m + 2) (c .m + 1) (λ e. omega arith), eq-eqb (c .m + 2) (c .m + 2) refl)
+
+  pub witness-S : witness c k u (pairBase c (port c) j i + c .m + 4) ≡ (hits c u i j && nones c u i (suc j))
+  unfolding pairValue
+  witness-S =
+      pair-variable (pairBase c (port c) j i + c .m + 4) (c .m + 3) (omega arith) (omega arith)
+      ∙ rw (ne-eqb (c .m + 3) 0 (λ e. omega arith), le-ltb (c .m + 3) (c .m + 1) (omega arith), ne-eqb (c .m + 3) (c .m + 1) (λ e. omega arith), ne-eqb (c .m + 3) (c .m + 2) (λ e. omega arith))

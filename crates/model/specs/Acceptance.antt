@@ -1,0 +1,45 @@
+-- Which netlists are accepted (document 01, "Limits" and the conditions of refusals 4, 5 and 6). Cited by the claim, and by the
+-- tests of records, which are proved to pass exactly these. Assumes nothing.
+use Prim.Native.Nat.{ℕ, _+_, _*_, _/_, _^_, _≤_, _<_}
+use mathlib.Core.Path.{_≡_}
+use mathlib.Core.Bool.{false}
+use Rattle.model.specs.Netlist.{Netlist, Port, port, gateWire, lastWire}
+use Rattle.model.specs.Circuit.{dependsOnRead}
+
+-- refusal 4: a size outside its limit
+pub record SizesFit (c : Netlist) : Type 0 where
+  pub inputs-fit : c .inputs ≤ 600
+  pub latches-fit : c .latches ≤ 600
+  pub gates-fit : c .gates ≤ 600
+  pub m-least : 1 ≤ c .m
+  pub m-most : c .m ≤ 12
+  pub n-least : 1 ≤ c .n
+  pub n-most : c .n ≤ 32
+  pub word-fits : c .initialWord < 2 ^ c .n
+  pub wires-fit : lastWire c ≤ 600
+
+-- a code is at most 2V + 1
+abbrev pub IsCode : Netlist → ℕ → Type 0
+IsCode c x = x ≤ 2 * lastWire c + 1
+
+-- refusal 5: a code, gate operand or reset outside its limit
+pub record CodesFit (c : Netlist) : Type 0 where
+  pub next-fits : (l : ℕ) → l < c .latches → IsCode c (c .next l)
+  pub reset-fits : (l : ℕ) → l < c .latches → c .reset l ≤ 1
+  pub left-fits : (g : ℕ) → g < c .gates → c .left g < 2 * gateWire c g
+  pub right-fits : (g : ℕ) → g < c .gates → c .right g < 2 * gateWire c g
+  pub address-fits : (t : ℕ) → t < c .m → IsCode c (c .address t)
+  pub data-fits : (t : ℕ) → t < c .n → IsCode c (c .writeData t)
+  pub WE-fits : IsCode c (c .WE)
+  pub RE-fits : IsCode c (c .RE)
+  pub P-fits : IsCode c (c .P)
+
+-- refusal 6: an address code or RE depends on a read bit
+pub record NoLoop (c : Netlist) (p : Port) : Type 0 where
+  pub address-free : (t : ℕ) → t < c .m → dependsOnRead c (p .address t / 2) ≡ false
+  pub RE-free : dependsOnRead c (p .RE / 2) ≡ false
+
+pub record Accepted (c : Netlist) : Type 0 where
+  pub sizes : SizesFit c
+  pub codes : CodesFit c
+  pub noLoop : NoLoop c (port c)

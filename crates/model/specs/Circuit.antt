@@ -1,0 +1,101 @@
+-- The sequential circuit with its whole memory, and its runs (document 01, "The chip"). Cited by the claim. Assumes nothing.
+use Prim.Native.Nat.{ℕ, zero, suc, _+_, _-_, _/_, _<_}
+use mathlib.Core.Bool.{Bool, true, false, cond, not, _&&_, _||_}
+use lib.Dec.{eqb, leb, ltb}
+use Rattle.model.specs.Bits.{odd, bit, fromBits}
+use Rattle.model.specs.Netlist.{Netlist, Port, port, readBits, inputWire, latchWire, readWire, gateWire}
+
+-- a value for each wire, in one frame
+abbrev pub Values : Type 0
+Values = ℕ → Bool
+
+-- the value of a code: its wire's, inverted where the code is odd
+unfoldable pub code : Values → ℕ → Bool
+code v x = cond (odd x) (not (v (x / 2))) (v (x / 2))
+
+-- all wires but the gates: inputs, latches and read bits as given
+unfoldable pub sources : Netlist → (ℕ → Bool) → (ℕ → Bool) → (ℕ → Bool) → Values
+sources c input latch read w =
+    cond (ltb w (inputWire c 0)) false
+    (cond (ltb w (latchWire c 0)) (input (w - inputWire c 0))
+    (cond (ltb w (readWire c 0)) (latch (w - latchWire c 0))
+    (cond (ltb w (gateWire c 0)) (read (w - readWire c 0)) false)))
+
+-- the first g gates in wire order, each from what its two codes are by then
+unfoldable pub sweep : (Values → ℕ → ℕ → Bool) → Netlist → Values → ℕ → Values
+sweep op c v zero w = v w
+sweep op c v (suc g) w =
+    cond (eqb w (gateWire c g)) (op (sweep op c v g) (c .left g) (c .right g)) (sweep op c v g w)
+
+unfoldable pub conjunction : Values → ℕ → ℕ → Bool
+conjunction v a b = code v a && code v b
+
+-- all wires: the gates worked out in wire order
+unfoldable pub evaluate : Netlist → (ℕ → Bool) → (ℕ → Bool) → (ℕ → Bool) → Values
+evaluate c input latch read = sweep conjunction c (sources c input latch read) (c .gates)
+
+-- Whether a wire depends on a read bit: by wiring through gates, whatever the gates compute, and not through latches.
+-- The same sweep over the gates, from the read bits.
+unfoldable pub isRead : Netlist → ℕ → Bool
+isRead c w = leb (readWire c 0) w && ltb w (gateWire c 0)
+
+unfoldable pub eitherWire : (ℕ → Bool) → ℕ → ℕ → Bool
+eitherWire d a b = d (a / 2) || d (b / 2)
+
+unfoldable pub dependsOnRead : Netlist → ℕ → Bool
+dependsOnRead c = sweep eitherWire c (isRead c) (c .gates)
+
+-- the same dependence as a path: from a read bit through gates to the wire
+pub data ReadPath (c : Netlist) : ℕ → Type 0 where
+  at-read : (t : ℕ) → t < readBits c → ReadPath c (readWire c t)
+  by-left : (g : ℕ) → g < c .gates → ReadPath c (c .left g / 2) → ReadPath c (gateWire c g)
+  by-right : (g : ℕ) → g < c .gates → ReadPath c (c .right g / 2) → ReadPath c (gateWire c g)
+
+-- what a run carries from frame to frame: the latches and the 2^m words
+pub record State : Type 0 where
+  pub latch : ℕ → Bool
+  pub memory : ℕ → ℕ
+
+-- what a run is fed in a frame: the inputs, and the bits of document 01's "idle word", the read bits where RE is false
+pub record Feed : Type 0 where
+  pub input : ℕ → Bool
+  pub idle : ℕ → Bool
+
+-- the address at a port
+unfoldable pub addressOf : Netlist → Port → Values → ℕ
+addressOf c p v = fromBits (c .m) (λ t. code v (p .address t))
+
+-- the read bits that follow from the memory before this frame's write, and from the address and RE in the values v
+unfoldable pub readData : Netlist → State → Feed → Values → ℕ → Bool
+readData c s f v t = cond (code v (port c .RE)) (bit (s .memory (addressOf c (port c) v)) t) (f .idle t)
+
+-- One frame. First pass: every read bit 0, which settles address and RE. Second pass: all gates afresh, with the read bits.
+unfoldable pub firstPass : Netlist → State → Feed → Values
+firstPass c s f = evaluate c (f .input) (s .latch) (λ t. false)
+
+unfoldable pub frame : Netlist → State → Feed → Values
+frame c s f = evaluate c (f .input) (s .latch) (readData c s f (firstPass c s f))
+
+-- the word written in a frame
+unfoldable pub wordWritten : Netlist → Values → ℕ
+wordWritten c v = fromBits (c .n) (λ t. code v (c .writeData t))
+
+-- after a frame: the write, and all latches at once, both from this frame's values
+unfoldable pub step : Netlist → State → Values → State
+step c s v =
+    record {
+      latch = λ l. code v (c .next l);
+      memory = λ x. cond (code v (c .WE) && eqb x (addressOf c (port c) v)) (wordWritten c v) (s .memory x);
+    }
+
+-- the state in which frame i begins, and the values in frame i, of the run from state s
+unfoldable pub stateAt : Netlist → State → (ℕ → Feed) → ℕ → State
+stateAt c s f zero = s
+stateAt c s f (suc i) = step c (stateAt c s f i) (frame c (stateAt c s f i) (f i))
+
+unfoldable pub run : Netlist → State → (ℕ → Feed) → ℕ → Values
+run c s f i = frame c (stateAt c s f i) (f i)
+
+-- the state at the start: latches at their reset, each word the initial word
+unfoldable pub initial : Netlist → State
+initial c = record { latch = λ l. eqb (c .reset l) 1; memory = λ x. c .initialWord }

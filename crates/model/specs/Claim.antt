@@ -1,0 +1,36 @@
+-- Demand 3, the correctness of the encoding in both directions, for one netlist and one depth.
+--
+-- `Satisfies c k a`: the assignment a makes every clause true that stands in the numbers written for depth k.
+-- First direction: whatever assignment does so, its inputs and idle read bits, fed frame by frame to the circuit with its whole
+-- memory from its initial state, drive every wire of every frame 0 to k as assigned, and break the property in one of them.
+-- Second direction: for every run from that state, whatever it is fed, that breaks the property in some frame 0 to k, there is an
+-- assignment that does so and agrees with the run on every wire of every frame 0 to k.
+-- Without the first a solver's answer could be no run of the chip; without the second a fault could go unfound.
+-- The theorem, `encodes`, is in proofs/Claim.antt: Encodes c k for every accepted netlist c and every k ≤ 255. Assumes nothing.
+use Prim.Native.Nat.{ℕ, _+_, _≤_}
+use mathlib.Core.Path.{_≡_}
+use mathlib.Core.Bool.{true, false}
+use Rattle.model.specs.Netlist.{Netlist, inputWire, readWire, lastWire}
+use Rattle.model.specs.Circuit.{Feed, code, run, initial}
+use Rattle.model.specs.Variables.{base}
+use Rattle.model.specs.Numbers.{Assignment, formula, clausesIn, allTrue}
+
+unfoldable pub Satisfies : Netlist → ℕ → Assignment → Type 0
+Satisfies c k a = allTrue a (clausesIn (formula c k)) ≡ true
+
+-- what an assignment feeds in frame i: its input variables and, as idle word, its read-bit variables
+unfoldable pub feedOf : Netlist → Assignment → ℕ → Feed
+feedOf c a i = record { input = λ x. a (base c i + inputWire c x); idle = λ t. a (base c i + readWire c t) }
+
+-- the assignment and the run agree on every wire of every frame from 0 to k
+unfoldable pub Agrees : Netlist → ℕ → Assignment → (ℕ → Feed) → Type 0
+Agrees c k a f =
+    (i : ℕ) → i ≤ k → (w : ℕ) → 1 ≤ w → w ≤ lastWire c → a (base c i + w) ≡ run c (initial c) f i w
+
+-- the run breaks the property in at least one frame from 0 to k: P is false there
+unfoldable pub Breaks : Netlist → ℕ → (ℕ → Feed) → Type 0
+Breaks c k f = (i : ℕ) × (i ≤ k) × (code (run c (initial c) f i) (c .P) ≡ false)
+
+pub record Encodes (c : Netlist) (k : ℕ) : Type 0 where
+  pub assignment→run : (a : Assignment) → Satisfies c k a → Agrees c k a (feedOf c a) × Breaks c k (feedOf c a)
+  pub run→assignment : (f : ℕ → Feed) → Breaks c k f → (a : Assignment) × Satisfies c k a × Agrees c k a f

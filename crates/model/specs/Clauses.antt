@@ -1,0 +1,110 @@
+-- Clauses over literals, and the clauses of a gate, a pair and a closing: nothing here knows a variable's number.
+-- Document 01, "Groups of clauses"; Ganai et al. 2004, equations (3) and (4). Cited by the groups and by the claim.
+-- Assumes nothing.
+use Prim.Native.Nat.{ℕ, zero, suc}
+use mathlib.Core.Bool.{Bool, true, false, not}
+use mathlib.Core.List.{List, [], _∷_, _++_}
+
+-- A literal: a constant, or a variable, inverted or not. Which number stands for a constant is said in `Numbers` alone.
+pub data Literal : Type 0 where
+  known : Bool → Literal
+  plus : ℕ → Literal
+  minus : ℕ → Literal
+
+abbrev pub Clause : Type 0
+Clause = List Literal
+
+-- negation, document 01's ¬
+unfoldable pub neg : Literal → Literal
+neg (known b) = known (not b)
+neg (plus v) = minus v
+neg (minus v) = plus v
+
+-- f 0 to f (n - 1), joined; and the same from f (n - 1) down to f 0
+unfoldable pub gather {ℓ} : {A : Type ℓ} → ℕ → (ℕ → List A) → List A
+gather zero f = []
+gather (suc n) f = gather n f ++ f n
+
+unfoldable pub gatherDown {ℓ} : {A : Type ℓ} → ℕ → (ℕ → List A) → List A
+gatherDown zero f = []
+gatherDown (suc n) f = f n ++ gatherDown n f
+
+-- g = a ∧ b
+unfoldable pub andClauses : Literal → Literal → Literal → List Clause
+andClauses g a b = (neg g ∷ a ∷ []) ∷ (neg g ∷ b ∷ []) ∷ (g ∷ neg a ∷ neg b ∷ []) ∷ []
+
+-- q = d
+unfoldable pub sameClauses : Literal → Literal → List Clause
+sameClauses q d = (neg q ∷ d ∷ []) ∷ (q ∷ neg d ∷ []) ∷ []
+
+-- where p is true, a = b
+unfoldable pub sameIf : Literal → Literal → Literal → List Clause
+sameIf p a b = (neg p ∷ neg a ∷ b ∷ []) ∷ (neg p ∷ a ∷ neg b ∷ []) ∷ []
+
+-- One address bit x of frame j and y of frame i, with E and the bit's own e. The paper's e lost its subscript: it is per bit.
+unfoldable pub bitClauses : Literal → Literal → Literal → Literal → List Clause
+bitClauses E e x y =
+    (neg E ∷ x ∷ neg y ∷ []) ∷ (neg E ∷ neg x ∷ y ∷ []) ∷ (e ∷ x ∷ y ∷ []) ∷ (e ∷ neg x ∷ neg y ∷ []) ∷ []
+
+-- The literals of a pair (j, i), by the paper's letters. j < i only: a read does not see its own frame's write.
+pub record PairLiterals : Type 0 where
+  -- the address comparison, and its bits' own variables
+  pub E : Literal
+  pub e : ℕ → Literal
+  -- valid read; no valid read from j on, with RE; exclusive valid read
+  pub s : Literal
+  pub PS : Literal
+  pub S : Literal
+  -- PS of pair (j + 1, i), or RE of frame i where j = i - 1
+  pub N : Literal
+  -- of frame j: write enable, write address, write data
+  pub WE : Literal
+  pub Aj : ℕ → Literal
+  pub WD : ℕ → Literal
+  -- of frame i: read address, read data
+  pub Ai : ℕ → Literal
+  pub RD : ℕ → Literal
+
+unfoldable pub bitOf : PairLiterals → ℕ → List Clause
+bitOf x t = bitClauses (x .E) (x .e t) (x .Aj t) (x .Ai t)
+
+unfoldable pub notE : PairLiterals → ℕ → List Literal
+notE x t = neg (x .e t) ∷ []
+
+-- (¬e of bits 0 to m - 1, E)
+unfoldable pub allBits : ℕ → PairLiterals → Clause
+allBits m x = gather m (notE x) ++ x .E ∷ []
+
+unfoldable pub forwarded : PairLiterals → ℕ → List Clause
+forwarded x t = sameIf (x .S) (x .RD t) (x .WD t)
+
+-- The paper's equation (1) has a misprinted inner sign, "or"; its sentence decides: all frames strictly between j and i.
+-- That is what N carries from pair to pair, by equation (3).
+unfoldable pub pairClauses : ℕ → ℕ → PairLiterals → List Clause
+pairClauses m n x =
+    gather m (bitOf x) ++ allBits m x ∷ [] ++ andClauses (x .s) (x .E) (x .WE) ++ andClauses (x .PS) (neg (x .s)) (x .N)
+    ++ andClauses (x .S) (x .s) (x .N) ++ gather n (forwarded x)
+
+-- The literals of document 01's "closing" of frame i: the paper's j = -1, a read that no earlier frame wrote.
+pub record ClosingLiterals : Type 0 where
+  -- PS of pair (0, i), or RE where i = 0
+  pub Z : Literal
+  pub RE : Literal
+  -- S of pair (j, i)
+  pub S : ℕ → Literal
+  -- read data, and the initial word's bits
+  pub RD : ℕ → Literal
+  pub W : ℕ → Literal
+
+unfoldable pub initialRead : ClosingLiterals → ℕ → List Clause
+initialRead x t = sameIf (x .Z) (x .RD t) (x .W t)
+
+unfoldable pub justS : ClosingLiterals → ℕ → List Literal
+justS x j = x .S j ∷ []
+
+-- (¬RE Z S(0,i) .. S(i−1,i)): a read has some source
+unfoldable pub someSource : ℕ → ClosingLiterals → Clause
+someSource i x = neg (x .RE) ∷ x .Z ∷ gather i (justS x)
+
+unfoldable pub closingClauses : ℕ → ℕ → ClosingLiterals → List Clause
+closingClauses n i x = gather n (initialRead x) ++ someSource i x ∷ []

@@ -1,0 +1,56 @@
+-- The four groups of clauses and the order of the whole (document 01, "Groups of clauses"). Cited by every group call.
+-- Assumes nothing.
+use Prim.Native.Nat.{ℕ, zero, suc, _+_}
+use mathlib.Core.Bool.{Bool, true, false, cond, _&&_}
+use mathlib.Core.List.{List, [], _∷_, _++_}
+use lib.Dec.{eqb, leb, ltb}
+use Rattle.model.specs.Netlist.{Netlist, port, latchWire, gateWire}
+use Rattle.model.specs.Clauses.{Literal, Clause, plus, neg, gather, gatherDown, andClauses, sameClauses, pairClauses, closingClauses}
+use Rattle.model.specs.Variables.{wireIn, codeIn, pairLiterals, closingLiterals}
+use Rattle.model.specs.declared.Group.{Group}
+use Rattle.model.specs.declared.Group.the-variants.{Wires, Pair, Closing, Property}
+
+-- gate g in frame i
+unfoldable pub gateClauses : Netlist → ℕ → ℕ → List Clause
+gateClauses c i g = andClauses (wireIn c i (gateWire c g)) (codeIn c i (c .left g)) (codeIn c i (c .right g))
+
+-- latch l in frame 0: its own literal, inverted if reset is 0
+unfoldable pub resetClause : Netlist → ℕ → List Clause
+resetClause c l = (cond (eqb (c .reset l) 1) (wireIn c 0 (latchWire c l)) (neg (wireIn c 0 (latchWire c l))) ∷ []) ∷ []
+
+-- latch l in frame i + 1: what its next code was in frame i
+unfoldable pub latchClauses : Netlist → ℕ → ℕ → List Clause
+latchClauses c i l = sameClauses (wireIn c (i + 1) (latchWire c l)) (codeIn c i (c .next l))
+
+-- the latches of frame i; in frame 0 also (1), by which variable 1 is true
+unfoldable pub stateClauses : Netlist → ℕ → List Clause
+stateClauses c zero = (plus 1 ∷ []) ∷ gather (c .latches) (resetClause c)
+stateClauses c (suc i) = gather (c .latches) (latchClauses c i)
+
+unfoldable pub notP : Netlist → ℕ → List Literal
+notP c i = neg (codeIn c i (c .P)) ∷ []
+
+-- the clauses of a group at depth k
+unfoldable pub clausesOf : Netlist → ℕ → Group → List Clause
+clausesOf c k (Wires i) = stateClauses c i ++ gather (c .gates) (gateClauses c i)
+clausesOf c k (Pair j i) = pairClauses (c .m) (c .n) (pairLiterals c (port c) j i)
+clausesOf c k (Closing i) = closingClauses (c .n) i (closingLiterals c (port c) i)
+clausesOf c k Property = gather (k + 1) (notP c) ∷ []
+
+-- the groups of frame i: wires, pairs from j = i - 1 down to 0, closing
+unfoldable pub pairOf : ℕ → ℕ → List Group
+pairOf i j = Pair j i ∷ []
+
+unfoldable pub frameGroups : ℕ → List Group
+frameGroups i = Wires i ∷ gatherDown i (pairOf i) ++ Closing i ∷ []
+
+-- the order of the whole: the frames 0 to k, then the property
+unfoldable pub groupOrder : ℕ → List Group
+groupOrder k = gather (k + 1) frameGroups ++ Property ∷ []
+
+-- whether there is such a group at depth k: no frame over k, and no pair with j not below i
+unfoldable pub inDepth : ℕ → Group → Bool
+inDepth k (Wires i) = leb i k
+inDepth k (Pair j i) = leb i k && ltb j i
+inDepth k (Closing i) = leb i k
+inDepth k Property = true

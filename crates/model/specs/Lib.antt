@@ -1,0 +1,11 @@
+-- The definitions of document 01, in reading order. Nothing here imports a law or a proof.
+pub mod Bits
+pub mod Netlist
+pub mod Circuit
+pub mod Acceptance
+pub mod Clauses
+pub mod Variables
+pub mod Groups
+pub mod Numbers
+pub mod Claim
+pub mod Starred

@@ -1,0 +1,62 @@
+-- A netlist with one memory: document 01's record with its lists, and the numbers of its wires ("Wires and codes").
+-- Cited by every other file. Assumes nothing.
+use Prim.Native.Nat.{ℕ, _+_}
+
+-- What the lists hold are functions, so that an entry past its size has no meaning to ignore: it is never asked for.
+-- A code (document 01's term) is an AIGER literal: 2 × wire, plus 1 for the inverted wire; code 0 is false, code 1 true.
+pub record Netlist : Type 0 where
+  pub inputs : ℕ
+  pub latches : ℕ
+  pub gates : ℕ
+  -- address width and data width
+  pub m : ℕ
+  pub n : ℕ
+  -- document 01's "start word": what every word of the memory is at first
+  pub initialWord : ℕ
+  -- a latch's next code, and its reset, 0 or 1
+  pub next : ℕ → ℕ
+  pub reset : ℕ → ℕ
+  -- a gate's two codes
+  pub left : ℕ → ℕ
+  pub right : ℕ → ℕ
+  -- address codes and write-data codes, bit 0 first
+  pub address : ℕ → ℕ
+  pub writeData : ℕ → ℕ
+  -- write enable, read enable, property
+  pub WE : ℕ
+  pub RE : ℕ
+  pub P : ℕ
+
+-- A read port of the memory. Only `port` below says which there are.
+pub record Port : Type 0 where
+  pub address : ℕ → ℕ
+  pub RE : ℕ
+  -- its first read bit, counted from the first of all read bits
+  pub firstRead : ℕ
+  -- its first variable, counted from the first of all ports' variables for a pair of frames
+  pub firstVariable : ℕ
+
+abbrev pub port : Netlist → Port
+port c = record { address = c .address; RE = c .RE; firstRead = 0; firstVariable = 0 }
+
+-- how many read bits there are, over all ports
+abbrev pub readBits : Netlist → ℕ
+readBits c = c .n
+
+-- Wires are numbered from 1: inputs, latches, read bits, gates. Wire 0 is no wire of document 01: it is constantly false, so
+-- that codes 0 and 1 need no case of their own.
+abbrev pub inputWire : Netlist → ℕ → ℕ
+inputWire c x = 1 + x
+
+abbrev pub latchWire : Netlist → ℕ → ℕ
+latchWire c l = 1 + c .inputs + l
+
+abbrev pub readWire : Netlist → ℕ → ℕ
+readWire c t = 1 + c .inputs + c .latches + t
+
+abbrev pub gateWire : Netlist → ℕ → ℕ
+gateWire c g = 1 + c .inputs + c .latches + readBits c + g
+
+-- V, the number of the last wire
+abbrev pub lastWire : Netlist → ℕ
+lastWire c = c .inputs + c .latches + readBits c + c .gates

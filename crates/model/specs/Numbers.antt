@@ -1,0 +1,62 @@
+-- Clauses as DIMACS numbers (document 01's "clause numbers", each clause ended by 0), and back; what an assignment makes true
+-- (document 01, "Assignments and runs"). Cited by every group call and by the claim. Assumes nothing.
+use Prim.Native.Nat.{ℕ, zero, suc}
+use mathlib.Core.Bool.{Bool, true, false, not, _&&_, _||_}
+use mathlib.Core.List.{List, [], _∷_, _++_, map}
+use lib.IntN.{ℤ, pos, negsuc, negℤ}
+use Rattle.model.specs.Netlist.{Netlist}
+use Rattle.model.specs.Clauses.{Literal, known, plus, minus, Clause}
+use Rattle.model.specs.Groups.{clausesOf, groupOrder}
+use Rattle.model.specs.declared.Group.{Group}
+
+-- variable 1 is true: constants become 1 and -1
+unfoldable pub numberOf : Literal → ℤ
+numberOf (known true) = pos 1
+numberOf (known false) = negℤ (pos 1)
+numberOf (plus v) = pos v
+numberOf (minus v) = negℤ (pos v)
+
+-- clauses as they are written, each with its end mark
+unfoldable pub written : List Clause → List ℤ
+written [] = []
+written (x ∷ xs) = map numberOf x ++ pos 0 ∷ [] ++ written xs
+
+unfoldable pub numbersOf : Netlist → ℕ → Group → List ℤ
+numbersOf c k g = written (clausesOf c k g)
+
+-- the numbers of several groups, joined
+unfoldable pub joined : (Group → List ℤ) → List Group → List ℤ
+joined f [] = []
+joined f (g ∷ gs) = f g ++ joined f gs
+
+-- all numbers written for depth k
+unfoldable pub formula : Netlist → ℕ → List ℤ
+formula c k = joined (numbersOf c k) (groupOrder k)
+
+-- the clauses in a list of numbers: each 0 ends one. `begun` is what stands since the 0 before
+unfoldable pub splitAfter : List ℤ → List ℤ → List (List ℤ)
+splitAfter begun [] = []
+splitAfter begun (pos zero ∷ zs) = begun ∷ splitAfter [] zs
+splitAfter begun (pos (suc v) ∷ zs) = splitAfter (begun ++ pos (suc v) ∷ []) zs
+splitAfter begun (negsuc v ∷ zs) = splitAfter (begun ++ negsuc v ∷ []) zs
+
+unfoldable pub clausesIn : List ℤ → List (List ℤ)
+clausesIn zs = splitAfter [] zs
+
+-- a value for each variable
+abbrev pub Assignment : Type 0
+Assignment = ℕ → Bool
+
+-- the number v is true if variable v is, -v if it is not
+unfoldable pub numberTrue : Assignment → ℤ → Bool
+numberTrue a (pos v) = a v
+numberTrue a (negsuc v) = not (a (suc v))
+
+-- a clause is true if at least one of its numbers is
+unfoldable pub clauseTrue : Assignment → List ℤ → Bool
+clauseTrue a [] = false
+clauseTrue a (z ∷ zs) = numberTrue a z || clauseTrue a zs
+
+unfoldable pub allTrue : Assignment → List (List ℤ) → Bool
+allTrue a [] = true
+allTrue a (x ∷ xs) = clauseTrue a x && allTrue a xs

@@ -1,0 +1,69 @@
+-- The numbering of variables (document 01, "Numbers of variables"), and the literals that it gives. Assumes nothing.
+use Prim.Native.Nat.{ℕ, zero, suc, _+_, _-_, _*_, _/_}
+use mathlib.Core.Bool.{Bool, true, false, cond}
+use lib.Dec.{eqb, ltb}
+use Rattle.model.specs.Bits.{odd, bit}
+use Rattle.model.specs.Netlist.{Netlist, Port, port, lastWire, readWire}
+use Rattle.model.specs.Clauses.{Literal, known, plus, minus, PairLiterals, ClosingLiterals}
+
+-- how many variables a pair of frames has, over all ports
+abbrev pub stride : Netlist → ℕ
+stride c = c .m + 4
+
+-- B(i): frame i's variables start after it
+unfoldable pub base : Netlist → ℕ → ℕ
+base c i = 1 + i * lastWire c + stride c * i * (i - 1) / 2
+
+-- Q: the variables of pair (j, i) at a port start after it
+unfoldable pub pairBase : Netlist → Port → ℕ → ℕ → ℕ
+pairBase c p j i = base c i + lastWire c + j * stride c + p .firstVariable
+
+-- a wire, and a code, in a frame whose variables start after b. Codes 0 and 1 are constants
+unfoldable pub wireAt : ℕ → ℕ → Literal
+wireAt b w = plus (b + w)
+
+unfoldable pub codeAt : ℕ → ℕ → Literal
+codeAt b x = cond (ltb x 2) (known (odd x)) (cond (odd x) (minus (b + x / 2)) (plus (b + x / 2)))
+
+-- in frame i
+abbrev pub wireIn : Netlist → ℕ → ℕ → Literal
+wireIn c i = wireAt (base c i)
+
+abbrev pub codeIn : Netlist → ℕ → ℕ → Literal
+codeIn c i = codeAt (base c i)
+
+-- PS of pair (j, i), or RE of frame i where j = i
+unfoldable pub none : Netlist → Port → ℕ → ℕ → Literal
+none c p j i = cond (eqb j i) (codeIn c i (p .RE)) (plus (pairBase c p j i + c .m + 3))
+
+unfoldable pub selected : Netlist → Port → ℕ → ℕ → Literal
+selected c p j i = plus (pairBase c p j i + c .m + 4)
+
+unfoldable pub readBit : Netlist → Port → ℕ → ℕ → Literal
+readBit c p i t = wireIn c i (readWire c (p .firstRead + t))
+
+unfoldable pub pairLiterals : Netlist → Port → ℕ → ℕ → PairLiterals
+pairLiterals c p j i =
+    record {
+      E = plus (pairBase c p j i + 1);
+      e = λ t. plus (pairBase c p j i + 2 + t);
+      s = plus (pairBase c p j i + c .m + 2);
+      PS = none c p j i;
+      S = selected c p j i;
+      N = none c p (j + 1) i;
+      WE = codeIn c j (c .WE);
+      Aj = λ t. codeIn c j (c .address t);
+      WD = λ t. codeIn c j (c .writeData t);
+      Ai = λ t. codeIn c i (p .address t);
+      RD = readBit c p i;
+    }
+
+unfoldable pub closingLiterals : Netlist → Port → ℕ → ClosingLiterals
+closingLiterals c p i =
+    record {
+      Z = none c p 0 i;
+      RE = codeIn c i (p .RE);
+      S = λ j. selected c p j i;
+      RD = readBit c p i;
+      W = λ t. known (bit (c .initialWord) t);
+    }

@@ -1,0 +1,143 @@
+//! Demand 3: satisfying assignments and runs that break the property match one another
+//! (document 01, "Assignments and runs").
+
+use std::collections::HashSet;
+
+use super::circuit::{value, Feed, Run};
+use super::formula::{frame_base, Fault, Formula, Group};
+use super::netlist::Netlist;
+use super::solver::{satisfies, Solver};
+
+/// What comparing all satisfying assignments with all runs found.
+pub struct Agreement {
+    pub models: usize,
+    /// Assignments that differ from their run on some wire, or whose run does not break the
+    /// property: demand 3's first half fails.
+    pub disagreeing: usize,
+    /// Runs that break the property and that no satisfying assignment feeds: the second half
+    /// fails.
+    pub missed: usize,
+    /// Whether the runs that break are exactly the runs that satisfying assignments feed.
+    pub same_feeds: bool,
+}
+
+impl Agreement {
+    pub fn holds(&self) -> bool {
+        self.disagreeing == 0 && self.missed == 0 && self.same_feeds
+    }
+}
+
+/// The variable of a wire in a frame.
+fn variable(netlist: &Netlist, frame: usize, wire: usize) -> usize {
+    frame_base(netlist, frame as u32) as usize + wire
+}
+
+/// What an assignment feeds: input variables, and read-bit variables as idle words.
+fn feeds_of_model(netlist: &Netlist, depth: u32, model: &[bool]) -> Vec<Feed> {
+    let first_read_bit = netlist.first_read_bit() as usize;
+    let of_frame = |frame: usize| {
+        let wire_value = |wire: usize| model[variable(netlist, frame, wire)];
+        let read_bit = |bit: usize| u32::from(wire_value(first_read_bit + bit)) << bit;
+        Feed {
+            inputs: (1..=netlist.inputs as usize).map(wire_value).collect(),
+            idle_word: (0..netlist.data_width as usize).map(read_bit).sum(),
+        }
+    };
+    (0..=depth as usize).map(of_frame).collect()
+}
+
+/// Whether an assignment has every wire of every frame as the run has it.
+fn agrees(netlist: &Netlist, model: &[bool], run: &Run) -> bool {
+    run.frames.iter().enumerate().all(|(frame, values)| {
+        (1..values.len()).all(|wire| model[variable(netlist, frame, wire)] == values[wire])
+    })
+}
+
+/// Every feed of frames 0 to depth. There are 2^((depth + 1) (I + n)), so only for tiny sizes.
+fn all_feeds(netlist: &Netlist, depth: u32) -> impl Iterator<Item = Vec<Feed>> {
+    let (inputs, width) = (netlist.inputs, netlist.data_width);
+    let of_frame = move |bits: u64| Feed {
+        inputs: (0..inputs).map(|bit| (bits >> bit) & 1 == 1).collect(),
+        idle_word: ((bits >> inputs) & ((1 << width) - 1)) as u32,
+    };
+    let frame_bits = inputs + width;
+    let all = 0..1u64 << (frame_bits * (depth + 1));
+    all.map(move |bits| {
+        (0..=depth)
+            .map(|frame| of_frame(bits >> (frame * frame_bits)))
+            .collect()
+    })
+}
+
+/// Compares all satisfying assignments with all runs, for tiny netlists.
+pub fn compare(netlist: &Netlist, depth: u32, fault: Fault) -> Agreement {
+    let formula = Formula::new(netlist, depth, fault);
+    let mut solver = Solver::new(formula.variable_count() as usize, &formula.numbers());
+    let (mut models, mut disagreeing) = (0, 0);
+    let mut satisfying = HashSet::new();
+    solver.models(&mut |model| {
+        let feeds = feeds_of_model(netlist, depth, model);
+        let run = Run::new(netlist, &feeds);
+        models += 1;
+        if run.first_break.is_none() || !agrees(netlist, model, &run) {
+            disagreeing += 1;
+        }
+        satisfying.insert(feeds);
+    });
+    let breaking: HashSet<Vec<Feed>> = all_feeds(netlist, depth)
+        .map(|feeds| Run::new(netlist, &feeds))
+        .filter(|run| run.first_break.is_some())
+        .map(|run| run.feeds(netlist))
+        .collect();
+    Agreement {
+        models,
+        disagreeing,
+        missed: breaking.difference(&satisfying).count(),
+        same_feeds: breaking == satisfying,
+    }
+}
+
+/// Demand 3 for one feed of a netlist of any size. Inputs, and idle words where RE is false, are
+/// assumed; unit propagation must then give every wire its value in the run, so no satisfying
+/// assignment of this feed differs from the run. With all variables left free made false, every
+/// clause but the property's must be true, and the property's exactly when the run breaks.
+pub fn propagation_follows_run(netlist: &Netlist, feeds: &[Feed]) -> bool {
+    let run = Run::new(netlist, feeds);
+    let depth = feeds.len() as u32 - 1;
+    let formula = Formula::new(netlist, depth, Fault::None);
+    let mut numbers = formula.numbers();
+    let property = formula.group(Group::Property);
+    numbers.truncate(numbers.len() - property.len());
+
+    let variables = formula.variable_count() as usize;
+    let mut solver = Solver::new(variables, &numbers);
+    let literals = feed_literals(netlist, &run);
+    if !literals.into_iter().all(|literal| solver.assume(literal)) {
+        return false;
+    }
+    let wires_follow = run.frames.iter().enumerate().all(|(frame, values)| {
+        (1..values.len())
+            .all(|wire| solver.value(variable(netlist, frame, wire)) == Some(values[wire]))
+    });
+    let completed: Vec<bool> = (0..=variables)
+        .map(|index| solver.value(index) == Some(true))
+        .collect();
+    wires_follow
+        && satisfies(&completed, &numbers)
+        && satisfies(&completed, &property) == run.first_break.is_some()
+}
+
+/// The literals that fix a feed: all inputs, and the read bits of frames in which RE is false.
+fn feed_literals(netlist: &Netlist, run: &Run) -> Vec<i32> {
+    let mut literals = Vec::new();
+    for (frame, values) in run.frames.iter().enumerate() {
+        let inputs = 1..netlist.first_latch() as usize;
+        let read_bits = netlist.first_read_bit() as usize..netlist.first_gate() as usize;
+        let idle = !value(values, netlist.read_enable);
+        for wire in inputs.chain(read_bits.filter(|_| idle)) {
+            let number = variable(netlist, frame, wire) as i32;
+            literals.push(if values[wire] { number } else { -number });
+        }
+    }
+    literals
+}

@@ -1,0 +1,276 @@
+//! Document 01's own examples and figures.
+
+use super::agreement::compare;
+use super::circuit::{Feed, Run};
+use super::formula::{
+    clause_count, frame_base, frames, group_call, heading, number_count, variables_fit, Fault,
+    Formula, Group, Heading,
+};
+use super::netlist::{Gate, Latch, Netlist};
+use super::refusal::{Refusal, DEPTH, MEMORY_LOOP, NO_ROOM, NO_SUCH_GROUP};
+use super::sheet::{expand, read_sheet, write_depth};
+use super::Tally;
+
+/// The sheet of document 01's full run.
+pub const FULL_RUN: &str = "N 1 0 0/M 1 1 0/A 0/D 2/C 1 1 5";
+
+const FULL_RUN_TEXT: &str = "\
+p cnf 10 24
+1 0
+-1 -3 -1 0
+-1 3 1 0
+-1 1 0
+-6 -1 1 0
+-6 1 -1 0
+7 -1 -1 0
+7 1 1 0
+-7 6 0
+-8 6 0
+-8 1 0
+8 -6 -1 0
+-9 -8 0
+-9 1 0
+9 8 -1 0
+-10 8 0
+-10 1 0
+10 -8 -1 0
+-10 -5 2 0
+-10 5 -2 0
+-9 -5 -1 0
+-9 5 1 0
+-1 9 10 0
+3 5 0
+";
+
+/// The same sheet at depth 0.
+const DEPTH_0_TEXT: &str = "\
+p cnf 3 5
+1 0
+-1 -3 -1 0
+-1 3 1 0
+-1 1 0
+3 0
+";
+
+/// A sheet with every kind of line and two bits in both widths. Wires: input 1, latch 2, read
+/// bits 3 and 4, gate 5.
+pub const RICH: &str = "N 1 1 1/M 2 2 2/L 10 1/G 2 7/A 4/A 3/D 10/D 8/C 11 5 9";
+
+/// Its text at depth 2, worked out by hand from document 01. It settles what the full run cannot
+/// show: clauses bit by bit, S in ascending order, pairs in descending order, N as PS. The wires
+/// of the frames are 2 to 6, 7 to 11 and 18 to 22; the pair (0, 1) is 12 to 17, the pair (0, 2)
+/// is 23 to 28 and the pair (1, 2) is 29 to 34.
+const RICH_TEXT: [&str; 11] = [
+    "p cnf 34 97\n",
+    // Frame 0: wires, closing.
+    "1 0\n3 0\n-6 2 0\n-6 -4 0\n6 -2 4 0\n",
+    "3 -4 -1 0\n3 4 1 0\n3 -5 1 0\n3 5 -1 0\n3 -3 0\n",
+    // Frame 1: wires, pair (0, 1), closing.
+    "-8 6 0\n8 -6 0\n-11 7 0\n-11 -9 0\n11 -7 9 0\n",
+    "-12 3 -8 0\n-12 -3 8 0\n13 3 8 0\n13 -3 -8 0\n\
+     -12 -2 7 0\n-12 2 -7 0\n14 -2 -7 0\n14 2 7 0\n-13 -14 12 0\n\
+     -15 12 0\n-15 -6 0\n15 -12 6 0\n\
+     -16 -15 0\n-16 -8 0\n16 15 8 0\n\
+     -17 15 0\n-17 -8 0\n17 -15 8 0\n\
+     -17 -9 6 0\n-17 9 -6 0\n-17 -10 5 0\n-17 10 -5 0\n",
+    "-16 -9 -1 0\n-16 9 1 0\n-16 -10 1 0\n-16 10 -1 0\n8 16 17 0\n",
+    // Frame 2: wires, pair (1, 2), pair (0, 2), closing.
+    "-19 11 0\n19 -11 0\n-22 18 0\n-22 -20 0\n22 -18 20 0\n",
+    "-29 8 -19 0\n-29 -8 19 0\n30 8 19 0\n30 -8 -19 0\n\
+     -29 -7 18 0\n-29 7 -18 0\n31 -7 -18 0\n31 7 18 0\n-30 -31 29 0\n\
+     -32 29 0\n-32 -11 0\n32 -29 11 0\n\
+     -33 -32 0\n-33 -19 0\n33 32 19 0\n\
+     -34 32 0\n-34 -19 0\n34 -32 19 0\n\
+     -34 -20 11 0\n-34 20 -11 0\n-34 -21 10 0\n-34 21 -10 0\n",
+    "-23 3 -19 0\n-23 -3 19 0\n24 3 19 0\n24 -3 -19 0\n\
+     -23 -2 18 0\n-23 2 -18 0\n25 -2 -18 0\n25 2 18 0\n-24 -25 23 0\n\
+     -26 23 0\n-26 -6 0\n26 -23 6 0\n\
+     -27 -26 0\n-27 33 0\n27 26 -33 0\n\
+     -28 26 0\n-28 33 0\n28 -26 -33 0\n\
+     -28 -20 6 0\n-28 20 -6 0\n-28 -21 5 0\n-28 21 -5 0\n",
+    "-27 -20 -1 0\n-27 20 1 0\n-27 -21 1 0\n-27 21 -1 0\n19 27 28 34 0\n",
+    // Property.
+    "5 10 21 0\n",
+];
+
+/// A sheet in which every code is a constant, and its text at depth 1, worked out by hand: code 0
+/// is -1, code 1 is 1, and nothing is simplified. The read bit is 2 and 3, the pair is 4 to 8.
+const CONSTANT: &str = "N 0 0 0/M 1 1 1/A 1/D 0/C 0 0 1";
+
+const CONSTANT_TEXT: [&str; 7] = [
+    "p cnf 8 24\n1 0\n",
+    "1 -2 1 0\n1 2 -1 0\n1 -1 0\n",
+    "-4 1 -1 0\n-4 -1 1 0\n5 1 1 0\n5 -1 -1 0\n-5 4 0\n",
+    "-6 4 0\n-6 -1 0\n6 -4 1 0\n-7 -6 0\n-7 -1 0\n7 6 1 0\n-8 6 0\n-8 -1 0\n8 -6 1 0\n",
+    "-8 -3 -1 0\n-8 3 1 0\n",
+    "-7 -3 1 0\n-7 3 -1 0\n1 7 8 0\n",
+    "-1 -1 0\n",
+];
+
+/// The input of `frames`: a depth and the sheet of a short form.
+pub fn input(depth: u32, short: &str) -> Vec<u8> {
+    [write_depth(depth), expand(short)].concat()
+}
+
+/// The netlist of an accepted short form.
+pub fn accepted(short: &str) -> Netlist {
+    read_sheet(&expand(short), 600, 600).expect("an accepted sheet")
+}
+
+/// A netlist of given sizes in which every code, reset and start bit is 0.
+pub fn of_sizes(counts: [u32; 3], widths: [u32; 2]) -> Netlist {
+    let [inputs, latch_count, gate_count] = counts;
+    let [address_width, data_width] = widths;
+    Netlist {
+        inputs,
+        latch_count,
+        gate_count,
+        address_width,
+        data_width,
+        latches: vec![Latch { next: 0, reset: 0 }; latch_count as usize],
+        gates: vec![Gate { left: 0, right: 0 }; gate_count as usize],
+        ..Netlist::default()
+    }
+}
+
+pub fn full_runs(tally: &mut Tally) {
+    let rows = [
+        (1, FULL_RUN, FULL_RUN_TEXT.to_string()),
+        (0, FULL_RUN, DEPTH_0_TEXT.to_string()),
+        (2, RICH, RICH_TEXT.concat()),
+        (1, CONSTANT, CONSTANT_TEXT.concat()),
+    ];
+    for (depth, short, text) in rows {
+        let printed = String::from_utf8(frames(&input(depth, short))).expect("ASCII");
+        tally.equal((short, depth), printed, text);
+    }
+    let netlist = accepted(FULL_RUN);
+    for (first, second, first_break) in [(true, false, Some(1)), (false, true, None)] {
+        let feeds = [first, second].map(|bit| Feed {
+            inputs: vec![bit],
+            idle_word: 1,
+        });
+        let run = Run::new(&netlist, &feeds);
+        tally.equal("first frame that breaks", run.first_break, first_break);
+    }
+    for (depth, satisfiable) in [(0, false), (1, true)] {
+        let found = compare(&netlist, depth, Fault::None);
+        tally.check("demand 3 of the full run", found.holds());
+        tally.equal("satisfiable", found.models > 0, satisfiable);
+    }
+}
+
+/// Inputs 1 to 5 are address bits 0 and 1, write data, WE and RE; latches 6 and 7 exchange their
+/// values; wire 8 is the read bit, and the property.
+const MEMORY: &str = "N 5 2 0/M 2 1 1/L 14 1/L 12 0/A 2/A 4/D 6/C 8 10 16";
+
+/// Inputs from 1 to 5, idle word, and the read bit that document 01's rule for the chip gives.
+const MEMORY_FRAMES: [([u8; 5], u32, bool); 8] = [
+    ([1, 0, 0, 1, 1], 0, true), // The start word: the read comes before this frame's write.
+    ([1, 0, 1, 0, 1], 1, false), // The word written in frame 0; WE is false.
+    ([0, 1, 1, 1, 1], 0, true), // Another address still has the start word.
+    ([1, 0, 0, 0, 0], 1, true), // RE is false: the idle word.
+    ([1, 0, 1, 1, 0], 0, false), // RE is false: the idle word, and the write is done.
+    ([1, 0, 0, 1, 1], 0, true), // The newest write of two.
+    ([1, 0, 1, 0, 1], 1, false), // The newest write of three.
+    ([1, 1, 0, 0, 1], 0, true), // An address never written.
+];
+
+pub fn memory_run(tally: &mut Tally) {
+    let netlist = accepted(MEMORY);
+    let feeds = MEMORY_FRAMES.map(|(inputs, idle_word, _)| Feed {
+        inputs: inputs.map(|bit| bit == 1).to_vec(),
+        idle_word,
+    });
+    let run = Run::new(&netlist, &feeds);
+    for (frame, (_, _, read_bit)) in MEMORY_FRAMES.into_iter().enumerate() {
+        let even = frame % 2 == 0;
+        let found = &run.frames[frame][6..];
+        tally.equal(("frame", frame), found, &[even, !even, read_bit]);
+    }
+    tally.equal("first frame that breaks", run.first_break, Some(1));
+}
+
+/// The nine starred facts, and the sentence on slices that follows them.
+pub fn starred_facts(tally: &mut Tally) {
+    let netlist = accepted(FULL_RUN);
+    let pair = Group::Pair(0, 1);
+    let numbers = Formula::new(&netlist, 1, Fault::None).group(pair);
+    let ends = numbers.iter().filter(|number| **number == 0).count();
+    let rows = [
+        ("B(0)", frame_base(&netlist, 0), 1),
+        ("B(1)", frame_base(&netlist, 1), 3),
+        ("B(2)", frame_base(&netlist, 2), 10),
+        ("clauses of the pair", ends as i64, 16),
+        ("closed form", clause_count(&netlist, pair), 16),
+        ("numbers of the pair", numbers.len() as i64, 57),
+        ("closed form", number_count(&netlist, 1, pair), 57),
+        (
+            "clauses at depth 1",
+            heading(&netlist, 1).map_or(0, |it| it.clauses),
+            24,
+        ),
+    ];
+    for (name, found, expected) in rows {
+        tally.equal(name, found, expected);
+    }
+    let loops = read_sheet(&expand("N 1 0 0/M 1 1 0/A 4/D 2/C 1 1 5"), 600, 600);
+    let count = |depth, group, room| group_call(&netlist, depth, group, room).map(|it| it.len());
+    let rows = [
+        ("address code 4", loops.map(|_| 0), Err((MEMORY_LOOP, 3))),
+        ("depth 255", count(255, pair, 57), Ok(57)),
+        ("depth 256", count(256, pair, 57), Err((DEPTH, 0))),
+        (
+            "pair (1, 1)",
+            count(1, Group::Pair(1, 1), 57),
+            Err((NO_SUCH_GROUP, 0)),
+        ),
+        ("slice of 57", count(1, pair, 57), Ok(57)),
+        ("slice of 56", count(1, pair, 56), Err((NO_ROOM, 0))),
+    ];
+    for (name, found, expected) in rows {
+        let expected = expected.map_err(|(number, place)| Refusal { number, place });
+        tally.equal(name, found, expected);
+    }
+}
+
+/// Document 01's largest number of variables, and the largest counts that follow from its limits.
+pub fn largest_sizes(tally: &mut Tally) {
+    let mut most = 0;
+    for (wires, address_width) in (1..=600).flat_map(|v| (1..=12).map(move |m| (v, m))) {
+        let netlist = of_sizes([wires - 1, 0, 0], [address_width, 1]);
+        most = (0..=256)
+            .map(|frame| frame_base(&netlist, frame))
+            .fold(most, i64::max);
+    }
+    tally.equal("largest number of variables", most, 675_841);
+    for (variables, fit) in [
+        (675_841, true),
+        (2_147_483_647, true),
+        (2_147_483_648, false),
+    ] {
+        tally.equal("variables fit", variables_fit(variables), fit);
+    }
+
+    let widest = of_sizes([0, 0, 568], [12, 32]);
+    let most_gates = of_sizes([0, 0, 599], [1, 1]);
+    let needs = [
+        (&most_gates, Group::Wires(0), 5_992),
+        (&widest, Group::Pair(254, 255), 492),
+        (&widest, Group::Closing(255), 514),
+        (&widest, Group::Property, 257),
+    ];
+    for (netlist, group, need) in needs {
+        let written = group_call(netlist, 255, group, need).map(|numbers| numbers.len());
+        tally.equal(group, written, Ok(need));
+    }
+    let expected = Heading {
+        variables: 675_841,
+        clauses: 4_434_946,
+    };
+    tally.equal("largest heading", heading(&widest, 255), Ok(expected));
+    let formula = Formula::new(&widest, 255, Fault::None);
+    let groups = formula.groups();
+    let numbers: usize = groups.iter().map(|group| formula.group(*group).len()).sum();
+    tally.equal("numbers at the largest sizes", numbers, 17_612_163);
+}

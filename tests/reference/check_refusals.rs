@@ -1,0 +1,538 @@
+//! Every refusal with its place at its boundaries, as tables (document 01, "The sheet", "What is
+//! sent back" and "The program and one full run").
+
+use super::check_examples::{accepted, input, of_sizes, FULL_RUN, RICH};
+use super::formula::{frames, group_call, heading, refusal_text, Group};
+use super::netlist::{Gate, Latch, Netlist};
+use super::refusal::*;
+use super::sheet::{expand, read_sheet, write_depth, write_sheet, FIELDS, FIELD_BYTES, LINE_BYTES};
+use super::Tally;
+
+/// Number and place, with (0, 0) where nothing is refused.
+type Verdict = (u32, u32);
+
+const ACCEPTED: Verdict = (0, 0);
+
+fn verdict<T>(result: Result<T, Refusal>) -> Verdict {
+    match result {
+        Ok(_) => ACCEPTED,
+        Err(Refusal { number, place }) => (number, place),
+    }
+}
+
+/// The verdict on a sheet's bytes where the lent lists are long enough for every sheet.
+fn judge(sheet: &[u8]) -> Verdict {
+    verdict(read_sheet(sheet, 600, 600))
+}
+
+/// What a field holds, by document 01's rule for numbers.
+const FIELD_FORMS: [(&[u8; FIELD_BYTES], Option<u32>); 22] = [
+    (b"         0", Some(0)),
+    (b"         1", Some(1)),
+    (b"       256", Some(256)),
+    (b"       601", Some(601)),
+    (b"4294967295", Some(u32::MAX)),
+    (b"4294967296", None),
+    (b"9999999999", None),
+    (b"          ", None),
+    (b"1         ", None),
+    (b"        1 ", None),
+    (b"       1 1", None),
+    (b"        01", None),
+    (b"        00", None),
+    (b"0000000001", None),
+    (b"        +1", None),
+    (b"        -1", None),
+    (b"       0x1", None),
+    (b"       1.0", None),
+    (b"\t        1", None),
+    (b"\0        1", None),
+    (b"\xA0        1", None),
+    (b"        1\n", None),
+];
+
+pub fn fields_and_letters(tally: &mut Tally) {
+    number_forms(tally);
+    filled_and_empty_fields(tally);
+    letters(tally);
+}
+
+/// The forms in the first field of an N line, and as depth in front of the same sheet.
+fn number_forms(tally: &mut Tally) {
+    for (field, number) in FIELD_FORMS {
+        let mut sheet = expand("N 1 0 0/M 1 1 0/A 0/D 1/C 1 1 0");
+        sheet[1..1 + FIELD_BYTES].copy_from_slice(field);
+        let expected = match number {
+            None => (MISPRINT, 1),
+            Some(count) if count > 600 => (SIZE, 1),
+            Some(_) => ACCEPTED,
+        };
+        tally.equal(("field", field), judge(&sheet), expected);
+
+        let depth_line = [field.as_slice(), b"\n"].concat();
+        let text = frames(&[depth_line, expand(FULL_RUN)].concat());
+        let expected = match number {
+            None => refused((MISPRINT, 0)),
+            Some(depth) if depth > 255 => refused((DEPTH, 0)),
+            Some(depth) => frames(&input(depth, FULL_RUN)),
+        };
+        tally.check(("depth", field), text == expected);
+    }
+}
+
+/// In every line of every kind: filled fields emptied, empty fields filled, line feed replaced.
+fn filled_and_empty_fields(tally: &mut Tally) {
+    let sheet = expand(RICH);
+    for line in 0..sheet.len() / LINE_BYTES {
+        let start = line * LINE_BYTES;
+        let misprint = (MISPRINT, line as u32 + 1);
+        for index in 0..FIELDS {
+            let mut changed = sheet.clone();
+            let column = start + 1 + index * FIELD_BYTES;
+            let field = &mut changed[column..column + FIELD_BYTES];
+            let is_empty = field.iter().all(|byte| *byte == b' ');
+            field.fill(b' ');
+            field[FIELD_BYTES - 1] = if is_empty { b'0' } else { b' ' };
+            tally.equal((line, index), judge(&changed), misprint);
+        }
+        for byte in [b' ', b'\r', b'0', 0] {
+            let mut changed = sheet.clone();
+            changed[start + LINE_BYTES - 1] = byte;
+            tally.equal((line, byte), judge(&changed), misprint);
+        }
+    }
+}
+
+/// Every byte as the letter of line 1, whose three fields are filled: M and C want that too and
+/// are only out of order; the other letters do not.
+fn letters(tally: &mut Tally) {
+    for letter in 0..=u8::MAX {
+        let mut sheet = expand(FULL_RUN);
+        sheet[0] = letter;
+        let expected = match letter {
+            b'N' => ACCEPTED,
+            b'M' | b'C' => (OUT_OF_ORDER, 1),
+            _ => (MISPRINT, 1),
+        };
+        tally.equal(letter, judge(&sheet), expected);
+    }
+}
+
+/// Whole sheets as short forms.
+#[rustfmt::skip]
+const SHEETS: [(&str, Verdict); 61] = [
+    (FULL_RUN, ACCEPTED),
+    (RICH, ACCEPTED),
+    // A line missing at the end: one past the last.
+    ("N 1 0 0", (OUT_OF_ORDER, 2)),
+    ("N 600 600 600", (OUT_OF_ORDER, 2)),
+    ("N 1 0 0/M 1 1 0", (OUT_OF_ORDER, 3)),
+    ("N 1 0 0/M 1 1 0/A 0", (OUT_OF_ORDER, 4)),
+    ("N 1 0 0/M 1 1 0/A 0/D 2", (OUT_OF_ORDER, 5)),
+    // A line missing before others: the line in its place is not the line due.
+    ("M 1 1 0/A 0/D 2/C 1 1 5", (OUT_OF_ORDER, 1)),
+    ("N 1 0 0/A 0/D 2/C 1 1 5", (OUT_OF_ORDER, 2)),
+    ("N 1 0 0/M 1 1 0/D 2/C 1 1 5", (OUT_OF_ORDER, 3)),
+    ("N 1 0 0/M 1 1 0/A 0/C 1 1 5", (OUT_OF_ORDER, 4)),
+    ("N 1 0 0/M 2 1 0/A 0/D 2/C 1 1 5", (OUT_OF_ORDER, 4)),
+    // Too many lines, in the middle and at the end; a misprint comes before that, a code after.
+    ("N 1 0 0/N 1 0 0/M 1 1 0/A 0/D 2/C 1 1 5", (OUT_OF_ORDER, 2)),
+    ("N 1 0 0/M 1 1 0/L 0 0/A 0/D 2/C 1 1 5", (OUT_OF_ORDER, 3)),
+    ("N 1 0 0/M 1 1 0/A 0/A 0/D 2/C 1 1 5", (OUT_OF_ORDER, 4)),
+    ("N 1 0 0/M 1 1 0/A 0/D 2/C 1 1 5/C 1 1 5", (OUT_OF_ORDER, 6)),
+    ("N 1 0 0/M 1 1 0/A 0/D 2/C 1 1 5/C 99 1 5", (OUT_OF_ORDER, 6)),
+    ("N 1 0 0/M 1 1 0/A 0/D 2/C 1 1 5/? ? ? ?", (MISPRINT, 6)),
+    // Fields are judged by the letter on the line, not by the letter due.
+    ("N 1 1 1/M 2 2 2/L 10 1/A 4/A 4/A 3/D 10/D 8/C 11 5 9", (OUT_OF_ORDER, 4)),
+    ("N 1 1 1/M 2 2 2/L 10 1/A 2 7/A 4/A 3/D 10/D 8/C 11 5 9", (MISPRINT, 4)),
+    ("N 1 0 0/C 1 1/A 0/D 2/C 1 1 5", (MISPRINT, 2)),
+    // Letters of later kinds are unknown, and letters are upper case.
+    ("N 1 0 0/T 1 1 0", (MISPRINT, 2)),
+    ("N 1 0 0/M 1 1 0/B 0", (MISPRINT, 3)),
+    ("N 1 0 0/M 1 1 0/R 0", (MISPRINT, 3)),
+    ("N 1 0 0/m 1 1 0", (MISPRINT, 2)),
+    // Line by line: an earlier line's refusal comes first, whatever its number.
+    ("N 601 0 0/M 1 1", (SIZE, 1)),
+    ("N 1 0 0/M 0 1 0/?", (SIZE, 2)),
+    ("N 1 0 0/M 1 1 0/A 6", (CODE, 3)),
+    ("N 1 0 0/M 1 1 0/A 6/?", (CODE, 3)),
+    ("N 1 0 0/M 1 1 0/A 6/A 0", (CODE, 3)),
+    // Sizes of the N line. 600 passes that line, but n is at least 1 and V at most 600.
+    ("N 601 0 0/M 1 1 0", (SIZE, 1)),
+    ("N 0 601 0/M 1 1 0", (SIZE, 1)),
+    ("N 0 0 601/M 1 1 0", (SIZE, 1)),
+    ("N 0 0 4294967295/M 1 1 0", (SIZE, 1)),
+    ("N 600 0 0/M 1 1 0/A 0/D 2/C 1 1 5", (SIZE, 2)),
+    ("N 0 600 0/M 1 1 0", (SIZE, 2)),
+    ("N 0 0 600/M 1 1 0", (SIZE, 2)),
+    ("N 600 600 600/M 1 1 0", (SIZE, 2)),
+    ("N 600 600 600/M 1 1", (MISPRINT, 2)),
+    ("N 600 600 600/C 1 1 0", (OUT_OF_ORDER, 2)),
+    ("N 599 0 0/M 1 1 0/A 0/D 2/C 1 1 5", ACCEPTED),
+    ("N 599 0 0/M 1 2 0/A 0/D 2/D 2/C 1 1 5", (SIZE, 2)),
+    ("N 200 200 200/M 1 1 0", (SIZE, 2)),
+    // Without inputs, latches and gates; V = 1, so the largest code is 3.
+    ("N 0 0 0/M 1 1 0/A 0/D 3/C 3 1 3", ACCEPTED),
+    ("N 0 0 0/M 1 1 0/A 0/D 4/C 3 1 3", (CODE, 4)),
+    // Dependence on a read bit (code 4 or 5 here) at the first A line concerned, else at C.
+    ("N 1 0 0/M 1 1 0/A 4/D 2/C 1 1 5", (MEMORY_LOOP, 3)),
+    ("N 1 0 0/M 1 1 0/A 5/D 2/C 1 1 5", (MEMORY_LOOP, 3)),
+    ("N 1 0 0/M 1 1 0/A 4/D 2/C 1 4 5", (MEMORY_LOOP, 3)),
+    ("N 1 0 0/M 1 1 0/A 2/D 2/C 1 5 5", (MEMORY_LOOP, 5)),
+    ("N 1 0 0/M 2 1 0/A 2/A 4/D 2/C 1 4 5", (MEMORY_LOOP, 4)),
+    ("N 1 0 0/M 2 1 0/A 4/A 4/D 2/C 1 1 5", (MEMORY_LOOP, 3)),
+    ("N 1 0 0/M 1 1 0/A 2/D 4/C 4 2 4", ACCEPTED),
+    // It comes after every code and after missing and surplus lines.
+    ("N 1 0 0/M 1 1 0/A 4/D 2/C 1 1 6", (CODE, 5)),
+    ("N 1 0 0/M 1 1 0/A 4/D 2", (OUT_OF_ORDER, 5)),
+    ("N 1 0 0/M 1 1 0/A 4/D 2/C 1 1 5/A 0", (OUT_OF_ORDER, 6)),
+    // By wiring through gates, whatever they compute; not through latches.
+    ("N 1 0 1/M 1 1 0/G 4 0/A 6/D 2/C 1 1 5", (MEMORY_LOOP, 4)),
+    ("N 1 0 1/M 1 1 0/G 4 5/A 7/D 2/C 1 1 5", (MEMORY_LOOP, 4)),
+    ("N 1 0 2/M 1 1 0/G 4 0/G 2 7/A 8/D 2/C 1 1 5", (MEMORY_LOOP, 5)),
+    ("N 1 0 2/M 1 1 0/G 4 0/G 2 3/A 8/D 6/C 1 8 5", ACCEPTED),
+    ("N 1 0 2/M 1 1 0/G 4 0/G 6 6/A 2/D 2/C 1 9 5", (MEMORY_LOOP, 7)),
+    ("N 0 1 0/M 1 1 0/L 4 0/A 2/D 4/C 1 2 5", ACCEPTED),
+];
+
+/// RICH with the line at a place replaced: V = 5, so codes go to 11, gate operands to 9.
+const RICH_LINES: [(usize, &str, Verdict); 28] = [
+    (3, "L 11 0", ACCEPTED),
+    (3, "L 12 0", (CODE, 3)),
+    (3, "L 4294967295 0", (CODE, 3)),
+    (3, "L 10 2", (CODE, 3)),
+    (3, "L 10 4294967295", (CODE, 3)),
+    (4, "G 9 9", ACCEPTED),
+    (4, "G 10 0", (CODE, 4)),
+    (4, "G 0 10", (CODE, 4)),
+    (4, "G 11 0", (CODE, 4)),
+    (4, "G 0 12", (CODE, 4)),
+    (5, "A 0", ACCEPTED),
+    (5, "A 1", ACCEPTED),
+    (5, "A 11", (MEMORY_LOOP, 5)),
+    (5, "A 12", (CODE, 5)),
+    (6, "A 5", ACCEPTED),
+    (6, "A 6", (MEMORY_LOOP, 6)),
+    (6, "A 9", (MEMORY_LOOP, 6)),
+    (6, "A 12", (CODE, 6)),
+    (7, "D 11", ACCEPTED),
+    (7, "D 12", (CODE, 7)),
+    (8, "D 4294967295", (CODE, 8)),
+    (9, "C 11 5 11", ACCEPTED),
+    (9, "C 12 5 11", (CODE, 9)),
+    (9, "C 11 12 11", (CODE, 9)),
+    (9, "C 11 5 12", (CODE, 9)),
+    (9, "C 11 6 11", (MEMORY_LOOP, 9)),
+    (9, "C 11 10 11", (MEMORY_LOOP, 9)),
+    (9, "C 6 5 6", ACCEPTED),
+];
+
+/// m, n, start word, and the verdict on a sheet of constants with this M line.
+const MEMORIES: [(u32, u32, &str, Verdict); 19] = [
+    (0, 1, "0", (SIZE, 2)),
+    (1, 1, "0", ACCEPTED),
+    (12, 1, "0", ACCEPTED),
+    (13, 1, "0", (SIZE, 2)),
+    (u32::MAX, 1, "0", (SIZE, 2)),
+    (1, 0, "0", (SIZE, 2)),
+    (1, 32, "0", ACCEPTED),
+    (1, 33, "0", (SIZE, 2)),
+    (1, u32::MAX, "0", (SIZE, 2)),
+    (1, 1, "1", ACCEPTED),
+    (1, 1, "2", (SIZE, 2)),
+    (1, 2, "3", ACCEPTED),
+    (1, 2, "4", (SIZE, 2)),
+    (1, 31, "2147483647", ACCEPTED),
+    (1, 31, "2147483648", (SIZE, 2)),
+    (1, 32, "4294967295", ACCEPTED),
+    (1, 32, "4294967296", (MISPRINT, 2)),
+    (0, 33, "4294967295", (SIZE, 2)),
+    (0, 33, "4294967296", (MISPRINT, 2)),
+];
+
+/// Lengths of the lent latch and gate lists. RICH needs one record in each.
+#[rustfmt::skip]
+const ROOMS: [(&str, usize, usize, Verdict); 9] = [
+    (RICH, 1, 1, ACCEPTED),
+    (RICH, 2, 600, ACCEPTED),
+    (RICH, 0, 1, (NO_ROOM, 0)),
+    (RICH, 1, 0, (NO_ROOM, 0)),
+    (RICH, 0, 0, (NO_ROOM, 0)),
+    (FULL_RUN, 0, 0, ACCEPTED),
+    ("N 1 1 1/M 1 1 0/L 0 0/G 0 0/A 6/D 0/C 1 1 5", 0, 0, (MEMORY_LOOP, 5)),
+    ("N 1 1 1/M 1 1 0/L 0 0/G 0 0/A 4/D 0", 0, 0, (OUT_OF_ORDER, 7)),
+    ("N 1 1 1/M 1 1 0/L 0 0/G 0 0/A 4/D 0/C 1 1 5", 0, 0, (NO_ROOM, 0)),
+];
+
+pub fn sheets(tally: &mut Tally) {
+    for (short, expected) in SHEETS {
+        tally.equal(short, judge(&expand(short)), expected);
+    }
+    for (place, line, expected) in RICH_LINES {
+        let mut lines: Vec<&str> = RICH.split('/').collect();
+        lines[place - 1] = line;
+        tally.equal((place, line), judge(&expand(&lines.join("/"))), expected);
+    }
+    for (m, n, start, expected) in MEMORIES {
+        let addresses = "/A 0".repeat(m.min(13) as usize);
+        let data = "/D 0".repeat(n.min(33) as usize);
+        let short = format!("N 0 0 0/M {m} {n} {start}{addresses}{data}/C 0 0 0");
+        tally.equal((m, n, start), judge(&expand(&short)), expected);
+    }
+    for (short, latch_room, gate_room, expected) in ROOMS {
+        let result = read_sheet(&expand(short), latch_room, gate_room);
+        tally.equal((short, latch_room, gate_room), verdict(result), expected);
+    }
+}
+
+/// Refusal 1 and the largest sheet: 615 lines, 19,680 bytes.
+pub fn sheet_lengths(tally: &mut Tally) {
+    let small = expand(FULL_RUN);
+    let last_line = small[small.len() - LINE_BYTES..].to_vec();
+    let largest = write_sheet(&of_sizes([0, 300, 268], [12, 32]));
+    let rows = [
+        ("empty", Vec::new(), (RAGGED, 0)),
+        ("one byte", b"N".to_vec(), (RAGGED, 0)),
+        (
+            "a byte short",
+            small[..small.len() - 1].to_vec(),
+            (RAGGED, 0),
+        ),
+        (
+            "a byte long",
+            [small.as_slice(), b"\n"].concat(),
+            (RAGGED, 0),
+        ),
+        ("ragged misprint", vec![b'?'; 33], (RAGGED, 0)),
+        ("misprint", vec![b'?'; 32], (MISPRINT, 1)),
+        ("largest", largest.clone(), ACCEPTED),
+        (
+            "a line short",
+            largest[..614 * LINE_BYTES].to_vec(),
+            (OUT_OF_ORDER, 615),
+        ),
+        (
+            "a byte over",
+            [largest.as_slice(), b"\n"].concat(),
+            (RAGGED, 0),
+        ),
+        (
+            "a line over",
+            [largest.as_slice(), &last_line].concat(),
+            (RAGGED, 0),
+        ),
+        (
+            "615 lines, 5 due",
+            [small, last_line.repeat(610)].concat(),
+            (OUT_OF_ORDER, 6),
+        ),
+    ];
+    tally.equal("largest sheet", largest.len(), 19_680);
+    for (name, sheet, expected) in rows {
+        tally.equal(name, judge(&sheet), expected);
+    }
+}
+
+/// A change of the record of RICH: V = 5; lines L 3, G 4, A 5 and 6, D 7 and 8, C 9.
+type RecordRow = (&'static str, fn(&mut Netlist), Verdict);
+
+#[rustfmt::skip]
+const RECORDS: [RecordRow; 42] = [
+    ("unchanged", |_| {}, ACCEPTED),
+    // 4: at 1 for I, L, A; at 2 for m, n, start word and V; lists are not looked at yet.
+    ("I = 601", |it| it.inputs = 601, (SIZE, 1)),
+    ("I = 2^32 - 1", |it| it.inputs = u32::MAX, (SIZE, 1)),
+    ("L = 601", |it| it.latch_count = 601, (SIZE, 1)),
+    ("L = 2^32 - 1", |it| it.latch_count = u32::MAX, (SIZE, 1)),
+    ("A = 601", |it| it.gate_count = 601, (SIZE, 1)),
+    ("A = 2^32 - 1", |it| it.gate_count = u32::MAX, (SIZE, 1)),
+    ("I and m", |it| (it.inputs, it.address_width) = (601, 13), (SIZE, 1)),
+    ("m = 0", |it| it.address_width = 0, (SIZE, 2)),
+    ("m = 13", |it| it.address_width = 13, (SIZE, 2)),
+    ("m = 2^32 - 1", |it| it.address_width = u32::MAX, (SIZE, 2)),
+    ("n = 0", |it| (it.data_width, it.start_word) = (0, 0), (SIZE, 2)),
+    ("n = 33", |it| it.data_width = 33, (SIZE, 2)),
+    ("n = 2^32 - 1", |it| it.data_width = u32::MAX, (SIZE, 2)),
+    ("start word 3", |it| it.start_word = 3, ACCEPTED),
+    ("start word 4", |it| it.start_word = 4, (SIZE, 2)),
+    ("I = 600", |it| it.inputs = 600, (SIZE, 2)),
+    ("V = 601", |it| it.inputs = 597, (SIZE, 2)),
+    ("L = 601, no list", |it| (it.latch_count, it.latches) = (601, vec![]), (SIZE, 1)),
+    ("V over, no list", |it| (it.gate_count, it.gates) = (597, vec![]), (SIZE, 2)),
+    // 3: a list shorter than its size, before every 5; longer lists are fine.
+    ("no latches", |it| it.latches.clear(), (OUT_OF_ORDER, 0)),
+    ("no gates", |it| it.gates.clear(), (OUT_OF_ORDER, 0)),
+    ("L = 2", |it| it.latch_count = 2, (OUT_OF_ORDER, 0)),
+    ("A = 2 and a bad code", |it| (it.gate_count, it.address[0]) = (2, 99), (OUT_OF_ORDER, 0)),
+    ("longer latch list", |it| it.latches.push(Latch { next: 99, reset: 9 }), ACCEPTED),
+    ("longer gate list", |it| it.gates.push(Gate { left: 99, right: 99 }), ACCEPTED),
+    // Entries past the sizes are ignored, by 5 and by 6.
+    ("entry past m", |it| it.address[2] = u32::MAX, ACCEPTED),
+    ("read bit past m", |it| it.address[11] = 6, ACCEPTED),
+    ("entry past n", |it| it.write_data[2] = u32::MAX, ACCEPTED),
+    // 5 in line order, then 6.
+    ("next", |it| it.latches[0].next = 12, (CODE, 3)),
+    ("reset", |it| it.latches[0].reset = 2, (CODE, 3)),
+    ("left operand", |it| it.gates[0].left = 10, (CODE, 4)),
+    ("right operand", |it| it.gates[0].right = 10, (CODE, 4)),
+    ("address bit 1", |it| it.address[1] = 12, (CODE, 6)),
+    ("write data bit 1", |it| it.write_data[1] = u32::MAX, (CODE, 8)),
+    ("WE", |it| it.write_enable = 12, (CODE, 9)),
+    ("RE", |it| it.read_enable = 12, (CODE, 9)),
+    ("P", |it| it.property = 12, (CODE, 9)),
+    ("P and a loop", |it| (it.property, it.address[0]) = (12, 6), (CODE, 9)),
+    ("loop in address bit 0", |it| it.address[0] = 10, (MEMORY_LOOP, 5)),
+    ("loops in bit 1 and RE", |it| (it.address[1], it.read_enable) = (6, 6), (MEMORY_LOOP, 6)),
+    ("loop in RE", |it| it.read_enable = 11, (MEMORY_LOOP, 9)),
+];
+
+/// Records, tested alone and as the first test of the group and heading calls.
+pub fn records(tally: &mut Tally) {
+    for (name, change, expected) in RECORDS {
+        let mut record = accepted(RICH);
+        change(&mut record);
+        tally.equal(name, verdict(record.check()), expected);
+        if expected != ACCEPTED {
+            let call = group_call(&record, 256, Group::Wires(300), 0);
+            tally.equal((name, "group call"), verdict(call), expected);
+            tally.equal((name, "heading"), verdict(heading(&record, 256)), expected);
+        }
+    }
+}
+
+/// Depth, group, and the exact need or the refusal, for FULL_RUN: V = 2, m = n = 1, L = A = 0.
+const GROUP_CALLS: [(u32, Group, Result<usize, u32>); 31] = [
+    (0, Group::Wires(0), Ok(2)),
+    (1, Group::Wires(1), Ok(0)),
+    (255, Group::Wires(255), Ok(0)),
+    (0, Group::Closing(0), Ok(11)),
+    (1, Group::Closing(1), Ok(12)),
+    (255, Group::Closing(255), Ok(266)),
+    (1, Group::Pair(0, 1), Ok(57)),
+    (255, Group::Pair(254, 255), Ok(57)),
+    (0, Group::Property, Ok(2)),
+    (255, Group::Property, Ok(257)),
+    // 7 comes before 8 and 9.
+    (256, Group::Wires(0), Err(DEPTH)),
+    (256, Group::Wires(300), Err(DEPTH)),
+    (256, Group::Pair(1, 1), Err(DEPTH)),
+    (256, Group::Closing(256), Err(DEPTH)),
+    (256, Group::Property, Err(DEPTH)),
+    (u32::MAX, Group::Property, Err(DEPTH)),
+    (u32::MAX, Group::Pair(0, u32::MAX), Err(DEPTH)),
+    // 8: frame over k, or j not below i.
+    (0, Group::Wires(1), Err(NO_SUCH_GROUP)),
+    (255, Group::Wires(256), Err(NO_SUCH_GROUP)),
+    (255, Group::Wires(u32::MAX), Err(NO_SUCH_GROUP)),
+    (0, Group::Closing(1), Err(NO_SUCH_GROUP)),
+    (255, Group::Closing(u32::MAX), Err(NO_SUCH_GROUP)),
+    (0, Group::Pair(0, 0), Err(NO_SUCH_GROUP)),
+    (255, Group::Pair(0, 0), Err(NO_SUCH_GROUP)),
+    (0, Group::Pair(0, 1), Err(NO_SUCH_GROUP)),
+    (1, Group::Pair(1, 1), Err(NO_SUCH_GROUP)),
+    (2, Group::Pair(2, 1), Err(NO_SUCH_GROUP)),
+    (255, Group::Pair(255, 255), Err(NO_SUCH_GROUP)),
+    (255, Group::Pair(0, 256), Err(NO_SUCH_GROUP)),
+    (255, Group::Pair(u32::MAX, 255), Err(NO_SUCH_GROUP)),
+    (255, Group::Pair(u32::MAX, u32::MAX), Err(NO_SUCH_GROUP)),
+];
+
+/// 10 is met by no accepted record; `largest_sizes` shows the bound that keeps it away.
+pub fn group_calls(tally: &mut Tally) {
+    let netlist = accepted(FULL_RUN);
+    let call = |depth, group, room| group_call(&netlist, depth, group, room).map(|it| it.len());
+    for (depth, group, expected) in GROUP_CALLS {
+        match expected {
+            Ok(need) => {
+                tally.equal((depth, group, need), call(depth, group, need), Ok(need));
+                tally.equal(
+                    (depth, group, "more"),
+                    call(depth, group, need + 9),
+                    Ok(need),
+                );
+                if need > 0 {
+                    let short = verdict(call(depth, group, need - 1));
+                    tally.equal((depth, group, need - 1), short, (NO_ROOM, 0));
+                    let none = verdict(call(depth, group, 0));
+                    tally.equal((depth, group, 0), none, (NO_ROOM, 0));
+                }
+            }
+            Err(number) => {
+                for room in [0, usize::MAX] {
+                    let found = verdict(call(depth, group, room));
+                    tally.equal((depth, group, room), found, (number, 0));
+                }
+            }
+        }
+    }
+    for (depth, expected) in [(0, ACCEPTED), (255, ACCEPTED), (256, (DEPTH, 0))] {
+        tally.equal(
+            ("heading", depth),
+            verdict(heading(&netlist, depth)),
+            expected,
+        );
+    }
+}
+
+fn refused((number, place): Verdict) -> Vec<u8> {
+    refusal_text(Refusal { number, place })
+}
+
+/// `frames`: depth first, form before value, then the sheet with its own places.
+pub fn frames_refusals(tally: &mut Tally) {
+    let depth_line = write_depth(1);
+    let no_line_feed = |depth| {
+        let mut bytes = input(depth, FULL_RUN);
+        bytes[10] = b' ';
+        bytes
+    };
+    let largest = write_sheet(&of_sizes([0, 300, 268], [12, 32]));
+    let with = |sheet: &[u8]| [depth_line.as_slice(), sheet].concat();
+    let rows = [
+        ("empty", Vec::new(), (MISPRINT, 0)),
+        ("ten bytes", depth_line[..10].to_vec(), (MISPRINT, 0)),
+        ("depth without line feed", no_line_feed(1), (MISPRINT, 0)),
+        (
+            "depth 256 without line feed",
+            no_line_feed(256),
+            (MISPRINT, 0),
+        ),
+        (
+            "bad depth, bad sheet",
+            b"         x\n?".to_vec(),
+            (MISPRINT, 0),
+        ),
+        ("depth 256", input(256, FULL_RUN), (DEPTH, 0)),
+        ("depth 2^32 - 1", input(u32::MAX, FULL_RUN), (DEPTH, 0)),
+        ("depth 256, no sheet", write_depth(256), (DEPTH, 0)),
+        ("depth 256, misprint", input(256, "?"), (DEPTH, 0)),
+        ("no sheet", depth_line.clone(), (RAGGED, 0)),
+        ("ragged sheet", with(b"N"), (RAGGED, 0)),
+        (
+            "a line over",
+            with(&[largest.as_slice(), &[b'?'; 32]].concat()),
+            (RAGGED, 0),
+        ),
+        ("misprint", input(255, "N 1 0 0/?"), (MISPRINT, 2)),
+        ("missing line", input(255, "N 1 0 0"), (OUT_OF_ORDER, 2)),
+        ("size", input(0, "N 601 0 0"), (SIZE, 1)),
+        ("code", input(0, "N 1 0 0/M 1 1 0/A 6"), (CODE, 3)),
+        (
+            "loop",
+            input(0, "N 1 0 0/M 1 1 0/A 4/D 2/C 1 1 5"),
+            (MEMORY_LOOP, 3),
+        ),
+    ];
+    for (name, bytes, expected) in rows {
+        tally.check(name, frames(&bytes) == refused(expected));
+    }
+    let accepted = [with(&largest), input(255, FULL_RUN)];
+    for bytes in accepted {
+        tally.check(
+            ("accepted", bytes.len()),
+            frames(&bytes).starts_with(b"p cnf "),
+        );
+    }
+    let text = b"refused         6         3\n";
+    tally.equal("28 bytes", refused((MEMORY_LOOP, 3)), text.to_vec());
+}

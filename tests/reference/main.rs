@@ -1,0 +1,93 @@
+//! Self-test of a second implementation of document 01: each family of checks prints one line,
+//! the last line is the total. Build: rustc -O --edition 2021 main.rs
+
+mod agreement;
+mod check_examples;
+mod check_random;
+mod check_refusals;
+mod circuit;
+mod formula;
+mod netlist;
+mod random;
+mod refusal;
+mod sheet;
+mod solver;
+
+use std::fmt::Debug;
+use std::panic::{catch_unwind, AssertUnwindSafe};
+
+/// The counts of one family of checks, and a remark for its line.
+#[derive(Default)]
+pub struct Tally {
+    passed: usize,
+    failed: usize,
+    remark: String,
+}
+
+impl Tally {
+    pub fn check(&mut self, name: impl Debug, holds: bool) {
+        if holds {
+            self.passed += 1;
+        } else {
+            self.failed += 1;
+            println!("FAILED {name:?}");
+        }
+    }
+
+    pub fn equal<T: Debug + PartialEq>(&mut self, name: impl Debug, found: T, expected: T) {
+        if found != expected {
+            println!("found {found:?}, expected {expected:?}");
+        }
+        self.check(name, found == expected);
+    }
+}
+
+type Family = (&'static str, fn(&mut Tally));
+
+const FAMILIES: [Family; 20] = [
+    ("full runs, byte for byte", check_examples::full_runs),
+    ("a run of the chip, by hand", check_examples::memory_run),
+    ("starred facts", check_examples::starred_facts),
+    ("largest sizes", check_examples::largest_sizes),
+    (
+        "fields and letters of a sheet",
+        check_refusals::fields_and_letters,
+    ),
+    ("sheets, refusals 1 to 6 and 9", check_refusals::sheets),
+    ("sheets, length", check_refusals::sheet_lengths),
+    ("records, refusals 3 to 6", check_refusals::records),
+    ("group calls, refusals 7 to 10", check_refusals::group_calls),
+    ("refusals of frames", check_refusals::frames_refusals),
+    ("solver against brute force", check_random::solver),
+    ("round trip of sheets", check_random::round_trip),
+    ("damaged records", check_random::damaged_records),
+    ("damaged sheets", check_random::damaged_sheets),
+    ("numbering", check_random::numbering),
+    ("lengths of groups", check_random::lengths),
+    ("headings and texts", check_random::headings),
+    ("demand 3, all assignments", check_random::demand_3),
+    ("demand 3, single feeds", check_random::single_feeds),
+    ("faults are caught", check_random::faults),
+];
+
+/// Runs one family; a panic in it counts as one failed check, so the total is always printed.
+fn run(name: &str, family: fn(&mut Tally)) -> Tally {
+    let mut tally = Tally::default();
+    if catch_unwind(AssertUnwindSafe(|| family(&mut tally))).is_err() {
+        tally.check((name, "panicked"), false);
+    }
+    tally
+}
+
+fn main() {
+    let (mut passed, mut failed) = (0, 0);
+    for (name, family) in FAMILIES {
+        let tally = run(name, family);
+        let all = tally.passed + tally.failed;
+        println!("{name}: {}/{all}{}", tally.passed, tally.remark);
+        passed += tally.passed;
+        failed += tally.failed;
+    }
+    println!("{passed} passed, {failed} failed");
+    std::process::exit(i32::from(failed > 0));
+}

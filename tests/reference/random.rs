@@ -1,0 +1,275 @@
+//! Deterministic random netlists, feeds and damaged sheets.
+
+use super::circuit::Feed;
+use super::netlist::{Gate, Latch, Netlist, MAX_ADDRESS_WIDTH, MAX_DATA_WIDTH, MAX_WIRES};
+use super::sheet::{FIELDS, FIELD_BYTES, LINE_BYTES};
+
+/// SplitMix64.
+pub struct Random(u64);
+
+impl Random {
+    pub fn new(seed: u64) -> Random {
+        Random(seed)
+    }
+
+    pub fn next(&mut self) -> u64 {
+        self.0 = self.0.wrapping_add(0x9E37_79B9_7F4A_7C15);
+        let mut mixed = self.0;
+        mixed = (mixed ^ (mixed >> 30)).wrapping_mul(0xBF58_476D_1CE4_E5B9);
+        mixed = (mixed ^ (mixed >> 27)).wrapping_mul(0x94D0_49BB_1331_11EB);
+        mixed ^ (mixed >> 31)
+    }
+
+    /// A number below `bound`, which is not 0.
+    pub fn below(&mut self, bound: u32) -> u32 {
+        (self.next() % u64::from(bound)) as u32
+    }
+
+    pub fn between(&mut self, low: u32, high: u32) -> u32 {
+        low + self.below(high - low + 1)
+    }
+
+    pub fn percent(&mut self, chance: u32) -> bool {
+        self.below(100) < chance
+    }
+
+    pub fn pick<T: Copy>(&mut self, choices: &[T]) -> T {
+        choices[self.below(choices.len() as u32) as usize]
+    }
+
+    /// An index into something of this length, which is not 0.
+    pub fn index(&mut self, length: usize) -> usize {
+        self.below(length as u32) as usize
+    }
+}
+
+/// A netlist small enough for `agreement::compare`.
+pub fn tiny_netlist(random: &mut Random) -> Netlist {
+    let sizes = Netlist {
+        inputs: random.below(3),
+        latch_count: random.below(3),
+        gate_count: random.below(6),
+        address_width: random.between(1, 2),
+        data_width: random.between(1, 2),
+        ..Netlist::default()
+    };
+    let mut netlist = fill(random, sizes);
+    // Writes and reads in every frame are where the order of writes matters.
+    if random.percent(30) {
+        netlist.write_enable = 1;
+    }
+    if random.percent(30) {
+        netlist.read_enable = 1;
+    }
+    // A constant P decides everything; an inverted gate is often true in all frames.
+    if random.percent(if netlist.property < 2 { 80 } else { 40 }) {
+        netlist.property = 2 * netlist.wire_count() + 1;
+    }
+    netlist
+}
+
+/// A netlist of any shape within the limits.
+pub fn wide_netlist(random: &mut Random) -> Netlist {
+    let data_width = extreme_or_between(random, 1, MAX_DATA_WIDTH);
+    let [inputs, latch_count, gate_count] = split_wires(random, MAX_WIRES - data_width);
+    let sizes = Netlist {
+        inputs,
+        latch_count,
+        gate_count,
+        address_width: extreme_or_between(random, 1, MAX_ADDRESS_WIDTH),
+        data_width,
+        ..Netlist::default()
+    };
+    fill(random, sizes)
+}
+
+fn extreme_or_between(random: &mut Random, low: u32, high: u32) -> u32 {
+    let any = random.between(low, high);
+    random.pick(&[low, high, any, any])
+}
+
+/// Three counts that add up to at most `most`, often exactly; each is often 0.
+fn split_wires(random: &mut Random, most: u32) -> [u32; 3] {
+    let (any, few) = (random.below(most + 1), random.below(20));
+    let total = random.pick(&[most, any, few, few]);
+    let mut cuts = [random.below(total + 1), random.below(total + 1)];
+    cuts.sort_unstable();
+    let mut counts = [cuts[0], cuts[1] - cuts[0], total - cuts[1]];
+    for _ in 0..random.below(3) {
+        let (from, to) = (random.index(3), random.index(3));
+        let moved = std::mem::take(&mut counts[from]);
+        counts[to] += moved;
+    }
+    counts
+}
+
+/// Fills start word, codes and lists of a netlist that has its sizes. `clean` collects the wires
+/// that no read bit reaches (0 for the constants), from which address codes and RE are taken.
+fn fill(random: &mut Random, mut netlist: Netlist) -> Netlist {
+    let mut clean: Vec<u32> = (0..netlist.first_read_bit()).collect();
+    for index in 0..netlist.gate_count {
+        let wire = netlist.first_gate() + index;
+        let gate = random_gate(random, &clean, wire);
+        if clean.contains(&(gate.left / 2)) && clean.contains(&(gate.right / 2)) {
+            clean.push(wire);
+        }
+        netlist.gates.push(gate);
+    }
+    let wires = netlist.wire_count() + 1;
+    for _ in 0..netlist.latch_count {
+        let (next, reset) = (any_code(random, wires), random.below(2));
+        netlist.latches.push(Latch { next, reset });
+    }
+    netlist.start_word = random_word(random, netlist.data_width);
+    for code in &mut netlist.address[..netlist.address_width as usize] {
+        *code = clean_code(random, &clean);
+    }
+    for code in &mut netlist.write_data[..netlist.data_width as usize] {
+        *code = any_code(random, wires);
+    }
+    netlist.write_enable = any_code(random, wires);
+    netlist.read_enable = clean_code(random, &clean);
+    netlist.property = any_code(random, wires);
+    netlist
+}
+
+fn random_gate(random: &mut Random, clean: &[u32], wire: u32) -> Gate {
+    let all_clean = random.percent(40);
+    let mut operand = || {
+        if all_clean {
+            clean_code(random, clean)
+        } else {
+            any_code(random, wire)
+        }
+    };
+    Gate {
+        left: operand(),
+        right: operand(),
+    }
+}
+
+/// A code of any wire below `wires`, with constants and the highest wires favoured.
+fn any_code(random: &mut Random, wires: u32) -> u32 {
+    let (any, recent) = (random.below(wires), random.below(wires.min(6)));
+    let wire = match random.below(10) {
+        0 => 0,
+        1..=4 => wires - 1 - recent,
+        _ => any,
+    };
+    2 * wire + random.below(2)
+}
+
+fn clean_code(random: &mut Random, clean: &[u32]) -> u32 {
+    let wire = if random.percent(10) {
+        0
+    } else {
+        random.pick(clean)
+    };
+    2 * wire + random.below(2)
+}
+
+/// A word of `width` bits, often all zeros or all ones.
+fn random_word(random: &mut Random, width: u32) -> u32 {
+    let ones = u32::MAX >> (32 - width);
+    let any = random.next() as u32 & ones;
+    random.pick(&[0, ones, any, any])
+}
+
+pub fn random_feeds(random: &mut Random, netlist: &Netlist, depth: u32) -> Vec<Feed> {
+    let mut feeds = Vec::new();
+    for _ in 0..=depth {
+        feeds.push(Feed {
+            inputs: (0..netlist.inputs).map(|_| random.percent(50)).collect(),
+            idle_word: random_word(random, netlist.data_width),
+        });
+    }
+    feeds
+}
+
+/// A record with one of its code entries or resets replaced; often still accepted.
+pub fn damaged_record(random: &mut Random, netlist: &Netlist) -> Netlist {
+    let mut damaged = netlist.clone();
+    let beyond = 2 * netlist.wire_count() + 4;
+    let any = random.below(beyond);
+    let number = random.pick(&[any, any, beyond - 3, beyond - 2, u32::MAX]);
+    let entry = match random.below(6) {
+        0 => damaged.latches.first_mut().map(|latch| &mut latch.reset),
+        1 => damaged.latches.last_mut().map(|latch| &mut latch.next),
+        2 => damaged.gates.last_mut().map(|gate| &mut gate.left),
+        3 => damaged.gates.first_mut().map(|gate| &mut gate.right),
+        4 => Some(&mut damaged.address[random.index(netlist.address_width as usize)]),
+        _ => Some(&mut damaged.read_enable),
+    };
+    if let Some(entry) = entry {
+        *entry = number;
+    }
+    damaged
+}
+
+/// A sheet after one or two random changes; it may still be an accepted sheet.
+pub fn damaged_sheet(random: &mut Random, sheet: &[u8]) -> Vec<u8> {
+    let mut damaged = sheet.to_vec();
+    for _ in 0..random.pick(&[1, 1, 2]) {
+        // A cut may have left no line, or a part of one: it stays as it is.
+        if damaged.is_empty() || !damaged.len().is_multiple_of(LINE_BYTES) {
+            break;
+        }
+        match random.below(3) {
+            0 => damage_bytes(random, &mut damaged),
+            1 => damage_lines(random, &mut damaged),
+            _ => damage_field(random, &mut damaged),
+        }
+    }
+    damaged
+}
+
+fn damage_bytes(random: &mut Random, sheet: &mut Vec<u8>) {
+    let at = random.index(sheet.len());
+    let line_start = at - at % LINE_BYTES;
+    match random.below(4) {
+        0 => sheet[at] = random.below(256) as u8,
+        1 => sheet[line_start] = random.pick(b"NMLGADCTBRn "),
+        2 => sheet[line_start + LINE_BYTES - 1] = random.pick(b"\r \0"),
+        _ => sheet.truncate(at),
+    }
+}
+
+fn damage_lines(random: &mut Random, sheet: &mut Vec<u8>) {
+    let mut lines: Vec<Vec<u8>> = sheet.chunks(LINE_BYTES).map(<[u8]>::to_vec).collect();
+    let (at, other) = (random.index(lines.len()), random.index(lines.len()));
+    match random.below(4) {
+        0 => drop(lines.remove(at)),
+        1 => lines.insert(at, lines[other].clone()),
+        2 => lines.swap(at, other),
+        _ => lines.truncate(at + 1),
+    }
+    *sheet = lines.concat();
+}
+
+fn damage_field(random: &mut Random, sheet: &mut [u8]) {
+    let lines = sheet.len() / LINE_BYTES;
+    // The last lines are favoured: there a code may close a loop.
+    let (any, last) = (random.index(lines), lines - 1 - random.index(lines.min(5)));
+    let line = random.pick(&[any, last]);
+    let (any, first) = (random.index(FIELDS), 0);
+    let field = random.pick(&[any, first]);
+    let start = line * LINE_BYTES + 1 + field * FIELD_BYTES;
+    let limits = [
+        "0",
+        "13",
+        "33",
+        "600",
+        "601",
+        "4294967295",
+        "4294967296",
+        "01",
+        "",
+    ];
+    let text = match random.below(10) {
+        0 => random.below(1300).to_string(),
+        1..=3 => random.pick(&limits).to_string(),
+        _ => random.below(16).to_string(),
+    };
+    let bytes = format!("{text:>FIELD_BYTES$}").into_bytes();
+    sheet[start..start + FIELD_BYTES].copy_from_slice(&bytes);
+}

@@ -1,0 +1,27 @@
+//! Refusals: a number of document 01's table "What is sent back", and a place.
+
+pub const RAGGED: u32 = 1;
+pub const MISPRINT: u32 = 2;
+pub const OUT_OF_ORDER: u32 = 3;
+pub const SIZE: u32 = 4;
+pub const CODE: u32 = 5;
+pub const MEMORY_LOOP: u32 = 6;
+pub const DEPTH: u32 = 7;
+pub const NO_SUCH_GROUP: u32 = 8;
+pub const NO_ROOM: u32 = 9;
+pub const OUT_OF_NUMBERS: u32 = 10;
+
+#[derive(Clone, Copy, Debug, PartialEq, Eq)]
+pub struct Refusal {
+    pub number: u32,
+    pub place: u32,
+}
+
+/// One test: refuses with `number` at `place` unless the condition holds.
+pub fn require(holds: bool, number: u32, place: u32) -> Result<(), Refusal> {
+    if holds {
+        Ok(())
+    } else {
+        Err(Refusal { number, place })
+    }
+}

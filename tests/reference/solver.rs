@@ -1,0 +1,134 @@
+//! A naive search for all satisfying assignments of a small formula: unit propagation, then a
+//! decision on the lowest variable without a value. Unit propagation alone also serves large
+//! formulas.
+
+pub struct Solver {
+    clauses: Vec<Vec<i32>>,
+    /// For each variable, the clauses that name it.
+    occurrences: Vec<Vec<usize>>,
+    /// By variable; entry 0 is not used.
+    values: Vec<Option<bool>>,
+    /// The variables that have a value, in the order in which they got it.
+    trail: Vec<usize>,
+    /// Whether propagation before any decision met a false clause.
+    contradiction: bool,
+}
+
+impl Solver {
+    /// A solver over variables 1 to `variables` for numbers in which each 0 ends one clause.
+    pub fn new(variables: usize, numbers: &[i32]) -> Solver {
+        let mut solver = Solver {
+            clauses: clauses(numbers),
+            occurrences: vec![Vec::new(); variables + 1],
+            values: vec![None; variables + 1],
+            trail: Vec::new(),
+            contradiction: false,
+        };
+        for (index, clause) in solver.clauses.iter().enumerate() {
+            for literal in clause {
+                solver.occurrences[variable(*literal)].push(index);
+            }
+        }
+        let all: Vec<usize> = (0..solver.clauses.len()).collect();
+        solver.contradiction = !solver.propagate(all);
+        solver
+    }
+
+    pub fn value(&self, variable: usize) -> Option<bool> {
+        self.values[variable]
+    }
+
+    /// Makes a literal true and draws all unit consequences; false at a contradiction.
+    pub fn assume(&mut self, literal: i32) -> bool {
+        match self.literal_value(literal) {
+            Some(value) => value && !self.contradiction,
+            None => {
+                self.set(literal);
+                let touched = self.occurrences[variable(literal)].clone();
+                self.propagate(touched) && !self.contradiction
+            }
+        }
+    }
+
+    /// Visits every assignment that makes all clauses true; entry v is the value of variable v.
+    pub fn models(&mut self, visit: &mut dyn FnMut(&[bool])) {
+        if self.contradiction {
+            return;
+        }
+        let Some(free) = (1..self.values.len()).find(|index| self.values[*index].is_none()) else {
+            let model: Vec<bool> = self
+                .values
+                .iter()
+                .map(|value| *value == Some(true))
+                .collect();
+            return visit(&model);
+        };
+        for literal in [free as i32, -(free as i32)] {
+            let mark = self.trail.len();
+            if self.assume(literal) {
+                self.models(visit);
+            }
+            for index in self.trail.drain(mark..) {
+                self.values[index] = None;
+            }
+        }
+    }
+
+    fn literal_value(&self, literal: i32) -> Option<bool> {
+        self.values[variable(literal)].map(|value| value == (literal > 0))
+    }
+
+    fn set(&mut self, literal: i32) {
+        self.values[variable(literal)] = Some(literal > 0);
+        self.trail.push(variable(literal));
+    }
+
+    /// Looks at the given clauses and at all that change by their consequences.
+    fn propagate(&mut self, mut pending: Vec<usize>) -> bool {
+        while let Some(index) = pending.pop() {
+            let clause = &self.clauses[index];
+            if clause
+                .iter()
+                .any(|literal| self.literal_value(*literal) == Some(true))
+            {
+                continue;
+            }
+            let mut free = clause
+                .iter()
+                .filter(|literal| self.literal_value(**literal).is_none());
+            match (free.next().copied(), free.next()) {
+                (None, _) => return false,
+                (Some(literal), None) => {
+                    self.set(literal);
+                    pending.extend_from_slice(&self.occurrences[variable(literal)]);
+                }
+                _ => {}
+            }
+        }
+        true
+    }
+}
+
+fn variable(literal: i32) -> usize {
+    literal.unsigned_abs() as usize
+}
+
+/// The clauses in numbers of which each 0 ends one; repeated literals count once.
+fn clauses(numbers: &[i32]) -> Vec<Vec<i32>> {
+    let mut clauses = Vec::new();
+    for part in numbers.split_inclusive(|number| *number == 0) {
+        let mut clause = part[..part.len() - 1].to_vec();
+        clause.sort_unstable();
+        clause.dedup();
+        clauses.push(clause);
+    }
+    clauses
+}
+
+/// Whether every clause has a true literal; entry v is the value of variable v.
+pub fn satisfies(values: &[bool], numbers: &[i32]) -> bool {
+    let is_true = |literal: &i32| values[variable(*literal)] == (*literal > 0);
+    clauses(numbers)
+        .iter()
+        .all(|clause| clause.iter().any(is_true))
+}
