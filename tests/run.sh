@@ -48,23 +48,27 @@ status=${PIPESTATUS[0]}
 count "rt ci" "$status" "$log"
 rm -f "$log"
 
-echo "== each must-fail edit is refused at a fact"
 mkdir -p "$logs"
-bash tests/edits.sh > "$logs/edits" 2>&1
-status=$?
-cat "$logs/edits"
-count "tests/edits.sh" "$status" "$logs/edits"
 
-if [ -f tests/reference/main.rs ]; then
-  echo "== the second implementation's own tests"
-  if rustc -O --edition 2021 -o "$logs/reference" tests/reference/main.rs; then
-    "$logs/reference" > "$logs/reference.out" 2>&1
-    status=$?
-    cat "$logs/reference.out"
-    count "tests/reference" "$status" "$logs/reference.out"
-  else
-    fail "tests/reference does not compile"
-  fi
+script() { # heading, script
+  echo "== $1"
+  bash "$2" > "$logs/$(basename "$2")" 2>&1
+  local status=$?
+  cat "$logs/$(basename "$2")"
+  count "$2" "$status" "$logs/$(basename "$2")"
+}
+
+script "each must-fail edit is refused at a fact" tests/edits.sh
+script "wires, codes and clause numbers are kept apart" tests/types.sh
+
+echo "== the second implementation's own tests"
+if rustc -O --edition 2021 -o "$logs/reference" tests/reference/main.rs; then
+  "$logs/reference" > "$logs/reference.out" 2>&1
+  status=$?
+  cat "$logs/reference.out"
+  count "tests/reference" "$status" "$logs/reference.out"
+else
+  fail "tests/reference does not compile"
 fi
 
 finish

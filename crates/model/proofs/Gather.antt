@@ -107,6 +107,11 @@ module _ {A : Type 0} {P : A → Type 0} where
   all-gatherDown zero f each = nothing
   all-gatherDown (suc n) f each = each n (omega arith) ⧺ all-gatherDown n f (λ t h. each t (omega arith))
 
+-- a weaker one
+pub all-weaken : {A : Type 0} {P Q : A → Type 0} {xs : List A} → ((x : A) → P x → Q x) → All P xs → All Q xs
+all-weaken weaker nothing = nothing
+all-weaken weaker (also p r) = also (weaker _ p) (all-weaken weaker r)
+
 -- of what a function makes of the elements
 pub all-map : {A B : Type 0} {P : A → Type 0} {Q : B → Type 0} (f : A → B) {xs : List A}
     → ((x : A) → P x → Q (f x)) → All P xs → All Q (map f xs)

@@ -1,19 +1,23 @@
 -- The clauses of all groups of a depth, joined in the order of the whole: their numbers are the formula, and what splits over
 -- joined clauses splits into the groups. No contract cites this file. Assumes nothing.
 use Prim.Native.Nat.{ℕ, zero, suc, _+_, _<_, _≤_}
-use mathlib.Core.Path.{_≡_, refl}
+use mathlib.Core.Path.{_≡_, refl, ap₂}
+use mathlib.Core.Bool.{true}
 use mathlib.Core.List.{List, [], _∷_, _++_, map, append-assoc, append-nil}
 use mathlib.Core.Logic.{_↔_, Iff·rfl, Iff·trans, Iff·and}
 use native.Mathlib.Numerals.{add-one}
 use native.Mathlib.Omega.{arith}
-use lib.IntN.{pos}
+use lib.Dec.{leb, ltb}
+use lib.IntN.{ℤ, pos}
+use borrow.Author.Tests.{le-leb, lt-ltb}
 use Rattle.model.specs.Netlist.{Netlist}
 use Rattle.model.specs.Clauses.{Clause, gather, gatherDown}
-use Rattle.model.specs.Groups.{clausesOf, pairOf, frameGroups, groupOrder}
+use Rattle.model.specs.Groups.{clausesOf, pairOf, frameGroups, groupOrder, inDepth}
 use Rattle.model.specs.Numbers.{numberOf, written, numbersOf, joined, formula}
 use Rattle.model.specs.declared.Group.{Group}
 use Rattle.model.specs.declared.Group.the-variants.{Wires, Pair, Closing, Property}
-use Rattle.model.proofs.Gather.{Splits, splits-gather, splits-gatherDown}
+use Rattle.model.proofs.Booleans.{and-true}
+use Rattle.model.proofs.Gather.{Splits, splits-gather, splits-gatherDown, All, nothing, also, just, _⧺_, all-gather, all-gatherDown}
 
 -- joined clauses are written one list after the other
 pub written-append : (xs ys : List Clause) → written (xs ++ ys) ≡ written xs ++ written ys
@@ -44,6 +48,12 @@ joined-written f (g ∷ gs) = rw (joined-written f gs, written-append (f g))
 pub formula-written : (c : Netlist) (k : ℕ) → formula c k ≡ written (joinedClauses (clausesOf c k) (groupOrder k))
 unfolding formula numbersOf
 formula-written c k = joined-written (clausesOf c k) (groupOrder k)
+
+-- what is joined needs to be the same at the groups joined alone
+pub joined-same : {f h : Group → List ℤ} {gs : List Group} → All (λ g. f g ≡ h g) gs → joined f gs ≡ joined h gs
+unfolding joined
+joined-same nothing = refl
+joined-same (also e r) = ap₂ _++_ e (joined-same r)
 
 -- each group of depth k has it
 pub record EachGroup (c : Netlist) (k : ℕ) (H : List Clause → Type 0) : Type 0 where
@@ -98,3 +108,13 @@ module _ (c : Netlist) (k : ℕ) (H : List Clause → Type 0) (splits : Splits H
           h .property,
         ),
       ))
+
+-- the order of the whole has groups that there are, and no others
+pub order-inDepth : (k : ℕ) → All (λ g. inDepth k g ≡ true) (groupOrder k)
+unfolding groupOrder frameGroups pairOf inDepth
+order-inDepth k =
+    all-gather (k + 1) frameGroups (λ i b.
+    just (le-leb i k (omega arith))
+    ⧺ all-gatherDown i (pairOf i) (λ j l. just (and-true (leb i k) (ltb j i) .1 (le-leb i k (omega arith), lt-ltb j i l)))
+    ⧺ just (le-leb i k (omega arith)))
+    ⧺ just refl

@@ -8,6 +8,7 @@ pub mod Memory
 pub mod Gather
 pub mod Joined
 pub mod Variables
+pub mod Numbering
 pub mod Lengths
 pub mod Bounds
 pub mod Truth
@@ -20,4 +21,4 @@ pub mod AssignmentToRun
 pub mod Witness
 pub mod RunToAssignment
 pub mod Claim
-pub mod Starred
+pub mod Wrote

@@ -7,7 +7,7 @@ use native.Mathlib.Omega.{arith}
 use borrow.Author.Tests.{eq-eqb, ne-eqb}
 use Rattle.model.specs.Netlist.{Netlist, Port, port, lastWire}
 use Rattle.model.specs.Clauses.{plus}
-use Rattle.model.specs.Variables.{stride, base, pairBase, codeIn, none}
+use Rattle.model.specs.Variables.{stride, baseOf, base, pairBaseOf, pairBase, codeIn, none}
 use Rattle.model.specs.Acceptance.{SizesFit}
 
 -- s times i (i - 1) / 2, the number of pairs below i, grows by i times s
@@ -17,12 +17,12 @@ product-half-suc s (suc n) = simp (sub-one, mul-suc, suc-mul, mul-comm n s) (ome
 
 -- frame 0 starts after variable 1
 pub base-zero : (c : Netlist) → base c 0 ≡ 1
-unfolding base
+unfolding base baseOf
 base-zero c = simp (zero-mul, mul-zero)
 
 -- a frame has its wires, and its pairs with the frames before it
 pub base-suc : (c : Netlist) (i : ℕ) → base c (suc i) ≡ base c i + lastWire c + i * stride c
-unfolding base
+unfolding base baseOf
 base-suc c i = simp (product-half-suc (stride c) i, suc-mul) (omega arith)
 
 -- d frames on, a frame starts no earlier
@@ -38,16 +38,26 @@ base-monotone c {i} {j} h = rw (add-sub-of-le h) at (base-add c i (j - i))
 pub base-least : (c : Netlist) (i : ℕ) → 1 ≤ base c i
 base-least c i = omega (arith, base-zero c, base-monotone c {i = 0} {j = i} (omega arith))
 
--- the variables of a pair are variables of its reading frame
-pub pair-within : (c : Netlist) (j i : ℕ) → j < i → pairBase c (port c) j i + stride c ≤ base c (suc i)
-unfolding pairBase
-pair-within c j i h =
+-- a frame's pairs start after its wires, one after the other
+pub pairBase-base : (c : Netlist) (p : Port) (j i : ℕ)
+    → pairBase c p j i ≡ base c i + lastWire c + j * stride c + p .firstVariable
+unfolding pairBase pairBaseOf base
+pairBase-base c p j i = refl
+
+-- the variables of a pair at a port are variables of its reading frame
+pub port-within : (c : Netlist) (p : Port) (j i v : ℕ) → j < i → p .firstVariable + v ≤ stride c
+    → pairBase c p j i + v ≤ base c (suc i)
+port-within c p j i v h r =
     let before : suc j * stride c ≤ i * stride c = mul-le-mul-right (stride c) h in
-    simp base-suc (omega (arith, suc-mul j (stride c)))
+    simp (pairBase-base, base-suc) (omega (arith, suc-mul j (stride c)))
+
+-- at the netlist's own port all of them
+pub pair-within : (c : Netlist) (j i : ℕ) → j < i → pairBase c (port c) j i + stride c ≤ base c (suc i)
+pair-within c j i h = port-within c (port c) j i (stride c) h (omega arith)
 
 -- document 01's most: depth 255, 600 wires and addresses of 12 bits
 pub base-most : (c : Netlist) → SizesFit c → (i : ℕ) → i ≤ 256 → base c i ≤ 675841
-unfolding base
+unfolding base baseOf
 base-most c h i l = omega (arith, base-monotone c l)
 
 -- `none` is RE where j = i, and else a variable of the pair

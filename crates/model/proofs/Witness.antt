@@ -12,7 +12,7 @@ use Rattle.model.specs.Netlist.{Netlist, Port, port, lastWire}
 use Rattle.model.specs.Circuit.{Values, code, addressOf}
 use Rattle.model.specs.Variables.{stride, base, pairBase}
 use Rattle.model.specs.Numbers.{Assignment}
-use Rattle.model.proofs.Variables.{base-suc, base-monotone, base-least, pair-within}
+use Rattle.model.proofs.Variables.{base-suc, base-monotone, base-least, pairBase-base, pair-within}
 use Rattle.model.proofs.Agreement.{hits}
 use Rattle.model.proofs.Forwarding.{noneFrom}
 
@@ -68,10 +68,10 @@ witness-wire c k u i w b lo hi =
 
 pub witness-pair : (c : Netlist) (k : ℕ) (u : ℕ → Values) (j i x : ℕ) → j < i → i ≤ k → x < stride c
     → witness c k u (pairBase c (port c) j i + 1 + x) ≡ pairValue c u j i x
-unfolding pairBase valueIn
+unfolding valueIn
 witness-pair c k u j i x below b lo =
     let y : ℕ = lastWire c + 1 + (j * stride c + x) in
-    let e : pairBase c (port c) j i + 1 + x ≡ base c i + y = omega arith in
+    let e : pairBase c (port c) j i + 1 + x ≡ base c i + y = omega (arith, pairBase-base c (port c) j i) in
     let within : base c i + y ≤ base c (suc i) = omega (arith, pair-within c j i below) in
     let r : y - lastWire c - 1 ≡ j * stride c + x = omega arith in
     let q : (j * stride c + x) / stride c ≡ j = mul-add-div-right (omega arith) j x ∙ ap (λ (z : ℕ). j + z) (div-eq-of-lt lo) ∙ add-zero j in

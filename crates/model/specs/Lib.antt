@@ -8,4 +8,4 @@ pub mod Variables
 pub mod Groups
 pub mod Numbers
 pub mod Claim
-pub mod Starred
+pub mod Wrote

@@ -1,0 +1,139 @@
+-- `address::put_address_bits` meets its contract. The loop has written the bits passed. Assumes nothing.
+use Prim.Native.Nat.{_-_}
+use native.Mathlib.Omega.{arith}
+use borrow.Author.Needs.{needs}
+use Rattle.model.specs.Clauses.{bitOf}
+use Rattle.model.specs.Variables.{pairLiterals}
+use Rattle.model.specs.Numbers.{written}
+use Rattle.netlist.specs.NetOf.{codeOf, netOf}
+use Rattle.places.specs.Alone.{alone}
+use Rattle.places.specs.PortOf.{portOf}
+use Rattle.places.proofs.Room.{code-has-number, pair-has-number}
+use Rattle.writer.proofs.Turns.{Turns, written-gather, turns-start, turns-room, turns-count, turns-next, turns-end}
+use Rattle.places.specs.OfPair.{ofPair}
+use Rattle.address.proofs.put_address_bits.Statement.{statement}
+use Rattle.address.proofs.put_address_bits.Tie as tie
+use Rattle.address.proofs.put_address_bits.Reads as reads
+use Rattle.address.proofs.put_address_bits.Lts as lts
+use Rattle.address.proofs.put_address_bit.Reads as put-address-bit-reads
+use Rattle.places.proofs.frame_base.Reads as frame-base-reads
+use Rattle.places.proofs.pair_base.Reads as pair-base-reads
+
+abbrev Inv-loop : tie.InvT-loop
+Inv-loop out₀ j i net port q writing reading m at₀ t₀ out at t = Turns (net .m) (λ s. written (bitOf (ofPair net port j i) s)) out₀ out t at
+
+abbrev μ-loop : tie.MeasureT-loop
+μ-loop out₀ j i net port q writing reading m at₀ t₀ out at t = net .m - t
+
+pair-base-requires : tie.Need-pair-base-requires Inv-loop μ-loop
+pair-base-requires c κs = search needs
+
+frame-base-requires : tie.Need-frame-base-requires Inv-loop μ-loop
+frame-base-requires c κs = search needs
+
+frame-base-requires-2 : tie.Need-frame-base-requires-2 Inv-loop μ-loop
+frame-base-requires-2 c κs = search needs
+
+loop-holds : tie.Need-loop-holds Inv-loop μ-loop
+loop-holds c = turns-start _ _ _ (rw written-gather at (c .before .before .before .pre .1))
+
+cast-x : tie.Need-cast-x Inv-loop μ-loop
+cast-x c = search needs
+
+mul-x : tie.Need-mul-x Inv-loop μ-loop
+unfolding alone netOf
+mul-x c = search needs
+
+element-copy-out-x : tie.Need-element-copy-out-x Inv-loop μ-loop
+unfolding alone netOf
+element-copy-out-x c = search needs
+
+cast-y : tie.Need-cast-y Inv-loop μ-loop
+cast-y c = search needs
+
+mul-y : tie.Need-mul-y Inv-loop μ-loop
+unfolding alone netOf
+mul-y c = search needs
+
+element-copy-out-y : tie.Need-element-copy-out-y Inv-loop μ-loop
+unfolding alone netOf
+element-copy-out-y c = search needs
+
+mul-put-address-bit : tie.Need-mul-put-address-bit Inv-loop μ-loop
+mul-put-address-bit c = search needs
+
+sub-put-address-bit : tie.Need-sub-put-address-bit Inv-loop μ-loop
+sub-put-address-bit c = search needs
+
+part-put-address-bit-start : tie.Need-part-put-address-bit-start Inv-loop μ-loop
+part-put-address-bit-start c = search needs
+
+part-put-address-bit-end : tie.Need-part-put-address-bit-end Inv-loop μ-loop
+part-put-address-bit-end c = search needs
+
+put-address-bit-requires : tie.Need-put-address-bit-requires Inv-loop μ-loop
+unfolding bitOf pairLiterals codeOf alone netOf portOf
+put-address-bit-requires c κs =
+    let is = c .before .before .before .before .before .before .before .before .pre .0 in
+    let a = c .before .before .before .before .before .before .before .before .args in
+    let h = c .before .before .before .loop-test .taken in
+    let t = c .before .before .before .before .loop .t in
+    rw (c .before .before .before .before .before .before .before .pair-base .ensures, c .before .before .before .before .before .before .frame-base .ensures, c .before .before .before .before .before .frame-base2 .ensures) (
+      pair-has-number _ _ (is .fits) (a .j) (a .i) _ (is .earlier) (is .depth) (omega arith),
+      code-has-number _ (is .fits .sizes) (a .j) _ (omega arith) (is .fits .codes .address-fits t h),
+      code-has-number _ (is .fits .sizes) (a .i) _ (is .depth) (is .fits .port-address-fits t h),
+      turns-room (c .before .before .before .before .loop .inv) h,
+    )
+
+add-at : tie.Need-add-at Inv-loop μ-loop
+unfolding bitOf pairLiterals codeOf alone netOf portOf
+add-at c =
+    let wrote = rw (c .before .before .before .before .before .before .before .before .before .pair-base .ensures, c .before .before .before .before .before .before .before .before .frame-base .ensures, c .before .before .before .before .before .before .before .frame-base2 .ensures) at (c .before .put-address-bit .ensures) in
+    let count = turns-count (c .before .before .before .before .before .before .loop .inv) (c .before .before .before .before .before .loop-test .taken) (wrote .counted) in
+    search needs
+
+add-t : tie.Need-add-t Inv-loop μ-loop
+add-t c = search needs
+
+loop-less : tie.Need-loop-less Inv-loop μ-loop
+loop-less c = search needs
+
+loop-again : tie.Need-loop-again Inv-loop μ-loop
+unfolding bitOf pairLiterals codeOf alone netOf portOf
+loop-again c =
+    turns-next (c .before .before .before .before .before .before .loop .inv) (c .before .before .before .before .before .loop-test .taken)
+    (rw (c .before .before .before .before .before .before .before .before .before .pair-base .ensures, c .before .before .before .before .before .before .before .before .frame-base .ensures, c .before .before .before .before .before .before .before .frame-base2 .ensures) at (c .before .put-address-bit .ensures))
+
+same-length : tie.Need-same-length Inv-loop μ-loop
+same-length c = search needs
+
+returns : tie.Need-returns Inv-loop μ-loop
+returns c = rw written-gather (turns-end (c .before .loop .inv) (omega arith))
+
+pub put-address-bits-spec : {M : Type 1} → statement M
+put-address-bits-spec =
+    tie.close
+    (tie.spec
+    Inv-loop
+    μ-loop
+    pair-base-requires
+    frame-base-requires
+    frame-base-requires-2
+    loop-holds
+    cast-x
+    mul-x
+    element-copy-out-x
+    cast-y
+    mul-y
+    element-copy-out-y
+    mul-put-address-bit
+    sub-put-address-bit
+    part-put-address-bit-start
+    part-put-address-bit-end
+    put-address-bit-requires
+    add-at
+    add-t
+    loop-less
+    loop-again
+    same-length
+    returns)

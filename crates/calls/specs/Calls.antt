@@ -1,0 +1,118 @@
+-- What the calls over a record answer and leave (document 01, "What is sent back", "Groups of clauses"). The right-hand sides of
+-- the public contracts, and the subject of the claim about them. Assumes nothing.
+use Prim.Native.Nat.{ℕ, _+_, _≤_}
+use mathlib.Core.Path.{_≡_}
+use mathlib.Core.Bool.{true, not}
+use mathlib.Core.List.{List, _++_}
+use lib.Dec.{ltb}
+use lib.IntN.{ℤ}
+use lib.ListN.{length, take, drop}
+use Rattle.model.specs.Netlist.{Netlist}
+use Rattle.model.specs.Acceptance.{Accepted}
+use Rattle.model.specs.Variables.{base}
+use Rattle.model.specs.Groups.{inDepth, groupOrder}
+use Rattle.model.specs.Numbers.{numbersOf, joined, formula, clausesIn}
+use Rattle.model.specs.Claim.{Encodes}
+use Rattle.model.specs.declared.Group.{Group}
+use Rattle.refusals.specs.Refusal.{numberOf}
+use Rattle.refusals.specs.Tests.{refuseIf, _then_}
+use Rattle.refusals.specs.declared.Refusal.the-variants.{Depth, NoSuchGroup, NoRoom, OutOfNumbers}
+use Rattle.refusals.specs.declared.Verdict.{Verdict}
+use Rattle.refusals.specs.declared.Verdict.the-variants.{Passed, Refused}
+use Rattle.records.specs.Record.{recordVerdict}
+use Rattle.calls.specs.declared.GroupAnswer.{GroupAnswer}
+use Rattle.calls.specs.declared.GroupAnswer.the-variants.{Written}
+use Rattle.calls.specs.declared.HeadingAnswer.{HeadingAnswer}
+use Rattle.calls.specs.declared.HeadingAnswer.the-variants.{Heading}
+
+-- 7: "k over 255"
+unfoldable pub testDepth : ℕ → Verdict
+testDepth k = refuseIf (ltb 255 k) Depth 0
+
+-- 8: "frame over k, or pair with j not below i"
+unfoldable pub testGroup : ℕ → Group → Verdict
+testGroup k g = refuseIf (not (inDepth k g)) NoSuchGroup 0
+
+-- 10: "a variable above 2,147,483,647", of the depth
+unfoldable pub testNumbers : Netlist → ℕ → Verdict
+testNumbers c k = refuseIf (ltb 2147483647 (base c (k + 1))) OutOfNumbers 0
+
+-- no accepted record meets it
+abbrev pub NumbersSuffice : Netlist → ℕ → Type 0
+NumbersSuffice c k = Accepted c → k ≤ 255 → testNumbers c k ≡ Passed
+
+-- 9: "a lent slice .. that is to be written is shorter than the exact need"
+unfoldable pub testRoom : Netlist → ℕ → Group → ℕ → Verdict
+testRoom c k g room = refuseIf (ltb room (length (numbersOf c k g))) NoRoom 0
+
+-- "A group call then tests 7, 8, 10, 9, place 0": of a record whose lists have latchCount and gateCount records, with a slice of
+-- `room` numbers
+unfoldable pub groupVerdict : Netlist → ℕ → ℕ → ℕ → Group → ℕ → Verdict
+groupVerdict c latchCount gateCount k g room =
+    recordVerdict c latchCount gateCount then testDepth k then testGroup k g then testNumbers c k then testRoom c k g room
+
+-- a heading call has no group and writes nothing: no 8, no 9
+unfoldable pub headingVerdict : Netlist → ℕ → ℕ → ℕ → Verdict
+headingVerdict c latchCount gateCount k = recordVerdict c latchCount gateCount then testDepth k then testNumbers c k
+
+-- What is sent back of a group call: number (0 where it is not refused), place, and count ("a count .. returned beside them is all
+-- zeros"); and of a heading call: number, place, variables and clauses.
+pub record GroupReply : Type 0 where
+  pub number : ℕ
+  pub place : ℕ
+  pub count : ℕ
+
+unfoldable pub groupReply : GroupAnswer → GroupReply
+groupReply (Written n) = record { number = 0; place = 0; count = n }
+groupReply (GroupAnswer.Refused r p) = record { number = numberOf r; place = p; count = 0 }
+
+pub record HeadingReply : Type 0 where
+  pub number : ℕ
+  pub place : ℕ
+  pub variables : ℕ
+  pub clauses : ℕ
+
+unfoldable pub headingReply : HeadingAnswer → HeadingReply
+headingReply (Heading v n) = record { number = 0; place = 0; variables = v; clauses = n }
+headingReply (HeadingAnswer.Refused r p) = record { number = numberOf r; place = p; variables = 0; clauses = 0 }
+
+-- a verdict, with the count or the heading that stand beside it where nothing is refused
+unfoldable pub withCount : Verdict → ℕ → GroupReply
+withCount Passed n = record { number = 0; place = 0; count = n }
+withCount (Refused r p) n = record { number = numberOf r; place = p; count = 0 }
+
+unfoldable pub withHeading : Verdict → ℕ → ℕ → HeadingReply
+withHeading Passed v n = record { number = 0; place = 0; variables = v; clauses = n }
+withHeading (Refused r p) v n = record { number = numberOf r; place = p; variables = 0; clauses = 0 }
+
+-- the numbers written, and everything behind untouched; at a refusal the slice is as it was
+unfoldable pub withNumbers : Verdict → List ℤ → List ℤ → List ℤ
+withNumbers Passed zs old = zs ++ drop (length zs) old
+withNumbers (Refused r p) zs old = old
+
+-- what a group call answers, and what it leaves in the slice
+unfoldable pub groupSent : Netlist → ℕ → ℕ → ℕ → Group → ℕ → GroupReply
+groupSent c latchCount gateCount k g room =
+    withCount (groupVerdict c latchCount gateCount k g room) (length (numbersOf c k g))
+
+unfoldable pub groupLeaves : Netlist → ℕ → ℕ → ℕ → Group → List ℤ → List ℤ
+groupLeaves c latchCount gateCount k g old =
+    withNumbers (groupVerdict c latchCount gateCount k g (length old)) (numbersOf c k g) old
+
+-- what a heading call answers: "the variables numbered and the clauses really written"
+unfoldable pub headingSent : Netlist → ℕ → ℕ → ℕ → HeadingReply
+headingSent c latchCount gateCount k =
+    withHeading (headingVerdict c latchCount gateCount k) (base c (k + 1)) (length (clausesIn (formula c k)))
+
+-- Demand 3, of the calls: "The clauses for depth k stand in the numbers that the group calls write, one call with room enough for
+-- each group, joined in the order of the whole". Those numbers are the formula, and the formula encodes the runs.
+abbrev pub RoomEnough : Netlist → ℕ → (Group → List ℤ) → Type 0
+RoomEnough c k slice = (g : Group) → inDepth k g ≡ true → length (numbersOf c k g) ≤ length (slice g)
+
+pub record CallsEncode (c : Netlist) (latchCount gateCount k : ℕ) : Type 0 where
+  pub calls-formula : (slice : Group → List ℤ) → RoomEnough c k slice
+      → joined
+      (λ g. take (groupSent c latchCount gateCount k g (length (slice g)) .count) (groupLeaves c latchCount gateCount k g (slice g)))
+      (groupOrder k)
+      ≡ formula c k
+  pub formula-encodes : Encodes c k

@@ -1,0 +1,3 @@
+-- The public calls over a record, in reading order. Nothing here imports a law or a proof.
+pub mod Calls
+pub mod Starred

@@ -1,0 +1,17 @@
+-- The literals of the closing of a frame at a port of a record, and what is asked of them. Cited by every function of this
+-- crate. Assumes nothing.
+use Prim.Native.Nat.{ℕ, _≤_}
+use Rattle.model.specs.Clauses.{ClosingLiterals}
+use Rattle.model.specs.Variables.{closingLiterals}
+use Rattle.netlist.specs.declared.Netlist.{Netlist}
+use Rattle.places.specs.declared.Port.{Port}
+use Rattle.places.specs.Alone.{alone}
+use Rattle.places.specs.PortOf.{portOf}
+use Rattle.places.specs.Fits.{Fits}
+
+abbrev pub ofClosing : Netlist → Port → ℕ → ClosingLiterals
+ofClosing net port i = closingLiterals (alone net) (portOf port) i
+
+pub record IsFrame (net : Netlist) (port : Port) (i : ℕ) : Type 0 where
+  pub fits : Fits (alone net) (portOf port)
+  pub depth : i ≤ 255

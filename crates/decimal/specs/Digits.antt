@@ -1,0 +1,40 @@
+-- The decimal text of a number and the field of ten columns (document 01, "The sheet"): the one definition by which numbers are
+-- written and read. A text is a list of bytes. Cited by every function that reads or writes a number. Assumes nothing.
+use Prim.Native.Nat.{ℕ, zero, suc, _+_, _-_, _/_, _%_}
+use mathlib.Core.Bool.{cond}
+use mathlib.Core.List.{List, [], _∷_, _++_}
+use lib.Dec.{ltb}
+use lib.IntN.{ℤ, pos, negsuc}
+use lib.ListN.{length, replicate}
+
+-- the bytes of a digit, of a space and of a minus
+abbrev pub digit : ℕ → ℕ
+digit d = 48 + d
+
+abbrev pub space : ℕ
+space = 32
+
+abbrev pub minus : ℕ
+minus = 45
+
+-- the digits of x, by at most n divisions
+unfoldable pub digitsWithin : ℕ → ℕ → List ℕ
+digitsWithin zero x = []
+digitsWithin (suc n) x = cond (ltb x 10) [] (digitsWithin n (x / 10)) ++ digit (x % 10) ∷ []
+
+-- "decimal, without leading zeros; zero is `0`". More divisions than x are never needed
+unfoldable pub digits : ℕ → List ℕ
+digits x = digitsWithin (suc x) x
+
+-- "right-justified behind spaces", in ten columns
+unfoldable pub field : ℕ → List ℕ
+field x = replicate (10 - length (digits x)) space ++ digits x
+
+-- "an empty field is ten spaces"
+abbrev pub emptyField : List ℕ
+emptyField = replicate 10 space
+
+-- a clause number: a minus only below zero
+unfoldable pub signedDigits : ℤ → List ℕ
+signedDigits (pos x) = digits x
+signedDigits (negsuc x) = minus ∷ digits (suc x)

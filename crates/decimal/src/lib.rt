@@ -1,0 +1,123 @@
+// Numbers as decimal text and back (document 01, "The sheet"): one definition, `digits`, says what is written and what is read.
+ghost use mathlib.Core.Path.{_≡_};
+ghost use Prim.Native.Nat.{_≤_};
+ghost use lib.IntN.{natAbs};
+ghost use lib.ListN.{length, replicate};
+ghost use Rattle.decimal.specs.Digits.{digits, space, field, signedDigits};
+ghost use Rattle.decimal.specs.Reading.{numberIn};
+ghost use Rattle.model.specs.Wrote.{Wrote};
+
+// What a text is read as. A number is at most 4,294,967,295.
+pub enum Number {
+    Value(u32),
+    NotANumber,
+}
+
+// The number that the whole text stands for. Ten digits are the most, so the value fits.
+pub fn read_number(text: &[u8]) -> Number
+    ensures { λ r. ⌜ r ≡ numberIn (now (text .entry)) ⌝ }
+{
+    if text.len() == 0 {
+        return Number::NotANumber;
+    }
+    if 10 < text.len() {
+        return Number::NotANumber;
+    }
+    if text[0] == b'0' {
+        if 1 < text.len() {
+            return Number::NotANumber;
+        }
+    }
+    let mut value: u64 = 0;
+    let mut i = 0;
+    while i < text.len() {
+        let c = text[i];
+        if c < b'0' {
+            return Number::NotANumber;
+        }
+        if b'9' < c {
+            return Number::NotANumber;
+        }
+        value = value * 10 + ((c - b'0') as u64);
+        i += 1;
+    }
+    if 4294967295 < value {
+        return Number::NotANumber;
+    }
+    Number::Value(value as u32)
+}
+
+// How many digits a number has.
+pub fn digit_count(x: u32) -> usize
+    ensures { λ r. ⌜ r ≡ length (digits x) ⌝ }
+{
+    let mut count: usize = 1;
+    let mut power: u64 = 10;
+    while power <= x as u64 {
+        power = power * 10;
+        count += 1;
+    }
+    count
+}
+
+// Writes a number's digits, the last first, and answers how many they are.
+pub fn put_digits(out: &mut [u8], x: u32) -> usize
+    requires { ⌜ length (digits x) ≤ length (now out) ⌝ }
+    ensures { λ r. ⌜ Wrote (digits x) (now (out .entry)) (now (out .exit)) r ⌝ }
+{
+    let count = digit_count(x);
+    let mut rest = x;
+    let mut i = count;
+    while 0 < i {
+        i -= 1;
+        out[i] = b'0' + ((rest % 10) as u8);
+        rest = rest / 10;
+    }
+    count
+}
+
+// Fills the first bytes of a slice with spaces.
+fn put_spaces(out: &mut [u8], count: usize)
+    requires { ⌜ count ≤ length (now out) ⌝ }
+    ensures { λ _. ⌜ Wrote (replicate count space) (now (out .entry)) (now (out .exit)) count ⌝ }
+{
+    let mut i = 0;
+    while i < count {
+        out[i] = b' ';
+        i += 1;
+    }
+}
+
+// Writes a number in ten columns, right-justified behind spaces, and answers ten.
+pub fn put_field(out: &mut [u8], x: u32) -> usize
+    requires { ⌜ 10 ≤ length (now out) ⌝ }
+    ensures { λ r. ⌜ Wrote (field x) (now (out .entry)) (now (out .exit)) r ⌝ }
+{
+    let before = 10 - digit_count(x);
+    put_spaces(out, before);
+    before + put_digits(&mut out[before..], x)
+}
+
+// A signed number without its sign: the least i32 has one too.
+fn magnitude(z: i32) -> u32
+    ensures { λ r. ⌜ r ≡ natAbs z ⌝ }
+{
+    if 0 <= z {
+        return z as u32;
+    }
+    let opposite = -(z as i64);
+    opposite as u32
+}
+
+// Writes a signed number, with a minus only below zero, and answers how many bytes that is.
+pub fn put_number(out: &mut [u8], z: i32) -> usize
+    requires { ⌜ length (signedDigits z) ≤ length (now out) ⌝ }
+    ensures { λ r. ⌜ Wrote (signedDigits z) (now (out .entry)) (now (out .exit)) r ⌝ }
+{
+    let x = magnitude(z);
+    if z < 0 {
+        out[0] = b'-';
+        return 1 + put_digits(&mut out[1..], x);
+    }
+    put_digits(out, x)
+}

@@ -1,0 +1,85 @@
+-- Laws of specs/Text.antt: the texts' lengths, and the clauses' text number by number. No contract cites this file. Assumes nothing.
+use Prim.Native.Nat.{ℕ, zero, suc, _+_, _*_, _^_, _≤_, _<_}
+use mathlib.Core.Path.{_≡_, refl, sym, ap, _∙_}
+use mathlib.Core.List.{List, [], _∷_, _++_, append-assoc, append-nil}
+use native.Mathlib.Omega.{arith}
+use lib.IntN.{ℤ, pos, negsuc}
+use lib.ListN.{length, length-append, getD, take, drop, take-append-drop}
+use lib.Seq.{take-suc}
+use lib.Signed.{mag}
+use mir.Syntax.{w32}
+use mir.Val.{SFits, toZ, ofZ}
+use Rattle.decimal.proofs.Digits.{length-field}
+use Rattle.decimal.proofs.Signed.{length-signedDigits, read-back}
+use Rattle.decimal.specs.Digits.{space, digits, field, signedDigits}
+use Rattle.dimacs.specs.Text.{lineFeed, problem, refused, headerText, refusalText, behind, numberText, clauseText}
+
+-- the header's length
+pub length-headerText : (variables clauses : ℕ) → length (headerText variables clauses) ≡ 8 + length (digits variables) + length (digits clauses)
+unfolding headerText
+length-headerText v c =
+    omega
+    (arith, length-append (problem ++ (digits v ++ space ∷ [])) (digits c ++ lineFeed ∷ []), length-append problem (digits v ++ space ∷ []), length-append (digits v) (space ∷ []), length-append (digits c) (lineFeed ∷ []))
+
+-- a refusal's length
+pub length-refusalText : (number place : ℕ) → number < 2 ^ 32 → place < 2 ^ 32 → length (refusalText number place) ≡ 28
+unfolding refusalText
+length-refusalText n p f g =
+    omega
+    (arith, length-append (refused ++ field n ++ field p) (lineFeed ∷ []), length-append (refused ++ field n) (field p), length-append refused (field n), length-field n f, length-field p g)
+
+-- a number of a slice as a machine reads it
+pub element-is : (zs : List ℤ) (i : ℕ) → mag (getD zs i (pos 0)) < 2 ^ 31 → toZ w32 (ofZ w32 (getD zs i (pos 0))) ≡ getD zs i (pos 0)
+element-is zs i h = read-back (getD zs i (pos 0)) (record { sfits = h })
+
+-- the end mark as a machine tells it, by its bits
+pub behind-zero : (z : ℤ) → SFits w32 z → ofZ w32 z ≡ 0 → behind z ≡ lineFeed
+behind-zero z f e = ap behind (sym (read-back z f) ∙ ap (toZ w32) e)
+
+pub behind-other : (z : ℤ) → (ofZ w32 z ≡ 0 → ⊥) → behind z ≡ space
+behind-other (pos zero) n = absurd (n refl)
+behind-other (pos (suc v)) n = refl
+behind-other (negsuc v) n = refl
+
+-- the text of numbers one list behind the other is the one's text behind the other's
+pub clauseText-append : (xs ys : List ℤ) → clauseText (xs ++ ys) ≡ clauseText xs ++ clauseText ys
+unfolding clauseText
+clauseText-append [] ys = refl
+clauseText-append (z ∷ zs) ys = rw (clauseText-append zs ys) (sym (append-assoc (numberText z) (clauseText zs) (clauseText ys)))
+
+-- one number more
+pub clauseText-next : (zs : List ℤ) (i : ℕ) → i < length zs → clauseText (take (suc i) zs) ≡ clauseText (take i zs) ++ numberText (getD zs i (pos 0))
+unfolding clauseText
+clauseText-next zs i h =
+    ap clauseText (take-suc zs i (pos 0) h) ∙ clauseText-append (take i zs) (getD zs i (pos 0) ∷ []) ∙ ap (λ (t : List ℕ). clauseText (take i zs) ++ t) (single (getD zs i (pos 0)))
+  where
+    single : (z : ℤ) → clauseText (z ∷ []) ≡ numberText z
+    single z = append-nil (numberText z)
+
+-- the text of the first numbers is no longer than that of all
+pub length-clauseText-take : (zs : List ℤ) (i : ℕ) → length (clauseText (take i zs)) ≤ length (clauseText zs)
+length-clauseText-take zs i =
+    let e : length (clauseText (take i zs ++ drop i zs)) ≡ length (clauseText (take i zs)) + length (clauseText (drop i zs)) =
+    ap length (clauseText-append (take i zs) (drop i zs)) ∙ length-append (clauseText (take i zs)) (clauseText (drop i zs)) in
+    let w : length (clauseText (take i zs ++ drop i zs)) ≡ length (clauseText zs) = ap (λ (t : List ℤ). length (clauseText t)) (take-append-drop i zs) in
+    omega arith
+
+-- so there is room for the number at i where there is room for all
+pub clauseText-room :
+    (zs : List ℤ) (i : ℕ) → i < length zs → length (clauseText (take i zs)) + length (numberText (getD zs i (pos 0))) ≤ length (clauseText zs)
+clauseText-room zs i h =
+    let e : length (clauseText (take (suc i) zs)) ≡ length (clauseText (take i zs)) + length (numberText (getD zs i (pos 0))) =
+    ap length (clauseText-next zs i h) ∙ length-append (clauseText (take i zs)) (numberText (getD zs i (pos 0))) in
+    omega (arith, length-clauseText-take zs (suc i))
+
+-- a number of 32 bits takes at most twelve bytes with the one behind it
+pub length-numberText : (z : ℤ) → SFits w32 z → length (numberText z) ≤ 12
+length-numberText z f = omega (arith, length-append (signedDigits z) (behind z ∷ []), length-signedDigits z f)
+
+-- n numbers of 32 bits take at most 12 n bytes
+pub length-clauseText : (zs : List ℤ) → ((i : ℕ) → i < length zs → SFits w32 (getD zs i (pos 0))) → length (clauseText zs) ≤ 12 * length zs
+unfolding clauseText
+length-clauseText [] f = omega arith
+length-clauseText (z ∷ zs) f =
+    let rest : length (clauseText zs) ≤ 12 * length zs = length-clauseText zs (λ i h. f (suc i) (omega arith)) in
+    rw (length-append (numberText z) (clauseText zs)) (omega (arith, length-numberText z (f 0 (omega arith))))

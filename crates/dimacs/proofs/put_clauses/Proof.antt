@@ -1,0 +1,36 @@
+-- `dimacs::put_clauses` meets its contract: `clauses_fit` tests the exact length. Assumes nothing.
+use mathlib.Core.Path.{sym, _∙_}
+use borrow.Author.Needs.{needs}
+use borrow.Author.Tests.{leb-true, leb-false}
+use lib.ListN.{length}
+use Rattle.dimacs.specs.Text.{clauseText}
+use Rattle.dimacs.proofs.Report.{written, not-written}
+use Rattle.dimacs.proofs.put_clauses.Statement.{statement}
+use Rattle.dimacs.proofs.put_clauses.Tie as tie
+
+clauses-fit-requires : tie.Need-clauses-fit-requires
+clauses-fit-requires c κs = search needs
+
+write-numbers-requires : tie.Need-write-numbers-requires
+write-numbers-requires c κs =
+    let start = c .before .before .before .before in
+    leb-true (length (clauseText (start .args .numbers .now))) (length (start .args .out .now)) (sym (c .before .before .clauses-fit .ensures) ∙ c .before .if1 .taken)
+
+same-length : tie.Need-same-length
+same-length c = search needs
+
+returns : tie.Need-returns
+returns c =
+    let start = c .before .before .before .before .before .before .before in
+    let done = c .before .before .write-numbers in
+    written (clauseText (start .args .numbers .now)) (start .args .out .now) (done .last .0) (done .result) (done .kept .0) (done .ensures)
+
+returns-2 : tie.Need-returns-2
+returns-2 c =
+    let start = c .before .before .before in
+    not-written (clauseText (start .args .numbers .now)) (start .args .out .now)
+    (leb-false (length (clauseText (start .args .numbers .now))) (length (start .args .out .now)) (sym (c .before .clauses-fit .ensures) ∙ c .if1 .left))
+
+pub put-clauses-spec : {M : Type 1} → statement M
+put-clauses-spec =
+    tie.close (tie.spec clauses-fit-requires write-numbers-requires same-length returns returns-2)

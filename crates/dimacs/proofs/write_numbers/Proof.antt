@@ -1,0 +1,130 @@
+-- `dimacs::write_numbers` meets its contract. The loop's invariant: the text of the first i numbers is written, with the table of
+-- all pairs, which antt computes. Assumes nothing.
+use Prim.Native.Nat.{ℕ, _+_, _-_, _≤_}
+use mathlib.Core.Path.{_≡_, refl, _∙_}
+use mathlib.Core.List.{List}
+use native.Mathlib.Numerals.{add-one}
+use native.Mathlib.Omega.{arith}
+use borrow.Author.Needs.{needs}
+use borrow.Rule.Slice.PartMut.{midOf, mid-len, same-len-mid}
+use lib.IntN.{ℤ, pos}
+use lib.ListN.{length, getD, take}
+use lib.Seq.{take-all}
+use Rattle.model.specs.Wrote.{Wrote}
+use Rattle.model.proofs.Wrote.{wrote-then}
+use Rattle.text.specs.Pairs.{pairsBelow}
+use Rattle.dimacs.specs.Text.{numberText, clauseText}
+use Rattle.dimacs.proofs.Text.{element-is, clauseText-next, clauseText-room}
+use Rattle.dimacs.proofs.write_numbers.Statement.{statement}
+use Rattle.dimacs.proofs.write_numbers.Tie as tie
+
+abbrev Inv-loop : tie.InvT-loop
+Inv-loop out₀ numbers pairs at₀ i₀ out at i =
+    (i ≤ length numbers) × (length out ≡ length out₀) × Wrote (clauseText (take i numbers)) out₀ out at × (pairs ≡ pairsBelow 100)
+
+abbrev μ-loop : tie.MeasureT-loop
+μ-loop out₀ numbers pairs at₀ i₀ out at i = length numbers - i
+
+loop-holds : tie.Need-loop-holds Inv-loop μ-loop
+unfolding clauseText pairsBelow
+loop-holds c = (omega arith, refl, record { counted = refl; leaves = refl }, refl)
+
+-- there is room for the number at i
+room :
+    (c : tie.In-loop Inv-loop μ-loop) →
+    c .before .loop .at + length (numberText (getD (c .before .before .before .before .args .numbers .now) (c .before .loop .i) (pos 0))) ≤ length (c .before .loop .out)
+room c =
+    let start = c .before .before .before .before in
+    let numbers : List ℤ = start .args .numbers .now in
+    let at = c .before .loop in
+    omega (arith, start .pre, at .inv .1, at .inv .2 .counted, clauseText-room numbers (at .i) (omega arith))
+
+-- it is written into the rest
+next :
+    (c : tie.After-write-number Inv-loop μ-loop) →
+    let turn = c .before .before .before in
+    let at = turn .before .loop in
+    Wrote (numberText (getD (turn .before .before .before .before .args .numbers .now) (at .i) (pos 0))) (midOf (at .at) (length (at .out) - at .at) (at .out)) (c .write-number .last .0) (c .write-number .result)
+next c =
+    let turn = c .before .before .before in
+    rw (element-is (turn .before .before .before .before .args .numbers .now) (turn .before .loop .i) (c .before .write-number-arg2 .given)) at (c .write-number .ensures)
+
+sub-write-number : tie.Need-sub-write-number Inv-loop μ-loop
+sub-write-number c = omega (arith, room c)
+
+part-write-number-start : tie.Need-part-write-number-start Inv-loop μ-loop
+part-write-number-start c = omega (arith, room c)
+
+part-write-number-end : tie.Need-part-write-number-end Inv-loop μ-loop
+part-write-number-end c = search needs
+
+mul-write-number : tie.Need-mul-write-number Inv-loop μ-loop
+mul-write-number c = search needs
+
+shared-slice-copy-out-write-number : tie.Need-shared-slice-copy-out-write-number Inv-loop μ-loop
+shared-slice-copy-out-write-number c = omega arith
+
+write-number-requires : tie.Need-write-number-requires Inv-loop μ-loop
+write-number-requires c κs =
+    let at = c .before .before .before .loop in
+    let mid : List ℕ = at .out in (
+      at .inv .3,
+      rw (element-is (c .before .before .before .before .before .before .args .numbers .now) (at .i) (c .write-number-arg2 .given), mid-len (at .at) (length mid) mid (omega arith))
+          (omega (arith, room (c .before .before))),
+    )
+
+add-at : tie.Need-add-at Inv-loop μ-loop
+add-at c =
+    let turn = c .before .before .before .before .before in
+    omega (arith, room turn, next (c .before .before) .counted)
+
+add-i : tie.Need-add-i Inv-loop μ-loop
+add-i c = omega arith
+
+loop-less : tie.Need-loop-less Inv-loop μ-loop
+loop-less c = omega arith
+
+loop-again : tie.Need-loop-again Inv-loop μ-loop
+loop-again c =
+    let turn = c .before .before .before .before .before in
+    let start = turn .before .before .before .before in
+    let at = turn .before .loop in
+    let numbers : List ℤ = start .args .numbers .now in
+    let written = c .before .before .write-number in (
+      omega arith,
+      same-len-mid (at .at) (length (at .out) - at .at) (at .out) (written .last .0) (written .kept .0) ∙ at .inv .1,
+      rw (add-one, clauseText-next numbers (at .i) (omega arith))
+          (wrote-then (clauseText (take (at .i) numbers)) (numberText (getD numbers (at .i) (pos 0))) (start .args .out .now) (at .out) (written .last .0) (at .at) (written .result) (at .inv .2) (next (c .before .before))),
+      at .inv .3,
+    )
+
+same-length : tie.Need-same-length Inv-loop μ-loop
+same-length c = search needs
+
+returns : tie.Need-returns Inv-loop μ-loop
+returns c =
+    let start = c .before .before .before .before in
+    let numbers : List ℤ = start .args .numbers .now in
+    let at = c .before .loop in
+    let all : take (at .i) numbers ≡ numbers = take-all (at .i) numbers (omega arith) in
+    rw all at (at .inv .2)
+
+pub write-numbers-spec : {M : Type 1} → statement M
+write-numbers-spec =
+    tie.close
+    (tie.spec
+    Inv-loop
+    μ-loop
+    loop-holds
+    sub-write-number
+    part-write-number-start
+    part-write-number-end
+    mul-write-number
+    shared-slice-copy-out-write-number
+    write-number-requires
+    add-at
+    add-i
+    loop-less
+    loop-again
+    same-length
+    returns)

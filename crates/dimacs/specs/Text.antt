@@ -1,0 +1,41 @@
+-- The bytes that `frames` prints (document 01, "The program and one full run"): header, clauses, refusal. A text is a list of
+-- bytes. Cited by every function that writes one. Assumes nothing.
+use Prim.Native.Nat.{ℕ, zero, suc}
+use mathlib.Core.List.{List, [], _∷_, _++_}
+use lib.IntN.{ℤ, pos, negsuc}
+use Rattle.decimal.specs.Digits.{digits, space, field, signedDigits}
+
+-- the byte that ends a line
+abbrev pub lineFeed : ℕ
+lineFeed = 10
+
+-- the bytes of `p cnf` and a space
+abbrev pub problem : List ℕ
+problem = 112 ∷ space ∷ 99 ∷ 110 ∷ 102 ∷ space ∷ []
+
+-- the bytes of `refused`
+abbrev pub refused : List ℕ
+refused = 114 ∷ 101 ∷ 102 ∷ 117 ∷ 115 ∷ 101 ∷ 100 ∷ []
+
+-- "prints `p cnf`, variables, clauses", on a line, single spaces
+unfoldable pub headerText : ℕ → ℕ → List ℕ
+headerText variables clauses = problem ++ (digits variables ++ space ∷ []) ++ (digits clauses ++ lineFeed ∷ [])
+
+-- what stands behind a number: a single space, and behind the end mark 0 a line feed
+abbrev pub behind : ℤ → ℕ
+behind (pos zero) = lineFeed
+behind (pos (suc v)) = space
+behind (negsuc v) = space
+
+-- a number and the byte behind it
+abbrev pub numberText : ℤ → List ℕ
+numberText z = signedDigits z ++ behind z ∷ []
+
+-- "then one clause a line, single spaces": numbers with end marks
+unfoldable pub clauseText : List ℤ → List ℕ
+clauseText [] = []
+clauseText (z ∷ zs) = numberText z ++ clauseText zs
+
+-- "`refused`, number and place in ten columns each, written as a sheet's fields, nothing between, and a line feed"
+unfoldable pub refusalText : ℕ → ℕ → List ℕ
+refusalText number place = refused ++ field number ++ field place ++ lineFeed ∷ []

@@ -1,0 +1,137 @@
+// The bytes that `frames` prints (document 01, "The program and one full run"): header, clauses, refusal.
+ghost use mathlib.Core.Path.{_≡_};
+ghost use Prim.Native.Nat.{_≤_};
+ghost use lib.Dec.{leb};
+ghost use lib.ListN.{length};
+ghost use Rattle.model.specs.Wrote.{Wrote};
+ghost use Rattle.text.specs.Pairs.{pairsBelow};
+ghost use Rattle.dimacs.specs.Text.{headerText, behind, numberText, clauseText, refusalText};
+ghost use Rattle.dimacs.specs.Report.{reportOf, printReport, printLeaves};
+use decimal::digit_count;
+use decimal::put_field;
+use refusals::Refusal;
+use text::parts_of;
+use text::write_byte;
+use text::write_ended;
+use text::write_signed;
+use text::write_word;
+
+// What a call that prints answers: how many bytes it wrote, or a refusal and its place.
+pub enum Printed {
+    Written(usize),
+    Refused(Refusal, u32),
+}
+
+// The byte behind a number: a line feed behind the end mark.
+fn byte_behind(z: i32) -> u8
+    ensures { λ r. ⌜ r ≡ behind z ⌝ }
+{
+    if z == 0 {
+        return b'\n';
+    }
+    b' '
+}
+
+// Writes a clause number or an end mark, and the byte behind it.
+fn write_number(out: &mut [u8], z: i32, pairs: &[u8; 200]) -> usize
+    requires { ⌜ (now pairs ≡ pairsBelow 100) × (length (numberText z) ≤ length (now out)) ⌝ }
+    ensures { λ r. ⌜ Wrote (numberText z) (now (out .entry)) (now (out .exit)) r ⌝ }
+{
+    let count = write_signed(out, z, pairs);
+    count + write_byte(&mut out[count..], byte_behind(z))
+}
+
+// Writes numbers with end marks, a clause a line, in one pass, and answers how many bytes that is.
+pub fn write_numbers(out: &mut [u8], numbers: &[i32]) -> usize
+    requires { ⌜ length (clauseText (now numbers)) ≤ length (now out) ⌝ }
+    ensures { λ r. ⌜ Wrote (clauseText (now (numbers .entry))) (now (out .entry)) (now (out .exit)) r ⌝ }
+{
+    let pairs =
+        b"00010203040506070809101112131415161718192021222324252627282930313233343536373839404142434445464748495051525354555657585960616263646566676869707172737475767778798081828384858687888990919293949596979899";
+    let mut at = 0;
+    let mut i = 0;
+    while i < numbers.len() {
+        at = at + write_number(&mut out[at..], numbers[i], pairs);
+        i += 1;
+    }
+    at
+}
+
+// How many bytes a number takes with the one behind it.
+fn number_length(z: i32) -> usize
+    ensures { λ r. ⌜ r ≡ length (numberText z) ⌝ }
+{
+    let parts = parts_of(z);
+    parts.sign + digit_count(parts.value) + 1
+}
+
+// Whether the text of numbers with end marks is no longer than the room. Their lengths are taken off the room: their sum might not fit.
+fn clauses_fit(room: usize, numbers: &[i32]) -> bool
+    ensures { λ r. ⌜ r ≡ leb (length (clauseText (now (numbers .entry)))) room ⌝ }
+{
+    let mut left = room;
+    let mut i = 0;
+    while i < numbers.len() {
+        let need = number_length(numbers[i]);
+        if left < need {
+            return false;
+        }
+        left -= need;
+        i += 1;
+    }
+    true
+}
+
+// Writes the header, where there is room.
+fn write_header(out: &mut [u8], variables: u32, clauses: u32) -> usize
+    requires { ⌜ length (headerText variables clauses) ≤ length (now out) ⌝ }
+    ensures { λ r. ⌜ Wrote (headerText variables clauses) (now (out .entry)) (now (out .exit)) r ⌝ }
+{
+    let before = write_word(out, b"p cnf ");
+    let middle = before + write_ended(&mut out[before..], variables, b' ');
+    middle + write_ended(&mut out[middle..], clauses, b'\n')
+}
+
+// Writes a refusal, where there is room.
+fn write_refusal(out: &mut [u8], number: u32, place: u32) -> usize
+    requires { ⌜ length (refusalText number place) ≤ length (now out) ⌝ }
+    ensures { λ r. ⌜ Wrote (refusalText number place) (now (out .entry)) (now (out .exit)) r ⌝ }
+{
+    let before = write_word(out, b"refused");
+    let middle = before + put_field(&mut out[before..], number);
+    let end = middle + put_field(&mut out[middle..], place);
+    end + write_byte(&mut out[end..], b'\n')
+}
+
+// Prints DIMACS' problem line: the numbers of variables and of clauses.
+pub fn put_header(out: &mut [u8], variables: u32, clauses: u32) -> Printed
+    ensures answer { λ r. ⌜ reportOf r ≡ printReport (headerText variables clauses) (now (out .entry)) ⌝ }
+    ensures borrowed { λ _. ⌜ now (out .exit) ≡ printLeaves (headerText variables clauses) (now (out .entry)) ⌝ }
+{
+    if out.len() < 8 + digit_count(variables) + digit_count(clauses) {
+        return Printed::Refused(Refusal::NoRoom, 0);
+    }
+    Printed::Written(write_header(out, variables, clauses))
+}
+
+// Prints numbers with end marks, a clause a line.
+pub fn put_clauses(out: &mut [u8], numbers: &[i32]) -> Printed
+    ensures answer { λ r. ⌜ reportOf r ≡ printReport (clauseText (now (numbers .entry))) (now (out .entry)) ⌝ }
+    ensures borrowed { λ _. ⌜ now (out .exit) ≡ printLeaves (clauseText (now (numbers .entry))) (now (out .entry)) ⌝ }
+{
+    if clauses_fit(out.len(), numbers) {
+        return Printed::Written(write_numbers(out, numbers));
+    }
+    Printed::Refused(Refusal::NoRoom, 0)
+}
+
+// Prints a refusal: its number and place in ten columns each.
+pub fn put_refusal(out: &mut [u8], number: u32, place: u32) -> Printed
+    ensures answer { λ r. ⌜ reportOf r ≡ printReport (refusalText number place) (now (out .entry)) ⌝ }
+    ensures borrowed { λ _. ⌜ now (out .exit) ≡ printLeaves (refusalText number place) (now (out .entry)) ⌝ }
+{
+    if out.len() < 28 {
+        return Printed::Refused(Refusal::NoRoom, 0);
+    }
+    Printed::Written(write_refusal(out, number, place))
+}

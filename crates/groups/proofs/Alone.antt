@@ -1,0 +1,85 @@
+-- What looks at no list is the same for a record with and without its lists: the numbers of pairs, closings and the property.
+-- No contract cites this file. Assumes nothing.
+use Prim.Native.Nat.{ℕ, _≤_, _<_}
+use mathlib.Core.Path.{_≡_, refl, sym, _∙_, ap, subst}
+use mathlib.Core.List.{List, []}
+use native.Mathlib.Omega.{arith}
+use mathlib.Core.Bool.{true}
+use lib.Dec.{leb, ltb}
+use lib.IntN.{ℤ}
+use lib.ListN.{length}
+use borrow.Author.Tests.{leb-true, ltb-true}
+use Rattle.model.specs.Netlist as M
+use Rattle.model.specs.Acceptance.{Accepted}
+use Rattle.model.specs.Clauses.{pairClauses, closingClauses}
+use Rattle.model.specs.Variables.{base, pairBase, none, selected, readBit, pairLiterals, closingLiterals}
+use Rattle.model.specs.Groups.{notP, clausesOf, inDepth}
+use Rattle.model.specs.Numbers.{written, numbersOf}
+use Rattle.model.specs.Wrote.{Wrote}
+use Rattle.model.specs.declared.Group.{Group}
+use Rattle.model.specs.declared.Group.the-variants.{Wires, Pair, Closing, Property}
+use Rattle.model.proofs.Booleans.{and-true}
+use Rattle.netlist.specs.NetOf.{netOf}
+use Rattle.netlist.specs.declared.Netlist.{Netlist}
+use Rattle.places.specs.Alone.{alone}
+use Rattle.places.specs.Fits.{Fits}
+use Rattle.places.proofs.Lists.{sizes-without, codes-without-gates, codes-without-latches}
+
+module _ (r : Netlist) (ls gs : List ℕ) where
+  -- the sizes and codes that an accepted record's port has
+  pub fits-alone : Accepted (netOf r ls gs) → (p : M.Port) → p ≡ M.port (alone r) → Fits (alone r) p
+  unfolding alone netOf
+  fits-alone ok p e =
+      rw e
+      (record {
+        sizes = sizes-without r ls gs [] [] (ok .sizes);
+        codes = codes-without-latches r [] [] (codes-without-gates r [] gs (codes-without-latches r ls gs (ok .codes)));
+        port-address-fits = ok .codes .address-fits;
+        port-RE-fits = ok .codes .RE-fits;
+        reads-fit = omega arith;
+        variables-fit = omega arith;
+      })
+
+  -- a pair
+  pub pair-alone : (p : M.Port) → p ≡ M.port (alone r) → (k j i : ℕ)
+      → written (pairClauses (r .m) (r .n) (pairLiterals (alone r) p j i)) ≡ numbersOf (netOf r ls gs) k (Pair j i)
+  unfolding alone netOf numbersOf clausesOf pairLiterals base pairBase none selected readBit
+  pair-alone p e k j i = rw e
+
+  -- a closing
+  pub closing-alone : (p : M.Port) → p ≡ M.port (alone r) → (k i : ℕ)
+      → written (closingClauses (r .n) i (closingLiterals (alone r) p i)) ≡ numbersOf (netOf r ls gs) k (Closing i)
+  unfolding alone netOf numbersOf clausesOf closingLiterals base pairBase none selected readBit
+  closing-alone p e k i = rw e
+
+  -- the property
+  pub property-alone : (k : ℕ) → numbersOf (alone r) k Property ≡ numbersOf (netOf r ls gs) k Property
+  unfolding alone netOf numbersOf clausesOf notP base
+  property-alone k = refl
+
+-- the wires of a frame, at any depth
+pub wires-depth : (c : M.Netlist) (k i : ℕ) → numbersOf c i (Wires i) ≡ numbersOf c k (Wires i)
+unfolding numbersOf clausesOf
+wires-depth c k i = refl
+
+-- a group known by its kind: its room, what is written, and its frames
+module _ (c : M.Netlist) (k : ℕ) {g g′ : Group} (e : g ≡ g′) {zs : List ℤ} (h : zs ≡ numbersOf c k g′) where
+  pub room-by-kind : {n : ℕ} → length (numbersOf c k g) ≤ n → length zs ≤ n
+  room-by-kind {n} l = subst (λ (xs : List ℤ). length xs ≤ n) (ap (numbersOf c k) e ∙ sym h) l
+
+  pub wrote-by-kind : {old new : List ℤ} {r : ℕ} → Wrote zs old new r → Wrote (numbersOf c k g) old new r
+  wrote-by-kind {old} {new} {r} w = subst (λ (xs : List ℤ). Wrote xs old new r) (h ∙ ap (numbersOf c k) (sym e)) w
+
+pub wires-frame : (k i : ℕ) {g : Group} → g ≡ Wires i → inDepth k g ≡ true → i ≤ k
+unfolding inDepth
+wires-frame k i e h = leb-true i k (sym (ap (inDepth k) e) ∙ h)
+
+pub pair-frames : (k j i : ℕ) {g : Group} → g ≡ Pair j i → inDepth k g ≡ true → (i ≤ k) × (j < i)
+unfolding inDepth
+pair-frames k j i e h =
+    let both = and-true (leb i k) (ltb j i) .0 (sym (ap (inDepth k) e) ∙ h) in
+    (leb-true i k (both .0), ltb-true j i (both .1))
+
+pub closing-frame : (k i : ℕ) {g : Group} → g ≡ Closing i → inDepth k g ≡ true → i ≤ k
+unfolding inDepth
+closing-frame k i e h = leb-true i k (sym (ap (inDepth k) e) ∙ h)

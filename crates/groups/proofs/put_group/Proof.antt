@@ -1,0 +1,109 @@
+-- `groups::put_group` meets its contract: each arm writes the group of its kind. Assumes nothing.
+use mathlib.Core.Path.{refl}
+use native.Mathlib.Omega.{arith}
+use Rattle.groups.proofs.Alone.{fits-alone, pair-alone, closing-alone, property-alone, wires-depth, room-by-kind, wrote-by-kind, wires-frame, pair-frames, closing-frame}
+use borrow.Author.Needs.{needs}
+use Rattle.groups.proofs.put_group.Statement.{statement}
+use Rattle.groups.proofs.put_group.Tie as tie
+
+enum-known-group : tie.Need-enum-known-group
+enum-known-group c = search needs
+
+put-wires-requires : tie.Need-put-wires-requires
+put-wires-requires c κs =
+    let p = c .before .before .before .before .pre in
+    let e = c .before .before .group .given .1 in (
+      record { sizes = p .0 .sizes; codes = p .0 .codes; depth = omega (arith, wires-frame _ _ e (p .2), p .1) },
+      room-by-kind _ _ e (wires-depth _ _ _) (p .3),
+    )
+
+enum-known-group-2 : tie.Need-enum-known-group-2
+enum-known-group-2 c = search needs
+
+port-of-requires : tie.Need-port-of-requires
+port-of-requires c κs = search needs
+
+put-pair-requires : tie.Need-put-pair-requires
+put-pair-requires c κs =
+    let p = c .before .before .before .before .before .pre in
+    let e = c .before .before .before .group2 .given .1 in
+    let f = pair-frames _ _ _ e (p .2) in (
+      record { fits = fits-alone _ _ _ (p .0) _ (c .port-of .ensures); earlier = f .1; depth = omega (arith, f .0, p .1) },
+      room-by-kind _ _ e (pair-alone _ _ _ _ (c .port-of .ensures) _ _ _) (p .3),
+    )
+
+enum-known-group-3 : tie.Need-enum-known-group-3
+enum-known-group-3 c = search needs
+
+port-of-requires-2 : tie.Need-port-of-requires-2
+port-of-requires-2 c κs = search needs
+
+put-closing-requires : tie.Need-put-closing-requires
+put-closing-requires c κs =
+    let p = c .before .before .before .before .before .pre in
+    let e = c .before .before .before .group3 .given .1 in (
+      record { fits = fits-alone _ _ _ (p .0) _ (c .port-of2 .ensures); depth = omega (arith, closing-frame _ _ e (p .2), p .1) },
+      room-by-kind _ _ e (closing-alone _ _ _ _ (c .port-of2 .ensures) _ _) (p .3),
+    )
+
+enum-told : tie.Need-enum-told
+enum-told c = search needs
+
+put-property-requires : tie.Need-put-property-requires
+put-property-requires c κs =
+    let p = c .before .before .before .pre in
+    let f = fits-alone _ _ _ (p .0) _ refl in (
+      record { sizes = f .sizes; codes = f .codes; depth = p .1 },
+      room-by-kind _ _ (c .before .enum-told .given .1) (property-alone _ _ _ _) (p .3),
+    )
+
+same-length : tie.Need-same-length
+same-length c = search needs
+
+returns : tie.Need-returns
+returns c =
+    wrote-by-kind _ _ (c .before .before .before .before .group .given .1) (wires-depth _ _ _) (c .before .put-wires .ensures)
+
+same-length-2 : tie.Need-same-length-2
+same-length-2 c = search needs
+
+returns-2 : tie.Need-returns-2
+returns-2 c =
+    wrote-by-kind _ _ (c .before .before .before .before .before .group2 .given .1) (pair-alone _ _ _ _ (c .before .before .port-of .ensures) _ _ _) (c .before .put-pair .ensures)
+
+same-length-3 : tie.Need-same-length-3
+same-length-3 c = search needs
+
+returns-3 : tie.Need-returns-3
+returns-3 c =
+    wrote-by-kind _ _ (c .before .before .before .before .before .group3 .given .1) (closing-alone _ _ _ _ (c .before .before .port-of2 .ensures) _ _) (c .before .put-closing .ensures)
+
+same-length-4 : tie.Need-same-length-4
+same-length-4 c = search needs
+
+returns-4 : tie.Need-returns-4
+returns-4 c =
+    wrote-by-kind _ _ (c .before .before .before .enum-told .given .1) (property-alone _ _ _ _) (c .before .put-property .ensures)
+
+pub put-group-spec : {M : Type 1} → statement M
+put-group-spec =
+    tie.close
+    (tie.spec
+    enum-known-group
+    put-wires-requires
+    enum-known-group-2
+    port-of-requires
+    put-pair-requires
+    enum-known-group-3
+    port-of-requires-2
+    put-closing-requires
+    enum-told
+    put-property-requires
+    same-length
+    returns
+    same-length-2
+    returns-2
+    same-length-3
+    returns-3
+    same-length-4
+    returns-4)

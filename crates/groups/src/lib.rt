@@ -1,0 +1,33 @@
+// The groups of clauses of a depth (document 01, "Groups of clauses"), each written into a borrowed slice.
+use model::Group;
+use netlist::Netlist;
+ghost use mathlib.Core.Path.{_≡_};
+ghost use Prim.Native.Nat.{_≤_};
+ghost use mathlib.Core.Bool.{true};
+ghost use lib.ListN.{length};
+ghost use Rattle.model.specs.Acceptance.{Accepted};
+ghost use Rattle.model.specs.Groups.{inDepth};
+ghost use Rattle.model.specs.Numbers.{numbersOf};
+ghost use Rattle.model.specs.Wrote.{Wrote};
+ghost use Rattle.netlist.specs.NetOf.{netOf};
+
+// Writes the clauses of a group of an accepted netlist, and answers how many numbers that is.
+pub fn put_group(
+    out: &mut [i32],
+    net: Netlist,
+    latches: &[u32; 1200],
+    gates: &[u32; 1200],
+    depth: u32,
+    group: Group,
+) -> usize
+    requires { ⌜ Accepted (netOf net (now latches) (now gates)) × (depth ≤ 255) × (inDepth depth group ≡ true)
+        × (length (numbersOf (netOf net (now latches) (now gates)) depth group) ≤ length (now out)) ⌝ }
+    ensures { λ r. ⌜ Wrote (numbersOf (netOf net (now (latches .entry)) (now (gates .entry))) depth group) (now (out .entry)) (now (out .exit)) r ⌝ }
+{
+    match group {
+        Group::Wires(i) => wires::put_wires(out, net, latches, gates, i),
+        Group::Pair(j, i) => pair::put_pair(out, net, places::port_of(net), j, i),
+        Group::Closing(i) => closing::put_closing(out, net, places::port_of(net), i),
+        Group::Property => property::put_property(out, net, depth),
+    }
+}

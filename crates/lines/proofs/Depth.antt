@@ -1,0 +1,56 @@
+-- Laws of specs/Depth.antt: the tests of the depth line, one by one. No contract cites this file. Assumes nothing.
+use Prim.Native.Nat.{ℕ, _≤_, _<_}
+use mathlib.Core.Path.{_≡_, refl, ap}
+use mathlib.Core.Bool.{Bool, true, false, cond, _&&_}
+use mathlib.Core.List.{List, [], _∷_, _++_}
+use native.Mathlib.Omega.{arith}
+use borrow.Author.Tests.{le-leb, lt-leb, leb-true, eq-eqb, ne-eqb}
+use lib.Dec.{leb, eqb}
+use lib.ListN.{length, getD, take}
+use Rattle.refusals.specs.declared.Refusal.the-variants.{Misprint, Depth}
+use Rattle.decimal.specs.Digits.{field, digits, digitsWithin}
+use Rattle.decimal.specs.Reading.{numberIn, sameText, valueAfter}
+use Rattle.fields.specs.Fields.{fieldOf, dropSpaces, behindSpaces, filledWith}
+use Rattle.fields.specs.declared.Field.{Field}
+use Rattle.fields.specs.declared.Field.the-variants.{Empty, Filled, Misprinted}
+use Rattle.lines.specs.Lines.{lineFeed}
+use Rattle.lines.specs.Depth.{DepthAnswer, refusedBy, acceptedAt, valueAnswer, depthAnswer}
+
+-- eleven bytes or more with a line feed in the eleventh: the field decides
+pub depthAnswer-field : (s : List ℕ) → 11 ≤ length s → getD s 10 0 ≡ lineFeed → depthAnswer s ≡ valueAnswer (fieldOf (take 10 s))
+unfolding depthAnswer
+depthAnswer-field s l f = rw (le-leb 11 (length s) l, eq-eqb (getD s 10 0) lineFeed f)
+
+-- fewer bytes, and no line feed, are of the wrong form
+pub depthAnswer-short : (s : List ℕ) → length s < 11 → depthAnswer s ≡ refusedBy Misprint
+unfolding depthAnswer
+depthAnswer-short s l = rw (lt-leb 11 (length s) l)
+
+pub depthAnswer-no-feed : (s : List ℕ) → 11 ≤ length s → (getD s 10 0 ≡ lineFeed → ⊥) → depthAnswer s ≡ refusedBy Misprint
+unfolding depthAnswer
+depthAnswer-no-feed s l n = rw (le-leb 11 (length s) l, ne-eqb (getD s 10 0) lineFeed n)
+
+-- an accepted depth is at most 255
+accepted-value : (f : Field) (k : ℕ) → acceptedAt k ≡ valueAnswer f → k ≤ 255
+unfolding valueAnswer
+accepted-value Empty k h = absurd (omega (arith, ap (λ (a : DepthAnswer). a .number) h))
+accepted-value (Filled x) k h = by-test (leb x 255) refl h
+  where
+    by-test : (b : Bool) → leb x 255 ≡ b → acceptedAt k ≡ cond b (acceptedAt x) (refusedBy Depth) → k ≤ 255
+    by-test true e h = omega (arith, leb-true x 255 e, ap (λ (a : DepthAnswer). a .depth) h)
+    by-test false e h = absurd (omega (arith, ap (λ (a : DepthAnswer). a .number) h))
+accepted-value Misprinted k h = absurd (omega (arith, ap (λ (a : DepthAnswer). a .number) h))
+
+pub accepted-most : (s : List ℕ) (k : ℕ) → acceptedAt k ≡ depthAnswer s → k ≤ 255
+unfolding depthAnswer
+accepted-most s k h = by-form (leb 11 (length s) && eqb (getD s 10 0) lineFeed) h
+  where
+    by-form : (b : Bool) → acceptedAt k ≡ cond b (valueAnswer (fieldOf (take 10 s))) (refusedBy Misprint) → k ≤ 255
+    by-form true h = accepted-value (fieldOf (take 10 s)) k h
+    by-form false h = absurd (omega (arith, ap (λ (a : DepthAnswer). a .number) h))
+
+-- document 01's starred fact: depth 255 is taken, 256 gives 7
+pub depth-limit :
+    (depthAnswer (field 255 ++ lineFeed ∷ []) ≡ acceptedAt 255) × (depthAnswer (field 256 ++ lineFeed ∷ []) ≡ refusedBy Depth)
+unfolding depthAnswer valueAnswer fieldOf dropSpaces behindSpaces filledWith numberIn sameText valueAfter field digits digitsWithin
+depth-limit = (refl, refl)

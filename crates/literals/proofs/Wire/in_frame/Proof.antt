@@ -1,0 +1,15 @@
+-- `literals::Wire::in_frame` meets its contract. Assumes nothing.
+use borrow.Author.Needs.{needs}
+use Rattle.model.specs.Variables.{wireAt}
+use Rattle.literals.proofs.Wire.in_frame.Statement.{statement}
+use Rattle.literals.proofs.Wire.in_frame.Tie as tie
+
+variable-requires : tie.Need-variable-requires
+variable-requires c κs = search needs
+
+returns : tie.Need-returns
+unfolding wireAt
+returns c = c .variable .ensures
+
+pub in-frame-spec : {M : Type 1} → statement M
+in-frame-spec = tie.close (tie.spec variable-requires returns)

@@ -1,0 +1,124 @@
+// Wire numbers, codes and clause numbers (document 01, "Wires and codes"): three types, never accepted in each other's place.
+// Between them only a frame converts.
+ghost use mathlib.Core.Path.{_≡_};
+ghost use Prim.Native.Nat.{_+_, _/_, _≤_, _<_};
+ghost use Rattle.model.specs.Bits.{bit};
+ghost use Rattle.model.specs.Clauses.{known, plus, neg};
+ghost use Rattle.model.specs.Variables.{baseOf, pairBaseOf, wireAt, codeAt};
+ghost use Rattle.literals.specs.Lit.{literalOf, IsLit, HasNumber};
+ghost use Rattle.literals.specs.Numbering.{InLimits};
+
+pub struct Wire(pub u32);
+
+// Document 01's code: an AIGER literal.
+pub struct Code(pub u32);
+
+// Document 01's clause number: a DIMACS literal, not 0 and not the least i32.
+pub struct Lit(pub i32);
+
+// What the numbering of variables depends on: V, and how many variables a pair of frames has.
+pub struct Numbering {
+    pub wires: u32,
+    pub stride: u32,
+}
+
+impl Wire {
+    // The wire in a frame whose variables start after `b`.
+    pub fn in_frame(self, b: u32) -> Lit
+        requires { ⌜ HasNumber b (self .0) × (1 ≤ self .0) ⌝ }
+        ensures literal { λ r. ⌜ literalOf r ≡ wireAt b (self .0) ⌝ }
+        ensures number { λ r. ⌜ IsLit r ⌝ }
+    {
+        Lit::variable(b, self.0)
+    }
+}
+
+impl Code {
+    // What the code is in a frame whose variables start after `b`: a constant, or a wire's variable, inverted or not.
+    pub fn in_frame(self, b: u32) -> Lit
+        requires { ⌜ HasNumber b (self .0 / 2) ⌝ }
+        ensures literal { λ r. ⌜ literalOf r ≡ codeAt b (self .0) ⌝ }
+        ensures number { λ r. ⌜ IsLit r ⌝ }
+    {
+        let x = self.0;
+        if x < 2 {
+            return Lit::constant(x == 1);
+        }
+        let v = Lit::variable(b, x / 2);
+        if x % 2 == 1 {
+            return v.negated();
+        }
+        v
+    }
+}
+
+impl Lit {
+    // Variable b + w.
+    fn variable(b: u32, w: u32) -> Lit
+        requires { ⌜ HasNumber b w × (1 ≤ w) ⌝ }
+        ensures literal { λ r. ⌜ literalOf r ≡ plus (b + w) ⌝ }
+        ensures number { λ r. ⌜ IsLit r ⌝ }
+    {
+        Lit((b + w) as i32)
+    }
+
+    // Variable 1 is true: its two signs are the constants.
+    pub fn constant(value: bool) -> Lit
+        ensures literal { λ r. ⌜ literalOf r ≡ known value ⌝ }
+        ensures number { λ r. ⌜ IsLit r ⌝ }
+    {
+        if value {
+            return Lit(1);
+        }
+        Lit(-1)
+    }
+
+    // Bit t of a word, as a constant.
+    pub fn bit(word: u32, t: u32) -> Lit
+        requires { ⌜ t < 32 ⌝ }
+        ensures literal { λ r. ⌜ literalOf r ≡ known (bit word t) ⌝ }
+        ensures number { λ r. ⌜ IsLit r ⌝ }
+    {
+        Lit::constant((word >> t) % 2 == 1)
+    }
+
+    // A variable of a pair whose variables start after `q`.
+    pub fn in_pair(q: u32, offset: u32) -> Lit
+        requires { ⌜ HasNumber q offset × (1 ≤ offset) ⌝ }
+        ensures literal { λ r. ⌜ literalOf r ≡ plus (q + offset) ⌝ }
+        ensures number { λ r. ⌜ IsLit r ⌝ }
+    {
+        Lit::variable(q, offset)
+    }
+
+    // Document 01's ¬: the sign turns.
+    pub fn negated(self) -> Lit
+        requires { ⌜ IsLit self ⌝ }
+        ensures literal { λ r. ⌜ literalOf r ≡ neg (literalOf self) ⌝ }
+        ensures number { λ r. ⌜ IsLit r ⌝ }
+    {
+        let x = self.0;
+        Lit(-x)
+    }
+}
+
+impl Numbering {
+    // B(i): frame i's variables start after it.
+    pub fn base(self, i: u32) -> u32
+        requires { ⌜ InLimits self i ⌝ }
+        ensures { λ r. ⌜ r ≡ baseOf (self .wires) (self .stride) i ⌝ }
+    {
+        if i == 0 {
+            return 1;
+        }
+        1 + i * self.wires + self.stride * i * (i - 1) / 2
+    }
+
+    // Q: the variables of pair (j, i) start after it, at a port whose first variable of a pair is `first`.
+    pub fn pair_base(self, first: u32, j: u32, i: u32) -> u32
+        requires { ⌜ InLimits self i × (j ≤ i) × (first ≤ self .stride) ⌝ }
+        ensures { λ r. ⌜ r ≡ pairBaseOf (self .wires) (self .stride) first j i ⌝ }
+    {
+        self.base(i) + self.wires + j * self.stride + first
+    }
+}

@@ -1,0 +1,179 @@
+-- A netlist has no fault in any line exactly where it meets the model's limits (specs/Faults.antt and the model's Acceptance).
+-- Cited by the tests of records and by the sheet reader. Assumes nothing.
+use Prim.Native.Nat.{ℕ, _+_, _-_, _*_, _/_, _^_, _≤_, _<_, zero-le}
+use mathlib.Core.Path.{_≡_, refl, _∙_}
+use mathlib.Core.Bool.{Bool, true, false, not, _||_, true≢false}
+use mathlib.Core.Logic.{_↔_, by-cases}
+use native.Mathlib.Nat.{div-eq-of-lt, le-div-iff-mul-le}
+use native.Mathlib.Decide.{decLt}
+use native.Mathlib.Omega.{arith}
+use lib.Dec.{ltb, leb, eqb}
+use lib.Pow.{pow-pos, pow-mono}
+use borrow.Author.Tests.{ltb-false, lt-ltb, le-ltb, leb-false, lt-leb, le-leb, eq-eqb, ne-eqb}
+use Rattle.model.specs.Netlist.{Netlist, port, gateWire, lastWire}
+use Rattle.model.specs.Acceptance.{SizesFit, CodesFit, NoLoop}
+use Rattle.netlist.specs.Faults.{outside, sizeFault, codeOutside, codeFault, loopFaultBy, loopFault}
+use Rattle.netlist.specs.declared.Line.{Line}
+use Rattle.netlist.specs.declared.Line.the-variants.{Sizes, Memory, Latch, Gate, Control}
+use Rattle.netlist.proofs.Lines.{EveryLine}
+
+-- two conditions of which neither holds, each by what its absence means
+pub neither : {x y : Bool} {A B : Type 0} → (x ≡ false) ↔ A → (y ≡ false) ↔ B → ((x || y) ≡ false) ↔ (A × B)
+neither {x = true} p q = (λ h. absurd (true≢false h), λ h. p .1 (h .0))
+neither {x = false} p q = (λ h. (p .0 refl, q .0 h), λ h. q .1 (h .1))
+
+-- a number is within its limits
+pub inside : (low high x : ℕ) → (outside low high x ≡ false) ↔ ((low ≤ x) × (x ≤ high))
+inside low high x = neither (ltb-false x low, le-ltb x low) (ltb-false high x, le-ltb high x)
+
+-- a limit that begins at 0 has one side
+pub outside-above : (high x : ℕ) → outside 0 high x ≡ ltb high x
+outside-above high x = rw (le-ltb x 0 zero-le)
+
+-- and is met up to it
+pub at-most : (high x : ℕ) → (outside 0 high x ≡ false) ↔ (x ≤ high)
+at-most high x = (λ h. inside 0 high x .0 h .1, λ h. inside 0 high x .1 (zero-le, h))
+
+-- a word has more than n bits where something is left of it once n bits are shifted out
+pub word-outside : (n x : ℕ) → outside 0 (2 ^ n - 1) x ≡ not (eqb (x / 2 ^ n) 0)
+word-outside n x =
+    outside-above (2 ^ n - 1) x
+    ∙ by-cases (decLt x (2 ^ n))
+    (λ h. rw (le-ltb (2 ^ n - 1) x (omega arith), eq-eqb (x / 2 ^ n) 0 (div-eq-of-lt h)))
+    (λ h. rw (lt-ltb (2 ^ n - 1) x (omega (arith, pow-pos n)), ne-eqb (x / 2 ^ n) 0 (omega (arith, more h))))
+  where
+    more : (x < 2 ^ n → ⊥) → 1 ≤ x / 2 ^ n
+    more h = le-div-iff-mul-le (pow-pos n) .1 (omega arith)
+
+-- a number of 32 bits is a word of any width from 32 on
+pub word-inside : (n x : ℕ) → 32 ≤ n → x < 2 ^ 32 → outside 0 (2 ^ n - 1) x ≡ false
+word-inside n x h b = at-most (2 ^ n - 1) x .1 (omega (arith, pow-mono {i = 32} {j = n} h))
+
+-- a code is outside its limit where its wire is
+pub code-outside : (last x : ℕ) → codeOutside last x ≡ ltb last (x / 2)
+code-outside last x =
+    outside-above (2 * last + 1) x
+    ∙ by-cases (decLt last (x / 2))
+    (λ h. rw (lt-ltb (2 * last + 1) x (omega arith), lt-ltb last (x / 2) h))
+    (λ h. rw (le-ltb (2 * last + 1) x (omega arith), le-ltb last (x / 2) (omega arith)))
+
+-- a gate operand is outside its limit where its wire is not before the gate's own
+pub operand-outside : (own x : ℕ) → leb (2 * own) x ≡ leb own (x / 2)
+operand-outside own x =
+    by-cases (decLt (x / 2) own)
+    (λ h. rw (lt-leb (2 * own) x (omega arith), lt-leb own (x / 2) h))
+    (λ h. rw (le-leb (2 * own) x (omega arith), le-leb own (x / 2) (omega arith)))
+
+-- a line is without a fault
+abbrev pub Without : (Netlist → Line → Bool) → Netlist → Line → Type 0
+Without fault c x = fault c x ≡ false
+
+module _ (c : Netlist) where
+  -- the numbers of line N
+  sizes-inside : Without sizeFault c Sizes ↔ (((c .inputs ≤ 600) × (c .latches ≤ 600)) × (c .gates ≤ 600))
+  unfolding sizeFault
+  sizes-inside = neither (neither (at-most 600 (c .inputs)) (at-most 600 (c .latches))) (at-most 600 (c .gates))
+
+  -- the numbers of line M
+  memory-inside : Without sizeFault c Memory
+      ↔ (((((1 ≤ c .m) × (c .m ≤ 12)) × ((1 ≤ c .n) × (c .n ≤ 32))) × (c .initialWord ≤ 2 ^ c .n - 1)) × (lastWire c ≤ 600))
+  unfolding sizeFault
+  memory-inside =
+      neither (neither (neither (inside 1 12 (c .m)) (inside 1 32 (c .n))) (at-most (2 ^ c .n - 1) (c .initialWord))) (at-most 600 (lastWire c))
+
+  -- refusal 4
+  pub sizes-fit : EveryLine c (Without sizeFault c) ↔ SizesFit c
+  unfolding sizeFault
+  sizes-fit = (λ q. fits (sizes-inside .0 (q .of-sizes)) (memory-inside .0 (q .of-memory)), none)
+    where
+      fits : ((c .inputs ≤ 600) × (c .latches ≤ 600)) × (c .gates ≤ 600)
+          → ((((1 ≤ c .m) × (c .m ≤ 12)) × ((1 ≤ c .n) × (c .n ≤ 32))) × (c .initialWord ≤ 2 ^ c .n - 1)) × (lastWire c ≤ 600) → SizesFit c
+      fits s r =
+          record {
+            inputs-fit = s .0 .0;
+            latches-fit = s .0 .1;
+            gates-fit = s .1;
+            m-least = r .0 .0 .0 .0;
+            m-most = r .0 .0 .0 .1;
+            n-least = r .0 .0 .1 .0;
+            n-most = r .0 .0 .1 .1;
+            word-fits = omega (arith, pow-pos (c .n));
+            wires-fit = r .1;
+          }
+
+      none : SizesFit c → EveryLine c (Without sizeFault c)
+      none q =
+          record {
+            of-sizes = sizes-inside .1 (omega arith);
+            of-memory = memory-inside .1 (omega arith);
+            of-latch = λ l h. refl;
+            of-gate = λ g h. refl;
+            of-address = λ t h. refl;
+            of-data = λ t h. refl;
+            of-control = refl;
+          }
+
+  -- a latch's numbers
+  latch-inside : (l : ℕ) → Without codeFault c (Latch l) ↔ ((c .next l ≤ 2 * lastWire c + 1) × (c .reset l ≤ 1))
+  unfolding codeFault
+  latch-inside l = neither (at-most (2 * lastWire c + 1) (c .next l)) (at-most 1 (c .reset l))
+
+  -- a gate's codes
+  gate-inside : (g : ℕ) → Without codeFault c (Gate g) ↔ ((c .left g < 2 * gateWire c g) × (c .right g < 2 * gateWire c g))
+  unfolding codeFault
+  gate-inside g =
+      neither (leb-false (2 * gateWire c g) (c .left g), lt-leb (2 * gateWire c g) (c .left g)) (leb-false (2 * gateWire c g) (c .right g), lt-leb (2 * gateWire c g) (c .right g))
+
+  -- WE, RE and P
+  control-inside : Without codeFault c Control
+      ↔ (((c .WE ≤ 2 * lastWire c + 1) × (c .RE ≤ 2 * lastWire c + 1)) × (c .P ≤ 2 * lastWire c + 1))
+  unfolding codeFault
+  control-inside =
+      let code = at-most (2 * lastWire c + 1) in
+      neither (neither (code (c .WE)) (code (c .RE))) (code (c .P))
+
+  -- refusal 5
+  pub codes-fit : EveryLine c (Without codeFault c) ↔ CodesFit c
+  unfolding codeFault
+  codes-fit =
+      let code = at-most (2 * lastWire c + 1) in (
+        λ q.
+            record {
+              next-fits = λ l h. latch-inside l .0 (q .of-latch l h) .0;
+              reset-fits = λ l h. latch-inside l .0 (q .of-latch l h) .1;
+              left-fits = λ g h. gate-inside g .0 (q .of-gate g h) .0;
+              right-fits = λ g h. gate-inside g .0 (q .of-gate g h) .1;
+              address-fits = λ t h. code (c .address t) .0 (q .of-address t h);
+              data-fits = λ t h. code (c .writeData t) .0 (q .of-data t h);
+              WE-fits = control-inside .0 (q .of-control) .0 .0;
+              RE-fits = control-inside .0 (q .of-control) .0 .1;
+              P-fits = control-inside .0 (q .of-control) .1;
+            },
+        λ q.
+            record {
+              of-sizes = refl;
+              of-memory = refl;
+              of-latch = λ l h. latch-inside l .1 (q .next-fits l h, q .reset-fits l h);
+              of-gate = λ g h. gate-inside g .1 (q .left-fits g h, q .right-fits g h);
+              of-address = λ t h. code (c .address t) .1 (q .address-fits t h);
+              of-data = λ t h. code (c .writeData t) .1 (q .data-fits t h);
+              of-control = control-inside .1 ((q .WE-fits, q .RE-fits), q .P-fits);
+            },
+      )
+
+  -- refusal 6
+  pub no-loop : EveryLine c (Without loopFault c) ↔ NoLoop c (port c)
+  unfolding loopFaultBy
+  no-loop = (
+    λ q. record { address-free = q .of-address; RE-free = q .of-control },
+    λ q.
+        record {
+          of-sizes = refl;
+          of-memory = refl;
+          of-latch = λ l h. refl;
+          of-gate = λ g h. refl;
+          of-address = q .address-free;
+          of-data = λ t h. refl;
+          of-control = q .RE-free;
+        },
+  )

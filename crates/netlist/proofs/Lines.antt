@@ -1,0 +1,113 @@
+-- Laws of the lines of a sheet (specs/Lines.antt): which line stands at which place, and properties of every line. Cited by the
+-- tests of records and by the sheet reader. Assumes nothing.
+use Prim.Native.Nat.{ℕ, _-_, _≤_, _<_}
+use mathlib.Core.Path.{_≡_, refl, ap, subst}
+use mathlib.Core.Logic.{_↔_, by-cases}
+use native.Mathlib.Decide.{decLt}
+use native.Mathlib.Omega.{arith}
+use borrow.Author.Tests.{lt-ltb, le-ltb}
+use Rattle.model.specs.Netlist.{Netlist}
+use Rattle.netlist.specs.Lines.{sizesLine, memoryLine, latchLine, gateLine, addressLine, dataLine, controlLine, lineAt, Stands}
+use Rattle.netlist.specs.declared.Line.{Line}
+use Rattle.netlist.specs.declared.Line.the-variants.{Sizes, Memory, Latch, Gate, Address, Data, Control}
+
+-- the line at the place of each kind
+module _ (c : Netlist) (p : ℕ) where
+  -- line N
+  pub at-sizes : p < memoryLine → lineAt c p ≡ Sizes
+  unfolding lineAt
+  at-sizes h = rw (lt-ltb p memoryLine h)
+
+  -- line M
+  pub at-memory : p ≡ memoryLine → lineAt c p ≡ Memory
+  unfolding lineAt
+  at-memory e = rw (le-ltb p memoryLine (omega arith), lt-ltb p (latchLine c 0) (omega arith))
+
+  -- a latch
+  pub at-latch : (l : ℕ) → l < c .latches → p ≡ latchLine c l → lineAt c p ≡ Latch l
+  unfolding lineAt
+  at-latch l h e =
+      let l-th : p - latchLine c 0 ≡ l = omega arith in
+      rw (le-ltb p memoryLine (omega arith), le-ltb p (latchLine c 0) (omega arith), lt-ltb p (gateLine c 0) (omega arith))
+      (ap Latch l-th)
+
+  -- a gate
+  pub at-gate : (g : ℕ) → g < c .gates → p ≡ gateLine c g → lineAt c p ≡ Gate g
+  unfolding lineAt
+  at-gate g h e =
+      let g-th : p - gateLine c 0 ≡ g = omega arith in
+      rw (le-ltb p memoryLine (omega arith), le-ltb p (latchLine c 0) (omega arith), le-ltb p (gateLine c 0) (omega arith), lt-ltb p (addressLine c 0) (omega arith))
+      (ap Gate g-th)
+
+  -- an address code
+  pub at-address : (t : ℕ) → t < c .m → p ≡ addressLine c t → lineAt c p ≡ Address t
+  unfolding lineAt
+  at-address t h e =
+      let t-th : p - addressLine c 0 ≡ t = omega arith in
+      rw (le-ltb p memoryLine (omega arith), le-ltb p (latchLine c 0) (omega arith), le-ltb p (gateLine c 0) (omega arith), le-ltb p (addressLine c 0) (omega arith), lt-ltb p (dataLine c 0) (omega arith))
+      (ap Address t-th)
+
+  -- a write-data code
+  pub at-data : (t : ℕ) → t < c .n → p ≡ dataLine c t → lineAt c p ≡ Data t
+  unfolding lineAt
+  at-data t h e =
+      let t-th : p - dataLine c 0 ≡ t = omega arith in
+      rw (le-ltb p memoryLine (omega arith), le-ltb p (latchLine c 0) (omega arith), le-ltb p (gateLine c 0) (omega arith), le-ltb p (addressLine c 0) (omega arith), le-ltb p (dataLine c 0) (omega arith), lt-ltb p (controlLine c) (omega arith))
+      (ap Data t-th)
+
+  -- line C, the last
+  pub at-control : controlLine c ≤ p → lineAt c p ≡ Control
+  unfolding lineAt
+  at-control h =
+      rw (le-ltb p memoryLine (omega arith), le-ltb p (latchLine c 0) (omega arith), le-ltb p (gateLine c 0) (omega arith), le-ltb p (addressLine c 0) (omega arith), le-ltb p (dataLine c 0) (omega arith), le-ltb p (controlLine c) h)
+
+-- the line at a place is one that the netlist has
+pub stands : (c : Netlist) (p : ℕ) → Stands c (lineAt c p)
+stands c p =
+    by-cases (decLt p memoryLine) (λ b. rw (at-sizes c p b) tt) λ s.
+    by-cases (decLt p (latchLine c 0)) (λ b. rw (at-memory c p (omega arith)) tt) λ m.
+    by-cases (decLt p (gateLine c 0)) (λ b. rw (at-latch c p (p - latchLine c 0) (omega arith) (omega arith)) (omega arith)) λ l.
+    by-cases (decLt p (addressLine c 0)) (λ b. rw (at-gate c p (p - gateLine c 0) (omega arith) (omega arith)) (omega arith)) λ g.
+    by-cases (decLt p (dataLine c 0)) (λ b. rw (at-address c p (p - addressLine c 0) (omega arith) (omega arith)) (omega arith)) λ a.
+    by-cases (decLt p (controlLine c)) (λ b. rw (at-data c p (p - dataLine c 0) (omega arith) (omega arith)) (omega arith)) λ d.
+    rw (at-control c p (omega arith)) tt
+
+-- a property of every line, said of each kind
+pub record EveryLine (c : Netlist) (P : Line → Type 0) : Type 0 where
+  pub of-sizes : P Sizes
+  pub of-memory : P Memory
+  pub of-latch : (l : ℕ) → l < c .latches → P (Latch l)
+  pub of-gate : (g : ℕ) → g < c .gates → P (Gate g)
+  pub of-address : (t : ℕ) → t < c .m → P (Address t)
+  pub of-data : (t : ℕ) → t < c .n → P (Data t)
+  pub of-control : P Control
+
+module _ (c : Netlist) (P : Line → Type 0) where
+  -- such a property holds of a line that the netlist has
+  every-standing : EveryLine c P → (x : Line) → Stands c x → P x
+  every-standing q Sizes h = q .of-sizes
+  every-standing q Memory h = q .of-memory
+  every-standing q (Latch l) h = q .of-latch l h
+  every-standing q (Gate g) h = q .of-gate g h
+  every-standing q (Address t) h = q .of-address t h
+  every-standing q (Data t) h = q .of-data t h
+  every-standing q Control h = q .of-control
+
+  -- it is the property of the lines at all places
+  pub every-place : EveryLine c P ↔ ((p : ℕ) → 1 ≤ p → p ≤ controlLine c → P (lineAt c p))
+  every-place = (λ q p l h. every-standing q (lineAt c p) (stands c p), each)
+    where
+      at : ((p : ℕ) → 1 ≤ p → p ≤ controlLine c → P (lineAt c p)) → (p : ℕ) {x : Line} → 1 ≤ p → p ≤ controlLine c → lineAt c p ≡ x → P x
+      at q p l h e = subst P e (q p l h)
+
+      each : ((p : ℕ) → 1 ≤ p → p ≤ controlLine c → P (lineAt c p)) → EveryLine c P
+      each q =
+          record {
+            of-sizes = at q sizesLine (omega arith) (omega arith) (at-sizes c sizesLine (omega arith));
+            of-memory = at q memoryLine (omega arith) (omega arith) (at-memory c memoryLine refl);
+            of-latch = λ l h. at q (latchLine c l) (omega arith) (omega arith) (at-latch c (latchLine c l) l h refl);
+            of-gate = λ g h. at q (gateLine c g) (omega arith) (omega arith) (at-gate c (gateLine c g) g h refl);
+            of-address = λ t h. at q (addressLine c t) (omega arith) (omega arith) (at-address c (addressLine c t) t h refl);
+            of-data = λ t h. at q (dataLine c t) (omega arith) (omega arith) (at-data c (dataLine c t) t h refl);
+            of-control = at q (controlLine c) (omega arith) (omega arith) (at-control c (controlLine c) (omega arith));
+          }

@@ -1,0 +1,204 @@
+-- `netlist::code_fault` meets its contract: each arm knows its line, whose number is below its size. Assumes nothing.
+use Prim.Native.Nat.{_+_}
+use mathlib.Core.Path.{_≡_, subst}
+use mathlib.Core.List.{[]}
+use borrow.Author.Needs.{needs}
+use native.Mathlib.Omega.{arith}
+use Rattle.model.specs.Netlist.{gateWire}
+use Rattle.netlist.specs.NetOf.{codeOf, netOf}
+use Rattle.netlist.specs.Lines.{Stands}
+use Rattle.netlist.specs.Faults.{codeFault}
+use Rattle.netlist.proofs.code_fault.Statement.{statement}
+use Rattle.netlist.proofs.code_fault.Tie as tie
+
+last-wire-requires : tie.Need-last-wire-requires
+last-wire-requires c κs = c .pre .0
+
+enum-told : tie.Need-enum-told
+enum-told c = c .match .keys1
+
+enum-told-2 : tie.Need-enum-told-2
+enum-told-2 c = c .match .keys2
+
+enum-known-line : tie.Need-enum-known-line
+enum-known-line c = c .match .keys3
+
+cast-at : tie.Need-cast-at
+cast-at c = search needs
+
+mul-at : tie.Need-mul-at
+mul-at c = search needs
+
+mul-t17 : tie.Need-mul-t17
+mul-t17 c = search needs
+
+element-copy-out-t20 : tie.Need-element-copy-out-t20
+element-copy-out-t20 c = omega (arith, subst (Stands (netOf (c .before .before .before .before .args .t1) [] [])) (c .before .line .given .1) (c .before .before .before .before .pre .1), c .before .before .before .before .pre .0 .latches-fit)
+
+add-latch-fault : tie.Need-add-latch-fault
+add-latch-fault c = search needs
+
+mul-latch-fault : tie.Need-mul-latch-fault
+mul-latch-fault c = search needs
+
+element-copy-out-latch-fault : tie.Need-element-copy-out-latch-fault
+element-copy-out-latch-fault c = omega (arith, subst (Stands (netOf (c .before .before .before .before .before .args .t1) [] [])) (c .before .before .line .given .1) (c .before .before .before .before .before .pre .1), c .before .before .before .before .before .pre .0 .latches-fit)
+
+latch-fault-requires : tie.Need-latch-fault-requires
+latch-fault-requires c κs = tt
+
+enum-known-line-2 : tie.Need-enum-known-line-2
+enum-known-line-2 c = c .match .keys4
+
+cast-at-2 : tie.Need-cast-at-2
+cast-at-2 c = search needs
+
+mul-at-2 : tie.Need-mul-at-2
+mul-at-2 c = search needs
+
+gate-wire-requires : tie.Need-gate-wire-requires
+gate-wire-requires c κs = c .before .before .before .before .pre .0
+
+add-gate-fault : tie.Need-add-gate-fault
+unfolding netOf
+add-gate-fault c = omega (arith, c .gate-wire .ensures, subst (Stands (netOf (c .before .before .before .before .before .args .t1) [] [])) (c .before .before .line2 .given .1) (c .before .before .before .before .before .pre .1), c .before .before .before .before .before .pre .0)
+
+mul-t27 : tie.Need-mul-t27
+mul-t27 c = search needs
+
+element-copy-out-t33 : tie.Need-element-copy-out-t33
+element-copy-out-t33 c = omega (arith, subst (Stands (netOf (c .before .before .before .before .before .args .t1) [] [])) (c .before .before .line2 .given .1) (c .before .before .before .before .before .pre .1), c .before .before .before .before .before .pre .0 .gates-fit)
+
+add-t35 : tie.Need-add-t35
+add-t35 c = search needs
+
+mul-t36 : tie.Need-mul-t36
+mul-t36 c = search needs
+
+element-copy-out-t39 : tie.Need-element-copy-out-t39
+element-copy-out-t39 c = omega (arith, subst (Stands (netOf (c .before .before .before .before .before .before .args .t1) [] [])) (c .before .before .before .line2 .given .1) (c .before .before .before .before .before .before .pre .1), c .before .before .before .before .before .before .pre .0 .gates-fit)
+
+gate-fault-requires : tie.Need-gate-fault-requires
+gate-fault-requires c κs = tt
+
+enum-known-line-3 : tie.Need-enum-known-line-3
+enum-known-line-3 c = c .match .keys5
+
+cast-at-3 : tie.Need-cast-at-3
+cast-at-3 c = search needs
+
+mul-is-code-outside : tie.Need-mul-is-code-outside
+mul-is-code-outside c = search needs
+
+element-copy-out-is-code-outside : tie.Need-element-copy-out-is-code-outside
+element-copy-out-is-code-outside c = omega (arith, subst (Stands (netOf (c .before .before .before .before .args .t1) [] [])) (c .before .line3 .given .1) (c .before .before .before .before .pre .1), c .before .before .before .before .pre .0 .m-most)
+
+is-code-outside-requires : tie.Need-is-code-outside-requires
+is-code-outside-requires c κs = tt
+
+enum-known-line-4 : tie.Need-enum-known-line-4
+enum-known-line-4 c = c .match .keys6
+
+cast-at-4 : tie.Need-cast-at-4
+cast-at-4 c = search needs
+
+mul-is-code-outside-2 : tie.Need-mul-is-code-outside-2
+mul-is-code-outside-2 c = search needs
+
+element-copy-out-is-code-outside-2 : tie.Need-element-copy-out-is-code-outside-2
+element-copy-out-is-code-outside-2 c = omega (arith, subst (Stands (netOf (c .before .before .before .before .args .t1) [] [])) (c .before .line4 .given .1) (c .before .before .before .before .pre .1), c .before .before .before .before .pre .0 .n-most)
+
+is-code-outside-requires-2 : tie.Need-is-code-outside-requires-2
+is-code-outside-requires-2 c κs = tt
+
+enum-told-3 : tie.Need-enum-told-3
+enum-told-3 c = c .match .keys7
+
+is-code-outside-requires-3 : tie.Need-is-code-outside-requires-3
+is-code-outside-requires-3 c κs = tt
+
+is-code-outside-requires-4 : tie.Need-is-code-outside-requires-4
+is-code-outside-requires-4 c κs = tt
+
+is-code-outside-requires-5 : tie.Need-is-code-outside-requires-5
+is-code-outside-requires-5 c κs = tt
+
+returns : tie.Need-returns
+unfolding codeFault
+returns c = rw (c .enum-told .given .1)
+
+returns-2 : tie.Need-returns-2
+unfolding codeFault
+returns-2 c = rw (c .enum-told2 .given .1)
+
+returns-3 : tie.Need-returns-3
+unfolding netOf codeFault
+returns-3 c = rw (c .before .before .before .before .line .given .1, c .latch-fault .ensures, c .before .before .before .before .before .before .last-wire .ensures)
+
+returns-4 : tie.Need-returns-4
+unfolding netOf codeFault
+returns-4 c =
+    let g = c .before .before .before .before .before .line2 .given .0 .0 in
+    let own : c .before .before .before .gate-wire .result + g ≡ gateWire (netOf (c .before .before .before .before .before .before .before .before .args .t1) [] []) g = omega (arith, c .before .before .before .gate-wire .ensures) in
+    rw (c .before .before .before .before .before .line2 .given .1, c .gate-fault .ensures, own)
+
+returns-5 : tie.Need-returns-5
+unfolding netOf codeFault codeOf
+returns-5 c = rw (c .before .before .before .line3 .given .1, c .is-code-outside .ensures, c .before .before .before .before .before .last-wire .ensures)
+
+returns-6 : tie.Need-returns-6
+unfolding netOf codeFault codeOf
+returns-6 c = rw (c .before .before .before .line4 .given .1, c .is-code-outside2 .ensures, c .before .before .before .before .before .last-wire .ensures)
+
+returns-7 : tie.Need-returns-7
+unfolding netOf codeFault
+returns-7 c = rw (c .before .before .before .before .before .before .enum-told3 .given .1, c .before .before .before .before .is-code-outside3 .ensures, c .before .before .is-code-outside4 .ensures, c .is-code-outside5 .ensures, c .before .before .before .before .before .before .before .before .last-wire .ensures)
+
+pub code-fault-spec : {M : Type 1} → statement M
+code-fault-spec =
+    tie.close
+    (tie.spec
+    last-wire-requires
+    enum-told
+    enum-told-2
+    enum-known-line
+    cast-at
+    mul-at
+    mul-t17
+    element-copy-out-t20
+    add-latch-fault
+    mul-latch-fault
+    element-copy-out-latch-fault
+    latch-fault-requires
+    enum-known-line-2
+    cast-at-2
+    mul-at-2
+    gate-wire-requires
+    add-gate-fault
+    mul-t27
+    element-copy-out-t33
+    add-t35
+    mul-t36
+    element-copy-out-t39
+    gate-fault-requires
+    enum-known-line-3
+    cast-at-3
+    mul-is-code-outside
+    element-copy-out-is-code-outside
+    is-code-outside-requires
+    enum-known-line-4
+    cast-at-4
+    mul-is-code-outside-2
+    element-copy-out-is-code-outside-2
+    is-code-outside-requires-2
+    enum-told-3
+    is-code-outside-requires-3
+    is-code-outside-requires-4
+    is-code-outside-requires-5
+    returns
+    returns-2
+    returns-3
+    returns-4
+    returns-5
+    returns-6
+    returns-7)

@@ -1,0 +1,28 @@
+-- `netlist::control_line` meets its contract: the sizes are within their limits, so the sum fits. Assumes nothing.
+use native.Mathlib.Omega.{arith}
+use Rattle.netlist.specs.NetOf.{netOf}
+use Rattle.netlist.proofs.control_line.Statement.{statement}
+use Rattle.netlist.proofs.control_line.Tie as tie
+
+add-result : tie.Need-add-result
+unfolding netOf
+add-result c = omega arith
+
+add-result-2 : tie.Need-add-result-2
+unfolding netOf
+add-result-2 c = omega arith
+
+add-result-3 : tie.Need-add-result-3
+unfolding netOf
+add-result-3 c = omega arith
+
+add-result-4 : tie.Need-add-result-4
+unfolding netOf
+add-result-4 c = omega arith
+
+returns : tie.Need-returns
+unfolding netOf
+returns c = omega arith
+
+pub control-line-spec : {M : Type 1} → statement M
+control-line-spec = tie.close (tie.spec add-result add-result-2 add-result-3 add-result-4 returns)

@@ -1,0 +1,24 @@
+-- `netlist::last_wire` meets its contract: the sizes are within their limits, so the sum fits. Assumes nothing.
+use native.Mathlib.Omega.{arith}
+use Rattle.netlist.specs.NetOf.{netOf}
+use Rattle.netlist.proofs.last_wire.Statement.{statement}
+use Rattle.netlist.proofs.last_wire.Tie as tie
+
+add-result : tie.Need-add-result
+unfolding netOf
+add-result c = omega arith
+
+add-result-2 : tie.Need-add-result-2
+unfolding netOf
+add-result-2 c = omega arith
+
+add-result-3 : tie.Need-add-result-3
+unfolding netOf
+add-result-3 c = omega arith
+
+returns : tie.Need-returns
+unfolding netOf
+returns c = omega arith
+
+pub last-wire-spec : {M : Type 1} → statement M
+last-wire-spec = tie.close (tie.spec add-result add-result-2 add-result-3 returns)

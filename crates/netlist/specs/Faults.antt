@@ -1,0 +1,59 @@
+-- The faults of a line (document 01, "Limits", and the conditions of refusals 4, 5 and 6), as computed tests. Cited by the tests
+-- of records and by the sheet reader. Assumes nothing.
+use Prim.Native.Nat.{ℕ, _+_, _-_, _*_, _/_, _^_}
+use mathlib.Core.Bool.{Bool, false, _||_}
+use lib.Dec.{ltb, leb}
+use Rattle.model.specs.Netlist.{Netlist, gateWire, lastWire}
+use Rattle.model.specs.Circuit.{dependsOnRead}
+use Rattle.netlist.specs.declared.Line.{Line}
+use Rattle.netlist.specs.declared.Line.the-variants.{Sizes, Memory, Latch, Gate, Address, Data, Control}
+
+-- a number is outside the limits low to high
+abbrev pub outside : ℕ → ℕ → ℕ → Bool
+outside low high x = ltb x low || ltb high x
+
+-- refusal 4: "a number of N or M, or V, outside its limit"; V is tested at the M line
+unfoldable pub sizeFault : Netlist → Line → Bool
+sizeFault c Sizes = outside 0 600 (c .inputs) || outside 0 600 (c .latches) || outside 0 600 (c .gates)
+sizeFault c Memory =
+    outside 1 12 (c .m) || outside 1 32 (c .n) || outside 0 (2 ^ c .n - 1) (c .initialWord) || outside 0 600 (lastWire c)
+sizeFault c (Latch l) = false
+sizeFault c (Gate g) = false
+sizeFault c (Address t) = false
+sizeFault c (Data t) = false
+sizeFault c Control = false
+
+-- "A code is at most 2V + 1", V the last wire
+abbrev pub codeOutside : ℕ → ℕ → Bool
+codeOutside last x = outside 0 (2 * last + 1) x
+
+-- a latch's next code and its reset, 0 or 1
+abbrev pub latchFault : ℕ → ℕ → ℕ → Bool
+latchFault last next reset = codeOutside last next || outside 0 1 reset
+
+-- "A gate's two codes are less than 2 × its own wire"
+abbrev pub gateFault : ℕ → ℕ → ℕ → Bool
+gateFault own left right = leb (2 * own) left || leb (2 * own) right
+
+-- refusal 5: "a code, gate operand or reset outside its limit"
+unfoldable pub codeFault : Netlist → Line → Bool
+codeFault c Sizes = false
+codeFault c Memory = false
+codeFault c (Latch l) = latchFault (lastWire c) (c .next l) (c .reset l)
+codeFault c (Gate g) = gateFault (gateWire c g) (c .left g) (c .right g)
+codeFault c (Address t) = codeOutside (lastWire c) (c .address t)
+codeFault c (Data t) = codeOutside (lastWire c) (c .writeData t)
+codeFault c Control = codeOutside (lastWire c) (c .WE) || codeOutside (lastWire c) (c .RE) || codeOutside (lastWire c) (c .P)
+
+-- refusal 6: "an address code or RE depends on a read bit", d saying which wires do
+unfoldable pub loopFaultBy : (ℕ → Bool) → Netlist → Line → Bool
+loopFaultBy d c Sizes = false
+loopFaultBy d c Memory = false
+loopFaultBy d c (Latch l) = false
+loopFaultBy d c (Gate g) = false
+loopFaultBy d c (Address t) = d (c .address t / 2)
+loopFaultBy d c (Data t) = false
+loopFaultBy d c Control = d (c .RE / 2)
+
+abbrev pub loopFault : Netlist → Line → Bool
+loopFault c = loopFaultBy (dependsOnRead c) c

@@ -1,0 +1,3 @@
+pub mod NetOf
+pub mod Lines
+pub mod Faults

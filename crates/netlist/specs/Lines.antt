@@ -1,0 +1,50 @@
+-- The lines of a netlist's sheet (document 01, "The sheet"): what stands at which place, the first being 1. A fault of a record has
+-- the place that it would have in a sheet. Cited by the tests of records and by the sheet reader. Assumes nothing.
+use Prim.Native.Nat.{ℕ, _+_, _-_, _<_}
+use mathlib.Core.Bool.{cond}
+use lib.Dec.{ltb}
+use Rattle.model.specs.Netlist.{Netlist}
+use Rattle.netlist.specs.declared.Line.{Line}
+use Rattle.netlist.specs.declared.Line.the-variants.{Sizes, Memory, Latch, Gate, Address, Data, Control}
+
+-- the places: one line N, one line M, then latches, gates, address codes, write-data codes, and last one line C
+abbrev pub sizesLine : ℕ
+sizesLine = 1
+
+abbrev pub memoryLine : ℕ
+memoryLine = 2
+
+abbrev pub latchLine : Netlist → ℕ → ℕ
+latchLine c l = 3 + l
+
+abbrev pub gateLine : Netlist → ℕ → ℕ
+gateLine c g = 3 + c .latches + g
+
+abbrev pub addressLine : Netlist → ℕ → ℕ
+addressLine c t = 3 + c .latches + c .gates + t
+
+abbrev pub dataLine : Netlist → ℕ → ℕ
+dataLine c t = 3 + c .latches + c .gates + c .m + t
+
+abbrev pub controlLine : Netlist → ℕ
+controlLine c = 3 + c .latches + c .gates + c .m + c .n
+
+-- the line due at a place from 1 to controlLine c
+unfoldable pub lineAt : Netlist → ℕ → Line
+lineAt c p =
+    cond (ltb p memoryLine) Sizes
+    (cond (ltb p (latchLine c 0)) Memory
+    (cond (ltb p (gateLine c 0)) (Latch (p - latchLine c 0))
+    (cond (ltb p (addressLine c 0)) (Gate (p - gateLine c 0))
+    (cond (ltb p (dataLine c 0)) (Address (p - addressLine c 0))
+    (cond (ltb p (controlLine c)) (Data (p - dataLine c 0)) Control)))))
+
+-- a line that the netlist has: its number is below the size
+abbrev pub Stands : Netlist → Line → Type 0
+Stands c Sizes = Unit {0}
+Stands c Memory = Unit {0}
+Stands c (Latch l) = l < c .latches
+Stands c (Gate g) = g < c .gates
+Stands c (Address t) = t < c .m
+Stands c (Data t) = t < c .n
+Stands c Control = Unit {0}

@@ -1,0 +1,32 @@
+-- The model's netlist that a record and its unpacked lists stand for. Every contract over a record goes through it.
+-- Assumes nothing.
+use Prim.Native.Nat.{ℕ, _+_, _*_}
+use mathlib.Core.List.{List}
+use lib.ListN.{getD}
+use Rattle.model.specs.Netlist as M
+use Rattle.literals.specs.declared.Code.{Code}
+use Rattle.netlist.specs.declared.Netlist.{Netlist}
+
+-- the code at an index of a record's array
+unfoldable pub codeOf : List Code → ℕ → ℕ
+codeOf xs t = getD xs t (record { 0 = 0 }) .0
+
+unfoldable pub netOf : Netlist → List ℕ → List ℕ → M.Netlist
+netOf r latches gates =
+    record {
+      inputs = r .inputs;
+      latches = r .latches;
+      gates = r .gates;
+      m = r .m;
+      n = r .n;
+      initialWord = r .«initial_word»;
+      next = λ l. getD latches (2 * l) 0;
+      reset = λ l. getD latches (2 * l + 1) 0;
+      left = λ g. getD gates (2 * g) 0;
+      right = λ g. getD gates (2 * g + 1) 0;
+      address = codeOf (r .address);
+      writeData = codeOf (r .«write_data»);
+      WE = r .we .0;
+      RE = r .re .0;
+      P = r .p .0;
+    }

@@ -1,0 +1,181 @@
+// The netlist record (document 01, "A small record holds .."), the lines of its sheet, and the faults of a line.
+//
+// The lists are handed over unpacked: `latches[2 * l]` is latch l's next code and `latches[2 * l + 1]` its reset, `gates[2 * g]`
+// and `gates[2 * g + 1]` are gate g's two codes. What looks at no list speaks of the record with empty lists.
+use literals::Code;
+ghost use mathlib.Core.Path.{_≡_};
+ghost use mathlib.Core.List.{[]};
+ghost use Prim.Native.Nat.{_+_, _-_, _^_};
+ghost use Rattle.model.specs.Netlist.{lastWire, gateWire};
+ghost use Rattle.model.specs.Acceptance.{SizesFit};
+ghost use Rattle.netlist.specs.NetOf.{netOf};
+ghost use Rattle.netlist.specs.Lines.{controlLine, lineAt, Stands};
+ghost use Rattle.netlist.specs.Faults.{outside, sizeFault, codeOutside, latchFault, gateFault, codeFault};
+
+pub struct Netlist {
+    pub inputs: u32,
+    pub latches: u32,
+    pub gates: u32,
+    pub m: u32,
+    pub n: u32,
+    pub initial_word: u32,
+    pub address: [Code; 12],
+    pub write_data: [Code; 32],
+    pub we: Code,
+    pub re: Code,
+    pub p: Code,
+}
+
+// A line of a sheet, by what it holds (document 01, "The sheet"), with its number among those of its letter.
+pub enum Line {
+    Sizes,
+    Memory,
+    Latch(u32),
+    Gate(u32),
+    Address(u32),
+    Data(u32),
+    Control,
+}
+
+// Whether x is outside the limits `low` to `high`.
+fn is_outside(low: u32, high: u32, x: u32) -> bool
+    ensures { λ r. ⌜ r ≡ outside low high x ⌝ }
+{
+    (x < low) | (high < x)
+}
+
+// Whether a start word has more than n bits.
+fn is_word_outside(n: u32, word: u32) -> bool
+    ensures { λ r. ⌜ r ≡ outside 0 (2 ^ n - 1) word ⌝ }
+{
+    if n < 32 { word >> n != 0 } else { false }
+}
+
+// Whether V is above its limit. The sizes may be any numbers yet: their sum is taken where it fits.
+fn is_last_wire_outside(inputs: u32, latches: u32, n: u32, gates: u32) -> bool
+    ensures { λ r. ⌜ r ≡ outside 0 600 (inputs + latches + n + gates) ⌝ }
+{
+    600 < inputs as u64 + latches as u64 + n as u64 + gates as u64
+}
+
+// Refusal 4 at line N.
+pub fn sizes_fault(net: Netlist) -> bool
+    ensures { λ r. ⌜ r ≡ sizeFault (netOf net [] []) Line.Sizes ⌝ }
+{
+    is_outside(0, 600, net.inputs) | is_outside(0, 600, net.latches) | is_outside(0, 600, net.gates)
+}
+
+// Refusal 4 at line M.
+pub fn memory_fault(net: Netlist) -> bool
+    ensures { λ r. ⌜ r ≡ sizeFault (netOf net [] []) Line.Memory ⌝ }
+{
+    is_outside(1, 12, net.m)
+        | is_outside(1, 32, net.n)
+        | is_word_outside(net.n, net.initial_word)
+        | is_last_wire_outside(net.inputs, net.latches, net.n, net.gates)
+}
+
+// V, the number of the last wire.
+pub fn last_wire(net: Netlist) -> u32
+    requires { ⌜ SizesFit (netOf net [] []) ⌝ }
+    ensures { λ r. ⌜ r ≡ lastWire (netOf net [] []) ⌝ }
+{
+    net.inputs + net.latches + net.n + net.gates
+}
+
+// The wire of the first gate.
+pub fn gate_wire(net: Netlist) -> u32
+    requires { ⌜ SizesFit (netOf net [] []) ⌝ }
+    ensures { λ r. ⌜ r ≡ gateWire (netOf net [] []) 0 ⌝ }
+{
+    1 + net.inputs + net.latches + net.n
+}
+
+// The place of the last line.
+pub fn control_line(net: Netlist) -> u32
+    requires { ⌜ SizesFit (netOf net [] []) ⌝ }
+    ensures { λ r. ⌜ r ≡ controlLine (netOf net [] []) ⌝ }
+{
+    3 + net.latches + net.gates + net.m + net.n
+}
+
+// The line due at a place.
+pub fn line_at(net: Netlist, place: u32) -> Line
+    requires { ⌜ SizesFit (netOf net [] []) ⌝ }
+    ensures { λ r. ⌜ r ≡ lineAt (netOf net [] []) place ⌝ }
+{
+    let gate = 3 + net.latches;
+    let address = gate + net.gates;
+    let data = address + net.m;
+    if place < 2 {
+        return Line::Sizes;
+    }
+    if place < 3 {
+        return Line::Memory;
+    }
+    if place < gate {
+        return Line::Latch(place - 3);
+    }
+    if place < address {
+        return Line::Gate(place - gate);
+    }
+    if place < data {
+        return Line::Address(place - address);
+    }
+    if place < data + net.n {
+        return Line::Data(place - data);
+    }
+    Line::Control
+}
+
+// Whether a code is above 2V + 1, V the last wire.
+pub fn is_code_outside(last: u32, code: Code) -> bool
+    ensures { λ r. ⌜ r ≡ codeOutside last (code .0) ⌝ }
+{
+    last < code.0 / 2
+}
+
+// Refusal 5 at the line of a latch.
+pub fn latch_fault(last: u32, next: Code, reset: u32) -> bool
+    ensures { λ r. ⌜ r ≡ latchFault last (next .0) reset ⌝ }
+{
+    is_code_outside(last, next) | is_outside(0, 1, reset)
+}
+
+// Refusal 5 at the line of a gate, whose own wire is given.
+pub fn gate_fault(own: u32, left: Code, right: Code) -> bool
+    ensures { λ r. ⌜ r ≡ gateFault own (left .0) (right .0) ⌝ }
+{
+    (own <= left.0 / 2) | (own <= right.0 / 2)
+}
+
+// Refusal 5 at a line.
+pub fn code_fault(net: Netlist, latches: &[u32; 1200], gates: &[u32; 1200], line: Line) -> bool
+    requires { ⌜ SizesFit (netOf net [] []) × Stands (netOf net [] []) line ⌝ }
+    ensures { λ r. ⌜ r ≡ codeFault (netOf net (now (latches .entry)) (now (gates .entry))) line ⌝ }
+{
+    let last = last_wire(net);
+    match line {
+        Line::Sizes => false,
+        Line::Memory => false,
+        Line::Latch(l) => {
+            let at = 2 * (l as usize);
+            latch_fault(last, Code(latches[at]), latches[at + 1])
+        }
+        Line::Gate(g) => {
+            let at = 2 * (g as usize);
+            gate_fault(gate_wire(net) + g, Code(gates[at]), Code(gates[at + 1]))
+        }
+        Line::Address(t) => {
+            let at = t as usize;
+            is_code_outside(last, net.address[at])
+        }
+        Line::Data(t) => {
+            let at = t as usize;
+            is_code_outside(last, net.write_data[at])
+        }
+        Line::Control => is_code_outside(last, net.we)
+            | is_code_outside(last, net.re)
+            | is_code_outside(last, net.p),
+    }
+}

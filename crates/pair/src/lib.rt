@@ -1,0 +1,72 @@
+// The clauses of a pair (j, i) of a writing frame j and a reading frame i at a port (document 01, "Pair (j, i)"): the address
+// comparison, the three gates, and the data bits.
+use literals::Code;
+use literals::Lit;
+use literals::Wire;
+use netlist::Netlist;
+use places::Port;
+ghost use Prim.Native.Nat.{_/_, _≤_};
+ghost use lib.ListN.{length};
+ghost use Rattle.model.specs.Clauses.{sameIf, gather, forwarded, pairClauses};
+ghost use Rattle.model.specs.Variables.{wireAt, codeAt};
+ghost use Rattle.model.specs.Numbers.{written};
+ghost use Rattle.literals.specs.Lit.{literalOf, IsLit, HasNumber};
+ghost use Rattle.places.specs.OfPair.{ofPair, IsPair};
+ghost use Rattle.model.specs.Wrote.{Wrote};
+
+// The two clauses of data bit t: where S is true, the read bit `rd` is the code `wd` of the writing frame.
+fn put_forwarded_bit(
+    out: &mut [i32],
+    selected: Lit,
+    reading: u32,
+    rd: Wire,
+    writing: u32,
+    wd: Code,
+) -> usize
+    requires { ⌜ IsLit selected × HasNumber reading (rd .0) × (1 ≤ rd .0) × HasNumber writing (wd .0 / 2)
+        × (length (written (sameIf (literalOf selected) (wireAt reading (rd .0)) (codeAt writing (wd .0)))) ≤ length (now out)) ⌝ }
+    ensures { λ r. ⌜ Wrote (written (sameIf (literalOf selected) (wireAt reading (rd .0)) (codeAt writing (wd .0))))
+        (now (out .entry)) (now (out .exit)) r ⌝ }
+{
+    writer::put_same_if(out, selected, rd.in_frame(reading), wd.in_frame(writing))
+}
+
+// The clauses of each data bit, in bit order.
+fn put_forwarded(out: &mut [i32], net: Netlist, port: Port, j: u32, i: u32) -> usize
+    requires { ⌜ IsPair net port j i × (length (written (gather (net .n) (forwarded (ofPair net port j i)))) ≤ length (now out)) ⌝ }
+    ensures { λ r. ⌜ Wrote (written (gather (net .n) (forwarded (ofPair net port j i)))) (now (out .entry)) (now (out .exit)) r ⌝ }
+{
+    let selected = places::selected(net, port, j, i);
+    let writing = places::frame_base(net, j);
+    let reading = places::frame_base(net, i);
+    let first = 1 + net.inputs + net.latches;
+    let read = port.first_read;
+    let n = net.n;
+    let mut at: usize = 0;
+    let mut t: u32 = 0;
+    while t < n {
+        let wd = net.write_data[t as usize];
+        at = at
+            + put_forwarded_bit(
+                &mut out[at..],
+                selected,
+                reading,
+                Wire(first + (read + t)),
+                writing,
+                wd,
+            );
+        t = t + 1;
+    }
+    at
+}
+
+// All clauses of the pair.
+pub fn put_pair(out: &mut [i32], net: Netlist, port: Port, j: u32, i: u32) -> usize
+    requires { ⌜ IsPair net port j i × (length (written (pairClauses (net .m) (net .n) (ofPair net port j i))) ≤ length (now out)) ⌝ }
+    ensures { λ r. ⌜ Wrote (written (pairClauses (net .m) (net .n) (ofPair net port j i))) (now (out .entry)) (now (out .exit)) r ⌝ }
+{
+    let a = address::put_address_bits(out, net, port, j, i);
+    let b = a + address::put_all_bits(&mut out[a..], net, port, j, i);
+    let d = b + select::put_select(&mut out[b..], net, port, j, i);
+    d + put_forwarded(&mut out[d..], net, port, j, i)
+}

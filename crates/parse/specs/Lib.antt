@@ -1,0 +1,4 @@
+-- A file of lines and what is read of it, in reading order. Nothing here imports a law or a proof.
+pub mod Files
+pub mod FileTests
+pub mod Progress

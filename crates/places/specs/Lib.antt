@@ -1,0 +1,5 @@
+pub mod Alone
+pub mod PortOf
+pub mod Fits
+pub mod OfPair
+pub mod ListsFit

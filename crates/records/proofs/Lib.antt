@@ -1,0 +1,4 @@
+pub mod Record
+pub mod Lists
+pub mod Dependence
+pub mod Acceptance

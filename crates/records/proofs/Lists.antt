@@ -1,0 +1,78 @@
+-- What the lists of a record have no part in, of the tests: sizes in neither list, memory loops in the latches. No contract cites
+-- this file. Assumes nothing.
+use Prim.Native.Nat.{ℕ, _/_, zero-le}
+use mathlib.Core.Path.{_≡_, refl}
+use mathlib.Core.List.{List, []}
+use native.Mathlib.Omega.{arith}
+use Rattle.refusals.specs.declared.Refusal.the-variants.{Size, MemoryLoop}
+use Rattle.netlist.specs.NetOf.{codeOf, netOf}
+use Rattle.netlist.specs.Lines.{lineAt}
+use Rattle.netlist.specs.Faults.{sizeFault, loopFaultBy, loopFault}
+use Rattle.netlist.specs.declared.Line.{Line}
+use Rattle.netlist.specs.declared.Line.the-variants.{Sizes, Memory, Latch, Gate, Address, Data, Control}
+use Rattle.netlist.specs.declared.Netlist.{Netlist}
+use Rattle.netlist.proofs.NetOf.{sizes-lists, lineAt-lists, sizeFault-lists, depends-latches}
+use Rattle.records.specs.Record.{testLines}
+use Rattle.records.specs.Dependence.{InLimits}
+use Rattle.records.proofs.Record.{testLines-same}
+
+module _ (r : Netlist) (latches gates : List ℕ) where
+  -- the tests of sizes
+  pub test-sizes-lists : testLines (netOf r [] []) Size sizeFault ≡ testLines (netOf r latches gates) Size sizeFault
+  unfolding netOf
+  test-sizes-lists =
+      testLines-same (netOf r [] []) (netOf r latches gates) Size sizeFault (sizeFault-lists r latches gates) (lineAt-lists r latches gates) refl
+
+  -- the tests of memory loops
+  pub test-loops-latches : testLines (netOf r [] gates) MemoryLoop loopFault ≡ testLines (netOf r latches gates) MemoryLoop loopFault
+  unfolding netOf lineAt loopFaultBy
+  test-loops-latches = testLines-same (netOf r [] gates) (netOf r latches gates) MemoryLoop loopFault same (λ p. refl) refl
+    where
+      same : (x : Line) → loopFault (netOf r [] gates) x ≡ loopFault (netOf r latches gates) x
+      same Sizes = refl
+      same Memory = refl
+      same (Latch l) = refl
+      same (Gate g) = refl
+      same (Address t) = depends-latches r latches gates (codeOf (r .address) t / 2)
+      same (Data t) = refl
+      same Control = depends-latches r latches gates (r .re .0 / 2)
+
+  -- the limits of codes, without the latches
+  pub limits-latches : InLimits (netOf r latches gates) → InLimits (netOf r [] gates)
+  unfolding netOf
+  limits-latches q =
+      record {
+        sizes = sizes-lists r latches gates [] gates (q .sizes);
+        codes =
+            record {
+              next-fits = λ l h. zero-le;
+              reset-fits = λ l h. zero-le;
+              left-fits = q .codes .left-fits;
+              right-fits = q .codes .right-fits;
+              address-fits = q .codes .address-fits;
+              data-fits = q .codes .data-fits;
+              WE-fits = q .codes .WE-fits;
+              RE-fits = q .codes .RE-fits;
+              P-fits = q .codes .P-fits;
+            };
+      }
+
+  -- and without the gates
+  pub limits-gates : InLimits (netOf r latches gates) → InLimits (netOf r [] [])
+  unfolding netOf
+  limits-gates q =
+      record {
+        sizes = sizes-lists r latches gates [] [] (q .sizes);
+        codes =
+            record {
+              next-fits = λ l h. zero-le;
+              reset-fits = λ l h. zero-le;
+              left-fits = λ g h. omega arith;
+              right-fits = λ g h. omega arith;
+              address-fits = q .codes .address-fits;
+              data-fits = q .codes .data-fits;
+              WE-fits = q .codes .WE-fits;
+              RE-fits = q .codes .RE-fits;
+              P-fits = q .codes .P-fits;
+            };
+      }

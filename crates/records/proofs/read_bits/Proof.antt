@@ -1,0 +1,87 @@
+-- `records::read_bits` meets its contract. The loop's invariant: the table has the wires from the first read bit up to w.
+-- Assumes nothing.
+use Prim.Native.Nat.{_-_, _≤_}
+use mathlib.Core.Bool.{true}
+use mathlib.Core.List.{[]}
+use native.Mathlib.Omega.{arith}
+use Rattle.netlist.specs.NetOf.{netOf}
+use Rattle.records.specs.Dependence.{Table}
+use Rattle.records.proofs.Dependence.{table-none, table-set, table-same, between, between-none, between-next, between-isRead}
+use Rattle.records.proofs.read_bits.Statement.{statement}
+use Rattle.records.proofs.read_bits.Tie as tie
+
+abbrev Inv-loop : tie.InvT-loop
+Inv-loop flags₀ last w₀ flags w = (w₀ ≤ w) × (w ≤ last) × Table (between w₀ w) flags
+
+abbrev μ-loop : tie.MeasureT-loop
+μ-loop flags₀ last w₀ flags w = last - w
+
+gate-wire-requires : tie.Need-gate-wire-requires Inv-loop μ-loop
+gate-wire-requires c κs = c .pre
+
+cast-last : tie.Need-cast-last Inv-loop μ-loop
+unfolding netOf
+cast-last c = omega arith
+
+add-w : tie.Need-add-w Inv-loop μ-loop
+unfolding netOf
+add-w c = omega arith
+
+add-w-2 : tie.Need-add-w-2 Inv-loop μ-loop
+unfolding netOf
+add-w-2 c = omega arith
+
+cast-w : tie.Need-cast-w Inv-loop μ-loop
+unfolding netOf
+cast-w c = omega arith
+
+loop-holds : tie.Need-loop-holds Inv-loop μ-loop
+unfolding netOf
+loop-holds c =
+    (omega arith, omega arith, table-same (between-none _) table-none)
+
+array-write-flags : tie.Need-array-write-flags Inv-loop μ-loop
+unfolding netOf
+array-write-flags c = omega arith
+
+add-w-3 : tie.Need-add-w-3 Inv-loop μ-loop
+unfolding netOf
+add-w-3 c = omega arith
+
+loop-less : tie.Need-loop-less Inv-loop μ-loop
+loop-less c = omega arith
+
+loop-again : tie.Need-loop-again Inv-loop μ-loop
+unfolding netOf
+loop-again c =
+    let w = c .before .loop .w in (
+      omega arith,
+      omega arith,
+      table-same (λ x. between-next _ w x (c .before .loop .inv .0))
+          (table-set (c .before .loop .inv .2) w (omega arith) true),
+    )
+
+returns : tie.Need-returns Inv-loop μ-loop
+unfolding netOf
+returns c =
+    let net = c .before .before .before .before .before .args .net in
+    table-same (between-isRead (netOf net [] []) _ (c .before .loop .w) (omega arith) (omega arith))
+    (c .before .loop .inv .2)
+
+pub read-bits-spec : {M : Type 1} → statement M
+read-bits-spec =
+    tie.close
+    (tie.spec
+    Inv-loop
+    μ-loop
+    gate-wire-requires
+    cast-last
+    add-w
+    add-w-2
+    cast-w
+    loop-holds
+    array-write-flags
+    add-w-3
+    loop-less
+    loop-again
+    returns)

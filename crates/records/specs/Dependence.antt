@@ -1,0 +1,23 @@
+-- Tables of wires, by which dependence on a read bit is found in one pass over the gates. Cited by the functions that make and
+-- read such a table. Assumes nothing.
+use Prim.Native.Nat.{ℕ, _≤_}
+use mathlib.Core.Path.{_≡_}
+use mathlib.Core.Bool.{Bool, false}
+use mathlib.Core.List.{List}
+use lib.ListN.{length, getD}
+use Rattle.model.specs.Netlist.{Netlist}
+use Rattle.model.specs.Acceptance.{SizesFit, CodesFit}
+
+-- what a table has of a wire
+abbrev pub entry : List Bool → ℕ → Bool
+entry flags w = getD flags w false
+
+-- a table that has f of each wire 0 to 600
+pub record Table (f : ℕ → Bool) (flags : List Bool) : Type 0 where
+  pub size : length flags ≡ 601
+  pub has : (w : ℕ) → w ≤ 600 → entry flags w ≡ f w
+
+-- what refusals 4 and 5 leave: no wire is past such a table
+pub record InLimits (c : Netlist) : Type 0 where
+  pub sizes : SizesFit c
+  pub codes : CodesFit c

@@ -1,0 +1,33 @@
+-- The tests of a record with its lists, in document 01's order. That they pass exactly the accepted netlists is the law
+-- `passes-accepted` in proofs/Acceptance.antt. Assumes nothing.
+use Prim.Native.Nat.{ℕ}
+use mathlib.Core.Bool.{Bool, _||_}
+use lib.Dec.{ltb}
+use Rattle.refusals.specs.Tests.{refuseIf, _then_, inOrder}
+use Rattle.refusals.specs.declared.Refusal.{Refusal}
+use Rattle.refusals.specs.declared.Refusal.the-variants.{OutOfOrder, Size, CodeOutside, MemoryLoop}
+use Rattle.refusals.specs.declared.Verdict.{Verdict}
+use Rattle.model.specs.Netlist.{Netlist}
+use Rattle.netlist.specs.Lines.{controlLine, lineAt}
+use Rattle.netlist.specs.Faults.{sizeFault, codeFault, loopFault}
+use Rattle.netlist.specs.declared.Line.{Line}
+
+-- the line due at a place, tested for a fault
+abbrev pub testLine : Netlist → Refusal → (Netlist → Line → Bool) → ℕ → Verdict
+testLine c r fault p = refuseIf (fault c (lineAt c p)) r p
+
+-- all lines tested for a fault: the first that has it
+unfoldable pub testLines : Netlist → Refusal → (Netlist → Line → Bool) → Verdict
+testLines c r fault = inOrder (testLine c r fault) (controlLine c)
+
+-- refusal 3: "in a record, a lent list shorter than its size", of lists that have latchCount and gateCount records
+abbrev pub listsShort : Netlist → ℕ → ℕ → Bool
+listsShort c latchCount gateCount = ltb latchCount (c .latches) || ltb gateCount (c .gates)
+
+-- "4, then 3 (place 0), then 5 in line order, then 6, with the place it would have in a sheet"
+unfoldable pub recordVerdict : Netlist → ℕ → ℕ → Verdict
+recordVerdict c latchCount gateCount =
+    testLines c Size sizeFault
+    then refuseIf (listsShort c latchCount gateCount) OutOfOrder 0
+    then testLines c CodeOutside codeFault
+    then testLines c MemoryLoop loopFault

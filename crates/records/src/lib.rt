@@ -1,0 +1,141 @@
+// The tests of a record with its lists (document 01, "A record handed in is tested alike").
+use netlist::Line;
+use netlist::Netlist;
+use refusals::Refusal;
+use refusals::Verdict;
+ghost use mathlib.Core.Path.{_≡_};
+ghost use mathlib.Core.List.{[]};
+ghost use Rattle.model.specs.Circuit.{isRead, dependsOnRead};
+ghost use Rattle.model.specs.Acceptance.{SizesFit};
+ghost use Rattle.netlist.specs.NetOf.{netOf};
+ghost use Rattle.netlist.specs.Lines.{Stands};
+ghost use Rattle.netlist.specs.Faults.{sizeFault, codeFault, loopFaultBy, loopFault};
+ghost use Rattle.records.specs.Record.{testLines, recordVerdict};
+ghost use Rattle.records.specs.Dependence.{InLimits, Table, entry};
+
+// Tests the numbers of lines N and M (refusal 4).
+fn test_sizes(net: Netlist) -> Verdict
+    ensures { λ r. ⌜ r ≡ testLines (netOf net [] []) Refusal.Size sizeFault ⌝ }
+{
+    if netlist::sizes_fault(net) {
+        return Verdict::Refused(Refusal::Size, 1);
+    }
+    if netlist::memory_fault(net) {
+        return Verdict::Refused(Refusal::Size, 2);
+    }
+    Verdict::Passed
+}
+
+// Tests every code, gate operand and reset, in line order (refusal 5).
+fn test_codes(net: Netlist, latches: &[u32; 1200], gates: &[u32; 1200]) -> Verdict
+    requires { ⌜ SizesFit (netOf net [] []) ⌝ }
+    ensures { λ r. ⌜ r ≡ testLines (netOf net (now (latches .entry)) (now (gates .entry))) Refusal.CodeOutside codeFault ⌝ }
+{
+    let last = netlist::control_line(net);
+    let mut place = 0;
+    while place < last {
+        place += 1;
+        let line = netlist::line_at(net, place);
+        if netlist::code_fault(net, latches, gates, line) {
+            return Verdict::Refused(Refusal::CodeOutside, place);
+        }
+    }
+    Verdict::Passed
+}
+
+// Makes the table of the read bits.
+fn read_bits(net: Netlist) -> [bool; 601]
+    requires { ⌜ SizesFit (netOf net [] []) ⌝ }
+    ensures { λ r. ⌜ Table (isRead (netOf net [] [])) r ⌝ }
+{
+    let mut flags = [false; 601];
+    let last = netlist::gate_wire(net) as usize;
+    let mut w = (1 + net.inputs + net.latches) as usize;
+    while w < last {
+        flags[w] = true;
+        w += 1;
+    }
+    flags
+}
+
+// Makes the table of the wires that depend on a read bit, in one pass over the gates.
+fn depends_on_read(net: Netlist, gates: &[u32; 1200]) -> [bool; 601]
+    requires { ⌜ InLimits (netOf net [] (now gates)) ⌝ }
+    ensures { λ r. ⌜ Table (dependsOnRead (netOf net [] (now (gates .entry)))) r ⌝ }
+{
+    let mut flags = read_bits(net);
+    let first = netlist::gate_wire(net);
+    let mut g = 0;
+    while g < net.gates {
+        let at = 2 * (g as usize);
+        let left = (gates[at] / 2) as usize;
+        let right = (gates[at + 1] / 2) as usize;
+        let own = (first + g) as usize;
+        flags[own] = flags[left] | flags[right];
+        g += 1;
+    }
+    flags
+}
+
+// Whether a line makes a memory loop, by a table of the wires that depend on a read bit.
+fn loop_fault(net: Netlist, flags: &[bool; 601], line: Line) -> bool
+    requires { ⌜ InLimits (netOf net [] []) × Stands (netOf net [] []) line ⌝ }
+    ensures { λ r. ⌜ r ≡ loopFaultBy (entry (now (flags .entry))) (netOf net [] []) line ⌝ }
+{
+    match line {
+        Line::Sizes => false,
+        Line::Memory => false,
+        Line::Latch(_) => false,
+        Line::Gate(_) => false,
+        Line::Address(t) => {
+            let at = t as usize;
+            let w = (net.address[at].0 / 2) as usize;
+            flags[w]
+        }
+        Line::Data(_) => false,
+        Line::Control => {
+            let w = (net.re.0 / 2) as usize;
+            flags[w]
+        }
+    }
+}
+
+// Tests the address codes and RE, in line order (refusal 6). The lines before them make no memory loop.
+pub fn test_loops(net: Netlist, gates: &[u32; 1200]) -> Verdict
+    requires { ⌜ InLimits (netOf net [] (now gates)) ⌝ }
+    ensures { λ r. ⌜ r ≡ testLines (netOf net [] (now (gates .entry))) Refusal.MemoryLoop loopFault ⌝ }
+{
+    let flags = depends_on_read(net, gates);
+    let last = netlist::control_line(net);
+    let mut place = 2 + net.latches + net.gates;
+    while place < last {
+        place += 1;
+        let line = netlist::line_at(net, place);
+        if loop_fault(net, &flags, line) {
+            return Verdict::Refused(Refusal::MemoryLoop, place);
+        }
+    }
+    Verdict::Passed
+}
+
+// Tests a record with its lists, in document 01's order. The caller's lists have `latch_count` and `gate_count` records.
+pub fn test_record(
+    net: Netlist,
+    latches: &[u32; 1200],
+    latch_count: u32,
+    gates: &[u32; 1200],
+    gate_count: u32,
+) -> Verdict
+    ensures { λ r. ⌜ r ≡ recordVerdict (netOf net (now (latches .entry)) (now (gates .entry))) «latch_count» «gate_count» ⌝ }
+{
+    if let Verdict::Refused(refusal, place) = test_sizes(net) {
+        return Verdict::Refused(refusal, place);
+    }
+    if (latch_count < net.latches) | (gate_count < net.gates) {
+        return Verdict::Refused(Refusal::OutOfOrder, 0);
+    }
+    if let Verdict::Refused(refusal, place) = test_codes(net, latches, gates) {
+        return Verdict::Refused(refusal, place);
+    }
+    test_loops(net, gates)
+}

@@ -1,0 +1,22 @@
+-- Chains of tests (document 01, "What is sent back"): the first that refuses decides. Every order of tests, of a record, a sheet
+-- or a call, is put together from these. Assumes nothing.
+use Prim.Native.Nat.{ℕ, zero, suc}
+use mathlib.Core.Bool.{Bool, cond}
+use Rattle.refusals.specs.declared.Refusal.{Refusal}
+use Rattle.refusals.specs.declared.Verdict.{Verdict}
+use Rattle.refusals.specs.declared.Verdict.the-variants.{Passed, Refused}
+
+-- one test: where its condition holds, refusal r at place p
+abbrev pub refuseIf : Bool → Refusal → ℕ → Verdict
+refuseIf b r p = cond b (Refused r p) Passed
+
+-- one test, then another: the first that refuses
+infixr 20 _then_
+unfoldable pub _then_ : Verdict → Verdict → Verdict
+Passed then w = w
+Refused r p then w = Refused r p
+
+-- the tests of the places 1 to n in their order: the first that refuses
+unfoldable pub inOrder : (ℕ → Verdict) → ℕ → Verdict
+inOrder test zero = Passed
+inOrder test (suc n) = inOrder test n then test (suc n)

@@ -1,0 +1,5 @@
+pub mod Scratch
+pub mod Verdicts
+pub mod Lists
+pub mod Entries
+pub mod Reading

@@ -1,0 +1,132 @@
+-- Laws of the reader's own lists (specs/Scratch.antt): where they start, what lines that have passed say of them, and one copy more
+-- into a lent list. Assumes nothing.
+use Prim.Native.Nat.{ℕ, zero, suc, _+_, _*_, _≤_, _<_}
+use mathlib.Core.Path.{_≡_, refl, sym, _∙_, ap, subst}
+use mathlib.Core.Bool.{Bool, true, false, cond}
+use mathlib.Core.List.{List, [], _++_}
+use native.Mathlib.Nat.{zero-add}
+use native.Mathlib.Numerals.{add-one}
+use native.Mathlib.Omega.{arith}
+use lib.ListN.{length, getD, set, take, drop, replicate, length-replicate}
+use lib.Seq.{paste-suc}
+use Rattle.refusals.specs.Tests.{inOrder, _then_}
+use Rattle.refusals.specs.declared.Verdict.the-variants.{Passed}
+use Rattle.model.specs.Netlist as M
+use Rattle.model.specs.Clauses.{gather}
+use Rattle.model.specs.Acceptance.{SizesFit}
+use Rattle.literals.specs.declared.Code.{Code}
+use Rattle.netlist.specs.NetOf.{codeOf, netOf}
+use Rattle.netlist.specs.Lines.{controlLine, latchLine, gateLine, addressLine, dataLine}
+use Rattle.netlist.specs.Faults.{codeFault}
+use Rattle.records.specs.Dependence.{InLimits}
+use Rattle.netlist.specs.declared.Netlist.{Netlist}
+use Rattle.netlist.proofs.NetOf.{sizes-lists}
+use Rattle.records.proofs.Lists.{limits-latches}
+use Rattle.netlist.proofs.Lines.{every-place}
+use Rattle.netlist.proofs.Faults.{Without, codes-fit}
+use Rattle.steps.specs.Records.{recordOf, noNetlist}
+use Rattle.lines.specs.declared.Line.{Line}
+use Rattle.lines.specs.declared.Line.the-variants.{Misprint}
+use lib.Dec.{ltb}
+use Rattle.parse.specs.Files.{lineCount, firstOf, secondOf, thirdOf, sizesIn, netOfLines, netIn, upTo}
+use Rattle.parse.specs.FileTests.{testLineIn}
+use Rattle.parse.specs.Progress.{linesTo, netTo, ReadTo}
+use Rattle.parse.proofs.Files.{linesTo-unread}
+use Rattle.parse.proofs.LineTests.{line-passed, sizes-passed}
+use Rattle.sheet.specs.Scratch.{noCodes, LinesPassed}
+
+-- a list of one value has it everywhere, past its end too
+getD-one : {A : Type 0} (n j : ℕ) (d : A) → getD (replicate n d) j d ≡ d
+getD-one zero j d = refl
+getD-one (suc n) zero d = refl
+getD-one (suc n) (suc j) d = getD-one n j d
+
+no-code : (j : ℕ) → getD noCodes j 0 ≡ 0
+unfolding noCodes
+no-code j = getD-one 1200 j 0
+
+no-code-of : {xs : List Code} (n t : ℕ) → xs ≡ replicate n (record { 0 = 0 }) → codeOf xs t ≡ 0
+unfolding codeOf
+no-code-of n t e = rw e (ap (λ (k : Code). k .0) (getD-one {A = Code} n t (record { 0 = 0 })))
+
+-- either way 0
+either-zero : (b : Bool) → cond b 0 0 ≡ zero
+either-zero true = refl
+either-zero false = refl
+
+-- before the first line nothing is read, and every entry is 0
+module _ (file : List ℕ) where
+  unread : (size : ℕ) (f : Line → ℕ) (place : ℕ → ℕ) → f Misprint ≡ 0 → ((x : ℕ) → 1 ≤ place x) → (x : ℕ) → upTo size (λ y. f (linesTo file 0 (place y))) x ≡ 0
+  unread size f place none later x = rw (linesTo-unread file 0 (place x) (later x), none) (either-zero (ltb x size))
+
+  unread-last : (f : Line → ℕ) → f Misprint ≡ 0 → f (linesTo file 0 (controlLine (sizesIn file))) ≡ 0
+  unread-last f none = rw (linesTo-unread file 0 (controlLine (sizesIn file)) (omega arith)) none
+
+  none-read : netOf (recordOf noNetlist) noCodes noCodes ≡ netTo file 0
+  unfolding netOf recordOf gather netTo netOfLines
+  none-read =
+      let s = sizesIn file in
+      λ i. record {
+        inputs = 0;
+        latches = 0;
+        gates = 0;
+        m = 0;
+        n = 0;
+        initialWord = 0;
+        next = λ l. (no-code (2 * l) ∙ sym (unread (s .latches) firstOf (latchLine s) refl (λ x. omega arith) l)) i;
+        reset = λ l. (no-code (2 * l + 1) ∙ sym (unread (s .latches) secondOf (latchLine s) refl (λ x. omega arith) l)) i;
+        left = λ g. (no-code (2 * g) ∙ sym (unread (s .gates) firstOf (gateLine s) refl (λ x. omega arith) g)) i;
+        right = λ g. (no-code (2 * g + 1) ∙ sym (unread (s .gates) secondOf (gateLine s) refl (λ x. omega arith) g)) i;
+        address = λ t. (no-code-of 12 t refl ∙ sym (unread (s .m) firstOf (addressLine s) refl (λ x. omega arith) t)) i;
+        writeData = λ t. (no-code-of 32 t refl ∙ sym (unread (s .n) firstOf (dataLine s) refl (λ x. omega arith) t)) i;
+        WE = sym (unread-last firstOf refl) i;
+        RE = sym (unread-last secondOf refl) i;
+        P = sym (unread-last thirdOf refl) i;
+      }
+
+  pub read-none : ReadTo file 0 (recordOf noNetlist) noCodes noCodes
+  unfolding inOrder recordOf gather noCodes _then_
+  read-none =
+      record {
+        passed = refl;
+        holds =
+            record {
+              full =
+                  record {
+                    address-codes = refl;
+                    data-codes = refl;
+                    latch-codes = length-replicate {A = ℕ} 1200 0;
+                    gate-codes = length-replicate {A = ℕ} 1200 0;
+                  };
+              net-is = none-read;
+            };
+      }
+
+-- the last line's place has nothing to do with the latches' codes
+controlLine-lists : (r : Netlist) (latches gates : List ℕ) → controlLine (netOf r [] gates) ≡ controlLine (netOf r latches gates)
+unfolding netOf
+controlLine-lists r latches gates = refl
+
+-- what lines that have passed say of the netlist in the record and the lists
+pub lines-passed : (file : List ℕ) (r : Netlist) (latches gates : List ℕ) → inOrder (testLineIn (netIn file) file) (lineCount file) ≡ Passed
+    → netOf r latches gates ≡ netIn file → LinesPassed (netOf r [] gates) (lineCount file)
+lines-passed file r latches gates passed is =
+    record {
+      sizes = λ h. sizes-lists r latches gates [] gates (subst SizesFit (sym is) (sizes-passed file (lineCount file) passed (omega arith)));
+      limits = λ h. limits-latches r latches gates (subst InLimits (sym is) (limits (rw ends at h)));
+    }
+  where
+    ends : controlLine (netOf r [] gates) ≡ controlLine (netIn file)
+    ends = controlLine-lists r latches gates ∙ ap (λ (c : M.Netlist). controlLine c) is
+
+    limits : controlLine (netIn file) ≤ lineCount file → InLimits (netIn file)
+    limits h =
+        record {
+          sizes = sizes-passed file (lineCount file) passed (omega arith);
+          codes = codes-fit (netIn file) .0 (every-place (netIn file) (Without codeFault (netIn file)) .1 (λ p l b. line-passed file (lineCount file) passed p l (omega arith) .code));
+        }
+
+-- one copy more
+pub copy-next : (codes old : List ℕ) (i : ℕ) → i < length codes → i < length old
+    → set (take i codes ++ drop i old) i (getD codes i 0) ≡ take (i + 1) codes ++ drop (i + 1) old
+copy-next codes old i h b = rw add-one (simp zero-add at (paste-suc old 0 codes i 0 (rw zero-add b) h))

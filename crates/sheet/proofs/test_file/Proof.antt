@@ -1,0 +1,125 @@
+-- `sheet::test_file` meets its contract: each test is passed on where it refuses, and what it passes the next one may assume. Assumes nothing.
+use mathlib.Core.Path.{_≡_, sym, _∙_}
+use mathlib.Core.Bool.{false}
+use native.Mathlib.Omega.{arith}
+use Rattle.refusals.specs.Tests.{inOrder}
+use Rattle.refusals.specs.declared.Refusal.the-variants.{Ragged}
+use Rattle.refusals.specs.declared.Verdict.the-variants.{Passed}
+use Rattle.steps.proofs.Steps.{outcome-refused}
+use Rattle.parse.specs.Files.{lineCount, netIn}
+use Rattle.parse.specs.FileTests.{ragged, testLineIn}
+use Rattle.parse.proofs.Files.{whole-lines}
+use Rattle.sheet.specs.Sheet.{endVerdict}
+use Rattle.sheet.proofs.Scratch.{read-none, lines-passed}
+use Rattle.sheet.proofs.Verdicts.{end-latches, file-ragged, file-refused, file-lines}
+use borrow.Author.Needs.{needs}
+use Rattle.sheet.proofs.test_file.Statement.{statement}
+use Rattle.sheet.proofs.test_file.Tie as tie
+
+-- the file is not ragged
+even : (c : tie.Else1) → ragged (c .before .before .before .args .file .now) ≡ false
+even c = sym (c .before .is-ragged .ensures) ∙ c .if1 .left
+
+-- all its lines have passed
+passed-lines : (c : tie.After-enum-told) → inOrder (testLineIn (netIn (c .before .before .before .before .before .before .before .before .before .args .file .now)) (c .before .before .before .before .before .before .before .before .before .args .file .now)) (lineCount (c .before .before .before .before .before .before .before .before .before .args .file .now)) ≡ Passed
+passed-lines c = sym (c .before .before .read-lines .ensures .verdict-is) ∙ c .enum-told .given .1
+
+-- the tests behind the last line are those in the file's netlist
+ended : (c : tie.After-test-end) → c .test-end .result ≡ endVerdict (netIn (c .before .before .before .before .before .before .before .before .before .before .before .before .args .file .now)) (lineCount (c .before .before .before .before .before .before .before .before .before .before .before .before .args .file .now))
+ended c =
+    let read = c .before .before .before .before .before .read-lines in
+    c .test-end .ensures
+    ∙ end-latches (read .result .net) (read .last .1 .1 .1 .0) (read .last .1 .1 .1 .1 .0) (lineCount (c .before .before .before .before .before .before .before .before .before .before .before .before .args .file .now))
+    ∙ rw (read .ensures .holds (passed-lines (c .before .before .before)) .net-is)
+
+is-ragged-requires : tie.Need-is-ragged-requires
+is-ragged-requires c κs = search needs
+
+refused-requires : tie.Need-refused-requires
+refused-requires c κs = search needs
+
+returns : tie.Need-returns
+returns c =
+    let file = c .before .before .before .before .args .file .now in
+    rw (c .refused .ensures, file-ragged file (sym (c .before .before .is-ragged .ensures) ∙ c .before .if1 .taken))
+    (outcome-refused Ragged 0 _ _ (netIn file))
+
+empty-net-requires : tie.Need-empty-net-requires
+empty-net-requires c κs = search needs
+
+read-lines-requires : tie.Need-read-lines-requires
+read-lines-requires c κs =
+    let start = c .before .before .before .before .before .before in
+    (sym (c .before .before .before .before .is-ragged .ensures) ∙ c .before .before .before .if1 .left, omega arith, rw (c .before .before .empty-net .ensures, start .pre .0, start .pre .1) (read-none (start .args .file .now)))
+
+enum-known-read : tie.Need-enum-known-read
+enum-known-read c = search needs
+
+refused-requires-2 : tie.Need-refused-requires-2
+refused-requires-2 c κs = search needs
+
+returns-2 : tie.Need-returns-2
+returns-2 c =
+    let file = c .before .before .before .before .before .before .before .before .before .before .before .args .file .now in
+    let read = c .before .before .read .given in
+    rw (c .refused2 .ensures, file-refused file (even (c .before .before .before .before .before .before .before .before)) (sym (c .before .before .before .before .read-lines .ensures .verdict-is) ∙ read .1))
+    (outcome-refused (read .0 .0) (read .0 .1 .0) _ _ (netIn file))
+
+enum-told : tie.Need-enum-told
+enum-told c = search needs
+
+cast-count : tie.Need-cast-count
+cast-count c = record { fits = omega (arith, whole-lines (c .before .before .before .before .before .before .before .before .before .before .args .file .now) (even (c .before .before .before .before .before .before .before)) .most) }
+
+test-end-requires : tie.Need-test-end-requires
+test-end-requires c κs =
+    let start = c .before .before .before .before .before .before .before .before .before .before .before in
+    let file = start .args .file .now in
+    let read = c .before .before .before .before .read-lines in
+    let passed = passed-lines (c .before .before) in
+    (omega (arith, whole-lines file (even (c .before .before .before .before .before .before .before .before)) .most), lines-passed file (read .result .net) (read .last .1 .1 .1 .0) (read .last .1 .1 .1 .1 .0) passed (read .ensures .holds passed .net-is))
+
+enum-known-refusal : tie.Need-enum-known-refusal
+enum-known-refusal c = search needs
+
+refused-requires-3 : tie.Need-refused-requires-3
+refused-requires-3 c κs = search needs
+
+returns-3 : tie.Need-returns-3
+returns-3 c =
+    let file = c .before .before .before .before .before .before .before .before .before .before .before .before .before .before .before .before .args .file .now in
+    let refusal = c .before .before .refusal .given in
+    rw (c .refused3 .ensures, file-lines file (even (c .before .before .before .before .before .before .before .before .before .before .before .before .before)) (passed-lines (c .before .before .before .before .before .before .before)) ∙ sym (ended (c .before .before .before .before)) ∙ refusal .1)
+    (outcome-refused (refusal .0 .0) (refusal .0 .1 .0) _ _ (netIn file))
+
+enum-told-2 : tie.Need-enum-told-2
+enum-told-2 c = search needs
+
+returns-4 : tie.Need-returns-4
+returns-4 c =
+    let file = c .before .before .before .before .before .before .before .before .before .before .before .before .before .before .args .file .now in
+    record {
+      verdict-is = sym (file-lines file (even (c .before .before .before .before .before .before .before .before .before .before .before)) (passed-lines (c .before .before .before .before .before)) ∙ sym (ended (c .before .before)) ∙ c .enum-told2 .given .1);
+      holds = λ e. c .before .before .before .before .before .before .before .read-lines .ensures .holds (passed-lines (c .before .before .before .before .before));
+    }
+
+pub test-file-spec : {M : Type 1} → statement M
+test-file-spec =
+    tie.close
+    (tie.spec
+    is-ragged-requires
+    refused-requires
+    returns
+    empty-net-requires
+    read-lines-requires
+    enum-known-read
+    refused-requires-2
+    returns-2
+    enum-told
+    cast-count
+    test-end-requires
+    enum-known-refusal
+    refused-requires-3
+    returns-3
+    enum-told-2
+    returns-4)

@@ -1,0 +1,33 @@
+-- The verdict on a sheet: document 01's order of tests ("Reading: .."), over the line due at a place from the sizes alone, the faults
+-- of a line, and the first faulty line. It is not the reader's own way through the file. Assumes nothing.
+use Prim.Native.Nat.{ℕ, _+_}
+use mathlib.Core.Bool.{_||_}
+use mathlib.Core.List.{List}
+use lib.Dec.{ltb}
+use Rattle.model.specs.Netlist.{Netlist}
+use Rattle.refusals.specs.Tests.{refuseIf, _then_, inOrder}
+use Rattle.refusals.specs.declared.Refusal.the-variants.{Ragged, OutOfOrder, MemoryLoop, NoRoom}
+use Rattle.refusals.specs.declared.Verdict.{Verdict}
+use Rattle.netlist.specs.Lines.{controlLine}
+use Rattle.netlist.specs.Faults.{loopFault}
+use Rattle.records.specs.Record.{testLines}
+use Rattle.parse.specs.Files.{lineCount, netIn}
+use Rattle.parse.specs.FileTests.{ragged, testLineIn}
+
+-- after the last of `count` lines: "a missing line's place is one past the last. Then 6, .."
+unfoldable pub endVerdict : Netlist → ℕ → Verdict
+endVerdict c count =
+    refuseIf (ltb count (controlLine c)) OutOfOrder (count + 1)
+    then testLines c MemoryLoop loopFault
+
+-- "1 (place 0); then line by line ..": the tests of what the file says
+unfoldable pub fileVerdict : List ℕ → Verdict
+fileVerdict file =
+    refuseIf (ragged file) Ragged 0
+    then inOrder (testLineIn (netIn file) file) (lineCount file)
+    then endVerdict (netIn file) (lineCount file)
+
+-- "Then 9, place 0", for lists of latchRoom and gateRoom records
+unfoldable pub sheetVerdict : List ℕ → ℕ → ℕ → Verdict
+sheetVerdict file latchRoom gateRoom =
+    fileVerdict file then refuseIf (ltb latchRoom (netIn file .latches) || ltb gateRoom (netIn file .gates)) NoRoom 0

@@ -1,0 +1,3 @@
+pub mod Neither
+pub mod Places
+pub mod Steps

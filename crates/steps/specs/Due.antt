@@ -1,0 +1,44 @@
+-- The line due at a place, its kind and its number among those of its kind (document 01, "The sheet"). Cited by the functions that
+-- take one line more. Assumes nothing.
+use Prim.Native.Nat.{ℕ}
+use mathlib.Core.Bool.{Bool, _&&_}
+use lib.Dec.{eqb}
+use Rattle.netlist.specs.declared.Line.{Line}
+use Rattle.netlist.specs.declared.Line.the-variants as Due
+use Rattle.lines.specs.Letters.{rowOf}
+use Rattle.lines.specs.declared.Kind.{Kind}
+use Rattle.lines.specs.declared.Kind.the-variants.{Sizes, Memory, Latch, Gate, Address, WriteData, Control}
+
+-- the kind of the line due
+abbrev pub kindDue : Line → Kind
+kindDue Due.Sizes = Sizes
+kindDue Due.Memory = Memory
+kindDue (Due.Latch l) = Latch
+kindDue (Due.Gate g) = Gate
+kindDue (Due.Address t) = Address
+kindDue (Due.Data t) = WriteData
+kindDue Due.Control = Control
+
+-- the number of a line among those of its kind
+abbrev pub numberIn : Line → ℕ
+numberIn Due.Sizes = 0
+numberIn Due.Memory = 0
+numberIn (Due.Latch l) = l
+numberIn (Due.Gate g) = g
+numberIn (Due.Address t) = t
+numberIn (Due.Data t) = t
+numberIn Due.Control = 0
+
+-- how many lines of its kind the record and the lists have room for
+abbrev pub roomFor : Line → ℕ
+roomFor Due.Sizes = 1
+roomFor Due.Memory = 1
+roomFor (Due.Latch l) = 600
+roomFor (Due.Gate g) = 600
+roomFor (Due.Address t) = 12
+roomFor (Due.Data t) = 32
+roomFor Due.Control = 1
+
+-- whether two lines are the same: of one kind, and with the same number
+abbrev pub sameLine : Line → Line → Bool
+sameLine a b = eqb (rowOf (kindDue a)) (rowOf (kindDue b)) && eqb (numberIn a) (numberIn b)

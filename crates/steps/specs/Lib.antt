@@ -1,0 +1,4 @@
+-- One line more of a sheet, in reading order. Nothing here imports a law or a proof.
+pub mod Due
+pub mod Records
+pub mod Steps

@@ -1,0 +1,56 @@
+-- The record of a netlist, and the one that is all zeros (document 01, "a .. record returned beside them is all zeros").
+-- Assumes nothing.
+use Prim.Native.Nat.{ℕ}
+use mathlib.Core.List.{List, [], _∷_}
+use Rattle.model.specs.Netlist as M
+use Rattle.model.specs.Clauses.{gather}
+use Rattle.literals.specs.declared.Code.{Code}
+use Rattle.refusals.specs.declared.Refusal.{Refusal}
+use Rattle.refusals.specs.declared.Verdict.the-variants.{Refused}
+use Rattle.netlist.specs.declared.Netlist.{Netlist}
+use Rattle.steps.specs.declared.Sheet.{Sheet}
+
+-- the record of a netlist: arrays of 12 and 32 codes
+abbrev pub codeAt : (ℕ → ℕ) → ℕ → List Code
+codeAt f t = record { 0 = f t } ∷ []
+
+unfoldable pub recordOf : M.Netlist → Netlist
+recordOf c =
+    record {
+      inputs = c .inputs;
+      latches = c .latches;
+      gates = c .gates;
+      m = c .m;
+      n = c .n;
+      «initial_word» = c .initialWord;
+      address = gather 12 (codeAt (c .address));
+      «write_data» = gather 32 (codeAt (c .writeData));
+      we = record { 0 = c .WE };
+      re = record { 0 = c .RE };
+      p = record { 0 = c .P };
+    }
+
+-- the record that is all zeros
+abbrev pub noNetlist : M.Netlist
+noNetlist =
+    record {
+      inputs = 0;
+      latches = 0;
+      gates = 0;
+      m = 0;
+      n = 0;
+      initialWord = 0;
+      next = λ l. 0;
+      reset = λ l. 0;
+      left = λ g. 0;
+      right = λ g. 0;
+      address = λ t. 0;
+      writeData = λ t. 0;
+      WE = 0;
+      RE = 0;
+      P = 0;
+    }
+
+-- a refusal with its record
+abbrev pub refusedAt : Refusal → ℕ → Sheet
+refusedAt r p = record { verdict = Refused r p; net = recordOf noNetlist }

@@ -1,0 +1,32 @@
+-- Laws of `Wrote`: a word copied byte by byte, and room for a second writer behind a first. No contract cites this file.
+-- Assumes nothing.
+use Prim.Native.Nat.{ℕ, suc, _+_, _-_, _≤_, _<_}
+use mathlib.Core.Path.{_≡_}
+use mathlib.Core.List.{List, _++_}
+use native.Mathlib.Nat.{zero-add}
+use native.Mathlib.Omega.{arith}
+use borrow.Rule.Slice.PartMut.{midOf}
+use lib.ListN.{length, length-append, getD, take, drop, set}
+use lib.Seq.{paste-suc}
+use Rattle.model.specs.Wrote.{Wrote}
+use Rattle.model.proofs.Wrote as W
+
+-- a word copied from the front, one byte more
+pub copy-next :
+    (word old : List ℕ) (i : ℕ) → i < length word → i < length old →
+    set (take i word ++ drop i old) i (getD word i 0) ≡ take (suc i) word ++ drop (suc i) old
+copy-next word old i h l =
+    let room : 0 + i < length old = omega arith in
+    simp zero-add at (paste-suc old 0 word i 0 room h)
+
+-- a text's part at the front has room where the text has
+pub front-room : {A : Type 0} (a b : List A) (room : ℕ) → length (a ++ b) ≤ room → length a ≤ room
+front-room a b room h = omega (arith, length-append a b)
+
+-- after a text is written, the rest starts within the slice and has room for what is to stand behind it
+module _ {A : Type 0} (a b old mid : List A) (i : ℕ) (w : Wrote a old mid i) (room : length (a ++ b) ≤ length old) where
+  pub rest-within : i ≤ length mid
+  rest-within = W.rest-within w (front-room a b (length old) room)
+
+  pub rest-room : length b ≤ length (midOf i (length mid - i) mid)
+  rest-room = W.rest-room w (omega (arith, length-append a b))

@@ -1,0 +1,36 @@
+// The order of the groups of a depth (document 01, "Order of the whole").
+ghost use mathlib.Core.Path.{_≡_};
+ghost use mathlib.Core.List.{List, _∷_, _++_};
+ghost use Rattle.model.specs.Groups.{groupOrder};
+ghost use Rattle.unrolling.specs.Next.{firstOf};
+use model::Group;
+
+// What comes after a group in the order of the whole.
+pub enum Next {
+    Then(Group),
+    End,
+}
+
+// The group that follows `group` in the order of the whole at this depth.
+pub fn next_group(depth: u32, group: Group) -> Next
+    ensures { λ r. ⌜ ((xs ys : List Group) → groupOrder depth ≡ xs ++ group ∷ ys → r ≡ firstOf ys) ⌝ }
+{
+    match group {
+        Group::Wires(i) => if i == 0 {
+            Next::Then(Group::Closing(i))
+        } else {
+            Next::Then(Group::Pair(i - 1, i))
+        },
+        Group::Pair(j, i) => if j == 0 {
+            Next::Then(Group::Closing(i))
+        } else {
+            Next::Then(Group::Pair(j - 1, i))
+        },
+        Group::Closing(i) => if i < depth {
+            Next::Then(Group::Wires(i + 1))
+        } else {
+            Next::Then(Group::Property)
+        },
+        Group::Property => Next::End,
+    }
+}
