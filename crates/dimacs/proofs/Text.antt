@@ -9,9 +9,10 @@ use lib.Seq.{take-suc}
 use lib.Signed.{mag}
 use mir.Syntax.{w32}
 use mir.Val.{SFits, toZ, ofZ}
-use Rattle.decimal.proofs.Digits.{length-field}
+use Rattle.decimal.proofs.Digits.{length-digits-ten, length-field}
 use Rattle.decimal.proofs.Signed.{length-signedDigits, read-back}
 use Rattle.decimal.specs.Digits.{space, digits, field, signedDigits}
+use Rattle.model.proofs.Gather.{All, nothing, also}
 use Rattle.dimacs.specs.Text.{lineFeed, problem, refused, headerText, refusalText, behind, numberText, clauseText}
 
 -- the header's length
@@ -20,6 +21,11 @@ unfolding headerText
 length-headerText v c =
     omega
     (arith, length-append (problem ++ (digits v ++ space ∷ [])) (digits c ++ lineFeed ∷ []), length-append problem (digits v ++ space ∷ []), length-append (digits v) (space ∷ []), length-append (digits c) (lineFeed ∷ []))
+
+-- of numbers of 32 bits at most 28 bytes
+pub headerText-most : (variables clauses : ℕ) → variables < 2 ^ 32 → clauses < 2 ^ 32 → length (headerText variables clauses) ≤ 28
+headerText-most variables clauses v c =
+    omega (arith, length-headerText variables clauses, length-digits-ten variables v, length-digits-ten clauses c)
 
 -- a refusal's length
 pub length-refusalText : (number place : ℕ) → number < 2 ^ 32 → place < 2 ^ 32 → length (refusalText number place) ≡ 28
@@ -77,9 +83,8 @@ pub length-numberText : (z : ℤ) → SFits w32 z → length (numberText z) ≤ 
 length-numberText z f = omega (arith, length-append (signedDigits z) (behind z ∷ []), length-signedDigits z f)
 
 -- n numbers of 32 bits take at most 12 n bytes
-pub length-clauseText : (zs : List ℤ) → ((i : ℕ) → i < length zs → SFits w32 (getD zs i (pos 0))) → length (clauseText zs) ≤ 12 * length zs
+pub length-clauseText : {zs : List ℤ} → All (SFits w32) zs → length (clauseText zs) ≤ 12 * length zs
 unfolding clauseText
-length-clauseText [] f = omega arith
-length-clauseText (z ∷ zs) f =
-    let rest : length (clauseText zs) ≤ 12 * length zs = length-clauseText zs (λ i h. f (suc i) (omega arith)) in
-    rw (length-append (numberText z) (clauseText zs)) (omega (arith, length-numberText z (f 0 (omega arith))))
+length-clauseText nothing = omega arith
+length-clauseText (also {x = z} {xs = zs} f r) =
+    rw (length-append (numberText z) (clauseText zs)) (omega (arith, length-numberText z f, length-clauseText r))

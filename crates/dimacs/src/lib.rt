@@ -83,7 +83,7 @@ fn clauses_fit(room: usize, numbers: &[i32]) -> bool
 }
 
 // Writes the header, where there is room.
-fn write_header(out: &mut [u8], variables: u32, clauses: u32) -> usize
+pub fn write_header(out: &mut [u8], variables: u32, clauses: u32) -> usize
     requires { ⌜ length (headerText variables clauses) ≤ length (now out) ⌝ }
     ensures { λ r. ⌜ Wrote (headerText variables clauses) (now (out .entry)) (now (out .exit)) r ⌝ }
 {
@@ -93,7 +93,7 @@ fn write_header(out: &mut [u8], variables: u32, clauses: u32) -> usize
 }
 
 // Writes a refusal, where there is room.
-fn write_refusal(out: &mut [u8], number: u32, place: u32) -> usize
+pub fn write_refusal(out: &mut [u8], number: u32, place: u32) -> usize
     requires { ⌜ length (refusalText number place) ≤ length (now out) ⌝ }
     ensures { λ r. ⌜ Wrote (refusalText number place) (now (out .entry)) (now (out .exit)) r ⌝ }
 {

@@ -1,10 +1,10 @@
 -- Laws of specs/Depth.antt: the tests of the depth line, one by one. No contract cites this file. Assumes nothing.
 use Prim.Native.Nat.{ℕ, _≤_, _<_}
-use mathlib.Core.Path.{_≡_, refl, ap}
+use mathlib.Core.Path.{_≡_, refl, _∙_, ap}
 use mathlib.Core.Bool.{Bool, true, false, cond, _&&_}
 use mathlib.Core.List.{List, [], _∷_, _++_}
 use native.Mathlib.Omega.{arith}
-use borrow.Author.Tests.{le-leb, lt-leb, leb-true, eq-eqb, ne-eqb}
+use borrow.Author.Tests.{le-leb, lt-leb, leb-true, leb-false, eq-eqb, ne-eqb}
 use lib.Dec.{leb, eqb}
 use lib.ListN.{length, getD, take}
 use Rattle.refusals.specs.declared.Refusal.the-variants.{Misprint, Depth}
@@ -48,6 +48,15 @@ accepted-most s k h = by-form (leb 11 (length s) && eqb (getD s 10 0) lineFeed) 
     by-form : (b : Bool) → acceptedAt k ≡ cond b (valueAnswer (fieldOf (take 10 s))) (refusedBy Misprint) → k ≤ 255
     by-form true h = accepted-value (fieldOf (take 10 s)) k h
     by-form false h = absurd (omega (arith, ap (λ (a : DepthAnswer). a .number) h))
+
+-- and stands in an input of at least eleven bytes
+pub accepted-long : (s : List ℕ) (k : ℕ) → acceptedAt k ≡ depthAnswer s → 11 ≤ length s
+accepted-long s k h = by-length (leb 11 (length s)) refl
+  where
+    by-length : (b : Bool) → leb 11 (length s) ≡ b → 11 ≤ length s
+    by-length true e = leb-true 11 (length s) e
+    by-length false e =
+        absurd (omega (arith, ap (λ (a : DepthAnswer). a .number) (h ∙ depthAnswer-short s (leb-false 11 (length s) e))))
 
 -- document 01's starred fact: depth 255 is taken, 256 gives 7
 pub depth-limit :

@@ -241,12 +241,14 @@ module _ {c : Netlist} (accepted : Accepted c) (k : ℕ) where
       just (wires-within i h)
       ⧺ (all-gatherDown i (pairOf i) (λ j l. just (pairs-within j i l h)) ⧺ just (closing-within i h))
 
-  -- all groups
-  pub formula-within : AllLits (Within (base c (k + 1))) (joinedClauses (clausesOf c k) (groupOrder k))
+  -- each group
+  pub groups-within : All (λ g. AllLits (Within (base c (k + 1))) (clausesOf c k g)) (groupOrder k)
   unfolding groupOrder
-  formula-within =
-      joined-all (clausesOf c k) _
-      (all-gather (k + 1) frameGroups (λ i h. frame-within i (omega arith)) ⧺ just property-within)
+  groups-within = all-gather (k + 1) frameGroups (λ i h. frame-within i (omega arith)) ⧺ just property-within
+
+  -- all together
+  pub formula-within : AllLits (Within (base c (k + 1))) (joinedClauses (clausesOf c k) (groupOrder k))
+  formula-within = joined-all (clausesOf c k) _ groups-within
 
 -- a literal's number is within the bound, and no end mark
 pub numberOf-within : (b : ℕ) (l : Literal) → 1 ≤ b → Within b l → (natAbs (numberOf l) ≤ b) × (1 ≤ natAbs (numberOf l))

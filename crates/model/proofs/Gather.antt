@@ -107,6 +107,11 @@ module _ {A : Type 0} {P : A → Type 0} where
   all-gatherDown zero f each = nothing
   all-gatherDown (suc n) f each = each n (omega arith) ⧺ all-gatherDown n f (λ t h. each t (omega arith))
 
+-- of an element
+pub all-at : {A : Type 0} {P : A → Type 0} (xs : List A) (y : A) (ys : List A) → All P (xs ++ y ∷ ys) → P y
+all-at [] y ys (also p r) = p
+all-at (x ∷ xs) y ys (also p r) = all-at xs y ys r
+
 -- a weaker one
 pub all-weaken : {A : Type 0} {P Q : A → Type 0} {xs : List A} → ((x : A) → P x → Q x) → All P xs → All Q xs
 all-weaken weaker nothing = nothing

@@ -1,5 +1,5 @@
--- What follows each group in the order of the whole. No contract cites this file. Assumes nothing.
-use Prim.Native.Nat.{ℕ, zero, suc, _+_, _-_, _≤_, _<_}
+-- What follows each group in the order of the whole, and that fewer are left then. No contract cites this file. Assumes nothing.
+use Prim.Native.Nat.{ℕ, zero, suc, _+_, _-_, _*_, _≤_, _<_}
 use mathlib.Core.Path.{_≡_, refl, sym, _∙_, ap, subst}
 use mathlib.Core.Bool.{Bool, true, false, cond}
 use mathlib.Core.List.{List, [], _∷_, _++_}
@@ -7,12 +7,12 @@ use native.Mathlib.Nat.{le-of-suc-le}
 use native.Mathlib.Numerals.{add-one}
 use native.Mathlib.Omega.{arith}
 use lib.Dec.{eqb, ltb, leb}
-use borrow.Author.Tests.{le-leb, lt-leb, ne-eqb}
+use borrow.Author.Tests.{le-leb, lt-leb, ne-eqb, ltb-true}
 use Rattle.model.specs.Clauses.{gather, gatherDown}
 use Rattle.model.specs.Groups.{pairOf, frameGroups, groupOrder}
 use Rattle.model.specs.declared.Group.{Group}
 use Rattle.model.specs.declared.Group.the-variants.{Wires, Pair, Closing, Property}
-use Rattle.unrolling.specs.Next.{firstOf}
+use Rattle.unrolling.specs.Next.{firstOf, leftAfter, leftFrom}
 use Rattle.unrolling.specs.declared.order.Next.{Next}
 use Rattle.unrolling.specs.declared.order.Next.the-variants.{Then, End}
 
@@ -102,7 +102,32 @@ successor-next k g xs ys h =
     first-end [] = refl
     first-end (y ∷ ys) = refl
 
--- the same, for a group known by its kind
+-- after the closing of an earlier frame
+closing-left : (k i : ℕ) → i < k → (k - (i + 1)) * (k + 3) + ((i + 1) + 2) + 1 ≤ (k - i) * (k + 3) + 1
+closing-left k i h =
+    let d = k - (i + 1) in
+    let e : k - i ≡ suc d = omega arith in
+    let m : suc d * (k + 3) ≡ (k + 3) + d * (k + 3) = omega arith in
+    rw (e, m) (omega (arith, h))
+
+-- each step leaves fewer groups than before it
+successor-left : (k : ℕ) (g : Group) → leftFrom k (successor k g) ≤ leftAfter k g
+successor-left k (Wires zero) = omega arith
+successor-left k (Wires (suc i)) = rw (ne-eqb (suc i) 0 (λ q. omega arith)) (omega arith)
+successor-left k (Pair zero i) = omega arith
+successor-left k (Pair (suc j) i) = rw (ne-eqb (suc j) 0 (λ q. omega arith)) (omega arith)
+successor-left k (Closing i) = by-test (ltb i k) refl
+  where
+    by-test : (b : Bool) → ltb i k ≡ b → leftFrom k (cond b (Then (Wires (i + 1))) (Then Property)) ≤ leftAfter k (Closing i)
+    by-test true e = closing-left k i (ltb-true i k e)
+    by-test false e = omega arith
+successor-left k Property = omega arith
+
+-- both, for a group known by its kind
 pub follows : (k : ℕ) (g g′ : Group) (r : Next) → g ≡ g′ → successor k g′ ≡ r
-    → (xs ys : List Group) → groupOrder k ≡ xs ++ g ∷ ys → r ≡ firstOf ys
-follows k g g′ r e h xs ys o = sym h ∙ ap (successor k) (sym e) ∙ successor-next k g xs ys o
+    → ((xs ys : List Group) → groupOrder k ≡ xs ++ g ∷ ys → r ≡ firstOf ys) × (leftFrom k r ≤ leftAfter k g)
+follows k g g′ r e h =
+    (λ xs ys o. sym answer ∙ successor-next k g xs ys o, subst (λ (n : Next). leftFrom k n ≤ leftAfter k g) answer (successor-left k g))
+  where
+    answer : successor k g ≡ r
+    answer = ap (successor k) e ∙ h

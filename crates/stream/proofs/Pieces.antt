@@ -1,0 +1,131 @@
+-- Laws of specs/Pieces.antt: nothing printed yet, and one group more. No contract cites this file. Assumes nothing.
+use Prim.Native.Nat.{ℕ, zero, suc, _+_, _-_}
+use native.Mathlib.Numerals.{add-one}
+use mathlib.Core.Path.{_≡_, refl, sym, _∙_, ap, subst}
+use mathlib.Core.Bool.{true}
+use mathlib.Core.List.{List, [], _∷_, _++_, append-assoc, append-nil}
+use lib.IntN.{ℤ}
+use lib.ListN.{length, take, drop}
+use lib.Seq.{take-append-seam}
+use borrow.Rule.Slice.PartMut.{midOf, putMid}
+use Rattle.model.specs.Netlist.{Netlist}
+use Rattle.model.specs.Clauses.{gather}
+use Rattle.model.specs.Groups.{frameGroups, groupOrder, inDepth}
+use Rattle.model.specs.Numbers.{numbersOf, joined}
+use Rattle.model.specs.Wrote.{Wrote}
+use Rattle.model.specs.declared.Group.{Group}
+use Rattle.model.specs.declared.Group.the-variants.{Wires, Property}
+use Rattle.model.proofs.Gather.{All, all-at}
+use Rattle.model.proofs.Joined.{order-inDepth}
+use Rattle.model.proofs.Wrote.{wrote-nothing, wrote-then}
+use Rattle.unrolling.specs.Next.{firstOf}
+use Rattle.unrolling.specs.declared.order.Next.{Next}
+use Rattle.unrolling.specs.declared.order.Next.the-variants.{Then, End}
+use Rattle.dimacs.specs.Text.{clauseText}
+use Rattle.dimacs.proofs.Text.{clauseText-append}
+use Rattle.stream.specs.Pieces.{Stands, NextStands, Printed, Continues}
+
+-- what a writer wrote stands in front
+pub wrote-front : {A : Type 0} {xs old new : List A} {r : ℕ} → Wrote xs old new r → take r new ≡ xs
+wrote-front {A} {xs} {old} {new} {r} w = rw (w .counted, w .leaves) (take-append-seam xs (drop (length xs) old))
+
+-- a group that stands in the order of the whole is a group of the depth
+pub stands-inDepth : (k : ℕ) (g : Group) → Stands k g → inDepth k g ≡ true
+stands-inDepth k g s = all-at (s .before) g (s .behind) (subst (All (λ x. inDepth k x ≡ true)) (s .order) (order-inDepth k))
+
+joined-snoc : (f : Group → List ℤ) (gs : List Group) (g : Group) → joined f (gs ++ g ∷ []) ≡ joined f gs ++ f g
+unfolding joined
+joined-snoc f [] g = append-nil (f g)
+joined-snoc f (x ∷ gs) g = ap (λ (t : List ℤ). f x ++ t) (joined-snoc f gs g) ∙ sym (append-assoc (f x) (joined f gs) (f g))
+
+-- before the first group is printed
+pub printed-nothing : (c : Netlist) (k : ℕ) (old : List ℕ) (next : Next) (from : List Group) → next ≡ firstOf from
+    → Printed c k old old 0 next from
+unfolding clauseText joined
+printed-nothing c k old next from h =
+    record { printed = []; left = from; in-order = refl; wrote = wrote-nothing old; next-left = h }
+
+-- what is left begins with the group that is next
+record Left (g : Group) (gs : List Group) : Type 0 where
+  behind : List Group
+  begins : gs ≡ g ∷ behind
+
+groupOr : Group → Next → Group
+groupOr g (Then h) = h
+groupOr g End = g
+
+isThen : Next → Type 0
+isThen (Then g) = Unit {0}
+isThen End = ⊥
+
+left-begins : (g : Group) (gs : List Group) → Then g ≡ firstOf gs → Left g gs
+unfolding isThen groupOr
+left-begins g [] h = absurd (subst isThen h tt)
+left-begins g (x ∷ gs) h =
+    record { behind = gs; begins = ap (λ (y : Group). y ∷ gs) (sym (ap (groupOr g) h)) }
+
+module _ {c : Netlist} {k : ℕ} {old mid : List ℕ} {bytes : ℕ} {due : Group} (before from : List Group)
+    (order : groupOrder k ≡ before ++ from) (p : Printed c k old mid bytes (Then due) from) where
+  rest : Left due (p .left)
+  rest = left-begins due (p .left) (p .next-left)
+
+  whole : from ≡ p .printed ++ due ∷ rest .behind
+  whole = p .in-order ∙ ap (λ (t : List Group). p .printed ++ t) (rest .begins)
+
+  -- the group that is next stands in the order of the whole
+  pub due-stands : Stands k due
+  due-stands =
+      record {
+        before = before ++ p .printed;
+        behind = rest .behind;
+        order = order ∙ ap (λ (t : List Group). before ++ t) whole ∙ sym (append-assoc before (p .printed) (due ∷ rest .behind));
+      }
+
+  -- its text behind that of the others
+  pub printed-next : (part : List ℕ) (n : ℕ) (next : Next)
+      → Wrote (clauseText (numbersOf c k due)) (midOf bytes (length mid - bytes) mid) part n
+      → ((xs ys : List Group) → groupOrder k ≡ xs ++ due ∷ ys → next ≡ firstOf ys)
+      → Printed c k old (putMid bytes (length mid - bytes) mid part) (bytes + n) next from
+  unfolding due-stands
+  printed-next part n next w follows =
+      record {
+        printed = p .printed ++ due ∷ [];
+        left = rest .behind;
+        in-order = whole ∙ sym (append-assoc (p .printed) (due ∷ []) (rest .behind));
+        wrote =
+            subst (λ (t : List ℕ). Wrote t old (putMid bytes (length mid - bytes) mid part) (bytes + n)) (sym text)
+            (wrote-then (clauseText (joined (numbersOf c k) (p .printed))) (clauseText (numbersOf c k due)) old mid part bytes n (p .wrote) w);
+        next-left = follows (due-stands .before) (due-stands .behind) (due-stands .order);
+      }
+    where
+      text : clauseText (joined (numbersOf c k) (p .printed ++ due ∷ []))
+          ≡ clauseText (joined (numbersOf c k) (p .printed)) ++ clauseText (numbersOf c k due)
+      text =
+          ap clauseText (joined-snoc (numbersOf c k) (p .printed) due)
+          ∙ clauseText-append (joined (numbersOf c k) (p .printed)) (numbersOf c k due)
+
+-- what comes after a piece stands in the order of the whole
+pub continues-stands : (c : Netlist) (k : ℕ) (group : Group) (old new : List ℕ) (bytes : ℕ) (next : Next)
+    → Stands k group → Continues c k group old new bytes next → NextStands k next
+continues-stands c k group old new bytes (Then due) s p =
+    due-stands (s .before) (group ∷ s .behind) (s .order) (p (s .before) (s .behind) (s .order))
+continues-stands c k group old new bytes End s p = tt
+
+-- the first group
+frames-begin : (n : ℕ) → Left (Wires 0) (gather (suc n) frameGroups)
+unfolding gather frameGroups
+frames-begin zero = record { behind = _; begins = refl }
+frames-begin (suc n) =
+    record {
+      behind = frames-begin n .behind ++ frameGroups (suc n);
+      begins = ap (λ (t : List Group). t ++ frameGroups (suc n)) (frames-begin n .begins);
+    }
+
+pub first-stands : (k : ℕ) → Stands k (Wires 0)
+unfolding groupOrder
+first-stands k =
+    record {
+      before = [];
+      behind = frames-begin k .behind ++ Property ∷ [];
+      order = ap (λ (t : List Group). t ++ Property ∷ []) (ap (λ (n : ℕ). gather n frameGroups) (add-one k) ∙ frames-begin k .begins);
+    }

@@ -1,0 +1,38 @@
+-- A piece of the text of a depth: whole groups, from one of them on, in the order of the whole. Cited by `print_groups`.
+-- Assumes nothing.
+use Prim.Native.Nat.{ℕ}
+use mathlib.Core.Path.{_≡_}
+use mathlib.Core.List.{List, _∷_, _++_}
+use Rattle.model.specs.Netlist.{Netlist}
+use Rattle.model.specs.Groups.{groupOrder}
+use Rattle.model.specs.Numbers.{numbersOf, joined}
+use Rattle.model.specs.Wrote.{Wrote}
+use Rattle.model.specs.declared.Group.{Group}
+use Rattle.unrolling.specs.Next.{firstOf}
+use Rattle.unrolling.specs.declared.order.Next.{Next}
+use Rattle.unrolling.specs.declared.order.Next.the-variants.{Then, End}
+use Rattle.dimacs.specs.Text.{clauseText}
+
+-- the order of the whole has this group, between those before and those behind
+pub record Stands (k : ℕ) (group : Group) : Type 0 where
+  pub before : List Group
+  pub behind : List Group
+  pub order : groupOrder k ≡ before ++ group ∷ behind
+
+-- the group that comes next, if there is one, stands there
+abbrev pub NextStands : ℕ → Next → Type 0
+NextStands k (Then g) = Stands k g
+NextStands k End = Unit {0}
+
+-- wherever `group` stands in the order of the whole, the text at the start of the buffer is that of the groups `printed`, which
+-- begin with it, and `next` is the first of those that are left
+pub record Printed (c : Netlist) (k : ℕ) (old new : List ℕ) (bytes : ℕ) (next : Next) (due : List Group) : Type 0 where
+  pub printed : List Group
+  pub left : List Group
+  pub in-order : due ≡ printed ++ left
+  pub wrote : Wrote (clauseText (joined (numbersOf c k) printed)) old new bytes
+  pub next-left : next ≡ firstOf left
+
+abbrev pub Continues : Netlist → ℕ → Group → List ℕ → List ℕ → ℕ → Next → Type 0
+Continues c k group old new bytes next =
+    (before behind : List Group) → groupOrder k ≡ before ++ group ∷ behind → Printed c k old new bytes next (group ∷ behind)
