@@ -32,7 +32,7 @@ fn put_address_bit(
 {
     let equal = Lit::in_pair(q, 1);
     let bit_equal = Lit::in_pair(q, 2 + t);
-    writer::put_bit(
+    tseitin::put_bit(
         out,
         equal,
         bit_equal,

@@ -22,7 +22,7 @@ fn put_initial_bit(out: &mut [i32], none: Lit, reading: u32, rd: Wire, word: u32
     ensures { λ r. ⌜ Wrote (written (sameIf (literalOf none) (wireAt reading (rd .0)) (known (bit word t))))
         (now (out .entry)) (now (out .exit)) r ⌝ }
 {
-    writer::put_same_if(out, none, rd.in_frame(reading), Lit::bit(word, t))
+    tseitin::put_same_if(out, none, rd.in_frame(reading), Lit::bit(word, t))
 }
 
 // The clauses of each data bit, in bit order.

@@ -28,7 +28,7 @@ fn put_forwarded_bit(
     ensures { λ r. ⌜ Wrote (written (sameIf (literalOf selected) (wireAt reading (rd .0)) (codeAt writing (wd .0))))
         (now (out .entry)) (now (out .exit)) r ⌝ }
 {
-    writer::put_same_if(out, selected, rd.in_frame(reading), wd.in_frame(writing))
+    tseitin::put_same_if(out, selected, rd.in_frame(reading), wd.in_frame(writing))
 }
 
 // The clauses of each data bit, in bit order.

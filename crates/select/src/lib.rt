@@ -18,9 +18,9 @@ fn put_gates(out: &mut [i32], s: Lit, e: Lit, we: Lit, ps: Lit, sel: Lit, n: Lit
     ensures { λ r. ⌜ Wrote (written (selectClauses (literalOf s) (literalOf e) (literalOf we) (literalOf ps) (literalOf sel) (literalOf n)))
         (now (out .entry)) (now (out .exit)) r ⌝ }
 {
-    let a = writer::put_and(out, s, e, we);
-    let b = a + writer::put_and(&mut out[a..], ps, s.negated(), n);
-    b + writer::put_and(&mut out[b..], sel, s, n)
+    let a = tseitin::put_and(out, s, e, we);
+    let b = a + tseitin::put_and(&mut out[a..], ps, s.negated(), n);
+    b + tseitin::put_and(&mut out[b..], sel, s, n)
 }
 
 // The gates of the pair: valid read, none since, exclusive valid read. WE is of the writing frame.

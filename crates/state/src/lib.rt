@@ -58,7 +58,7 @@ fn put_latch(out: &mut [i32], b: u32, q: Wire, before: u32, d: Code) -> usize
         × (length (written (sameClauses (wireAt b (q .0)) (codeAt before (d .0)))) ≤ length (now out)) ⌝ }
     ensures { λ r. ⌜ Wrote (written (sameClauses (wireAt b (q .0)) (codeAt before (d .0)))) (now (out .entry)) (now (out .exit)) r ⌝ }
 {
-    writer::put_same(out, q.in_frame(b), d.in_frame(before))
+    tseitin::put_same(out, q.in_frame(b), d.in_frame(before))
 }
 
 // Each latch in the frame after frame i.

@@ -23,7 +23,7 @@ fn put_gate(out: &mut [i32], b: u32, g: Wire, left: Code, right: Code) -> usize
     ensures { λ r. ⌜ Wrote (written (andClauses (wireAt b (g .0)) (codeAt b (left .0)) (codeAt b (right .0))))
         (now (out .entry)) (now (out .exit)) r ⌝ }
 {
-    writer::put_and(out, g.in_frame(b), left.in_frame(b), right.in_frame(b))
+    tseitin::put_and(out, g.in_frame(b), left.in_frame(b), right.in_frame(b))
 }
 
 // Each gate in frame i, in wire order.

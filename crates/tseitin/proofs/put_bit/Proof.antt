@@ -1,0 +1,71 @@
+-- `tseitin::put_bit` meets its contract: twice two clauses that begin alike. Assumes nothing.
+use native.Mathlib.Omega.{arith}
+use borrow.Author.Needs.{needs}
+use Rattle.model.specs.Clauses.{bitClauses}
+use Rattle.model.specs.Numbers.{written}
+use Rattle.tseitin.specs.BothClauses.{bothClauses}
+use Rattle.writer.proofs.Wrote.{rest-within, rest-room, wrote-then}
+use Rattle.tseitin.proofs.put_bit.Statement.{statement}
+use Rattle.tseitin.proofs.put_bit.Tie as tie
+
+negated-requires : tie.Need-negated-requires
+negated-requires c κs = search needs
+
+negated-requires-2 : tie.Need-negated-requires-2
+negated-requires-2 c κs = search needs
+
+negated-requires-3 : tie.Need-negated-requires-3
+negated-requires-3 c κs = search needs
+
+put-both-requires : tie.Need-put-both-requires
+unfolding written bitClauses bothClauses
+put-both-requires c κs = search needs
+
+mul-put-both : tie.Need-mul-put-both
+unfolding written bitClauses bothClauses
+mul-put-both c = let within = rest-within (c .before .put-both .ensures) (omega arith) in search needs
+
+sub-put-both : tie.Need-sub-put-both
+unfolding written bitClauses bothClauses
+sub-put-both c = rest-within (c .before .put-both .ensures) (omega arith)
+
+part-put-both-start : tie.Need-part-put-both-start
+unfolding written bitClauses bothClauses
+part-put-both-start c = let within = rest-within (c .before .put-both .ensures) (omega arith) in search needs
+
+part-put-both-end : tie.Need-part-put-both-end
+part-put-both-end c = search needs
+
+put-both-requires-2 : tie.Need-put-both-requires-2
+unfolding written bitClauses bothClauses
+put-both-requires-2 c κs = (search needs, search needs, search needs, search needs, search needs, rest-room (c .before .before .put-both .ensures) (omega arith))
+
+add-result : tie.Need-add-result
+unfolding written bitClauses bothClauses
+add-result c = search needs
+
+same-length : tie.Need-same-length
+same-length c = search needs
+
+returns : tie.Need-returns
+unfolding written bitClauses bothClauses
+returns c =
+    simp (c .before .before .before .before .before .before .before .before .negated .ensures .0, c .before .before .before .before .before .before .before .negated2 .ensures .0, c .before .before .before .before .before .negated3 .ensures .0)
+    at (wrote-then (c .before .before .before .before .put-both .ensures) (c .before .put-both2 .ensures) (omega arith))
+
+pub put-bit-spec : {M : Type 1} → statement M
+put-bit-spec =
+    tie.close
+    (tie.spec
+    negated-requires
+    negated-requires-2
+    negated-requires-3
+    put-both-requires
+    mul-put-both
+    sub-put-both
+    part-put-both-start
+    part-put-both-end
+    put-both-requires-2
+    add-result
+    same-length
+    returns)

@@ -1,0 +1,42 @@
+-- `tseitin::put_same_if` meets its contract: two clauses that begin alike. Assumes nothing.
+use native.Mathlib.Omega.{arith}
+use borrow.Author.Needs.{needs}
+use Rattle.model.specs.Clauses.{sameIf}
+use Rattle.model.specs.Numbers.{written}
+use Rattle.tseitin.specs.BothClauses.{bothClauses}
+use Rattle.writer.proofs.Wrote.{rest-within, rest-room, wrote-then}
+use Rattle.tseitin.proofs.put_same_if.Statement.{statement}
+use Rattle.tseitin.proofs.put_same_if.Tie as tie
+
+negated-requires : tie.Need-negated-requires
+negated-requires c κs = search needs
+
+negated-requires-2 : tie.Need-negated-requires-2
+negated-requires-2 c κs = search needs
+
+negated-requires-3 : tie.Need-negated-requires-3
+negated-requires-3 c κs = search needs
+
+put-both-requires : tie.Need-put-both-requires
+unfolding written sameIf bothClauses
+put-both-requires c κs = search needs
+
+same-length : tie.Need-same-length
+same-length c = search needs
+
+returns : tie.Need-returns
+unfolding written sameIf bothClauses
+returns c =
+    simp (c .before .before .before .before .negated .ensures .0, c .before .before .before .negated2 .ensures .0, c .before .before .negated3 .ensures .0)
+    at (c .before .put-both .ensures)
+
+pub put-same-if-spec : {M : Type 1} → statement M
+put-same-if-spec =
+    tie.close
+    (tie.spec
+    negated-requires
+    negated-requires-2
+    negated-requires-3
+    put-both-requires
+    same-length
+    returns)
