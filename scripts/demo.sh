@@ -1,11 +1,39 @@
 #!/usr/bin/env bash
-# Proves every crate from nothing and says in words what is proved.
+# Proves every crate from nothing, builds `frames`, and lets a SAT solver find a fault in two chips with what `frames` writes.
 set -u
 cd "$(dirname "$0")/.." || exit 2
-if ! command -v rt >/dev/null 2>&1; then
-  echo "the Rattle kit is missing: the command 'rt' is not on the PATH" >&2
-  exit 1
-fi
-echo "proving every crate from nothing (rt prove) .."
-rt prove || { echo "something is not proved" >&2; exit 1; }
+. scripts/install.sh
+
+step() { printf '\n== %s\n' "$1"; }
+stop() { echo "$1" >&2; exit 1; }
+find_run() { bash scripts/find.sh "examples/$1.sheet" "$2" || stop "no answer for $1"; }
+
+step "1 of 4: tools"
+present rt || stop "the Rattle kit is missing: the command 'rt' is not on the PATH"
+install_missing awk mawk || exit 1
+install_missing cadical cadical || exit 1
+echo "$(rt version); CaDiCaL $(cadical --version)"
+
+step "2 of 4: every crate is proved from nothing (rt prove; some minutes, a line for each crate)"
+begin=$SECONDS
+rt prove || stop "something is not proved"
+[ -x target/bin/frames ] || rt check frames || stop "the program was not built"
+echo "$((SECONDS - begin)) seconds"
 cat docs/PROVED.txt
+
+step "3 of 4: document 01's example"
+echo "Every frame writes the input to address 0 and reads address 0 (one bit, start word 0). Property: a 0 is read."
+cat examples/document-01/chip.sheet
+echo "The formula of depth 1 (frames 0 and 1) as 'frames' prints it:"
+{ printf '%10d\n' 1; cat examples/document-01/chip.sheet; } | target/bin/frames
+find_run document-01/chip 0
+find_run document-01/chip 1
+
+step "4 of 4: the fifth revision of the carton counter"
+echo "One scan writes the carton's size and reads the same address in one frame. The memory gives the old word there: a carton"
+echo "scanned as fifty, then as a hundred, is counted with the fifty. Property: the adder uses no less than the size scanned."
+find_run fifth-revision/faulty 0
+find_run fifth-revision/faulty 1
+echo
+echo "Repaired: a scan hands its own size to the adder."
+find_run fifth-revision/repaired 16

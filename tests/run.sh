@@ -23,12 +23,8 @@ count() { # name, exit status, log
   if [ "$2" -ne 0 ] && [ "$4" -eq 0 ]; then fail "$1 exited with $2"; fi
 }
 
-need() { # command, Debian package
-  command -v "$1" >/dev/null 2>&1 && return 0
-  echo "installing $2 (for $1)"
-  { apt-get update -qq && apt-get install -y -qq "$2"; } >/dev/null 2>&1
-  command -v "$1" >/dev/null 2>&1 || { fail "$1 is missing, and the package $2 could not be installed (no network?)"; finish; }
-}
+. scripts/install.sh
+need() { install_missing "$1" "$2" || { fail "$1 is missing"; finish; } } # command or file, Debian package
 
 if ! command -v rt >/dev/null 2>&1; then
   fail "the Rattle kit is missing: the command 'rt' is not on the PATH"
@@ -36,6 +32,10 @@ if ! command -v rt >/dev/null 2>&1; then
 fi
 need awk gawk
 need rustc rustc
+need cadical cadical
+need minisat minisat
+need g++ g++
+need /usr/include/ccadical.h libcadical-dev
 
 logs=target/test
 echo "== layout: rt fmt --check"
@@ -50,25 +50,32 @@ rm -f "$log"
 
 mkdir -p "$logs"
 
-script() { # heading, script
+script() { # heading, script, its arguments
+  local log=$logs/$(basename "$2").out status
   echo "== $1"
-  bash "$2" > "$logs/$(basename "$2")" 2>&1
-  local status=$?
-  cat "$logs/$(basename "$2")"
-  count "$2" "$status" "$logs/$(basename "$2")"
+  bash "${@:2}" > "$log" 2>&1
+  status=$?
+  cat "$log"
+  count "$2" "$status" "$log"
+}
+
+program() { # heading, folder of a Rust program, its arguments
+  local built=$logs/$(basename "$2") status
+  echo "== $1"
+  if ! rustc -O --edition 2021 -o "$built" "$2/main.rs"; then
+    fail "$2 does not compile"
+    return
+  fi
+  "$built" "${@:3}" > "$built.out" 2>&1
+  status=$?
+  cat "$built.out"
+  count "$2" "$status" "$built.out"
 }
 
 script "each must-fail edit is refused at a fact" tests/edits.sh
 script "wires, codes and clause numbers are kept apart" tests/types.sh
-
-echo "== the second implementation's own tests"
-if rustc -O --edition 2021 -o "$logs/reference" tests/reference/main.rs; then
-  "$logs/reference" > "$logs/reference.out" 2>&1
-  status=$?
-  cat "$logs/reference.out"
-  count "tests/reference" "$status" "$logs/reference.out"
-else
-  fail "tests/reference does not compile"
-fi
+program "the second implementation's own tests" tests/reference
+script "the examples' sheets, and runs shown frame by frame" tests/examples.sh target/bin/frames
+program "the formula of frames, with public solvers" tests/solvers target/bin/frames "$logs/scratch" examples
 
 finish

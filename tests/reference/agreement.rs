@@ -28,12 +28,12 @@ impl Agreement {
 }
 
 /// The variable of a wire in a frame.
-fn variable(netlist: &Netlist, frame: usize, wire: usize) -> usize {
+pub fn variable(netlist: &Netlist, frame: usize, wire: usize) -> usize {
     frame_base(netlist, frame as u32) as usize + wire
 }
 
 /// What an assignment feeds: input variables, and read-bit variables as idle words.
-fn feeds_of_model(netlist: &Netlist, depth: u32, model: &[bool]) -> Vec<Feed> {
+pub fn feeds_of_model(netlist: &Netlist, depth: u32, model: &[bool]) -> Vec<Feed> {
     let first_read_bit = netlist.first_read_bit() as usize;
     let of_frame = |frame: usize| {
         let wire_value = |wire: usize| model[variable(netlist, frame, wire)];
@@ -47,7 +47,7 @@ fn feeds_of_model(netlist: &Netlist, depth: u32, model: &[bool]) -> Vec<Feed> {
 }
 
 /// Whether an assignment has every wire of every frame as the run has it.
-fn agrees(netlist: &Netlist, model: &[bool], run: &Run) -> bool {
+pub fn agrees(netlist: &Netlist, model: &[bool], run: &Run) -> bool {
     run.frames.iter().enumerate().all(|(frame, values)| {
         (1..values.len()).all(|wire| model[variable(netlist, frame, wire)] == values[wire])
     })

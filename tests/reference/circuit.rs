@@ -25,6 +25,7 @@ pub fn word(values: &[bool], codes: &[u32]) -> u32 {
 }
 
 /// The state between frames: the latches and the 2^m words.
+#[derive(Clone)]
 pub struct Circuit<'a> {
     netlist: &'a Netlist,
     latches: Vec<bool>,

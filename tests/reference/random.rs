@@ -105,7 +105,7 @@ fn split_wires(random: &mut Random, most: u32) -> [u32; 3] {
 
 /// Fills start word, codes and lists of a netlist that has its sizes. `clean` collects the wires
 /// that no read bit reaches (0 for the constants), from which address codes and RE are taken.
-fn fill(random: &mut Random, mut netlist: Netlist) -> Netlist {
+pub fn fill(random: &mut Random, mut netlist: Netlist) -> Netlist {
     let mut clean: Vec<u32> = (0..netlist.first_read_bit()).collect();
     for index in 0..netlist.gate_count {
         let wire = netlist.first_gate() + index;

@@ -1,0 +1,144 @@
+// What `frames` is measured against: the same text from the same input, without any test of the input. The clauses are made here;
+// how numbers are written is in the header that OUTPUT names.
+
+#include <stdint.h>
+#include <stdio.h>
+#include <stdlib.h>
+#include <string.h>
+
+#include OUTPUT
+
+enum { MOST_WIRES = 600, MOST_ADDRESS = 12, MOST_DATA = 32, LINE = 32, FIELD = 10 };
+
+typedef struct { int left, right; } Gate;
+typedef struct { int next, reset; } Latch;
+
+static int depth, inputs, latches, gates, m, n, wires, first_latch, first_read, first_gate;
+static unsigned start_word;
+static int write_enable, read_enable, property;
+static Latch latch[MOST_WIRES];
+static Gate gate[MOST_WIRES];
+static int address[MOST_ADDRESS], write_data[MOST_DATA];
+
+static unsigned field(const char *line, int index) {
+  char text[FIELD + 1] = {0};
+  memcpy(text, line + 1 + index * FIELD, FIELD);
+  return (unsigned)strtoul(text, NULL, 10);
+}
+
+static void read_input(void) {
+  static char input[FIELD + 1 + 615 * LINE];
+  size_t length = fread(input, 1, sizeof input, stdin);
+  int latch_lines = 0, gate_lines = 0, address_lines = 0, data_lines = 0;
+  depth = atoi(input);
+  for (const char *line = input + FIELD + 1; line + LINE <= input + length; line += LINE) {
+    int a = (int)field(line, 0), b = (int)field(line, 1);
+    unsigned c = field(line, 2);
+    switch (line[0]) {
+      case 'N': inputs = a; latches = b; gates = (int)c; break;
+      case 'M': m = a; n = b; start_word = c; break;
+      case 'L': latch[latch_lines++] = (Latch){a, b}; break;
+      case 'G': gate[gate_lines++] = (Gate){a, b}; break;
+      case 'A': address[address_lines++] = a; break;
+      case 'D': write_data[data_lines++] = a; break;
+      case 'C': write_enable = a; read_enable = b; property = (int)c; break;
+    }
+  }
+  first_latch = inputs + 1;
+  first_read = first_latch + latches;
+  first_gate = first_read + n;
+  wires = inputs + latches + n + gates;
+}
+
+// B(i) and Q(j, i) of document 01
+static int frame_base(int i) { return 1 + i * wires + (m + 4) * (i * (i - 1) / 2); }
+static int pair_base(int base, int j) { return base + wires + j * (m + 4); }
+
+static inline int literal(int code, int base) {
+  int positive = code < 2 ? -1 : base + (code >> 1);
+  return code & 1 ? -positive : positive;
+}
+
+static inline Out clause1(Out out, int a) { return end(put(out, a)); }
+static inline Out clause2(Out out, int a, int b) { return end(put(put(out, a), b)); }
+static inline Out clause3(Out out, int a, int b, int c) { return end(put(put(put(out, a), b), c)); }
+
+static inline Out and_gate(Out out, int g, int a, int b) {
+  out = clause2(out, -g, a);
+  out = clause2(out, -g, b);
+  return clause3(out, g, -a, -b);
+}
+
+static inline Out equal_if(Out out, int condition, int a, int b) {
+  out = clause3(out, -condition, -a, b);
+  return clause3(out, -condition, a, -b);
+}
+
+static Out wires_group(Out out, int i) {
+  int base = frame_base(i);
+  if (i == 0) out = clause1(out, 1);
+  for (int q = 0; q < latches; q++) {
+    int own = base + first_latch + q;
+    if (i == 0) {
+      out = clause1(out, latch[q].reset ? own : -own);
+    } else {
+      int next = literal(latch[q].next, frame_base(i - 1));
+      out = clause2(out, -own, next);
+      out = clause2(out, own, -next);
+    }
+  }
+  for (int g = 0; g < gates; g++)
+    out = and_gate(out, base + first_gate + g, literal(gate[g].left, base), literal(gate[g].right, base));
+  return out;
+}
+
+static Out pair_group(Out out, int j, int i) {
+  int reader = frame_base(i), writer = frame_base(j);
+  int base = pair_base(reader, j);
+  int all_equal = base + 1, valid = base + m + 2, none_since = base + m + 3, selected = base + m + 4;
+  for (int t = 0; t < m; t++) {
+    int e = base + 2 + t, aj = literal(address[t], writer), ai = literal(address[t], reader);
+    out = clause3(out, -all_equal, aj, -ai);
+    out = clause3(out, -all_equal, -aj, ai);
+    out = clause3(out, e, aj, ai);
+    out = clause3(out, e, -aj, -ai);
+  }
+  for (int t = 0; t < m; t++) out = put(out, -(base + 2 + t));
+  out = clause1(out, all_equal);
+  int newer = j == i - 1 ? literal(read_enable, reader) : pair_base(reader, j + 1) + m + 3;
+  out = and_gate(out, valid, all_equal, literal(write_enable, writer));
+  out = and_gate(out, none_since, -valid, newer);
+  out = and_gate(out, selected, valid, newer);
+  for (int t = 0; t < n; t++) out = equal_if(out, selected, reader + first_read + t, literal(write_data[t], writer));
+  return out;
+}
+
+static Out closing_group(Out out, int i) {
+  int base = frame_base(i), re = literal(read_enable, base);
+  int untouched = i == 0 ? re : pair_base(base, 0) + m + 3;
+  for (int t = 0; t < n; t++) out = equal_if(out, untouched, base + first_read + t, start_word >> t & 1 ? 1 : -1);
+  out = put(put(out, -re), untouched);
+  for (int j = 0; j < i; j++) out = put(out, pair_base(base, j) + m + 4);
+  return end(out);
+}
+
+static Out property_group(Out out) {
+  for (int i = 0; i <= depth; i++) out = put(out, -literal(property, frame_base(i)));
+  return end(out);
+}
+
+int main(void) {
+  read_input();
+  int frames = depth + 1;
+  int clauses = 1 + latches + 2 * latches * depth + 3 * gates * frames + (2 * n + 1) * frames +
+                (4 * m + 2 * n + 10) * (depth * frames / 2) + 1;
+  Out out = open_output();
+  out = header(out, frame_base(frames), clauses);
+  for (int i = 0; i <= depth; i++) {
+    out = wires_group(out, i);
+    for (int j = i - 1; j >= 0; j--) out = pair_group(out, j, i);
+    out = closing_group(out, i);
+  }
+  close_output(property_group(out));
+  return 0;
+}

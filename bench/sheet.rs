@@ -1,0 +1,40 @@
+//! Prints the sheet that `make bench` measures on: I = 60, L = 100, A = 408, m = 12, n = 32, so V = 600, filled with a fixed
+//! seed.
+
+// The second implementation's random netlists and sheets, shared and not copied.
+#[allow(dead_code)]
+#[path = "../tests/reference/circuit.rs"]
+mod circuit;
+#[allow(dead_code)]
+#[path = "../tests/reference/netlist.rs"]
+mod netlist;
+#[allow(dead_code)]
+#[path = "../tests/reference/random.rs"]
+mod random;
+#[allow(dead_code)]
+#[path = "../tests/reference/refusal.rs"]
+mod refusal;
+#[allow(dead_code)]
+#[path = "../tests/reference/sheet.rs"]
+mod sheet;
+
+use std::io::Write;
+
+fn main() {
+    let sizes = netlist::Netlist {
+        inputs: 60,
+        latch_count: 100,
+        gate_count: 408,
+        address_width: 12,
+        data_width: 32,
+        ..Default::default()
+    };
+    let netlist = random::fill(&mut random::Random::new(1), sizes);
+    netlist
+        .check()
+        .expect("a netlist within document 01's limits");
+    let sheet = sheet::write_sheet(&netlist);
+    std::io::stdout()
+        .write_all(&sheet)
+        .expect("standard output");
+}

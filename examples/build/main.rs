@@ -1,0 +1,42 @@
+//! Writes the sheet of each example, and the names of its wires, below the folder given.
+//! Build: rustc -O --edition 2021 main.rs
+
+mod chip;
+mod document_01;
+mod fifth_revision;
+mod fourth_revision;
+mod last_scan;
+// The second implementation's record and sheet, shared and not copied.
+#[allow(dead_code)]
+#[path = "../../tests/reference/netlist.rs"]
+mod netlist;
+#[allow(dead_code)]
+#[path = "../../tests/reference/refusal.rs"]
+mod refusal;
+#[allow(dead_code)]
+#[path = "../../tests/reference/sheet.rs"]
+mod sheet;
+
+use std::fs;
+use std::path::PathBuf;
+
+fn main() {
+    let Some(folder) = std::env::args_os().nth(1).map(PathBuf::from) else {
+        eprintln!("argument: the folder of the examples");
+        std::process::exit(2);
+    };
+    let chips = [
+        ("document-01/chip", document_01::chip()),
+        ("fourth-revision/faulty", fourth_revision::chip(false)),
+        ("fourth-revision/repaired", fourth_revision::chip(true)),
+        ("fifth-revision/faulty", fifth_revision::chip(false)),
+        ("fifth-revision/repaired", fifth_revision::chip(true)),
+    ];
+    for (name, chip) in chips {
+        let path = folder.join(name);
+        fs::create_dir_all(path.parent().expect("a folder for each example"))
+            .expect("a writable folder");
+        fs::write(path.with_extension("sheet"), chip.sheet()).expect("a writable sheet");
+        fs::write(path.with_extension("names"), chip.names()).expect("writable names");
+    }
+}

@@ -1,0 +1,58 @@
+#!/usr/bin/env bash
+# The examples: each committed sheet, and the names of its wires, is what the builder writes; the script that looks for a run
+# finds one or none as it should; a solver's answer is shown frame by frame as it should; the README's formula is the program's.
+# Argument: the program `frames`.
+set -u
+frames=$(readlink -f "$1")
+cd "$(dirname "$0")/.." || exit 2
+passed=0
+failed=0
+check() { # what, command ..
+  local name=$1
+  shift
+  if "$@"; then passed=$((passed + 1)); else failed=$((failed + 1)); echo "FAILED: $name"; fi
+}
+
+work=$(mktemp -d)
+trap 'rm -rf "$work"' EXIT
+
+files() { (cd "$1" && find . -name '*.sheet' -o -name '*.names' | sort); }
+check "the builder compiles" rustc -O --edition 2021 -o "$work/build" examples/build/main.rs
+check "the builder writes" "$work/build" "$work/built"
+check "the same files" [ "$(files examples)" = "$(files "$work/built")" ]
+for file in $(files "$work/built"); do check "$file is as built" cmp "examples/$file" "$work/built/$file"; done
+
+verdict() { # sheet, depth, words that the first line must end in
+  local said
+  said=$(FRAMES=$frames bash scripts/find.sh "examples/$1.sheet" "$2" | head -n 1)
+  [ "$said" = "examples/$1.sheet: $3" ] || { echo "$said"; return 1; }
+}
+found() { check "$1 at depth $2" verdict "$1" "$2" "the property is broken in one of the frames 0 to $2:"; }
+nothing() { check "$1 at depth $2" verdict "$1" "$2" "no run breaks the property in frames 0 to $2"; }
+nothing document-01/chip 0
+found document-01/chip 1
+nothing fourth-revision/faulty 2
+found fourth-revision/faulty 3
+nothing fourth-revision/repaired 16
+nothing fifth-revision/faulty 0
+found fifth-revision/faulty 1
+nothing fifth-revision/repaired 16
+
+# Document 01's chip at depth 1, input true in frame 0 only: by hand, from the numbers of its variables.
+printf 's SATISFIABLE\nv 1 2 -3 -4 5\nv 6 7 8 -9 10 0\n' > "$work/answer"
+cat > "$work/expected" <<'END'
+frame  input  read  memory
+    0      1     0  reads 0 at 0 (start word), writes 1 at 0
+    1      0     1  reads 1 at 0 (written in frame 0), writes 0 at 0  <- property broken
+END
+chip=examples/document-01/chip
+awk -f scripts/trace.awk depth=1 file=names $chip.names file=sheet $chip.sheet file=answer "$work/answer" > "$work/shown"
+check "an answer shown frame by frame" diff "$work/expected" "$work/shown"
+
+# The README's formula is what the program prints.
+sed -n '/^\$ .*target\/bin\/frames$/,/^```$/p' README.md | sed '1d;$d' > "$work/formula"
+{ printf '%10d\n' 1; cat $chip.sheet; } | "$frames" > "$work/printed"
+check "the README's formula" diff "$work/formula" "$work/printed"
+
+echo "$passed passed, $failed failed"
+[ "$failed" -eq 0 ]

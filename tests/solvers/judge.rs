@@ -1,0 +1,164 @@
+//! Demand 3 of one formula text, by the public solvers and the simulated chip. A text from the program
+//! and a text from a wrong generator are judged alike.
+
+use super::cadical::Cadical;
+use super::cases::all_runs;
+use super::programs::{Answer, Programs};
+use super::reference::agreement::{agrees, feeds_of_model, variable};
+use super::reference::circuit::{word, Run};
+use super::reference::formula::pair_base;
+use super::reference::netlist::Netlist;
+use super::reference::random::{random_feeds, Random};
+use super::reference::solver::satisfies;
+
+/// Free bits up to which all runs of a netlist are compared.
+const ALL_RUNS_BITS: u32 = 12;
+/// Random runs that are compared where there are too many.
+const SAMPLE: usize = 24;
+
+/// What is wrong with a text.
+#[derive(Clone, Copy, Debug, Default, PartialEq, Eq)]
+pub struct Faults {
+    /// A solver does not take the file, the solvers differ, or a model is none.
+    pub file: bool,
+    /// Demand 3's first half: an assignment that differs from its run, or whose run breaks nothing.
+    pub assignment_to_run: bool,
+    /// Its second half: a run that breaks the property, without an assignment.
+    pub run_to_assignment: bool,
+    /// An e that is not as free, or not as bound, as document 01 says.
+    pub bit_equality: bool,
+}
+
+#[derive(Debug, Default)]
+pub struct Judgement {
+    pub faults: Faults,
+    pub satisfiable: bool,
+    /// All runs were compared, so that the projected models are exactly the breaking feeds.
+    pub all_runs: bool,
+    pub breaking_runs: usize,
+}
+
+/// Judges a DIMACS text that stands for this netlist and depth.
+pub fn judge(programs: &Programs, netlist: &Netlist, depth: u32, text: &[u8]) -> Judgement {
+    let mut judgement = Judgement::default();
+    let Some(formula) = read_dimacs(text) else {
+        judgement.faults.file = true;
+        return judgement;
+    };
+    let answers = programs.solve(text);
+    judgement.satisfiable = answers[0].is_satisfiable();
+    judgement.faults.file = answers[0].is_satisfiable() != answers[1].is_satisfiable();
+    for answer in &answers {
+        match answer {
+            Answer::Unsatisfiable => {}
+            Answer::Refused(_) => judgement.faults.file = true,
+            Answer::Satisfiable(model) => {
+                let proper =
+                    model.len() == formula.variables + 1 && satisfies(model, &formula.numbers);
+                judgement.faults.file |= !proper;
+                judgement.faults.assignment_to_run |=
+                    !proper || !follows_its_run(netlist, depth, model);
+            }
+        }
+    }
+    compare_runs(&mut judgement, netlist, depth, &formula);
+    judgement
+}
+
+/// Numbers of which each 0 ends one clause, over variables 1 to `variables`.
+pub struct Formula {
+    pub variables: usize,
+    pub numbers: Vec<i32>,
+}
+
+/// The numbers of a DIMACS text; none for anything else. That the counts hold is the solvers' to say.
+pub fn read_dimacs(text: &[u8]) -> Option<Formula> {
+    let (header, clauses) = std::str::from_utf8(text).ok()?.split_once('\n')?;
+    let (variables, _) = header.strip_prefix("p cnf ")?.split_once(' ')?;
+    let numbers: Result<Vec<i32>, _> = clauses.split_whitespace().map(str::parse).collect();
+    Some(Formula {
+        variables: variables.parse().ok()?,
+        numbers: numbers.ok()?,
+    })
+}
+
+/// Whether the run that a model feeds has every wire as assigned and breaks the property.
+pub fn follows_its_run(netlist: &Netlist, depth: u32, model: &[bool]) -> bool {
+    let run = Run::new(netlist, &feeds_of_model(netlist, depth, model));
+    run.first_break.is_some() && agrees(netlist, model, &run)
+}
+
+fn compare_runs(judgement: &mut Judgement, netlist: &Netlist, depth: u32, formula: &Formula) {
+    let mut solver = Cadical::new(formula.variables, &formula.numbers);
+    let all = all_runs(netlist, depth, ALL_RUNS_BITS);
+    judgement.all_runs = all.is_some();
+    let runs = all.unwrap_or_else(|| sample_runs(netlist, depth));
+    let mut bits_judged = false;
+    let mut blocking = Vec::new();
+    for run in &runs {
+        let breaks = run.first_break.is_some();
+        let feed = projection(netlist, run);
+        if breaks {
+            judgement.breaking_runs += 1;
+            blocking.extend(feed.iter().map(|literal| -literal).chain([0]));
+        }
+        match solver.solve(&feed) {
+            None => judgement.faults.run_to_assignment |= breaks,
+            Some(model) => {
+                judgement.faults.assignment_to_run |= !breaks || !agrees(netlist, &model, run);
+                if !bits_judged {
+                    bits_judged = true;
+                    judgement.faults.bit_equality |=
+                        !bits_as_stated(&mut solver, netlist, run, &feed);
+                }
+            }
+        }
+    }
+    if judgement.all_runs {
+        // What is still satisfiable is a projected model that is no breaking feed.
+        solver.add(&blocking);
+        judgement.faults.assignment_to_run |= solver.solve(&[]).is_some();
+    }
+}
+
+fn sample_runs(netlist: &Netlist, depth: u32) -> Vec<Run> {
+    let mut random = Random::new(u64::from(netlist.property) << 32 | u64::from(depth));
+    (0..SAMPLE)
+        .map(|_| Run::new(netlist, &random_feeds(&mut random, netlist, depth)))
+        .collect()
+}
+
+/// A run's inputs and read bits as literals. Where RE is true the read bits follow from the rest, and an
+/// assignment with others is not to be taken for the run's.
+fn projection(netlist: &Netlist, run: &Run) -> Vec<i32> {
+    let inputs = 1..netlist.first_latch() as usize;
+    let read_bits = netlist.first_read_bit() as usize..netlist.first_gate() as usize;
+    let wires: Vec<usize> = inputs.chain(read_bits).collect();
+    let mut literals = Vec::new();
+    for (frame, values) in run.frames.iter().enumerate() {
+        for wire in &wires {
+            let number = variable(netlist, frame, *wire) as i32;
+            literals.push(if values[*wire] { number } else { -number });
+        }
+    }
+    literals
+}
+
+/// Document 01: where the bits are equal e holds; where they differ it may be either, unless all others
+/// hold (E is false then, and not all e may hold).
+fn bits_as_stated(solver: &mut Cadical, netlist: &Netlist, run: &Run, feed: &[i32]) -> bool {
+    let m = netlist.address_width;
+    let address = |frame: u32| word(&run.frames[frame as usize], netlist.address_codes());
+    let mut can_be = |literal: i32| solver.solve(&[feed, &[literal]].concat()).is_some();
+    let frames = run.frames.len() as u32;
+    let mut pairs = (0..frames).flat_map(|i| (0..i).map(move |j| (j, i)));
+    pairs.all(|(j, i)| {
+        let differing = address(j) ^ address(i);
+        (0..m).all(|bit| {
+            let e = pair_base(netlist, j, i) as i32 + 2 + bit as i32;
+            let differs = (differing >> bit) & 1 == 1;
+            let others_differ = differing & !(1 << bit) != 0;
+            can_be(-e) == differs && can_be(e) == (!differs || others_differ)
+        })
+    })
+}

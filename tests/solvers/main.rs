@@ -1,0 +1,154 @@
+//! Demand 3 with public solvers: what `frames` prints is solved by CaDiCaL and MiniSat, and every answer
+//! is held to the simulated chip of the second implementation. The last line is the total.
+//! Arguments: the program `frames`, a folder for scratch files, the folder of the examples.
+//! Build: rustc -O --edition 2021 main.rs (Debian's packages libcadical-dev and g++)
+
+mod cadical;
+mod cases;
+mod judge;
+mod programs;
+mod reference;
+mod stories;
+mod wrong;
+
+use std::path::PathBuf;
+
+use cadical::Cadical;
+use cases::{depends_on_read_bit, small_cases, Case};
+use judge::{judge, read_dimacs, Faults};
+use programs::{Answer, Programs};
+use reference::agreement::variable;
+use reference::sheet::{expand, read_sheet};
+use reference::tally::{Report, Tally};
+
+/// Random sheets that the program's formulas are judged on.
+const SHEETS: usize = 2400;
+
+fn main() {
+    let arguments: Vec<PathBuf> = std::env::args_os().skip(1).map(PathBuf::from).collect();
+    let [frames, scratch, examples] = arguments.as_slice() else {
+        eprintln!("arguments: frames, scratch folder, folder of the examples");
+        std::process::exit(2);
+    };
+    let programs = Programs::new(frames.clone(), scratch.clone());
+    let mut report = Report::default();
+    report.family("strict reading", |tally| strict_reading(tally, &programs));
+    report.family("document 01's sheet", |tally| document_01(tally, &programs));
+    report.family("random sheets", |tally| random_sheets(tally, &programs));
+    report.family("stories", |tally| {
+        stories::stories(tally, &programs, examples)
+    });
+    report.family("wrong generators", |tally| {
+        wrong::wrong_generators(tally, &programs)
+    });
+    report.finish()
+}
+
+/// Both solvers take a file whose header counts right, and refuse one whose header does not.
+fn strict_reading(tally: &mut Tally, programs: &Programs) {
+    let texts = [
+        ("as it should be", "p cnf 2 2\n1 -2 0\n2 0\n", true),
+        ("a clause too few", "p cnf 2 3\n1 -2 0\n2 0\n", false),
+        ("a clause too many", "p cnf 2 1\n1 -2 0\n2 0\n", false),
+    ];
+    for (name, text, taken) in texts {
+        for answer in programs.solve(text.as_bytes()) {
+            tally.check((name, &answer), answer.is_satisfiable() == taken);
+        }
+    }
+    let beyond = programs.solve(b"p cnf 1 2\n1 -2 0\n2 0\n");
+    let refused = matches!(beyond[0], Answer::Refused(_));
+    tally.check(
+        ("a variable beyond the header, by CaDiCaL", beyond),
+        refused,
+    );
+}
+
+/// Depth 0: nothing breaks the property. Depth 1: every assignment has the input true in frame 0.
+fn document_01(tally: &mut Tally, programs: &Programs) {
+    let sheet = expand("N 1 0 0/M 1 1 0/A 0/D 2/C 1 1 5");
+    let netlist = read_sheet(&sheet, 0, 0).expect("document 01's sheet");
+    let input = variable(&netlist, 0, 1);
+    for (depth, satisfiable) in [(0, false), (1, true)] {
+        let text = programs.frames(&netlist, depth);
+        let judgement = judge(programs, &netlist, depth, &text);
+        tally.equal(
+            ("faults at depth", depth),
+            judgement.faults,
+            Faults::default(),
+        );
+        tally.check(("all runs at depth", depth), judgement.all_runs);
+        tally.equal(
+            ("verdict at depth", depth),
+            judgement.satisfiable,
+            satisfiable,
+        );
+        for answer in programs.solve(&text) {
+            let input_true = match answer {
+                Answer::Satisfiable(model) => model[input],
+                _ => false,
+            };
+            tally.equal(
+                ("input of frame 0 at depth", depth),
+                input_true,
+                satisfiable,
+            );
+        }
+    }
+    let formula = read_dimacs(&programs.frames(&netlist, 1)).expect("a formula");
+    let mut solver = Cadical::new(formula.variables, &formula.numbers);
+    let other = solver.solve(&[-(input as i32)]);
+    tally.equal("input false in frame 0", other, None);
+}
+
+type Shape = (&'static str, fn(&Case) -> bool);
+
+/// What the random sheets must have often.
+#[rustfmt::skip]
+const SHAPES: [Shape; 10] = [
+    ("k = 0", |it| it.depth == 0),
+    ("k = 4", |it| it.depth == 4),
+    ("m = 1", |it| it.netlist.address_width == 1),
+    ("m = 3", |it| it.netlist.address_width == 3),
+    ("n = 1", |it| it.netlist.data_width == 1),
+    ("n = 3", |it| it.netlist.data_width == 3),
+    ("no input", |it| it.netlist.inputs == 0),
+    ("no latch", |it| it.netlist.latch_count == 0),
+    ("RE not constant", |it| it.netlist.read_enable > 1),
+    ("WE depends on a read bit", |it| depends_on_read_bit(&it.netlist, it.netlist.write_enable)),
+];
+
+fn random_sheets(tally: &mut Tally, programs: &Programs) {
+    let cases = small_cases(1, SHEETS);
+    let (mut satisfiable, mut all_runs, mut breaking) = (0, [0, 0], 0);
+    for (index, Case { netlist, depth }) in cases.iter().enumerate() {
+        let text = programs.frames(netlist, *depth);
+        let judgement = judge(programs, netlist, *depth, &text);
+        let right =
+            judgement.faults == Faults::default() && depends_on_read_bit(netlist, netlist.property);
+        tally.check((index, depth, &judgement, netlist), right);
+        satisfiable += usize::from(judgement.satisfiable);
+        all_runs[usize::from(judgement.satisfiable)] += usize::from(judgement.all_runs);
+        breaking += judgement.breaking_runs;
+    }
+    for (name, has_shape) in SHAPES {
+        let count = cases.iter().filter(|case| has_shape(case)).count();
+        tally.check((name, count), 10 * count >= SHEETS);
+    }
+    tally.check(("satisfiable", satisfiable), 4 * satisfiable >= SHEETS);
+    tally.check(
+        ("unsatisfiable", satisfiable),
+        4 * (SHEETS - satisfiable) >= SHEETS,
+    );
+    let compared = all_runs[0] + all_runs[1];
+    tally.check(
+        ("sheets with all runs compared", compared),
+        2 * compared >= SHEETS,
+    );
+    tally.remark = format!(
+        " ({satisfiable} satisfiable, {} not; all runs compared on {} and {} of them, {breaking} breaking)",
+        SHEETS - satisfiable,
+        all_runs[1],
+        all_runs[0],
+    );
+}
