@@ -1,0 +1,275 @@
+//! What is promised and what must be believed, read off the repository: the public functions with the definitions that their
+//! contracts cite, the files in which those definitions stand, the wrong programs that are refused, and the C functions whose
+//! contracts the check assumes. `print` prints it as docs/TRUST.md has it; `check` holds the page to it. The last line of `check`
+//! is the total.
+//! Arguments: print or check; the repository's folder. The check's own output is read from target/log (after `rt ci`).
+
+use std::collections::{BTreeMap, BTreeSet};
+use std::fs;
+use std::path::{Path, PathBuf};
+
+/// The functions for designers, with their files; every exported C function is public too.
+const PUBLIC: [(&str, &str); 7] = [
+    ("calls/src/lib.rt", "heading"),
+    ("calls/src/lib.rt", "write_group"),
+    ("sheet/src/lib.rt", "read"),
+    ("lines/src/lib.rt", "read_depth"),
+    ("dimacs/src/lib.rt", "put_header"),
+    ("dimacs/src/lib.rt", "put_clauses"),
+    ("dimacs/src/lib.rt", "put_refusal"),
+];
+
+struct Repository(PathBuf);
+
+/// A file of definitions: crate and module.
+type Module = (String, String);
+
+struct Public {
+    file: String,
+    name: String,
+    has_requires: bool,
+    /// What each `ensures` is called, and the definitions that it cites.
+    promises: Vec<(String, Vec<(String, Module)>)>,
+}
+
+impl Repository {
+    fn read(&self, path: &str) -> String {
+        let whole = self.0.join(path);
+        fs::read_to_string(&whole).unwrap_or_else(|error| panic!("{}: {error}", whole.display()))
+    }
+
+    fn files(&self, folder: &str, ending: &str) -> Vec<String> {
+        let mut found = Vec::new();
+        let Ok(entries) = fs::read_dir(self.0.join(folder)) else {
+            return found;
+        };
+        for entry in entries {
+            let name = entry.expect("an entry").file_name();
+            let name = name.to_string_lossy();
+            if name.ends_with(ending) {
+                found.push(format!("{folder}/{name}"));
+            }
+        }
+        found.sort();
+        found
+    }
+
+    fn public_functions(&self) -> Vec<Public> {
+        let mut all = Vec::new();
+        for (file, name) in PUBLIC {
+            let text = self.read(&format!("crates/{file}"));
+            all.push(function(file, &text, &format!("pub fn {name}("), name));
+        }
+        for path in self.files("crates/exports/src", ".rt") {
+            let text = self.read(&path);
+            for line in text.lines() {
+                if let Some(rest) = line.strip_prefix("pub extern \"C\" fn ") {
+                    let name = rest.split('(').next().unwrap_or(rest);
+                    let head = format!("pub extern \"C\" fn {name}(");
+                    all.push(function(&path["crates/".len()..], &text, &head, name));
+                }
+            }
+        }
+        all
+    }
+
+    /// The definitions' files that these reach by their `use` lines.
+    fn reached(&self, from: BTreeSet<Module>) -> BTreeSet<Module> {
+        let mut reached = from.clone();
+        let mut left: Vec<Module> = from.into_iter().collect();
+        while let Some((of, module)) = left.pop() {
+            let text = self.read(&path_of(&(of.clone(), module)));
+            for line in text.lines().filter(|line| line.starts_with("use Rattle·")) {
+                if let Some((next, _)) = import(line, &of) {
+                    if reached.insert(next.clone()) {
+                        left.push(next);
+                    }
+                }
+            }
+        }
+        reached
+    }
+}
+
+fn path_of((of, module): &Module) -> String {
+    format!("crates/{of}/specs/{module}.antt")
+}
+
+/// The module and the names that a `use` line brings; none where it brings a declared type, or no definition of ours.
+fn import(line: &str, own: &str) -> Option<(Module, Vec<String>)> {
+    let rest = line.split_once("Rattle·")?.1;
+    let rest = rest.trim_end_matches(';');
+    let (of, rest) = match rest.split_once("·specs.specs.") {
+        Some((_, rest)) => (own.to_string(), rest),
+        None => {
+            let (of, rest) = rest.split_once(".specs.")?;
+            (of.to_string(), rest)
+        }
+    };
+    if rest.starts_with("declared") {
+        return None;
+    }
+    let module = rest.split([' ', '.']).next()?.to_string();
+    let names = match rest.split_once('{') {
+        Some((_, names)) => names.trim_end_matches('}').split(", ").map(String::from).collect(),
+        None => Vec::new(),
+    };
+    Some(((of, module), names))
+}
+
+/// A function's contract: from its head to the brace that opens its body.
+fn function(file: &str, text: &str, head: &str, name: &str) -> Public {
+    let own = file.split('/').next().expect("a crate");
+    let start = text.find(head).unwrap_or_else(|| panic!("{file}: no {head}"));
+    let contract = text[start..].split("\n{").next().expect("a contract");
+    let mut cited: BTreeMap<String, Module> = BTreeMap::new();
+    for line in text.lines().filter(|line| line.starts_with("ghost use Rattle·")) {
+        if let Some((module, names)) = import(line, own) {
+            for name in names {
+                cited.insert(name, module.clone());
+            }
+        }
+    }
+    let mut promises = Vec::new();
+    for clause in contract.split("\n    ensures ").skip(1) {
+        let (called, body) = clause.split_once('{').expect("an ensures");
+        let words: BTreeSet<&str> = body.split(|c: char| c.is_whitespace() || "()⌜⌝{}".contains(c)).collect();
+        let definitions = cited.iter().filter(|(name, _)| words.contains(name.as_str()));
+        promises.push((
+            called.trim().to_string(),
+            definitions.map(|(name, module)| (name.clone(), module.clone())).collect(),
+        ));
+    }
+    Public {
+        file: file.to_string(),
+        name: name.to_string(),
+        has_requires: contract.contains("\n    requires "),
+        promises,
+    }
+}
+
+fn functions_block(functions: &[Public]) -> String {
+    let mut text = String::from("| function | promise: the definitions that it cites |\n|---|---|\n");
+    for it in functions {
+        let own = it.file.split('/').next().expect("a crate");
+        let promises = it.promises.iter().map(|(called, definitions)| {
+            let names: Vec<String> = definitions.iter().map(|(name, _)| format!("`{name}`")).collect();
+            let called = if called.is_empty() { String::new() } else { format!("{called}: ") };
+            format!("{called}{}", names.join(" "))
+        });
+        let promises: Vec<String> = promises.collect();
+        text += &format!("| [`{own}::{}`](../crates/{}) | {} |\n", it.name, it.file, promises.join("; "));
+    }
+    text
+}
+
+fn definitions_block(repository: &Repository, functions: &[Public]) -> String {
+    let cited = functions.iter().flat_map(|it| it.promises.iter().flat_map(|(_, names)| names));
+    let reached = repository.reached(cited.map(|(_, module)| module.clone()).collect());
+    let mut by_crate: BTreeMap<&str, Vec<(&str, usize)>> = BTreeMap::new();
+    for module in &reached {
+        let lines = repository.read(&path_of(module)).lines().count();
+        by_crate.entry(&module.0).or_default().push((&module.1, lines));
+    }
+    let mut text = String::from("| crate | definitions (lines) |\n|---|---|\n");
+    let mut sum = 0;
+    for (of, modules) in by_crate {
+        let names: Vec<String> = modules.iter().map(|(module, lines)| format!("{module} ({lines})")).collect();
+        sum += modules.iter().map(|(_, lines)| lines).sum::<usize>();
+        text += &format!("| [{of}](../crates/{of}/specs) | {} |\n", names.join(", "));
+    }
+    text + &format!("\n{} files, {sum} lines, comments included.\n", reached.len())
+}
+
+/// The wrong programs that stand for a public function: edits with a line '# public: NAME'.
+fn edits_block(repository: &Repository, functions: &[Public]) -> (String, Vec<String>) {
+    let mut of_function: BTreeMap<String, Vec<(String, String)>> = BTreeMap::new();
+    let mut crates: Vec<String> = fs::read_dir(repository.0.join("crates"))
+        .expect("crates")
+        .map(|entry| entry.expect("a crate").file_name().to_string_lossy().into_owned())
+        .collect();
+    crates.sort();
+    for of in crates {
+        for path in repository.files(&format!("crates/{of}/must-fail"), ".edit") {
+            let text = repository.read(&path);
+            let says = text.lines().next().unwrap_or("").trim_start_matches("# ").to_string();
+            for name in text.lines().filter_map(|line| line.strip_prefix("# public: ")) {
+                of_function.entry(name.to_string()).or_default().push((path.clone(), says.clone()));
+            }
+        }
+    }
+    let mut text = String::from("| function | wrong program | edit |\n|---|---|---|\n");
+    let mut short = Vec::new();
+    for it in functions {
+        let edits = of_function.remove(&it.name).unwrap_or_default();
+        if edits.len() < 2 {
+            short.push(format!("{} has {} wrong programs", it.name, edits.len()));
+        }
+        for (path, says) in edits {
+            let name = Path::new(&path).file_stem().expect("a name").to_string_lossy().into_owned();
+            text += &format!("| `{}` | {says} | [{name}](../{path}) |\n", it.name);
+        }
+    }
+    short.extend(of_function.into_keys().map(|name| format!("no public function {name}")));
+    (text, short)
+}
+
+/// What the check said that it assumes, of each crate.
+fn axioms_block(repository: &Repository) -> String {
+    let mut text = String::new();
+    for path in repository.files("target/log", ".out") {
+        let name = Path::new(&path).file_stem().expect("a name").to_string_lossy().into_owned();
+        for line in repository.read(&path).lines().filter(|line| line.starts_with("axioms ")) {
+            text += &format!("{name}: {line}\n");
+        }
+    }
+    format!("```\n{text}```\n")
+}
+
+fn main() {
+    let arguments: Vec<String> = std::env::args().skip(1).collect();
+    let [mode, folder] = arguments.as_slice() else {
+        eprintln!("arguments: print or check, the repository's folder");
+        std::process::exit(2);
+    };
+    let repository = Repository(PathBuf::from(folder));
+    let functions = repository.public_functions();
+    let (edits, short) = edits_block(&repository, &functions);
+    let blocks = [
+        ("functions", functions_block(&functions)),
+        ("definitions", definitions_block(&repository, &functions)),
+        ("assumed", axioms_block(&repository)),
+        ("wrong programs", edits),
+    ];
+    if mode == "print" {
+        for (name, text) in &blocks {
+            println!("<!-- {name} -->\n{text}<!-- end -->");
+        }
+        return;
+    }
+    let page = repository.read("docs/TRUST.md");
+    let (mut passed, mut failed) = (0, 0);
+    let mut check = |name: String, holds: bool| {
+        if holds {
+            passed += 1;
+        } else {
+            failed += 1;
+            println!("FAILED: {name}");
+        }
+    };
+    for (name, text) in &blocks {
+        let whole = format!("<!-- {name} -->\n{text}<!-- end -->");
+        check(format!("docs/TRUST.md's {name} are not what the repository has (make promises)"), page.contains(&whole));
+    }
+    for it in &functions {
+        check(format!("{} has a requires", it.name), !it.has_requires);
+        check(format!("{} promises nothing", it.name), !it.promises.is_empty());
+    }
+    for what in short {
+        check(what, false);
+    }
+    println!("{passed} passed, {failed} failed");
+    if failed > 0 {
+        std::process::exit(1);
+    }
+}
