@@ -42,5 +42,11 @@ for edit in crates/*/must-fail/*.edit; do
   [ -e "$edit" ] || continue
   if judge "$edit"; then passed=$((passed + 1)); else failed=$((failed + 1)); fi
 done
+# what the edits cost: each checks its crate anew
+if [ -f target/test/rt-ci.out ]; then
+  for edit in crates/*/must-fail/*.edit; do basename "$(dirname "$(dirname "$edit")")"; done |
+    awk 'NR == FNR { if ($1 == "rt:" && $3 == "proved") time[$2] = substr($4, 2) + 0; next } { sum += time[$1] }
+         END { printf "%d edits; their crates take %d s to check, added up over the edits\n", FNR, sum }' target/test/rt-ci.out -
+fi
 echo "$passed passed, $failed failed"
 [ "$failed" -eq 0 ]

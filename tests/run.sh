@@ -46,9 +46,8 @@ log=$(mktemp)
 rt ci 2>&1 | tee "$log"
 status=${PIPESTATUS[0]}
 count "rt ci" "$status" "$log"
-rm -f "$log"
-
-mkdir -p "$logs"
+mkdir -p "$logs" # rt ci removes target/ first
+mv "$log" "$logs/rt-ci.out"
 
 script() { # heading, script, its arguments
   local log=$logs/$(basename "$2").out status

@@ -1,8 +1,8 @@
 //! What is promised and what must be believed, read off the repository: the public functions with the definitions that their
 //! contracts cite, the files in which those definitions stand, the wrong programs that are refused, and the C functions whose
-//! contracts the check assumes. `print` prints it as docs/TRUST.md has it; `check` holds the page to it. The last line of `check`
-//! is the total.
-//! Arguments: print or check; the repository's folder. The check's own output is read from target/log (after `rt ci`).
+//! contracts the check assumes. `print` prints it as docs/TRUST.md has it, `write` puts it there, and `check` holds the page to it.
+//! The last line of `check` is the total.
+//! Arguments: print, write or check; the repository's folder. The check's own output is read from target/log (after `rt ci`).
 
 use std::collections::{BTreeMap, BTreeSet};
 use std::fs;
@@ -229,7 +229,7 @@ fn axioms_block(repository: &Repository) -> String {
 fn main() {
     let arguments: Vec<String> = std::env::args().skip(1).collect();
     let [mode, folder] = arguments.as_slice() else {
-        eprintln!("arguments: print or check, the repository's folder");
+        eprintln!("arguments: print, write or check, the repository's folder");
         std::process::exit(2);
     };
     let repository = Repository(PathBuf::from(folder));
@@ -247,7 +247,16 @@ fn main() {
         }
         return;
     }
-    let page = repository.read("docs/TRUST.md");
+    let mut page = repository.read("docs/TRUST.md");
+    if mode == "write" {
+        for (name, text) in &blocks {
+            let (before, rest) = page.split_once(&format!("<!-- {name} -->\n")).expect("the block's begin");
+            let after = rest.split_once("<!-- end -->").expect("the block's end").1;
+            page = format!("{before}<!-- {name} -->\n{text}<!-- end -->{after}");
+        }
+        fs::write(repository.0.join("docs/TRUST.md"), page).expect("docs/TRUST.md");
+        return;
+    }
     let (mut passed, mut failed) = (0, 0);
     let mut check = |name: String, holds: bool| {
         if holds {
