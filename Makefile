@@ -1,5 +1,5 @@
 # For a newcomer: `make demo` and `make test`. They need the Rattle kit (the command `rt`).
-.PHONY: demo test bench
+.PHONY: demo test bench fuzz promises
 
 demo:
 	@bash scripts/demo.sh
@@ -10,3 +10,12 @@ test:
 # after `make demo` or `make test`, which build the program
 bench:
 	@bash bench/run.sh
+
+# as many hostile inputs as asked for: make fuzz N=100000
+N ?= 100000
+fuzz:
+	@bash tests/fuzz.sh $(N) $(SEED)
+
+# after `make test`: the public functions, the definitions that they promise, what is assumed, the wrong programs
+promises:
+	@mkdir -p target/test && rustc -O --edition 2021 -o target/test/promises tests/promises/main.rs && target/test/promises print .

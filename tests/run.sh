@@ -35,6 +35,7 @@ need rustc rustc
 need cadical cadical
 need minisat minisat
 need g++ g++
+need valgrind valgrind
 need /usr/include/ccadical.h libcadical-dev
 
 logs=target/test
@@ -49,32 +50,41 @@ count "rt ci" "$status" "$log"
 mkdir -p "$logs" # rt ci removes target/ first
 mv "$log" "$logs/rt-ci.out"
 
-script() { # heading, script, its arguments
-  local log=$logs/$(basename "$2").out status
+# Runs a command whose last line is 'N passed, M failed'.
+run() { # heading, name, command ..
   echo "== $1"
-  bash "${@:2}" > "$log" 2>&1
-  status=$?
-  cat "$log"
-  count "$2" "$status" "$log"
+  "${@:3}" > "$logs/$2.out" 2>&1
+  local status=$?
+  cat "$logs/$2.out"
+  count "$2" "$status" "$logs/$2.out"
 }
 
-program() { # heading, folder of a Rust program, its arguments
-  local built=$logs/$(basename "$2") status
-  echo "== $1"
-  if ! rustc -O --edition 2021 -o "$built" "$2/main.rs"; then
-    fail "$2 does not compile"
-    return
+compile() { # name, root file, further options of rustc ..
+  rustc -O --edition 2021 -o "$logs/$1" "${@:3}" "$2" || { fail "$2 does not compile"; return 1; }
+}
+
+run "each must-fail edit is refused at a fact" edits bash tests/edits.sh
+run "wires, codes and clause numbers are kept apart" types bash tests/types.sh
+compile reference tests/reference/main.rs && run "the second implementation's own tests" reference "$logs/reference"
+compile runner tests/runner/main.rs &&
+  run "the program against the second implementation" runner timeout 900 "$logs/runner" target/bin/frames docs/FORMAT.md
+
+echo "== the static library: rt staticlib exports"
+if rt staticlib exports > "$logs/staticlib.out" 2>&1; then
+  pass
+  if compile library tests/runner/library.rs -L target/staticlib -l static=exports; then
+    run "the library against the second implementation" library timeout 600 "$logs/library"
+    run "a sample of the library's calls under valgrind" library-valgrind \
+      timeout 600 valgrind --quiet --error-exitcode=99 "$logs/library" sample
   fi
-  "$built" "${@:3}" > "$built.out" 2>&1
-  status=$?
-  cat "$built.out"
-  count "$2" "$status" "$built.out"
-}
+else
+  cat "$logs/staticlib.out"
+  fail "rt staticlib exports"
+fi
 
-script "each must-fail edit is refused at a fact" tests/edits.sh
-script "wires, codes and clause numbers are kept apart" tests/types.sh
-program "the second implementation's own tests" tests/reference
-script "the examples' sheets, and runs shown frame by frame" tests/examples.sh target/bin/frames
-program "the formula of frames, with public solvers" tests/solvers target/bin/frames "$logs/scratch" examples
+run "the examples' sheets, and runs shown frame by frame" examples bash tests/examples.sh target/bin/frames
+compile solvers tests/solvers/main.rs &&
+  run "the formula of frames, with public solvers" solvers "$logs/solvers" target/bin/frames "$logs/scratch" examples
+compile promises tests/promises/main.rs && run "docs/TRUST.md says what the repository has" promises "$logs/promises" check .
 
 finish

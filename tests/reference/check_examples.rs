@@ -133,14 +133,18 @@ pub fn of_sizes(counts: [u32; 3], widths: [u32; 2]) -> Netlist {
     }
 }
 
-pub fn full_runs(tally: &mut Tally) {
-    let rows = [
+/// Depth, sheet and text of the runs that were worked out by hand or stand in document 01.
+pub fn full_run_rows() -> [(u32, &'static str, String); 4] {
+    [
         (1, FULL_RUN, FULL_RUN_TEXT.to_string()),
         (0, FULL_RUN, DEPTH_0_TEXT.to_string()),
         (2, RICH, RICH_TEXT.concat()),
         (1, CONSTANT, CONSTANT_TEXT.concat()),
-    ];
-    for (depth, short, text) in rows {
+    ]
+}
+
+pub fn full_runs(tally: &mut Tally) {
+    for (depth, short, text) in full_run_rows() {
         let printed = String::from_utf8(frames(&input(depth, short))).expect("ASCII");
         tally.equal((short, depth), printed, text);
     }

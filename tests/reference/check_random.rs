@@ -9,7 +9,7 @@ use super::formula::{
 };
 use super::netlist::Netlist;
 use super::random::{
-    damaged_record, damaged_sheet, random_feeds, tiny_netlist, wide_netlist, Random,
+    damaged_record, damaged_sheet, random_feeds, tiny_netlist, wide_netlist, Random, SHAPES,
 };
 use super::refusal::{Refusal, CODE, MEMORY_LOOP, NO_ROOM, OUT_OF_ORDER};
 use super::sheet::{read_sheet, write_depth, write_sheet, LINE_BYTES};
@@ -72,33 +72,6 @@ pub fn round_trip(tally: &mut Tally) {
     for (count, (name, _)) in shapes.iter().zip(SHAPES) {
         tally.check((name, count), *count >= 20);
     }
-}
-
-type Shape = (&'static str, fn(&Netlist) -> bool);
-
-#[rustfmt::skip]
-const SHAPES: [Shape; 17] = [
-    ("I = 0", |it| it.inputs == 0),
-    ("L = 0", |it| it.latch_count == 0),
-    ("A = 0", |it| it.gate_count == 0),
-    ("V = 600", |it| it.wire_count() == 600),
-    ("m = 1", |it| it.address_width == 1),
-    ("m = 12", |it| it.address_width == 12),
-    ("n = 1", |it| it.data_width == 1),
-    ("n = 32", |it| it.data_width == 32),
-    ("start word 0", |it| it.start_word == 0),
-    ("start word 2^n - 1", |it| u64::from(it.start_word) + 1 == 1 << it.data_width),
-    ("constant WE", |it| it.write_enable < 2),
-    ("constant RE", |it| it.read_enable < 2),
-    ("constant P", |it| it.property < 2),
-    ("constant address bit", |it| it.address_codes().iter().any(|code| *code < 2)),
-    ("constant operand", |it| it.gates.iter().any(|gate| gate.left < 2)),
-    ("WE depends on a read bit", |it| depends(it, it.write_enable)),
-    ("write data depends on a read bit", |it| depends(it, it.write_data[0])),
-];
-
-fn depends(netlist: &Netlist, code: u32) -> bool {
-    netlist.read_dependence()[code as usize / 2]
 }
 
 /// A record and its sheet get the same refusal at the same place.
@@ -249,7 +222,7 @@ pub fn headings(tally: &mut Tally) {
             clauses: ends as i64,
         };
         tally.equal((round, "heading"), heading(&netlist, depth), Ok(expected));
-        let fits = largest.is_some_and(|largest| i64::from(largest) <= variables);
+        let fits = largest.map_or(false, |largest| i64::from(largest) <= variables);
         tally.check((round, "largest variable"), fits);
 
         let text = frames(&[write_depth(depth), write_sheet(&netlist)].concat());

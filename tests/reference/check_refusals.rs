@@ -9,11 +9,14 @@ use super::sheet::{expand, read_sheet, write_depth, write_sheet, FIELDS, FIELD_B
 use super::Tally;
 
 /// Number and place, with (0, 0) where nothing is refused.
-type Verdict = (u32, u32);
+pub type Verdict = (u32, u32);
 
-const ACCEPTED: Verdict = (0, 0);
+/// A name, the bytes of a sheet or of an input of `frames`, and the verdict on them.
+pub type Row = (String, Vec<u8>, Verdict);
 
-fn verdict<T>(result: Result<T, Refusal>) -> Verdict {
+pub const ACCEPTED: Verdict = (0, 0);
+
+pub fn verdict<T>(result: Result<T, Refusal>) -> Verdict {
     match result {
         Ok(_) => ACCEPTED,
         Err(Refusal { number, place }) => (number, place),
@@ -51,15 +54,24 @@ const FIELD_FORMS: [(&[u8; FIELD_BYTES], Option<u32>); 22] = [
     (b"        1\n", None),
 ];
 
-pub fn fields_and_letters(tally: &mut Tally) {
-    number_forms(tally);
-    filled_and_empty_fields(tally);
-    letters(tally);
+fn check_sheets(tally: &mut Tally, rows: Vec<Row>) {
+    for (name, sheet, expected) in rows {
+        tally.equal(name, judge(&sheet), expected);
+    }
 }
 
-/// The forms in the first field of an N line, and as depth in front of the same sheet.
-fn number_forms(tally: &mut Tally) {
-    for (field, number) in FIELD_FORMS {
+pub fn fields_and_letters(tally: &mut Tally) {
+    check_sheets(tally, field_and_letter_rows());
+}
+
+/// Every form of a field, of filled and empty fields, and of a letter.
+pub fn field_and_letter_rows() -> Vec<Row> {
+    [number_forms(), filled_and_empty_fields(), letters()].concat()
+}
+
+/// The forms in the first field of an N line.
+fn number_forms() -> Vec<Row> {
+    let row = |(field, number): (&[u8; FIELD_BYTES], Option<u32>)| {
         let mut sheet = expand("N 1 0 0/M 1 1 0/A 0/D 1/C 1 1 0");
         sheet[1..1 + FIELD_BYTES].copy_from_slice(field);
         let expected = match number {
@@ -67,22 +79,29 @@ fn number_forms(tally: &mut Tally) {
             Some(count) if count > 600 => (SIZE, 1),
             Some(_) => ACCEPTED,
         };
-        tally.equal(("field", field), judge(&sheet), expected);
+        (format!("field {}", field.escape_ascii()), sheet, expected)
+    };
+    FIELD_FORMS.into_iter().map(row).collect()
+}
 
-        let depth_line = [field.as_slice(), b"\n"].concat();
-        let text = frames(&[depth_line, expand(FULL_RUN)].concat());
+/// The same forms as depth.
+fn depth_forms() -> Vec<Row> {
+    let row = |(field, number): (&[u8; FIELD_BYTES], Option<u32>)| {
+        let bytes = [field.as_slice(), b"\n", &expand(FULL_RUN)].concat();
         let expected = match number {
-            None => refused((MISPRINT, 0)),
-            Some(depth) if depth > 255 => refused((DEPTH, 0)),
-            Some(depth) => frames(&input(depth, FULL_RUN)),
+            None => (MISPRINT, 0),
+            Some(depth) if depth > 255 => (DEPTH, 0),
+            Some(_) => ACCEPTED,
         };
-        tally.check(("depth", field), text == expected);
-    }
+        (format!("depth {}", field.escape_ascii()), bytes, expected)
+    };
+    FIELD_FORMS.into_iter().map(row).collect()
 }
 
 /// In every line of every kind: filled fields emptied, empty fields filled, line feed replaced.
-fn filled_and_empty_fields(tally: &mut Tally) {
+fn filled_and_empty_fields() -> Vec<Row> {
     let sheet = expand(RICH);
+    let mut rows = Vec::new();
     for line in 0..sheet.len() / LINE_BYTES {
         let start = line * LINE_BYTES;
         let misprint = (MISPRINT, line as u32 + 1);
@@ -93,20 +112,21 @@ fn filled_and_empty_fields(tally: &mut Tally) {
             let is_empty = field.iter().all(|byte| *byte == b' ');
             field.fill(b' ');
             field[FIELD_BYTES - 1] = if is_empty { b'0' } else { b' ' };
-            tally.equal((line, index), judge(&changed), misprint);
+            rows.push((format!("line {line} field {index}"), changed, misprint));
         }
         for byte in [b' ', b'\r', b'0', 0] {
             let mut changed = sheet.clone();
             changed[start + LINE_BYTES - 1] = byte;
-            tally.equal((line, byte), judge(&changed), misprint);
+            rows.push((format!("line {line} end {byte}"), changed, misprint));
         }
     }
+    rows
 }
 
 /// Every byte as the letter of line 1, whose three fields are filled: M and C want that too and
 /// are only out of order; the other letters do not.
-fn letters(tally: &mut Tally) {
-    for letter in 0..=u8::MAX {
+fn letters() -> Vec<Row> {
+    let row = |letter: u8| {
         let mut sheet = expand(FULL_RUN);
         sheet[0] = letter;
         let expected = match letter {
@@ -114,8 +134,9 @@ fn letters(tally: &mut Tally) {
             b'M' | b'C' => (OUT_OF_ORDER, 1),
             _ => (MISPRINT, 1),
         };
-        tally.equal(letter, judge(&sheet), expected);
-    }
+        (format!("letter {letter}"), sheet, expected)
+    };
+    (0..=u8::MAX).map(row).collect()
 }
 
 /// Whole sheets as short forms.
@@ -252,7 +273,7 @@ const MEMORIES: [(u32, u32, &str, Verdict); 19] = [
 
 /// Lengths of the lent latch and gate lists. RICH needs one record in each.
 #[rustfmt::skip]
-const ROOMS: [(&str, usize, usize, Verdict); 9] = [
+pub const ROOMS: [(&str, usize, usize, Verdict); 9] = [
     (RICH, 1, 1, ACCEPTED),
     (RICH, 2, 600, ACCEPTED),
     (RICH, 0, 1, (NO_ROOM, 0)),
@@ -264,45 +285,51 @@ const ROOMS: [(&str, usize, usize, Verdict); 9] = [
     ("N 1 1 1/M 1 1 0/L 0 0/G 0 0/A 4/D 0/C 1 1 5", 0, 0, (NO_ROOM, 0)),
 ];
 
-pub fn sheets(tally: &mut Tally) {
+/// The tables above, but for `ROOMS`.
+pub fn short_sheet_rows() -> Vec<Row> {
+    let mut rows = Vec::new();
+    let mut add = |short: String, expected| rows.push((short.clone(), expand(&short), expected));
     for (short, expected) in SHEETS {
-        tally.equal(short, judge(&expand(short)), expected);
+        add(short.to_string(), expected);
     }
     for (place, line, expected) in RICH_LINES {
         let mut lines: Vec<&str> = RICH.split('/').collect();
         lines[place - 1] = line;
-        tally.equal((place, line), judge(&expand(&lines.join("/"))), expected);
+        add(lines.join("/"), expected);
     }
     for (m, n, start, expected) in MEMORIES {
         let addresses = "/A 0".repeat(m.min(13) as usize);
         let data = "/D 0".repeat(n.min(33) as usize);
         let short = format!("N 0 0 0/M {m} {n} {start}{addresses}{data}/C 0 0 0");
-        tally.equal((m, n, start), judge(&expand(&short)), expected);
+        add(short, expected);
     }
+    rows
+}
+
+pub fn sheets(tally: &mut Tally) {
+    check_sheets(tally, short_sheet_rows());
     for (short, latch_room, gate_room, expected) in ROOMS {
         let result = read_sheet(&expand(short), latch_room, gate_room);
         tally.equal((short, latch_room, gate_room), verdict(result), expected);
     }
 }
 
-/// Refusal 1 and the largest sheet: 615 lines, 19,680 bytes.
-pub fn sheet_lengths(tally: &mut Tally) {
+/// The largest sheet: 615 lines, 19,680 bytes.
+pub fn largest_sheet() -> Vec<u8> {
+    write_sheet(&of_sizes([0, 300, 268], [12, 32]))
+}
+
+/// Refusal 1 and the largest sheet.
+pub fn length_rows() -> Vec<Row> {
     let small = expand(FULL_RUN);
     let last_line = small[small.len() - LINE_BYTES..].to_vec();
-    let largest = write_sheet(&of_sizes([0, 300, 268], [12, 32]));
+    let largest = largest_sheet();
+    let short = small[..small.len() - 1].to_vec();
     let rows = [
         ("empty", Vec::new(), (RAGGED, 0)),
         ("one byte", b"N".to_vec(), (RAGGED, 0)),
-        (
-            "a byte short",
-            small[..small.len() - 1].to_vec(),
-            (RAGGED, 0),
-        ),
-        (
-            "a byte long",
-            [small.as_slice(), b"\n"].concat(),
-            (RAGGED, 0),
-        ),
+        ("a byte short", short, (RAGGED, 0)),
+        ("a byte long", [&small, &b"\n"[..]].concat(), (RAGGED, 0)),
         ("ragged misprint", vec![b'?'; 33], (RAGGED, 0)),
         ("misprint", vec![b'?'; 32], (MISPRINT, 1)),
         ("largest", largest.clone(), ACCEPTED),
@@ -311,14 +338,10 @@ pub fn sheet_lengths(tally: &mut Tally) {
             largest[..614 * LINE_BYTES].to_vec(),
             (OUT_OF_ORDER, 615),
         ),
-        (
-            "a byte over",
-            [largest.as_slice(), b"\n"].concat(),
-            (RAGGED, 0),
-        ),
+        ("a byte over", [&largest, &b"\n"[..]].concat(), (RAGGED, 0)),
         (
             "a line over",
-            [largest.as_slice(), &last_line].concat(),
+            [&largest[..], &last_line].concat(),
             (RAGGED, 0),
         ),
         (
@@ -327,17 +350,20 @@ pub fn sheet_lengths(tally: &mut Tally) {
             (OUT_OF_ORDER, 6),
         ),
     ];
-    tally.equal("largest sheet", largest.len(), 19_680);
-    for (name, sheet, expected) in rows {
-        tally.equal(name, judge(&sheet), expected);
-    }
+    rows.map(|(name, sheet, expected)| (name.to_string(), sheet, expected))
+        .to_vec()
+}
+
+pub fn sheet_lengths(tally: &mut Tally) {
+    tally.equal("largest sheet", largest_sheet().len(), 19_680);
+    check_sheets(tally, length_rows());
 }
 
 /// A change of the record of RICH: V = 5; lines L 3, G 4, A 5 and 6, D 7 and 8, C 9.
-type RecordRow = (&'static str, fn(&mut Netlist), Verdict);
+pub type RecordRow = (&'static str, fn(&mut Netlist), Verdict);
 
 #[rustfmt::skip]
-const RECORDS: [RecordRow; 42] = [
+pub const RECORDS: [RecordRow; 42] = [
     ("unchanged", |_| {}, ACCEPTED),
     // 4: at 1 for I, L, A; at 2 for m, n, start word and V; lists are not looked at yet.
     ("I = 601", |it| it.inputs = 601, (SIZE, 1)),
@@ -401,7 +427,7 @@ pub fn records(tally: &mut Tally) {
 }
 
 /// Depth, group, and the exact need or the refusal, for FULL_RUN: V = 2, m = n = 1, L = A = 0.
-const GROUP_CALLS: [(u32, Group, Result<usize, u32>); 31] = [
+pub const GROUP_CALLS: [(u32, Group, Result<usize, u32>); 31] = [
     (0, Group::Wires(0), Ok(2)),
     (1, Group::Wires(1), Ok(0)),
     (255, Group::Wires(255), Ok(0)),
@@ -478,15 +504,15 @@ fn refused((number, place): Verdict) -> Vec<u8> {
     refusal_text(Refusal { number, place })
 }
 
-/// `frames`: depth first, form before value, then the sheet with its own places.
-pub fn frames_refusals(tally: &mut Tally) {
+/// Inputs of `frames`: depth first, form before value, then the sheet with its own places.
+pub fn input_rows() -> Vec<Row> {
     let depth_line = write_depth(1);
     let no_line_feed = |depth| {
         let mut bytes = input(depth, FULL_RUN);
         bytes[10] = b' ';
         bytes
     };
-    let largest = write_sheet(&of_sizes([0, 300, 268], [12, 32]));
+    let largest = largest_sheet();
     let with = |sheet: &[u8]| [depth_line.as_slice(), sheet].concat();
     let rows = [
         ("empty", Vec::new(), (MISPRINT, 0)),
@@ -510,7 +536,7 @@ pub fn frames_refusals(tally: &mut Tally) {
         ("ragged sheet", with(b"N"), (RAGGED, 0)),
         (
             "a line over",
-            with(&[largest.as_slice(), &[b'?'; 32]].concat()),
+            with(&[&largest[..], &[b'?'; 32]].concat()),
             (RAGGED, 0),
         ),
         ("misprint", input(255, "N 1 0 0/?"), (MISPRINT, 2)),
@@ -522,16 +548,24 @@ pub fn frames_refusals(tally: &mut Tally) {
             input(0, "N 1 0 0/M 1 1 0/A 4/D 2/C 1 1 5"),
             (MEMORY_LOOP, 3),
         ),
+        ("largest sheet", with(&largest), ACCEPTED),
+        ("depth 255", input(255, FULL_RUN), ACCEPTED),
     ];
-    for (name, bytes, expected) in rows {
-        tally.check(name, frames(&bytes) == refused(expected));
+    let named = rows.map(|(name, bytes, expected)| (name.to_string(), bytes, expected));
+    [named.to_vec(), depth_forms()].concat()
+}
+
+/// Whether a text of `frames` is what the verdict on its input says, as far as it says it.
+pub fn text_fits(text: &[u8], expected: Verdict) -> bool {
+    match expected {
+        ACCEPTED => text.starts_with(b"p cnf "),
+        _ => text == refused(expected),
     }
-    let accepted = [with(&largest), input(255, FULL_RUN)];
-    for bytes in accepted {
-        tally.check(
-            ("accepted", bytes.len()),
-            frames(&bytes).starts_with(b"p cnf "),
-        );
+}
+
+pub fn frames_refusals(tally: &mut Tally) {
+    for (name, bytes, expected) in input_rows() {
+        tally.check(name, text_fits(&frames(&bytes), expected));
     }
     let text = b"refused         6         3\n";
     tally.equal("28 bytes", refused((MEMORY_LOOP, 3)), text.to_vec());

@@ -200,7 +200,7 @@ impl<'a> Formula<'a> {
             0 => -1,
             wire => number(frame_base(self.netlist, frame) + i64::from(wire)),
         };
-        if code.is_multiple_of(2) {
+        if code % 2 == 0 {
             positive
         } else {
             -positive

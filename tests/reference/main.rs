@@ -12,35 +12,9 @@ mod random;
 mod refusal;
 mod sheet;
 mod solver;
+mod tally;
 
-use std::fmt::Debug;
-use std::panic::{catch_unwind, AssertUnwindSafe};
-
-/// The counts of one family of checks, and a remark for its line.
-#[derive(Default)]
-pub struct Tally {
-    passed: usize,
-    failed: usize,
-    remark: String,
-}
-
-impl Tally {
-    pub fn check(&mut self, name: impl Debug, holds: bool) {
-        if holds {
-            self.passed += 1;
-        } else {
-            self.failed += 1;
-            println!("FAILED {name:?}");
-        }
-    }
-
-    pub fn equal<T: Debug + PartialEq>(&mut self, name: impl Debug, found: T, expected: T) {
-        if found != expected {
-            println!("found {found:?}, expected {expected:?}");
-        }
-        self.check(name, found == expected);
-    }
-}
+use tally::{Report, Tally};
 
 type Family = (&'static str, fn(&mut Tally));
 
@@ -70,24 +44,10 @@ const FAMILIES: [Family; 20] = [
     ("faults are caught", check_random::faults),
 ];
 
-/// Runs one family; a panic in it counts as one failed check, so the total is always printed.
-fn run(name: &str, family: fn(&mut Tally)) -> Tally {
-    let mut tally = Tally::default();
-    if catch_unwind(AssertUnwindSafe(|| family(&mut tally))).is_err() {
-        tally.check((name, "panicked"), false);
-    }
-    tally
-}
-
 fn main() {
-    let (mut passed, mut failed) = (0, 0);
+    let mut report = Report::default();
     for (name, family) in FAMILIES {
-        let tally = run(name, family);
-        let all = tally.passed + tally.failed;
-        println!("{name}: {}/{all}{}", tally.passed, tally.remark);
-        passed += tally.passed;
-        failed += tally.failed;
+        report.family(name, family);
     }
-    println!("{passed} passed, {failed} failed");
-    std::process::exit(i32::from(failed > 0));
+    report.finish()
 }

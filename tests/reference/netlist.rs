@@ -134,8 +134,9 @@ impl Netlist {
     /// Refusal 4 or 5 at one line. Lines are to be tested in order: V is added up at line 2, and
     /// only line 1's test keeps that sum from overflowing. Behind the last line nothing is tested.
     pub fn check_line(&self, place: u32) -> Result<(), Refusal> {
-        let Some((kind, index)) = self.line_at(place) else {
-            return Ok(());
+        let (kind, index) = match self.line_at(place) {
+            Some(line) => line,
+            None => return Ok(()),
         };
         let number = match kind {
             Kind::Sizes | Kind::Memory => SIZE,

@@ -103,7 +103,7 @@ fn split_wires(random: &mut Random, most: u32) -> [u32; 3] {
     counts
 }
 
-/// Fills start word, codes and lists of a netlist that has its sizes. `clean` collects the wires
+/// Fills start word, codes and lists of an empty netlist that has its sizes. `clean` collects the wires
 /// that no read bit reaches (0 for the constants), from which address codes and RE are taken.
 pub fn fill(random: &mut Random, mut netlist: Netlist) -> Netlist {
     let mut clean: Vec<u32> = (0..netlist.first_read_bit()).collect();
@@ -175,6 +175,38 @@ fn random_word(random: &mut Random, width: u32) -> u32 {
     random.pick(&[0, ones, any, any])
 }
 
+pub type Shape = (&'static str, fn(&Netlist) -> bool);
+
+/// The shapes that random netlists must have often.
+#[rustfmt::skip]
+pub const SHAPES: [Shape; 21] = [
+    ("I = 0", |it| it.inputs == 0),
+    ("L = 0", |it| it.latch_count == 0),
+    ("A = 0", |it| it.gate_count == 0),
+    ("V = 600", |it| it.wire_count() == 600),
+    ("m = 1", |it| it.address_width == 1),
+    ("m = 12", |it| it.address_width == 12),
+    ("n = 1", |it| it.data_width == 1),
+    ("n = 32", |it| it.data_width == 32),
+    ("start word 0", |it| it.start_word == 0),
+    ("start word 2^n - 1", |it| u64::from(it.start_word) + 1 == 1 << it.data_width),
+    ("constant WE", |it| it.write_enable < 2),
+    ("constant RE", |it| it.read_enable < 2),
+    ("constant P", |it| it.property < 2),
+    ("constant address bit", |it| it.address_codes().iter().any(|code| *code < 2)),
+    ("constant write-data bit", |it| it.write_data_codes().iter().any(|code| *code < 2)),
+    ("constant operand", |it| it.gates.iter().any(|gate| gate.left < 2)),
+    ("constant next code", |it| it.latches.iter().any(|latch| latch.next < 2)),
+    ("gate that depends on a read bit", |it| it.gates.iter().any(|gate| depends(it, gate.left))),
+    ("latch that takes a read bit", |it| it.latches.iter().any(|latch| depends(it, latch.next))),
+    ("WE depends on a read bit", |it| depends(it, it.write_enable)),
+    ("write data depends on a read bit", |it| depends(it, it.write_data[0])),
+];
+
+fn depends(netlist: &Netlist, code: u32) -> bool {
+    netlist.read_dependence()[code as usize / 2]
+}
+
 pub fn random_feeds(random: &mut Random, netlist: &Netlist, depth: u32) -> Vec<Feed> {
     let mut feeds = Vec::new();
     for _ in 0..=depth {
@@ -211,7 +243,7 @@ pub fn damaged_sheet(random: &mut Random, sheet: &[u8]) -> Vec<u8> {
     let mut damaged = sheet.to_vec();
     for _ in 0..random.pick(&[1, 1, 2]) {
         // A cut may have left no line, or a part of one: it stays as it is.
-        if damaged.is_empty() || !damaged.len().is_multiple_of(LINE_BYTES) {
+        if damaged.is_empty() || damaged.len() % LINE_BYTES != 0 {
             break;
         }
         match random.below(3) {

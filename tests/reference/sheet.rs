@@ -103,7 +103,7 @@ fn take_line(netlist: &mut Netlist, line: &[u8], place: u32) -> Result<(), Refus
 /// Reads a sheet for a caller that lends a latch list and a gate list of these lengths.
 /// On success the netlist's lists are the records that the lent lists would begin with.
 pub fn read_sheet(file: &[u8], latch_room: usize, gate_room: usize) -> Result<Netlist, Refusal> {
-    let whole_lines = !file.is_empty() && file.len().is_multiple_of(LINE_BYTES);
+    let whole_lines = !file.is_empty() && file.len() % LINE_BYTES == 0;
     require(whole_lines && file.len() <= MAX_SHEET_BYTES, RAGGED, 0)?;
 
     let mut netlist = Netlist::default();
@@ -161,10 +161,7 @@ fn fields_of(netlist: &Netlist, kind: Kind, index: usize) -> Vec<u32> {
 /// The sheet of a netlist whose lists are at least as long as its sizes; codes may be any.
 pub fn write_sheet(netlist: &Netlist) -> Vec<u8> {
     let mut short_lines = Vec::new();
-    for place in 1.. {
-        let Some((kind, index)) = netlist.line_at(place) else {
-            break;
-        };
+    for (kind, index) in (1..).map_while(|place| netlist.line_at(place)) {
         let letter = LETTERS
             .iter()
             .find(|row| row.1 == kind)

@@ -55,13 +55,16 @@ impl Solver {
         if self.contradiction {
             return;
         }
-        let Some(free) = (1..self.values.len()).find(|index| self.values[*index].is_none()) else {
-            let model: Vec<bool> = self
-                .values
-                .iter()
-                .map(|value| *value == Some(true))
-                .collect();
-            return visit(&model);
+        let free = match self.values.iter().skip(1).position(Option::is_none) {
+            Some(before) => before + 1,
+            None => {
+                let model: Vec<bool> = self
+                    .values
+                    .iter()
+                    .map(|value| *value == Some(true))
+                    .collect();
+                return visit(&model);
+            }
         };
         for literal in [free as i32, -(free as i32)] {
             let mark = self.trail.len();

@@ -33,10 +33,10 @@ impl Tally {
             return;
         }
         self.failed += 1;
-        match self.failed {
-            ..=SHOWN => println!("FAILED {name:?}{}", say()),
-            count if count == SHOWN + 1 => println!("FAILED: and more"),
-            _ => {}
+        if self.failed <= SHOWN {
+            println!("FAILED {name:?}{}", say());
+        } else if self.failed == SHOWN + 1 {
+            println!("FAILED: and more");
         }
     }
 }

@@ -1,0 +1,322 @@
+//! The exported functions of the static library, under their C names, and safe calls of them. A slice is
+//! a pointer and a length. Every slice that is lent for writing stands between guards that must stay.
+
+use super::reference::formula::Group;
+use super::reference::netlist::{Gate, Latch, Netlist};
+use super::reference::refusal::Refusal;
+
+#[repr(C)]
+#[derive(Clone, Copy, Debug, Default, PartialEq, Eq)]
+struct Code(u32);
+
+#[repr(C)]
+#[derive(Clone, Copy, Debug, Default, PartialEq, Eq)]
+struct Record {
+    inputs: u32,
+    latches: u32,
+    gates: u32,
+    m: u32,
+    n: u32,
+    initial_word: u32,
+    address: [Code; 12],
+    write_data: [Code; 32],
+    we: Code,
+    re: Code,
+    p: Code,
+}
+
+#[repr(C)]
+#[derive(Clone, Copy, Debug, PartialEq, Eq)]
+struct GateRecord {
+    left: Code,
+    right: Code,
+}
+
+#[repr(C)]
+#[derive(Clone, Copy, Debug, PartialEq, Eq)]
+struct LatchRecord {
+    next: Code,
+    reset: u32,
+}
+
+#[repr(C)]
+#[derive(Clone, Copy, Debug, PartialEq, Eq)]
+struct GroupReply {
+    number: u32,
+    place: u32,
+    count: usize,
+}
+
+#[repr(C)]
+#[derive(Clone, Copy, Debug, PartialEq, Eq)]
+struct HeadingReply {
+    number: u32,
+    place: u32,
+    variables: u32,
+    clauses: u32,
+}
+
+#[repr(C)]
+#[derive(Clone, Copy, Debug, PartialEq, Eq)]
+struct SheetReply {
+    number: u32,
+    place: u32,
+    net: Record,
+}
+
+extern "C" {
+    fn marrubigai_write_group(
+        net: Record,
+        latches: *const LatchRecord,
+        latch_count: usize,
+        gates: *const GateRecord,
+        gate_count: usize,
+        depth: u32,
+        kind: u32,
+        j: u32,
+        i: u32,
+        out: *mut i32,
+        room: usize,
+    ) -> GroupReply;
+
+    fn marrubigai_heading(
+        net: Record,
+        latches: *const LatchRecord,
+        latch_count: usize,
+        gates: *const GateRecord,
+        gate_count: usize,
+        depth: u32,
+    ) -> HeadingReply;
+
+    fn marrubigai_read(
+        file: *const u8,
+        length: usize,
+        latches: *mut LatchRecord,
+        latch_room: usize,
+        gates: *mut GateRecord,
+        gate_room: usize,
+    ) -> SheetReply;
+}
+
+fn record_of(netlist: &Netlist) -> Record {
+    Record {
+        inputs: netlist.inputs,
+        latches: netlist.latch_count,
+        gates: netlist.gate_count,
+        m: netlist.address_width,
+        n: netlist.data_width,
+        initial_word: netlist.start_word,
+        address: netlist.address.map(Code),
+        write_data: netlist.write_data.map(Code),
+        we: Code(netlist.write_enable),
+        re: Code(netlist.read_enable),
+        p: Code(netlist.property),
+    }
+}
+
+fn latch_record(latch: &Latch) -> LatchRecord {
+    LatchRecord {
+        next: Code(latch.next),
+        reset: latch.reset,
+    }
+}
+
+fn gate_record(gate: &Gate) -> GateRecord {
+    GateRecord {
+        left: Code(gate.left),
+        right: Code(gate.right),
+    }
+}
+
+/// A slice that is lent, with guards before and behind it. Its fill is different at each index, and is
+/// nothing that a call writes.
+struct Lent<T> {
+    all: Vec<T>,
+    room: usize,
+}
+
+const GUARDS: usize = 4;
+
+impl<T: Copy + PartialEq> Lent<T> {
+    fn new(room: usize, fill: impl Fn(usize) -> T) -> Lent<T> {
+        Lent {
+            all: (0..room + 2 * GUARDS).map(fill).collect(),
+            room,
+        }
+    }
+
+    fn slice(&mut self) -> &mut [T] {
+        &mut self.all[GUARDS..GUARDS + self.room]
+    }
+
+    /// What stands at the front, and whether everything else is as it was.
+    fn written(&self, count: usize, fill: impl Fn(usize) -> T) -> Option<Vec<T>> {
+        let end = GUARDS + count.min(self.room);
+        let is_kept = |index: usize| self.all[index] == fill(index);
+        let kept = (0..GUARDS).all(is_kept) && (end..self.all.len()).all(is_kept);
+        (kept && count <= self.room).then(|| self.all[GUARDS..end].to_vec())
+    }
+}
+
+/// A netlist as the C functions take it.
+pub struct Lists {
+    record: Record,
+    latches: Vec<LatchRecord>,
+    gates: Vec<GateRecord>,
+}
+
+/// What a call answered; `Err` where it broke a promise that holds whatever it is asked.
+pub type Answer<T> = Result<Result<T, Refusal>, &'static str>;
+
+fn answer<T>(
+    number: u32,
+    place: u32,
+    zeros: bool,
+    value: impl FnOnce() -> Result<T, &'static str>,
+) -> Answer<T> {
+    match (number, place) {
+        (0, 0) => value().map(Ok),
+        (0, _) => Err("a place beside success"),
+        _ if !zeros => Err("something beside a refusal"),
+        (number, place) => Ok(Err(Refusal { number, place })),
+    }
+}
+
+/// Kind, j and i of a group. Numbers that the kind has no use for are as odd as can be.
+pub fn parameters(group: Group) -> (u32, u32, u32) {
+    match group {
+        Group::Wires(i) => (0, u32::MAX, i),
+        Group::Pair(j, i) => (1, j, i),
+        Group::Closing(i) => (2, u32::MAX, i),
+        Group::Property => (3, u32::MAX, u32::MAX),
+    }
+}
+
+/// No number of any formula, different at each index.
+fn unwritten(index: usize) -> i32 {
+    i32::MIN + index as i32
+}
+
+impl Lists {
+    pub fn new(netlist: &Netlist) -> Lists {
+        Lists {
+            record: record_of(netlist),
+            latches: netlist.latches.iter().map(latch_record).collect(),
+            gates: netlist.gates.iter().map(gate_record).collect(),
+        }
+    }
+
+    /// A group call with a slice of `room` numbers: the numbers written.
+    pub fn write_group(
+        &self,
+        depth: u32,
+        (kind, j, i): (u32, u32, u32),
+        room: usize,
+    ) -> Answer<Vec<i32>> {
+        let mut out = Lent::new(room, unwritten);
+        let slice = out.slice();
+        // SAFETY: each pointer and length are those of a live slice, and only `out` is written to.
+        let reply = unsafe {
+            marrubigai_write_group(
+                self.record,
+                self.latches.as_ptr(),
+                self.latches.len(),
+                self.gates.as_ptr(),
+                self.gates.len(),
+                depth,
+                kind,
+                j,
+                i,
+                slice.as_mut_ptr(),
+                slice.len(),
+            )
+        };
+        let numbers = out
+            .written(reply.count, unwritten)
+            .ok_or("numbers behind the count, or a count above the room")?;
+        answer(reply.number, reply.place, reply.count == 0, || Ok(numbers))
+    }
+
+    pub fn heading(&self, depth: u32) -> Answer<(u32, u32)> {
+        // SAFETY: each pointer and length are those of a live slice.
+        let reply = unsafe {
+            marrubigai_heading(
+                self.record,
+                self.latches.as_ptr(),
+                self.latches.len(),
+                self.gates.as_ptr(),
+                self.gates.len(),
+                depth,
+            )
+        };
+        let heading = (reply.variables, reply.clauses);
+        answer(reply.number, reply.place, heading == (0, 0), || Ok(heading))
+    }
+}
+
+/// Reads a sheet into lists of these lengths: the netlist whose lists are the records written.
+pub fn read(file: &[u8], latch_room: usize, gate_room: usize) -> Answer<Netlist> {
+    let odd = |index: usize| u32::MAX - index as u32;
+    let fill_latch = |index: usize| LatchRecord {
+        next: Code(odd(index)),
+        reset: odd(index),
+    };
+    let fill_gate = |index: usize| GateRecord {
+        left: Code(odd(index)),
+        right: Code(odd(index)),
+    };
+    let mut latches = Lent::new(latch_room, fill_latch);
+    let mut gates = Lent::new(gate_room, fill_gate);
+    let (latch_slice, gate_slice) = (latches.slice(), gates.slice());
+    // SAFETY: each pointer and length are those of a live slice, and only the two lists are written to.
+    let reply = unsafe {
+        marrubigai_read(
+            file.as_ptr(),
+            file.len(),
+            latch_slice.as_mut_ptr(),
+            latch_slice.len(),
+            gate_slice.as_mut_ptr(),
+            gate_slice.len(),
+        )
+    };
+    let SheetReply { number, place, net } = reply;
+    let latches = latches
+        .written(net.latches as usize, fill_latch)
+        .ok_or("latches behind the size, or no room for it")?;
+    let gates = gates
+        .written(net.gates as usize, fill_gate)
+        .ok_or("gates behind the size, or no room for it")?;
+    answer(number, place, net == Record::default(), || {
+        Ok(netlist_of(net, &latches, &gates))
+    })
+}
+
+fn netlist_of(net: Record, latches: &[LatchRecord], gates: &[GateRecord]) -> Netlist {
+    Netlist {
+        inputs: net.inputs,
+        latch_count: net.latches,
+        gate_count: net.gates,
+        address_width: net.m,
+        data_width: net.n,
+        start_word: net.initial_word,
+        address: net.address.map(|code| code.0),
+        write_data: net.write_data.map(|code| code.0),
+        write_enable: net.we.0,
+        read_enable: net.re.0,
+        property: net.p.0,
+        latches: latches
+            .iter()
+            .map(|latch| Latch {
+                next: latch.next.0,
+                reset: latch.reset,
+            })
+            .collect(),
+        gates: gates
+            .iter()
+            .map(|gate| Gate {
+                left: gate.left.0,
+                right: gate.right.0,
+            })
+            .collect(),
+    }
+}

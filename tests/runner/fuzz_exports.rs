@@ -1,0 +1,118 @@
+//! Hostile calls of the exported functions, each compared with the second implementation.
+
+use super::mutate::{netlist, sheet, LIMITS};
+use super::reference::netlist::{Gate, Latch, Netlist};
+use super::reference::random::{damaged_record, Random};
+use super::reference::Tally;
+use super::Library;
+
+/// A record with its lists, with up to three of its numbers replaced and its lists lengthened or cut.
+fn record(random: &mut Random) -> Netlist {
+    let mut record = netlist(random);
+    for _ in 0..random.below(4) {
+        let number = random.pick(&LIMITS);
+        let entry = match random.below(12) {
+            0 => &mut record.inputs,
+            1 => &mut record.latch_count,
+            2 => &mut record.gate_count,
+            3 => &mut record.address_width,
+            4 => &mut record.data_width,
+            5 => &mut record.start_word,
+            6 => &mut record.write_enable,
+            7 => &mut record.property,
+            // These two may stand past the widths, where they do not count.
+            8 => &mut record.address[random.index(12)],
+            9 => &mut record.write_data[random.index(32)],
+            10 if record.address_width <= 12 && record.address_width > 0 && fits(&record) => {
+                record = damaged_record(random, &record);
+                continue;
+            }
+            _ => {
+                change_lists(random, &mut record);
+                continue;
+            }
+        };
+        *entry = number;
+    }
+    record
+}
+
+/// Whether the sizes are small enough to be added up.
+fn fits(record: &Netlist) -> bool {
+    [
+        record.inputs,
+        record.latch_count,
+        record.gate_count,
+        record.data_width,
+    ]
+    .iter()
+    .all(|size| *size <= 601)
+}
+
+fn change_lists(random: &mut Random, record: &mut Netlist) {
+    let number = random.pick(&LIMITS);
+    match random.below(4) {
+        0 => drop(record.latches.pop()),
+        1 => drop(record.gates.pop()),
+        2 => record.latches.push(Latch {
+            next: number,
+            reset: number,
+        }),
+        _ => record.gates.push(Gate {
+            left: number,
+            right: number,
+        }),
+    }
+}
+
+/// Numbers for depths, kinds and frames: mostly small, so that a call is often not refused.
+fn small_or_limit(random: &mut Random) -> u32 {
+    if random.percent(92) {
+        random.below(5)
+    } else {
+        random.pick(&[
+            254,
+            255,
+            256,
+            257,
+            65_536,
+            i32::MAX as u32,
+            u32::MAX - 1,
+            u32::MAX,
+        ])
+    }
+}
+
+/// A length of a lent slice or list: around what small records need, none, or more than any needs.
+fn room(random: &mut Random) -> usize {
+    let some = random.index(130);
+    random.pick(&[some, some, some, 0, 1, 600, 6_000])
+}
+
+pub fn calls(library: &Library, tally: &mut Tally, seed: u64, count: usize) {
+    let mut random = Random::new(seed);
+    for _ in 0..count {
+        match random.below(8) {
+            0..=2 => {
+                let file = sheet(&mut random);
+                let (few, many) = (random.index(4), random.index(601));
+                let rooms = [0, few, few, many, 600];
+                library.read_agrees(tally, &file, random.pick(&rooms), random.pick(&rooms));
+            }
+            3..=6 => {
+                let netlist = record(&mut random);
+                let depth = small_or_limit(&mut random);
+                let of = (
+                    small_or_limit(&mut random),
+                    small_or_limit(&mut random),
+                    small_or_limit(&mut random),
+                );
+                library.group_agrees(tally, &netlist, depth, of, room(&mut random));
+            }
+            _ => {
+                let netlist = record(&mut random);
+                library.heading_agrees(tally, &netlist, small_or_limit(&mut random));
+            }
+        }
+    }
+}

@@ -1,0 +1,124 @@
+//! Tests of the exported functions of the static library against the second implementation, with fixed
+//! seeds. `library` runs all of them, `library fuzz COUNT [SEED]` as many hostile calls as asked for, and
+//! `library sample` few of each kind, to be run under valgrind. The last line is `N passed, M failed`.
+//! Build: rustc -O --edition 2021 -L FOLDER -l static=exports library.rs
+
+mod calls;
+mod exports;
+mod fuzz_exports;
+mod mutate;
+mod reads;
+mod reference;
+
+use std::cell::RefCell;
+
+use exports::Answer;
+use reference::tally::{Report, Tally};
+
+/// How often a function answered each refusal number; entry 0 counts successes.
+#[derive(Default)]
+pub struct Counts([usize; 11]);
+
+impl Counts {
+    fn add<T>(counts: &RefCell<Counts>, answer: &Answer<T>) {
+        let number = match answer {
+            Ok(Err(refusal)) => refusal.number as usize,
+            _ => 0,
+        };
+        if let Some(count) = counts.borrow_mut().0.get_mut(number) {
+            *count += 1;
+        }
+    }
+}
+
+#[derive(Default)]
+pub struct Library {
+    reads: RefCell<Counts>,
+    calls: RefCell<Counts>,
+    headings: RefCell<Counts>,
+}
+
+type Family = (&'static str, fn(&Library, &mut Tally));
+
+const FAMILIES: [Family; 10] = [
+    ("document 01's facts", calls::stated),
+    ("table of group calls", calls::table_of_calls),
+    ("table of records", calls::table_of_records),
+    ("rooms of groups", calls::rooms),
+    ("lengths of lists", calls::list_lengths),
+    ("joined groups", calls::formulas),
+    ("tables of sheets", reads::tables),
+    ("rooms of lists", reads::rooms),
+    ("damaged sheets", reads::damaged),
+    ("hostile calls", |library, tally| {
+        fuzz_exports::calls(library, tally, 701, 200_000)
+    }),
+];
+
+/// Each function, and the numbers that the tests must have made it answer: all that it has. 10 has none.
+fn every_number(library: &Library, tally: &mut Tally) {
+    let rows: [(&str, &RefCell<Counts>, &[usize]); 3] = [
+        ("read", &library.reads, &[1, 2, 3, 4, 5, 6, 9]),
+        ("write_group", &library.calls, &[3, 4, 5, 6, 7, 8, 9]),
+        ("heading", &library.headings, &[3, 4, 5, 6, 7]),
+    ];
+    let mut remarks = Vec::new();
+    for (name, counts, numbers) in rows {
+        let counts = counts.borrow().0;
+        for (number, count) in counts.iter().enumerate() {
+            let due = number == 0 || numbers.contains(&number);
+            tally.check((name, number, count), (*count > 0) == due);
+        }
+        let shown: Vec<String> = numbers
+            .iter()
+            .map(|number| format!("{number}: {}", counts[*number]))
+            .collect();
+        remarks.push(format!(
+            "{name} {}, success: {}",
+            shown.join(", "),
+            counts[0]
+        ));
+    }
+    tally.remark = format!(" ({})", remarks.join("; "));
+}
+
+fn main() {
+    let words: Vec<String> = std::env::args().skip(1).collect();
+    let words: Vec<&str> = words.iter().map(String::as_str).collect();
+    let library = Library::default();
+    let mut report = Report::default();
+    match words[..] {
+        [] => {
+            for (name, family) in FAMILIES {
+                report.family(name, |tally| family(&library, tally));
+            }
+            report.family("refusal numbers", |tally| every_number(&library, tally));
+        }
+        ["fuzz", count, ref seed @ ..] if seed.len() <= 1 => {
+            let seed = seed
+                .first()
+                .map_or(702, |seed| seed.parse().expect("a seed"));
+            let count = count.parse().expect("how many calls");
+            report.family("hostile calls", |tally| {
+                fuzz_exports::calls(&library, tally, seed, count)
+            });
+        }
+        ["sample"] => {
+            report.family("document 01's facts", |tally| {
+                calls::stated(&library, tally)
+            });
+            report.family("table of group calls", |tally| {
+                calls::table_of_calls(&library, tally)
+            });
+            report.family("table of records", |tally| {
+                calls::table_of_records(&library, tally)
+            });
+            report.family("tables of sheets", |tally| reads::tables(&library, tally));
+            report.family("hostile calls", |tally| {
+                fuzz_exports::calls(&library, tally, 703, 1_000)
+            });
+        }
+        _ => panic!("usage: nothing, or fuzz COUNT [SEED], or sample"),
+    }
+    report.finish()
+}

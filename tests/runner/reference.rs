@@ -1,0 +1,28 @@
+//! The second implementation's modules, shared and not copied: its definitions, its random netlists
+//! and its tables of refusals.
+#![allow(dead_code)]
+
+#[path = "../reference/agreement.rs"]
+pub mod agreement;
+#[path = "../reference/check_examples.rs"]
+pub mod check_examples;
+#[path = "../reference/check_refusals.rs"]
+pub mod check_refusals;
+#[path = "../reference/circuit.rs"]
+pub mod circuit;
+#[path = "../reference/formula.rs"]
+pub mod formula;
+#[path = "../reference/netlist.rs"]
+pub mod netlist;
+#[path = "../reference/random.rs"]
+pub mod random;
+#[path = "../reference/refusal.rs"]
+pub mod refusal;
+#[path = "../reference/sheet.rs"]
+pub mod sheet;
+#[path = "../reference/solver.rs"]
+pub mod solver;
+#[path = "../reference/tally.rs"]
+pub mod tally;
+
+pub use tally::Tally;
