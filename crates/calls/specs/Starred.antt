@@ -11,7 +11,7 @@ use Rattle.model.specs.declared.Group.the-variants.{Pair}
 use Rattle.refusals.specs.Refusal.{replyOf}
 use Rattle.refusals.specs.declared.Verdict.{Verdict}
 use Rattle.records.specs.Record.{recordVerdict}
-use Rattle.calls.specs.Calls.{groupVerdict, headingVerdict}
+use Rattle.unpacked.specs.Calls.{groupVerdict, headingVerdict}
 
 -- `N 1 0 0`, `M 1 1 0`, `A` with the address code given, `D 2`, `C 1 1 5`; document 01's has address code 0
 unfoldable pub sheetWith : ℕ → Netlist

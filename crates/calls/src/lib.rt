@@ -1,141 +1,64 @@
-// The public calls over a record and its lists, in unpacked form (document 01, "What is sent back").
+// The public calls over a record and the lists that the caller lends (document 01, "What is sent back"). Each unpacks the lists and
+// leaves the rest to a call over unpacked lists.
+use lists::Gate;
+use lists::Latch;
 use model::Group;
 use netlist::Netlist;
-use refusals::Refusal;
-use refusals::Verdict;
+use unpacked::GroupAnswer;
+use unpacked::HeadingAnswer;
 ghost use mathlib.Core.Path.{_≡_};
 ghost use lib.ListN.{length};
-ghost use Rattle.model.specs.Groups.{inDepth};
-ghost use Rattle.netlist.specs.NetOf.{netOf};
 ghost use Rattle.refusals.specs.declared.Verdict.the-variants.{Passed};
 ghost use Rattle.calls.specs.Starred.{Starred};
-ghost use Rattle.calls.specs.Calls.{groupReply, groupVerdict, groupSent, groupLeaves, headingReply, headingVerdict, headingSent, NumbersSuffice, CallsEncode};
-
-// What a group call answers: how many numbers it wrote, or the refusal with its place.
-pub enum GroupAnswer {
-    Written(usize),
-    Refused(Refusal, u32),
-}
-
-// What a heading call answers: the variables and clauses of a depth, or the refusal with its place.
-pub enum HeadingAnswer {
-    Heading { variables: u32, clauses: u32 },
-    Refused(Refusal, u32),
-}
+ghost use Rattle.unpacked.specs.Calls.{groupReply, groupSent, groupLeaves, headingReply, headingVerdict, headingSent, NumbersSuffice, CallsEncode};
+ghost use Rattle.calls.specs.Lent.{netLent};
 
 // The heading of a depth: "the variables numbered and the clauses really written".
-pub fn heading(
-    net: Netlist,
-    latches: &[u32; 1200],
-    latch_count: u32,
-    gates: &[u32; 1200],
-    gate_count: u32,
-    depth: u32,
-) -> HeadingAnswer
-    ensures answer { λ r. ⌜ headingReply r ≡ headingSent (netOf net (now (latches .entry)) (now (gates .entry))) «latch_count» «gate_count» depth ⌝ }
-    ensures claim { λ r. ⌜ (headingVerdict (netOf net (now (latches .entry)) (now (gates .entry))) «latch_count» «gate_count» depth ≡ Passed → CallsEncode (netOf net (now (latches .entry)) (now (gates .entry))) «latch_count» «gate_count» depth) ⌝ }
-    ensures numbers { λ r. ⌜ NumbersSuffice (netOf net (now (latches .entry)) (now (gates .entry))) depth ⌝ }
+pub fn heading(net: Netlist, latches: &[Latch], gates: &[Gate], depth: u32) -> HeadingAnswer
+    ensures answer { λ r. ⌜ headingReply r ≡ headingSent (netLent net (now (latches .entry)) (now (gates .entry))) (length (now (latches .entry))) (length (now (gates .entry))) depth ⌝ }
+    ensures claim { λ r. ⌜ (headingVerdict (netLent net (now (latches .entry)) (now (gates .entry))) (length (now (latches .entry))) (length (now (gates .entry))) depth ≡ Passed → CallsEncode (netLent net (now (latches .entry)) (now (gates .entry))) (length (now (latches .entry))) (length (now (gates .entry))) depth) ⌝ }
+    ensures numbers { λ r. ⌜ NumbersSuffice (netLent net (now (latches .entry)) (now (gates .entry))) depth ⌝ }
     ensures starred { λ r. ⌜ Starred ⌝ }
 {
-    if let Verdict::Refused(refusal, place) = records::test_record(
+    let mut latch_codes = [0; 1200];
+    lists::unpack::unpack_latches(&mut latch_codes, latches);
+    let mut gate_codes = [0; 1200];
+    lists::unpack::unpack_gates(&mut gate_codes, gates);
+    unpacked::heading(
         net,
-        latches,
-        latch_count,
-        gates,
-        gate_count,
-    ) {
-        return HeadingAnswer::Refused(refusal, place);
-    }
-    if 255 < depth {
-        return HeadingAnswer::Refused(Refusal::Depth, 0);
-    }
-    let variables = places::frame_base(net, depth + 1);
-    if 2147483647 < variables {
-        return HeadingAnswer::Refused(Refusal::OutOfNumbers, 0);
-    }
-    HeadingAnswer::Heading {
-        variables,
-        clauses: unrolling::lengths::clause_count(net, latches, gates, depth),
-    }
-}
-
-// Whether there is such a group at this depth.
-fn is_in_depth(depth: u32, group: Group) -> bool
-    ensures { λ r. ⌜ r ≡ inDepth depth group ⌝ }
-{
-    match group {
-        Group::Wires(i) => i <= depth,
-        Group::Pair(j, i) => (i <= depth) & (j < i),
-        Group::Closing(i) => i <= depth,
-        Group::Property => true,
-    }
-}
-
-// The tests of a group call with a slice of `room` numbers.
-fn test_group(
-    net: Netlist,
-    latches: &[u32; 1200],
-    latch_count: u32,
-    gates: &[u32; 1200],
-    gate_count: u32,
-    depth: u32,
-    group: Group,
-    room: usize,
-) -> Verdict
-    ensures { λ r. ⌜ r ≡ groupVerdict (netOf net (now (latches .entry)) (now (gates .entry))) «latch_count» «gate_count» depth group room ⌝ }
-{
-    if let Verdict::Refused(refusal, place) = records::test_record(
-        net,
-        latches,
-        latch_count,
-        gates,
-        gate_count,
-    ) {
-        return Verdict::Refused(refusal, place);
-    }
-    if 255 < depth {
-        return Verdict::Refused(Refusal::Depth, 0);
-    }
-    if !is_in_depth(depth, group) {
-        return Verdict::Refused(Refusal::NoSuchGroup, 0);
-    }
-    if 2147483647 < places::frame_base(net, depth + 1) {
-        return Verdict::Refused(Refusal::OutOfNumbers, 0);
-    }
-    let need = unrolling::lengths::group_length(net, latches, gates, depth, group);
-    if room < need as usize {
-        return Verdict::Refused(Refusal::NoRoom, 0);
-    }
-    Verdict::Passed
+        &latch_codes,
+        latches.len(),
+        &gate_codes,
+        gates.len(),
+        depth,
+    )
 }
 
 // Writes one group's clauses at the start of a slice, in document 01's order, and answers how many numbers that is; or refuses and
 // writes nothing.
 pub fn write_group(
     net: Netlist,
-    latches: &[u32; 1200],
-    latch_count: u32,
-    gates: &[u32; 1200],
-    gate_count: u32,
+    latches: &[Latch],
+    gates: &[Gate],
     depth: u32,
     group: Group,
     out: &mut [i32],
 ) -> GroupAnswer
-    ensures answer { λ r. ⌜ groupReply r ≡ groupSent (netOf net (now (latches .entry)) (now (gates .entry))) «latch_count» «gate_count» depth group (length (now (out .entry))) ⌝ }
-    ensures borrowed { λ r. ⌜ now (out .exit) ≡ groupLeaves (netOf net (now (latches .entry)) (now (gates .entry))) «latch_count» «gate_count» depth group (now (out .entry)) ⌝ }
+    ensures answer { λ r. ⌜ groupReply r ≡ groupSent (netLent net (now (latches .entry)) (now (gates .entry))) (length (now (latches .entry))) (length (now (gates .entry))) depth group (length (now (out .entry))) ⌝ }
+    ensures borrowed { λ r. ⌜ now (out .exit) ≡ groupLeaves (netLent net (now (latches .entry)) (now (gates .entry))) (length (now (latches .entry))) (length (now (gates .entry))) depth group (now (out .entry)) ⌝ }
 {
-    let room = out.len();
-    if let Verdict::Refused(refusal, place) = test_group(
+    let mut latch_codes = [0; 1200];
+    lists::unpack::unpack_latches(&mut latch_codes, latches);
+    let mut gate_codes = [0; 1200];
+    lists::unpack::unpack_gates(&mut gate_codes, gates);
+    unpacked::write_group(
         net,
-        latches,
-        latch_count,
-        gates,
-        gate_count,
+        &latch_codes,
+        latches.len(),
+        &gate_codes,
+        gates.len(),
         depth,
         group,
-        room,
-    ) {
-        return GroupAnswer::Refused(refusal, place);
-    }
-    GroupAnswer::Written(groups::put_group(out, net, latches, gates, depth, group))
+        out,
+    )
 }

@@ -1,11 +1,11 @@
 // The program (document 01, "The program and one full run"): a depth line and a sheet on standard input, the formula as DIMACS text
 // or one refusal on standard output. Everything but input and output is in the crates below.
-use calls::HeadingAnswer;
 use lines::DepthLine;
 use model::Group;
 use netlist::Netlist;
 use refusals::Refusal;
 use refusals::Verdict;
+use unpacked::HeadingAnswer;
 use unrolling::order::Next;
 ghost use Prim.Native.Nat.{_≤_};
 ghost use Rattle.model.specs.Acceptance.{Accepted};
@@ -66,7 +66,7 @@ fn print_clauses(net: Netlist, latches: &[u32; 1200], gates: &[u32; 1200], depth
 
 // Prints the formula of a netlist: its header, and the clauses of all groups.
 fn print_formula(net: Netlist, latches: &[u32; 1200], gates: &[u32; 1200], depth: u32) {
-    match calls::heading(net, latches, 600, gates, 600, depth) {
+    match unpacked::heading(net, latches, 600, gates, 600, depth) {
         HeadingAnswer::Refused(refusal, place) => refuse(refusal, place),
         HeadingAnswer::Heading { variables, clauses } => {
             if print_header(variables, clauses) {

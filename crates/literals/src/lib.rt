@@ -11,6 +11,7 @@ ghost use Rattle.literals.specs.Numbering.{InLimits};
 pub struct Wire(pub u32);
 
 // Document 01's code: an AIGER literal.
+#[repr(C)]
 pub struct Code(pub u32);
 
 // Document 01's clause number: a DIMACS literal, not 0 and not the least i32.

@@ -12,6 +12,7 @@ ghost use Rattle.netlist.specs.NetOf.{netOf};
 ghost use Rattle.netlist.specs.Lines.{controlLine, lineAt, Stands};
 ghost use Rattle.netlist.specs.Faults.{outside, sizeFault, codeOutside, latchFault, gateFault, codeFault};
 
+#[repr(C)]
 pub struct Netlist {
     pub inputs: u32,
     pub latches: u32,

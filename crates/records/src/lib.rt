@@ -122,16 +122,16 @@ pub fn test_loops(net: Netlist, gates: &[u32; 1200]) -> Verdict
 pub fn test_record(
     net: Netlist,
     latches: &[u32; 1200],
-    latch_count: u32,
+    latch_count: usize,
     gates: &[u32; 1200],
-    gate_count: u32,
+    gate_count: usize,
 ) -> Verdict
     ensures { λ r. ⌜ r ≡ recordVerdict (netOf net (now (latches .entry)) (now (gates .entry))) «latch_count» «gate_count» ⌝ }
 {
     if let Verdict::Refused(refusal, place) = test_sizes(net) {
         return Verdict::Refused(refusal, place);
     }
-    if (latch_count < net.latches) | (gate_count < net.gates) {
+    if (latch_count < net.latches as usize) | (gate_count < net.gates as usize) {
         return Verdict::Refused(Refusal::OutOfOrder, 0);
     }
     if let Verdict::Refused(refusal, place) = test_codes(net, latches, gates) {

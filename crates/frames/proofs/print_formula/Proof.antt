@@ -1,5 +1,5 @@
 -- `frames::print_formula` meets its contract: a heading is answered only for what is accepted. Assumes nothing.
-use Rattle.calls.proofs.Calls.{heading-shown}
+use Rattle.unpacked.proofs.Calls.{heading-shown}
 use borrow.Author.Needs.{needs}
 use Rattle.frames.proofs.print_formula.Statement.{statement}
 use Rattle.frames.proofs.print_formula.Tie as tie
@@ -22,7 +22,7 @@ print-header-requires c κs = search needs
 print-clauses-requires : tie.Need-print-clauses-requires
 print-clauses-requires c κs =
     let told = c .before .before .before in
-    heading-shown _ 600 600 _ _ _ (rw (told .variables .given .1) at (told .before .before .heading .ensures .0))
+    heading-shown _ 600 600 _ _ _ (rw (told .variables .given .1) at (told .before .before .heading .ensures))
 
 returns : tie.Need-returns
 returns c = search needs

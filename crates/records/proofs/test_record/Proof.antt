@@ -2,6 +2,7 @@
 -- Assumes nothing.
 use mathlib.Core.Path.{_≡_, sym, _∙_}
 use mathlib.Core.List.{[]}
+use borrow.Author.Needs.{needs}
 use Rattle.refusals.specs.Tests.{_then_}
 use Rattle.refusals.specs.declared.Refusal.the-variants.{Size, CodeOutside}
 use Rattle.model.specs.Acceptance.{SizesFit}
@@ -32,6 +33,12 @@ returns c = rw (sizes (c .before .before .before) ∙ c .before .refusal .given 
 
 enum-told : tie.Need-enum-told
 enum-told c = c .match .keys2
+
+cast-latches : tie.Need-cast-if1
+cast-latches c = search needs
+
+cast-gates : tie.Need-cast-if1-2
+cast-gates c = search needs
 
 returns-2 : tie.Need-returns-2
 unfolding netOf recordVerdict _then_
@@ -81,6 +88,8 @@ test-record-spec =
     enum-known-refusal
     returns
     enum-told
+    cast-latches
+    cast-gates
     returns-2
     test-codes-requires
     enum-known-refusal-2

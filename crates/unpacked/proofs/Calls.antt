@@ -28,8 +28,8 @@ use Rattle.refusals.proofs.Table.{numberOf-some}
 use Rattle.refusals.proofs.Tests.{refuseIf-passes, then-passes}
 use Rattle.records.specs.Record.{recordVerdict}
 use Rattle.records.proofs.Acceptance.{passes-accepted}
-use Rattle.calls.specs.Calls.{testDepth, testGroup, testNumbers, testRoom, groupVerdict, headingVerdict, HeadingReply, headingReply, withCount, withHeading, withNumbers, groupSent, groupLeaves, headingSent, RoomEnough, CallsEncode}
-use Rattle.calls.specs.declared.HeadingAnswer.the-variants.{Heading}
+use Rattle.unpacked.specs.Calls.{testDepth, testGroup, testNumbers, testRoom, groupVerdict, headingVerdict, HeadingReply, headingReply, withCount, withHeading, withNumbers, groupSent, groupLeaves, headingSent, RoomEnough, CallsEncode}
+use Rattle.unpacked.specs.declared.HeadingAnswer.the-variants.{Heading}
 
 -- a depth passes up to 255
 pub depth-passes : (k : ℕ) → testDepth k ≡ Passed → k ≤ 255

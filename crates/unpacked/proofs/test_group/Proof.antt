@@ -1,4 +1,4 @@
--- `calls::test_group` meets its contract: each answer is that of the first test that refuses. Assumes nothing.
+-- `unpacked::test_group` meets its contract: each answer is that of the first test that refuses. Assumes nothing.
 use mathlib.Core.Path.{sym, _∙_}
 use native.Mathlib.Omega.{arith}
 use borrow.Author.Tests.{not-true, not-false}
@@ -6,10 +6,10 @@ use mathlib.Core.List.{[]}
 use Rattle.places.specs.Alone.{alone}
 use Rattle.places.proofs.Lists.{sizes-without, base-alone}
 use Rattle.records.proofs.Acceptance.{passes-accepted}
-use Rattle.calls.proofs.Calls.{group-record, group-depth, group-absent, group-no-room, group-passed, variables-fit}
+use Rattle.unpacked.proofs.Calls.{group-record, group-depth, group-absent, group-no-room, group-passed, variables-fit}
 use borrow.Author.Needs.{needs}
-use Rattle.calls.proofs.test_group.Statement.{statement}
-use Rattle.calls.proofs.test_group.Tie as tie
+use Rattle.unpacked.proofs.test_group.Statement.{statement}
+use Rattle.unpacked.proofs.test_group.Tie as tie
 
 test-record-requires : tie.Need-test-record-requires
 test-record-requires c κs = search needs

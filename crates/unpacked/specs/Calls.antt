@@ -20,10 +20,10 @@ use Rattle.refusals.specs.declared.Refusal.the-variants.{Depth, NoSuchGroup, No
 use Rattle.refusals.specs.declared.Verdict.{Verdict}
 use Rattle.refusals.specs.declared.Verdict.the-variants.{Passed, Refused}
 use Rattle.records.specs.Record.{recordVerdict}
-use Rattle.calls.specs.declared.GroupAnswer.{GroupAnswer}
-use Rattle.calls.specs.declared.GroupAnswer.the-variants.{Written}
-use Rattle.calls.specs.declared.HeadingAnswer.{HeadingAnswer}
-use Rattle.calls.specs.declared.HeadingAnswer.the-variants.{Heading}
+use Rattle.unpacked.specs.declared.GroupAnswer.{GroupAnswer}
+use Rattle.unpacked.specs.declared.GroupAnswer.the-variants.{Written}
+use Rattle.unpacked.specs.declared.HeadingAnswer.{HeadingAnswer}
+use Rattle.unpacked.specs.declared.HeadingAnswer.the-variants.{Heading}
 
 -- 7: "k over 255"
 unfoldable pub testDepth : ℕ → Verdict

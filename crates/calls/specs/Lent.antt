@@ -1,0 +1,11 @@
+-- The model's netlist that a record and its lent lists stand for. The public contracts go through it. Assumes nothing.
+use mathlib.Core.List.{List}
+use Rattle.model.specs.Netlist as M
+use Rattle.netlist.specs.NetOf.{netOf}
+use Rattle.netlist.specs.declared.Netlist.{Netlist}
+use Rattle.lists.specs.Unpacked.{latchCodes, gateCodes}
+use Rattle.lists.specs.declared.Latch.{Latch}
+use Rattle.lists.specs.declared.Gate.{Gate}
+
+abbrev pub netLent : Netlist → List Latch → List Gate → M.Netlist
+netLent net latches gates = netOf net (latchCodes latches) (gateCodes gates)

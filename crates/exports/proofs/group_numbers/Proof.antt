@@ -1,0 +1,27 @@
+-- `exports::group_numbers` meets its contract: each arm knows its answer. Assumes nothing.
+use Rattle.unpacked.specs.Calls.{groupReply}
+use Rattle.exports.specs.Numbers.{groupNumbers}
+use borrow.Author.Needs.{needs}
+use Rattle.exports.proofs.group_numbers.Statement.{statement}
+use Rattle.exports.proofs.group_numbers.Tie as tie
+
+enum-known-answer : tie.Need-enum-known-answer
+enum-known-answer c = search needs
+
+enum-known-answer-2 : tie.Need-enum-known-answer-2
+enum-known-answer-2 c = search needs
+
+number-requires : tie.Need-number-requires
+number-requires c κs = search needs
+
+returns : tie.Need-returns
+unfolding groupNumbers groupReply
+returns c = rw (c .before .answer .given .1)
+
+returns-2 : tie.Need-returns-2
+unfolding groupNumbers groupReply
+returns-2 c = rw (c .before .before .answer2 .given .1, c .number .ensures)
+
+pub group-numbers-spec : {M : Type 1} → statement M
+group-numbers-spec =
+    tie.close (tie.spec enum-known-answer enum-known-answer-2 number-requires returns returns-2)

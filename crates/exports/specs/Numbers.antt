@@ -1,0 +1,20 @@
+-- What the numbers of an exported function stand for: a group for three numbers, and the fields of a reply. Assumes nothing.
+use Prim.Native.Nat.{ℕ}
+use mathlib.Core.Bool.{cond}
+use lib.Dec.{eqb}
+use Rattle.model.specs.declared.Group.{Group}
+use Rattle.model.specs.declared.Group.the-variants.{Wires, Pair, Closing, Property}
+use Rattle.unpacked.specs.Calls as Calls
+use Rattle.exports.specs.declared.GroupReply.{GroupReply}
+use Rattle.exports.specs.declared.HeadingReply.{HeadingReply}
+
+-- Another kind than 0 to 3 is no group. A pair of a frame with itself is none at any depth, so it gets refusal 8.
+unfoldable pub groupOf : ℕ → ℕ → ℕ → Group
+groupOf kind j i =
+    cond (eqb kind 0) (Wires i) (cond (eqb kind 1) (Pair j i) (cond (eqb kind 2) (Closing i) (cond (eqb kind 3) Property (Pair i i))))
+
+unfoldable pub groupNumbers : Calls.GroupReply → GroupReply
+groupNumbers r = record { number = r .number; place = r .place; count = r .count }
+
+unfoldable pub headingNumbers : Calls.HeadingReply → HeadingReply
+headingNumbers r = record { number = r .number; place = r .place; variables = r .variables; clauses = r .clauses }

@@ -1,0 +1,44 @@
+-- `lists::unpack::put_pair` meets its contract: two stores. Assumes nothing.
+use mathlib.Core.Path.{refl}
+use borrow.Author.Needs.{needs}
+use Rattle.lists.specs.Unpacked.{putPair}
+use Rattle.lists.proofs.unpack.put_pair.Statement.{statement}
+use Rattle.lists.proofs.unpack.put_pair.Tie as tie
+
+mul-codes : tie.Need-mul-codes
+mul-codes c = search needs
+
+mul-codes-2 : tie.Need-mul-codes-2
+mul-codes-2 c = search needs
+
+element-write-codes : tie.Need-element-write-codes
+element-write-codes c = search needs
+
+mul-codes-3 : tie.Need-mul-codes-3
+mul-codes-3 c = search needs
+
+add-codes : tie.Need-add-codes
+add-codes c = search needs
+
+mul-codes-4 : tie.Need-mul-codes-4
+mul-codes-4 c = search needs
+
+element-write-codes-2 : tie.Need-element-write-codes-2
+element-write-codes-2 c = search needs
+
+returns : tie.Need-returns
+unfolding putPair
+returns c = refl
+
+pub put-pair-spec : {M : Type 1} → statement M
+put-pair-spec =
+    tie.close
+    (tie.spec
+    mul-codes
+    mul-codes-2
+    element-write-codes
+    mul-codes-3
+    add-codes
+    mul-codes-4
+    element-write-codes-2
+    returns)
