@@ -12,6 +12,8 @@ ghost use Rattle.unpacked.specs.Calls.{groupReply, groupSent, groupLeaves, head
 ghost use Rattle.calls.specs.Lent.{netLent};
 ghost use Rattle.exports.specs.Numbers.{groupOf, groupNumbers, headingNumbers};
 
+pub mod sheet;
+
 // What is sent back of a group call: number (0 where it is not refused), place, and how many numbers were written.
 #[repr(C)]
 pub struct GroupReply {

@@ -1,4 +1,7 @@
 pub mod AllRecords
+pub mod Delivered
+pub mod DeliverContract
+pub mod DeliverLoop
 pub mod OneRecord
 pub mod Records
 pub mod Unpacked

@@ -1,2 +1,3 @@
--- The lists that a caller lends, unpacked. Nothing here imports a law or a proof.
+-- The lists that a caller lends: unpacked, and with records delivered into them. Nothing here imports a law or a proof.
 pub mod Unpacked
+pub mod Delivered

@@ -2,6 +2,7 @@
 // gate (per latch: next code and reset, 0 or 1)").
 use literals::Code;
 
+pub mod deliver;
 pub mod unpack;
 
 #[repr(C)]

@@ -1,6 +1,6 @@
 -- The netlist as far as a line (specs/Steps.antt) and the netlist of the whole file (specs/Files.antt): one line more, the faults
 -- of the last line, and the last line of all. No contract cites this file. Assumes nothing.
-use Prim.Native.Nat.{ℕ, _+_, _-_, _*_, _/_, _%_, _≤_, _<_}
+use Prim.Native.Nat.{ℕ, _+_, _-_, _*_, _%_, _≤_, _<_}
 use mathlib.Core.Path.{_≡_, refl, sym, _∙_, ap, fun-ext}
 use mathlib.Core.Bool.{false, cond, not, _||_}
 use mathlib.Core.Logic.{by-cases}
@@ -9,7 +9,7 @@ use native.Mathlib.Decide.{ℕ-discrete, decLt, decLe}
 use native.Mathlib.Nat.{add-zero}
 use native.Mathlib.Omega.{arith}
 use lib.Dec.{eqb, ltb}
-use lib.ListN.{length, drop-of-length-le}
+use lib.ListN.{length, take, drop, length-take, length-drop, drop-of-length-le}
 use borrow.Author.Tests.{ltb-false, eqb-true, eqb-false, not-false, lt-ltb, le-ltb, le-leb, lt-leb}
 use Rattle.netlist.specs.Lines.{latchLine, gateLine, addressLine, dataLine, controlLine, lineAt}
 use Rattle.netlist.specs.Faults.{sizeFault, codeFault}
@@ -17,6 +17,7 @@ use Rattle.netlist.specs.declared.Line as Due
 use Rattle.netlist.specs.declared.Line.the-variants.{Sizes, Memory, Latch, Gate, Address, Data, Control}
 use Rattle.steps.proofs.Neither.{neither}
 use Rattle.lines.specs.Lines.{lineOf}
+use Rattle.lines.proofs.Lines.{lineOf-length}
 use Rattle.lines.specs.declared.Line.{Line}
 use Rattle.lines.specs.declared.Line.the-variants.{Misprint}
 use Rattle.parse.specs.Files.{lineCount, lineIn, firstOf, secondOf, thirdOf, sizesIn, netOfLines, netIn}
@@ -25,6 +26,13 @@ use Rattle.steps.specs.Due.{numberIn}
 use Rattle.steps.specs.Steps.{numberAfter, stored}
 use Rattle.parse.specs.Progress.{linesTo, netTo}
 use Rattle.steps.proofs.Places.{rowOfLine, sizeOfRow, placeOf, InRow, sameLine-here, sameLine-elsewhere, sameLine-none, SameSizes, lineAt-known, past-known}
+
+-- a line that is cut short, or missing
+pub lineIn-missing : (file : List ℕ) (p : ℕ) → length file < 32 * p + 32 → lineIn file (p + 1) ≡ Misprint
+unfolding lineIn
+lineIn-missing file p h =
+    let rest = drop (32 * (p + 1 - 1)) file in
+    lineOf-length (take 32 rest) (λ e. omega (arith, e, length-take 32 rest, length-drop (32 * (p + 1 - 1)) file))
 
 module _ (file : List ℕ) where
   -- a line that is read, and one that is not yet

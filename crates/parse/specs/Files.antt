@@ -7,6 +7,7 @@ use lib.Dec.{ltb}
 use lib.ListN.{length, take, drop}
 use Rattle.model.specs.Netlist.{Netlist}
 use Rattle.netlist.specs.Lines.{sizesLine, memoryLine, latchLine, gateLine, addressLine, dataLine, controlLine}
+use Rattle.steps.specs.Records.{withoutCodes}
 use Rattle.lines.specs.Lines.{lineOf}
 use Rattle.lines.specs.declared.Line.{Line}
 use Rattle.lines.specs.declared.Line.the-variants.{Misprint, Read}
@@ -34,23 +35,8 @@ thirdOf (Read k x y z) = z
 -- the sizes in lines N and M, with no codes
 unfoldable pub sizesIn : List ℕ → Netlist
 sizesIn file =
-    record {
-      inputs = firstOf (lineIn file sizesLine);
-      latches = secondOf (lineIn file sizesLine);
-      gates = thirdOf (lineIn file sizesLine);
-      m = firstOf (lineIn file memoryLine);
-      n = secondOf (lineIn file memoryLine);
-      initialWord = thirdOf (lineIn file memoryLine);
-      next = λ l. 0;
-      reset = λ l. 0;
-      left = λ g. 0;
-      right = λ g. 0;
-      address = λ t. 0;
-      writeData = λ t. 0;
-      WE = 0;
-      RE = 0;
-      P = 0;
-    }
+    withoutCodes (firstOf (lineIn file sizesLine)) (secondOf (lineIn file sizesLine)) (thirdOf (lineIn file sizesLine))
+    (firstOf (lineIn file memoryLine)) (secondOf (lineIn file memoryLine)) (thirdOf (lineIn file memoryLine))
 
 -- below a size what the lines say, and 0 past it: "the returned record's entries past its sizes are 0"
 abbrev pub upTo : ℕ → (ℕ → ℕ) → ℕ → ℕ

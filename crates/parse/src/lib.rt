@@ -21,13 +21,15 @@ pub fn is_ragged(file: &[u8]) -> bool
     (size == 0) | (size % 32 != 0) | (19680 < size)
 }
 
-// The line at a place.
-pub fn line_in(file: &[u8], place: u32) -> lines::Line
-    requires { ⌜ (1 ≤ place) × (32 * place ≤ length (now file)) ⌝ }
-    ensures { λ r. ⌜ r ≡ lineIn (now (file .entry)) place ⌝ }
+// The line behind the first `line` lines. One that is cut short, or missing, is a misprint.
+pub fn line_after(file: &[u8], line: u32) -> lines::Line
+    ensures { λ r. ⌜ r ≡ lineIn (now (file .entry)) (line + 1) ⌝ }
 {
-    let start = 32 * (place as usize - 1);
+    let start = 32 * (line as usize);
     let end = start + 32;
+    if file.len() < end {
+        return lines::Line::Misprint;
+    }
     lines::read_line(&file[start..end])
 }
 
@@ -43,7 +45,7 @@ fn read_next(
     ensures { λ r. ⌜ Outcome r (now (latches .exit)) (now (gates .exit)) (testLineIn (netIn (now (file .entry))) (now (file .entry)) (line + 1)) (netTo (now (file .entry)) (line + 1)) ⌝ }
 {
     let place = line + 1;
-    match line_in(file, place) {
+    match line_after(file, line) {
         lines::Line::Misprint => steps::refused(Refusal::Misprint, place),
         lines::Line::Read {
             kind,

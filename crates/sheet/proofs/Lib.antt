@@ -1,5 +1,4 @@
 pub mod Scratch
 pub mod Verdicts
 pub mod Lists
-pub mod Entries
-pub mod Reading
+pub mod Codes

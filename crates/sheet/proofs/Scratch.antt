@@ -1,14 +1,11 @@
--- Laws of the reader's own lists (specs/Scratch.antt): where they start, what lines that have passed say of them, and one copy more
--- into a lent list. Assumes nothing.
-use Prim.Native.Nat.{ℕ, zero, suc, _+_, _*_, _≤_, _<_}
+-- Laws of the reader's own lists (specs/Scratch.antt): where they start, and what lines that have passed say of
+-- them. Assumes nothing.
+use Prim.Native.Nat.{ℕ, zero, suc, _+_, _*_, _≤_}
 use mathlib.Core.Path.{_≡_, refl, sym, _∙_, ap, subst}
 use mathlib.Core.Bool.{Bool, true, false, cond}
-use mathlib.Core.List.{List, [], _++_}
-use native.Mathlib.Nat.{zero-add}
-use native.Mathlib.Numerals.{add-one}
+use mathlib.Core.List.{List, []}
 use native.Mathlib.Omega.{arith}
-use lib.ListN.{length, getD, set, take, drop, replicate, length-replicate}
-use lib.Seq.{paste-suc}
+use lib.ListN.{getD, replicate, length-replicate}
 use Rattle.refusals.specs.Tests.{inOrder, _then_}
 use Rattle.refusals.specs.declared.Verdict.the-variants.{Passed}
 use Rattle.model.specs.Netlist as M
@@ -125,8 +122,3 @@ lines-passed file r latches gates passed is =
           sizes = sizes-passed file (lineCount file) passed (omega arith);
           codes = codes-fit (netIn file) .0 (every-place (netIn file) (Without codeFault (netIn file)) .1 (λ p l b. line-passed file (lineCount file) passed p l (omega arith) .code));
         }
-
--- one copy more
-pub copy-next : (codes old : List ℕ) (i : ℕ) → i < length codes → i < length old
-    → set (take i codes ++ drop i old) i (getD codes i 0) ≡ take (i + 1) codes ++ drop (i + 1) old
-copy-next codes old i h b = rw add-one (simp zero-add at (paste-suc old 0 codes i 0 (rw zero-add b) h))

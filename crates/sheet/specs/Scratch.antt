@@ -1,7 +1,7 @@
 -- The reader's own lists, into which the codes go before anything that is lent is written. Assumes nothing.
-use Prim.Native.Nat.{ℕ, _*_, _≤_}
-use mathlib.Core.List.{List, _++_}
-use lib.ListN.{take, drop, replicate}
+use Prim.Native.Nat.{ℕ, _≤_}
+use mathlib.Core.List.{List}
+use lib.ListN.{replicate}
 use Rattle.model.specs.Netlist.{Netlist}
 use Rattle.netlist.specs.Lines.{controlLine}
 use Rattle.records.specs.Dependence.{InLimits}
@@ -15,7 +15,3 @@ noCodes = replicate 1200 0
 pub record LinesPassed (c : Netlist) (count : ℕ) : Type 0 where
   pub sizes : SizesKnown c count
   pub limits : controlLine c ≤ count → InLimits c
-
--- a list with the first records of another in front
-unfoldable pub delivered : List ℕ → ℕ → List ℕ → List ℕ
-delivered codes records old = take (2 * records) codes ++ drop (2 * records) old

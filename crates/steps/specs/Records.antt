@@ -30,16 +30,16 @@ recordOf c =
       p = record { 0 = c .P };
     }
 
--- the record that is all zeros
-abbrev pub noNetlist : M.Netlist
-noNetlist =
+-- sizes with no codes
+abbrev pub withoutCodes : ℕ → ℕ → ℕ → ℕ → ℕ → ℕ → M.Netlist
+withoutCodes inputs latches gates m n initialWord =
     record {
-      inputs = 0;
-      latches = 0;
-      gates = 0;
-      m = 0;
-      n = 0;
-      initialWord = 0;
+      inputs = inputs;
+      latches = latches;
+      gates = gates;
+      m = m;
+      n = n;
+      initialWord = initialWord;
       next = λ l. 0;
       reset = λ l. 0;
       left = λ g. 0;
@@ -50,6 +50,10 @@ noNetlist =
       RE = 0;
       P = 0;
     }
+
+-- the record that is all zeros
+abbrev pub noNetlist : M.Netlist
+noNetlist = withoutCodes 0 0 0 0 0 0
 
 -- a refusal with its record
 abbrev pub refusedAt : Refusal → ℕ → Sheet

@@ -1,17 +1,23 @@
--- A piece of the text of a depth: whole groups, from one of them on, in the order of the whole. Cited by `print_groups`.
--- Assumes nothing.
-use Prim.Native.Nat.{ℕ}
+-- The text of a depth, piece by piece: its header, then whole groups in the order of the whole. Cited by `print_header` and
+-- `print_groups`. Assumes nothing.
+use Prim.Native.Nat.{ℕ, _+_}
 use mathlib.Core.Path.{_≡_}
 use mathlib.Core.List.{List, _∷_, _++_}
+use lib.ListN.{length}
 use Rattle.model.specs.Netlist.{Netlist}
 use Rattle.model.specs.Groups.{groupOrder}
-use Rattle.model.specs.Numbers.{numbersOf, joined}
+use Rattle.model.specs.Variables.{base}
+use Rattle.model.specs.Numbers.{numbersOf, joined, formula, clausesIn}
 use Rattle.model.specs.Wrote.{Wrote}
 use Rattle.model.specs.declared.Group.{Group}
 use Rattle.unrolling.specs.Next.{firstOf}
 use Rattle.unrolling.specs.declared.order.Next.{Next}
 use Rattle.unrolling.specs.declared.order.Next.the-variants.{Then, End}
-use Rattle.dimacs.specs.Text.{clauseText}
+use Rattle.dimacs.specs.Text.{headerText, clauseText}
+
+-- "It prints `p cnf`, variables, clauses": of depth k
+unfoldable pub formulaHeader : Netlist → ℕ → List ℕ
+formulaHeader c k = headerText (base c (k + 1)) (length (clausesIn (formula c k)))
 
 -- the order of the whole has this group, between those before and those behind
 pub record Stands (k : ℕ) (group : Group) : Type 0 where

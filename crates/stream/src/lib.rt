@@ -8,14 +8,38 @@ ghost use Rattle.model.specs.Acceptance.{Accepted};
 ghost use Rattle.model.specs.Numbers.{numbersOf};
 ghost use Rattle.model.specs.Wrote.{Wrote};
 ghost use Rattle.netlist.specs.NetOf.{netOf};
-ghost use Rattle.dimacs.specs.Text.{clauseText};
+ghost use Rattle.dimacs.specs.Text.{headerText, clauseText};
 ghost use Rattle.unrolling.specs.Next.{leftAfter, leftFrom};
-ghost use Rattle.stream.specs.Pieces.{Stands, Continues};
+ghost use Rattle.stream.specs.Pieces.{formulaHeader, Stands, Continues};
 
 // The first `bytes` bytes of a buffer are text to be printed; the group after those printed.
 pub struct Piece {
     pub bytes: usize,
     pub next: Next,
+}
+
+// A header takes at most 28 bytes.
+fn print_counts(text: &mut [u8], variables: u32, clauses: u32) -> usize
+    requires { ⌜ 28 ≤ length (now text) ⌝ }
+    ensures { λ r. ⌜ Wrote (headerText variables clauses) (now (text .entry)) (now (text .exit)) r × (r ≤ 28) ⌝ }
+{
+    dimacs::write_header(text, variables, clauses)
+}
+
+// Prints the header: the variables and clauses of a depth.
+pub fn print_header(
+    text: &mut [u8],
+    net: Netlist,
+    latches: &[u32; 1200],
+    gates: &[u32; 1200],
+    depth: u32,
+) -> usize
+    requires { ⌜ Accepted (netOf net (now latches) (now gates)) × (depth ≤ 255) × (28 ≤ length (now text)) ⌝ }
+    ensures { λ r. ⌜ Wrote (formulaHeader (netOf net (now (latches .entry)) (now (gates .entry))) depth) (now (text .entry)) (now (text .exit)) r × (r ≤ 28) ⌝ }
+{
+    let variables = places::frame_base(net, depth + 1);
+    let clauses = unrolling::lengths::clause_count(net, latches, gates, depth);
+    print_counts(text, variables, clauses)
 }
 
 // Prints a group of an accepted netlist: its numbers, and from them its text. No group has more than 5,992 numbers, and no number

@@ -24,12 +24,10 @@ use Rattle.refusals.specs.declared.Refusal.{Refusal}
 use Rattle.refusals.specs.declared.Refusal.the-variants.{Depth, NoSuchGroup, NoRoom}
 use Rattle.refusals.specs.declared.Verdict.{Verdict}
 use Rattle.refusals.specs.declared.Verdict.the-variants.{Passed, Refused}
-use Rattle.refusals.proofs.Table.{numberOf-some}
 use Rattle.refusals.proofs.Tests.{refuseIf-passes, then-passes}
 use Rattle.records.specs.Record.{recordVerdict}
 use Rattle.records.proofs.Acceptance.{passes-accepted}
-use Rattle.unpacked.specs.Calls.{testDepth, testGroup, testNumbers, testRoom, groupVerdict, headingVerdict, HeadingReply, headingReply, withCount, withHeading, withNumbers, groupSent, groupLeaves, headingSent, RoomEnough, CallsEncode}
-use Rattle.unpacked.specs.declared.HeadingAnswer.the-variants.{Heading}
+use Rattle.unpacked.specs.Calls.{testDepth, testGroup, testNumbers, testRoom, groupVerdict, headingVerdict, withCount, withNumbers, groupSent, groupLeaves, RoomEnough, CallsEncode}
 
 -- a depth passes up to 255
 pub depth-passes : (k : ℕ) → testDepth k ≡ Passed → k ≤ 255
@@ -161,19 +159,3 @@ module _ (c : Netlist) (latchCount gateCount k : ℕ) (g : Group) (room : ℕ) w
         not-false (inDepth k g) (refuseIf-passes (not (inDepth k g)) NoSuchGroup 0 .0 (d .0)),
         ltb-false room (length (numbersOf c k g)) (refuseIf-passes (ltb room (length (numbersOf c k g))) NoRoom 0 .0 (e .1)),
       )
-
--- an answer that is no refusal comes from tests that pass
-heading-not-refused : (w : Verdict) (v n x y : ℕ) → headingReply (Heading v n) ≡ withHeading w x y → w ≡ Passed
-unfolding headingReply withHeading
-heading-not-refused Passed v n x y h = refl
-heading-not-refused (Refused r p) v n x y h = absurd (omega (arith, numberOf-some r, ap (λ (a : HeadingReply). a .number) h))
-
--- what a heading call that is not refused has shown
-pub heading-shown : (c : Netlist) (latchCount gateCount k v n : ℕ) → headingReply (Heading v n) ≡ headingSent c latchCount gateCount k
-    → Accepted c × (k ≤ 255)
-unfolding headingSent
-heading-shown c latchCount gateCount k v n h =
-    let passed = heading-not-refused (headingVerdict c latchCount gateCount k) v n _ _ h in (
-      passes-accepted c latchCount gateCount .0 (record-passed c latchCount gateCount k passed) .0,
-      depth-passes k (rest-passed c latchCount gateCount k passed .0),
-    )

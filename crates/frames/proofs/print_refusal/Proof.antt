@@ -4,7 +4,6 @@ use native.Mathlib.Omega.{arith}
 use borrow.Author.Needs.{needs}
 use lib.Seq.{length-take-le}
 use Rattle.dimacs.proofs.Text.{length-refusalText}
-use Rattle.frames.proofs.Buffer.{front-within}
 use Rattle.frames.proofs.print_refusal.Statement.{statement}
 use Rattle.frames.proofs.print_refusal.Tie as tie
 
@@ -17,7 +16,10 @@ write-refusal-requires c κs =
     omega (arith, length-refusalText (start .args .number) (start .args .place) (start .fits .number .fits) (start .fits .place .fits))
 
 array-share-prefix-text : tie.Need-array-share-prefix-text
-array-share-prefix-text c = let start = c .before .before .before in front-within (c .before .write-refusal .ensures) (c .before .write-refusal .kept .0) (omega (arith, length-refusalText (start .args .number) (start .args .place) (start .fits .number .fits) (start .fits .place .fits)))
+array-share-prefix-text c =
+    let start = c .before .before .before in
+    let written = c .before .write-refusal in
+    omega (arith, written .ensures .counted, written .kept .0, length-refusalText (start .args .number) (start .args .place) (start .fits .number .fits) (start .fits .place .fits))
 
 slice-aggregate-write-text : tie.Need-slice-aggregate-write-text
 slice-aggregate-write-text c = sym (length-take-le _ _ (array-share-prefix-text (c .before)))

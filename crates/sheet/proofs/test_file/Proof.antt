@@ -10,7 +10,7 @@ use Rattle.parse.specs.Files.{lineCount, netIn}
 use Rattle.parse.specs.FileTests.{ragged, testLineIn}
 use Rattle.parse.proofs.Files.{whole-lines}
 use Rattle.sheet.specs.Sheet.{endVerdict}
-use Rattle.sheet.proofs.Scratch.{read-none, lines-passed}
+use Rattle.sheet.proofs.Scratch.{lines-passed}
 use Rattle.sheet.proofs.Verdicts.{end-latches, file-ragged, file-refused, file-lines}
 use borrow.Author.Needs.{needs}
 use Rattle.sheet.proofs.test_file.Statement.{statement}
@@ -50,7 +50,7 @@ empty-net-requires c κs = search needs
 read-lines-requires : tie.Need-read-lines-requires
 read-lines-requires c κs =
     let start = c .before .before .before .before .before .before in
-    (sym (c .before .before .before .before .is-ragged .ensures) ∙ c .before .before .before .if1 .left, omega arith, rw (c .before .before .empty-net .ensures, start .pre .0, start .pre .1) (read-none (start .args .file .now)))
+    (sym (c .before .before .before .before .is-ragged .ensures) ∙ c .before .before .before .if1 .left, start .pre .0, rw (c .before .before .empty-net .ensures) (start .pre .1))
 
 enum-known-read : tie.Need-enum-known-read
 enum-known-read c = search needs

@@ -1,0 +1,15 @@
+-- `exports::sheet::sheet_numbers` meets its contract: it is the definition. Assumes nothing.
+use borrow.Author.Needs.{needs}
+use Rattle.exports.specs.Sheet.{sheetNumbers}
+use Rattle.exports.proofs.sheet.sheet_numbers.Statement.{statement}
+use Rattle.exports.proofs.sheet.sheet_numbers.Tie as tie
+
+reply-of-requires : tie.Need-reply-of-requires
+reply-of-requires c κs = search needs
+
+returns : tie.Need-returns
+unfolding sheetNumbers
+returns c = rw (c .reply-of .ensures)
+
+pub sheet-numbers-spec : {M : Type 1} → statement M
+sheet-numbers-spec = tie.close (tie.spec reply-of-requires returns)

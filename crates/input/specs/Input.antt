@@ -1,0 +1,41 @@
+-- What the program makes of its input (document 01: "eleven bytes, the depth in ten columns and a line feed, then the sheet", "The
+-- depth is tested first"). Cited by `read_input`. Assumes nothing.
+use Prim.Native.Nat.{ℕ, _≤_}
+use mathlib.Core.Path.{_≡_}
+use mathlib.Core.Bool.{cond}
+use mathlib.Core.List.{List}
+use lib.Dec.{eqb}
+use lib.ListN.{drop}
+use Rattle.model.specs.Acceptance.{Accepted}
+use Rattle.refusals.specs.Refusal.{replyOf}
+use Rattle.refusals.specs.declared.Reply.{Reply}
+use Rattle.netlist.specs.NetOf.{netOf}
+use Rattle.netlist.specs.declared.Netlist.{Netlist}
+use Rattle.lines.specs.Depth.{depthAnswer}
+use Rattle.parse.specs.Files.{netIn}
+use Rattle.sheet.specs.Sheet.{sheetVerdict}
+use Rattle.input.specs.declared.Input.{Input}
+
+-- a sheet's number and place, for lists of 600 records
+unfoldable pub sheetReply : List ℕ → Reply
+sheetReply file = replyOf (sheetVerdict file 600 600)
+
+-- an input's: the depth's where that is refused, and else the sheet's behind it
+unfoldable pub inputReply : List ℕ → Reply
+inputReply s =
+    cond (eqb (depthAnswer s .number) 0) (sheetReply (drop 11 s))
+    (record { number = depthAnswer s .number; place = depthAnswer s .place })
+
+abbrev pub replyIn : Input → Reply
+replyIn r = record { number = r .number; place = r .place }
+
+-- a sheet that is taken: the record and the lists are what it says, and are an accepted netlist
+pub record SheetTaken (file : List ℕ) (net : Netlist) (latches gates : List ℕ) : Type 0 where
+  pub net-is : netOf net latches gates ≡ netIn file
+  pub accepted : Accepted (netOf net latches gates)
+
+-- an input that is taken: its depth, and the sheet behind it
+pub record InputTaken (s : List ℕ) (depth : ℕ) (net : Netlist) (latches gates : List ℕ) : Type 0 where
+  pub depth-is : depth ≡ depthAnswer s .depth
+  pub depth-most : depth ≤ 255
+  pub sheet : SheetTaken (drop 11 s) net latches gates

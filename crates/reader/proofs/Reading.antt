@@ -1,0 +1,144 @@
+-- What `read` returns and leaves (specs/Reading.antt), from what stands in its own unpacked lists; and what it accepts, no test
+-- of records refuses. Cited by `read`. Assumes nothing.
+use Prim.Native.Nat.{ℕ, _≤_}
+use mathlib.Core.Path.{_≡_, refl, sym, _∙_, ap}
+use mathlib.Core.List.{List}
+use native.Mathlib.Omega.{arith}
+use lib.ListN.{length}
+use Rattle.refusals.specs.declared.Verdict.{Verdict}
+use Rattle.refusals.specs.declared.Verdict.the-variants.{Passed, Refused}
+use Rattle.refusals.proofs.Tests.{refused-not-passed}
+use Rattle.model.specs.Netlist as M
+use Rattle.model.specs.Acceptance.{Accepted}
+use Rattle.literals.specs.declared.Code.{Code}
+use Rattle.netlist.specs.NetOf.{codeOf, netOf}
+use Rattle.records.proofs.Acceptance.{passes-accepted}
+use Rattle.steps.specs.declared.Sheet.{Sheet}
+use Rattle.steps.specs.Records.{codeAt, recordOf}
+use Rattle.parse.specs.Files.{netIn}
+use Rattle.sheet.specs.Sheet.{sheetVerdict}
+use Rattle.sheet.specs.Codes.{recordBeside, CodesRead}
+use Rattle.sheet.proofs.Codes.{passed-sheet}
+use Rattle.lists.specs.declared.Latch.{Latch}
+use Rattle.lists.specs.declared.Gate.{Gate}
+use Rattle.lists.specs.Unpacked.{latchCodes, gateCodes}
+use Rattle.lists.specs.Delivered.{latchAt, gateAt, delivered}
+use Rattle.lists.proofs.Delivered.{delivered-none, length-delivered}
+use Rattle.reader.specs.Reading.{latchOf, gateOf, listBeside, readVerdict, readRecord, latchesLeft, gatesLeft, NoTestRefuses}
+use Rattle.reader.proofs.Lists.{getD-gather-alone, delivered-pairs}
+use Rattle.reader.proofs.Entries.{Agree, accepted-same}
+
+-- an accepted netlist, its record, and its latches and gates delivered into lists: no test of records refuses them
+module _ (c : M.Netlist) (accepted : Accepted c) (latches : List Latch) (gates : List Gate)
+    (long-latches : c .latches ≤ length latches) (long-gates : c .gates ≤ length gates) where
+  agree : Agree c (netOf (recordOf c) (latchCodes (delivered (c .latches) (latchOf c) latches))
+      (gateCodes (delivered (c .gates) (gateOf c) gates)))
+  unfolding netOf codeOf recordOf latchCodes gateCodes
+  agree =
+      let sizes = accepted .sizes in
+      let wide = sizes .m-most in
+      let deep = sizes .n-most in
+      let latch = delivered-pairs (λ (l : Latch). l .next .0) (λ (l : Latch). l .reset) (c .latches) (latchOf c) latches
+      (sizes .latches-fit) long-latches in
+      let gate = delivered-pairs (λ (g : Gate). g .left .0) (λ (g : Gate). g .right .0) (c .gates) (gateOf c) gates
+      (sizes .gates-fit) long-gates in
+      record {
+        sizes-same = refl;
+        next-same = λ l h. sym (latch l h .0);
+        reset-same = λ l h. sym (latch l h .1);
+        left-same = λ g h. sym (gate g h .0);
+        right-same = λ g h. sym (gate g h .1);
+        address-same = λ t h. sym (ap (λ (k : Code). k .0)
+            (getD-gather-alone 12 1 (codeAt (c .address)) (λ t. refl) t 0 t (omega arith) (omega arith) (omega arith)
+            (record { 0 = 0 })));
+        data-same = λ t h. sym (ap (λ (k : Code). k .0)
+            (getD-gather-alone 32 1 (codeAt (c .writeData)) (λ t. refl) t 0 t (omega arith) (omega arith) (omega arith)
+            (record { 0 = 0 })));
+        WE-same = refl;
+        RE-same = refl;
+        P-same = refl;
+      }
+
+  no-test-refuses : NoTestRefuses (recordOf c) (delivered (c .latches) (latchOf c) latches)
+      (delivered (c .gates) (gateOf c) gates)
+  unfolding netOf recordOf
+  no-test-refuses =
+      let newLatches = delivered (c .latches) (latchOf c) latches in
+      let newGates = delivered (c .gates) (gateOf c) gates in
+      let d = netOf (recordOf c) (latchCodes newLatches) (gateCodes newGates) in
+      passes-accepted d (length newLatches) (length newGates) .1 (
+        accepted-same c d agree accepted,
+        rw (length-delivered (latchOf c) latches (c .latches) long-latches) long-latches,
+        rw (length-delivered (gateOf c) gates (c .gates) long-gates) long-gates,
+      )
+
+module _ (file : List ℕ) (latches : List Latch) (gates : List Gate) where
+  -- what `read` promises, together
+  abbrev pub Reads : Sheet → List Latch → List Gate → Type 0
+  Reads sheet newLatches newGates =
+      (sheet .verdict ≡ readVerdict file latches gates)
+      × ((sheet .net ≡ readRecord file latches gates)
+      × ((newLatches ≡ latchesLeft file latches gates)
+      × ((newGates ≡ gatesLeft file latches gates)
+      × (sheet .verdict ≡ Passed → NoTestRefuses (sheet .net) newLatches newGates))))
+
+  module _ (sheet : Sheet) (latchList gateList : List ℕ)
+      (codes : CodesRead file (length latches) (length gates) sheet latchList gateList) where
+    -- what is to be delivered: no more than 600 records, and no more than there is room for
+    abbrev pub Deliverable : Type 0
+    Deliverable = ((sheet .net .latches ≤ 600) × (sheet .net .latches ≤ length latches)) ×
+        ((sheet .net .gates ≤ 600) × (sheet .net .gates ≤ length gates))
+
+    pub deliverable : Deliverable
+    unfolding recordBeside recordOf
+    deliverable = by-verdict (sheetVerdict file (length latches) (length gates)) refl
+      where
+        by-verdict : (v : Verdict) → sheetVerdict file (length latches) (length gates) ≡ v → Deliverable
+        by-verdict Passed e =
+            let parts = passed-sheet file (length latches) (length gates) e in
+            rw (codes .record-is, e) ((parts .0 .sizes .latches-fit, parts .1), (parts .0 .sizes .gates-fit, parts .2))
+        by-verdict (Refused r p) e = rw (codes .record-is, e) ((omega arith, omega arith), (omega arith, omega arith))
+
+    pub reads : Reads sheet (delivered (sheet .net .latches) (latchAt latchList) latches)
+        (delivered (sheet .net .gates) (gateAt gateList) gates)
+    unfolding readVerdict readRecord latchesLeft gatesLeft listBeside recordBeside recordOf netOf
+    reads = by-verdict (sheetVerdict file (length latches) (length gates)) refl
+      where
+        by-verdict : (v : Verdict) → sheetVerdict file (length latches) (length gates) ≡ v
+            → Reads sheet (delivered (sheet .net .latches) (latchAt latchList) latches)
+            (delivered (sheet .net .gates) (gateAt gateList) gates)
+        by-verdict Passed e =
+            let parts = passed-sheet file (length latches) (length gates) e in
+            let held = codes .holds (codes .verdict-is ∙ e) .net-is in
+            let net : sheet .net ≡ recordOf (netIn file) = codes .record-is ∙ rw e in
+            let newLatches : delivered (sheet .net .latches) (latchAt latchList) latches ≡ delivered (netIn file .latches)
+            (latchOf (netIn file)) latches = rw (← held) in
+            let newGates : delivered (sheet .net .gates) (gateAt gateList) gates ≡ delivered (netIn file .gates)
+            (gateOf (netIn file)) gates = rw (← held) in (
+              codes .verdict-is,
+              (
+                codes .record-is,
+                (
+                  rw e newLatches,
+                  (
+                    rw e newGates,
+                    λ q. rw (newLatches, newGates, net)
+                        (no-test-refuses (netIn file) (parts .0) latches gates (parts .1) (parts .2)),
+                  ),
+                ),
+              ),
+            )
+        by-verdict (Refused r p) e =
+            let net : sheet .net ≡ recordBeside (Refused r p) (netIn file) = codes .record-is ∙ rw e in (
+              codes .verdict-is,
+              (
+                codes .record-is,
+                (
+                  rw (e, net) (delivered-none (latchAt latchList) latches),
+                  (
+                    rw (e, net) (delivered-none (gateAt gateList) gates),
+                    λ q. absurd (refused-not-passed (sym e ∙ (sym (codes .verdict-is) ∙ q))),
+                  ),
+                ),
+              ),
+            )

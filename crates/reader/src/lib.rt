@@ -1,0 +1,93 @@
+// The sheet reader, which carries the file and its own line number, and `read` into lent lists of records (document 01, "The sheet"
+// and "Reading"). Each function here takes its structs and lists apart and leaves the work to functions over plain slices.
+use lists::Gate;
+use lists::Latch;
+use refusals::Verdict;
+use steps::Sheet;
+ghost use mathlib.Core.Path.{_≡_};
+ghost use Prim.Native.Nat.{_≤_};
+ghost use Rattle.steps.specs.Records.{recordOf, noNetlist};
+ghost use Rattle.parse.specs.Files.{lineCount};
+ghost use Rattle.parse.specs.Progress.{ReadTo};
+ghost use Rattle.sheet.specs.Codes.{CodesRead};
+ghost use Rattle.reader.specs.Lines.{atStart, nextNumber, nextLine};
+ghost use Rattle.reader.specs.Reading.{readVerdict, readRecord, latchesLeft, gatesLeft, NoTestRefuses};
+
+// A file, and how many of its lines are read.
+pub struct SheetReader<'a> {
+    pub file: &'a [u8],
+    pub line: u32,
+}
+
+// A line, and the reader behind it.
+pub struct NextLine<'a> {
+    pub line: lines::Line,
+    pub reader: SheetReader<'a>,
+}
+
+// A reader of which no line is read.
+pub fn at_start<'a>(file: &'a [u8]) -> SheetReader<'a>
+    ensures { λ r. ⌜ r ≡ atStart (file .entry) ⌝ }
+{
+    SheetReader { file, line: 0 }
+}
+
+// How many lines are read with one more. No sheet has more than 615, and the number goes no further.
+fn next_number(line: u32) -> u32
+    ensures { λ r. ⌜ r ≡ nextNumber line ⌝ }
+{
+    if line < 615 { line + 1 } else { line }
+}
+
+impl<'a> SheetReader<'a> {
+    // The next line, and the reader moved on. A line that is cut short, or missing, is a misprint.
+    pub fn next_line(self) -> NextLine<'a>
+        ensures { λ r. ⌜ r ≡ nextLine (self .entry) ⌝ }
+    {
+        let line = parse::line_after(self.file, self.line);
+        let number = next_number(self.line);
+        NextLine {
+            line,
+            reader: SheetReader {
+                file: self.file,
+                line: number,
+            },
+        }
+    }
+
+    // Reads the sheet from this line on into unpacked lists.
+    fn read_codes(
+        self,
+        latch_room: usize,
+        gate_room: usize,
+        latches: &mut [u32; 1200],
+        gates: &mut [u32; 1200],
+    ) -> Sheet
+        requires { ⌜ (self .line ≤ lineCount (now (self .file))) × ReadTo (now (self .file)) (self .line) (recordOf noNetlist) (now latches) (now gates) ⌝ }
+        ensures { λ r. ⌜ CodesRead (now (self .entry .file)) «latch_room» «gate_room» r (now (latches .exit)) (now (gates .exit)) ⌝ }
+    {
+        sheet::read_codes(self.file, self.line, latch_room, gate_room, latches, gates)
+    }
+}
+
+// Reads a sheet: its record, and its latches and gates into the lent lists. Nothing lent is written before the last test has passed:
+// a refusal's record is all zeros, so nothing of it is delivered.
+pub fn read(file: &[u8], latches: &mut [Latch], gates: &mut [Gate]) -> Sheet
+    ensures verdict { λ r. ⌜ r .verdict ≡ readVerdict (now (file .entry)) (now (latches .entry)) (now (gates .entry)) ⌝ }
+    ensures record { λ r. ⌜ r .net ≡ readRecord (now (file .entry)) (now (latches .entry)) (now (gates .entry)) ⌝ }
+    ensures latches { λ _. ⌜ now (latches .exit) ≡ latchesLeft (now (file .entry)) (now (latches .entry)) (now (gates .entry)) ⌝ }
+    ensures gates { λ _. ⌜ now (gates .exit) ≡ gatesLeft (now (file .entry)) (now (latches .entry)) (now (gates .entry)) ⌝ }
+    ensures accepted { λ r. ⌜ (r .verdict ≡ Verdict.Passed → NoTestRefuses (r .net) (now (latches .exit)) (now (gates .exit))) ⌝ }
+{
+    let mut latch_codes = sheet::no_codes();
+    let mut gate_codes = sheet::no_codes();
+    let sheet = at_start(file).read_codes(
+        latches.len(),
+        gates.len(),
+        &mut latch_codes,
+        &mut gate_codes,
+    );
+    lists::deliver::deliver_latches(&latch_codes, sheet.net.latches, latches);
+    lists::deliver::deliver_gates(&gate_codes, sheet.net.gates, gates);
+    sheet
+}
