@@ -9,9 +9,9 @@ use lib.Seq.{take-suc}
 use lib.Signed.{mag}
 use mir.Syntax.{w32}
 use mir.Val.{SFits, toZ, ofZ}
-use Rattle.decimal.proofs.Digits.{length-digits-ten, length-field}
+use Rattle.decimal.proofs.Digits.{digits-single, length-digits-ten, length-field}
 use Rattle.decimal.proofs.Signed.{length-signedDigits, read-back}
-use Rattle.decimal.specs.Digits.{space, digits, field, signedDigits}
+use Rattle.decimal.specs.Digits.{digit, space, digits, field, signedDigits}
 use Rattle.model.proofs.Gather.{All, nothing, also}
 use Rattle.dimacs.specs.Text.{lineFeed, problem, refused, headerText, refusalText, behind, numberText, clauseText}
 
@@ -38,9 +38,12 @@ length-refusalText n p f g =
 pub element-is : (zs : List ℤ) (i : ℕ) → mag (getD zs i (pos 0)) < 2 ^ 31 → toZ w32 (ofZ w32 (getD zs i (pos 0))) ≡ getD zs i (pos 0)
 element-is zs i h = read-back (getD zs i (pos 0)) (record { sfits = h })
 
--- the end mark as a machine tells it, by its bits
-pub behind-zero : (z : ℤ) → SFits w32 z → ofZ w32 z ≡ 0 → behind z ≡ lineFeed
-behind-zero z f e = ap behind (sym (read-back z f) ∙ ap (toZ w32) e)
+-- the end mark, and any other number, as a machine tells them, by their bits
+pub numberText-zero : (z : ℤ) → SFits w32 z → ofZ w32 z ≡ 0 → numberText z ≡ digit 0 ∷ lineFeed ∷ []
+unfolding signedDigits
+numberText-zero z f e =
+    let zero-is : z ≡ pos 0 = sym (read-back z f) ∙ ap (toZ w32) e in
+    rw (zero-is, digits-single 0 (omega arith))
 
 pub behind-other : (z : ℤ) → (ofZ w32 z ≡ 0 → ⊥) → behind z ≡ space
 behind-other (pos zero) n = absurd (n refl)

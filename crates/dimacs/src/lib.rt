@@ -5,7 +5,7 @@ ghost use lib.Dec.{leb};
 ghost use lib.ListN.{length};
 ghost use Rattle.model.specs.Wrote.{Wrote};
 ghost use Rattle.text.specs.Pairs.{pairsBelow};
-ghost use Rattle.dimacs.specs.Text.{headerText, behind, numberText, clauseText, refusalText};
+ghost use Rattle.dimacs.specs.Text.{headerText, numberText, clauseText, refusalText};
 ghost use Rattle.dimacs.specs.Report.{reportOf, printReport, printLeaves};
 use decimal::digit_count;
 use decimal::put_field;
@@ -13,7 +13,7 @@ use refusals::Refusal;
 use text::parts_of;
 use text::write_byte;
 use text::write_ended;
-use text::write_signed;
+use text::write_signed_spaced;
 use text::write_word;
 
 // What a call that prints answers: how many bytes it wrote, or a refusal and its place.
@@ -22,23 +22,17 @@ pub enum Printed {
     Refused(Refusal, u32),
 }
 
-// The byte behind a number: a line feed behind the end mark.
-fn byte_behind(z: i32) -> u8
-    ensures { λ r. ⌜ r ≡ behind z ⌝ }
-{
-    if z == 0 {
-        return b'\n';
-    }
-    b' '
-}
-
 // Writes a clause number or an end mark, and the byte behind it.
 fn write_number(out: &mut [u8], z: i32, pairs: &[u8; 200]) -> usize
     requires { ⌜ (now pairs ≡ pairsBelow 100) × (length (numberText z) ≤ length (now out)) ⌝ }
     ensures { λ r. ⌜ Wrote (numberText z) (now (out .entry)) (now (out .exit)) r ⌝ }
 {
-    let count = write_signed(out, z, pairs);
-    count + write_byte(&mut out[count..], byte_behind(z))
+    if z == 0 {
+        out[0] = b'0';
+        out[1] = b'\n';
+        return 2;
+    }
+    write_signed_spaced(out, z, pairs)
 }
 
 // Writes numbers with end marks, a clause a line, in one pass, and answers how many bytes that is.

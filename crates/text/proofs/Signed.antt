@@ -8,7 +8,7 @@ use native.Mathlib.Omega.{arith}
 use borrow.Author.Tests.{ltb-true, le-leb}
 use borrow.Rule.Slice.PartMut.{midOf, putMid}
 use lib.IntN.{ℤ, pos, negsuc, natAbs}
-use lib.ListN.{length, set}
+use lib.ListN.{length, length-append, set}
 use lib.Seq.{drop-set-lt}
 use lib.Signed.{ltZ, leZ}
 use Rattle.decimal.specs.Digits.{minus, digits, signedDigits}
@@ -47,14 +47,15 @@ wrote-over : (text old new : List ℕ) (x count : ℕ) → 0 < length text → W
 wrote-over text old new x count h w =
     record { counted = w .counted; leaves = w .leaves ∙ ap (λ (t : List ℕ). text ++ t) (drop-set-lt (length text) old 0 x h) }
 
--- a minus, and then the digits into the rest behind the sign's bytes: where there is no sign they stand over the minus
+-- a minus, and then the digits, before a text, into the rest behind the sign's bytes: where there is no sign they stand over the minus
 pub wrote-signed :
-    (z : ℤ) (old part : List ℕ) (j : ℕ) → 0 < length old →
-    Wrote (digits (partsOf z .value)) (midOf (partsOf z .sign) (length (set old 0 minus) - partsOf z .sign) (set old 0 minus)) part j →
-    Wrote (signedDigits z) old (putMid (partsOf z .sign) (length (set old 0 minus) - partsOf z .sign) (set old 0 minus) part) (partsOf z .sign + j)
+    (z : ℤ) (t old part : List ℕ) (j : ℕ) → 0 < length old →
+    Wrote (digits (partsOf z .value) ++ t) (midOf (partsOf z .sign) (length (set old 0 minus) - partsOf z .sign) (set old 0 minus)) part j →
+    Wrote (signedDigits z ++ t) old (putMid (partsOf z .sign) (length (set old 0 minus) - partsOf z .sign) (set old 0 minus) part) (partsOf z .sign + j)
 unfolding signedDigits
-wrote-signed (pos n) old part j h w =
-    wrote-over (digits n) old (putMid 0 (length (set old 0 minus) - 0) (set old 0 minus) part) minus (0 + j) (length-digits-some n)
-    (wrote-then [] (digits n) (set old 0 minus) (set old 0 minus) part 0 j (record { counted = refl; leaves = refl }) w)
-wrote-signed (negsuc n) old part j h w =
-    wrote-then (minus ∷ []) (digits (suc n)) old (set old 0 minus) part 1 j (wrote-one minus old h) w
+wrote-signed (pos n) t old part j h w =
+    wrote-over (digits n ++ t) old (putMid 0 (length (set old 0 minus) - 0) (set old 0 minus) part) minus (0 + j)
+    (omega (arith, length-append (digits n) t, length-digits-some n))
+    (wrote-then [] (digits n ++ t) (set old 0 minus) (set old 0 minus) part 0 j (record { counted = refl; leaves = refl }) w)
+wrote-signed (negsuc n) t old part j h w =
+    wrote-then (minus ∷ []) (digits (suc n) ++ t) old (set old 0 minus) part 1 j (wrote-one minus old h) w

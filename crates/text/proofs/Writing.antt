@@ -1,8 +1,8 @@
--- Laws of `Wrote`: a word copied byte by byte, and room for a second writer behind a first. No contract cites this file.
--- Assumes nothing.
+-- Laws of `Wrote`: two bytes, a word copied byte by byte, and room for a second writer behind a first. No contract cites this
+-- file. Assumes nothing.
 use Prim.Native.Nat.{ℕ, suc, _+_, _-_, _≤_, _<_}
-use mathlib.Core.Path.{_≡_}
-use mathlib.Core.List.{List, _++_}
+use mathlib.Core.Path.{_≡_, refl}
+use mathlib.Core.List.{List, [], _∷_, _++_}
 use native.Mathlib.Nat.{zero-add}
 use native.Mathlib.Omega.{arith}
 use borrow.Rule.Slice.PartMut.{midOf}
@@ -10,6 +10,12 @@ use lib.ListN.{length, length-append, getD, take, drop, set}
 use lib.Seq.{paste-suc}
 use Rattle.model.specs.Wrote.{Wrote}
 use Rattle.model.proofs.Wrote as W
+
+-- two bytes
+pub wrote-two : (a b : ℕ) (old : List ℕ) → 2 ≤ length old → Wrote (a ∷ b ∷ []) old (set (set old 0 a) 1 b) 2
+wrote-two a b [] h = absurd (omega arith)
+wrote-two a b (x ∷ []) h = absurd (omega arith)
+wrote-two a b (x ∷ y ∷ old) h = record { counted = refl; leaves = refl }
 
 -- a word copied from the front, one byte more
 pub copy-next :

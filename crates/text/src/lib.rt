@@ -1,9 +1,9 @@
-// Text written into a borrowed slice: a byte, a word, and numbers, fast: two digits a division.
+// Text written into a borrowed slice: a byte, a word, and numbers, fast: two digits at a time, with a space behind them.
 ghost use mathlib.Core.Path.{_≡_};
 ghost use mathlib.Core.List.{[], _∷_, _++_};
 ghost use Prim.Native.Nat.{_≤_, _<_, _/_, _%_};
 ghost use lib.ListN.{length};
-ghost use Rattle.decimal.specs.Digits.{digits, signedDigits};
+ghost use Rattle.decimal.specs.Digits.{digits, space, signedDigits};
 ghost use Rattle.model.specs.Wrote.{Wrote};
 ghost use Rattle.text.specs.Pairs.{pairDigits, pairsBelow};
 ghost use Rattle.text.specs.Signed.{partsOf};
@@ -31,24 +31,54 @@ pub fn write_word(out: &mut [u8], word: &[u8]) -> usize
     i
 }
 
-// Writes both digits of a number below 100, a leading zero included, from the table of all pairs, and answers two.
+// How many hundreds a number below 10,000 has. Below that bound one product and one shift do: less than a compiler, which does not
+// know the bound, makes of the division.
+fn hundreds(x: u32) -> u32
+    requires { ⌜ x < 10000 ⌝ }
+    ensures { λ r. ⌜ r ≡ x / 100 ⌝ }
+{
+    x * 5243 / 524288
+}
+
+// How many ten thousands a number below 1,000,000 has, in the same way.
+fn ten_thousands(x: u32) -> u32
+    requires { ⌜ x < 1000000 ⌝ }
+    ensures { λ r. ⌜ r ≡ x / 10000 ⌝ }
+{
+    ((x as u64) * 429497 / 4294967296) as u32
+}
+
+// Writes both digits of a number below 100, a leading zero included, from the table of all pairs, and answers two. Both are read
+// before one is written: they are copied together.
 fn write_pair(out: &mut [u8], x: u32, pairs: &[u8; 200]) -> usize
     requires { ⌜ (now pairs ≡ pairsBelow 100) × (x < 100) × (2 ≤ length (now out)) ⌝ }
     ensures { λ r. ⌜ Wrote (pairDigits x) (now (out .entry)) (now (out .exit)) r ⌝ }
 {
     let i = (x as usize) * 2;
-    out[0] = pairs[i];
-    out[1] = pairs[i + 1];
+    let tens = pairs[i];
+    let ones = pairs[i + 1];
+    out[0] = tens;
+    out[1] = ones;
     2
 }
 
-// Writes both pairs of digits of a number below 10,000, and answers four.
-fn write_four(out: &mut [u8], x: u32, pairs: &[u8; 200]) -> usize
-    requires { ⌜ (now pairs ≡ pairsBelow 100) × (x < 10000) × (4 ≤ length (now out)) ⌝ }
-    ensures { λ r. ⌜ Wrote (pairDigits (x / 100) ++ pairDigits (x % 100)) (now (out .entry)) (now (out .exit)) r ⌝ }
+// Writes both digits and a space, and answers three.
+fn write_pair_spaced(out: &mut [u8], x: u32, pairs: &[u8; 200]) -> usize
+    requires { ⌜ (now pairs ≡ pairsBelow 100) × (x < 100) × (3 ≤ length (now out)) ⌝ }
+    ensures { λ r. ⌜ Wrote (pairDigits x ++ space ∷ []) (now (out .entry)) (now (out .exit)) r ⌝ }
 {
-    let first = write_pair(out, x / 100, pairs);
-    first + write_pair(&mut out[first..], x % 100, pairs)
+    let first = write_pair(out, x, pairs);
+    first + write_byte(&mut out[first..], b' ')
+}
+
+// Writes both pairs of digits of a number below 10,000 and a space, and answers five.
+fn write_four_spaced(out: &mut [u8], x: u32, pairs: &[u8; 200]) -> usize
+    requires { ⌜ (now pairs ≡ pairsBelow 100) × (x < 10000) × (5 ≤ length (now out)) ⌝ }
+    ensures { λ r. ⌜ Wrote (pairDigits (x / 100) ++ (pairDigits (x % 100) ++ space ∷ [])) (now (out .entry)) (now (out .exit)) r ⌝ }
+{
+    let high = hundreds(x);
+    let first = write_pair(out, high, pairs);
+    first + write_pair_spaced(&mut out[first..], x - high * 100, pairs)
 }
 
 // Writes the digits of a number below 100, and answers how many they are.
@@ -63,32 +93,54 @@ fn write_leading(out: &mut [u8], x: u32, pairs: &[u8; 200]) -> usize
     write_pair(out, x, pairs)
 }
 
-// Writes a number's digits, and answers how many they are. No variable has more than six: only a longer number takes the slow way.
-pub fn write_digits(out: &mut [u8], x: u32, pairs: &[u8; 200]) -> usize
-    requires { ⌜ (now pairs ≡ pairsBelow 100) × (length (digits x) ≤ length (now out)) ⌝ }
-    ensures { λ r. ⌜ Wrote (digits x) (now (out .entry)) (now (out .exit)) r ⌝ }
+// Writes the digits of a number below 10,000 and a space. Few numbers are below 100: these take the slow way.
+fn write_short_spaced(out: &mut [u8], x: u32, pairs: &[u8; 200]) -> usize
+    requires { ⌜ (now pairs ≡ pairsBelow 100) × (x < 10000) × (length (digits x ++ space ∷ []) ≤ length (now out)) ⌝ }
+    ensures { λ r. ⌜ Wrote (digits x ++ space ∷ []) (now (out .entry)) (now (out .exit)) r ⌝ }
 {
     if x < 100 {
-        return write_leading(out, x, pairs);
+        return write_ended(out, x, b' ');
     }
-    if x < 10000 {
-        let first = write_leading(out, x / 100, pairs);
-        return first + write_pair(&mut out[first..], x % 100, pairs);
-    }
-    if x < 1000000 {
-        let first = write_leading(out, x / 10000, pairs);
-        return first + write_four(&mut out[first..], x % 10000, pairs);
-    }
-    put_digits(out, x)
+    let high = hundreds(x);
+    let first = write_leading(out, high, pairs);
+    first + write_pair_spaced(&mut out[first..], x - high * 100, pairs)
 }
 
-// Writes a number's digits and the byte that ends it.
+// Writes the digits of a number of five or six digits and a space.
+fn write_long_spaced(out: &mut [u8], x: u32, pairs: &[u8; 200]) -> usize
+    requires { ⌜ (now pairs ≡ pairsBelow 100) × (10000 ≤ x) × (x < 1000000) × (length (digits x ++ space ∷ []) ≤ length (now out)) ⌝ }
+    ensures { λ r. ⌜ Wrote (digits x ++ space ∷ []) (now (out .entry)) (now (out .exit)) r ⌝ }
+{
+    let high = ten_thousands(x);
+    let first = write_leading(out, high, pairs);
+    first + write_four_spaced(&mut out[first..], x - high * 10000, pairs)
+}
+
+// Writes a number's digits, one at a time, and a byte behind them.
 pub fn write_ended(out: &mut [u8], x: u32, byte: u8) -> usize
     requires { ⌜ length (digits x ++ byte ∷ []) ≤ length (now out) ⌝ }
     ensures { λ r. ⌜ Wrote (digits x ++ byte ∷ []) (now (out .entry)) (now (out .exit)) r ⌝ }
 {
     let count = put_digits(out, x);
     count + write_byte(&mut out[count..], byte)
+}
+
+// Writes a number's digits and a space. No variable has more than six digits: a longer number takes the slow way. Five digits and
+// six make the same call, each in its own branch, where the compiler knows the place of every byte.
+fn write_spaced(out: &mut [u8], x: u32, pairs: &[u8; 200]) -> usize
+    requires { ⌜ (now pairs ≡ pairsBelow 100) × (length (digits x ++ space ∷ []) ≤ length (now out)) ⌝ }
+    ensures { λ r. ⌜ Wrote (digits x ++ space ∷ []) (now (out .entry)) (now (out .exit)) r ⌝ }
+{
+    if x < 100000 {
+        if x < 10000 {
+            return write_short_spaced(out, x, pairs);
+        }
+        return write_long_spaced(out, x, pairs);
+    }
+    if x < 1000000 {
+        return write_long_spaced(out, x, pairs);
+    }
+    write_ended(out, x, b' ')
 }
 
 // A signed number taken apart: how many bytes its sign takes, and the number without it.
@@ -114,14 +166,14 @@ pub fn parts_of(z: i32) -> Parts
     }
 }
 
-// Writes a signed number, with a minus only below zero, and answers how many bytes that is. The minus is always written: where
-// there is none, the first digit stands over it.
-pub fn write_signed(out: &mut [u8], z: i32, pairs: &[u8; 200]) -> usize
-    requires { ⌜ (now pairs ≡ pairsBelow 100) × (length (signedDigits z) ≤ length (now out)) ⌝ }
-    ensures { λ r. ⌜ Wrote (signedDigits z) (now (out .entry)) (now (out .exit)) r ⌝ }
+// Writes a signed number, with a minus only below zero, and a space. The minus is always written: where there is none, the first
+// digit stands over it.
+pub fn write_signed_spaced(out: &mut [u8], z: i32, pairs: &[u8; 200]) -> usize
+    requires { ⌜ (now pairs ≡ pairsBelow 100) × (length (signedDigits z ++ space ∷ []) ≤ length (now out)) ⌝ }
+    ensures { λ r. ⌜ Wrote (signedDigits z ++ space ∷ []) (now (out .entry)) (now (out .exit)) r ⌝ }
 {
     let parts = parts_of(z);
     let sign = parts.sign;
     out[0] = b'-';
-    sign + write_digits(&mut out[sign..], parts.value, pairs)
+    sign + write_spaced(&mut out[sign..], parts.value, pairs)
 }

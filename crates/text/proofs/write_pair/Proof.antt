@@ -7,17 +7,17 @@ use Rattle.text.proofs.write_pair.Tie as tie
 mul-i : tie.Need-mul-i
 mul-i c = search needs
 
-element-copy-out-out : tie.Need-element-copy-out-out
-element-copy-out-out c = search needs
+element-copy-out-tens : tie.Need-element-copy-out-tens
+element-copy-out-tens c = search needs
+
+add-ones : tie.Need-add-ones
+add-ones c = search needs
+
+element-copy-out-ones : tie.Need-element-copy-out-ones
+element-copy-out-ones c = search needs
 
 slice-write-out : tie.Need-slice-write-out
 slice-write-out c = search needs
-
-add-out : tie.Need-add-out
-add-out c = search needs
-
-element-copy-out-out-2 : tie.Need-element-copy-out-out-2
-element-copy-out-out-2 c = search needs
 
 slice-write-out-2 : tie.Need-slice-write-out-2
 slice-write-out-2 c = search needs
@@ -35,10 +35,10 @@ write-pair-spec =
     tie.close
     (tie.spec
     mul-i
-    element-copy-out-out
+    element-copy-out-tens
+    add-ones
+    element-copy-out-ones
     slice-write-out
-    add-out
-    element-copy-out-out-2
     slice-write-out-2
     same-length
     returns)
