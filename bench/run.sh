@@ -3,7 +3,8 @@
 # generator of the same text that is optimised by hand and one that prints through fprintf. Every figure is the best of several
 # repetitions, the three programs in turn, input from a file, output to /dev/null; the time is the process's processor time (user
 # and system), so that other work on the machine matters little. It says which targets are reached, and fails only where a program
-# fails or the texts differ.
+# fails or the texts differ. The last figure is of the library: every group of depth 255 through the exported call, which tests its
+# record each time.
 # Argument: repetitions (20); the program is target/bin/frames unless FRAMES names another.
 set -euo pipefail
 cd "$(dirname "$0")/.."
@@ -20,6 +21,8 @@ compile -DOUTPUT='"output_buffer.h"' -o "$work/optimised" bench/generate.c
 compile -DOUTPUT='"output_printf.h"' -o "$work/formatted" bench/generate.c
 compile -o "$work/measure" bench/measure.c
 rustc -O --edition 2021 -o "$work/sheet" bench/sheet.rs
+[ -f target/staticlib/libexports.a ] || rt staticlib exports > "$work/staticlib.out" || { cat "$work/staticlib.out" >&2; exit 1; }
+compile -o "$work/library" bench/library.c -L target/staticlib -lexports
 "$work/sheet" > "$work/sheet.txt"
 
 # depth 0 is the start of the process, the reading of the sheet and next to no text
@@ -53,7 +56,17 @@ done | awk '
       say(resident[k] <= 4096, "depth " k ", at most 4 MiB resident", resident[k] " KiB")
     }
     flat = cost[255] / cost[63]
-    say(flat >= 0.8 && flat <= 1.2, "cost per byte from depth 63 to 255 within 20%", sprintf("%+.0f%%", 100 * (flat - 1)))
+    say(flat <= 1.2, "cost per byte grows by at most 20% from depth 63 to 255", sprintf("%+.0f%%", 100 * (flat - 1)))
     rest = ((time[255] - time[0]) / (bytes[255] - bytes[0])) / ((time[63] - time[0]) / (bytes[63] - bytes[0]))
     printf "         the same without the time of depth 0: %+.0f%%\n", 100 * (rest - 1)
+  }'
+
+input=$work/input.255
+[ "$("$work/library" < "$input")" -eq "$("$frames" < "$input" | tail -n +2 | wc -w)" ] ||
+  { echo "the library writes other numbers than frames prints" >&2; exit 1; }
+"$work/measure" "$repetitions" "$input" "$frames" "$work/library" | awk '
+  { time[NR] = $2 }
+  END {
+    printf "%-8s depth 255, all groups through the library, at most the time of frames: %.2f (%.2f ms)\n",
+      time[2] <= time[1] ? "reached" : "missed", time[2] / time[1], time[2] / 1000
   }'

@@ -1,0 +1,41 @@
+// Every group of a depth through the exported calls, each of which tests its record: the same input as `frames`, the numbers into a
+// buffer that is written over. Prints how many numbers that is.
+
+#include <stdio.h>
+#include <stdlib.h>
+
+#include "../include/marrubigai.h"
+
+enum { DEPTH_LINE = 11, LONGEST = DEPTH_LINE + 615 * 32, MOST_RECORDS = 600, MOST_NUMBERS = 5992 };
+
+static marrubigai_latch latches[MOST_RECORDS];
+static marrubigai_gate gates[MOST_RECORDS];
+static marrubigai_netlist net;
+static uint32_t depth;
+
+static size_t group(uint32_t kind, uint32_t j, uint32_t i) {
+  static int32_t numbers[MOST_NUMBERS];
+  marrubigai_group_reply reply =
+      marrubigai_write_group(net, latches, MOST_RECORDS, gates, MOST_RECORDS, depth, kind, j, i, numbers, MOST_NUMBERS);
+  if (reply.number != 0) exit(1);
+  return reply.count;
+}
+
+int main(void) {
+  static uint8_t input[LONGEST];
+  size_t bytes = fread(input, 1, sizeof input, stdin), count = 0;
+  if (bytes < DEPTH_LINE) return 1;
+  depth = (uint32_t)atoi((const char *)input);
+  marrubigai_sheet_reply sheet =
+      marrubigai_read(input + DEPTH_LINE, bytes - DEPTH_LINE, latches, MOST_RECORDS, gates, MOST_RECORDS);
+  if (sheet.number != 0) return 1;
+  net = sheet.net;
+  for (uint32_t i = 0; i <= depth; i++) {
+    count += group(MARRUBIGAI_WIRES, 0, i);
+    for (uint32_t j = i; j > 0; j--) count += group(MARRUBIGAI_PAIR, j - 1, i);
+    count += group(MARRUBIGAI_CLOSING, 0, i);
+  }
+  count += group(MARRUBIGAI_PROPERTY, 0, 0);
+  printf("%zu\n", count);
+  return 0;
+}

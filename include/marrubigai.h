@@ -1,0 +1,44 @@
+/* The library for C: `rt staticlib exports` writes target/staticlib/libexports.a. The contracts stand in crates/exports/src; what a
+ * refusal's number and place mean is in docs/FORMAT.md. A slice is a pointer and how many elements it has. Every function takes
+ * anything, tests it first, and after a refusal has changed nothing that it was lent. */
+#ifndef MARRUBIGAI_H
+#define MARRUBIGAI_H
+
+#include <stddef.h>
+#include <stdint.h>
+
+/* 2 x wire, plus 1 for the inverted wire; 0 is false, 1 is true */
+typedef uint32_t marrubigai_code;
+
+typedef struct {
+  uint32_t inputs, latches, gates;
+  uint32_t m, n, initial_word; /* address width, data width, what every word starts as */
+  marrubigai_code address[12], write_data[32]; /* bit 0 first; entries past the widths are ignored */
+  marrubigai_code we, re, p; /* write enable, read enable, property */
+} marrubigai_netlist;
+
+typedef struct { marrubigai_code next; uint32_t reset; } marrubigai_latch;
+typedef struct { marrubigai_code left, right; } marrubigai_gate;
+
+/* number is 0 where nothing is refused; what stands beside a refusal is all zeros */
+typedef struct { uint32_t number, place; size_t count; } marrubigai_group_reply;
+typedef struct { uint32_t number, place, variables, clauses; } marrubigai_heading_reply;
+typedef struct { uint32_t number, place; marrubigai_netlist net; } marrubigai_sheet_reply;
+
+enum { MARRUBIGAI_WIRES, MARRUBIGAI_PAIR, MARRUBIGAI_CLOSING, MARRUBIGAI_PROPERTY };
+
+/* reads a sheet: its record, and its latches and gates into the first elements of the lists */
+marrubigai_sheet_reply marrubigai_read(const uint8_t *file, size_t bytes, marrubigai_latch *latches, size_t latch_room,
+                                       marrubigai_gate *gates, size_t gate_room);
+
+/* how many variables and clauses the formula of a depth has */
+marrubigai_heading_reply marrubigai_heading(marrubigai_netlist net, const marrubigai_latch *latches, size_t latch_count,
+                                            const marrubigai_gate *gates, size_t gate_count, uint32_t depth);
+
+/* writes the clauses of one group, each ended by 0, and answers how many numbers that is: wires or closing of frame i, pair (j, i),
+ * or the property. The order of the whole: for each frame wires, pairs from j = i - 1 down to 0, closing; then the property. */
+marrubigai_group_reply marrubigai_write_group(marrubigai_netlist net, const marrubigai_latch *latches, size_t latch_count,
+                                              const marrubigai_gate *gates, size_t gate_count, uint32_t depth, uint32_t kind,
+                                              uint32_t j, uint32_t i, int32_t *out, size_t room);
+
+#endif
