@@ -12,7 +12,7 @@ use std::path::{Path, PathBuf};
 const PUBLIC: [(&str, &str); 7] = [
     ("calls/src/lib.rt", "heading"),
     ("calls/src/lib.rt", "write_group"),
-    ("sheet/src/lib.rt", "read"),
+    ("reader/src/lib.rt", "read"),
     ("lines/src/lib.rt", "read_depth"),
     ("dimacs/src/lib.rt", "put_header"),
     ("dimacs/src/lib.rt", "put_clauses"),

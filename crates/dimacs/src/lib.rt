@@ -76,7 +76,7 @@ fn clauses_fit(room: usize, numbers: &[i32]) -> bool
     true
 }
 
-// Writes the header, where there is room.
+// Writes the header into a slice that has room for it.
 pub fn write_header(out: &mut [u8], variables: u32, clauses: u32) -> usize
     requires { ⌜ length (headerText variables clauses) ≤ length (now out) ⌝ }
     ensures { λ r. ⌜ Wrote (headerText variables clauses) (now (out .entry)) (now (out .exit)) r ⌝ }
@@ -86,7 +86,7 @@ pub fn write_header(out: &mut [u8], variables: u32, clauses: u32) -> usize
     middle + write_ended(&mut out[middle..], clauses, b'\n')
 }
 
-// Writes a refusal, where there is room.
+// Writes a refusal into a slice that has room for it.
 pub fn write_refusal(out: &mut [u8], number: u32, place: u32) -> usize
     requires { ⌜ length (refusalText number place) ≤ length (now out) ⌝ }
     ensures { λ r. ⌜ Wrote (refusalText number place) (now (out .entry)) (now (out .exit)) r ⌝ }

@@ -6,7 +6,7 @@ use mathlib.Core.List.{List, [], _∷_, _++_, map}
 use mathlib.Core.Logic.{_↔_, Iff·rfl, Iff·trans, Iff·and}
 use native.Mathlib.Nat.{suc-mul, zero-mul, not-suc-le-zero}
 use native.Mathlib.Omega.{arith}
-use lib.ListN.{length, length-append}
+use lib.ListN.{length, length-append, getD}
 use Rattle.model.specs.Clauses.{gather, gatherDown}
 use Rattle.model.proofs.Below.{all-below-suc-iff}
 
@@ -111,6 +111,12 @@ module _ {A : Type 0} {P : A → Type 0} where
 pub all-at : {A : Type 0} {P : A → Type 0} (xs : List A) (y : A) (ys : List A) → All P (xs ++ y ∷ ys) → P y
 all-at [] y ys (also p r) = p
 all-at (x ∷ xs) y ys (also p r) = all-at xs y ys r
+
+-- of what stands at an index, where what stands behind the end has it too
+pub all-getD : {A : Type 0} {P : A → Type 0} {xs : List A} {d : A} → All P xs → P d → (i : ℕ) → P (getD xs i d)
+all-getD nothing q i = q
+all-getD (also p r) q zero = p
+all-getD (also p r) q (suc i) = all-getD r q i
 
 -- a weaker one
 pub all-weaken : {A : Type 0} {P Q : A → Type 0} {xs : List A} → ((x : A) → P x → Q x) → All P xs → All Q xs

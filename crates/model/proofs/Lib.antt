@@ -21,4 +21,5 @@ pub mod AssignmentToRun
 pub mod Witness
 pub mod RunToAssignment
 pub mod Claim
+pub mod Stated
 pub mod Wrote

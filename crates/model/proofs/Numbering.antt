@@ -1,19 +1,13 @@
--- Depth k uses exactly the variables 1 to B(k + 1) (document 01, "Numbers of variables"): each of them is variable 1, a wire of a
--- frame, or a variable of a pair. No contract cites this file. Assumes nothing.
+-- Depth k uses exactly the variables 1 to B(k + 1) (document 01, "Numbers of variables"): each of them is numbered. No contract
+-- cites this file. Assumes nothing.
 use Prim.Native.Nat.{ℕ, zero, suc, _+_, _-_, _*_, _/_, _%_, _≤_, _<_}
 use mathlib.Core.Path.{_≡_, refl}
 use native.Mathlib.Nat.{div-lt-iff-lt-mul, div-add-mod', mod-lt}
 use native.Mathlib.Decide.{decLe}
 use native.Mathlib.Omega.{arith}
 use Rattle.model.specs.Netlist.{Netlist, port, lastWire}
-use Rattle.model.specs.Variables.{stride, base, pairBase}
+use Rattle.model.specs.Variables.{stride, base, pairBase, Numbered, constant, wire, pair}
 use Rattle.model.proofs.Variables.{base-zero, base-suc, pairBase-base}
-
--- what a variable of depth k stands for
-pub data Numbered (c : Netlist) (k v : ℕ) : Type 0 where
-  constant : v ≡ 1 → Numbered c k v
-  wire : (i w : ℕ) → i ≤ k → 1 ≤ w → w ≤ lastWire c → v ≡ base c i + w → Numbered c k v
-  pair : (j i x : ℕ) → j < i → i ≤ k → 1 ≤ x → x ≤ stride c → v ≡ pairBase c (port c) j i + x → Numbered c k v
 
 -- what a depth numbers, a greater one numbers alike
 deeper : (c : Netlist) (k v : ℕ) → Numbered c k v → Numbered c (suc k) v

@@ -1,6 +1,6 @@
 -- Bits of numbers. Bit 0 is the lowest bit (document 01, "Wires and codes"). Assumes nothing.
 use Prim.Native.Nat.{ℕ, zero, suc, _+_, _/_, _%_, _^_}
-use mathlib.Core.Bool.{Bool, true, false, cond}
+use mathlib.Core.Bool.{Bool, cond}
 use lib.Dec.{eqb}
 
 -- whether a number is odd

@@ -1,6 +1,6 @@
 -- The sequential circuit with its whole memory, and its runs (document 01, "The chip"). Cited by the claim. Assumes nothing.
-use Prim.Native.Nat.{ℕ, zero, suc, _+_, _-_, _/_, _<_}
-use mathlib.Core.Bool.{Bool, true, false, cond, not, _&&_, _||_}
+use Prim.Native.Nat.{ℕ, zero, suc, _-_, _/_, _<_}
+use mathlib.Core.Bool.{Bool, false, cond, not, _&&_, _||_}
 use lib.Dec.{eqb, leb, ltb}
 use Rattle.model.specs.Bits.{odd, bit, fromBits}
 use Rattle.model.specs.Netlist.{Netlist, Port, port, readBits, inputWire, latchWire, readWire, gateWire}

@@ -6,14 +6,21 @@
 -- Second direction: for every run from that state, whatever it is fed, that breaks the property in some frame 0 to k, there is an
 -- assignment that does so and agrees with the run on every wire of every frame 0 to k.
 -- Without the first a solver's answer could be no run of the chip; without the second a fault could go unfound.
--- The theorem, `encodes`, is in proofs/Claim.antt: Encodes c k for every accepted netlist c and every k ≤ 255. Assumes nothing.
+-- The theorem, `encodes`, is in proofs/Claim.antt: Encodes c k for every accepted netlist c and every k; `stated` is the same for
+-- `Stated`. Cited by the contract of `heading`. Assumes nothing.
 use Prim.Native.Nat.{ℕ, _+_, _≤_}
 use mathlib.Core.Path.{_≡_}
 use mathlib.Core.Bool.{true, false}
+use mathlib.Core.Logic.{_↔_}
+use lib.IntN.{natAbs, pos}
+use lib.ListN.{length, getD}
 use Rattle.model.specs.Netlist.{Netlist, inputWire, readWire, lastWire}
-use Rattle.model.specs.Circuit.{Feed, code, run, initial}
-use Rattle.model.specs.Variables.{base}
-use Rattle.model.specs.Numbers.{Assignment, formula, clausesIn, allTrue}
+use Rattle.model.specs.Circuit.{Feed, code, run, initial, dependsOnRead, ReadPath}
+use Rattle.model.specs.Variables.{base, Numbered}
+use Rattle.model.specs.Groups.{inDepth}
+use Rattle.model.specs.Numbers.{Assignment, numbersOf, formula, clausesIn, allTrue}
+use Rattle.model.specs.Counts.{clauseCount, numberCount}
+use Rattle.model.specs.declared.Group.{Group}
 
 unfoldable pub Satisfies : Netlist → ℕ → Assignment → Type 0
 Satisfies c k a = allTrue a (clausesIn (formula c k)) ≡ true
@@ -31,6 +38,20 @@ Agrees c k a f =
 unfoldable pub Breaks : Netlist → ℕ → (ℕ → Feed) → Type 0
 Breaks c k f = (i : ℕ) × (i ≤ k) × (code (run c (initial c) f i) (c .P) ≡ false)
 
+-- demand 3
 pub record Encodes (c : Netlist) (k : ℕ) : Type 0 where
   pub assignment→run : (a : Assignment) → Satisfies c k a → Agrees c k a (feedOf c a) × Breaks c k (feedOf c a)
   pub run→assignment : (f : ℕ → Feed) → Breaks c k f → (a : Assignment) × Satisfies c k a × Agrees c k a f
+
+-- What else is said of the clauses of a depth. An assignment is of "each variable from 1 to B(k + 1)": no other matters, each of
+-- them is numbered, and every number written is one of them or an end mark. Where no assignment satisfies the clauses, no run breaks
+-- the property: this is what a designer relies on. A group has as many clauses and numbers as document 01 counts. Dependence on a
+-- read bit is a path through gates.
+pub record Stated (c : Netlist) (k : ℕ) : Type 0 where
+  pub only-numbered : (a a′ : Assignment) → ((v : ℕ) → 1 ≤ v → v ≤ base c (k + 1) → a v ≡ a′ v) → Satisfies c k a → Satisfies c k a′
+  pub all-numbered : (v : ℕ) → 1 ≤ v → v ≤ base c (k + 1) → Numbered c k v
+  pub numbers-within : (x : ℕ) → natAbs (getD (formula c k) x (pos 0)) ≤ base c (k + 1)
+  pub unsatisfiable→safe : ((a : Assignment) → Satisfies c k a → ⊥) → (f : ℕ → Feed) → Breaks c k f → ⊥
+  pub clauses-counted : (g : Group) → inDepth k g ≡ true → length (clausesIn (numbersOf c k g)) ≡ clauseCount c k g
+  pub numbers-counted : (g : Group) → length (numbersOf c k g) ≡ numberCount c k g
+  pub depends-by-path : (w : ℕ) → (dependsOnRead c w ≡ true) ↔ ReadPath c w

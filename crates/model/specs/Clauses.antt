@@ -1,8 +1,8 @@
 -- Clauses over literals, and the clauses of a gate, a pair and a closing: nothing here knows a variable's number.
--- Document 01, "Groups of clauses"; Ganai et al. 2004, equations (3) and (4). Cited by the groups and by the claim.
+-- Document 01, "Groups of clauses"; Ganai et al. 2004, section 4.1 and equations (3) and (4). Cited by the groups and by the claim.
 -- Assumes nothing.
 use Prim.Native.Nat.{ℕ, zero, suc}
-use mathlib.Core.Bool.{Bool, true, false, not}
+use mathlib.Core.Bool.{Bool, not}
 use mathlib.Core.List.{List, [], _∷_, _++_}
 
 -- A literal: a constant, or a variable, inverted or not. Which number stands for a constant is said in `Numbers` alone.

@@ -1,7 +1,7 @@
 -- The four groups of clauses and the order of the whole (document 01, "Groups of clauses"). Cited by every group call.
 -- Assumes nothing.
 use Prim.Native.Nat.{ℕ, zero, suc, _+_}
-use mathlib.Core.Bool.{Bool, true, false, cond, _&&_}
+use mathlib.Core.Bool.{Bool, true, cond, _&&_}
 use mathlib.Core.List.{List, [], _∷_, _++_}
 use lib.Dec.{eqb, leb, ltb}
 use Rattle.model.specs.Netlist.{Netlist, port, latchWire, gateWire}

@@ -7,5 +7,6 @@ pub mod Clauses
 pub mod Variables
 pub mod Groups
 pub mod Numbers
+pub mod Counts
 pub mod Claim
 pub mod Wrote

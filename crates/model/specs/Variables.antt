@@ -1,6 +1,7 @@
 -- The numbering of variables (document 01, "Numbers of variables"), and the literals that it gives. Assumes nothing.
-use Prim.Native.Nat.{ℕ, zero, suc, _+_, _-_, _*_, _/_}
-use mathlib.Core.Bool.{Bool, true, false, cond}
+use Prim.Native.Nat.{ℕ, _+_, _-_, _*_, _/_, _≤_, _<_}
+use mathlib.Core.Path.{_≡_}
+use mathlib.Core.Bool.{cond}
 use lib.Dec.{eqb, ltb}
 use Rattle.model.specs.Bits.{odd, bit}
 use Rattle.model.specs.Netlist.{Netlist, Port, port, lastWire, readWire}
@@ -73,3 +74,9 @@ closingLiterals c p i =
       RD = readBit c p i;
       W = λ t. known (bit (c .initialWord) t);
     }
+
+-- what a variable of depth k stands for: the constant, a wire of a frame, or one of a pair
+pub data Numbered (c : Netlist) (k v : ℕ) : Type 0 where
+  constant : v ≡ 1 → Numbered c k v
+  wire : (i w : ℕ) → i ≤ k → 1 ≤ w → w ≤ lastWire c → v ≡ base c i + w → Numbered c k v
+  pair : (j i x : ℕ) → j < i → i ≤ k → 1 ≤ x → x ≤ stride c → v ≡ pairBase c (port c) j i + x → Numbered c k v

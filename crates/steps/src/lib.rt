@@ -220,7 +220,7 @@ fn test_stored(
     Verdict::Passed
 }
 
-// A line as it is printed, taken for the line due: refusals 3, 4 and 5, and its numbers put into the record and the lists.
+// A line that was read, taken for the line due: refusals 3, 4 and 5, and its numbers put into the record and the lists.
 pub fn take_line(
     net: Netlist,
     latches: &mut [u32; 1200],

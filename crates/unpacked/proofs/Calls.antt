@@ -19,6 +19,7 @@ use Rattle.model.proofs.Variables.{base-most}
 use Rattle.model.proofs.Gather.{all-weaken}
 use Rattle.model.proofs.Joined.{joined-same, order-inDepth}
 use Rattle.model.proofs.Claim.{encodes}
+use Rattle.model.proofs.Stated.{stated}
 use Rattle.refusals.specs.Tests.{refuseIf, _then_}
 use Rattle.refusals.specs.declared.Refusal.{Refusal}
 use Rattle.refusals.specs.declared.Refusal.the-variants.{Depth, NoSuchGroup, NoRoom}
@@ -77,6 +78,9 @@ module _ (c : Netlist) (latchCount gateCount k : ℕ) (heads : headingVerdict c 
   group-numbers g old there enough =
       rw (group-passes g (length old) there enough) (take-append-seam (numbersOf c k g) (drop (length (numbersOf c k g)) old))
 
+  accepted : Accepted c
+  accepted = passes-accepted c latchCount gateCount .0 record-passed .0
+
   -- demand 3 of the calls
   pub calls-encode : CallsEncode c latchCount gateCount k
   unfolding formula
@@ -84,7 +88,9 @@ module _ (c : Netlist) (latchCount gateCount k : ℕ) (heads : headingVerdict c 
       record {
         calls-formula = λ slice enough.
             joined-same (all-weaken (λ g there. group-numbers g (slice g) there (enough g there)) (order-inDepth k));
-        formula-encodes = encodes (passes-accepted c latchCount gateCount .0 record-passed .0) k;
+        formula-encodes = encodes accepted k;
+        formula-stated = stated accepted k;
+        variables-most = base-most c (accepted .sizes) (k + 1) (omega (arith, depth-passes k (rest-passed .0)));
       }
 
 -- which test of a heading call decides

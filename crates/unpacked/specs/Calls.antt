@@ -12,7 +12,7 @@ use Rattle.model.specs.Acceptance.{Accepted}
 use Rattle.model.specs.Variables.{base}
 use Rattle.model.specs.Groups.{inDepth, groupOrder}
 use Rattle.model.specs.Numbers.{numbersOf, joined, formula, clausesIn}
-use Rattle.model.specs.Claim.{Encodes}
+use Rattle.model.specs.Claim.{Encodes, Stated}
 use Rattle.model.specs.declared.Group.{Group}
 use Rattle.refusals.specs.Refusal.{numberOf}
 use Rattle.refusals.specs.Tests.{refuseIf, _then_}
@@ -105,7 +105,8 @@ headingSent c latchCount gateCount k =
     withHeading (headingVerdict c latchCount gateCount k) (base c (k + 1)) (length (clausesIn (formula c k)))
 
 -- Demand 3, of the calls: "The clauses for depth k stand in the numbers that the group calls write, one call with room enough for
--- each group, joined in the order of the whole". Those numbers are the formula, and the formula encodes the runs.
+-- each group, joined in the order of the whole". Those numbers are the formula, and the formula encodes the runs
+-- and is as document 01 says; "Depth k uses B(k + 1) variables, at most 675,841".
 abbrev pub RoomEnough : Netlist → ℕ → (Group → List ℤ) → Type 0
 RoomEnough c k slice = (g : Group) → inDepth k g ≡ true → length (numbersOf c k g) ≤ length (slice g)
 
@@ -116,3 +117,5 @@ pub record CallsEncode (c : Netlist) (latchCount gateCount k : ℕ) : Type 0 whe
       (groupOrder k)
       ≡ formula c k
   pub formula-encodes : Encodes c k
+  pub formula-stated : Stated c k
+  pub variables-most : base c (k + 1) ≤ 675841

@@ -10,7 +10,7 @@ abbrev pub firstOf : List Group → Next
 firstOf [] = End
 firstOf (g ∷ gs) = Then g
 
--- at most so many groups follow at depth k: k + 3 for each later frame, and those of its own frame
+-- at most so many groups follow at depth k: k + 3 for each later frame, those of its own frame, and the property
 abbrev pub leftAfter : ℕ → Group → ℕ
 leftAfter k (Wires i) = (k - i) * (k + 3) + (i + 2)
 leftAfter k (Pair j i) = (k - i) * (k + 3) + (j + 2)

@@ -55,6 +55,7 @@ pub fn group_length(
     }
 }
 
+// A product with a bound, so that sums of it fit.
 fn product(a: u32, b: u32) -> u32
     requires { ⌜ (a ≤ 65280) × (b ≤ 3000) ⌝ }
     ensures { λ r. ⌜ (r ≡ a * b) × (r ≤ 195840000) ⌝ }

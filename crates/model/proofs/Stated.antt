@@ -1,0 +1,77 @@
+-- What else is said of the clauses of a depth (`Stated` of specs/Claim.antt), proved for every accepted netlist. No contract cites
+-- this file. Assumes nothing.
+use Prim.Native.Nat.{ℕ, zero, suc, zero-le, _+_, _≤_, _<_}
+use mathlib.Core.Path.{_≡_, refl, sym, _∙_, ap, subst}
+use mathlib.Core.Bool.{true, _&&_}
+use mathlib.Core.List.{List, map}
+use native.Mathlib.Numerals.{add-one}
+use borrow.Author.Tests.{leb-true, ltb-true}
+use lib.Dec.{leb, ltb}
+use lib.IntN.{natAbs, pos}
+use lib.ListN.{length, length-map, getD}
+use Rattle.model.specs.Netlist.{Netlist}
+use Rattle.model.specs.Acceptance.{Accepted}
+use Rattle.model.specs.Clauses.{Clause}
+use Rattle.model.specs.Variables.{base, Numbered}
+use Rattle.model.specs.Groups.{clausesOf, inDepth}
+use Rattle.model.specs.Numbers.{numberOf, written, numbersOf, formula, clausesIn}
+use Rattle.model.specs.Counts.{clauseCount, numberCount}
+use Rattle.model.specs.Claim.{Stated}
+use Rattle.model.specs.declared.Group.{Group}
+use Rattle.model.specs.declared.Group.the-variants.{Wires, Pair, Closing, Property}
+use Rattle.model.proofs.Booleans.{and-true}
+use Rattle.model.proofs.Dependence.{depends-path, path-depends}
+use Rattle.model.proofs.Gather.{all-getD}
+use Rattle.model.proofs.Numbering.{numbered}
+use Rattle.model.proofs.Lengths.{wires-clauses-first, wires-clauses-later, pair-clauses, closing-clauses, property-clauses, wires-numbers-first, wires-numbers-later, pair-numbers, closing-numbers, property-numbers}
+use Rattle.model.proofs.Bounds.{AllLits, Within, wires-within, pairs-within, closing-within, property-within, formula-numbers-within}
+use Rattle.model.proofs.Numbers.{clausesIn-written}
+use Rattle.model.proofs.Claim.{encodes, satisfies-same, unsatisfiable→safe}
+
+-- the numbers of a group, as document 01 counts them
+group-numbers : (c : Netlist) (k : ℕ) (g : Group) → length (numbersOf c k g) ≡ numberCount c k g
+unfolding numberCount
+group-numbers c k (Wires zero) = wires-numbers-first c k
+group-numbers c k (Wires (suc i)) = wires-numbers-later c k i
+group-numbers c k (Pair j i) = pair-numbers c k j i
+group-numbers c k (Closing i) = closing-numbers c k i
+group-numbers c k Property = property-numbers c k
+
+-- its clauses
+group-clauses : (c : Netlist) (k : ℕ) (g : Group) → length (clausesOf c k g) ≡ clauseCount c k g
+unfolding clauseCount
+group-clauses c k (Wires zero) = wires-clauses-first c k
+group-clauses c k (Wires (suc i)) = wires-clauses-later c k i
+group-clauses c k (Pair j i) = pair-clauses c k j i
+group-clauses c k (Closing i) = closing-clauses c k i
+group-clauses c k Property = property-clauses c k
+
+module _ {c : Netlist} (ok : Accepted c) (k : ℕ) where
+  -- no literal of a group that there is goes beyond the depth's variables
+  group-within : (g : Group) → inDepth k g ≡ true → AllLits (Within (base c (k + 1))) (clausesOf c k g)
+  unfolding inDepth
+  group-within (Wires i) h = wires-within ok k i (leb-true i k h)
+  group-within (Pair j i) h =
+      let both = and-true (leb i k) (ltb j i) .0 h in
+      pairs-within ok k j i (ltb-true j i (both .1)) (leb-true i k (both .0))
+  group-within (Closing i) h = closing-within ok k i (leb-true i k h)
+  group-within Property h = property-within ok k
+
+  -- so its numbers split into its clauses
+  clauses-in-group : (g : Group) → inDepth k g ≡ true → length (clausesIn (numbersOf c k g)) ≡ clauseCount c k g
+  unfolding numbersOf
+  clauses-in-group g h =
+      ap length (clausesIn-written (base c (k + 1)) (clausesOf c k g) (group-within g h))
+      ∙ length-map (clausesOf c k g) (map numberOf) ∙ group-clauses c k g
+
+  pub stated : Stated c k
+  stated =
+      record {
+        only-numbered = satisfies-same ok k;
+        all-numbered = λ v least most. numbered c k v least (subst (λ (n : ℕ). v ≤ base c n) (add-one k) most);
+        numbers-within = λ x. all-getD (formula-numbers-within ok k) zero-le x;
+        unsatisfiable→safe = unsatisfiable→safe (encodes ok k);
+        clauses-counted = clauses-in-group;
+        numbers-counted = group-numbers c k;
+        depends-by-path = λ w. (depends-path c (ok .codes) w, path-depends c (ok .codes) w);
+      }
