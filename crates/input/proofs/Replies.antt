@@ -10,19 +10,12 @@ use lib.Seq.{take-all}
 use Rattle.refusals.specs.Refusal.{numberOf, replyOf}
 use Rattle.refusals.specs.declared.Refusal.{Refusal}
 use Rattle.refusals.specs.declared.Reply.{Reply}
-use Rattle.refusals.specs.declared.Verdict.{Verdict}
-use Rattle.refusals.specs.declared.Verdict.the-variants.{Passed, Refused}
-use Rattle.refusals.proofs.Table.{numberOf-some}
+use Rattle.refusals.proofs.Table.{numberOf-some, reply-passed}
 use Rattle.records.proofs.Acceptance.{passes-accepted}
 use Rattle.lines.specs.Depth.{DepthAnswer, refusedBy, acceptedAt, depthAnswer}
 use Rattle.sheet.specs.Codes.{CodesRead}
 use Rattle.steps.specs.declared.Sheet.{Sheet}
 use Rattle.input.specs.Input.{sheetReply, inputReply, SheetTaken}
-
--- number 0 is no refusal's
-reply-passed : (v : Verdict) → replyOf v .number ≡ 0 → v ≡ Passed
-reply-passed Passed h = refl
-reply-passed (Refused r p) h = absurd (omega (arith, numberOf-some r))
 
 -- the depth is refused
 pub reply-depth : (s : List ℕ) (r : Refusal) → refusedBy r ≡ depthAnswer s → record { number = numberOf r; place = 0 } ≡ inputReply s

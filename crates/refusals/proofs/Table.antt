@@ -1,8 +1,11 @@
--- A law of document 01's table of refusals (specs/Refusal.antt). No contract cites this file. Assumes nothing.
+-- Laws of document 01's table of refusals (specs/Refusal.antt): no refusal has the number 0. No contract cites this file. Assumes nothing.
 use Prim.Native.Nat.{_≤_}
+use mathlib.Core.Path.{_≡_, refl}
 use native.Mathlib.Omega.{arith}
-use Rattle.refusals.specs.Refusal.{numberOf}
+use Rattle.refusals.specs.Refusal.{numberOf, replyOf}
 use Rattle.refusals.specs.declared.Refusal.{Refusal}
+use Rattle.refusals.specs.declared.Verdict.{Verdict}
+use Rattle.refusals.specs.declared.Verdict.the-variants.{Passed, Refused}
 use Rattle.refusals.specs.declared.Refusal.the-variants.{Ragged, Misprint, OutOfOrder, Size, CodeOutside, MemoryLoop, Depth, NoSuchGroup, NoRoom, OutOfNumbers}
 
 -- every word's number is at least 1
@@ -17,3 +20,8 @@ numberOf-some Depth = omega arith
 numberOf-some NoSuchGroup = omega arith
 numberOf-some NoRoom = omega arith
 numberOf-some OutOfNumbers = omega arith
+
+-- so number 0 is sent back where no test refuses
+pub reply-passed : (v : Verdict) → replyOf v .number ≡ 0 → v ≡ Passed
+reply-passed Passed h = refl
+reply-passed (Refused r p) h = absurd (omega (arith, numberOf-some r))

@@ -54,13 +54,13 @@ use Rattle.calls.proofs.heading as inner
 use Rattle.calls.proofs.heading.Symbol as inner-def
 use Rattle.calls.proofs.heading.Symbol.{name as #inner}
 use Rattle.calls.proofs.heading.Met as inner-thm
-use Rattle.exports.specs.Numbers.{headingNumbers}
-use Rattle.exports.proofs.HeadingReply as Reply
-use Rattle.exports.proofs.HeadingReply.Laws as Reply′
-use Rattle.exports.proofs.heading_numbers as numbers
-use Rattle.exports.proofs.heading_numbers.Symbol as numbers-def
-use Rattle.exports.proofs.heading_numbers.Symbol.{name as #numbers}
-use Rattle.exports.proofs.heading_numbers.Met as numbers-thm
+use Rattle.replies.specs.Numbers.{headingNumbers}
+use Rattle.replies.proofs.HeadingReply as Reply
+use Rattle.replies.proofs.HeadingReply.Laws as Reply′
+use Rattle.replies.proofs.heading_numbers as numbers
+use Rattle.replies.proofs.heading_numbers.Symbol as numbers-def
+use Rattle.replies.proofs.heading_numbers.Symbol.{name as #numbers}
+use Rattle.replies.proofs.heading_numbers.Met as numbers-thm
 use Rattle.exports.proofs.marrubigai_heading.Key.{name as #marrubigai-heading}
 use Rattle.exports.proofs.marrubigai_heading as f
 use Rattle.exports.proofs.marrubigai_heading.Statement as stated
@@ -193,4 +193,4 @@ marrubigai-heading-spec 𝓤 H 𝓜 𝓖 𝓡 =
     (cited 𝓤 H (Inner 𝓤 H (𝓖 .A) (givenOf 𝓤 H 𝓜 𝓖) (𝓜 .mem) (𝓡 .run)) 𝓜 𝓡 code.env #inner inner-def.routine
     code.calls-calls·heading (inner-thm.met 𝓤 H 𝓜 𝓖 𝓡))
     (cited 𝓤 H (Numbers 𝓤 H (𝓖 .A) (givenOf 𝓤 H 𝓜 𝓖) (𝓜 .mem) (𝓡 .run)) 𝓜 𝓡 code.env #numbers numbers-def.routine
-    code.calls-exports·heading-numbers (numbers-thm.met 𝓤 H 𝓜 𝓖 𝓡)))
+    code.calls-replies·heading-numbers (numbers-thm.met 𝓤 H 𝓜 𝓖 𝓡)))

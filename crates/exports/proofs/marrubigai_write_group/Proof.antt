@@ -56,17 +56,17 @@ use Rattle.calls.proofs.write_group as inner
 use Rattle.calls.proofs.write_group.Symbol as inner-def
 use Rattle.calls.proofs.write_group.Symbol.{name as #inner}
 use Rattle.calls.proofs.write_group.Met as inner-thm
-use Rattle.exports.specs.Numbers.{groupOf, groupNumbers}
-use Rattle.exports.proofs.GroupReply as Reply
-use Rattle.exports.proofs.GroupReply.Laws as Reply′
-use Rattle.exports.proofs.group_of as group
-use Rattle.exports.proofs.group_of.Symbol as group-def
-use Rattle.exports.proofs.group_of.Symbol.{name as #group}
-use Rattle.exports.proofs.group_of.Met as group-thm
-use Rattle.exports.proofs.group_numbers as numbers
-use Rattle.exports.proofs.group_numbers.Symbol as numbers-def
-use Rattle.exports.proofs.group_numbers.Symbol.{name as #numbers}
-use Rattle.exports.proofs.group_numbers.Met as numbers-thm
+use Rattle.replies.specs.Numbers.{groupOf, groupNumbers}
+use Rattle.replies.proofs.GroupReply as Reply
+use Rattle.replies.proofs.GroupReply.Laws as Reply′
+use Rattle.replies.proofs.group_of as group
+use Rattle.replies.proofs.group_of.Symbol as group-def
+use Rattle.replies.proofs.group_of.Symbol.{name as #group}
+use Rattle.replies.proofs.group_of.Met as group-thm
+use Rattle.replies.proofs.group_numbers as numbers
+use Rattle.replies.proofs.group_numbers.Symbol as numbers-def
+use Rattle.replies.proofs.group_numbers.Symbol.{name as #numbers}
+use Rattle.replies.proofs.group_numbers.Met as numbers-thm
 use Rattle.exports.proofs.marrubigai_write_group.Key.{name as #marrubigai-write-group}
 use Rattle.exports.proofs.marrubigai_write_group as f
 use Rattle.exports.proofs.marrubigai_write_group.Statement as stated
@@ -309,8 +309,8 @@ marrubigai-write-group-spec 𝓤 H 𝓜 𝓖 𝓡 =
     (tables 𝓤 H 𝓜 𝓡 code.env .C) (tables 𝓤 H 𝓜 𝓡 code.env .Λ) #marrubigai-write-group code.function (code.unfolded 𝓤 H 𝓜 𝓡)
     (marrubigai-write-group-meets 𝓤 H (𝓖 .A) (givenOf 𝓤 H 𝓜 𝓖) (𝓜 .mem) (𝓡 .run) (tablesOf 𝓤 H 𝓜 (tables 𝓤 H 𝓜 𝓡 code.env))
     (cited 𝓤 H (GroupOf 𝓤 H (𝓖 .A) (givenOf 𝓤 H 𝓜 𝓖) (𝓜 .mem) (𝓡 .run)) 𝓜 𝓡 code.env #group group-def.routine
-    code.calls-exports·group-of (group-thm.met 𝓤 H 𝓜 𝓖 𝓡))
+    code.calls-replies·group-of (group-thm.met 𝓤 H 𝓜 𝓖 𝓡))
     (cited 𝓤 H (Inner 𝓤 H (𝓖 .A) (givenOf 𝓤 H 𝓜 𝓖) (𝓜 .mem) (𝓡 .run)) 𝓜 𝓡 code.env #inner inner-def.routine
     code.calls-calls·write-group (inner-thm.met 𝓤 H 𝓜 𝓖 𝓡))
     (cited 𝓤 H (Numbers 𝓤 H (𝓖 .A) (givenOf 𝓤 H 𝓜 𝓖) (𝓜 .mem) (𝓡 .run)) 𝓜 𝓡 code.env #numbers numbers-def.routine
-    code.calls-exports·group-numbers (numbers-thm.met 𝓤 H 𝓜 𝓖 𝓡)))
+    code.calls-replies·group-numbers (numbers-thm.met 𝓤 H 𝓜 𝓖 𝓡)))

@@ -1,8 +1,8 @@
--- `exports::group_of` meets its contract: each arm knows its kind. Assumes nothing.
+-- `replies::group_of` meets its contract: each arm knows its kind. Assumes nothing.
 use borrow.Author.Tests.{ne-eqb}
-use Rattle.exports.specs.Numbers.{groupOf}
-use Rattle.exports.proofs.group_of.Statement.{statement}
-use Rattle.exports.proofs.group_of.Tie as tie
+use Rattle.replies.specs.Numbers.{groupOf}
+use Rattle.replies.proofs.group_of.Statement.{statement}
+use Rattle.replies.proofs.group_of.Tie as tie
 
 returns : tie.Need-returns
 unfolding groupOf

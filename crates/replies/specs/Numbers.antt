@@ -4,9 +4,13 @@ use mathlib.Core.Bool.{cond}
 use lib.Dec.{eqb}
 use Rattle.model.specs.declared.Group.{Group}
 use Rattle.model.specs.declared.Group.the-variants.{Wires, Pair, Closing, Property}
+use Rattle.refusals.specs.Refusal.{replyOf}
+use Rattle.refusals.specs.declared.Verdict.{Verdict}
+use Rattle.netlist.specs.declared.Netlist.{Netlist}
 use Rattle.unpacked.specs.Calls as Calls
-use Rattle.exports.specs.declared.GroupReply.{GroupReply}
-use Rattle.exports.specs.declared.HeadingReply.{HeadingReply}
+use Rattle.replies.specs.declared.GroupReply.{GroupReply}
+use Rattle.replies.specs.declared.HeadingReply.{HeadingReply}
+use Rattle.replies.specs.declared.SheetReply.{SheetReply}
 
 -- Another kind than 0 to 3 is no group. A pair of a frame with itself is none at any depth, so it gets refusal 8.
 unfoldable pub groupOf : ℕ → ℕ → ℕ → Group
@@ -18,3 +22,6 @@ groupNumbers r = record { number = r .number; place = r .place; count = r .count
 
 unfoldable pub headingNumbers : Calls.HeadingReply → HeadingReply
 headingNumbers r = record { number = r .number; place = r .place; variables = r .variables; clauses = r .clauses }
+
+unfoldable pub sheetNumbers : Verdict → Netlist → SheetReply
+sheetNumbers verdict net = record { number = replyOf verdict .number; place = replyOf verdict .place; net = net }

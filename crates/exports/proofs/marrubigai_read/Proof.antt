@@ -51,19 +51,19 @@ use Rattle.reader.proofs.read as read
 use Rattle.reader.proofs.read.Symbol as read-def
 use Rattle.reader.proofs.read.Symbol.{name as #read}
 use Rattle.reader.proofs.read.Met as read-thm
-use Rattle.exports.specs.Sheet.{sheetNumbers}
-use Rattle.exports.specs.declared.sheet.SheetReply.{SheetReply}
+use Rattle.replies.specs.Numbers.{sheetNumbers}
+use Rattle.replies.specs.declared.SheetReply.{SheetReply}
 use Rattle.exports.proofs.SheetReplies.{replies}
-use Rattle.exports.proofs.sheet.SheetReply as R
-use Rattle.exports.proofs.sheet.SheetReply.Laws as R′
-use Rattle.exports.proofs.sheet.sheet_numbers as numbers
-use Rattle.exports.proofs.sheet.sheet_numbers.Symbol as numbers-def
-use Rattle.exports.proofs.sheet.sheet_numbers.Symbol.{name as #sheet-numbers}
-use Rattle.exports.proofs.sheet.sheet_numbers.Met as numbers-thm
-use Rattle.exports.proofs.sheet.marrubigai_read.Key.{name as #export}
-use Rattle.exports.proofs.sheet.marrubigai_read as export
-use Rattle.exports.proofs.sheet.marrubigai_read.Statement as stated
-use Rattle.exports.proofs.sheet.marrubigai_read.Code as code
+use Rattle.replies.proofs.SheetReply as R
+use Rattle.replies.proofs.SheetReply.Laws as R′
+use Rattle.replies.proofs.sheet_numbers as numbers
+use Rattle.replies.proofs.sheet_numbers.Symbol as numbers-def
+use Rattle.replies.proofs.sheet_numbers.Symbol.{name as #sheet-numbers}
+use Rattle.replies.proofs.sheet_numbers.Met as numbers-thm
+use Rattle.exports.proofs.marrubigai_read.Key.{name as #export}
+use Rattle.exports.proofs.marrubigai_read as export
+use Rattle.exports.proofs.marrubigai_read.Statement as stated
+use Rattle.exports.proofs.marrubigai_read.Code as code
 
 abbrev stayed : Stays (export.ended .signature .params) (export.ended .kept)
 stayed = (
@@ -291,4 +291,4 @@ marrubigai-read-spec 𝓤 H 𝓜 𝓖 𝓡 =
     (cited 𝓤 H (Read 𝓤 H (𝓖 .A) (𝓜 .mem) (𝓡 .run)) 𝓜 𝓡 code.env #read read-def.routine code.calls-reader·read
     (read-thm.met 𝓤 H 𝓜 𝓖 𝓡))
     (cited 𝓤 H (Numbers 𝓤 H (𝓖 .A) (𝓜 .mem) (𝓡 .run)) 𝓜 𝓡 code.env #sheet-numbers numbers-def.routine
-    code.calls-exports·sheet·sheet-numbers (numbers-thm.met 𝓤 H 𝓜 𝓖 𝓡)))
+    code.calls-replies·sheet-numbers (numbers-thm.met 𝓤 H 𝓜 𝓖 𝓡)))

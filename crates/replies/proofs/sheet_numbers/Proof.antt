@@ -1,8 +1,8 @@
--- `exports::sheet::sheet_numbers` meets its contract: it is the definition. Assumes nothing.
+-- `replies::sheet_numbers` meets its contract: it is the definition. Assumes nothing.
 use borrow.Author.Needs.{needs}
-use Rattle.exports.specs.Sheet.{sheetNumbers}
-use Rattle.exports.proofs.sheet.sheet_numbers.Statement.{statement}
-use Rattle.exports.proofs.sheet.sheet_numbers.Tie as tie
+use Rattle.replies.specs.Numbers.{sheetNumbers}
+use Rattle.replies.proofs.sheet_numbers.Statement.{statement}
+use Rattle.replies.proofs.sheet_numbers.Tie as tie
 
 reply-of-requires : tie.Need-reply-of-requires
 reply-of-requires c κs = search needs
