@@ -21,7 +21,9 @@ others=$(find crates -name '*.rt' -not -path 'crates/literals/*')
 all=$(find crates -name '*.rt')
 # a Lit made by its constructor; `Lit::` calls and the type's name stay allowed
 absent "a Lit made outside literals" '(^|[^A-Za-z0-9_])Lit\(' $others
-# so no function can go between Code and Wire: none answers either
+# a Wire or a Code made from what stands in another of the three types
+absent "a Wire or a Code made from another type's number" '(Wire|Code)\([^()]*\.0' $all
+# and no function answers a Wire or a Code, so none goes between them
 absent "a function that answers a Wire or a Code" '-> *(literals::)?(Wire|Code)([^A-Za-z0-9_]|$)' $all
 echo "$passed passed, $failed failed"
 [ "$failed" -eq 0 ]

@@ -1,20 +1,19 @@
 -- Laws of `signedDigits`, and of what a machine makes of a signed number of 32 bits where it is widened, negated and read without
 -- its sign. No contract cites this file. Assumes nothing.
-use Prim.Native.Nat.{ℕ, suc, _+_, _≤_}
-use mathlib.Core.Path.{_≡_, refl, ap}
-use mathlib.Core.Bool.{true, false, false≢true, true≢false}
-use mathlib.Core.List.{_∷_}
+use Prim.Native.Nat.{suc, _≤_}
+use mathlib.Core.Path.{_≡_, ap}
+use mathlib.Core.Bool.{true, false, false≢true}
 use native.Mathlib.Nat.{zero-add}
 use native.Mathlib.Omega.{arith}
-use borrow.Author.Tests.{ltb-true, leb-false}
+use borrow.Author.Tests.{leb-false}
 use lib.Dec.{T}
 use lib.IntN.{ℤ, pos, negsuc, natAbs, _-ℤ_}
 use lib.ListN.{length}
-use lib.Signed.{ltZ, leZ, nonNeg}
+use lib.Signed.{leZ, nonNeg}
 use mir.Syntax.{w32, w64}
 use mir.Val.{Fits, SFits, toZ, ofZ}
 use mir.ValLaws.{toZ-ofZ}
-use Rattle.decimal.specs.Digits.{minus, digits, signedDigits}
+use Rattle.decimal.specs.Digits.{signedDigits}
 use Rattle.decimal.proofs.Digits.{length-digits-ten}
 
 -- from zero on a number has no sign; below zero its opposite has none
@@ -25,17 +24,6 @@ from-zero (negsuc n) h = absurd (false≢true h)
 pub below-zero : (z : ℤ) → leZ (pos 0) z ≡ false → pos 0 -ℤ z ≡ pos (natAbs z)
 below-zero (pos n) h = absurd (omega (arith, leb-false 0 n h))
 below-zero (negsuc n) h = ap pos (zero-add (suc n))
-
--- the text of a number below zero, and of any other
-pub signedDigits-below : (z : ℤ) → ltZ z (pos 0) ≡ true → signedDigits z ≡ minus ∷ digits (natAbs z)
-unfolding signedDigits
-signedDigits-below (pos n) h = absurd (omega (arith, ltb-true n 0 h))
-signedDigits-below (negsuc n) h = refl
-
-pub signedDigits-not-below : (z : ℤ) → ltZ z (pos 0) ≡ false → signedDigits z ≡ digits (natAbs z)
-unfolding signedDigits
-signedDigits-not-below (pos n) h = refl
-signedDigits-not-below (negsuc n) h = absurd (true≢false h)
 
 -- a number of 32 bits
 module _ (z : ℤ) (f : SFits w32 z) where
@@ -73,11 +61,3 @@ pub length-signedDigits : (z : ℤ) → SFits w32 z → length (signedDigits z) 
 unfolding signedDigits
 length-signedDigits (pos n) f = omega (arith, length-digits-ten n (natAbs-fits (pos n) f .fits))
 length-signedDigits (negsuc n) f = omega (arith, length-digits-ten (suc n) (natAbs-fits (negsuc n) f .fits))
-
--- the room that a number of 32 bits asks for, below zero and otherwise
-module _ (z : ℤ) (f : SFits w32 z) (room : ℕ) (h : length (signedDigits z) ≤ room) where
-  pub room-below : ltZ (toZ w32 (ofZ w32 z)) (pos 0) ≡ true → 1 + length (digits (natAbs z)) ≤ room
-  room-below b = omega (arith, h, ap length (signedDigits-below z (rw (read-back z f) at b)))
-
-  pub room-not-below : ltZ (toZ w32 (ofZ w32 z)) (pos 0) ≡ false → length (digits (natAbs z)) ≤ room
-  room-not-below b = omega (arith, h, ap length (signedDigits-not-below z (rw (read-back z f) at b)))

@@ -1,9 +1,8 @@
 // Numbers as decimal text and back (document 01, "The sheet"): one definition, `digits`, says what is written and what is read.
 ghost use mathlib.Core.Path.{_≡_};
 ghost use Prim.Native.Nat.{_≤_};
-ghost use lib.IntN.{natAbs};
 ghost use lib.ListN.{length, replicate};
-ghost use Rattle.decimal.specs.Digits.{digits, space, field, signedDigits};
+ghost use Rattle.decimal.specs.Digits.{digits, space, field};
 ghost use Rattle.decimal.specs.Reading.{numberIn};
 ghost use Rattle.model.specs.Wrote.{Wrote};
 
@@ -96,28 +95,4 @@ pub fn put_field(out: &mut [u8], x: u32) -> usize
     let before = 10 - digit_count(x);
     put_spaces(out, before);
     before + put_digits(&mut out[before..], x)
-}
-
-// A signed number without its sign: the least i32 has one too.
-fn magnitude(z: i32) -> u32
-    ensures { λ r. ⌜ r ≡ natAbs z ⌝ }
-{
-    if 0 <= z {
-        return z as u32;
-    }
-    let opposite = -(z as i64);
-    opposite as u32
-}
-
-// Writes a signed number, with a minus only below zero, and answers how many bytes that is.
-pub fn put_number(out: &mut [u8], z: i32) -> usize
-    requires { ⌜ length (signedDigits z) ≤ length (now out) ⌝ }
-    ensures { λ r. ⌜ Wrote (signedDigits z) (now (out .entry)) (now (out .exit)) r ⌝ }
-{
-    let x = magnitude(z);
-    if z < 0 {
-        out[0] = b'-';
-        return 1 + put_digits(&mut out[1..], x);
-    }
-    put_digits(out, x)
 }

@@ -8,6 +8,7 @@ ghost use Rattle.model.specs.Variables.{baseOf, pairBaseOf, wireAt, codeAt};
 ghost use Rattle.literals.specs.Lit.{literalOf, IsLit, HasNumber};
 ghost use Rattle.literals.specs.Numbering.{InLimits};
 
+// An AIG variable, numbered from 1.
 pub struct Wire(pub u32);
 
 // Document 01's code: an AIGER literal.

@@ -34,7 +34,7 @@ unfoldable pub Agrees : Netlist → ℕ → Assignment → (ℕ → Feed) → Ty
 Agrees c k a f =
     (i : ℕ) → i ≤ k → (w : ℕ) → 1 ≤ w → w ≤ lastWire c → a (base c i + w) ≡ run c (initial c) f i w
 
--- the run breaks the property in at least one frame from 0 to k: P is false there
+-- the run breaks the property in at least one frame from 0 to k: P is false there (a counterexample; AIGER's "bad" is ¬P)
 unfoldable pub Breaks : Netlist → ℕ → (ℕ → Feed) → Type 0
 Breaks c k f = (i : ℕ) × (i ≤ k) × (code (run c (initial c) f i) (c .P) ≡ false)
 

@@ -1,4 +1,5 @@
-// The tests of a sheet and what it is read as, over unpacked lists (document 01, "The sheet" and "Reading").
+// The tests of a sheet, a netlist file of fixed columns, and what it is read as, over unpacked lists (document 01, "The sheet" and
+// "Reading").
 use netlist::Netlist;
 use refusals::Refusal;
 use refusals::Verdict;
