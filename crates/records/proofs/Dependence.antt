@@ -13,17 +13,21 @@ use lib.ListN.{getD, set, replicate, length-set, length-replicate, getD-replicat
 use lib.Seq.{getD-set-same, getD-set-other}
 use borrow.Author.Tests.{eq-eqb, ne-eqb, le-leb, lt-leb, lt-ltb, le-ltb}
 use Rattle.refusals.specs.declared.Refusal.the-variants.{MemoryLoop}
+use Rattle.refusals.specs.declared.Verdict.the-variants.{Passed}
 use Rattle.refusals.proofs.Tests.{refuseIf-passes, inOrder-passes}
 use Rattle.model.specs.Netlist.{Netlist, readWire, gateWire}
 use Rattle.model.specs.Circuit.{Values, sweep, isRead, dependsOnRead}
 use Rattle.netlist.specs.Lines.{memoryLine, latchLine, gateLine, addressLine, lineAt, Stands}
 use Rattle.netlist.specs.Faults.{loopFaultBy, loopFault}
-use Rattle.records.specs.Record.{testLine}
+use Rattle.limits.specs.AnyLine.{anyLine}
+use Rattle.records.specs.Record.{testLine, testLines}
 use Rattle.records.specs.Dependence.{entry, Table, InLimits}
 use Rattle.netlist.specs.declared.Line.{Line}
 use Rattle.netlist.specs.declared.Line.the-variants.{Sizes, Memory, Latch, Gate, Address, Data, Control}
 use Rattle.netlist.proofs.Lines.{at-sizes, at-memory, at-latch, at-gate}
-use Rattle.records.proofs.Record.{PassedTo}
+use Rattle.netlist.proofs.Faults.{no-loop}
+use Rattle.limits.proofs.AnyLine.{none-in-lines}
+use Rattle.records.proofs.Record.{PassedTo, testLines-passes}
 
 -- a table of nothing
 pub table-none : Table (λ w. false) (replicate 601 false)
@@ -84,6 +88,19 @@ loopFault-table {c} q h (Gate g) s = refl
 loopFault-table {c} q h (Address t) s = sym (q .has (c .address t / 2) (omega (arith, h .codes .address-fits t s, h .sizes .wires-fit)))
 loopFault-table {c} q h (Data t) s = refl
 loopFault-table {c} q h Control s = sym (q .has (c .RE / 2) (omega (arith, h .codes .RE-fits, h .sizes .wires-fit)))
+
+-- no line makes a memory loop where the pass over the lists finds none by such a table
+pub loops-none : {c : Netlist} {flags : List Bool} → Table (dependsOnRead c) flags → InLimits c
+    → anyLine c (loopFaultBy (entry flags)) ≡ false → testLines c MemoryLoop loopFault ≡ Passed
+unfolding loopFaultBy
+loops-none {c} {flags} q h e =
+    let none = none-in-lines c (loopFaultBy (entry flags)) refl refl e in
+    testLines-passes c MemoryLoop loopFault .1
+    (no-loop c .1
+    (record {
+      address-free = λ t b. loopFault-table q h (Address t) b ∙ none .of-address t b;
+      RE-free = loopFault-table q h Control tt ∙ none .of-control;
+    }))
 
 -- no line before the address codes makes a memory loop
 pub loops-before : (c : Netlist) (p : ℕ) → p < addressLine c 0 → PassedTo c MemoryLoop loopFault p

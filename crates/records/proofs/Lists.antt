@@ -2,6 +2,7 @@
 -- this file. Assumes nothing.
 use Prim.Native.Nat.{ℕ, _/_, zero-le}
 use mathlib.Core.Path.{_≡_, refl}
+use mathlib.Core.Bool.{Bool}
 use mathlib.Core.List.{List, []}
 use native.Mathlib.Omega.{arith}
 use Rattle.refusals.specs.declared.Refusal.the-variants.{Size, MemoryLoop}
@@ -12,6 +13,7 @@ use Rattle.netlist.specs.declared.Line.{Line}
 use Rattle.netlist.specs.declared.Line.the-variants.{Sizes, Memory, Latch, Gate, Address, Data, Control}
 use Rattle.netlist.specs.declared.Netlist.{Netlist}
 use Rattle.netlist.proofs.NetOf.{sizes-lists, lineAt-lists, sizeFault-lists, depends-latches}
+use Rattle.limits.specs.AnyLine.{anyLine}
 use Rattle.records.specs.Record.{testLines}
 use Rattle.records.specs.Dependence.{InLimits}
 use Rattle.records.proofs.Record.{testLines-same}
@@ -36,6 +38,11 @@ module _ (r : Netlist) (latches gates : List ℕ) where
       same (Address t) = depends-latches r latches gates (codeOf (r .address) t / 2)
       same (Data t) = refl
       same Control = depends-latches r latches gates (r .re .0 / 2)
+
+  -- the pass over the lists that looks for memory loops
+  pub any-loop-lists : (d : ℕ → Bool) → anyLine (netOf r [] []) (loopFaultBy d) ≡ anyLine (netOf r latches gates) (loopFaultBy d)
+  unfolding netOf loopFaultBy anyLine
+  any-loop-lists d = refl
 
   -- the limits of codes, without the latches
   pub limits-latches : InLimits (netOf r latches gates) → InLimits (netOf r [] gates)

@@ -13,8 +13,11 @@ use Rattle.model.specs.Netlist.{Netlist}
 use Rattle.netlist.specs.Lines.{controlLine, lineAt}
 use Rattle.records.specs.Record.{testLine, testLines}
 use Rattle.netlist.specs.declared.Line.{Line}
+use Rattle.netlist.specs.declared.Line.the-variants.{Sizes, Memory}
+use Rattle.limits.specs.AnyLine.{anyLine}
 use Rattle.netlist.proofs.Lines.{EveryLine, every-place}
 use Rattle.netlist.proofs.Faults.{Without}
+use Rattle.limits.proofs.AnyLine.{none-in-lines}
 
 module _ (c : Netlist) (r : Refusal) (fault : Netlist → Line → Bool) where
   -- the lines up to place p have no fault
@@ -49,6 +52,10 @@ module _ (c : Netlist) (r : Refusal) (fault : Netlist → Line → Bool) where
     where
       tests : (inOrder (testLine c r fault) (controlLine c) ≡ Passed) ↔ ((p : ℕ) → 1 ≤ p → p ≤ controlLine c → testLine c r fault p ≡ Passed)
       tests = inOrder-passes (testLine c r fault) (controlLine c)
+
+  -- nor where none is found in a pass over the lists, and lines N and M never have it
+  pub passed-quick : Without fault c Sizes → Without fault c Memory → anyLine c fault ≡ false → testLines c r fault ≡ Passed
+  passed-quick sizes memory e = testLines-passes .1 (none-in-lines c fault sizes memory e)
 
 -- two netlists with the same lines and the same faults have the same verdict
 pub testLines-same : (c d : Netlist) (r : Refusal) (fault : Netlist → Line → Bool) → ((x : Line) → fault c x ≡ fault d x)

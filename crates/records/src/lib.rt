@@ -10,6 +10,7 @@ ghost use Rattle.model.specs.Acceptance.{SizesFit};
 ghost use Rattle.netlist.specs.NetOf.{netOf};
 ghost use Rattle.netlist.specs.Lines.{Stands};
 ghost use Rattle.netlist.specs.Faults.{sizeFault, codeFault, loopFaultBy, loopFault};
+ghost use Rattle.limits.specs.AnyLine.{anyLine};
 ghost use Rattle.records.specs.Record.{testLines, recordVerdict};
 ghost use Rattle.records.specs.Dependence.{InLimits, Table, entry};
 
@@ -26,8 +27,8 @@ fn test_sizes(net: Netlist) -> Verdict
     Verdict::Passed
 }
 
-// Tests every code, gate operand and reset, in line order (refusal 5).
-fn test_codes(net: Netlist, latches: &[u32; 1200], gates: &[u32; 1200]) -> Verdict
+// Looks for the first line, in line order, with a code, gate operand or reset outside its limit.
+fn first_code_fault(net: Netlist, latches: &[u32; 1200], gates: &[u32; 1200]) -> Verdict
     requires { ⌜ SizesFit (netOf net [] []) ⌝ }
     ensures { λ r. ⌜ r ≡ testLines (netOf net (now (latches .entry)) (now (gates .entry))) Refusal.CodeOutside codeFault ⌝ }
 {
@@ -39,6 +40,17 @@ fn test_codes(net: Netlist, latches: &[u32; 1200], gates: &[u32; 1200]) -> Verdi
         if netlist::code_fault(net, latches, gates, line) {
             return Verdict::Refused(Refusal::CodeOutside, place);
         }
+    }
+    Verdict::Passed
+}
+
+// Tests every code, gate operand and reset (refusal 5). A place is looked for only where there is one.
+fn test_codes(net: Netlist, latches: &[u32; 1200], gates: &[u32; 1200]) -> Verdict
+    requires { ⌜ SizesFit (netOf net [] []) ⌝ }
+    ensures { λ r. ⌜ r ≡ testLines (netOf net (now (latches .entry)) (now (gates .entry))) Refusal.CodeOutside codeFault ⌝ }
+{
+    if limits::any_code_fault(net, latches, gates) {
+        return first_code_fault(net, latches, gates);
     }
     Verdict::Passed
 }
@@ -100,12 +112,33 @@ fn loop_fault(net: Netlist, flags: &[bool; 601], line: Line) -> bool
     }
 }
 
-// Tests the address codes and RE, in line order (refusal 6). The lines before them make no memory loop.
+// Whether any line makes a memory loop, by such a table.
+fn any_loop(net: Netlist, flags: &[bool; 601]) -> bool
+    requires { ⌜ InLimits (netOf net [] []) ⌝ }
+    ensures { λ r. ⌜ r ≡ anyLine (netOf net [] []) (loopFaultBy (entry (now (flags .entry)))) ⌝ }
+{
+    let mut any = false;
+    let mut t = 0;
+    while t < net.m {
+        let at = t as usize;
+        let w = (net.address[at].0 / 2) as usize;
+        any = any | flags[w];
+        t += 1;
+    }
+    let w = (net.re.0 / 2) as usize;
+    any | flags[w]
+}
+
+// Tests the address codes and RE, in line order (refusal 6). A place is looked for only where there is one. The lines before the
+// address codes make no memory loop.
 pub fn test_loops(net: Netlist, gates: &[u32; 1200]) -> Verdict
     requires { ⌜ InLimits (netOf net [] (now gates)) ⌝ }
     ensures { λ r. ⌜ r ≡ testLines (netOf net [] (now (gates .entry))) Refusal.MemoryLoop loopFault ⌝ }
 {
     let flags = depends_on_read(net, gates);
+    if !any_loop(net, &flags) {
+        return Verdict::Passed;
+    }
     let last = netlist::control_line(net);
     let mut place = 2 + net.latches + net.gates;
     while place < last {
