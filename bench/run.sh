@@ -5,7 +5,7 @@
 # and system), so that other work on the machine matters little. It says which targets are reached, and fails only where a program
 # fails or the texts differ. The last figure is of the library: every group of depth 255 through the exported call, which tests its
 # record each time.
-# Argument: repetitions (20); the program is target/bin/frames unless FRAMES names another.
+# Argument: repetitions at depth 255 (20), five times as many at the others; the program is target/bin/frames unless FRAMES names another.
 set -euo pipefail
 cd "$(dirname "$0")/.."
 repetitions=${1:-20}
@@ -33,8 +33,11 @@ for depth in 0 15 63 255; do
     "$work/$other" < "$input" | cmp - <("$frames" < "$input") || { echo "frames and $other differ at depth $depth" >&2; exit 1; }
   done
   bytes=$("$frames" < "$input" | wc -c)
-  echo "depth $depth: $bytes bytes, the same from all three; measuring $repetitions times" >&2
-  "$work/measure" "$repetitions" "$input" "$frames" "$work/optimised" "$work/formatted" |
+  # a short run is disturbed more easily, and costs less to repeat
+  times=$repetitions
+  [ "$depth" -lt 255 ] && times=$((5 * repetitions))
+  echo "depth $depth: $bytes bytes, the same from all three; measuring $times times" >&2
+  "$work/measure" "$times" "$input" "$frames" "$work/optimised" "$work/formatted" |
     awk -v depth="$depth" -v bytes="$bytes" '
       { time[NR] = $2; resident[NR] = $4 }
       END { print depth, bytes, time[1], time[2], time[3], resident[1] }'
