@@ -58,10 +58,10 @@ done | awk '
       say(faster[k] >= 4, "depth " k ", at least 4 times faster than formatted printing", sprintf("%.1f", faster[k]))
       say(resident[k] <= 4096, "depth " k ", at most 4 MiB resident", resident[k] " KiB")
     }
-    flat = cost[255] / cost[63]
-    say(flat <= 1.2, "cost per byte grows by at most 20% from depth 63 to 255", sprintf("%+.0f%%", 100 * (flat - 1)))
-    rest = ((time[255] - time[0]) / (bytes[255] - bytes[0])) / ((time[63] - time[0]) / (bytes[63] - bytes[0]))
-    printf "         the same without the time of depth 0: %+.0f%%\n", 100 * (rest - 1)
+    # depth 0 is the start of the process and next to no text: it is no cost of a byte
+    flat = ((time[255] - time[0]) / (bytes[255] - bytes[0])) / ((time[63] - time[0]) / (bytes[63] - bytes[0]))
+    say(flat >= 0.8 && flat <= 1.2, "cost per byte from depth 63 to 255 within 20%, the time of depth 0 taken off", sprintf("%+.0f%%", 100 * (flat - 1)))
+    printf "         with that time: %+.0f%%\n", 100 * (cost[255] / cost[63] - 1)
   }'
 
 input=$work/input.255
