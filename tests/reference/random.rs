@@ -54,13 +54,7 @@ pub fn tiny_netlist(random: &mut Random) -> Netlist {
         ..Netlist::default()
     };
     let mut netlist = fill(random, sizes);
-    // Writes and reads in every frame are where the order of writes matters.
-    if random.percent(30) {
-        netlist.write_enable = 1;
-    }
-    if random.percent(30) {
-        netlist.read_enable = 1;
-    }
+    enable_often(random, &mut netlist);
     // A constant P decides everything; an inverted gate is often true in all frames.
     if random.percent(if netlist.property < 2 { 80 } else { 40 }) {
         netlist.property = 2 * netlist.wire_count() + 1;
@@ -101,6 +95,16 @@ fn split_wires(random: &mut Random, most: u32) -> [u32; 3] {
         counts[to] += moved;
     }
     counts
+}
+
+/// Makes a netlist write, or read, in every frame, often: there the order of writes matters.
+pub fn enable_often(random: &mut Random, netlist: &mut Netlist) {
+    if random.percent(30) {
+        netlist.write_enable = 1;
+    }
+    if random.percent(30) {
+        netlist.read_enable = 1;
+    }
 }
 
 /// Fills start word, codes and lists of an empty netlist that has its sizes. `clean` collects the wires

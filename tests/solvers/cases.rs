@@ -2,7 +2,7 @@
 
 use super::reference::circuit::{value, Circuit, Feed, Run};
 use super::reference::netlist::Netlist;
-use super::reference::random::{fill, Random};
+use super::reference::random::{Random, enable_often, fill};
 
 /// A netlist with a depth of at most 4.
 pub struct Case {
@@ -38,13 +38,7 @@ fn small_netlist(random: &mut Random) -> Netlist {
         ..Netlist::default()
     };
     let mut netlist = fill(random, sizes);
-    // Several writes and then a read are where forwarding can go wrong.
-    if random.percent(30) {
-        netlist.write_enable = 1;
-    }
-    if random.percent(30) {
-        netlist.read_enable = 1;
-    }
+    enable_often(random, &mut netlist);
     // An inverted gate is often true in all frames: such a property is seldom broken, or never.
     if random.percent(60) {
         netlist.property = 2 * (netlist.wire_count() - random.below(3).min(netlist.gate_count)) + 1;
