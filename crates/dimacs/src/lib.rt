@@ -4,7 +4,7 @@ ghost use Prim.Native.Nat.{_≤_};
 ghost use lib.Dec.{leb};
 ghost use lib.ListN.{length};
 ghost use Rattle.model.specs.Wrote.{Wrote};
-ghost use Rattle.text.specs.Pairs.{pairsBelow};
+ghost use Rattle.text.specs.Table.{TableOrNone};
 ghost use Rattle.dimacs.specs.Text.{headerText, numberText, clauseText, refusalText};
 ghost use Rattle.dimacs.specs.Report.{reportOf, printReport, printLeaves};
 use decimal::digit_count;
@@ -23,8 +23,8 @@ pub enum Printed {
 }
 
 // Writes a clause number or an end mark, and the byte behind it.
-fn write_number(out: &mut [u8], z: i32, pairs: &[u8; 200]) -> usize
-    requires { ⌜ (now pairs ≡ pairsBelow 100) × (length (numberText z) ≤ length (now out)) ⌝ }
+fn write_number(out: &mut [u8], z: i32, table: &[u8]) -> usize
+    requires { ⌜ TableOrNone (now table) × (length (numberText z) ≤ length (now out)) ⌝ }
     ensures { λ r. ⌜ Wrote (numberText z) (now (out .entry)) (now (out .exit)) r ⌝ }
 {
     if z == 0 {
@@ -32,20 +32,18 @@ fn write_number(out: &mut [u8], z: i32, pairs: &[u8; 200]) -> usize
         out[1] = b'\n';
         return 2;
     }
-    write_signed_spaced(out, z, pairs)
+    write_signed_spaced(out, z, table)
 }
 
 // Writes numbers with end marks, a clause a line, in one pass, and answers how many bytes that is.
-pub fn write_numbers(out: &mut [u8], numbers: &[i32]) -> usize
-    requires { ⌜ length (clauseText (now numbers)) ≤ length (now out) ⌝ }
+pub fn write_numbers(out: &mut [u8], numbers: &[i32], table: &[u8]) -> usize
+    requires { ⌜ TableOrNone (now table) × (length (clauseText (now numbers)) ≤ length (now out)) ⌝ }
     ensures { λ r. ⌜ Wrote (clauseText (now (numbers .entry))) (now (out .entry)) (now (out .exit)) r ⌝ }
 {
-    let pairs =
-        b"00010203040506070809101112131415161718192021222324252627282930313233343536373839404142434445464748495051525354555657585960616263646566676869707172737475767778798081828384858687888990919293949596979899";
     let mut at = 0;
     let mut i = 0;
     while i < numbers.len() {
-        at = at + write_number(&mut out[at..], numbers[i], pairs);
+        at = at + write_number(&mut out[at..], numbers[i], table);
         i += 1;
     }
     at
@@ -108,13 +106,13 @@ pub fn put_header(out: &mut [u8], variables: u32, clauses: u32) -> Printed
     Printed::Written(write_header(out, variables, clauses))
 }
 
-// Prints numbers with end marks, a clause a line.
+// Prints numbers with end marks, a clause a line. It fills no table: that takes longer than a group does without it.
 pub fn put_clauses(out: &mut [u8], numbers: &[i32]) -> Printed
     ensures answer { λ r. ⌜ reportOf r ≡ printReport (clauseText (now (numbers .entry))) (now (out .entry)) ⌝ }
     ensures borrowed { λ _. ⌜ now (out .exit) ≡ printLeaves (clauseText (now (numbers .entry))) (now (out .entry)) ⌝ }
 {
     if clauses_fit(out.len(), numbers) {
-        return Printed::Written(write_numbers(out, numbers));
+        return Printed::Written(write_numbers(out, numbers, b""));
     }
     Printed::Refused(Refusal::NoRoom, 0)
 }

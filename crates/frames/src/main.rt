@@ -38,11 +38,14 @@ fn print_clauses(net: Netlist, latches: &[u32; 1200], gates: &[u32; 1200], depth
 {
     let mut text = [0; 131072];
     let mut numbers = [0; 5992];
+    let mut table = [0; 40000];
+    text::fill_table(&mut table);
     let mut next = Next::Then(Group::Wires(0));
     while let Next::Then(group) = next {
         let piece = stream::print_groups(
             &mut text,
             &mut numbers,
+            &table,
             net,
             latches,
             gates,

@@ -8,6 +8,7 @@ ghost use Rattle.model.specs.Acceptance.{Accepted};
 ghost use Rattle.model.specs.Numbers.{numbersOf};
 ghost use Rattle.model.specs.Wrote.{Wrote};
 ghost use Rattle.netlist.specs.NetOf.{netOf};
+ghost use Rattle.text.specs.Table.{TableOrNone};
 ghost use Rattle.dimacs.specs.Text.{headerText, clauseText};
 ghost use Rattle.unrolling.specs.Next.{leftAfter, leftFrom};
 ghost use Rattle.stream.specs.Pieces.{formulaHeader, Stands, Continues};
@@ -47,6 +48,7 @@ pub fn print_header(
 fn print_group(
     text: &mut [u8],
     numbers: &mut [i32],
+    table: &[u8],
     net: Netlist,
     latches: &[u32; 1200],
     gates: &[u32; 1200],
@@ -54,17 +56,18 @@ fn print_group(
     group: Group,
 ) -> usize
     requires { ⌜ Accepted (netOf net (now latches) (now gates)) × (depth ≤ 255) × Stands depth group
-        × (5992 ≤ length (now numbers)) × (71904 ≤ length (now text)) ⌝ }
+        × TableOrNone (now table) × (5992 ≤ length (now numbers)) × (71904 ≤ length (now text)) ⌝ }
     ensures { λ r. ⌜ Wrote (clauseText (numbersOf (netOf net (now (latches .entry)) (now (gates .entry))) depth group)) (now (text .entry)) (now (text .exit)) r × (r ≤ 71904) ⌝ }
 {
     let count = groups::put_group(numbers, net, latches, gates, depth, group);
-    dimacs::write_numbers(text, &numbers[..count])
+    dimacs::write_numbers(text, &numbers[..count], table)
 }
 
 // Prints groups from `group` on, in the order of the whole, until the next might not fit.
 pub fn print_groups(
     text: &mut [u8],
     numbers: &mut [i32],
+    table: &[u8],
     net: Netlist,
     latches: &[u32; 1200],
     gates: &[u32; 1200],
@@ -72,7 +75,7 @@ pub fn print_groups(
     group: Group,
 ) -> Piece
     requires { ⌜ Accepted (netOf net (now latches) (now gates)) × (depth ≤ 255) × Stands depth group
-        × (5992 ≤ length (now numbers)) × (71904 ≤ length (now text)) ⌝ }
+        × TableOrNone (now table) × (5992 ≤ length (now numbers)) × (71904 ≤ length (now text)) ⌝ }
     ensures text { λ r. ⌜ Continues (netOf net (now (latches .entry)) (now (gates .entry))) depth group (now (text .entry)) (now (text .exit)) (r .bytes) (r .next) ⌝ }
     ensures ends { λ r. ⌜ leftFrom depth (r .next) ≤ leftAfter depth group ⌝ }
     ensures within { λ r. ⌜ r .bytes ≤ length (now (text .entry)) ⌝ }
@@ -84,7 +87,17 @@ pub fn print_groups(
         let Next::Then(due) = next else {
             break;
         };
-        bytes = bytes + print_group(&mut text[bytes..], numbers, net, latches, gates, depth, due);
+        bytes = bytes
+            + print_group(
+                &mut text[bytes..],
+                numbers,
+                table,
+                net,
+                latches,
+                gates,
+                depth,
+                due,
+            );
         next = unrolling::order::next_group(depth, due);
     }
     Piece { bytes, next }

@@ -1,4 +1,4 @@
 -- Laws for the proofs of this crate and of those that write text. No contract cites them.
-pub mod Pairs
+pub mod Table
 pub mod Signed
 pub mod Writing

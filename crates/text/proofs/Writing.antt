@@ -1,4 +1,4 @@
--- Laws of `Wrote`: two bytes, a word copied byte by byte, and room for a second writer behind a first. No contract cites this
+-- Laws of `Wrote`: two bytes, four bytes, a word copied byte by byte, and room for a second writer behind a first. No contract cites this
 -- file. Assumes nothing.
 use Prim.Native.Nat.{ℕ, suc, _+_, _-_, _≤_, _<_}
 use mathlib.Core.Path.{_≡_, refl}
@@ -16,6 +16,15 @@ pub wrote-two : (a b : ℕ) (old : List ℕ) → 2 ≤ length old → Wrote (a �
 wrote-two a b [] h = absurd (omega arith)
 wrote-two a b (x ∷ []) h = absurd (omega arith)
 wrote-two a b (x ∷ y ∷ old) h = record { counted = refl; leaves = refl }
+
+-- four bytes
+pub wrote-four :
+    (a b c d : ℕ) (old : List ℕ) → 4 ≤ length old → Wrote (a ∷ b ∷ c ∷ d ∷ []) old (set (set (set (set old 0 a) 1 b) 2 c) 3 d) 4
+wrote-four a b c d [] h = absurd (omega arith)
+wrote-four a b c d (x ∷ []) h = absurd (omega arith)
+wrote-four a b c d (x ∷ y ∷ []) h = absurd (omega arith)
+wrote-four a b c d (x ∷ y ∷ z ∷ []) h = absurd (omega arith)
+wrote-four a b c d (x ∷ y ∷ z ∷ w ∷ old) h = record { counted = refl; leaves = refl }
 
 -- a word copied from the front, one byte more
 pub copy-next :

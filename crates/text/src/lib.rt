@@ -1,11 +1,12 @@
-// Text written into a borrowed slice: a byte, a word, and numbers, fast: two digits at a time, with a space behind them.
+// Text written into a borrowed slice: a byte, a word, and numbers with a space behind them, fast where a table of all groups of four
+// digits is at hand.
 ghost use mathlib.Core.Path.{_≡_};
 ghost use mathlib.Core.List.{[], _∷_, _++_};
 ghost use Prim.Native.Nat.{_≤_, _<_, _/_, _%_};
 ghost use lib.ListN.{length};
 ghost use Rattle.decimal.specs.Digits.{digits, space, signedDigits};
 ghost use Rattle.model.specs.Wrote.{Wrote};
-ghost use Rattle.text.specs.Pairs.{pairDigits, pairsBelow};
+ghost use Rattle.text.specs.Table.{pairDigits, fourDigits, tableBelow, TableOrNone};
 ghost use Rattle.text.specs.Signed.{partsOf};
 use decimal::put_digits;
 
@@ -31,16 +32,8 @@ pub fn write_word(out: &mut [u8], word: &[u8]) -> usize
     i
 }
 
-// How many hundreds a number below 10,000 has. Below that bound one product and one shift do: less than a compiler, which does not
-// know the bound, makes of the division.
-fn hundreds(x: u32) -> u32
-    requires { ⌜ x < 10000 ⌝ }
-    ensures { λ r. ⌜ r ≡ x / 100 ⌝ }
-{
-    x * 5243 / 524288
-}
-
-// How many ten thousands a number below 1,000,000 has, in the same way.
+// How many ten thousands a number below 1,000,000 has. Below that bound one product and one shift do: less than a compiler, which
+// does not know the bound, makes of the division.
 fn ten_thousands(x: u32) -> u32
     requires { ⌜ x < 1000000 ⌝ }
     ensures { λ r. ⌜ r ≡ x / 10000 ⌝ }
@@ -48,72 +41,110 @@ fn ten_thousands(x: u32) -> u32
     ((x as u64) * 429497 / 4294967296) as u32
 }
 
-// Writes both digits of a number below 100, a leading zero included, from the table of all pairs, and answers two. Both are read
-// before one is written: they are copied together.
-fn write_pair(out: &mut [u8], x: u32, pairs: &[u8; 200]) -> usize
-    requires { ⌜ (now pairs ≡ pairsBelow 100) × (x < 100) × (2 ≤ length (now out)) ⌝ }
+// Writes both digits of a number below 100, a leading zero included, and answers two.
+fn put_pair(out: &mut [u8], x: u32) -> usize
+    requires { ⌜ (x < 100) × (2 ≤ length (now out)) ⌝ }
     ensures { λ r. ⌜ Wrote (pairDigits x) (now (out .entry)) (now (out .exit)) r ⌝ }
 {
-    let i = (x as usize) * 2;
-    let tens = pairs[i];
-    let ones = pairs[i + 1];
+    out[0] = b'0' + ((x / 10) as u8);
+    out[1] = b'0' + ((x % 10) as u8);
+    2
+}
+
+// Writes the four digits of a number below 10,000, leading zeros included, and answers four.
+fn put_four(out: &mut [u8], x: u32) -> usize
+    requires { ⌜ (x < 10000) × (4 ≤ length (now out)) ⌝ }
+    ensures { λ r. ⌜ Wrote (fourDigits x) (now (out .entry)) (now (out .exit)) r ⌝ }
+{
+    let first = put_pair(out, x / 100);
+    first + put_pair(&mut out[first..], x % 100)
+}
+
+// Fills the table of all groups of four digits, and answers its length. It pays where many numbers are written.
+pub fn fill_table(table: &mut [u8]) -> usize
+    requires { ⌜ 40000 ≤ length (now table) ⌝ }
+    ensures { λ r. ⌜ Wrote (tableBelow 10000) (now (table .entry)) (now (table .exit)) r ⌝ }
+{
+    let mut at: usize = 0;
+    let mut x: u32 = 0;
+    while x < 10000 {
+        at = at + put_four(&mut table[at..], x);
+        x = x + 1;
+    }
+    at
+}
+
+// Writes both digits of a number below 100 from the table, and answers two. Both are read before one is written: they are copied
+// together.
+fn write_pair(out: &mut [u8], x: u32, table: &[u8]) -> usize
+    requires { ⌜ (now table ≡ tableBelow 10000) × (x < 100) × (2 ≤ length (now out)) ⌝ }
+    ensures { λ r. ⌜ Wrote (pairDigits x) (now (out .entry)) (now (out .exit)) r ⌝ }
+{
+    let i = (x as usize) * 4;
+    let tens = table[i + 2];
+    let ones = table[i + 3];
     out[0] = tens;
     out[1] = ones;
     2
 }
 
-// Writes both digits and a space, and answers three.
-fn write_pair_spaced(out: &mut [u8], x: u32, pairs: &[u8; 200]) -> usize
-    requires { ⌜ (now pairs ≡ pairsBelow 100) × (x < 100) × (3 ≤ length (now out)) ⌝ }
-    ensures { λ r. ⌜ Wrote (pairDigits x ++ space ∷ []) (now (out .entry)) (now (out .exit)) r ⌝ }
+// Writes the four digits of a number below 10,000 from the table, in the same way.
+fn write_four(out: &mut [u8], x: u32, table: &[u8]) -> usize
+    requires { ⌜ (now table ≡ tableBelow 10000) × (x < 10000) × (4 ≤ length (now out)) ⌝ }
+    ensures { λ r. ⌜ Wrote (fourDigits x) (now (out .entry)) (now (out .exit)) r ⌝ }
 {
-    let first = write_pair(out, x, pairs);
+    let i = (x as usize) * 4;
+    let thousands = table[i];
+    let hundreds = table[i + 1];
+    let tens = table[i + 2];
+    let ones = table[i + 3];
+    out[0] = thousands;
+    out[1] = hundreds;
+    out[2] = tens;
+    out[3] = ones;
+    4
+}
+
+// Writes the four digits and a space, and answers five.
+fn write_four_spaced(out: &mut [u8], x: u32, table: &[u8]) -> usize
+    requires { ⌜ (now table ≡ tableBelow 10000) × (x < 10000) × (5 ≤ length (now out)) ⌝ }
+    ensures { λ r. ⌜ Wrote (fourDigits x ++ space ∷ []) (now (out .entry)) (now (out .exit)) r ⌝ }
+{
+    let first = write_four(out, x, table);
     first + write_byte(&mut out[first..], b' ')
 }
 
-// Writes both pairs of digits of a number below 10,000 and a space, and answers five.
-fn write_four_spaced(out: &mut [u8], x: u32, pairs: &[u8; 200]) -> usize
-    requires { ⌜ (now pairs ≡ pairsBelow 100) × (x < 10000) × (5 ≤ length (now out)) ⌝ }
-    ensures { λ r. ⌜ Wrote (pairDigits (x / 100) ++ (pairDigits (x % 100) ++ space ∷ [])) (now (out .entry)) (now (out .exit)) r ⌝ }
-{
-    let high = hundreds(x);
-    let first = write_pair(out, high, pairs);
-    first + write_pair_spaced(&mut out[first..], x - high * 100, pairs)
-}
-
 // Writes the digits of a number below 100, and answers how many they are.
-fn write_leading(out: &mut [u8], x: u32, pairs: &[u8; 200]) -> usize
-    requires { ⌜ (now pairs ≡ pairsBelow 100) × (x < 100) × (length (digits x) ≤ length (now out)) ⌝ }
+fn write_leading(out: &mut [u8], x: u32, table: &[u8]) -> usize
+    requires { ⌜ (now table ≡ tableBelow 10000) × (x < 100) × (length (digits x) ≤ length (now out)) ⌝ }
     ensures { λ r. ⌜ Wrote (digits x) (now (out .entry)) (now (out .exit)) r ⌝ }
 {
     if x < 10 {
         out[0] = b'0' + (x as u8);
         return 1;
     }
-    write_pair(out, x, pairs)
+    write_pair(out, x, table)
 }
 
-// Writes the digits of a number below 10,000 and a space. Few numbers are below 100: these take the slow way.
-fn write_short_spaced(out: &mut [u8], x: u32, pairs: &[u8; 200]) -> usize
-    requires { ⌜ (now pairs ≡ pairsBelow 100) × (x < 10000) × (length (digits x ++ space ∷ []) ≤ length (now out)) ⌝ }
+// Writes the digits of a number below 10,000 and a space. Few numbers are below 1,000: these take the slow way.
+fn write_short_spaced(out: &mut [u8], x: u32, table: &[u8]) -> usize
+    requires { ⌜ (now table ≡ tableBelow 10000) × (x < 10000) × (length (digits x ++ space ∷ []) ≤ length (now out)) ⌝ }
     ensures { λ r. ⌜ Wrote (digits x ++ space ∷ []) (now (out .entry)) (now (out .exit)) r ⌝ }
 {
-    if x < 100 {
+    if x < 1000 {
         return write_ended(out, x, b' ');
     }
-    let high = hundreds(x);
-    let first = write_leading(out, high, pairs);
-    first + write_pair_spaced(&mut out[first..], x - high * 100, pairs)
+    write_four_spaced(out, x, table)
 }
 
 // Writes the digits of a number of five or six digits and a space.
-fn write_long_spaced(out: &mut [u8], x: u32, pairs: &[u8; 200]) -> usize
-    requires { ⌜ (now pairs ≡ pairsBelow 100) × (10000 ≤ x) × (x < 1000000) × (length (digits x ++ space ∷ []) ≤ length (now out)) ⌝ }
+fn write_long_spaced(out: &mut [u8], x: u32, table: &[u8]) -> usize
+    requires { ⌜ (now table ≡ tableBelow 10000) × (10000 ≤ x) × (x < 1000000) × (length (digits x ++ space ∷ []) ≤ length (now out)) ⌝ }
     ensures { λ r. ⌜ Wrote (digits x ++ space ∷ []) (now (out .entry)) (now (out .exit)) r ⌝ }
 {
     let high = ten_thousands(x);
-    let first = write_leading(out, high, pairs);
-    first + write_four_spaced(&mut out[first..], x - high * 10000, pairs)
+    let first = write_leading(out, high, table);
+    first + write_four_spaced(&mut out[first..], x - high * 10000, table)
 }
 
 // Writes a number's digits, one at a time, and a byte behind them.
@@ -125,22 +156,33 @@ pub fn write_ended(out: &mut [u8], x: u32, byte: u8) -> usize
     count + write_byte(&mut out[count..], byte)
 }
 
-// Writes a number's digits and a space. No variable has more than six digits: a longer number takes the slow way. Five digits and
-// six make the same call, each in its own branch, where the compiler knows the place of every byte.
-fn write_spaced(out: &mut [u8], x: u32, pairs: &[u8; 200]) -> usize
-    requires { ⌜ (now pairs ≡ pairsBelow 100) × (length (digits x ++ space ∷ []) ≤ length (now out)) ⌝ }
+// Writes a number's digits and a space by the table. No variable has more than six digits: a longer number takes the slow way. Five
+// digits and six make the same call, each in its own branch, where the compiler knows the place of every byte.
+fn write_by_table(out: &mut [u8], x: u32, table: &[u8]) -> usize
+    requires { ⌜ (now table ≡ tableBelow 10000) × (length (digits x ++ space ∷ []) ≤ length (now out)) ⌝ }
     ensures { λ r. ⌜ Wrote (digits x ++ space ∷ []) (now (out .entry)) (now (out .exit)) r ⌝ }
 {
     if x < 100000 {
         if x < 10000 {
-            return write_short_spaced(out, x, pairs);
+            return write_short_spaced(out, x, table);
         }
-        return write_long_spaced(out, x, pairs);
+        return write_long_spaced(out, x, table);
     }
     if x < 1000000 {
-        return write_long_spaced(out, x, pairs);
+        return write_long_spaced(out, x, table);
     }
     write_ended(out, x, b' ')
+}
+
+// Writes a number's digits and a space, by the table if there is one.
+fn write_spaced(out: &mut [u8], x: u32, table: &[u8]) -> usize
+    requires { ⌜ TableOrNone (now table) × (length (digits x ++ space ∷ []) ≤ length (now out)) ⌝ }
+    ensures { λ r. ⌜ Wrote (digits x ++ space ∷ []) (now (out .entry)) (now (out .exit)) r ⌝ }
+{
+    if table.len() < 40000 {
+        return write_ended(out, x, b' ');
+    }
+    write_by_table(out, x, table)
 }
 
 // A signed number taken apart: how many bytes its sign takes, and the number without it.
@@ -168,12 +210,12 @@ pub fn parts_of(z: i32) -> Parts
 
 // Writes a signed number, with a minus only below zero, and a space. The minus is always written: where there is none, the first
 // digit stands over it.
-pub fn write_signed_spaced(out: &mut [u8], z: i32, pairs: &[u8; 200]) -> usize
-    requires { ⌜ (now pairs ≡ pairsBelow 100) × (length (signedDigits z ++ space ∷ []) ≤ length (now out)) ⌝ }
+pub fn write_signed_spaced(out: &mut [u8], z: i32, table: &[u8]) -> usize
+    requires { ⌜ TableOrNone (now table) × (length (signedDigits z ++ space ∷ []) ≤ length (now out)) ⌝ }
     ensures { λ r. ⌜ Wrote (signedDigits z ++ space ∷ []) (now (out .entry)) (now (out .exit)) r ⌝ }
 {
     let parts = parts_of(z);
     let sign = parts.sign;
     out[0] = b'-';
-    sign + write_spaced(&mut out[sign..], parts.value, pairs)
+    sign + write_spaced(&mut out[sign..], parts.value, table)
 }

@@ -1,5 +1,6 @@
 -- `dimacs::put_clauses` meets its contract: `clauses_fit` tests the exact length. Assumes nothing.
 use mathlib.Core.Path.{sym, _∙_}
+use native.Mathlib.Omega.{arith}
 use borrow.Author.Needs.{needs}
 use borrow.Author.Tests.{leb-true, leb-false}
 use lib.ListN.{length}
@@ -11,17 +12,23 @@ use Rattle.dimacs.proofs.put_clauses.Tie as tie
 clauses-fit-requires : tie.Need-clauses-fit-requires
 clauses-fit-requires c κs = search needs
 
+slice-aggregate-write-numbers : tie.Need-slice-aggregate-write-numbers
+slice-aggregate-write-numbers c = search needs
+
 write-numbers-requires : tie.Need-write-numbers-requires
 write-numbers-requires c κs =
-    let start = c .before .before .before .before in
-    leb-true (length (clauseText (start .args .numbers .now))) (length (start .args .out .now)) (sym (c .before .before .clauses-fit .ensures) ∙ c .before .if1 .taken)
+    let start = c .before .before .before .before .before in (
+      λ long. absurd (omega (arith, long)),
+      leb-true (length (clauseText (start .args .numbers .now))) (length (start .args .out .now))
+          (sym (c .before .before .before .clauses-fit .ensures) ∙ c .before .before .if1 .taken),
+    )
 
 same-length : tie.Need-same-length
 same-length c = search needs
 
 returns : tie.Need-returns
 returns c =
-    let start = c .before .before .before .before .before .before .before in
+    let start = c .before .before .before .before .before .before .before .before in
     let done = c .before .before .write-numbers in
     written (clauseText (start .args .numbers .now)) (start .args .out .now) (done .last .0) (done .result) (done .kept .0) (done .ensures)
 
@@ -33,4 +40,4 @@ returns-2 c =
 
 pub put-clauses-spec : {M : Type 1} → statement M
 put-clauses-spec =
-    tie.close (tie.spec clauses-fit-requires write-numbers-requires same-length returns returns-2)
+    tie.close (tie.spec clauses-fit-requires slice-aggregate-write-numbers write-numbers-requires same-length returns returns-2)

@@ -14,9 +14,9 @@ use Rattle.dimacs.proofs.write_number.Statement.{statement}
 use Rattle.dimacs.proofs.write_number.Tie as tie
 
 -- there is room for the end mark
-room : (c : tie.Then1) → 2 ≤ length (c .before .before .args .out .now)
+room : (c : tie.Then1) → 2 ≤ length (c .before .before .before .args .out .now)
 room c =
-    let start = c .before .before in
+    let start = c .before .before .before in
     rw (numberText-zero (start .args .z) (start .fits .z) (c .if1 .taken)) at (start .pre .1)
 
 slice-write-out : tie.Need-slice-write-out
@@ -30,16 +30,16 @@ same-length c = search needs
 
 returns : tie.Need-returns
 returns c =
-    let start = c .before .before in
+    let start = c .before .before .before in
     rw (numberText-zero (start .args .z) (start .fits .z) (c .if1 .taken)) (wrote-two (digit 0) lineFeed (start .args .out .now) (room c))
 
 -- any other number has a space behind it
-spaced : (c : tie.Else1) → numberText (c .before .before .args .z) ≡ signedDigits (c .before .before .args .z) ++ space ∷ []
-spaced c = rw (behind-other (c .before .before .args .z) (c .if1 .left))
+spaced : (c : tie.Else1) → numberText (c .before .before .before .args .z) ≡ signedDigits (c .before .before .before .args .z) ++ space ∷ []
+spaced c = rw (behind-other (c .before .before .before .args .z) (c .if1 .left))
 
 write-signed-spaced-requires : tie.Need-write-signed-spaced-requires
 write-signed-spaced-requires c κs =
-    let start = c .before .before .before in
+    let start = c .before .before .before .before in
     (start .pre .0, rw (read-back (start .args .z) (start .fits .z)) (rw (spaced (c .before)) at (start .pre .1)))
 
 same-length-2 : tie.Need-same-length-2
@@ -47,7 +47,7 @@ same-length-2 c = search needs
 
 returns-2 : tie.Need-returns-2
 returns-2 c =
-    let start = c .before .before .before .before .before .before in
+    let start = c .before .before .before .before .before .before .before in
     rw (spaced (c .before .before .before .before)) (rw (read-back (start .args .z) (start .fits .z)) at (c .before .before .write-signed-spaced .ensures))
 
 pub write-number-spec : {M : Type 1} → statement M

@@ -1,5 +1,4 @@
--- `dimacs::write_numbers` meets its contract. The loop's invariant: the text of the first i numbers is written, with the table of
--- all pairs, which antt computes. Assumes nothing.
+-- `dimacs::write_numbers` meets its contract. The loop's invariant: the text of the first i numbers is written. Assumes nothing.
 use Prim.Native.Nat.{ℕ, _+_, _-_, _≤_}
 use mathlib.Core.Path.{_≡_, refl, _∙_}
 use mathlib.Core.List.{List}
@@ -12,22 +11,21 @@ use lib.ListN.{length, getD, take}
 use lib.Seq.{take-all}
 use Rattle.model.specs.Wrote.{Wrote}
 use Rattle.model.proofs.Wrote.{wrote-then}
-use Rattle.text.specs.Pairs.{pairsBelow}
 use Rattle.dimacs.specs.Text.{numberText, clauseText}
 use Rattle.dimacs.proofs.Text.{element-is, clauseText-next, clauseText-room}
 use Rattle.dimacs.proofs.write_numbers.Statement.{statement}
 use Rattle.dimacs.proofs.write_numbers.Tie as tie
 
 abbrev Inv-loop : tie.InvT-loop
-Inv-loop out₀ numbers pairs at₀ i₀ out at i =
-    (i ≤ length numbers) × (length out ≡ length out₀) × Wrote (clauseText (take i numbers)) out₀ out at × (pairs ≡ pairsBelow 100)
+Inv-loop out₀ numbers table at₀ i₀ out at i =
+    (i ≤ length numbers) × (length out ≡ length out₀) × Wrote (clauseText (take i numbers)) out₀ out at
 
 abbrev μ-loop : tie.MeasureT-loop
-μ-loop out₀ numbers pairs at₀ i₀ out at i = length numbers - i
+μ-loop out₀ numbers table at₀ i₀ out at i = length numbers - i
 
 loop-holds : tie.Need-loop-holds Inv-loop μ-loop
-unfolding clauseText pairsBelow
-loop-holds c = (omega arith, refl, record { counted = refl; leaves = refl }, refl)
+unfolding clauseText
+loop-holds c = (omega arith, refl, record { counted = refl; leaves = refl })
 
 -- there is room for the number at i
 room :
@@ -37,7 +35,7 @@ room c =
     let start = c .before .before .before .before in
     let numbers : List ℤ = start .args .numbers .now in
     let at = c .before .loop in
-    omega (arith, start .pre, at .inv .1, at .inv .2 .counted, clauseText-room numbers (at .i) (omega arith))
+    omega (arith, start .pre .1, at .inv .1, at .inv .2 .counted, clauseText-room numbers (at .i) (omega arith))
 
 -- it is written into the rest
 next :
@@ -68,7 +66,7 @@ write-number-requires : tie.Need-write-number-requires Inv-loop μ-loop
 write-number-requires c κs =
     let at = c .before .before .before .loop in
     let mid : List ℕ = at .out in (
-      at .inv .3,
+      c .before .before .before .before .before .before .pre .0,
       rw (element-is (c .before .before .before .before .before .before .args .numbers .now) (at .i) (c .write-number-arg2 .given), mid-len (at .at) (length mid) mid (omega arith))
           (omega (arith, room (c .before .before))),
     )
@@ -95,7 +93,6 @@ loop-again c =
       same-len-mid (at .at) (length (at .out) - at .at) (at .out) (written .last .0) (written .kept .0) ∙ at .inv .1,
       rw (add-one, clauseText-next numbers (at .i) (omega arith))
           (wrote-then (clauseText (take (at .i) numbers)) (numberText (getD numbers (at .i) (pos 0))) (start .args .out .now) (at .out) (written .last .0) (at .at) (written .result) (at .inv .2) (next (c .before .before))),
-      at .inv .3,
     )
 
 same-length : tie.Need-same-length Inv-loop μ-loop

@@ -6,6 +6,8 @@ use native.Mathlib.Omega.{arith}
 use borrow.Author.Needs.{needs}
 use lib.ListN.{length}
 use lib.Seq.{length-take-le}
+use Rattle.text.specs.Table.{tableBelow}
+use Rattle.text.proofs.Table.{filled-table}
 use Rattle.unrolling.specs.Next.{leftFrom}
 use Rattle.stream.specs.Pieces.{NextStands}
 use Rattle.stream.proofs.Pieces.{first-stands, continues-stands}
@@ -13,14 +15,22 @@ use Rattle.frames.proofs.print_clauses.Statement.{statement}
 use Rattle.frames.proofs.print_clauses.Tie as tie
 
 abbrev Inv-loop : tie.InvT-loop
-Inv-loop net latches gates depth text₀ numbers₀ next₀ text numbers next =
-    (length text ≡ 131072) × (length numbers ≡ 5992) × NextStands depth next
+Inv-loop net latches gates depth text₀ numbers₀ table next₀ text numbers next =
+    (length text ≡ 131072) × (length numbers ≡ 5992) × (table ≡ tableBelow 10000) × NextStands depth next
 
 abbrev μ-loop : tie.MeasureT-loop
-μ-loop net latches gates depth text₀ numbers₀ next₀ text numbers next = leftFrom depth next
+μ-loop net latches gates depth text₀ numbers₀ table next₀ text numbers next = leftFrom depth next
+
+slice-aggregate-fill-table : tie.Need-slice-aggregate-fill-table Inv-loop μ-loop
+slice-aggregate-fill-table c = search needs
+
+fill-table-requires : tie.Need-fill-table-requires Inv-loop μ-loop
+fill-table-requires c κs = search needs
 
 loop-holds : tie.Need-loop-holds Inv-loop μ-loop
-loop-holds c = (search needs, search needs, first-stands (c .args .depth))
+loop-holds c =
+    let filled = c .before .fill-table in
+    (search needs, search needs, filled-table _ _ (search needs) (filled .ensures), first-stands (c .before .before .before .args .depth))
 
 enum-known-next : tie.Need-enum-known-next Inv-loop μ-loop
 enum-known-next c = search needs
@@ -31,11 +41,14 @@ slice-aggregate-print-groups c = search needs
 slice-aggregate-print-groups-2 : tie.Need-slice-aggregate-print-groups-2 Inv-loop μ-loop
 slice-aggregate-print-groups-2 c = search needs
 
+slice-aggregate-print-groups-3 : tie.Need-slice-aggregate-print-groups-3 Inv-loop μ-loop
+slice-aggregate-print-groups-3 c = search needs
+
 print-groups-requires : tie.Need-print-groups-requires Inv-loop μ-loop
 print-groups-requires c κs =
-    let start = c .before .before .before .before .before .before in
-    let at = c .before .before .before .before .before .loop in
-    (start .pre .0, start .pre .1, rw (c .before .before .before .next .given .1) at (at .inv .2), omega (arith, at .inv .1), omega (arith, at .inv .0))
+    let start = c .before .before .before .before .before .before .before .before .before .before in
+    let at = c .before .before .before .before .before .before .loop in
+    (start .pre .0, start .pre .1, rw (c .before .before .before .before .next .given .1) at (at .inv .3), λ long. at .inv .2, omega (arith, at .inv .1), omega (arith, at .inv .0))
 
 -- the text is within its buffer
 within : (c : tie.After-print-groups Inv-loop μ-loop) → c .print-groups .result .bytes ≤ length (c .print-groups .last .0)
@@ -56,16 +69,17 @@ returns c = search needs
 loop-less : tie.Need-loop-less Inv-loop μ-loop
 loop-less c =
     let printed = c .before .before .before .before .before .print-groups in
-    rw (c .before .before .before .before .before .before .before .before .before .next .given .1) (omega (arith, printed .ensures .1 .0))
+    rw (c .before .before .before .before .before .before .before .before .before .before .next .given .1) (omega (arith, printed .ensures .1 .0))
 
 loop-again : tie.Need-loop-again Inv-loop μ-loop
 loop-again c =
     let printed = c .before .before .before .before .before .print-groups in
-    let told = c .before .before .before .before .before .before .before .before in
+    let told = c .before .before .before .before .before .before .before .before .before in
     let at = told .before .before .before .loop in
-    let stands = rw (told .before .next .given .1) at (at .inv .2) in (
+    let stands = rw (told .before .next .given .1) at (at .inv .3) in (
       printed .kept .0 ∙ at .inv .0,
       printed .kept .1 .0 ∙ at .inv .1,
+      at .inv .2,
       continues-stands _ _ _ _ _ _ _ stands (printed .ensures .0),
     )
 
@@ -81,10 +95,13 @@ print-clauses-spec =
     (tie.spec
     Inv-loop
     μ-loop
+    slice-aggregate-fill-table
+    fill-table-requires
     loop-holds
     enum-known-next
     slice-aggregate-print-groups
     slice-aggregate-print-groups-2
+    slice-aggregate-print-groups-3
     print-groups-requires
     array-share-prefix-text
     slice-aggregate-write-text

@@ -19,18 +19,18 @@ use Rattle.stream.proofs.print_group.Tie as tie
 
 put-group-requires : tie.Need-put-group-requires
 put-group-requires c κs =
-    let start = c .before .before in
+    let start = c .before .before .before in
     let p = start .pre in
     let there = stands-inDepth _ _ (p .2) in
-    (p .0, p .1, there, omega (arith, numbers-most _ _ _ (p .0) (p .1) there, p .3))
+    (p .0, p .1, there, omega (arith, numbers-most _ _ _ (p .0) (p .1) there, p .4))
 
 -- the count is within the numbers
 within : (c : tie.After-put-group) → c .put-group .result ≤ length (c .put-group .last .0)
 within c =
-    let p = c .before .before .before .pre in
+    let p = c .before .before .before .before .pre in
     let w = c .put-group .ensures in
     let there = stands-inDepth _ _ (p .2) in
-    omega (arith, w .counted, numbers-most _ _ _ (p .0) (p .1) there, p .3, wrote-length w (omega (arith, numbers-most _ _ _ (p .0) (p .1) there, p .3)))
+    omega (arith, w .counted, numbers-most _ _ _ (p .0) (p .1) there, p .4, wrote-length w (omega (arith, numbers-most _ _ _ (p .0) (p .1) there, p .4)))
 
 slice-reshare-prefix-write-numbers : tie.Need-slice-reshare-prefix-write-numbers
 slice-reshare-prefix-write-numbers c = within (c .before .before)
@@ -39,14 +39,14 @@ slice-aggregate-write-numbers : tie.Need-slice-aggregate-write-numbers
 slice-aggregate-write-numbers c = sym (length-take-le _ _ (within (c .before .before .before)))
 
 -- the numbers that are printed are the group's
-front : (c : tie.After-put-group) → let start = c .before .before .before in
+front : (c : tie.After-put-group) → let start = c .before .before .before .before in
     take (c .put-group .result) (c .put-group .last .0) ≡ numbersOf (netOf (start .args .net) (start .args .latches .now) (start .args .gates .now)) (start .args .depth) (start .args .group)
 front c = wrote-front (c .put-group .ensures)
 
 write-numbers-requires : tie.Need-write-numbers-requires
 write-numbers-requires c κs =
-    let p = c .before .before .before .before .before .before .pre in
-    rw (front (c .before .before .before)) (omega (arith, text-most _ _ _ (p .0) (p .1) (p .2), p .4))
+    let p = c .before .before .before .before .before .before .before .pre in
+    (p .3, rw (front (c .before .before .before)) (omega (arith, text-most _ _ _ (p .0) (p .1) (p .2), p .5)))
 
 same-length : tie.Need-same-length
 same-length c = search needs
@@ -56,7 +56,7 @@ same-length-2 c = search needs
 
 returns : tie.Need-returns
 returns c =
-    let p = c .before .before .before .before .before .before .before .before .before .pre in
+    let p = c .before .before .before .before .before .before .before .before .before .before .pre in
     let w = rw (front (c .before .before .before .before .before .before)) at (c .before .before .write-numbers .ensures) in
     (w, omega (arith, w .counted, text-most _ _ _ (p .0) (p .1) (p .2)))
 

@@ -32,14 +32,14 @@ fewer k bytes next next₀ (inl e) h = absurd (omega (arith, e .0, h))
 fewer k bytes next next₀ (inr l) h = l
 
 abbrev Inv-loop : tie.InvT-loop
-Inv-loop text₀ numbers₀ net latches gates depth last bytes₀ next₀ text numbers bytes next =
+Inv-loop text₀ numbers₀ table net latches gates depth last bytes₀ next₀ text numbers bytes next =
     (bytes ≤ length text) × (length text ≡ length text₀) × (length numbers ≡ length numbers₀)
     × ((before from : List Group) → groupOrder depth ≡ before ++ from → next₀ ≡ firstOf from
     → Printed (netOf net latches gates) depth text₀ text bytes next from)
     × Begun depth bytes next next₀
 
 abbrev μ-loop : tie.MeasureT-loop
-μ-loop text₀ numbers₀ net latches gates depth last bytes₀ next₀ text numbers bytes next = leftFrom depth next
+μ-loop text₀ numbers₀ table net latches gates depth last bytes₀ next₀ text numbers bytes next = leftFrom depth next
 
 sub-last : tie.Need-sub-last Inv-loop μ-loop
 sub-last c = search needs
@@ -55,12 +55,12 @@ enum-told c = search needs
 
 -- what is printed so far, of the groups from the first on
 so-far : (c : tie.After-known-told Inv-loop μ-loop) →
-    let start = c .before .before .before .before .before .before in
+    let start = c .before .before .before .before .before .before .before in
     let at = c .before .before .before .before .loop in
     Printed (netOf (start .args .net) (start .args .latches .now) (start .args .gates .now)) (start .args .depth)
     (start .args .text .now) (at .text) (at .bytes) (Then (c .before .next .given .0 .0)) (start .args .group ∷ start .pre .2 .behind)
 so-far c =
-    let start = c .before .before .before .before .before .before in
+    let start = c .before .before .before .before .before .before .before in
     let stands = start .pre .2 in
     rw (c .before .next .given .1) at
     (c .before .before .before .before .loop .inv .3 (stands .before) (start .args .group ∷ stands .behind) (stands .order) refl)
@@ -70,7 +70,7 @@ room : (c : tie.After-known-told Inv-loop μ-loop) →
     let at = c .before .before .before .before .loop in at .bytes + 71904 ≤ length (at .text)
 room c =
     let at = c .before .before .before .before .loop in
-    omega (arith, c .before .before .before .loop-test .taken, at .inv .1, c .before .before .before .before .before .before .pre .4)
+    omega (arith, c .before .before .before .loop-test .taken, at .inv .1, c .before .before .before .before .before .before .before .pre .5)
 
 sub-print-group : tie.Need-sub-print-group Inv-loop μ-loop
 sub-print-group c = omega (arith, room c)
@@ -84,14 +84,15 @@ part-print-group-end c = search needs
 print-group-requires : tie.Need-print-group-requires Inv-loop μ-loop
 print-group-requires c κs =
     let told = c .before .before in
-    let start = told .before .before .before .before .before .before in
+    let start = told .before .before .before .before .before .before .before in
     let at = told .before .before .before .before .loop in
     let p = start .pre in
     let text : List ℕ = at .text in (
       p .0,
       p .1,
       due-stands (p .2 .before) (start .args .group ∷ p .2 .behind) (p .2 .order) (so-far told),
-      omega (arith, at .inv .2, p .3),
+      p .3,
+      omega (arith, at .inv .2, p .4),
       rw (mid-len (at .bytes) (length text) text (omega arith)) (omega (arith, room told)),
     )
 
@@ -111,7 +112,7 @@ loop-less c =
 loop-again : tie.Need-loop-again Inv-loop μ-loop
 loop-again c =
     let told = c .before .before .before .before .before .before .before in
-    let start = told .before .before .before .before .before .before in
+    let start = told .before .before .before .before .before .before .before in
     let at = told .before .before .before .before .loop in
     let printed = c .before .before .before .before .print-group in
     let same = same-len-mid (at .bytes) (length (at .text) - at .bytes) (at .text) (printed .last .0) (printed .kept .0) in (
@@ -136,7 +137,7 @@ same-length-2 c = search needs
 
 returns : tie.Need-returns Inv-loop μ-loop
 returns c =
-    let start = c .before .before .before in
+    let start = c .before .before .before .before in
     let at = c .before .loop in (
       λ before behind o. at .inv .3 before (start .args .group ∷ behind) o refl,
       (
@@ -153,7 +154,7 @@ same-length-4 c = search needs
 
 returns-2 : tie.Need-returns-2 Inv-loop μ-loop
 returns-2 c =
-    let start = c .before .before .before .before .before in
+    let start = c .before .before .before .before .before .before in
     let at = c .before .before .before .loop in (
       λ before behind o. at .inv .3 before (start .args .group ∷ behind) o refl,
       (rw (c .enum-told .given .1) (omega arith), omega (arith, at .inv .0, at .inv .1)),

@@ -8,8 +8,8 @@ use lib.ListN.{length}
 use Rattle.decimal.specs.Digits.{digits, space}
 use Rattle.model.specs.Wrote.{Wrote}
 use Rattle.model.proofs.Wrote.{wrote-then}
-use Rattle.text.specs.Pairs.{pairDigits}
-use Rattle.text.proofs.Pairs.{digits-behind-four}
+use Rattle.text.specs.Table.{fourDigits}
+use Rattle.text.proofs.Table.{digits-behind-four}
 use Rattle.text.proofs.Writing.{front-room, rest-within, rest-room}
 use borrow.Author.Needs.{needs}
 use Rattle.text.proofs.write_long_spaced.Statement.{statement}
@@ -20,14 +20,14 @@ abbrev leading : tie.Start → List ℕ
 leading c = digits (c .args .x / 10000)
 
 abbrev others : tie.Start → List ℕ
-others c = pairDigits (c .args .x % 10000 / 100) ++ (pairDigits (c .args .x % 10000 % 100) ++ space ∷ [])
+others c = fourDigits (c .args .x % 10000) ++ space ∷ []
 
 room : (c : tie.Start) → length (leading c ++ others c) ≤ length (c .args .out .now)
 room c = rw (digits-behind-four (c .args .x) (space ∷ []) (c .pre .1)) at (c .pre .3)
 
 first :
     (c : tie.After-write-leading) →
-    let start = c .before .before .before .before in
+    let start = c .before .before .before .before .before in
     Wrote (leading start) (start .args .out .now) (c .write-leading .last .0) (c .write-leading .result)
 first c = rw (c .before .before .ten-thousands .ensures) at (c .write-leading .ensures)
 
@@ -36,12 +36,12 @@ ten-thousands-requires c κs = search needs
 
 write-leading-requires : tie.Need-write-leading-requires
 write-leading-requires c κs =
-    let start = c .before .before .before in
+    let start = c .before .before .before .before in
     (start .pre .0, omega arith, rw (c .before .ten-thousands .ensures) (front-room (leading start) (others start) _ (room start)))
 
 sub-write-four-spaced : tie.Need-sub-write-four-spaced
 sub-write-four-spaced c =
-    let start = c .before .before .before .before .before .before in
+    let start = c .before .before .before .before .before .before .before in
     let led = c .before .before .write-leading in
     rest-within (leading start) (others start) (start .args .out .now) (led .last .0) (led .result) (first (c .before .before)) (room start)
 
@@ -59,7 +59,7 @@ sub-write-four-spaced-2 c = search needs
 
 write-four-spaced-requires : tie.Need-write-four-spaced-requires
 write-four-spaced-requires c κs =
-    let start = c .before .before .before .before .before .before .before in
+    let start = c .before .before .before .before .before .before .before .before in
     let led = c .before .before .before .write-leading in
     (start .pre .0, omega arith, rest-room (leading start) (others start) (start .args .out .now) (led .last .0) (led .result) (first (c .before .before .before)) (room start))
 
@@ -69,7 +69,7 @@ same-length c = search needs
 returns : tie.Need-returns
 returns c =
     let high = c .before .before .before .before .before .before .before .before in
-    let start = high .before .before in
+    let start = high .before .before .before in
     let x : ℕ = start .args .x in
     let led = c .before .before .before .before .before .before .write-leading in
     let second = c .before .before .write-four-spaced in
@@ -79,7 +79,7 @@ returns c =
     (first (c .before .before .before .before .before .before)) (rw low at (second .ensures)))
 
 add-result : tie.Need-add-result
-add-result c = omega (arith, returns c .counted, c .before .before .before .before .before .before .before .before .before .before .pre .3)
+add-result c = omega (arith, returns c .counted, c .before .before .before .before .before .before .before .before .before .before .before .pre .3)
 
 pub write-long-spaced-spec : {M : Type 1} → statement M
 write-long-spaced-spec =

@@ -1,20 +1,28 @@
 -- `text::write_pair` meets its contract: both bytes come from the table. Assumes nothing.
-use Rattle.text.proofs.Pairs.{wrote-pair}
+use native.Mathlib.Omega.{arith}
 use borrow.Author.Needs.{needs}
+use Rattle.text.proofs.Table.{length-table, wrote-pair-by}
 use Rattle.text.proofs.write_pair.Statement.{statement}
 use Rattle.text.proofs.write_pair.Tie as tie
 
 mul-i : tie.Need-mul-i
 mul-i c = search needs
 
-element-copy-out-tens : tie.Need-element-copy-out-tens
-element-copy-out-tens c = search needs
+add-tens : tie.Need-add-tens
+add-tens c = search needs
+
+shared-slice-read-tens : tie.Need-shared-slice-read-tens
+shared-slice-read-tens c =
+    let start = c .before in
+    omega (arith, length-table (start .args .table .now) (start .pre .0))
 
 add-ones : tie.Need-add-ones
 add-ones c = search needs
 
-element-copy-out-ones : tie.Need-element-copy-out-ones
-element-copy-out-ones c = search needs
+shared-slice-read-ones : tie.Need-shared-slice-read-ones
+shared-slice-read-ones c =
+    let start = c .before .before in
+    omega (arith, length-table (start .args .table .now) (start .pre .0))
 
 slice-write-out : tie.Need-slice-write-out
 slice-write-out c = search needs
@@ -28,16 +36,17 @@ same-length c = search needs
 returns : tie.Need-returns
 returns c =
     let start = c .before .before in
-    wrote-pair (start .args .pairs .now) (start .args .out .now) (start .args .x) (start .pre .0) (start .pre .1) (start .pre .2)
+    wrote-pair-by (start .args .table .now) (start .pre .0) (start .args .x) (start .args .out .now) (start .pre .1) (start .pre .2)
 
 pub write-pair-spec : {M : Type 1} → statement M
 write-pair-spec =
     tie.close
     (tie.spec
     mul-i
-    element-copy-out-tens
+    add-tens
+    shared-slice-read-tens
     add-ones
-    element-copy-out-ones
+    shared-slice-read-ones
     slice-write-out
     slice-write-out-2
     same-length

@@ -16,14 +16,14 @@ use Rattle.text.proofs.write_signed_spaced.Statement.{statement}
 use Rattle.text.proofs.write_signed_spaced.Tie as tie
 
 -- the number's parts, and that there is room for them
-parts-are : (c : tie.After-parts-of) → c .parts-of .result ≡ partsOf (c .before .before .args .z)
-parts-are c = c .parts-of .ensures ∙ ap partsOf (read-back (c .before .before .args .z) (c .before .before .fits .z))
+parts-are : (c : tie.After-parts-of) → c .parts-of .result ≡ partsOf (c .before .before .before .args .z)
+parts-are c = c .parts-of .ensures ∙ ap partsOf (read-back (c .before .before .before .args .z) (c .before .before .before .fits .z))
 
 room :
     (c : tie.After-parts-of) →
-    c .parts-of .result .sign + length (digits (c .parts-of .result .value) ++ space ∷ []) ≤ length (c .before .before .args .out .now)
+    c .parts-of .result .sign + length (digits (c .parts-of .result .value) ++ space ∷ []) ≤ length (c .before .before .before .args .out .now)
 room c =
-    let start = c .before .before in
+    let start = c .before .before .before in
     let z : ℤ = start .args .z in
     rw (parts-are c, length-append (digits (partsOf z .value)) (space ∷ []))
     (omega (arith, start .pre .1, length-parts z, length-append (signedDigits z) (space ∷ [])))
@@ -46,8 +46,8 @@ part-write-spaced-end c = search needs
 write-spaced-requires : tie.Need-write-spaced-requires
 write-spaced-requires c κs =
     let at = c .before in
-    let signed : List ℕ = set (at .before .before .args .out .now) 0 minus in
-    (at .before .before .pre .0, rw (mid-len (at .parts-of .result .sign) (length signed) signed (omega arith), length-set) (omega (arith, room at)))
+    let signed : List ℕ = set (at .before .before .before .args .out .now) 0 minus in
+    (at .before .before .before .pre .0, rw (mid-len (at .parts-of .result .sign) (length signed) signed (omega arith), length-set) (omega (arith, room at)))
 
 add-result : tie.Need-add-result
 add-result c =
@@ -57,7 +57,7 @@ add-result c =
 same-length : tie.Need-same-length
 same-length c =
     let at = c .before .before .before .before in
-    let old : List ℕ = at .before .before .args .out .now in
+    let old : List ℕ = at .before .before .before .args .out .now in
     let signed : List ℕ = set old 0 minus in
     let sign : ℕ = at .parts-of .result .sign in
     let written = c .before .before .write-spaced in
@@ -66,7 +66,7 @@ same-length c =
 returns : tie.Need-returns
 returns c =
     let at = c .before .before .before .before in
-    let start = at .before .before in
+    let start = at .before .before .before in
     let old : List ℕ = start .args .out .now in
     let written = c .before .before .write-spaced in
     rw (parts-are at)
