@@ -21,9 +21,12 @@ use std::fs;
 use std::path::PathBuf;
 
 fn main() {
-    let Some(folder) = std::env::args_os().nth(1).map(PathBuf::from) else {
-        eprintln!("argument: the folder of the examples");
-        std::process::exit(2);
+    let folder = match std::env::args_os().nth(1) {
+        Some(folder) => PathBuf::from(folder),
+        None => {
+            eprintln!("argument: the folder of the examples");
+            std::process::exit(2);
+        }
     };
     let chips = [
         ("document-01/chip", document_01::chip()),

@@ -40,10 +40,7 @@ impl Repository {
 
     fn files(&self, folder: &str, ending: &str) -> Vec<String> {
         let mut found = Vec::new();
-        let Ok(entries) = fs::read_dir(self.0.join(folder)) else {
-            return found;
-        };
-        for entry in entries {
+        for entry in fs::read_dir(self.0.join(folder)).into_iter().flatten() {
             let name = entry.expect("an entry").file_name();
             let name = name.to_string_lossy();
             if name.ends_with(ending) {
@@ -228,9 +225,12 @@ fn axioms_block(repository: &Repository) -> String {
 
 fn main() {
     let arguments: Vec<String> = std::env::args().skip(1).collect();
-    let [mode, folder] = arguments.as_slice() else {
-        eprintln!("arguments: print, write or check, the repository's folder");
-        std::process::exit(2);
+    let (mode, folder) = match arguments.as_slice() {
+        [mode, folder] => (mode, folder),
+        _ => {
+            eprintln!("arguments: print, write or check, the repository's folder");
+            std::process::exit(2);
+        }
     };
     let repository = Repository(PathBuf::from(folder));
     let functions = repository.public_functions();

@@ -1,7 +1,7 @@
 //! CaDiCaL inside this process (Debian's libcadical-dev), for many questions about one formula: each is
 //! asked under assumptions, so the formula is read once. The C interface is that of ccadical.h.
 
-use std::ffi::{c_char, c_int, c_void};
+use std::os::raw::{c_char, c_int, c_void};
 
 #[link(name = "cadical")]
 #[link(name = "stdc++")]
@@ -29,7 +29,7 @@ impl Cadical {
         // SAFETY: `ccadical_init` answers a solver of its own; every call below is made with it, between
         // its making and its release, and with literals other than 0 and the least number.
         let solver = unsafe { ccadical_init() };
-        unsafe { ccadical_set_option(solver, c"quiet".as_ptr(), 1) };
+        unsafe { ccadical_set_option(solver, b"quiet\0".as_ptr().cast(), 1) };
         let mut cadical = Cadical { solver, variables };
         cadical.add(numbers);
         cadical

@@ -41,9 +41,12 @@ pub struct Judgement {
 /// Judges a DIMACS text that stands for this netlist and depth.
 pub fn judge(programs: &Programs, netlist: &Netlist, depth: u32, text: &[u8]) -> Judgement {
     let mut judgement = Judgement::default();
-    let Some(formula) = read_dimacs(text) else {
-        judgement.faults.file = true;
-        return judgement;
+    let formula = match read_dimacs(text) {
+        Some(formula) => formula,
+        None => {
+            judgement.faults.file = true;
+            return judgement;
+        }
     };
     let answers = programs.solve(text);
     judgement.satisfiable = answers[0].is_satisfiable();

@@ -26,9 +26,12 @@ const SHEETS: usize = 2400;
 
 fn main() {
     let arguments: Vec<PathBuf> = std::env::args_os().skip(1).map(PathBuf::from).collect();
-    let [frames, scratch, examples] = arguments.as_slice() else {
-        eprintln!("arguments: frames, scratch folder, folder of the examples");
-        std::process::exit(2);
+    let (frames, scratch, examples) = match arguments.as_slice() {
+        [frames, scratch, examples] => (frames, scratch, examples),
+        _ => {
+            eprintln!("arguments: frames, scratch folder, folder of the examples");
+            std::process::exit(2);
+        }
     };
     let programs = Programs::new(frames.clone(), scratch.clone());
     let mut report = Report::default();

@@ -60,8 +60,9 @@ impl Programs {
         if said.contains("header mismatch") {
             return Answer::Refused(said);
         }
-        let Ok(answer) = fs::read_to_string(&result) else {
-            return Answer::Refused(said);
+        let answer = match fs::read_to_string(&result) {
+            Ok(answer) => answer,
+            Err(_) => return Answer::Refused(said),
         };
         match (output.status.code(), answer.split_once('\n')) {
             (Some(10), Some(("SAT", values))) => model(values.split_whitespace()),
