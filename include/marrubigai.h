@@ -1,6 +1,11 @@
 /* The library for C: `rt staticlib exports` writes target/staticlib/libexports.a. The contracts stand in crates/exports/src; what a
- * refusal's number and place mean is in docs/FORMAT.md. A slice is a pointer and how many elements it has. Every function takes
- * anything, tests it first, and after a refusal has changed nothing that it was lent. */
+ * refusal's number and place mean is in docs/FORMAT.md, "Refusals of the library". Every function takes any numbers, tests them
+ * first, and after a refusal has changed nothing that it was lent.
+ *
+ * A slice is a pointer and how many elements it has. Nothing can test these two, so they are the caller's to get right:
+ *   - The pointer is that of an array of at least so many elements, which nothing else writes to during the call.
+ *   - At length 0 nothing is read or written through it, but it is still an element's address and not NULL: any array's will do.
+ *   - What a function writes to (a pointer without const) overlaps nothing else that the same call is lent. */
 #ifndef MARRUBIGAI_H
 #define MARRUBIGAI_H
 

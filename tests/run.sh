@@ -34,6 +34,7 @@ need awk gawk
 need rustc rustc
 need cadical cadical
 need minisat minisat
+need cc gcc
 need g++ g++
 need valgrind valgrind
 need /usr/include/ccadical.h libcadical-dev
@@ -77,6 +78,7 @@ if rt staticlib exports > "$logs/staticlib.out" 2>&1; then
     run "a sample of the library's calls under valgrind" library-valgrind \
       timeout 600 valgrind --quiet --error-exitcode=99 "$logs/library" sample
   fi
+  run "the header for C against the library" header bash tests/header.sh
 else
   cat "$logs/staticlib.out"
   fail "rt staticlib exports"

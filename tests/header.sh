@@ -1,0 +1,32 @@
+#!/usr/bin/env bash
+# The header for C, include/marrubigai.h, against the library: it declares what is exported, and a C program that is compiled with it
+# calls each function (tests/header). After `rt staticlib exports`.
+set -u
+cd "$(dirname "$0")/.." || exit 2
+passed=0
+failed=0
+work=$(mktemp -d)
+trap 'rm -rf "$work"' EXIT
+
+exported() { sed -n 's/^pub extern "C" fn \([a-z_]*\)(.*/\1/p' crates/exports/src/*.rt | sort; }
+called() { grep -oE 'marrubigai_[a-z_]+\(' "$1" | tr -d '(' | sort -u; }
+same() { # what, list, list
+  if [ "$2" = "$3" ]; then passed=$((passed + 1)); else failed=$((failed + 1)); echo "FAILED: $1"; diff <(echo "$2") <(echo "$3"); fi
+}
+same "the header declares the exported functions" "$(exported)" "$(called include/marrubigai.h)"
+same "the test calls the exported functions" "$(exported)" "$(called tests/header/main.c)"
+
+if cc -std=c11 -pedantic -Wall -Wextra -Werror -O -o "$work/header" tests/header/main.c -L target/staticlib -lexports; then
+  "$work/header" > "$work/out"
+  status=$?
+  sed '$d' "$work/out"
+  read -r more _ less _ <<< "$(tail -n 1 "$work/out" | grep -xE '[0-9]+ passed, [0-9]+ failed' || echo 0 passed, 1 failed)"
+  [ "$status" -eq 0 ] || [ "$less" -gt 0 ] || less=1
+  passed=$((passed + more))
+  failed=$((failed + less))
+else
+  failed=$((failed + 1))
+  echo "FAILED: tests/header/main.c does not compile with the header"
+fi
+echo "$passed passed, $failed failed"
+[ "$failed" -eq 0 ]

@@ -1,0 +1,246 @@
+// include/marrubigai.h against the static library: the layout of every struct, and each exported function on two sheets and at
+// refusals. What is expected was worked out by hand from document 01. The last line is 'N passed, M failed'.
+// Build: cc -std=c11 main.c -L FOLDER -lexports
+
+#include <stdio.h>
+#include <string.h>
+
+#include "../../include/marrubigai.h"
+
+#define SIZE(type, bytes) _Static_assert(sizeof(type) == (bytes), #type)
+#define FIELD(type, field, at) _Static_assert(offsetof(type, field) == (at), #type "." #field)
+
+SIZE(marrubigai_code, 4);
+SIZE(marrubigai_netlist, 212);
+FIELD(marrubigai_netlist, inputs, 0);
+FIELD(marrubigai_netlist, latches, 4);
+FIELD(marrubigai_netlist, gates, 8);
+FIELD(marrubigai_netlist, m, 12);
+FIELD(marrubigai_netlist, n, 16);
+FIELD(marrubigai_netlist, initial_word, 20);
+FIELD(marrubigai_netlist, address, 24);
+FIELD(marrubigai_netlist, write_data, 72);
+FIELD(marrubigai_netlist, we, 200);
+FIELD(marrubigai_netlist, re, 204);
+FIELD(marrubigai_netlist, p, 208);
+SIZE(marrubigai_latch, 8);
+FIELD(marrubigai_latch, next, 0);
+FIELD(marrubigai_latch, reset, 4);
+SIZE(marrubigai_gate, 8);
+FIELD(marrubigai_gate, left, 0);
+FIELD(marrubigai_gate, right, 4);
+SIZE(marrubigai_group_reply, 16);
+FIELD(marrubigai_group_reply, number, 0);
+FIELD(marrubigai_group_reply, place, 4);
+FIELD(marrubigai_group_reply, count, 8);
+SIZE(marrubigai_heading_reply, 16);
+FIELD(marrubigai_heading_reply, number, 0);
+FIELD(marrubigai_heading_reply, place, 4);
+FIELD(marrubigai_heading_reply, variables, 8);
+FIELD(marrubigai_heading_reply, clauses, 12);
+SIZE(marrubigai_sheet_reply, 220);
+FIELD(marrubigai_sheet_reply, number, 0);
+FIELD(marrubigai_sheet_reply, place, 4);
+FIELD(marrubigai_sheet_reply, net, 8);
+
+static int passed, failed;
+
+static void check(const char *what, int holds) {
+  if (holds) {
+    passed++;
+  } else {
+    failed++;
+    printf("FAILED: %s\n", what);
+  }
+}
+
+#define COUNT(list) (sizeof(list) / sizeof *(list))
+#define LINE(letter, x, y, z) letter x y z "\n"
+#define EMPTY "          "
+
+// document 01's sheet, "N 1 0 0", "M 1 1 0", "A 0", "D 2", "C 1 1 5"
+static const char DOCUMENT_01[] =
+    LINE("N", "         1", "         0", "         0")
+    LINE("M", "         1", "         1", "         0")
+    LINE("A", "         0", EMPTY, EMPTY)
+    LINE("D", "         2", EMPTY, EMPTY)
+    LINE("C", "         1", "         1", "         5");
+
+static const marrubigai_netlist CHIP = {
+    .inputs = 1, .m = 1, .n = 1, .write_data = {2}, .we = 1, .re = 1, .p = 5};
+
+// no two numbers of the record are the same, so that a field in another's place shows: inputs are wires 1 to 3, latches 4 and 5,
+// read bits 6 to 10, the gate is wire 11
+static const char DISTINCT[] =
+    LINE("N", "         3", "         2", "         1")
+    LINE("M", "         4", "         5", "         6")
+    LINE("L", "        22", "         1", EMPTY)
+    LINE("L", "        17", "         0", EMPTY)
+    LINE("G", "        21", "         3", EMPTY)
+    LINE("A", "         8", EMPTY, EMPTY)
+    LINE("A", "         9", EMPTY, EMPTY)
+    LINE("A", "         7", EMPTY, EMPTY)
+    LINE("A", "        10", EMPTY, EMPTY)
+    LINE("D", "        12", EMPTY, EMPTY)
+    LINE("D", "        14", EMPTY, EMPTY)
+    LINE("D", "        15", EMPTY, EMPTY)
+    LINE("D", "        16", EMPTY, EMPTY)
+    LINE("D", "        18", EMPTY, EMPTY)
+    LINE("C", "        23", "        11", "        13");
+
+static const marrubigai_netlist DISTINCT_NET = {
+    .inputs = 3, .latches = 2, .gates = 1, .m = 4, .n = 5, .initial_word = 6,
+    .address = {8, 9, 7, 10}, .write_data = {12, 14, 15, 16, 18}, .we = 23, .re = 11, .p = 13};
+static const marrubigai_latch DISTINCT_LATCHES[] = {{.next = 22, .reset = 1}, {.next = 17, .reset = 0}};
+static const marrubigai_gate DISTINCT_GATES[] = {{.left = 21, .right = 3}};
+
+// lists that a chip without latches and gates lends with length 0, and lists that a sheet is read into
+enum { ROOM = 4 };
+static marrubigai_latch latches[ROOM];
+static marrubigai_gate gates[ROOM];
+
+static void fill_lists(void) {
+  memset(latches, 0xa5, sizeof latches);
+  memset(gates, 0xa5, sizeof gates);
+}
+
+// whether the lists begin with these records and are as they were filled behind them
+static int lists_hold(const marrubigai_latch *first, size_t latch_count, const marrubigai_gate *second, size_t gate_count) {
+  marrubigai_latch expected_latches[ROOM];
+  marrubigai_gate expected_gates[ROOM];
+  memset(expected_latches, 0xa5, sizeof latches);
+  memset(expected_gates, 0xa5, sizeof gates);
+  for (size_t l = 0; l < latch_count; l++) expected_latches[l] = first[l];
+  for (size_t g = 0; g < gate_count; g++) expected_gates[g] = second[g];
+  return memcmp(latches, expected_latches, sizeof latches) == 0 && memcmp(gates, expected_gates, sizeof gates) == 0;
+}
+
+static marrubigai_sheet_reply read_text(const char *text, size_t bytes, size_t latch_room, size_t gate_room) {
+  fill_lists();
+  return marrubigai_read((const uint8_t *)text, bytes, latches, latch_room, gates, gate_room);
+}
+
+static int answers_sheet(marrubigai_sheet_reply reply, uint32_t number, uint32_t place, const marrubigai_netlist *net) {
+  return reply.number == number && reply.place == place && memcmp(&reply.net, net, sizeof *net) == 0;
+}
+
+static void reading(void) {
+  static const marrubigai_netlist nothing = {0};
+  const size_t bytes = sizeof DISTINCT - 1;
+  check("document 01's sheet is read, into lists of length 0",
+        answers_sheet(read_text(DOCUMENT_01, sizeof DOCUMENT_01 - 1, 0, 0), 0, 0, &CHIP) && lists_hold(0, 0, 0, 0));
+  check("every field of the record is in its place, and the records are in the lists",
+        answers_sheet(read_text(DISTINCT, bytes, ROOM, ROOM), 0, 0, &DISTINCT_NET) &&
+            lists_hold(DISTINCT_LATCHES, 2, DISTINCT_GATES, 1));
+  check("lists of exactly the sizes", answers_sheet(read_text(DISTINCT, bytes, 2, 1), 0, 0, &DISTINCT_NET));
+  check("a latch list too short gives 9, place 0",
+        answers_sheet(read_text(DISTINCT, bytes, 1, ROOM), 9, 0, &nothing) && lists_hold(0, 0, 0, 0));
+  check("a gate list too short gives 9, place 0",
+        answers_sheet(read_text(DISTINCT, bytes, ROOM, 0), 9, 0, &nothing) && lists_hold(0, 0, 0, 0));
+  check("an empty file gives 1, place 0", answers_sheet(read_text(DISTINCT, 0, ROOM, ROOM), 1, 0, &nothing));
+  check("a file without its last line gives 3, one past the lines left",
+        answers_sheet(read_text(DISTINCT, bytes - 32, ROOM, ROOM), 3, 15, &nothing) && lists_hold(0, 0, 0, 0));
+}
+
+static int answers_heading(marrubigai_heading_reply reply, uint32_t number, uint32_t place, uint32_t variables, uint32_t clauses) {
+  return reply.number == number && reply.place == place && reply.variables == variables && reply.clauses == clauses;
+}
+
+static void headings(void) {
+  check("depth 1 of document 01's chip: 10 variables, 24 clauses",
+        answers_heading(marrubigai_heading(CHIP, latches, 0, gates, 0, 1), 0, 0, 10, 24));
+  // B(3) = 1 + 3 x 11 + 8 x 3; wires 6 and 2 x 7, pairs 3 x 36, closings 3 x 11, property 1
+  check("depth 2 of the other: 58 variables, 162 clauses",
+        answers_heading(marrubigai_heading(DISTINCT_NET, DISTINCT_LATCHES, 2, DISTINCT_GATES, 1, 2), 0, 0, 58, 162));
+  check("depth 256 gives 7, place 0", answers_heading(marrubigai_heading(CHIP, latches, 0, gates, 0, 256), 7, 0, 0, 0));
+  check("a latch list shorter than its size gives 3, place 0",
+        answers_heading(marrubigai_heading(DISTINCT_NET, DISTINCT_LATCHES, 1, DISTINCT_GATES, 1, 2), 3, 0, 0, 0));
+  marrubigai_netlist loop = CHIP;
+  loop.address[0] = 4;
+  check("address code 4 gives 6 at line 3", answers_heading(marrubigai_heading(loop, latches, 0, gates, 0, 1), 6, 3, 0, 0));
+}
+
+enum { MOST = 64, UNWRITTEN = INT32_MIN };
+static int32_t out[MOST];
+
+typedef struct {
+  const marrubigai_netlist *net;
+  const marrubigai_latch *latches;
+  const marrubigai_gate *gates;
+  uint32_t depth;
+} lent;
+
+static marrubigai_group_reply group(lent of, uint32_t kind, uint32_t j, uint32_t i, size_t room) {
+  for (size_t t = 0; t < MOST; t++) out[t] = UNWRITTEN;
+  return marrubigai_write_group(*of.net, of.latches, of.net->latches, of.gates, of.net->gates, of.depth, kind, j, i, out, room);
+}
+
+// the numbers in a slice of exactly their length, and nothing behind it
+static void writes(const char *what, lent of, uint32_t kind, uint32_t j, uint32_t i, const int32_t *numbers, size_t count) {
+  marrubigai_group_reply reply = group(of, kind, j, i, count);
+  int holds = reply.number == 0 && reply.place == 0 && reply.count == count;
+  for (size_t t = 0; t < MOST; t++) holds = holds && out[t] == (t < count ? numbers[t] : UNWRITTEN);
+  check(what, holds);
+}
+
+static void refuses(const char *what, lent of, uint32_t kind, uint32_t j, uint32_t i, size_t room, uint32_t number, uint32_t place) {
+  marrubigai_group_reply reply = group(of, kind, j, i, room);
+  int holds = reply.number == number && reply.place == place && reply.count == 0;
+  for (size_t t = 0; t < MOST; t++) holds = holds && out[t] == UNWRITTEN;
+  check(what, holds);
+}
+
+static void groups(void) {
+  // the full run of document 01, group by group
+  const lent chip = {&CHIP, latches, gates, 1};
+  static const int32_t wires_0[] = {1, 0};
+  static const int32_t closing_0[] = {-1, -3, -1, 0, -1, 3, 1, 0, -1, 1, 0};
+  static const int32_t pair_0_1[] = {
+      -6, -1, 1, 0, -6, 1, -1, 0, 7, -1, -1, 0, 7, 1, 1, 0, -7, 6, 0,
+      -8, 6, 0, -8, 1, 0, 8, -6, -1, 0,
+      -9, -8, 0, -9, 1, 0, 9, 8, -1, 0,
+      -10, 8, 0, -10, 1, 0, 10, -8, -1, 0,
+      -10, -5, 2, 0, -10, 5, -2, 0};
+  static const int32_t closing_1[] = {-9, -5, -1, 0, -9, 5, 1, 0, -1, 9, 10, 0};
+  static const int32_t property[] = {3, 5, 0};
+  writes("wires of frame 0", chip, MARRUBIGAI_WIRES, 0, 0, wires_0, COUNT(wires_0));
+  writes("closing of frame 0", chip, MARRUBIGAI_CLOSING, 0, 0, closing_0, COUNT(closing_0));
+  writes("wires of frame 1: none, into a slice of length 0", chip, MARRUBIGAI_WIRES, 0, 1, 0, 0);
+  check("the pair has 57 numbers", COUNT(pair_0_1) == 57);
+  writes("pair (0, 1)", chip, MARRUBIGAI_PAIR, 0, 1, pair_0_1, COUNT(pair_0_1));
+  writes("closing of frame 1", chip, MARRUBIGAI_CLOSING, 0, 1, closing_1, COUNT(closing_1));
+  writes("property", chip, MARRUBIGAI_PROPERTY, 0, 0, property, COUNT(property));
+  refuses("a slice of 56 gives 9", chip, MARRUBIGAI_PAIR, 0, 1, 56, 9, 0);
+  refuses("pair (1, 1) gives 8", chip, MARRUBIGAI_PAIR, 1, 1, MOST, 8, 0);
+  refuses("a kind above 3 gives 8", chip, MARRUBIGAI_PROPERTY + 1, 0, 1, MOST, 8, 0);
+  refuses("depth 256 gives 7", (lent){&CHIP, latches, gates, 256}, MARRUBIGAI_PAIR, 0, 1, MOST, 7, 0);
+
+  // B(1) = 12, B(2) = 31
+  const lent other = {&DISTINCT_NET, DISTINCT_LATCHES, DISTINCT_GATES, 2};
+  static const int32_t first_wires[] = {
+      1, 0, 5, 0, -6, 0,
+      -12, -11, 0, -12, -2, 0, 12, 11, 2, 0};
+  static const int32_t second_wires[] = {
+      -16, 12, 0, 16, -12, 0, -17, -9, 0, 17, 9, 0,
+      -23, -22, 0, -23, -13, 0, 23, 22, 13, 0};
+  static const int32_t first_closing[] = {
+      6, -7, -1, 0, 6, 7, 1, 0, 6, -8, 1, 0, 6, 8, -1, 0, 6, -9, 1, 0, 6, 9, -1, 0,
+      6, -10, -1, 0, 6, 10, 1, 0, 6, -11, -1, 0, 6, 11, 1, 0, 6, -6, 0};
+  static const int32_t other_property[] = {7, 18, 37, 0};
+  writes("latches by their resets, and a gate", other, MARRUBIGAI_WIRES, 0, 0, first_wires, COUNT(first_wires));
+  writes("latches by their next codes, and a gate", other, MARRUBIGAI_WIRES, 0, 1, second_wires, COUNT(second_wires));
+  writes("the start word", other, MARRUBIGAI_CLOSING, 0, 0, first_closing, COUNT(first_closing));
+  writes("the property of three frames", other, MARRUBIGAI_PROPERTY, 0, 0, other_property, COUNT(other_property));
+  marrubigai_netlist outside = DISTINCT_NET;
+  outside.p = 24;
+  refuses("code 24 of 11 wires gives 5 at the C line", (lent){&outside, DISTINCT_LATCHES, DISTINCT_GATES, 2}, MARRUBIGAI_WIRES, 0, 0,
+          MOST, 5, 15);
+}
+
+int main(void) {
+  reading();
+  headings();
+  groups();
+  printf("%d passed, %d failed\n", passed, failed);
+  return failed != 0;
+}
