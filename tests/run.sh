@@ -66,6 +66,7 @@ compile() { # name, root file, further options of rustc ..
 
 run "each must-fail edit is refused at a fact" edits bash tests/edits.sh
 run "wires, codes and clause numbers are kept apart" types bash tests/types.sh
+run "the table of layers is that of the imports" layers bash tests/layers.sh
 compile reference tests/reference/main.rs && run "the second implementation's own tests" reference "$logs/reference"
 compile runner tests/runner/main.rs &&
   run "the program against the second implementation" runner timeout 900 "$logs/runner" target/bin/frames docs/FORMAT.md
