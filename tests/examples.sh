@@ -1,6 +1,7 @@
 #!/usr/bin/env bash
 # The examples: each committed sheet, and the names of its wires, is what the builder writes; the script that looks for a run
-# finds one or none as it should; a solver's answer is shown frame by frame as it should; the README's formula is the program's.
+# finds one or none as it should; a solver's answer is shown frame by frame as it should; the README's formula is the program's, and
+# what the pages show of the script is what it prints.
 # Argument: the program `frames`.
 set -u
 frames=$(readlink -f "$1")
@@ -48,6 +49,21 @@ END
 chip=examples/document-01/chip
 awk -f scripts/trace.awk depth=1 file=names $chip.names file=sheet $chip.sheet file=answer "$work/answer" > "$work/shown"
 check "an answer shown frame by frame" diff "$work/expected" "$work/shown"
+
+# Each transcript of scripts/find.sh on the pages is what it prints: whole with Debian's CaDiCaL, and its first line with another
+# version, which may choose another run.
+if [ "$(cadical --version)" = sc2021 ]; then shown=cat; else shown="head -n 1"; fi
+awk -v work="$work" '
+  /^```/ || /^\$ / { file = "" }
+  file != "" { print > file }
+  /^\$ scripts\/find\.sh / { file = work "/page." ++asked; print FILENAME, $3, $4 }' README.md examples/*/README.md > "$work/asked"
+asked=0
+while read -r page sheet depth; do
+  asked=$((asked + 1))
+  FRAMES=$frames bash scripts/find.sh "$sheet" "$depth" | $shown > "$work/found"
+  check "$page: scripts/find.sh $sheet $depth" diff <($shown "$work/page.$asked") "$work/found"
+done < "$work/asked"
+check "the pages have transcripts" [ "$asked" -ge 8 ]
 
 # The README's formula is what the program prints.
 sed -n '/^\$ .*target\/bin\/frames$/,/^```$/p' README.md | sed '1d;$d' > "$work/formula"

@@ -213,8 +213,13 @@ fn edits_block(repository: &Repository, functions: &[Public]) -> (String, Vec<St
 
 /// What the check said that it assumes, of each crate.
 fn axioms_block(repository: &Repository) -> String {
+    let logs = repository.files("target/log", ".out");
+    if logs.is_empty() {
+        eprintln!("target/log has nothing of a check: make test first");
+        std::process::exit(2);
+    }
     let mut text = String::new();
-    for path in repository.files("target/log", ".out") {
+    for path in logs {
         let name = Path::new(&path).file_stem().expect("a name").to_string_lossy().into_owned();
         for line in repository.read(&path).lines().filter(|line| line.starts_with("axioms ")) {
             text += &format!("{name}: {line}\n");
