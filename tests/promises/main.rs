@@ -2,7 +2,7 @@
 //! contracts cite, the files in which those definitions stand, the wrong programs that are refused, and the C functions whose
 //! contracts the check assumes. `print` prints it as docs/TRUST.md has it, `write` puts it there, and `check` holds the page to it.
 //! The last line of `check` is the total.
-//! Arguments: print, write or check; the repository's folder. The check's own output is read from target/log (after `rt ci`).
+//! Arguments: print, write or check; the repository's folder. The check's own output is read from target/log (after `rt ci` or `rt check`).
 
 use std::collections::{BTreeMap, BTreeSet};
 use std::fs;
@@ -211,9 +211,9 @@ fn edits_block(repository: &Repository, functions: &[Public]) -> (String, Vec<St
     (text, short)
 }
 
-/// What the check said that it assumes, of each crate.
+/// What the check said that it assumes, of each crate: NAME.say is kept where the crate has not changed since, NAME.out is not.
 fn axioms_block(repository: &Repository) -> String {
-    let logs = repository.files("target/log", ".out");
+    let logs = repository.files("target/log", ".say");
     if logs.is_empty() {
         eprintln!("target/log has nothing of a check: make test first");
         std::process::exit(2);
