@@ -7,7 +7,7 @@ use places::Port;
 ghost use Prim.Native.Nat.{_+_, _/_, _≤_};
 ghost use mathlib.Core.List.{[], _∷_, map};
 ghost use lib.ListN.{length};
-ghost use Rattle.model.specs.Clauses.{plus, bitClauses, gather, bitOf, notE, allBits};
+ghost use Rattle.model.specs.Clauses.{plus, bitClauses, gather, bitOf, unequalOf, allBits};
 ghost use Rattle.model.specs.Variables.{codeAt};
 ghost use Rattle.model.specs.Numbers.{numberOf, written};
 ghost use Rattle.literals.specs.Lit.{HasNumber};
@@ -63,8 +63,8 @@ pub fn put_address_bits(out: &mut [i32], net: Netlist, port: Port, j: u32, i: u3
 
 // ¬e of each address bit, in bit order.
 fn put_unequal_bits(out: &mut [i32], net: Netlist, port: Port, j: u32, i: u32) -> usize
-    requires { ⌜ IsPair net port j i × (length (map numberOf (gather (net .m) (notE (ofPair net port j i)))) ≤ length (now out)) ⌝ }
-    ensures { λ r. ⌜ Wrote (map numberOf (gather (net .m) (notE (ofPair net port j i)))) (now (out .entry)) (now (out .exit)) r ⌝ }
+    requires { ⌜ IsPair net port j i × (length (map numberOf (gather (net .m) (unequalOf (ofPair net port j i)))) ≤ length (now out)) ⌝ }
+    ensures { λ r. ⌜ Wrote (map numberOf (gather (net .m) (unequalOf (ofPair net port j i)))) (now (out .entry)) (now (out .exit)) r ⌝ }
 {
     let q = places::pair_base(net, port, j, i);
     let m = net.m;

@@ -10,8 +10,8 @@ use lib.ListN.{length}
 use Rattle.model.specs.Bits.{bit}
 use Rattle.model.specs.Netlist.{Port}
 use Rattle.model.specs.Netlist as M
-use Rattle.model.specs.Clauses.{Literal, known, plus, gather, sameIf, ClosingLiterals, initialRead, justS, someSource, closingClauses}
-use Rattle.model.specs.Variables.{stride, base, pairBase, wireAt, none, selected, readBit, closingLiterals}
+use Rattle.model.specs.Clauses.{Literal, known, plus, gather, sameIf, ClosingLiterals, initialRead, selectedOf, someSource, closingClauses}
+use Rattle.model.specs.Variables.{stride, base, pairBase, wireAt, noneSince, selected, readBit, closingLiterals}
 use Rattle.model.specs.Numbers.{numberOf, written}
 use Rattle.model.proofs.Variables.{pairBase-base}
 use Rattle.model.proofs.Joined.{written-append}
@@ -28,7 +28,7 @@ abbrev pub initialBit : Literal → ℕ → ℕ → ℕ → ℕ → ℕ → List
 initialBit z reading first read word t = written (sameIf z (wireAt reading (first + (read + t))) (known (bit word t)))
 
 pub initial-bits : (net : Netlist) (port : R.Port) (i n : ℕ) {reading : ℕ} {z : Literal}
-    → z ≡ none (alone net) (portOf port) 0 i → reading ≡ base (alone net) i
+    → z ≡ noneSince (alone net) (portOf port) 0 i → reading ≡ base (alone net) i
     → written (gather n (initialRead (ofClosing net port i)))
     ≡ gather n (initialBit z reading (1 + net .inputs + net .latches) (port .«first_read») (net .«initial_word»))
 unfolding initialRead closingLiterals readBit alone netOf portOf
@@ -46,10 +46,10 @@ sourceAt q s offset j = numberOf (plus (q + j * s + offset)) ∷ []
 
 pub sources : (net : Netlist) (port : R.Port) (i n : ℕ) {q s : ℕ}
     → q ≡ pairBase (alone net) (portOf port) 0 i → s ≡ stride (alone net)
-    → map numberOf (gather n (justS (ofClosing net port i))) ≡ gather n (sourceAt q s (net .m + 4))
-unfolding justS closingLiterals selected alone netOf
+    → map numberOf (gather n (selectedOf (ofClosing net port i))) ≡ gather n (sourceAt q s (net .m + 4))
+unfolding selectedOf closingLiterals selected alone netOf
 sources net port i n {q} {s} e es =
-    numbers-gather n (justS (ofClosing net port i))
+    numbers-gather n (selectedOf (ofClosing net port i))
     ∙ gather-same n _ (sourceAt q s (net .m + 4))
     (λ j. rw (source-base (alone net) (portOf port) i e es j, add-assoc (pairBase (alone net) (portOf port) j i) (net .m) 4))
 

@@ -12,8 +12,8 @@ use borrow.Author.Tests.{leb-true, ltb-true}
 use Rattle.model.specs.Netlist as M
 use Rattle.model.specs.Acceptance.{Accepted}
 use Rattle.model.specs.Clauses.{pairClauses, closingClauses}
-use Rattle.model.specs.Variables.{base, pairBase, none, selected, readBit, pairLiterals, closingLiterals}
-use Rattle.model.specs.Groups.{notP, clausesOf, inDepth}
+use Rattle.model.specs.Variables.{base, pairBase, noneSince, selected, readBit, pairLiterals, closingLiterals}
+use Rattle.model.specs.Groups.{violationOf, clausesOf, inDepth}
 use Rattle.model.specs.Numbers.{written, numbersOf}
 use Rattle.model.specs.Wrote.{Wrote}
 use Rattle.model.specs.declared.Group.{Group}
@@ -43,18 +43,18 @@ module _ (r : Netlist) (ls gs : List ℕ) where
   -- a pair
   pub pair-alone : (p : M.Port) → p ≡ M.port (alone r) → (k j i : ℕ)
       → written (pairClauses (r .m) (r .n) (pairLiterals (alone r) p j i)) ≡ numbersOf (netOf r ls gs) k (Pair j i)
-  unfolding alone netOf numbersOf clausesOf pairLiterals base pairBase none selected readBit
+  unfolding alone netOf numbersOf clausesOf pairLiterals base pairBase noneSince selected readBit
   pair-alone p e k j i = rw e
 
   -- a closing
   pub closing-alone : (p : M.Port) → p ≡ M.port (alone r) → (k i : ℕ)
       → written (closingClauses (r .n) i (closingLiterals (alone r) p i)) ≡ numbersOf (netOf r ls gs) k (Closing i)
-  unfolding alone netOf numbersOf clausesOf closingLiterals base pairBase none selected readBit
+  unfolding alone netOf numbersOf clausesOf closingLiterals base pairBase noneSince selected readBit
   closing-alone p e k i = rw e
 
   -- the property
   pub property-alone : (k : ℕ) → numbersOf (alone r) k Property ≡ numbersOf (netOf r ls gs) k Property
-  unfolding alone netOf numbersOf clausesOf notP base
+  unfolding alone netOf numbersOf clausesOf violationOf base
   property-alone k = refl
 
 -- the wires of a frame, at any depth

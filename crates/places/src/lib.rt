@@ -7,7 +7,7 @@ use netlist::Netlist;
 ghost use mathlib.Core.Path.{_≡_};
 ghost use Prim.Native.Nat.{_≤_, _<_};
 ghost use Rattle.model.specs.Netlist.{port, lastWire};
-ghost use Rattle.model.specs.Variables.{stride, base, pairBase, none, selected};
+ghost use Rattle.model.specs.Variables.{stride, base, pairBase, noneSince, selected};
 ghost use Rattle.model.specs.Acceptance.{SizesFit};
 ghost use Rattle.literals.specs.Lit.{literalOf, IsLit};
 ghost use Rattle.places.specs.Alone.{alone};
@@ -67,7 +67,7 @@ pub fn pair_base(net: Netlist, port: Port, j: u32, i: u32) -> u32
 // PS of pair (j, i), or RE of frame i where j = i: N of the pair before, and Z where j = 0.
 pub fn none_since(net: Netlist, port: Port, j: u32, i: u32) -> Lit
     requires { ⌜ Fits (alone net) (portOf port) × (j ≤ i) × (i ≤ 255) ⌝ }
-    ensures literal { λ r. ⌜ literalOf r ≡ none (alone net) (portOf port) j i ⌝ }
+    ensures literal { λ r. ⌜ literalOf r ≡ noneSince (alone net) (portOf port) j i ⌝ }
     ensures number { λ r. ⌜ IsLit r ⌝ }
 {
     if j == i {

@@ -13,10 +13,10 @@ use Rattle.closing.proofs.put_initial_reads.Statement.{statement}
 use Rattle.closing.proofs.put_initial_reads.Tie as tie
 
 abbrev Inv-loop : tie.InvT-loop
-Inv-loop out₀ i none reading first read word n at₀ t₀ out at t = Turns n (initialBit (literalOf none) reading first read word) out₀ out t at
+Inv-loop out₀ i noneSince reading first read word n at₀ t₀ out at t = Turns n (initialBit (literalOf noneSince) reading first read word) out₀ out t at
 
 abbrev μ-loop : tie.MeasureT-loop
-μ-loop out₀ i none reading first read word n at₀ t₀ out at t = n - t
+μ-loop out₀ i noneSince reading first read word n at₀ t₀ out at t = n - t
 
 none-since-requires : tie.Need-none-since-requires Inv-loop μ-loop
 none-since-requires c κs = search needs

@@ -3,8 +3,8 @@ use mathlib.Core.Path.{_∙_}
 use native.Mathlib.Nat.{le-refl}
 use native.Mathlib.Omega.{arith}
 use borrow.Author.Needs.{needs}
-use Rattle.model.specs.Variables.{none}
-use Rattle.model.proofs.Variables.{none-last, none-earlier}
+use Rattle.model.specs.Variables.{noneSince}
+use Rattle.model.proofs.Variables.{noneSince-last, noneSince-earlier}
 use Rattle.netlist.specs.NetOf.{netOf}
 use Rattle.places.specs.Alone.{alone}
 use Rattle.places.specs.PortOf.{portOf}
@@ -25,7 +25,7 @@ returns : tie.Need-returns
 unfolding portOf
 returns c =
     let a = c .before .before .before .args in
-    rw (c .before .before .if1 .taken, none-last (alone (a .net)) (portOf (a .port)) (a .i))
+    rw (c .before .before .if1 .taken, noneSince-last (alone (a .net)) (portOf (a .port)) (a .i))
     (rw (c .before .frame-base .ensures) at (c .in-frame .ensures))
 
 pair-base-requires : tie.Need-pair-base-requires
@@ -47,7 +47,7 @@ unfolding alone netOf
 returns-2 c =
     let a = c .before .before .before .before .args in
     let earlier = c .before .before .before .if1 .left in
-    rw (none-earlier (alone (a .net)) (portOf (a .port)) (a .j) (a .i) (omega arith))
+    rw (noneSince-earlier (alone (a .net)) (portOf (a .port)) (a .j) (a .i) (omega arith))
     (c .in-pair .ensures .0 ∙ behind-bits (alone (a .net)) (portOf (a .port)) (a .j) (a .i) _ 3 (c .before .before .pair-base .ensures), c .in-pair .ensures .1)
 
 pub none-since-spec : {M : Type 1} → statement M
