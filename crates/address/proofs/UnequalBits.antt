@@ -10,7 +10,7 @@ use Rattle.model.specs.Variables.{pairBase, pairLiterals}
 use Rattle.model.specs.Numbers.{numberOf}
 use Rattle.netlist.specs.declared.Netlist.{Netlist}
 use Rattle.places.specs.declared.Port.{Port}
-use Rattle.places.specs.Alone.{alone}
+use Rattle.netlist.specs.NetOf.{alone}
 use Rattle.places.specs.PortOf.{portOf}
 use Rattle.places.specs.OfPair.{ofPair}
 use Rattle.writer.proofs.Turns.{numbers-gather}

@@ -11,7 +11,7 @@ ghost use Rattle.model.specs.Clauses.{plus, bitClauses, gather, bitOf, unequalO
 ghost use Rattle.model.specs.Variables.{codeAt};
 ghost use Rattle.model.specs.Numbers.{numberOf, written};
 ghost use Rattle.literals.specs.Lit.{HasNumber};
-ghost use Rattle.places.specs.OfPair.{ofPair, IsPair};
+ghost use Rattle.places.specs.OfPair.{ofPair, PairFits};
 ghost use Rattle.model.specs.Wrote.{Wrote};
 
 // The four clauses of address bit t, code `x` in the writing frame and code `y` in the reading one, at a pair that starts after q.
@@ -43,7 +43,7 @@ fn put_address_bit(
 
 // The clauses of each address bit, in bit order.
 pub fn put_address_bits(out: &mut [i32], net: Netlist, port: Port, j: u32, i: u32) -> usize
-    requires { ⌜ IsPair net port j i × (length (written (gather (net .m) (bitOf (ofPair net port j i)))) ≤ length (now out)) ⌝ }
+    requires { ⌜ PairFits net port j i × (length (written (gather (net .m) (bitOf (ofPair net port j i)))) ≤ length (now out)) ⌝ }
     ensures { λ r. ⌜ Wrote (written (gather (net .m) (bitOf (ofPair net port j i)))) (now (out .entry)) (now (out .exit)) r ⌝ }
 {
     let q = places::pair_base(net, port, j, i);
@@ -63,7 +63,7 @@ pub fn put_address_bits(out: &mut [i32], net: Netlist, port: Port, j: u32, i: u3
 
 // ¬e of each address bit, in bit order.
 fn put_unequal_bits(out: &mut [i32], net: Netlist, port: Port, j: u32, i: u32) -> usize
-    requires { ⌜ IsPair net port j i × (length (map numberOf (gather (net .m) (unequalOf (ofPair net port j i)))) ≤ length (now out)) ⌝ }
+    requires { ⌜ PairFits net port j i × (length (map numberOf (gather (net .m) (unequalOf (ofPair net port j i)))) ≤ length (now out)) ⌝ }
     ensures { λ r. ⌜ Wrote (map numberOf (gather (net .m) (unequalOf (ofPair net port j i)))) (now (out .entry)) (now (out .exit)) r ⌝ }
 {
     let q = places::pair_base(net, port, j, i);
@@ -80,7 +80,7 @@ fn put_unequal_bits(out: &mut [i32], net: Netlist, port: Port, j: u32, i: u32) -
 
 // The clause (¬e of all address bits, E).
 pub fn put_all_bits(out: &mut [i32], net: Netlist, port: Port, j: u32, i: u32) -> usize
-    requires { ⌜ IsPair net port j i × (length (written (allBits (net .m) (ofPair net port j i) ∷ [])) ≤ length (now out)) ⌝ }
+    requires { ⌜ PairFits net port j i × (length (written (allBits (net .m) (ofPair net port j i) ∷ [])) ≤ length (now out)) ⌝ }
     ensures { λ r. ⌜ Wrote (written (allBits (net .m) (ofPair net port j i) ∷ [])) (now (out .entry)) (now (out .exit)) r ⌝ }
 {
     let equal = Lit::in_pair(places::pair_base(net, port, j, i), 1);

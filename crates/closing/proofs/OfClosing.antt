@@ -15,10 +15,9 @@ use Rattle.model.specs.Variables.{stride, base, pairBase, wireAt, noneSince, se
 use Rattle.model.specs.Numbers.{numberOf, written}
 use Rattle.model.proofs.Variables.{pairBase-base}
 use Rattle.model.proofs.Joined.{written-append}
-use Rattle.netlist.specs.NetOf.{netOf}
+use Rattle.netlist.specs.NetOf.{netOf, alone}
 use Rattle.netlist.specs.declared.Netlist.{Netlist}
 use Rattle.places.specs.declared.Port as R
-use Rattle.places.specs.Alone.{alone}
 use Rattle.places.specs.PortOf.{portOf}
 use Rattle.writer.proofs.Turns.{written-gather, numbers-gather, gather-same, length-written}
 use Rattle.closing.specs.OfClosing.{ofClosing}
@@ -31,7 +30,7 @@ pub initial-bits : (net : Netlist) (port : R.Port) (i n : ℕ) {reading : ℕ} {
     → z ≡ noneSince (alone net) (portOf port) 0 i → reading ≡ base (alone net) i
     → written (gather n (initialRead (ofClosing net port i)))
     ≡ gather n (initialBit z reading (1 + net .inputs + net .latches) (port .«first_read») (net .«initial_word»))
-unfolding initialRead closingLiterals readBit alone netOf portOf
+unfolding initialRead closingLiterals readBit netOf portOf
 initial-bits net port i n ez er = rw (written-gather n (initialRead (ofClosing net port i)), ez, er)
 
 -- where the variables of pair (j, i) start, from those of pair (0, i)
@@ -47,7 +46,7 @@ sourceAt q s offset j = numberOf (plus (q + j * s + offset)) ∷ []
 pub sources : (net : Netlist) (port : R.Port) (i n : ℕ) {q s : ℕ}
     → q ≡ pairBase (alone net) (portOf port) 0 i → s ≡ stride (alone net)
     → map numberOf (gather n (selectedOf (ofClosing net port i))) ≡ gather n (sourceAt q s (net .m + 4))
-unfolding selectedOf closingLiterals selected alone netOf
+unfolding selectedOf closingLiterals selected netOf
 sources net port i n {q} {s} e es =
     numbers-gather n (selectedOf (ofClosing net port i))
     ∙ gather-same n _ (sourceAt q s (net .m + 4))

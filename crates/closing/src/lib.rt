@@ -13,7 +13,7 @@ ghost use Rattle.model.specs.Variables.{wireAt};
 ghost use Rattle.model.specs.Numbers.{numberOf, written};
 ghost use Rattle.literals.specs.Lit.{literalOf, IsLit, HasNumber};
 ghost use Rattle.model.specs.Wrote.{Wrote};
-ghost use Rattle.closing.specs.OfClosing.{ofClosing, IsFrame};
+ghost use Rattle.closing.specs.OfClosing.{ofClosing, ClosingFits};
 
 // The two clauses of data bit t: where Z is true, the read bit `rd` is the start bit.
 fn put_initial_bit(
@@ -34,7 +34,7 @@ fn put_initial_bit(
 
 // The clauses of each data bit, in bit order.
 fn put_initial_reads(out: &mut [i32], net: Netlist, port: Port, i: u32) -> usize
-    requires { ⌜ IsFrame net port i × (length (written (gather (net .n) (initialRead (ofClosing net port i)))) ≤ length (now out)) ⌝ }
+    requires { ⌜ ClosingFits net port i × (length (written (gather (net .n) (initialRead (ofClosing net port i)))) ≤ length (now out)) ⌝ }
     ensures { λ r. ⌜ Wrote (written (gather (net .n) (initialRead (ofClosing net port i)))) (now (out .entry)) (now (out .exit)) r ⌝ }
 {
     let none_since = places::none_since(net, port, 0, i);
@@ -62,7 +62,7 @@ fn put_initial_reads(out: &mut [i32], net: Netlist, port: Port, i: u32) -> usize
 
 // S of each earlier frame, in ascending order.
 fn put_sources(out: &mut [i32], net: Netlist, port: Port, i: u32) -> usize
-    requires { ⌜ IsFrame net port i × (length (map numberOf (gather i (selectedOf (ofClosing net port i)))) ≤ length (now out)) ⌝ }
+    requires { ⌜ ClosingFits net port i × (length (map numberOf (gather i (selectedOf (ofClosing net port i)))) ≤ length (now out)) ⌝ }
     ensures { λ r. ⌜ Wrote (map numberOf (gather i (selectedOf (ofClosing net port i)))) (now (out .entry)) (now (out .exit)) r ⌝ }
 {
     let q = places::pair_base(net, port, 0, i);
@@ -81,7 +81,7 @@ fn put_sources(out: &mut [i32], net: Netlist, port: Port, i: u32) -> usize
 
 // The sources, with the end mark.
 fn put_last_sources(out: &mut [i32], net: Netlist, port: Port, i: u32) -> usize
-    requires { ⌜ IsFrame net port i × (length (written (gather i (selectedOf (ofClosing net port i)) ∷ [])) ≤ length (now out)) ⌝ }
+    requires { ⌜ ClosingFits net port i × (length (written (gather i (selectedOf (ofClosing net port i)) ∷ [])) ≤ length (now out)) ⌝ }
     ensures { λ r. ⌜ Wrote (written (gather i (selectedOf (ofClosing net port i)) ∷ [])) (now (out .entry)) (now (out .exit)) r ⌝ }
 {
     let a = put_sources(out, net, port, i);
@@ -90,7 +90,7 @@ fn put_last_sources(out: &mut [i32], net: Netlist, port: Port, i: u32) -> usize
 
 // The clause (¬RE Z S(0,i) .. S(i−1,i)).
 fn put_some_source(out: &mut [i32], net: Netlist, port: Port, i: u32) -> usize
-    requires { ⌜ IsFrame net port i × (length (written (someSource i (ofClosing net port i) ∷ [])) ≤ length (now out)) ⌝ }
+    requires { ⌜ ClosingFits net port i × (length (written (someSource i (ofClosing net port i) ∷ [])) ≤ length (now out)) ⌝ }
     ensures { λ r. ⌜ Wrote (written (someSource i (ofClosing net port i) ∷ [])) (now (out .entry)) (now (out .exit)) r ⌝ }
 {
     let read_enable = port.re.in_frame(places::frame_base(net, i));
@@ -102,7 +102,7 @@ fn put_some_source(out: &mut [i32], net: Netlist, port: Port, i: u32) -> usize
 
 // All clauses of the closing.
 pub fn put_closing(out: &mut [i32], net: Netlist, port: Port, i: u32) -> usize
-    requires { ⌜ IsFrame net port i × (length (written (closingClauses (net .n) i (ofClosing net port i))) ≤ length (now out)) ⌝ }
+    requires { ⌜ ClosingFits net port i × (length (written (closingClauses (net .n) i (ofClosing net port i))) ≤ length (now out)) ⌝ }
     ensures { λ r. ⌜ Wrote (written (closingClauses (net .n) i (ofClosing net port i))) (now (out .entry)) (now (out .exit)) r ⌝ }
 {
     let a = put_initial_reads(out, net, port, i);

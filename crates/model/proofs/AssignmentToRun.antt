@@ -134,13 +134,13 @@ module _ (c : Netlist) (a : Assignment) where
           let later = state-later-holds c a i .0 (wires-hold c a k (suc i) .0 (holds .wires (suc i) d) .0) in
           ap (λ (x : ℕ). u x (latchWire c l)) (sym (add-one i))
           ∙ latchClauses-holds c a i l .0 (later l b)
-          ∙ code-agrees c (u i) (driven i) (before i (lt-suc-self i)) (c .next l) (ok .codes .next-fits l b)
+          ∙ code-agrees c (u i) (driven i) (before i (lt-suc-self i)) (c .next l) (ok .limits .codes .next-fits l b)
 
       -- so is the word that frame i reads
       word-at : (i : ℕ) → Before i → (x : ℕ) → wordBefore c u (c .initialWord) x i ≡ state i .memory x
       unfolding initial
       word-at i before x =
-          wordBefore-agrees c (ok .codes) u driven (c .initialWord) x i before
+          wordBefore-agrees c (ok .limits .codes) u driven (c .initialWord) x i before
           ∙ sym (memory-stepped c (initial c) (feedOf c a) x i)
 
       -- so is the whole frame
@@ -180,4 +180,4 @@ module _ (c : Netlist) (a : Assignment) where
       assignment-breaks =
           let p = property-holds c a k .0 (holds .property) in
           let i = p .0 in
-          (i, omega (arith, p .1), sym (code-agrees c (u i) (driven i) (agree i (p .1)) (c .P) (ok .codes .P-fits)) ∙ p .2)
+          (i, omega (arith, p .1), sym (code-agrees c (u i) (driven i) (agree i (p .1)) (c .P) (ok .limits .codes .P-fits)) ∙ p .2)

@@ -165,8 +165,8 @@ module _ {c : Netlist} (accepted : Accepted c) (k : ℕ) where
       let operand : (x : ℕ) → x < 2 * gateWire c g → IsCode c x = λ x l. omega arith in
       and-all (within-neg _)
       (wire-within c k i _ h (omega arith))
-      (code-within c k i _ h (operand _ (accepted .codes .left-fits g b)))
-      (code-within c k i _ h (operand _ (accepted .codes .right-fits g b)))
+      (code-within c k i _ h (operand _ (accepted .limits .codes .left-fits g b)))
+      (code-within c k i _ h (operand _ (accepted .limits .codes .right-fits g b)))
 
   -- a latch's in frame 0
   reset-within : (l : ℕ) → l < c .latches → AllLits (Bounded c k) (resetClause c l)
@@ -180,7 +180,7 @@ module _ {c : Netlist} (accepted : Accepted c) (k : ℕ) where
   latch-within i l h b =
       same-all (within-neg _)
       (wire-within c k (i + 1) _ (omega arith) (omega arith))
-      (code-within c k i _ (omega arith) (accepted .codes .next-fits l b))
+      (code-within c k i _ (omega arith) (accepted .limits .codes .next-fits l b))
 
   -- all latches'
   state-within : (i : ℕ) → i ≤ k → AllLits (Bounded c k) (stateClauses c i)
@@ -204,13 +204,13 @@ module _ {c : Netlist} (accepted : Accepted c) (k : ℕ) where
         E = pair-variable-within c k j i _ l h (omega arith);
         e = λ t b. pair-variable-within c k j i _ l h (omega arith);
         s = pair-variable-within c k j i _ l h (omega arith);
-        PS = noneSince-within c k j i (omega arith) h (accepted .codes .RE-fits);
+        PS = noneSince-within c k j i (omega arith) h (accepted .limits .codes .RE-fits);
         S = selected-within c k j i l h;
-        N = noneSince-within c k (j + 1) i (omega arith) h (accepted .codes .RE-fits);
-        WE = code-within c k _ _ (omega arith) (accepted .codes .WE-fits);
-        Aj = λ t b. code-within c k _ _ (omega arith) (accepted .codes .address-fits t b);
-        WD = λ t b. code-within c k _ _ (omega arith) (accepted .codes .data-fits t b);
-        Ai = λ t b. code-within c k _ _ (omega arith) (accepted .codes .address-fits t b);
+        N = noneSince-within c k (j + 1) i (omega arith) h (accepted .limits .codes .RE-fits);
+        WE = code-within c k _ _ (omega arith) (accepted .limits .codes .WE-fits);
+        Aj = λ t b. code-within c k _ _ (omega arith) (accepted .limits .codes .address-fits t b);
+        WD = λ t b. code-within c k _ _ (omega arith) (accepted .limits .codes .data-fits t b);
+        Ai = λ t b. code-within c k _ _ (omega arith) (accepted .limits .codes .address-fits t b);
         RD = λ t b. readBit-within c k i t h b;
       })
 
@@ -220,8 +220,8 @@ module _ {c : Netlist} (accepted : Accepted c) (k : ℕ) where
   closing-within i h =
       closing-all (within-neg _) (c .n) i _
       (record {
-        Z = noneSince-within c k 0 i (omega arith) h (accepted .codes .RE-fits);
-        RE = code-within c k i _ h (accepted .codes .RE-fits);
+        Z = noneSince-within c k 0 i (omega arith) h (accepted .limits .codes .RE-fits);
+        RE = code-within c k i _ h (accepted .limits .codes .RE-fits);
         S = λ j l. selected-within c k j i l h;
         RD = λ t b. readBit-within c k i t h b;
         W = λ t b. tt;
@@ -231,7 +231,7 @@ module _ {c : Netlist} (accepted : Accepted c) (k : ℕ) where
   pub property-within : AllLits (Within (base c (k + 1))) (clausesOf c k Property)
   unfolding clausesOf violationOf
   property-within =
-      let property = accepted .codes .P-fits in
+      let property = accepted .limits .codes .P-fits in
       just (all-gather (k + 1) (violationOf c) (λ i h. just (within-neg _ _ (code-within c k i _ (omega arith) property))))
 
   -- the groups of frame i

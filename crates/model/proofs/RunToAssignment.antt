@@ -57,7 +57,7 @@ module _ (c : Netlist) (ok : Accepted c) (f : ℕ → Feed) (k : ℕ) where
       → assigned c a i (gateWire c g) ≡ (code (assigned c a i) (c .left g) && code (assigned c a i) (c .right g))
   gate-holds i d g b =
       same i d (gateWire c g) (omega arith) ∙ frame-at i .at-gate g b
-      ∙ sym (ap₂ _&&_ (agrees (c .left g) (ok .codes .left-fits g b)) (agrees (c .right g) (ok .codes .right-fits g b)))
+      ∙ sym (ap₂ _&&_ (agrees (c .left g) (ok .limits .codes .left-fits g b)) (agrees (c .right g) (ok .limits .codes .right-fits g b)))
     where
       agrees : (x : ℕ) → x < 2 * gateWire c g → code (assigned c a i) x ≡ code (u i) x
       agrees x l = code-agrees c (assigned c a i) (u i) (same i d) x (omega arith)
@@ -79,7 +79,7 @@ module _ (c : Netlist) (ok : Accepted c) (f : ℕ → Feed) (k : ℕ) where
             (ap (λ (x : ℕ). assigned c a x (latchWire c l)) (add-one i)
             ∙ same (suc i) d (latchWire c l) (omega arith)
             ∙ frame-at (suc i) .at-latch l b
-            ∙ sym (code-agrees c (assigned c a i) (u i) (same i (le-of-suc-le d)) (c .next l) (ok .codes .next-fits l b)))),
+            ∙ sym (code-agrees c (assigned c a i) (u i) (same i (le-of-suc-le d)) (c .next l) (ok .limits .codes .next-fits l b)))),
         λ g b. gateClauses-holds c a (suc i) g .1 (gate-holds (suc i) d g b),
       )
 
@@ -116,7 +116,7 @@ module _ (c : Netlist) (ok : Accepted c) (f : ℕ → Feed) (k : ℕ) where
       last : j ≡ i → value a (noneSince c (port c) j i) ≡ nones c u i j
       last e =
           rw e
-          (ap (value a) (noneSince-last c (port c) i) ∙ code-value i d (c .RE) (ok .codes .RE-fits)
+          (ap (value a) (noneSince-last c (port c) i) ∙ code-value i d (c .RE) (ok .limits .codes .RE-fits)
           ∙ sym (noneFrom-last (hits c u i) (code (u i) (c .RE)) i))
 
       earlier : j < i → value a (noneSince c (port c) j i) ≡ nones c u i j
@@ -132,7 +132,7 @@ module _ (c : Netlist) (ok : Accepted c) (f : ℕ → Feed) (k : ℕ) where
           λ h. witness-e c k u j i l d t b ∙ beq-true _ _ .1 (sym (Aj t b) ∙ h ∙ Ai t b),
         );
         E-where-all-e = λ h. E ∙ eq-eqb _ _ (address-same c (port c) (u i) (u j) (λ t b. sym (beq-true _ _ .0 (sym (witness-e c k u j i l d t b) ∙ h t b))));
-        valid = s ∙ and-comm (code (u j) (c .WE)) _ ∙ ap₂ _&&_ (sym E) (sym (code-value j before (c .WE) (ok .codes .WE-fits)));
+        valid = s ∙ and-comm (code (u j) (c .WE)) _ ∙ ap₂ _&&_ (sym E) (sym (code-value j before (c .WE) (ok .limits .codes .WE-fits)));
         none-since = noneSince-value j i (le-of-lt l) d ∙ chain-at i .link j l ∙ ap₂ (λ (x y : Bool). not x && y) (sym s) N;
         exclusive = witness-S c k u j i l d ∙ ap₂ _&&_ (sym s) N;
         data-where-S = λ t b h. forwards t b (and-true (hits c u i j) (nones c u i (suc j)) .0 (sym (witness-S c k u j i l d) ∙ h));
@@ -151,17 +151,17 @@ module _ (c : Netlist) (ok : Accepted c) (f : ℕ → Feed) (k : ℕ) where
       N = sym (noneSince-value (suc j) i l d) ∙ ap (λ (x : ℕ). value a (noneSince c (port c) x i)) (sym (add-one j))
 
       Aj : (t : ℕ) → t < c .m → value a (pairLiterals c (port c) j i .Aj t) ≡ code (u j) (c .address t)
-      Aj t b = code-value j before (c .address t) (ok .codes .address-fits t b)
+      Aj t b = code-value j before (c .address t) (ok .limits .codes .address-fits t b)
 
       Ai : (t : ℕ) → t < c .m → value a (pairLiterals c (port c) j i .Ai t) ≡ code (u i) (c .address t)
-      Ai t b = code-value i d (c .address t) (ok .codes .address-fits t b)
+      Ai t b = code-value i d (c .address t) (ok .limits .codes .address-fits t b)
 
       forwards : (t : ℕ) → t < c .n → (hits c u i j ≡ true) × (nones c u i (suc j) ≡ true)
           → value a (pairLiterals c (port c) j i .RD t) ≡ value a (pairLiterals c (port c) j i .WD t)
       forwards t b h =
           read-value i d t b ∙ read-since (suc j) i l (h .1) t b
           ∙ ap (λ (x : Bool). bit (cond x (wordWritten c (u j)) (stepped (c .initialWord) (hits c u i) (λ j. wordWritten c (u j)) j)) t) (h .0)
-          ∙ word-bit c (u j) t b ∙ sym (code-value j before (c .writeData t) (ok .codes .data-fits t b))
+          ∙ word-bit c (u j) t b ∙ sym (code-value j before (c .writeData t) (ok .limits .codes .data-fits t b))
 
   -- the clauses of a closing hold
   closings-at : (i : ℕ) → i ≤ k → ClosingHolds a (c .n) i (closingLiterals c (port c) i)
@@ -172,7 +172,7 @@ module _ (c : Netlist) (ok : Accepted c) (f : ℕ → Feed) (k : ℕ) where
         source-where-RE = λ h.
             ⊎-map (λ z. noneSince-value 0 i zero-le d ∙ z) (λ p. (p .0, p .1, witness-S c k u (p .0) i (p .1) d ∙ p .2))
             (source-exists i (hits c u i) (nones c u i) (chain-at i) (c .initialWord) (λ j. wordWritten c (u j)) i (le-refl i)
-            (noneFrom-last (hits c u i) (code (u i) (c .RE)) i ∙ sym (code-value i d (c .RE) (ok .codes .RE-fits)) ∙ h));
+            (noneFrom-last (hits c u i) (code (u i) (c .RE)) i ∙ sym (code-value i d (c .RE) (ok .limits .codes .RE-fits)) ∙ h));
       }
 
   -- so does every group, where the run breaks the property
@@ -183,7 +183,7 @@ module _ (c : Netlist) (ok : Accepted c) (f : ℕ → Feed) (k : ℕ) where
         wires = wires-at;
         pairs = λ j i l d. pair-holds c a k j i .1 (pairs-at j i l d);
         closings = λ i d. closing-holds c a k i .1 (closings-at i d);
-        property = property-holds c a k .1 (h .0, omega (arith, h .1), code-agrees c (assigned c a (h .0)) (u (h .0)) (same (h .0) (h .1)) (c .P) (ok .codes .P-fits) ∙ h .2);
+        property = property-holds c a k .1 (h .0, omega (arith, h .1), code-agrees c (assigned c a (h .0)) (u (h .0)) (same (h .0) (h .1)) (c .P) (ok .limits .codes .P-fits) ∙ h .2);
       }
 
   -- and the witness agrees with the run

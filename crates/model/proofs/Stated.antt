@@ -73,5 +73,5 @@ module _ {c : Netlist} (ok : Accepted c) (k : ℕ) where
         unsatisfiable→safe = unsatisfiable→safe (encodes ok k);
         clauses-counted = clauses-in-group;
         numbers-counted = group-numbers c k;
-        depends-by-path = λ w. (depends-path c (ok .codes) w, path-depends c (ok .codes) w);
+        depends-by-path = λ w. (depends-path c (ok .limits .codes) w, path-depends c (ok .limits .codes) w);
       }

@@ -9,10 +9,9 @@ use Rattle.model.specs.Clauses.{Literal, gather, sameIf, PairLiterals, bitOf, a
 use Rattle.model.specs.Variables.{base, wireAt, codeAt, selected, readBit, pairLiterals}
 use Rattle.model.specs.Numbers.{written}
 use Rattle.model.proofs.Joined.{written-append}
-use Rattle.netlist.specs.NetOf.{codeOf, netOf}
+use Rattle.netlist.specs.NetOf.{codeOf, netOf, alone}
 use Rattle.netlist.specs.declared.Netlist.{Netlist}
 use Rattle.places.specs.declared.Port.{Port}
-use Rattle.places.specs.Alone.{alone}
 use Rattle.places.specs.PortOf.{portOf}
 use Rattle.writer.proofs.Turns.{written-gather}
 use Rattle.places.specs.OfPair.{ofPair}
@@ -27,7 +26,7 @@ pub forwarded-bits : (net : Netlist) (port : Port) (j i n : ℕ) {reading writin
     → s ≡ selected (alone net) (portOf port) j i → reading ≡ base (alone net) i → writing ≡ base (alone net) j
     → written (gather n (forwarded (ofPair net port j i)))
     ≡ gather n (forwardedBit s reading (1 + net .inputs + net .latches) (port .«first_read») writing net)
-unfolding forwarded pairLiterals readBit alone netOf portOf
+unfolding forwarded pairLiterals readBit netOf portOf
 forwarded-bits net port j i n es er ew = rw (written-gather n (forwarded (ofPair net port j i)), es, er, ew)
 
 -- a pair's clauses with its three gates as one part

@@ -11,7 +11,7 @@ ghost use Rattle.model.specs.Clauses.{sameIf, gather, forwarded, pairClauses};
 ghost use Rattle.model.specs.Variables.{wireAt, codeAt};
 ghost use Rattle.model.specs.Numbers.{written};
 ghost use Rattle.literals.specs.Lit.{literalOf, IsLit, HasNumber};
-ghost use Rattle.places.specs.OfPair.{ofPair, IsPair};
+ghost use Rattle.places.specs.OfPair.{ofPair, PairFits};
 ghost use Rattle.model.specs.Wrote.{Wrote};
 
 // The two clauses of data bit t: where S is true, the read bit `rd` is the code `wd` of the writing frame.
@@ -33,7 +33,7 @@ fn put_forwarded_bit(
 
 // The clauses of each data bit, in bit order.
 fn put_forwarded(out: &mut [i32], net: Netlist, port: Port, j: u32, i: u32) -> usize
-    requires { ⌜ IsPair net port j i × (length (written (gather (net .n) (forwarded (ofPair net port j i)))) ≤ length (now out)) ⌝ }
+    requires { ⌜ PairFits net port j i × (length (written (gather (net .n) (forwarded (ofPair net port j i)))) ≤ length (now out)) ⌝ }
     ensures { λ r. ⌜ Wrote (written (gather (net .n) (forwarded (ofPair net port j i)))) (now (out .entry)) (now (out .exit)) r ⌝ }
 {
     let selected = places::selected(net, port, j, i);
@@ -62,7 +62,7 @@ fn put_forwarded(out: &mut [i32], net: Netlist, port: Port, j: u32, i: u32) -> u
 
 // All clauses of the pair.
 pub fn put_pair(out: &mut [i32], net: Netlist, port: Port, j: u32, i: u32) -> usize
-    requires { ⌜ IsPair net port j i × (length (written (pairClauses (net .m) (net .n) (ofPair net port j i))) ≤ length (now out)) ⌝ }
+    requires { ⌜ PairFits net port j i × (length (written (pairClauses (net .m) (net .n) (ofPair net port j i))) ≤ length (now out)) ⌝ }
     ensures { λ r. ⌜ Wrote (written (pairClauses (net .m) (net .n) (ofPair net port j i))) (now (out .entry)) (now (out .exit)) r ⌝ }
 {
     let a = address::put_address_bits(out, net, port, j, i);

@@ -1,5 +1,4 @@
-pub mod Alone
 pub mod PortOf
-pub mod Fits
+pub mod PortFits
 pub mod OfPair
-pub mod ListsFit
+pub mod FrameFits

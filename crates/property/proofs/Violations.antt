@@ -11,9 +11,8 @@ use Rattle.model.specs.Groups.{violationOf}
 use Rattle.model.specs.Numbers.{numberOf}
 use Rattle.literals.specs.declared.Code.{Code}
 use Rattle.literals.specs.declared.Numbering.{Numbering}
-use Rattle.netlist.specs.NetOf.{netOf}
+use Rattle.netlist.specs.NetOf.{netOf, alone}
 use Rattle.netlist.specs.declared.Netlist.{Netlist}
-use Rattle.places.specs.Alone.{alone}
 use Rattle.writer.proofs.Turns.{numbers-gather}
 
 -- ¬P of frame i
@@ -23,5 +22,5 @@ violation x p i = numberOf (neg (codeAt (baseOf (x .wires) (x .stride) i) (p .0)
 pub violations : (net : Netlist) (n : ℕ) (x : Numbering)
     → (x .wires ≡ lastWire (alone net)) × (x .stride ≡ stride (alone net))
     → map numberOf (gather n (violationOf (alone net))) ≡ gather n (violation x (net .p))
-unfolding violationOf base alone netOf
+unfolding violationOf base netOf
 violations net n x e = rw (numbers-gather n (violationOf (alone net)), e .0, e .1)

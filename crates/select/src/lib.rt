@@ -6,7 +6,7 @@ ghost use Prim.Native.Nat.{_≤_};
 ghost use lib.ListN.{length};
 ghost use Rattle.model.specs.Numbers.{written};
 ghost use Rattle.literals.specs.Lit.{literalOf, IsLit};
-ghost use Rattle.places.specs.OfPair.{ofPair, IsPair};
+ghost use Rattle.places.specs.OfPair.{ofPair, PairFits};
 ghost use Rattle.model.specs.Wrote.{Wrote};
 ghost use Rattle.select.specs.SelectClauses.{selectClauses, selectOf};
 
@@ -25,7 +25,7 @@ fn put_gates(out: &mut [i32], s: Lit, e: Lit, we: Lit, ps: Lit, sel: Lit, n: Lit
 
 // The gates of the pair: valid read, none since, exclusive valid read. WE is of the writing frame.
 pub fn put_select(out: &mut [i32], net: Netlist, port: Port, j: u32, i: u32) -> usize
-    requires { ⌜ IsPair net port j i × (length (written (selectOf (ofPair net port j i))) ≤ length (now out)) ⌝ }
+    requires { ⌜ PairFits net port j i × (length (written (selectOf (ofPair net port j i))) ≤ length (now out)) ⌝ }
     ensures { λ r. ⌜ Wrote (written (selectOf (ofPair net port j i))) (now (out .entry)) (now (out .exit)) r ⌝ }
 {
     let q = places::pair_base(net, port, j, i);

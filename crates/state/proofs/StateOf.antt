@@ -13,9 +13,8 @@ use Rattle.model.specs.Clauses.{known, neg, gather, sameClauses}
 use Rattle.model.specs.Variables.{base, wireAt, codeAt}
 use Rattle.model.specs.Groups.{resetClause, latchClauses, stateClauses}
 use Rattle.model.specs.Numbers.{numberOf, written}
-use Rattle.netlist.specs.NetOf.{netOf}
+use Rattle.netlist.specs.NetOf.{netOf, alone}
 use Rattle.netlist.specs.declared.Netlist.{Netlist}
-use Rattle.places.specs.Alone.{alone}
 use Rattle.writer.proofs.Turns.{written-gather}
 
 -- latch l in frame 0
@@ -25,7 +24,7 @@ resetAt b first ls l =
 
 pub resets : (net : Netlist) (ls : List ℕ) (n : ℕ) {b : ℕ} → b ≡ base (alone net) 0
     → written (gather n (resetClause (netOf net ls []))) ≡ gather n (resetAt b (1 + net .inputs) ls)
-unfolding resetClause base alone netOf
+unfolding resetClause base netOf
 resets net ls n e = rw (written-gather n (resetClause (netOf net ls [])), e)
 
 -- latch l in a later frame
@@ -35,7 +34,7 @@ latchAt b first before ls l = written (sameClauses (wireAt b (first + l)) (codeA
 pub later-latches : (net : Netlist) (ls : List ℕ) (i n : ℕ) {b before : ℕ}
     → before ≡ base (alone net) i → b ≡ base (alone net) (i + 1)
     → written (gather n (latchClauses (netOf net ls []) i)) ≡ gather n (latchAt b (1 + net .inputs) before ls)
-unfolding latchClauses base alone netOf
+unfolding latchClauses base netOf
 later-latches net ls i n e f = rw (written-gather n (latchClauses (netOf net ls []) i), e, f)
 
 -- the latches of a frame other than 0

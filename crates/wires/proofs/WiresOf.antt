@@ -11,9 +11,8 @@ use Rattle.model.specs.Groups.{resetClause, latchClauses, gateClauses, stateCla
 use Rattle.model.specs.Numbers.{written, numbersOf}
 use Rattle.model.specs.declared.Group.the-variants.{Wires}
 use Rattle.model.proofs.Joined.{written-append}
-use Rattle.netlist.specs.NetOf.{netOf}
+use Rattle.netlist.specs.NetOf.{netOf, alone}
 use Rattle.netlist.specs.declared.Netlist.{Netlist}
-use Rattle.places.specs.Alone.{alone}
 use Rattle.writer.proofs.Turns.{written-gather, gather-same}
 
 -- gate g
@@ -23,7 +22,7 @@ gateAt b first gs g = written (andClauses (wireAt b (first + g)) (codeAt b (getD
 pub all-gates : (net : Netlist) (gs : List ℕ) (i n : ℕ) {b : ℕ} → b ≡ base (alone net) i
     → written (gather n (gateClauses (netOf net [] gs) i))
     ≡ gather n (gateAt b (1 + net .inputs + net .latches + net .n) gs)
-unfolding gateClauses base alone netOf
+unfolding gateClauses base netOf
 all-gates net gs i n e = rw (written-gather n (gateClauses (netOf net [] gs) i), e)
 
 -- latches do not look at the gates

@@ -4,7 +4,6 @@ use native.Mathlib.Omega.{arith}
 use borrow.Author.Needs.{needs}
 use Rattle.netlist.specs.NetOf.{netOf}
 use Rattle.literals.specs.Lit.{literalOf}
-use Rattle.places.specs.Alone.{alone}
 use Rattle.places.specs.PortOf.{portOf}
 use Rattle.places.proofs.Room.{wire-has-number}
 use Rattle.writer.proofs.Turns.{Turns, turns-start, turns-room, turns-count, turns-next, turns-end}
@@ -25,11 +24,11 @@ frame-base-requires : tie.Need-frame-base-requires Inv-loop μ-loop
 frame-base-requires c κs = search needs
 
 add-first : tie.Need-add-first Inv-loop μ-loop
-unfolding alone netOf portOf
+unfolding netOf portOf
 add-first c = search needs
 
 add-first-2 : tie.Need-add-first-2 Inv-loop μ-loop
-unfolding alone netOf portOf
+unfolding netOf portOf
 add-first-2 c = search needs
 
 loop-holds : tie.Need-loop-holds Inv-loop μ-loop
@@ -50,27 +49,27 @@ part-put-initial-bit-end : tie.Need-part-put-initial-bit-end Inv-loop μ-loop
 part-put-initial-bit-end c = search needs
 
 add-t21 : tie.Need-add-t21 Inv-loop μ-loop
-unfolding alone netOf portOf
+unfolding netOf portOf
 add-t21 c = search needs
 
 add-t22 : tie.Need-add-t22 Inv-loop μ-loop
-unfolding alone netOf portOf
+unfolding netOf portOf
 add-t22 c = search needs
 
 put-initial-bit-requires : tie.Need-put-initial-bit-requires Inv-loop μ-loop
-unfolding alone netOf portOf
+unfolding netOf portOf
 put-initial-bit-requires c κs =
     let is = c .before .before .before .before .before .before .before .pre .0 in
     let h = c .before .loop-test .taken in (
       c .before .before .before .before .before .before .none-since .ensures .1,
-      rw (c .before .before .before .before .before .frame-base .ensures) (wire-has-number _ (is .fits .sizes) _ _ (is .depth) (omega arith)),
+      rw (c .before .before .before .before .before .frame-base .ensures) (wire-has-number _ (is .fits .limits .sizes) _ _ (is .depth) (omega arith)),
       omega arith,
       omega arith,
       turns-room (c .before .before .loop .inv) h,
     )
 
 add-at : tie.Need-add-at Inv-loop μ-loop
-unfolding alone netOf portOf
+unfolding netOf portOf
 add-at c =
     let count = turns-count (c .before .before .before .before .loop .inv) (c .before .before .before .loop-test .taken) (c .before .put-initial-bit .ensures .counted) in
     search needs
@@ -82,7 +81,7 @@ loop-less : tie.Need-loop-less Inv-loop μ-loop
 loop-less c = search needs
 
 loop-again : tie.Need-loop-again Inv-loop μ-loop
-unfolding alone netOf portOf
+unfolding netOf portOf
 loop-again c =
     turns-next (c .before .before .before .before .loop .inv) (c .before .before .before .loop-test .taken) (c .before .put-initial-bit .ensures)
 

@@ -1,10 +1,9 @@
 -- `limits::any_code_fault` meets its contract: it is the definition's disjunction, list by list. Assumes nothing.
 use Prim.Native.Nat.{ℕ, _+_}
 use mathlib.Core.Path.{_≡_}
-use mathlib.Core.List.{[]}
 use native.Mathlib.Omega.{arith}
 use Rattle.model.specs.Netlist.{gateWire}
-use Rattle.netlist.specs.NetOf.{netOf}
+use Rattle.netlist.specs.NetOf.{netOf, alone}
 use Rattle.netlist.specs.Faults.{codeFault}
 use Rattle.limits.specs.AnyLine.{anyLatch, anyGate, anyInPort, anyLine}
 use Rattle.limits.proofs.any_code_fault.Statement.{statement}
@@ -31,7 +30,7 @@ returns : tie.Need-returns
 unfolding netOf codeFault anyLatch anyGate anyInPort anyLine
 returns c =
     let net = c .before .before .before .before .before .args .net in
-    let own : (g : ℕ) → c .before .before .before .gate-wire .result + g ≡ gateWire (netOf net [] []) g = λ g. omega (arith, c .before .before .before .gate-wire .ensures) in
+    let own : (g : ℕ) → c .before .before .before .gate-wire .result + g ≡ gateWire (alone net) g = λ g. omega (arith, c .before .before .before .gate-wire .ensures) in
     rw (c .before .before .any-latch .ensures, c .before .any-gate .ensures, c .any-in-port .ensures, c .before .before .before .before .last-wire .ensures)
     (simp own)
 

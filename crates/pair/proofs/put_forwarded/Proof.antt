@@ -3,7 +3,6 @@ use Prim.Native.Nat.{_-_}
 use native.Mathlib.Omega.{arith}
 use borrow.Author.Needs.{needs}
 use Rattle.netlist.specs.NetOf.{codeOf, netOf}
-use Rattle.places.specs.Alone.{alone}
 use Rattle.places.specs.PortOf.{portOf}
 use Rattle.places.proofs.Room.{wire-has-number, code-has-number}
 use Rattle.literals.specs.Lit.{literalOf}
@@ -28,11 +27,11 @@ frame-base-requires-2 : tie.Need-frame-base-requires-2 Inv-loop μ-loop
 frame-base-requires-2 c κs = search needs
 
 add-first : tie.Need-add-first Inv-loop μ-loop
-unfolding alone netOf portOf
+unfolding netOf portOf
 add-first c = search needs
 
 add-first-2 : tie.Need-add-first-2 Inv-loop μ-loop
-unfolding alone netOf portOf
+unfolding netOf portOf
 add-first-2 c = search needs
 
 loop-holds : tie.Need-loop-holds Inv-loop μ-loop
@@ -41,15 +40,15 @@ loop-holds c =
     turns-start _ _ _ (rw (forwarded-bits (a .t2) (a .port) (a .j) (a .i) _ (c .before .before .selected .ensures .0) (c .frame-base2 .ensures) (c .before .frame-base .ensures)) at (c .before .before .before .pre .1))
 
 cast-wd : tie.Need-cast-wd Inv-loop μ-loop
-unfolding alone netOf portOf
+unfolding netOf portOf
 cast-wd c = search needs
 
 mul-wd : tie.Need-mul-wd Inv-loop μ-loop
-unfolding alone netOf portOf
+unfolding netOf portOf
 mul-wd c = search needs
 
 element-copy-out-wd : tie.Need-element-copy-out-wd Inv-loop μ-loop
-unfolding alone netOf portOf
+unfolding netOf portOf
 element-copy-out-wd c = search needs
 
 mul-put-forwarded-bit : tie.Need-mul-put-forwarded-bit Inv-loop μ-loop
@@ -65,28 +64,28 @@ part-put-forwarded-bit-end : tie.Need-part-put-forwarded-bit-end Inv-loop μ-loo
 part-put-forwarded-bit-end c = search needs
 
 add-t30 : tie.Need-add-t30 Inv-loop μ-loop
-unfolding alone netOf portOf
+unfolding netOf portOf
 add-t30 c = search needs
 
 add-t31 : tie.Need-add-t31 Inv-loop μ-loop
-unfolding alone netOf portOf
+unfolding netOf portOf
 add-t31 c = search needs
 
 put-forwarded-bit-requires : tie.Need-put-forwarded-bit-requires Inv-loop μ-loop
-unfolding codeOf alone netOf portOf
+unfolding codeOf netOf portOf
 put-forwarded-bit-requires c κs =
     let is = c .before .before .before .before .before .before .before .pre .0 in
     let t = c .before .before .before .loop .t in
     let h = c .before .before .loop-test .taken in (
       c .before .before .before .before .before .before .selected .ensures .1,
-      rw (c .before .before .before .before .frame-base2 .ensures) (wire-has-number _ (is .fits .sizes) _ _ (is .depth) (omega arith)),
+      rw (c .before .before .before .before .frame-base2 .ensures) (wire-has-number _ (is .fits .limits .sizes) _ _ (is .depth) (omega arith)),
       omega arith,
-      rw (c .before .before .before .before .before .frame-base .ensures) (code-has-number _ (is .fits .sizes) _ _ (omega arith) (is .fits .codes .data-fits t h)),
+      rw (c .before .before .before .before .before .frame-base .ensures) (code-has-number _ (is .fits .limits .sizes) _ _ (omega arith) (is .fits .limits .codes .data-fits t h)),
       turns-room (c .before .before .before .loop .inv) h,
     )
 
 add-at : tie.Need-add-at Inv-loop μ-loop
-unfolding codeOf alone netOf portOf
+unfolding codeOf netOf portOf
 add-at c =
     let count = turns-count (c .before .before .before .before .before .loop .inv) (c .before .before .before .before .loop-test .taken) (c .before .put-forwarded-bit .ensures .counted) in
     search needs
@@ -98,7 +97,7 @@ loop-less : tie.Need-loop-less Inv-loop μ-loop
 loop-less c = search needs
 
 loop-again : tie.Need-loop-again Inv-loop μ-loop
-unfolding codeOf alone netOf portOf
+unfolding codeOf netOf portOf
 loop-again c =
     turns-next (c .before .before .before .before .before .loop .inv) (c .before .before .before .before .loop-test .taken) (c .before .put-forwarded-bit .ensures)
 

@@ -1,13 +1,12 @@
 -- `places::port_of` meets its contract. Assumes nothing.
 use mathlib.Core.Path.{refl}
 use Rattle.netlist.specs.NetOf.{netOf}
-use Rattle.places.specs.Alone.{alone}
 use Rattle.places.specs.PortOf.{portOf}
 use Rattle.places.proofs.port_of.Statement.{statement}
 use Rattle.places.proofs.port_of.Tie as tie
 
 returns : tie.Need-returns
-unfolding alone portOf netOf
+unfolding portOf netOf
 returns c = refl
 
 pub port-of-spec : {M : Type 1} → statement M

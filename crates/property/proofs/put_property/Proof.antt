@@ -5,7 +5,7 @@ use borrow.Author.Needs.{needs}
 use Rattle.model.specs.Clauses.{gather}
 use Rattle.model.specs.Groups.{violationOf, clausesOf}
 use Rattle.model.specs.Numbers.{numbersOf}
-use Rattle.places.specs.Alone.{alone}
+use Rattle.netlist.specs.NetOf.{alone}
 use Rattle.writer.proofs.Wrote.{rest-within, rest-room, wrote-then}
 use Rattle.writer.proofs.Turns.{written-ended, length-ended}
 use Rattle.property.proofs.put_property.Statement.{statement}

@@ -2,9 +2,8 @@
 -- Assumes nothing.
 use Prim.Native.Nat.{_-_, _≤_}
 use mathlib.Core.Bool.{true}
-use mathlib.Core.List.{[]}
 use native.Mathlib.Omega.{arith}
-use Rattle.netlist.specs.NetOf.{netOf}
+use Rattle.netlist.specs.NetOf.{netOf, alone}
 use Rattle.records.specs.Dependence.{Table}
 use Rattle.records.proofs.Dependence.{table-none, table-set, table-same, between, between-none, between-next, between-isRead}
 use Rattle.records.proofs.read_bits.Statement.{statement}
@@ -65,7 +64,7 @@ returns : tie.Need-returns Inv-loop μ-loop
 unfolding netOf
 returns c =
     let net = c .before .before .before .before .before .args .net in
-    table-same (between-isRead (netOf net [] []) _ (c .before .loop .w) (omega arith) (omega arith))
+    table-same (between-isRead (alone net) _ (c .before .loop .w) (omega arith) (omega arith))
     (c .before .loop .inv .2)
 
 pub read-bits-spec : {M : Type 1} → statement M

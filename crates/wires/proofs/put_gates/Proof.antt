@@ -4,8 +4,7 @@ use mathlib.Core.List.{[]}
 use native.Mathlib.Omega.{arith}
 use borrow.Author.Needs.{needs}
 use Rattle.netlist.specs.NetOf.{netOf}
-use Rattle.places.specs.Alone.{alone}
-use Rattle.places.proofs.Lists.{sizes-without}
+use Rattle.netlist.proofs.NetOf.{sizes-lists}
 use Rattle.places.proofs.Room.{wire-has-number, code-has-number}
 use Rattle.writer.proofs.Turns.{Turns, turns-start, turns-room, turns-count, turns-next, turns-end}
 use Rattle.wires.proofs.WiresOf.{gateAt, all-gates}
@@ -19,19 +18,19 @@ abbrev μ-loop : tie.MeasureT-loop
 μ-loop out₀ gates i b first n at₀ g₀ out at g = n - g
 
 frame-base-requires : tie.Need-frame-base-requires Inv-loop μ-loop
-unfolding alone netOf
-frame-base-requires c κs = (sizes-without (c .args .net) [] (c .args .gates .now) [] [] (c .pre .0 .sizes), omega arith)
+unfolding netOf
+frame-base-requires c κs = (sizes-lists (c .args .net) [] (c .args .gates .now) [] [] (c .pre .0 .limits .sizes), omega arith)
 
 add-first : tie.Need-add-first Inv-loop μ-loop
-unfolding alone netOf
+unfolding netOf
 add-first c = search needs
 
 add-first-2 : tie.Need-add-first-2 Inv-loop μ-loop
-unfolding alone netOf
+unfolding netOf
 add-first-2 c = search needs
 
 add-first-3 : tie.Need-add-first-3 Inv-loop μ-loop
-unfolding alone netOf
+unfolding netOf
 add-first-3 c = search needs
 
 loop-holds : tie.Need-loop-holds Inv-loop μ-loop
@@ -39,39 +38,39 @@ loop-holds c =
     turns-start _ _ _ (rw (all-gates (c .before .before .before .before .args .net) (c .before .before .before .before .args .gates .now) (c .before .before .before .before .args .i) _ (c .before .before .before .frame-base .ensures)) at (c .before .before .before .before .pre .1))
 
 mul-t15 : tie.Need-mul-t15 Inv-loop μ-loop
-unfolding alone netOf
+unfolding netOf
 mul-t15 c = search needs
 
 cast-t16 : tie.Need-cast-t16 Inv-loop μ-loop
-unfolding alone netOf
+unfolding netOf
 cast-t16 c = search needs
 
 mul-t17 : tie.Need-mul-t17 Inv-loop μ-loop
-unfolding alone netOf
+unfolding netOf
 mul-t17 c = search needs
 
 element-copy-out-t20 : tie.Need-element-copy-out-t20 Inv-loop μ-loop
-unfolding alone netOf
+unfolding netOf
 element-copy-out-t20 c = search needs
 
 mul-t15-2 : tie.Need-mul-t15-2 Inv-loop μ-loop
-unfolding alone netOf
+unfolding netOf
 mul-t15-2 c = search needs
 
 add-t20 : tie.Need-add-t20 Inv-loop μ-loop
-unfolding alone netOf
+unfolding netOf
 add-t20 c = search needs
 
 cast-t17 : tie.Need-cast-t17 Inv-loop μ-loop
-unfolding alone netOf
+unfolding netOf
 cast-t17 c = search needs
 
 mul-t16 : tie.Need-mul-t16 Inv-loop μ-loop
-unfolding alone netOf
+unfolding netOf
 mul-t16 c = search needs
 
 element-copy-out-t23 : tie.Need-element-copy-out-t23 Inv-loop μ-loop
-unfolding alone netOf
+unfolding netOf
 element-copy-out-t23 c = search needs
 
 mul-put-gate : tie.Need-mul-put-gate Inv-loop μ-loop
@@ -87,14 +86,14 @@ part-put-gate-end : tie.Need-part-put-gate-end Inv-loop μ-loop
 part-put-gate-end c = search needs
 
 add-t15 : tie.Need-add-t15 Inv-loop μ-loop
-unfolding alone netOf
+unfolding netOf
 add-t15 c = search needs
 
 put-gate-requires : tie.Need-put-gate-requires Inv-loop μ-loop
-unfolding alone netOf
+unfolding netOf
 put-gate-requires c κs =
-    let sizes = sizes-without (c .before .before .before .before .before .before .before .before .before .args .net) [] (c .before .before .before .before .before .before .before .before .before .args .gates .now) [] [] (c .before .before .before .before .before .before .before .before .before .pre .0 .sizes) in
-    let codes = c .before .before .before .before .before .before .before .before .before .pre .0 .codes in (
+    let sizes = sizes-lists (c .before .before .before .before .before .before .before .before .before .args .net) [] (c .before .before .before .before .before .before .before .before .before .args .gates .now) [] [] (c .before .before .before .before .before .before .before .before .before .pre .0 .limits .sizes) in
+    let codes = c .before .before .before .before .before .before .before .before .before .pre .0 .limits .codes in (
       rw (c .before .before .before .before .before .before .before .before .frame-base .ensures) (wire-has-number _ sizes _ _ (c .before .before .before .before .before .before .before .before .before .pre .0 .depth) (omega arith)),
       omega arith,
       rw (c .before .before .before .before .before .before .before .before .frame-base .ensures) (code-has-number _ sizes _ _ (c .before .before .before .before .before .before .before .before .before .pre .0 .depth) (omega (arith, codes .left-fits (c .before .before .before .before .loop .g) (c .before .before .before .loop-test .taken)))),
