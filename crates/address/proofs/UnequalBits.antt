@@ -9,10 +9,10 @@ use Rattle.model.specs.Clauses.{plus, neg, gather, unequalOf}
 use Rattle.model.specs.Variables.{pairBase, pairLiterals}
 use Rattle.model.specs.Numbers.{numberOf}
 use Rattle.netlist.specs.declared.Netlist.{Netlist}
-use Rattle.places.specs.declared.Port.{Port}
+use Rattle.variables.specs.declared.Port.{Port}
 use Rattle.netlist.specs.NetOf.{alone}
-use Rattle.places.specs.PortOf.{portOf}
-use Rattle.places.specs.OfPair.{ofPair}
+use Rattle.variables.specs.PortOf.{portOf}
+use Rattle.variables.specs.OfPair.{ofPair}
 use Rattle.writer.proofs.Turns.{numbers-gather}
 
 -- ¬e of bit t, in a pair that starts after q

@@ -3,7 +3,7 @@
 use literals::Code;
 use literals::Lit;
 use netlist::Netlist;
-use places::Port;
+use variables::Port;
 ghost use Prim.Native.Nat.{_+_, _/_, _≤_};
 ghost use mathlib.Core.List.{[], _∷_, map};
 ghost use lib.ListN.{length};
@@ -11,7 +11,7 @@ ghost use Rattle.model.specs.Clauses.{plus, bitClauses, gather, bitOf, unequalO
 ghost use Rattle.model.specs.Variables.{codeAt};
 ghost use Rattle.model.specs.Numbers.{numberOf, written};
 ghost use Rattle.literals.specs.Lit.{HasNumber};
-ghost use Rattle.places.specs.OfPair.{ofPair, PairFits};
+ghost use Rattle.variables.specs.OfPair.{ofPair, PairFits};
 ghost use Rattle.model.specs.Wrote.{Wrote};
 
 // The four clauses of address bit t, code `x` in the writing frame and code `y` in the reading one, at a pair that starts after q.
@@ -46,9 +46,9 @@ pub fn put_address_bits(out: &mut [i32], net: Netlist, port: Port, j: u32, i: u3
     requires { ⌜ PairFits net port j i × (length (written (gather (net .m) (bitOf (ofPair net port j i)))) ≤ length (now out)) ⌝ }
     ensures { λ r. ⌜ Wrote (written (gather (net .m) (bitOf (ofPair net port j i)))) (now (out .entry)) (now (out .exit)) r ⌝ }
 {
-    let q = places::pair_base(net, port, j, i);
-    let writing = places::frame_base(net, j);
-    let reading = places::frame_base(net, i);
+    let q = variables::pair_base(net, port, j, i);
+    let writing = variables::frame_base(net, j);
+    let reading = variables::frame_base(net, i);
     let m = net.m;
     let mut at: usize = 0;
     let mut t: u32 = 0;
@@ -66,7 +66,7 @@ fn put_unequal_bits(out: &mut [i32], net: Netlist, port: Port, j: u32, i: u32) -
     requires { ⌜ PairFits net port j i × (length (map numberOf (gather (net .m) (unequalOf (ofPair net port j i)))) ≤ length (now out)) ⌝ }
     ensures { λ r. ⌜ Wrote (map numberOf (gather (net .m) (unequalOf (ofPair net port j i)))) (now (out .entry)) (now (out .exit)) r ⌝ }
 {
-    let q = places::pair_base(net, port, j, i);
+    let q = variables::pair_base(net, port, j, i);
     let m = net.m;
     let mut at: usize = 0;
     let mut t: u32 = 0;
@@ -83,7 +83,7 @@ pub fn put_all_bits(out: &mut [i32], net: Netlist, port: Port, j: u32, i: u32) -
     requires { ⌜ PairFits net port j i × (length (written (allBits (net .m) (ofPair net port j i) ∷ [])) ≤ length (now out)) ⌝ }
     ensures { λ r. ⌜ Wrote (written (allBits (net .m) (ofPair net port j i) ∷ [])) (now (out .entry)) (now (out .exit)) r ⌝ }
 {
-    let equal = Lit::in_pair(places::pair_base(net, port, j, i), 1);
+    let equal = Lit::in_pair(variables::pair_base(net, port, j, i), 1);
     let at = put_unequal_bits(out, net, port, j, i);
     at + writer::put_unit(&mut out[at..], equal)
 }

@@ -17,8 +17,8 @@ use Rattle.model.proofs.Variables.{pairBase-base}
 use Rattle.model.proofs.Joined.{written-append}
 use Rattle.netlist.specs.NetOf.{netOf, alone}
 use Rattle.netlist.specs.declared.Netlist.{Netlist}
-use Rattle.places.specs.declared.Port as R
-use Rattle.places.specs.PortOf.{portOf}
+use Rattle.variables.specs.declared.Port as R
+use Rattle.variables.specs.PortOf.{portOf}
 use Rattle.writer.proofs.Turns.{written-gather, numbers-gather, gather-same, length-written}
 use Rattle.closing.specs.OfClosing.{ofClosing}
 

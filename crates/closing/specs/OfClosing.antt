@@ -4,10 +4,10 @@ use Prim.Native.Nat.{ℕ, _≤_}
 use Rattle.model.specs.Clauses.{ClosingLiterals}
 use Rattle.model.specs.Variables.{closingLiterals}
 use Rattle.netlist.specs.declared.Netlist.{Netlist}
-use Rattle.places.specs.declared.Port.{Port}
+use Rattle.variables.specs.declared.Port.{Port}
 use Rattle.netlist.specs.NetOf.{alone}
-use Rattle.places.specs.PortOf.{portOf}
-use Rattle.places.specs.PortFits.{PortFits}
+use Rattle.variables.specs.PortOf.{portOf}
+use Rattle.variables.specs.PortFits.{PortFits}
 
 abbrev pub ofClosing : Netlist → Port → ℕ → ClosingLiterals
 ofClosing net port i = closingLiterals (alone net) (portOf port) i

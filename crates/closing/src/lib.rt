@@ -3,7 +3,7 @@
 use literals::Lit;
 use literals::Wire;
 use netlist::Netlist;
-use places::Port;
+use variables::Port;
 ghost use Prim.Native.Nat.{_≤_, _<_};
 ghost use mathlib.Core.List.{[], _∷_, map};
 ghost use lib.ListN.{length};
@@ -37,8 +37,8 @@ fn put_initial_reads(out: &mut [i32], net: Netlist, port: Port, i: u32) -> usize
     requires { ⌜ ClosingFits net port i × (length (written (gather (net .n) (initialRead (ofClosing net port i)))) ≤ length (now out)) ⌝ }
     ensures { λ r. ⌜ Wrote (written (gather (net .n) (initialRead (ofClosing net port i)))) (now (out .entry)) (now (out .exit)) r ⌝ }
 {
-    let none_since = places::none_since(net, port, 0, i);
-    let reading = places::frame_base(net, i);
+    let none_since = variables::none_since(net, port, 0, i);
+    let reading = variables::frame_base(net, i);
     let first = 1 + net.inputs + net.latches;
     let read = port.first_read;
     let word = net.initial_word;
@@ -65,8 +65,8 @@ fn put_sources(out: &mut [i32], net: Netlist, port: Port, i: u32) -> usize
     requires { ⌜ ClosingFits net port i × (length (map numberOf (gather i (selectedOf (ofClosing net port i)))) ≤ length (now out)) ⌝ }
     ensures { λ r. ⌜ Wrote (map numberOf (gather i (selectedOf (ofClosing net port i)))) (now (out .entry)) (now (out .exit)) r ⌝ }
 {
-    let q = places::pair_base(net, port, 0, i);
-    let numbering = places::numbering(net);
+    let q = variables::pair_base(net, port, 0, i);
+    let numbering = variables::numbering(net);
     let stride = numbering.stride;
     let offset = net.m + 4;
     let mut at: usize = 0;
@@ -93,8 +93,8 @@ fn put_some_source(out: &mut [i32], net: Netlist, port: Port, i: u32) -> usize
     requires { ⌜ ClosingFits net port i × (length (written (someSource i (ofClosing net port i) ∷ [])) ≤ length (now out)) ⌝ }
     ensures { λ r. ⌜ Wrote (written (someSource i (ofClosing net port i) ∷ [])) (now (out .entry)) (now (out .exit)) r ⌝ }
 {
-    let read_enable = port.re.in_frame(places::frame_base(net, i));
-    let none_since = places::none_since(net, port, 0, i);
+    let read_enable = port.re.in_frame(variables::frame_base(net, i));
+    let none_since = variables::none_since(net, port, 0, i);
     let a = writer::put_literal(out, read_enable.negated());
     let b = a + writer::put_literal(&mut out[a..], none_since);
     b + put_last_sources(&mut out[b..], net, port, i)

@@ -21,7 +21,7 @@ use Rattle.model.specs.declared.Group.the-variants.{Wires, Pair, Closing, Prope
 use Rattle.model.proofs.Booleans.{and-true}
 use Rattle.netlist.specs.NetOf.{netOf, alone}
 use Rattle.netlist.specs.declared.Netlist.{Netlist}
-use Rattle.places.specs.PortFits.{PortFits}
+use Rattle.variables.specs.PortFits.{PortFits}
 use Rattle.netlist.proofs.NetOf.{limits-alone}
 
 module _ (r : Netlist) (ls gs : List ℕ) where

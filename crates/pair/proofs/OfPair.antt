@@ -11,10 +11,10 @@ use Rattle.model.specs.Numbers.{written}
 use Rattle.model.proofs.Joined.{written-append}
 use Rattle.netlist.specs.NetOf.{codeOf, netOf, alone}
 use Rattle.netlist.specs.declared.Netlist.{Netlist}
-use Rattle.places.specs.declared.Port.{Port}
-use Rattle.places.specs.PortOf.{portOf}
+use Rattle.variables.specs.declared.Port.{Port}
+use Rattle.variables.specs.PortOf.{portOf}
 use Rattle.writer.proofs.Turns.{written-gather}
-use Rattle.places.specs.OfPair.{ofPair}
+use Rattle.variables.specs.OfPair.{ofPair}
 use Rattle.select.specs.SelectClauses.{selectClauses, selectOf}
 
 -- the clauses of data bit t, from S, the frames' bases, the read wires before the port's and the port's before it, the write data

@@ -8,7 +8,7 @@ ghost use Rattle.model.specs.Groups.{violationOf};
 ghost use Rattle.model.specs.Numbers.{numberOf, numbersOf};
 ghost use Rattle.model.specs.declared.Group.the-variants.{Property};
 ghost use Rattle.netlist.specs.NetOf.{alone};
-ghost use Rattle.places.specs.FrameFits.{FrameFits};
+ghost use Rattle.variables.specs.FrameFits.{FrameFits};
 ghost use Rattle.model.specs.Wrote.{Wrote};
 
 // ¬P of each frame from 0 to k.
@@ -16,7 +16,7 @@ fn put_violations(out: &mut [i32], net: Netlist, k: u32) -> usize
     requires { ⌜ FrameFits (alone net) k × (length (map numberOf (gather (k + 1) (violationOf (alone net)))) ≤ length (now out)) ⌝ }
     ensures { λ r. ⌜ Wrote (map numberOf (gather (k + 1) (violationOf (alone net)))) (now (out .entry)) (now (out .exit)) r ⌝ }
 {
-    let numbering = places::numbering(net);
+    let numbering = variables::numbering(net);
     let p = net.p;
     let mut at: usize = 0;
     let mut i: u32 = 0;

@@ -1,12 +1,12 @@
 // The three gates of a pair (j, i) at a port (document 01, "Pair (j, i)"): which earlier write a read takes.
 use literals::Lit;
 use netlist::Netlist;
-use places::Port;
+use variables::Port;
 ghost use Prim.Native.Nat.{_≤_};
 ghost use lib.ListN.{length};
 ghost use Rattle.model.specs.Numbers.{written};
 ghost use Rattle.literals.specs.Lit.{literalOf, IsLit};
-ghost use Rattle.places.specs.OfPair.{ofPair, PairFits};
+ghost use Rattle.variables.specs.OfPair.{ofPair, PairFits};
 ghost use Rattle.model.specs.Wrote.{Wrote};
 ghost use Rattle.select.specs.SelectClauses.{selectClauses, selectOf};
 
@@ -28,13 +28,13 @@ pub fn put_select(out: &mut [i32], net: Netlist, port: Port, j: u32, i: u32) -> 
     requires { ⌜ PairFits net port j i × (length (written (selectOf (ofPair net port j i))) ≤ length (now out)) ⌝ }
     ensures { λ r. ⌜ Wrote (written (selectOf (ofPair net port j i))) (now (out .entry)) (now (out .exit)) r ⌝ }
 {
-    let q = places::pair_base(net, port, j, i);
+    let q = variables::pair_base(net, port, j, i);
     let equal = Lit::in_pair(q, 1);
     let valid = Lit::in_pair(q, net.m + 2);
-    let write_enable = net.we.in_frame(places::frame_base(net, j));
-    let none_since = places::none_since(net, port, j, i);
-    let selected = places::selected(net, port, j, i);
-    let none_after = places::none_since(net, port, j + 1, i);
+    let write_enable = net.we.in_frame(variables::frame_base(net, j));
+    let none_since = variables::none_since(net, port, j, i);
+    let selected = variables::selected(net, port, j, i);
+    let none_after = variables::none_since(net, port, j + 1, i);
     put_gates(
         out,
         valid,

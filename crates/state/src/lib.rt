@@ -15,7 +15,7 @@ ghost use Rattle.model.specs.Groups.{resetClause, latchClauses, stateClauses};
 ghost use Rattle.model.specs.Numbers.{written};
 ghost use Rattle.literals.specs.Lit.{HasNumber};
 ghost use Rattle.netlist.specs.NetOf.{netOf};
-ghost use Rattle.places.specs.FrameFits.{FrameFits};
+ghost use Rattle.variables.specs.FrameFits.{FrameFits};
 ghost use Rattle.model.specs.Wrote.{Wrote};
 
 // A latch's own literal in frame 0, inverted if its reset is 0.
@@ -39,7 +39,7 @@ fn put_resets(out: &mut [i32], net: Netlist, latches: &[u32; 1200]) -> usize
     ensures { λ r. ⌜ Wrote (written (gather (net .latches) (resetClause (netOf net (now (latches .entry)) []))))
         (now (out .entry)) (now (out .exit)) r ⌝ }
 {
-    let b = places::frame_base(net, 0);
+    let b = variables::frame_base(net, 0);
     let first = 1 + net.inputs;
     let n = net.latches;
     let mut at: usize = 0;
@@ -68,8 +68,8 @@ fn put_latches(out: &mut [i32], net: Netlist, latches: &[u32; 1200], i: u32) -> 
     ensures { λ r. ⌜ Wrote (written (gather (net .latches) (latchClauses (netOf net (now (latches .entry)) []) i)))
         (now (out .entry)) (now (out .exit)) r ⌝ }
 {
-    let before = places::frame_base(net, i);
-    let b = places::frame_base(net, i + 1);
+    let before = variables::frame_base(net, i);
+    let b = variables::frame_base(net, i + 1);
     let first = 1 + net.inputs;
     let n = net.latches;
     let mut at: usize = 0;

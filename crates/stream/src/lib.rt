@@ -37,7 +37,7 @@ pub fn print_header(
     requires { ⌜ Accepted (netOf net (now latches) (now gates)) × (depth ≤ 255) × (28 ≤ length (now text)) ⌝ }
     ensures { λ r. ⌜ Wrote (formulaHeader (netOf net (now (latches .entry)) (now (gates .entry))) depth) (now (text .entry)) (now (text .exit)) r × (r ≤ 28) ⌝ }
 {
-    let variables = places::frame_base(net, depth + 1);
+    let variables = variables::frame_base(net, depth + 1);
     let clauses = unrolling::lengths::clause_count(net, latches, gates, depth);
     print_counts(text, variables, clauses)
 }

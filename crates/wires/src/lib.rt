@@ -13,7 +13,7 @@ ghost use Rattle.model.specs.Numbers.{written, numbersOf};
 ghost use Rattle.model.specs.declared.Group.the-variants.{Wires};
 ghost use Rattle.literals.specs.Lit.{HasNumber};
 ghost use Rattle.netlist.specs.NetOf.{netOf};
-ghost use Rattle.places.specs.FrameFits.{FrameFits};
+ghost use Rattle.variables.specs.FrameFits.{FrameFits};
 ghost use Rattle.model.specs.Wrote.{Wrote};
 
 // A gate in a frame that starts after b.
@@ -33,7 +33,7 @@ fn put_gates(out: &mut [i32], net: Netlist, gates: &[u32; 1200], i: u32) -> usiz
     ensures { λ r. ⌜ Wrote (written (gather (net .gates) (gateClauses (netOf net [] (now (gates .entry))) i)))
         (now (out .entry)) (now (out .exit)) r ⌝ }
 {
-    let b = places::frame_base(net, i);
+    let b = variables::frame_base(net, i);
     let first = 1 + net.inputs + net.latches + net.n;
     let n = net.gates;
     let mut at: usize = 0;

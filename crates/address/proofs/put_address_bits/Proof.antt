@@ -6,17 +6,17 @@ use Rattle.model.specs.Clauses.{bitOf}
 use Rattle.model.specs.Variables.{pairLiterals}
 use Rattle.model.specs.Numbers.{written}
 use Rattle.netlist.specs.NetOf.{codeOf, netOf}
-use Rattle.places.specs.PortOf.{portOf}
-use Rattle.places.proofs.Room.{code-has-number, pair-has-number}
+use Rattle.variables.specs.PortOf.{portOf}
+use Rattle.variables.proofs.Room.{code-has-number, pair-has-number}
 use Rattle.writer.proofs.Turns.{Turns, written-gather, turns-start, turns-room, turns-count, turns-next, turns-end}
-use Rattle.places.specs.OfPair.{ofPair}
+use Rattle.variables.specs.OfPair.{ofPair}
 use Rattle.address.proofs.put_address_bits.Statement.{statement}
 use Rattle.address.proofs.put_address_bits.Tie as tie
 use Rattle.address.proofs.put_address_bits.Reads as reads
 use Rattle.address.proofs.put_address_bits.Lts as lts
 use Rattle.address.proofs.put_address_bit.Reads as put-address-bit-reads
-use Rattle.places.proofs.frame_base.Reads as frame-base-reads
-use Rattle.places.proofs.pair_base.Reads as pair-base-reads
+use Rattle.variables.proofs.frame_base.Reads as frame-base-reads
+use Rattle.variables.proofs.pair_base.Reads as pair-base-reads
 
 abbrev Inv-loop : tie.InvT-loop
 Inv-loop out₀ j i net port q writing reading m at₀ t₀ out at t = Turns (net .m) (λ s. written (bitOf (ofPair net port j i) s)) out₀ out t at

@@ -5,10 +5,10 @@ use borrow.Author.Needs.{needs}
 use Rattle.model.specs.Clauses.{gather, unequalOf, allBits}
 use Rattle.model.specs.Variables.{pairLiterals}
 use Rattle.model.specs.Numbers.{written}
-use Rattle.places.proofs.Room.{pair-has-number}
+use Rattle.variables.proofs.Room.{pair-has-number}
 use Rattle.writer.proofs.Wrote.{rest-within, rest-room, wrote-then}
 use Rattle.writer.proofs.Turns.{written-clause, length-clause}
-use Rattle.places.specs.OfPair.{ofPair}
+use Rattle.variables.specs.OfPair.{ofPair}
 use Rattle.address.proofs.put_all_bits.Statement.{statement}
 use Rattle.address.proofs.put_all_bits.Tie as tie
 

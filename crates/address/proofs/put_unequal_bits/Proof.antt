@@ -3,7 +3,7 @@ use Prim.Native.Nat.{_-_}
 use native.Mathlib.Omega.{arith}
 use borrow.Author.Needs.{needs}
 use Rattle.netlist.specs.NetOf.{netOf}
-use Rattle.places.proofs.Room.{pair-has-number}
+use Rattle.variables.proofs.Room.{pair-has-number}
 use Rattle.writer.proofs.Turns.{Turns, turns-start, turns-room, turns-count, turns-next, turns-end}
 use Rattle.address.proofs.UnequalBits.{unequalBit, unequal-bits}
 use Rattle.address.proofs.put_unequal_bits.Statement.{statement}

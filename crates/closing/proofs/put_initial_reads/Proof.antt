@@ -4,8 +4,8 @@ use native.Mathlib.Omega.{arith}
 use borrow.Author.Needs.{needs}
 use Rattle.netlist.specs.NetOf.{netOf}
 use Rattle.literals.specs.Lit.{literalOf}
-use Rattle.places.specs.PortOf.{portOf}
-use Rattle.places.proofs.Room.{wire-has-number}
+use Rattle.variables.specs.PortOf.{portOf}
+use Rattle.variables.proofs.Room.{wire-has-number}
 use Rattle.writer.proofs.Turns.{Turns, turns-start, turns-room, turns-count, turns-next, turns-end}
 use Rattle.closing.proofs.OfClosing.{initialBit, initial-bits}
 use Rattle.closing.proofs.put_initial_reads.Statement.{statement}

@@ -6,8 +6,8 @@ use Rattle.model.specs.Clauses.{neg, someSource}
 use Rattle.model.specs.Variables.{closingLiterals}
 use Rattle.model.specs.Numbers.{written}
 use Rattle.netlist.specs.NetOf.{netOf, alone}
-use Rattle.places.specs.PortOf.{portOf}
-use Rattle.places.proofs.Room.{code-has-number}
+use Rattle.variables.specs.PortOf.{portOf}
+use Rattle.variables.proofs.Room.{code-has-number}
 use Rattle.writer.proofs.Wrote.{rest-within, rest-room, wrote-then}
 use Rattle.closing.proofs.put_some_source.Statement.{statement}
 use Rattle.closing.proofs.put_some_source.Tie as tie

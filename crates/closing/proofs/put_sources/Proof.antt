@@ -3,8 +3,8 @@ use Prim.Native.Nat.{_+_, _-_}
 use native.Mathlib.Omega.{arith}
 use borrow.Author.Needs.{needs}
 use Rattle.netlist.specs.NetOf.{netOf, alone}
-use Rattle.places.specs.PortOf.{portOf}
-use Rattle.places.proofs.Room.{pair-has-number}
+use Rattle.variables.specs.PortOf.{portOf}
+use Rattle.variables.proofs.Room.{pair-has-number}
 use Rattle.writer.proofs.Turns.{Turns, turns-start, turns-room, turns-count, turns-next, turns-end}
 use Rattle.closing.proofs.OfClosing.{source-base, sourceAt, sources}
 use Rattle.closing.proofs.put_sources.Statement.{statement}

@@ -3,8 +3,8 @@ use Prim.Native.Nat.{_-_}
 use native.Mathlib.Omega.{arith}
 use borrow.Author.Needs.{needs}
 use Rattle.netlist.specs.NetOf.{codeOf, netOf}
-use Rattle.places.specs.PortOf.{portOf}
-use Rattle.places.proofs.Room.{wire-has-number, code-has-number}
+use Rattle.variables.specs.PortOf.{portOf}
+use Rattle.variables.proofs.Room.{wire-has-number, code-has-number}
 use Rattle.literals.specs.Lit.{literalOf}
 use Rattle.writer.proofs.Turns.{Turns, turns-start, turns-room, turns-count, turns-next, turns-end}
 use Rattle.pair.proofs.OfPair.{forwardedBit, forwarded-bits}

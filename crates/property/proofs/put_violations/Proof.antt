@@ -4,7 +4,7 @@ use native.Mathlib.Omega.{arith}
 use borrow.Author.Needs.{needs}
 use Rattle.model.specs.Variables.{base}
 use Rattle.netlist.specs.NetOf.{netOf}
-use Rattle.places.proofs.Room.{code-has-number}
+use Rattle.variables.proofs.Room.{code-has-number}
 use Rattle.writer.proofs.Turns.{Turns, turns-start, turns-room, turns-count, turns-next, turns-end}
 use Rattle.property.proofs.Violations.{violation, violations}
 use Rattle.property.proofs.put_violations.Statement.{statement}

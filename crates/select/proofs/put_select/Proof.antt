@@ -6,8 +6,8 @@ use Rattle.model.specs.Clauses.{andClauses}
 use Rattle.model.specs.Numbers.{written}
 use Rattle.model.specs.Variables.{pairLiterals}
 use Rattle.netlist.specs.NetOf.{netOf, alone}
-use Rattle.places.specs.PortOf.{portOf}
-use Rattle.places.proofs.Room.{code-has-number, pair-has-number, behind-bits}
+use Rattle.variables.specs.PortOf.{portOf}
+use Rattle.variables.proofs.Room.{code-has-number, pair-has-number, behind-bits}
 use Rattle.select.specs.SelectClauses.{selectOf, selectClauses}
 use Rattle.select.proofs.put_select.Statement.{statement}
 use Rattle.select.proofs.put_select.Tie as tie

@@ -1,13 +1,13 @@
--- `places::selected` meets its contract. Assumes nothing.
+-- `variables::selected` meets its contract. Assumes nothing.
 use mathlib.Core.Path.{_∙_}
 use native.Mathlib.Omega.{arith}
 use borrow.Author.Needs.{needs}
 use Rattle.model.specs.Variables.{selected}
 use Rattle.netlist.specs.NetOf.{netOf, alone}
-use Rattle.places.specs.PortOf.{portOf}
-use Rattle.places.proofs.Room.{pair-has-number, behind-bits}
-use Rattle.places.proofs.selected.Statement.{statement}
-use Rattle.places.proofs.selected.Tie as tie
+use Rattle.variables.specs.PortOf.{portOf}
+use Rattle.variables.proofs.Room.{pair-has-number, behind-bits}
+use Rattle.variables.proofs.selected.Statement.{statement}
+use Rattle.variables.proofs.selected.Tie as tie
 
 pair-base-requires : tie.Need-pair-base-requires
 pair-base-requires c κs = search needs

@@ -4,10 +4,10 @@ use Prim.Native.Nat.{ℕ, _≤_, _<_}
 use Rattle.model.specs.Clauses.{PairLiterals}
 use Rattle.model.specs.Variables.{pairLiterals}
 use Rattle.netlist.specs.declared.Netlist.{Netlist}
-use Rattle.places.specs.declared.Port.{Port}
+use Rattle.variables.specs.declared.Port.{Port}
 use Rattle.netlist.specs.NetOf.{alone}
-use Rattle.places.specs.PortOf.{portOf}
-use Rattle.places.specs.PortFits.{PortFits}
+use Rattle.variables.specs.PortOf.{portOf}
+use Rattle.variables.specs.PortFits.{PortFits}
 
 abbrev pub ofPair : Netlist → Port → ℕ → ℕ → PairLiterals
 ofPair net port j i = pairLiterals (alone net) (portOf port) j i

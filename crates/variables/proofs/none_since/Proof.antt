@@ -1,4 +1,4 @@
--- `places::none_since` meets its contract. Assumes nothing.
+-- `variables::none_since` meets its contract. Assumes nothing.
 use mathlib.Core.Path.{_∙_}
 use native.Mathlib.Nat.{le-refl}
 use native.Mathlib.Omega.{arith}
@@ -6,10 +6,10 @@ use borrow.Author.Needs.{needs}
 use Rattle.model.specs.Variables.{noneSince}
 use Rattle.model.proofs.Variables.{noneSince-last, noneSince-earlier}
 use Rattle.netlist.specs.NetOf.{netOf, alone}
-use Rattle.places.specs.PortOf.{portOf}
-use Rattle.places.proofs.Room.{code-has-number, pair-has-number, behind-bits}
-use Rattle.places.proofs.none_since.Statement.{statement}
-use Rattle.places.proofs.none_since.Tie as tie
+use Rattle.variables.specs.PortOf.{portOf}
+use Rattle.variables.proofs.Room.{code-has-number, pair-has-number, behind-bits}
+use Rattle.variables.proofs.none_since.Statement.{statement}
+use Rattle.variables.proofs.none_since.Tie as tie
 
 frame-base-requires : tie.Need-frame-base-requires
 frame-base-requires c κs = search needs

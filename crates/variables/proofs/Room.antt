@@ -10,7 +10,7 @@ use Rattle.model.specs.Variables.{base, pairBase}
 use Rattle.model.specs.Acceptance.{SizesFit, IsCode}
 use Rattle.model.proofs.Variables.{base-least, base-suc, base-most, base-monotone, pairBase-base, port-within}
 use Rattle.literals.specs.Lit.{HasNumber}
-use Rattle.places.specs.PortFits.{PortFits}
+use Rattle.variables.specs.PortFits.{PortFits}
 
 -- a wire in a frame
 pub wire-has-number : (c : Netlist) → SizesFit c → (i w : ℕ) → i ≤ 255 → w ≤ lastWire c → HasNumber (base c i) w

@@ -1,8 +1,8 @@
--- `places::numbering` meets its contract. Assumes nothing.
+-- `variables::numbering` meets its contract. Assumes nothing.
 use borrow.Author.Needs.{needs}
 use Rattle.netlist.specs.NetOf.{netOf}
-use Rattle.places.proofs.numbering.Statement.{statement}
-use Rattle.places.proofs.numbering.Tie as tie
+use Rattle.variables.proofs.numbering.Statement.{statement}
+use Rattle.variables.proofs.numbering.Tie as tie
 
 last-wire-requires : tie.Need-last-wire-requires
 last-wire-requires c κs = search needs

@@ -1,4 +1,4 @@
-// Where the variables of a record's frames and pairs stand, and the literals that two frames have in common: the port of the
+// The numbers of the variables of a record's frames and pairs, and the literals that two frames have in common: the port of the
 // memory, B(i), Q, N and Z, S (document 01, "Numbers of variables" and "Groups of clauses").
 use literals::Code;
 use literals::Lit;
@@ -11,8 +11,8 @@ ghost use Rattle.model.specs.Variables.{stride, base, pairBase, noneSince, sele
 ghost use Rattle.model.specs.Acceptance.{SizesFit};
 ghost use Rattle.literals.specs.Lit.{literalOf, IsLit};
 ghost use Rattle.netlist.specs.NetOf.{alone};
-ghost use Rattle.places.specs.PortOf.{portOf};
-ghost use Rattle.places.specs.PortFits.{PortFits};
+ghost use Rattle.variables.specs.PortOf.{portOf};
+ghost use Rattle.variables.specs.PortFits.{PortFits};
 
 // A read port of the memory: its codes, its first read bit and its first variable of a pair, each counted from the first of all
 // ports' (the model's port).
