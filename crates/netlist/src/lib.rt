@@ -8,7 +8,7 @@ ghost use Prim.Native.Nat.{_+_, _-_, _^_};
 ghost use Rattle.model.specs.Netlist.{lastWire, gateWire};
 ghost use Rattle.model.specs.Acceptance.{SizesFit};
 ghost use Rattle.netlist.specs.NetOf.{netOf, alone};
-ghost use Rattle.netlist.specs.Lines.{controlLine, lineAt, Stands};
+ghost use Rattle.netlist.specs.Lines.{controlLine, lineAt, HasLine};
 ghost use Rattle.netlist.specs.Faults.{outside, sizeFault, codeOutside, latchFault, gateFault, codeFault};
 
 #[repr(C)]
@@ -151,7 +151,7 @@ pub fn gate_fault(own: u32, left: Code, right: Code) -> bool
 
 // Refusal 5 at a line.
 pub fn code_fault(net: Netlist, latches: &[u32; 1200], gates: &[u32; 1200], line: Line) -> bool
-    requires { ⌜ SizesFit (alone net) × Stands (alone net) line ⌝ }
+    requires { ⌜ SizesFit (alone net) × HasLine (alone net) line ⌝ }
     ensures { λ r. ⌜ r ≡ codeFault (netOf net (now (latches .entry)) (now (gates .entry))) line ⌝ }
 {
     let last = last_wire(net);

@@ -18,7 +18,7 @@ use Rattle.refusals.proofs.Tests.{refuseIf-passes, inOrder-passes}
 use Rattle.model.specs.Netlist.{Netlist, readWire, gateWire}
 use Rattle.model.specs.Circuit.{Values, sweep, isRead, dependsOnRead}
 use Rattle.model.specs.Acceptance.{WithinLimits}
-use Rattle.netlist.specs.Lines.{memoryLine, latchLine, gateLine, addressLine, lineAt, Stands}
+use Rattle.netlist.specs.Lines.{memoryLine, latchLine, gateLine, addressLine, lineAt, HasLine}
 use Rattle.netlist.specs.Faults.{loopFaultBy, loopFault}
 use Rattle.limits.specs.AnyLine.{anyLine}
 use Rattle.records.specs.Record.{testLine, testLines}
@@ -79,7 +79,7 @@ unfolding sweep
 sweep-next op c v g w = rw add-one
 
 -- the tests of memory loops by a table are those by the wires themselves: every code is within the table
-pub loopFault-table : {c : Netlist} {flags : List Bool} → Table (dependsOnRead c) flags → WithinLimits c → (x : Line) → Stands c x
+pub loopFault-table : {c : Netlist} {flags : List Bool} → Table (dependsOnRead c) flags → WithinLimits c → (x : Line) → HasLine c x
     → loopFault c x ≡ loopFaultBy (entry flags) c x
 unfolding loopFaultBy
 loopFault-table {c} q h Sizes s = refl

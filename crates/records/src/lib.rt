@@ -8,7 +8,7 @@ ghost use mathlib.Core.List.{[]};
 ghost use Rattle.model.specs.Circuit.{isRead, dependsOnRead};
 ghost use Rattle.model.specs.Acceptance.{SizesFit, WithinLimits};
 ghost use Rattle.netlist.specs.NetOf.{netOf, alone};
-ghost use Rattle.netlist.specs.Lines.{Stands};
+ghost use Rattle.netlist.specs.Lines.{HasLine};
 ghost use Rattle.netlist.specs.Faults.{sizeFault, codeFault, loopFaultBy, loopFault};
 ghost use Rattle.limits.specs.AnyLine.{anyLine};
 ghost use Rattle.records.specs.Record.{testLines, recordVerdict};
@@ -91,7 +91,7 @@ fn depends_on_read(net: Netlist, gates: &[u32; 1200]) -> [bool; 601]
 
 // Whether a line makes a memory loop, by a table of the wires that depend on a read bit.
 fn loop_fault(net: Netlist, flags: &[bool; 601], line: Line) -> bool
-    requires { ⌜ WithinLimits (alone net) × Stands (alone net) line ⌝ }
+    requires { ⌜ WithinLimits (alone net) × HasLine (alone net) line ⌝ }
     ensures { λ r. ⌜ r ≡ loopFaultBy (entry (now (flags .entry))) (alone net) line ⌝ }
 {
     match line {

@@ -20,8 +20,8 @@ use Rattle.model.specs.Groups.{clausesOf, groupOrder}
 use Rattle.literals.proofs.Literal.{fits}
 use Rattle.dimacs.specs.Text.{clauseText}
 use Rattle.dimacs.proofs.Text.{length-clauseText}
-use Rattle.stream.specs.Pieces.{Stands}
-use Rattle.stream.proofs.Pieces.{stands-inDepth}
+use Rattle.stream.specs.Pieces.{OrderHas}
+use Rattle.stream.proofs.Pieces.{orderHas-inDepth}
 use Rattle.model.proofs.Lengths.{wires-numbers-first, wires-numbers-later, pair-numbers, closing-numbers, property-numbers}
 
 -- no group has more than 5,992 numbers: the most are the wires of frame 0 with gates alone
@@ -34,7 +34,7 @@ numbers-most c k (Closing i) a d h = rw (closing-numbers c k i) (omega (arith, a
 numbers-most c k Property a d h = rw (property-numbers c k) (omega (arith, d))
 
 -- no group's text has more than 71,904 bytes
-pub text-most : (c : Netlist) (k : ℕ) (g : Group) → Accepted c → k ≤ 255 → Stands k g → length (clauseText (numbersOf c k g)) ≤ 71904
+pub text-most : (c : Netlist) (k : ℕ) (g : Group) → Accepted c → k ≤ 255 → OrderHas k g → length (clauseText (numbersOf c k g)) ≤ 71904
 unfolding numbersOf
 text-most c k g a d s =
     let within : AllLits (Within (base c (k + 1))) (clausesOf c k g) =
@@ -43,5 +43,5 @@ text-most c k g a d s =
     omega (
       arith,
       length-clauseText (all-weaken (λ z h. fits z (omega (arith, h, base-most c (a .limits .sizes) (k + 1) (omega arith)))) numbers),
-      numbers-most c k g a d (stands-inDepth k g s),
+      numbers-most c k g a d (orderHas-inDepth k g s),
     )

@@ -10,7 +10,7 @@ ghost use Rattle.model.specs.Wrote.{Wrote};
 ghost use Rattle.netlist.specs.NetOf.{netOf};
 ghost use Rattle.dimacs.specs.Text.{headerText, clauseText};
 ghost use Rattle.unrolling.specs.Next.{leftAfter, leftFrom};
-ghost use Rattle.stream.specs.Pieces.{formulaHeader, Stands, Continues};
+ghost use Rattle.stream.specs.Pieces.{formulaHeader, OrderHas, Continues};
 
 // The first `bytes` bytes of a buffer are text to be printed; the group after those printed.
 pub struct Piece {
@@ -53,7 +53,7 @@ fn print_group(
     depth: u32,
     group: Group,
 ) -> usize
-    requires { ⌜ Accepted (netOf net (now latches) (now gates)) × (depth ≤ 255) × Stands depth group
+    requires { ⌜ Accepted (netOf net (now latches) (now gates)) × (depth ≤ 255) × OrderHas depth group
         × (5992 ≤ length (now numbers)) × (71904 ≤ length (now text)) ⌝ }
     ensures { λ r. ⌜ Wrote (clauseText (numbersOf (netOf net (now (latches .entry)) (now (gates .entry))) depth group)) (now (text .entry)) (now (text .exit)) r × (r ≤ 71904) ⌝ }
 {
@@ -71,7 +71,7 @@ pub fn print_groups(
     depth: u32,
     group: Group,
 ) -> Piece
-    requires { ⌜ Accepted (netOf net (now latches) (now gates)) × (depth ≤ 255) × Stands depth group
+    requires { ⌜ Accepted (netOf net (now latches) (now gates)) × (depth ≤ 255) × OrderHas depth group
         × (5992 ≤ length (now numbers)) × (71904 ≤ length (now text)) ⌝ }
     ensures text { λ r. ⌜ Continues (netOf net (now (latches .entry)) (now (gates .entry))) depth group (now (text .entry)) (now (text .exit)) (r .bytes) (r .next) ⌝ }
     ensures ends { λ r. ⌜ leftFrom depth (r .next) ≤ leftAfter depth group ⌝ }

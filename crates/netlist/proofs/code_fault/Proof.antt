@@ -5,7 +5,7 @@ use borrow.Author.Needs.{needs}
 use native.Mathlib.Omega.{arith}
 use Rattle.model.specs.Netlist.{gateWire}
 use Rattle.netlist.specs.NetOf.{codeOf, netOf, alone}
-use Rattle.netlist.specs.Lines.{Stands}
+use Rattle.netlist.specs.Lines.{HasLine}
 use Rattle.netlist.specs.Faults.{codeFault}
 use Rattle.netlist.proofs.code_fault.Statement.{statement}
 use Rattle.netlist.proofs.code_fault.Tie as tie
@@ -32,7 +32,7 @@ mul-t17 : tie.Need-mul-t17
 mul-t17 c = search needs
 
 element-copy-out-t20 : tie.Need-element-copy-out-t20
-element-copy-out-t20 c = omega (arith, subst (Stands (alone (c .before .before .before .before .args .t1))) (c .before .line .given .1) (c .before .before .before .before .pre .1), c .before .before .before .before .pre .0 .latches-fit)
+element-copy-out-t20 c = omega (arith, subst (HasLine (alone (c .before .before .before .before .args .t1))) (c .before .line .given .1) (c .before .before .before .before .pre .1), c .before .before .before .before .pre .0 .latches-fit)
 
 add-latch-fault : tie.Need-add-latch-fault
 add-latch-fault c = search needs
@@ -41,7 +41,7 @@ mul-latch-fault : tie.Need-mul-latch-fault
 mul-latch-fault c = search needs
 
 element-copy-out-latch-fault : tie.Need-element-copy-out-latch-fault
-element-copy-out-latch-fault c = omega (arith, subst (Stands (alone (c .before .before .before .before .before .args .t1))) (c .before .before .line .given .1) (c .before .before .before .before .before .pre .1), c .before .before .before .before .before .pre .0 .latches-fit)
+element-copy-out-latch-fault c = omega (arith, subst (HasLine (alone (c .before .before .before .before .before .args .t1))) (c .before .before .line .given .1) (c .before .before .before .before .before .pre .1), c .before .before .before .before .before .pre .0 .latches-fit)
 
 latch-fault-requires : tie.Need-latch-fault-requires
 latch-fault-requires c κs = tt
@@ -60,13 +60,13 @@ gate-wire-requires c κs = c .before .before .before .before .pre .0
 
 add-gate-fault : tie.Need-add-gate-fault
 unfolding netOf
-add-gate-fault c = omega (arith, c .gate-wire .ensures, subst (Stands (alone (c .before .before .before .before .before .args .t1))) (c .before .before .line2 .given .1) (c .before .before .before .before .before .pre .1), c .before .before .before .before .before .pre .0)
+add-gate-fault c = omega (arith, c .gate-wire .ensures, subst (HasLine (alone (c .before .before .before .before .before .args .t1))) (c .before .before .line2 .given .1) (c .before .before .before .before .before .pre .1), c .before .before .before .before .before .pre .0)
 
 mul-t27 : tie.Need-mul-t27
 mul-t27 c = search needs
 
 element-copy-out-t33 : tie.Need-element-copy-out-t33
-element-copy-out-t33 c = omega (arith, subst (Stands (alone (c .before .before .before .before .before .args .t1))) (c .before .before .line2 .given .1) (c .before .before .before .before .before .pre .1), c .before .before .before .before .before .pre .0 .gates-fit)
+element-copy-out-t33 c = omega (arith, subst (HasLine (alone (c .before .before .before .before .before .args .t1))) (c .before .before .line2 .given .1) (c .before .before .before .before .before .pre .1), c .before .before .before .before .before .pre .0 .gates-fit)
 
 add-t35 : tie.Need-add-t35
 add-t35 c = search needs
@@ -75,7 +75,7 @@ mul-t36 : tie.Need-mul-t36
 mul-t36 c = search needs
 
 element-copy-out-t39 : tie.Need-element-copy-out-t39
-element-copy-out-t39 c = omega (arith, subst (Stands (alone (c .before .before .before .before .before .before .args .t1))) (c .before .before .before .line2 .given .1) (c .before .before .before .before .before .before .pre .1), c .before .before .before .before .before .before .pre .0 .gates-fit)
+element-copy-out-t39 c = omega (arith, subst (HasLine (alone (c .before .before .before .before .before .before .args .t1))) (c .before .before .before .line2 .given .1) (c .before .before .before .before .before .before .pre .1), c .before .before .before .before .before .before .pre .0 .gates-fit)
 
 gate-fault-requires : tie.Need-gate-fault-requires
 gate-fault-requires c κs = tt
@@ -90,7 +90,7 @@ mul-is-code-outside : tie.Need-mul-is-code-outside
 mul-is-code-outside c = search needs
 
 element-copy-out-is-code-outside : tie.Need-element-copy-out-is-code-outside
-element-copy-out-is-code-outside c = omega (arith, subst (Stands (alone (c .before .before .before .before .args .t1))) (c .before .line3 .given .1) (c .before .before .before .before .pre .1), c .before .before .before .before .pre .0 .m-most)
+element-copy-out-is-code-outside c = omega (arith, subst (HasLine (alone (c .before .before .before .before .args .t1))) (c .before .line3 .given .1) (c .before .before .before .before .pre .1), c .before .before .before .before .pre .0 .m-most)
 
 is-code-outside-requires : tie.Need-is-code-outside-requires
 is-code-outside-requires c κs = tt
@@ -105,7 +105,7 @@ mul-is-code-outside-2 : tie.Need-mul-is-code-outside-2
 mul-is-code-outside-2 c = search needs
 
 element-copy-out-is-code-outside-2 : tie.Need-element-copy-out-is-code-outside-2
-element-copy-out-is-code-outside-2 c = omega (arith, subst (Stands (alone (c .before .before .before .before .args .t1))) (c .before .line4 .given .1) (c .before .before .before .before .pre .1), c .before .before .before .before .pre .0 .n-most)
+element-copy-out-is-code-outside-2 c = omega (arith, subst (HasLine (alone (c .before .before .before .before .args .t1))) (c .before .line4 .given .1) (c .before .before .before .before .pre .1), c .before .before .before .before .pre .0 .n-most)
 
 is-code-outside-requires-2 : tie.Need-is-code-outside-requires-2
 is-code-outside-requires-2 c κs = tt

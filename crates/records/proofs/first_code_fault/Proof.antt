@@ -9,7 +9,7 @@ use Rattle.netlist.specs.NetOf.{netOf, alone}
 use Rattle.netlist.specs.Lines.{lineAt}
 use Rattle.netlist.specs.Faults.{codeFault}
 use Rattle.netlist.proofs.NetOf.{lineAt-lists}
-use Rattle.netlist.proofs.Lines.{stands}
+use Rattle.netlist.proofs.Lines.{has-lineAt}
 use Rattle.records.proofs.Record.{PassedTo, passed-next, refused-next, passed-all}
 use Rattle.records.proofs.first_code_fault.Statement.{statement}
 use Rattle.records.proofs.first_code_fault.Tie as tie
@@ -38,7 +38,7 @@ line-at-requires c κs = c .before .before .before .pre
 code-fault-requires : tie.Need-code-fault-requires Inv-loop μ-loop
 code-fault-requires c κs = (
   c .before .before .before .before .pre,
-  rw (c .line-at .ensures) (stands (alone (c .before .before .before .before .args .net)) (c .before .before .loop .place + 1)),
+  rw (c .line-at .ensures) (has-lineAt (alone (c .before .before .before .before .args .net)) (c .before .before .loop .place + 1)),
 )
 
 -- what the turn's call says of the line at the next place

@@ -11,7 +11,7 @@ use Rattle.netlist.specs.Lines.{lineAt}
 use Rattle.netlist.specs.Faults.{loopFaultBy, loopFault}
 use Rattle.records.specs.Dependence.{entry}
 use Rattle.netlist.proofs.NetOf.{sizes-lists, limits-alone, lineAt-lists, loopFaultBy-lists}
-use Rattle.netlist.proofs.Lines.{stands}
+use Rattle.netlist.proofs.Lines.{has-lineAt}
 use Rattle.records.proofs.Lists.{any-loop-lists}
 use Rattle.records.proofs.Record.{PassedTo, passed-next, refused-next, passed-all}
 use Rattle.records.proofs.Dependence.{loopFault-table, loops-none, loops-before}
@@ -66,7 +66,7 @@ loop-fault-requires : tie.Need-loop-fault-requires Inv-loop μ-loop
 loop-fault-requires c κs =
     let a = c .before .before .before .before .before .before .before .before .before .before .before .args in (
       limits-alone (a .net) [] (a .gates .now) (c .before .before .before .before .before .before .before .before .before .before .before .pre),
-      rw (c .before .line-at .ensures) (stands (alone (a .net)) (c .before .before .before .loop .place + 1)),
+      rw (c .before .line-at .ensures) (has-lineAt (alone (a .net)) (c .before .before .before .loop .place + 1)),
     )
 
 -- what the turn's call says of the line at the next place
@@ -77,7 +77,7 @@ tested c =
     let d = netOf (a .net) [] (a .gates .now) in
     let p = c .before .before .before .before .loop .place + 1 in
     let flags = c .before .before .before .before .before .before .before .before .before .before .before .depends-on-read .result in
-    loopFault-table (c .before .before .before .before .before .before .before .before .before .before .before .depends-on-read .ensures) (c .before .before .before .before .before .before .before .before .before .before .before .before .pre) (lineAt d p) (stands d p)
+    loopFault-table (c .before .before .before .before .before .before .before .before .before .before .before .depends-on-read .ensures) (c .before .before .before .before .before .before .before .before .before .before .before .before .pre) (lineAt d p) (has-lineAt d p)
     ∙ sym (loopFaultBy-lists (a .net) [] (a .gates .now) (entry flags) (lineAt d p))
     ∙ ap (loopFaultBy (entry flags) (alone (a .net)))
     (sym (lineAt-lists (a .net) [] (a .gates .now) p) ∙ sym (c .before .before .line-at .ensures))

@@ -5,7 +5,7 @@ use mathlib.Core.List.{[]}
 use mathlib.Core.Bool.{false}
 use Rattle.netlist.specs.NetOf.{netOf}
 use Rattle.netlist.specs.Faults.{sizeFault, codeFault}
-use Rattle.netlist.proofs.Lines.{at-sizes, at-memory, stands}
+use Rattle.netlist.proofs.Lines.{at-sizes, at-memory, has-lineAt}
 use Rattle.steps.specs.Steps.{faultsAt}
 use Rattle.steps.proofs.Places.{no-size-from-3}
 use borrow.Author.Needs.{needs}
@@ -46,7 +46,7 @@ returns-4 c =
 code-fault-requires : tie.Need-code-fault-requires
 code-fault-requires c κs =
     let start = c .before .before in
-    (start .pre .0 (omega arith), rw (start .pre .1) (stands (netOf (start .args .net) [] []) (start .args .place)))
+    (start .pre .0 (omega arith), rw (start .pre .1) (has-lineAt (netOf (start .args .net) [] []) (start .args .place)))
 
 returns-5 : tie.Need-returns-5
 unfolding faultsAt _then_
