@@ -88,8 +88,8 @@ module _ (c : Netlist) (latchCount gateCount k : ℕ) (heads : headingVerdict c 
       record {
         calls-formula = λ slice enough.
             joined-same (all-weaken (λ g there. group-numbers g (slice g) there (enough g there)) (order-inDepth k));
-        formula-encodes = encodes accepted k;
-        formula-stated = stated accepted k;
+        formula-encodes = encodes c accepted k;
+        formula-stated = stated c accepted k;
         variables-most = base-most c (accepted .limits .sizes) (k + 1) (omega (arith, depth-passes k (rest-passed .0)));
       }
 
