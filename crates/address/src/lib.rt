@@ -30,11 +30,11 @@ fn put_address_bit(
     ensures { λ r. ⌜ Wrote (written (bitClauses (plus (q + 1)) (plus (q + 2 + t)) (codeAt writing (x .0)) (codeAt reading (y .0))))
         (now (out .entry)) (now (out .exit)) r ⌝ }
 {
-    let equal = Lit::in_pair(q, 1);
+    let address_equal = Lit::in_pair(q, 1);
     let bit_equal = Lit::in_pair(q, 2 + t);
     tseitin::put_bit(
         out,
-        equal,
+        address_equal,
         bit_equal,
         x.in_frame(writing),
         y.in_frame(reading),
@@ -83,7 +83,7 @@ pub fn put_all_bits(out: &mut [i32], net: Netlist, port: Port, j: u32, i: u32) -
     requires { ⌜ PairFits net port j i × (length (written (allBits (net .m) (ofPair net port j i) ∷ [])) ≤ length (now out)) ⌝ }
     ensures { λ r. ⌜ Wrote (written (allBits (net .m) (ofPair net port j i) ∷ [])) (now (out .entry)) (now (out .exit)) r ⌝ }
 {
-    let equal = Lit::in_pair(variables::pair_base(net, port, j, i), 1);
+    let address_equal = Lit::in_pair(variables::pair_base(net, port, j, i), 1);
     let at = put_unequal_bits(out, net, port, j, i);
-    at + writer::put_unit(&mut out[at..], equal)
+    at + writer::put_unit(&mut out[at..], address_equal)
 }

@@ -15,7 +15,7 @@ use Rattle.variables.specs.declared.Port.{Port}
 use Rattle.variables.specs.PortOf.{portOf}
 use Rattle.writer.proofs.Turns.{written-gather}
 use Rattle.variables.specs.OfPair.{ofPair}
-use Rattle.select.specs.SelectClauses.{selectClauses, selectOf}
+use Rattle.select.specs.SelectClauses.{selectClauses, pairSelect}
 
 -- the clauses of data bit t, from S, the frames' bases, the read wires before the port's and the port's before it, the write data
 abbrev pub forwardedBit : Literal → ℕ → ℕ → ℕ → ℕ → Netlist → ℕ → List ℤ
@@ -31,20 +31,20 @@ forwarded-bits net port j i n es er ew = rw (written-gather n (forwarded (ofPair
 
 -- a pair's clauses with its three gates as one part
 pair-joined : (m n : ℕ) (x : PairLiterals)
-    → pairClauses m n x ≡ gather m (bitOf x) ++ allBits m x ∷ [] ++ selectOf x ++ gather n (forwarded x)
-unfolding pairClauses selectOf selectClauses
+    → pairClauses m n x ≡ gather m (bitOf x) ++ allBits m x ∷ [] ++ pairSelect x ++ gather n (forwarded x)
+unfolding pairClauses pairSelect selectClauses
 pair-joined m n x = simp append-assoc
 
 -- the parts of a pair's clauses, in their order, and their room
 pub pair-parts : (m n : ℕ) (x : PairLiterals)
     → written (pairClauses m n x)
-    ≡ written (gather m (bitOf x)) ++ written (allBits m x ∷ []) ++ written (selectOf x) ++ written (gather n (forwarded x))
+    ≡ written (gather m (bitOf x)) ++ written (allBits m x ∷ []) ++ written (pairSelect x) ++ written (gather n (forwarded x))
 pair-parts m n x =
     let bits = gather m (bitOf x) in
-    rw (pair-joined m n x, written-append (bits ++ allBits m x ∷ [] ++ selectOf x), written-append (bits ++ allBits m x ∷ []), written-append bits)
+    rw (pair-joined m n x, written-append (bits ++ allBits m x ∷ [] ++ pairSelect x), written-append (bits ++ allBits m x ∷ []), written-append bits)
 
 pub pair-room : (m n : ℕ) (x : PairLiterals)
     → length (written (pairClauses m n x))
-    ≡ length (written (gather m (bitOf x))) + length (written (allBits m x ∷ [])) + length (written (selectOf x))
+    ≡ length (written (gather m (bitOf x))) + length (written (allBits m x ∷ [])) + length (written (pairSelect x))
     + length (written (gather n (forwarded x)))
 pair-room m n x = rw (pair-parts m n x, length-append, length-append, length-append)

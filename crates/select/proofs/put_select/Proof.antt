@@ -8,7 +8,7 @@ use Rattle.model.specs.Variables.{pairLiterals}
 use Rattle.netlist.specs.NetOf.{netOf, alone}
 use Rattle.variables.specs.PortOf.{portOf}
 use Rattle.variables.proofs.Room.{code-has-number, pair-has-number, behind-bits}
-use Rattle.select.specs.SelectClauses.{selectOf, selectClauses}
+use Rattle.select.specs.SelectClauses.{pairSelect, selectClauses}
 use Rattle.select.proofs.put_select.Statement.{statement}
 use Rattle.select.proofs.put_select.Tie as tie
 
@@ -52,14 +52,14 @@ none-since-requires-2 : tie.Need-none-since-requires-2
 none-since-requires-2 c κs = search needs
 
 put-gates-requires : tie.Need-put-gates-requires
-unfolding written andClauses selectClauses selectOf
+unfolding written andClauses selectClauses pairSelect
 put-gates-requires c κs = search needs
 
 same-length : tie.Need-same-length
 same-length c = search needs
 
 returns : tie.Need-returns
-unfolding selectOf pairLiterals netOf
+unfolding pairSelect pairLiterals netOf
 returns c =
     let valid = c .before .before .before .before .before .before .before .before .in-pair2 .ensures .0 ∙ behind-bits (alone (c .before .before .before .before .before .before .before .before .before .before .before .before .args .net)) (portOf (c .before .before .before .before .before .before .before .before .before .before .before .before .args .port)) (c .before .before .before .before .before .before .before .before .before .before .before .before .args .j) (c .before .before .before .before .before .before .before .before .before .before .before .before .args .i) _ 2 (c .before .before .before .before .before .before .before .before .before .before .before .pair-base .ensures) in
     rw (rw (c .before .before .before .before .before .before .before .before .before .before .before .pair-base .ensures) at (c .before .before .before .before .before .before .before .before .before .before .in-pair .ensures .0), valid, rw (c .before .before .before .before .before .before .before .frame-base .ensures) at (c .before .before .before .before .before .before .in-frame .ensures .0), c .before .before .before .before .before .none-since .ensures .0, c .before .before .before .before .selected .ensures .0, c .before .before .before .none-since2 .ensures .0)
