@@ -39,7 +39,7 @@ fn put_initial_reads(out: &mut [i32], net: Netlist, port: Port, i: u32) -> usize
 {
     let none_since = variables::none_since(net, port, 0, i);
     let reading = variables::frame_base(net, i);
-    let first = 1 + net.inputs + net.latches;
+    let first = netlist::first_read_wire(net);
     let read = port.first_read;
     let word = net.initial_word;
     let n = net.n;

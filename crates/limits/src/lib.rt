@@ -72,7 +72,7 @@ pub fn any_code_fault(net: Netlist, latches: &[u32; 1200], gates: &[u32; 1200]) 
     ensures { λ r. ⌜ r ≡ anyLine (netOf net (now (latches .entry)) (now (gates .entry))) codeFault ⌝ }
 {
     let last = netlist::last_wire(net);
-    let first = netlist::gate_wire(net);
+    let first = netlist::first_gate_wire(net);
     any_latch(last, latches, net.latches)
         | any_gate(first, gates, net.gates)
         | any_in_port(net, last)

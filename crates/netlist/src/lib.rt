@@ -5,7 +5,7 @@
 use literals::Code;
 ghost use mathlib.Core.Path.{_≡_};
 ghost use Prim.Native.Nat.{_+_, _-_, _^_};
-ghost use Rattle.model.specs.Netlist.{lastWire, gateWire};
+ghost use Rattle.model.specs.Netlist.{latchWire, readWire, gateWire, lastWire};
 ghost use Rattle.model.specs.Acceptance.{SizesFit};
 ghost use Rattle.netlist.specs.NetOf.{netOf, alone};
 ghost use Rattle.netlist.specs.Lines.{controlLine, lineAt, HasLine};
@@ -83,12 +83,28 @@ pub fn last_wire(net: Netlist) -> u32
     net.inputs + net.latches + net.n + net.gates
 }
 
+// The wire of the first latch.
+pub fn first_latch_wire(net: Netlist) -> u32
+    requires { ⌜ SizesFit (alone net) ⌝ }
+    ensures { λ r. ⌜ r ≡ latchWire (alone net) 0 ⌝ }
+{
+    1 + net.inputs
+}
+
+// The wire of the first read bit.
+pub fn first_read_wire(net: Netlist) -> u32
+    requires { ⌜ SizesFit (alone net) ⌝ }
+    ensures { λ r. ⌜ r ≡ readWire (alone net) 0 ⌝ }
+{
+    first_latch_wire(net) + net.latches
+}
+
 // The wire of the first gate.
-pub fn gate_wire(net: Netlist) -> u32
+pub fn first_gate_wire(net: Netlist) -> u32
     requires { ⌜ SizesFit (alone net) ⌝ }
     ensures { λ r. ⌜ r ≡ gateWire (alone net) 0 ⌝ }
 {
-    1 + net.inputs + net.latches + net.n
+    first_read_wire(net) + net.n
 }
 
 // The place of the last line.
@@ -164,7 +180,11 @@ pub fn code_fault(net: Netlist, latches: &[u32; 1200], gates: &[u32; 1200], line
         }
         Line::Gate(g) => {
             let at = 2 * (g as usize);
-            gate_fault(gate_wire(net) + g, Code(gates[at]), Code(gates[at + 1]))
+            gate_fault(
+                first_gate_wire(net) + g,
+                Code(gates[at]),
+                Code(gates[at + 1]),
+            )
         }
         Line::Address(t) => {
             let at = t as usize;

@@ -3,8 +3,10 @@
 use Prim.Native.Nat.{ℕ, _+_}
 use mathlib.Core.Path.{_≡_, refl, _∙_}
 use mathlib.Core.List.{List, [], _∷_, _++_, append-assoc}
+use native.Mathlib.Nat.{add-zero}
 use lib.IntN.{ℤ}
 use lib.ListN.{length, length-append}
+use Rattle.model.specs.Netlist.{readWire}
 use Rattle.model.specs.Clauses.{Literal, gather, sameIf, PairLiterals, bitOf, allBits, forwarded, pairClauses}
 use Rattle.model.specs.Variables.{base, wireAt, codeAt, selected, readBit, pairLiterals}
 use Rattle.model.specs.Numbers.{written}
@@ -22,12 +24,13 @@ abbrev pub forwardedBit : Literal → ℕ → ℕ → ℕ → ℕ → Netlist �
 forwardedBit s reading first read writing net t =
     written (sameIf s (wireAt reading (first + (read + t))) (codeAt writing (codeOf (net .«write_data») t)))
 
-pub forwarded-bits : (net : Netlist) (port : Port) (j i n : ℕ) {reading writing : ℕ} {s : Literal}
+pub forwarded-bits : (net : Netlist) (port : Port) (j i n : ℕ) {reading writing first : ℕ} {s : Literal}
     → s ≡ selected (alone net) (portOf port) j i → reading ≡ base (alone net) i → writing ≡ base (alone net) j
+    → first ≡ readWire (alone net) 0
     → written (gather n (forwarded (ofPair net port j i)))
-    ≡ gather n (forwardedBit s reading (1 + net .inputs + net .latches) (port .«first_read») writing net)
+    ≡ gather n (forwardedBit s reading first (port .«first_read») writing net)
 unfolding forwarded pairLiterals readBit netOf portOf
-forwarded-bits net port j i n es er ew = rw (written-gather n (forwarded (ofPair net port j i)), es, er, ew)
+forwarded-bits net port j i n es er ew ef = rw (written-gather n (forwarded (ofPair net port j i)), es, er, ew, ef, add-zero)
 
 -- a pair's clauses with its three gates as one part
 pair-joined : (m n : ℕ) (x : PairLiterals)

@@ -39,7 +39,7 @@ fn put_forwarded(out: &mut [i32], net: Netlist, port: Port, j: u32, i: u32) -> u
     let selected = variables::selected(net, port, j, i);
     let writing = variables::frame_base(net, j);
     let reading = variables::frame_base(net, i);
-    let first = 1 + net.inputs + net.latches;
+    let first = netlist::first_read_wire(net);
     let read = port.first_read;
     let n = net.n;
     let mut at: usize = 0;

@@ -61,8 +61,8 @@ fn read_bits(net: Netlist) -> [bool; 601]
     ensures { λ r. ⌜ Table (isRead (alone net)) r ⌝ }
 {
     let mut flags = [false; 601];
-    let last = netlist::gate_wire(net) as usize;
-    let mut w = (1 + net.inputs + net.latches) as usize;
+    let last = netlist::first_gate_wire(net) as usize;
+    let mut w = netlist::first_read_wire(net) as usize;
     while w < last {
         flags[w] = true;
         w += 1;
@@ -76,7 +76,7 @@ fn depends_on_read(net: Netlist, gates: &[u32; 1200]) -> [bool; 601]
     ensures { λ r. ⌜ Table (dependsOnRead (netOf net [] (now (gates .entry)))) r ⌝ }
 {
     let mut flags = read_bits(net);
-    let first = netlist::gate_wire(net);
+    let first = netlist::first_gate_wire(net);
     let mut g = 0;
     while g < net.gates {
         let at = 2 * (g as usize);

@@ -40,7 +40,7 @@ fn put_resets(out: &mut [i32], net: Netlist, latches: &[u32; 1200]) -> usize
         (now (out .entry)) (now (out .exit)) r ⌝ }
 {
     let b = variables::frame_base(net, 0);
-    let first = 1 + net.inputs;
+    let first = netlist::first_latch_wire(net);
     let n = net.latches;
     let mut at: usize = 0;
     let mut l: u32 = 0;
@@ -70,7 +70,7 @@ fn put_latches(out: &mut [i32], net: Netlist, latches: &[u32; 1200], i: u32) -> 
 {
     let before = variables::frame_base(net, i);
     let b = variables::frame_base(net, i + 1);
-    let first = 1 + net.inputs;
+    let first = netlist::first_latch_wire(net);
     let n = net.latches;
     let mut at: usize = 0;
     let mut l: u32 = 0;

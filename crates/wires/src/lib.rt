@@ -34,7 +34,7 @@ fn put_gates(out: &mut [i32], net: Netlist, gates: &[u32; 1200], i: u32) -> usiz
         (now (out .entry)) (now (out .exit)) r ⌝ }
 {
     let b = variables::frame_base(net, i);
-    let first = 1 + net.inputs + net.latches + net.n;
+    let first = netlist::first_gate_wire(net);
     let n = net.gates;
     let mut at: usize = 0;
     let mut g: u32 = 0;

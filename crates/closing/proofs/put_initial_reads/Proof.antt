@@ -23,18 +23,13 @@ none-since-requires c κs = search needs
 frame-base-requires : tie.Need-frame-base-requires Inv-loop μ-loop
 frame-base-requires c κs = search needs
 
-add-first : tie.Need-add-first Inv-loop μ-loop
-unfolding netOf portOf
-add-first c = search needs
-
-add-first-2 : tie.Need-add-first-2 Inv-loop μ-loop
-unfolding netOf portOf
-add-first-2 c = search needs
+first-read-wire-requires : tie.Need-first-read-wire-requires Inv-loop μ-loop
+first-read-wire-requires c κs = c .before .before .pre .0 .fits .limits .sizes
 
 loop-holds : tie.Need-loop-holds Inv-loop μ-loop
 loop-holds c =
-    let a = c .before .before .before .before .args in
-    turns-start _ _ _ (rw (initial-bits (a .net) (a .port) (a .i) _ (c .before .before .before .none-since .ensures .0) (c .before .before .frame-base .ensures)) at (c .before .before .before .before .pre .1))
+    let a = c .before .before .before .args in
+    turns-start _ _ _ (rw (initial-bits (a .net) (a .port) (a .i) _ (c .before .before .none-since .ensures .0) (c .before .frame-base .ensures) (c .first-read-wire .ensures)) at (c .before .before .before .pre .1))
 
 mul-put-initial-bit : tie.Need-mul-put-initial-bit Inv-loop μ-loop
 mul-put-initial-bit c = search needs
@@ -48,21 +43,21 @@ part-put-initial-bit-start c = search needs
 part-put-initial-bit-end : tie.Need-part-put-initial-bit-end Inv-loop μ-loop
 part-put-initial-bit-end c = search needs
 
+add-t20 : tie.Need-add-t20 Inv-loop μ-loop
+unfolding netOf portOf
+add-t20 c = search needs
+
 add-t21 : tie.Need-add-t21 Inv-loop μ-loop
 unfolding netOf portOf
 add-t21 c = search needs
 
-add-t22 : tie.Need-add-t22 Inv-loop μ-loop
-unfolding netOf portOf
-add-t22 c = search needs
-
 put-initial-bit-requires : tie.Need-put-initial-bit-requires Inv-loop μ-loop
 unfolding netOf portOf
 put-initial-bit-requires c κs =
-    let is = c .before .before .before .before .before .before .before .pre .0 in
+    let is = c .before .before .before .before .before .before .pre .0 in
     let h = c .before .loop-test .taken in (
-      c .before .before .before .before .before .before .none-since .ensures .1,
-      rw (c .before .before .before .before .before .frame-base .ensures) (wire-has-number _ (is .fits .limits .sizes) _ _ (is .depth) (omega arith)),
+      c .before .before .before .before .before .none-since .ensures .1,
+      rw (c .before .before .before .before .frame-base .ensures) (wire-has-number _ (is .fits .limits .sizes) _ _ (is .depth) (omega arith)),
       omega arith,
       omega arith,
       turns-room (c .before .before .loop .inv) h,
@@ -90,8 +85,8 @@ same-length c = search needs
 
 returns : tie.Need-returns Inv-loop μ-loop
 returns c =
-    let a = c .before .before .before .before .before .before .args in
-    rw (initial-bits (a .net) (a .port) (a .i) _ (c .before .before .before .before .before .none-since .ensures .0) (c .before .before .before .before .frame-base .ensures)) (turns-end (c .before .loop .inv) (omega arith))
+    let a = c .before .before .before .before .before .args in
+    rw (initial-bits (a .net) (a .port) (a .i) _ (c .before .before .before .before .none-since .ensures .0) (c .before .before .before .frame-base .ensures) (c .before .before .first-read-wire .ensures)) (turns-end (c .before .loop .inv) (omega arith))
 
 pub put-initial-reads-spec : {M : Type 1} → statement M
 put-initial-reads-spec =
@@ -101,15 +96,14 @@ put-initial-reads-spec =
     μ-loop
     none-since-requires
     frame-base-requires
-    add-first
-    add-first-2
+    first-read-wire-requires
     loop-holds
     mul-put-initial-bit
     sub-put-initial-bit
     part-put-initial-bit-start
     part-put-initial-bit-end
+    add-t20
     add-t21
-    add-t22
     put-initial-bit-requires
     add-at
     add-t

@@ -55,12 +55,12 @@ cast-at-2 c = search needs
 mul-at-2 : tie.Need-mul-at-2
 mul-at-2 c = search needs
 
-gate-wire-requires : tie.Need-gate-wire-requires
-gate-wire-requires c κs = c .before .before .before .before .pre .0
+first-gate-wire-requires : tie.Need-first-gate-wire-requires
+first-gate-wire-requires c κs = c .before .before .before .before .pre .0
 
 add-gate-fault : tie.Need-add-gate-fault
 unfolding netOf
-add-gate-fault c = omega (arith, c .gate-wire .ensures, subst (HasLine (alone (c .before .before .before .before .before .args .t1))) (c .before .before .line2 .given .1) (c .before .before .before .before .before .pre .1), c .before .before .before .before .before .pre .0)
+add-gate-fault c = omega (arith, c .first-gate-wire .ensures, subst (HasLine (alone (c .before .before .before .before .before .args .t1))) (c .before .before .line2 .given .1) (c .before .before .before .before .before .pre .1), c .before .before .before .before .before .pre .0)
 
 mul-t27 : tie.Need-mul-t27
 mul-t27 c = search needs
@@ -138,7 +138,7 @@ returns-4 : tie.Need-returns-4
 unfolding netOf codeFault
 returns-4 c =
     let g = c .before .before .before .before .before .line2 .given .0 .0 in
-    let own : c .before .before .before .gate-wire .result + g ≡ gateWire (alone (c .before .before .before .before .before .before .before .before .args .t1)) g = omega (arith, c .before .before .before .gate-wire .ensures) in
+    let own : c .before .before .before .first-gate-wire .result + g ≡ gateWire (alone (c .before .before .before .before .before .before .before .before .args .t1)) g = omega (arith, c .before .before .before .first-gate-wire .ensures) in
     rw (c .before .before .before .before .before .line2 .given .1, c .gate-fault .ensures, own)
 
 returns-5 : tie.Need-returns-5
@@ -172,7 +172,7 @@ code-fault-spec =
     enum-known-line-2
     cast-at-2
     mul-at-2
-    gate-wire-requires
+    first-gate-wire-requires
     add-gate-fault
     mul-t27
     element-copy-out-t33

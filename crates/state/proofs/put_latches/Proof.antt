@@ -31,13 +31,13 @@ unfolding netOf
 frame-base-requires-2 c κs =
     (sizes-lists (c .before .args .net) (c .before .args .latches .now) [] [] [] (c .before .pre .0 .limits .sizes), omega arith)
 
-add-first : tie.Need-add-first Inv-loop μ-loop
-unfolding netOf
-add-first c = search needs
+first-latch-wire-requires : tie.Need-first-latch-wire-requires Inv-loop μ-loop
+first-latch-wire-requires c κs =
+    sizes-lists (c .before .before .args .net) (c .before .before .args .latches .now) [] [] [] (c .before .before .pre .0 .limits .sizes)
 
 loop-holds : tie.Need-loop-holds Inv-loop μ-loop
 loop-holds c =
-    turns-start _ _ _ (rw (later-latches (c .before .before .before .args .net) (c .before .before .before .args .latches .now) (c .before .before .before .args .i) _ (c .before .before .frame-base .ensures) (c .before .frame-base2 .ensures)) at (c .before .before .before .pre .1))
+    turns-start _ _ _ (rw (later-latches (c .before .before .before .args .net) (c .before .before .before .args .latches .now) (c .before .before .before .args .i) _ (c .before .before .frame-base .ensures) (c .before .frame-base2 .ensures) (c .first-latch-wire .ensures)) at (c .before .before .before .pre .1))
 
 mul-t14 : tie.Need-mul-t14 Inv-loop μ-loop
 unfolding netOf
@@ -102,7 +102,7 @@ same-length c = search needs
 
 returns : tie.Need-returns Inv-loop μ-loop
 returns c =
-    rw (later-latches (c .before .before .before .before .before .args .net) (c .before .before .before .before .before .args .latches .now) (c .before .before .before .before .before .args .i) _ (c .before .before .before .before .frame-base .ensures) (c .before .before .before .frame-base2 .ensures)) (turns-end (c .before .loop .inv) (omega arith))
+    rw (later-latches (c .before .before .before .before .before .args .net) (c .before .before .before .before .before .args .latches .now) (c .before .before .before .before .before .args .i) _ (c .before .before .before .before .frame-base .ensures) (c .before .before .before .frame-base2 .ensures) (c .before .before .first-latch-wire .ensures)) (turns-end (c .before .loop .inv) (omega arith))
 
 pub put-latches-spec : {M : Type 1} → statement M
 put-latches-spec =
@@ -113,7 +113,7 @@ put-latches-spec =
     frame-base-requires
     add-frame-base
     frame-base-requires-2
-    add-first
+    first-latch-wire-requires
     loop-holds
     mul-t14
     cast-t15

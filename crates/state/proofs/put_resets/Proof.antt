@@ -22,13 +22,13 @@ unfolding netOf
 frame-base-requires c κs =
     (sizes-lists (c .args .net) (c .args .latches .now) [] [] [] (c .pre .0 .limits .sizes), omega arith)
 
-add-first : tie.Need-add-first Inv-loop μ-loop
-unfolding netOf
-add-first c = search needs
+first-latch-wire-requires : tie.Need-first-latch-wire-requires Inv-loop μ-loop
+first-latch-wire-requires c κs =
+    sizes-lists (c .before .args .net) (c .before .args .latches .now) [] [] [] (c .before .pre .0 .limits .sizes)
 
 loop-holds : tie.Need-loop-holds Inv-loop μ-loop
 loop-holds c =
-    turns-start _ _ _ (rw (resets (c .before .before .args .net) (c .before .before .args .latches .now) _ (c .before .frame-base .ensures)) at (c .before .before .pre .1))
+    turns-start _ _ _ (rw (resets (c .before .before .args .net) (c .before .before .args .latches .now) _ (c .before .frame-base .ensures) (c .first-latch-wire .ensures)) at (c .before .before .pre .1))
 
 mul-reset : tie.Need-mul-reset Inv-loop μ-loop
 unfolding netOf
@@ -95,7 +95,7 @@ same-length c = search needs
 
 returns : tie.Need-returns Inv-loop μ-loop
 returns c =
-    rw (resets (c .before .before .before .before .args .net) (c .before .before .before .before .args .latches .now) _ (c .before .before .before .frame-base .ensures)) (turns-end (c .before .loop .inv) (omega arith))
+    rw (resets (c .before .before .before .before .args .net) (c .before .before .before .before .args .latches .now) _ (c .before .before .before .frame-base .ensures) (c .before .before .first-latch-wire .ensures)) (turns-end (c .before .loop .inv) (omega arith))
 
 pub put-resets-spec : {M : Type 1} → statement M
 put-resets-spec =
@@ -104,7 +104,7 @@ put-resets-spec =
     Inv-loop
     μ-loop
     frame-base-requires
-    add-first
+    first-latch-wire-requires
     loop-holds
     mul-reset
     add-reset
