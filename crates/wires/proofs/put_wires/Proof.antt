@@ -1,5 +1,4 @@
 -- `wires::put_wires` meets its contract: the latches, then the gates. Assumes nothing.
-use mathlib.Core.List.{[]}
 use native.Mathlib.Omega.{arith}
 use borrow.Author.Needs.{needs}
 use Rattle.netlist.proofs.NetOf.{limits-without-latches, limits-without-gates}
