@@ -3,15 +3,15 @@
 use literals::Code;
 use literals::Lit;
 use netlist::Netlist;
-use places::Port;
+use variables::Port;
 ghost use Prim.Native.Nat.{_+_, _/_, _≤_};
 ghost use mathlib.Core.List.{[], _∷_, map};
 ghost use lib.ListN.{length};
-ghost use Rattle.model.specs.Clauses.{plus, bitClauses, gather, bitOf, notE, allBits};
+ghost use Rattle.model.specs.Clauses.{plus, bitClauses, gather, bitOf, unequalOf, allBits};
 ghost use Rattle.model.specs.Variables.{codeAt};
 ghost use Rattle.model.specs.Numbers.{numberOf, written};
 ghost use Rattle.literals.specs.Lit.{HasNumber};
-ghost use Rattle.places.specs.OfPair.{ofPair, IsPair};
+ghost use Rattle.variables.specs.OfPair.{ofPair, PairFits};
 ghost use Rattle.model.specs.Wrote.{Wrote};
 
 // The four clauses of address bit t, code `x` in the writing frame and code `y` in the reading one, at a pair that starts after q.
@@ -30,11 +30,11 @@ fn put_address_bit(
     ensures { λ r. ⌜ Wrote (written (bitClauses (plus (q + 1)) (plus (q + 2 + t)) (codeAt writing (x .0)) (codeAt reading (y .0))))
         (now (out .entry)) (now (out .exit)) r ⌝ }
 {
-    let equal = Lit::in_pair(q, 1);
+    let address_equal = Lit::in_pair(q, 1);
     let bit_equal = Lit::in_pair(q, 2 + t);
     tseitin::put_bit(
         out,
-        equal,
+        address_equal,
         bit_equal,
         x.in_frame(writing),
         y.in_frame(reading),
@@ -43,12 +43,12 @@ fn put_address_bit(
 
 // The clauses of each address bit, in bit order.
 pub fn put_address_bits(out: &mut [i32], net: Netlist, port: Port, j: u32, i: u32) -> usize
-    requires { ⌜ IsPair net port j i × (length (written (gather (net .m) (bitOf (ofPair net port j i)))) ≤ length (now out)) ⌝ }
+    requires { ⌜ PairFits net port j i × (length (written (gather (net .m) (bitOf (ofPair net port j i)))) ≤ length (now out)) ⌝ }
     ensures { λ r. ⌜ Wrote (written (gather (net .m) (bitOf (ofPair net port j i)))) (now (out .entry)) (now (out .exit)) r ⌝ }
 {
-    let q = places::pair_base(net, port, j, i);
-    let writing = places::frame_base(net, j);
-    let reading = places::frame_base(net, i);
+    let q = variables::pair_base(net, port, j, i);
+    let writing = variables::frame_base(net, j);
+    let reading = variables::frame_base(net, i);
     let m = net.m;
     let mut at: usize = 0;
     let mut t: u32 = 0;
@@ -63,10 +63,10 @@ pub fn put_address_bits(out: &mut [i32], net: Netlist, port: Port, j: u32, i: u3
 
 // ¬e of each address bit, in bit order.
 fn put_unequal_bits(out: &mut [i32], net: Netlist, port: Port, j: u32, i: u32) -> usize
-    requires { ⌜ IsPair net port j i × (length (map numberOf (gather (net .m) (notE (ofPair net port j i)))) ≤ length (now out)) ⌝ }
-    ensures { λ r. ⌜ Wrote (map numberOf (gather (net .m) (notE (ofPair net port j i)))) (now (out .entry)) (now (out .exit)) r ⌝ }
+    requires { ⌜ PairFits net port j i × (length (map numberOf (gather (net .m) (unequalOf (ofPair net port j i)))) ≤ length (now out)) ⌝ }
+    ensures { λ r. ⌜ Wrote (map numberOf (gather (net .m) (unequalOf (ofPair net port j i)))) (now (out .entry)) (now (out .exit)) r ⌝ }
 {
-    let q = places::pair_base(net, port, j, i);
+    let q = variables::pair_base(net, port, j, i);
     let m = net.m;
     let mut at: usize = 0;
     let mut t: u32 = 0;
@@ -80,10 +80,10 @@ fn put_unequal_bits(out: &mut [i32], net: Netlist, port: Port, j: u32, i: u32) -
 
 // The clause (¬e of all address bits, E).
 pub fn put_all_bits(out: &mut [i32], net: Netlist, port: Port, j: u32, i: u32) -> usize
-    requires { ⌜ IsPair net port j i × (length (written (allBits (net .m) (ofPair net port j i) ∷ [])) ≤ length (now out)) ⌝ }
+    requires { ⌜ PairFits net port j i × (length (written (allBits (net .m) (ofPair net port j i) ∷ [])) ≤ length (now out)) ⌝ }
     ensures { λ r. ⌜ Wrote (written (allBits (net .m) (ofPair net port j i) ∷ [])) (now (out .entry)) (now (out .exit)) r ⌝ }
 {
-    let equal = Lit::in_pair(places::pair_base(net, port, j, i), 1);
+    let address_equal = Lit::in_pair(variables::pair_base(net, port, j, i), 1);
     let at = put_unequal_bits(out, net, port, j, i);
-    at + writer::put_unit(&mut out[at..], equal)
+    at + writer::put_unit(&mut out[at..], address_equal)
 }

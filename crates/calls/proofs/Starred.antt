@@ -2,9 +2,9 @@
 use mathlib.Core.Path.{refl}
 use Rattle.model.specs.Bits.{odd, bit}
 use Rattle.model.specs.Circuit.{sweep, isRead, eitherWire, dependsOnRead}
-use Rattle.model.specs.Clauses.{neg, gather, gatherDown, andClauses, sameIf, bitClauses, bitOf, notE, allBits, forwarded, pairClauses, initialRead, justS, someSource, closingClauses}
-use Rattle.model.specs.Variables.{baseOf, base, pairBaseOf, pairBase, wireAt, codeAt, none, selected, readBit, pairLiterals, closingLiterals}
-use Rattle.model.specs.Groups.{stateClauses, notP, clausesOf, pairOf, frameGroups, groupOrder, inDepth}
+use Rattle.model.specs.Clauses.{neg, gather, gatherDown, andClauses, sameIf, bitClauses, bitOf, unequalOf, allBits, forwarded, pairClauses, initialRead, selectedOf, someSource, closingClauses}
+use Rattle.model.specs.Variables.{baseOf, base, pairBaseOf, pairBase, wireAt, codeAt, noneSince, selected, readBit, pairLiterals, closingLiterals}
+use Rattle.model.specs.Groups.{stateClauses, violationOf, clausesOf, pairOf, frameGroups, groupOrder, inDepth}
 use Rattle.model.specs.Numbers.{numberOf, written, numbersOf, joined, formula, splitAfter, clausesIn}
 use Rattle.refusals.specs.Tests.{_then_, inOrder}
 use Rattle.netlist.specs.Lines.{lineAt}
@@ -14,9 +14,9 @@ use Rattle.unpacked.specs.Calls.{testDepth, testGroup, testNumbers, testRoom, g
 use Rattle.calls.specs.Starred.{sheetWith, rows, Starred}
 
 pub starred : Starred
-unfolding odd bit sweep isRead eitherWire dependsOnRead neg gather gatherDown andClauses sameIf bitClauses bitOf notE allBits
-    forwarded pairClauses initialRead justS someSource closingClauses baseOf base pairBaseOf pairBase wireAt codeAt none
-    selected readBit pairLiterals closingLiterals stateClauses notP clausesOf pairOf frameGroups groupOrder inDepth numberOf
+unfolding odd bit sweep isRead eitherWire dependsOnRead neg gather gatherDown andClauses sameIf bitClauses bitOf unequalOf allBits
+    forwarded pairClauses initialRead selectedOf someSource closingClauses baseOf base pairBaseOf pairBase wireAt codeAt noneSince
+    selected readBit pairLiterals closingLiterals stateClauses violationOf clausesOf pairOf frameGroups groupOrder inDepth numberOf
     written numbersOf joined formula splitAfter clausesIn _then_ inOrder lineAt sizeFault codeFault loopFaultBy testLines
     recordVerdict testDepth testGroup testNumbers testRoom groupVerdict headingVerdict sheetWith rows
 starred = refl

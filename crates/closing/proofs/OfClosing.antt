@@ -3,23 +3,22 @@
 use Prim.Native.Nat.{ℕ, _+_, _*_}
 use mathlib.Core.Path.{_≡_, refl, _∙_, ap}
 use mathlib.Core.List.{List, [], _∷_, _++_, map}
-use native.Mathlib.Nat.{add-assoc, zero-mul}
+use native.Mathlib.Nat.{add-zero, add-assoc, zero-mul}
 use native.Mathlib.Omega.{arith}
 use lib.IntN.{ℤ}
 use lib.ListN.{length}
 use Rattle.model.specs.Bits.{bit}
-use Rattle.model.specs.Netlist.{Port}
+use Rattle.model.specs.Netlist.{Port, readWire}
 use Rattle.model.specs.Netlist as M
-use Rattle.model.specs.Clauses.{Literal, known, plus, gather, sameIf, ClosingLiterals, initialRead, justS, someSource, closingClauses}
-use Rattle.model.specs.Variables.{stride, base, pairBase, wireAt, none, selected, readBit, closingLiterals}
+use Rattle.model.specs.Clauses.{Literal, known, plus, gather, sameIf, ClosingLiterals, initialRead, selectedOf, someSource, closingClauses}
+use Rattle.model.specs.Variables.{stride, base, pairBase, wireAt, noneSince, selected, readBit, closingLiterals}
 use Rattle.model.specs.Numbers.{numberOf, written}
 use Rattle.model.proofs.Variables.{pairBase-base}
 use Rattle.model.proofs.Joined.{written-append}
-use Rattle.netlist.specs.NetOf.{netOf}
+use Rattle.netlist.specs.NetOf.{netOf, alone}
 use Rattle.netlist.specs.declared.Netlist.{Netlist}
-use Rattle.places.specs.declared.Port as R
-use Rattle.places.specs.Alone.{alone}
-use Rattle.places.specs.PortOf.{portOf}
+use Rattle.variables.specs.declared.Port as R
+use Rattle.variables.specs.PortOf.{portOf}
 use Rattle.writer.proofs.Turns.{written-gather, numbers-gather, gather-same, length-written}
 use Rattle.closing.specs.OfClosing.{ofClosing}
 
@@ -27,12 +26,12 @@ use Rattle.closing.specs.OfClosing.{ofClosing}
 abbrev pub initialBit : Literal → ℕ → ℕ → ℕ → ℕ → ℕ → List ℤ
 initialBit z reading first read word t = written (sameIf z (wireAt reading (first + (read + t))) (known (bit word t)))
 
-pub initial-bits : (net : Netlist) (port : R.Port) (i n : ℕ) {reading : ℕ} {z : Literal}
-    → z ≡ none (alone net) (portOf port) 0 i → reading ≡ base (alone net) i
+pub initial-bits : (net : Netlist) (port : R.Port) (i n : ℕ) {reading first : ℕ} {z : Literal}
+    → z ≡ noneSince (alone net) (portOf port) 0 i → reading ≡ base (alone net) i → first ≡ readWire (alone net) 0
     → written (gather n (initialRead (ofClosing net port i)))
-    ≡ gather n (initialBit z reading (1 + net .inputs + net .latches) (port .«first_read») (net .«initial_word»))
-unfolding initialRead closingLiterals readBit alone netOf portOf
-initial-bits net port i n ez er = rw (written-gather n (initialRead (ofClosing net port i)), ez, er)
+    ≡ gather n (initialBit z reading first (port .«first_read») (net .«initial_word»))
+unfolding initialRead closingLiterals readBit netOf portOf
+initial-bits net port i n ez er ef = rw (written-gather n (initialRead (ofClosing net port i)), ez, er, ef, add-zero)
 
 -- where the variables of pair (j, i) start, from those of pair (0, i)
 pub source-base : (c : M.Netlist) (p : Port) (i : ℕ) {q s : ℕ} → q ≡ pairBase c p 0 i → s ≡ stride c → (j : ℕ)
@@ -46,10 +45,10 @@ sourceAt q s offset j = numberOf (plus (q + j * s + offset)) ∷ []
 
 pub sources : (net : Netlist) (port : R.Port) (i n : ℕ) {q s : ℕ}
     → q ≡ pairBase (alone net) (portOf port) 0 i → s ≡ stride (alone net)
-    → map numberOf (gather n (justS (ofClosing net port i))) ≡ gather n (sourceAt q s (net .m + 4))
-unfolding justS closingLiterals selected alone netOf
+    → map numberOf (gather n (selectedOf (ofClosing net port i))) ≡ gather n (sourceAt q s (net .m + 4))
+unfolding selectedOf closingLiterals selected netOf
 sources net port i n {q} {s} e es =
-    numbers-gather n (justS (ofClosing net port i))
+    numbers-gather n (selectedOf (ofClosing net port i))
     ∙ gather-same n _ (sourceAt q s (net .m + 4))
     (λ j. rw (source-base (alone net) (portOf port) i e es j, add-assoc (pairBase (alone net) (portOf port) j i) (net .m) 4))
 

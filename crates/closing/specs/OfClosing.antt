@@ -4,14 +4,14 @@ use Prim.Native.Nat.{ℕ, _≤_}
 use Rattle.model.specs.Clauses.{ClosingLiterals}
 use Rattle.model.specs.Variables.{closingLiterals}
 use Rattle.netlist.specs.declared.Netlist.{Netlist}
-use Rattle.places.specs.declared.Port.{Port}
-use Rattle.places.specs.Alone.{alone}
-use Rattle.places.specs.PortOf.{portOf}
-use Rattle.places.specs.Fits.{Fits}
+use Rattle.variables.specs.declared.Port.{Port}
+use Rattle.netlist.specs.NetOf.{alone}
+use Rattle.variables.specs.PortOf.{portOf}
+use Rattle.variables.specs.PortFits.{PortFits}
 
 abbrev pub ofClosing : Netlist → Port → ℕ → ClosingLiterals
 ofClosing net port i = closingLiterals (alone net) (portOf port) i
 
-pub record IsFrame (net : Netlist) (port : Port) (i : ℕ) : Type 0 where
-  pub fits : Fits (alone net) (portOf port)
+pub record ClosingFits (net : Netlist) (port : Port) (i : ℕ) : Type 0 where
+  pub fits : PortFits (alone net) (portOf port)
   pub depth : i ≤ 255

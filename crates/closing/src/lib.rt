@@ -3,36 +3,43 @@
 use literals::Lit;
 use literals::Wire;
 use netlist::Netlist;
-use places::Port;
+use variables::Port;
 ghost use Prim.Native.Nat.{_≤_, _<_};
 ghost use mathlib.Core.List.{[], _∷_, map};
 ghost use lib.ListN.{length};
 ghost use Rattle.model.specs.Bits.{bit};
-ghost use Rattle.model.specs.Clauses.{known, sameIf, gather, initialRead, justS, someSource, closingClauses};
+ghost use Rattle.model.specs.Clauses.{known, sameIf, gather, initialRead, selectedOf, someSource, closingClauses};
 ghost use Rattle.model.specs.Variables.{wireAt};
 ghost use Rattle.model.specs.Numbers.{numberOf, written};
 ghost use Rattle.literals.specs.Lit.{literalOf, IsLit, HasNumber};
 ghost use Rattle.model.specs.Wrote.{Wrote};
-ghost use Rattle.closing.specs.OfClosing.{ofClosing, IsFrame};
+ghost use Rattle.closing.specs.OfClosing.{ofClosing, ClosingFits};
 
 // The two clauses of data bit t: where Z is true, the read bit `rd` is the start bit.
-fn put_initial_bit(out: &mut [i32], none: Lit, reading: u32, rd: Wire, word: u32, t: u32) -> usize
-    requires { ⌜ IsLit none × HasNumber reading (rd .0) × (1 ≤ rd .0) × (t < 32)
-        × (length (written (sameIf (literalOf none) (wireAt reading (rd .0)) (known (bit word t)))) ≤ length (now out)) ⌝ }
-    ensures { λ r. ⌜ Wrote (written (sameIf (literalOf none) (wireAt reading (rd .0)) (known (bit word t))))
+fn put_initial_bit(
+    out: &mut [i32],
+    none_since: Lit,
+    reading: u32,
+    rd: Wire,
+    word: u32,
+    t: u32,
+) -> usize
+    requires { ⌜ IsLit «none_since» × HasNumber reading (rd .0) × (1 ≤ rd .0) × (t < 32)
+        × (length (written (sameIf (literalOf «none_since») (wireAt reading (rd .0)) (known (bit word t)))) ≤ length (now out)) ⌝ }
+    ensures { λ r. ⌜ Wrote (written (sameIf (literalOf «none_since») (wireAt reading (rd .0)) (known (bit word t))))
         (now (out .entry)) (now (out .exit)) r ⌝ }
 {
-    tseitin::put_same_if(out, none, rd.in_frame(reading), Lit::bit(word, t))
+    tseitin::put_same_if(out, none_since, rd.in_frame(reading), Lit::bit(word, t))
 }
 
 // The clauses of each data bit, in bit order.
 fn put_initial_reads(out: &mut [i32], net: Netlist, port: Port, i: u32) -> usize
-    requires { ⌜ IsFrame net port i × (length (written (gather (net .n) (initialRead (ofClosing net port i)))) ≤ length (now out)) ⌝ }
+    requires { ⌜ ClosingFits net port i × (length (written (gather (net .n) (initialRead (ofClosing net port i)))) ≤ length (now out)) ⌝ }
     ensures { λ r. ⌜ Wrote (written (gather (net .n) (initialRead (ofClosing net port i)))) (now (out .entry)) (now (out .exit)) r ⌝ }
 {
-    let none = places::none_since(net, port, 0, i);
-    let reading = places::frame_base(net, i);
-    let first = 1 + net.inputs + net.latches;
+    let none_since = variables::none_since(net, port, 0, i);
+    let reading = variables::frame_base(net, i);
+    let first = netlist::first_read_wire(net);
     let read = port.first_read;
     let word = net.initial_word;
     let n = net.n;
@@ -42,7 +49,7 @@ fn put_initial_reads(out: &mut [i32], net: Netlist, port: Port, i: u32) -> usize
         at = at
             + put_initial_bit(
                 &mut out[at..],
-                none,
+                none_since,
                 reading,
                 Wire(first + (read + t)),
                 word,
@@ -55,11 +62,11 @@ fn put_initial_reads(out: &mut [i32], net: Netlist, port: Port, i: u32) -> usize
 
 // S of each earlier frame, in ascending order.
 fn put_sources(out: &mut [i32], net: Netlist, port: Port, i: u32) -> usize
-    requires { ⌜ IsFrame net port i × (length (map numberOf (gather i (justS (ofClosing net port i)))) ≤ length (now out)) ⌝ }
-    ensures { λ r. ⌜ Wrote (map numberOf (gather i (justS (ofClosing net port i)))) (now (out .entry)) (now (out .exit)) r ⌝ }
+    requires { ⌜ ClosingFits net port i × (length (map numberOf (gather i (selectedOf (ofClosing net port i)))) ≤ length (now out)) ⌝ }
+    ensures { λ r. ⌜ Wrote (map numberOf (gather i (selectedOf (ofClosing net port i)))) (now (out .entry)) (now (out .exit)) r ⌝ }
 {
-    let q = places::pair_base(net, port, 0, i);
-    let numbering = places::numbering(net);
+    let q = variables::pair_base(net, port, 0, i);
+    let numbering = variables::numbering(net);
     let stride = numbering.stride;
     let offset = net.m + 4;
     let mut at: usize = 0;
@@ -74,8 +81,8 @@ fn put_sources(out: &mut [i32], net: Netlist, port: Port, i: u32) -> usize
 
 // The sources, with the end mark.
 fn put_last_sources(out: &mut [i32], net: Netlist, port: Port, i: u32) -> usize
-    requires { ⌜ IsFrame net port i × (length (written (gather i (justS (ofClosing net port i)) ∷ [])) ≤ length (now out)) ⌝ }
-    ensures { λ r. ⌜ Wrote (written (gather i (justS (ofClosing net port i)) ∷ [])) (now (out .entry)) (now (out .exit)) r ⌝ }
+    requires { ⌜ ClosingFits net port i × (length (written (gather i (selectedOf (ofClosing net port i)) ∷ [])) ≤ length (now out)) ⌝ }
+    ensures { λ r. ⌜ Wrote (written (gather i (selectedOf (ofClosing net port i)) ∷ [])) (now (out .entry)) (now (out .exit)) r ⌝ }
 {
     let a = put_sources(out, net, port, i);
     a + writer::put_end(&mut out[a..])
@@ -83,19 +90,19 @@ fn put_last_sources(out: &mut [i32], net: Netlist, port: Port, i: u32) -> usize
 
 // The clause (¬RE Z S(0,i) .. S(i−1,i)).
 fn put_some_source(out: &mut [i32], net: Netlist, port: Port, i: u32) -> usize
-    requires { ⌜ IsFrame net port i × (length (written (someSource i (ofClosing net port i) ∷ [])) ≤ length (now out)) ⌝ }
+    requires { ⌜ ClosingFits net port i × (length (written (someSource i (ofClosing net port i) ∷ [])) ≤ length (now out)) ⌝ }
     ensures { λ r. ⌜ Wrote (written (someSource i (ofClosing net port i) ∷ [])) (now (out .entry)) (now (out .exit)) r ⌝ }
 {
-    let read_enable = port.re.in_frame(places::frame_base(net, i));
-    let none = places::none_since(net, port, 0, i);
+    let read_enable = port.re.in_frame(variables::frame_base(net, i));
+    let none_since = variables::none_since(net, port, 0, i);
     let a = writer::put_literal(out, read_enable.negated());
-    let b = a + writer::put_literal(&mut out[a..], none);
+    let b = a + writer::put_literal(&mut out[a..], none_since);
     b + put_last_sources(&mut out[b..], net, port, i)
 }
 
 // All clauses of the closing.
 pub fn put_closing(out: &mut [i32], net: Netlist, port: Port, i: u32) -> usize
-    requires { ⌜ IsFrame net port i × (length (written (closingClauses (net .n) i (ofClosing net port i))) ≤ length (now out)) ⌝ }
+    requires { ⌜ ClosingFits net port i × (length (written (closingClauses (net .n) i (ofClosing net port i))) ≤ length (now out)) ⌝ }
     ensures { λ r. ⌜ Wrote (written (closingClauses (net .n) i (ofClosing net port i))) (now (out .entry)) (now (out .exit)) r ⌝ }
 {
     let a = put_initial_reads(out, net, port, i);

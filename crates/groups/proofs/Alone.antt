@@ -2,7 +2,7 @@
 -- No contract cites this file. Assumes nothing.
 use Prim.Native.Nat.{ℕ, _≤_, _<_}
 use mathlib.Core.Path.{_≡_, refl, sym, _∙_, ap, subst}
-use mathlib.Core.List.{List, []}
+use mathlib.Core.List.{List}
 use native.Mathlib.Omega.{arith}
 use mathlib.Core.Bool.{true}
 use lib.Dec.{leb, ltb}
@@ -12,30 +12,28 @@ use borrow.Author.Tests.{leb-true, ltb-true}
 use Rattle.model.specs.Netlist as M
 use Rattle.model.specs.Acceptance.{Accepted}
 use Rattle.model.specs.Clauses.{pairClauses, closingClauses}
-use Rattle.model.specs.Variables.{base, pairBase, none, selected, readBit, pairLiterals, closingLiterals}
-use Rattle.model.specs.Groups.{notP, clausesOf, inDepth}
+use Rattle.model.specs.Variables.{base, pairBase, noneSince, selected, readBit, pairLiterals, closingLiterals}
+use Rattle.model.specs.Groups.{violationOf, clausesOf, inDepth}
 use Rattle.model.specs.Numbers.{written, numbersOf}
 use Rattle.model.specs.Wrote.{Wrote}
 use Rattle.model.specs.declared.Group.{Group}
 use Rattle.model.specs.declared.Group.the-variants.{Wires, Pair, Closing, Property}
 use Rattle.model.proofs.Booleans.{and-true}
-use Rattle.netlist.specs.NetOf.{netOf}
+use Rattle.netlist.specs.NetOf.{netOf, alone}
 use Rattle.netlist.specs.declared.Netlist.{Netlist}
-use Rattle.places.specs.Alone.{alone}
-use Rattle.places.specs.Fits.{Fits}
-use Rattle.places.proofs.Lists.{sizes-without, codes-without-gates, codes-without-latches}
+use Rattle.variables.specs.PortFits.{PortFits}
+use Rattle.netlist.proofs.NetOf.{limits-alone}
 
 module _ (r : Netlist) (ls gs : List ℕ) where
   -- the sizes and codes that an accepted record's port has
-  pub fits-alone : Accepted (netOf r ls gs) → (p : M.Port) → p ≡ M.port (alone r) → Fits (alone r) p
-  unfolding alone netOf
+  pub fits-alone : Accepted (netOf r ls gs) → (p : M.Port) → p ≡ M.port (alone r) → PortFits (alone r) p
+  unfolding netOf
   fits-alone ok p e =
       rw e
       (record {
-        sizes = sizes-without r ls gs [] [] (ok .sizes);
-        codes = codes-without-latches r [] [] (codes-without-gates r [] gs (codes-without-latches r ls gs (ok .codes)));
-        port-address-fits = ok .codes .address-fits;
-        port-RE-fits = ok .codes .RE-fits;
+        limits = limits-alone r ls gs (ok .limits);
+        port-address-fits = ok .limits .codes .address-fits;
+        port-RE-fits = ok .limits .codes .RE-fits;
         reads-fit = omega arith;
         variables-fit = omega arith;
       })
@@ -43,18 +41,18 @@ module _ (r : Netlist) (ls gs : List ℕ) where
   -- a pair
   pub pair-alone : (p : M.Port) → p ≡ M.port (alone r) → (k j i : ℕ)
       → written (pairClauses (r .m) (r .n) (pairLiterals (alone r) p j i)) ≡ numbersOf (netOf r ls gs) k (Pair j i)
-  unfolding alone netOf numbersOf clausesOf pairLiterals base pairBase none selected readBit
+  unfolding netOf numbersOf clausesOf pairLiterals base pairBase noneSince selected readBit
   pair-alone p e k j i = rw e
 
   -- a closing
   pub closing-alone : (p : M.Port) → p ≡ M.port (alone r) → (k i : ℕ)
       → written (closingClauses (r .n) i (closingLiterals (alone r) p i)) ≡ numbersOf (netOf r ls gs) k (Closing i)
-  unfolding alone netOf numbersOf clausesOf closingLiterals base pairBase none selected readBit
+  unfolding netOf numbersOf clausesOf closingLiterals base pairBase noneSince selected readBit
   closing-alone p e k i = rw e
 
   -- the property
   pub property-alone : (k : ℕ) → numbersOf (alone r) k Property ≡ numbersOf (netOf r ls gs) k Property
-  unfolding alone netOf numbersOf clausesOf notP base
+  unfolding netOf numbersOf clausesOf violationOf base
   property-alone k = refl
 
 -- the wires of a frame, at any depth

@@ -26,8 +26,8 @@ pub fn put_group(
 {
     match group {
         Group::Wires(i) => wires::put_wires(out, net, latches, gates, i),
-        Group::Pair(j, i) => pair::put_pair(out, net, places::port_of(net), j, i),
-        Group::Closing(i) => closing::put_closing(out, net, places::port_of(net), i),
+        Group::Pair(j, i) => pair::put_pair(out, net, variables::port_of(net), j, i),
+        Group::Closing(i) => closing::put_closing(out, net, variables::port_of(net), i),
         Group::Property => property::put_property(out, net, depth),
     }
 }

@@ -3,10 +3,9 @@
 use literals::Code;
 use netlist::Netlist;
 ghost use mathlib.Core.Path.{_≡_};
-ghost use mathlib.Core.List.{[]};
 ghost use Prim.Native.Nat.{_≤_};
 ghost use Rattle.model.specs.Acceptance.{SizesFit};
-ghost use Rattle.netlist.specs.NetOf.{netOf};
+ghost use Rattle.netlist.specs.NetOf.{netOf, alone};
 ghost use Rattle.netlist.specs.Faults.{codeFault};
 ghost use Rattle.limits.specs.AnyLine.{anyLatch, anyGate, anyInPort, anyLine};
 
@@ -45,8 +44,8 @@ fn any_gate(first: u32, gates: &[u32; 1200], count: u32) -> bool
 
 // Whether any code of the memory's port or of line C is outside its limit.
 fn any_in_port(net: Netlist, last: u32) -> bool
-    requires { ⌜ SizesFit (netOf net [] []) ⌝ }
-    ensures { λ r. ⌜ r ≡ anyInPort last (netOf net [] []) ⌝ }
+    requires { ⌜ SizesFit (alone net) ⌝ }
+    ensures { λ r. ⌜ r ≡ anyInPort last (alone net) ⌝ }
 {
     let mut any = false;
     let mut t = 0;
@@ -69,11 +68,11 @@ fn any_in_port(net: Netlist, last: u32) -> bool
 
 // Whether any line has refusal 5.
 pub fn any_code_fault(net: Netlist, latches: &[u32; 1200], gates: &[u32; 1200]) -> bool
-    requires { ⌜ SizesFit (netOf net [] []) ⌝ }
+    requires { ⌜ SizesFit (alone net) ⌝ }
     ensures { λ r. ⌜ r ≡ anyLine (netOf net (now (latches .entry)) (now (gates .entry))) codeFault ⌝ }
 {
     let last = netlist::last_wire(net);
-    let first = netlist::gate_wire(net);
+    let first = netlist::first_gate_wire(net);
     any_latch(last, latches, net.latches)
         | any_gate(first, gates, net.gates)
         | any_in_port(net, last)

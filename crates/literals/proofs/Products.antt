@@ -3,7 +3,7 @@ use Prim.Native.Nat.{ℕ, _+_, _-_, _*_, _/_, _≤_}
 use native.Mathlib.Nat.{mul-le-mul}
 use native.Mathlib.Omega.{arith}
 use Rattle.model.specs.Variables.{baseOf}
-use Rattle.literals.specs.Numbering.{InLimits}
+use Rattle.literals.specs.Numbering.{NumberingFits}
 use Rattle.literals.specs.declared.Numbering.{Numbering}
 
 -- the products in B(i)
@@ -12,7 +12,7 @@ pub record Products (x : Numbering) (i : ℕ) : Type 0 where
   pub stride-product : x .stride * i ≤ 4096
   pub pairs-product : x .stride * i * (i - 1) ≤ 1044480
 
-pub products : (x : Numbering) (i : ℕ) → InLimits x i → Products x i
+pub products : (x : Numbering) (i : ℕ) → NumberingFits x i → Products x i
 products x i h =
     let stride-product : x .stride * i ≤ 16 * 256 = mul-le-mul (h .stride-most) (h .frame-most) in
     let before : i - 1 ≤ 255 = omega arith in
@@ -23,10 +23,10 @@ products x i h =
     }
 
 -- document 01's most
-pub baseOf-most : (x : Numbering) (i : ℕ) → InLimits x i → baseOf (x .wires) (x .stride) i ≤ 675841
+pub baseOf-most : (x : Numbering) (i : ℕ) → NumberingFits x i → baseOf (x .wires) (x .stride) i ≤ 675841
 unfolding baseOf
 baseOf-most x i h = omega (arith, products x i h)
 
 -- the variables of the pairs before pair (j, i)
-pub pairs-most : (x : Numbering) (j i : ℕ) → InLimits x i → j ≤ i → j * x .stride ≤ 4096
+pub pairs-most : (x : Numbering) (j i : ℕ) → NumberingFits x i → j ≤ i → j * x .stride ≤ 4096
 pairs-most x j i h l = let frame : j ≤ 256 = omega arith in mul-le-mul frame (h .stride-most)

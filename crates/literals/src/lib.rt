@@ -6,7 +6,7 @@ ghost use Rattle.model.specs.Bits.{bit};
 ghost use Rattle.model.specs.Clauses.{known, plus, neg};
 ghost use Rattle.model.specs.Variables.{baseOf, pairBaseOf, wireAt, codeAt};
 ghost use Rattle.literals.specs.Lit.{literalOf, IsLit, HasNumber};
-ghost use Rattle.literals.specs.Numbering.{InLimits};
+ghost use Rattle.literals.specs.Numbering.{NumberingFits};
 
 // An AIG variable, numbered from 1.
 pub struct Wire(pub u32);
@@ -107,7 +107,7 @@ impl Lit {
 impl Numbering {
     // B(i): frame i's variables start after it.
     pub fn base(self, i: u32) -> u32
-        requires { ⌜ InLimits self i ⌝ }
+        requires { ⌜ NumberingFits self i ⌝ }
         ensures { λ r. ⌜ r ≡ baseOf (self .wires) (self .stride) i ⌝ }
     {
         if i == 0 {
@@ -118,7 +118,7 @@ impl Numbering {
 
     // Q: the variables of pair (j, i) start after it, at a port whose first variable of a pair is `first`.
     pub fn pair_base(self, first: u32, j: u32, i: u32) -> u32
-        requires { ⌜ InLimits self i × (j ≤ i) × (first ≤ self .stride) ⌝ }
+        requires { ⌜ NumberingFits self i × (j ≤ i) × (first ≤ self .stride) ⌝ }
         ensures { λ r. ⌜ r ≡ pairBaseOf (self .wires) (self .stride) first j i ⌝ }
     {
         self.base(i) + self.wires + j * self.stride + first

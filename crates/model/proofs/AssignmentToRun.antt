@@ -14,7 +14,7 @@ use Rattle.model.specs.Netlist.{Netlist, Port, port, lastWire, readBits,
 use Rattle.model.specs.Circuit.{Values, code, State, Feed, addressOf, readData, frame, wordWritten, step, stateAt, run, initial}
 use Rattle.model.specs.Acceptance.{Accepted}
 use Rattle.model.specs.Clauses.{Literal, known, PairLiterals}
-use Rattle.model.specs.Variables.{base, codeIn, none, readBit, pairLiterals, closingLiterals}
+use Rattle.model.specs.Variables.{base, codeIn, noneSince, readBit, pairLiterals, closingLiterals}
 use Rattle.model.specs.Numbers.{Assignment}
 use Rattle.model.specs.Claim.{feedOf, Agrees, Breaks}
 use Rattle.model.proofs.Below.{all-below-suc}
@@ -24,7 +24,7 @@ use Rattle.model.proofs.Circuit.{code-same, IsFrame, frame-unique}
 use Rattle.model.proofs.Truth.{value, Holds, PairHolds, ClosingHolds}
 use Rattle.model.proofs.InFrame.{assigned, assigned-zero, assigned-wire, readBit-value, codeIn-value}
 use Rattle.model.proofs.Forwarding.{stepped, Chain, selected-read}
-use Rattle.model.proofs.Variables.{none-last}
+use Rattle.model.proofs.Variables.{noneSince-last}
 use Rattle.model.proofs.Joined.{EachGroup}
 use Rattle.model.proofs.Agreement.{Same, address-bits, code-agrees, address-agrees, word-bit, writes, hits, wordBefore, memory-stepped, wordBefore-agrees}
 use Rattle.model.proofs.Groups.{wires-hold, state-first-holds, state-later-holds, gateClauses-holds, resetClause-holds, latchClauses-holds, pair-holds, closing-holds, property-holds}
@@ -69,13 +69,13 @@ module _ (c : Netlist) (a : Assignment) where
     closing-at : (i : ℕ) → i ≤ k → ClosingHolds a (c .n) i (closingLiterals c (port c) i)
     closing-at i d = closing-holds c a k i .0 (holds .closings i d)
 
-    -- N of pair (j, i) is `none` of the next frame
-    N-value : (j i : ℕ) → value a (literals j i .N) ≡ value a (none c (port c) (suc j) i)
+    -- N of pair (j, i) is `noneSince` of the next frame
+    N-value : (j i : ℕ) → value a (literals j i .N) ≡ value a (noneSince c (port c) (suc j) i)
     unfolding pairLiterals
-    N-value j i = ap (λ (x : ℕ). value a (none c (port c) x i)) (add-one j)
+    N-value j i = ap (λ (x : ℕ). value a (noneSince c (port c) x i)) (add-one j)
 
-    -- the literals `none` of frame i are the chain of the writes to the word it reads
-    chain-at : (i : ℕ) → i ≤ k → Chain i (hits c u i) (λ j. value a (none c (port c) j i))
+    -- the literals `noneSince` of frame i are the chain of the writes to the word it reads
+    chain-at : (i : ℕ) → i ≤ k → Chain i (hits c u i) (λ j. value a (noneSince c (port c) j i))
     unfolding pairLiterals
     chain-at i d =
         record {
@@ -84,7 +84,7 @@ module _ (c : Netlist) (a : Assignment) where
         }
 
     -- S is true where frame j's write is the newest to the word that frame i reads
-    S-where-newest : (j i : ℕ) (b : j < i) (d : i ≤ k) → (hits c u i j && value a (none c (port c) (suc j) i)) ≡ true
+    S-where-newest : (j i : ℕ) (b : j < i) (d : i ≤ k) → (hits c u i j && value a (noneSince c (port c) (suc j) i)) ≡ true
         → value a (literals j i .S) ≡ true
     S-where-newest j i b d h =
         let p = pair-at j i b d in p .exclusive ∙ ap₂ _&&_ (s-value j i p) (N-value j i) ∙ h
@@ -99,17 +99,17 @@ module _ (c : Netlist) (a : Assignment) where
         Reads : ℕ → Type 0
         Reads w = (t : ℕ) → t < c .n → value a (readBit c (port c) i t) ≡ bit w t
 
-        forwarded : (j : ℕ) → j < i → (hits c u i j && value a (none c (port c) (suc j) i)) ≡ true → Reads (wordWritten c (u j))
+        forwarded : (j : ℕ) → j < i → (hits c u i j && value a (noneSince c (port c) (suc j) i)) ≡ true → Reads (wordWritten c (u j))
         forwarded j b h t l =
             pair-at j i b d .data-where-S t l (S-where-newest j i b d h)
             ∙ codeIn-value c a j (c .writeData t) ∙ sym (word-bit c (u j) t l)
 
-        RE : value a (none c (port c) i i) ≡ true
-        RE = ap (value a) (none-last c (port c) i) ∙ codeIn-value c a i (c .RE) ∙ r
+        RE : value a (noneSince c (port c) i i) ≡ true
+        RE = ap (value a) (noneSince-last c (port c) i) ∙ codeIn-value c a i (c .RE) ∙ r
 
-        reads : (j : ℕ) → j ≤ i → value a (none c (port c) j i) ≡ true → Reads (wordBefore c u (c .initialWord) (at i) j)
+        reads : (j : ℕ) → j ≤ i → value a (noneSince c (port c) j i) ≡ true → Reads (wordBefore c u (c .initialWord) (at i) j)
         reads =
-            selected-read i (hits c u i) (λ j. value a (none c (port c) j i)) (chain-at i d) (c .initialWord)
+            selected-read i (hits c u i) (λ j. value a (noneSince c (port c) j i)) (chain-at i d) (c .initialWord)
             (λ j. wordWritten c (u j)) Reads (λ z t b. closing-at i d .initial-where-Z t b z) forwarded
 
     module _ (ok : Accepted c) where
@@ -134,13 +134,13 @@ module _ (c : Netlist) (a : Assignment) where
           let later = state-later-holds c a i .0 (wires-hold c a k (suc i) .0 (holds .wires (suc i) d) .0) in
           ap (λ (x : ℕ). u x (latchWire c l)) (sym (add-one i))
           ∙ latchClauses-holds c a i l .0 (later l b)
-          ∙ code-agrees c (u i) (driven i) (before i (lt-suc-self i)) (c .next l) (ok .codes .next-fits l b)
+          ∙ code-agrees c (u i) (driven i) (before i (lt-suc-self i)) (c .next l) (ok .limits .codes .next-fits l b)
 
       -- so is the word that frame i reads
       word-at : (i : ℕ) → Before i → (x : ℕ) → wordBefore c u (c .initialWord) x i ≡ state i .memory x
       unfolding initial
       word-at i before x =
-          wordBefore-agrees c (ok .codes) u driven (c .initialWord) x i before
+          wordBefore-agrees c (ok .limits .codes) u driven (c .initialWord) x i before
           ∙ sym (memory-stepped c (initial c) (feedOf c a) x i)
 
       -- so is the whole frame
@@ -180,4 +180,4 @@ module _ (c : Netlist) (a : Assignment) where
       assignment-breaks =
           let p = property-holds c a k .0 (holds .property) in
           let i = p .0 in
-          (i, omega (arith, p .1), sym (code-agrees c (u i) (driven i) (agree i (p .1)) (c .P) (ok .codes .P-fits)) ∙ p .2)
+          (i, omega (arith, p .1), sym (code-agrees c (u i) (driven i) (agree i (p .1)) (c .P) (ok .limits .codes .P-fits)) ∙ p .2)

@@ -10,10 +10,10 @@ use lib.Dec.{eqb, ltb}
 use lib.IntN.{natAbs}
 use Rattle.model.specs.Bits.{odd}
 use Rattle.model.specs.Netlist.{Netlist, port, gateWire, lastWire}
-use Rattle.model.specs.Clauses.{Literal, known, plus, minus, Clause, neg, andClauses, sameClauses, sameIf, bitClauses, PairLiterals, bitOf, notE, allBits, forwarded, pairClauses, ClosingLiterals, initialRead, justS, someSource, closingClauses}
-use Rattle.model.specs.Variables.{stride, base, pairBase, wireAt, codeAt, wireIn, codeIn, none, selected, readBit, pairLiterals, closingLiterals}
+use Rattle.model.specs.Clauses.{Literal, known, plus, minus, Clause, neg, andClauses, sameClauses, sameIf, bitClauses, PairLiterals, bitOf, unequalOf, allBits, forwarded, pairClauses, ClosingLiterals, initialRead, selectedOf, someSource, closingClauses}
+use Rattle.model.specs.Variables.{stride, base, pairBase, wireAt, codeAt, wireIn, codeIn, noneSince, selected, readBit, pairLiterals, closingLiterals}
 use Rattle.model.specs.Acceptance.{Accepted, IsCode}
-use Rattle.model.specs.Groups.{gateClauses, resetClause, latchClauses, stateClauses, notP, clausesOf, pairOf, frameGroups, groupOrder}
+use Rattle.model.specs.Groups.{gateClauses, resetClause, latchClauses, stateClauses, violationOf, clausesOf, pairOf, frameGroups, groupOrder}
 use Rattle.model.specs.Numbers.{numberOf, written, formula}
 use Rattle.model.specs.declared.Group.{Group}
 use Rattle.model.specs.declared.Group.the-variants.{Wires, Pair, Closing, Property}
@@ -82,13 +82,13 @@ module _ {P : Literal → Type 0} (keeps : (l : Literal) → P l → P (neg l)) 
 
   -- of a pair's clauses
   pair-all : (m n : ℕ) (x : PairLiterals) → PairAll P m n x → AllLits P (pairClauses m n x)
-  unfolding pairClauses bitOf allBits notE forwarded
+  unfolding pairClauses bitOf allBits unequalOf forwarded
   pair-all m n x a =
       search (_⧺_, just, also, all-gather, bit-all, and-all, sameIf-all, keeps, a .E, a .e, a .s, a .PS, a .S, a .N, a .WE, a .Aj, a .WD, a .Ai, a .RD) depth 20
 
   -- of a closing's clauses
   closing-all : (n i : ℕ) (x : ClosingLiterals) → ClosingAll P n i x → AllLits P (closingClauses n i x)
-  unfolding closingClauses initialRead someSource justS
+  unfolding closingClauses initialRead someSource selectedOf
   closing-all n i x a =
       search (_⧺_, just, also, all-gather, sameIf-all, keeps, a .Z, a .RE, a .S, a .RD, a .W) depth 20
 
@@ -139,9 +139,9 @@ module _ (c : Netlist) (k : ℕ) where
   pair-variable-within j i v l h r = variable-within i v h (omega (arith, pair-within c j i l))
 
   -- PS, or RE
-  pub none-within : (j i : ℕ) → j ≤ i → i ≤ k → IsCode c (c .RE) → Bounded (none c (port c) j i)
-  unfolding none
-  none-within j i l h r =
+  pub noneSince-within : (j i : ℕ) → j ≤ i → i ≤ k → IsCode c (c .RE) → Bounded (noneSince c (port c) j i)
+  unfolding noneSince
+  noneSince-within j i l h r =
       cond-has Bounded (eqb j i)
       (λ e. code-within i (c .RE) h r)
       (λ e. pair-variable-within j i _ (omega (arith, eqb-false j i e)) h (omega arith))
@@ -165,8 +165,8 @@ module _ {c : Netlist} (accepted : Accepted c) (k : ℕ) where
       let operand : (x : ℕ) → x < 2 * gateWire c g → IsCode c x = λ x l. omega arith in
       and-all (within-neg _)
       (wire-within c k i _ h (omega arith))
-      (code-within c k i _ h (operand _ (accepted .codes .left-fits g b)))
-      (code-within c k i _ h (operand _ (accepted .codes .right-fits g b)))
+      (code-within c k i _ h (operand _ (accepted .limits .codes .left-fits g b)))
+      (code-within c k i _ h (operand _ (accepted .limits .codes .right-fits g b)))
 
   -- a latch's in frame 0
   reset-within : (l : ℕ) → l < c .latches → AllLits (Bounded c k) (resetClause c l)
@@ -180,7 +180,7 @@ module _ {c : Netlist} (accepted : Accepted c) (k : ℕ) where
   latch-within i l h b =
       same-all (within-neg _)
       (wire-within c k (i + 1) _ (omega arith) (omega arith))
-      (code-within c k i _ (omega arith) (accepted .codes .next-fits l b))
+      (code-within c k i _ (omega arith) (accepted .limits .codes .next-fits l b))
 
   -- all latches'
   state-within : (i : ℕ) → i ≤ k → AllLits (Bounded c k) (stateClauses c i)
@@ -204,13 +204,13 @@ module _ {c : Netlist} (accepted : Accepted c) (k : ℕ) where
         E = pair-variable-within c k j i _ l h (omega arith);
         e = λ t b. pair-variable-within c k j i _ l h (omega arith);
         s = pair-variable-within c k j i _ l h (omega arith);
-        PS = none-within c k j i (omega arith) h (accepted .codes .RE-fits);
+        PS = noneSince-within c k j i (omega arith) h (accepted .limits .codes .RE-fits);
         S = selected-within c k j i l h;
-        N = none-within c k (j + 1) i (omega arith) h (accepted .codes .RE-fits);
-        WE = code-within c k _ _ (omega arith) (accepted .codes .WE-fits);
-        Aj = λ t b. code-within c k _ _ (omega arith) (accepted .codes .address-fits t b);
-        WD = λ t b. code-within c k _ _ (omega arith) (accepted .codes .data-fits t b);
-        Ai = λ t b. code-within c k _ _ (omega arith) (accepted .codes .address-fits t b);
+        N = noneSince-within c k (j + 1) i (omega arith) h (accepted .limits .codes .RE-fits);
+        WE = code-within c k _ _ (omega arith) (accepted .limits .codes .WE-fits);
+        Aj = λ t b. code-within c k _ _ (omega arith) (accepted .limits .codes .address-fits t b);
+        WD = λ t b. code-within c k _ _ (omega arith) (accepted .limits .codes .data-fits t b);
+        Ai = λ t b. code-within c k _ _ (omega arith) (accepted .limits .codes .address-fits t b);
         RD = λ t b. readBit-within c k i t h b;
       })
 
@@ -220,8 +220,8 @@ module _ {c : Netlist} (accepted : Accepted c) (k : ℕ) where
   closing-within i h =
       closing-all (within-neg _) (c .n) i _
       (record {
-        Z = none-within c k 0 i (omega arith) h (accepted .codes .RE-fits);
-        RE = code-within c k i _ h (accepted .codes .RE-fits);
+        Z = noneSince-within c k 0 i (omega arith) h (accepted .limits .codes .RE-fits);
+        RE = code-within c k i _ h (accepted .limits .codes .RE-fits);
         S = λ j l. selected-within c k j i l h;
         RD = λ t b. readBit-within c k i t h b;
         W = λ t b. tt;
@@ -229,10 +229,10 @@ module _ {c : Netlist} (accepted : Accepted c) (k : ℕ) where
 
   -- the property
   pub property-within : AllLits (Within (base c (k + 1))) (clausesOf c k Property)
-  unfolding clausesOf notP
+  unfolding clausesOf violationOf
   property-within =
-      let property = accepted .codes .P-fits in
-      just (all-gather (k + 1) (notP c) (λ i h. just (within-neg _ _ (code-within c k i _ (omega arith) property))))
+      let property = accepted .limits .codes .P-fits in
+      just (all-gather (k + 1) (violationOf c) (λ i h. just (within-neg _ _ (code-within c k i _ (omega arith) property))))
 
   -- the groups of frame i
   frame-within : (i : ℕ) → i ≤ k → All (λ g. AllLits (Bounded c k) (clausesOf c k g)) (frameGroups i)

@@ -135,11 +135,11 @@ read-settled : {c : Netlist} → Accepted c → (s : State) (f : Feed) → {read
     → Solves c (f .input) (s .latch) read u → Solves c (f .input) (s .latch) other v → (t : ℕ) → readData c s f u t ≡ readData c s f v t
 read-settled {c} h s f {u} {v} p q =
     readData-same c s f u v
-    (address-same c (port c) u v (λ t l. settled (c .address t) (h .codes .address-fits t l) (h .noLoop .address-free t l)))
-    (settled (c .RE) (h .codes .RE-fits) (h .noLoop .RE-free))
+    (address-same c (port c) u v (λ t l. settled (c .address t) (h .limits .codes .address-fits t l) (h .noLoop .address-free t l)))
+    (settled (c .RE) (h .limits .codes .RE-fits) (h .noLoop .RE-free))
   where
     settled : (x : ℕ) → IsCode c x → dependsOnRead c (x / 2) ≡ false → code u x ≡ code v x
-    settled x l free = code-same u v x (independent-agree (h .codes) p q (x / 2) (omega arith) free)
+    settled x l free = code-same u v x (independent-agree (h .limits .codes) p q (x / 2) (omega arith) free)
 
 -- the first pass is a solution with all read bits false
 firstPass-solves : {c : Netlist} → CodesFit c → (s : State) (f : Feed) → Solves c (f .input) (s .latch) (λ t. false) (firstPass c s f)
@@ -159,19 +159,19 @@ frame-is {c} h s f =
       at-zero = q .at-zero;
       at-input = q .at-input;
       at-latch = q .at-latch;
-      at-read = λ t l. q .at-read t l ∙ read-settled h s f (firstPass-solves (h .codes) s f) q t;
+      at-read = λ t l. q .at-read t l ∙ read-settled h s f (firstPass-solves (h .limits .codes) s f) q t;
       at-gate = q .at-gate;
     }
   where
     q : Solves c (f .input) (s .latch) (readData c s f (firstPass c s f)) (frame c s f)
-    q = frame-solves (h .codes) s f
+    q = frame-solves (h .limits .codes) s f
 
 -- every solution of a frame's equations has the values of the two passes
 pub frame-unique : {c : Netlist} → Accepted c → (s : State) (f : Feed) (v : Values) → IsFrame c s f v
     → (w : ℕ) → w ≤ lastWire c → v w ≡ frame c s f w
 frame-unique {c} h s f v q w b =
-    solutions-agree (h .codes) (λ x. Unit {0}) (λ g l k. (tt, tt))
-    (λ t l k. read-settled h s f p (firstPass-solves (h .codes) s f) t) p (frame-solves (h .codes) s f) w b tt
+    solutions-agree (h .limits .codes) (λ x. Unit {0}) (λ g l k. (tt, tt))
+    (λ t l k. read-settled h s f p (firstPass-solves (h .limits .codes) s f) t) p (frame-solves (h .limits .codes) s f) w b tt
   where
     p : Solves c (f .input) (s .latch) (readData c s f v) v
     p = record { at-zero = q .at-zero; at-input = q .at-input; at-latch = q .at-latch; at-read = q .at-read; at-gate = q .at-gate }

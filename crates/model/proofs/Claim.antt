@@ -12,7 +12,7 @@ use Rattle.model.specs.Clauses.{Clause, plus, gather}
 use Rattle.model.specs.Variables.{base}
 use Rattle.model.specs.Groups.{clausesOf, groupOrder, stateClauses}
 use Rattle.model.specs.Numbers.{Assignment, numberOf, written, formula, clausesIn, numberTrue, allTrue}
-use Rattle.model.specs.Claim.{Satisfies, feedOf, Agrees, Breaks, Encodes}
+use Rattle.model.specs.Claim.{Satisfies, feedOf, Agrees, Breaks, Encodes, EncodingTheorem}
 use Rattle.model.specs.declared.Group.the-variants.{Wires}
 use Rattle.model.proofs.Booleans.{eq-iff, and-true}
 use Rattle.model.proofs.Gather.{Splits}
@@ -56,9 +56,9 @@ module _ {c : Netlist} (ok : Accepted c) (k : ℕ) where
   satisfies-one a h =
       first-clause a (each-group c k (λ xs. everyOf (numberValue a) xs ≡ true) (everyOf-splits (numberValue a)) .0 (sym (satisfies-numbers a) ∙ h) .wires 0 zero-le)
 
-  -- Demand 3.
-  pub encodes : Encodes c k
-  encodes =
+  -- demand 3, of this netlist and depth
+  encodes-depth : Encodes c k
+  encodes-depth =
       record {
         assignment→run = λ a h.
             let groups = satisfies-groups a (satisfies-one a h) .0 h in
@@ -82,6 +82,10 @@ module _ {c : Netlist} (ok : Accepted c) (k : ℕ) where
       ap (λ zs. length (clausesIn zs)) (formula-written c k)
       ∙ ap length (clausesIn-written (base c (k + 1)) all (formula-within ok k))
       ∙ length-map all (map numberOf)
+
+-- demand 3
+pub encodes : EncodingTheorem
+encodes c ok k = encodes-depth ok k
 
 -- What a designer relies on: where no assignment satisfies the clauses of depth k, no run breaks the property up to frame k.
 pub unsatisfiable→safe : {c : Netlist} {k : ℕ} → Encodes c k → ((a : Assignment) → Satisfies c k a → ⊥)

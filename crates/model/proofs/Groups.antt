@@ -12,7 +12,7 @@ use Rattle.model.specs.Netlist.{Netlist, port, latchWire, gateWire}
 use Rattle.model.specs.Circuit.{code}
 use Rattle.model.specs.Clauses.{Literal, plus, neg, gather}
 use Rattle.model.specs.Variables.{wireIn, codeIn, pairLiterals, closingLiterals}
-use Rattle.model.specs.Groups.{gateClauses, resetClause, latchClauses, stateClauses, notP, clausesOf}
+use Rattle.model.specs.Groups.{gateClauses, resetClause, latchClauses, stateClauses, violationOf, clausesOf}
 use Rattle.model.specs.Numbers.{Assignment}
 use Rattle.model.specs.declared.Group.the-variants.{Wires, Pair, Closing, Property}
 use Rattle.model.proofs.Booleans.{eq-iff}
@@ -53,15 +53,15 @@ latchClauses-holds c a i l =
     (sameClauses-holds a (wireIn c (i + 1) (latchWire c l)) (codeIn c i (c .next l)))
 
 -- P is false in some frame below n
-pub notP-value : (c : Netlist) (a : Assignment) (i : ℕ) → anyTrue a (notP c i) ≡ not (code (assigned c a i) (c .P))
-unfolding notP
-notP-value c a i = anyTrue-one a (neg (codeIn c i (c .P))) ∙ value-neg a (codeIn c i (c .P)) ∙ ap not (codeIn-value c a i (c .P))
+pub violationOf-value : (c : Netlist) (a : Assignment) (i : ℕ) → anyTrue a (violationOf c i) ≡ not (code (assigned c a i) (c .P))
+unfolding violationOf
+violationOf-value c a i = anyTrue-one a (neg (codeIn c i (c .P))) ∙ value-neg a (codeIn c i (c .P)) ∙ ap not (codeIn-value c a i (c .P))
 
-pub notP-holds : (c : Netlist) (a : Assignment) (n : ℕ)
-    → (anyTrue a (gather n (notP c)) ≡ true) ↔ ((i : ℕ) × (i < n) × (code (assigned c a i) (c .P) ≡ false))
-notP-holds c a n = (
-  λ h. let p = anyTrue-gather a n (notP c) .0 h in (p .0, p .1, not-true (code (assigned c a (p .0)) (c .P)) (sym (notP-value c a (p .0)) ∙ p .2)),
-  λ h. anyTrue-gather a n (notP c) .1 (h .0, h .1, notP-value c a (h .0) ∙ ap not (h .2)),
+pub violationOf-holds : (c : Netlist) (a : Assignment) (n : ℕ)
+    → (anyTrue a (gather n (violationOf c)) ≡ true) ↔ ((i : ℕ) × (i < n) × (code (assigned c a i) (c .P) ≡ false))
+violationOf-holds c a n = (
+  λ h. let p = anyTrue-gather a n (violationOf c) .0 h in (p .0, p .1, not-true (code (assigned c a (p .0)) (c .P)) (sym (violationOf-value c a (p .0)) ∙ p .2)),
+  λ h. anyTrue-gather a n (violationOf c) .1 (h .0, h .1, violationOf-value c a (h .0) ∙ ap not (h .2)),
 )
 
 -- the wires group: the latches' clauses, and every gate
@@ -97,4 +97,4 @@ closing-holds c a k i = closingClauses-holds a (c .n) i (closingLiterals c (port
 pub property-holds : (c : Netlist) (a : Assignment) (k : ℕ)
     → Holds a (clausesOf c k Property) ↔ ((i : ℕ) × (i < k + 1) × (code (assigned c a i) (c .P) ≡ false))
 unfolding clausesOf
-property-holds c a k = Iff·trans (holds-one a (gather (k + 1) (notP c))) (notP-holds c a (k + 1))
+property-holds c a k = Iff·trans (holds-one a (gather (k + 1) (violationOf c))) (violationOf-holds c a (k + 1))

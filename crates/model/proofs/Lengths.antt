@@ -9,8 +9,8 @@ use native.Mathlib.Omega.{arith}
 use lib.ListN.{length, length-append, length-map}
 use lib.IntN.{pos}
 use Rattle.model.specs.Netlist.{Netlist}
-use Rattle.model.specs.Clauses.{Literal, Clause, gather, gatherDown, andClauses, sameClauses, sameIf, bitClauses, PairLiterals, bitOf, notE, allBits, forwarded, pairClauses, ClosingLiterals, initialRead, justS, someSource, closingClauses}
-use Rattle.model.specs.Groups.{gateClauses, resetClause, latchClauses, stateClauses, notP, clausesOf, pairOf, frameGroups, groupOrder}
+use Rattle.model.specs.Clauses.{Literal, Clause, gather, gatherDown, andClauses, sameClauses, sameIf, bitClauses, PairLiterals, bitOf, unequalOf, allBits, forwarded, pairClauses, ClosingLiterals, initialRead, selectedOf, someSource, closingClauses}
+use Rattle.model.specs.Groups.{gateClauses, resetClause, latchClauses, stateClauses, violationOf, clausesOf, pairOf, frameGroups, groupOrder}
 use Rattle.model.specs.Numbers.{numberOf, written, numbersOf, joined, formula}
 use Rattle.model.specs.declared.Group.{Group}
 use Rattle.model.specs.declared.Group.the-variants.{Wires, Pair, Closing, Property}
@@ -71,8 +71,8 @@ bit-counts E e x y = record { in-clauses = refl; in-numbers = refl }
 
 -- (¬e of bits 0 to m - 1, E) has m + 1 literals
 allBits-length : (m : ℕ) (x : PairLiterals) → length (allBits m x) ≡ m + 1
-unfolding allBits notE
-allBits-length m x = rw (length-append, length-gather m 1 (notE x) (λ t h. refl)) (omega arith)
+unfolding allBits unequalOf
+allBits-length m x = rw (length-append, length-gather m 1 (unequalOf x) (λ t h. refl)) (omega arith)
 
 -- of a pair
 pub pair-counts : (m n : ℕ) (x : PairLiterals) → Counts (pairClauses m n x) (4 * m + 2 * n + 10) (17 * m + 8 * n + 32)
@@ -90,8 +90,8 @@ pair-counts m n x =
 
 -- (¬RE Z S(0,i) .. S(i−1,i)) has i + 2 literals
 someSource-length : (i : ℕ) (x : ClosingLiterals) → length (someSource i x) ≡ i + 2
-unfolding someSource justS
-someSource-length i x = rw (length-gather i 1 (justS x) (λ t h. refl)) (omega arith)
+unfolding someSource selectedOf
+someSource-length i x = rw (length-gather i 1 (selectedOf x) (λ t h. refl)) (omega arith)
 
 -- of a closing
 pub closing-counts : (n i : ℕ) (x : ClosingLiterals) → Counts (closingClauses n i x) (2 * n + 1) (8 * n + i + 3)
@@ -130,9 +130,9 @@ module _ (c : Netlist) (k : ℕ) where
 
   -- the property
   property-counts : Counts (clausesOf c k Property) 1 (k + 2)
-  unfolding clausesOf notP
+  unfolding clausesOf violationOf
   property-counts =
-      counts-as (counts-one _) refl (omega (arith, length-gather (k + 1) 1 (notP c) (λ t h. refl)))
+      counts-as (counts-one _) refl (omega (arith, length-gather (k + 1) 1 (violationOf c) (λ t h. refl)))
 
   -- how many clauses: the wires of frame 0
   pub wires-clauses-first : length (clausesOf c k (Wires 0)) ≡ 1 + c .latches + 3 * c .gates

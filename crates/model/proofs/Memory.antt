@@ -39,4 +39,4 @@ stateAt-fits c s h f (suc i) = step-fits c (stateAt c s f i) (frame c (stateAt c
 -- in a run from the start, every word is below 2^n
 pub word-below : (c : Netlist) → Accepted c → (f : ℕ → Feed) (i x : ℕ) → stateAt c (initial c) f i .memory x < 2 ^ c .n
 unfolding initial
-word-below c h f i x = stateAt-fits c (initial c) (λ y. h .sizes .word-fits) f i x
+word-below c h f i x = stateAt-fits c (initial c) (λ y. h .limits .sizes .word-fits) f i x

@@ -14,7 +14,7 @@ use Rattle.model.specs.Netlist.{Netlist, Port, port, lastWire, readBits,
 use Rattle.model.specs.Circuit.{Values, code, State, Feed, addressOf, readData, frame, wordWritten, step, stateAt, run, initial}
 use Rattle.model.specs.Acceptance.{Accepted, IsCode}
 use Rattle.model.specs.Clauses.{Literal, known, PairLiterals}
-use Rattle.model.specs.Variables.{base, codeIn, none, selected, readBit, pairLiterals, closingLiterals}
+use Rattle.model.specs.Variables.{base, codeIn, noneSince, selected, readBit, pairLiterals, closingLiterals}
 use Rattle.model.specs.Groups.{clausesOf}
 use Rattle.model.specs.declared.Group.the-variants.{Wires, Pair, Closing, Property}
 use Rattle.model.specs.Numbers.{Assignment}
@@ -24,7 +24,7 @@ use Rattle.model.proofs.Circuit.{IsFrame, frame-is, address-same}
 use Rattle.model.proofs.Truth.{value, Holds, PairHolds, ClosingHolds}
 use Rattle.model.proofs.InFrame.{assigned, assigned-zero, assigned-wire, readBit-value, codeIn-value}
 use Rattle.model.proofs.Forwarding.{stepped, Chain, noneFrom-last, noneFrom-chain, none-unchanged, source-exists}
-use Rattle.model.proofs.Variables.{none-last, none-earlier}
+use Rattle.model.proofs.Variables.{noneSince-last, noneSince-earlier}
 use Rattle.model.proofs.Joined.{EachGroup}
 use Rattle.model.proofs.Agreement.{Same, code-agrees, word-bit, writes, hits, wordBefore, memory-stepped, address-bits}
 use Rattle.model.proofs.Witness.{nones, witness, witness-one, witness-wire, witness-E, witness-e, witness-s, witness-PS, witness-S}
@@ -57,7 +57,7 @@ module _ (c : Netlist) (ok : Accepted c) (f : ℕ → Feed) (k : ℕ) where
       → assigned c a i (gateWire c g) ≡ (code (assigned c a i) (c .left g) && code (assigned c a i) (c .right g))
   gate-holds i d g b =
       same i d (gateWire c g) (omega arith) ∙ frame-at i .at-gate g b
-      ∙ sym (ap₂ _&&_ (agrees (c .left g) (ok .codes .left-fits g b)) (agrees (c .right g) (ok .codes .right-fits g b)))
+      ∙ sym (ap₂ _&&_ (agrees (c .left g) (ok .limits .codes .left-fits g b)) (agrees (c .right g) (ok .limits .codes .right-fits g b)))
     where
       agrees : (x : ℕ) → x < 2 * gateWire c g → code (assigned c a i) x ≡ code (u i) x
       agrees x l = code-agrees c (assigned c a i) (u i) (same i d) x (omega arith)
@@ -79,7 +79,7 @@ module _ (c : Netlist) (ok : Accepted c) (f : ℕ → Feed) (k : ℕ) where
             (ap (λ (x : ℕ). assigned c a x (latchWire c l)) (add-one i)
             ∙ same (suc i) d (latchWire c l) (omega arith)
             ∙ frame-at (suc i) .at-latch l b
-            ∙ sym (code-agrees c (assigned c a i) (u i) (same i (le-of-suc-le d)) (c .next l) (ok .codes .next-fits l b)))),
+            ∙ sym (code-agrees c (assigned c a i) (u i) (same i (le-of-suc-le d)) (c .next l) (ok .limits .codes .next-fits l b)))),
         λ g b. gateClauses-holds c a (suc i) g .1 (gate-holds (suc i) d g b),
       )
 
@@ -108,19 +108,19 @@ module _ (c : Netlist) (ok : Accepted c) (f : ℕ → Feed) (k : ℕ) where
   read-value : (i : ℕ) → i ≤ k → (t : ℕ) → t < c .n → value a (readBit c (port c) i t) ≡ u i (readWire c t)
   read-value i d t b = readBit-value c a i t ∙ same i d (readWire c t) (omega arith)
 
-  -- the literal `none` is the chain's
-  none-value : (j i : ℕ) → j ≤ i → i ≤ k → value a (none c (port c) j i) ≡ nones c u i j
+  -- the literal `noneSince` is the chain's
+  noneSince-value : (j i : ℕ) → j ≤ i → i ≤ k → value a (noneSince c (port c) j i) ≡ nones c u i j
   unfolding value nones
-  none-value j i b d = ⊎-elim last earlier (eq-or-lt-of-le b)
+  noneSince-value j i b d = ⊎-elim last earlier (eq-or-lt-of-le b)
     where
-      last : j ≡ i → value a (none c (port c) j i) ≡ nones c u i j
+      last : j ≡ i → value a (noneSince c (port c) j i) ≡ nones c u i j
       last e =
           rw e
-          (ap (value a) (none-last c (port c) i) ∙ code-value i d (c .RE) (ok .codes .RE-fits)
+          (ap (value a) (noneSince-last c (port c) i) ∙ code-value i d (c .RE) (ok .limits .codes .RE-fits)
           ∙ sym (noneFrom-last (hits c u i) (code (u i) (c .RE)) i))
 
-      earlier : j < i → value a (none c (port c) j i) ≡ nones c u i j
-      earlier l = ap (value a) (none-earlier c (port c) j i l) ∙ witness-PS c k u j i l d
+      earlier : j < i → value a (noneSince c (port c) j i) ≡ nones c u i j
+      earlier l = ap (value a) (noneSince-earlier c (port c) j i l) ∙ witness-PS c k u j i l d
 
   -- the clauses of a pair hold
   pairs-at : (j i : ℕ) → j < i → i ≤ k → PairHolds a (c .m) (c .n) (pairLiterals c (port c) j i)
@@ -132,8 +132,8 @@ module _ (c : Netlist) (ok : Accepted c) (f : ℕ → Feed) (k : ℕ) where
           λ h. witness-e c k u j i l d t b ∙ beq-true _ _ .1 (sym (Aj t b) ∙ h ∙ Ai t b),
         );
         E-where-all-e = λ h. E ∙ eq-eqb _ _ (address-same c (port c) (u i) (u j) (λ t b. sym (beq-true _ _ .0 (sym (witness-e c k u j i l d t b) ∙ h t b))));
-        valid = s ∙ and-comm (code (u j) (c .WE)) _ ∙ ap₂ _&&_ (sym E) (sym (code-value j before (c .WE) (ok .codes .WE-fits)));
-        none-since = none-value j i (le-of-lt l) d ∙ chain-at i .link j l ∙ ap₂ (λ (x y : Bool). not x && y) (sym s) N;
+        valid = s ∙ and-comm (code (u j) (c .WE)) _ ∙ ap₂ _&&_ (sym E) (sym (code-value j before (c .WE) (ok .limits .codes .WE-fits)));
+        none-since = noneSince-value j i (le-of-lt l) d ∙ chain-at i .link j l ∙ ap₂ (λ (x y : Bool). not x && y) (sym s) N;
         exclusive = witness-S c k u j i l d ∙ ap₂ _&&_ (sym s) N;
         data-where-S = λ t b h. forwards t b (and-true (hits c u i j) (nones c u i (suc j)) .0 (sym (witness-S c k u j i l d) ∙ h));
       }
@@ -148,31 +148,31 @@ module _ (c : Netlist) (ok : Accepted c) (f : ℕ → Feed) (k : ℕ) where
       s = witness-s c k u j i l d
 
       N : nones c u i (suc j) ≡ value a (pairLiterals c (port c) j i .N)
-      N = sym (none-value (suc j) i l d) ∙ ap (λ (x : ℕ). value a (none c (port c) x i)) (sym (add-one j))
+      N = sym (noneSince-value (suc j) i l d) ∙ ap (λ (x : ℕ). value a (noneSince c (port c) x i)) (sym (add-one j))
 
       Aj : (t : ℕ) → t < c .m → value a (pairLiterals c (port c) j i .Aj t) ≡ code (u j) (c .address t)
-      Aj t b = code-value j before (c .address t) (ok .codes .address-fits t b)
+      Aj t b = code-value j before (c .address t) (ok .limits .codes .address-fits t b)
 
       Ai : (t : ℕ) → t < c .m → value a (pairLiterals c (port c) j i .Ai t) ≡ code (u i) (c .address t)
-      Ai t b = code-value i d (c .address t) (ok .codes .address-fits t b)
+      Ai t b = code-value i d (c .address t) (ok .limits .codes .address-fits t b)
 
       forwards : (t : ℕ) → t < c .n → (hits c u i j ≡ true) × (nones c u i (suc j) ≡ true)
           → value a (pairLiterals c (port c) j i .RD t) ≡ value a (pairLiterals c (port c) j i .WD t)
       forwards t b h =
           read-value i d t b ∙ read-since (suc j) i l (h .1) t b
           ∙ ap (λ (x : Bool). bit (cond x (wordWritten c (u j)) (stepped (c .initialWord) (hits c u i) (λ j. wordWritten c (u j)) j)) t) (h .0)
-          ∙ word-bit c (u j) t b ∙ sym (code-value j before (c .writeData t) (ok .codes .data-fits t b))
+          ∙ word-bit c (u j) t b ∙ sym (code-value j before (c .writeData t) (ok .limits .codes .data-fits t b))
 
   -- the clauses of a closing hold
   closings-at : (i : ℕ) → i ≤ k → ClosingHolds a (c .n) i (closingLiterals c (port c) i)
   unfolding closingLiterals selected value stepped nones
   closings-at i d =
       record {
-        initial-where-Z = λ t b h. read-value i d t b ∙ read-since 0 i zero-le (sym (none-value 0 i zero-le d) ∙ h) t b;
+        initial-where-Z = λ t b h. read-value i d t b ∙ read-since 0 i zero-le (sym (noneSince-value 0 i zero-le d) ∙ h) t b;
         source-where-RE = λ h.
-            ⊎-map (λ z. none-value 0 i zero-le d ∙ z) (λ p. (p .0, p .1, witness-S c k u (p .0) i (p .1) d ∙ p .2))
+            ⊎-map (λ z. noneSince-value 0 i zero-le d ∙ z) (λ p. (p .0, p .1, witness-S c k u (p .0) i (p .1) d ∙ p .2))
             (source-exists i (hits c u i) (nones c u i) (chain-at i) (c .initialWord) (λ j. wordWritten c (u j)) i (le-refl i)
-            (noneFrom-last (hits c u i) (code (u i) (c .RE)) i ∙ sym (code-value i d (c .RE) (ok .codes .RE-fits)) ∙ h));
+            (noneFrom-last (hits c u i) (code (u i) (c .RE)) i ∙ sym (code-value i d (c .RE) (ok .limits .codes .RE-fits)) ∙ h));
       }
 
   -- so does every group, where the run breaks the property
@@ -183,7 +183,7 @@ module _ (c : Netlist) (ok : Accepted c) (f : ℕ → Feed) (k : ℕ) where
         wires = wires-at;
         pairs = λ j i l d. pair-holds c a k j i .1 (pairs-at j i l d);
         closings = λ i d. closing-holds c a k i .1 (closings-at i d);
-        property = property-holds c a k .1 (h .0, omega (arith, h .1), code-agrees c (assigned c a (h .0)) (u (h .0)) (same (h .0) (h .1)) (c .P) (ok .codes .P-fits) ∙ h .2);
+        property = property-holds c a k .1 (h .0, omega (arith, h .1), code-agrees c (assigned c a (h .0)) (u (h .0)) (same (h .0) (h .1)) (c .P) (ok .limits .codes .P-fits) ∙ h .2);
       }
 
   -- and the witness agrees with the run

@@ -16,7 +16,7 @@ use Rattle.model.specs.Variables.{base, Numbered}
 use Rattle.model.specs.Groups.{clausesOf, inDepth}
 use Rattle.model.specs.Numbers.{numberOf, written, numbersOf, formula, clausesIn}
 use Rattle.model.specs.Counts.{clauseCount, numberCount}
-use Rattle.model.specs.Claim.{Stated}
+use Rattle.model.specs.Claim.{Stated, StatedTheorem}
 use Rattle.model.specs.declared.Group.{Group}
 use Rattle.model.specs.declared.Group.the-variants.{Wires, Pair, Closing, Property}
 use Rattle.model.proofs.Booleans.{and-true}
@@ -64,14 +64,17 @@ module _ {c : Netlist} (ok : Accepted c) (k : ℕ) where
       ap length (clausesIn-written (base c (k + 1)) (clausesOf c k g) (group-within g h))
       ∙ length-map (clausesOf c k g) (map numberOf) ∙ group-clauses c k g
 
-  pub stated : Stated c k
-  stated =
+  stated-depth : Stated c k
+  stated-depth =
       record {
         only-numbered = satisfies-same ok k;
         all-numbered = λ v least most. numbered c k v least (subst (λ (n : ℕ). v ≤ base c n) (add-one k) most);
         numbers-within = λ x. all-getD (formula-numbers-within ok k) zero-le x;
-        unsatisfiable→safe = unsatisfiable→safe (encodes ok k);
+        unsatisfiable→safe = unsatisfiable→safe (encodes c ok k);
         clauses-counted = clauses-in-group;
         numbers-counted = group-numbers c k;
-        depends-by-path = λ w. (depends-path c (ok .codes) w, path-depends c (ok .codes) w);
+        depends-by-path = λ w. (depends-path c (ok .limits .codes) w, path-depends c (ok .limits .codes) w);
       }
+
+pub stated : StatedTheorem
+stated c ok k = stated-depth ok k

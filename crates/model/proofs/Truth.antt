@@ -7,7 +7,7 @@ use mathlib.Core.List.{List, [], _∷_, _++_}
 use mathlib.Core.Logic.{_⊎_, inl, inr, _↔_, Iff·trans, Iff·and, ⊎-elim, ⊎-map}
 use native.Mathlib.Nat.{not-suc-le-zero, lt-suc-self, le-step}
 use native.Mathlib.Omega.{arith}
-use Rattle.model.specs.Clauses.{Literal, known, plus, minus, Clause, neg, gather, andClauses, sameClauses, sameIf, bitClauses, PairLiterals, bitOf, notE, allBits, forwarded, pairClauses, ClosingLiterals, initialRead, justS, someSource, closingClauses}
+use Rattle.model.specs.Clauses.{Literal, known, plus, minus, Clause, neg, gather, andClauses, sameClauses, sameIf, bitClauses, PairLiterals, bitOf, unequalOf, allBits, forwarded, pairClauses, ClosingLiterals, initialRead, selectedOf, someSource, closingClauses}
 use Rattle.model.specs.Numbers.{Assignment}
 use borrow.Author.Tests.{not-true, not-false}
 use Rattle.model.proofs.Below.{below-suc}
@@ -189,37 +189,37 @@ pub record PairHolds (a : Assignment) (m n : ℕ) (x : PairLiterals) : Type 0 wh
   pub data-where-S : (t : ℕ) → t < n → value a (x .S) ≡ true → value a (x .RD t) ≡ value a (x .WD t)
 
 -- the literals ¬e: one is true, or every e is
-pub notE-holds : (a : Assignment) (x : PairLiterals) (t : ℕ) → anyTrue a (notE x t) ≡ not (value a (x .e t))
-unfolding notE
-notE-holds a x t = anyTrue-one a (neg (x .e t)) ∙ value-neg a (x .e t)
+pub unequalOf-holds : (a : Assignment) (x : PairLiterals) (t : ℕ) → anyTrue a (unequalOf x t) ≡ not (value a (x .e t))
+unfolding unequalOf
+unequalOf-holds a x t = anyTrue-one a (neg (x .e t)) ∙ value-neg a (x .e t)
 
-pub some-notE : (a : Assignment) (m : ℕ) (x : PairLiterals)
-    → (anyTrue a (gather m (notE x)) ≡ true) → ((t : ℕ) → t < m → value a (x .e t) ≡ true) → ⊥
-some-notE a m x h all = go (anyTrue-gather a m (notE x) .0 h)
+pub some-unequalOf : (a : Assignment) (m : ℕ) (x : PairLiterals)
+    → (anyTrue a (gather m (unequalOf x)) ≡ true) → ((t : ℕ) → t < m → value a (x .e t) ≡ true) → ⊥
+some-unequalOf a m x h all = go (anyTrue-gather a m (unequalOf x) .0 h)
   where
-    go : (t : ℕ) × (t < m) × (anyTrue a (notE x t) ≡ true) → ⊥
-    go (t, b, h) = true≢false (sym (all t b) ∙ not-true (value a (x .e t)) (sym (notE-holds a x t) ∙ h))
+    go : (t : ℕ) × (t < m) × (anyTrue a (unequalOf x t) ≡ true) → ⊥
+    go (t, b, h) = true≢false (sym (all t b) ∙ not-true (value a (x .e t)) (sym (unequalOf-holds a x t) ∙ h))
 
-pub no-notE : (a : Assignment) (m : ℕ) (x : PairLiterals)
-    → (anyTrue a (gather m (notE x)) ≡ false) → (t : ℕ) → t < m → value a (x .e t) ≡ true
-no-notE a m x h t b = not-false (value a (x .e t)) (sym (notE-holds a x t) ∙ not-true-false (anyTrue a (notE x t)) λ e. false≢true (sym h ∙ anyTrue-gather a m (notE x) .1 (t, b, e)))
+pub no-unequalOf : (a : Assignment) (m : ℕ) (x : PairLiterals)
+    → (anyTrue a (gather m (unequalOf x)) ≡ false) → (t : ℕ) → t < m → value a (x .e t) ≡ true
+no-unequalOf a m x h t b = not-false (value a (x .e t)) (sym (unequalOf-holds a x t) ∙ not-true-false (anyTrue a (unequalOf x t)) λ e. false≢true (sym h ∙ anyTrue-gather a m (unequalOf x) .1 (t, b, e)))
 
 -- (¬e of bits 0 to m - 1, E): E wherever every e is true
 pub allBits-holds : (a : Assignment) (m : ℕ) (x : PairLiterals)
     → (anyTrue a (allBits m x) ≡ true) ↔ (((t : ℕ) → t < m → value a (x .e t) ≡ true) → value a (x .E) ≡ true)
 unfolding allBits
 allBits-holds a m x =
-    Iff·trans (eq-iff (someOf-append (value a) (gather m (notE x)) (x .E ∷ [])))
-    (Iff·trans (or-true (anyTrue a (gather m (notE x))) (anyTrue a (x .E ∷ [])))
-    (rw (anyTrue-one a (x .E)) (to, from (either (anyTrue a (gather m (notE x)))))))
+    Iff·trans (eq-iff (someOf-append (value a) (gather m (unequalOf x)) (x .E ∷ [])))
+    (Iff·trans (or-true (anyTrue a (gather m (unequalOf x))) (anyTrue a (x .E ∷ [])))
+    (rw (anyTrue-one a (x .E)) (to, from (either (anyTrue a (gather m (unequalOf x)))))))
   where
-    to : ((anyTrue a (gather m (notE x)) ≡ true) ⊎ (value a (x .E) ≡ true)) → ((t : ℕ) → t < m → value a (x .e t) ≡ true) → value a (x .E) ≡ true
-    to (inl h) all = absurd (some-notE a m x h all)
+    to : ((anyTrue a (gather m (unequalOf x)) ≡ true) ⊎ (value a (x .E) ≡ true)) → ((t : ℕ) → t < m → value a (x .e t) ≡ true) → value a (x .E) ≡ true
+    to (inl h) all = absurd (some-unequalOf a m x h all)
     to (inr h) all = h
 
-    from : ((anyTrue a (gather m (notE x)) ≡ true) ⊎ (anyTrue a (gather m (notE x)) ≡ false)) → (((t : ℕ) → t < m → value a (x .e t) ≡ true) → value a (x .E) ≡ true) → ((anyTrue a (gather m (notE x)) ≡ true) ⊎ (value a (x .E) ≡ true))
+    from : ((anyTrue a (gather m (unequalOf x)) ≡ true) ⊎ (anyTrue a (gather m (unequalOf x)) ≡ false)) → (((t : ℕ) → t < m → value a (x .e t) ≡ true) → value a (x .E) ≡ true) → ((anyTrue a (gather m (unequalOf x)) ≡ true) ⊎ (value a (x .E) ≡ true))
     from (inl h) f = inl h
-    from (inr h) f = inr (f (no-notE a m x h))
+    from (inr h) f = inr (f (no-unequalOf a m x h))
 
 pub bitOf-holds : (a : Assignment) (x : PairLiterals) (t : ℕ)
     → Holds a (bitOf x t)
@@ -249,16 +249,16 @@ pub initialRead-holds : (a : Assignment) (x : ClosingLiterals) (t : ℕ)
 unfolding initialRead
 initialRead-holds a x t = Iff·trans (sameIf-holds a _ _ _) (λ h e. let q = h e in (cc), λ h e. let q = h e in (cc))
 
-pub justS-holds : (a : Assignment) (x : ClosingLiterals) (j : ℕ) → anyTrue a (justS x j) ≡ value a (x .S j)
-unfolding justS
-justS-holds a x j = anyTrue-one a (x .S j)
+pub selectedOf-holds : (a : Assignment) (x : ClosingLiterals) (j : ℕ) → anyTrue a (selectedOf x j) ≡ value a (x .S j)
+unfolding selectedOf
+selectedOf-holds a x j = anyTrue-one a (x .S j)
 
 -- the literals S of the frames below i: one is true
 pub someS-holds : (a : Assignment) (i : ℕ) (x : ClosingLiterals)
-    → (anyTrue a (gather i (justS x)) ≡ true) ↔ ((j : ℕ) × (j < i) × (value a (x .S j) ≡ true))
+    → (anyTrue a (gather i (selectedOf x)) ≡ true) ↔ ((j : ℕ) × (j < i) × (value a (x .S j) ≡ true))
 someS-holds a i x = (
-  λ h. let p = anyTrue-gather a i (justS x) .0 h in (p .0, p .1, sym (justS-holds a x (p .0)) ∙ p .2),
-  λ h. anyTrue-gather a i (justS x) .1 (h .0, h .1, justS-holds a x (h .0) ∙ h .2),
+  λ h. let p = anyTrue-gather a i (selectedOf x) .0 h in (p .0, p .1, sym (selectedOf-holds a x (p .0)) ∙ p .2),
+  λ h. anyTrue-gather a i (selectedOf x) .1 (h .0, h .1, selectedOf-holds a x (h .0) ∙ h .2),
 )
 
 -- (¬RE Z S(0,i) .. S(i−1,i)): where RE is true, Z or some S is
@@ -268,15 +268,15 @@ pub someSource-holds : (a : Assignment) (i : ℕ) (x : ClosingLiterals)
 unfolding someSource someOf
 someSource-holds a i x =
     rw (value-neg a (x .RE))
-    (Iff·trans (implies-true (value a (x .RE)) (value a (x .Z) || anyTrue a (gather i (justS x)))) (under, back))
+    (Iff·trans (implies-true (value a (x .RE)) (value a (x .Z) || anyTrue a (gather i (selectedOf x)))) (under, back))
   where
-    under : (value a (x .RE) ≡ true → (value a (x .Z) || anyTrue a (gather i (justS x))) ≡ true)
+    under : (value a (x .RE) ≡ true → (value a (x .Z) || anyTrue a (gather i (selectedOf x))) ≡ true)
         → value a (x .RE) ≡ true → (value a (x .Z) ≡ true) ⊎ ((j : ℕ) × (j < i) × (value a (x .S j) ≡ true))
-    under h r = ⊎-map (λ z. z) (someS-holds a i x .0) (or-true (value a (x .Z)) (anyTrue a (gather i (justS x))) .0 (h r))
+    under h r = ⊎-map (λ z. z) (someS-holds a i x .0) (or-true (value a (x .Z)) (anyTrue a (gather i (selectedOf x))) .0 (h r))
 
     back : (value a (x .RE) ≡ true → (value a (x .Z) ≡ true) ⊎ ((j : ℕ) × (j < i) × (value a (x .S j) ≡ true)))
-        → value a (x .RE) ≡ true → (value a (x .Z) || anyTrue a (gather i (justS x))) ≡ true
-    back h r = or-true (value a (x .Z)) (anyTrue a (gather i (justS x))) .1 (⊎-map (λ z. z) (someS-holds a i x .1) (h r))
+        → value a (x .RE) ≡ true → (value a (x .Z) || anyTrue a (gather i (selectedOf x))) ≡ true
+    back h r = or-true (value a (x .Z)) (anyTrue a (gather i (selectedOf x))) .1 (⊎-map (λ z. z) (someS-holds a i x .1) (h r))
 
 pub closingClauses-holds : (a : Assignment) (n i : ℕ) (x : ClosingLiterals)
     → Holds a (closingClauses n i x) ↔ ClosingHolds a n i x

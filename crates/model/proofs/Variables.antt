@@ -7,7 +7,7 @@ use native.Mathlib.Omega.{arith}
 use borrow.Author.Tests.{eq-eqb, ne-eqb}
 use Rattle.model.specs.Netlist.{Netlist, Port, port, lastWire}
 use Rattle.model.specs.Clauses.{plus}
-use Rattle.model.specs.Variables.{stride, baseOf, base, pairBaseOf, pairBase, codeIn, none}
+use Rattle.model.specs.Variables.{stride, baseOf, base, pairBaseOf, pairBase, codeIn, noneSince}
 use Rattle.model.specs.Acceptance.{SizesFit}
 
 -- s times i (i - 1) / 2, the number of pairs below i, grows by i times s
@@ -60,11 +60,11 @@ pub base-most : (c : Netlist) → SizesFit c → (i : ℕ) → i ≤ 256 → bas
 unfolding base baseOf
 base-most c h i l = omega (arith, base-monotone c l)
 
--- `none` is RE where j = i, and else a variable of the pair
-pub none-last : (c : Netlist) (p : Port) (i : ℕ) → none c p i i ≡ codeIn c i (p .RE)
-unfolding none
-none-last c p i = rw (eq-eqb i i refl)
+-- `noneSince` is RE where j = i, and else a variable of the pair
+pub noneSince-last : (c : Netlist) (p : Port) (i : ℕ) → noneSince c p i i ≡ codeIn c i (p .RE)
+unfolding noneSince
+noneSince-last c p i = rw (eq-eqb i i refl)
 
-pub none-earlier : (c : Netlist) (p : Port) (j i : ℕ) → j < i → none c p j i ≡ plus (pairBase c p j i + c .m + 3)
-unfolding none
-none-earlier c p j i h = rw (ne-eqb j i (λ e. omega arith))
+pub noneSince-earlier : (c : Netlist) (p : Port) (j i : ℕ) → j < i → noneSince c p j i ≡ plus (pairBase c p j i + c .m + 3)
+unfolding noneSince
+noneSince-earlier c p j i h = rw (ne-eqb j i (λ e. omega arith))

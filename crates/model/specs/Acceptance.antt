@@ -34,12 +34,16 @@ pub record CodesFit (c : Netlist) : Type 0 where
   pub RE-fits : IsCode c (c .RE)
   pub P-fits : IsCode c (c .P)
 
+-- what refusals 4 and 5 leave: sizes and codes within their limits
+pub record WithinLimits (c : Netlist) : Type 0 where
+  pub sizes : SizesFit c
+  pub codes : CodesFit c
+
 -- refusal 6: an address code or RE depends on a read bit
 pub record NoLoop (c : Netlist) (p : Port) : Type 0 where
   pub address-free : (t : ℕ) → t < c .m → dependsOnRead c (p .address t / 2) ≡ false
   pub RE-free : dependsOnRead c (p .RE / 2) ≡ false
 
 pub record Accepted (c : Netlist) : Type 0 where
-  pub sizes : SizesFit c
-  pub codes : CodesFit c
+  pub limits : WithinLimits c
   pub noLoop : NoLoop c (port c)

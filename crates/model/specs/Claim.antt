@@ -1,4 +1,4 @@
--- Demand 3, the correctness of the encoding in both directions, for one netlist and one depth.
+-- Demand 3, the correctness of the encoding in both directions (`Encodes`), and the theorem (`EncodingTheorem`).
 --
 -- `Satisfies c k a`: the assignment a makes every clause true that stands in the numbers written for depth k.
 -- First direction: whatever assignment does so, its inputs and idle read bits, fed frame by frame to the circuit with its whole
@@ -6,8 +6,8 @@
 -- Second direction: for every run from that state, whatever it is fed, that breaks the property in some frame 0 to k, there is an
 -- assignment that does so and agrees with the run on every wire of every frame 0 to k.
 -- Without the first a solver's answer could be no run of the chip; without the second a fault could go unfound.
--- The theorem, `encodes`, is in proofs/Claim.antt: Encodes c k for every accepted netlist c and every k; `stated` is the same for
--- `Stated`. Cited by the contract of `heading`. Assumes nothing.
+-- The theorem says so of every accepted netlist and every depth; its proof is `encodes` in proofs/Claim.antt. Cited by the contract of
+-- `heading`. Assumes nothing.
 use Prim.Native.Nat.{ℕ, _+_, _≤_}
 use mathlib.Core.Path.{_≡_}
 use mathlib.Core.Bool.{true, false}
@@ -16,6 +16,7 @@ use lib.IntN.{natAbs, pos}
 use lib.ListN.{length, getD}
 use Rattle.model.specs.Netlist.{Netlist, inputWire, readWire, lastWire}
 use Rattle.model.specs.Circuit.{Feed, code, run, initial, dependsOnRead, ReadPath}
+use Rattle.model.specs.Acceptance.{Accepted}
 use Rattle.model.specs.Variables.{base, Numbered}
 use Rattle.model.specs.Groups.{inDepth}
 use Rattle.model.specs.Numbers.{Assignment, numbersOf, formula, clausesIn, allTrue}
@@ -43,6 +44,10 @@ pub record Encodes (c : Netlist) (k : ℕ) : Type 0 where
   pub assignment→run : (a : Assignment) → Satisfies c k a → Agrees c k a (feedOf c a) × Breaks c k (feedOf c a)
   pub run→assignment : (f : ℕ → Feed) → Breaks c k f → (a : Assignment) × Satisfies c k a × Agrees c k a f
 
+-- The theorem: `encodes` in proofs/Claim.antt is of this type.
+abbrev pub EncodingTheorem : Type 0
+EncodingTheorem = (c : Netlist) → Accepted c → (k : ℕ) → Encodes c k
+
 -- What else is said of the clauses of a depth. An assignment is of "each variable from 1 to B(k + 1)": no other matters, each of
 -- them is numbered, and every number written is one of them or an end mark. Where no assignment satisfies the clauses, no run breaks
 -- the property: this is what a designer relies on. A group has as many clauses and numbers as document 01 counts. Dependence on a
@@ -55,3 +60,7 @@ pub record Stated (c : Netlist) (k : ℕ) : Type 0 where
   pub clauses-counted : (g : Group) → inDepth k g ≡ true → length (clausesIn (numbersOf c k g)) ≡ clauseCount c k g
   pub numbers-counted : (g : Group) → length (numbersOf c k g) ≡ numberCount c k g
   pub depends-by-path : (w : ℕ) → (dependsOnRead c w ≡ true) ↔ ReadPath c w
+
+-- likewise: `stated` in proofs/Stated.antt
+abbrev pub StatedTheorem : Type 0
+StatedTheorem = (c : Netlist) → Accepted c → (k : ℕ) → Stated c k

@@ -1,6 +1,6 @@
 -- Clauses over literals, and the clauses of a gate, a pair and a closing: nothing here knows a variable's number.
--- Document 01, "Groups of clauses"; Ganai et al. 2004, section 4.1 and equations (3) and (4). Cited by the groups and by the claim.
--- Assumes nothing.
+-- Document 01, "Groups of clauses"; Ganai et al. 2004, section 4.1 and equations (3) and (4). Cited by `Groups` and by what
+-- writes clauses. Assumes nothing.
 use Prim.Native.Nat.{ℕ, zero, suc}
 use mathlib.Core.Bool.{Bool, not}
 use mathlib.Core.List.{List, [], _∷_, _++_}
@@ -68,12 +68,13 @@ pub record PairLiterals : Type 0 where
 unfoldable pub bitOf : PairLiterals → ℕ → List Clause
 bitOf x t = bitClauses (x .E) (x .e t) (x .Aj t) (x .Ai t)
 
-unfoldable pub notE : PairLiterals → ℕ → List Literal
-notE x t = neg (x .e t) ∷ []
+-- ¬e of address bit t
+unfoldable pub unequalOf : PairLiterals → ℕ → List Literal
+unequalOf x t = neg (x .e t) ∷ []
 
 -- (¬e of bits 0 to m - 1, E)
 unfoldable pub allBits : ℕ → PairLiterals → Clause
-allBits m x = gather m (notE x) ++ x .E ∷ []
+allBits m x = gather m (unequalOf x) ++ x .E ∷ []
 
 unfoldable pub forwarded : PairLiterals → ℕ → List Clause
 forwarded x t = sameIf (x .S) (x .RD t) (x .WD t)
@@ -99,12 +100,13 @@ pub record ClosingLiterals : Type 0 where
 unfoldable pub initialRead : ClosingLiterals → ℕ → List Clause
 initialRead x t = sameIf (x .Z) (x .RD t) (x .W t)
 
-unfoldable pub justS : ClosingLiterals → ℕ → List Literal
-justS x j = x .S j ∷ []
+-- S of pair (j, i)
+unfoldable pub selectedOf : ClosingLiterals → ℕ → List Literal
+selectedOf x j = x .S j ∷ []
 
 -- (¬RE Z S(0,i) .. S(i−1,i)): a read has some source
 unfoldable pub someSource : ℕ → ClosingLiterals → Clause
-someSource i x = neg (x .RE) ∷ x .Z ∷ gather i (justS x)
+someSource i x = neg (x .RE) ∷ x .Z ∷ gather i (selectedOf x)
 
 unfoldable pub closingClauses : ℕ → ℕ → ClosingLiterals → List Clause
 closingClauses n i x = gather n (initialRead x) ++ someSource i x ∷ []

@@ -1,5 +1,5 @@
--- The four groups of clauses and the order of the whole (document 01, "Groups of clauses"). Cited by every group call.
--- Assumes nothing.
+-- The four groups of clauses and the order of the whole (document 01, "Groups of clauses"). Cited by every group call and by
+-- what writes a group. Assumes nothing.
 use Prim.Native.Nat.{ℕ, zero, suc, _+_}
 use mathlib.Core.Bool.{Bool, true, cond, _&&_}
 use mathlib.Core.List.{List, [], _∷_, _++_}
@@ -27,15 +27,16 @@ unfoldable pub stateClauses : Netlist → ℕ → List Clause
 stateClauses c zero = (plus 1 ∷ []) ∷ gather (c .latches) (resetClause c)
 stateClauses c (suc i) = gather (c .latches) (latchClauses c i)
 
-unfoldable pub notP : Netlist → ℕ → List Literal
-notP c i = neg (codeIn c i (c .P)) ∷ []
+-- ¬P of frame i
+unfoldable pub violationOf : Netlist → ℕ → List Literal
+violationOf c i = neg (codeIn c i (c .P)) ∷ []
 
 -- the clauses of a group at depth k
 unfoldable pub clausesOf : Netlist → ℕ → Group → List Clause
 clausesOf c k (Wires i) = stateClauses c i ++ gather (c .gates) (gateClauses c i)
 clausesOf c k (Pair j i) = pairClauses (c .m) (c .n) (pairLiterals c (port c) j i)
 clausesOf c k (Closing i) = closingClauses (c .n) i (closingLiterals c (port c) i)
-clausesOf c k Property = gather (k + 1) (notP c) ∷ []
+clausesOf c k Property = gather (k + 1) (violationOf c) ∷ []
 
 -- the groups of frame i: wires, pairs from j = i - 1 down to 0, closing
 unfoldable pub pairOf : ℕ → ℕ → List Group

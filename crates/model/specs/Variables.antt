@@ -1,4 +1,5 @@
--- The numbering of variables (document 01, "Numbers of variables"), and the literals that it gives. Assumes nothing.
+-- The numbering of variables (document 01, "Numbers of variables"), and the literals that it gives. Cited by `Groups`, by the
+-- claim, and by what makes a literal. Assumes nothing.
 use Prim.Native.Nat.{ℕ, _+_, _-_, _*_, _/_, _≤_, _<_}
 use mathlib.Core.Path.{_≡_}
 use mathlib.Core.Bool.{cond}
@@ -39,9 +40,9 @@ wireIn c i = wireAt (base c i)
 abbrev pub codeIn : Netlist → ℕ → ℕ → Literal
 codeIn c i = codeAt (base c i)
 
--- PS of pair (j, i), or RE of frame i where j = i
-unfoldable pub none : Netlist → Port → ℕ → ℕ → Literal
-none c p j i = cond (eqb j i) (codeIn c i (p .RE)) (plus (pairBase c p j i + c .m + 3))
+-- PS of pair (j, i), or RE of frame i where j = i: frame i reads, and no frame since j has written what it reads
+unfoldable pub noneSince : Netlist → Port → ℕ → ℕ → Literal
+noneSince c p j i = cond (eqb j i) (codeIn c i (p .RE)) (plus (pairBase c p j i + c .m + 3))
 
 unfoldable pub selected : Netlist → Port → ℕ → ℕ → Literal
 selected c p j i = plus (pairBase c p j i + c .m + 4)
@@ -55,9 +56,9 @@ pairLiterals c p j i =
       E = plus (pairBase c p j i + 1);
       e = λ t. plus (pairBase c p j i + 2 + t);
       s = plus (pairBase c p j i + c .m + 2);
-      PS = none c p j i;
+      PS = noneSince c p j i;
       S = selected c p j i;
-      N = none c p (j + 1) i;
+      N = noneSince c p (j + 1) i;
       WE = codeIn c j (c .WE);
       Aj = λ t. codeIn c j (c .address t);
       WD = λ t. codeIn c j (c .writeData t);
@@ -68,7 +69,7 @@ pairLiterals c p j i =
 unfoldable pub closingLiterals : Netlist → Port → ℕ → ClosingLiterals
 closingLiterals c p i =
     record {
-      Z = none c p 0 i;
+      Z = noneSince c p 0 i;
       RE = codeIn c i (p .RE);
       S = λ j. selected c p j i;
       RD = readBit c p i;

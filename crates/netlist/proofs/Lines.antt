@@ -7,7 +7,7 @@ use native.Mathlib.Decide.{decLt}
 use native.Mathlib.Omega.{arith}
 use borrow.Author.Tests.{lt-ltb, le-ltb}
 use Rattle.model.specs.Netlist.{Netlist}
-use Rattle.netlist.specs.Lines.{sizesLine, memoryLine, latchLine, gateLine, addressLine, dataLine, controlLine, lineAt, Stands}
+use Rattle.netlist.specs.Lines.{sizesLine, memoryLine, latchLine, gateLine, addressLine, dataLine, controlLine, lineAt, HasLine}
 use Rattle.netlist.specs.declared.Line.{Line}
 use Rattle.netlist.specs.declared.Line.the-variants.{Sizes, Memory, Latch, Gate, Address, Data, Control}
 
@@ -62,8 +62,8 @@ module _ (c : Netlist) (p : ℕ) where
       rw (le-ltb p memoryLine (omega arith), le-ltb p (latchLine c 0) (omega arith), le-ltb p (gateLine c 0) (omega arith), le-ltb p (addressLine c 0) (omega arith), le-ltb p (dataLine c 0) (omega arith), le-ltb p (controlLine c) h)
 
 -- the line at a place is one that the netlist has
-pub stands : (c : Netlist) (p : ℕ) → Stands c (lineAt c p)
-stands c p =
+pub has-lineAt : (c : Netlist) (p : ℕ) → HasLine c (lineAt c p)
+has-lineAt c p =
     by-cases (decLt p memoryLine) (λ b. rw (at-sizes c p b) tt) λ s.
     by-cases (decLt p (latchLine c 0)) (λ b. rw (at-memory c p (omega arith)) tt) λ m.
     by-cases (decLt p (gateLine c 0)) (λ b. rw (at-latch c p (p - latchLine c 0) (omega arith) (omega arith)) (omega arith)) λ l.
@@ -84,18 +84,18 @@ pub record EveryLine (c : Netlist) (P : Line → Type 0) : Type 0 where
 
 module _ (c : Netlist) (P : Line → Type 0) where
   -- such a property holds of a line that the netlist has
-  every-standing : EveryLine c P → (x : Line) → Stands c x → P x
-  every-standing q Sizes h = q .of-sizes
-  every-standing q Memory h = q .of-memory
-  every-standing q (Latch l) h = q .of-latch l h
-  every-standing q (Gate g) h = q .of-gate g h
-  every-standing q (Address t) h = q .of-address t h
-  every-standing q (Data t) h = q .of-data t h
-  every-standing q Control h = q .of-control
+  every-hasLine : EveryLine c P → (x : Line) → HasLine c x → P x
+  every-hasLine q Sizes h = q .of-sizes
+  every-hasLine q Memory h = q .of-memory
+  every-hasLine q (Latch l) h = q .of-latch l h
+  every-hasLine q (Gate g) h = q .of-gate g h
+  every-hasLine q (Address t) h = q .of-address t h
+  every-hasLine q (Data t) h = q .of-data t h
+  every-hasLine q Control h = q .of-control
 
   -- it is the property of the lines at all places
   pub every-place : EveryLine c P ↔ ((p : ℕ) → 1 ≤ p → p ≤ controlLine c → P (lineAt c p))
-  every-place = (λ q p l h. every-standing q (lineAt c p) (stands c p), each)
+  every-place = (λ q p l h. every-hasLine q (lineAt c p) (has-lineAt c p), each)
     where
       at : ((p : ℕ) → 1 ≤ p → p ≤ controlLine c → P (lineAt c p)) → (p : ℕ) {x : Line} → 1 ≤ p → p ≤ controlLine c → lineAt c p ≡ x → P x
       at q p l h e = subst P e (q p l h)

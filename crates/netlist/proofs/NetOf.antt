@@ -1,13 +1,15 @@
--- What the lists of a record (specs/NetOf.antt) have no part in: the sizes and lines in neither, dependence on a read bit in the
--- latches. Cited where a function is lent no list, or one. Assumes nothing.
-use Prim.Native.Nat.{ℕ, zero, suc, _+_, _*_, _/_}
+-- What the lists of a record (specs/NetOf.antt) have no part in: the sizes, lines and B(i) in neither, dependence on a read bit in
+-- the latches; and that a list that is left out breaks no limit. Cited where a function is lent no list, or one. Assumes nothing.
+use Prim.Native.Nat.{ℕ, zero, suc, _+_, _*_, _/_, zero-le}
 use mathlib.Core.Path.{_≡_, refl}
 use mathlib.Core.Bool.{Bool}
 use mathlib.Core.List.{List, []}
+use native.Mathlib.Omega.{arith}
 use lib.ListN.{getD}
 use Rattle.model.specs.Circuit.{sweep, isRead, eitherWire, dependsOnRead}
-use Rattle.model.specs.Acceptance.{SizesFit}
-use Rattle.netlist.specs.NetOf.{netOf}
+use Rattle.model.specs.Variables.{base}
+use Rattle.model.specs.Acceptance.{SizesFit, WithinLimits}
+use Rattle.netlist.specs.NetOf.{netOf, alone}
 use Rattle.netlist.specs.Lines.{lineAt}
 use Rattle.netlist.specs.Faults.{sizeFault, loopFaultBy}
 use Rattle.netlist.specs.declared.Line.{Line}
@@ -32,13 +34,57 @@ sizes-lists r latches gates otherLatches otherGates q =
     }
 
 module _ (r : Netlist) (latches gates : List ℕ) where
+  -- the limits of all numbers: a list that is left out has only code 0
+  pub limits-without-latches : WithinLimits (netOf r latches gates) → WithinLimits (netOf r [] gates)
+  unfolding netOf
+  limits-without-latches q =
+      record {
+        sizes = sizes-lists r latches gates [] gates (q .sizes);
+        codes =
+            record {
+              next-fits = λ l h. zero-le;
+              reset-fits = λ l h. zero-le;
+              left-fits = q .codes .left-fits;
+              right-fits = q .codes .right-fits;
+              address-fits = q .codes .address-fits;
+              data-fits = q .codes .data-fits;
+              WE-fits = q .codes .WE-fits;
+              RE-fits = q .codes .RE-fits;
+              P-fits = q .codes .P-fits;
+            };
+      }
+
+  pub limits-without-gates : WithinLimits (netOf r latches gates) → WithinLimits (netOf r latches [])
+  unfolding netOf
+  limits-without-gates q =
+      record {
+        sizes = sizes-lists r latches gates latches [] (q .sizes);
+        codes =
+            record {
+              next-fits = q .codes .next-fits;
+              reset-fits = q .codes .reset-fits;
+              left-fits = λ g h. omega arith;
+              right-fits = λ g h. omega arith;
+              address-fits = q .codes .address-fits;
+              data-fits = q .codes .data-fits;
+              WE-fits = q .codes .WE-fits;
+              RE-fits = q .codes .RE-fits;
+              P-fits = q .codes .P-fits;
+            };
+      }
+
+  -- B(i)
+  pub base-lists : (i : ℕ) → base (alone r) i ≡ base (netOf r latches gates) i
+  unfolding base netOf
+  base-lists i = refl
+
   -- the line at a place
-  pub lineAt-lists : (p : ℕ) → lineAt (netOf r [] []) p ≡ lineAt (netOf r latches gates) p
+  pub lineAt-lists : (p : ℕ) → lineAt (alone r) p ≡ lineAt (netOf r latches gates) p
   unfolding netOf lineAt
   lineAt-lists p = refl
 
   -- refusal 4 at a line
-  pub sizeFault-lists : (x : Line) → sizeFault (netOf r [] []) x ≡ sizeFault (netOf r latches gates) x
+  pub sizeFault-lists : (x : Line) → sizeFault (alone r) x ≡ sizeFault (netOf r latches gates) x
   unfolding netOf sizeFault
   sizeFault-lists Sizes = refl
   sizeFault-lists Memory = refl
@@ -49,7 +95,7 @@ module _ (r : Netlist) (latches gates : List ℕ) where
   sizeFault-lists Control = refl
 
   -- refusal 6 at a line, once it is known which wires depend on a read bit
-  pub loopFaultBy-lists : (d : ℕ → Bool) (x : Line) → loopFaultBy d (netOf r [] []) x ≡ loopFaultBy d (netOf r latches gates) x
+  pub loopFaultBy-lists : (d : ℕ → Bool) (x : Line) → loopFaultBy d (alone r) x ≡ loopFaultBy d (netOf r latches gates) x
   unfolding netOf loopFaultBy
   loopFaultBy-lists d Sizes = refl
   loopFaultBy-lists d Memory = refl
@@ -70,3 +116,7 @@ module _ (r : Netlist) (latches gates : List ℕ) where
   pub depends-latches : (w : ℕ) → dependsOnRead (netOf r [] gates) w ≡ dependsOnRead (netOf r latches gates) w
   unfolding netOf dependsOnRead
   depends-latches w = sweep-latches (r .gates) w
+
+-- without both lists
+pub limits-alone : (r : Netlist) (latches gates : List ℕ) → WithinLimits (netOf r latches gates) → WithinLimits (alone r)
+limits-alone r latches gates q = limits-without-gates r [] gates (limits-without-latches r latches gates q)

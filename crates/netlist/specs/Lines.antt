@@ -40,11 +40,11 @@ lineAt c p =
     (cond (ltb p (controlLine c)) (Data (p - dataLine c 0)) Control)))))
 
 -- a line that the netlist has: its number is below the size
-abbrev pub Stands : Netlist → Line → Type 0
-Stands c Sizes = Unit {0}
-Stands c Memory = Unit {0}
-Stands c (Latch l) = l < c .latches
-Stands c (Gate g) = g < c .gates
-Stands c (Address t) = t < c .m
-Stands c (Data t) = t < c .n
-Stands c Control = Unit {0}
+abbrev pub HasLine : Netlist → Line → Type 0
+HasLine c Sizes = Unit {0}
+HasLine c Memory = Unit {0}
+HasLine c (Latch l) = l < c .latches
+HasLine c (Gate g) = g < c .gates
+HasLine c (Address t) = t < c .m
+HasLine c (Data t) = t < c .n
+HasLine c Control = Unit {0}

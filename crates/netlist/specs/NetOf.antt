@@ -1,7 +1,6 @@
--- The model's netlist that a record and its unpacked lists stand for. Every contract over a record goes through it.
--- Assumes nothing.
+-- The model's netlist that a record and its unpacked lists stand for. Cited by every contract over a record. Assumes nothing.
 use Prim.Native.Nat.{ℕ, _+_, _*_}
-use mathlib.Core.List.{List}
+use mathlib.Core.List.{List, []}
 use lib.ListN.{getD}
 use Rattle.model.specs.Netlist as M
 use Rattle.literals.specs.declared.Code.{Code}
@@ -30,3 +29,8 @@ netOf r latches gates =
       RE = r .re .0;
       P = r .p .0;
     }
+
+-- A record without its lists: all that the sizes, lines and numbering look at, and pairs, closings and the property. What looks at
+-- no list is lent none.
+abbrev pub alone : Netlist → M.Netlist
+alone r = netOf r [] []

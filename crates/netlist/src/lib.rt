@@ -1,15 +1,14 @@
 // The netlist record (document 01, "A small record holds .."), the lines of its sheet, and the faults of a line.
 //
 // The lists are handed over unpacked: `latches[2 * l]` is latch l's next code and `latches[2 * l + 1]` its reset, `gates[2 * g]`
-// and `gates[2 * g + 1]` are gate g's two codes. What looks at no list speaks of the record with empty lists.
+// and `gates[2 * g + 1]` are gate g's two codes. What looks at no list speaks of the record `alone`.
 use literals::Code;
 ghost use mathlib.Core.Path.{_≡_};
-ghost use mathlib.Core.List.{[]};
 ghost use Prim.Native.Nat.{_+_, _-_, _^_};
-ghost use Rattle.model.specs.Netlist.{lastWire, gateWire};
+ghost use Rattle.model.specs.Netlist.{latchWire, readWire, gateWire, lastWire};
 ghost use Rattle.model.specs.Acceptance.{SizesFit};
-ghost use Rattle.netlist.specs.NetOf.{netOf};
-ghost use Rattle.netlist.specs.Lines.{controlLine, lineAt, Stands};
+ghost use Rattle.netlist.specs.NetOf.{netOf, alone};
+ghost use Rattle.netlist.specs.Lines.{controlLine, lineAt, HasLine};
 ghost use Rattle.netlist.specs.Faults.{outside, sizeFault, codeOutside, latchFault, gateFault, codeFault};
 
 #[repr(C)]
@@ -61,14 +60,14 @@ fn is_last_wire_outside(inputs: u32, latches: u32, n: u32, gates: u32) -> bool
 
 // Refusal 4 at line N.
 pub fn sizes_fault(net: Netlist) -> bool
-    ensures { λ r. ⌜ r ≡ sizeFault (netOf net [] []) Line.Sizes ⌝ }
+    ensures { λ r. ⌜ r ≡ sizeFault (alone net) Line.Sizes ⌝ }
 {
     is_outside(0, 600, net.inputs) | is_outside(0, 600, net.latches) | is_outside(0, 600, net.gates)
 }
 
 // Refusal 4 at line M.
 pub fn memory_fault(net: Netlist) -> bool
-    ensures { λ r. ⌜ r ≡ sizeFault (netOf net [] []) Line.Memory ⌝ }
+    ensures { λ r. ⌜ r ≡ sizeFault (alone net) Line.Memory ⌝ }
 {
     is_outside(1, 12, net.m)
         | is_outside(1, 32, net.n)
@@ -78,32 +77,48 @@ pub fn memory_fault(net: Netlist) -> bool
 
 // V, the number of the last wire.
 pub fn last_wire(net: Netlist) -> u32
-    requires { ⌜ SizesFit (netOf net [] []) ⌝ }
-    ensures { λ r. ⌜ r ≡ lastWire (netOf net [] []) ⌝ }
+    requires { ⌜ SizesFit (alone net) ⌝ }
+    ensures { λ r. ⌜ r ≡ lastWire (alone net) ⌝ }
 {
     net.inputs + net.latches + net.n + net.gates
 }
 
-// The wire of the first gate.
-pub fn gate_wire(net: Netlist) -> u32
-    requires { ⌜ SizesFit (netOf net [] []) ⌝ }
-    ensures { λ r. ⌜ r ≡ gateWire (netOf net [] []) 0 ⌝ }
+// The wire of the first latch.
+pub fn first_latch_wire(net: Netlist) -> u32
+    requires { ⌜ SizesFit (alone net) ⌝ }
+    ensures { λ r. ⌜ r ≡ latchWire (alone net) 0 ⌝ }
 {
-    1 + net.inputs + net.latches + net.n
+    1 + net.inputs
+}
+
+// The wire of the first read bit.
+pub fn first_read_wire(net: Netlist) -> u32
+    requires { ⌜ SizesFit (alone net) ⌝ }
+    ensures { λ r. ⌜ r ≡ readWire (alone net) 0 ⌝ }
+{
+    first_latch_wire(net) + net.latches
+}
+
+// The wire of the first gate.
+pub fn first_gate_wire(net: Netlist) -> u32
+    requires { ⌜ SizesFit (alone net) ⌝ }
+    ensures { λ r. ⌜ r ≡ gateWire (alone net) 0 ⌝ }
+{
+    first_read_wire(net) + net.n
 }
 
 // The place of the last line.
 pub fn control_line(net: Netlist) -> u32
-    requires { ⌜ SizesFit (netOf net [] []) ⌝ }
-    ensures { λ r. ⌜ r ≡ controlLine (netOf net [] []) ⌝ }
+    requires { ⌜ SizesFit (alone net) ⌝ }
+    ensures { λ r. ⌜ r ≡ controlLine (alone net) ⌝ }
 {
     3 + net.latches + net.gates + net.m + net.n
 }
 
 // The line due at a place.
 pub fn line_at(net: Netlist, place: u32) -> Line
-    requires { ⌜ SizesFit (netOf net [] []) ⌝ }
-    ensures { λ r. ⌜ r ≡ lineAt (netOf net [] []) place ⌝ }
+    requires { ⌜ SizesFit (alone net) ⌝ }
+    ensures { λ r. ⌜ r ≡ lineAt (alone net) place ⌝ }
 {
     let gate = 3 + net.latches;
     let address = gate + net.gates;
@@ -152,7 +167,7 @@ pub fn gate_fault(own: u32, left: Code, right: Code) -> bool
 
 // Refusal 5 at a line.
 pub fn code_fault(net: Netlist, latches: &[u32; 1200], gates: &[u32; 1200], line: Line) -> bool
-    requires { ⌜ SizesFit (netOf net [] []) × Stands (netOf net [] []) line ⌝ }
+    requires { ⌜ SizesFit (alone net) × HasLine (alone net) line ⌝ }
     ensures { λ r. ⌜ r ≡ codeFault (netOf net (now (latches .entry)) (now (gates .entry))) line ⌝ }
 {
     let last = last_wire(net);
@@ -165,7 +180,11 @@ pub fn code_fault(net: Netlist, latches: &[u32; 1200], gates: &[u32; 1200], line
         }
         Line::Gate(g) => {
             let at = 2 * (g as usize);
-            gate_fault(gate_wire(net) + g, Code(gates[at]), Code(gates[at + 1]))
+            gate_fault(
+                first_gate_wire(net) + g,
+                Code(gates[at]),
+                Code(gates[at + 1]),
+            )
         }
         Line::Address(t) => {
             let at = t as usize;

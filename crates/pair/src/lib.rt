@@ -4,14 +4,14 @@ use literals::Code;
 use literals::Lit;
 use literals::Wire;
 use netlist::Netlist;
-use places::Port;
+use variables::Port;
 ghost use Prim.Native.Nat.{_/_, _≤_};
 ghost use lib.ListN.{length};
 ghost use Rattle.model.specs.Clauses.{sameIf, gather, forwarded, pairClauses};
 ghost use Rattle.model.specs.Variables.{wireAt, codeAt};
 ghost use Rattle.model.specs.Numbers.{written};
 ghost use Rattle.literals.specs.Lit.{literalOf, IsLit, HasNumber};
-ghost use Rattle.places.specs.OfPair.{ofPair, IsPair};
+ghost use Rattle.variables.specs.OfPair.{ofPair, PairFits};
 ghost use Rattle.model.specs.Wrote.{Wrote};
 
 // The two clauses of data bit t: where S is true, the read bit `rd` is the code `wd` of the writing frame.
@@ -33,13 +33,13 @@ fn put_forwarded_bit(
 
 // The clauses of each data bit, in bit order.
 fn put_forwarded(out: &mut [i32], net: Netlist, port: Port, j: u32, i: u32) -> usize
-    requires { ⌜ IsPair net port j i × (length (written (gather (net .n) (forwarded (ofPair net port j i)))) ≤ length (now out)) ⌝ }
+    requires { ⌜ PairFits net port j i × (length (written (gather (net .n) (forwarded (ofPair net port j i)))) ≤ length (now out)) ⌝ }
     ensures { λ r. ⌜ Wrote (written (gather (net .n) (forwarded (ofPair net port j i)))) (now (out .entry)) (now (out .exit)) r ⌝ }
 {
-    let selected = places::selected(net, port, j, i);
-    let writing = places::frame_base(net, j);
-    let reading = places::frame_base(net, i);
-    let first = 1 + net.inputs + net.latches;
+    let selected = variables::selected(net, port, j, i);
+    let writing = variables::frame_base(net, j);
+    let reading = variables::frame_base(net, i);
+    let first = netlist::first_read_wire(net);
     let read = port.first_read;
     let n = net.n;
     let mut at: usize = 0;
@@ -62,7 +62,7 @@ fn put_forwarded(out: &mut [i32], net: Netlist, port: Port, j: u32, i: u32) -> u
 
 // All clauses of the pair.
 pub fn put_pair(out: &mut [i32], net: Netlist, port: Port, j: u32, i: u32) -> usize
-    requires { ⌜ IsPair net port j i × (length (written (pairClauses (net .m) (net .n) (ofPair net port j i))) ≤ length (now out)) ⌝ }
+    requires { ⌜ PairFits net port j i × (length (written (pairClauses (net .m) (net .n) (ofPair net port j i))) ≤ length (now out)) ⌝ }
     ensures { λ r. ⌜ Wrote (written (pairClauses (net .m) (net .n) (ofPair net port j i))) (now (out .entry)) (now (out .exit)) r ⌝ }
 {
     let a = address::put_address_bits(out, net, port, j, i);

@@ -19,7 +19,7 @@ use Rattle.refusals.specs.declared.Verdict.the-variants.{Passed, Refused}
 use Rattle.refusals.proofs.Tests.{refuseIf-passes, then-passes, inOrder-suc, inOrder-kept, inOrder-passes}
 use Rattle.model.specs.Netlist as M
 use Rattle.model.specs.Acceptance.{SizesFit}
-use Rattle.netlist.specs.NetOf.{netOf}
+use Rattle.netlist.specs.NetOf.{netOf, alone}
 use Rattle.netlist.specs.Lines.{controlLine, lineAt}
 use Rattle.netlist.specs.Faults.{sizeFault, codeFault}
 use Rattle.netlist.specs.declared.Netlist.{Netlist}
@@ -129,7 +129,7 @@ module _ (file : List ℕ) (p : ℕ) (passed : inOrder (testLineIn (netIn file) 
       })
 
 -- so are those of the record as far as it is read
-pub sizesKnown-to : (file : List ℕ) (p : ℕ) (r : Netlist) (latches gates : List ℕ) → ReadTo file p r latches gates → SizesKnown (netOf r [] []) (p + 1)
+pub sizesKnown-to : (file : List ℕ) (p : ℕ) (r : Netlist) (latches gates : List ℕ) → ReadTo file p r latches gates → SizesKnown (alone r) (p + 1)
 sizesKnown-to file p r latches gates read h =
     sizes-lists r latches gates [] []
     (subst SizesFit (sym (read .holds .net-is)) (sizesFit-same (netIn file) (netTo file p) (sym (sizes-to file p (omega arith))) (sizes-passed file p (read .passed) (omega arith))))

@@ -7,13 +7,12 @@ use lib.IntN.{ℤ}
 use Rattle.model.specs.Netlist.{lastWire}
 use Rattle.model.specs.Clauses.{neg, gather}
 use Rattle.model.specs.Variables.{stride, baseOf, base, codeAt}
-use Rattle.model.specs.Groups.{notP}
+use Rattle.model.specs.Groups.{violationOf}
 use Rattle.model.specs.Numbers.{numberOf}
 use Rattle.literals.specs.declared.Code.{Code}
 use Rattle.literals.specs.declared.Numbering.{Numbering}
-use Rattle.netlist.specs.NetOf.{netOf}
+use Rattle.netlist.specs.NetOf.{netOf, alone}
 use Rattle.netlist.specs.declared.Netlist.{Netlist}
-use Rattle.places.specs.Alone.{alone}
 use Rattle.writer.proofs.Turns.{numbers-gather}
 
 -- ¬P of frame i
@@ -22,6 +21,6 @@ violation x p i = numberOf (neg (codeAt (baseOf (x .wires) (x .stride) i) (p .0)
 
 pub violations : (net : Netlist) (n : ℕ) (x : Numbering)
     → (x .wires ≡ lastWire (alone net)) × (x .stride ≡ stride (alone net))
-    → map numberOf (gather n (notP (alone net))) ≡ gather n (violation x (net .p))
-unfolding notP base alone netOf
-violations net n x e = rw (numbers-gather n (notP (alone net)), e .0, e .1)
+    → map numberOf (gather n (violationOf (alone net))) ≡ gather n (violation x (net .p))
+unfolding violationOf base netOf
+violations net n x e = rw (numbers-gather n (violationOf (alone net)), e .0, e .1)

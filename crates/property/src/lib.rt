@@ -4,19 +4,19 @@ ghost use Prim.Native.Nat.{_+_, _≤_};
 ghost use mathlib.Core.List.{map};
 ghost use lib.ListN.{length};
 ghost use Rattle.model.specs.Clauses.{gather};
-ghost use Rattle.model.specs.Groups.{notP};
+ghost use Rattle.model.specs.Groups.{violationOf};
 ghost use Rattle.model.specs.Numbers.{numberOf, numbersOf};
 ghost use Rattle.model.specs.declared.Group.the-variants.{Property};
-ghost use Rattle.places.specs.Alone.{alone};
+ghost use Rattle.netlist.specs.NetOf.{alone};
+ghost use Rattle.variables.specs.FrameFits.{FrameFits};
 ghost use Rattle.model.specs.Wrote.{Wrote};
-ghost use Rattle.property.specs.IsDepth.{IsDepth};
 
 // ¬P of each frame from 0 to k.
 fn put_violations(out: &mut [i32], net: Netlist, k: u32) -> usize
-    requires { ⌜ IsDepth net k × (length (map numberOf (gather (k + 1) (notP (alone net)))) ≤ length (now out)) ⌝ }
-    ensures { λ r. ⌜ Wrote (map numberOf (gather (k + 1) (notP (alone net)))) (now (out .entry)) (now (out .exit)) r ⌝ }
+    requires { ⌜ FrameFits (alone net) k × (length (map numberOf (gather (k + 1) (violationOf (alone net)))) ≤ length (now out)) ⌝ }
+    ensures { λ r. ⌜ Wrote (map numberOf (gather (k + 1) (violationOf (alone net)))) (now (out .entry)) (now (out .exit)) r ⌝ }
 {
-    let numbering = places::numbering(net);
+    let numbering = variables::numbering(net);
     let p = net.p;
     let mut at: usize = 0;
     let mut i: u32 = 0;
@@ -30,7 +30,7 @@ fn put_violations(out: &mut [i32], net: Netlist, k: u32) -> usize
 
 // The clause, with its end mark.
 pub fn put_property(out: &mut [i32], net: Netlist, k: u32) -> usize
-    requires { ⌜ IsDepth net k × (length (numbersOf (alone net) k Property) ≤ length (now out)) ⌝ }
+    requires { ⌜ FrameFits (alone net) k × (length (numbersOf (alone net) k Property) ≤ length (now out)) ⌝ }
     ensures { λ r. ⌜ Wrote (numbersOf (alone net) k Property) (now (out .entry)) (now (out .exit)) r ⌝ }
 {
     let a = put_violations(out, net, k);

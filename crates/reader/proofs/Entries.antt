@@ -91,8 +91,7 @@ module _ (c d : Netlist) (q : Agree c d) where
   pub accepted-same : Accepted c → Accepted d
   accepted-same h =
       record {
-        sizes = sizesFit-same c d (q .sizes-same) (h .sizes);
-        codes = codes-same (h .codes);
+        limits = record { sizes = sizesFit-same c d (q .sizes-same) (h .limits .sizes); codes = codes-same (h .limits .codes) };
         noLoop =
             record {
               address-free = λ t b. let s : t < c .m = rw m-same b in free (q .address-same t s) (h .noLoop .address-free t s);

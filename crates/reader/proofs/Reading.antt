@@ -35,7 +35,7 @@ module _ (c : M.Netlist) (accepted : Accepted c) (latches : List Latch) (gates :
       (gateCodes (delivered (c .gates) (gateOf c) gates)))
   unfolding netOf codeOf recordOf latchCodes gateCodes
   agree =
-      let sizes = accepted .sizes in
+      let sizes = accepted .limits .sizes in
       let wide = sizes .m-most in
       let deep = sizes .n-most in
       let latch = delivered-pairs (λ (l : Latch). l .next .0) (λ (l : Latch). l .reset) (c .latches) (latchOf c) latches
@@ -96,7 +96,7 @@ module _ (file : List ℕ) (latches : List Latch) (gates : List Gate) where
         by-verdict : (v : Verdict) → sheetVerdict file (length latches) (length gates) ≡ v → Deliverable
         by-verdict Passed e =
             let parts = passed-sheet file (length latches) (length gates) e in
-            rw (codes .record-is, e) ((parts .0 .sizes .latches-fit, parts .1), (parts .0 .sizes .gates-fit, parts .2))
+            rw (codes .record-is, e) ((parts .0 .limits .sizes .latches-fit, parts .1), (parts .0 .limits .sizes .gates-fit, parts .2))
         by-verdict (Refused r p) e = rw (codes .record-is, e) ((omega arith, omega arith), (omega arith, omega arith))
 
     pub reads : Reads sheet (delivered (sheet .net .latches) (latchAt latchList) latches)

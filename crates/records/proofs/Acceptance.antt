@@ -42,8 +42,11 @@ passes-accepted c x y = (accepted, passing)
         let loops : testLines c MemoryLoop loopFault ≡ Passed = search (first-passes, rest-passes) in
         let long = lists-pass c x y .0 lists in (
           record {
-            sizes = sizes-fit c .0 (testLines-passes c Size sizeFault .0 sizes);
-            codes = codes-fit c .0 (testLines-passes c CodeOutside codeFault .0 codes);
+            limits =
+                record {
+                  sizes = sizes-fit c .0 (testLines-passes c Size sizeFault .0 sizes);
+                  codes = codes-fit c .0 (testLines-passes c CodeOutside codeFault .0 codes);
+                };
             noLoop = no-loop c .0 (testLines-passes c MemoryLoop loopFault .0 loops);
           },
           long .0,
@@ -52,5 +55,5 @@ passes-accepted c x y = (accepted, passing)
 
     passing : Accepted c × (c .latches ≤ x) × (c .gates ≤ y) → recordVerdict c x y ≡ Passed
     passing h =
-        rw (testLines-passes c Size sizeFault .1 (sizes-fit c .1 (h .0 .sizes)), lists-pass c x y .1 (h .1, h .2), testLines-passes c CodeOutside codeFault .1 (codes-fit c .1 (h .0 .codes)), testLines-passes c MemoryLoop loopFault .1 (no-loop c .1 (h .0 .noLoop)))
+        rw (testLines-passes c Size sizeFault .1 (sizes-fit c .1 (h .0 .limits .sizes)), lists-pass c x y .1 (h .1, h .2), testLines-passes c CodeOutside codeFault .1 (codes-fit c .1 (h .0 .limits .codes)), testLines-passes c MemoryLoop loopFault .1 (no-loop c .1 (h .0 .noLoop)))
         (simp passed-then)

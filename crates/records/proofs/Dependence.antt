@@ -17,11 +17,12 @@ use Rattle.refusals.specs.declared.Verdict.the-variants.{Passed}
 use Rattle.refusals.proofs.Tests.{refuseIf-passes, inOrder-passes}
 use Rattle.model.specs.Netlist.{Netlist, readWire, gateWire}
 use Rattle.model.specs.Circuit.{Values, sweep, isRead, dependsOnRead}
-use Rattle.netlist.specs.Lines.{memoryLine, latchLine, gateLine, addressLine, lineAt, Stands}
+use Rattle.model.specs.Acceptance.{WithinLimits}
+use Rattle.netlist.specs.Lines.{memoryLine, latchLine, gateLine, addressLine, lineAt, HasLine}
 use Rattle.netlist.specs.Faults.{loopFaultBy, loopFault}
 use Rattle.limits.specs.AnyLine.{anyLine}
 use Rattle.records.specs.Record.{testLine, testLines}
-use Rattle.records.specs.Dependence.{entry, Table, InLimits}
+use Rattle.records.specs.Dependence.{entry, Table}
 use Rattle.netlist.specs.declared.Line.{Line}
 use Rattle.netlist.specs.declared.Line.the-variants.{Sizes, Memory, Latch, Gate, Address, Data, Control}
 use Rattle.netlist.proofs.Lines.{at-sizes, at-memory, at-latch, at-gate}
@@ -78,7 +79,7 @@ unfolding sweep
 sweep-next op c v g w = rw add-one
 
 -- the tests of memory loops by a table are those by the wires themselves: every code is within the table
-pub loopFault-table : {c : Netlist} {flags : List Bool} → Table (dependsOnRead c) flags → InLimits c → (x : Line) → Stands c x
+pub loopFault-table : {c : Netlist} {flags : List Bool} → Table (dependsOnRead c) flags → WithinLimits c → (x : Line) → HasLine c x
     → loopFault c x ≡ loopFaultBy (entry flags) c x
 unfolding loopFaultBy
 loopFault-table {c} q h Sizes s = refl
@@ -90,7 +91,7 @@ loopFault-table {c} q h (Data t) s = refl
 loopFault-table {c} q h Control s = sym (q .has (c .RE / 2) (omega (arith, h .codes .RE-fits, h .sizes .wires-fit)))
 
 -- no line makes a memory loop where the pass over the lists finds none by such a table
-pub loops-none : {c : Netlist} {flags : List Bool} → Table (dependsOnRead c) flags → InLimits c
+pub loops-none : {c : Netlist} {flags : List Bool} → Table (dependsOnRead c) flags → WithinLimits c
     → anyLine c (loopFaultBy (entry flags)) ≡ false → testLines c MemoryLoop loopFault ≡ Passed
 unfolding loopFaultBy
 loops-none {c} {flags} q h e =

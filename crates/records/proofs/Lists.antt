@@ -1,29 +1,27 @@
 -- What the lists of a record have no part in, of the tests: sizes in neither list, memory loops in the latches. No contract cites
 -- this file. Assumes nothing.
-use Prim.Native.Nat.{ℕ, _/_, zero-le}
+use Prim.Native.Nat.{ℕ, _/_}
 use mathlib.Core.Path.{_≡_, refl}
 use mathlib.Core.Bool.{Bool}
 use mathlib.Core.List.{List, []}
-use native.Mathlib.Omega.{arith}
 use Rattle.refusals.specs.declared.Refusal.the-variants.{Size, MemoryLoop}
-use Rattle.netlist.specs.NetOf.{codeOf, netOf}
+use Rattle.netlist.specs.NetOf.{codeOf, netOf, alone}
 use Rattle.netlist.specs.Lines.{lineAt}
 use Rattle.netlist.specs.Faults.{sizeFault, loopFaultBy, loopFault}
 use Rattle.netlist.specs.declared.Line.{Line}
 use Rattle.netlist.specs.declared.Line.the-variants.{Sizes, Memory, Latch, Gate, Address, Data, Control}
 use Rattle.netlist.specs.declared.Netlist.{Netlist}
-use Rattle.netlist.proofs.NetOf.{sizes-lists, lineAt-lists, sizeFault-lists, depends-latches}
+use Rattle.netlist.proofs.NetOf.{lineAt-lists, sizeFault-lists, depends-latches}
 use Rattle.limits.specs.AnyLine.{anyLine}
 use Rattle.records.specs.Record.{testLines}
-use Rattle.records.specs.Dependence.{InLimits}
 use Rattle.records.proofs.Record.{testLines-same}
 
 module _ (r : Netlist) (latches gates : List ℕ) where
   -- the tests of sizes
-  pub test-sizes-lists : testLines (netOf r [] []) Size sizeFault ≡ testLines (netOf r latches gates) Size sizeFault
+  pub test-sizes-lists : testLines (alone r) Size sizeFault ≡ testLines (netOf r latches gates) Size sizeFault
   unfolding netOf
   test-sizes-lists =
-      testLines-same (netOf r [] []) (netOf r latches gates) Size sizeFault (sizeFault-lists r latches gates) (lineAt-lists r latches gates) refl
+      testLines-same (alone r) (netOf r latches gates) Size sizeFault (sizeFault-lists r latches gates) (lineAt-lists r latches gates) refl
 
   -- the tests of memory loops
   pub test-loops-latches : testLines (netOf r [] gates) MemoryLoop loopFault ≡ testLines (netOf r latches gates) MemoryLoop loopFault
@@ -40,46 +38,6 @@ module _ (r : Netlist) (latches gates : List ℕ) where
       same Control = depends-latches r latches gates (r .re .0 / 2)
 
   -- the pass over the lists that looks for memory loops
-  pub any-loop-lists : (d : ℕ → Bool) → anyLine (netOf r [] []) (loopFaultBy d) ≡ anyLine (netOf r latches gates) (loopFaultBy d)
+  pub any-loop-lists : (d : ℕ → Bool) → anyLine (alone r) (loopFaultBy d) ≡ anyLine (netOf r latches gates) (loopFaultBy d)
   unfolding netOf loopFaultBy anyLine
   any-loop-lists d = refl
-
-  -- the limits of codes, without the latches
-  pub limits-latches : InLimits (netOf r latches gates) → InLimits (netOf r [] gates)
-  unfolding netOf
-  limits-latches q =
-      record {
-        sizes = sizes-lists r latches gates [] gates (q .sizes);
-        codes =
-            record {
-              next-fits = λ l h. zero-le;
-              reset-fits = λ l h. zero-le;
-              left-fits = q .codes .left-fits;
-              right-fits = q .codes .right-fits;
-              address-fits = q .codes .address-fits;
-              data-fits = q .codes .data-fits;
-              WE-fits = q .codes .WE-fits;
-              RE-fits = q .codes .RE-fits;
-              P-fits = q .codes .P-fits;
-            };
-      }
-
-  -- and without the gates
-  pub limits-gates : InLimits (netOf r latches gates) → InLimits (netOf r [] [])
-  unfolding netOf
-  limits-gates q =
-      record {
-        sizes = sizes-lists r latches gates [] [] (q .sizes);
-        codes =
-            record {
-              next-fits = λ l h. zero-le;
-              reset-fits = λ l h. zero-le;
-              left-fits = λ g h. omega arith;
-              right-fits = λ g h. omega arith;
-              address-fits = q .codes .address-fits;
-              data-fits = q .codes .data-fits;
-              WE-fits = q .codes .WE-fits;
-              RE-fits = q .codes .RE-fits;
-              P-fits = q .codes .P-fits;
-            };
-      }

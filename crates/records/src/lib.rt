@@ -6,17 +6,17 @@ use refusals::Verdict;
 ghost use mathlib.Core.Path.{_≡_};
 ghost use mathlib.Core.List.{[]};
 ghost use Rattle.model.specs.Circuit.{isRead, dependsOnRead};
-ghost use Rattle.model.specs.Acceptance.{SizesFit};
-ghost use Rattle.netlist.specs.NetOf.{netOf};
-ghost use Rattle.netlist.specs.Lines.{Stands};
+ghost use Rattle.model.specs.Acceptance.{SizesFit, WithinLimits};
+ghost use Rattle.netlist.specs.NetOf.{netOf, alone};
+ghost use Rattle.netlist.specs.Lines.{HasLine};
 ghost use Rattle.netlist.specs.Faults.{sizeFault, codeFault, loopFaultBy, loopFault};
 ghost use Rattle.limits.specs.AnyLine.{anyLine};
 ghost use Rattle.records.specs.Record.{testLines, recordVerdict};
-ghost use Rattle.records.specs.Dependence.{InLimits, Table, entry};
+ghost use Rattle.records.specs.Dependence.{Table, entry};
 
 // Tests the numbers of lines N and M (refusal 4).
 fn test_sizes(net: Netlist) -> Verdict
-    ensures { λ r. ⌜ r ≡ testLines (netOf net [] []) Refusal.Size sizeFault ⌝ }
+    ensures { λ r. ⌜ r ≡ testLines (alone net) Refusal.Size sizeFault ⌝ }
 {
     if netlist::sizes_fault(net) {
         return Verdict::Refused(Refusal::Size, 1);
@@ -29,7 +29,7 @@ fn test_sizes(net: Netlist) -> Verdict
 
 // Looks for the first line, in line order, with a code, gate operand or reset outside its limit.
 fn first_code_fault(net: Netlist, latches: &[u32; 1200], gates: &[u32; 1200]) -> Verdict
-    requires { ⌜ SizesFit (netOf net [] []) ⌝ }
+    requires { ⌜ SizesFit (alone net) ⌝ }
     ensures { λ r. ⌜ r ≡ testLines (netOf net (now (latches .entry)) (now (gates .entry))) Refusal.CodeOutside codeFault ⌝ }
 {
     let last = netlist::control_line(net);
@@ -46,7 +46,7 @@ fn first_code_fault(net: Netlist, latches: &[u32; 1200], gates: &[u32; 1200]) ->
 
 // Tests every code, gate operand and reset (refusal 5). A place is looked for only where there is one.
 fn test_codes(net: Netlist, latches: &[u32; 1200], gates: &[u32; 1200]) -> Verdict
-    requires { ⌜ SizesFit (netOf net [] []) ⌝ }
+    requires { ⌜ SizesFit (alone net) ⌝ }
     ensures { λ r. ⌜ r ≡ testLines (netOf net (now (latches .entry)) (now (gates .entry))) Refusal.CodeOutside codeFault ⌝ }
 {
     if limits::any_code_fault(net, latches, gates) {
@@ -57,12 +57,12 @@ fn test_codes(net: Netlist, latches: &[u32; 1200], gates: &[u32; 1200]) -> Verdi
 
 // Makes the table of the read bits.
 fn read_bits(net: Netlist) -> [bool; 601]
-    requires { ⌜ SizesFit (netOf net [] []) ⌝ }
-    ensures { λ r. ⌜ Table (isRead (netOf net [] [])) r ⌝ }
+    requires { ⌜ SizesFit (alone net) ⌝ }
+    ensures { λ r. ⌜ Table (isRead (alone net)) r ⌝ }
 {
     let mut flags = [false; 601];
-    let last = netlist::gate_wire(net) as usize;
-    let mut w = (1 + net.inputs + net.latches) as usize;
+    let last = netlist::first_gate_wire(net) as usize;
+    let mut w = netlist::first_read_wire(net) as usize;
     while w < last {
         flags[w] = true;
         w += 1;
@@ -72,11 +72,11 @@ fn read_bits(net: Netlist) -> [bool; 601]
 
 // Makes the table of the wires that depend on a read bit, in one pass over the gates.
 fn depends_on_read(net: Netlist, gates: &[u32; 1200]) -> [bool; 601]
-    requires { ⌜ InLimits (netOf net [] (now gates)) ⌝ }
+    requires { ⌜ WithinLimits (netOf net [] (now gates)) ⌝ }
     ensures { λ r. ⌜ Table (dependsOnRead (netOf net [] (now (gates .entry)))) r ⌝ }
 {
     let mut flags = read_bits(net);
-    let first = netlist::gate_wire(net);
+    let first = netlist::first_gate_wire(net);
     let mut g = 0;
     while g < net.gates {
         let at = 2 * (g as usize);
@@ -91,8 +91,8 @@ fn depends_on_read(net: Netlist, gates: &[u32; 1200]) -> [bool; 601]
 
 // Whether a line makes a memory loop, by a table of the wires that depend on a read bit.
 fn loop_fault(net: Netlist, flags: &[bool; 601], line: Line) -> bool
-    requires { ⌜ InLimits (netOf net [] []) × Stands (netOf net [] []) line ⌝ }
-    ensures { λ r. ⌜ r ≡ loopFaultBy (entry (now (flags .entry))) (netOf net [] []) line ⌝ }
+    requires { ⌜ WithinLimits (alone net) × HasLine (alone net) line ⌝ }
+    ensures { λ r. ⌜ r ≡ loopFaultBy (entry (now (flags .entry))) (alone net) line ⌝ }
 {
     match line {
         Line::Sizes => false,
@@ -114,8 +114,8 @@ fn loop_fault(net: Netlist, flags: &[bool; 601], line: Line) -> bool
 
 // Whether any line makes a memory loop, by such a table.
 fn any_loop(net: Netlist, flags: &[bool; 601]) -> bool
-    requires { ⌜ InLimits (netOf net [] []) ⌝ }
-    ensures { λ r. ⌜ r ≡ anyLine (netOf net [] []) (loopFaultBy (entry (now (flags .entry)))) ⌝ }
+    requires { ⌜ WithinLimits (alone net) ⌝ }
+    ensures { λ r. ⌜ r ≡ anyLine (alone net) (loopFaultBy (entry (now (flags .entry)))) ⌝ }
 {
     let mut any = false;
     let mut t = 0;
@@ -132,7 +132,7 @@ fn any_loop(net: Netlist, flags: &[bool; 601]) -> bool
 // Tests the address codes and RE, in line order (refusal 6). A place is looked for only where there is one. The lines before the
 // address codes make no memory loop.
 pub fn test_loops(net: Netlist, gates: &[u32; 1200]) -> Verdict
-    requires { ⌜ InLimits (netOf net [] (now gates)) ⌝ }
+    requires { ⌜ WithinLimits (netOf net [] (now gates)) ⌝ }
     ensures { λ r. ⌜ r ≡ testLines (netOf net [] (now (gates .entry))) Refusal.MemoryLoop loopFault ⌝ }
 {
     let flags = depends_on_read(net, gates);

@@ -1,44 +1,52 @@
 // The three gates of a pair (j, i) at a port (document 01, "Pair (j, i)"): which earlier write a read takes.
 use literals::Lit;
 use netlist::Netlist;
-use places::Port;
+use variables::Port;
 ghost use Prim.Native.Nat.{_≤_};
 ghost use lib.ListN.{length};
 ghost use Rattle.model.specs.Numbers.{written};
 ghost use Rattle.literals.specs.Lit.{literalOf, IsLit};
-ghost use Rattle.places.specs.OfPair.{ofPair, IsPair};
+ghost use Rattle.variables.specs.OfPair.{ofPair, PairFits};
 ghost use Rattle.model.specs.Wrote.{Wrote};
-ghost use Rattle.select.specs.SelectClauses.{selectClauses, selectOf};
+ghost use Rattle.select.specs.SelectClauses.{selectClauses, pairSelect};
 
-// The gates s = E ∧ WE, PS = ¬s ∧ N, S = s ∧ N, from their literals.
-fn put_gates(out: &mut [i32], s: Lit, e: Lit, we: Lit, ps: Lit, sel: Lit, n: Lit) -> usize
-    requires { ⌜ IsLit s × IsLit e × IsLit we × IsLit ps × IsLit sel × IsLit n
-        × (length (written (selectClauses (literalOf s) (literalOf e) (literalOf we) (literalOf ps) (literalOf sel) (literalOf n)))
-        ≤ length (now out)) ⌝ }
-    ensures { λ r. ⌜ Wrote (written (selectClauses (literalOf s) (literalOf e) (literalOf we) (literalOf ps) (literalOf sel) (literalOf n)))
-        (now (out .entry)) (now (out .exit)) r ⌝ }
+// The gates s = E ∧ WE, PS = ¬s ∧ N, S = s ∧ N, from their literals: `valid` is s, `none_since` PS, `selected` S, `none_after` N.
+fn put_gates(
+    out: &mut [i32],
+    valid: Lit,
+    address_equal: Lit,
+    write_enable: Lit,
+    none_since: Lit,
+    selected: Lit,
+    none_after: Lit,
+) -> usize
+    requires { ⌜ IsLit valid × IsLit «address_equal» × IsLit «write_enable» × IsLit «none_since» × IsLit selected × IsLit «none_after»
+        × (length (written (selectClauses (literalOf valid) (literalOf «address_equal») (literalOf «write_enable»)
+        (literalOf «none_since») (literalOf selected) (literalOf «none_after»))) ≤ length (now out)) ⌝ }
+    ensures { λ r. ⌜ Wrote (written (selectClauses (literalOf valid) (literalOf «address_equal») (literalOf «write_enable»)
+        (literalOf «none_since») (literalOf selected) (literalOf «none_after»))) (now (out .entry)) (now (out .exit)) r ⌝ }
 {
-    let a = tseitin::put_and(out, s, e, we);
-    let b = a + tseitin::put_and(&mut out[a..], ps, s.negated(), n);
-    b + tseitin::put_and(&mut out[b..], sel, s, n)
+    let a = tseitin::put_and(out, valid, address_equal, write_enable);
+    let b = a + tseitin::put_and(&mut out[a..], none_since, valid.negated(), none_after);
+    b + tseitin::put_and(&mut out[b..], selected, valid, none_after)
 }
 
-// The gates of the pair: valid read, none since, exclusive valid read. WE is of the writing frame.
+// The gates of the pair: valid read, none since, exclusive valid read. WE is of the writing frame, N of the pair after it.
 pub fn put_select(out: &mut [i32], net: Netlist, port: Port, j: u32, i: u32) -> usize
-    requires { ⌜ IsPair net port j i × (length (written (selectOf (ofPair net port j i))) ≤ length (now out)) ⌝ }
-    ensures { λ r. ⌜ Wrote (written (selectOf (ofPair net port j i))) (now (out .entry)) (now (out .exit)) r ⌝ }
+    requires { ⌜ PairFits net port j i × (length (written (pairSelect (ofPair net port j i))) ≤ length (now out)) ⌝ }
+    ensures { λ r. ⌜ Wrote (written (pairSelect (ofPair net port j i))) (now (out .entry)) (now (out .exit)) r ⌝ }
 {
-    let q = places::pair_base(net, port, j, i);
-    let equal = Lit::in_pair(q, 1);
+    let q = variables::pair_base(net, port, j, i);
+    let address_equal = Lit::in_pair(q, 1);
     let valid = Lit::in_pair(q, net.m + 2);
-    let write_enable = net.we.in_frame(places::frame_base(net, j));
-    let none_since = places::none_since(net, port, j, i);
-    let selected = places::selected(net, port, j, i);
-    let none_after = places::none_since(net, port, j + 1, i);
+    let write_enable = net.we.in_frame(variables::frame_base(net, j));
+    let none_since = variables::none_since(net, port, j, i);
+    let selected = variables::selected(net, port, j, i);
+    let none_after = variables::none_since(net, port, j + 1, i);
     put_gates(
         out,
         valid,
-        equal,
+        address_equal,
         write_enable,
         none_since,
         selected,

@@ -60,11 +60,14 @@ module _ (file : List ℕ) (passed : fileVerdict file ≡ Passed) where
   accepted-in =
       let whole = end-passes .0 in
       record {
-        sizes = sizes-passed file (lineCount file) lines-pass (omega arith);
-        codes =
-            codes-fit (netIn file) .0
-            (every-place (netIn file) (Without codeFault (netIn file)) .1
-            (λ p l b. line-passed file (lineCount file) lines-pass p l (omega arith) .code));
+        limits =
+            record {
+              sizes = sizes-passed file (lineCount file) lines-pass (omega arith);
+              codes =
+                  codes-fit (netIn file) .0
+                  (every-place (netIn file) (Without codeFault (netIn file)) .1
+                  (λ p l b. line-passed file (lineCount file) lines-pass p l (omega arith) .code));
+            };
         noLoop = no-loop (netIn file) .0 (testLines-passes (netIn file) MemoryLoop loopFault .0 (end-passes .1));
       }
 

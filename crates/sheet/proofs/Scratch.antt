@@ -10,15 +10,13 @@ use Rattle.refusals.specs.Tests.{inOrder, _then_}
 use Rattle.refusals.specs.declared.Verdict.the-variants.{Passed}
 use Rattle.model.specs.Netlist as M
 use Rattle.model.specs.Clauses.{gather}
-use Rattle.model.specs.Acceptance.{SizesFit}
+use Rattle.model.specs.Acceptance.{SizesFit, WithinLimits}
 use Rattle.literals.specs.declared.Code.{Code}
 use Rattle.netlist.specs.NetOf.{codeOf, netOf}
 use Rattle.netlist.specs.Lines.{controlLine, latchLine, gateLine, addressLine, dataLine}
 use Rattle.netlist.specs.Faults.{codeFault}
-use Rattle.records.specs.Dependence.{InLimits}
 use Rattle.netlist.specs.declared.Netlist.{Netlist}
-use Rattle.netlist.proofs.NetOf.{sizes-lists}
-use Rattle.records.proofs.Lists.{limits-latches}
+use Rattle.netlist.proofs.NetOf.{sizes-lists, limits-without-latches}
 use Rattle.netlist.proofs.Lines.{every-place}
 use Rattle.netlist.proofs.Faults.{Without, codes-fit}
 use Rattle.steps.specs.Records.{recordOf, noNetlist}
@@ -110,13 +108,13 @@ pub lines-passed : (file : List ℕ) (r : Netlist) (latches gates : List ℕ) �
 lines-passed file r latches gates passed is =
     record {
       sizes = λ h. sizes-lists r latches gates [] gates (subst SizesFit (sym is) (sizes-passed file (lineCount file) passed (omega arith)));
-      limits = λ h. limits-latches r latches gates (subst InLimits (sym is) (limits (rw ends at h)));
+      limits = λ h. limits-without-latches r latches gates (subst WithinLimits (sym is) (limits (rw ends at h)));
     }
   where
     ends : controlLine (netOf r [] gates) ≡ controlLine (netIn file)
     ends = controlLine-lists r latches gates ∙ ap (λ (c : M.Netlist). controlLine c) is
 
-    limits : controlLine (netIn file) ≤ lineCount file → InLimits (netIn file)
+    limits : controlLine (netIn file) ≤ lineCount file → WithinLimits (netIn file)
     limits h =
         record {
           sizes = sizes-passed file (lineCount file) passed (omega arith);

@@ -3,8 +3,8 @@ use Prim.Native.Nat.{ℕ, _≤_}
 use mathlib.Core.List.{List}
 use lib.ListN.{replicate}
 use Rattle.model.specs.Netlist.{Netlist}
+use Rattle.model.specs.Acceptance.{WithinLimits}
 use Rattle.netlist.specs.Lines.{controlLine}
-use Rattle.records.specs.Dependence.{InLimits}
 use Rattle.steps.specs.Steps.{SizesKnown}
 
 -- 600 records of two codes each, all 0
@@ -14,4 +14,4 @@ noCodes = replicate 1200 0
 -- what `count` lines that have passed say of the netlist
 pub record LinesPassed (c : Netlist) (count : ℕ) : Type 0 where
   pub sizes : SizesKnown c count
-  pub limits : controlLine c ≤ count → InLimits c
+  pub limits : controlLine c ≤ count → WithinLimits c

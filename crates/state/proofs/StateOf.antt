@@ -4,18 +4,19 @@ use Prim.Native.Nat.{ℕ, zero, suc, _+_, _-_, _*_}
 use mathlib.Core.Path.{_≡_, refl}
 use mathlib.Core.Bool.{true, cond}
 use mathlib.Core.List.{List, [], _∷_, _++_}
+use native.Mathlib.Nat.{add-zero}
 use native.Mathlib.Numerals.{sub-one}
 use lib.Dec.{eqb}
 use lib.IntN.{ℤ}
 use lib.ListN.{getD}
 use Rattle.model.specs.Netlist as M
+use Rattle.model.specs.Netlist.{latchWire}
 use Rattle.model.specs.Clauses.{known, neg, gather, sameClauses}
 use Rattle.model.specs.Variables.{base, wireAt, codeAt}
 use Rattle.model.specs.Groups.{resetClause, latchClauses, stateClauses}
 use Rattle.model.specs.Numbers.{numberOf, written}
-use Rattle.netlist.specs.NetOf.{netOf}
+use Rattle.netlist.specs.NetOf.{netOf, alone}
 use Rattle.netlist.specs.declared.Netlist.{Netlist}
-use Rattle.places.specs.Alone.{alone}
 use Rattle.writer.proofs.Turns.{written-gather}
 
 -- latch l in frame 0
@@ -23,20 +24,20 @@ abbrev pub resetAt : ℕ → ℕ → List ℕ → ℕ → List ℤ
 resetAt b first ls l =
     written ((cond (eqb (getD ls (2 * l + 1) 0) 1) (wireAt b (first + l)) (neg (wireAt b (first + l))) ∷ []) ∷ [])
 
-pub resets : (net : Netlist) (ls : List ℕ) (n : ℕ) {b : ℕ} → b ≡ base (alone net) 0
-    → written (gather n (resetClause (netOf net ls []))) ≡ gather n (resetAt b (1 + net .inputs) ls)
-unfolding resetClause base alone netOf
-resets net ls n e = rw (written-gather n (resetClause (netOf net ls [])), e)
+pub resets : (net : Netlist) (ls : List ℕ) (n : ℕ) {b first : ℕ} → b ≡ base (alone net) 0 → first ≡ latchWire (alone net) 0
+    → written (gather n (resetClause (netOf net ls []))) ≡ gather n (resetAt b first ls)
+unfolding resetClause base netOf
+resets net ls n e f = rw (written-gather n (resetClause (netOf net ls [])), e, f, add-zero)
 
 -- latch l in a later frame
 abbrev pub latchAt : ℕ → ℕ → ℕ → List ℕ → ℕ → List ℤ
 latchAt b first before ls l = written (sameClauses (wireAt b (first + l)) (codeAt before (getD ls (2 * l) 0)))
 
-pub later-latches : (net : Netlist) (ls : List ℕ) (i n : ℕ) {b before : ℕ}
-    → before ≡ base (alone net) i → b ≡ base (alone net) (i + 1)
-    → written (gather n (latchClauses (netOf net ls []) i)) ≡ gather n (latchAt b (1 + net .inputs) before ls)
-unfolding latchClauses base alone netOf
-later-latches net ls i n e f = rw (written-gather n (latchClauses (netOf net ls []) i), e, f)
+pub later-latches : (net : Netlist) (ls : List ℕ) (i n : ℕ) {b before first : ℕ}
+    → before ≡ base (alone net) i → b ≡ base (alone net) (i + 1) → first ≡ latchWire (alone net) 0
+    → written (gather n (latchClauses (netOf net ls []) i)) ≡ gather n (latchAt b first before ls)
+unfolding latchClauses base netOf
+later-latches net ls i n e f g = rw (written-gather n (latchClauses (netOf net ls []) i), e, f, g, add-zero)
 
 -- the latches of a frame other than 0
 pub state-later : (c : M.Netlist) (i : ℕ) → (i ≡ 0 → ⊥) → stateClauses c i ≡ gather (c .latches) (latchClauses c (i - 1))

@@ -15,7 +15,7 @@ ghost use Rattle.model.specs.Groups.{resetClause, latchClauses, stateClauses};
 ghost use Rattle.model.specs.Numbers.{written};
 ghost use Rattle.literals.specs.Lit.{HasNumber};
 ghost use Rattle.netlist.specs.NetOf.{netOf};
-ghost use Rattle.places.specs.ListsFit.{ListsFit};
+ghost use Rattle.variables.specs.FrameFits.{FrameFits};
 ghost use Rattle.model.specs.Wrote.{Wrote};
 
 // A latch's own literal in frame 0, inverted if its reset is 0.
@@ -34,13 +34,13 @@ fn put_reset(out: &mut [i32], b: u32, q: Wire, reset: u32) -> usize
 
 // Each latch in frame 0.
 fn put_resets(out: &mut [i32], net: Netlist, latches: &[u32; 1200]) -> usize
-    requires { ⌜ ListsFit (netOf net (now latches) []) 0
+    requires { ⌜ FrameFits (netOf net (now latches) []) 0
         × (length (written (gather (net .latches) (resetClause (netOf net (now latches) [])))) ≤ length (now out)) ⌝ }
     ensures { λ r. ⌜ Wrote (written (gather (net .latches) (resetClause (netOf net (now (latches .entry)) []))))
         (now (out .entry)) (now (out .exit)) r ⌝ }
 {
-    let b = places::frame_base(net, 0);
-    let first = 1 + net.inputs;
+    let b = variables::frame_base(net, 0);
+    let first = netlist::first_latch_wire(net);
     let n = net.latches;
     let mut at: usize = 0;
     let mut l: u32 = 0;
@@ -63,14 +63,14 @@ fn put_latch(out: &mut [i32], b: u32, q: Wire, before: u32, d: Code) -> usize
 
 // Each latch in the frame after frame i.
 fn put_latches(out: &mut [i32], net: Netlist, latches: &[u32; 1200], i: u32) -> usize
-    requires { ⌜ ListsFit (netOf net (now latches) []) (i + 1)
+    requires { ⌜ FrameFits (netOf net (now latches) []) (i + 1)
         × (length (written (gather (net .latches) (latchClauses (netOf net (now latches) []) i))) ≤ length (now out)) ⌝ }
     ensures { λ r. ⌜ Wrote (written (gather (net .latches) (latchClauses (netOf net (now (latches .entry)) []) i)))
         (now (out .entry)) (now (out .exit)) r ⌝ }
 {
-    let before = places::frame_base(net, i);
-    let b = places::frame_base(net, i + 1);
-    let first = 1 + net.inputs;
+    let before = variables::frame_base(net, i);
+    let b = variables::frame_base(net, i + 1);
+    let first = netlist::first_latch_wire(net);
     let n = net.latches;
     let mut at: usize = 0;
     let mut l: u32 = 0;
@@ -84,7 +84,7 @@ fn put_latches(out: &mut [i32], net: Netlist, latches: &[u32; 1200], i: u32) -> 
 
 // The latches of frame i; in frame 0 after the clause (1).
 pub fn put_state(out: &mut [i32], net: Netlist, latches: &[u32; 1200], i: u32) -> usize
-    requires { ⌜ ListsFit (netOf net (now latches) []) i
+    requires { ⌜ FrameFits (netOf net (now latches) []) i
         × (length (written (stateClauses (netOf net (now latches) []) i)) ≤ length (now out)) ⌝ }
     ensures { λ r. ⌜ Wrote (written (stateClauses (netOf net (now (latches .entry)) []) i)) (now (out .entry)) (now (out .exit)) r ⌝ }
 {

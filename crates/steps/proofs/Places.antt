@@ -12,11 +12,11 @@ use lib.ListN.{getD}
 use borrow.Author.Tests.{eq-eqb, eqb-true, le-ltb}
 use Rattle.model.specs.Netlist.{Netlist}
 use Rattle.model.specs.Acceptance.{SizesFit}
-use Rattle.netlist.specs.Lines.{memoryLine, latchLine, gateLine, addressLine, dataLine, controlLine, lineAt, Stands}
+use Rattle.netlist.specs.Lines.{memoryLine, latchLine, gateLine, addressLine, dataLine, controlLine, lineAt, HasLine}
 use Rattle.netlist.specs.Faults.{sizeFault}
 use Rattle.netlist.specs.declared.Line.{Line}
 use Rattle.netlist.specs.declared.Line.the-variants.{Sizes, Memory, Latch, Gate, Address, Data, Control}
-use Rattle.netlist.proofs.Lines.{at-sizes, at-memory, at-latch, at-gate, at-address, at-data, at-control, stands}
+use Rattle.netlist.proofs.Lines.{at-sizes, at-memory, at-latch, at-gate, at-address, at-data, at-control, has-lineAt}
 use Rattle.lines.specs.Letters.{rowOf}
 use Rattle.steps.specs.Due.{kindDue}
 use Rattle.steps.specs.Due.{numberIn, roomFor, sameLine}
@@ -42,17 +42,17 @@ placeOf c x = firstInRow c (rowOfLine x) + numberIn x
 abbrev pub InRow : Netlist → Line → Type 0
 InRow c x = numberIn x < sizeOfRow c (rowOfLine x)
 
-inRow-of-stands : (c : Netlist) (x : Line) → Stands c x → InRow c x
-inRow-of-stands c Sizes h = omega arith
-inRow-of-stands c Memory h = omega arith
-inRow-of-stands c (Latch l) h = h
-inRow-of-stands c (Gate g) h = h
-inRow-of-stands c (Address t) h = h
-inRow-of-stands c (Data t) h = h
-inRow-of-stands c Control h = omega arith
+inRow-of-hasLine : (c : Netlist) (x : Line) → HasLine c x → InRow c x
+inRow-of-hasLine c Sizes h = omega arith
+inRow-of-hasLine c Memory h = omega arith
+inRow-of-hasLine c (Latch l) h = h
+inRow-of-hasLine c (Gate g) h = h
+inRow-of-hasLine c (Address t) h = h
+inRow-of-hasLine c (Data t) h = h
+inRow-of-hasLine c Control h = omega arith
 
 pub inRow-at : (c : Netlist) (p : ℕ) → InRow c (lineAt c p)
-inRow-at c p = inRow-of-stands c (lineAt c p) (stands c p)
+inRow-at c p = inRow-of-hasLine c (lineAt c p) (has-lineAt c p)
 
 -- the line at a line's place is the line
 pub lineAt-place : (c : Netlist) (x : Line) → InRow c x → lineAt c (placeOf c x) ≡ x

@@ -3,7 +3,7 @@ use Prim.Native.Nat.{ℕ, _+_, _*_, _≤_, _<_}
 use mathlib.Core.Path.{_≡_, refl, sym, _∙_, ap, fun-ext}
 use mathlib.Core.Bool.{true, false, cond}
 use mathlib.Core.Logic.{by-cases}
-use mathlib.Core.List.{List, []}
+use mathlib.Core.List.{List}
 use native.Mathlib.Decide.{ℕ-discrete}
 use native.Mathlib.Omega.{arith}
 use lib.Dec.{eqb, ltb}
@@ -19,7 +19,7 @@ use Rattle.model.specs.Netlist as M
 use Rattle.netlist.specs.Lines.{controlLine, lineAt}
 use Rattle.lines.specs.Letters.{rowOf}
 use Rattle.lines.specs.declared.Kind.{Kind}
-use Rattle.netlist.specs.NetOf.{codeOf, netOf}
+use Rattle.netlist.specs.NetOf.{codeOf, netOf, alone}
 use Rattle.netlist.specs.declared.Netlist.{Netlist}
 use Rattle.netlist.specs.declared.Line.the-variants.{Latch, Gate}
 use Rattle.steps.specs.Due.{kindDue}
@@ -97,16 +97,16 @@ same-stored c d p x y z h =
 -- the record after a line, from line 3 on: its sizes, and so the line due at this place
 module _ (r next : Netlist) (latches gates newLatches newGates : List ℕ) (p x y z : ℕ)
     (holds : Holds next newLatches newGates (stepNet (netOf r latches gates) x y z p)) where
-  sizes-step : 3 ≤ p → SameSizes (netOf r [] []) (netOf next [] [])
+  sizes-step : 3 ≤ p → SameSizes (alone r) (alone next)
   unfolding netOf stepNet
   sizes-step h =
       same-stored (netOf r latches gates) (netOf r latches gates) p x y z h ∙ sym (ap sizesOf (holds .net-is))
 
-  pub sizesKnown-step : SizesKnown (netOf r [] []) p → SizesKnown (netOf next [] []) p
-  sizesKnown-step known h = sizesFit-same (netOf r [] []) (netOf next [] []) (sizes-step h) (known h)
+  pub sizesKnown-step : SizesKnown (alone r) p → SizesKnown (alone next) p
+  sizesKnown-step known h = sizesFit-same (alone r) (alone next) (sizes-step h) (known h)
 
-  pub due-step : lineAt (netOf r [] []) p ≡ lineAt (netOf next [] []) p
-  due-step = lineAt-known (netOf r [] []) (netOf next [] []) p sizes-step
+  pub due-step : lineAt (alone r) p ≡ lineAt (alone next) p
+  due-step = lineAt-known (alone r) (alone next) p sizes-step
 
 -- the verdict on a line, by what is tested first
 module _ (c : M.Netlist) (kind : Kind) (x y z p : ℕ) where

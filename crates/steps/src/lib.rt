@@ -9,11 +9,10 @@ use netlist::Netlist;
 use refusals::Refusal;
 use refusals::Verdict;
 ghost use mathlib.Core.Path.{_≡_};
-ghost use mathlib.Core.List.{[]};
 ghost use Prim.Native.Nat.{_+_, _*_, _<_};
 ghost use lib.Dec.{ltb};
 ghost use lib.ListN.{set};
-ghost use Rattle.netlist.specs.NetOf.{netOf};
+ghost use Rattle.netlist.specs.NetOf.{netOf, alone};
 ghost use Rattle.netlist.specs.Lines.{lineAt, controlLine};
 ghost use Rattle.lines.specs.Letters.{rowOf};
 ghost use Rattle.steps.specs.Due.{kindDue, numberIn, roomFor};
@@ -168,8 +167,8 @@ fn store(
 
 // The line due at a place. Lines N and M are due before any size is known.
 fn line_due(net: Netlist, place: u32) -> Line
-    requires { ⌜ SizesKnown (netOf net [] []) place ⌝ }
-    ensures { λ r. ⌜ r ≡ lineAt (netOf net [] []) place ⌝ }
+    requires { ⌜ SizesKnown (alone net) place ⌝ }
+    ensures { λ r. ⌜ r ≡ lineAt (alone net) place ⌝ }
 {
     if place <= 1 {
         return Line::Sizes;
@@ -182,8 +181,8 @@ fn line_due(net: Netlist, place: u32) -> Line
 
 // Whether a place is behind the last line.
 fn is_past_last(net: Netlist, place: u32) -> bool
-    requires { ⌜ SizesKnown (netOf net [] []) place ⌝ }
-    ensures { λ r. ⌜ r ≡ ltb (controlLine (netOf net [] [])) place ⌝ }
+    requires { ⌜ SizesKnown (alone net) place ⌝ }
+    ensures { λ r. ⌜ r ≡ ltb (controlLine (alone net)) place ⌝ }
 {
     if 3 <= place {
         return netlist::control_line(net) < place;
@@ -199,7 +198,7 @@ fn test_stored(
     due: Line,
     place: u32,
 ) -> Verdict
-    requires { ⌜ SizesKnown (netOf net [] []) place × (due ≡ lineAt (netOf net [] []) place) ⌝ }
+    requires { ⌜ SizesKnown (alone net) place × (due ≡ lineAt (alone net) place) ⌝ }
     ensures { λ r. ⌜ r ≡ faultsAt (netOf net (now (latches .entry)) (now (gates .entry))) due place ⌝ }
 {
     if place < 2 {
@@ -231,7 +230,7 @@ pub fn take_line(
     second: u32,
     third: u32,
 ) -> Sheet
-    requires { ⌜ FullLength (net .address) (net .«write_data») (now latches) (now gates) × SizesKnown (netOf net [] []) place ⌝ }
+    requires { ⌜ FullLength (net .address) (net .«write_data») (now latches) (now gates) × SizesKnown (alone net) place ⌝ }
     ensures { λ r. ⌜ Outcome r (now (latches .exit)) (now (gates .exit)) (stepVerdict (netOf net (now (latches .entry)) (now (gates .entry))) kind first second third place) (stepNet (netOf net (now (latches .entry)) (now (gates .entry))) first second third place) ⌝ }
 {
     if is_past_last(net, place) {

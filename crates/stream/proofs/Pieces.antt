@@ -18,20 +18,20 @@ use Rattle.model.specs.declared.Group.the-variants.{Wires, Property}
 use Rattle.model.proofs.Gather.{All, all-at}
 use Rattle.model.proofs.Joined.{order-inDepth}
 use Rattle.model.proofs.Wrote.{wrote-nothing, wrote-then}
-use Rattle.unrolling.specs.Next.{firstOf}
+use Rattle.unrolling.specs.Next.{firstGroup}
 use Rattle.unrolling.specs.declared.order.Next.{Next}
 use Rattle.unrolling.specs.declared.order.Next.the-variants.{Then, End}
 use Rattle.dimacs.specs.Text.{clauseText}
 use Rattle.dimacs.proofs.Text.{clauseText-append}
-use Rattle.stream.specs.Pieces.{Stands, NextStands, Printed, Continues}
+use Rattle.stream.specs.Pieces.{OrderHas, OrderHasNext, Printed, Continues}
 
 -- what a writer wrote stands in front
 pub wrote-front : {A : Type 0} {xs old new : List A} {r : ℕ} → Wrote xs old new r → take r new ≡ xs
 wrote-front {A} {xs} {old} {new} {r} w = rw (w .counted, w .leaves) (take-append-seam xs (drop (length xs) old))
 
 -- a group that stands in the order of the whole is a group of the depth
-pub stands-inDepth : (k : ℕ) (g : Group) → Stands k g → inDepth k g ≡ true
-stands-inDepth k g s = all-at (s .before) g (s .behind) (subst (All (λ x. inDepth k x ≡ true)) (s .order) (order-inDepth k))
+pub orderHas-inDepth : (k : ℕ) (g : Group) → OrderHas k g → inDepth k g ≡ true
+orderHas-inDepth k g s = all-at (s .before) g (s .behind) (subst (All (λ x. inDepth k x ≡ true)) (s .order) (order-inDepth k))
 
 joined-snoc : (f : Group → List ℤ) (gs : List Group) (g : Group) → joined f (gs ++ g ∷ []) ≡ joined f gs ++ f g
 unfolding joined
@@ -39,7 +39,7 @@ joined-snoc f [] g = append-nil (f g)
 joined-snoc f (x ∷ gs) g = ap (λ (t : List ℤ). f x ++ t) (joined-snoc f gs g) ∙ sym (append-assoc (f x) (joined f gs) (f g))
 
 -- before the first group is printed
-pub printed-nothing : (c : Netlist) (k : ℕ) (old : List ℕ) (next : Next) (from : List Group) → next ≡ firstOf from
+pub printed-nothing : (c : Netlist) (k : ℕ) (old : List ℕ) (next : Next) (from : List Group) → next ≡ firstGroup from
     → Printed c k old old 0 next from
 unfolding clauseText joined
 printed-nothing c k old next from h =
@@ -58,7 +58,7 @@ isThen : Next → Type 0
 isThen (Then g) = Unit {0}
 isThen End = ⊥
 
-left-begins : (g : Group) (gs : List Group) → Then g ≡ firstOf gs → Left g gs
+left-begins : (g : Group) (gs : List Group) → Then g ≡ firstGroup gs → Left g gs
 unfolding isThen groupOr
 left-begins g [] h = absurd (subst isThen h tt)
 left-begins g (x ∷ gs) h =
@@ -73,8 +73,8 @@ module _ {c : Netlist} {k : ℕ} {old mid : List ℕ} {bytes : ℕ} {due : Group
   whole = p .in-order ∙ ap (λ (t : List Group). p .printed ++ t) (rest .begins)
 
   -- the group that is next stands in the order of the whole
-  pub due-stands : Stands k due
-  due-stands =
+  pub orderHas-due : OrderHas k due
+  orderHas-due =
       record {
         before = before ++ p .printed;
         behind = rest .behind;
@@ -84,9 +84,9 @@ module _ {c : Netlist} {k : ℕ} {old mid : List ℕ} {bytes : ℕ} {due : Group
   -- its text behind that of the others
   pub printed-next : (part : List ℕ) (n : ℕ) (next : Next)
       → Wrote (clauseText (numbersOf c k due)) (midOf bytes (length mid - bytes) mid) part n
-      → ((xs ys : List Group) → groupOrder k ≡ xs ++ due ∷ ys → next ≡ firstOf ys)
+      → ((xs ys : List Group) → groupOrder k ≡ xs ++ due ∷ ys → next ≡ firstGroup ys)
       → Printed c k old (putMid bytes (length mid - bytes) mid part) (bytes + n) next from
-  unfolding due-stands
+  unfolding orderHas-due
   printed-next part n next w follows =
       record {
         printed = p .printed ++ due ∷ [];
@@ -95,7 +95,7 @@ module _ {c : Netlist} {k : ℕ} {old mid : List ℕ} {bytes : ℕ} {due : Group
         wrote =
             subst (λ (t : List ℕ). Wrote t old (putMid bytes (length mid - bytes) mid part) (bytes + n)) (sym text)
             (wrote-then (clauseText (joined (numbersOf c k) (p .printed))) (clauseText (numbersOf c k due)) old mid part bytes n (p .wrote) w);
-        next-left = follows (due-stands .before) (due-stands .behind) (due-stands .order);
+        next-left = follows (orderHas-due .before) (orderHas-due .behind) (orderHas-due .order);
       }
     where
       text : clauseText (joined (numbersOf c k) (p .printed ++ due ∷ []))
@@ -105,11 +105,11 @@ module _ {c : Netlist} {k : ℕ} {old mid : List ℕ} {bytes : ℕ} {due : Group
           ∙ clauseText-append (joined (numbersOf c k) (p .printed)) (numbersOf c k due)
 
 -- what comes after a piece stands in the order of the whole
-pub continues-stands : (c : Netlist) (k : ℕ) (group : Group) (old new : List ℕ) (bytes : ℕ) (next : Next)
-    → Stands k group → Continues c k group old new bytes next → NextStands k next
-continues-stands c k group old new bytes (Then due) s p =
-    due-stands (s .before) (group ∷ s .behind) (s .order) (p (s .before) (s .behind) (s .order))
-continues-stands c k group old new bytes End s p = tt
+pub orderHas-next : (c : Netlist) (k : ℕ) (group : Group) (old new : List ℕ) (bytes : ℕ) (next : Next)
+    → OrderHas k group → Continues c k group old new bytes next → OrderHasNext k next
+orderHas-next c k group old new bytes (Then due) s p =
+    orderHas-due (s .before) (group ∷ s .behind) (s .order) (p (s .before) (s .behind) (s .order))
+orderHas-next c k group old new bytes End s p = tt
 
 -- the first group
 frames-begin : (n : ℕ) → Left (Wires 0) (gather (suc n) frameGroups)
@@ -121,9 +121,9 @@ frames-begin (suc n) =
       begins = ap (λ (t : List Group). t ++ frameGroups (suc n)) (frames-begin n .begins);
     }
 
-pub first-stands : (k : ℕ) → Stands k (Wires 0)
+pub orderHas-first : (k : ℕ) → OrderHas k (Wires 0)
 unfolding groupOrder
-first-stands k =
+orderHas-first k =
     record {
       before = [];
       behind = frames-begin k .behind ++ Property ∷ [];

@@ -10,7 +10,7 @@ use Rattle.model.specs.Variables.{base}
 use Rattle.model.specs.Numbers.{numbersOf, joined, formula, clausesIn}
 use Rattle.model.specs.Wrote.{Wrote}
 use Rattle.model.specs.declared.Group.{Group}
-use Rattle.unrolling.specs.Next.{firstOf}
+use Rattle.unrolling.specs.Next.{firstGroup}
 use Rattle.unrolling.specs.declared.order.Next.{Next}
 use Rattle.unrolling.specs.declared.order.Next.the-variants.{Then, End}
 use Rattle.dimacs.specs.Text.{headerText, clauseText}
@@ -20,15 +20,15 @@ unfoldable pub formulaHeader : Netlist → ℕ → List ℕ
 formulaHeader c k = headerText (base c (k + 1)) (length (clausesIn (formula c k)))
 
 -- the order of the whole has this group, between those before and those behind
-pub record Stands (k : ℕ) (group : Group) : Type 0 where
+pub record OrderHas (k : ℕ) (group : Group) : Type 0 where
   pub before : List Group
   pub behind : List Group
   pub order : groupOrder k ≡ before ++ group ∷ behind
 
--- the group that comes next, if there is one, stands there
-abbrev pub NextStands : ℕ → Next → Type 0
-NextStands k (Then g) = Stands k g
-NextStands k End = Unit {0}
+-- it has the group that comes next, if there is one
+abbrev pub OrderHasNext : ℕ → Next → Type 0
+OrderHasNext k (Then g) = OrderHas k g
+OrderHasNext k End = Unit {0}
 
 -- wherever `group` stands in the order of the whole, the text at the start of the buffer is that of the groups `printed`, which
 -- begin with it, and `next` is the first of those that are left
@@ -37,7 +37,7 @@ pub record Printed (c : Netlist) (k : ℕ) (old new : List ℕ) (bytes : ℕ) (n
   pub left : List Group
   pub in-order : due ≡ printed ++ left
   pub wrote : Wrote (clauseText (joined (numbersOf c k) printed)) old new bytes
-  pub next-left : next ≡ firstOf left
+  pub next-left : next ≡ firstGroup left
 
 abbrev pub Continues : Netlist → ℕ → Group → List ℕ → List ℕ → ℕ → Next → Type 0
 Continues c k group old new bytes next =

@@ -11,7 +11,7 @@ ghost use Rattle.netlist.specs.NetOf.{netOf};
 ghost use Rattle.text.specs.Table.{TableOrNone};
 ghost use Rattle.dimacs.specs.Text.{headerText, clauseText};
 ghost use Rattle.unrolling.specs.Next.{leftAfter, leftFrom};
-ghost use Rattle.stream.specs.Pieces.{formulaHeader, Stands, Continues};
+ghost use Rattle.stream.specs.Pieces.{formulaHeader, OrderHas, Continues};
 
 // The first `bytes` bytes of a buffer are text to be printed; the group after those printed.
 pub struct Piece {
@@ -38,7 +38,7 @@ pub fn print_header(
     requires { ⌜ Accepted (netOf net (now latches) (now gates)) × (depth ≤ 255) × (28 ≤ length (now text)) ⌝ }
     ensures { λ r. ⌜ Wrote (formulaHeader (netOf net (now (latches .entry)) (now (gates .entry))) depth) (now (text .entry)) (now (text .exit)) r × (r ≤ 28) ⌝ }
 {
-    let variables = places::frame_base(net, depth + 1);
+    let variables = variables::frame_base(net, depth + 1);
     let clauses = unrolling::lengths::clause_count(net, latches, gates, depth);
     print_counts(text, variables, clauses)
 }
@@ -55,7 +55,7 @@ fn print_group(
     depth: u32,
     group: Group,
 ) -> usize
-    requires { ⌜ Accepted (netOf net (now latches) (now gates)) × (depth ≤ 255) × Stands depth group
+    requires { ⌜ Accepted (netOf net (now latches) (now gates)) × (depth ≤ 255) × OrderHas depth group
         × TableOrNone (now table) × (5992 ≤ length (now numbers)) × (71904 ≤ length (now text)) ⌝ }
     ensures { λ r. ⌜ Wrote (clauseText (numbersOf (netOf net (now (latches .entry)) (now (gates .entry))) depth group)) (now (text .entry)) (now (text .exit)) r × (r ≤ 71904) ⌝ }
 {
@@ -74,7 +74,7 @@ pub fn print_groups(
     depth: u32,
     group: Group,
 ) -> Piece
-    requires { ⌜ Accepted (netOf net (now latches) (now gates)) × (depth ≤ 255) × Stands depth group
+    requires { ⌜ Accepted (netOf net (now latches) (now gates)) × (depth ≤ 255) × OrderHas depth group
         × TableOrNone (now table) × (5992 ≤ length (now numbers)) × (71904 ≤ length (now text)) ⌝ }
     ensures text { λ r. ⌜ Continues (netOf net (now (latches .entry)) (now (gates .entry))) depth group (now (text .entry)) (now (text .exit)) (r .bytes) (r .next) ⌝ }
     ensures ends { λ r. ⌜ leftFrom depth (r .next) ≤ leftAfter depth group ⌝ }

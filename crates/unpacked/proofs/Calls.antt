@@ -40,11 +40,11 @@ pub numbers-suffice : (c : Netlist) (k : ℕ) → Accepted c → k ≤ 255 → t
 unfolding testNumbers
 numbers-suffice c k ok d =
     refuseIf-passes (ltb 2147483647 (base c (k + 1))) _ 0 .1
-    (le-ltb 2147483647 (base c (k + 1)) (omega (arith, base-most c (ok .sizes) (k + 1) (omega arith))))
+    (le-ltb 2147483647 (base c (k + 1)) (omega (arith, base-most c (ok .limits .sizes) (k + 1) (omega arith))))
 
 pub variables-fit : (c : Netlist) (k v : ℕ) → Accepted c → k ≤ 255 → v ≡ base c (k + 1) → 2147483647 < v → ⊥
 variables-fit c k v ok d e h =
-    let most : base c (k + 1) ≤ 675841 = base-most c (ok .sizes) (k + 1) (omega arith) in
+    let most : base c (k + 1) ≤ 675841 = base-most c (ok .limits .sizes) (k + 1) (omega arith) in
     omega arith
 
 module _ (c : Netlist) (latchCount gateCount k : ℕ) (heads : headingVerdict c latchCount gateCount k ≡ Passed) where
@@ -88,9 +88,9 @@ module _ (c : Netlist) (latchCount gateCount k : ℕ) (heads : headingVerdict c 
       record {
         calls-formula = λ slice enough.
             joined-same (all-weaken (λ g there. group-numbers g (slice g) there (enough g there)) (order-inDepth k));
-        formula-encodes = encodes accepted k;
-        formula-stated = stated accepted k;
-        variables-most = base-most c (accepted .sizes) (k + 1) (omega (arith, depth-passes k (rest-passed .0)));
+        formula-encodes = encodes c accepted k;
+        formula-stated = stated c accepted k;
+        variables-most = base-most c (accepted .limits .sizes) (k + 1) (omega (arith, depth-passes k (rest-passed .0)));
       }
 
 -- which test of a heading call decides

@@ -45,7 +45,7 @@ pub fn heading(
     if 255 < depth {
         return HeadingAnswer::Refused(Refusal::Depth, 0);
     }
-    let variables = places::frame_base(net, depth + 1);
+    let variables = variables::frame_base(net, depth + 1);
     if 2147483647 < variables {
         return HeadingAnswer::Refused(Refusal::OutOfNumbers, 0);
     }
@@ -95,7 +95,7 @@ fn test_group(
     if !is_in_depth(depth, group) {
         return Verdict::Refused(Refusal::NoSuchGroup, 0);
     }
-    if 2147483647 < places::frame_base(net, depth + 1) {
+    if 2147483647 < variables::frame_base(net, depth + 1) {
         return Verdict::Refused(Refusal::OutOfNumbers, 0);
     }
     let need = unrolling::lengths::group_length(net, latches, gates, depth, group);

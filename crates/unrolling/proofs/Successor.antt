@@ -12,7 +12,7 @@ use Rattle.model.specs.Clauses.{gather, gatherDown}
 use Rattle.model.specs.Groups.{pairOf, frameGroups, groupOrder}
 use Rattle.model.specs.declared.Group.{Group}
 use Rattle.model.specs.declared.Group.the-variants.{Wires, Pair, Closing, Property}
-use Rattle.unrolling.specs.Next.{firstOf, leftAfter, leftFrom}
+use Rattle.unrolling.specs.Next.{firstGroup, leftAfter, leftFrom}
 use Rattle.unrolling.specs.declared.order.Next.{Next}
 use Rattle.unrolling.specs.declared.order.Next.the-variants.{Then, End}
 
@@ -94,11 +94,11 @@ order-linked k =
     (refl, tt)
 
 -- wherever a group stands in the order of the whole, its successor comes next
-pub successor-next : (k : ℕ) (g : Group) (xs ys : List Group) → groupOrder k ≡ xs ++ g ∷ ys → successor k g ≡ firstOf ys
+pub successor-next : (k : ℕ) (g : Group) (xs ys : List Group) → groupOrder k ≡ xs ++ g ∷ ys → successor k g ≡ firstGroup ys
 successor-next k g xs ys h =
     linked-at k End xs g ys (subst (Linked k End) h (order-linked k)) ∙ first-end ys
   where
-    first-end : (ys : List Group) → firstOr End ys ≡ firstOf ys
+    first-end : (ys : List Group) → firstOr End ys ≡ firstGroup ys
     first-end [] = refl
     first-end (y ∷ ys) = refl
 
@@ -125,7 +125,7 @@ successor-left k Property = omega arith
 
 -- both, for a group known by its kind
 pub follows : (k : ℕ) (g g′ : Group) (r : Next) → g ≡ g′ → successor k g′ ≡ r
-    → ((xs ys : List Group) → groupOrder k ≡ xs ++ g ∷ ys → r ≡ firstOf ys) × (leftFrom k r ≤ leftAfter k g)
+    → ((xs ys : List Group) → groupOrder k ≡ xs ++ g ∷ ys → r ≡ firstGroup ys) × (leftFrom k r ≤ leftAfter k g)
 follows k g g′ r e h =
     (λ xs ys o. sym answer ∙ successor-next k g xs ys o, subst (λ (n : Next). leftFrom k n ≤ leftAfter k g) answer (successor-left k g))
   where

@@ -1,4 +1,5 @@
--- What stands first in a list of groups, and that the walk from group to group ends. Cited by `next_group`. Assumes nothing.
+-- What stands first in a list of groups, and that the walk from group to group ends. Cited by `next_group` and by the text of a
+-- depth. Assumes nothing.
 use Prim.Native.Nat.{ℕ, _+_, _-_, _*_}
 use mathlib.Core.List.{List, [], _∷_}
 use Rattle.model.specs.declared.Group.{Group}
@@ -6,9 +7,9 @@ use Rattle.model.specs.declared.Group.the-variants.{Wires, Pair, Closing, Prope
 use Rattle.unrolling.specs.declared.order.Next.{Next}
 use Rattle.unrolling.specs.declared.order.Next.the-variants.{Then, End}
 
-abbrev pub firstOf : List Group → Next
-firstOf [] = End
-firstOf (g ∷ gs) = Then g
+abbrev pub firstGroup : List Group → Next
+firstGroup [] = End
+firstGroup (g ∷ gs) = Then g
 
 -- at most so many groups follow at depth k: k + 3 for each later frame, those of its own frame, and the property
 abbrev pub leftAfter : ℕ → Group → ℕ

@@ -3,7 +3,7 @@ ghost use mathlib.Core.Path.{_≡_};
 ghost use Prim.Native.Nat.{_≤_};
 ghost use mathlib.Core.List.{List, _∷_, _++_};
 ghost use Rattle.model.specs.Groups.{groupOrder};
-ghost use Rattle.unrolling.specs.Next.{firstOf, leftAfter, leftFrom};
+ghost use Rattle.unrolling.specs.Next.{firstGroup, leftAfter, leftFrom};
 use model::Group;
 
 // What comes after a group in the order of the whole.
@@ -14,7 +14,7 @@ pub enum Next {
 
 // The group that follows `group` in the order of the whole at this depth.
 pub fn next_group(depth: u32, group: Group) -> Next
-    ensures follows { λ r. ⌜ ((xs ys : List Group) → groupOrder depth ≡ xs ++ group ∷ ys → r ≡ firstOf ys) ⌝ }
+    ensures follows { λ r. ⌜ ((xs ys : List Group) → groupOrder depth ≡ xs ++ group ∷ ys → r ≡ firstGroup ys) ⌝ }
     ensures ends { λ r. ⌜ leftFrom depth r ≤ leftAfter depth group ⌝ }
 {
     match group {

@@ -3,28 +3,28 @@
 use Prim.Native.Nat.{ℕ, zero, suc, _+_, _*_}
 use mathlib.Core.Path.{_≡_, refl, _∙_, ap₂, ap}
 use mathlib.Core.List.{List, [], _∷_, _++_}
+use native.Mathlib.Nat.{add-zero}
 use lib.IntN.{ℤ}
 use lib.ListN.{length, getD, length-append}
+use Rattle.model.specs.Netlist.{gateWire}
 use Rattle.model.specs.Clauses.{Clause, plus, gather, andClauses}
 use Rattle.model.specs.Variables.{base, wireAt, codeAt}
 use Rattle.model.specs.Groups.{resetClause, latchClauses, gateClauses, stateClauses, clausesOf}
 use Rattle.model.specs.Numbers.{written, numbersOf}
 use Rattle.model.specs.declared.Group.the-variants.{Wires}
 use Rattle.model.proofs.Joined.{written-append}
-use Rattle.netlist.specs.NetOf.{netOf}
+use Rattle.netlist.specs.NetOf.{netOf, alone}
 use Rattle.netlist.specs.declared.Netlist.{Netlist}
-use Rattle.places.specs.Alone.{alone}
 use Rattle.writer.proofs.Turns.{written-gather, gather-same}
 
 -- gate g
 abbrev pub gateAt : ℕ → ℕ → List ℕ → ℕ → List ℤ
 gateAt b first gs g = written (andClauses (wireAt b (first + g)) (codeAt b (getD gs (2 * g) 0)) (codeAt b (getD gs (2 * g + 1) 0)))
 
-pub all-gates : (net : Netlist) (gs : List ℕ) (i n : ℕ) {b : ℕ} → b ≡ base (alone net) i
-    → written (gather n (gateClauses (netOf net [] gs) i))
-    ≡ gather n (gateAt b (1 + net .inputs + net .latches + net .n) gs)
-unfolding gateClauses base alone netOf
-all-gates net gs i n e = rw (written-gather n (gateClauses (netOf net [] gs) i), e)
+pub all-gates : (net : Netlist) (gs : List ℕ) (i n : ℕ) {b first : ℕ} → b ≡ base (alone net) i → first ≡ gateWire (alone net) 0
+    → written (gather n (gateClauses (netOf net [] gs) i)) ≡ gather n (gateAt b first gs)
+unfolding gateClauses base netOf
+all-gates net gs i n e f = rw (written-gather n (gateClauses (netOf net [] gs) i), e, f, add-zero)
 
 -- latches do not look at the gates
 state-without-gates : (net : Netlist) (ls gs : List ℕ) (i : ℕ) → stateClauses (netOf net ls gs) i ≡ stateClauses (netOf net ls []) i

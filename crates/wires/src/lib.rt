@@ -13,7 +13,7 @@ ghost use Rattle.model.specs.Numbers.{written, numbersOf};
 ghost use Rattle.model.specs.declared.Group.the-variants.{Wires};
 ghost use Rattle.literals.specs.Lit.{HasNumber};
 ghost use Rattle.netlist.specs.NetOf.{netOf};
-ghost use Rattle.places.specs.ListsFit.{ListsFit};
+ghost use Rattle.variables.specs.FrameFits.{FrameFits};
 ghost use Rattle.model.specs.Wrote.{Wrote};
 
 // A gate in a frame that starts after b.
@@ -28,13 +28,13 @@ fn put_gate(out: &mut [i32], b: u32, g: Wire, left: Code, right: Code) -> usize
 
 // Each gate in frame i, in wire order.
 fn put_gates(out: &mut [i32], net: Netlist, gates: &[u32; 1200], i: u32) -> usize
-    requires { ⌜ ListsFit (netOf net [] (now gates)) i
+    requires { ⌜ FrameFits (netOf net [] (now gates)) i
         × (length (written (gather (net .gates) (gateClauses (netOf net [] (now gates)) i))) ≤ length (now out)) ⌝ }
     ensures { λ r. ⌜ Wrote (written (gather (net .gates) (gateClauses (netOf net [] (now (gates .entry))) i)))
         (now (out .entry)) (now (out .exit)) r ⌝ }
 {
-    let b = places::frame_base(net, i);
-    let first = 1 + net.inputs + net.latches + net.n;
+    let b = variables::frame_base(net, i);
+    let first = netlist::first_gate_wire(net);
     let n = net.gates;
     let mut at: usize = 0;
     let mut g: u32 = 0;
@@ -55,7 +55,7 @@ pub fn put_wires(
     gates: &[u32; 1200],
     i: u32,
 ) -> usize
-    requires { ⌜ ListsFit (netOf net (now latches) (now gates)) i
+    requires { ⌜ FrameFits (netOf net (now latches) (now gates)) i
         × (length (numbersOf (netOf net (now latches) (now gates)) i (Wires i)) ≤ length (now out)) ⌝ }
     ensures { λ r. ⌜ Wrote (numbersOf (netOf net (now (latches .entry)) (now (gates .entry))) i (Wires i))
         (now (out .entry)) (now (out .exit)) r ⌝ }

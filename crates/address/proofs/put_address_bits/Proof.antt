@@ -6,18 +6,17 @@ use Rattle.model.specs.Clauses.{bitOf}
 use Rattle.model.specs.Variables.{pairLiterals}
 use Rattle.model.specs.Numbers.{written}
 use Rattle.netlist.specs.NetOf.{codeOf, netOf}
-use Rattle.places.specs.Alone.{alone}
-use Rattle.places.specs.PortOf.{portOf}
-use Rattle.places.proofs.Room.{code-has-number, pair-has-number}
+use Rattle.variables.specs.PortOf.{portOf}
+use Rattle.variables.proofs.Room.{code-has-number, pair-has-number}
 use Rattle.writer.proofs.Turns.{Turns, written-gather, turns-start, turns-room, turns-count, turns-next, turns-end}
-use Rattle.places.specs.OfPair.{ofPair}
+use Rattle.variables.specs.OfPair.{ofPair}
 use Rattle.address.proofs.put_address_bits.Statement.{statement}
 use Rattle.address.proofs.put_address_bits.Tie as tie
 use Rattle.address.proofs.put_address_bits.Reads as reads
 use Rattle.address.proofs.put_address_bits.Lts as lts
 use Rattle.address.proofs.put_address_bit.Reads as put-address-bit-reads
-use Rattle.places.proofs.frame_base.Reads as frame-base-reads
-use Rattle.places.proofs.pair_base.Reads as pair-base-reads
+use Rattle.variables.proofs.frame_base.Reads as frame-base-reads
+use Rattle.variables.proofs.pair_base.Reads as pair-base-reads
 
 abbrev Inv-loop : tie.InvT-loop
 Inv-loop out₀ j i net port q writing reading m at₀ t₀ out at t = Turns (net .m) (λ s. written (bitOf (ofPair net port j i) s)) out₀ out t at
@@ -41,22 +40,22 @@ cast-x : tie.Need-cast-x Inv-loop μ-loop
 cast-x c = search needs
 
 mul-x : tie.Need-mul-x Inv-loop μ-loop
-unfolding alone netOf
+unfolding netOf
 mul-x c = search needs
 
 element-copy-out-x : tie.Need-element-copy-out-x Inv-loop μ-loop
-unfolding alone netOf
+unfolding netOf
 element-copy-out-x c = search needs
 
 cast-y : tie.Need-cast-y Inv-loop μ-loop
 cast-y c = search needs
 
 mul-y : tie.Need-mul-y Inv-loop μ-loop
-unfolding alone netOf
+unfolding netOf
 mul-y c = search needs
 
 element-copy-out-y : tie.Need-element-copy-out-y Inv-loop μ-loop
-unfolding alone netOf
+unfolding netOf
 element-copy-out-y c = search needs
 
 mul-put-address-bit : tie.Need-mul-put-address-bit Inv-loop μ-loop
@@ -72,7 +71,7 @@ part-put-address-bit-end : tie.Need-part-put-address-bit-end Inv-loop μ-loop
 part-put-address-bit-end c = search needs
 
 put-address-bit-requires : tie.Need-put-address-bit-requires Inv-loop μ-loop
-unfolding bitOf pairLiterals codeOf alone netOf portOf
+unfolding bitOf pairLiterals codeOf netOf portOf
 put-address-bit-requires c κs =
     let is = c .before .before .before .before .before .before .before .before .pre .0 in
     let a = c .before .before .before .before .before .before .before .before .args in
@@ -80,13 +79,13 @@ put-address-bit-requires c κs =
     let t = c .before .before .before .before .loop .t in
     rw (c .before .before .before .before .before .before .before .pair-base .ensures, c .before .before .before .before .before .before .frame-base .ensures, c .before .before .before .before .before .frame-base2 .ensures) (
       pair-has-number _ _ (is .fits) (a .j) (a .i) _ (is .earlier) (is .depth) (omega arith),
-      code-has-number _ (is .fits .sizes) (a .j) _ (omega arith) (is .fits .codes .address-fits t h),
-      code-has-number _ (is .fits .sizes) (a .i) _ (is .depth) (is .fits .port-address-fits t h),
+      code-has-number _ (is .fits .limits .sizes) (a .j) _ (omega arith) (is .fits .limits .codes .address-fits t h),
+      code-has-number _ (is .fits .limits .sizes) (a .i) _ (is .depth) (is .fits .port-address-fits t h),
       turns-room (c .before .before .before .before .loop .inv) h,
     )
 
 add-at : tie.Need-add-at Inv-loop μ-loop
-unfolding bitOf pairLiterals codeOf alone netOf portOf
+unfolding bitOf pairLiterals codeOf netOf portOf
 add-at c =
     let wrote = rw (c .before .before .before .before .before .before .before .before .before .pair-base .ensures, c .before .before .before .before .before .before .before .before .frame-base .ensures, c .before .before .before .before .before .before .before .frame-base2 .ensures) at (c .before .put-address-bit .ensures) in
     let count = turns-count (c .before .before .before .before .before .before .loop .inv) (c .before .before .before .before .before .loop-test .taken) (wrote .counted) in
@@ -99,7 +98,7 @@ loop-less : tie.Need-loop-less Inv-loop μ-loop
 loop-less c = search needs
 
 loop-again : tie.Need-loop-again Inv-loop μ-loop
-unfolding bitOf pairLiterals codeOf alone netOf portOf
+unfolding bitOf pairLiterals codeOf netOf portOf
 loop-again c =
     turns-next (c .before .before .before .before .before .before .loop .inv) (c .before .before .before .before .before .loop-test .taken)
     (rw (c .before .before .before .before .before .before .before .before .before .pair-base .ensures, c .before .before .before .before .before .before .before .before .frame-base .ensures, c .before .before .before .before .before .before .before .frame-base2 .ensures) at (c .before .put-address-bit .ensures))

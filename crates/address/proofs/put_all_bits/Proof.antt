@@ -2,13 +2,13 @@
 use mathlib.Core.List.{[], _∷_}
 use native.Mathlib.Omega.{arith}
 use borrow.Author.Needs.{needs}
-use Rattle.model.specs.Clauses.{gather, notE, allBits}
+use Rattle.model.specs.Clauses.{gather, unequalOf, allBits}
 use Rattle.model.specs.Variables.{pairLiterals}
 use Rattle.model.specs.Numbers.{written}
-use Rattle.places.proofs.Room.{pair-has-number}
+use Rattle.variables.proofs.Room.{pair-has-number}
 use Rattle.writer.proofs.Wrote.{rest-within, rest-room, wrote-then}
 use Rattle.writer.proofs.Turns.{written-clause, length-clause}
-use Rattle.places.specs.OfPair.{ofPair}
+use Rattle.variables.specs.OfPair.{ofPair}
 use Rattle.address.proofs.put_all_bits.Statement.{statement}
 use Rattle.address.proofs.put_all_bits.Tie as tie
 
@@ -24,26 +24,26 @@ put-unequal-bits-requires : tie.Need-put-unequal-bits-requires
 unfolding written allBits
 put-unequal-bits-requires c κs =
     let x = ofPair (c .before .before .before .args .net) (c .before .before .before .args .port) (c .before .before .before .args .j) (c .before .before .before .args .i) in
-    (c .before .before .before .pre .0, omega (arith, length-clause (gather (c .before .before .before .args .net .m) (notE x)) (x .E ∷ [])))
+    (c .before .before .before .pre .0, omega (arith, length-clause (gather (c .before .before .before .args .net .m) (unequalOf x)) (x .E ∷ [])))
 
 mul-put-unit : tie.Need-mul-put-unit
 unfolding written allBits
 mul-put-unit c =
     let x = ofPair (c .before .before .before .before .before .args .net) (c .before .before .before .before .before .args .port) (c .before .before .before .before .before .args .j) (c .before .before .before .before .before .args .i) in
-    let within = rest-within (c .before .put-unequal-bits .ensures) (omega (arith, length-clause (gather (c .before .before .before .before .before .args .net .m) (notE x)) (x .E ∷ []))) in
+    let within = rest-within (c .before .put-unequal-bits .ensures) (omega (arith, length-clause (gather (c .before .before .before .before .before .args .net .m) (unequalOf x)) (x .E ∷ []))) in
     search needs
 
 sub-put-unit : tie.Need-sub-put-unit
 unfolding written allBits
 sub-put-unit c =
     let x = ofPair (c .before .before .before .before .before .args .net) (c .before .before .before .before .before .args .port) (c .before .before .before .before .before .args .j) (c .before .before .before .before .before .args .i) in
-    rest-within (c .before .put-unequal-bits .ensures) (omega (arith, length-clause (gather (c .before .before .before .before .before .args .net .m) (notE x)) (x .E ∷ [])))
+    rest-within (c .before .put-unequal-bits .ensures) (omega (arith, length-clause (gather (c .before .before .before .before .before .args .net .m) (unequalOf x)) (x .E ∷ [])))
 
 part-put-unit-start : tie.Need-part-put-unit-start
 unfolding written allBits
 part-put-unit-start c =
     let x = ofPair (c .before .before .before .before .before .args .net) (c .before .before .before .before .before .args .port) (c .before .before .before .before .before .args .j) (c .before .before .before .before .before .args .i) in
-    let within = rest-within (c .before .put-unequal-bits .ensures) (omega (arith, length-clause (gather (c .before .before .before .before .before .args .net .m) (notE x)) (x .E ∷ []))) in
+    let within = rest-within (c .before .put-unequal-bits .ensures) (omega (arith, length-clause (gather (c .before .before .before .before .before .args .net .m) (unequalOf x)) (x .E ∷ []))) in
     search needs
 
 part-put-unit-end : tie.Need-part-put-unit-end
@@ -53,13 +53,13 @@ put-unit-requires : tie.Need-put-unit-requires
 unfolding written allBits
 put-unit-requires c κs =
     let x = ofPair (c .before .before .before .before .before .before .args .net) (c .before .before .before .before .before .before .args .port) (c .before .before .before .before .before .before .args .j) (c .before .before .before .before .before .before .args .i) in
-    (c .before .before .before .before .in-pair .ensures .1, rest-room (c .before .before .put-unequal-bits .ensures) (omega (arith, length-clause (gather (c .before .before .before .before .before .before .args .net .m) (notE x)) (x .E ∷ []))))
+    (c .before .before .before .before .in-pair .ensures .1, rest-room (c .before .before .put-unequal-bits .ensures) (omega (arith, length-clause (gather (c .before .before .before .before .before .before .args .net .m) (unequalOf x)) (x .E ∷ []))))
 
 add-result : tie.Need-add-result
 unfolding written allBits
 add-result c =
     let x = ofPair (c .before .before .before .before .before .before .before .before .args .net) (c .before .before .before .before .before .before .before .before .args .port) (c .before .before .before .before .before .before .before .before .args .j) (c .before .before .before .before .before .before .before .before .args .i) in
-    omega (arith, length-clause (gather (c .before .before .before .before .before .before .before .before .args .net .m) (notE x)) (x .E ∷ []))
+    omega (arith, length-clause (gather (c .before .before .before .before .before .before .before .before .args .net .m) (unequalOf x)) (x .E ∷ []))
 
 same-length : tie.Need-same-length
 same-length c = search needs
@@ -69,7 +69,7 @@ unfolding allBits pairLiterals
 returns c =
     let x = ofPair (c .before .before .before .before .before .before .before .before .args .net) (c .before .before .before .before .before .before .before .before .args .port) (c .before .before .before .before .before .before .before .before .args .j) (c .before .before .before .before .before .before .before .before .args .i) in
     let last = rw (c .before .before .before .before .before .before .in-pair .ensures .0, c .before .before .before .before .before .before .before .pair-base .ensures) at (c .before .put-unit .ensures) in
-    rw (written-clause (gather (c .before .before .before .before .before .before .before .before .args .net .m) (notE x)) (x .E ∷ [])) (wrote-then (c .before .before .before .before .put-unequal-bits .ensures) last (omega (arith, length-clause (gather (c .before .before .before .before .before .before .before .before .args .net .m) (notE x)) (x .E ∷ []))))
+    rw (written-clause (gather (c .before .before .before .before .before .before .before .before .args .net .m) (unequalOf x)) (x .E ∷ [])) (wrote-then (c .before .before .before .before .put-unequal-bits .ensures) last (omega (arith, length-clause (gather (c .before .before .before .before .before .before .before .before .args .net .m) (unequalOf x)) (x .E ∷ []))))
 
 pub put-all-bits-spec : {M : Type 1} → statement M
 put-all-bits-spec =

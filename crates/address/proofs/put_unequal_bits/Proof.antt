@@ -3,8 +3,7 @@ use Prim.Native.Nat.{_-_}
 use native.Mathlib.Omega.{arith}
 use borrow.Author.Needs.{needs}
 use Rattle.netlist.specs.NetOf.{netOf}
-use Rattle.places.specs.Alone.{alone}
-use Rattle.places.proofs.Room.{pair-has-number}
+use Rattle.variables.proofs.Room.{pair-has-number}
 use Rattle.writer.proofs.Turns.{Turns, turns-start, turns-room, turns-count, turns-next, turns-end}
 use Rattle.address.proofs.UnequalBits.{unequalBit, unequal-bits}
 use Rattle.address.proofs.put_unequal_bits.Statement.{statement}
@@ -24,11 +23,11 @@ loop-holds c =
     turns-start _ _ _ (rw (unequal-bits (c .before .args .net) (c .before .args .port) (c .before .args .j) (c .before .args .i) _ _ (c .pair-base .ensures)) at (c .before .pre .1))
 
 add-in-pair : tie.Need-add-in-pair Inv-loop μ-loop
-unfolding alone netOf
+unfolding netOf
 add-in-pair c = search needs
 
 in-pair-requires : tie.Need-in-pair-requires Inv-loop μ-loop
-unfolding alone netOf
+unfolding netOf
 in-pair-requires c κs =
     let is = c .before .before .before .pre .0 in
     (rw (c .before .before .pair-base .ensures) (pair-has-number _ _ (is .fits) _ _ _ (is .earlier) (is .depth) (omega arith)), omega arith)

@@ -1,7 +1,7 @@
 -- `closing::put_last_sources` meets its contract. Assumes nothing.
 use native.Mathlib.Omega.{arith}
 use borrow.Author.Needs.{needs}
-use Rattle.model.specs.Clauses.{gather, justS}
+use Rattle.model.specs.Clauses.{gather, selectedOf}
 use Rattle.writer.proofs.Wrote.{rest-within, rest-room, wrote-then}
 use Rattle.writer.proofs.Turns.{written-ended, length-ended}
 use Rattle.closing.specs.OfClosing.{ofClosing}
@@ -11,26 +11,26 @@ use Rattle.closing.proofs.put_last_sources.Tie as tie
 put-sources-requires : tie.Need-put-sources-requires
 put-sources-requires c κs =
     let a = c .before .args in
-    let room = length-ended (gather (a .i) (justS (ofClosing (a .net) (a .port) (a .i)))) in
+    let room = length-ended (gather (a .i) (selectedOf (ofClosing (a .net) (a .port) (a .i)))) in
     (c .before .pre .0, omega arith)
 
 mul-put-end : tie.Need-mul-put-end
 mul-put-end c =
     let a = c .before .before .before .args in
-    let room = length-ended (gather (a .i) (justS (ofClosing (a .net) (a .port) (a .i)))) in
+    let room = length-ended (gather (a .i) (selectedOf (ofClosing (a .net) (a .port) (a .i)))) in
     let within = rest-within (c .before .put-sources .ensures) (omega arith) in
     search needs
 
 sub-put-end : tie.Need-sub-put-end
 sub-put-end c =
     let a = c .before .before .before .args in
-    let room = length-ended (gather (a .i) (justS (ofClosing (a .net) (a .port) (a .i)))) in
+    let room = length-ended (gather (a .i) (selectedOf (ofClosing (a .net) (a .port) (a .i)))) in
     rest-within (c .before .put-sources .ensures) (omega arith)
 
 part-put-end-start : tie.Need-part-put-end-start
 part-put-end-start c =
     let a = c .before .before .before .args in
-    let room = length-ended (gather (a .i) (justS (ofClosing (a .net) (a .port) (a .i)))) in
+    let room = length-ended (gather (a .i) (selectedOf (ofClosing (a .net) (a .port) (a .i)))) in
     let within = rest-within (c .before .put-sources .ensures) (omega arith) in
     search needs
 
@@ -40,13 +40,13 @@ part-put-end-end c = search needs
 put-end-requires : tie.Need-put-end-requires
 put-end-requires c κs =
     let a = c .before .before .before .before .args in
-    let room = length-ended (gather (a .i) (justS (ofClosing (a .net) (a .port) (a .i)))) in
+    let room = length-ended (gather (a .i) (selectedOf (ofClosing (a .net) (a .port) (a .i)))) in
     rest-room (c .before .before .put-sources .ensures) (omega arith)
 
 add-result : tie.Need-add-result
 add-result c =
     let a = c .before .before .before .before .before .before .args in
-    let room = length-ended (gather (a .i) (justS (ofClosing (a .net) (a .port) (a .i)))) in
+    let room = length-ended (gather (a .i) (selectedOf (ofClosing (a .net) (a .port) (a .i)))) in
     omega arith
 
 same-length : tie.Need-same-length
@@ -55,8 +55,8 @@ same-length c = search needs
 returns : tie.Need-returns
 returns c =
     let a = c .before .before .before .before .before .before .args in
-    let room = length-ended (gather (a .i) (justS (ofClosing (a .net) (a .port) (a .i)))) in
-    rw (written-ended (gather (a .i) (justS (ofClosing (a .net) (a .port) (a .i))))) (wrote-then (c .before .before .before .before .put-sources .ensures) (c .before .put-end .ensures) (omega arith))
+    let room = length-ended (gather (a .i) (selectedOf (ofClosing (a .net) (a .port) (a .i)))) in
+    rw (written-ended (gather (a .i) (selectedOf (ofClosing (a .net) (a .port) (a .i))))) (wrote-then (c .before .before .before .before .put-sources .ensures) (c .before .put-end .ensures) (omega arith))
 
 pub put-last-sources-spec : {M : Type 1} → statement M
 put-last-sources-spec =

@@ -5,10 +5,9 @@ use borrow.Author.Needs.{needs}
 use Rattle.model.specs.Clauses.{neg, someSource}
 use Rattle.model.specs.Variables.{closingLiterals}
 use Rattle.model.specs.Numbers.{written}
-use Rattle.netlist.specs.NetOf.{netOf}
-use Rattle.places.specs.PortOf.{portOf}
-use Rattle.places.specs.Alone.{alone}
-use Rattle.places.proofs.Room.{code-has-number}
+use Rattle.netlist.specs.NetOf.{netOf, alone}
+use Rattle.variables.specs.PortOf.{portOf}
+use Rattle.variables.proofs.Room.{code-has-number}
 use Rattle.writer.proofs.Wrote.{rest-within, rest-room, wrote-then}
 use Rattle.closing.proofs.put_some_source.Statement.{statement}
 use Rattle.closing.proofs.put_some_source.Tie as tie
@@ -20,7 +19,7 @@ in-frame-requires : tie.Need-in-frame-requires
 unfolding portOf
 in-frame-requires c κs =
     let is = c .before .pre .0 in
-    rw (c .frame-base .ensures) (code-has-number _ (is .fits .sizes) _ _ (is .depth) (is .fits .port-RE-fits))
+    rw (c .frame-base .ensures) (code-has-number _ (is .fits .limits .sizes) _ _ (is .depth) (is .fits .port-RE-fits))
 
 none-since-requires : tie.Need-none-since-requires
 none-since-requires c κs = search needs

@@ -2,10 +2,9 @@
 use Prim.Native.Nat.{_+_, _-_}
 use native.Mathlib.Omega.{arith}
 use borrow.Author.Needs.{needs}
-use Rattle.netlist.specs.NetOf.{netOf}
-use Rattle.places.specs.Alone.{alone}
-use Rattle.places.specs.PortOf.{portOf}
-use Rattle.places.proofs.Room.{pair-has-number}
+use Rattle.netlist.specs.NetOf.{netOf, alone}
+use Rattle.variables.specs.PortOf.{portOf}
+use Rattle.variables.proofs.Room.{pair-has-number}
 use Rattle.writer.proofs.Turns.{Turns, turns-start, turns-room, turns-count, turns-next, turns-end}
 use Rattle.closing.proofs.OfClosing.{source-base, sourceAt, sources}
 use Rattle.closing.proofs.put_sources.Statement.{statement}
@@ -24,17 +23,17 @@ numbering-requires : tie.Need-numbering-requires Inv-loop μ-loop
 numbering-requires c κs = search needs
 
 add-offset : tie.Need-add-offset Inv-loop μ-loop
-unfolding alone netOf
+unfolding netOf
 add-offset c = search needs
 
 loop-holds : tie.Need-loop-holds Inv-loop μ-loop
-unfolding alone netOf
+unfolding netOf
 loop-holds c =
     let a = c .before .before .before .args in
     turns-start _ _ _ (rw (sources (a .net) (a .port) (a .i) (a .i) (c .before .before .pair-base .ensures) (c .before .numbering .ensures .1)) at (c .before .before .before .pre .1))
 
 mul-in-pair : tie.Need-mul-in-pair Inv-loop μ-loop
-unfolding alone netOf
+unfolding netOf
 mul-in-pair c =
     let a = c .before .before .before .before .before .args in
     let is = c .before .before .before .before .before .pre .0 in
@@ -43,7 +42,7 @@ mul-in-pair c =
     omega arith
 
 add-in-pair : tie.Need-add-in-pair Inv-loop μ-loop
-unfolding alone netOf
+unfolding netOf
 add-in-pair c =
     let a = c .before .before .before .before .before .args in
     let is = c .before .before .before .before .before .pre .0 in
@@ -52,7 +51,7 @@ add-in-pair c =
     omega arith
 
 in-pair-requires : tie.Need-in-pair-requires Inv-loop μ-loop
-unfolding alone netOf
+unfolding netOf
 in-pair-requires c κs =
     let a = c .before .before .before .before .before .args in
     let is = c .before .before .before .before .before .pre .0 in
@@ -95,7 +94,7 @@ same-length : tie.Need-same-length Inv-loop μ-loop
 same-length c = search needs
 
 returns : tie.Need-returns Inv-loop μ-loop
-unfolding alone netOf
+unfolding netOf
 returns c =
     let a = c .before .before .before .before .before .args in
     rw (sources (a .net) (a .port) (a .i) (a .i) (c .before .before .before .before .pair-base .ensures) (c .before .before .before .numbering .ensures .1)) (turns-end (c .before .loop .inv) (omega arith))

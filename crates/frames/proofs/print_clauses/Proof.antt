@@ -9,14 +9,14 @@ use lib.Seq.{length-take-le}
 use Rattle.text.specs.Table.{tableBelow}
 use Rattle.text.proofs.Table.{filled-table}
 use Rattle.unrolling.specs.Next.{leftFrom}
-use Rattle.stream.specs.Pieces.{NextStands}
-use Rattle.stream.proofs.Pieces.{first-stands, continues-stands}
+use Rattle.stream.specs.Pieces.{OrderHasNext}
+use Rattle.stream.proofs.Pieces.{orderHas-first, orderHas-next}
 use Rattle.frames.proofs.print_clauses.Statement.{statement}
 use Rattle.frames.proofs.print_clauses.Tie as tie
 
 abbrev Inv-loop : tie.InvT-loop
 Inv-loop net latches gates depth text₀ numbers₀ table next₀ text numbers next =
-    (length text ≡ 131072) × (length numbers ≡ 5992) × (table ≡ tableBelow 10000) × NextStands depth next
+    (length text ≡ 131072) × (length numbers ≡ 5992) × (table ≡ tableBelow 10000) × OrderHasNext depth next
 
 abbrev μ-loop : tie.MeasureT-loop
 μ-loop net latches gates depth text₀ numbers₀ table next₀ text numbers next = leftFrom depth next
@@ -30,7 +30,7 @@ fill-table-requires c κs = search needs
 loop-holds : tie.Need-loop-holds Inv-loop μ-loop
 loop-holds c =
     let filled = c .before .fill-table in
-    (search needs, search needs, filled-table _ _ (search needs) (filled .ensures), first-stands (c .before .before .before .args .depth))
+    (search needs, search needs, filled-table _ _ (search needs) (filled .ensures), orderHas-first (c .before .before .before .args .depth))
 
 enum-known-next : tie.Need-enum-known-next Inv-loop μ-loop
 enum-known-next c = search needs
@@ -76,11 +76,11 @@ loop-again c =
     let printed = c .before .before .before .before .before .print-groups in
     let told = c .before .before .before .before .before .before .before .before .before in
     let at = told .before .before .before .loop in
-    let stands = rw (told .before .next .given .1) at (at .inv .3) in (
+    let has = rw (told .before .next .given .1) at (at .inv .3) in (
       printed .kept .0 ∙ at .inv .0,
       printed .kept .1 .0 ∙ at .inv .1,
       at .inv .2,
-      continues-stands _ _ _ _ _ _ _ stands (printed .ensures .0),
+      orderHas-next _ _ _ _ _ _ _ has (printed .ensures .0),
     )
 
 enum-told : tie.Need-enum-told Inv-loop μ-loop

@@ -13,7 +13,7 @@ put-wires-requires : tie.Need-put-wires-requires
 put-wires-requires c κs =
     let p = c .before .before .before .before .pre in
     let e = c .before .before .group .given .1 in (
-      record { sizes = p .0 .sizes; codes = p .0 .codes; depth = omega (arith, wires-frame _ _ e (p .2), p .1) },
+      record { limits = p .0 .limits; depth = omega (arith, wires-frame _ _ e (p .2), p .1) },
       room-by-kind _ _ e (wires-depth _ _ _) (p .3),
     )
 
@@ -53,7 +53,7 @@ put-property-requires : tie.Need-put-property-requires
 put-property-requires c κs =
     let p = c .before .before .before .pre in
     let f = fits-alone _ _ _ (p .0) _ refl in (
-      record { sizes = f .sizes; codes = f .codes; depth = p .1 },
+      record { limits = f .limits; depth = p .1 },
       room-by-kind _ _ (c .before .enum-told .given .1) (property-alone _ _ _ _) (p .3),
     )
 

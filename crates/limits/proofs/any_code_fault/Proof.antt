@@ -1,10 +1,9 @@
 -- `limits::any_code_fault` meets its contract: it is the definition's disjunction, list by list. Assumes nothing.
 use Prim.Native.Nat.{ℕ, _+_}
 use mathlib.Core.Path.{_≡_}
-use mathlib.Core.List.{[]}
 use native.Mathlib.Omega.{arith}
 use Rattle.model.specs.Netlist.{gateWire}
-use Rattle.netlist.specs.NetOf.{netOf}
+use Rattle.netlist.specs.NetOf.{netOf, alone}
 use Rattle.netlist.specs.Faults.{codeFault}
 use Rattle.limits.specs.AnyLine.{anyLatch, anyGate, anyInPort, anyLine}
 use Rattle.limits.proofs.any_code_fault.Statement.{statement}
@@ -13,8 +12,8 @@ use Rattle.limits.proofs.any_code_fault.Tie as tie
 last-wire-requires : tie.Need-last-wire-requires
 last-wire-requires c κs = c .pre
 
-gate-wire-requires : tie.Need-gate-wire-requires
-gate-wire-requires c κs = c .before .pre
+first-gate-wire-requires : tie.Need-first-gate-wire-requires
+first-gate-wire-requires c κs = c .before .pre
 
 any-latch-requires : tie.Need-any-latch-requires
 unfolding netOf
@@ -22,7 +21,7 @@ any-latch-requires c κs = c .before .before .pre .latches-fit
 
 any-gate-requires : tie.Need-any-gate-requires
 unfolding netOf
-any-gate-requires c κs = (omega (arith, c .before .gate-wire .ensures, c .before .before .before .pre), c .before .before .before .pre .gates-fit)
+any-gate-requires c κs = (omega (arith, c .before .first-gate-wire .ensures, c .before .before .before .pre), c .before .before .before .pre .gates-fit)
 
 any-in-port-requires : tie.Need-any-in-port-requires
 any-in-port-requires c κs = c .before .before .before .before .pre
@@ -31,7 +30,7 @@ returns : tie.Need-returns
 unfolding netOf codeFault anyLatch anyGate anyInPort anyLine
 returns c =
     let net = c .before .before .before .before .before .args .net in
-    let own : (g : ℕ) → c .before .before .before .gate-wire .result + g ≡ gateWire (netOf net [] []) g = λ g. omega (arith, c .before .before .before .gate-wire .ensures) in
+    let own : (g : ℕ) → c .before .before .before .first-gate-wire .result + g ≡ gateWire (alone net) g = λ g. omega (arith, c .before .before .before .first-gate-wire .ensures) in
     rw (c .before .before .any-latch .ensures, c .before .any-gate .ensures, c .any-in-port .ensures, c .before .before .before .before .last-wire .ensures)
     (simp own)
 
@@ -40,7 +39,7 @@ any-code-fault-spec =
     tie.close
     (tie.spec
     last-wire-requires
-    gate-wire-requires
+    first-gate-wire-requires
     any-latch-requires
     any-gate-requires
     any-in-port-requires

@@ -1,12 +1,11 @@
 -- `netlist::code_fault` meets its contract: each arm knows its line, whose number is below its size. Assumes nothing.
 use Prim.Native.Nat.{_+_}
 use mathlib.Core.Path.{_≡_, subst}
-use mathlib.Core.List.{[]}
 use borrow.Author.Needs.{needs}
 use native.Mathlib.Omega.{arith}
 use Rattle.model.specs.Netlist.{gateWire}
-use Rattle.netlist.specs.NetOf.{codeOf, netOf}
-use Rattle.netlist.specs.Lines.{Stands}
+use Rattle.netlist.specs.NetOf.{codeOf, netOf, alone}
+use Rattle.netlist.specs.Lines.{HasLine}
 use Rattle.netlist.specs.Faults.{codeFault}
 use Rattle.netlist.proofs.code_fault.Statement.{statement}
 use Rattle.netlist.proofs.code_fault.Tie as tie
@@ -33,7 +32,7 @@ mul-t17 : tie.Need-mul-t17
 mul-t17 c = search needs
 
 element-copy-out-t20 : tie.Need-element-copy-out-t20
-element-copy-out-t20 c = omega (arith, subst (Stands (netOf (c .before .before .before .before .args .t1) [] [])) (c .before .line .given .1) (c .before .before .before .before .pre .1), c .before .before .before .before .pre .0 .latches-fit)
+element-copy-out-t20 c = omega (arith, subst (HasLine (alone (c .before .before .before .before .args .t1))) (c .before .line .given .1) (c .before .before .before .before .pre .1), c .before .before .before .before .pre .0 .latches-fit)
 
 add-latch-fault : tie.Need-add-latch-fault
 add-latch-fault c = search needs
@@ -42,7 +41,7 @@ mul-latch-fault : tie.Need-mul-latch-fault
 mul-latch-fault c = search needs
 
 element-copy-out-latch-fault : tie.Need-element-copy-out-latch-fault
-element-copy-out-latch-fault c = omega (arith, subst (Stands (netOf (c .before .before .before .before .before .args .t1) [] [])) (c .before .before .line .given .1) (c .before .before .before .before .before .pre .1), c .before .before .before .before .before .pre .0 .latches-fit)
+element-copy-out-latch-fault c = omega (arith, subst (HasLine (alone (c .before .before .before .before .before .args .t1))) (c .before .before .line .given .1) (c .before .before .before .before .before .pre .1), c .before .before .before .before .before .pre .0 .latches-fit)
 
 latch-fault-requires : tie.Need-latch-fault-requires
 latch-fault-requires c κs = tt
@@ -56,18 +55,18 @@ cast-at-2 c = search needs
 mul-at-2 : tie.Need-mul-at-2
 mul-at-2 c = search needs
 
-gate-wire-requires : tie.Need-gate-wire-requires
-gate-wire-requires c κs = c .before .before .before .before .pre .0
+first-gate-wire-requires : tie.Need-first-gate-wire-requires
+first-gate-wire-requires c κs = c .before .before .before .before .pre .0
 
 add-gate-fault : tie.Need-add-gate-fault
 unfolding netOf
-add-gate-fault c = omega (arith, c .gate-wire .ensures, subst (Stands (netOf (c .before .before .before .before .before .args .t1) [] [])) (c .before .before .line2 .given .1) (c .before .before .before .before .before .pre .1), c .before .before .before .before .before .pre .0)
+add-gate-fault c = omega (arith, c .first-gate-wire .ensures, subst (HasLine (alone (c .before .before .before .before .before .args .t1))) (c .before .before .line2 .given .1) (c .before .before .before .before .before .pre .1), c .before .before .before .before .before .pre .0)
 
 mul-t27 : tie.Need-mul-t27
 mul-t27 c = search needs
 
 element-copy-out-t33 : tie.Need-element-copy-out-t33
-element-copy-out-t33 c = omega (arith, subst (Stands (netOf (c .before .before .before .before .before .args .t1) [] [])) (c .before .before .line2 .given .1) (c .before .before .before .before .before .pre .1), c .before .before .before .before .before .pre .0 .gates-fit)
+element-copy-out-t33 c = omega (arith, subst (HasLine (alone (c .before .before .before .before .before .args .t1))) (c .before .before .line2 .given .1) (c .before .before .before .before .before .pre .1), c .before .before .before .before .before .pre .0 .gates-fit)
 
 add-t35 : tie.Need-add-t35
 add-t35 c = search needs
@@ -76,7 +75,7 @@ mul-t36 : tie.Need-mul-t36
 mul-t36 c = search needs
 
 element-copy-out-t39 : tie.Need-element-copy-out-t39
-element-copy-out-t39 c = omega (arith, subst (Stands (netOf (c .before .before .before .before .before .before .args .t1) [] [])) (c .before .before .before .line2 .given .1) (c .before .before .before .before .before .before .pre .1), c .before .before .before .before .before .before .pre .0 .gates-fit)
+element-copy-out-t39 c = omega (arith, subst (HasLine (alone (c .before .before .before .before .before .before .args .t1))) (c .before .before .before .line2 .given .1) (c .before .before .before .before .before .before .pre .1), c .before .before .before .before .before .before .pre .0 .gates-fit)
 
 gate-fault-requires : tie.Need-gate-fault-requires
 gate-fault-requires c κs = tt
@@ -91,7 +90,7 @@ mul-is-code-outside : tie.Need-mul-is-code-outside
 mul-is-code-outside c = search needs
 
 element-copy-out-is-code-outside : tie.Need-element-copy-out-is-code-outside
-element-copy-out-is-code-outside c = omega (arith, subst (Stands (netOf (c .before .before .before .before .args .t1) [] [])) (c .before .line3 .given .1) (c .before .before .before .before .pre .1), c .before .before .before .before .pre .0 .m-most)
+element-copy-out-is-code-outside c = omega (arith, subst (HasLine (alone (c .before .before .before .before .args .t1))) (c .before .line3 .given .1) (c .before .before .before .before .pre .1), c .before .before .before .before .pre .0 .m-most)
 
 is-code-outside-requires : tie.Need-is-code-outside-requires
 is-code-outside-requires c κs = tt
@@ -106,7 +105,7 @@ mul-is-code-outside-2 : tie.Need-mul-is-code-outside-2
 mul-is-code-outside-2 c = search needs
 
 element-copy-out-is-code-outside-2 : tie.Need-element-copy-out-is-code-outside-2
-element-copy-out-is-code-outside-2 c = omega (arith, subst (Stands (netOf (c .before .before .before .before .args .t1) [] [])) (c .before .line4 .given .1) (c .before .before .before .before .pre .1), c .before .before .before .before .pre .0 .n-most)
+element-copy-out-is-code-outside-2 c = omega (arith, subst (HasLine (alone (c .before .before .before .before .args .t1))) (c .before .line4 .given .1) (c .before .before .before .before .pre .1), c .before .before .before .before .pre .0 .n-most)
 
 is-code-outside-requires-2 : tie.Need-is-code-outside-requires-2
 is-code-outside-requires-2 c κs = tt
@@ -139,7 +138,7 @@ returns-4 : tie.Need-returns-4
 unfolding netOf codeFault
 returns-4 c =
     let g = c .before .before .before .before .before .line2 .given .0 .0 in
-    let own : c .before .before .before .gate-wire .result + g ≡ gateWire (netOf (c .before .before .before .before .before .before .before .before .args .t1) [] []) g = omega (arith, c .before .before .before .gate-wire .ensures) in
+    let own : c .before .before .before .first-gate-wire .result + g ≡ gateWire (alone (c .before .before .before .before .before .before .before .before .args .t1)) g = omega (arith, c .before .before .before .first-gate-wire .ensures) in
     rw (c .before .before .before .before .before .line2 .given .1, c .gate-fault .ensures, own)
 
 returns-5 : tie.Need-returns-5
@@ -173,7 +172,7 @@ code-fault-spec =
     enum-known-line-2
     cast-at-2
     mul-at-2
-    gate-wire-requires
+    first-gate-wire-requires
     add-gate-fault
     mul-t27
     element-copy-out-t33

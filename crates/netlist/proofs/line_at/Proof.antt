@@ -1,9 +1,8 @@
 -- `netlist::line_at` meets its contract: the tests put the place between the first lines of two kinds. Assumes nothing.
 use Prim.Native.Nat.{_+_, _-_}
 use mathlib.Core.Path.{sym}
-use mathlib.Core.List.{[]}
 use native.Mathlib.Omega.{arith}
-use Rattle.netlist.specs.NetOf.{netOf}
+use Rattle.netlist.specs.NetOf.{netOf, alone}
 use Rattle.netlist.proofs.Lines.{at-sizes, at-memory, at-latch, at-gate, at-address, at-data, at-control}
 use Rattle.netlist.proofs.line_at.Statement.{statement}
 use Rattle.netlist.proofs.line_at.Tie as tie
@@ -24,31 +23,31 @@ returns : tie.Need-returns
 unfolding netOf
 returns c =
     let a = c .before .before .before .before .args in
-    sym (at-sizes (netOf (a .net) [] []) (a .place) (omega arith))
+    sym (at-sizes (alone (a .net)) (a .place) (omega arith))
 
 returns-2 : tie.Need-returns-2
 unfolding netOf
 returns-2 c =
     let a = c .before .before .before .before .before .args in
-    sym (at-memory (netOf (a .net) [] []) (a .place) (omega arith))
+    sym (at-memory (alone (a .net)) (a .place) (omega arith))
 
 returns-3 : tie.Need-returns-3
 unfolding netOf
 returns-3 c =
     let a = c .before .before .before .before .before .before .args in
-    sym (at-latch (netOf (a .net) [] []) (a .place) (a .place - 3) (omega arith) (omega arith))
+    sym (at-latch (alone (a .net)) (a .place) (a .place - 3) (omega arith) (omega arith))
 
 returns-4 : tie.Need-returns-4
 unfolding netOf
 returns-4 c =
     let a = c .before .before .before .before .before .before .before .args in
-    sym (at-gate (netOf (a .net) [] []) (a .place) (a .place - (3 + a .net .latches)) (omega arith) (omega arith))
+    sym (at-gate (alone (a .net)) (a .place) (a .place - (3 + a .net .latches)) (omega arith) (omega arith))
 
 returns-5 : tie.Need-returns-5
 unfolding netOf
 returns-5 c =
     let a = c .before .before .before .before .before .before .before .before .args in
-    sym (at-address (netOf (a .net) [] []) (a .place) (a .place - (3 + a .net .latches + a .net .gates)) (omega arith) (omega arith))
+    sym (at-address (alone (a .net)) (a .place) (a .place - (3 + a .net .latches + a .net .gates)) (omega arith) (omega arith))
 
 add-if6 : tie.Need-add-if6
 unfolding netOf
@@ -58,13 +57,13 @@ returns-6 : tie.Need-returns-6
 unfolding netOf
 returns-6 c =
     let a = c .before .before .before .before .before .before .before .before .before .before .args in
-    sym (at-data (netOf (a .net) [] []) (a .place) (a .place - (3 + a .net .latches + a .net .gates + a .net .m)) (omega arith) (omega arith))
+    sym (at-data (alone (a .net)) (a .place) (a .place - (3 + a .net .latches + a .net .gates + a .net .m)) (omega arith) (omega arith))
 
 returns-7 : tie.Need-returns-7
 unfolding netOf
 returns-7 c =
     let a = c .before .before .before .before .before .before .before .before .before .before .args in
-    sym (at-control (netOf (a .net) [] []) (a .place) (omega arith))
+    sym (at-control (alone (a .net)) (a .place) (omega arith))
 
 pub line-at-spec : {M : Type 1} → statement M
 line-at-spec =

@@ -3,9 +3,8 @@ use Prim.Native.Nat.{_-_}
 use native.Mathlib.Omega.{arith}
 use borrow.Author.Needs.{needs}
 use Rattle.netlist.specs.NetOf.{codeOf, netOf}
-use Rattle.places.specs.Alone.{alone}
-use Rattle.places.specs.PortOf.{portOf}
-use Rattle.places.proofs.Room.{wire-has-number, code-has-number}
+use Rattle.variables.specs.PortOf.{portOf}
+use Rattle.variables.proofs.Room.{wire-has-number, code-has-number}
 use Rattle.literals.specs.Lit.{literalOf}
 use Rattle.writer.proofs.Turns.{Turns, turns-start, turns-room, turns-count, turns-next, turns-end}
 use Rattle.pair.proofs.OfPair.{forwardedBit, forwarded-bits}
@@ -27,29 +26,24 @@ frame-base-requires c κs = search needs
 frame-base-requires-2 : tie.Need-frame-base-requires-2 Inv-loop μ-loop
 frame-base-requires-2 c κs = search needs
 
-add-first : tie.Need-add-first Inv-loop μ-loop
-unfolding alone netOf portOf
-add-first c = search needs
-
-add-first-2 : tie.Need-add-first-2 Inv-loop μ-loop
-unfolding alone netOf portOf
-add-first-2 c = search needs
+first-read-wire-requires : tie.Need-first-read-wire-requires Inv-loop μ-loop
+first-read-wire-requires c κs = c .before .before .before .pre .0 .fits .limits .sizes
 
 loop-holds : tie.Need-loop-holds Inv-loop μ-loop
 loop-holds c =
-    let a = c .before .before .before .args in
-    turns-start _ _ _ (rw (forwarded-bits (a .t2) (a .port) (a .j) (a .i) _ (c .before .before .selected .ensures .0) (c .frame-base2 .ensures) (c .before .frame-base .ensures)) at (c .before .before .before .pre .1))
+    let a = c .before .before .before .before .args in
+    turns-start _ _ _ (rw (forwarded-bits (a .t2) (a .port) (a .j) (a .i) _ (c .before .before .before .selected .ensures .0) (c .before .frame-base2 .ensures) (c .before .before .frame-base .ensures) (c .first-read-wire .ensures)) at (c .before .before .before .before .pre .1))
 
 cast-wd : tie.Need-cast-wd Inv-loop μ-loop
-unfolding alone netOf portOf
+unfolding netOf portOf
 cast-wd c = search needs
 
 mul-wd : tie.Need-mul-wd Inv-loop μ-loop
-unfolding alone netOf portOf
+unfolding netOf portOf
 mul-wd c = search needs
 
 element-copy-out-wd : tie.Need-element-copy-out-wd Inv-loop μ-loop
-unfolding alone netOf portOf
+unfolding netOf portOf
 element-copy-out-wd c = search needs
 
 mul-put-forwarded-bit : tie.Need-mul-put-forwarded-bit Inv-loop μ-loop
@@ -64,29 +58,29 @@ part-put-forwarded-bit-start c = search needs
 part-put-forwarded-bit-end : tie.Need-part-put-forwarded-bit-end Inv-loop μ-loop
 part-put-forwarded-bit-end c = search needs
 
-add-t30 : tie.Need-add-t30 Inv-loop μ-loop
-unfolding alone netOf portOf
-add-t30 c = search needs
+add-t27 : tie.Need-add-t27 Inv-loop μ-loop
+unfolding netOf portOf
+add-t27 c = search needs
 
-add-t31 : tie.Need-add-t31 Inv-loop μ-loop
-unfolding alone netOf portOf
-add-t31 c = search needs
+add-t28 : tie.Need-add-t28 Inv-loop μ-loop
+unfolding netOf portOf
+add-t28 c = search needs
 
 put-forwarded-bit-requires : tie.Need-put-forwarded-bit-requires Inv-loop μ-loop
-unfolding codeOf alone netOf portOf
+unfolding codeOf netOf portOf
 put-forwarded-bit-requires c κs =
-    let is = c .before .before .before .before .before .before .before .pre .0 in
+    let is = c .before .before .before .before .before .before .before .before .pre .0 in
     let t = c .before .before .before .loop .t in
     let h = c .before .before .loop-test .taken in (
-      c .before .before .before .before .before .before .selected .ensures .1,
-      rw (c .before .before .before .before .frame-base2 .ensures) (wire-has-number _ (is .fits .sizes) _ _ (is .depth) (omega arith)),
+      c .before .before .before .before .before .before .before .selected .ensures .1,
+      rw (c .before .before .before .before .before .frame-base2 .ensures) (wire-has-number _ (is .fits .limits .sizes) _ _ (is .depth) (omega arith)),
       omega arith,
-      rw (c .before .before .before .before .before .frame-base .ensures) (code-has-number _ (is .fits .sizes) _ _ (omega arith) (is .fits .codes .data-fits t h)),
+      rw (c .before .before .before .before .before .before .frame-base .ensures) (code-has-number _ (is .fits .limits .sizes) _ _ (omega arith) (is .fits .limits .codes .data-fits t h)),
       turns-room (c .before .before .before .loop .inv) h,
     )
 
 add-at : tie.Need-add-at Inv-loop μ-loop
-unfolding codeOf alone netOf portOf
+unfolding codeOf netOf portOf
 add-at c =
     let count = turns-count (c .before .before .before .before .before .loop .inv) (c .before .before .before .before .loop-test .taken) (c .before .put-forwarded-bit .ensures .counted) in
     search needs
@@ -98,7 +92,7 @@ loop-less : tie.Need-loop-less Inv-loop μ-loop
 loop-less c = search needs
 
 loop-again : tie.Need-loop-again Inv-loop μ-loop
-unfolding codeOf alone netOf portOf
+unfolding codeOf netOf portOf
 loop-again c =
     turns-next (c .before .before .before .before .before .loop .inv) (c .before .before .before .before .loop-test .taken) (c .before .put-forwarded-bit .ensures)
 
@@ -107,8 +101,8 @@ same-length c = search needs
 
 returns : tie.Need-returns Inv-loop μ-loop
 returns c =
-    let a = c .before .before .before .before .before .args in
-    rw (forwarded-bits (a .t2) (a .port) (a .j) (a .i) _ (c .before .before .before .before .selected .ensures .0) (c .before .before .frame-base2 .ensures) (c .before .before .before .frame-base .ensures)) (turns-end (c .before .loop .inv) (omega arith))
+    let a = c .before .before .before .before .before .before .args in
+    rw (forwarded-bits (a .t2) (a .port) (a .j) (a .i) _ (c .before .before .before .before .before .selected .ensures .0) (c .before .before .before .frame-base2 .ensures) (c .before .before .before .before .frame-base .ensures) (c .before .before .first-read-wire .ensures)) (turns-end (c .before .loop .inv) (omega arith))
 
 pub put-forwarded-spec : {M : Type 1} → statement M
 put-forwarded-spec =
@@ -119,8 +113,7 @@ put-forwarded-spec =
     selected-requires
     frame-base-requires
     frame-base-requires-2
-    add-first
-    add-first-2
+    first-read-wire-requires
     loop-holds
     cast-wd
     mul-wd
@@ -129,8 +122,8 @@ put-forwarded-spec =
     sub-put-forwarded-bit
     part-put-forwarded-bit-start
     part-put-forwarded-bit-end
-    add-t30
-    add-t31
+    add-t27
+    add-t28
     put-forwarded-bit-requires
     add-at
     add-t

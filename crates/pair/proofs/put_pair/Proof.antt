@@ -2,7 +2,7 @@
 use native.Mathlib.Omega.{arith}
 use borrow.Author.Needs.{needs}
 use Rattle.writer.proofs.Wrote.{rest-within, rest-room, wrote-then}
-use Rattle.places.specs.OfPair.{ofPair}
+use Rattle.variables.specs.OfPair.{ofPair}
 use Rattle.pair.proofs.OfPair.{pair-parts, pair-room}
 use Rattle.pair.proofs.put_pair.Statement.{statement}
 use Rattle.pair.proofs.put_pair.Tie as tie

@@ -3,9 +3,9 @@ use Prim.Native.Nat.{_+_}
 use native.Mathlib.Omega.{arith}
 use borrow.Author.Needs.{needs}
 use Rattle.model.specs.Clauses.{gather}
-use Rattle.model.specs.Groups.{notP, clausesOf}
+use Rattle.model.specs.Groups.{violationOf, clausesOf}
 use Rattle.model.specs.Numbers.{numbersOf}
-use Rattle.places.specs.Alone.{alone}
+use Rattle.netlist.specs.NetOf.{alone}
 use Rattle.writer.proofs.Wrote.{rest-within, rest-room, wrote-then}
 use Rattle.writer.proofs.Turns.{written-ended, length-ended}
 use Rattle.property.proofs.put_property.Statement.{statement}
@@ -15,14 +15,14 @@ put-violations-requires : tie.Need-put-violations-requires
 unfolding numbersOf clausesOf
 put-violations-requires c κs =
     let a = c .before .args in
-    let room = length-ended (gather (a .k + 1) (notP (alone (a .net)))) in
+    let room = length-ended (gather (a .k + 1) (violationOf (alone (a .net)))) in
     (c .before .pre .0, omega arith)
 
 mul-put-end : tie.Need-mul-put-end
 unfolding numbersOf clausesOf
 mul-put-end c =
     let a = c .before .before .before .args in
-    let room = length-ended (gather (a .k + 1) (notP (alone (a .net)))) in
+    let room = length-ended (gather (a .k + 1) (violationOf (alone (a .net)))) in
     let within = rest-within (c .before .put-violations .ensures) (omega arith) in
     search needs
 
@@ -30,14 +30,14 @@ sub-put-end : tie.Need-sub-put-end
 unfolding numbersOf clausesOf
 sub-put-end c =
     let a = c .before .before .before .args in
-    let room = length-ended (gather (a .k + 1) (notP (alone (a .net)))) in
+    let room = length-ended (gather (a .k + 1) (violationOf (alone (a .net)))) in
     rest-within (c .before .put-violations .ensures) (omega arith)
 
 part-put-end-start : tie.Need-part-put-end-start
 unfolding numbersOf clausesOf
 part-put-end-start c =
     let a = c .before .before .before .args in
-    let room = length-ended (gather (a .k + 1) (notP (alone (a .net)))) in
+    let room = length-ended (gather (a .k + 1) (violationOf (alone (a .net)))) in
     let within = rest-within (c .before .put-violations .ensures) (omega arith) in
     search needs
 
@@ -48,14 +48,14 @@ put-end-requires : tie.Need-put-end-requires
 unfolding numbersOf clausesOf
 put-end-requires c κs =
     let a = c .before .before .before .before .args in
-    let room = length-ended (gather (a .k + 1) (notP (alone (a .net)))) in
+    let room = length-ended (gather (a .k + 1) (violationOf (alone (a .net)))) in
     rest-room (c .before .before .put-violations .ensures) (omega arith)
 
 add-result : tie.Need-add-result
 unfolding numbersOf clausesOf
 add-result c =
     let a = c .before .before .before .before .before .before .args in
-    let room = length-ended (gather (a .k + 1) (notP (alone (a .net)))) in
+    let room = length-ended (gather (a .k + 1) (violationOf (alone (a .net)))) in
     omega arith
 
 same-length : tie.Need-same-length
@@ -65,8 +65,8 @@ returns : tie.Need-returns
 unfolding numbersOf clausesOf
 returns c =
     let a = c .before .before .before .before .before .before .args in
-    let room = length-ended (gather (a .k + 1) (notP (alone (a .net)))) in
-    rw (written-ended (gather (a .k + 1) (notP (alone (a .net))))) (wrote-then (c .before .before .before .before .put-violations .ensures) (c .before .put-end .ensures) (omega arith))
+    let room = length-ended (gather (a .k + 1) (violationOf (alone (a .net)))) in
+    rw (written-ended (gather (a .k + 1) (violationOf (alone (a .net))))) (wrote-then (c .before .before .before .before .put-violations .ensures) (c .before .put-end .ensures) (omega arith))
 
 pub put-property-spec : {M : Type 1} → statement M
 put-property-spec =

@@ -4,8 +4,7 @@ use native.Mathlib.Omega.{arith}
 use borrow.Author.Needs.{needs}
 use Rattle.model.specs.Variables.{base}
 use Rattle.netlist.specs.NetOf.{netOf}
-use Rattle.places.specs.Alone.{alone}
-use Rattle.places.proofs.Room.{code-has-number}
+use Rattle.variables.proofs.Room.{code-has-number}
 use Rattle.writer.proofs.Turns.{Turns, turns-start, turns-room, turns-count, turns-next, turns-end}
 use Rattle.property.proofs.Violations.{violation, violations}
 use Rattle.property.proofs.put_violations.Statement.{statement}
@@ -32,11 +31,11 @@ base-requires : tie.Need-base-requires Inv-loop μ-loop
 base-requires c κs = search needs
 
 in-frame-requires : tie.Need-in-frame-requires Inv-loop μ-loop
-unfolding base alone netOf
+unfolding base netOf
 in-frame-requires c κs =
     let is = c .before .before .before .before .before .pre .0 in
     rw (c .base .ensures, c .before .before .before .before .numbering .ensures .0, c .before .before .before .before .numbering .ensures .1)
-    (code-has-number _ (is .sizes) _ _ (omega arith) (is .codes .P-fits))
+    (code-has-number _ (is .limits .sizes) _ _ (omega arith) (is .limits .codes .P-fits))
 
 mul-put-literal : tie.Need-mul-put-literal Inv-loop μ-loop
 mul-put-literal c = search needs

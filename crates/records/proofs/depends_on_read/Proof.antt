@@ -23,8 +23,8 @@ abbrev μ-loop : tie.MeasureT-loop
 read-bits-requires : tie.Need-read-bits-requires Inv-loop μ-loop
 read-bits-requires c κs = sizes-lists (c .args .net) [] (c .args .gates .now) [] [] (c .pre .sizes)
 
-gate-wire-requires : tie.Need-gate-wire-requires Inv-loop μ-loop
-gate-wire-requires c κs = sizes-lists (c .before .args .net) [] (c .before .args .gates .now) [] [] (c .before .pre .sizes)
+first-gate-wire-requires : tie.Need-first-gate-wire-requires Inv-loop μ-loop
+first-gate-wire-requires c κs = sizes-lists (c .before .args .net) [] (c .before .args .gates .now) [] [] (c .before .pre .sizes)
 
 loop-holds : tie.Need-loop-holds Inv-loop μ-loop
 unfolding netOf sweep isRead
@@ -68,11 +68,11 @@ cast-right c = omega (arith, c .before .before .before .before .before .before .
 
 add-own : tie.Need-add-own Inv-loop μ-loop
 unfolding netOf
-add-own c = omega (arith, c .before .before .before .before .before .gate-wire .ensures, c .before .before .before .before .before .before .before .pre .sizes)
+add-own c = omega (arith, c .before .before .before .before .before .first-gate-wire .ensures, c .before .before .before .before .before .before .before .pre .sizes)
 
 cast-own : tie.Need-cast-own Inv-loop μ-loop
 unfolding netOf
-cast-own c = omega (arith, c .before .before .before .before .before .gate-wire .ensures, c .before .before .before .before .before .before .before .pre .sizes)
+cast-own c = omega (arith, c .before .before .before .before .before .first-gate-wire .ensures, c .before .before .before .before .before .before .before .pre .sizes)
 
 array-read-flags : tie.Need-array-read-flags Inv-loop μ-loop
 unfolding netOf
@@ -84,7 +84,7 @@ array-read-flags-2 c = omega (arith, c .before .before .before .before .before .
 
 array-write-flags : tie.Need-array-write-flags Inv-loop μ-loop
 unfolding netOf
-array-write-flags c = omega (arith, c .before .before .before .before .before .gate-wire .ensures, c .before .before .before .before .before .before .before .pre .sizes)
+array-write-flags c = omega (arith, c .before .before .before .before .before .first-gate-wire .ensures, c .before .before .before .before .before .before .before .pre .sizes)
 
 add-g : tie.Need-add-g Inv-loop μ-loop
 unfolding netOf
@@ -101,7 +101,7 @@ loop-again c =
     let d = netOf (a .net) [] (a .gates .now) in
     let g = c .before .before .before .before .loop .g in
     let q = c .before .before .before .before .loop .inv .1 in
-    let own : c .before .before .before .before .before .gate-wire .result + g ≡ gateWire d g = omega (arith, c .before .before .before .before .before .gate-wire .ensures) in
+    let own : c .before .before .before .before .before .first-gate-wire .result + g ≡ gateWire d g = omega (arith, c .before .before .before .before .before .first-gate-wire .ensures) in
     let left : d .left g / 2 ≤ 600 = omega (arith, c .before .before .before .before .before .before .before .pre .codes .left-fits g (c .before .before .if1 .taken), c .before .before .before .before .before .before .before .pre .sizes) in
     let right : d .right g / 2 ≤ 600 = omega (arith, c .before .before .before .before .before .before .before .pre .codes .right-fits g (c .before .before .if1 .taken), c .before .before .before .before .before .before .before .pre .sizes) in (
       omega arith,
@@ -124,7 +124,7 @@ depends-on-read-spec =
     Inv-loop
     μ-loop
     read-bits-requires
-    gate-wire-requires
+    first-gate-wire-requires
     loop-holds
     cast-at
     mul-at

@@ -2,15 +2,14 @@
 -- Assumes nothing.
 use Prim.Native.Nat.{_+_, _-_, _≤_}
 use mathlib.Core.Path.{_≡_, refl, sym, _∙_, ap}
-use mathlib.Core.List.{[]}
 use native.Mathlib.Omega.{arith}
 use Rattle.refusals.specs.Tests.{inOrder}
 use Rattle.refusals.specs.declared.Refusal.the-variants.{CodeOutside}
-use Rattle.netlist.specs.NetOf.{netOf}
+use Rattle.netlist.specs.NetOf.{netOf, alone}
 use Rattle.netlist.specs.Lines.{lineAt}
 use Rattle.netlist.specs.Faults.{codeFault}
 use Rattle.netlist.proofs.NetOf.{lineAt-lists}
-use Rattle.netlist.proofs.Lines.{stands}
+use Rattle.netlist.proofs.Lines.{has-lineAt}
 use Rattle.records.proofs.Record.{PassedTo, passed-next, refused-next, passed-all}
 use Rattle.records.proofs.first_code_fault.Statement.{statement}
 use Rattle.records.proofs.first_code_fault.Tie as tie
@@ -39,7 +38,7 @@ line-at-requires c κs = c .before .before .before .pre
 code-fault-requires : tie.Need-code-fault-requires Inv-loop μ-loop
 code-fault-requires c κs = (
   c .before .before .before .before .pre,
-  rw (c .line-at .ensures) (stands (netOf (c .before .before .before .before .args .net) [] []) (c .before .before .loop .place + 1)),
+  rw (c .line-at .ensures) (has-lineAt (alone (c .before .before .before .before .args .net)) (c .before .before .loop .place + 1)),
 )
 
 -- what the turn's call says of the line at the next place

@@ -1,10 +1,9 @@
 -- `records::loop_fault` meets its contract: each arm knows its line, and every code's wire is within the table. Assumes nothing.
 use mathlib.Core.Path.{subst}
-use mathlib.Core.List.{[]}
 use borrow.Author.Needs.{needs}
 use native.Mathlib.Omega.{arith}
-use Rattle.netlist.specs.NetOf.{codeOf, netOf}
-use Rattle.netlist.specs.Lines.{Stands}
+use Rattle.netlist.specs.NetOf.{codeOf, netOf, alone}
+use Rattle.netlist.specs.Lines.{HasLine}
 use Rattle.netlist.specs.Faults.{loopFaultBy}
 use Rattle.records.proofs.loop_fault.Statement.{statement}
 use Rattle.records.proofs.loop_fault.Tie as tie
@@ -34,22 +33,22 @@ element-copy-out-w : tie.Need-element-copy-out-w
 unfolding netOf codeOf
 element-copy-out-w c =
     let p = c .before .before .before .pre in
-    let standing = subst (Stands (netOf (c .before .before .before .args .t1) [] [])) (c .before .line .given .1) (p .1) in
-    omega (arith, standing, p .0 .codes .address-fits (c .before .line .given .0 .0) standing, p .0 .sizes)
+    let has = subst (HasLine (alone (c .before .before .before .args .t1))) (c .before .line .given .1) (p .1) in
+    omega (arith, has, p .0 .codes .address-fits (c .before .line .given .0 .0) has, p .0 .sizes)
 
 cast-w : tie.Need-cast-w
 unfolding netOf codeOf
 cast-w c =
     let p = c .before .before .before .pre in
-    let standing = subst (Stands (netOf (c .before .before .before .args .t1) [] [])) (c .before .line .given .1) (p .1) in
-    omega (arith, standing, p .0 .codes .address-fits (c .before .line .given .0 .0) standing, p .0 .sizes)
+    let has = subst (HasLine (alone (c .before .before .before .args .t1))) (c .before .line .given .1) (p .1) in
+    omega (arith, has, p .0 .codes .address-fits (c .before .line .given .0 .0) has, p .0 .sizes)
 
 element-copy-out-result : tie.Need-element-copy-out-result
 unfolding netOf codeOf
 element-copy-out-result c =
     let p = c .before .before .before .pre in
-    let standing = subst (Stands (netOf (c .before .before .before .args .t1) [] [])) (c .before .line .given .1) (p .1) in
-    omega (arith, standing, p .0 .codes .address-fits (c .before .line .given .0 .0) standing, p .0 .sizes)
+    let has = subst (HasLine (alone (c .before .before .before .args .t1))) (c .before .line .given .1) (p .1) in
+    omega (arith, has, p .0 .codes .address-fits (c .before .line .given .0 .0) has, p .0 .sizes)
 
 enum-told-5 : tie.Need-enum-told-5
 enum-told-5 c = c .match .keys6

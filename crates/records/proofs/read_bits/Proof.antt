@@ -2,9 +2,8 @@
 -- Assumes nothing.
 use Prim.Native.Nat.{_-_, _≤_}
 use mathlib.Core.Bool.{true}
-use mathlib.Core.List.{[]}
 use native.Mathlib.Omega.{arith}
-use Rattle.netlist.specs.NetOf.{netOf}
+use Rattle.netlist.specs.NetOf.{netOf, alone}
 use Rattle.records.specs.Dependence.{Table}
 use Rattle.records.proofs.Dependence.{table-none, table-set, table-same, between, between-none, between-next, between-isRead}
 use Rattle.records.proofs.read_bits.Statement.{statement}
@@ -16,20 +15,15 @@ Inv-loop flags₀ last w₀ flags w = (w₀ ≤ w) × (w ≤ last) × Table (bet
 abbrev μ-loop : tie.MeasureT-loop
 μ-loop flags₀ last w₀ flags w = last - w
 
-gate-wire-requires : tie.Need-gate-wire-requires Inv-loop μ-loop
-gate-wire-requires c κs = c .pre
+first-gate-wire-requires : tie.Need-first-gate-wire-requires Inv-loop μ-loop
+first-gate-wire-requires c κs = c .pre
 
 cast-last : tie.Need-cast-last Inv-loop μ-loop
 unfolding netOf
 cast-last c = omega arith
 
-add-w : tie.Need-add-w Inv-loop μ-loop
-unfolding netOf
-add-w c = omega arith
-
-add-w-2 : tie.Need-add-w-2 Inv-loop μ-loop
-unfolding netOf
-add-w-2 c = omega arith
+first-read-wire-requires : tie.Need-first-read-wire-requires Inv-loop μ-loop
+first-read-wire-requires c κs = c .before .pre
 
 cast-w : tie.Need-cast-w Inv-loop μ-loop
 unfolding netOf
@@ -44,9 +38,9 @@ array-write-flags : tie.Need-array-write-flags Inv-loop μ-loop
 unfolding netOf
 array-write-flags c = omega arith
 
-add-w-3 : tie.Need-add-w-3 Inv-loop μ-loop
+add-w : tie.Need-add-w Inv-loop μ-loop
 unfolding netOf
-add-w-3 c = omega arith
+add-w c = omega arith
 
 loop-less : tie.Need-loop-less Inv-loop μ-loop
 loop-less c = omega arith
@@ -64,8 +58,8 @@ loop-again c =
 returns : tie.Need-returns Inv-loop μ-loop
 unfolding netOf
 returns c =
-    let net = c .before .before .before .before .before .args .net in
-    table-same (between-isRead (netOf net [] []) _ (c .before .loop .w) (omega arith) (omega arith))
+    let net = c .before .before .before .before .args .net in
+    table-same (between-isRead (alone net) _ (c .before .loop .w) (omega arith) (omega arith))
     (c .before .loop .inv .2)
 
 pub read-bits-spec : {M : Type 1} → statement M
@@ -74,14 +68,13 @@ read-bits-spec =
     (tie.spec
     Inv-loop
     μ-loop
-    gate-wire-requires
+    first-gate-wire-requires
     cast-last
-    add-w
-    add-w-2
+    first-read-wire-requires
     cast-w
     loop-holds
     array-write-flags
-    add-w-3
+    add-w
     loop-less
     loop-again
     returns)

@@ -6,13 +6,13 @@ use mathlib.Core.List.{[]}
 use native.Mathlib.Omega.{arith}
 use borrow.Author.Tests.{not-true}
 use Rattle.refusals.specs.declared.Refusal.the-variants.{MemoryLoop}
-use Rattle.netlist.specs.NetOf.{netOf}
+use Rattle.netlist.specs.NetOf.{netOf, alone}
 use Rattle.netlist.specs.Lines.{lineAt}
 use Rattle.netlist.specs.Faults.{loopFaultBy, loopFault}
 use Rattle.records.specs.Dependence.{entry}
-use Rattle.netlist.proofs.NetOf.{sizes-lists, lineAt-lists, loopFaultBy-lists}
-use Rattle.netlist.proofs.Lines.{stands}
-use Rattle.records.proofs.Lists.{any-loop-lists, limits-gates}
+use Rattle.netlist.proofs.NetOf.{sizes-lists, limits-alone, lineAt-lists, loopFaultBy-lists}
+use Rattle.netlist.proofs.Lines.{has-lineAt}
+use Rattle.records.proofs.Lists.{any-loop-lists}
 use Rattle.records.proofs.Record.{PassedTo, passed-next, refused-next, passed-all}
 use Rattle.records.proofs.Dependence.{loopFault-table, loops-none, loops-before}
 use Rattle.records.proofs.test_loops.Statement.{statement}
@@ -28,7 +28,7 @@ depends-on-read-requires : tie.Need-depends-on-read-requires Inv-loop μ-loop
 depends-on-read-requires c κs = c .pre
 
 any-loop-requires : tie.Need-any-loop-requires Inv-loop μ-loop
-any-loop-requires c κs = limits-gates (c .before .before .args .net) [] (c .before .before .args .gates .now) (c .before .before .pre)
+any-loop-requires c κs = limits-alone (c .before .before .args .net) [] (c .before .before .args .gates .now) (c .before .before .pre)
 
 returns : tie.Need-returns Inv-loop μ-loop
 returns c =
@@ -65,8 +65,8 @@ line-at-requires c κs = sizes-lists (c .before .before .before .before .before 
 loop-fault-requires : tie.Need-loop-fault-requires Inv-loop μ-loop
 loop-fault-requires c κs =
     let a = c .before .before .before .before .before .before .before .before .before .before .before .args in (
-      limits-gates (a .net) [] (a .gates .now) (c .before .before .before .before .before .before .before .before .before .before .before .pre),
-      rw (c .before .line-at .ensures) (stands (netOf (a .net) [] []) (c .before .before .before .loop .place + 1)),
+      limits-alone (a .net) [] (a .gates .now) (c .before .before .before .before .before .before .before .before .before .before .before .pre),
+      rw (c .before .line-at .ensures) (has-lineAt (alone (a .net)) (c .before .before .before .loop .place + 1)),
     )
 
 -- what the turn's call says of the line at the next place
@@ -77,9 +77,9 @@ tested c =
     let d = netOf (a .net) [] (a .gates .now) in
     let p = c .before .before .before .before .loop .place + 1 in
     let flags = c .before .before .before .before .before .before .before .before .before .before .before .depends-on-read .result in
-    loopFault-table (c .before .before .before .before .before .before .before .before .before .before .before .depends-on-read .ensures) (c .before .before .before .before .before .before .before .before .before .before .before .before .pre) (lineAt d p) (stands d p)
+    loopFault-table (c .before .before .before .before .before .before .before .before .before .before .before .depends-on-read .ensures) (c .before .before .before .before .before .before .before .before .before .before .before .before .pre) (lineAt d p) (has-lineAt d p)
     ∙ sym (loopFaultBy-lists (a .net) [] (a .gates .now) (entry flags) (lineAt d p))
-    ∙ ap (loopFaultBy (entry flags) (netOf (a .net) [] []))
+    ∙ ap (loopFaultBy (entry flags) (alone (a .net)))
     (sym (lineAt-lists (a .net) [] (a .gates .now) p) ∙ sym (c .before .before .line-at .ensures))
     ∙ sym (c .loop-fault .ensures)
 

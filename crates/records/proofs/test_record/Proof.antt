@@ -6,12 +6,12 @@ use borrow.Author.Needs.{needs}
 use Rattle.refusals.specs.Tests.{_then_}
 use Rattle.refusals.specs.declared.Refusal.the-variants.{Size, CodeOutside}
 use Rattle.model.specs.Acceptance.{SizesFit}
-use Rattle.netlist.specs.NetOf.{netOf}
+use Rattle.netlist.specs.NetOf.{netOf, alone}
 use Rattle.netlist.specs.Faults.{sizeFault, codeFault}
 use Rattle.records.specs.Record.{testLines, recordVerdict}
-use Rattle.netlist.proofs.NetOf.{sizes-lists}
+use Rattle.netlist.proofs.NetOf.{sizes-lists, limits-without-latches}
 use Rattle.netlist.proofs.Faults.{sizes-fit, codes-fit}
-use Rattle.records.proofs.Lists.{test-sizes-lists, test-loops-latches, limits-latches}
+use Rattle.records.proofs.Lists.{test-sizes-lists, test-loops-latches}
 use Rattle.records.proofs.Record.{testLines-passes}
 use Rattle.records.proofs.test_record.Statement.{statement}
 use Rattle.records.proofs.test_record.Tie as tie
@@ -45,7 +45,7 @@ unfolding netOf recordVerdict _then_
 returns-2 c = rw (sizes (c .before .before .before .before .before) ∙ c .before .before .before .enum-told .given .1, c .if1 .taken)
 
 -- sizes that the test passes are within their limits
-sizes-passed : (c : tie.After-enum-told) → SizesFit (netOf (c .before .before .before .args .net) [] [])
+sizes-passed : (c : tie.After-enum-told) → SizesFit (alone (c .before .before .before .args .net))
 sizes-passed c =
     let a = c .before .before .before .args in
     sizes-lists (a .net) (a .latches .now) (a .gates .now) [] [] (sizes-fit _ .0 (testLines-passes _ Size sizeFault .0 (sizes (c .before .before) ∙ c .enum-told .given .1)))
@@ -67,7 +67,7 @@ enum-told-2 c = c .match2 .keys2
 test-loops-requires : tie.Need-test-loops-requires
 test-loops-requires c κs =
     let a = c .before .before .before .before .before .before .before .before .before .args in
-    limits-latches (a .net) (a .latches .now) (a .gates .now)
+    limits-without-latches (a .net) (a .latches .now) (a .gates .now)
     (record {
       sizes = sizes-lists (a .net) [] [] (a .latches .now) (a .gates .now) (sizes-passed (c .before .before .before .before .before .before));
       codes = codes-fit _ .0 (testLines-passes _ CodeOutside codeFault .0 (sym (c .before .before .test-codes .ensures) ∙ c .enum-told2 .given .1));

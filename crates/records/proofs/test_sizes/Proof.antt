@@ -1,12 +1,11 @@
 -- `records::test_sizes` meets its contract: only lines N and M hold sizes. Assumes nothing.
 use mathlib.Core.Path.{_≡_, refl, sym, _∙_, ap}
 use mathlib.Core.Bool.{true, false}
-use mathlib.Core.List.{[]}
 use native.Mathlib.Omega.{arith}
 use Rattle.refusals.specs.Tests.{inOrder}
 use Rattle.refusals.specs.declared.Refusal.the-variants.{Size}
 use Rattle.model.specs.Netlist as M
-use Rattle.netlist.specs.NetOf.{netOf}
+use Rattle.netlist.specs.NetOf.{alone}
 use Rattle.netlist.specs.Lines.{sizesLine, memoryLine}
 use Rattle.netlist.specs.Faults.{sizeFault}
 use Rattle.netlist.specs.declared.Line.the-variants.{Sizes, Memory}
@@ -28,7 +27,7 @@ sizes-fault-requires c κs = tt
 
 returns : tie.Need-returns
 returns c =
-    let d = netOf (c .before .before .args .net) [] [] in
+    let d = alone (c .before .before .args .net) in
     let e : sizeFault d Sizes ≡ true = sym (c .before .sizes-fault .ensures) ∙ c .if1 .taken in
     sym (refused-next d Size sizeFault 0 (passed-none d) (ap (sizeFault d) (at-sizes d sizesLine (omega arith)) ∙ e) (omega arith))
 
@@ -37,7 +36,7 @@ memory-fault-requires c κs = tt
 
 returns-2 : tie.Need-returns-2
 returns-2 c =
-    let d = netOf (c .before .before .before .before .args .net) [] [] in
+    let d = alone (c .before .before .before .before .args .net) in
     let e : sizeFault d Sizes ≡ false = sym (c .before .before .before .sizes-fault .ensures) ∙ c .before .before .if1 .left in
     let f : sizeFault d Memory ≡ true = sym (c .before .memory-fault .ensures) ∙ c .if2 .taken in
     sym (refused-next d Size sizeFault sizesLine (passed-sizes d e) (ap (sizeFault d) (at-memory d memoryLine refl) ∙ f) (omega arith))
@@ -45,7 +44,7 @@ returns-2 c =
 returns-3 : tie.Need-returns-3
 unfolding sizeFault
 returns-3 c =
-    let d = netOf (c .before .before .before .before .args .net) [] [] in
+    let d = alone (c .before .before .before .before .args .net) in
     sym (testLines-passes d Size sizeFault .1
     (record {
       of-sizes = sym (c .before .before .before .sizes-fault .ensures) ∙ c .before .before .if1 .left;

@@ -5,11 +5,10 @@ use borrow.Author.Needs.{needs}
 use Rattle.model.specs.Clauses.{andClauses}
 use Rattle.model.specs.Numbers.{written}
 use Rattle.model.specs.Variables.{pairLiterals}
-use Rattle.netlist.specs.NetOf.{netOf}
-use Rattle.places.specs.Alone.{alone}
-use Rattle.places.specs.PortOf.{portOf}
-use Rattle.places.proofs.Room.{code-has-number, pair-has-number, behind-bits}
-use Rattle.select.specs.SelectClauses.{selectOf, selectClauses}
+use Rattle.netlist.specs.NetOf.{netOf, alone}
+use Rattle.variables.specs.PortOf.{portOf}
+use Rattle.variables.proofs.Room.{code-has-number, pair-has-number, behind-bits}
+use Rattle.select.specs.SelectClauses.{pairSelect, selectClauses}
 use Rattle.select.proofs.put_select.Statement.{statement}
 use Rattle.select.proofs.put_select.Tie as tie
 
@@ -22,11 +21,11 @@ in-pair-requires c κs =
     (rw (c .pair-base .ensures) (pair-has-number _ _ (is .fits) _ _ _ (is .earlier) (is .depth) (omega arith)), omega arith)
 
 add-in-pair : tie.Need-add-in-pair
-unfolding alone netOf
+unfolding netOf
 add-in-pair c = search needs
 
 in-pair-requires-2 : tie.Need-in-pair-requires-2
-unfolding alone netOf
+unfolding netOf
 in-pair-requires-2 c κs =
     let is = c .before .before .before .pre .0 in
     (rw (c .before .before .pair-base .ensures) (pair-has-number _ _ (is .fits) _ _ _ (is .earlier) (is .depth) (omega arith)), omega arith)
@@ -35,10 +34,10 @@ frame-base-requires : tie.Need-frame-base-requires
 frame-base-requires c κs = search needs
 
 in-frame-requires : tie.Need-in-frame-requires
-unfolding alone netOf
+unfolding netOf
 in-frame-requires c κs =
     let is = c .before .before .before .before .before .pre .0 in
-    rw (c .frame-base .ensures) (code-has-number _ (is .fits .sizes) _ _ (omega arith) (is .fits .codes .WE-fits))
+    rw (c .frame-base .ensures) (code-has-number _ (is .fits .limits .sizes) _ _ (omega arith) (is .fits .limits .codes .WE-fits))
 
 none-since-requires : tie.Need-none-since-requires
 none-since-requires c κs = search needs
@@ -53,14 +52,14 @@ none-since-requires-2 : tie.Need-none-since-requires-2
 none-since-requires-2 c κs = search needs
 
 put-gates-requires : tie.Need-put-gates-requires
-unfolding written andClauses selectClauses selectOf
+unfolding written andClauses selectClauses pairSelect
 put-gates-requires c κs = search needs
 
 same-length : tie.Need-same-length
 same-length c = search needs
 
 returns : tie.Need-returns
-unfolding selectOf pairLiterals alone netOf
+unfolding pairSelect pairLiterals netOf
 returns c =
     let valid = c .before .before .before .before .before .before .before .before .in-pair2 .ensures .0 ∙ behind-bits (alone (c .before .before .before .before .before .before .before .before .before .before .before .before .args .net)) (portOf (c .before .before .before .before .before .before .before .before .before .before .before .before .args .port)) (c .before .before .before .before .before .before .before .before .before .before .before .before .args .j) (c .before .before .before .before .before .before .before .before .before .before .before .before .args .i) _ 2 (c .before .before .before .before .before .before .before .before .before .before .before .pair-base .ensures) in
     rw (rw (c .before .before .before .before .before .before .before .before .before .before .before .pair-base .ensures) at (c .before .before .before .before .before .before .before .before .before .before .in-pair .ensures .0), valid, rw (c .before .before .before .before .before .before .before .frame-base .ensures) at (c .before .before .before .before .before .before .in-frame .ensures .0), c .before .before .before .before .before .none-since .ensures .0, c .before .before .before .before .selected .ensures .0, c .before .before .before .none-since2 .ensures .0)

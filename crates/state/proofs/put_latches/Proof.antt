@@ -4,9 +4,8 @@ use mathlib.Core.List.{[]}
 use native.Mathlib.Omega.{arith}
 use borrow.Author.Needs.{needs}
 use Rattle.netlist.specs.NetOf.{netOf}
-use Rattle.places.specs.Alone.{alone}
-use Rattle.places.proofs.Lists.{sizes-without}
-use Rattle.places.proofs.Room.{wire-has-number, code-has-number}
+use Rattle.netlist.proofs.NetOf.{sizes-lists}
+use Rattle.variables.proofs.Room.{wire-has-number, code-has-number}
 use Rattle.writer.proofs.Turns.{Turns, turns-start, turns-room, turns-count, turns-next, turns-end}
 use Rattle.state.proofs.StateOf.{latchAt, later-latches}
 use Rattle.state.proofs.put_latches.Statement.{statement}
@@ -19,41 +18,41 @@ abbrev μ-loop : tie.MeasureT-loop
 μ-loop out₀ latches i before b first n at₀ l₀ out at l = n - l
 
 frame-base-requires : tie.Need-frame-base-requires Inv-loop μ-loop
-unfolding alone netOf
+unfolding netOf
 frame-base-requires c κs =
-    (sizes-without (c .args .net) (c .args .latches .now) [] [] [] (c .pre .0 .sizes), omega arith)
+    (sizes-lists (c .args .net) (c .args .latches .now) [] [] [] (c .pre .0 .limits .sizes), omega arith)
 
 add-frame-base : tie.Need-add-frame-base Inv-loop μ-loop
-unfolding alone netOf
+unfolding netOf
 add-frame-base c = search needs
 
 frame-base-requires-2 : tie.Need-frame-base-requires-2 Inv-loop μ-loop
-unfolding alone netOf
+unfolding netOf
 frame-base-requires-2 c κs =
-    (sizes-without (c .before .args .net) (c .before .args .latches .now) [] [] [] (c .before .pre .0 .sizes), omega arith)
+    (sizes-lists (c .before .args .net) (c .before .args .latches .now) [] [] [] (c .before .pre .0 .limits .sizes), omega arith)
 
-add-first : tie.Need-add-first Inv-loop μ-loop
-unfolding alone netOf
-add-first c = search needs
+first-latch-wire-requires : tie.Need-first-latch-wire-requires Inv-loop μ-loop
+first-latch-wire-requires c κs =
+    sizes-lists (c .before .before .args .net) (c .before .before .args .latches .now) [] [] [] (c .before .before .pre .0 .limits .sizes)
 
 loop-holds : tie.Need-loop-holds Inv-loop μ-loop
 loop-holds c =
-    turns-start _ _ _ (rw (later-latches (c .before .before .before .args .net) (c .before .before .before .args .latches .now) (c .before .before .before .args .i) _ (c .before .before .frame-base .ensures) (c .before .frame-base2 .ensures)) at (c .before .before .before .pre .1))
+    turns-start _ _ _ (rw (later-latches (c .before .before .before .args .net) (c .before .before .before .args .latches .now) (c .before .before .before .args .i) _ (c .before .before .frame-base .ensures) (c .before .frame-base2 .ensures) (c .first-latch-wire .ensures)) at (c .before .before .before .pre .1))
 
 mul-t14 : tie.Need-mul-t14 Inv-loop μ-loop
-unfolding alone netOf
+unfolding netOf
 mul-t14 c = search needs
 
 cast-t15 : tie.Need-cast-t15 Inv-loop μ-loop
-unfolding alone netOf
+unfolding netOf
 cast-t15 c = search needs
 
 mul-t16 : tie.Need-mul-t16 Inv-loop μ-loop
-unfolding alone netOf
+unfolding netOf
 mul-t16 c = search needs
 
 element-copy-out-t19 : tie.Need-element-copy-out-t19 Inv-loop μ-loop
-unfolding alone netOf
+unfolding netOf
 element-copy-out-t19 c = search needs
 
 mul-put-latch : tie.Need-mul-put-latch Inv-loop μ-loop
@@ -69,14 +68,14 @@ part-put-latch-end : tie.Need-part-put-latch-end Inv-loop μ-loop
 part-put-latch-end c = search needs
 
 add-t14 : tie.Need-add-t14 Inv-loop μ-loop
-unfolding alone netOf
+unfolding netOf
 add-t14 c = search needs
 
 put-latch-requires : tie.Need-put-latch-requires Inv-loop μ-loop
-unfolding alone netOf
+unfolding netOf
 put-latch-requires c κs =
-    let sizes = sizes-without (c .before .before .before .before .before .before .before .args .net) (c .before .before .before .before .before .before .before .args .latches .now) [] [] [] (c .before .before .before .before .before .before .before .pre .0 .sizes) in
-    let codes = c .before .before .before .before .before .before .before .pre .0 .codes in (
+    let sizes = sizes-lists (c .before .before .before .before .before .before .before .args .net) (c .before .before .before .before .before .before .before .args .latches .now) [] [] [] (c .before .before .before .before .before .before .before .pre .0 .limits .sizes) in
+    let codes = c .before .before .before .before .before .before .before .pre .0 .limits .codes in (
       rw (c .before .before .before .before .before .frame-base2 .ensures) (wire-has-number _ sizes _ _ (omega arith) (omega arith)),
       omega arith,
       rw (c .before .before .before .before .before .before .frame-base .ensures) (code-has-number _ sizes _ _ (omega arith) (codes .next-fits (c .before .before .before .loop .l) (c .before .before .loop-test .taken))),
@@ -103,7 +102,7 @@ same-length c = search needs
 
 returns : tie.Need-returns Inv-loop μ-loop
 returns c =
-    rw (later-latches (c .before .before .before .before .before .args .net) (c .before .before .before .before .before .args .latches .now) (c .before .before .before .before .before .args .i) _ (c .before .before .before .before .frame-base .ensures) (c .before .before .before .frame-base2 .ensures)) (turns-end (c .before .loop .inv) (omega arith))
+    rw (later-latches (c .before .before .before .before .before .args .net) (c .before .before .before .before .before .args .latches .now) (c .before .before .before .before .before .args .i) _ (c .before .before .before .before .frame-base .ensures) (c .before .before .before .frame-base2 .ensures) (c .before .before .first-latch-wire .ensures)) (turns-end (c .before .loop .inv) (omega arith))
 
 pub put-latches-spec : {M : Type 1} → statement M
 put-latches-spec =
@@ -114,7 +113,7 @@ put-latches-spec =
     frame-base-requires
     add-frame-base
     frame-base-requires-2
-    add-first
+    first-latch-wire-requires
     loop-holds
     mul-t14
     cast-t15

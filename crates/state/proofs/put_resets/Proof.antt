@@ -4,9 +4,8 @@ use mathlib.Core.List.{[]}
 use native.Mathlib.Omega.{arith}
 use borrow.Author.Needs.{needs}
 use Rattle.netlist.specs.NetOf.{netOf}
-use Rattle.places.specs.Alone.{alone}
-use Rattle.places.proofs.Lists.{sizes-without}
-use Rattle.places.proofs.Room.{wire-has-number, code-has-number}
+use Rattle.netlist.proofs.NetOf.{sizes-lists}
+use Rattle.variables.proofs.Room.{wire-has-number, code-has-number}
 use Rattle.writer.proofs.Turns.{Turns, turns-start, turns-room, turns-count, turns-next, turns-end}
 use Rattle.state.proofs.StateOf.{resetAt, resets}
 use Rattle.state.proofs.put_resets.Statement.{statement}
@@ -19,36 +18,36 @@ abbrev μ-loop : tie.MeasureT-loop
 μ-loop out₀ latches b first n at₀ l₀ out at l = n - l
 
 frame-base-requires : tie.Need-frame-base-requires Inv-loop μ-loop
-unfolding alone netOf
+unfolding netOf
 frame-base-requires c κs =
-    (sizes-without (c .args .net) (c .args .latches .now) [] [] [] (c .pre .0 .sizes), omega arith)
+    (sizes-lists (c .args .net) (c .args .latches .now) [] [] [] (c .pre .0 .limits .sizes), omega arith)
 
-add-first : tie.Need-add-first Inv-loop μ-loop
-unfolding alone netOf
-add-first c = search needs
+first-latch-wire-requires : tie.Need-first-latch-wire-requires Inv-loop μ-loop
+first-latch-wire-requires c κs =
+    sizes-lists (c .before .args .net) (c .before .args .latches .now) [] [] [] (c .before .pre .0 .limits .sizes)
 
 loop-holds : tie.Need-loop-holds Inv-loop μ-loop
 loop-holds c =
-    turns-start _ _ _ (rw (resets (c .before .before .args .net) (c .before .before .args .latches .now) _ (c .before .frame-base .ensures)) at (c .before .before .pre .1))
+    turns-start _ _ _ (rw (resets (c .before .before .args .net) (c .before .before .args .latches .now) _ (c .before .frame-base .ensures) (c .first-latch-wire .ensures)) at (c .before .before .pre .1))
 
 mul-reset : tie.Need-mul-reset Inv-loop μ-loop
-unfolding alone netOf
+unfolding netOf
 mul-reset c = search needs
 
 add-reset : tie.Need-add-reset Inv-loop μ-loop
-unfolding alone netOf
+unfolding netOf
 add-reset c = search needs
 
 cast-reset : tie.Need-cast-reset Inv-loop μ-loop
-unfolding alone netOf
+unfolding netOf
 cast-reset c = search needs
 
 mul-reset-2 : tie.Need-mul-reset-2 Inv-loop μ-loop
-unfolding alone netOf
+unfolding netOf
 mul-reset-2 c = search needs
 
 element-copy-out-reset : tie.Need-element-copy-out-reset Inv-loop μ-loop
-unfolding alone netOf
+unfolding netOf
 element-copy-out-reset c = search needs
 
 mul-put-reset : tie.Need-mul-put-reset Inv-loop μ-loop
@@ -64,13 +63,13 @@ part-put-reset-end : tie.Need-part-put-reset-end Inv-loop μ-loop
 part-put-reset-end c = search needs
 
 add-t11 : tie.Need-add-t11 Inv-loop μ-loop
-unfolding alone netOf
+unfolding netOf
 add-t11 c = search needs
 
 put-reset-requires : tie.Need-put-reset-requires Inv-loop μ-loop
-unfolding alone netOf
+unfolding netOf
 put-reset-requires c κs =
-    let sizes = sizes-without (c .before .before .before .before .before .before .args .net) (c .before .before .before .before .before .before .args .latches .now) [] [] [] (c .before .before .before .before .before .before .pre .0 .sizes) in (
+    let sizes = sizes-lists (c .before .before .before .before .before .before .args .net) (c .before .before .before .before .before .before .args .latches .now) [] [] [] (c .before .before .before .before .before .before .pre .0 .limits .sizes) in (
       rw (c .before .before .before .before .before .frame-base .ensures) (wire-has-number _ sizes 0 _ (omega arith) (omega arith)),
       omega arith,
       turns-room (c .before .before .before .loop .inv) (c .before .before .loop-test .taken),
@@ -96,7 +95,7 @@ same-length c = search needs
 
 returns : tie.Need-returns Inv-loop μ-loop
 returns c =
-    rw (resets (c .before .before .before .before .args .net) (c .before .before .before .before .args .latches .now) _ (c .before .before .before .frame-base .ensures)) (turns-end (c .before .loop .inv) (omega arith))
+    rw (resets (c .before .before .before .before .args .net) (c .before .before .before .before .args .latches .now) _ (c .before .before .before .frame-base .ensures) (c .before .before .first-latch-wire .ensures)) (turns-end (c .before .loop .inv) (omega arith))
 
 pub put-resets-spec : {M : Type 1} → statement M
 put-resets-spec =
@@ -105,7 +104,7 @@ put-resets-spec =
     Inv-loop
     μ-loop
     frame-base-requires
-    add-first
+    first-latch-wire-requires
     loop-holds
     mul-reset
     add-reset

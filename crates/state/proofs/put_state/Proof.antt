@@ -61,7 +61,7 @@ put-resets-requires c κs =
     let a = c .before .before .before .before .before .before .args in
     let x = netOf (a .net) (a .latches .now) [] in
     let room = ap length (state-first x (c .before .before .before .before .before .if1 .taken)) ∙ length-append (written ((known true ∷ []) ∷ [])) (written (gather (a .net .latches) (resetClause x))) in
-    (record { sizes = c .before .before .before .before .before .before .pre .0 .sizes; codes = c .before .before .before .before .before .before .pre .0 .codes; depth = omega arith }, rest-room (rw (c .before .before .before .constant .ensures .0) at (c .before .before .put-unit .ensures)) (omega arith))
+    (record { limits = c .before .before .before .before .before .before .pre .0 .limits; depth = omega arith }, rest-room (rw (c .before .before .before .constant .ensures .0) at (c .before .before .put-unit .ensures)) (omega arith))
 
 add-result : tie.Need-add-result
 unfolding written netOf
@@ -91,7 +91,7 @@ put-latches-requires c κs =
     let a = c .before .before .args in
     let x = netOf (a .net) (a .latches .now) [] in
     let is = c .before .before .pre .0 in
-    (record { sizes = is .sizes; codes = is .codes; depth = omega (arith, is .depth) }, rw (state-later x (a .i) (c .before .if1 .left)) at (c .before .before .pre .1))
+    (record { limits = is .limits; depth = omega (arith, is .depth) }, rw (state-later x (a .i) (c .before .if1 .left)) at (c .before .before .pre .1))
 
 same-length-2 : tie.Need-same-length-2
 same-length-2 c = search needs

@@ -1,18 +1,17 @@
 -- `steps::line_due` meets its contract: the first two lines are due in any case. Assumes nothing.
 use native.Mathlib.Omega.{arith}
 use mathlib.Core.Path.{sym}
-use mathlib.Core.List.{[]}
-use Rattle.netlist.specs.NetOf.{netOf}
+use Rattle.netlist.specs.NetOf.{alone}
 use Rattle.netlist.proofs.Lines.{at-sizes, at-memory}
 use borrow.Author.Needs.{needs}
 use Rattle.steps.proofs.line_due.Statement.{statement}
 use Rattle.steps.proofs.line_due.Tie as tie
 
 returns : tie.Need-returns
-returns c = sym (at-sizes (netOf (c .before .args .net) [] []) (c .before .args .place) (omega arith))
+returns c = sym (at-sizes (alone (c .before .args .net)) (c .before .args .place) (omega arith))
 
 returns-2 : tie.Need-returns-2
-returns-2 c = sym (at-memory (netOf (c .before .before .args .net) [] []) (c .before .before .args .place) (omega arith))
+returns-2 c = sym (at-memory (alone (c .before .before .args .net)) (c .before .before .args .place) (omega arith))
 
 line-at-requires : tie.Need-line-at-requires
 line-at-requires c κs = c .before .before .pre (omega arith)

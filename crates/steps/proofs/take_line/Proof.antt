@@ -1,10 +1,9 @@
 -- `steps::take_line` meets its contract: each test is passed on where it refuses; the line that passes is put into the record and the lists, and tested there. Assumes nothing.
 use mathlib.Core.Path.{_≡_, sym, _∙_, ap}
-use mathlib.Core.List.{[]}
 use mathlib.Core.Logic.{_↔_}
 use lib.Dec.{ltb}
 use Rattle.refusals.specs.declared.Refusal.the-variants.{OutOfOrder}
-use Rattle.netlist.specs.NetOf.{netOf}
+use Rattle.netlist.specs.NetOf.{netOf, alone}
 use Rattle.netlist.specs.Lines.{controlLine, lineAt}
 use Rattle.netlist.specs.declared.Line.{Line}
 use Rattle.netlist.proofs.NetOf.{lineAt-lists}
@@ -66,7 +65,7 @@ row-due-requires c κs = search needs
 store-requires : tie.Need-store-requires
 store-requires c κs =
     let start = c .before .before .before .before .before .before .before .before in
-    (start .pre .0, rw (c .before .before .before .before .before .line-due .ensures) (roomFor-due (netOf (start .args .net) [] []) (start .args .place) (start .pre .1)))
+    (start .pre .0, rw (c .before .before .before .before .before .line-due .ensures) (roomFor-due (alone (start .args .net)) (start .args .place) (start .pre .1)))
 
 test-stored-requires : tie.Need-test-stored-requires
 test-stored-requires c κs =

@@ -13,7 +13,7 @@ use Rattle.model.proofs.Wrote.{wrote-length}
 use Rattle.netlist.specs.NetOf.{netOf}
 use Rattle.dimacs.specs.Text.{clauseText}
 use Rattle.stream.proofs.Room.{numbers-most, text-most}
-use Rattle.stream.proofs.Pieces.{stands-inDepth, wrote-front}
+use Rattle.stream.proofs.Pieces.{orderHas-inDepth, wrote-front}
 use Rattle.stream.proofs.print_group.Statement.{statement}
 use Rattle.stream.proofs.print_group.Tie as tie
 
@@ -21,7 +21,7 @@ put-group-requires : tie.Need-put-group-requires
 put-group-requires c κs =
     let start = c .before .before .before in
     let p = start .pre in
-    let there = stands-inDepth _ _ (p .2) in
+    let there = orderHas-inDepth _ _ (p .2) in
     (p .0, p .1, there, omega (arith, numbers-most _ _ _ (p .0) (p .1) there, p .4))
 
 -- the count is within the numbers
@@ -29,7 +29,7 @@ within : (c : tie.After-put-group) → c .put-group .result ≤ length (c .put-g
 within c =
     let p = c .before .before .before .before .pre in
     let w = c .put-group .ensures in
-    let there = stands-inDepth _ _ (p .2) in
+    let there = orderHas-inDepth _ _ (p .2) in
     omega (arith, w .counted, numbers-most _ _ _ (p .0) (p .1) there, p .4, wrote-length w (omega (arith, numbers-most _ _ _ (p .0) (p .1) there, p .4)))
 
 slice-reshare-prefix-write-numbers : tie.Need-slice-reshare-prefix-write-numbers

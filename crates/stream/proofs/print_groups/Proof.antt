@@ -1,4 +1,4 @@
--- `stream::print_groups` meets its contract. The loop's invariant: wherever the first group stands, what is printed is the text of
+-- `stream::print_groups` meets its contract. The loop's invariant: wherever the first group has, what is printed is the text of
 -- the groups from it on, `next` comes after them, and nothing is printed yet or fewer groups are left. Assumes nothing.
 use Prim.Native.Nat.{ℕ, _+_, _-_, _≤_, _<_}
 use mathlib.Core.Path.{_≡_, refl, sym, _∙_, ap}
@@ -11,11 +11,11 @@ use lib.ListN.{length}
 use Rattle.model.specs.Groups.{groupOrder}
 use Rattle.model.specs.declared.Group.{Group}
 use Rattle.netlist.specs.NetOf.{netOf}
-use Rattle.unrolling.specs.Next.{firstOf, leftAfter, leftFrom}
+use Rattle.unrolling.specs.Next.{firstGroup, leftAfter, leftFrom}
 use Rattle.unrolling.specs.declared.order.Next.{Next}
 use Rattle.unrolling.specs.declared.order.Next.the-variants.{Then, End}
-use Rattle.stream.specs.Pieces.{Stands, Printed}
-use Rattle.stream.proofs.Pieces.{printed-nothing, due-stands, printed-next}
+use Rattle.stream.specs.Pieces.{OrderHas, Printed}
+use Rattle.stream.proofs.Pieces.{printed-nothing, orderHas-due, printed-next}
 use Rattle.stream.proofs.print_groups.Statement.{statement}
 use Rattle.stream.proofs.print_groups.Tie as tie
 
@@ -34,7 +34,7 @@ fewer k bytes next next₀ (inr l) h = l
 abbrev Inv-loop : tie.InvT-loop
 Inv-loop text₀ numbers₀ table net latches gates depth last bytes₀ next₀ text numbers bytes next =
     (bytes ≤ length text) × (length text ≡ length text₀) × (length numbers ≡ length numbers₀)
-    × ((before from : List Group) → groupOrder depth ≡ before ++ from → next₀ ≡ firstOf from
+    × ((before from : List Group) → groupOrder depth ≡ before ++ from → next₀ ≡ firstGroup from
     → Printed (netOf net latches gates) depth text₀ text bytes next from)
     × Begun depth bytes next next₀
 
@@ -61,9 +61,9 @@ so-far : (c : tie.After-known-told Inv-loop μ-loop) →
     (start .args .text .now) (at .text) (at .bytes) (Then (c .before .next .given .0 .0)) (start .args .group ∷ start .pre .2 .behind)
 so-far c =
     let start = c .before .before .before .before .before .before .before in
-    let stands = start .pre .2 in
+    let has = start .pre .2 in
     rw (c .before .next .given .1) at
-    (c .before .before .before .before .loop .inv .3 (stands .before) (start .args .group ∷ stands .behind) (stands .order) refl)
+    (c .before .before .before .before .loop .inv .3 (has .before) (start .args .group ∷ has .behind) (has .order) refl)
 
 -- the room that is left
 room : (c : tie.After-known-told Inv-loop μ-loop) →
@@ -90,7 +90,7 @@ print-group-requires c κs =
     let text : List ℕ = at .text in (
       p .0,
       p .1,
-      due-stands (p .2 .before) (start .args .group ∷ p .2 .behind) (p .2 .order) (so-far told),
+      orderHas-due (p .2 .before) (start .args .group ∷ p .2 .behind) (p .2 .order) (so-far told),
       p .3,
       omega (arith, at .inv .2, p .4),
       rw (mid-len (at .bytes) (length text) text (omega arith)) (omega (arith, room told)),

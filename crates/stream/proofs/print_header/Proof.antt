@@ -4,8 +4,7 @@ use mathlib.Core.Path.{_∙_}
 use mathlib.Core.List.{[]}
 use native.Mathlib.Omega.{arith}
 use borrow.Author.Needs.{needs}
-use Rattle.places.specs.Alone.{alone}
-use Rattle.places.proofs.Lists.{sizes-without, base-alone}
+use Rattle.netlist.proofs.NetOf.{sizes-lists, base-lists}
 use Rattle.stream.specs.Pieces.{formulaHeader}
 use Rattle.stream.proofs.print_header.Statement.{statement}
 use Rattle.stream.proofs.print_header.Tie as tie
@@ -14,9 +13,8 @@ add-frame-base : tie.Need-add-frame-base
 add-frame-base c = search needs
 
 frame-base-requires : tie.Need-frame-base-requires
-unfolding alone
 frame-base-requires c κs =
-    let p = c .before .pre in (sizes-without _ _ _ [] [] (p .0 .sizes), omega (arith, p .1))
+    let p = c .before .pre in (sizes-lists _ _ _ [] [] (p .0 .limits .sizes), omega (arith, p .1))
 
 clause-count-requires : tie.Need-clause-count-requires
 clause-count-requires c κs = search needs
@@ -32,7 +30,7 @@ unfolding formulaHeader
 returns c =
     let a = c .before .before .before .before .before .before .before .args in
     let counted = c .before .before .before .before .clause-count .ensures in
-    let based = c .before .before .before .before .before .frame-base .ensures ∙ base-alone (a .net) (a .latches .now) (a .gates .now) (a .depth + 1) in
+    let based = c .before .before .before .before .before .frame-base .ensures ∙ base-lists (a .net) (a .latches .now) (a .gates .now) (a .depth + 1) in
     rw (based, counted) at (c .before .before .print-counts .ensures)
 
 pub print-header-spec : {M : Type 1} → statement M

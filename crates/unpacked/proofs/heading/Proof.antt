@@ -4,8 +4,7 @@ use mathlib.Core.Path.{sym, _∙_}
 use native.Mathlib.Omega.{arith}
 use borrow.Author.Needs.{needs}
 use mathlib.Core.List.{[]}
-use Rattle.places.specs.Alone.{alone}
-use Rattle.places.proofs.Lists.{sizes-without, base-alone}
+use Rattle.netlist.proofs.NetOf.{sizes-lists, base-lists}
 use Rattle.records.proofs.Acceptance.{passes-accepted}
 use Rattle.unpacked.specs.Calls.{headingReply, withHeading, headingSent}
 use Rattle.unpacked.proofs.Calls.{heading-record, heading-depth, heading-passes, variables-fit}
@@ -33,15 +32,14 @@ add-frame-base : tie.Need-add-frame-base
 add-frame-base c = search needs
 
 frame-base-requires : tie.Need-frame-base-requires
-unfolding alone
 frame-base-requires c κs =
-    (sizes-without _ _ _ [] [] (passes-accepted _ _ _ .0 (sym (c .before .before .before .test-record .ensures) ∙ c .before .enum-told .given .1) .0 .sizes), omega (arith, c .if1 .left))
+    (sizes-lists _ _ _ [] [] (passes-accepted _ _ _ .0 (sym (c .before .before .before .test-record .ensures) ∙ c .before .enum-told .given .1) .0 .limits .sizes), omega (arith, c .if1 .left))
 
 returns-3 : tie.Need-returns-3
 returns-3 c =
     let passed = sym (c .before .before .before .before .before .test-record .ensures) ∙ c .before .before .before .enum-told .given .1 in
     absurd
-    (variables-fit _ _ _ (passes-accepted _ _ _ .0 passed .0) (c .before .before .if1 .left) (c .before .frame-base .ensures ∙ base-alone _ _ _ _)
+    (variables-fit _ _ _ (passes-accepted _ _ _ .0 passed .0) (c .before .before .if1 .left) (c .before .frame-base .ensures ∙ base-lists _ _ _ _)
     (c .if2 .taken))
 
 clause-count-requires : tie.Need-clause-count-requires
@@ -55,7 +53,7 @@ unfolding headingReply withHeading headingSent
 returns-4 c =
     let a = c .before .before .before .before .before .before .before .args in
     let passed = sym (c .before .before .before .before .before .before .test-record .ensures) ∙ c .before .before .before .before .enum-told .given .1 in
-    rw (heading-passes _ _ _ _ passed (c .before .before .before .if1 .left), c .before .before .frame-base .ensures ∙ base-alone (a .net) (a .latches .now) (a .gates .now) (a .depth + 1), c .clause-count .ensures)
+    rw (heading-passes _ _ _ _ passed (c .before .before .before .if1 .left), c .before .before .frame-base .ensures ∙ base-lists (a .net) (a .latches .now) (a .gates .now) (a .depth + 1), c .clause-count .ensures)
 
 pub heading-spec : {M : Type 1} → statement M
 heading-spec =

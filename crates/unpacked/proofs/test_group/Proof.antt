@@ -3,8 +3,7 @@ use mathlib.Core.Path.{sym, _∙_}
 use native.Mathlib.Omega.{arith}
 use borrow.Author.Tests.{not-true, not-false}
 use mathlib.Core.List.{[]}
-use Rattle.places.specs.Alone.{alone}
-use Rattle.places.proofs.Lists.{sizes-without, base-alone}
+use Rattle.netlist.proofs.NetOf.{sizes-lists, base-lists}
 use Rattle.records.proofs.Acceptance.{passes-accepted}
 use Rattle.unpacked.proofs.Calls.{group-record, group-depth, group-absent, group-no-room, group-passed, variables-fit}
 use borrow.Author.Needs.{needs}
@@ -40,15 +39,14 @@ add-frame-base : tie.Need-add-frame-base
 add-frame-base c = search needs
 
 frame-base-requires : tie.Need-frame-base-requires
-unfolding alone
 frame-base-requires c κs =
-    (sizes-without _ _ _ [] [] (passes-accepted _ _ _ .0 (sym (c .before .before .before .before .before .test-record .ensures) ∙ c .before .before .before .enum-told .given .1) .0 .sizes), omega (arith, c .before .before .if1 .left))
+    (sizes-lists _ _ _ [] [] (passes-accepted _ _ _ .0 (sym (c .before .before .before .before .before .test-record .ensures) ∙ c .before .before .before .enum-told .given .1) .0 .limits .sizes), omega (arith, c .before .before .if1 .left))
 
 returns-4 : tie.Need-returns-4
 returns-4 c =
     absurd
     (variables-fit _ _ _ (passes-accepted _ _ _ .0 (sym (c .before .before .before .before .before .before .before .test-record .ensures) ∙ c .before .before .before .before .before .enum-told .given .1) .0) (c .before .before .before .before .if1 .left)
-    (c .before .frame-base .ensures ∙ base-alone _ _ _ _) (c .if3 .taken))
+    (c .before .frame-base .ensures ∙ base-lists _ _ _ _) (c .if3 .taken))
 
 group-length-requires : tie.Need-group-length-requires
 group-length-requires c κs = (

@@ -1,8 +1,7 @@
 -- `wires::put_wires` meets its contract: the latches, then the gates. Assumes nothing.
-use mathlib.Core.List.{[]}
 use native.Mathlib.Omega.{arith}
 use borrow.Author.Needs.{needs}
-use Rattle.places.proofs.Lists.{sizes-without, codes-without-gates, codes-without-latches}
+use Rattle.netlist.proofs.NetOf.{limits-without-latches, limits-without-gates}
 use Rattle.writer.proofs.Wrote.{rest-within, rest-room, wrote-then}
 use Rattle.wires.proofs.WiresOf.{wires-parts, wires-room}
 use Rattle.wires.proofs.put_wires.Statement.{statement}
@@ -15,7 +14,7 @@ put-state-requires c κs =
     let is = c .before .pre .0 in
     let ls = a .latches .now in
     let gs = a .gates .now in
-    (record { sizes = sizes-without (a .net) ls gs ls [] (is .sizes); codes = codes-without-gates (a .net) ls gs (is .codes); depth = is .depth }, omega arith)
+    (record { limits = limits-without-gates (a .net) ls gs (is .limits); depth = is .depth }, omega arith)
 
 mul-put-gates : tie.Need-mul-put-gates
 mul-put-gates c =
@@ -47,7 +46,7 @@ put-gates-requires c κs =
     let is = c .before .before .before .before .pre .0 in
     let ls = a .latches .now in
     let gs = a .gates .now in
-    (record { sizes = sizes-without (a .net) ls gs [] gs (is .sizes); codes = codes-without-latches (a .net) ls gs (is .codes); depth = is .depth }, rest-room (c .before .before .put-state .ensures) (omega arith))
+    (record { limits = limits-without-latches (a .net) ls gs (is .limits); depth = is .depth }, rest-room (c .before .before .put-state .ensures) (omega arith))
 
 add-result : tie.Need-add-result
 add-result c =

@@ -9,7 +9,7 @@ use Rattle.unrolling.proofs.lengths.clause_count.Tie as tie
 count-requires : tie.Need-count-requires
 unfolding netOf
 count-requires c κs =
-    let s = c .pre .0 .sizes in (s .latches-fit, s .gates-fit, s .m-most, s .n-most, c .pre .1)
+    let s = c .pre .0 .limits .sizes in (s .latches-fit, s .gates-fit, s .m-most, s .n-most, c .pre .1)
 
 returns : tie.Need-returns
 unfolding netOf

@@ -13,14 +13,14 @@ enum-known-group c = search needs
 
 wires-length-requires : tie.Need-wires-length-requires
 unfolding netOf
-wires-length-requires c κs = let s = c .before .before .before .pre .0 .sizes in (s .latches-fit, s .gates-fit)
+wires-length-requires c κs = let s = c .before .before .before .pre .0 .limits .sizes in (s .latches-fit, s .gates-fit)
 
 enum-told : tie.Need-enum-told
 enum-told c = search needs
 
 pair-length-requires : tie.Need-pair-length-requires
 unfolding netOf
-pair-length-requires c κs = let s = c .before .before .pre .0 .sizes in (s .m-most, s .n-most)
+pair-length-requires c κs = let s = c .before .before .pre .0 .limits .sizes in (s .m-most, s .n-most)
 
 enum-known-group-2 : tie.Need-enum-known-group-2
 enum-known-group-2 c = search needs
@@ -29,7 +29,7 @@ closing-length-requires : tie.Need-closing-length-requires
 unfolding netOf
 closing-length-requires c κs =
     let here = closing-in-depth _ _ _ (c .before .group2 .given .1) (c .before .before .before .pre .2) in
-    (c .before .before .before .pre .0 .sizes .n-most, omega (arith, here, c .before .before .before .pre .1))
+    (c .before .before .before .pre .0 .limits .sizes .n-most, omega (arith, here, c .before .before .before .pre .1))
 
 enum-told-2 : tie.Need-enum-told-2
 enum-told-2 c = search needs

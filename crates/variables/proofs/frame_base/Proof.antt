@@ -1,9 +1,9 @@
--- `places::frame_base` meets its contract. Assumes nothing.
+-- `variables::frame_base` meets its contract. Assumes nothing.
 use mathlib.Core.Path.{_∙_, ap₂}
 use borrow.Author.Needs.{needs}
 use Rattle.model.specs.Variables.{base}
-use Rattle.places.proofs.frame_base.Statement.{statement}
-use Rattle.places.proofs.frame_base.Tie as tie
+use Rattle.variables.proofs.frame_base.Statement.{statement}
+use Rattle.variables.proofs.frame_base.Tie as tie
 
 numbering-requires : tie.Need-numbering-requires
 numbering-requires c κs = search needs

@@ -4,16 +4,16 @@ use Prim.Native.Nat.{ℕ, _≤_, _<_}
 use Rattle.model.specs.Clauses.{PairLiterals}
 use Rattle.model.specs.Variables.{pairLiterals}
 use Rattle.netlist.specs.declared.Netlist.{Netlist}
-use Rattle.places.specs.declared.Port.{Port}
-use Rattle.places.specs.Alone.{alone}
-use Rattle.places.specs.PortOf.{portOf}
-use Rattle.places.specs.Fits.{Fits}
+use Rattle.variables.specs.declared.Port.{Port}
+use Rattle.netlist.specs.NetOf.{alone}
+use Rattle.variables.specs.PortOf.{portOf}
+use Rattle.variables.specs.PortFits.{PortFits}
 
 abbrev pub ofPair : Netlist → Port → ℕ → ℕ → PairLiterals
 ofPair net port j i = pairLiterals (alone net) (portOf port) j i
 
 -- j < i only: a read does not see its own frame's write
-pub record IsPair (net : Netlist) (port : Port) (j i : ℕ) : Type 0 where
-  pub fits : Fits (alone net) (portOf port)
+pub record PairFits (net : Netlist) (port : Port) (j i : ℕ) : Type 0 where
+  pub fits : PortFits (alone net) (portOf port)
   pub earlier : j < i
   pub depth : i ≤ 255

@@ -10,7 +10,7 @@ use Rattle.model.specs.Variables.{base, pairBase}
 use Rattle.model.specs.Acceptance.{SizesFit, IsCode}
 use Rattle.model.proofs.Variables.{base-least, base-suc, base-most, base-monotone, pairBase-base, port-within}
 use Rattle.literals.specs.Lit.{HasNumber}
-use Rattle.places.specs.Fits.{Fits}
+use Rattle.variables.specs.PortFits.{PortFits}
 
 -- a wire in a frame
 pub wire-has-number : (c : Netlist) → SizesFit c → (i w : ℕ) → i ≤ 255 → w ≤ lastWire c → HasNumber (base c i) w
@@ -25,12 +25,12 @@ pub code-has-number : (c : Netlist) → SizesFit c → (i x : ℕ) → i ≤ 255
 code-has-number c h i x d l = wire-has-number c h i (x / 2) d (omega arith)
 
 -- a variable of a pair
-pub pair-has-number : (c : Netlist) (p : Port) → Fits c p → (j i v : ℕ) → j < i → i ≤ 255 → v ≤ c .m + 4
+pub pair-has-number : (c : Netlist) (p : Port) → PortFits c p → (j i v : ℕ) → j < i → i ≤ 255 → v ≤ c .m + 4
     → HasNumber (pairBase c p j i) v
 pair-has-number c p h j i v l d b =
     record {
       after = omega (arith, base-least c i, pairBase-base c p j i);
-      bounded = omega (arith, port-within c p j i v l (omega (arith, h .variables-fit)), base-most c (h .sizes) (suc i) (omega arith));
+      bounded = omega (arith, port-within c p j i v l (omega (arith, h .variables-fit)), base-most c (h .limits .sizes) (suc i) (omega arith));
     }
 
 -- a variable of a pair, counted behind the e's of its address bits

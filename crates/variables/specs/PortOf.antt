@@ -1,7 +1,7 @@
--- The model's port that a port of the code stands for. Assumes nothing.
+-- The model's port that a port of the code stands for. Cited by every contract over a port. Assumes nothing.
 use Rattle.model.specs.Netlist as M
 use Rattle.netlist.specs.NetOf.{codeOf}
-use Rattle.places.specs.declared.Port.{Port}
+use Rattle.variables.specs.declared.Port.{Port}
 
 unfoldable pub portOf : Port → M.Port
 portOf p =

@@ -1,10 +1,10 @@
--- `places::pair_base` meets its contract. Assumes nothing.
+-- `variables::pair_base` meets its contract. Assumes nothing.
 use native.Mathlib.Omega.{arith}
 use borrow.Author.Needs.{needs}
 use Rattle.model.specs.Variables.{pairBase}
-use Rattle.places.specs.PortOf.{portOf}
-use Rattle.places.proofs.pair_base.Statement.{statement}
-use Rattle.places.proofs.pair_base.Tie as tie
+use Rattle.variables.specs.PortOf.{portOf}
+use Rattle.variables.proofs.pair_base.Statement.{statement}
+use Rattle.variables.proofs.pair_base.Tie as tie
 
 numbering-requires : tie.Need-numbering-requires
 numbering-requires c κs = search needs

@@ -1,20 +1,18 @@
--- `places::numbering` meets its contract. Assumes nothing.
+-- `variables::numbering` meets its contract. Assumes nothing.
 use borrow.Author.Needs.{needs}
 use Rattle.netlist.specs.NetOf.{netOf}
-use Rattle.places.specs.Alone.{alone}
-use Rattle.places.proofs.numbering.Statement.{statement}
-use Rattle.places.proofs.numbering.Tie as tie
+use Rattle.variables.proofs.numbering.Statement.{statement}
+use Rattle.variables.proofs.numbering.Tie as tie
 
 last-wire-requires : tie.Need-last-wire-requires
-unfolding alone
 last-wire-requires c κs = search needs
 
 add-t3 : tie.Need-add-t3
-unfolding alone netOf
+unfolding netOf
 add-t3 c = search needs
 
 returns : tie.Need-returns
-unfolding alone netOf
+unfolding netOf
 returns c = search needs
 
 pub numbering-spec : {M : Type 1} → statement M

@@ -1,4 +1,4 @@
-// Where the variables of a record's frames and pairs stand, and the literals that two frames have in common: the port of the
+// The numbers of the variables of a record's frames and pairs, and the literals that two frames have in common: the port of the
 // memory, B(i), Q, N and Z, S (document 01, "Numbers of variables" and "Groups of clauses").
 use literals::Code;
 use literals::Lit;
@@ -7,12 +7,12 @@ use netlist::Netlist;
 ghost use mathlib.Core.Path.{_≡_};
 ghost use Prim.Native.Nat.{_≤_, _<_};
 ghost use Rattle.model.specs.Netlist.{port, lastWire};
-ghost use Rattle.model.specs.Variables.{stride, base, pairBase, none, selected};
+ghost use Rattle.model.specs.Variables.{stride, base, pairBase, noneSince, selected};
 ghost use Rattle.model.specs.Acceptance.{SizesFit};
 ghost use Rattle.literals.specs.Lit.{literalOf, IsLit};
-ghost use Rattle.places.specs.Alone.{alone};
-ghost use Rattle.places.specs.PortOf.{portOf};
-ghost use Rattle.places.specs.Fits.{Fits};
+ghost use Rattle.netlist.specs.NetOf.{alone};
+ghost use Rattle.variables.specs.PortOf.{portOf};
+ghost use Rattle.variables.specs.PortFits.{PortFits};
 
 // A read port of the memory: its codes, its first read bit and its first variable of a pair, each counted from the first of all
 // ports' (the model's port).
@@ -58,7 +58,7 @@ pub fn frame_base(net: Netlist, i: u32) -> u32
 
 // Q of pair (j, i).
 pub fn pair_base(net: Netlist, port: Port, j: u32, i: u32) -> u32
-    requires { ⌜ Fits (alone net) (portOf port) × (j ≤ i) × (i ≤ 255) ⌝ }
+    requires { ⌜ PortFits (alone net) (portOf port) × (j ≤ i) × (i ≤ 255) ⌝ }
     ensures { λ r. ⌜ r ≡ pairBase (alone net) (portOf port) j i ⌝ }
 {
     numbering(net).pair_base(port.first_variable, j, i)
@@ -66,8 +66,8 @@ pub fn pair_base(net: Netlist, port: Port, j: u32, i: u32) -> u32
 
 // PS of pair (j, i), or RE of frame i where j = i: N of the pair before, and Z where j = 0.
 pub fn none_since(net: Netlist, port: Port, j: u32, i: u32) -> Lit
-    requires { ⌜ Fits (alone net) (portOf port) × (j ≤ i) × (i ≤ 255) ⌝ }
-    ensures literal { λ r. ⌜ literalOf r ≡ none (alone net) (portOf port) j i ⌝ }
+    requires { ⌜ PortFits (alone net) (portOf port) × (j ≤ i) × (i ≤ 255) ⌝ }
+    ensures literal { λ r. ⌜ literalOf r ≡ noneSince (alone net) (portOf port) j i ⌝ }
     ensures number { λ r. ⌜ IsLit r ⌝ }
 {
     if j == i {
@@ -78,7 +78,7 @@ pub fn none_since(net: Netlist, port: Port, j: u32, i: u32) -> Lit
 
 // S of pair (j, i).
 pub fn selected(net: Netlist, port: Port, j: u32, i: u32) -> Lit
-    requires { ⌜ Fits (alone net) (portOf port) × (j < i) × (i ≤ 255) ⌝ }
+    requires { ⌜ PortFits (alone net) (portOf port) × (j < i) × (i ≤ 255) ⌝ }
     ensures literal { λ r. ⌜ literalOf r ≡ selected (alone net) (portOf port) j i ⌝ }
     ensures number { λ r. ⌜ IsLit r ⌝ }
 {

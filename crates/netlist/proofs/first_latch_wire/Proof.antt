@@ -1,0 +1,16 @@
+-- `netlist::first_latch_wire` meets its contract: the sizes are within their limits, so the sum fits. Assumes nothing.
+use native.Mathlib.Omega.{arith}
+use Rattle.netlist.specs.NetOf.{netOf}
+use Rattle.netlist.proofs.first_latch_wire.Statement.{statement}
+use Rattle.netlist.proofs.first_latch_wire.Tie as tie
+
+add-result : tie.Need-add-result
+unfolding netOf
+add-result c = omega arith
+
+returns : tie.Need-returns
+unfolding netOf
+returns c = omega arith
+
+pub first-latch-wire-spec : {M : Type 1} → statement M
+first-latch-wire-spec = tie.close (tie.spec add-result returns)

@@ -1,5 +1,0 @@
-pub mod Alone
-pub mod PortOf
-pub mod Fits
-pub mod OfPair
-pub mod ListsFit

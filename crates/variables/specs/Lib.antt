@@ -1,0 +1,4 @@
+pub mod PortOf
+pub mod PortFits
+pub mod OfPair
+pub mod FrameFits
