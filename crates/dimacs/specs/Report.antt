@@ -2,9 +2,10 @@
 -- Assumes nothing.
 use Prim.Native.Nat.{ℕ}
 use mathlib.Core.Bool.{cond}
-use mathlib.Core.List.{List, _++_}
+use mathlib.Core.List.{List}
 use lib.Dec.{leb}
-use lib.ListN.{length, drop}
+use lib.ListN.{length}
+use Rattle.model.specs.Wrote.{over}
 use Rattle.refusals.specs.Refusal.{numberOf}
 use Rattle.refusals.specs.declared.Refusal.the-variants.{NoRoom}
 use Rattle.dimacs.specs.declared.Printed.{Printed}
@@ -29,4 +30,4 @@ printReport text old =
 
 -- the text stands at the start and what is behind it is untouched; where it has no room nothing changes
 unfoldable pub printLeaves : List ℕ → List ℕ → List ℕ
-printLeaves text old = cond (leb (length text) (length old)) (text ++ drop (length text) old) old
+printLeaves text old = cond (leb (length text) (length old)) (over text old) old

@@ -3,16 +3,17 @@
 use Prim.Native.Nat.{ℕ, _+_, _≤_}
 use mathlib.Core.Path.{_≡_}
 use mathlib.Core.Bool.{true, not}
-use mathlib.Core.List.{List, _++_}
+use mathlib.Core.List.{List}
 use lib.Dec.{ltb}
 use lib.IntN.{ℤ}
-use lib.ListN.{length, take, drop}
+use lib.ListN.{length, take}
 use Rattle.model.specs.Netlist.{Netlist}
 use Rattle.model.specs.Acceptance.{Accepted}
 use Rattle.model.specs.Variables.{base}
 use Rattle.model.specs.Groups.{inDepth, groupOrder}
 use Rattle.model.specs.Numbers.{numbersOf, joined, formula, clausesIn}
 use Rattle.model.specs.Claim.{Encodes, Stated}
+use Rattle.model.specs.Wrote.{over}
 use Rattle.model.specs.declared.Group.{Group}
 use Rattle.refusals.specs.Refusal.{numberOf}
 use Rattle.refusals.specs.Tests.{refuseIf, _then_}
@@ -87,7 +88,7 @@ withHeading (Refused r p) v n = record { number = numberOf r; place = p; variabl
 
 -- the numbers written, and everything behind untouched; at a refusal the slice is as it was
 unfoldable pub withNumbers : Verdict → List ℤ → List ℤ → List ℤ
-withNumbers Passed zs old = zs ++ drop (length zs) old
+withNumbers Passed zs old = over zs old
 withNumbers (Refused r p) zs old = old
 
 -- what a group call answers, and what it leaves in the slice
