@@ -5,7 +5,7 @@ use mathlib.Core.Bool.{cond, _&&_}
 use mathlib.Core.List.{List}
 use lib.Dec.{eqb, leb}
 use lib.ListN.{length, getD, take}
-use Rattle.refusals.specs.Refusal.{numberOf}
+use Rattle.refusals.specs.Refusal.{refusalNumber}
 use Rattle.refusals.specs.declared.Refusal.{Refusal}
 use Rattle.refusals.specs.declared.Refusal.the-variants.{Misprint, Depth}
 use Rattle.fields.specs.Fields.{fieldOf}
@@ -23,7 +23,7 @@ pub record DepthAnswer : Type 0 where
 
 -- "place 0"
 abbrev pub refusedBy : Refusal → DepthAnswer
-refusedBy r = record { number = numberOf r; place = 0; depth = 0 }
+refusedBy r = record { number = refusalNumber r; place = 0; depth = 0 }
 
 abbrev pub acceptedAt : ℕ → DepthAnswer
 acceptedAt k = record { number = 0; place = 0; depth = k }

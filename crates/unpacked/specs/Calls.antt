@@ -15,7 +15,7 @@ use Rattle.model.specs.Numbers.{numbersOf, joined, formula, clausesIn}
 use Rattle.model.specs.Claim.{Encodes, Stated}
 use Rattle.model.specs.Wrote.{over}
 use Rattle.model.specs.declared.Group.{Group}
-use Rattle.refusals.specs.Refusal.{numberOf}
+use Rattle.refusals.specs.Refusal.{refusalNumber}
 use Rattle.refusals.specs.Tests.{refuseIf, _then_}
 use Rattle.refusals.specs.declared.Refusal.the-variants.{Depth, NoSuchGroup, NoRoom, OutOfNumbers}
 use Rattle.refusals.specs.declared.Verdict.{Verdict}
@@ -65,7 +65,7 @@ pub record GroupReply : Type 0 where
 
 unfoldable pub groupReply : GroupAnswer → GroupReply
 groupReply (Written n) = record { number = 0; place = 0; count = n }
-groupReply (GroupAnswer.Refused r p) = record { number = numberOf r; place = p; count = 0 }
+groupReply (GroupAnswer.Refused r p) = record { number = refusalNumber r; place = p; count = 0 }
 
 pub record HeadingReply : Type 0 where
   pub number : ℕ
@@ -75,16 +75,16 @@ pub record HeadingReply : Type 0 where
 
 unfoldable pub headingReply : HeadingAnswer → HeadingReply
 headingReply (Heading v n) = record { number = 0; place = 0; variables = v; clauses = n }
-headingReply (HeadingAnswer.Refused r p) = record { number = numberOf r; place = p; variables = 0; clauses = 0 }
+headingReply (HeadingAnswer.Refused r p) = record { number = refusalNumber r; place = p; variables = 0; clauses = 0 }
 
 -- a verdict, with the count or the heading that stand beside it where nothing is refused
 unfoldable pub withCount : Verdict → ℕ → GroupReply
 withCount Passed n = record { number = 0; place = 0; count = n }
-withCount (Refused r p) n = record { number = numberOf r; place = p; count = 0 }
+withCount (Refused r p) n = record { number = refusalNumber r; place = p; count = 0 }
 
 unfoldable pub withHeading : Verdict → ℕ → ℕ → HeadingReply
 withHeading Passed v n = record { number = 0; place = 0; variables = v; clauses = n }
-withHeading (Refused r p) v n = record { number = numberOf r; place = p; variables = 0; clauses = 0 }
+withHeading (Refused r p) v n = record { number = refusalNumber r; place = p; variables = 0; clauses = 0 }
 
 -- the numbers written, and everything behind untouched; at a refusal the slice is as it was
 unfoldable pub withNumbers : Verdict → List ℤ → List ℤ → List ℤ
