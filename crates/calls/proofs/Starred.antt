@@ -10,7 +10,8 @@ use Rattle.refusals.specs.Tests.{_then_, inOrder}
 use Rattle.netlist.specs.Lines.{lineAt}
 use Rattle.netlist.specs.Faults.{sizeFault, codeFault, loopFaultBy}
 use Rattle.records.specs.Record.{testLines, recordVerdict}
-use Rattle.unpacked.specs.Calls.{testDepth, testGroup, testNumbers, testRoom, groupVerdict, headingVerdict}
+use Rattle.refusals.specs.Slices.{testRoom}
+use Rattle.unpacked.specs.Calls.{testDepth, testGroup, testNumbers, groupVerdict, headingVerdict}
 use Rattle.calls.specs.Starred.{sheetWith, rows, Starred}
 
 pub starred : Starred

@@ -6,7 +6,7 @@ ghost use lib.ListN.{length};
 ghost use Rattle.model.specs.Wrote.{Wrote};
 ghost use Rattle.text.specs.Pairs.{pairsBelow};
 ghost use Rattle.dimacs.specs.Text.{headerText, numberText, clauseText, refusalText};
-ghost use Rattle.dimacs.specs.Report.{reportOf, printReport, printLeaves};
+ghost use Rattle.dimacs.specs.Printing.{printReply, printSent, printLeaves};
 use decimal::digit_count;
 use decimal::put_field;
 use refusals::Refusal;
@@ -99,7 +99,7 @@ pub fn write_refusal(out: &mut [u8], number: u32, place: u32) -> usize
 
 // Prints DIMACS' problem line: the numbers of variables and of clauses.
 pub fn put_header(out: &mut [u8], variables: u32, clauses: u32) -> Printed
-    ensures answer { λ r. ⌜ reportOf r ≡ printReport (headerText variables clauses) (now (out .entry)) ⌝ }
+    ensures answer { λ r. ⌜ printReply r ≡ printSent (headerText variables clauses) (length (now (out .entry))) ⌝ }
     ensures borrowed { λ _. ⌜ now (out .exit) ≡ printLeaves (headerText variables clauses) (now (out .entry)) ⌝ }
 {
     if out.len() < 8 + digit_count(variables) + digit_count(clauses) {
@@ -110,7 +110,7 @@ pub fn put_header(out: &mut [u8], variables: u32, clauses: u32) -> Printed
 
 // Prints numbers with end marks, a clause a line.
 pub fn put_clauses(out: &mut [u8], numbers: &[i32]) -> Printed
-    ensures answer { λ r. ⌜ reportOf r ≡ printReport (clauseText (now (numbers .entry))) (now (out .entry)) ⌝ }
+    ensures answer { λ r. ⌜ printReply r ≡ printSent (clauseText (now (numbers .entry))) (length (now (out .entry))) ⌝ }
     ensures borrowed { λ _. ⌜ now (out .exit) ≡ printLeaves (clauseText (now (numbers .entry))) (now (out .entry)) ⌝ }
 {
     if clauses_fit(out.len(), numbers) {
@@ -121,7 +121,7 @@ pub fn put_clauses(out: &mut [u8], numbers: &[i32]) -> Printed
 
 // Prints a refusal: its number and place in ten columns each.
 pub fn put_refusal(out: &mut [u8], number: u32, place: u32) -> Printed
-    ensures answer { λ r. ⌜ reportOf r ≡ printReport (refusalText number place) (now (out .entry)) ⌝ }
+    ensures answer { λ r. ⌜ printReply r ≡ printSent (refusalText number place) (length (now (out .entry))) ⌝ }
     ensures borrowed { λ _. ⌜ now (out .exit) ≡ printLeaves (refusalText number place) (now (out .entry)) ⌝ }
 {
     if out.len() < 28 {

@@ -15,6 +15,10 @@ latchAt codes l = record { next = record { 0 = getD codes (2 * l) 0 }; reset = g
 abbrev pub gateAt : List ℕ → ℕ → Gate
 gateAt codes g = record { left = record { 0 = getD codes (2 * g) 0 }; right = record { 0 = getD codes (2 * g + 1) 0 } }
 
--- the first n records of f in front, everything behind untouched
+-- the first n records of f
+abbrev pub firstRecords : {A : Type 0} → ℕ → (ℕ → A) → List A
+firstRecords n f = gather n (λ t. f t ∷ [])
+
+-- those in front, everything behind untouched
 unfoldable pub delivered : {A : Type 0} → ℕ → (ℕ → A) → List A → List A
-delivered n f old = over (gather n (λ t. f t ∷ [])) old
+delivered n f old = over (firstRecords n f) old

@@ -7,6 +7,7 @@ use native.Mathlib.Omega.{arith}
 use lib.ListN.{length}
 use Rattle.refusals.specs.declared.Verdict.{Verdict}
 use Rattle.refusals.specs.declared.Verdict.the-variants.{Passed, Refused}
+use Rattle.refusals.specs.Slices.{contentsAfter}
 use Rattle.refusals.proofs.Tests.{refused-not-passed}
 use Rattle.model.specs.Netlist as M
 use Rattle.model.specs.Acceptance.{Accepted}
@@ -24,7 +25,7 @@ use Rattle.lists.specs.declared.Gate.{Gate}
 use Rattle.lists.specs.Unpacked.{latchCodes, gateCodes}
 use Rattle.lists.specs.Delivered.{latchAt, gateAt, delivered}
 use Rattle.lists.proofs.Delivered.{delivered-none, length-delivered}
-use Rattle.reader.specs.Reading.{latchOf, gateOf, listBeside, readVerdict, readRecord, latchesLeft, gatesLeft, NoTestRefuses}
+use Rattle.reader.specs.Reading.{latchOf, gateOf, readVerdict, readRecord, latchesLeft, gatesLeft, NoTestRefuses}
 use Rattle.reader.proofs.Lists.{getD-gather-alone, delivered-pairs}
 use Rattle.reader.proofs.Entries.{Agree, accepted-same}
 
@@ -101,7 +102,7 @@ module _ (file : List ℕ) (latches : List Latch) (gates : List Gate) where
 
     pub reads : Reads sheet (delivered (sheet .net .latches) (latchAt latchList) latches)
         (delivered (sheet .net .gates) (gateAt gateList) gates)
-    unfolding readVerdict readRecord latchesLeft gatesLeft listBeside recordBeside recordOf netOf
+    unfolding readVerdict readRecord latchesLeft gatesLeft contentsAfter delivered recordBeside recordOf netOf
     reads = by-verdict (sheetVerdict file (length latches) (length gates)) refl
       where
         by-verdict : (v : Verdict) → sheetVerdict file (length latches) (length gates) ≡ v
