@@ -9,7 +9,7 @@ use borrow.Author.Tests.{eq-eqb, ne-eqb, eqb-true}
 use lib.Dec.{eqb}
 use lib.ListN.{length, getD, take, drop, take-append-drop, drop-of-length-le, length-append, length-take, length-drop}
 use lib.Seq.{drop-cons, drop-drop, take-at, drop-at, getD-at}
-use Rattle.decimal.specs.Digits.{field, emptyField}
+use Rattle.decimal.specs.Digits.{lineFeed, field, emptyField}
 use Rattle.decimal.proofs.Digits.{length-field}
 use Rattle.decimal.proofs.Reading.{and-both}
 use Rattle.fields.specs.Fields.{fieldOf}
@@ -17,7 +17,7 @@ use Rattle.fields.specs.declared.Field.{Field}
 use Rattle.fields.specs.declared.Field.the-variants.{Empty, Filled, Misprinted}
 use Rattle.fields.proofs.Fields.{fieldOf-field, fieldOf-empty, field-fieldOf, empty-fieldOf}
 use Rattle.lines.specs.Letters.{letterOf, kindOf, isKnown, isFilled}
-use Rattle.lines.specs.Lines.{lineFeed, fieldIn, asWanted, allAsWanted, valueOf, lineWith, lineOf, columnText, lineText}
+use Rattle.lines.specs.Lines.{fieldIn, asWanted, allAsWanted, valueOf, lineWith, lineOf, columnText, lineText}
 use Rattle.lines.specs.declared.Kind.{Kind}
 use Rattle.lines.specs.declared.Line.the-variants.{Misprint, Read}
 use Rattle.lines.proofs.Letters.{letterOf-kindOf, kindOf-letterOf}

@@ -8,10 +8,10 @@ use lib.ListN.{length, getD, take}
 use Rattle.refusals.specs.Refusal.{refusalNumber}
 use Rattle.refusals.specs.declared.Refusal.{Refusal}
 use Rattle.refusals.specs.declared.Refusal.the-variants.{Misprint, Depth}
+use Rattle.decimal.specs.Digits.{lineFeed}
 use Rattle.fields.specs.Fields.{fieldOf}
 use Rattle.fields.specs.declared.Field.{Field}
 use Rattle.fields.specs.declared.Field.the-variants.{Empty, Filled, Misprinted}
-use Rattle.lines.specs.Lines.{lineFeed}
 use Rattle.lines.specs.declared.DepthLine.{DepthLine}
 use Rattle.lines.specs.declared.DepthLine.the-variants.{Accepted, Refused}
 

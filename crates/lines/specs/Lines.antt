@@ -5,7 +5,7 @@ use mathlib.Core.Bool.{Bool, false, not, cond, _&&_}
 use mathlib.Core.List.{List, [], _∷_, _++_}
 use lib.Dec.{eqb}
 use lib.ListN.{length, getD, take, drop}
-use Rattle.decimal.specs.Digits.{field, emptyField}
+use Rattle.decimal.specs.Digits.{lineFeed, field, emptyField}
 use Rattle.fields.specs.Fields.{fieldOf}
 use Rattle.fields.specs.declared.Field.{Field}
 use Rattle.fields.specs.declared.Field.the-variants.{Empty, Filled, Misprinted}
@@ -13,9 +13,6 @@ use Rattle.lines.specs.Letters.{letterOf, kindOf, isKnown, isFilled}
 use Rattle.lines.specs.declared.Kind.{Kind}
 use Rattle.lines.specs.declared.Line.{Line}
 use Rattle.lines.specs.declared.Line.the-variants.{Misprint, Read}
-
-abbrev pub lineFeed : ℕ
-lineFeed = 10
 
 -- what is read in a column, 0 to 2, behind the letter
 unfoldable pub fieldIn : List ℕ → ℕ → Field
