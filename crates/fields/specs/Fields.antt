@@ -5,7 +5,7 @@ use mathlib.Core.Bool.{cond}
 use mathlib.Core.List.{List, [], _∷_}
 use lib.Dec.{eqb}
 use Rattle.decimal.specs.Digits.{space}
-use Rattle.decimal.specs.Reading.{numberIn}
+use Rattle.decimal.specs.TextValue.{numberIn}
 use Rattle.decimal.specs.declared.Number.{Number}
 use Rattle.decimal.specs.declared.Number.the-variants.{Value, NotANumber}
 use Rattle.fields.specs.declared.Field.{Field}

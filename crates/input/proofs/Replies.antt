@@ -14,7 +14,7 @@ use Rattle.refusals.proofs.Table.{refusalNumber-some, reply-passed}
 use Rattle.records.proofs.Acceptance.{passes-accepted}
 use Rattle.lines.specs.Depth.{DepthAnswer, refusedBy, acceptedAt, depthAnswer}
 use Rattle.sheet.specs.Codes.{CodesRead}
-use Rattle.steps.specs.declared.Sheet.{Sheet}
+use Rattle.steps.specs.declared.SheetAnswer.{SheetAnswer}
 use Rattle.input.specs.Input.{sheetReply, inputReply, SheetTaken}
 
 -- the depth is refused
@@ -32,7 +32,7 @@ pub behind-depth : (s : List ℕ) → take (length s - 11) (drop 11 s) ≡ drop 
 behind-depth s = take-all (length s - 11) (drop 11 s) (rw length-drop (omega arith))
 
 -- a sheet that is read without a refusal
-pub sheet-taken : (file : List ℕ) (sheet : Sheet) (latches gates : List ℕ) → CodesRead file 600 600 sheet latches gates
+pub sheet-taken : (file : List ℕ) (sheet : SheetAnswer) (latches gates : List ℕ) → CodesRead file 600 600 sheet latches gates
     → replyOf (sheet .verdict) .number ≡ 0 → SheetTaken file (sheet .net) latches gates
 sheet-taken file sheet latches gates c h =
     let passed = reply-passed (sheet .verdict) h in

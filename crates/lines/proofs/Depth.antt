@@ -9,7 +9,7 @@ use lib.Dec.{leb, eqb}
 use lib.ListN.{length, getD, take}
 use Rattle.refusals.specs.declared.Refusal.the-variants.{Misprint, Depth}
 use Rattle.decimal.specs.Digits.{lineFeed, field, digits, digitsWithin}
-use Rattle.decimal.specs.Reading.{numberIn, sameText, valueAfter}
+use Rattle.decimal.specs.TextValue.{numberIn, sameText, valueAfter}
 use Rattle.fields.specs.Fields.{fieldOf, dropSpaces, behindSpaces, filledWith}
 use Rattle.fields.specs.declared.Field.{Field}
 use Rattle.fields.specs.declared.Field.the-variants.{Empty, Filled, Misprinted}

@@ -10,7 +10,7 @@ use native.Mathlib.Omega.{arith}
 use borrow.Author.Tests.{eqb-true}
 use lib.Dec.{eqb}
 use lib.ListN.{getD}
-use Rattle.decimal.proofs.Reading.{and-both}
+use Rattle.decimal.proofs.TextValue.{and-both}
 use Rattle.lines.specs.Letters.{letterOf, kindOf, rowOf, isKnown, isFilled, FilledAsPrinted}
 use Rattle.lines.specs.declared.Kind.{Kind}
 use Rattle.lines.specs.declared.Kind.the-variants.{Sizes, Memory, Latch, Gate, Address, WriteData, Control, Unknown}

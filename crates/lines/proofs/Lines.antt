@@ -11,7 +11,7 @@ use lib.ListN.{length, getD, take, drop, take-append-drop, drop-of-length-le, le
 use lib.Seq.{drop-cons, drop-drop, take-at, drop-at, getD-at}
 use Rattle.decimal.specs.Digits.{lineFeed, field, emptyField}
 use Rattle.decimal.proofs.Digits.{length-field}
-use Rattle.decimal.proofs.Reading.{and-both}
+use Rattle.decimal.proofs.TextValue.{and-both}
 use Rattle.fields.specs.Fields.{fieldOf}
 use Rattle.fields.specs.declared.Field.{Field}
 use Rattle.fields.specs.declared.Field.the-variants.{Empty, Filled, Misprinted}
@@ -19,7 +19,7 @@ use Rattle.fields.proofs.Fields.{fieldOf-field, fieldOf-empty, field-fieldOf, e
 use Rattle.lines.specs.Letters.{letterOf, kindOf, isKnown, isFilled}
 use Rattle.lines.specs.Lines.{fieldIn, asWanted, allAsWanted, valueOf, lineWith, lineOf, columnText, lineText}
 use Rattle.lines.specs.declared.Kind.{Kind}
-use Rattle.lines.specs.declared.Line.the-variants.{Misprint, Read}
+use Rattle.lines.specs.declared.ParsedLine.the-variants.{Misprint, Read}
 use Rattle.lines.proofs.Letters.{letterOf-kindOf, kindOf-letterOf}
 
 -- a line by the outcomes of its four tests: the letter, and each field

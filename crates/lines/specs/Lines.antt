@@ -11,8 +11,8 @@ use Rattle.fields.specs.declared.Field.{Field}
 use Rattle.fields.specs.declared.Field.the-variants.{Empty, Filled, Misprinted}
 use Rattle.lines.specs.Letters.{letterOf, kindOf, isKnown, isFilled}
 use Rattle.lines.specs.declared.Kind.{Kind}
-use Rattle.lines.specs.declared.Line.{Line}
-use Rattle.lines.specs.declared.Line.the-variants.{Misprint, Read}
+use Rattle.lines.specs.declared.ParsedLine.{ParsedLine}
+use Rattle.lines.specs.declared.ParsedLine.the-variants.{Misprint, Read}
 
 -- what is read in a column, 0 to 2, behind the letter
 unfoldable pub fieldIn : List ℕ → ℕ → Field
@@ -34,12 +34,12 @@ valueOf (Filled x) = x
 valueOf Misprinted = 0
 
 -- a line of this kind with these fields; "unknown letter, a field not as its letter wants" is a misprint
-unfoldable pub lineWith : Kind → Field → Field → Field → Line
+unfoldable pub lineWith : Kind → Field → Field → Field → ParsedLine
 lineWith k a b c =
     cond (isKnown k && allAsWanted k a b c) (Read k (valueOf a) (valueOf b) (valueOf c)) Misprint
 
 -- "a letter, three fields of ten columns, a line feed": 32 bytes, of which the last is a line feed, or a misprint
-unfoldable pub lineOf : List ℕ → Line
+unfoldable pub lineOf : List ℕ → ParsedLine
 lineOf s =
     cond (eqb (length s) 32 && eqb (getD s 31 0) lineFeed)
     (lineWith (kindOf (getD s 0 0)) (fieldIn s 0) (fieldIn s 1) (fieldIn s 2))

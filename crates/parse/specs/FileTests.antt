@@ -13,8 +13,8 @@ use Rattle.netlist.specs.Lines.{lineAt, controlLine}
 use Rattle.netlist.specs.Faults.{sizeFault, codeFault}
 use Rattle.lines.specs.Letters.{rowOf}
 use Rattle.lines.specs.declared.Kind.{Kind}
-use Rattle.lines.specs.declared.Line.{Line}
-use Rattle.lines.specs.declared.Line.the-variants as Line
+use Rattle.lines.specs.declared.ParsedLine.{ParsedLine}
+use Rattle.lines.specs.declared.ParsedLine.the-variants as ParsedLine
 use Rattle.steps.specs.Due.{kindDue}
 use Rattle.parse.specs.Files.{lineIn}
 
@@ -23,14 +23,14 @@ unfoldable pub ragged : List ℕ → Bool
 ragged file = eqb (length file) 0 || not (eqb (length file % 32) 0) || ltb 19680 (length file)
 
 -- 2: a line that is misprinted
-abbrev pub misprinted : Line → Bool
-misprinted Line.Misprint = true
-misprinted (Line.Read k x y z) = false
+abbrev pub misprinted : ParsedLine → Bool
+misprinted ParsedLine.Misprint = true
+misprinted (ParsedLine.Read k x y z) = false
 
 -- whether a line is of a kind
-abbrev pub isOf : Kind → Line → Bool
-isOf k Line.Misprint = false
-isOf k (Line.Read kind x y z) = eqb (rowOf kind) (rowOf k)
+abbrev pub isOf : Kind → ParsedLine → Bool
+isOf k ParsedLine.Misprint = false
+isOf k (ParsedLine.Read kind x y z) = eqb (rowOf kind) (rowOf k)
 
 -- 3: "not the line due, .. or too many"
 unfoldable pub notDue : Netlist → List ℕ → ℕ → Bool

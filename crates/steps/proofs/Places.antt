@@ -19,7 +19,7 @@ use Rattle.netlist.specs.declared.Line.the-variants.{Sizes, Memory, Latch, Gate
 use Rattle.netlist.proofs.Lines.{at-sizes, at-memory, at-latch, at-gate, at-address, at-data, at-control, stands}
 use Rattle.lines.specs.Letters.{rowOf}
 use Rattle.steps.specs.Due.{kindDue}
-use Rattle.steps.specs.Due.{numberIn, roomFor, sameLine}
+use Rattle.steps.specs.Due.{lineIndex, roomFor, sameLine}
 use Rattle.steps.specs.Steps.{SizesKnown}
 
 -- the row of a line's kind
@@ -36,11 +36,11 @@ sizeOfRow c row = getD (1 ∷ 1 ∷ c .latches ∷ c .gates ∷ c .m ∷ c .n �
 
 -- where a line stands
 abbrev pub placeOf : Netlist → Line → ℕ
-placeOf c x = firstInRow c (rowOfLine x) + numberIn x
+placeOf c x = firstInRow c (rowOfLine x) + lineIndex x
 
 -- a line that the netlist has is below its row's size
 abbrev pub InRow : Netlist → Line → Type 0
-InRow c x = numberIn x < sizeOfRow c (rowOfLine x)
+InRow c x = lineIndex x < sizeOfRow c (rowOfLine x)
 
 inRow-of-stands : (c : Netlist) (x : Line) → Stands c x → InRow c x
 inRow-of-stands c Sizes h = omega arith
@@ -88,10 +88,10 @@ not-true→false false h = refl
 -- lines that are the same have the same place and are both in their row
 module _ (c : Netlist) (x y : Line) (h : sameLine x y ≡ true) where
   same-row : rowOfLine x ≡ rowOfLine y
-  same-row = eqb-true (rowOfLine x) (rowOfLine y) (both-true (eqb (rowOfLine x) (rowOfLine y)) (eqb (numberIn x) (numberIn y)) h .0)
+  same-row = eqb-true (rowOfLine x) (rowOfLine y) (both-true (eqb (rowOfLine x) (rowOfLine y)) (eqb (lineIndex x) (lineIndex y)) h .0)
 
-  same-number : numberIn x ≡ numberIn y
-  same-number = eqb-true (numberIn x) (numberIn y) (both-true (eqb (rowOfLine x) (rowOfLine y)) (eqb (numberIn x) (numberIn y)) h .1)
+  same-number : lineIndex x ≡ lineIndex y
+  same-number = eqb-true (lineIndex x) (lineIndex y) (both-true (eqb (rowOfLine x) (rowOfLine y)) (eqb (lineIndex x) (lineIndex y)) h .1)
 
   same-place : placeOf c x ≡ placeOf c y
   same-place = rw (same-row, same-number)
@@ -101,7 +101,7 @@ module _ (c : Netlist) (x y : Line) (h : sameLine x y ≡ true) where
 
 -- a line is the same as itself
 sameLine-self : (x : Line) → sameLine x x ≡ true
-sameLine-self x = rw (eq-eqb (rowOfLine x) (rowOfLine x) refl, eq-eqb (numberIn x) (numberIn x) refl)
+sameLine-self x = rw (eq-eqb (rowOfLine x) (rowOfLine x) refl, eq-eqb (lineIndex x) (lineIndex x) refl)
 
 -- the line at a place is the one that stands there
 module _ (c : Netlist) (p : ℕ) (h : 1 ≤ p) (b : p ≤ controlLine c) (x : Line) where
@@ -131,7 +131,7 @@ unfolding sizeFault
 no-size-from-3 c d p h = codes-from-3 d p (λ x. sizeFault c x ≡ false) h (λ l. refl) (λ g. refl) (λ t. refl) (λ t. refl) refl
 
 -- the line due has room
-pub roomFor-due : (c : Netlist) (p : ℕ) → SizesKnown c p → numberIn (lineAt c p) < roomFor (lineAt c p)
+pub roomFor-due : (c : Netlist) (p : ℕ) → SizesKnown c p → lineIndex (lineAt c p) < roomFor (lineAt c p)
 roomFor-due c p known =
     by-cases (decLt p memoryLine) (λ s. rw (at-sizes c p s) (omega arith)) λ s.
     by-cases (decLt p (latchLine c 0)) (λ m. rw (at-memory c p (omega arith)) (omega arith)) λ m.

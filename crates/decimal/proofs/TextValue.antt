@@ -1,4 +1,4 @@
--- Laws of specs/Reading.antt: what is written reads back as the same number (`numberIn-digits`), what is read is the text of its
+-- Laws of specs/TextValue.antt: what is written reads back as the same number (`numberIn-digits`), what is read is the text of its
 -- number (`digits-numberIn`), and any other text is none (`numberIn-other`). No contract cites this file. Assumes nothing.
 use Prim.Native.Nat.{ℕ, zero, suc, _+_, _-_, _*_, _/_, _%_, _^_, _≤_, _<_}
 use mathlib.Core.Path.{_≡_, refl, sym, ap, ap₂, _∙_}
@@ -12,7 +12,7 @@ use lib.ListN.{length, getD, drop, drop-of-length-le, List·getD-append}
 use lib.Seq.{drop-cons}
 use borrow.Author.Tests.{lt-ltb, ltb-true, le-leb, lt-leb, leb-true, eq-eqb, eqb-true}
 use Rattle.decimal.specs.Digits.{digit, digits}
-use Rattle.decimal.specs.Reading.{sameText, valueAfter, numberIn}
+use Rattle.decimal.specs.TextValue.{sameText, valueAfter, numberIn}
 use Rattle.decimal.specs.declared.Number.{Number}
 use Rattle.decimal.specs.declared.Number.the-variants.{Value, NotANumber}
 use Rattle.decimal.proofs.Digits.{digits-single, digits-snoc, digits-behind, by-tenths, length-digits-some, length-digits-ten}

@@ -1,4 +1,4 @@
--- Laws of specs/Printing.antt: what a call answers and leaves where there is room, and where not. No contract cites this file.
+-- Laws of specs/PrintCalls.antt: what a call answers and leaves where there is room, and where not. No contract cites this file.
 -- Assumes nothing.
 use Prim.Native.Nat.{ℕ, _≤_, _<_}
 use mathlib.Core.Path.{_≡_, ap}
@@ -9,8 +9,8 @@ use Rattle.refusals.specs.Slices.{withCount, contentsAfter}
 use Rattle.refusals.specs.declared.Refusal.the-variants.{NoRoom}
 use Rattle.refusals.proofs.Slices.{room-enough, room-short}
 use Rattle.model.specs.Wrote.{Wrote}
-use Rattle.dimacs.specs.Printing.{printReply, printSent, printLeaves}
-use Rattle.dimacs.specs.declared.Printed.the-variants.{Written, Refused}
+use Rattle.dimacs.specs.PrintCalls.{printReply, printSent, printLeaves}
+use Rattle.dimacs.specs.declared.PrintAnswer.the-variants.{Written, Refused}
 
 -- a text that was written in a slice that kept its length: the answer is its count, and it stands before what was there
 pub written :

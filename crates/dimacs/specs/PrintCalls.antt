@@ -5,13 +5,13 @@ use mathlib.Core.List.{List}
 use lib.ListN.{length}
 use Rattle.refusals.specs.Slices.{testRoom, CountReply, withCount, contentsAfter}
 use Rattle.refusals.specs.declared.Verdict.the-variants.{Passed, Refused}
-use Rattle.dimacs.specs.declared.Printed.{Printed}
-use Rattle.dimacs.specs.declared.Printed.the-variants.{Written}
+use Rattle.dimacs.specs.declared.PrintAnswer.{PrintAnswer}
+use Rattle.dimacs.specs.declared.PrintAnswer.the-variants.{Written}
 
 -- an answer in document 01's numbers
-unfoldable pub printReply : Printed → CountReply
+unfoldable pub printReply : PrintAnswer → CountReply
 printReply (Written n) = withCount Passed n
-printReply (Printed.Refused r p) = withCount (Refused r p) 0
+printReply (PrintAnswer.Refused r p) = withCount (Refused r p) 0
 
 -- what is sent back, for a slice of `room` bytes: how many were written
 unfoldable pub printSent : List ℕ → ℕ → CountReply
