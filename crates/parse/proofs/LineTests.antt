@@ -1,4 +1,4 @@
--- The test of a line in the whole file (specs/Sheet.antt) is the test of it in the netlist as far as it is read (specs/Steps.antt).
+-- The test of a line in the whole file (specs/FileTests.antt) is the test of it in the netlist as far as it is read (`stepVerdict`).
 -- No contract cites this file. Assumes nothing.
 use Prim.Native.Nat.{ℕ, _+_, _≤_}
 use mathlib.Core.Path.{_≡_, refl, sym, _∙_, subst}
@@ -54,7 +54,7 @@ test-misprint c file q e = rw e
 -- a printed line
 test-printed : (c : M.Netlist) (file : List ℕ) (q : ℕ) (kind : Kind) (x y z : ℕ) → lineIn file q ≡ ParsedLine.Read kind x y z
     → testLineIn c file q ≡ (refuseIf (ltb (controlLine c) q || not (eqb (rowOf kind) (rowOf (kindDue (lineAt c q))))) OutOfOrder q then faultsAt c (lineAt c q) q)
-unfolding testLineIn notDue faultsAt _then_
+unfolding testLineIn notDue _then_
 test-printed c file q kind x y z e = rw (e, not-within q (controlLine c) (eqb (rowOf kind) (rowOf (kindDue (lineAt c q)))))
 
 module _ (file : List ℕ) (p : ℕ) (kind : Kind) (x y z : ℕ) (e : lineIn file (p + 1) ≡ ParsedLine.Read kind x y z) where
@@ -87,7 +87,7 @@ pub record NoFault (c : M.Netlist) (file : List ℕ) (q : ℕ) : Type 0 where
   pub code : codeFault c (lineAt c q) ≡ false
 
 pub no-fault : (c : M.Netlist) (file : List ℕ) (q : ℕ) → testLineIn c file q ≡ Passed → NoFault c file q
-unfolding testLineIn _then_
+unfolding testLineIn faultsAt _then_
 no-fault c file q e =
     let a = then-passes (refuseIf (misprinted (lineIn file q)) Word.Misprint q) (order then size then code) .0 e in
     let b = then-passes order (size then code) .0 (a .1) in

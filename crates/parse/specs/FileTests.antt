@@ -7,15 +7,15 @@ use lib.Dec.{eqb, ltb, leb}
 use lib.ListN.{length}
 use Rattle.model.specs.Netlist.{Netlist}
 use Rattle.refusals.specs.Tests.{refuseIf, _then_}
-use Rattle.refusals.specs.declared.Refusal.the-variants.{Misprint, OutOfOrder, Size, CodeOutside}
+use Rattle.refusals.specs.declared.Refusal.the-variants.{Misprint, OutOfOrder}
 use Rattle.refusals.specs.declared.Verdict.{Verdict}
 use Rattle.netlist.specs.Lines.{lineAt, controlLine}
-use Rattle.netlist.specs.Faults.{sizeFault, codeFault}
 use Rattle.lines.specs.Letters.{rowOf}
 use Rattle.lines.specs.declared.Kind.{Kind}
 use Rattle.lines.specs.declared.ParsedLine.{ParsedLine}
 use Rattle.lines.specs.declared.ParsedLine.the-variants as ParsedLine
 use Rattle.steps.specs.Due.{kindDue}
+use Rattle.steps.specs.Steps.{faultsAt}
 use Rattle.parse.specs.Files.{lineIn}
 
 -- 1: "file empty, not a multiple of 32 bytes, or over 19,680"
@@ -41,5 +41,4 @@ unfoldable pub testLineIn : Netlist → List ℕ → ℕ → Verdict
 testLineIn c file p =
     refuseIf (misprinted (lineIn file p)) Misprint p
     then refuseIf (notDue c file p) OutOfOrder p
-    then refuseIf (sizeFault c (lineAt c p)) Size p
-    then refuseIf (codeFault c (lineAt c p)) CodeOutside p
+    then faultsAt c (lineAt c p) p
