@@ -11,7 +11,7 @@ use lib.ListN.{length, getD, take, drop, take-append-drop, drop-of-length-le, le
 use lib.Seq.{drop-cons, drop-drop, take-at, drop-at, getD-at}
 use Rattle.decimal.specs.Digits.{lineFeed, field, emptyField}
 use Rattle.decimal.proofs.Digits.{length-field}
-use Rattle.decimal.proofs.TextValue.{and-both}
+use Rattle.model.proofs.Booleans.{and-true}
 use Rattle.fields.specs.Fields.{fieldOf}
 use Rattle.fields.specs.declared.Field.{Field}
 use Rattle.fields.specs.declared.Field.the-variants.{Empty, Filled, Misprinted}
@@ -94,9 +94,9 @@ lineWith-read k l f g h a b c = by-tests (isKnown k && allAsWanted k f g h) refl
         (t : Bool) → (isKnown k && allAsWanted k f g h) ≡ t →
         cond t (Read k (valueOf f) (valueOf g) (valueOf h)) Misprint ≡ Read l a b c → (k ≡ l) × IsLine k f g h a b c
     by-tests true t e =
-        let p = and-both (isKnown k) (allAsWanted k f g h) t in
-        let q = and-both (asWanted (isFilled k 0) f && asWanted (isFilled k 1) g) (asWanted (isFilled k 2) h) (p .1) in
-        let r = and-both (asWanted (isFilled k 0) f) (asWanted (isFilled k 1) g) (q .0) in (
+        let p = and-true (isKnown k) (allAsWanted k f g h) .0 t in
+        let q = and-true (asWanted (isFilled k 0) f && asWanted (isFilled k 1) g) (asWanted (isFilled k 2) h) .0 (p .1) in
+        let r = and-true (asWanted (isFilled k 0) f) (asWanted (isFilled k 1) g) .0 (q .0) in (
           cc,
           record { known = p .0; first = r .0; second = r .1; third = q .1; first-is = cc; second-is = cc; third-is = cc },
         )
@@ -116,7 +116,7 @@ lineOf-read s k a b c = by-tests (eqb (length s) 32 && eqb (getD s 31 0) lineFee
         (length s ≡ 32) × (getD s 31 0 ≡ lineFeed)
         × (lineWith (kindOf (getD s 0 0)) (fieldIn s 0) (fieldIn s 1) (fieldIn s 2) ≡ Read k a b c)
     by-tests true t e =
-        let p = and-both (eqb (length s) 32) (eqb (getD s 31 0) lineFeed) t in
+        let p = and-true (eqb (length s) 32) (eqb (getD s 31 0) lineFeed) .0 t in
         (eqb-true (length s) 32 (p .0), eqb-true (getD s 31 0) lineFeed (p .1), e)
     by-tests false t e = let z : _≡_ {A = ℕ} 0 1 = cc in absurd (omega arith)
 

@@ -2,7 +2,7 @@
 -- reading line by line. Assumes nothing.
 use Prim.Native.Nat.{ℕ, _+_, _-_, _≤_, _<_}
 use mathlib.Core.Path.{_≡_, refl, sym, _∙_, ap}
-use mathlib.Core.Bool.{Bool, true, false, _&&_, true≢false}
+use mathlib.Core.Bool.{true, false}
 use mathlib.Core.Logic.{by-cases}
 use mathlib.Core.List.{List, [], _∷_}
 use native.Mathlib.Decide.{decLt}
@@ -12,14 +12,14 @@ use lib.ListN.{getD}
 use borrow.Author.Tests.{eq-eqb, eqb-true, le-ltb}
 use Rattle.model.specs.Netlist.{Netlist}
 use Rattle.model.specs.Acceptance.{SizesFit}
+use Rattle.model.proofs.Booleans.{and-true, not-true-false}
 use Rattle.netlist.specs.Lines.{memoryLine, latchLine, gateLine, addressLine, dataLine, controlLine, lineAt, Stands}
 use Rattle.netlist.specs.Faults.{sizeFault}
 use Rattle.netlist.specs.declared.Line.{Line}
 use Rattle.netlist.specs.declared.Line.the-variants.{Sizes, Memory, Latch, Gate, Address, Data, Control}
 use Rattle.netlist.proofs.Lines.{at-sizes, at-memory, at-latch, at-gate, at-address, at-data, at-control, stands}
 use Rattle.lines.specs.Letters.{rowOf}
-use Rattle.steps.specs.Due.{kindDue}
-use Rattle.steps.specs.Due.{lineIndex, roomFor, sameLine}
+use Rattle.steps.specs.Due.{kindDue, lineIndex, roomFor, sameLine}
 use Rattle.steps.specs.Steps.{SizesKnown}
 
 -- the row of a line's kind
@@ -75,23 +75,13 @@ place-lineAt c p h b =
     by-cases (decLt p (controlLine c)) (λ d. rw (at-data c p (p - dataLine c 0) (omega arith) (omega arith)) (omega arith)) λ d.
     rw (at-control c p (omega arith)) (omega arith)
 
--- both of two tests hold where their conjunction does
-both-true : (a b : Bool) → (a && b) ≡ true → (a ≡ true) × (b ≡ true)
-both-true true b h = (refl, h)
-both-true false b h = absurd (true≢false (sym h))
-
--- a test that cannot hold does not
-not-true→false : (b : Bool) → (b ≡ true → ⊥) → b ≡ false
-not-true→false true h = absurd (h refl)
-not-true→false false h = refl
-
 -- lines that are the same have the same place and are both in their row
 module _ (c : Netlist) (x y : Line) (h : sameLine x y ≡ true) where
   same-row : rowOfLine x ≡ rowOfLine y
-  same-row = eqb-true (rowOfLine x) (rowOfLine y) (both-true (eqb (rowOfLine x) (rowOfLine y)) (eqb (lineIndex x) (lineIndex y)) h .0)
+  same-row = eqb-true (rowOfLine x) (rowOfLine y) (and-true (eqb (rowOfLine x) (rowOfLine y)) (eqb (lineIndex x) (lineIndex y)) .0 h .0)
 
   same-number : lineIndex x ≡ lineIndex y
-  same-number = eqb-true (lineIndex x) (lineIndex y) (both-true (eqb (rowOfLine x) (rowOfLine y)) (eqb (lineIndex x) (lineIndex y)) h .1)
+  same-number = eqb-true (lineIndex x) (lineIndex y) (and-true (eqb (rowOfLine x) (rowOfLine y)) (eqb (lineIndex x) (lineIndex y)) .0 h .1)
 
   same-place : placeOf c x ≡ placeOf c y
   same-place = rw (same-row, same-number)
@@ -110,11 +100,11 @@ module _ (c : Netlist) (p : ℕ) (h : 1 ≤ p) (b : p ≤ controlLine c) (x : Li
 
   pub sameLine-elsewhere : (p ≡ placeOf c x → ⊥) → sameLine (lineAt c p) x ≡ false
   sameLine-elsewhere n =
-      not-true→false (sameLine (lineAt c p) x) (λ s. n (sym (place-lineAt c p h b) ∙ same-place c (lineAt c p) x s))
+      not-true-false (sameLine (lineAt c p) x) (λ s. n (sym (place-lineAt c p h b) ∙ same-place c (lineAt c p) x s))
 
   pub sameLine-none : (InRow c x → ⊥) → sameLine (lineAt c p) x ≡ false
   sameLine-none n =
-      not-true→false (sameLine (lineAt c p) x) (λ s. n (same-inRow c (lineAt c p) x s (inRow-at c p)))
+      not-true-false (sameLine (lineAt c p) x) (λ s. n (same-inRow c (lineAt c p) x s (inRow-at c p)))
 
 -- what holds of every line of codes holds of each line from line 3 on
 pub codes-from-3 : (c : Netlist) (p : ℕ) (P : Line → Type 0) → 3 ≤ p → ((l : ℕ) → P (Latch l)) → ((g : ℕ) → P (Gate g)) → ((t : ℕ) → P (Address t)) → ((t : ℕ) → P (Data t)) → P Control → P (lineAt c p)
