@@ -17,7 +17,7 @@ use Rattle.fields.specs.declared.Field.{Field}
 use Rattle.fields.specs.declared.Field.the-variants.{Empty, Filled, Misprinted}
 use Rattle.fields.proofs.Fields.{fieldOf-field, fieldOf-empty, field-fieldOf, empty-fieldOf}
 use Rattle.lines.specs.Letters.{letterOf, kindOf, isKnown, isFilled}
-use Rattle.lines.specs.Lines.{fieldIn, asWanted, allAsWanted, valueOf, lineWith, lineOf, columnText, lineText}
+use Rattle.lines.specs.Lines.{fieldIn, asWanted, allAsWanted, valueOf, lineWith, lineOf, columnText, lineText, ReadAsWritten}
 use Rattle.lines.specs.declared.Kind.{Kind}
 use Rattle.lines.specs.declared.ParsedLine.the-variants.{Misprint, Read}
 use Rattle.lines.proofs.Letters.{letterOf-kindOf, kindOf-letterOf}
@@ -121,7 +121,7 @@ lineOf-read s k a b c = by-tests (eqb (length s) 32 && eqb (getD s 31 0) lineFee
     by-tests false t e = let z : _≡_ {A = ℕ} 0 1 = cc in absurd (omega arith)
 
 -- what is read is the line's text
-pub lineText-lineOf : (s : List ℕ) (k : Kind) (a b c : ℕ) → lineOf s ≡ Read k a b c → s ≡ lineText k a b c
+lineText-lineOf : (s : List ℕ) (k : Kind) (a b c : ℕ) → lineOf s ≡ Read k a b c → s ≡ lineText k a b c
 unfolding lineText fieldIn
 lineText-lineOf s k a b c h =
     let read = lineOf-read s k a b c h in
@@ -202,7 +202,7 @@ lineWith-filled k a b c h =
     ∙ rw (value-column (isFilled k 0) a, value-column (isFilled k 1) b, value-column (isFilled k 2) c)
 
 -- a line as it is written is read back, with 0 where a field is empty
-pub lineOf-lineText :
+lineOf-lineText :
     (k : Kind) (a b c : ℕ) → isKnown k ≡ true → a < 2 ^ 32 → b < 2 ^ 32 → c < 2 ^ 32 →
     lineOf (lineText k a b c) ≡ Read k (cond (isFilled k 0) a 0) (cond (isFilled k 1) b 0) (cond (isFilled k 2) c 0)
 unfolding lineText fieldIn
@@ -222,3 +222,7 @@ lineOf-lineText k a b c h x y z =
     ap fieldOf (third-column (letterOf k) lineFeed f g e lf lg le) ∙ fieldOf-columnText (isFilled k 2) c z in
     lineOf-fields s (length-bytes (letterOf k) lineFeed f g e lf lg le) (last-byte (letterOf k) lineFeed f g e lf lg le)
     ∙ rw (kindOf-letterOf k h, first, second, third) (lineWith-filled k a b c h)
+
+-- both
+pub read-as-written : ReadAsWritten
+read-as-written = record { read→text = lineText-lineOf; text→read = lineOf-lineText }

@@ -1,7 +1,8 @@
 -- A line of 32 bytes as it is read and as it is written (document 01, "The sheet"). Cited by `read_line` and by the reader of
 -- sheets. Assumes nothing.
-use Prim.Native.Nat.{ℕ, _+_, _*_}
-use mathlib.Core.Bool.{Bool, false, not, cond, _&&_}
+use Prim.Native.Nat.{ℕ, _+_, _*_, _^_, _<_}
+use mathlib.Core.Path.{_≡_}
+use mathlib.Core.Bool.{Bool, true, false, not, cond, _&&_}
 use mathlib.Core.List.{List, [], _∷_, _++_}
 use lib.Dec.{eqb}
 use lib.ListN.{length, getD, take, drop}
@@ -52,3 +53,9 @@ columnText filled x = cond filled (field x) emptyField
 unfoldable pub lineText : Kind → ℕ → ℕ → ℕ → List ℕ
 lineText k a b c =
     letterOf k ∷ columnText (isFilled k 0) a ++ columnText (isFilled k 1) b ++ columnText (isFilled k 2) c ++ lineFeed ∷ []
+
+-- the two are one: what is read as a line is its text, and its text is read as the line, with 0 where a field is empty
+pub record ReadAsWritten : Type 0 where
+  pub read→text : (s : List ℕ) (k : Kind) (a b c : ℕ) → lineOf s ≡ Read k a b c → s ≡ lineText k a b c
+  pub text→read : (k : Kind) (a b c : ℕ) → isKnown k ≡ true → a < 2 ^ 32 → b < 2 ^ 32 → c < 2 ^ 32
+      → lineOf (lineText k a b c) ≡ Read k (cond (isFilled k 0) a 0) (cond (isFilled k 1) b 0) (cond (isFilled k 2) c 0)

@@ -2,7 +2,7 @@
 ghost use mathlib.Core.Path.{_≡_};
 ghost use Prim.Native.Nat.{_<_};
 ghost use Rattle.lines.specs.Letters.{kindOf, rowOf, isFilled, FilledAsPrinted};
-ghost use Rattle.lines.specs.Lines.{asWanted, valueOf, lineWith, lineOf};
+ghost use Rattle.lines.specs.Lines.{asWanted, valueOf, lineWith, lineOf, ReadAsWritten};
 ghost use Rattle.lines.specs.Depth.{answerOf, valueAnswer, depthAnswer};
 use fields::Field;
 use refusals::Refusal;
@@ -146,7 +146,8 @@ fn line_with(kind: Kind, first: Field, second: Field, third: Field) -> ParsedLin
 
 // What 32 bytes are read as. The fields are held to the letter on the line, whichever line is due.
 pub fn read_line(line: &[u8]) -> ParsedLine
-    ensures { λ r. ⌜ r ≡ lineOf (now (line .entry)) ⌝ }
+    ensures line { λ r. ⌜ r ≡ lineOf (now (line .entry)) ⌝ }
+    ensures written { λ _. ⌜ ReadAsWritten ⌝ }
 {
     if line.len() == 32 {
         if line[31] == b'\n' {
