@@ -1,5 +1,5 @@
--- What a lent list of records is, unpacked: two numbers a record. The public contracts name a caller's lists by `latchCodes` and
--- `gateCodes`. Assumes nothing.
+-- What a lent list of records is, unpacked: two numbers a record. Cited by the functions that unpack, and by calls/specs/Lent and
+-- reader/specs/ReadCall, which name a caller's lists by `latchCodes` and `gateCodes`. Assumes nothing.
 use Prim.Native.Nat.{ℕ, _+_, _*_}
 use mathlib.Core.List.{List, [], _∷_}
 use mathlib.Core.Bool.{Bool, true, false}

@@ -1,4 +1,5 @@
--- What the numbers of an exported function stand for: a group for three numbers, and the fields of a reply. Assumes nothing.
+-- What the numbers of an exported function stand for: a group for three numbers, and the fields of a reply. Cited by
+-- the functions of `replies` and by the exported functions. Assumes nothing.
 use Prim.Native.Nat.{ℕ}
 use mathlib.Core.Bool.{cond}
 use lib.Dec.{eqb}

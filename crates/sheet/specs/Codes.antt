@@ -1,5 +1,6 @@
 -- What a reader returns and leaves in its own unpacked lists, for lent lists that have room for so many records (document 01,
--- "a .. record returned beside them is all zeros"). Assumes nothing.
+-- "a .. record returned beside them is all zeros"). Cited by `read_codes` here and in `reader`, and by reader/specs/ReadCall.
+-- Assumes nothing.
 use Prim.Native.Nat.{ℕ}
 use mathlib.Core.Path.{_≡_}
 use mathlib.Core.List.{List}

@@ -1,5 +1,5 @@
 -- The line due at a place, its kind and its number among those of its kind (document 01, "The sheet"). Cited by the functions that
--- take one line more. Assumes nothing.
+-- take one line more and by parse/specs/FileTests. Assumes nothing.
 use Prim.Native.Nat.{ℕ}
 use mathlib.Core.Bool.{Bool, _&&_}
 use lib.Dec.{eqb}

@@ -1,5 +1,5 @@
 -- The record of a netlist, and the one that is all zeros (document 01, "a .. record returned beside them is all zeros").
--- Assumes nothing.
+-- Cited by `empty_net`, `refused`, and parse/specs/Files and sheet/specs/Codes. Assumes nothing.
 use Prim.Native.Nat.{ℕ}
 use mathlib.Core.List.{List, [], _∷_}
 use Rattle.model.specs.Netlist as M
