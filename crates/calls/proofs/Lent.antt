@@ -5,12 +5,12 @@ use mathlib.Core.Path.{_≡_}
 use mathlib.Core.List.{List}
 use Rattle.netlist.specs.NetOf.{codeOf, netOf}
 use Rattle.netlist.specs.declared.Netlist.{Netlist}
-use Rattle.lists.specs.Unpacked.{unpackInto}
-use Rattle.lists.proofs.Unpacked.{getD-unpackInto}
+use Rattle.model.specs.Wrote.{over}
+use Rattle.lists.proofs.Unpacked.{getD-over}
 use Rattle.lists.proofs.Zeroed.{zeros}
 
 pub netOf-unpacked : (net : Netlist) (latches gates : List ℕ)
-    → netOf net (unpackInto latches zeros) (unpackInto gates zeros) ≡ netOf net latches gates
+    → netOf net (over latches zeros) (over gates zeros) ≡ netOf net latches gates
 unfolding netOf zeros
 netOf-unpacked net latches gates = λ i.
     record {
@@ -20,10 +20,10 @@ netOf-unpacked net latches gates = λ i.
       m = net .m;
       n = net .n;
       initialWord = net .«initial_word»;
-      next = λ l. getD-unpackInto latches 1200 (2 * l) i;
-      reset = λ l. getD-unpackInto latches 1200 (2 * l + 1) i;
-      left = λ g. getD-unpackInto gates 1200 (2 * g) i;
-      right = λ g. getD-unpackInto gates 1200 (2 * g + 1) i;
+      next = λ l. getD-over latches 1200 (2 * l) i;
+      reset = λ l. getD-over latches 1200 (2 * l + 1) i;
+      left = λ g. getD-over gates 1200 (2 * g) i;
+      right = λ g. getD-over gates 1200 (2 * g + 1) i;
       address = codeOf (net .address);
       writeData = codeOf (net .«write_data»);
       WE = net .we .0;

@@ -10,13 +10,26 @@ use Rattle.refusals.specs.Tests.{_then_, inOrder}
 use Rattle.netlist.specs.Lines.{lineAt}
 use Rattle.netlist.specs.Faults.{sizeFault, codeFault, loopFaultBy}
 use Rattle.records.specs.Record.{testLines, recordVerdict}
-use Rattle.unpacked.specs.Calls.{testDepth, testGroup, testNumbers, testRoom, groupVerdict, headingVerdict}
-use Rattle.calls.specs.Starred.{sheetWith, rows, Starred}
+use Rattle.refusals.specs.Slices.{testRoom}
+use Rattle.unpacked.specs.Calls.{testDepth, testGroup, testNumbers, groupVerdict, headingVerdict}
+use Rattle.decimal.specs.Digits.{digitsWithin, digits, field}
+use Rattle.decimal.specs.TextValue.{sameText, valueAfter, numberIn}
+use Rattle.fields.specs.Fields.{dropSpaces, filledWith, behindSpaces, fieldOf}
+use Rattle.lines.specs.Letters.{kindOf, isFilled}
+use Rattle.lines.specs.Lines.{fieldIn, allAsWanted, lineWith, lineOf, columnText, lineText}
+use Rattle.steps.specs.Steps.{faultsAt}
+use Rattle.parse.specs.Files.{lineIn, sizesIn, netOfLines, netIn}
+use Rattle.parse.specs.FileTests.{ragged, notDue, testLineIn}
+use Rattle.sheet.specs.Sheet.{endVerdict, fileVerdict, sheetVerdict}
+use Rattle.calls.specs.Starred.{sheetWith, net, rows, Starred}
 
 pub starred : Starred
 unfolding odd bit sweep isRead eitherWire dependsOnRead neg gather gatherDown andClauses sameIf bitClauses bitOf unequalOf allBits
     forwarded pairClauses initialRead selectedOf someSource closingClauses baseOf base pairBaseOf pairBase wireAt codeAt noneSince
     selected readBit pairLiterals closingLiterals stateClauses violationOf clausesOf pairOf frameGroups groupOrder inDepth numberOf
     written numbersOf joined formula splitAfter clausesIn _then_ inOrder lineAt sizeFault codeFault loopFaultBy testLines
-    recordVerdict testDepth testGroup testNumbers testRoom groupVerdict headingVerdict sheetWith rows
+    recordVerdict testDepth testGroup testNumbers testRoom groupVerdict headingVerdict digitsWithin digits field sameText
+    valueAfter numberIn dropSpaces filledWith behindSpaces fieldOf kindOf isFilled fieldIn allAsWanted lineWith lineOf
+    columnText lineText faultsAt lineIn sizesIn netOfLines netIn ragged notDue testLineIn endVerdict fileVerdict sheetVerdict
+    sheetWith net rows
 starred = refl

@@ -1,4 +1,5 @@
--- The model's netlist that a record and its lent lists stand for. The public contracts go through it. Assumes nothing.
+-- The model's netlist that a record and its lent lists stand for. Cited by the contracts of `heading` and
+-- `write_group`, here and in `exports`. Assumes nothing.
 use mathlib.Core.List.{List}
 use Rattle.model.specs.Netlist as M
 use Rattle.netlist.specs.NetOf.{netOf}

@@ -7,7 +7,7 @@ use lib.Dec.{ltb}
 use lib.IntN.{ℤ, pos, negsuc}
 use lib.ListN.{length, replicate}
 
--- the bytes of a digit, of a space and of a minus
+-- the bytes of a digit, of a space, of a minus and of the end of a line
 abbrev pub digit : ℕ → ℕ
 digit d = 48 + d
 
@@ -16,6 +16,9 @@ space = 32
 
 abbrev pub minus : ℕ
 minus = 45
+
+abbrev pub lineFeed : ℕ
+lineFeed = 10
 
 -- the digits of x, by at most n divisions
 unfoldable pub digitsWithin : ℕ → ℕ → List ℕ

@@ -1,3 +1,3 @@
 -- Numbers as decimal text, in reading order. Nothing here imports a law or a proof.
 pub mod Digits
-pub mod Reading
+pub mod TextValue

@@ -3,7 +3,7 @@ ghost use mathlib.Core.Path.{_≡_};
 ghost use Prim.Native.Nat.{_≤_};
 ghost use lib.ListN.{length, replicate};
 ghost use Rattle.decimal.specs.Digits.{digits, space, field};
-ghost use Rattle.decimal.specs.Reading.{numberIn};
+ghost use Rattle.decimal.specs.TextValue.{numberIn};
 ghost use Rattle.model.specs.Wrote.{Wrote};
 
 // What a text is read as. A number is at most 4,294,967,295.

@@ -1,3 +1,3 @@
 -- Laws of specs/, for the proofs of this crate and of the program. No contract cites them.
 pub mod Text
-pub mod Report
+pub mod PrintCalls

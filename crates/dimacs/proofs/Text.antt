@@ -11,9 +11,9 @@ use mir.Syntax.{w32}
 use mir.Val.{SFits, toZ, ofZ}
 use Rattle.decimal.proofs.Digits.{digits-single, length-digits-ten, length-field}
 use Rattle.decimal.proofs.Signed.{length-signedDigits, read-back}
-use Rattle.decimal.specs.Digits.{digit, space, digits, field, signedDigits}
+use Rattle.decimal.specs.Digits.{digit, space, lineFeed, digits, field, signedDigits}
 use Rattle.model.proofs.Gather.{All, nothing, also}
-use Rattle.dimacs.specs.Text.{lineFeed, problem, refused, headerText, refusalText, behind, numberText, clauseText}
+use Rattle.dimacs.specs.Text.{problem, refused, headerText, refusalText, behind, numberText, clauseText}
 
 -- the header's length
 pub length-headerText : (variables clauses : ℕ) → length (headerText variables clauses) ≡ 8 + length (digits variables) + length (digits clauses)

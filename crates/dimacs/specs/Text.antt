@@ -3,11 +3,7 @@
 use Prim.Native.Nat.{ℕ, zero, suc}
 use mathlib.Core.List.{List, [], _∷_, _++_}
 use lib.IntN.{ℤ, pos, negsuc}
-use Rattle.decimal.specs.Digits.{digits, space, field, signedDigits}
-
--- the byte that ends a line
-abbrev pub lineFeed : ℕ
-lineFeed = 10
+use Rattle.decimal.specs.Digits.{space, lineFeed, digits, field, signedDigits}
 
 -- the bytes of `p cnf` and a space
 abbrev pub problem : List ℕ

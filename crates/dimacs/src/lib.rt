@@ -6,7 +6,7 @@ ghost use lib.ListN.{length};
 ghost use Rattle.model.specs.Wrote.{Wrote};
 ghost use Rattle.text.specs.Table.{TableOrNone};
 ghost use Rattle.dimacs.specs.Text.{headerText, numberText, clauseText, refusalText};
-ghost use Rattle.dimacs.specs.Report.{reportOf, printReport, printLeaves};
+ghost use Rattle.dimacs.specs.PrintCalls.{printReply, printSent, printLeaves};
 use decimal::digit_count;
 use decimal::put_field;
 use refusals::Refusal;
@@ -17,7 +17,7 @@ use text::write_signed_spaced;
 use text::write_word;
 
 // What a call that prints answers: how many bytes it wrote, or a refusal and its place.
-pub enum Printed {
+pub enum PrintAnswer {
     Written(usize),
     Refused(Refusal, u32),
 }
@@ -96,34 +96,34 @@ pub fn write_refusal(out: &mut [u8], number: u32, place: u32) -> usize
 }
 
 // Prints DIMACS' problem line: the numbers of variables and of clauses.
-pub fn put_header(out: &mut [u8], variables: u32, clauses: u32) -> Printed
-    ensures answer { λ r. ⌜ reportOf r ≡ printReport (headerText variables clauses) (now (out .entry)) ⌝ }
+pub fn put_header(out: &mut [u8], variables: u32, clauses: u32) -> PrintAnswer
+    ensures answer { λ r. ⌜ printReply r ≡ printSent (headerText variables clauses) (length (now (out .entry))) ⌝ }
     ensures borrowed { λ _. ⌜ now (out .exit) ≡ printLeaves (headerText variables clauses) (now (out .entry)) ⌝ }
 {
     if out.len() < 8 + digit_count(variables) + digit_count(clauses) {
-        return Printed::Refused(Refusal::NoRoom, 0);
+        return PrintAnswer::Refused(Refusal::NoRoom, 0);
     }
-    Printed::Written(write_header(out, variables, clauses))
+    PrintAnswer::Written(write_header(out, variables, clauses))
 }
 
 // Prints numbers with end marks, a clause a line. It fills no table: that takes longer than a group does without it.
-pub fn put_clauses(out: &mut [u8], numbers: &[i32]) -> Printed
-    ensures answer { λ r. ⌜ reportOf r ≡ printReport (clauseText (now (numbers .entry))) (now (out .entry)) ⌝ }
+pub fn put_clauses(out: &mut [u8], numbers: &[i32]) -> PrintAnswer
+    ensures answer { λ r. ⌜ printReply r ≡ printSent (clauseText (now (numbers .entry))) (length (now (out .entry))) ⌝ }
     ensures borrowed { λ _. ⌜ now (out .exit) ≡ printLeaves (clauseText (now (numbers .entry))) (now (out .entry)) ⌝ }
 {
     if clauses_fit(out.len(), numbers) {
-        return Printed::Written(write_numbers(out, numbers, b""));
+        return PrintAnswer::Written(write_numbers(out, numbers, b""));
     }
-    Printed::Refused(Refusal::NoRoom, 0)
+    PrintAnswer::Refused(Refusal::NoRoom, 0)
 }
 
 // Prints a refusal: its number and place in ten columns each.
-pub fn put_refusal(out: &mut [u8], number: u32, place: u32) -> Printed
-    ensures answer { λ r. ⌜ reportOf r ≡ printReport (refusalText number place) (now (out .entry)) ⌝ }
+pub fn put_refusal(out: &mut [u8], number: u32, place: u32) -> PrintAnswer
+    ensures answer { λ r. ⌜ printReply r ≡ printSent (refusalText number place) (length (now (out .entry))) ⌝ }
     ensures borrowed { λ _. ⌜ now (out .exit) ≡ printLeaves (refusalText number place) (now (out .entry)) ⌝ }
 {
     if out.len() < 28 {
-        return Printed::Refused(Refusal::NoRoom, 0);
+        return PrintAnswer::Refused(Refusal::NoRoom, 0);
     }
-    Printed::Written(write_refusal(out, number, place))
+    PrintAnswer::Written(write_refusal(out, number, place))
 }

@@ -3,11 +3,11 @@ use Prim.Native.Nat.{ℕ}
 use mathlib.Core.Path.{_≡_}
 use mathlib.Core.List.{List}
 use Rattle.refusals.proofs.Table.{reply-passed}
-use Rattle.steps.specs.declared.Sheet.{Sheet}
+use Rattle.steps.specs.declared.SheetAnswer.{SheetAnswer}
 use Rattle.lists.specs.declared.Latch.{Latch}
 use Rattle.lists.specs.declared.Gate.{Gate}
-use Rattle.reader.specs.Reading.{readVerdict, readRecord, latchesLeft, gatesLeft, NoTestRefuses}
-use Rattle.reader.proofs.Reading.{Reads}
+use Rattle.reader.specs.ReadCall.{readVerdict, readRecord, latchesLeft, gatesLeft, NoTestRefuses}
+use Rattle.reader.proofs.ReadCall.{Reads}
 use Rattle.replies.specs.declared.SheetReply.{SheetReply}
 use Rattle.replies.specs.Numbers.{sheetNumbers}
 
@@ -19,7 +19,7 @@ module _ (file : List ℕ) (latches : List Latch) (gates : List Gate) where
       × ((newGates ≡ gatesLeft file latches gates)
       × (reply .number ≡ 0 → NoTestRefuses (reply .net) newLatches newGates)))
 
-  pub replies : (sheet : Sheet) (newLatches : List Latch) (newGates : List Gate)
+  pub replies : (sheet : SheetAnswer) (newLatches : List Latch) (newGates : List Gate)
       → Reads file latches gates sheet newLatches newGates
       → Replies (sheetNumbers (sheet .verdict) (sheet .net)) newLatches newGates
   unfolding sheetNumbers

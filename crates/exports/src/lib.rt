@@ -9,7 +9,7 @@ ghost use mathlib.Core.Path.{_≡_};
 ghost use lib.ListN.{length};
 ghost use Rattle.unpacked.specs.Calls.{groupSent, groupLeaves, headingSent};
 ghost use Rattle.calls.specs.Lent.{netLent};
-ghost use Rattle.reader.specs.Reading.{readVerdict, readRecord, latchesLeft, gatesLeft, NoTestRefuses};
+ghost use Rattle.reader.specs.ReadCall.{readVerdict, readRecord, latchesLeft, gatesLeft, NoTestRefuses};
 ghost use Rattle.replies.specs.Numbers.{groupOf, groupNumbers, headingNumbers, sheetNumbers};
 
 // `calls::write_group`. The kind is 0 for the wires of frame i, 1 for the pair (j, i), 2 for the closing of frame i, 3 for the property.

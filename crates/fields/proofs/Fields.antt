@@ -11,11 +11,11 @@ use lib.Dec.{eqb}
 use lib.ListN.{length, getD, drop, replicate, length-append, length-replicate, drop-of-length-le}
 use lib.Seq.{drop-cons}
 use Rattle.decimal.specs.Digits.{space, digits, field, emptyField}
-use Rattle.decimal.specs.Reading.{numberIn}
+use Rattle.decimal.specs.TextValue.{numberIn}
 use Rattle.decimal.specs.declared.Number.{Number}
 use Rattle.decimal.specs.declared.Number.the-variants.{Value, NotANumber}
 use Rattle.decimal.proofs.Digits.{length-digits-some}
-use Rattle.decimal.proofs.Reading.{first-is-digit, numberIn-digits, digits-numberIn}
+use Rattle.decimal.proofs.TextValue.{first-is-digit, numberIn-digits, digits-numberIn}
 use Rattle.fields.specs.Fields.{dropSpaces, filledWith, behindSpaces, fieldOf}
 use Rattle.fields.specs.declared.Field.the-variants.{Empty, Filled}
 

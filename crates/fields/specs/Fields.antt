@@ -1,11 +1,11 @@
 -- A field of ten columns as it is read (document 01, "The sheet"). Its text is `field` or `emptyField` of decimal/specs/Digits.
--- Cited by the functions that read a line. Assumes nothing.
+-- Cited by `after_spaces`, `read_field` and the functions that read a line. Assumes nothing.
 use Prim.Native.Nat.{ℕ}
 use mathlib.Core.Bool.{cond}
 use mathlib.Core.List.{List, [], _∷_}
 use lib.Dec.{eqb}
 use Rattle.decimal.specs.Digits.{space}
-use Rattle.decimal.specs.Reading.{numberIn}
+use Rattle.decimal.specs.TextValue.{numberIn}
 use Rattle.decimal.specs.declared.Number.{Number}
 use Rattle.decimal.specs.declared.Number.the-variants.{Value, NotANumber}
 use Rattle.fields.specs.declared.Field.{Field}

@@ -8,12 +8,11 @@ use borrow.Author.Tests.{le-leb, lt-leb, leb-true, leb-false, eq-eqb, ne-eqb}
 use lib.Dec.{leb, eqb}
 use lib.ListN.{length, getD, take}
 use Rattle.refusals.specs.declared.Refusal.the-variants.{Misprint, Depth}
-use Rattle.decimal.specs.Digits.{field, digits, digitsWithin}
-use Rattle.decimal.specs.Reading.{numberIn, sameText, valueAfter}
+use Rattle.decimal.specs.Digits.{lineFeed, field, digits, digitsWithin}
+use Rattle.decimal.specs.TextValue.{numberIn, sameText, valueAfter}
 use Rattle.fields.specs.Fields.{fieldOf, dropSpaces, behindSpaces, filledWith}
 use Rattle.fields.specs.declared.Field.{Field}
 use Rattle.fields.specs.declared.Field.the-variants.{Empty, Filled, Misprinted}
-use Rattle.lines.specs.Lines.{lineFeed}
 use Rattle.lines.specs.Depth.{DepthAnswer, refusedBy, acceptedAt, valueAnswer, depthAnswer}
 
 -- eleven bytes or more with a line feed in the eleventh: the field decides

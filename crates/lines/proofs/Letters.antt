@@ -10,17 +10,10 @@ use native.Mathlib.Omega.{arith}
 use borrow.Author.Tests.{eqb-true}
 use lib.Dec.{eqb}
 use lib.ListN.{getD}
-use Rattle.decimal.proofs.Reading.{and-both}
+use Rattle.model.proofs.Booleans.{and-true, beq-true}
 use Rattle.lines.specs.Letters.{letterOf, kindOf, rowOf, isKnown, isFilled, FilledAsPrinted}
 use Rattle.lines.specs.declared.Kind.{Kind}
 use Rattle.lines.specs.declared.Kind.the-variants.{Sizes, Memory, Latch, Gate, Address, WriteData, Control, Unknown}
-
--- two Booleans that are tested to be the same
-same-bool : (a b : Bool) → Bool·beq a b ≡ true → a ≡ b
-same-bool true true h = refl
-same-bool true false h = sym h
-same-bool false true h = h
-same-bool false false h = refl
 
 -- the kinds in the order of their rows, and the first of a list that has the letter c
 abbrev pub kinds : List Kind
@@ -65,7 +58,7 @@ every (suc n) f = f n && every n f
 every-at : (n : ℕ) (f : ℕ → Bool) → every n f ≡ true → (i : ℕ) → i < n → f i ≡ true
 every-at zero f h i l = absurd (omega arith)
 every-at (suc n) f h i l =
-    let p : (f n ≡ true) × (every n f ≡ true) = and-both (f n) (every n f) h in
+    let p : (f n ≡ true) × (every n f ≡ true) = and-true (f n) (every n f) .0 h in
     ⊎-elim (λ (e : i ≡ n). rw e (p .0)) (λ (b : i < n). every-at n f (p .1) i b) (eq-or-lt-of-le (le-of-suc-le-suc l))
 
 kind-at-row : (k : Kind) → rowOf k < 7 → getD kinds (rowOf k) Unknown ≡ k
@@ -92,7 +85,7 @@ unfolding FilledAsPrinted
 table-follows table right k column l c =
     let at-row : every 3 (entry-right table (rowOf k)) ≡ true = every-at 7 (λ row. every 3 (entry-right table row)) right (rowOf k) l in
     let at-column : entry-right table (rowOf k) column ≡ true = every-at 3 (entry-right table (rowOf k)) at-row column c in
-    same-bool _ _ at-column ∙ ap (λ (k : Kind). isFilled k column) (kind-at-row k l)
+    beq-true _ _ .0 at-column ∙ ap (λ (k : Kind). isFilled k column) (kind-at-row k l)
 
 -- what such a table says at the row of a kind
 pub filled-at :

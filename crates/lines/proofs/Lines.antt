@@ -9,17 +9,17 @@ use borrow.Author.Tests.{eq-eqb, ne-eqb, eqb-true}
 use lib.Dec.{eqb}
 use lib.ListN.{length, getD, take, drop, take-append-drop, drop-of-length-le, length-append, length-take, length-drop}
 use lib.Seq.{drop-cons, drop-drop, take-at, drop-at, getD-at}
-use Rattle.decimal.specs.Digits.{field, emptyField}
+use Rattle.decimal.specs.Digits.{lineFeed, field, emptyField}
 use Rattle.decimal.proofs.Digits.{length-field}
-use Rattle.decimal.proofs.Reading.{and-both}
+use Rattle.model.proofs.Booleans.{and-true}
 use Rattle.fields.specs.Fields.{fieldOf}
 use Rattle.fields.specs.declared.Field.{Field}
 use Rattle.fields.specs.declared.Field.the-variants.{Empty, Filled, Misprinted}
 use Rattle.fields.proofs.Fields.{fieldOf-field, fieldOf-empty, field-fieldOf, empty-fieldOf}
 use Rattle.lines.specs.Letters.{letterOf, kindOf, isKnown, isFilled}
-use Rattle.lines.specs.Lines.{lineFeed, fieldIn, asWanted, allAsWanted, valueOf, lineWith, lineOf, columnText, lineText}
+use Rattle.lines.specs.Lines.{fieldIn, asWanted, allAsWanted, valueOf, lineWith, lineOf, columnText, lineText, ReadAsWritten}
 use Rattle.lines.specs.declared.Kind.{Kind}
-use Rattle.lines.specs.declared.Line.the-variants.{Misprint, Read}
+use Rattle.lines.specs.declared.ParsedLine.the-variants.{Misprint, Read}
 use Rattle.lines.proofs.Letters.{letterOf-kindOf, kindOf-letterOf}
 
 -- a line by the outcomes of its four tests: the letter, and each field
@@ -94,9 +94,9 @@ lineWith-read k l f g h a b c = by-tests (isKnown k && allAsWanted k f g h) refl
         (t : Bool) → (isKnown k && allAsWanted k f g h) ≡ t →
         cond t (Read k (valueOf f) (valueOf g) (valueOf h)) Misprint ≡ Read l a b c → (k ≡ l) × IsLine k f g h a b c
     by-tests true t e =
-        let p = and-both (isKnown k) (allAsWanted k f g h) t in
-        let q = and-both (asWanted (isFilled k 0) f && asWanted (isFilled k 1) g) (asWanted (isFilled k 2) h) (p .1) in
-        let r = and-both (asWanted (isFilled k 0) f) (asWanted (isFilled k 1) g) (q .0) in (
+        let p = and-true (isKnown k) (allAsWanted k f g h) .0 t in
+        let q = and-true (asWanted (isFilled k 0) f && asWanted (isFilled k 1) g) (asWanted (isFilled k 2) h) .0 (p .1) in
+        let r = and-true (asWanted (isFilled k 0) f) (asWanted (isFilled k 1) g) .0 (q .0) in (
           cc,
           record { known = p .0; first = r .0; second = r .1; third = q .1; first-is = cc; second-is = cc; third-is = cc },
         )
@@ -116,12 +116,12 @@ lineOf-read s k a b c = by-tests (eqb (length s) 32 && eqb (getD s 31 0) lineFee
         (length s ≡ 32) × (getD s 31 0 ≡ lineFeed)
         × (lineWith (kindOf (getD s 0 0)) (fieldIn s 0) (fieldIn s 1) (fieldIn s 2) ≡ Read k a b c)
     by-tests true t e =
-        let p = and-both (eqb (length s) 32) (eqb (getD s 31 0) lineFeed) t in
+        let p = and-true (eqb (length s) 32) (eqb (getD s 31 0) lineFeed) .0 t in
         (eqb-true (length s) 32 (p .0), eqb-true (getD s 31 0) lineFeed (p .1), e)
     by-tests false t e = let z : _≡_ {A = ℕ} 0 1 = cc in absurd (omega arith)
 
 -- what is read is the line's text
-pub lineText-lineOf : (s : List ℕ) (k : Kind) (a b c : ℕ) → lineOf s ≡ Read k a b c → s ≡ lineText k a b c
+lineText-lineOf : (s : List ℕ) (k : Kind) (a b c : ℕ) → lineOf s ≡ Read k a b c → s ≡ lineText k a b c
 unfolding lineText fieldIn
 lineText-lineOf s k a b c h =
     let read = lineOf-read s k a b c h in
@@ -202,7 +202,7 @@ lineWith-filled k a b c h =
     ∙ rw (value-column (isFilled k 0) a, value-column (isFilled k 1) b, value-column (isFilled k 2) c)
 
 -- a line as it is written is read back, with 0 where a field is empty
-pub lineOf-lineText :
+lineOf-lineText :
     (k : Kind) (a b c : ℕ) → isKnown k ≡ true → a < 2 ^ 32 → b < 2 ^ 32 → c < 2 ^ 32 →
     lineOf (lineText k a b c) ≡ Read k (cond (isFilled k 0) a 0) (cond (isFilled k 1) b 0) (cond (isFilled k 2) c 0)
 unfolding lineText fieldIn
@@ -222,3 +222,7 @@ lineOf-lineText k a b c h x y z =
     ap fieldOf (third-column (letterOf k) lineFeed f g e lf lg le) ∙ fieldOf-columnText (isFilled k 2) c z in
     lineOf-fields s (length-bytes (letterOf k) lineFeed f g e lf lg le) (last-byte (letterOf k) lineFeed f g e lf lg le)
     ∙ rw (kindOf-letterOf k h, first, second, third) (lineWith-filled k a b c h)
+
+-- both
+pub read-as-written : ReadAsWritten
+read-as-written = record { read→text = lineText-lineOf; text→read = lineOf-lineText }

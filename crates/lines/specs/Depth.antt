@@ -1,17 +1,17 @@
--- The depth line, the first eleven bytes of the input (document 01, "The program and one full run"). Cited by `read_depth`.
--- Assumes nothing.
+-- The depth line, the first eleven bytes of the input (document 01, "The program and one full run"). Cited by `read_depth`
+-- and by input/specs/Input. Assumes nothing.
 use Prim.Native.Nat.{ℕ}
 use mathlib.Core.Bool.{cond, _&&_}
 use mathlib.Core.List.{List}
 use lib.Dec.{eqb, leb}
 use lib.ListN.{length, getD, take}
-use Rattle.refusals.specs.Refusal.{numberOf}
+use Rattle.refusals.specs.Refusal.{refusalNumber}
 use Rattle.refusals.specs.declared.Refusal.{Refusal}
 use Rattle.refusals.specs.declared.Refusal.the-variants.{Misprint, Depth}
+use Rattle.decimal.specs.Digits.{lineFeed}
 use Rattle.fields.specs.Fields.{fieldOf}
 use Rattle.fields.specs.declared.Field.{Field}
 use Rattle.fields.specs.declared.Field.the-variants.{Empty, Filled, Misprinted}
-use Rattle.lines.specs.Lines.{lineFeed}
 use Rattle.lines.specs.declared.DepthLine.{DepthLine}
 use Rattle.lines.specs.declared.DepthLine.the-variants.{Accepted, Refused}
 
@@ -23,7 +23,7 @@ pub record DepthAnswer : Type 0 where
 
 -- "place 0"
 abbrev pub refusedBy : Refusal → DepthAnswer
-refusedBy r = record { number = numberOf r; place = 0; depth = 0 }
+refusedBy r = record { number = refusalNumber r; place = 0; depth = 0 }
 
 abbrev pub acceptedAt : ℕ → DepthAnswer
 acceptedAt k = record { number = 0; place = 0; depth = k }

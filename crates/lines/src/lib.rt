@@ -2,7 +2,7 @@
 ghost use mathlib.Core.Path.{_≡_};
 ghost use Prim.Native.Nat.{_<_};
 ghost use Rattle.lines.specs.Letters.{kindOf, rowOf, isFilled, FilledAsPrinted};
-ghost use Rattle.lines.specs.Lines.{asWanted, valueOf, lineWith, lineOf};
+ghost use Rattle.lines.specs.Lines.{asWanted, valueOf, lineWith, lineOf, ReadAsWritten};
 ghost use Rattle.lines.specs.Depth.{answerOf, valueAnswer, depthAnswer};
 use fields::Field;
 use refusals::Refusal;
@@ -20,7 +20,7 @@ pub enum Kind {
 }
 
 // A line as it is read: its kind and three numbers, 0 where a field is empty.
-pub enum Line {
+pub enum ParsedLine {
     Misprint,
     Read {
         kind: Kind,
@@ -121,22 +121,22 @@ fn value_of(field: Field) -> u32
 }
 
 // The line of a kind with three fields, or a misprint.
-fn line_with(kind: Kind, first: Field, second: Field, third: Field) -> Line
+fn line_with(kind: Kind, first: Field, second: Field, third: Field) -> ParsedLine
     ensures { λ r. ⌜ r ≡ lineWith kind first second third ⌝ }
 {
     if 7 <= row_of(kind) {
-        return Line::Misprint;
+        return ParsedLine::Misprint;
     }
     if !is_wanted(kind, 0, first) {
-        return Line::Misprint;
+        return ParsedLine::Misprint;
     }
     if !is_wanted(kind, 1, second) {
-        return Line::Misprint;
+        return ParsedLine::Misprint;
     }
     if !is_wanted(kind, 2, third) {
-        return Line::Misprint;
+        return ParsedLine::Misprint;
     }
-    Line::Read {
+    ParsedLine::Read {
         kind,
         first: value_of(first),
         second: value_of(second),
@@ -145,8 +145,9 @@ fn line_with(kind: Kind, first: Field, second: Field, third: Field) -> Line
 }
 
 // What 32 bytes are read as. The fields are held to the letter on the line, whichever line is due.
-pub fn read_line(line: &[u8]) -> Line
-    ensures { λ r. ⌜ r ≡ lineOf (now (line .entry)) ⌝ }
+pub fn read_line(line: &[u8]) -> ParsedLine
+    ensures line { λ r. ⌜ r ≡ lineOf (now (line .entry)) ⌝ }
+    ensures written { λ _. ⌜ ReadAsWritten ⌝ }
 {
     if line.len() == 32 {
         if line[31] == b'\n' {
@@ -157,7 +158,7 @@ pub fn read_line(line: &[u8]) -> Line
             return line_with(kind, first, second, third);
         }
     }
-    Line::Misprint
+    ParsedLine::Misprint
 }
 
 // The depth in a field.

@@ -48,7 +48,8 @@ use denote.Triple.Spec.{Meets, tripleOf}
 use denote.Triple.Statement.{Triple}
 use denote.Triple.Walked.{says, Stays, stay-none-slice, stay-ref, walkOf, goes-none-slice, goes-ref, ends-at}
 use denote.Exit.{yes}
-use Rattle.lists.specs.Unpacked.{pairsOf, unpackInto, putPair, spanOf}
+use Rattle.lists.specs.Unpacked.{pairsOf, putPair, spanOf}
+use Rattle.model.specs.Wrote.{over}
 use Rattle.lists.proofs.Unpacked.{unpackedTo, unpackedTo-none, unpackedTo-next, unpackedTo-all, span-within}
 use Rattle.lists.proofs.OneRecord as one
 use Rattle.lists.proofs.OneRecord.{Codes, codes-ty}
@@ -73,7 +74,7 @@ module _ (T : Declared) (L : LL.Laws T) (P : one.Pair T L) where
   clauses 𝓤 κs a = record {
     ghost = Unit {0};
     requires = λ _. emp 𝓤;
-    ensures = λ _ _ e. fact 𝓤 (now (e .0) ≡ unpackInto (pairsOf (P .first) (P .second) (take 600 (now (a .1 .0)))) (now (a .0)));
+    ensures = λ _ _ e. fact 𝓤 (now (e .0) ≡ over (pairsOf (P .first) (P .second) (take 600 (now (a .1 .0)))) (now (a .0)));
   }
 
   abbrev stayed : Stays (signature .params) (ended .kept)

@@ -27,8 +27,14 @@ module _ {A : Type 0} (f : ℕ → A) (old : List A) where
   unfolding delivered
   length-delivered n h = simp (length-append, length-drop, length-front) (omega arith)
 
+  -- `over` drops as many records as stand in front
+  delivered-is : (n : ℕ) → delivered n f old ≡ gather n (λ t. f t ∷ []) ++ drop n old
+  unfolding delivered
+  delivered-is n = ap (λ (k : ℕ). gather n (λ t. f t ∷ []) ++ drop k old) (length-front n)
+
   pub delivered-next : (n : ℕ) → n < length old → set (delivered n f old) n (f n) ≡ delivered (suc n) f old
-  unfolding delivered gather
+  unfolding gather
   delivered-next n h =
-      ap (λ (rest : List A). set (gather n (λ t. f t ∷ []) ++ rest) n (f n)) (drop-cons old n (f n) h)
-      ∙ set-middle (gather n (λ t. f t ∷ [])) (drop (suc n) old) (getD old n (f n)) (f n) n (length-front n)
+      rw (delivered-is n, delivered-is (suc n))
+      (ap (λ (rest : List A). set (gather n (λ t. f t ∷ []) ++ rest) n (f n)) (drop-cons old n (f n) h)
+      ∙ set-middle (gather n (λ t. f t ∷ [])) (drop (suc n) old) (getD old n (f n)) (f n) n (length-front n))

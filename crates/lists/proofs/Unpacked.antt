@@ -10,7 +10,8 @@ use borrow.Author.Tests.{ltb-true, ltb-false}
 use lib.Dec.{ltb}
 use lib.ListN.{length, take, drop, getD, replicate}
 use lib.Seq.{drop-nil, take-all, take-length, length-take-le}
-use Rattle.lists.specs.Unpacked.{pairsOf, unpackInto, putPair, bounded, spanOf}
+use Rattle.lists.specs.Unpacked.{pairsOf, putPair, bounded, spanOf}
+use Rattle.model.specs.Wrote.{over}
 
 -- no more records are looked at than there are, and no more than 600
 pub span-within : (n : ℕ) → (spanOf n ≤ n) × (spanOf n ≤ 600)
@@ -65,9 +66,8 @@ module _ {X : Type 0} (first second : X → ℕ) where
       (refl, refl)
   span-take xs false e = rw e (refl, length-take-le 600 xs (ltb-false (length xs) 600 e))
 
-  pub unpackedTo-all : (xs : List X) (old : List ℕ) → unpackedTo xs old (spanOf (length xs)) ≡ unpackInto
+  pub unpackedTo-all : (xs : List X) (old : List ℕ) → unpackedTo xs old (spanOf (length xs)) ≡ over
       (pairsOf first second (take 600 xs)) old
-  unfolding unpackInto
   unpackedTo-all xs old =
       let all = span-take xs (ltb (length xs) 600) refl in
       rw (all .0, length-pairsOf (take 600 xs), all .1)
@@ -78,9 +78,8 @@ getD-zeros zero i = refl
 getD-zeros (suc n) zero = refl
 getD-zeros (suc n) (suc i) = getD-zeros n i
 
-pub getD-unpackInto : (codes : List ℕ) (n i : ℕ) → getD (unpackInto codes (replicate n 0)) i 0 ≡ getD codes i 0
-unfolding unpackInto
-getD-unpackInto [] n i = getD-zeros n i
-getD-unpackInto (c ∷ cs) n zero = refl
-getD-unpackInto (c ∷ cs) zero (suc i) = ap (λ zs. getD (cs ++ zs) i 0) (sym (drop-nil (length cs))) ∙ getD-unpackInto cs zero i
-getD-unpackInto (c ∷ cs) (suc n) (suc i) = getD-unpackInto cs n i
+pub getD-over : (codes : List ℕ) (n i : ℕ) → getD (over codes (replicate n 0)) i 0 ≡ getD codes i 0
+getD-over [] n i = getD-zeros n i
+getD-over (c ∷ cs) n zero = refl
+getD-over (c ∷ cs) zero (suc i) = ap (λ zs. getD (cs ++ zs) i 0) (sym (drop-nil (length cs))) ∙ getD-over cs zero i
+getD-over (c ∷ cs) (suc n) (suc i) = getD-over cs n i

@@ -38,7 +38,8 @@ use denote.Struct.Steps.{spelt}
 use denote.Triple.Clauses.{closing}
 use denote.Triple.Spec.{tripleOf}
 use denote.Triple.Statement.{Triple}
-use Rattle.lists.specs.Unpacked.{pairsOf, unpackInto}
+use Rattle.lists.specs.Unpacked.{pairsOf}
+use Rattle.model.specs.Wrote.{over}
 use Rattle.lists.proofs.OneRecord as one
 use Rattle.lists.proofs.OneRecord.{Codes, codes-ty}
 use Rattle.lists.proofs.AllRecords as all
@@ -75,7 +76,7 @@ module _ {M : Type 1} {𝓤 : URA M} {H : Heap 𝓤} {A : Atoms 𝓤} {K : Type 
       → _≡_ {A = Spot 𝓤 H} (spotOf 𝓤 H E pr) (tyRef erased mut codes-ty, lr, 0)
       → _≡_ {A = Spot 𝓤 H} (spotOf 𝓤 H E pu) (tyUnit, lu, 0) → _≡_ {A = Spot 𝓤 H} (spotOf 𝓤 H E ps) (τ, ls, 0)
       → Step K W
-      (‵ (Lies (unpackInto (pairsOf (P .first) (P .second) (take 600 (s .now))) zeros) la) ∷
+      (‵ (Lies (over (pairsOf (P .first) (P .second) (take 600 (s .now))) zeros) la) ∷
       ‵ (fat fullShare (tyRef erased mut codes-ty) lr 0 (vptr la 0)) ∷ ‵ (fat fullShare tyUnit lu 0 vunit) ∷
       ‵ (fat fullShare τ ls 0 (sliceVal (s .ptr) (length (s .now))))
       ∷ ‵ (ShrSlice (named 1) κ (row T) .own s (sliceVal (s .ptr) (length (s .now)) ∷ [])) ∷ ‵ (flft κ s₁) ∷ Γ)
@@ -112,7 +113,7 @@ module _ {M : Type 1} {𝓤 : URA M} {H : Heap 𝓤} {A : Atoms 𝓤} {K : Type 
       ) tt (id⊢ 𝓤 (emp 𝓤))
       (and-then t (load t (local-at t at-r) (look t 3 refl)) (and-then t (load t (local-at t at-s) (look t 5 refl)) (no-more t)))
       (λ w r ws.
-      heard t (ws .0 ≡ unpackInto (pairsOf (P .first) (P .second) (take 600 (s .now))) zeros) (λ is. fsplit t $ move t (2 ∷ []) $
+      heard t (ws .0 ≡ over (pairsOf (P .first) (P .second) (take 600 (s .now))) zeros) (λ is. fsplit t $ move t (2 ∷ []) $
       feqL t (λ unit-is.
       land t (local-at t at-u) (init t 6 refl (subst (λ (y : Val). Holds (hasTy tyUnit y) × WT y) (sym (ap only unit-is))
       (tt, tt))) $ rewrite t 6 (λ (y : Val). ‵ (fat fullShare tyUnit lu 0 y)) (ap only unit-is) refl $

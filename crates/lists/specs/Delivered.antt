@@ -1,9 +1,10 @@
 -- Records delivered into the front of a lent list (document 01, "On success only the first L and A records of the lent lists
 -- change"). Cited by the functions that deliver and by the reader of sheets. Assumes nothing.
 use Prim.Native.Nat.{ℕ, _+_, _*_}
-use mathlib.Core.List.{List, [], _∷_, _++_}
-use lib.ListN.{getD, drop}
+use mathlib.Core.List.{List, [], _∷_}
+use lib.ListN.{getD}
 use Rattle.model.specs.Clauses.{gather}
+use Rattle.model.specs.Wrote.{over}
 use Rattle.lists.specs.declared.Latch.{Latch}
 use Rattle.lists.specs.declared.Gate.{Gate}
 
@@ -14,6 +15,10 @@ latchAt codes l = record { next = record { 0 = getD codes (2 * l) 0 }; reset = g
 abbrev pub gateAt : List ℕ → ℕ → Gate
 gateAt codes g = record { left = record { 0 = getD codes (2 * g) 0 }; right = record { 0 = getD codes (2 * g + 1) 0 } }
 
--- the first n records of f in front, everything behind untouched
+-- the first n records of f
+abbrev pub firstRecords : {A : Type 0} → ℕ → (ℕ → A) → List A
+firstRecords n f = gather n (λ t. f t ∷ [])
+
+-- those in front, everything behind untouched
 unfoldable pub delivered : {A : Type 0} → ℕ → (ℕ → A) → List A → List A
-delivered n f old = gather n (λ t. f t ∷ []) ++ drop n old
+delivered n f old = over (firstRecords n f) old

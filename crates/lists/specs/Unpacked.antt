@@ -1,10 +1,10 @@
--- What a lent list of records is, unpacked: two numbers a record. The public contracts name a caller's lists by `latchCodes` and
--- `gateCodes`. Assumes nothing.
+-- What a lent list of records is, unpacked: two numbers a record. Cited by the functions that unpack, and by calls/specs/Lent and
+-- reader/specs/ReadCall, which name a caller's lists by `latchCodes` and `gateCodes`. Assumes nothing.
 use Prim.Native.Nat.{ℕ, _+_, _*_}
-use mathlib.Core.List.{List, [], _∷_, _++_}
+use mathlib.Core.List.{List, [], _∷_}
 use mathlib.Core.Bool.{Bool, true, false}
 use lib.Dec.{ltb}
-use lib.ListN.{length, take, drop, set}
+use lib.ListN.{take, set}
 use Rattle.lists.specs.declared.Gate.{Gate}
 use Rattle.lists.specs.declared.Latch.{Latch}
 
@@ -19,10 +19,6 @@ gateCodes gates = pairsOf (λ (g : Gate). g .left .0) (λ (g : Gate). g .right .
 
 unfoldable pub latchCodes : List Latch → List ℕ
 latchCodes latches = pairsOf (λ (l : Latch). l .next .0) (λ (l : Latch). l .reset) (take 600 latches)
-
--- the numbers at the start of what was there, and everything behind as it was
-unfoldable pub unpackInto : List ℕ → List ℕ → List ℕ
-unpackInto codes old = codes ++ drop (length codes) old
 
 -- ---- the steps of unpacking, which only inner contracts cite
 -- record `at`'s two numbers put at its place

@@ -5,7 +5,8 @@ use crate::Latch;
 ghost use mathlib.Core.Path.{_≡_};
 ghost use Prim.Native.Nat.{_<_};
 ghost use lib.ListN.{length, getD};
-ghost use Rattle.lists.specs.Unpacked.{putPair, noGate, noLatch, spanOf, gateCodes, latchCodes, unpackInto};
+ghost use Rattle.lists.specs.Unpacked.{putPair, noGate, noLatch, spanOf, gateCodes, latchCodes};
+ghost use Rattle.model.specs.Wrote.{over};
 
 // Puts a record's two numbers at its place.
 pub fn put_pair(codes: &mut [u32; 1200], at: usize, first: u32, second: u32)
@@ -43,7 +44,7 @@ pub fn put_latch(codes: &mut [u32; 1200], latches: &[Latch], l: usize)
 
 // Unpacks a list of gates, into the first numbers of `codes`.
 pub fn unpack_gates(codes: &mut [u32; 1200], gates: &[Gate])
-    ensures { λ _. ⌜ now (codes .exit) ≡ unpackInto (gateCodes (now (gates .entry))) (now (codes .entry)) ⌝ }
+    ensures { λ _. ⌜ now (codes .exit) ≡ over (gateCodes (now (gates .entry))) (now (codes .entry)) ⌝ }
 {
     let end = span(gates.len());
     let mut g = 0;
@@ -55,7 +56,7 @@ pub fn unpack_gates(codes: &mut [u32; 1200], gates: &[Gate])
 
 // The same of a list of latches.
 pub fn unpack_latches(codes: &mut [u32; 1200], latches: &[Latch])
-    ensures { λ _. ⌜ now (codes .exit) ≡ unpackInto (latchCodes (now (latches .entry))) (now (codes .entry)) ⌝ }
+    ensures { λ _. ⌜ now (codes .exit) ≡ over (latchCodes (now (latches .entry))) (now (codes .entry)) ⌝ }
 {
     let end = span(latches.len());
     let mut l = 0;

@@ -5,7 +5,11 @@ use mathlib.Core.Path.{_≡_}
 use mathlib.Core.List.{List, _++_}
 use lib.ListN.{length, drop}
 
--- xs stands at the start, what is behind it is untouched, and the answer is the length of xs
+-- xs at the start of what was there, everything behind it untouched
+abbrev pub over : {A : Type 0} → List A → List A → List A
+over xs old = xs ++ drop (length xs) old
+
+-- that, and the answer is the length of xs
 pub record Wrote {A : Type 0} (xs old new : List A) (count : ℕ) : Type 0 where
   pub counted : count ≡ length xs
-  pub leaves : new ≡ xs ++ drop (length xs) old
+  pub leaves : new ≡ over xs old

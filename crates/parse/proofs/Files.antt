@@ -18,11 +18,11 @@ use Rattle.netlist.specs.declared.Line.the-variants.{Sizes, Memory, Latch, Gate
 use Rattle.steps.proofs.Neither.{neither}
 use Rattle.lines.specs.Lines.{lineOf}
 use Rattle.lines.proofs.Lines.{lineOf-length}
-use Rattle.lines.specs.declared.Line.{Line}
-use Rattle.lines.specs.declared.Line.the-variants.{Misprint}
-use Rattle.parse.specs.Files.{lineCount, lineIn, firstOf, secondOf, thirdOf, sizesIn, netOfLines, netIn}
+use Rattle.lines.specs.declared.ParsedLine.{ParsedLine}
+use Rattle.lines.specs.declared.ParsedLine.the-variants.{Misprint}
+use Rattle.parse.specs.Files.{lineCount, lineIn, firstNumber, secondNumber, thirdNumber, sizesIn, netOfLines, netIn}
 use Rattle.parse.specs.FileTests.{ragged}
-use Rattle.steps.specs.Due.{numberIn}
+use Rattle.steps.specs.Due.{lineIndex}
 use Rattle.steps.specs.Steps.{numberAfter, stored}
 use Rattle.parse.specs.Progress.{linesTo, netTo}
 use Rattle.steps.proofs.Places.{rowOfLine, sizeOfRow, placeOf, InRow, sameLine-here, sameLine-elsewhere, sameLine-none, SameSizes, lineAt-known, past-known}
@@ -43,7 +43,7 @@ module _ (file : List ℕ) where
   linesTo-unread p q h = rw (lt-leb q p h)
 
   -- one line more: a number f of the line x, which stands where the sizes have it, or is 0 past them
-  module _ (p : ℕ) (b : p + 1 ≤ controlLine (sizesIn file)) (f : Line → ℕ) (x : Due.Line) where
+  module _ (p : ℕ) (b : p + 1 ≤ controlLine (sizesIn file)) (f : ParsedLine → ℕ) (x : Due.Line) where
     here : InRow (sizesIn file) x → p + 1 ≡ placeOf (sizesIn file) x → numberAfter (lineAt (sizesIn file) (p + 1)) x (f (lineIn file (p + 1))) (f (linesTo file p (placeOf (sizesIn file) x))) ≡ f (linesTo file (p + 1) (placeOf (sizesIn file) x))
     here r e =
         rw (sameLine-here (sizesIn file) (p + 1) (omega arith) b x r e, linesTo-read (p + 1) (placeOf (sizesIn file) x) (omega arith), ← e)
@@ -55,39 +55,39 @@ module _ (file : List ℕ) where
         (λ h. rw (linesTo-read p (placeOf (sizesIn file) x) h, linesTo-read (p + 1) (placeOf (sizesIn file) x) (omega arith)))
         (λ h. rw (linesTo-unread p (placeOf (sizesIn file) x) (omega arith), linesTo-unread (p + 1) (placeOf (sizesIn file) x) (omega arith))))
 
-    number-next : numberAfter (lineAt (sizesIn file) (p + 1)) x (f (lineIn file (p + 1))) (cond (ltb (numberIn x) (sizeOfRow (sizesIn file) (rowOfLine x))) (f (linesTo file p (placeOf (sizesIn file) x))) 0) ≡ cond (ltb (numberIn x) (sizeOfRow (sizesIn file) (rowOfLine x))) (f (linesTo file (p + 1) (placeOf (sizesIn file) x))) 0
+    number-next : numberAfter (lineAt (sizesIn file) (p + 1)) x (f (lineIn file (p + 1))) (cond (ltb (lineIndex x) (sizeOfRow (sizesIn file) (rowOfLine x))) (f (linesTo file p (placeOf (sizesIn file) x))) 0) ≡ cond (ltb (lineIndex x) (sizeOfRow (sizesIn file) (rowOfLine x))) (f (linesTo file (p + 1) (placeOf (sizesIn file) x))) 0
     number-next =
-        by-cases (decLt (numberIn x) (sizeOfRow (sizesIn file) (rowOfLine x)))
-        (λ r. rw (lt-ltb (numberIn x) (sizeOfRow (sizesIn file) (rowOfLine x)) r)
+        by-cases (decLt (lineIndex x) (sizeOfRow (sizesIn file) (rowOfLine x)))
+        (λ r. rw (lt-ltb (lineIndex x) (sizeOfRow (sizesIn file) (rowOfLine x)) r)
         (by-cases (ℕ-discrete (p + 1) (placeOf (sizesIn file) x)) (here r) elsewhere))
-        (λ r. rw (le-ltb (numberIn x) (sizeOfRow (sizesIn file) (rowOfLine x)) (omega arith), sameLine-none (sizesIn file) (p + 1) (omega arith) b x r))
+        (λ r. rw (le-ltb (lineIndex x) (sizeOfRow (sizesIn file) (rowOfLine x)) (omega arith), sameLine-none (sizesIn file) (p + 1) (omega arith) b x r))
 
   -- the same of the last line, which is alone of its kind
-  control-next : (p : ℕ) (b : p + 1 ≤ controlLine (sizesIn file)) (f : Line → ℕ)
+  control-next : (p : ℕ) (b : p + 1 ≤ controlLine (sizesIn file)) (f : ParsedLine → ℕ)
       → numberAfter (lineAt (sizesIn file) (p + 1)) Control (f (lineIn file (p + 1))) (f (linesTo file p (controlLine (sizesIn file)))) ≡ f (linesTo file (p + 1) (controlLine (sizesIn file)))
   control-next p b f = simp add-zero at (number-next p b f Control)
 
   -- one line more puts its numbers into the netlist
   pub stored-next : (p : ℕ) → p + 1 ≤ controlLine (sizesIn file)
-      → stored (netTo file p) (lineAt (sizesIn file) (p + 1)) (firstOf (lineIn file (p + 1))) (secondOf (lineIn file (p + 1))) (thirdOf (lineIn file (p + 1))) ≡ netTo file (p + 1)
+      → stored (netTo file p) (lineAt (sizesIn file) (p + 1)) (firstNumber (lineIn file (p + 1))) (secondNumber (lineIn file (p + 1))) (thirdNumber (lineIn file (p + 1))) ≡ netTo file (p + 1)
   unfolding stored netTo netOfLines
   stored-next p b =
       λ i. record {
-        inputs = number-next p b firstOf Sizes i;
-        latches = number-next p b secondOf Sizes i;
-        gates = number-next p b thirdOf Sizes i;
-        m = number-next p b firstOf Memory i;
-        n = number-next p b secondOf Memory i;
-        initialWord = number-next p b thirdOf Memory i;
-        next = λ l. number-next p b firstOf (Latch l) i;
-        reset = λ l. number-next p b secondOf (Latch l) i;
-        left = λ g. number-next p b firstOf (Gate g) i;
-        right = λ g. number-next p b secondOf (Gate g) i;
-        address = λ t. number-next p b firstOf (Address t) i;
-        writeData = λ t. number-next p b firstOf (Data t) i;
-        WE = control-next p b firstOf i;
-        RE = control-next p b secondOf i;
-        P = control-next p b thirdOf i;
+        inputs = number-next p b firstNumber Sizes i;
+        latches = number-next p b secondNumber Sizes i;
+        gates = number-next p b thirdNumber Sizes i;
+        m = number-next p b firstNumber Memory i;
+        n = number-next p b secondNumber Memory i;
+        initialWord = number-next p b thirdNumber Memory i;
+        next = λ l. number-next p b firstNumber (Latch l) i;
+        reset = λ l. number-next p b secondNumber (Latch l) i;
+        left = λ g. number-next p b firstNumber (Gate g) i;
+        right = λ g. number-next p b secondNumber (Gate g) i;
+        address = λ t. number-next p b firstNumber (Address t) i;
+        writeData = λ t. number-next p b firstNumber (Data t) i;
+        WE = control-next p b firstNumber i;
+        RE = control-next p b secondNumber i;
+        P = control-next p b thirdNumber i;
       }
 
   -- the lines of the file's netlist are where its sizes have them

@@ -1,4 +1,4 @@
--- The test of a line in the whole file (specs/Sheet.antt) is the test of it in the netlist as far as it is read (specs/Steps.antt).
+-- The test of a line in the whole file (specs/FileTests.antt) is the test of it in the netlist as far as it is read (`stepVerdict`).
 -- No contract cites this file. Assumes nothing.
 use Prim.Native.Nat.{ℕ, _+_, _≤_}
 use mathlib.Core.Path.{_≡_, refl, sym, _∙_, subst}
@@ -29,8 +29,8 @@ use Rattle.netlist.proofs.Faults.{sizes-fit}
 use Rattle.steps.proofs.Neither.{neither}
 use Rattle.lines.specs.Letters.{rowOf}
 use Rattle.lines.specs.declared.Kind.{Kind}
-use Rattle.lines.specs.declared.Line.the-variants as Line
-use Rattle.steps.specs.declared.Sheet.{Sheet}
+use Rattle.lines.specs.declared.ParsedLine.the-variants as ParsedLine
+use Rattle.steps.specs.declared.SheetAnswer.{SheetAnswer}
 use Rattle.parse.specs.Files.{lineCount, lineIn, sizesIn, netIn}
 use Rattle.steps.specs.Due.{kindDue}
 use Rattle.parse.specs.FileTests.{misprinted, isOf, notDue, testLineIn}
@@ -47,17 +47,17 @@ not-within q k b =
     (λ h. rw (lt-leb q k (omega arith), lt-ltb k q (omega arith)))
 
 -- a misprinted line
-pub test-misprint : (c : M.Netlist) (file : List ℕ) (q : ℕ) → lineIn file q ≡ Line.Misprint → testLineIn c file q ≡ Refused Word.Misprint q
+pub test-misprint : (c : M.Netlist) (file : List ℕ) (q : ℕ) → lineIn file q ≡ ParsedLine.Misprint → testLineIn c file q ≡ Refused Word.Misprint q
 unfolding testLineIn _then_
 test-misprint c file q e = rw e
 
 -- a printed line
-test-printed : (c : M.Netlist) (file : List ℕ) (q : ℕ) (kind : Kind) (x y z : ℕ) → lineIn file q ≡ Line.Read kind x y z
+test-printed : (c : M.Netlist) (file : List ℕ) (q : ℕ) (kind : Kind) (x y z : ℕ) → lineIn file q ≡ ParsedLine.Read kind x y z
     → testLineIn c file q ≡ (refuseIf (ltb (controlLine c) q || not (eqb (rowOf kind) (rowOf (kindDue (lineAt c q))))) OutOfOrder q then faultsAt c (lineAt c q) q)
-unfolding testLineIn notDue faultsAt _then_
+unfolding testLineIn notDue _then_
 test-printed c file q kind x y z e = rw (e, not-within q (controlLine c) (eqb (rowOf kind) (rowOf (kindDue (lineAt c q)))))
 
-module _ (file : List ℕ) (p : ℕ) (kind : Kind) (x y z : ℕ) (e : lineIn file (p + 1) ≡ Line.Read kind x y z) where
+module _ (file : List ℕ) (p : ℕ) (kind : Kind) (x y z : ℕ) (e : lineIn file (p + 1) ≡ ParsedLine.Read kind x y z) where
   -- a line not behind the last puts its numbers into the netlist
   pub stepNet-next : p + 1 ≤ controlLine (netIn file) → stepNet (netTo file p) x y z (p + 1) ≡ netTo file (p + 1)
   unfolding stepNet
@@ -87,7 +87,7 @@ pub record NoFault (c : M.Netlist) (file : List ℕ) (q : ℕ) : Type 0 where
   pub code : codeFault c (lineAt c q) ≡ false
 
 pub no-fault : (c : M.Netlist) (file : List ℕ) (q : ℕ) → testLineIn c file q ≡ Passed → NoFault c file q
-unfolding testLineIn _then_
+unfolding testLineIn faultsAt _then_
 no-fault c file q e =
     let a = then-passes (refuseIf (misprinted (lineIn file q)) Word.Misprint q) (order then size then code) .0 e in
     let b = then-passes order (size then code) .0 (a .1) in
@@ -143,7 +143,7 @@ within-last c file q e =
 
 -- what a line does to the record and the lists as far as they are read is what it does in the whole file
 pub outcome-next : (file : List ℕ) (p : ℕ) (r : Netlist) (latches gates : List ℕ) → ReadTo file p r latches gates
-    → (kind : Kind) (x y z : ℕ) → lineIn file (p + 1) ≡ Line.Read kind x y z → (sheet : Sheet) (newLatches newGates : List ℕ)
+    → (kind : Kind) (x y z : ℕ) → lineIn file (p + 1) ≡ ParsedLine.Read kind x y z → (sheet : SheetAnswer) (newLatches newGates : List ℕ)
     → Outcome sheet newLatches newGates (stepVerdict (netOf r latches gates) kind x y z (p + 1)) (stepNet (netOf r latches gates) x y z (p + 1))
     → Outcome sheet newLatches newGates (testLineIn (netIn file) file (p + 1)) (netTo file (p + 1))
 outcome-next file p r latches gates read kind x y z e sheet newLatches newGates o =

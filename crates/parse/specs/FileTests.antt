@@ -1,5 +1,5 @@
 -- The tests of a file and of its lines, in document 01's order ("Reading: .."): the line due at a place from the sizes alone, and
--- the faults of a line in their order. Assumes nothing.
+-- the faults of a line in their order. Cited by `is_ragged`, `read_next`, `read_lines` and sheet/specs/Sheet. Assumes nothing.
 use Prim.Native.Nat.{ℕ, _%_}
 use mathlib.Core.Bool.{Bool, true, false, not, _&&_, _||_}
 use mathlib.Core.List.{List}
@@ -7,15 +7,15 @@ use lib.Dec.{eqb, ltb, leb}
 use lib.ListN.{length}
 use Rattle.model.specs.Netlist.{Netlist}
 use Rattle.refusals.specs.Tests.{refuseIf, _then_}
-use Rattle.refusals.specs.declared.Refusal.the-variants.{Misprint, OutOfOrder, Size, CodeOutside}
+use Rattle.refusals.specs.declared.Refusal.the-variants.{Misprint, OutOfOrder}
 use Rattle.refusals.specs.declared.Verdict.{Verdict}
 use Rattle.netlist.specs.Lines.{lineAt, controlLine}
-use Rattle.netlist.specs.Faults.{sizeFault, codeFault}
 use Rattle.lines.specs.Letters.{rowOf}
 use Rattle.lines.specs.declared.Kind.{Kind}
-use Rattle.lines.specs.declared.Line.{Line}
-use Rattle.lines.specs.declared.Line.the-variants as Line
+use Rattle.lines.specs.declared.ParsedLine.{ParsedLine}
+use Rattle.lines.specs.declared.ParsedLine.the-variants as ParsedLine
 use Rattle.steps.specs.Due.{kindDue}
+use Rattle.steps.specs.Steps.{faultsAt}
 use Rattle.parse.specs.Files.{lineIn}
 
 -- 1: "file empty, not a multiple of 32 bytes, or over 19,680"
@@ -23,14 +23,14 @@ unfoldable pub ragged : List ℕ → Bool
 ragged file = eqb (length file) 0 || not (eqb (length file % 32) 0) || ltb 19680 (length file)
 
 -- 2: a line that is misprinted
-abbrev pub misprinted : Line → Bool
-misprinted Line.Misprint = true
-misprinted (Line.Read k x y z) = false
+abbrev pub misprinted : ParsedLine → Bool
+misprinted ParsedLine.Misprint = true
+misprinted (ParsedLine.Read k x y z) = false
 
 -- whether a line is of a kind
-abbrev pub isOf : Kind → Line → Bool
-isOf k Line.Misprint = false
-isOf k (Line.Read kind x y z) = eqb (rowOf kind) (rowOf k)
+abbrev pub isOf : Kind → ParsedLine → Bool
+isOf k ParsedLine.Misprint = false
+isOf k (ParsedLine.Read kind x y z) = eqb (rowOf kind) (rowOf k)
 
 -- 3: "not the line due, .. or too many"
 unfoldable pub notDue : Netlist → List ℕ → ℕ → Bool
@@ -41,5 +41,4 @@ unfoldable pub testLineIn : Netlist → List ℕ → ℕ → Verdict
 testLineIn c file p =
     refuseIf (misprinted (lineIn file p)) Misprint p
     then refuseIf (notDue c file p) OutOfOrder p
-    then refuseIf (sizeFault c (lineAt c p)) Size p
-    then refuseIf (codeFault c (lineAt c p)) CodeOutside p
+    then faultsAt c (lineAt c p) p

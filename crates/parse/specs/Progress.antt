@@ -9,14 +9,14 @@ use Rattle.refusals.specs.Tests.{inOrder}
 use Rattle.refusals.specs.declared.Verdict.the-variants.{Passed}
 use Rattle.model.specs.Netlist.{Netlist}
 use Rattle.netlist.specs.declared.Netlist as R
-use Rattle.lines.specs.declared.Line.{Line}
-use Rattle.lines.specs.declared.Line.the-variants.{Misprint}
+use Rattle.lines.specs.declared.ParsedLine.{ParsedLine}
+use Rattle.lines.specs.declared.ParsedLine.the-variants.{Misprint}
 use Rattle.steps.specs.Steps.{Holds}
 use Rattle.parse.specs.Files.{lineIn, sizesIn, netOfLines, netIn}
 use Rattle.parse.specs.FileTests.{testLineIn}
 
 -- the lines up to place p; those behind say nothing yet
-abbrev pub linesTo : List ℕ → ℕ → ℕ → Line
+abbrev pub linesTo : List ℕ → ℕ → ℕ → ParsedLine
 linesTo file p q = cond (leb q p) (lineIn file q) Misprint
 
 -- the netlist as far as line p

@@ -2,7 +2,7 @@
 use netlist::Netlist;
 use refusals::Refusal;
 use refusals::Verdict;
-use steps::Sheet;
+use steps::SheetAnswer;
 ghost use mathlib.Core.Path.{_≡_};
 ghost use mathlib.Core.Bool.{false};
 ghost use Prim.Native.Nat.{_+_, _*_, _≤_, _<_};
@@ -22,13 +22,13 @@ pub fn is_ragged(file: &[u8]) -> bool
 }
 
 // The line behind the first `line` lines. One that is cut short, or missing, is a misprint.
-pub fn line_after(file: &[u8], line: u32) -> lines::Line
+pub fn line_after(file: &[u8], line: u32) -> lines::ParsedLine
     ensures { λ r. ⌜ r ≡ lineIn (now (file .entry)) (line + 1) ⌝ }
 {
     let start = 32 * (line as usize);
     let end = start + 32;
     if file.len() < end {
-        return lines::Line::Misprint;
+        return lines::ParsedLine::Misprint;
     }
     lines::read_line(&file[start..end])
 }
@@ -40,14 +40,14 @@ fn read_next(
     net: Netlist,
     latches: &mut [u32; 1200],
     gates: &mut [u32; 1200],
-) -> Sheet
+) -> SheetAnswer
     requires { ⌜ ReadTo (now file) line net (now latches) (now gates) × (line < 615) × (32 * (line + 1) ≤ length (now file)) ⌝ }
     ensures { λ r. ⌜ Outcome r (now (latches .exit)) (now (gates .exit)) (testLineIn (netIn (now (file .entry))) (now (file .entry)) (line + 1)) (netTo (now (file .entry)) (line + 1)) ⌝ }
 {
     let place = line + 1;
     match line_after(file, line) {
-        lines::Line::Misprint => steps::refused(Refusal::Misprint, place),
-        lines::Line::Read {
+        lines::ParsedLine::Misprint => steps::refused(Refusal::Misprint, place),
+        lines::ParsedLine::Read {
             kind,
             first,
             second,
@@ -63,7 +63,7 @@ pub fn read_lines(
     net: Netlist,
     latches: &mut [u32; 1200],
     gates: &mut [u32; 1200],
-) -> Sheet
+) -> SheetAnswer
     requires { ⌜ (ragged (now file) ≡ false) × (line ≤ lineCount (now file)) × ReadTo (now file) line net (now latches) (now gates) ⌝ }
     ensures { λ r. ⌜ Outcome r (now (latches .exit)) (now (gates .exit)) (inOrder (testLineIn (netIn (now (file .entry))) (now (file .entry))) (lineCount (now (file .entry)))) (netIn (now (file .entry))) ⌝ }
 {
@@ -79,7 +79,7 @@ pub fn read_lines(
         read = step.net;
         done += 1;
     }
-    Sheet {
+    SheetAnswer {
         verdict: Verdict::Passed,
         net: read,
     }

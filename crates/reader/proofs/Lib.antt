@@ -1,6 +1,6 @@
 pub mod Lists
 pub mod Entries
-pub mod Reading
+pub mod ReadCall
 pub mod Facts
 pub mod LocalCodes
 pub mod DeliverCall

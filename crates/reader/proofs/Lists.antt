@@ -54,7 +54,8 @@ getD-pairs first second (x ∷ xs) (suc l) d h =
 -- a record that was delivered
 getD-delivered : {X : Type 0} (n : ℕ) (f : ℕ → X) (old : List X) (l : ℕ) → l < n → getD (delivered n f old) l (f l) ≡ f l
 unfolding delivered
-getD-delivered n f old l h = getD-gather n 1 (λ t. f t ∷ []) (λ t. refl) l 0 l h (omega arith) (omega arith) (drop n old) (f l)
+getD-delivered n f old l h = getD-gather n 1 (λ t. f t ∷ []) (λ t. refl) l 0 l h (omega arith) (omega arith)
+    (drop (length (gather n (λ t. f t ∷ []))) old) (f l)
 
 -- its two numbers, unpacked, where the first 600 records are looked at
 pub delivered-pairs : {X : Type 0} (first second : X → ℕ) (n : ℕ) (f : ℕ → X) (old : List X) → n ≤ 600 → n ≤ length old → (l : ℕ)

@@ -3,7 +3,7 @@
 use lists::Gate;
 use lists::Latch;
 use refusals::Verdict;
-use steps::Sheet;
+use steps::SheetAnswer;
 ghost use mathlib.Core.Path.{_≡_};
 ghost use Prim.Native.Nat.{_≤_};
 ghost use Rattle.steps.specs.Records.{recordOf, noNetlist};
@@ -11,7 +11,7 @@ ghost use Rattle.parse.specs.Files.{lineCount};
 ghost use Rattle.parse.specs.Progress.{ReadTo};
 ghost use Rattle.sheet.specs.Codes.{CodesRead};
 ghost use Rattle.reader.specs.Lines.{atStart, nextNumber, nextLine};
-ghost use Rattle.reader.specs.Reading.{readVerdict, readRecord, latchesLeft, gatesLeft, NoTestRefuses};
+ghost use Rattle.reader.specs.ReadCall.{readVerdict, readRecord, latchesLeft, gatesLeft, NoTestRefuses};
 
 // A file, and how many of its lines are read.
 pub struct SheetReader<'a> {
@@ -21,7 +21,7 @@ pub struct SheetReader<'a> {
 
 // A line, and the reader behind it.
 pub struct NextLine<'a> {
-    pub line: lines::Line,
+    pub line: lines::ParsedLine,
     pub reader: SheetReader<'a>,
 }
 
@@ -62,7 +62,7 @@ impl<'a> SheetReader<'a> {
         gate_room: usize,
         latches: &mut [u32; 1200],
         gates: &mut [u32; 1200],
-    ) -> Sheet
+    ) -> SheetAnswer
         requires { ⌜ (self .line ≤ lineCount (now (self .file))) × ReadTo (now (self .file)) (self .line) (recordOf noNetlist) (now latches) (now gates) ⌝ }
         ensures { λ r. ⌜ CodesRead (now (self .entry .file)) «latch_room» «gate_room» r (now (latches .exit)) (now (gates .exit)) ⌝ }
     {
@@ -72,7 +72,7 @@ impl<'a> SheetReader<'a> {
 
 // Reads a sheet: its record, and its latches and gates into the lent lists. Nothing lent is written before the last test has passed:
 // a refusal's record is all zeros, so nothing of it is delivered.
-pub fn read(file: &[u8], latches: &mut [Latch], gates: &mut [Gate]) -> Sheet
+pub fn read(file: &[u8], latches: &mut [Latch], gates: &mut [Gate]) -> SheetAnswer
     ensures verdict { λ r. ⌜ r .verdict ≡ readVerdict (now (file .entry)) (now (latches .entry)) (now (gates .entry)) ⌝ }
     ensures record { λ r. ⌜ r .net ≡ readRecord (now (file .entry)) (now (latches .entry)) (now (gates .entry)) ⌝ }
     ensures latches { λ _. ⌜ now (latches .exit) ≡ latchesLeft (now (file .entry)) (now (latches .entry)) (now (gates .entry)) ⌝ }

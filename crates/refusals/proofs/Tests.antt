@@ -2,7 +2,7 @@
 -- records and sheets. Assumes nothing.
 use Prim.Native.Nat.{ℕ, zero, suc, _≤_}
 use mathlib.Core.Path.{_≡_, refl, _∙_, ap}
-use mathlib.Core.Bool.{Bool, true, false, true≢false}
+use mathlib.Core.Bool.{Bool, true, false, _||_, true≢false}
 use mathlib.Core.Logic.{_⊎_, inl, inr, _↔_}
 use native.Mathlib.Nat.{le-refl, le-suc-iff}
 use native.Mathlib.Decide.{le-ind}
@@ -20,6 +20,12 @@ refused-not-passed e = let z : _≡_ {A = ℕ} 0 1 = cc in omega arith
 pub refuseIf-passes : (b : Bool) (r : Refusal) (p : ℕ) → (refuseIf b r p ≡ Passed) ↔ (b ≡ false)
 refuseIf-passes true r p = (λ e. absurd (refused-not-passed e), λ e. absurd (true≢false e))
 refuseIf-passes false r p = (λ e. refl, λ e. refl)
+
+-- two tests with the same refusal are one
+pub refuseIf-either : (a b : Bool) (r : Refusal) (p : ℕ) → refuseIf a r p then refuseIf b r p ≡ refuseIf (a || b) r p
+unfolding _then_
+refuseIf-either true b r p = refl
+refuseIf-either false b r p = refl
 
 -- two tests pass where each does
 pub then-passes : (v w : Verdict) → (v then w ≡ Passed) ↔ ((v ≡ Passed) × (w ≡ Passed))

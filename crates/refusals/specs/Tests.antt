@@ -1,5 +1,6 @@
--- Chains of tests (document 01, "What is sent back"): the first that refuses decides. Every order of tests, of a record, a sheet
--- or a call, is put together from these. Assumes nothing.
+-- Chains of tests (document 01, "What is sent back"): the first that refuses decides. Cited by every order of tests: of a record
+-- (records/specs/Record), a call (unpacked/specs/Calls), a line (steps/specs/Steps, parse/specs/FileTests) and a sheet
+-- (sheet/specs/Sheet). Assumes nothing.
 use Prim.Native.Nat.{ℕ, zero, suc}
 use mathlib.Core.Bool.{Bool, cond}
 use Rattle.refusals.specs.declared.Refusal.{Refusal}

@@ -1,6 +1,6 @@
 // The numbered errors of document 01's table "What is sent back", and what a chain of tests answers.
 ghost use mathlib.Core.Path.{_≡_};
-ghost use Rattle.refusals.specs.Refusal.{numberOf, replyOf};
+ghost use Rattle.refusals.specs.Refusal.{refusalNumber, replyOf};
 
 // A case for each word of the table, in its order.
 pub enum Refusal {
@@ -30,7 +30,7 @@ pub struct Reply {
 
 // The number of a word of the table.
 pub fn number(refusal: Refusal) -> u32
-    ensures { λ n. ⌜ n ≡ numberOf refusal ⌝ }
+    ensures { λ n. ⌜ n ≡ refusalNumber refusal ⌝ }
 {
     match refusal {
         Refusal::Ragged => 1,

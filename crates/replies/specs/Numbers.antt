@@ -1,10 +1,12 @@
--- What the numbers of an exported function stand for: a group for three numbers, and the fields of a reply. Assumes nothing.
+-- What the numbers of an exported function stand for: a group for three numbers, and the fields of a reply. Cited by
+-- the functions of `replies` and by the exported functions. Assumes nothing.
 use Prim.Native.Nat.{ℕ}
 use mathlib.Core.Bool.{cond}
 use lib.Dec.{eqb}
 use Rattle.model.specs.declared.Group.{Group}
 use Rattle.model.specs.declared.Group.the-variants.{Wires, Pair, Closing, Property}
 use Rattle.refusals.specs.Refusal.{replyOf}
+use Rattle.refusals.specs.Slices.{CountReply}
 use Rattle.refusals.specs.declared.Verdict.{Verdict}
 use Rattle.netlist.specs.declared.Netlist.{Netlist}
 use Rattle.unpacked.specs.Calls as Calls
@@ -17,7 +19,7 @@ unfoldable pub groupOf : ℕ → ℕ → ℕ → Group
 groupOf kind j i =
     cond (eqb kind 0) (Wires i) (cond (eqb kind 1) (Pair j i) (cond (eqb kind 2) (Closing i) (cond (eqb kind 3) Property (Pair i i))))
 
-unfoldable pub groupNumbers : Calls.GroupReply → GroupReply
+unfoldable pub groupNumbers : CountReply → GroupReply
 groupNumbers r = record { number = r .number; place = r .place; count = r .count }
 
 unfoldable pub headingNumbers : Calls.HeadingReply → HeadingReply

@@ -1,7 +1,7 @@
 // Groups and answers as numbers, for C and Rust: an exported function can neither take nor return an enum.
 use model::Group;
 use netlist::Netlist;
-use steps::Sheet;
+use steps::SheetAnswer;
 use unpacked::GroupAnswer;
 use unpacked::HeadingAnswer;
 ghost use mathlib.Core.Path.{_≡_};
@@ -85,7 +85,7 @@ pub struct SheetReply {
 }
 
 // A sheet's.
-pub fn sheet_numbers(sheet: Sheet) -> SheetReply
+pub fn sheet_numbers(sheet: SheetAnswer) -> SheetReply
     ensures { λ r. ⌜ r ≡ sheetNumbers (sheet .verdict) (sheet .net) ⌝ }
 {
     let verdict = sheet.verdict;

@@ -1,7 +1,7 @@
 -- What a reader returns and leaves in its own lists (specs/Codes.antt), by which of its tests refuses. Cited by the reader.
 -- Assumes nothing.
 use Prim.Native.Nat.{ℕ, _+_, _≤_}
-use mathlib.Core.Path.{_≡_, sym, ap}
+use mathlib.Core.Path.{_≡_, sym, _∙_, ap}
 use mathlib.Core.Bool.{Bool, true, false, _||_}
 use mathlib.Core.List.{List}
 use native.Mathlib.Omega.{arith}
@@ -11,7 +11,9 @@ use Rattle.refusals.specs.Tests.{refuseIf, _then_, inOrder}
 use Rattle.refusals.specs.declared.Refusal.{Refusal}
 use Rattle.refusals.specs.declared.Refusal.the-variants.{Ragged, OutOfOrder, MemoryLoop, NoRoom}
 use Rattle.refusals.specs.declared.Verdict.the-variants.{Passed, Refused}
-use Rattle.refusals.proofs.Tests.{refused-not-passed, refuseIf-passes, then-passes}
+use Rattle.refusals.specs.Slices.{testRoom}
+use Rattle.refusals.proofs.Tests.{refused-not-passed, refuseIf-passes, refuseIf-either, then-passes, passed-then}
+use Rattle.refusals.proofs.Slices.{room-shown}
 use Rattle.model.specs.Netlist as M
 use Rattle.model.specs.Acceptance.{Accepted}
 use Rattle.netlist.specs.NetOf.{netOf}
@@ -25,7 +27,6 @@ use Rattle.records.proofs.Record.{testLines-passes}
 use Rattle.records.proofs.Acceptance.{passes-accepted}
 use Rattle.steps.specs.Records.{recordOf, refusedAt}
 use Rattle.steps.specs.Steps.{FullLength, Holds}
-use Rattle.steps.proofs.Neither.{neither}
 use Rattle.parse.specs.Files.{lineCount, netIn}
 use Rattle.parse.specs.FileTests.{ragged, testLineIn}
 use Rattle.parse.proofs.LineTests.{line-passed, sizes-passed}
@@ -109,25 +110,28 @@ module _ (file : List ℕ) (latchRoom gateRoom : ℕ) where
   unfolding sheetVerdict _then_
   sheet-refused e = rw e
 
+  by-room : fileVerdict file ≡ Passed → sheetVerdict file latchRoom gateRoom ≡ refuseIf short NoRoom 0
+  unfolding sheetVerdict testRoom
+  by-room e =
+      rw (e, passed-then _)
+      (refuseIf-either (ltb latchRoom (netIn file .latches)) (ltb gateRoom (netIn file .gates)) NoRoom 0)
+
   pub sheet-short : fileVerdict file ≡ Passed → short ≡ true → sheetVerdict file latchRoom gateRoom ≡ Refused NoRoom 0
-  unfolding sheetVerdict _then_
-  sheet-short e h = rw (e, h)
+  sheet-short e h = by-room e ∙ rw h
 
   sheet-passed : fileVerdict file ≡ Passed → short ≡ false → sheetVerdict file latchRoom gateRoom ≡ Passed
-  unfolding sheetVerdict _then_
-  sheet-passed e h = rw (e, h)
+  sheet-passed e h = by-room e ∙ rw h
 
   -- what the verdict Passed says
   pub passed-sheet : sheetVerdict file latchRoom gateRoom ≡ Passed
       → Accepted (netIn file) × (netIn file .latches ≤ latchRoom) × (netIn file .gates ≤ gateRoom)
-  unfolding sheetVerdict _then_
+  unfolding sheetVerdict
   passed-sheet e =
-      let parts = then-passes (fileVerdict file) (refuseIf short NoRoom 0) .0 e in
-      let long = neither (ltb latchRoom (netIn file .latches)) (ltb gateRoom (netIn file .gates)) .0
-      (refuseIf-passes short NoRoom 0 .0 (parts .1)) in (
+      let parts = then-passes (fileVerdict file) _ .0 e in
+      let long = then-passes (testRoom (netIn file .latches) latchRoom) (testRoom (netIn file .gates) gateRoom) .0 (parts .1) in (
         accepted-in file (parts .0),
-        ltb-false latchRoom (netIn file .latches) (long .0),
-        ltb-false gateRoom (netIn file .gates) (long .1),
+        room-shown (netIn file .latches) latchRoom (long .0),
+        room-shown (netIn file .gates) gateRoom (long .1),
       )
 
   -- at a refusal: a record of zeros

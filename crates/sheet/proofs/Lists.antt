@@ -8,13 +8,13 @@ use lib.Seq.{take-suc, take-all}
 use Rattle.model.specs.Clauses.{gather}
 use Rattle.literals.specs.declared.Code.{Code}
 use Rattle.netlist.specs.NetOf.{codeOf}
-use Rattle.steps.specs.Records.{codeAt}
+use Rattle.steps.specs.Records.{codeEntry}
 
 -- the codes of a record's array, gathered again
-pub gather-codes : (xs : List Code) (n : ℕ) → n ≤ length xs → gather n (codeAt (codeOf xs)) ≡ take n xs
+pub gather-codes : (xs : List Code) (n : ℕ) → n ≤ length xs → gather n (codeEntry (codeOf xs)) ≡ take n xs
 unfolding gather codeOf
 gather-codes xs zero h = refl
 gather-codes xs (suc n) h = rw (gather-codes xs n (omega arith), take-suc xs n (record { 0 = 0 }) (omega arith))
 
-pub gather-all : (xs : List Code) (n : ℕ) → length xs ≡ n → gather n (codeAt (codeOf xs)) ≡ xs
+pub gather-all : (xs : List Code) (n : ℕ) → length xs ≡ n → gather n (codeEntry (codeOf xs)) ≡ xs
 gather-all xs n e = gather-codes xs n (omega arith) ∙ take-all n xs (omega arith)

@@ -20,10 +20,10 @@ use Rattle.netlist.proofs.NetOf.{sizes-lists, limits-without-latches}
 use Rattle.netlist.proofs.Lines.{every-place}
 use Rattle.netlist.proofs.Faults.{Without, codes-fit}
 use Rattle.steps.specs.Records.{recordOf, noNetlist}
-use Rattle.lines.specs.declared.Line.{Line}
-use Rattle.lines.specs.declared.Line.the-variants.{Misprint}
+use Rattle.lines.specs.declared.ParsedLine.{ParsedLine}
+use Rattle.lines.specs.declared.ParsedLine.the-variants.{Misprint}
 use lib.Dec.{ltb}
-use Rattle.parse.specs.Files.{lineCount, firstOf, secondOf, thirdOf, sizesIn, netOfLines, netIn, upTo}
+use Rattle.parse.specs.Files.{lineCount, firstNumber, secondNumber, thirdNumber, sizesIn, netOfLines, netIn, upTo}
 use Rattle.parse.specs.FileTests.{testLineIn}
 use Rattle.parse.specs.Progress.{linesTo, netTo, ReadTo}
 use Rattle.parse.proofs.Files.{linesTo-unread}
@@ -51,10 +51,10 @@ either-zero false = refl
 
 -- before the first line nothing is read, and every entry is 0
 module _ (file : List ℕ) where
-  unread : (size : ℕ) (f : Line → ℕ) (place : ℕ → ℕ) → f Misprint ≡ 0 → ((x : ℕ) → 1 ≤ place x) → (x : ℕ) → upTo size (λ y. f (linesTo file 0 (place y))) x ≡ 0
+  unread : (size : ℕ) (f : ParsedLine → ℕ) (place : ℕ → ℕ) → f Misprint ≡ 0 → ((x : ℕ) → 1 ≤ place x) → (x : ℕ) → upTo size (λ y. f (linesTo file 0 (place y))) x ≡ 0
   unread size f place none later x = rw (linesTo-unread file 0 (place x) (later x), none) (either-zero (ltb x size))
 
-  unread-last : (f : Line → ℕ) → f Misprint ≡ 0 → f (linesTo file 0 (controlLine (sizesIn file))) ≡ 0
+  unread-last : (f : ParsedLine → ℕ) → f Misprint ≡ 0 → f (linesTo file 0 (controlLine (sizesIn file))) ≡ 0
   unread-last f none = rw (linesTo-unread file 0 (controlLine (sizesIn file)) (omega arith)) none
 
   none-read : netOf (recordOf noNetlist) noCodes noCodes ≡ netTo file 0
@@ -68,15 +68,15 @@ module _ (file : List ℕ) where
         m = 0;
         n = 0;
         initialWord = 0;
-        next = λ l. (no-code (2 * l) ∙ sym (unread (s .latches) firstOf (latchLine s) refl (λ x. omega arith) l)) i;
-        reset = λ l. (no-code (2 * l + 1) ∙ sym (unread (s .latches) secondOf (latchLine s) refl (λ x. omega arith) l)) i;
-        left = λ g. (no-code (2 * g) ∙ sym (unread (s .gates) firstOf (gateLine s) refl (λ x. omega arith) g)) i;
-        right = λ g. (no-code (2 * g + 1) ∙ sym (unread (s .gates) secondOf (gateLine s) refl (λ x. omega arith) g)) i;
-        address = λ t. (no-code-of 12 t refl ∙ sym (unread (s .m) firstOf (addressLine s) refl (λ x. omega arith) t)) i;
-        writeData = λ t. (no-code-of 32 t refl ∙ sym (unread (s .n) firstOf (dataLine s) refl (λ x. omega arith) t)) i;
-        WE = sym (unread-last firstOf refl) i;
-        RE = sym (unread-last secondOf refl) i;
-        P = sym (unread-last thirdOf refl) i;
+        next = λ l. (no-code (2 * l) ∙ sym (unread (s .latches) firstNumber (latchLine s) refl (λ x. omega arith) l)) i;
+        reset = λ l. (no-code (2 * l + 1) ∙ sym (unread (s .latches) secondNumber (latchLine s) refl (λ x. omega arith) l)) i;
+        left = λ g. (no-code (2 * g) ∙ sym (unread (s .gates) firstNumber (gateLine s) refl (λ x. omega arith) g)) i;
+        right = λ g. (no-code (2 * g + 1) ∙ sym (unread (s .gates) secondNumber (gateLine s) refl (λ x. omega arith) g)) i;
+        address = λ t. (no-code-of 12 t refl ∙ sym (unread (s .m) firstNumber (addressLine s) refl (λ x. omega arith) t)) i;
+        writeData = λ t. (no-code-of 32 t refl ∙ sym (unread (s .n) firstNumber (dataLine s) refl (λ x. omega arith) t)) i;
+        WE = sym (unread-last firstNumber refl) i;
+        RE = sym (unread-last secondNumber refl) i;
+        P = sym (unread-last thirdNumber refl) i;
       }
 
   pub read-none : ReadTo file 0 (recordOf noNetlist) noCodes noCodes

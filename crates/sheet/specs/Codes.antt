@@ -1,5 +1,6 @@
 -- What a reader returns and leaves in its own unpacked lists, for lent lists that have room for so many records (document 01,
--- "a .. record returned beside them is all zeros"). Assumes nothing.
+-- "a .. record returned beside them is all zeros"). Cited by `read_codes` here and in `reader`, and by reader/specs/ReadCall.
+-- Assumes nothing.
 use Prim.Native.Nat.{ℕ}
 use mathlib.Core.Path.{_≡_}
 use mathlib.Core.List.{List}
@@ -11,7 +12,7 @@ use Rattle.netlist.specs.declared.Netlist.{Netlist}
 use Rattle.records.specs.Record.{recordVerdict}
 use Rattle.steps.specs.Records.{recordOf, noNetlist}
 use Rattle.steps.specs.Steps.{Holds}
-use Rattle.steps.specs.declared.Sheet.{Sheet}
+use Rattle.steps.specs.declared.SheetAnswer.{SheetAnswer}
 use Rattle.parse.specs.Files.{netIn}
 use Rattle.sheet.specs.Sheet.{sheetVerdict}
 
@@ -21,7 +22,7 @@ recordBeside Passed c = recordOf c
 recordBeside (Refused r p) c = recordOf noNetlist
 
 -- the verdict and the record; and on success the lists hold the codes, and no test of records refuses them
-pub record CodesRead (file : List ℕ) (latchRoom gateRoom : ℕ) (sheet : Sheet) (latches gates : List ℕ) : Type 0 where
+pub record CodesRead (file : List ℕ) (latchRoom gateRoom : ℕ) (sheet : SheetAnswer) (latches gates : List ℕ) : Type 0 where
   pub verdict-is : sheet .verdict ≡ sheetVerdict file latchRoom gateRoom
   pub record-is : sheet .net ≡ recordBeside (sheetVerdict file latchRoom gateRoom) (netIn file)
   pub holds : sheet .verdict ≡ Passed → Holds (sheet .net) latches gates (netIn file)

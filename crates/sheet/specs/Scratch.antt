@@ -1,4 +1,5 @@
--- The reader's own lists, into which the codes go before anything that is lent is written. Assumes nothing.
+-- The reader's own lists, into which the codes go before anything that is lent is written. Cited by `no_codes`,
+-- `test_end` and the functions of `input`. Assumes nothing.
 use Prim.Native.Nat.{ℕ, _≤_}
 use mathlib.Core.List.{List}
 use lib.ListN.{replicate}

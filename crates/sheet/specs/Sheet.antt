@@ -1,12 +1,13 @@
 -- The verdict on a sheet: document 01's order of tests ("Reading: .."), over the line due at a place from the sizes alone, the faults
--- of a line, and the first faulty line. It is not the reader's own way through the file. Assumes nothing.
+-- of a line, and the first faulty line. It is not the reader's own way through the file. Cited by `test_end`, `test_file`,
+-- sheet/specs/Codes, reader/specs/ReadCall, input/specs/Input and calls/specs/Starred. Assumes nothing.
 use Prim.Native.Nat.{ℕ, _+_}
-use mathlib.Core.Bool.{_||_}
 use mathlib.Core.List.{List}
 use lib.Dec.{ltb}
 use Rattle.model.specs.Netlist.{Netlist}
 use Rattle.refusals.specs.Tests.{refuseIf, _then_, inOrder}
-use Rattle.refusals.specs.declared.Refusal.the-variants.{Ragged, OutOfOrder, MemoryLoop, NoRoom}
+use Rattle.refusals.specs.Slices.{testRoom}
+use Rattle.refusals.specs.declared.Refusal.the-variants.{Ragged, OutOfOrder, MemoryLoop}
 use Rattle.refusals.specs.declared.Verdict.{Verdict}
 use Rattle.netlist.specs.Lines.{controlLine}
 use Rattle.netlist.specs.Faults.{loopFault}
@@ -30,4 +31,4 @@ fileVerdict file =
 -- "Then 9, place 0", for lists of latchRoom and gateRoom records
 unfoldable pub sheetVerdict : List ℕ → ℕ → ℕ → Verdict
 sheetVerdict file latchRoom gateRoom =
-    fileVerdict file then refuseIf (ltb latchRoom (netIn file .latches) || ltb gateRoom (netIn file .gates)) NoRoom 0
+    fileVerdict file then testRoom (netIn file .latches) latchRoom then testRoom (netIn file .gates) gateRoom

@@ -3,7 +3,7 @@
 use netlist::Netlist;
 use refusals::Refusal;
 use refusals::Verdict;
-use steps::Sheet;
+use steps::SheetAnswer;
 ghost use mathlib.Core.Path.{_≡_};
 ghost use mathlib.Core.List.{[]};
 ghost use Prim.Native.Nat.{_≤_};
@@ -39,7 +39,12 @@ fn test_end(net: Netlist, gates: &[u32; 1200], count: u32) -> Verdict
 
 // The tests of a file from `line` on, which is how many lines are read already; they gave nothing but zeros. Where it passes, its
 // codes are in the lists and the rest in the record.
-fn test_file(file: &[u8], line: u32, latches: &mut [u32; 1200], gates: &mut [u32; 1200]) -> Sheet
+fn test_file(
+    file: &[u8],
+    line: u32,
+    latches: &mut [u32; 1200],
+    gates: &mut [u32; 1200],
+) -> SheetAnswer
     requires { ⌜ (line ≤ lineCount (now file)) × ReadTo (now file) line (recordOf noNetlist) (now latches) (now gates) ⌝ }
     ensures { λ r. ⌜ Outcome r (now (latches .exit)) (now (gates .exit)) (fileVerdict (now (file .entry))) (netIn (now (file .entry))) ⌝ }
 {
@@ -56,7 +61,7 @@ fn test_file(file: &[u8], line: u32, latches: &mut [u32; 1200], gates: &mut [u32
     if let Verdict::Refused(refusal, place) = test_end(net, gates, count) {
         return steps::refused(refusal, place);
     }
-    Sheet {
+    SheetAnswer {
         verdict: Verdict::Passed,
         net,
     }
@@ -70,7 +75,7 @@ pub fn read_codes(
     gate_room: usize,
     latches: &mut [u32; 1200],
     gates: &mut [u32; 1200],
-) -> Sheet
+) -> SheetAnswer
     requires { ⌜ (line ≤ lineCount (now file)) × ReadTo (now file) line (recordOf noNetlist) (now latches) (now gates) ⌝ }
     ensures { λ r. ⌜ CodesRead (now (file .entry)) «latch_room» «gate_room» r (now (latches .exit)) (now (gates .exit)) ⌝ }
 {
@@ -83,7 +88,7 @@ pub fn read_codes(
     if (latch_room < net.latches as usize) | (gate_room < net.gates as usize) {
         return steps::refused(Refusal::NoRoom, 0);
     }
-    Sheet {
+    SheetAnswer {
         verdict: Verdict::Passed,
         net,
     }

@@ -2,7 +2,7 @@
 -- reading line by line. Assumes nothing.
 use Prim.Native.Nat.{ℕ, _+_, _-_, _≤_, _<_}
 use mathlib.Core.Path.{_≡_, refl, sym, _∙_, ap}
-use mathlib.Core.Bool.{Bool, true, false, _&&_, true≢false}
+use mathlib.Core.Bool.{true, false}
 use mathlib.Core.Logic.{by-cases}
 use mathlib.Core.List.{List, [], _∷_}
 use native.Mathlib.Decide.{decLt}
@@ -12,14 +12,14 @@ use lib.ListN.{getD}
 use borrow.Author.Tests.{eq-eqb, eqb-true, le-ltb}
 use Rattle.model.specs.Netlist.{Netlist}
 use Rattle.model.specs.Acceptance.{SizesFit}
+use Rattle.model.proofs.Booleans.{and-true, not-true-false}
 use Rattle.netlist.specs.Lines.{memoryLine, latchLine, gateLine, addressLine, dataLine, controlLine, lineAt, HasLine}
 use Rattle.netlist.specs.Faults.{sizeFault}
 use Rattle.netlist.specs.declared.Line.{Line}
 use Rattle.netlist.specs.declared.Line.the-variants.{Sizes, Memory, Latch, Gate, Address, Data, Control}
 use Rattle.netlist.proofs.Lines.{at-sizes, at-memory, at-latch, at-gate, at-address, at-data, at-control, has-lineAt}
 use Rattle.lines.specs.Letters.{rowOf}
-use Rattle.steps.specs.Due.{kindDue}
-use Rattle.steps.specs.Due.{numberIn, roomFor, sameLine}
+use Rattle.steps.specs.Due.{kindDue, lineIndex, roomFor, sameLine}
 use Rattle.steps.specs.Steps.{SizesKnown}
 
 -- the row of a line's kind
@@ -36,11 +36,11 @@ sizeOfRow c row = getD (1 ∷ 1 ∷ c .latches ∷ c .gates ∷ c .m ∷ c .n �
 
 -- where a line stands
 abbrev pub placeOf : Netlist → Line → ℕ
-placeOf c x = firstInRow c (rowOfLine x) + numberIn x
+placeOf c x = firstInRow c (rowOfLine x) + lineIndex x
 
 -- a line that the netlist has is below its row's size
 abbrev pub InRow : Netlist → Line → Type 0
-InRow c x = numberIn x < sizeOfRow c (rowOfLine x)
+InRow c x = lineIndex x < sizeOfRow c (rowOfLine x)
 
 inRow-of-hasLine : (c : Netlist) (x : Line) → HasLine c x → InRow c x
 inRow-of-hasLine c Sizes h = omega arith
@@ -75,23 +75,13 @@ place-lineAt c p h b =
     by-cases (decLt p (controlLine c)) (λ d. rw (at-data c p (p - dataLine c 0) (omega arith) (omega arith)) (omega arith)) λ d.
     rw (at-control c p (omega arith)) (omega arith)
 
--- both of two tests hold where their conjunction does
-both-true : (a b : Bool) → (a && b) ≡ true → (a ≡ true) × (b ≡ true)
-both-true true b h = (refl, h)
-both-true false b h = absurd (true≢false (sym h))
-
--- a test that cannot hold does not
-not-true→false : (b : Bool) → (b ≡ true → ⊥) → b ≡ false
-not-true→false true h = absurd (h refl)
-not-true→false false h = refl
-
 -- lines that are the same have the same place and are both in their row
 module _ (c : Netlist) (x y : Line) (h : sameLine x y ≡ true) where
   same-row : rowOfLine x ≡ rowOfLine y
-  same-row = eqb-true (rowOfLine x) (rowOfLine y) (both-true (eqb (rowOfLine x) (rowOfLine y)) (eqb (numberIn x) (numberIn y)) h .0)
+  same-row = eqb-true (rowOfLine x) (rowOfLine y) (and-true (eqb (rowOfLine x) (rowOfLine y)) (eqb (lineIndex x) (lineIndex y)) .0 h .0)
 
-  same-number : numberIn x ≡ numberIn y
-  same-number = eqb-true (numberIn x) (numberIn y) (both-true (eqb (rowOfLine x) (rowOfLine y)) (eqb (numberIn x) (numberIn y)) h .1)
+  same-number : lineIndex x ≡ lineIndex y
+  same-number = eqb-true (lineIndex x) (lineIndex y) (and-true (eqb (rowOfLine x) (rowOfLine y)) (eqb (lineIndex x) (lineIndex y)) .0 h .1)
 
   same-place : placeOf c x ≡ placeOf c y
   same-place = rw (same-row, same-number)
@@ -101,7 +91,7 @@ module _ (c : Netlist) (x y : Line) (h : sameLine x y ≡ true) where
 
 -- a line is the same as itself
 sameLine-self : (x : Line) → sameLine x x ≡ true
-sameLine-self x = rw (eq-eqb (rowOfLine x) (rowOfLine x) refl, eq-eqb (numberIn x) (numberIn x) refl)
+sameLine-self x = rw (eq-eqb (rowOfLine x) (rowOfLine x) refl, eq-eqb (lineIndex x) (lineIndex x) refl)
 
 -- the line at a place is the one that stands there
 module _ (c : Netlist) (p : ℕ) (h : 1 ≤ p) (b : p ≤ controlLine c) (x : Line) where
@@ -110,11 +100,11 @@ module _ (c : Netlist) (p : ℕ) (h : 1 ≤ p) (b : p ≤ controlLine c) (x : Li
 
   pub sameLine-elsewhere : (p ≡ placeOf c x → ⊥) → sameLine (lineAt c p) x ≡ false
   sameLine-elsewhere n =
-      not-true→false (sameLine (lineAt c p) x) (λ s. n (sym (place-lineAt c p h b) ∙ same-place c (lineAt c p) x s))
+      not-true-false (sameLine (lineAt c p) x) (λ s. n (sym (place-lineAt c p h b) ∙ same-place c (lineAt c p) x s))
 
   pub sameLine-none : (InRow c x → ⊥) → sameLine (lineAt c p) x ≡ false
   sameLine-none n =
-      not-true→false (sameLine (lineAt c p) x) (λ s. n (same-inRow c (lineAt c p) x s (inRow-at c p)))
+      not-true-false (sameLine (lineAt c p) x) (λ s. n (same-inRow c (lineAt c p) x s (inRow-at c p)))
 
 -- what holds of every line of codes holds of each line from line 3 on
 pub codes-from-3 : (c : Netlist) (p : ℕ) (P : Line → Type 0) → 3 ≤ p → ((l : ℕ) → P (Latch l)) → ((g : ℕ) → P (Gate g)) → ((t : ℕ) → P (Address t)) → ((t : ℕ) → P (Data t)) → P Control → P (lineAt c p)
@@ -131,7 +121,7 @@ unfolding sizeFault
 no-size-from-3 c d p h = codes-from-3 d p (λ x. sizeFault c x ≡ false) h (λ l. refl) (λ g. refl) (λ t. refl) (λ t. refl) refl
 
 -- the line due has room
-pub roomFor-due : (c : Netlist) (p : ℕ) → SizesKnown c p → numberIn (lineAt c p) < roomFor (lineAt c p)
+pub roomFor-due : (c : Netlist) (p : ℕ) → SizesKnown c p → lineIndex (lineAt c p) < roomFor (lineAt c p)
 roomFor-due c p known =
     by-cases (decLt p memoryLine) (λ s. rw (at-sizes c p s) (omega arith)) λ s.
     by-cases (decLt p (latchLine c 0)) (λ m. rw (at-memory c p (omega arith)) (omega arith)) λ m.

@@ -1,5 +1,5 @@
 -- The line due at a place, its kind and its number among those of its kind (document 01, "The sheet"). Cited by the functions that
--- take one line more. Assumes nothing.
+-- take one line more and by parse/specs/FileTests. Assumes nothing.
 use Prim.Native.Nat.{ℕ}
 use mathlib.Core.Bool.{Bool, _&&_}
 use lib.Dec.{eqb}
@@ -20,14 +20,14 @@ kindDue (Due.Data t) = WriteData
 kindDue Due.Control = Control
 
 -- the number of a line among those of its kind
-abbrev pub numberIn : Line → ℕ
-numberIn Due.Sizes = 0
-numberIn Due.Memory = 0
-numberIn (Due.Latch l) = l
-numberIn (Due.Gate g) = g
-numberIn (Due.Address t) = t
-numberIn (Due.Data t) = t
-numberIn Due.Control = 0
+abbrev pub lineIndex : Line → ℕ
+lineIndex Due.Sizes = 0
+lineIndex Due.Memory = 0
+lineIndex (Due.Latch l) = l
+lineIndex (Due.Gate g) = g
+lineIndex (Due.Address t) = t
+lineIndex (Due.Data t) = t
+lineIndex Due.Control = 0
 
 -- how many lines of its kind the record and the lists have room for
 abbrev pub roomFor : Line → ℕ
@@ -41,4 +41,4 @@ roomFor Due.Control = 1
 
 -- whether two lines are the same: of one kind, and with the same number
 abbrev pub sameLine : Line → Line → Bool
-sameLine a b = eqb (rowOf (kindDue a)) (rowOf (kindDue b)) && eqb (numberIn a) (numberIn b)
+sameLine a b = eqb (rowOf (kindDue a)) (rowOf (kindDue b)) && eqb (lineIndex a) (lineIndex b)

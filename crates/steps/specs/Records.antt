@@ -1,5 +1,5 @@
 -- The record of a netlist, and the one that is all zeros (document 01, "a .. record returned beside them is all zeros").
--- Assumes nothing.
+-- Cited by `empty_net`, `refused`, and parse/specs/Files and sheet/specs/Codes. Assumes nothing.
 use Prim.Native.Nat.{ℕ}
 use mathlib.Core.List.{List, [], _∷_}
 use Rattle.model.specs.Netlist as M
@@ -8,11 +8,11 @@ use Rattle.literals.specs.declared.Code.{Code}
 use Rattle.refusals.specs.declared.Refusal.{Refusal}
 use Rattle.refusals.specs.declared.Verdict.the-variants.{Refused}
 use Rattle.netlist.specs.declared.Netlist.{Netlist}
-use Rattle.steps.specs.declared.Sheet.{Sheet}
+use Rattle.steps.specs.declared.SheetAnswer.{SheetAnswer}
 
 -- the record of a netlist: arrays of 12 and 32 codes
-abbrev pub codeAt : (ℕ → ℕ) → ℕ → List Code
-codeAt f t = record { 0 = f t } ∷ []
+abbrev pub codeEntry : (ℕ → ℕ) → ℕ → List Code
+codeEntry f t = record { 0 = f t } ∷ []
 
 unfoldable pub recordOf : M.Netlist → Netlist
 recordOf c =
@@ -23,8 +23,8 @@ recordOf c =
       m = c .m;
       n = c .n;
       «initial_word» = c .initialWord;
-      address = gather 12 (codeAt (c .address));
-      «write_data» = gather 32 (codeAt (c .writeData));
+      address = gather 12 (codeEntry (c .address));
+      «write_data» = gather 32 (codeEntry (c .writeData));
       we = record { 0 = c .WE };
       re = record { 0 = c .RE };
       p = record { 0 = c .P };
@@ -56,5 +56,5 @@ abbrev pub noNetlist : M.Netlist
 noNetlist = withoutCodes 0 0 0 0 0 0
 
 -- a refusal with its record
-abbrev pub refusedAt : Refusal → ℕ → Sheet
+abbrev pub refusedAt : Refusal → ℕ → SheetAnswer
 refusedAt r p = record { verdict = Refused r p; net = recordOf noNetlist }

@@ -1,5 +1,5 @@
 -- What one line more does: its numbers put into the netlist read so far, and its tests there. Cited by the functions that take one
--- line more. Assumes nothing.
+-- line more, and by parse/specs and sheet/specs. Assumes nothing.
 use Prim.Native.Nat.{ℕ, _≤_}
 use mathlib.Core.Path.{_≡_}
 use mathlib.Core.Bool.{cond, not, _||_}
@@ -21,7 +21,7 @@ use Rattle.netlist.specs.declared.Line.{Line}
 use Rattle.netlist.specs.declared.Line.the-variants.{Sizes, Memory, Latch, Gate, Address, Data, Control}
 use Rattle.lines.specs.Letters.{rowOf}
 use Rattle.lines.specs.declared.Kind.{Kind}
-use Rattle.steps.specs.declared.Sheet.{Sheet}
+use Rattle.steps.specs.declared.SheetAnswer.{SheetAnswer}
 use Rattle.steps.specs.Due.{kindDue, sameLine}
 
 -- a number that stands in line `at`, where line `due` is read: the new one if it is that line, else the old one
@@ -82,7 +82,7 @@ stepVerdict c kind x y z p =
     then faultsAt (stepNet c x y z p) (lineAt c p) p
 
 -- a verdict v, and where it is Passed a record and lists that hold c
-pub record Outcome (sheet : Sheet) (latches gates : List ℕ) (v : Verdict) (c : Netlist) : Type 0 where
+pub record Outcome (sheet : SheetAnswer) (latches gates : List ℕ) (v : Verdict) (c : Netlist) : Type 0 where
   pub verdict-is : sheet .verdict ≡ v
   pub holds : v ≡ Passed → Holds (sheet .net) latches gates c
 

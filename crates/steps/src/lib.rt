@@ -15,12 +15,12 @@ ghost use lib.ListN.{set};
 ghost use Rattle.netlist.specs.NetOf.{netOf, alone};
 ghost use Rattle.netlist.specs.Lines.{lineAt, controlLine};
 ghost use Rattle.lines.specs.Letters.{rowOf};
-ghost use Rattle.steps.specs.Due.{kindDue, numberIn, roomFor};
+ghost use Rattle.steps.specs.Due.{kindDue, lineIndex, roomFor};
 ghost use Rattle.steps.specs.Records.{recordOf, noNetlist, refusedAt};
 ghost use Rattle.steps.specs.Steps.{stored, FullLength, Holds, StoredIn, Outcome, SizesKnown, faultsAt, stepNet, stepVerdict};
 
 // What a sheet is read as: the verdict of its tests, and the record, all zeros at a refusal.
-pub struct Sheet {
+pub struct SheetAnswer {
     pub verdict: Verdict,
     pub net: Netlist,
 }
@@ -46,10 +46,10 @@ pub fn empty_net() -> Netlist
 }
 
 // A refusal, with a record that is all zeros.
-pub fn refused(refusal: Refusal, place: u32) -> Sheet
+pub fn refused(refusal: Refusal, place: u32) -> SheetAnswer
     ensures { λ r. ⌜ r ≡ refusedAt refusal place ⌝ }
 {
-    Sheet {
+    SheetAnswer {
         verdict: Verdict::Refused(refusal, place),
         net: empty_net(),
     }
@@ -145,7 +145,7 @@ fn store(
     second: u32,
     third: u32,
 ) -> Netlist
-    requires { ⌜ FullLength (net .address) (net .«write_data») (now latches) (now gates) × (numberIn due < roomFor due) ⌝ }
+    requires { ⌜ FullLength (net .address) (net .«write_data») (now latches) (now gates) × (lineIndex due < roomFor due) ⌝ }
     ensures { λ r. ⌜ Holds r (now (latches .exit)) (now (gates .exit)) (stored (netOf net (now (latches .entry)) (now (gates .entry))) due first second third) ⌝ }
 {
     match due {
@@ -229,7 +229,7 @@ pub fn take_line(
     first: u32,
     second: u32,
     third: u32,
-) -> Sheet
+) -> SheetAnswer
     requires { ⌜ FullLength (net .address) (net .«write_data») (now latches) (now gates) × SizesKnown (alone net) place ⌝ }
     ensures { λ r. ⌜ Outcome r (now (latches .exit)) (now (gates .exit)) (stepVerdict (netOf net (now (latches .entry)) (now (gates .entry))) kind first second third place) (stepNet (netOf net (now (latches .entry)) (now (gates .entry))) first second third place) ⌝ }
 {
@@ -240,7 +240,7 @@ pub fn take_line(
     if lines::row_of(kind) == row_due(due) {
         let next = store(net, latches, gates, due, first, second, third);
         let verdict = test_stored(next, latches, gates, due, place);
-        return Sheet { verdict, net: next };
+        return SheetAnswer { verdict, net: next };
     }
     refused(Refusal::OutOfOrder, place)
 }

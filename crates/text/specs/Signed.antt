@@ -1,4 +1,4 @@
--- A signed number taken apart. Cited by the function that does so. Assumes nothing.
+-- A signed number taken apart. Cited by `parts_of`. Assumes nothing.
 use Prim.Native.Nat.{suc}
 use lib.IntN.{ℤ, pos, negsuc}
 use Rattle.text.specs.declared.Parts.{Parts}

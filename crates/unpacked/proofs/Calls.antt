@@ -25,10 +25,12 @@ use Rattle.refusals.specs.declared.Refusal.{Refusal}
 use Rattle.refusals.specs.declared.Refusal.the-variants.{Depth, NoSuchGroup, NoRoom}
 use Rattle.refusals.specs.declared.Verdict.{Verdict}
 use Rattle.refusals.specs.declared.Verdict.the-variants.{Passed, Refused}
+use Rattle.refusals.specs.Slices.{testRoom, withCount, contentsAfter}
 use Rattle.refusals.proofs.Tests.{refuseIf-passes, then-passes}
+use Rattle.refusals.proofs.Slices.{room-enough, room-short, room-shown}
 use Rattle.records.specs.Record.{recordVerdict}
 use Rattle.records.proofs.Acceptance.{passes-accepted}
-use Rattle.unpacked.specs.Calls.{testDepth, testGroup, testNumbers, testRoom, groupVerdict, headingVerdict, withCount, withNumbers, groupSent, groupLeaves, RoomEnough, CallsEncode}
+use Rattle.unpacked.specs.Calls.{testDepth, testGroup, testNumbers, groupVerdict, headingVerdict, groupSent, groupLeaves, RoomEnough, CallsEncode}
 
 -- a depth passes up to 255
 pub depth-passes : (k : ℕ) → testDepth k ≡ Passed → k ≤ 255
@@ -62,11 +64,11 @@ module _ (c : Netlist) (latchCount gateCount k : ℕ) (heads : headingVerdict c 
   -- then no group call with room enough is refused
   group-passes : (g : Group) (room : ℕ) → inDepth k g ≡ true → length (numbersOf c k g) ≤ room
       → groupVerdict c latchCount gateCount k g room ≡ Passed
-  unfolding groupVerdict testGroup testRoom
+  unfolding groupVerdict testGroup
   group-passes g room there enough =
       passes record-passed (passes (rest-passed .0)
       (passes (refuseIf-passes (not (inDepth k g)) _ 0 .1 (ap not there)) (passes (rest-passed .1)
-      (refuseIf-passes (ltb room (length (numbersOf c k g))) _ 0 .1 (le-ltb room (length (numbersOf c k g)) enough)))))
+      (room-enough (length (numbersOf c k g)) room enough))))
     where
       passes : {v w : Verdict} → v ≡ Passed → w ≡ Passed → (v then w) ≡ Passed
       passes {v} {w} p q = then-passes v w .1 (p, q)
@@ -74,7 +76,7 @@ module _ (c : Netlist) (latchCount gateCount k : ℕ) (heads : headingVerdict c 
   -- so the first `count` numbers that the call leaves are the group's
   group-numbers : (g : Group) (old : List ℤ) → inDepth k g ≡ true → length (numbersOf c k g) ≤ length old
       → take (groupSent c latchCount gateCount k g (length old) .count) (groupLeaves c latchCount gateCount k g old) ≡ numbersOf c k g
-  unfolding groupSent groupLeaves withCount withNumbers
+  unfolding groupSent groupLeaves withCount contentsAfter
   group-numbers g old there enough =
       rw (group-passes g (length old) there enough) (take-append-seam (numbersOf c k g) (drop (length (numbersOf c k g)) old))
 
@@ -136,14 +138,14 @@ module _ (c : Netlist) (latchCount gateCount k : ℕ) (g : Group) (room : ℕ) w
     -- 9: 10 is never met
     pub group-no-room : k ≤ 255 → inDepth k g ≡ true → room < length (numbersOf c k g)
         → groupVerdict c latchCount gateCount k g room ≡ Refused NoRoom 0
-    unfolding groupVerdict _then_ testDepth testGroup testRoom
+    unfolding groupVerdict _then_ testDepth testGroup
     group-no-room d h l =
         rw (
           record-passed,
           le-ltb 255 k d,
           h,
           numbers-suffice c k (passes-accepted c latchCount gateCount .0 record-passed .0) d,
-          lt-ltb room (length (numbersOf c k g)) l,
+          room-short (length (numbersOf c k g)) room l,
         )
 
     -- none
@@ -154,7 +156,7 @@ module _ (c : Netlist) (latchCount gateCount k : ℕ) (g : Group) (room : ℕ) w
   -- what a group call that is not refused has shown
   pub group-shown : groupVerdict c latchCount gateCount k g room ≡ Passed
       → Accepted c × (k ≤ 255) × (inDepth k g ≡ true) × (length (numbersOf c k g) ≤ room)
-  unfolding groupVerdict testGroup testRoom
+  unfolding groupVerdict testGroup
   group-shown h =
       let a = then-passes (recordVerdict c latchCount gateCount) _ .0 h in
       let b = then-passes (testDepth k) _ .0 (a .1) in
@@ -163,5 +165,5 @@ module _ (c : Netlist) (latchCount gateCount k : ℕ) (g : Group) (room : ℕ) w
         passes-accepted c latchCount gateCount .0 (a .0) .0,
         depth-passes k (b .0),
         not-false (inDepth k g) (refuseIf-passes (not (inDepth k g)) NoSuchGroup 0 .0 (d .0)),
-        ltb-false room (length (numbersOf c k g)) (refuseIf-passes (ltb room (length (numbersOf c k g))) NoRoom 0 .0 (e .1)),
+        room-shown (length (numbersOf c k g)) room (e .1),
       )

@@ -1,12 +1,13 @@
 -- What the calls over a record answer and leave (document 01, "What is sent back", "Groups of clauses"). The right-hand sides of
--- the public contracts, and the subject of the claim about them. Assumes nothing.
+-- the public contracts, and the subject of the claim about them. Cited by the calls in `unpacked`, `calls` and `exports`. Assumes
+-- nothing.
 use Prim.Native.Nat.{ℕ, _+_, _≤_}
 use mathlib.Core.Path.{_≡_}
 use mathlib.Core.Bool.{true, not}
-use mathlib.Core.List.{List, _++_}
+use mathlib.Core.List.{List}
 use lib.Dec.{ltb}
 use lib.IntN.{ℤ}
-use lib.ListN.{length, take, drop}
+use lib.ListN.{length, take}
 use Rattle.model.specs.Netlist.{Netlist}
 use Rattle.model.specs.Acceptance.{Accepted}
 use Rattle.model.specs.Variables.{base}
@@ -14,9 +15,10 @@ use Rattle.model.specs.Groups.{inDepth, groupOrder}
 use Rattle.model.specs.Numbers.{numbersOf, joined, formula, clausesIn}
 use Rattle.model.specs.Claim.{Encodes, Stated}
 use Rattle.model.specs.declared.Group.{Group}
-use Rattle.refusals.specs.Refusal.{numberOf}
+use Rattle.refusals.specs.Refusal.{refusalNumber}
 use Rattle.refusals.specs.Tests.{refuseIf, _then_}
-use Rattle.refusals.specs.declared.Refusal.the-variants.{Depth, NoSuchGroup, NoRoom, OutOfNumbers}
+use Rattle.refusals.specs.Slices.{testRoom, CountReply, withCount, contentsAfter}
+use Rattle.refusals.specs.declared.Refusal.the-variants.{Depth, NoSuchGroup, OutOfNumbers}
 use Rattle.refusals.specs.declared.Verdict.{Verdict}
 use Rattle.refusals.specs.declared.Verdict.the-variants.{Passed, Refused}
 use Rattle.records.specs.Record.{recordVerdict}
@@ -41,63 +43,46 @@ testNumbers c k = refuseIf (ltb 2147483647 (base c (k + 1))) OutOfNumbers 0
 abbrev pub NumbersSuffice : Netlist → ℕ → Type 0
 NumbersSuffice c k = Accepted c → k ≤ 255 → testNumbers c k ≡ Passed
 
--- 9: "a lent slice .. that is to be written is shorter than the exact need"
-unfoldable pub testRoom : Netlist → ℕ → Group → ℕ → Verdict
-testRoom c k g room = refuseIf (ltb room (length (numbersOf c k g))) NoRoom 0
-
 -- "A group call then tests 7, 8, 10, 9, place 0": of a record whose lists have latchCount and gateCount records, with a slice of
--- `room` numbers
+-- `room` numbers; 9 is of this group's exact length
 unfoldable pub groupVerdict : Netlist → ℕ → ℕ → ℕ → Group → ℕ → Verdict
 groupVerdict c latchCount gateCount k g room =
-    recordVerdict c latchCount gateCount then testDepth k then testGroup k g then testNumbers c k then testRoom c k g room
+    recordVerdict c latchCount gateCount then testDepth k then testGroup k g then testNumbers c k
+    then testRoom (length (numbersOf c k g)) room
 
 -- a heading call has no group and writes nothing: no 8, no 9
 unfoldable pub headingVerdict : Netlist → ℕ → ℕ → ℕ → Verdict
 headingVerdict c latchCount gateCount k = recordVerdict c latchCount gateCount then testDepth k then testNumbers c k
 
--- What is sent back of a group call: number (0 where it is not refused), place, and count ("a count .. returned beside them is all
--- zeros"); and of a heading call: number, place, variables and clauses.
-pub record GroupReply : Type 0 where
-  pub number : ℕ
-  pub place : ℕ
-  pub count : ℕ
-
-unfoldable pub groupReply : GroupAnswer → GroupReply
-groupReply (Written n) = record { number = 0; place = 0; count = n }
-groupReply (GroupAnswer.Refused r p) = record { number = numberOf r; place = p; count = 0 }
-
+-- what is sent back of a heading call: the refusal's number and place, both 0 where nothing is refused, and the heading
 pub record HeadingReply : Type 0 where
   pub number : ℕ
   pub place : ℕ
   pub variables : ℕ
   pub clauses : ℕ
 
-unfoldable pub headingReply : HeadingAnswer → HeadingReply
-headingReply (Heading v n) = record { number = 0; place = 0; variables = v; clauses = n }
-headingReply (HeadingAnswer.Refused r p) = record { number = numberOf r; place = p; variables = 0; clauses = 0 }
-
--- a verdict, with the count or the heading that stand beside it where nothing is refused
-unfoldable pub withCount : Verdict → ℕ → GroupReply
-withCount Passed n = record { number = 0; place = 0; count = n }
-withCount (Refused r p) n = record { number = numberOf r; place = p; count = 0 }
-
+-- a verdict, with the heading beside it: "a .. heading .. returned beside them is all zeros"
 unfoldable pub withHeading : Verdict → ℕ → ℕ → HeadingReply
 withHeading Passed v n = record { number = 0; place = 0; variables = v; clauses = n }
-withHeading (Refused r p) v n = record { number = numberOf r; place = p; variables = 0; clauses = 0 }
+withHeading (Refused r p) v n = record { number = refusalNumber r; place = p; variables = 0; clauses = 0 }
 
--- the numbers written, and everything behind untouched; at a refusal the slice is as it was
-unfoldable pub withNumbers : Verdict → List ℤ → List ℤ → List ℤ
-withNumbers Passed zs old = zs ++ drop (length zs) old
-withNumbers (Refused r p) zs old = old
+-- the answers of both calls in document 01's numbers
+unfoldable pub groupReply : GroupAnswer → CountReply
+groupReply (Written n) = withCount Passed n
+groupReply (GroupAnswer.Refused r p) = withCount (Refused r p) 0
+
+unfoldable pub headingReply : HeadingAnswer → HeadingReply
+headingReply (Heading v n) = withHeading Passed v n
+headingReply (HeadingAnswer.Refused r p) = withHeading (Refused r p) 0 0
 
 -- what a group call answers, and what it leaves in the slice
-unfoldable pub groupSent : Netlist → ℕ → ℕ → ℕ → Group → ℕ → GroupReply
+unfoldable pub groupSent : Netlist → ℕ → ℕ → ℕ → Group → ℕ → CountReply
 groupSent c latchCount gateCount k g room =
     withCount (groupVerdict c latchCount gateCount k g room) (length (numbersOf c k g))
 
 unfoldable pub groupLeaves : Netlist → ℕ → ℕ → ℕ → Group → List ℤ → List ℤ
 groupLeaves c latchCount gateCount k g old =
-    withNumbers (groupVerdict c latchCount gateCount k g (length old)) (numbersOf c k g) old
+    contentsAfter (groupVerdict c latchCount gateCount k g (length old)) (numbersOf c k g) old
 
 -- what a heading call answers: "the variables numbered and the clauses really written"
 unfoldable pub headingSent : Netlist → ℕ → ℕ → ℕ → HeadingReply

@@ -41,7 +41,8 @@ use Rattle.netlist.specs.declared.Netlist.{Netlist}
 use Rattle.netlist.specs.NetOf.{netOf}
 use Rattle.netlist.proofs.Netlist as N
 use Rattle.netlist.proofs.Netlist.Laws as N′
-use Rattle.lists.specs.Unpacked.{latchCodes, gateCodes, unpackInto}
+use Rattle.lists.specs.Unpacked.{latchCodes, gateCodes}
+use Rattle.model.specs.Wrote.{over}
 use Rattle.lists.specs.declared.Latch.{Latch}
 use Rattle.lists.specs.declared.Gate.{Gate}
 use Rattle.lists.proofs.Latch as L
@@ -116,10 +117,10 @@ module _ {M : Type 1} (𝓤 : URA M) (H : Heap 𝓤) (A : Atoms 𝓤) (W : Given
 
     -- the unpacked lists
     abbrev zl : List ℕ
-    zl = unpackInto (latchCodes (ls .now)) zeros
+    zl = over (latchCodes (ls .now)) zeros
 
     abbrev zg : List ℕ
-    zg = unpackInto (gateCodes (gs .now)) zeros
+    zg = over (gateCodes (gs .now)) zeros
 
     abbrev Post : Val → SProp 𝓤
     Post = walkOf 𝓤 H A f.ended stayed (f.clauses 𝓤 H A mem run) .post (((κ₀, (κ₁, tt)), (q₀, (q₁, tt)), tt, a, vals), tt)

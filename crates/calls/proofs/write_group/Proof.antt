@@ -44,7 +44,8 @@ use Rattle.netlist.specs.declared.Netlist.{Netlist}
 use Rattle.netlist.specs.NetOf.{netOf}
 use Rattle.netlist.proofs.Netlist as N
 use Rattle.netlist.proofs.Netlist.Laws as N′
-use Rattle.lists.specs.Unpacked.{latchCodes, gateCodes, unpackInto}
+use Rattle.lists.specs.Unpacked.{latchCodes, gateCodes}
+use Rattle.model.specs.Wrote.{over}
 use Rattle.lists.specs.declared.Latch.{Latch}
 use Rattle.lists.specs.declared.Gate.{Gate}
 use Rattle.lists.proofs.Latch as L
@@ -128,10 +129,10 @@ module _ {M : Type 1} (𝓤 : URA M) (H : Heap 𝓤) (A : Atoms 𝓤) (W : Given
 
     -- the unpacked lists
     abbrev zl : List ℕ
-    zl = unpackInto (latchCodes (ls .now)) zeros
+    zl = over (latchCodes (ls .now)) zeros
 
     abbrev zg : List ℕ
-    zg = unpackInto (gateCodes (gs .now)) zeros
+    zg = over (gateCodes (gs .now)) zeros
 
     -- what the call over unpacked lists says
     abbrev Answered : GroupAnswer → Type 0

@@ -9,9 +9,9 @@ use native.Mathlib.Nat.{pow-suc}
 use native.Mathlib.Numerals.{add-one}
 use native.Mathlib.Omega.{arith}
 use lib.ListN.{length, getD, drop}
-use Rattle.decimal.specs.Reading.{valueAfter}
+use Rattle.decimal.specs.TextValue.{valueAfter}
 use Rattle.decimal.specs.declared.Number.the-variants.{Value}
-use Rattle.decimal.proofs.Reading.{allDigits, isDigit, numberIn-long, numberIn-empty, numberIn-zero, numberIn-no-digit, numberIn-above, numberIn-value, valueAfter-next, valueAfter-end, allDigits-next, allDigits-end, isDigit-below, isDigit-above, isDigit-inside, ten-digits}
+use Rattle.decimal.proofs.TextValue.{allDigits, isDigit, numberIn-long, numberIn-empty, numberIn-zero, numberIn-no-digit, numberIn-above, numberIn-value, valueAfter-next, valueAfter-end, allDigits-next, allDigits-end, isDigit-below, isDigit-above, isDigit-inside, ten-digits}
 use Rattle.decimal.proofs.read_number.Statement.{statement}
 use Rattle.decimal.proofs.read_number.Tie as tie
 

@@ -5,7 +5,7 @@ use borrow.Author.Needs.{needs}
 use borrow.Author.Tests.{leb-true, leb-false}
 use lib.ListN.{length}
 use Rattle.dimacs.specs.Text.{clauseText}
-use Rattle.dimacs.proofs.Report.{written, not-written}
+use Rattle.dimacs.proofs.PrintCalls.{written, not-written}
 use Rattle.dimacs.proofs.put_clauses.Statement.{statement}
 use Rattle.dimacs.proofs.put_clauses.Tie as tie
 

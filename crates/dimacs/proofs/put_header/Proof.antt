@@ -4,7 +4,7 @@ use borrow.Author.Needs.{needs}
 use Rattle.decimal.proofs.Digits.{length-digits-ten}
 use Rattle.dimacs.specs.Text.{headerText}
 use Rattle.dimacs.proofs.Text.{length-headerText}
-use Rattle.dimacs.proofs.Report.{written, not-written}
+use Rattle.dimacs.proofs.PrintCalls.{written, not-written}
 use Rattle.dimacs.proofs.put_header.Statement.{statement}
 use Rattle.dimacs.proofs.put_header.Tie as tie
 

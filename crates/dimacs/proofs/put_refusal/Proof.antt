@@ -3,7 +3,7 @@ use native.Mathlib.Omega.{arith}
 use borrow.Author.Needs.{needs}
 use Rattle.dimacs.specs.Text.{refusalText}
 use Rattle.dimacs.proofs.Text.{length-refusalText}
-use Rattle.dimacs.proofs.Report.{written, not-written}
+use Rattle.dimacs.proofs.PrintCalls.{written, not-written}
 use Rattle.dimacs.proofs.put_refusal.Statement.{statement}
 use Rattle.dimacs.proofs.put_refusal.Tie as tie
 

@@ -5,10 +5,10 @@ use native.Mathlib.Omega.{arith}
 use borrow.Author.Needs.{needs}
 use borrow.Rule.Slice.PartMut.{putMid}
 use lib.ListN.{length}
-use Rattle.decimal.specs.Digits.{digits, space}
+use Rattle.decimal.specs.Digits.{digits, space, lineFeed}
 use Rattle.model.specs.Wrote.{Wrote}
 use Rattle.model.proofs.Wrote.{wrote-then}
-use Rattle.dimacs.specs.Text.{lineFeed, problem, headerText}
+use Rattle.dimacs.specs.Text.{problem, headerText}
 use Rattle.text.proofs.Writing.{front-room, rest-within, rest-room}
 use Rattle.dimacs.proofs.write_header.Statement.{statement}
 use Rattle.dimacs.proofs.write_header.Tie as tie

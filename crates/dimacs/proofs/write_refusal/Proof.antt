@@ -5,11 +5,11 @@ use native.Mathlib.Omega.{arith}
 use borrow.Author.Needs.{needs}
 use borrow.Rule.Slice.PartMut.{putMid}
 use lib.ListN.{length}
-use Rattle.decimal.specs.Digits.{field}
+use Rattle.decimal.specs.Digits.{lineFeed, field}
 use Rattle.model.specs.Wrote.{Wrote}
 use Rattle.decimal.proofs.Digits.{length-field}
 use Rattle.model.proofs.Wrote.{wrote-then}
-use Rattle.dimacs.specs.Text.{lineFeed, refused, refusalText}
+use Rattle.dimacs.specs.Text.{refused, refusalText}
 use Rattle.text.proofs.Writing.{front-room, rest-within, rest-room}
 use Rattle.dimacs.proofs.write_refusal.Statement.{statement}
 use Rattle.dimacs.proofs.write_refusal.Tie as tie

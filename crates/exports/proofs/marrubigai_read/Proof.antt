@@ -37,15 +37,15 @@ use denote.Triple.Walked.{says, Stays, stay-none-slice, gave-slice, onExit, walk
 use denote.Exit.{yes}
 use denote.Triple.Clauses.{Lasts, lasts}
 use Rattle.refusals.specs.declared.Verdict.the-variants.{Passed}
-use Rattle.steps.specs.declared.Sheet.{Sheet}
-use Rattle.steps.proofs.Sheet as S
-use Rattle.steps.proofs.Sheet.Laws as S′
+use Rattle.steps.specs.declared.SheetAnswer.{SheetAnswer}
+use Rattle.steps.proofs.SheetAnswer as S
+use Rattle.steps.proofs.SheetAnswer.Laws as S′
 use Rattle.lists.specs.declared.Latch.{Latch}
 use Rattle.lists.specs.declared.Gate.{Gate}
 use Rattle.lists.proofs.Latch as La
 use Rattle.lists.proofs.Gate as Ga
-use Rattle.reader.specs.Reading.{readVerdict, readRecord, latchesLeft, gatesLeft, NoTestRefuses}
-use Rattle.reader.proofs.Reading.{Reads}
+use Rattle.reader.specs.ReadCall.{readVerdict, readRecord, latchesLeft, gatesLeft, NoTestRefuses}
+use Rattle.reader.proofs.ReadCall.{Reads}
 use Rattle.reader.proofs.Facts.{Facts, gathered, spread}
 use Rattle.reader.proofs.read as read
 use Rattle.reader.proofs.read.Symbol as read-def
@@ -82,7 +82,7 @@ module _ {M : Type 1} (𝓤 : URA M) (H : Heap 𝓤) (A : Atoms 𝓤) (mem : Mem
 module _ {M : Type 1} (𝓤 : URA M) (H : Heap 𝓤) (A : Atoms 𝓤) (W : Given 𝓤 H A) (mem : Memory → SProp 𝓤)
     (run : Routine → Fun 𝓤) where
   -- ---- `sheet_numbers`, of a sheet whose machine value is u
-  module _ (sheet : Sheet) (u : Val) where
+  module _ (sheet : SheetAnswer) (u : Val) where
     abbrev reply : SheetReply
     reply = sheetNumbers (sheet .verdict) (sheet .net)
 
@@ -137,7 +137,7 @@ module _ {M : Type 1} (𝓤 : URA M) (H : Heap 𝓤) (A : Atoms 𝓤) (W : Given
 
     -- what it answers, and what it leaves in the lists
     abbrev Answer : Type 0
-    Answer = Sheet × (List Latch × List Gate)
+    Answer = SheetAnswer × (List Latch × List Gate)
 
     abbrev Says : Answer → Type 0
     Says o = Reads (now file) (now x) (now y) (o .0) (o .1 .0) (o .1 .1)
@@ -166,7 +166,7 @@ module _ {M : Type 1} (𝓤 : URA M) (H : Heap 𝓤) (A : Atoms 𝓤) (W : Given
         ((length (o .1 .0) ≡ length (now x)) × (length (o .1 .1) ≡ length (now y)))) (⋆ 𝓤 H A (Gets u o ∷ [])))))
     read-gives u =
         qed W (raw (Read 𝓤 H A mem run .post to-read u) ∷ []) ∵ updating ! $
-        use1 W (later (some (λ (sheet : Sheet). (Tokens ⊛ ‵ (S.the-row .own sheet (u ∷ [])))
+        use1 W (later (some (λ (sheet : SheetAnswer). (Tokens ⊛ ‵ (S.the-row .own sheet (u ∷ [])))
         ⊛ some (λ (ws : Lasts read.ended κs a). ‵ (lasts read.ended κs a ws)
         ⊛ raw (Promises (sheet, (ws .1 .0, ws .1 .1 .0))))))) (id⊢ 𝓤 _) $ await ! tt $ pick ! (λ sheet.
         split ! $ move ! (1 ∷ []) $ pick ! (λ ws. split ! $ move ! (1 ∷ []) $

@@ -6,7 +6,7 @@ use borrow.Author.Needs.{needs}
 use lib.ListN.{length}
 use Rattle.lines.specs.Depth.{DepthAnswer}
 use Rattle.lines.proofs.Depth.{accepted-long, accepted-most}
-use Rattle.refusals.proofs.Table.{numberOf-some}
+use Rattle.refusals.proofs.Table.{refusalNumber-some}
 use Rattle.input.proofs.Replies.{reply-depth, reply-sheet, behind-depth}
 use Rattle.input.proofs.read_input.Statement.{statement}
 use Rattle.input.proofs.read_input.Tie as tie
@@ -47,7 +47,7 @@ returns c =
     let told = c .before .before in
     let answer = rw (told .before .refusal .given .1) at (told .before .before .before .read-depth .ensures) in (
       rw (c .before .number .ensures) (reply-depth _ (told .before .refusal .given .0 .0) answer),
-      λ h. absurd (omega (arith, c .before .number .ensures, numberOf-some (told .before .refusal .given .0 .0), h)),
+      λ h. absurd (omega (arith, c .before .number .ensures, refusalNumber-some (told .before .refusal .given .0 .0), h)),
     )
 
 returns-2 : tie.Need-returns-2

@@ -37,7 +37,7 @@ returns-2 c =
     let line = c .before .before .before .before .args .line in
     let behind : line + 1 - 1 ≡ line = omega arith in
     let size : 32 * line + 32 - 32 * line ≡ 32 = omega arith in
-    c .read-line .ensures ∙ rw (size, behind)
+    c .read-line .ensures .0 ∙ rw (size, behind)
 
 pub line-after-spec : {M : Type 1} → statement M
 line-after-spec =

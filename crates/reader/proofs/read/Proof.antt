@@ -48,9 +48,9 @@ use denote.Triple.Walked.{says, Stays, stay-none-slice, gave-slice, onExit, walk
 use denote.Exit.{yes}
 use denote.Triple.Clauses.{Lasts, lasts}
 use Rattle.refusals.specs.declared.Verdict.the-variants.{Passed}
-use Rattle.steps.specs.declared.Sheet.{Sheet}
-use Rattle.steps.proofs.Sheet as S
-use Rattle.steps.proofs.Sheet.Laws as S′
+use Rattle.steps.specs.declared.SheetAnswer.{SheetAnswer}
+use Rattle.steps.proofs.SheetAnswer as S
+use Rattle.steps.proofs.SheetAnswer.Laws as S′
 use Rattle.sheet.specs.Scratch.{noCodes}
 use Rattle.sheet.specs.Codes.{CodesRead}
 use Rattle.sheet.proofs.Scratch.{read-none}
@@ -72,10 +72,10 @@ use Rattle.lists.proofs.deliver.deliver_gates.Symbol as gates-def
 use Rattle.lists.proofs.deliver.deliver_gates.Symbol.{name as #deliver-gates}
 use Rattle.lists.proofs.deliver.deliver_gates.Met as gates-thm
 use Rattle.reader.specs.Lines.{atStart}
-use Rattle.reader.specs.Reading.{readVerdict, readRecord, latchesLeft, gatesLeft, NoTestRefuses}
+use Rattle.reader.specs.ReadCall.{readVerdict, readRecord, latchesLeft, gatesLeft, NoTestRefuses}
 use Rattle.reader.specs.declared.SheetReader.{SheetReader}
 use Rattle.reader.proofs.Facts.{spread}
-use Rattle.reader.proofs.Reading.{deliverable, reads}
+use Rattle.reader.proofs.ReadCall.{deliverable, reads}
 use Rattle.reader.proofs.LocalCodes.{Codes, codesTy, typed-codes, stored, freed}
 use Rattle.reader.proofs.DeliverCall as call
 use Rattle.reader.proofs.SheetReader as T
@@ -172,10 +172,10 @@ module _ {M : Type 1} (𝓤 : URA M) (H : Heap 𝓤) (A : Atoms 𝓤) (W : Given
     n = length (now y)
 
     -- what is left in the lent lists, from the unpacked ones
-    abbrev newLatches : Sheet → List ℕ → List Latch
+    abbrev newLatches : SheetAnswer → List ℕ → List Latch
     newLatches sheet xs = delivered (sheet .net .latches) (latchAt xs) (now x)
 
-    abbrev newGates : Sheet → List ℕ → List Gate
+    abbrev newGates : SheetAnswer → List ℕ → List Gate
     newGates sheet ys = delivered (sheet .net .gates) (gateAt ys) (now y)
 
     -- ---- `at_start`
@@ -244,7 +244,7 @@ module _ {M : Type 1} (𝓤 : URA M) (H : Heap 𝓤) (A : Atoms 𝓤) (W : Given
 
       -- what it answers, and what it leaves in the lists
       abbrev Answer : Type 0
-      Answer = Sheet × (List ℕ × List ℕ)
+      Answer = SheetAnswer × (List ℕ × List ℕ)
 
       abbrev Read : Answer → Type 0
       Read o = CodesRead (now file) m n (o .0) (o .1 .0) (o .1 .1)
@@ -257,7 +257,7 @@ module _ {M : Type 1} (𝓤 : URA M) (H : Heap 𝓤) (A : Atoms 𝓤) (W : Given
           (H .⇛ (ex 𝓤 (λ (o : Answer). guard 𝓤 (Read o) (⋆ 𝓤 H A (Gets u o ∷ [])))))
       codes-gives u =
           qed W (raw (ReadCodes 𝓤 H A mem run .post to-codes u) ∷ []) ∵ updating ! $
-          use1 W (later (some (λ (sheet : Sheet). ((‵ (flft κ q) ⊛ ‵ (flft (α ∷ []) fullShare) ⊛ ‵ (flft (β ∷ []) fullShare)
+          use1 W (later (some (λ (sheet : SheetAnswer). ((‵ (flft κ q) ⊛ ‵ (flft (α ∷ []) fullShare) ⊛ ‵ (flft (β ∷ []) fullShare)
           ⊛ ‵ ftrue) ⊛ ‵ (S.the-row .own sheet (u ∷ [])))
           ⊛ some (λ (zs : Lasts codes.ended κs′ b). ‵ (lasts codes.ended κs′ b zs)
           ⊛ raw (fact 𝓤 (Read (sheet, (zs .1 .1 .1 .0, zs .1 .1 .1 .1 .0)))))))) (id⊢ 𝓤 _) $ await ! tt $ pick ! (λ sheet.
@@ -271,7 +271,7 @@ module _ {M : Type 1} (𝓤 : URA M) (H : Heap 𝓤) (A : Atoms 𝓤) (W : Given
           (sheet, (zs .1 .1 .1 .0, zs .1 .1 .1 .1 .0)) $ check ! e $ keep ! (4 ∷ 3 ∷ 2 ∷ 0 ∷ 7 ∷ 5 ∷ []) $ done !)))
 
     -- ---- the end: what is had, and what the contract says of it
-    exits : (sheet : Sheet) (xs ys : List ℕ) → CodesRead (now file) m n sheet xs ys
+    exits : (sheet : SheetAnswer) (xs ys : List ℕ) → CodesRead (now file) m n sheet xs ys
         → ent 𝓤 (⋆ 𝓤 H A (‵ (S.the-row .own sheet (S′.lowered sheet ∷ [])) ∷ ‵ (flft κ q) ∷ ‵ (flft (κs .1 .0) (qs .1 .0))
         ∷ ‵ (flft (κs .1 .1 .0) (qs .1 .1 .0)) ∷ ‵ File ∷ ‵ (finally La.the-row (x .name) (newLatches sheet xs))
         ∷ ‵ (finally Ga.the-row (y .name) (newGates sheet ys)) ∷ [])) (Post (S′.lowered sheet))
@@ -376,7 +376,7 @@ module _ {M : Type 1} (𝓤 : URA M) (H : Heap 𝓤) (A : Atoms 𝓤) (W : Given
           (and-then ! (load ! (from ! (stop !)) (look ! 26 refl))
           (and-then ! (load ! (from ! (stop !)) (look ! 24 refl))
           (and-then ! (load ! (from ! (stop !)) (look ! 22 refl)) (no-more !)))))) (λ u.
-          use1 W (later (some (λ (o : Sheet × (List ℕ × List ℕ)). given (CodesRead (now file) m n (o .0) (o .1 .0) (o .1 .1))
+          use1 W (later (some (λ (o : SheetAnswer × (List ℕ × List ℕ)). given (CodesRead (now file) m n (o .0) (o .1 .0) (o .1 .1))
           (Gets l₄ l₅ α β γ δ w u o)))) (codes-gives l₄ l₅ α β γ δ w u) $ await ! tt $ pick ! (λ o. learn ! (λ e.
           split ! $ move ! (1 ∷ []) $ split ! $ move ! (1 ∷ []) $ split ! $ move ! (1 ∷ []) $ split ! $ move ! (1 ∷ []) $
           split ! $ move ! (5 ∷ []) $

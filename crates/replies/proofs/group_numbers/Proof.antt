@@ -1,4 +1,5 @@
 -- `replies::group_numbers` meets its contract: each arm knows its answer. Assumes nothing.
+use Rattle.refusals.specs.Slices.{withCount}
 use Rattle.unpacked.specs.Calls.{groupReply}
 use Rattle.replies.specs.Numbers.{groupNumbers}
 use borrow.Author.Needs.{needs}
@@ -15,11 +16,11 @@ number-requires : tie.Need-number-requires
 number-requires c κs = search needs
 
 returns : tie.Need-returns
-unfolding groupNumbers groupReply
+unfolding groupNumbers groupReply withCount
 returns c = rw (c .before .answer .given .1)
 
 returns-2 : tie.Need-returns-2
-unfolding groupNumbers groupReply
+unfolding groupNumbers groupReply withCount
 returns-2 c = rw (c .before .before .answer2 .given .1, c .number .ensures)
 
 pub group-numbers-spec : {M : Type 1} → statement M

@@ -1,5 +1,5 @@
 -- `replies::heading_numbers` meets its contract: each arm knows its answer. Assumes nothing.
-use Rattle.unpacked.specs.Calls.{headingReply}
+use Rattle.unpacked.specs.Calls.{headingReply, withHeading}
 use Rattle.replies.specs.Numbers.{headingNumbers}
 use borrow.Author.Needs.{needs}
 use Rattle.replies.proofs.heading_numbers.Statement.{statement}
@@ -15,11 +15,11 @@ number-requires : tie.Need-number-requires
 number-requires c κs = search needs
 
 returns : tie.Need-returns
-unfolding headingNumbers headingReply
+unfolding headingNumbers headingReply withHeading
 returns c = rw (c .before .answer .given .1)
 
 returns-2 : tie.Need-returns-2
-unfolding headingNumbers headingReply
+unfolding headingNumbers headingReply withHeading
 returns-2 c = rw (c .before .before .answer2 .given .1, c .number .ensures)
 
 pub heading-numbers-spec : {M : Type 1} → statement M

@@ -2,7 +2,7 @@
 use Prim.Native.Nat.{_<_}
 use mathlib.Core.Path.{_≡_, subst}
 use Rattle.netlist.specs.declared.Line.{Line}
-use Rattle.steps.specs.Due.{numberIn, roomFor}
+use Rattle.steps.specs.Due.{lineIndex, roomFor}
 use Rattle.steps.specs.Steps.{stored}
 use Rattle.steps.proofs.Steps.{holds-latch, holds-gate}
 use borrow.Author.Needs.{needs}
@@ -10,8 +10,8 @@ use Rattle.steps.proofs.store.Statement.{statement}
 use Rattle.steps.proofs.store.Tie as tie
 
 -- the number of a line whose kind is known is within its room
-within : {due known : Line} → due ≡ known → numberIn due < roomFor due → numberIn known < roomFor known
-within e h = subst (λ (x : Line). numberIn x < roomFor x) e h
+within : {due known : Line} → due ≡ known → lineIndex due < roomFor due → lineIndex known < roomFor known
+within e h = subst (λ (x : Line). lineIndex x < roomFor x) e h
 
 enum-told : tie.Need-enum-told
 enum-told c = search needs

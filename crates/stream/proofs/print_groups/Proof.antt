@@ -1,4 +1,4 @@
--- `stream::print_groups` meets its contract. The loop's invariant: wherever the first group has, what is printed is the text of
+-- `stream::print_groups` meets its contract. The loop's invariant: wherever the first group stands, what is printed is the text of
 -- the groups from it on, `next` comes after them, and nothing is printed yet or fewer groups are left. Assumes nothing.
 use Prim.Native.Nat.{ℕ, _+_, _-_, _≤_, _<_}
 use mathlib.Core.Path.{_≡_, refl, sym, _∙_, ap}

@@ -1,6 +1,7 @@
 -- `unpacked::write_group` meets its contract: a verdict, and the group written where it passes. Assumes nothing.
 use mathlib.Core.Path.{sym, _∙_}
-use Rattle.unpacked.specs.Calls.{groupReply, groupSent, groupLeaves, withCount, withNumbers}
+use Rattle.refusals.specs.Slices.{withCount, contentsAfter}
+use Rattle.unpacked.specs.Calls.{groupReply, groupSent, groupLeaves}
 use Rattle.unpacked.proofs.Calls.{group-shown}
 use borrow.Author.Needs.{needs}
 use Rattle.unpacked.proofs.write_group.Statement.{statement}
@@ -13,7 +14,7 @@ enum-known-refusal : tie.Need-enum-known-refusal
 enum-known-refusal c = search needs
 
 returns : tie.Need-returns
-unfolding groupReply groupSent groupLeaves withCount withNumbers
+unfolding groupReply groupSent groupLeaves withCount contentsAfter
 returns c =
     let v = sym (c .before .before .before .test-group .ensures) ∙ c .before .refusal .given .1 in (rw v, rw v)
 
@@ -28,7 +29,7 @@ same-length : tie.Need-same-length
 same-length c = search needs
 
 returns-2 : tie.Need-returns-2
-unfolding groupReply groupSent groupLeaves withCount withNumbers
+unfolding groupReply groupSent groupLeaves withCount contentsAfter
 returns-2 c =
     let v = sym (c .before .before .before .before .before .test-group .ensures) ∙ c .before .before .before .enum-told .given .1 in
     let w = c .before .put-group .ensures in

@@ -49,9 +49,9 @@ use Rattle.parse.proofs.line_after as after
 use Rattle.parse.proofs.line_after.Symbol as after-def
 use Rattle.parse.proofs.line_after.Symbol.{name as #line-after}
 use Rattle.parse.proofs.line_after.Met as after-thm
-use Rattle.lines.specs.declared.Line.{Line}
-use Rattle.lines.proofs.Line as K
-use Rattle.lines.proofs.Line.Laws as K′
+use Rattle.lines.specs.declared.ParsedLine.{ParsedLine}
+use Rattle.lines.proofs.ParsedLine as K
+use Rattle.lines.proofs.ParsedLine.Laws as K′
 use Rattle.reader.specs.Lines.{nextNumber, movedOn, nextLine}
 use Rattle.reader.specs.declared.SheetReader.{SheetReader}
 use Rattle.reader.proofs.SheetReader as T
@@ -96,7 +96,7 @@ module _ {M : Type 1} (𝓤 : URA M) (H : Heap 𝓤) (A : Atoms 𝓤) (W : Given
   mach = T′.lowered r
 
   -- the line that is found, and its machine value
-  abbrev line : Line
+  abbrev line : ParsedLine
   line = lineIn (now (r .file)) (r .line + 1)
 
   abbrev lineVal : Val
@@ -139,7 +139,7 @@ module _ {M : Type 1} (𝓤 : URA M) (H : Heap 𝓤) (A : Atoms 𝓤) (W : Given
       use1 W (given (mach ∷ [] ≡ mach ∷ []) (‵ (all-own (D .parts) L parts))) (own-open 𝓤 H A W D L parts mach) $ learn ! (λ _.
       move ! (2 ∷ 0 ∷ []) $ use2 W (raw (After 𝓤 H A mem run .pre to)) asked $ frame ! $ done !)
 
-  said : (x : Line) → ent 𝓤 (ensured 𝓤 H A after.ended (after.clauses 𝓤 H A mem run) (κ, tt) (r .file, (r .line, tt)) tt x)
+  said : (x : ParsedLine) → ent 𝓤 (ensured 𝓤 H A after.ended (after.clauses 𝓤 H A mem run) (κ, tt) (r .file, (r .line, tt)) tt x)
       (fact 𝓤 (x ≡ line))
   said x = exE 𝓤 _ (λ ws. snd∗ 𝓤 (sem 𝓤 H A (lasts after.ended (κ, tt) (r .file, (r .line, tt)) ws)) (fact 𝓤 (x ≡ line)))
 
@@ -213,11 +213,11 @@ module _ {M : Type 1} (𝓤 : URA M) (H : Heap 𝓤) (A : Atoms 𝓤) (W : Given
         calls-at ! fm (After 𝓤 H A mem run) known to
         (and-then ! (load ! (from ! (stop !)) (look ! 10 refl))
         (and-then ! (load ! (from ! (stop !)) (look ! 8 refl)) (no-more !))) (λ u.
-        use1 W (later (some (λ (x : Line). ((‵ (flft κ q) ⊛ ‵ ftrue) ⊛ ‵ (K.the-row .own x (u ∷ [])))
+        use1 W (later (some (λ (x : ParsedLine). ((‵ (flft κ q) ⊛ ‵ ftrue) ⊛ ‵ (K.the-row .own x (u ∷ [])))
         ⊛ raw (ensured 𝓤 H A after.ended (after.clauses 𝓤 H A mem run) (κ, tt) (r .file, (r .line, tt)) tt x)))) (id⊢ 𝓤 _) $
         await ! tt $ pick ! (λ x.
         split ! $ move ! (1 ∷ []) $ use1 W (raw (fact 𝓤 (x ≡ line))) (said x) $ heard ! (x ≡ line) (λ e. split ! $
-        rewrite ! 1 (λ (y : Line). ‵ (K.the-row .own y (u ∷ []))) e refl $ move ! (1 ∷ []) $
+        rewrite ! 1 (λ (y : ParsedLine). ‵ (K.the-row .own y (u ∷ []))) e refl $ move ! (1 ∷ []) $
         -- [what the line owns; the token; what the reader owns; _8; …; _7; …; _6; …; _5; …; _4; …; _3; …; _2; …; _1; …; _0; …]
         peeks ! K.the-row (Is K.the-row) (shows 𝓤 H A K.the-row) line (u ∷ []) (λ is.
         let typed = EL.lawful K.the-type K′.the-laws 𝓤 H A W tt .typed line (u ∷ []) is .0 in

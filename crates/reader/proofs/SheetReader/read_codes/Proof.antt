@@ -43,9 +43,9 @@ use denote.Triple.Walked.{says, needs, Stays, stay-none, gave-ref, walkOf, goes-
 use denote.Exit.{yes}
 use denote.Triple.Clauses.{Lasts, ensured, lasts}
 use Rattle.steps.specs.Records.{recordOf, noNetlist}
-use Rattle.steps.specs.declared.Sheet.{Sheet}
-use Rattle.steps.proofs.Sheet as S
-use Rattle.steps.proofs.Sheet.Laws as S′
+use Rattle.steps.specs.declared.SheetAnswer.{SheetAnswer}
+use Rattle.steps.proofs.SheetAnswer as S
+use Rattle.steps.proofs.SheetAnswer.Laws as S′
 use Rattle.parse.specs.Files.{lineCount}
 use Rattle.parse.specs.Progress.{ReadTo}
 use Rattle.sheet.specs.Codes.{CodesRead}
@@ -146,7 +146,7 @@ module _ {M : Type 1} (𝓤 : URA M) (H : Heap 𝓤) (A : Atoms 𝓤) (W : Given
       move ! (3 ∷ 0 ∷ []) $ use2 W (raw (Codes 𝓤 H A mem run .pre to)) asked $
       move ! (1 ∷ []) $ drop ! $ frame ! $ done !)
 
-  exits : (sheet : Sheet) (u : Val) (zs : Lasts codes.ended κs b)
+  exits : (sheet : SheetAnswer) (u : Val) (zs : Lasts codes.ended κs b)
       → CodesRead (now (r .file)) m n sheet (zs .1 .1 .1 .1 .0) (zs .1 .1 .1 .1 .1 .0)
       → ent 𝓤 (⋆ 𝓤 H A (‵ (lasts codes.ended κs b zs) ∷ ‵ (S.the-row .own sheet (u ∷ [])) ∷ Tokens ∷ ‵ Own ∷ [])) (Post u)
   exits sheet u zs e =
@@ -188,7 +188,7 @@ module _ {M : Type 1} (𝓤 : URA M) (H : Heap 𝓤) (A : Atoms 𝓤) (W : Given
         (and-then ! (load ! (from ! (stop !)) (look ! 14 refl))
         (and-then ! (load ! (from ! (stop !)) (look ! 4 refl))
         (and-then ! (load ! (from ! (stop !)) (look ! 2 refl)) (no-more !))))))) (λ u.
-        use1 W (later (some (λ (sheet : Sheet). (Tokens ⊛ ‵ (S.the-row .own sheet (u ∷ [])))
+        use1 W (later (some (λ (sheet : SheetAnswer). (Tokens ⊛ ‵ (S.the-row .own sheet (u ∷ [])))
         ⊛ raw (ensured 𝓤 H A codes.ended (codes.clauses 𝓤 H A mem run) κs b tt sheet)))) (id⊢ 𝓤 _) $ await ! tt $
         pick ! (λ sheet.
         split ! $ move ! (1 ∷ []) $

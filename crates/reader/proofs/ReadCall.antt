@@ -1,4 +1,4 @@
--- What `read` returns and leaves (specs/Reading.antt), from what stands in its own unpacked lists; and what it accepts, no test
+-- What `read` returns and leaves (specs/ReadCall.antt), from what stands in its own unpacked lists; and what it accepts, no test
 -- of records refuses. Cited by `read`. Assumes nothing.
 use Prim.Native.Nat.{ℕ, _≤_}
 use mathlib.Core.Path.{_≡_, refl, sym, _∙_, ap}
@@ -7,14 +7,15 @@ use native.Mathlib.Omega.{arith}
 use lib.ListN.{length}
 use Rattle.refusals.specs.declared.Verdict.{Verdict}
 use Rattle.refusals.specs.declared.Verdict.the-variants.{Passed, Refused}
+use Rattle.refusals.specs.Slices.{contentsAfter}
 use Rattle.refusals.proofs.Tests.{refused-not-passed}
 use Rattle.model.specs.Netlist as M
 use Rattle.model.specs.Acceptance.{Accepted}
 use Rattle.literals.specs.declared.Code.{Code}
 use Rattle.netlist.specs.NetOf.{codeOf, netOf}
 use Rattle.records.proofs.Acceptance.{passes-accepted}
-use Rattle.steps.specs.declared.Sheet.{Sheet}
-use Rattle.steps.specs.Records.{codeAt, recordOf}
+use Rattle.steps.specs.declared.SheetAnswer.{SheetAnswer}
+use Rattle.steps.specs.Records.{codeEntry, recordOf}
 use Rattle.parse.specs.Files.{netIn}
 use Rattle.sheet.specs.Sheet.{sheetVerdict}
 use Rattle.sheet.specs.Codes.{recordBeside, CodesRead}
@@ -24,7 +25,7 @@ use Rattle.lists.specs.declared.Gate.{Gate}
 use Rattle.lists.specs.Unpacked.{latchCodes, gateCodes}
 use Rattle.lists.specs.Delivered.{latchAt, gateAt, delivered}
 use Rattle.lists.proofs.Delivered.{delivered-none, length-delivered}
-use Rattle.reader.specs.Reading.{latchOf, gateOf, listBeside, readVerdict, readRecord, latchesLeft, gatesLeft, NoTestRefuses}
+use Rattle.reader.specs.ReadCall.{latchOf, gateOf, readVerdict, readRecord, latchesLeft, gatesLeft, NoTestRefuses}
 use Rattle.reader.proofs.Lists.{getD-gather-alone, delivered-pairs}
 use Rattle.reader.proofs.Entries.{Agree, accepted-same}
 
@@ -49,10 +50,10 @@ module _ (c : M.Netlist) (accepted : Accepted c) (latches : List Latch) (gates :
         left-same = λ g h. sym (gate g h .0);
         right-same = λ g h. sym (gate g h .1);
         address-same = λ t h. sym (ap (λ (k : Code). k .0)
-            (getD-gather-alone 12 1 (codeAt (c .address)) (λ t. refl) t 0 t (omega arith) (omega arith) (omega arith)
+            (getD-gather-alone 12 1 (codeEntry (c .address)) (λ t. refl) t 0 t (omega arith) (omega arith) (omega arith)
             (record { 0 = 0 })));
         data-same = λ t h. sym (ap (λ (k : Code). k .0)
-            (getD-gather-alone 32 1 (codeAt (c .writeData)) (λ t. refl) t 0 t (omega arith) (omega arith) (omega arith)
+            (getD-gather-alone 32 1 (codeEntry (c .writeData)) (λ t. refl) t 0 t (omega arith) (omega arith) (omega arith)
             (record { 0 = 0 })));
         WE-same = refl;
         RE-same = refl;
@@ -74,7 +75,7 @@ module _ (c : M.Netlist) (accepted : Accepted c) (latches : List Latch) (gates :
 
 module _ (file : List ℕ) (latches : List Latch) (gates : List Gate) where
   -- what `read` promises, together
-  abbrev pub Reads : Sheet → List Latch → List Gate → Type 0
+  abbrev pub Reads : SheetAnswer → List Latch → List Gate → Type 0
   Reads sheet newLatches newGates =
       (sheet .verdict ≡ readVerdict file latches gates)
       × ((sheet .net ≡ readRecord file latches gates)
@@ -82,7 +83,7 @@ module _ (file : List ℕ) (latches : List Latch) (gates : List Gate) where
       × ((newGates ≡ gatesLeft file latches gates)
       × (sheet .verdict ≡ Passed → NoTestRefuses (sheet .net) newLatches newGates))))
 
-  module _ (sheet : Sheet) (latchList gateList : List ℕ)
+  module _ (sheet : SheetAnswer) (latchList gateList : List ℕ)
       (codes : CodesRead file (length latches) (length gates) sheet latchList gateList) where
     -- what is to be delivered: no more than 600 records, and no more than there is room for
     abbrev pub Deliverable : Type 0
@@ -101,7 +102,7 @@ module _ (file : List ℕ) (latches : List Latch) (gates : List Gate) where
 
     pub reads : Reads sheet (delivered (sheet .net .latches) (latchAt latchList) latches)
         (delivered (sheet .net .gates) (gateAt gateList) gates)
-    unfolding readVerdict readRecord latchesLeft gatesLeft listBeside recordBeside recordOf netOf
+    unfolding readVerdict readRecord latchesLeft gatesLeft contentsAfter delivered recordBeside recordOf netOf
     reads = by-verdict (sheetVerdict file (length latches) (length gates)) refl
       where
         by-verdict : (v : Verdict) → sheetVerdict file (length latches) (length gates) ≡ v

@@ -1,4 +1,4 @@
--- Laws of specs/Reading.antt: what is written reads back as the same number (`numberIn-digits`), what is read is the text of its
+-- Laws of specs/TextValue.antt: what is written reads back as the same number (`numberIn-digits`), what is read is the text of its
 -- number (`digits-numberIn`), and any other text is none (`numberIn-other`). No contract cites this file. Assumes nothing.
 use Prim.Native.Nat.{ℕ, zero, suc, _+_, _-_, _*_, _/_, _%_, _^_, _≤_, _<_}
 use mathlib.Core.Path.{_≡_, refl, sym, ap, ap₂, _∙_}
@@ -11,16 +11,12 @@ use native.Mathlib.Numerals.{add-one}
 use lib.ListN.{length, getD, drop, drop-of-length-le, List·getD-append}
 use lib.Seq.{drop-cons}
 use borrow.Author.Tests.{lt-ltb, ltb-true, le-leb, lt-leb, leb-true, eq-eqb, eqb-true}
+use Rattle.model.proofs.Booleans.{and-true}
 use Rattle.decimal.specs.Digits.{digit, digits}
-use Rattle.decimal.specs.Reading.{sameText, valueAfter, numberIn}
+use Rattle.decimal.specs.TextValue.{sameText, valueAfter, numberIn}
 use Rattle.decimal.specs.declared.Number.{Number}
 use Rattle.decimal.specs.declared.Number.the-variants.{Value, NotANumber}
 use Rattle.decimal.proofs.Digits.{digits-single, digits-snoc, digits-behind, by-tenths, length-digits-some, length-digits-ten}
-
--- a conjunction that is true, taken apart
-pub and-both : (a b : Bool) → (a && b) ≡ true → (a ≡ true) × (b ≡ true)
-and-both true b h = (refl, h)
-and-both false b h = absurd (false≢true h)
 
 -- the computed equality of texts
 sameText-refl : (s : List ℕ) → sameText s s ≡ true
@@ -34,7 +30,7 @@ sameText-true [] [] h = refl
 sameText-true [] (d ∷ t) h = absurd (false≢true h)
 sameText-true (c ∷ s) [] h = absurd (false≢true h)
 sameText-true (c ∷ s) (d ∷ t) h =
-    let p = and-both (eqb c d) (sameText s t) h in
+    let p = and-true (eqb c d) (sameText s t) .0 h in
     ap₂ (λ x y. x ∷ y) (eqb-true c d (p .0)) (sameText-true s t (p .1))
 
 -- whether a byte is a digit, and whether all bytes of a text are
@@ -99,8 +95,8 @@ digits-valueAfter : (v : ℕ) (s : List ℕ) → 0 < v → allDigits s ≡ true 
 unfolding valueAfter allDigits isDigit
 digits-valueAfter v [] p h = sym (append-nil (digits v))
 digits-valueAfter v (c ∷ s) p h =
-    let q = and-both (isDigit c) (allDigits s) h in
-    let b = and-both (leb 48 c) (leb c 57) (q .0) in
+    let q = and-true (isDigit c) (allDigits s) .0 h in
+    let b = and-true (leb 48 c) (leb c 57) .0 (q .0) in
     let l : 48 ≤ c = leb-true 48 c (b .0) in
     let u : c ≤ 57 = leb-true c 57 (b .1) in
     let e : digit (c - 48) ≡ c = omega arith in
@@ -110,10 +106,10 @@ digits-valueAfter v (c ∷ s) p h =
 pub digits-value : (s : List ℕ) → 0 < length s → allDigits s ≡ true → (1 < length s → getD s 0 0 ≡ 48 → ⊥) → digits (valueAfter 0 s) ≡ s
 unfolding valueAfter allDigits isDigit
 digits-value [] n h z = absurd (omega arith)
-digits-value (c ∷ s) n h z = first s (and-both (isDigit c) (allDigits s) h .1) z
+digits-value (c ∷ s) n h z = first s (and-true (isDigit c) (allDigits s) .0 h .1) z
   where
     bounds : (leb 48 c ≡ true) × (leb c 57 ≡ true)
-    bounds = and-both (leb 48 c) (leb c 57) (and-both (isDigit c) (allDigits s) h .0)
+    bounds = and-true (leb 48 c) (leb c 57) .0 (and-true (isDigit c) (allDigits s) .0 h .0)
 
     from-zero : c ≡ 48 + (c - 48)
     from-zero = omega (arith, leb-true 48 c (bounds .0))

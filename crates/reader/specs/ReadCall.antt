@@ -1,12 +1,13 @@
 -- What `read` returns and leaves in the lists that it is lent (document 01, "On success only the first L and A records of the lent
--- lists change, ..", "a .. record returned beside them is all zeros"). Assumes nothing.
+-- lists change, ..", "a .. record returned beside them is all zeros"). Cited by `read` and `marrubigai_read`. Assumes nothing.
 use Prim.Native.Nat.{ℕ}
 use mathlib.Core.Path.{_≡_}
 use mathlib.Core.List.{List}
 use lib.ListN.{length}
 use Rattle.model.specs.Netlist as M
+use Rattle.refusals.specs.Slices.{contentsAfter}
 use Rattle.refusals.specs.declared.Verdict.{Verdict}
-use Rattle.refusals.specs.declared.Verdict.the-variants.{Passed, Refused}
+use Rattle.refusals.specs.declared.Verdict.the-variants.{Passed}
 use Rattle.netlist.specs.NetOf.{netOf}
 use Rattle.netlist.specs.declared.Netlist.{Netlist}
 use Rattle.records.specs.Record.{recordVerdict}
@@ -16,7 +17,7 @@ use Rattle.sheet.specs.Codes.{recordBeside}
 use Rattle.lists.specs.declared.Latch.{Latch}
 use Rattle.lists.specs.declared.Gate.{Gate}
 use Rattle.lists.specs.Unpacked.{latchCodes, gateCodes}
-use Rattle.lists.specs.Delivered.{delivered}
+use Rattle.lists.specs.Delivered.{firstRecords}
 
 -- a latch and a gate of a netlist, as records
 abbrev pub latchOf : M.Netlist → ℕ → Latch
@@ -24,11 +25,6 @@ latchOf c l = record { next = record { 0 = c .next l }; reset = c .reset l }
 
 abbrev pub gateOf : M.Netlist → ℕ → Gate
 gateOf c g = record { left = record { 0 = c .left g }; right = record { 0 = c .right g } }
-
--- a lent list: the first n records of f in front, everything behind untouched; at a refusal as it was
-unfoldable pub listBeside : {A : Type 0} → Verdict → ℕ → (ℕ → A) → List A → List A
-listBeside Passed n f old = delivered n f old
-listBeside (Refused r p) n f old = old
 
 -- the verdict, the record and both lists, for lent lists `latches` and `gates`
 unfoldable pub readVerdict : List ℕ → List Latch → List Gate → Verdict
@@ -39,11 +35,11 @@ readRecord file latches gates = recordBeside (readVerdict file latches gates) (n
 
 unfoldable pub latchesLeft : List ℕ → List Latch → List Gate → List Latch
 latchesLeft file latches gates =
-    listBeside (readVerdict file latches gates) (netIn file .latches) (latchOf (netIn file)) latches
+    contentsAfter (readVerdict file latches gates) (firstRecords (netIn file .latches) (latchOf (netIn file))) latches
 
 unfoldable pub gatesLeft : List ℕ → List Latch → List Gate → List Gate
 gatesLeft file latches gates =
-    listBeside (readVerdict file latches gates) (netIn file .gates) (gateOf (netIn file)) gates
+    contentsAfter (readVerdict file latches gates) (firstRecords (netIn file .gates) (gateOf (netIn file))) gates
 
 -- "A sheet is accepted when no test of sheets refuses it, a record with its lists when no test of records does": the second
 abbrev pub NoTestRefuses : Netlist → List Latch → List Gate → Type 0

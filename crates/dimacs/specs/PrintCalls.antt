@@ -1,0 +1,22 @@
+-- What a call that prints a text sends back and leaves (document 01, "What is sent back"): 9 is its only test. Cited by
+-- `put_header`, `put_clauses` and `put_refusal`. Assumes nothing.
+use Prim.Native.Nat.{ℕ}
+use mathlib.Core.List.{List}
+use lib.ListN.{length}
+use Rattle.refusals.specs.Slices.{testRoom, CountReply, withCount, contentsAfter}
+use Rattle.refusals.specs.declared.Verdict.the-variants.{Passed, Refused}
+use Rattle.dimacs.specs.declared.PrintAnswer.{PrintAnswer}
+use Rattle.dimacs.specs.declared.PrintAnswer.the-variants.{Written}
+
+-- an answer in document 01's numbers
+unfoldable pub printReply : PrintAnswer → CountReply
+printReply (Written n) = withCount Passed n
+printReply (PrintAnswer.Refused r p) = withCount (Refused r p) 0
+
+-- what is sent back, for a slice of `room` bytes: how many were written
+unfoldable pub printSent : List ℕ → ℕ → CountReply
+printSent text room = withCount (testRoom (length text) room) (length text)
+
+-- what the slice holds then
+unfoldable pub printLeaves : List ℕ → List ℕ → List ℕ
+printLeaves text old = contentsAfter (testRoom (length text) (length old)) text old

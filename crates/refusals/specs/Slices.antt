@@ -1,0 +1,32 @@
+-- What a call that writes into a lent slice or list sends back and leaves there, by its verdict (document 01, "What is sent back").
+-- Cited by the calls that write numbers (unpacked/specs/Calls), text (dimacs/specs/PrintCalls) and records (sheet/specs/Sheet,
+-- reader/specs/ReadCall). Assumes nothing.
+use Prim.Native.Nat.{ℕ}
+use mathlib.Core.List.{List}
+use lib.Dec.{ltb}
+use Rattle.model.specs.Wrote.{over}
+use Rattle.refusals.specs.Refusal.{refusalNumber}
+use Rattle.refusals.specs.Tests.{refuseIf}
+use Rattle.refusals.specs.declared.Refusal.the-variants.{NoRoom}
+use Rattle.refusals.specs.declared.Verdict.{Verdict}
+use Rattle.refusals.specs.declared.Verdict.the-variants.{Passed, Refused}
+
+-- 9: "a lent slice or list that is to be written is shorter than the exact need", place 0
+unfoldable pub testRoom : ℕ → ℕ → Verdict
+testRoom need room = refuseIf (ltb room need) NoRoom 0
+
+-- the refusal's number and place, both 0 where nothing is refused, and how many were written
+pub record CountReply : Type 0 where
+  pub number : ℕ
+  pub place : ℕ
+  pub count : ℕ
+
+-- a verdict, with the count beside it: "a count .. returned beside them is all zeros"
+unfoldable pub withCount : Verdict → ℕ → CountReply
+withCount Passed n = record { number = 0; place = 0; count = n }
+withCount (Refused r p) n = record { number = refusalNumber r; place = p; count = 0 }
+
+-- what is in the slice then: what was to be written, and everything behind untouched; at a refusal what was there
+unfoldable pub contentsAfter : {A : Type 0} → Verdict → List A → List A → List A
+contentsAfter Passed xs old = over xs old
+contentsAfter (Refused r p) xs old = old
