@@ -8,16 +8,14 @@ use unpacked::GroupAnswer;
 use unpacked::HeadingAnswer;
 ghost use mathlib.Core.Path.{_≡_};
 ghost use lib.ListN.{length};
-ghost use Rattle.refusals.specs.declared.Verdict.the-variants.{Passed};
 ghost use Rattle.calls.specs.Starred.{Starred};
-ghost use Rattle.unpacked.specs.Calls.{groupReply, groupSent, groupLeaves, headingReply, headingVerdict, headingSent, NumbersSuffice, CallsEncode};
-ghost use Rattle.calls.specs.Lent.{netLent};
+ghost use Rattle.unpacked.specs.Calls.{groupReply, headingReply};
+ghost use Rattle.calls.specs.Calls.{headingFor, groupFor, numbersLeft, Claim};
 
 // The heading of a depth: "the variables numbered and the clauses really written".
 pub fn heading(net: Netlist, latches: &[Latch], gates: &[Gate], depth: u32) -> HeadingAnswer
-    ensures answer { λ r. ⌜ headingReply r ≡ headingSent (netLent net (now (latches .entry)) (now (gates .entry))) (length (now (latches .entry))) (length (now (gates .entry))) depth ⌝ }
-    ensures claim { λ r. ⌜ (headingVerdict (netLent net (now (latches .entry)) (now (gates .entry))) (length (now (latches .entry))) (length (now (gates .entry))) depth ≡ Passed → CallsEncode (netLent net (now (latches .entry)) (now (gates .entry))) (length (now (latches .entry))) (length (now (gates .entry))) depth) ⌝ }
-    ensures numbers { λ r. ⌜ NumbersSuffice (netLent net (now (latches .entry)) (now (gates .entry))) depth ⌝ }
+    ensures answer { λ r. ⌜ headingReply r ≡ headingFor net (now (latches .entry)) (now (gates .entry)) depth ⌝ }
+    ensures claim { λ r. ⌜ Claim net (now (latches .entry)) (now (gates .entry)) depth ⌝ }
     ensures starred { λ r. ⌜ Starred ⌝ }
 {
     let mut latch_codes = [0; 1200];
@@ -44,8 +42,8 @@ pub fn write_group(
     group: Group,
     out: &mut [i32],
 ) -> GroupAnswer
-    ensures answer { λ r. ⌜ groupReply r ≡ groupSent (netLent net (now (latches .entry)) (now (gates .entry))) (length (now (latches .entry))) (length (now (gates .entry))) depth group (length (now (out .entry))) ⌝ }
-    ensures borrowed { λ r. ⌜ now (out .exit) ≡ groupLeaves (netLent net (now (latches .entry)) (now (gates .entry))) (length (now (latches .entry))) (length (now (gates .entry))) depth group (now (out .entry)) ⌝ }
+    ensures answer { λ r. ⌜ groupReply r ≡ groupFor net (now (latches .entry)) (now (gates .entry)) depth group (length (now (out .entry))) ⌝ }
+    ensures borrowed { λ r. ⌜ now (out .exit) ≡ numbersLeft net (now (latches .entry)) (now (gates .entry)) depth group (now (out .entry)) ⌝ }
 {
     let mut latch_codes = [0; 1200];
     lists::unpack::unpack_latches(&mut latch_codes, latches);

@@ -6,7 +6,7 @@ use Rattle.refusals.proofs.Table.{reply-passed}
 use Rattle.steps.specs.declared.SheetAnswer.{SheetAnswer}
 use Rattle.lists.specs.declared.Latch.{Latch}
 use Rattle.lists.specs.declared.Gate.{Gate}
-use Rattle.reader.specs.ReadCall.{readVerdict, readRecord, latchesLeft, gatesLeft, NoTestRefuses}
+use Rattle.reader.specs.ReadCall.{readVerdict, readRecord, latchesLeft, gatesLeft, SheetDelivered}
 use Rattle.reader.proofs.ReadCall.{Reads}
 use Rattle.replies.specs.declared.SheetReply.{SheetReply}
 use Rattle.replies.specs.Numbers.{sheetNumbers}
@@ -17,7 +17,7 @@ module _ (file : List ℕ) (latches : List Latch) (gates : List Gate) where
       (reply ≡ sheetNumbers (readVerdict file latches gates) (readRecord file latches gates))
       × ((newLatches ≡ latchesLeft file latches gates)
       × ((newGates ≡ gatesLeft file latches gates)
-      × (reply .number ≡ 0 → NoTestRefuses (reply .net) newLatches newGates)))
+      × (reply .number ≡ 0 → SheetDelivered file (reply .net) newLatches newGates)))
 
   pub replies : (sheet : SheetAnswer) (newLatches : List Latch) (newGates : List Gate)
       → Reads file latches gates sheet newLatches newGates

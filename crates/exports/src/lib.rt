@@ -7,9 +7,8 @@ use replies::HeadingReply;
 use replies::SheetReply;
 ghost use mathlib.Core.Path.{_≡_};
 ghost use lib.ListN.{length};
-ghost use Rattle.unpacked.specs.Calls.{groupSent, groupLeaves, headingSent};
-ghost use Rattle.calls.specs.Lent.{netLent};
-ghost use Rattle.reader.specs.ReadCall.{readVerdict, readRecord, latchesLeft, gatesLeft, NoTestRefuses};
+ghost use Rattle.calls.specs.Calls.{headingFor, groupFor, numbersLeft};
+ghost use Rattle.reader.specs.ReadCall.{readVerdict, readRecord, latchesLeft, gatesLeft, SheetDelivered};
 ghost use Rattle.replies.specs.Numbers.{groupOf, groupNumbers, headingNumbers, sheetNumbers};
 
 // `calls::write_group`. The kind is 0 for the wires of frame i, 1 for the pair (j, i), 2 for the closing of frame i, 3 for the property.
@@ -24,8 +23,8 @@ pub extern "C" fn marrubigai_write_group(
     i: u32,
     out: &mut [i32],
 ) -> GroupReply
-    ensures answer { λ r. ⌜ r ≡ groupNumbers (groupSent (netLent net (now (latches .entry)) (now (gates .entry))) (length (now (latches .entry))) (length (now (gates .entry))) depth (groupOf kind j i) (length (now (out .entry)))) ⌝ }
-    ensures borrowed { λ r. ⌜ now (out .exit) ≡ groupLeaves (netLent net (now (latches .entry)) (now (gates .entry))) (length (now (latches .entry))) (length (now (gates .entry))) depth (groupOf kind j i) (now (out .entry)) ⌝ }
+    ensures answer { λ r. ⌜ r ≡ groupNumbers (groupFor net (now (latches .entry)) (now (gates .entry)) depth (groupOf kind j i) (length (now (out .entry)))) ⌝ }
+    ensures borrowed { λ r. ⌜ now (out .exit) ≡ numbersLeft net (now (latches .entry)) (now (gates .entry)) depth (groupOf kind j i) (now (out .entry)) ⌝ }
 {
     replies::group_numbers(calls::write_group(
         net,
@@ -45,7 +44,7 @@ pub extern "C" fn marrubigai_heading(
     gates: &[Gate],
     depth: u32,
 ) -> HeadingReply
-    ensures { λ r. ⌜ r ≡ headingNumbers (headingSent (netLent net (now (latches .entry)) (now (gates .entry))) (length (now (latches .entry))) (length (now (gates .entry))) depth) ⌝ }
+    ensures { λ r. ⌜ r ≡ headingNumbers (headingFor net (now (latches .entry)) (now (gates .entry)) depth) ⌝ }
 {
     replies::heading_numbers(calls::heading(net, latches, gates, depth))
 }
@@ -60,7 +59,7 @@ pub extern "C" fn marrubigai_read(
     ensures reply { λ r. ⌜ r ≡ sheetNumbers (readVerdict (now (file .entry)) (now (latches .entry)) (now (gates .entry))) (readRecord (now (file .entry)) (now (latches .entry)) (now (gates .entry))) ⌝ }
     ensures latches { λ _. ⌜ now (latches .exit) ≡ latchesLeft (now (file .entry)) (now (latches .entry)) (now (gates .entry)) ⌝ }
     ensures gates { λ _. ⌜ now (gates .exit) ≡ gatesLeft (now (file .entry)) (now (latches .entry)) (now (gates .entry)) ⌝ }
-    ensures accepted { λ r. ⌜ (r .number ≡ 0 → NoTestRefuses (r .net) (now (latches .exit)) (now (gates .exit))) ⌝ }
+    ensures accepted { λ r. ⌜ (r .number ≡ 0 → SheetDelivered (now (file .entry)) (r .net) (now (latches .exit)) (now (gates .exit))) ⌝ }
 {
     replies::sheet_numbers(reader::read(file, latches, gates))
 }

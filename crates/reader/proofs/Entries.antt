@@ -24,26 +24,29 @@ pub record Agree (c d : Netlist) : Type 0 where
   pub P-same : c .P ≡ d .P
 
 module _ (c d : Netlist) (q : Agree c d) where
-  inputs-same : c .inputs ≡ d .inputs
+  pub inputs-same : c .inputs ≡ d .inputs
   inputs-same = same-at c d (q .sizes-same) 0
 
-  latches-same : c .latches ≡ d .latches
+  pub latches-same : c .latches ≡ d .latches
   latches-same = same-at c d (q .sizes-same) 1
 
-  gates-same : c .gates ≡ d .gates
+  pub gates-same : c .gates ≡ d .gates
   gates-same = same-at c d (q .sizes-same) 2
 
-  m-same : c .m ≡ d .m
+  pub m-same : c .m ≡ d .m
   m-same = same-at c d (q .sizes-same) 3
 
-  n-same : c .n ≡ d .n
+  pub n-same : c .n ≡ d .n
   n-same = same-at c d (q .sizes-same) 4
 
+  pub word-same : c .initialWord ≡ d .initialWord
+  word-same = same-at c d (q .sizes-same) 5
+
   -- a number within a limit that both share
-  lastWire-same : lastWire c ≡ lastWire d
+  pub lastWire-same : lastWire c ≡ lastWire d
   lastWire-same = rw (inputs-same, latches-same, n-same, gates-same)
 
-  gateWire-same : (g : ℕ) → gateWire c g ≡ gateWire d g
+  pub gateWire-same : (g : ℕ) → gateWire c g ≡ gateWire d g
   gateWire-same g = rw (inputs-same, latches-same, n-same)
 
   isRead-same : (w : ℕ) → isRead c w ≡ isRead d w

@@ -1,5 +1,6 @@
 pub mod Lists
 pub mod Entries
+pub mod Groups
 pub mod ReadCall
 pub mod Facts
 pub mod LocalCodes

@@ -1,5 +1,5 @@
--- What `read` returns and leaves (specs/ReadCall.antt), from what stands in its own unpacked lists; and what it accepts, no test
--- of records refuses. Cited by `read`. Assumes nothing.
+-- What `read` returns and leaves (specs/ReadCall.antt), from what stands in its own unpacked lists; and what holds of what it
+-- leaves. Cited by `read`. Assumes nothing.
 use Prim.Native.Nat.{ℕ, _≤_}
 use mathlib.Core.Path.{_≡_, refl, sym, _∙_, ap}
 use mathlib.Core.List.{List}
@@ -13,6 +13,8 @@ use Rattle.model.specs.Netlist as M
 use Rattle.model.specs.Acceptance.{Accepted}
 use Rattle.literals.specs.declared.Code.{Code}
 use Rattle.netlist.specs.NetOf.{codeOf, netOf}
+use Rattle.model.proofs.Claim.{encodes}
+use Rattle.records.specs.Record.{recordVerdict}
 use Rattle.records.proofs.Acceptance.{passes-accepted}
 use Rattle.steps.specs.declared.SheetAnswer.{SheetAnswer}
 use Rattle.steps.specs.Records.{codeEntry, recordOf}
@@ -23,13 +25,15 @@ use Rattle.sheet.proofs.Codes.{passed-sheet}
 use Rattle.lists.specs.declared.Latch.{Latch}
 use Rattle.lists.specs.declared.Gate.{Gate}
 use Rattle.lists.specs.Unpacked.{latchCodes, gateCodes}
+use Rattle.lists.specs.Lent.{netLent}
 use Rattle.lists.specs.Delivered.{latchAt, gateAt, delivered}
 use Rattle.lists.proofs.Delivered.{delivered-none, length-delivered}
-use Rattle.reader.specs.ReadCall.{latchOf, gateOf, readVerdict, readRecord, latchesLeft, gatesLeft, NoTestRefuses}
+use Rattle.reader.specs.ReadCall.{latchOf, gateOf, readVerdict, readRecord, latchesLeft, gatesLeft, SheetDelivered}
 use Rattle.reader.proofs.Lists.{getD-gather-alone, delivered-pairs}
 use Rattle.reader.proofs.Entries.{Agree, accepted-same}
+use Rattle.reader.proofs.Groups.{base-same, numbers-same}
 
--- an accepted netlist, its record, and its latches and gates delivered into lists: no test of records refuses them
+-- an accepted netlist, its record, and its latches and gates delivered into lists
 module _ (c : M.Netlist) (accepted : Accepted c) (latches : List Latch) (gates : List Gate)
     (long-latches : c .latches ≤ length latches) (long-gates : c .gates ≤ length gates) where
   agree : Agree c (netOf (recordOf c) (latchCodes (delivered (c .latches) (latchOf c) latches))
@@ -60,18 +64,34 @@ module _ (c : M.Netlist) (accepted : Accepted c) (latches : List Latch) (gates :
         P-same = refl;
       }
 
-  no-test-refuses : NoTestRefuses (recordOf c) (delivered (c .latches) (latchOf c) latches)
-      (delivered (c .gates) (gateOf c) gates)
+  -- no test of records refuses them
+  not-refused : recordVerdict (netLent (recordOf c) (delivered (c .latches) (latchOf c) latches) (delivered (c .gates) (gateOf c) gates))
+      (length (delivered (c .latches) (latchOf c) latches)) (length (delivered (c .gates) (gateOf c) gates)) ≡ Passed
   unfolding netOf recordOf
-  no-test-refuses =
+  not-refused =
       let newLatches = delivered (c .latches) (latchOf c) latches in
       let newGates = delivered (c .gates) (gateOf c) gates in
-      let d = netOf (recordOf c) (latchCodes newLatches) (gateCodes newGates) in
+      let d = netLent (recordOf c) newLatches newGates in
       passes-accepted d (length newLatches) (length newGates) .1 (
         accepted-same c d agree accepted,
         rw (length-delivered (latchOf c) latches (c .latches) long-latches) long-latches,
         rw (length-delivered (gateOf c) gates (c .gates) long-gates) long-gates,
       )
+
+-- so an accepted sheet's record and lists have its variables, its clauses and demand 3
+sheet-delivered : (file : List ℕ) → Accepted (netIn file) → (latches : List Latch) (gates : List Gate)
+    → netIn file .latches ≤ length latches → netIn file .gates ≤ length gates
+    → SheetDelivered file (recordOf (netIn file)) (delivered (netIn file .latches) (latchOf (netIn file)) latches)
+    (delivered (netIn file .gates) (gateOf (netIn file)) gates)
+sheet-delivered file accepted latches gates long-latches long-gates =
+    let c = netIn file in
+    let same = agree c accepted latches gates long-latches long-gates in
+    record {
+      not-refused = not-refused c accepted latches gates long-latches long-gates;
+      variables-same = λ i. sym (base-same c _ same i);
+      numbers-same = λ k g. sym (numbers-same c _ same k g);
+      sheet-encodes = encodes c accepted;
+    }
 
 module _ (file : List ℕ) (latches : List Latch) (gates : List Gate) where
   -- what `read` promises, together
@@ -81,7 +101,7 @@ module _ (file : List ℕ) (latches : List Latch) (gates : List Gate) where
       × ((sheet .net ≡ readRecord file latches gates)
       × ((newLatches ≡ latchesLeft file latches gates)
       × ((newGates ≡ gatesLeft file latches gates)
-      × (sheet .verdict ≡ Passed → NoTestRefuses (sheet .net) newLatches newGates))))
+      × (sheet .verdict ≡ Passed → SheetDelivered file (sheet .net) newLatches newGates))))
 
   module _ (sheet : SheetAnswer) (latchList gateList : List ℕ)
       (codes : CodesRead file (length latches) (length gates) sheet latchList gateList) where
@@ -124,7 +144,7 @@ module _ (file : List ℕ) (latches : List Latch) (gates : List Gate) where
                   (
                     rw e newGates,
                     λ q. rw (newLatches, newGates, net)
-                        (no-test-refuses (netIn file) (parts .0) latches gates (parts .1) (parts .2)),
+                        (sheet-delivered file (parts .0) latches gates (parts .1) (parts .2)),
                   ),
                 ),
               ),

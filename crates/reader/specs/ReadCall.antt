@@ -5,10 +5,13 @@ use mathlib.Core.Path.{_≡_}
 use mathlib.Core.List.{List}
 use lib.ListN.{length}
 use Rattle.model.specs.Netlist as M
+use Rattle.model.specs.Variables.{base}
+use Rattle.model.specs.Numbers.{numbersOf}
+use Rattle.model.specs.Claim.{Encodes}
+use Rattle.model.specs.declared.Group.{Group}
 use Rattle.refusals.specs.Slices.{contentsAfter}
 use Rattle.refusals.specs.declared.Verdict.{Verdict}
 use Rattle.refusals.specs.declared.Verdict.the-variants.{Passed}
-use Rattle.netlist.specs.NetOf.{netOf}
 use Rattle.netlist.specs.declared.Netlist.{Netlist}
 use Rattle.records.specs.Record.{recordVerdict}
 use Rattle.parse.specs.Files.{netIn}
@@ -16,7 +19,7 @@ use Rattle.sheet.specs.Sheet.{sheetVerdict}
 use Rattle.sheet.specs.Codes.{recordBeside}
 use Rattle.lists.specs.declared.Latch.{Latch}
 use Rattle.lists.specs.declared.Gate.{Gate}
-use Rattle.lists.specs.Unpacked.{latchCodes, gateCodes}
+use Rattle.lists.specs.Lent.{netLent}
 use Rattle.lists.specs.Delivered.{firstRecords}
 
 -- a latch and a gate of a netlist, as records
@@ -41,7 +44,11 @@ unfoldable pub gatesLeft : List ℕ → List Latch → List Gate → List Gate
 gatesLeft file latches gates =
     contentsAfter (readVerdict file latches gates) (firstRecords (netIn file .gates) (gateOf (netIn file))) gates
 
--- "A sheet is accepted when no test of sheets refuses it, a record with its lists when no test of records does": the second
-abbrev pub NoTestRefuses : Netlist → List Latch → List Gate → Type 0
-NoTestRefuses r latches gates =
-    recordVerdict (netOf r (latchCodes latches) (gateCodes gates)) (length latches) (length gates) ≡ Passed
+-- What holds of the record and the lists that `read` leaves where it refuses nothing. "A sheet is accepted when no test of sheets
+-- refuses it, a record with its lists when no test of records does": here neither does. "Demands 2 and 3 speak of both": the
+-- variables and every group's numbers are those of the sheet's netlist, and demand 3 holds of it.
+pub record SheetDelivered (file : List ℕ) (r : Netlist) (latches : List Latch) (gates : List Gate) : Type 0 where
+  pub not-refused : recordVerdict (netLent r latches gates) (length latches) (length gates) ≡ Passed
+  pub variables-same : (i : ℕ) → base (netLent r latches gates) i ≡ base (netIn file) i
+  pub numbers-same : (k : ℕ) (g : Group) → numbersOf (netLent r latches gates) k g ≡ numbersOf (netIn file) k g
+  pub sheet-encodes : (k : ℕ) → Encodes (netIn file) k

@@ -11,7 +11,7 @@ ghost use Rattle.parse.specs.Files.{lineCount};
 ghost use Rattle.parse.specs.Progress.{ReadTo};
 ghost use Rattle.sheet.specs.Codes.{CodesRead};
 ghost use Rattle.reader.specs.Lines.{atStart, nextNumber, nextLine};
-ghost use Rattle.reader.specs.ReadCall.{readVerdict, readRecord, latchesLeft, gatesLeft, NoTestRefuses};
+ghost use Rattle.reader.specs.ReadCall.{readVerdict, readRecord, latchesLeft, gatesLeft, SheetDelivered};
 
 // A file, and how many of its lines are read.
 pub struct SheetReader<'a> {
@@ -77,7 +77,7 @@ pub fn read(file: &[u8], latches: &mut [Latch], gates: &mut [Gate]) -> SheetAnsw
     ensures record { λ r. ⌜ r .net ≡ readRecord (now (file .entry)) (now (latches .entry)) (now (gates .entry)) ⌝ }
     ensures latches { λ _. ⌜ now (latches .exit) ≡ latchesLeft (now (file .entry)) (now (latches .entry)) (now (gates .entry)) ⌝ }
     ensures gates { λ _. ⌜ now (gates .exit) ≡ gatesLeft (now (file .entry)) (now (latches .entry)) (now (gates .entry)) ⌝ }
-    ensures accepted { λ r. ⌜ (r .verdict ≡ Verdict.Passed → NoTestRefuses (r .net) (now (latches .exit)) (now (gates .exit))) ⌝ }
+    ensures accepted { λ r. ⌜ (r .verdict ≡ Verdict.Passed → SheetDelivered (now (file .entry)) (r .net) (now (latches .exit)) (now (gates .exit))) ⌝ }
 {
     let mut latch_codes = sheet::no_codes();
     let mut gate_codes = sheet::no_codes();

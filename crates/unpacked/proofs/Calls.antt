@@ -49,25 +49,17 @@ variables-fit c k v ok d e h =
     let most : base c (k + 1) ≤ 675841 = base-most c (ok .limits .sizes) (k + 1) (omega arith) in
     omega arith
 
-module _ (c : Netlist) (latchCount gateCount k : ℕ) (heads : headingVerdict c latchCount gateCount k ≡ Passed) where
-  -- what a heading call that is not refused has shown
-  record-passed : recordVerdict c latchCount gateCount ≡ Passed
-  unfolding headingVerdict
-  record-passed = then-passes (recordVerdict c latchCount gateCount) (testDepth k then testNumbers c k) .0 heads .0
+module _ (c : Netlist) (latchCount gateCount k : ℕ) (record-passed : recordVerdict c latchCount gateCount ≡ Passed) (d : k ≤ 255) where
+  accepted : Accepted c
+  accepted = passes-accepted c latchCount gateCount .0 record-passed .0
 
-  rest-passed : (testDepth k ≡ Passed) × (testNumbers c k ≡ Passed)
-  unfolding headingVerdict
-  rest-passed =
-      then-passes (testDepth k) (testNumbers c k) .0
-      (then-passes (recordVerdict c latchCount gateCount) (testDepth k then testNumbers c k) .0 heads .1)
-
-  -- then no group call with room enough is refused
+  -- no group call with room enough is refused
   group-passes : (g : Group) (room : ℕ) → inDepth k g ≡ true → length (numbersOf c k g) ≤ room
       → groupVerdict c latchCount gateCount k g room ≡ Passed
-  unfolding groupVerdict testGroup
+  unfolding groupVerdict testGroup testDepth
   group-passes g room there enough =
-      passes record-passed (passes (rest-passed .0)
-      (passes (refuseIf-passes (not (inDepth k g)) _ 0 .1 (ap not there)) (passes (rest-passed .1)
+      passes record-passed (passes (refuseIf-passes (ltb 255 k) _ 0 .1 (le-ltb 255 k d))
+      (passes (refuseIf-passes (not (inDepth k g)) _ 0 .1 (ap not there)) (passes (numbers-suffice c k accepted d)
       (room-enough (length (numbersOf c k g)) room enough))))
     where
       passes : {v w : Verdict} → v ≡ Passed → w ≡ Passed → (v then w) ≡ Passed
@@ -80,9 +72,6 @@ module _ (c : Netlist) (latchCount gateCount k : ℕ) (heads : headingVerdict c 
   group-numbers g old there enough =
       rw (group-passes g (length old) there enough) (take-append-seam (numbersOf c k g) (drop (length (numbersOf c k g)) old))
 
-  accepted : Accepted c
-  accepted = passes-accepted c latchCount gateCount .0 record-passed .0
-
   -- demand 3 of the calls
   pub calls-encode : CallsEncode c latchCount gateCount k
   unfolding formula
@@ -92,7 +81,8 @@ module _ (c : Netlist) (latchCount gateCount k : ℕ) (heads : headingVerdict c 
             joined-same (all-weaken (λ g there. group-numbers g (slice g) there (enough g there)) (order-inDepth k));
         formula-encodes = encodes c accepted k;
         formula-stated = stated c accepted k;
-        variables-most = base-most c (accepted .limits .sizes) (k + 1) (omega (arith, depth-passes k (rest-passed .0)));
+        variables-most = base-most c (accepted .limits .sizes) (k + 1) (omega arith);
+        numbers-suffice = numbers-suffice c k accepted d;
       }
 
 -- which test of a heading call decides
@@ -151,7 +141,7 @@ module _ (c : Netlist) (latchCount gateCount k : ℕ) (g : Group) (room : ℕ) w
     -- none
     pub group-passed : k ≤ 255 → inDepth k g ≡ true → length (numbersOf c k g) ≤ room
         → groupVerdict c latchCount gateCount k g room ≡ Passed
-    group-passed d = group-passes c latchCount gateCount k (heading-passes c latchCount gateCount k record-passed d) g room
+    group-passed d = group-passes c latchCount gateCount k record-passed d g room
 
   -- what a group call that is not refused has shown
   pub group-shown : groupVerdict c latchCount gateCount k g room ≡ Passed

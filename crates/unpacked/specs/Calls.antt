@@ -9,7 +9,6 @@ use lib.Dec.{ltb}
 use lib.IntN.{ℤ}
 use lib.ListN.{length, take}
 use Rattle.model.specs.Netlist.{Netlist}
-use Rattle.model.specs.Acceptance.{Accepted}
 use Rattle.model.specs.Variables.{base}
 use Rattle.model.specs.Groups.{inDepth, groupOrder}
 use Rattle.model.specs.Numbers.{numbersOf, joined, formula, clausesIn}
@@ -38,10 +37,6 @@ testGroup k g = refuseIf (not (inDepth k g)) NoSuchGroup 0
 -- 10: "a variable above 2,147,483,647", of the depth
 unfoldable pub testNumbers : Netlist → ℕ → Verdict
 testNumbers c k = refuseIf (ltb 2147483647 (base c (k + 1))) OutOfNumbers 0
-
--- no accepted record meets it
-abbrev pub NumbersSuffice : Netlist → ℕ → Type 0
-NumbersSuffice c k = Accepted c → k ≤ 255 → testNumbers c k ≡ Passed
 
 -- "A group call then tests 7, 8, 10, 9, place 0": of a record whose lists have latchCount and gateCount records, with a slice of
 -- `room` numbers; 9 is of this group's exact length
@@ -91,7 +86,7 @@ headingSent c latchCount gateCount k =
 
 -- Demand 3, of the calls: "The clauses for depth k stand in the numbers that the group calls write, one call with room enough for
 -- each group, joined in the order of the whole". Those numbers are the formula, and the formula encodes the runs
--- and is as document 01 says; "Depth k uses B(k + 1) variables, at most 675,841".
+-- and is as document 01 says; "Depth k uses B(k + 1) variables, at most 675,841", so that refusal 10 is never met.
 abbrev pub RoomEnough : Netlist → ℕ → (Group → List ℤ) → Type 0
 RoomEnough c k slice = (g : Group) → inDepth k g ≡ true → length (numbersOf c k g) ≤ length (slice g)
 
@@ -104,3 +99,4 @@ pub record CallsEncode (c : Netlist) (latchCount gateCount k : ℕ) : Type 0 whe
   pub formula-encodes : Encodes c k
   pub formula-stated : Stated c k
   pub variables-most : base c (k + 1) ≤ 675841
+  pub numbers-suffice : testNumbers c k ≡ Passed

@@ -1,5 +1,5 @@
 -- `calls::heading` meets its contract: a walk of its MIR, by hand. Both lists are unpacked into local arrays, which are lent to
--- the call over unpacked lists. Demand 3, the refusal that is never met, and the starred facts are laws of what that call answers.
+-- the call over unpacked lists. Demand 3 and the starred facts are laws of what that call answers.
 -- Assumes nothing.
 use mathlib.Core.Path.{_≡_, refl, _∙_, ap}
 use Prim.Native.Nat.{ℕ, _<_, _^_}
@@ -61,7 +61,7 @@ use Rattle.lists.proofs.unpack.unpack_gates.Symbol as gates-def
 use Rattle.lists.proofs.unpack.unpack_gates.Symbol.{name as #gates}
 use Rattle.lists.proofs.unpack.unpack_gates.Met as gates-thm
 use Rattle.unpacked.specs.Calls.{headingReply, headingSent}
-use Rattle.unpacked.proofs.Calls.{calls-encode, numbers-suffice}
+use Rattle.unpacked.proofs.Calls.{calls-encode}
 use Rattle.calls.proofs.Starred.{starred}
 use Rattle.unpacked.proofs.HeadingAnswer as Answer
 use Rattle.unpacked.proofs.HeadingAnswer.Laws as Answer′
@@ -218,8 +218,7 @@ module _ {M : Type 1} (𝓤 : URA M) (H : Heap 𝓤) (A : Atoms 𝓤) (W : Given
           move ! (1 ∷ 2 ∷ []) $ join ! $ move ! (1 ∷ 0 ∷ []) $ join ! $ frame ! $ keep ! [] $
           by ! (both 𝓤 (factI 𝓤 _ (emp 𝓤) (is ∙ ap (λ c. headingSent c (length (ls .now)) (length (gs .now)) k)
           (netOf-unpacked net (latchCodes (ls .now)) (gateCodes (gs .now)))))
-          (both 𝓤 (factI 𝓤 _ (emp 𝓤) (calls-encode _ _ _ _))
-          (both 𝓤 (factI 𝓤 _ (emp 𝓤) (numbers-suffice _ _)) (factI 𝓤 _ (emp 𝓤) starred)))))))))))))))))))))))
+          (both 𝓤 (factI 𝓤 _ (emp 𝓤) (calls-encode _ _ _ _)) (factI 𝓤 _ (emp 𝓤) starred))))))))))))))))))))))
 
 heading-meets : {M : Type 1} (𝓤 : URA M) (H : Heap 𝓤) (A : Atoms 𝓤) (W : Given 𝓤 H A) (mem : Memory → SProp 𝓤)
     (run : Routine → Fun 𝓤) (𝓣 : Tables 𝓤 H)

@@ -34,7 +34,6 @@ use denote.Triple.Statement.{Contract, Triple}
 use denote.Triple.Table.{entered, cited}
 use denote.Triple.Walked.{says, Stays, stay-dropped, walkOf, goes-dropped, ends-at}
 use denote.Exit.{yes}
-use Rattle.model.specs.Netlist.{Netlist as Netlistᴹ}
 use Rattle.netlist.specs.declared.Netlist.{Netlist}
 use Rattle.netlist.proofs.Netlist as N
 use Rattle.netlist.proofs.Netlist.Laws as N′
@@ -44,12 +43,12 @@ use Rattle.lists.proofs.Latch as L
 use Rattle.lists.proofs.Gate as G
 use Rattle.lists.proofs.Walk.{calls-told, frees-at, meets-of}
 use Rattle.refusals.specs.declared.Verdict.the-variants.{Passed}
-use Rattle.unpacked.specs.Calls.{headingReply, headingVerdict, headingSent, NumbersSuffice, CallsEncode}
+use Rattle.unpacked.specs.Calls.{headingReply}
 use Rattle.calls.specs.Starred.{Starred}
 use Rattle.unpacked.specs.declared.HeadingAnswer.{HeadingAnswer}
 use Rattle.unpacked.proofs.HeadingAnswer as Answer
 use Rattle.unpacked.proofs.HeadingAnswer.Laws as Answer′
-use Rattle.calls.specs.Lent.{netLent}
+use Rattle.calls.specs.Calls.{headingFor, Claim}
 use Rattle.calls.proofs.heading as inner
 use Rattle.calls.proofs.heading.Symbol as inner-def
 use Rattle.calls.proofs.heading.Symbol.{name as #inner}
@@ -98,16 +97,12 @@ module _ {M : Type 1} (𝓤 : URA M) (H : Heap 𝓤) (A : Atoms 𝓤) (W : Given
     abbrev vals : List Val × (List Val × (List Val × (List Val × Unit {0})))
     vals = (v ∷ [], (vl ∷ [], (vg ∷ [], (vint w32 k ∷ [], tt))))
 
-    abbrev c : Netlistᴹ
-    c = netLent net (ls .now) (gs .now)
-
     abbrev Answered : HeadingAnswer → Type 0
-    Answered r = headingReply r ≡ headingSent c (length (ls .now)) (length (gs .now)) k
+    Answered r = headingReply r ≡ headingFor net (ls .now) (gs .now) k
 
     -- what else `calls::heading` says, which is of no answer
     abbrev Claimed : SProp 𝓤
-    Claimed = sep 𝓤 (fact 𝓤 (headingVerdict c (length (ls .now)) (length (gs .now)) k ≡ Passed
-        → CallsEncode c (length (ls .now)) (length (gs .now)) k)) (sep 𝓤 (fact 𝓤 (NumbersSuffice c k)) (fact 𝓤 Starred))
+    Claimed = sep 𝓤 (fact 𝓤 (Claim net (ls .now) (gs .now) k)) (fact 𝓤 Starred)
 
     abbrev Post : Val → SProp 𝓤
     Post = walkOf 𝓤 H A f.ended stayed (f.clauses 𝓤 H A mem run) .post (((κ₀, (κ₁, tt)), (q₀, (q₁, tt)), tt, a, vals), tt)

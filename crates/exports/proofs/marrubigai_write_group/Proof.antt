@@ -47,11 +47,11 @@ use Rattle.lists.specs.declared.Gate.{Gate}
 use Rattle.lists.proofs.Latch as L
 use Rattle.lists.proofs.Gate as G
 use Rattle.lists.proofs.Walk.{both, calls-told, frees-at, meets-of}
-use Rattle.unpacked.specs.Calls.{groupReply, groupSent, groupLeaves}
+use Rattle.unpacked.specs.Calls.{groupReply}
 use Rattle.unpacked.specs.declared.GroupAnswer.{GroupAnswer}
 use Rattle.unpacked.proofs.GroupAnswer as Answer
 use Rattle.unpacked.proofs.GroupAnswer.Laws as Answer′
-use Rattle.calls.specs.Lent.{netLent}
+use Rattle.calls.specs.Calls.{groupFor, numbersLeft}
 use Rattle.calls.proofs.write_group as inner
 use Rattle.calls.proofs.write_group.Symbol as inner-def
 use Rattle.calls.proofs.write_group.Symbol.{name as #inner}
@@ -148,11 +148,11 @@ module _ {M : Type 1} (𝓤 : URA M) (H : Heap 𝓤) (A : Atoms 𝓤) (W : Given
     g = groupOf kind j i
 
     abbrev Answered : GroupAnswer → Type 0
-    Answered r = groupReply r ≡ groupSent (netLent net (ls .now) (gs .now)) (length (ls .now)) (length (gs .now)) k g
+    Answered r = groupReply r ≡ groupFor net (ls .now) (gs .now) k g
         (length (out .now))
 
     abbrev Leaves : List ℤ → Type 0
-    Leaves zs = zs ≡ groupLeaves (netLent net (ls .now) (gs .now)) (length (ls .now)) (length (gs .now)) k g (out .now)
+    Leaves zs = zs ≡ numbersLeft net (ls .now) (gs .now) k g (out .now)
 
     abbrev Post : Val → SProp 𝓤
     Post = walkOf 𝓤 H A f.ended stayed (f.clauses 𝓤 H A mem run) .post

@@ -72,7 +72,7 @@ use Rattle.lists.proofs.deliver.deliver_gates.Symbol as gates-def
 use Rattle.lists.proofs.deliver.deliver_gates.Symbol.{name as #deliver-gates}
 use Rattle.lists.proofs.deliver.deliver_gates.Met as gates-thm
 use Rattle.reader.specs.Lines.{atStart}
-use Rattle.reader.specs.ReadCall.{readVerdict, readRecord, latchesLeft, gatesLeft, NoTestRefuses}
+use Rattle.reader.specs.ReadCall.{readVerdict, readRecord, latchesLeft, gatesLeft, SheetDelivered}
 use Rattle.reader.specs.declared.SheetReader.{SheetReader}
 use Rattle.reader.proofs.Facts.{spread}
 use Rattle.reader.proofs.ReadCall.{deliverable, reads}
@@ -289,7 +289,7 @@ module _ {M : Type 1} (𝓤 : URA M) (H : Heap 𝓤) (A : Atoms 𝓤) (W : Given
         (tt, (newLatches sheet xs, (newGates sheet ys, tt)))) (sheet .verdict ≡ readVerdict (now file) (now x) (now y))
         ((sheet .net ≡ readRecord (now file) (now x) (now y)) ∷ (newLatches sheet xs ≡ latchesLeft (now file) (now x) (now y))
         ∷ (newGates sheet ys ≡ gatesLeft (now file) (now x) (now y))
-        ∷ (sheet .verdict ≡ Passed → NoTestRefuses (sheet .net) (newLatches sheet xs) (newGates sheet ys)) ∷ [])) $
+        ∷ (sheet .verdict ≡ Passed → SheetDelivered (now file) (sheet .net) (newLatches sheet xs) (newGates sheet ys)) ∷ [])) $
         says ! (reads (now file) (now x) (now y) sheet xs ys e) $
         nothing ! $ move ! (4 ∷ 0 ∷ []) $ join ! $ move ! (3 ∷ 0 ∷ []) $ join ! $ move ! (2 ∷ 0 ∷ []) $ join ! $ frame ! $
         nothing ! $ move ! (4 ∷ 0 ∷ []) $ fjoin ! $ move ! (3 ∷ 0 ∷ []) $ fjoin ! $ move ! (2 ∷ 0 ∷ []) $ fjoin ! $ frame ! $

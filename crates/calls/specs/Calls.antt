@@ -1,0 +1,32 @@
+-- What the public calls over a record and its lent lists answer, leave and claim: the calls over a netlist (unpacked/specs/Calls), for
+-- the netlist that record and lists stand for. Cited by `heading` and `write_group`, here and in `exports`. Assumes nothing.
+use Prim.Native.Nat.{ℕ, _≤_}
+use mathlib.Core.Path.{_≡_}
+use mathlib.Core.List.{List}
+use lib.IntN.{ℤ}
+use lib.ListN.{length}
+use Rattle.model.specs.declared.Group.{Group}
+use Rattle.refusals.specs.Slices.{CountReply}
+use Rattle.refusals.specs.declared.Verdict.the-variants.{Passed}
+use Rattle.netlist.specs.declared.Netlist.{Netlist}
+use Rattle.records.specs.Record.{recordVerdict}
+use Rattle.lists.specs.Lent.{netLent}
+use Rattle.lists.specs.declared.Latch.{Latch}
+use Rattle.lists.specs.declared.Gate.{Gate}
+use Rattle.unpacked.specs.Calls.{groupSent, groupLeaves, HeadingReply, headingSent, CallsEncode}
+
+abbrev pub headingFor : Netlist → List Latch → List Gate → ℕ → HeadingReply
+headingFor net latches gates k = headingSent (netLent net latches gates) (length latches) (length gates) k
+
+-- for a slice of `room` numbers, and what is left in a slice that held `old`
+abbrev pub groupFor : Netlist → List Latch → List Gate → ℕ → Group → ℕ → CountReply
+groupFor net latches gates k g room = groupSent (netLent net latches gates) (length latches) (length gates) k g room
+
+abbrev pub numbersLeft : Netlist → List Latch → List Gate → ℕ → Group → List ℤ → List ℤ
+numbersLeft net latches gates k g old = groupLeaves (netLent net latches gates) (length latches) (length gates) k g old
+
+-- "for every accepted record and depth 0 to 255"
+abbrev pub Claim : Netlist → List Latch → List Gate → ℕ → Type 0
+Claim net latches gates k =
+    recordVerdict (netLent net latches gates) (length latches) (length gates) ≡ Passed → k ≤ 255
+    → CallsEncode (netLent net latches gates) (length latches) (length gates) k
