@@ -2,15 +2,14 @@
 use Prim.Native.Nat.{ℕ, _≤_, _<_}
 use mathlib.Core.Path.{_≡_, refl, _∙_, ap}
 use mathlib.Core.Bool.{Bool, true, false, cond, _&&_}
-use mathlib.Core.List.{List, [], _∷_, _++_}
+use mathlib.Core.List.{List}
 use native.Mathlib.Omega.{arith}
 use borrow.Author.Tests.{le-leb, lt-leb, leb-true, leb-false, eq-eqb, ne-eqb}
 use lib.Dec.{leb, eqb}
 use lib.ListN.{length, getD, take}
 use Rattle.refusals.specs.declared.Refusal.the-variants.{Misprint, Depth}
-use Rattle.decimal.specs.Digits.{lineFeed, field, digits, digitsWithin}
-use Rattle.decimal.specs.TextValue.{numberIn, sameText, valueAfter}
-use Rattle.fields.specs.Fields.{fieldOf, dropSpaces, behindSpaces, filledWith}
+use Rattle.decimal.specs.Digits.{lineFeed}
+use Rattle.fields.specs.Fields.{fieldOf}
 use Rattle.fields.specs.declared.Field.{Field}
 use Rattle.fields.specs.declared.Field.the-variants.{Empty, Filled, Misprinted}
 use Rattle.lines.specs.Depth.{DepthAnswer, refusedBy, acceptedAt, valueAnswer, depthAnswer}
@@ -56,9 +55,3 @@ accepted-long s k h = by-length (leb 11 (length s)) refl
     by-length true e = leb-true 11 (length s) e
     by-length false e =
         absurd (omega (arith, ap (λ (a : DepthAnswer). a .number) (h ∙ depthAnswer-short s (leb-false 11 (length s) e))))
-
--- document 01's starred fact: depth 255 is taken, 256 gives 7
-pub depth-limit :
-    (depthAnswer (field 255 ++ lineFeed ∷ []) ≡ acceptedAt 255) × (depthAnswer (field 256 ++ lineFeed ∷ []) ≡ refusedBy Depth)
-unfolding depthAnswer valueAnswer fieldOf dropSpaces behindSpaces filledWith numberIn sameText valueAfter field digits digitsWithin
-depth-limit = (refl, refl)

@@ -1,5 +1,5 @@
--- The depth line, the first eleven bytes of the input (document 01, "The program and one full run"). Cited by `read_depth`
--- and by input/specs/Input. Assumes nothing.
+-- The depth line, the first eleven bytes of the input (document 01, "The program and one full run"). Cited by `read_depth`,
+-- input/specs/Input and calls/specs/Starred. Assumes nothing.
 use Prim.Native.Nat.{ℕ}
 use mathlib.Core.Bool.{cond, _&&_}
 use mathlib.Core.List.{List}

@@ -21,17 +21,17 @@ pub refuseIf-passes : (b : Bool) (r : Refusal) (p : ℕ) → (refuseIf b r p ≡
 refuseIf-passes true r p = (λ e. absurd (refused-not-passed e), λ e. absurd (true≢false e))
 refuseIf-passes false r p = (λ e. refl, λ e. refl)
 
--- two tests with the same refusal are one
-pub refuseIf-either : (a b : Bool) (r : Refusal) (p : ℕ) → refuseIf a r p then refuseIf b r p ≡ refuseIf (a || b) r p
-unfolding _then_
-refuseIf-either true b r p = refl
-refuseIf-either false b r p = refl
-
 -- two tests pass where each does
 pub then-passes : (v w : Verdict) → (v then w ≡ Passed) ↔ ((v ≡ Passed) × (w ≡ Passed))
 unfolding _then_
 then-passes Passed w = (λ e. (refl, e), λ h. h .1)
 then-passes (Refused r p) w = (λ e. absurd (refused-not-passed e), λ h. absurd (refused-not-passed (h .0)))
+
+-- two tests with the same refusal are one
+pub refuseIf-either : (a b : Bool) (r : Refusal) (p : ℕ) → refuseIf a r p then refuseIf b r p ≡ refuseIf (a || b) r p
+unfolding _then_
+refuseIf-either true b r p = refl
+refuseIf-either false b r p = refl
 
 -- after a pass the rest decides
 pub passed-then : (w : Verdict) → Passed then w ≡ w
