@@ -1,11 +1,13 @@
 -- Laws of specs/Lit.antt: which literal a number stands for, negation, and back to the number; and a code in a frame by cases.
 -- No contract cites this file. Assumes nothing.
-use Prim.Native.Nat.{ℕ, zero, suc, _+_, _/_, _%_, _≤_, _<_}
-use mathlib.Core.Path.{_≡_, refl, _∙_}
-use native.Mathlib.Nat.{not-suc-le-zero, le-of-suc-le-suc, mod-eq-of-lt}
+use Prim.Native.Nat.{ℕ, zero, suc, _+_, _*_, _/_, _%_, _≤_, _<_}
+use mathlib.Core.Path.{_≡_, refl, sym, _∙_, ap}
+use mathlib.Core.Bool.{false}
+use mathlib.Core.Logic.{by-cases}
+use native.Mathlib.Nat.{not-suc-le-zero, le-of-suc-le-suc}
+use native.Mathlib.Decide.{decLt}
 use native.Mathlib.Omega.{arith}
-use borrow.Author.Tests.{lt-ltb, le-ltb, eq-eqb, ne-eqb}
-use lib.Dec.{eqb}
+use borrow.Author.Tests.{le-ltb, eq-eqb, ne-eqb}
 use lib.IntN.{ℤ, pos, negsuc, negℤ, natAbs, _-ℤ_, +ℤ-idl}
 use mir.Syntax.{w32}
 use mir.Val.{SFits, toZ, ofZ}
@@ -28,18 +30,36 @@ literalAt-pos (suc (suc v)) h = refl
 pub variable-is : (b w : ℕ) → HasNumber b w → toZ w32 (b + w) ≡ pos (b + w)
 variable-is b w h = toZ-pos w32 (b + w) (h .bounded)
 
--- a code in a frame, by cases: a constant, an inverted wire, a wire
-pub codeAt-constant : (b x : ℕ) → x < 2 → codeAt b x ≡ known (eqb x 1)
+-- a code without its lowest bit is false or a wire, and the lowest bit inverts it
+pub codeAt-false : (b x : ℕ) → x < 2 → codeAt b (x / 2 * 2) ≡ known false
 unfolding codeAt odd
-codeAt-constant b x h = rw (lt-ltb x 2 h, mod-eq-of-lt h)
+codeAt-false b x h =
+    let none : x / 2 * 2 ≡ 0 = omega arith in
+    rw none
 
-pub codeAt-inverted : (b x : ℕ) → 2 ≤ x → x % 2 ≡ 1 → codeAt b x ≡ neg (plus (b + x / 2))
+pub codeAt-wire : (b x : ℕ) → 2 ≤ x → codeAt b (x / 2 * 2) ≡ plus (b + x / 2)
+unfolding codeAt odd
+codeAt-wire b x h =
+    let wire : x / 2 * 2 / 2 ≡ x / 2 = omega arith in
+    rw (le-ltb (x / 2 * 2) 2 (omega arith), ne-eqb (x / 2 * 2 % 2) 1 (λ e. absurd (omega (arith, e))), wire)
+
+codeAt-one : (b x : ℕ) → x ≡ 1 → codeAt b x ≡ neg (known false)
+unfolding codeAt odd neg
+codeAt-one b x e = rw e
+
+codeAt-inverted : (b x : ℕ) → 2 ≤ x → x % 2 ≡ 1 → codeAt b x ≡ neg (plus (b + x / 2))
 unfolding codeAt odd neg
 codeAt-inverted b x h o = rw (le-ltb x 2 h, eq-eqb (x % 2) 1 o)
 
-pub codeAt-plain : (b x : ℕ) → 2 ≤ x → (x % 2 ≡ 1 → ⊥) → codeAt b x ≡ plus (b + x / 2)
-unfolding codeAt odd
-codeAt-plain b x h o = rw (le-ltb x 2 h, ne-eqb (x % 2) 1 o)
+pub codeAt-odd : (b x : ℕ) → x % 2 ≡ 1 → codeAt b x ≡ neg (codeAt b (x / 2 * 2))
+codeAt-odd b x o =
+    by-cases (decLt x 2) (λ h. codeAt-one b x (omega arith) ∙ ap neg (sym (codeAt-false b x h))) λ h.
+    codeAt-inverted b x (omega arith) o ∙ ap neg (sym (codeAt-wire b x (omega arith)))
+
+pub codeAt-even : (b x : ℕ) → (x % 2 ≡ 1 → ⊥) → codeAt b x ≡ codeAt b (x / 2 * 2)
+codeAt-even b x o =
+    let same : x ≡ x / 2 * 2 = omega (arith, o) in
+    ap (codeAt b) same
 
 -- turning the sign negates the literal
 pub literalAt-neg : (z : ℤ) → 1 ≤ natAbs z → literalAt (negℤ z) ≡ neg (literalAt z)

@@ -1,7 +1,7 @@
 // Wire numbers, codes and clause numbers (document 01, "Wires and codes"): three types, never accepted in each other's place.
 // Between them only a frame converts.
 ghost use mathlib.Core.Path.{_≡_};
-ghost use Prim.Native.Nat.{_+_, _/_, _≤_, _<_};
+ghost use Prim.Native.Nat.{_+_, _*_, _/_, _≤_, _<_};
 ghost use Rattle.model.specs.Bits.{bit};
 ghost use Rattle.model.specs.Clauses.{known, plus, neg};
 ghost use Rattle.model.specs.Variables.{baseOf, pairBaseOf, wireAt, codeAt};
@@ -36,25 +36,35 @@ impl Wire {
 }
 
 impl Code {
-    // What the code is in a frame whose variables start after `b`: a constant, or a wire's variable, inverted or not.
+    // What the code is in a frame whose variables start after `b`: a constant, or a wire's variable, inverted or not. Constants are
+    // inverted like wires, so that a compiler needs no branch.
     pub fn in_frame(self, b: u32) -> Lit
         requires { ⌜ HasNumber b (self .0 / 2) ⌝ }
         ensures literal { λ r. ⌜ literalOf r ≡ codeAt b (self .0) ⌝ }
         ensures number { λ r. ⌜ IsLit r ⌝ }
     {
         let x = self.0;
-        if x < 2 {
-            return Lit::constant(x == 1);
-        }
-        let v = Lit::variable(b, x / 2);
+        let even = Lit::even(b, x);
         if x % 2 == 1 {
-            return v.negated();
+            return even.negated();
         }
-        v
+        even
     }
 }
 
 impl Lit {
+    // What a code is in a frame without its lowest bit, which inverts.
+    fn even(b: u32, x: u32) -> Lit
+        requires { ⌜ HasNumber b (x / 2) ⌝ }
+        ensures literal { λ r. ⌜ literalOf r ≡ codeAt b (x / 2 * 2) ⌝ }
+        ensures number { λ r. ⌜ IsLit r ⌝ }
+    {
+        if x < 2 {
+            return Lit::constant(false);
+        }
+        Lit::variable(b, x / 2)
+    }
+
     // Variable b + w.
     fn variable(b: u32, w: u32) -> Lit
         requires { ⌜ HasNumber b w × (1 ≤ w) ⌝ }
