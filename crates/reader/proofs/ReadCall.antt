@@ -5,6 +5,7 @@ use mathlib.Core.Path.{_≡_, refl, sym, _∙_, ap}
 use mathlib.Core.List.{List}
 use native.Mathlib.Omega.{arith}
 use lib.ListN.{length}
+use Rattle.refusals.specs.declared.Refusal.{Refusal}
 use Rattle.refusals.specs.declared.Verdict.{Verdict}
 use Rattle.refusals.specs.declared.Verdict.the-variants.{Passed, Refused}
 use Rattle.refusals.specs.Slices.{contentsAfter}
@@ -94,6 +95,12 @@ sheet-delivered file accepted latches gates long-latches long-gates =
     }
 
 module _ (file : List ℕ) (latches : List Latch) (gates : List Gate) where
+  -- at a refusal the lent lists hold what they held
+  left-kept : {r : Refusal} {p : ℕ} → sheetVerdict file (length latches) (length gates) ≡ Refused r p
+      → (latches ≡ latchesLeft file latches gates) × (gates ≡ gatesLeft file latches gates)
+  unfolding readVerdict latchesLeft gatesLeft contentsAfter
+  left-kept e = (rw e, rw e)
+
   -- what `read` promises, together
   abbrev pub Reads : SheetAnswer → List Latch → List Gate → Type 0
   Reads sheet newLatches newGates =
@@ -150,14 +157,19 @@ module _ (file : List ℕ) (latches : List Latch) (gates : List Gate) where
               ),
             )
         by-verdict (Refused r p) e =
-            let net : sheet .net ≡ recordBeside (Refused r p) (netIn file) = codes .record-is ∙ rw e in (
+            let net : sheet .net ≡ recordBeside (Refused r p) (netIn file) = codes .record-is ∙ rw e in
+            let noLatch : delivered (sheet .net .latches) (latchAt latchList) latches ≡ latches =
+            rw net (delivered-none (latchAt latchList) latches) in
+            let noGate : delivered (sheet .net .gates) (gateAt gateList) gates ≡ gates =
+            rw net (delivered-none (gateAt gateList) gates) in
+            let kept = left-kept e in (
               codes .verdict-is,
               (
                 codes .record-is,
                 (
-                  rw (e, net) (delivered-none (latchAt latchList) latches),
+                  noLatch ∙ kept .0,
                   (
-                    rw (e, net) (delivered-none (gateAt gateList) gates),
+                    noGate ∙ kept .1,
                     λ q. absurd (refused-not-passed (sym e ∙ (sym (codes .verdict-is) ∙ q))),
                   ),
                 ),
