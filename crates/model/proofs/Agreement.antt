@@ -8,7 +8,7 @@ use native.Mathlib.Omega.{arith}
 use lib.Dec.{eqb}
 use Rattle.model.specs.Bits.{bit}
 use Rattle.model.specs.Netlist.{Netlist, Port, port, lastWire}
-use Rattle.model.specs.Circuit.{Values, code, addressOf, wordWritten, State, Feed, step, stateAt, run}
+use Rattle.model.specs.Circuit.{Values, code, addressOf, wordWritten, State, Feeds, step, stateAt, run}
 use Rattle.model.specs.Acceptance.{Accepted, CodesFit, IsCode}
 use Rattle.model.proofs.Bits.{fromBits-same, bit-fromBits}
 use Rattle.model.proofs.Circuit.{code-same, address-same}
@@ -52,7 +52,7 @@ abbrev pub wordBefore : Netlist → (ℕ → Values) → ℕ → ℕ → ℕ →
 wordBefore c u start x i = stepped start (writes c u x) (λ j. wordWritten c (u j)) i
 
 -- a run's memory is stepped through its writes
-pub memory-stepped : (c : Netlist) (s : State) (f : ℕ → Feed) (x i : ℕ)
+pub memory-stepped : (c : Netlist) (s : State) (f : Feeds) (x i : ℕ)
     → stateAt c s f i .memory x ≡ wordBefore c (run c s f) (s .memory x) x i
 unfolding stateAt step stepped writes run
 memory-stepped c s f x zero = refl

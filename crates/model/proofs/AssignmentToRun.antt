@@ -11,7 +11,7 @@ use lib.Dec.{eqb}
 use borrow.Author.Tests.{eqb-true, eq-eqb}
 use Rattle.model.specs.Bits.{bit, fromBits}
 use Rattle.model.specs.Netlist.{Netlist, Port, port, lastWire, readBits, inputWire, latchWire, readWire, gateWire}
-use Rattle.model.specs.Circuit.{Values, code, State, Feed, addressOf, readData, frame, wordWritten, step, stateAt, run, initial}
+use Rattle.model.specs.Circuit.{Values, code, State, addressOf, readData, frame, wordWritten, step, stateAt, run, initial}
 use Rattle.model.specs.Acceptance.{Accepted}
 use Rattle.model.specs.Clauses.{Literal, known, PairLiterals}
 use Rattle.model.specs.Variables.{base, codeIn, noneSince, readBit, pairLiterals, closingLiterals}
@@ -171,11 +171,11 @@ module _ (c : Netlist) (a : Assignment) where
       agree : (i : ℕ) → i < k + 1 → Same c (u i) (driven i)
       agree = agree-below (k + 1) (le-refl (k + 1))
 
-      pub assignment-agrees : Agrees c k a (feedOf c a)
+      pub assignment-agrees : Agrees c (initial c) k a (feedOf c a)
       unfolding Agrees
       assignment-agrees i d w l b = sym (assigned-wire c a i w l) ∙ agree i (omega arith) w b
 
-      pub assignment-breaks : Breaks c k (feedOf c a)
+      pub assignment-breaks : Breaks c (initial c) k (feedOf c a)
       unfolding Breaks
       assignment-breaks =
           let p = property-holds c a k .0 (holds .property) in

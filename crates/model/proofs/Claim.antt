@@ -6,7 +6,7 @@ use mathlib.Core.List.{List, [], _∷_, _++_, map}
 use mathlib.Core.Logic.{_↔_, Iff·trans, inl, inr, ⊎-elim}
 use lib.ListN.{length, length-map}
 use Rattle.model.specs.Netlist.{Netlist}
-use Rattle.model.specs.Circuit.{Feed, run, initial}
+use Rattle.model.specs.Circuit.{Feeds, run, initial}
 use Rattle.model.specs.Acceptance.{Accepted}
 use Rattle.model.specs.Clauses.{Clause, plus, gather}
 use Rattle.model.specs.Variables.{base}
@@ -89,5 +89,5 @@ encodes c ok k = encodes-depth ok k
 
 -- What a designer relies on: where no assignment satisfies the clauses of depth k, no run breaks the property up to frame k.
 pub unsatisfiable→safe : {c : Netlist} {k : ℕ} → Encodes c k → ((a : Assignment) → Satisfies c k a → ⊥)
-    → (f : ℕ → Feed) → Breaks c k f → ⊥
+    → (f : Feeds) → Breaks c (initial c) k f → ⊥
 unsatisfiable→safe e none f h = let found = e .run→assignment f h in none (found .0) (found .1)

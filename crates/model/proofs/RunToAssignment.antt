@@ -11,7 +11,7 @@ use lib.Dec.{eqb}
 use borrow.Author.Tests.{eqb-true, eq-eqb, ne-eqb}
 use Rattle.model.specs.Bits.{bit, fromBits}
 use Rattle.model.specs.Netlist.{Netlist, Port, port, lastWire, readBits, inputWire, latchWire, readWire, gateWire}
-use Rattle.model.specs.Circuit.{Values, code, State, Feed, addressOf, readData, frame, wordWritten, step, stateAt, run, initial}
+use Rattle.model.specs.Circuit.{Values, code, State, Feeds, addressOf, readData, frame, wordWritten, step, stateAt, run, initial}
 use Rattle.model.specs.Acceptance.{Accepted, IsCode}
 use Rattle.model.specs.Clauses.{Literal, known, PairLiterals}
 use Rattle.model.specs.Variables.{base, codeIn, noneSince, selected, readBit, pairLiterals, closingLiterals}
@@ -30,7 +30,7 @@ use Rattle.model.proofs.Agreement.{Same, code-agrees, word-bit, writes,
 use Rattle.model.proofs.Witness.{nones, witness, witness-one, witness-wire, witness-E, witness-e, witness-s, witness-PS, witness-S}
 use Rattle.model.proofs.Groups.{wires-hold, state-first-holds, state-later-holds, gateClauses-holds, resetClause-holds, latchClauses-holds, pair-holds, closing-holds, property-holds}
 
-module _ (c : Netlist) (ok : Accepted c) (f : ℕ → Feed) (k : ℕ) where
+module _ (c : Netlist) (ok : Accepted c) (f : Feeds) (k : ℕ) where
   -- the run's frames, and their witness
   abbrev u : ℕ → Values
   u = run c (initial c) f
@@ -176,7 +176,7 @@ module _ (c : Netlist) (ok : Accepted c) (f : ℕ → Feed) (k : ℕ) where
       }
 
   -- so does every group, where the run breaks the property
-  pub run-groups : Breaks c k f → EachGroup c k (Holds a)
+  pub run-groups : Breaks c (initial c) k f → EachGroup c k (Holds a)
   unfolding Breaks
   run-groups h =
       record {
@@ -187,6 +187,6 @@ module _ (c : Netlist) (ok : Accepted c) (f : ℕ → Feed) (k : ℕ) where
       }
 
   -- and the witness agrees with the run
-  pub run-agrees : Agrees c k a f
+  pub run-agrees : Agrees c (initial c) k a f
   unfolding Agrees
   run-agrees i d w lo hi = witness-wire c k u i w d lo hi

@@ -62,6 +62,10 @@ pub record Feed : Type 0 where
   pub input : ℕ → Bool
   pub idle : ℕ → Bool
 
+-- what a run is fed, frame by frame
+abbrev pub Feeds : Type 0
+Feeds = ℕ → Feed
+
 -- the address at a port
 unfoldable pub addressOf : Netlist → Port → Values → ℕ
 addressOf c p v = fromBits (c .m) (λ t. code v (p .address t))
@@ -90,11 +94,11 @@ step c s v =
     }
 
 -- the state in which frame i begins, and the values in frame i, of the run from state s
-unfoldable pub stateAt : Netlist → State → (ℕ → Feed) → ℕ → State
+unfoldable pub stateAt : Netlist → State → Feeds → ℕ → State
 stateAt c s f zero = s
 stateAt c s f (suc i) = step c (stateAt c s f i) (frame c (stateAt c s f i) (f i))
 
-unfoldable pub run : Netlist → State → (ℕ → Feed) → ℕ → Values
+unfoldable pub run : Netlist → State → Feeds → ℕ → Values
 run c s f i = frame c (stateAt c s f i) (f i)
 
 -- the state at the start: latches at their reset, each word the initial word
