@@ -5,6 +5,7 @@ use mathlib.Core.List.{List, [], _∷_}
 use mathlib.Core.Bool.{Bool, true, false}
 use lib.Dec.{ltb}
 use lib.ListN.{take, set}
+use Rattle.model.specs.Limits.{mostWires}
 use Rattle.lists.specs.declared.Gate.{Gate}
 use Rattle.lists.specs.declared.Latch.{Latch}
 
@@ -15,10 +16,10 @@ pairsOf first second (x ∷ xs) = first x ∷ second x ∷ pairsOf first second 
 
 -- A list's first 600 records. No size is above 600, so no later record counts.
 unfoldable pub gateCodes : List Gate → List ℕ
-gateCodes gates = pairsOf (λ (g : Gate). g .left .0) (λ (g : Gate). g .right .0) (take 600 gates)
+gateCodes gates = pairsOf (λ (g : Gate). g .left .0) (λ (g : Gate). g .right .0) (take mostWires gates)
 
 unfoldable pub latchCodes : List Latch → List ℕ
-latchCodes latches = pairsOf (λ (l : Latch). l .next .0) (λ (l : Latch). l .reset) (take 600 latches)
+latchCodes latches = pairsOf (λ (l : Latch). l .next .0) (λ (l : Latch). l .reset) (take mostWires latches)
 
 -- ---- the steps of unpacking, which only inner contracts cite
 -- record `at`'s two numbers put at its place
@@ -28,10 +29,10 @@ putPair at first second codes = set (set codes (2 * at) first) (2 * at + 1) seco
 -- how many records of a list of this length are looked at
 abbrev pub bounded : Bool → ℕ → ℕ
 bounded true n = n
-bounded false n = 600
+bounded false n = mostWires
 
 unfoldable pub spanOf : ℕ → ℕ
-spanOf n = bounded (ltb n 600) n
+spanOf n = bounded (ltb n mostWires) n
 
 -- what stands behind the end of a list (no place there is looked at)
 unfoldable pub noGate : Gate

@@ -1,4 +1,5 @@
 -- The definitions of document 01, in reading order. Nothing here imports a law or a proof.
+pub mod Limits
 pub mod Bits
 pub mod Netlist
 pub mod Circuit

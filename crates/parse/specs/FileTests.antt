@@ -5,6 +5,7 @@ use mathlib.Core.Bool.{Bool, true, false, not, _&&_, _||_}
 use mathlib.Core.List.{List}
 use lib.Dec.{eqb, ltb, leb}
 use lib.ListN.{length}
+use Rattle.model.specs.Limits.{lineBytes, mostBytes}
 use Rattle.model.specs.Netlist.{Netlist}
 use Rattle.refusals.specs.Tests.{refuseIf, _then_}
 use Rattle.refusals.specs.declared.Refusal.the-variants.{Misprint, OutOfOrder}
@@ -20,7 +21,7 @@ use Rattle.parse.specs.Files.{lineIn}
 
 -- 1: "file empty, not a multiple of 32 bytes, or over 19,680"
 unfoldable pub ragged : List ℕ → Bool
-ragged file = eqb (length file) 0 || not (eqb (length file % 32) 0) || ltb 19680 (length file)
+ragged file = eqb (length file) 0 || not (eqb (length file % lineBytes) 0) || ltb mostBytes (length file)
 
 -- 2: a line that is misprinted
 abbrev pub misprinted : ParsedLine → Bool

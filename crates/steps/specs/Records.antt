@@ -2,6 +2,7 @@
 -- Cited by `empty_net`, `refused`, and parse/specs/Files and sheet/specs/Codes. Assumes nothing.
 use Prim.Native.Nat.{ℕ}
 use mathlib.Core.List.{List, [], _∷_}
+use Rattle.model.specs.Limits.{mostAddressBits, mostDataBits}
 use Rattle.model.specs.Netlist as M
 use Rattle.model.specs.Clauses.{gather}
 use Rattle.literals.specs.declared.Code.{Code}
@@ -10,7 +11,7 @@ use Rattle.refusals.specs.declared.Verdict.the-variants.{Refused}
 use Rattle.netlist.specs.declared.Netlist.{Netlist}
 use Rattle.steps.specs.declared.SheetAnswer.{SheetAnswer}
 
--- the record of a netlist: arrays of 12 and 32 codes
+-- the record of a netlist: arrays of as many codes as there may be
 abbrev pub codeEntry : (ℕ → ℕ) → ℕ → List Code
 codeEntry f t = record { 0 = f t } ∷ []
 
@@ -23,8 +24,8 @@ recordOf c =
       m = c .m;
       n = c .n;
       «initial_word» = c .initialWord;
-      address = gather 12 (codeEntry (c .address));
-      «write_data» = gather 32 (codeEntry (c .writeData));
+      address = gather mostAddressBits (codeEntry (c .address));
+      «write_data» = gather mostDataBits (codeEntry (c .writeData));
       we = record { 0 = c .WE };
       re = record { 0 = c .RE };
       p = record { 0 = c .P };
