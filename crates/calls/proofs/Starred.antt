@@ -18,7 +18,7 @@ use Rattle.fields.specs.Fields.{dropSpaces, filledWith, behindSpaces, fieldOf}
 use Rattle.lines.specs.Letters.{kindOf, isFilled}
 use Rattle.lines.specs.Lines.{fieldIn, allAsWanted, lineWith, lineOf, columnText, lineText}
 use Rattle.lines.specs.Depth.{valueAnswer, depthAnswer}
-use Rattle.steps.specs.Steps.{faultsAt}
+use Rattle.steps.specs.LineFaults.{faultsAt}
 use Rattle.parse.specs.Files.{lineIn, sizesIn, netOfLines, netIn}
 use Rattle.parse.specs.FileTests.{ragged, notDue, testLineIn}
 use Rattle.sheet.specs.Sheet.{endVerdict, fileVerdict, sheetVerdict}

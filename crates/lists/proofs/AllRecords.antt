@@ -48,7 +48,8 @@ use denote.Triple.Spec.{Meets, tripleOf}
 use denote.Triple.Statement.{Triple}
 use denote.Triple.Walked.{says, Stays, stay-none-slice, stay-ref, walkOf, goes-none-slice, goes-ref, ends-at}
 use denote.Exit.{yes}
-use Rattle.lists.specs.Unpacked.{pairsOf, putPair, spanOf}
+use Rattle.lists.specs.Unpacked.{pairsOf}
+use Rattle.lists.specs.Unpacking.{putPair, spanOf}
 use Rattle.model.specs.Wrote.{over}
 use Rattle.lists.proofs.Unpacked.{unpackedTo, unpackedTo-none, unpackedTo-next, unpackedTo-all, span-within}
 use Rattle.lists.proofs.OneRecord as one

@@ -43,7 +43,7 @@ use denote.Triple.Spec.{Meets, tripleOf}
 use denote.Triple.Statement.{Triple}
 use denote.Triple.Walked.{says, needs, Stays, stay-none, stay-none-slice, gave-ref, walkOf, goes-none, goes-none-slice, goes-gave-ref, ends-at}
 use denote.Exit.{yes}
-use Rattle.lists.specs.Unpacked.{putPair}
+use Rattle.lists.specs.Unpacking.{putPair}
 use Rattle.lists.proofs.Walk.{calls-told, frees-at, meets-of}
 use Rattle.lists.proofs.unpack.put_pair as put
 use Rattle.lists.proofs.unpack.put_pair.Symbol.{name as #put}

@@ -10,7 +10,8 @@ use borrow.Author.Tests.{ltb-true, ltb-false}
 use lib.Dec.{ltb}
 use lib.ListN.{length, take, drop, getD, replicate}
 use lib.Seq.{drop-nil, take-all, take-length, length-take-le}
-use Rattle.lists.specs.Unpacked.{pairsOf, putPair, bounded, spanOf}
+use Rattle.lists.specs.Unpacked.{pairsOf}
+use Rattle.lists.specs.Unpacking.{putPair, bounded, spanOf}
 use Rattle.model.specs.Wrote.{over}
 
 -- no more records are looked at than there are, and no more than 600

@@ -5,7 +5,8 @@ use crate::Latch;
 ghost use mathlib.Core.Path.{_≡_};
 ghost use Prim.Native.Nat.{_<_};
 ghost use lib.ListN.{length, getD};
-ghost use Rattle.lists.specs.Unpacked.{putPair, noGate, noLatch, spanOf, gateCodes, latchCodes};
+ghost use Rattle.lists.specs.Unpacked.{gateCodes, latchCodes};
+ghost use Rattle.lists.specs.Unpacking.{putPair, noGate, noLatch, spanOf};
 ghost use Rattle.model.specs.Wrote.{over};
 
 // Puts a record's two numbers at its place.

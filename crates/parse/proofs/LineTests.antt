@@ -34,7 +34,8 @@ use Rattle.steps.specs.declared.SheetAnswer.{SheetAnswer}
 use Rattle.parse.specs.Files.{lineCount, lineIn, sizesIn, netIn}
 use Rattle.steps.specs.Due.{kindDue}
 use Rattle.parse.specs.FileTests.{misprinted, isOf, notDue, testLineIn}
-use Rattle.steps.specs.Steps.{stepNet, stepVerdict, faultsAt, SizesKnown, Outcome}
+use Rattle.steps.specs.LineFaults.{faultsAt}
+use Rattle.steps.specs.Steps.{stepNet, stepVerdict, SizesKnown, Outcome}
 use Rattle.parse.specs.Progress.{netTo, ReadTo}
 use Rattle.steps.proofs.Places.{placeOf, place-lineAt, sizesFit-same}
 use Rattle.parse.proofs.Files.{stored-next, lineAt-in, controlLine-in, sizes-to, due-to, past-to, sizeFault-to, codeFault-to, netTo-all, WholeLines}

@@ -16,7 +16,7 @@ use Rattle.lines.specs.declared.Kind.{Kind}
 use Rattle.lines.specs.declared.ParsedLine.{ParsedLine}
 use Rattle.lines.specs.declared.ParsedLine.the-variants as ParsedLine
 use Rattle.steps.specs.Due.{kindDue}
-use Rattle.steps.specs.Steps.{faultsAt}
+use Rattle.steps.specs.LineFaults.{faultsAt}
 use Rattle.parse.specs.Files.{lineIn}
 
 -- 1: "file empty, not a multiple of 32 bytes, or over 19,680"

@@ -9,7 +9,7 @@ use lib.ListN.{length, take, drop}
 use Rattle.model.specs.Limits.{lineBytes}
 use Rattle.model.specs.Netlist.{Netlist}
 use Rattle.netlist.specs.Lines.{sizesLine, memoryLine, latchLine, gateLine, addressLine, dataLine, controlLine}
-use Rattle.steps.specs.Records.{withoutCodes}
+use Rattle.netlist.specs.RecordOf.{withoutCodes}
 use Rattle.lines.specs.Lines.{lineOf}
 use Rattle.lines.specs.declared.ParsedLine.{ParsedLine}
 use Rattle.lines.specs.declared.ParsedLine.the-variants.{Misprint, Read}

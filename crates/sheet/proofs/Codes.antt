@@ -25,13 +25,14 @@ use Rattle.netlist.proofs.Faults.{Without, codes-fit, no-loop}
 use Rattle.records.specs.Record.{testLines}
 use Rattle.records.proofs.Record.{testLines-passes}
 use Rattle.records.proofs.Acceptance.{passes-accepted}
-use Rattle.steps.specs.Records.{recordOf, refusedAt}
+use Rattle.netlist.specs.RecordOf.{recordOf}
+use Rattle.steps.specs.Records.{recordBeside, refusedAt}
 use Rattle.steps.specs.Steps.{FullLength, Holds}
 use Rattle.parse.specs.Files.{lineCount, netIn}
 use Rattle.parse.specs.FileTests.{ragged, testLineIn}
 use Rattle.parse.proofs.LineTests.{line-passed, sizes-passed}
 use Rattle.sheet.specs.Sheet.{endVerdict, fileVerdict, sheetVerdict}
-use Rattle.sheet.specs.Codes.{recordBeside, CodesRead}
+use Rattle.sheet.specs.Codes.{CodesRead}
 use Rattle.sheet.proofs.Lists.{gather-all}
 
 -- the file's netlist, where all tests of the file pass

@@ -8,7 +8,7 @@ use lib.Seq.{take-suc, take-all}
 use Rattle.model.specs.Clauses.{gather}
 use Rattle.literals.specs.declared.Code.{Code}
 use Rattle.netlist.specs.NetOf.{codeOf}
-use Rattle.steps.specs.Records.{codeEntry}
+use Rattle.netlist.specs.RecordOf.{codeEntry}
 
 -- the codes of a record's array, gathered again
 pub gather-codes : (xs : List Code) (n : ℕ) → n ≤ length xs → gather n (codeEntry (codeOf xs)) ≡ take n xs

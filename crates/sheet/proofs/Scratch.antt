@@ -19,7 +19,7 @@ use Rattle.netlist.specs.declared.Netlist.{Netlist}
 use Rattle.netlist.proofs.NetOf.{sizes-lists, limits-without-latches}
 use Rattle.netlist.proofs.Lines.{every-place}
 use Rattle.netlist.proofs.Faults.{Without, codes-fit}
-use Rattle.steps.specs.Records.{recordOf, noNetlist}
+use Rattle.netlist.specs.RecordOf.{recordOf, noNetlist}
 use Rattle.lines.specs.declared.ParsedLine.{ParsedLine}
 use Rattle.lines.specs.declared.ParsedLine.the-variants.{Misprint}
 use lib.Dec.{ltb}

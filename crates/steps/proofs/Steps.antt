@@ -23,7 +23,8 @@ use Rattle.netlist.specs.NetOf.{codeOf, firstAt, secondAt, netOf, alone}
 use Rattle.netlist.specs.declared.Netlist.{Netlist}
 use Rattle.netlist.specs.declared.Line.the-variants.{Latch, Gate}
 use Rattle.steps.specs.Due.{kindDue}
-use Rattle.steps.specs.Steps.{stored, stepNet, stepVerdict, faultsAt, SizesKnown, FullLength, Holds, Outcome}
+use Rattle.steps.specs.Steps.{stored, stepNet, stepVerdict, SizesKnown, FullLength, Holds, Outcome}
+use Rattle.steps.specs.LineFaults.{faultsAt}
 use Rattle.steps.specs.Records.{refusedAt}
 use Rattle.steps.proofs.Places.{codes-from-3, sizesOf, SameSizes, sizesFit-same, lineAt-known}
 use Rattle.refusals.specs.Tests.{_then_}

@@ -1,7 +1,7 @@
 -- `lists::unpack::put_pair` meets its contract: two stores. Assumes nothing.
 use mathlib.Core.Path.{refl}
 use borrow.Author.Needs.{needs}
-use Rattle.lists.specs.Unpacked.{putPair}
+use Rattle.lists.specs.Unpacking.{putPair}
 use Rattle.lists.proofs.unpack.put_pair.Statement.{statement}
 use Rattle.lists.proofs.unpack.put_pair.Tie as tie
 
