@@ -2,7 +2,7 @@
 -- change"). Cited by the functions that deliver and by reader/specs/ReadCall. Assumes nothing.
 use Prim.Native.Nat.{ℕ}
 use mathlib.Core.List.{List, [], _∷_}
-use Rattle.model.specs.Clauses.{gather}
+use Rattle.model.specs.Gather.{gather}
 use Rattle.model.specs.Wrote.{over}
 
 -- the first n records of f

@@ -8,7 +8,8 @@ use lib.ListN.{length, length-map}
 use Rattle.model.specs.Netlist.{Netlist}
 use Rattle.model.specs.Circuit.{Feeds, run, initial}
 use Rattle.model.specs.Acceptance.{Accepted}
-use Rattle.model.specs.Clauses.{Clause, plus, gather}
+use Rattle.model.specs.Gather.{gather}
+use Rattle.model.specs.Clauses.{Clause, plus}
 use Rattle.model.specs.Variables.{base}
 use Rattle.model.specs.Groups.{clausesOf, groupOrder, stateClauses}
 use Rattle.model.specs.Numbers.{Assignment, numberOf, written, formula, clausesIn, numberTrue, allTrue}

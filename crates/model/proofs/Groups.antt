@@ -9,10 +9,11 @@ use native.Mathlib.Omega.{arith}
 use lib.Dec.{eqb}
 use borrow.Author.Tests.{not-true}
 use Rattle.model.specs.Netlist.{Netlist, port, latchWire, gateWire}
-use Rattle.model.specs.Circuit.{code}
-use Rattle.model.specs.Clauses.{Literal, plus, neg, gather}
+use Rattle.model.specs.Circuit.{codeValue}
+use Rattle.model.specs.Gather.{gather}
+use Rattle.model.specs.Clauses.{Literal, plus, neg}
 use Rattle.model.specs.Variables.{wireIn, codeIn, pairLiterals, closingLiterals}
-use Rattle.model.specs.Groups.{gateClauses, resetClause, latchClauses, stateClauses, violationOf, clausesOf}
+use Rattle.model.specs.Groups.{gateClauses, resetClauses, latchClauses, stateClauses, violationOf, clausesOf}
 use Rattle.model.specs.Numbers.{Assignment}
 use Rattle.model.specs.declared.Group.the-variants.{Wires, Pair, Closing, Property}
 use Rattle.model.proofs.Booleans.{eq-iff}
@@ -22,17 +23,17 @@ use Rattle.model.proofs.InFrame.{assigned, wireIn-value, codeIn-value}
 -- a gate is the conjunction of its two codes
 pub gateClauses-holds : (c : Netlist) (a : Assignment) (i g : ℕ)
     → Holds a (gateClauses c i g)
-    ↔ (assigned c a i (gateWire c g) ≡ (code (assigned c a i) (c .left g) && code (assigned c a i) (c .right g)))
+    ↔ (assigned c a i (gateWire c g) ≡ (codeValue (assigned c a i) (c .left g) && codeValue (assigned c a i) (c .right g)))
 unfolding gateClauses
 gateClauses-holds c a i g =
     rw (← wireIn-value c a i (gateWire c g) (omega arith), ← codeIn-value c a i (c .left g), ← codeIn-value c a i (c .right g))
     (andClauses-holds a (wireIn c i (gateWire c g)) (codeIn c i (c .left g)) (codeIn c i (c .right g)))
 
 -- in frame 0 a latch is its reset
-pub resetClause-holds : (c : Netlist) (a : Assignment) (l : ℕ)
-    → Holds a (resetClause c l) ↔ (assigned c a 0 (latchWire c l) ≡ eqb (c .reset l) 1)
-unfolding resetClause
-resetClause-holds c a l =
+pub resetClauses-holds : (c : Netlist) (a : Assignment) (l : ℕ)
+    → Holds a (resetClauses c l) ↔ (assigned c a 0 (latchWire c l) ≡ eqb (c .reset l) 1)
+unfolding resetClauses
+resetClauses-holds c a l =
     rw (← wireIn-value c a 0 (latchWire c l) (omega arith))
     (Iff·trans (holds-one a _) (rw (anyTrue-one a) (signed (eqb (c .reset l) 1))))
   where
@@ -46,21 +47,21 @@ resetClause-holds c a l =
 
 -- in a later frame a latch is what its next code was in the frame before
 pub latchClauses-holds : (c : Netlist) (a : Assignment) (i l : ℕ)
-    → Holds a (latchClauses c i l) ↔ (assigned c a (i + 1) (latchWire c l) ≡ code (assigned c a i) (c .next l))
+    → Holds a (latchClauses c i l) ↔ (assigned c a (i + 1) (latchWire c l) ≡ codeValue (assigned c a i) (c .next l))
 unfolding latchClauses
 latchClauses-holds c a i l =
     rw (← wireIn-value c a (i + 1) (latchWire c l) (omega arith), ← codeIn-value c a i (c .next l))
     (sameClauses-holds a (wireIn c (i + 1) (latchWire c l)) (codeIn c i (c .next l)))
 
 -- P is false in some frame below n
-pub violationOf-value : (c : Netlist) (a : Assignment) (i : ℕ) → anyTrue a (violationOf c i) ≡ not (code (assigned c a i) (c .P))
+pub violationOf-value : (c : Netlist) (a : Assignment) (i : ℕ) → anyTrue a (violationOf c i) ≡ not (codeValue (assigned c a i) (c .P))
 unfolding violationOf
 violationOf-value c a i = anyTrue-one a (neg (codeIn c i (c .P))) ∙ value-neg a (codeIn c i (c .P)) ∙ ap not (codeIn-value c a i (c .P))
 
 pub violationOf-holds : (c : Netlist) (a : Assignment) (n : ℕ)
-    → (anyTrue a (gather n (violationOf c)) ≡ true) ↔ ((i : ℕ) × (i < n) × (code (assigned c a i) (c .P) ≡ false))
+    → (anyTrue a (gather n (violationOf c)) ≡ true) ↔ ((i : ℕ) × (i < n) × (codeValue (assigned c a i) (c .P) ≡ false))
 violationOf-holds c a n = (
-  λ h. let p = anyTrue-gather a n (violationOf c) .0 h in (p .0, p .1, not-true (code (assigned c a (p .0)) (c .P)) (sym (violationOf-value c a (p .0)) ∙ p .2)),
+  λ h. let p = anyTrue-gather a n (violationOf c) .0 h in (p .0, p .1, not-true (codeValue (assigned c a (p .0)) (c .P)) (sym (violationOf-value c a (p .0)) ∙ p .2)),
   λ h. anyTrue-gather a n (violationOf c) .1 (h .0, h .1, violationOf-value c a (h .0) ∙ ap not (h .2)),
 )
 
@@ -71,7 +72,7 @@ unfolding clausesOf
 wires-hold c a k i = simp (holds-append a, holds-gather a) (λ h. search, λ h. search)
 
 pub state-first-holds : (c : Netlist) (a : Assignment)
-    → Holds a (stateClauses c 0) ↔ ((a 1 ≡ true) × ((l : ℕ) → l < c .latches → Holds a (resetClause c l)))
+    → Holds a (stateClauses c 0) ↔ ((a 1 ≡ true) × ((l : ℕ) → l < c .latches → Holds a (resetClauses c l)))
 unfolding stateClauses
 state-first-holds c a =
     simp (holds-append a, holds-cons a, holds-none a, holds-gather a, anyTrue-one a, plus-one) (λ h. search, λ h. search)
@@ -95,6 +96,6 @@ unfolding clausesOf
 closing-holds c a k i = closingClauses-holds a (c .n) i (closingLiterals c (port c) i)
 
 pub property-holds : (c : Netlist) (a : Assignment) (k : ℕ)
-    → Holds a (clausesOf c k Property) ↔ ((i : ℕ) × (i < k + 1) × (code (assigned c a i) (c .P) ≡ false))
+    → Holds a (clausesOf c k Property) ↔ ((i : ℕ) × (i < k + 1) × (codeValue (assigned c a i) (c .P) ≡ false))
 unfolding clausesOf
 property-holds c a k = Iff·trans (holds-one a (gather (k + 1) (violationOf c))) (violationOf-holds c a (k + 1))

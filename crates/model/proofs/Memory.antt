@@ -3,19 +3,19 @@ use Prim.Native.Nat.{ℕ, zero, suc, _^_, _<_}
 use mathlib.Core.Bool.{Bool, true, false, cond, _&&_}
 use lib.Dec.{eqb}
 use Rattle.model.specs.Netlist.{Netlist, Port, port}
-use Rattle.model.specs.Circuit.{Values, code, State, Feeds, addressOf, frame, wordWritten, step, stateAt, initial}
+use Rattle.model.specs.Circuit.{Values, codeValue, State, Feeds, addressOf, frame, wordWritten, step, stateAt, initial}
 use Rattle.model.specs.Acceptance.{Accepted}
 use Rattle.model.proofs.Bits.{fromBits-below}
 
 -- every address is below 2^m
 pub address-below : (c : Netlist) (p : Port) (v : Values) → addressOf c p v < 2 ^ c .m
 unfolding addressOf
-address-below c p v = fromBits-below (c .m) (λ t. code v (p .address t))
+address-below c p v = fromBits-below (c .m) (λ t. codeValue v (p .address t))
 
 -- every word written is below 2^n
 pub wordWritten-below : (c : Netlist) (v : Values) → wordWritten c v < 2 ^ c .n
 unfolding wordWritten
-wordWritten-below c v = fromBits-below (c .n) (λ t. code v (c .writeData t))
+wordWritten-below c v = fromBits-below (c .n) (λ t. codeValue v (c .writeData t))
 
 -- every word of the memory is below 2^n
 abbrev pub WordsFit : Netlist → State → Type 0
@@ -24,7 +24,7 @@ WordsFit c s = (x : ℕ) → s .memory x < 2 ^ c .n
 -- after a frame, words below 2^n are still so
 pub step-fits : (c : Netlist) (s : State) (v : Values) → WordsFit c s → WordsFit c (step c s v)
 unfolding step
-step-fits c s v h x = written (code v (c .WE) && eqb x (addressOf c (port c) v))
+step-fits c s v h x = written (codeValue v (c .WE) && eqb x (addressOf c (port c) v))
   where
     written : (b : Bool) → cond b (wordWritten c v) (s .memory x) < 2 ^ c .n
     written true = wordWritten-below c v

@@ -7,7 +7,8 @@ use mathlib.Core.List.{List, [], _∷_, _++_}
 use mathlib.Core.Logic.{_⊎_, inl, inr, _↔_, Iff·trans, Iff·and, ⊎-elim, ⊎-map}
 use native.Mathlib.Nat.{not-suc-le-zero, lt-suc-self, le-step}
 use native.Mathlib.Omega.{arith}
-use Rattle.model.specs.Clauses.{Literal, known, plus, minus, Clause, neg, gather, andClauses, sameClauses, sameIf, bitClauses, PairLiterals, bitOf, unequalOf, allBits, forwarded, pairClauses, ClosingLiterals, initialRead, selectedOf, someSource, closingClauses}
+use Rattle.model.specs.Gather.{gather}
+use Rattle.model.specs.Clauses.{Literal, known, plus, minus, Clause, neg, andClauses, sameClauses, sameIfClauses, bitClauses, PairLiterals, addressBitClauses, unequalOf, allBits, forwardedClauses, pairClauses, ClosingLiterals, initialReadClauses, selectedOf, someSource, closingClauses}
 use Rattle.model.specs.Numbers.{Assignment}
 use borrow.Author.Tests.{not-true, not-false}
 use Rattle.model.proofs.Below.{below-suc}
@@ -146,17 +147,17 @@ sameClauses-holds a q d =
     test q d = allHold a (sameClauses (known q) (known d))
 
 -- where p is true, x = y
-pub sameIf-holds : (a : Assignment) (p x y : Literal)
-    → Holds a (sameIf p x y) ↔ (value a p ≡ true → value a x ≡ value a y)
-unfolding sameIf neg everyOf someOf value
-sameIf-holds a p x y =
+pub sameIfClauses-holds : (a : Assignment) (p x y : Literal)
+    → Holds a (sameIfClauses p x y) ↔ (value a p ≡ true → value a x ≡ value a y)
+unfolding sameIfClauses neg everyOf someOf value
+sameIfClauses-holds a p x y =
     simp (value-neg a)
     (Iff·trans
     (eq-iff (tables-equal (λ _. test) (λ _ p x y. not p || Bool·beq x y) refl true (value a p) (value a x) (value a y)))
     (equal-if (value a p) (value a x) (value a y)))
   where
     test : Bool → Bool → Bool → Bool
-    test p x y = allHold a (sameIf (known p) (known x) (known y))
+    test p x y = allHold a (sameIfClauses (known p) (known x) (known y))
 
 -- one address bit: E only where the two bits are equal, e wherever they are
 pub bitClauses-holds : (a : Assignment) (E e x y : Literal)
@@ -221,22 +222,22 @@ allBits-holds a m x =
     from (inl h) f = inl h
     from (inr h) f = inr (f (no-unequalOf a m x h))
 
-pub bitOf-holds : (a : Assignment) (x : PairLiterals) (t : ℕ)
-    → Holds a (bitOf x t)
+pub addressBitClauses-holds : (a : Assignment) (x : PairLiterals) (t : ℕ)
+    → Holds a (addressBitClauses x t)
     ↔ ((value a (x .E) ≡ true → value a (x .Aj t) ≡ value a (x .Ai t)) × (value a (x .Aj t) ≡ value a (x .Ai t) → value a (x .e t) ≡ true))
-unfolding bitOf
-bitOf-holds a x t = bitClauses-holds a (x .E) (x .e t) (x .Aj t) (x .Ai t)
+unfolding addressBitClauses
+addressBitClauses-holds a x t = bitClauses-holds a (x .E) (x .e t) (x .Aj t) (x .Ai t)
 
-pub forwarded-holds : (a : Assignment) (x : PairLiterals) (t : ℕ)
-    → Holds a (forwarded x t) ↔ (value a (x .S) ≡ true → value a (x .RD t) ≡ value a (x .WD t))
-unfolding forwarded
-forwarded-holds a x t = Iff·trans (sameIf-holds a _ _ _) (λ h e. let q = h e in (cc), λ h e. let q = h e in (cc))
+pub forwardedClauses-holds : (a : Assignment) (x : PairLiterals) (t : ℕ)
+    → Holds a (forwardedClauses x t) ↔ (value a (x .S) ≡ true → value a (x .RD t) ≡ value a (x .WD t))
+unfolding forwardedClauses
+forwardedClauses-holds a x t = Iff·trans (sameIfClauses-holds a _ _ _) (λ h e. let q = h e in (cc), λ h e. let q = h e in (cc))
 
 pub pairClauses-holds : (a : Assignment) (m n : ℕ) (x : PairLiterals) → Holds a (pairClauses m n x) ↔ PairHolds a m n x
 unfolding pairClauses
 pairClauses-holds a m n x =
     simp
-    (holds-append a, holds-cons a, holds-none a, holds-gather a, allBits-holds a, bitOf-holds a, forwarded-holds a, andClauses-holds a, value-neg a)
+    (holds-append a, holds-cons a, holds-none a, holds-gather a, allBits-holds a, addressBitClauses-holds a, forwardedClauses-holds a, andClauses-holds a, value-neg a)
     (λ h. search, λ h. search)
 
 -- The closing's clauses hold exactly where all of this does.
@@ -244,10 +245,10 @@ pub record ClosingHolds (a : Assignment) (n i : ℕ) (x : ClosingLiterals) : Typ
   pub initial-where-Z : (t : ℕ) → t < n → value a (x .Z) ≡ true → value a (x .RD t) ≡ value a (x .W t)
   pub source-where-RE : value a (x .RE) ≡ true → (value a (x .Z) ≡ true) ⊎ ((j : ℕ) × (j < i) × (value a (x .S j) ≡ true))
 
-pub initialRead-holds : (a : Assignment) (x : ClosingLiterals) (t : ℕ)
-    → Holds a (initialRead x t) ↔ (value a (x .Z) ≡ true → value a (x .RD t) ≡ value a (x .W t))
-unfolding initialRead
-initialRead-holds a x t = Iff·trans (sameIf-holds a _ _ _) (λ h e. let q = h e in (cc), λ h e. let q = h e in (cc))
+pub initialReadClauses-holds : (a : Assignment) (x : ClosingLiterals) (t : ℕ)
+    → Holds a (initialReadClauses x t) ↔ (value a (x .Z) ≡ true → value a (x .RD t) ≡ value a (x .W t))
+unfolding initialReadClauses
+initialReadClauses-holds a x t = Iff·trans (sameIfClauses-holds a _ _ _) (λ h e. let q = h e in (cc), λ h e. let q = h e in (cc))
 
 pub selectedOf-holds : (a : Assignment) (x : ClosingLiterals) (j : ℕ) → anyTrue a (selectedOf x j) ≡ value a (x .S j)
 unfolding selectedOf
@@ -282,5 +283,5 @@ pub closingClauses-holds : (a : Assignment) (n i : ℕ) (x : ClosingLiterals)
     → Holds a (closingClauses n i x) ↔ ClosingHolds a n i x
 unfolding closingClauses
 closingClauses-holds a n i x =
-    simp (holds-append a, holds-cons a, holds-none a, holds-gather a, initialRead-holds a, someSource-holds a)
+    simp (holds-append a, holds-cons a, holds-none a, holds-gather a, initialReadClauses-holds a, someSource-holds a)
     (λ h. search, λ h. search)

@@ -15,7 +15,7 @@ use mathlib.Core.Logic.{_↔_}
 use lib.IntN.{natAbs, pos}
 use lib.ListN.{length, getD}
 use Rattle.model.specs.Netlist.{Netlist, port, inputWire, readWire, lastWire}
-use Rattle.model.specs.Circuit.{State, Feeds, code, addressOf, stateAt, run, initial, dependsOnRead, ReadPath}
+use Rattle.model.specs.Circuit.{State, Feeds, codeValue, addressOf, stateAt, run, initial, dependsOnRead, ReadPath}
 use Rattle.model.specs.Acceptance.{Accepted}
 use Rattle.model.specs.Variables.{base, Numbered}
 use Rattle.model.specs.Groups.{inDepth}
@@ -37,7 +37,7 @@ Agrees c s k a f = (i : ℕ) → i ≤ k → (w : ℕ) → 1 ≤ w → w ≤ las
 -- the run from state s breaks the property in at least one frame from 0 to k: P is false there (a counterexample; AIGER's "bad"
 -- is ¬P)
 unfoldable pub Breaks : Netlist → State → ℕ → Feeds → Type 0
-Breaks c s k f = (i : ℕ) × (i ≤ k) × (code (run c s f i) (c .P) ≡ false)
+Breaks c s k f = (i : ℕ) × (i ≤ k) × (codeValue (run c s f i) (c .P) ≡ false)
 
 -- demand 3
 pub record Encodes (c : Netlist) (k : ℕ) : Type 0 where

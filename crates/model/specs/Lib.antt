@@ -4,6 +4,7 @@ pub mod Bits
 pub mod Netlist
 pub mod Circuit
 pub mod Acceptance
+pub mod Gather
 pub mod Clauses
 pub mod Variables
 pub mod Groups

@@ -4,7 +4,7 @@ use Prim.Native.Nat.{ℕ}
 use mathlib.Core.List.{List, [], _∷_}
 use Rattle.model.specs.Limits.{mostAddressBits, mostDataBits}
 use Rattle.model.specs.Netlist as M
-use Rattle.model.specs.Clauses.{gather}
+use Rattle.model.specs.Gather.{gather}
 use Rattle.literals.specs.declared.Code.{Code}
 use Rattle.netlist.specs.declared.Netlist.{Netlist}
 

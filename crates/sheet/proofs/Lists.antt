@@ -5,7 +5,7 @@ use mathlib.Core.List.{List}
 use native.Mathlib.Omega.{arith}
 use lib.ListN.{length, take}
 use lib.Seq.{take-suc, take-all}
-use Rattle.model.specs.Clauses.{gather}
+use Rattle.model.specs.Gather.{gather}
 use Rattle.literals.specs.declared.Code.{Code}
 use Rattle.netlist.specs.NetOf.{codeOf}
 use Rattle.netlist.specs.RecordOf.{codeEntry}

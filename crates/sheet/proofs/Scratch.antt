@@ -9,7 +9,7 @@ use lib.ListN.{getD, replicate, length-replicate}
 use Rattle.refusals.specs.Tests.{inOrder, _then_}
 use Rattle.refusals.specs.declared.Verdict.the-variants.{Passed}
 use Rattle.model.specs.Netlist as M
-use Rattle.model.specs.Clauses.{gather}
+use Rattle.model.specs.Gather.{gather}
 use Rattle.model.specs.Acceptance.{SizesFit, WithinLimits}
 use Rattle.literals.specs.declared.Code.{Code}
 use Rattle.netlist.specs.NetOf.{codeOf, netOf}

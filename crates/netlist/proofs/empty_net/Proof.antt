@@ -1,6 +1,6 @@
 -- `netlist::empty_net` meets its contract: no code is 0 twelve and thirty-two times. Assumes nothing.
 use mathlib.Core.Path.{refl}
-use Rattle.model.specs.Clauses.{gather}
+use Rattle.model.specs.Gather.{gather}
 use Rattle.netlist.specs.RecordOf.{recordOf}
 use Rattle.netlist.proofs.empty_net.Statement.{statement}
 use Rattle.netlist.proofs.empty_net.Tie as tie
