@@ -21,9 +21,9 @@ anyLatch last latches count = anyBelow count (λ l. latchFault last (firstAt lat
 unfoldable pub anyGate : ℕ → List ℕ → ℕ → Bool
 anyGate first gates count = anyBelow count (λ g. gateFault (first + g) (firstAt gates g) (secondAt gates g))
 
--- whether any code of lines A and D, or of line C, is outside its limit
-unfoldable pub anyInPort : ℕ → Netlist → Bool
-anyInPort last c =
+-- of the codes that the record itself holds, those of lines A, D and C: whether any is outside its limit
+unfoldable pub anyInRecord : ℕ → Netlist → Bool
+anyInRecord last c =
     anyBelow (c .m) (λ t. codeOutside last (c .address t))
     || anyBelow (c .n) (λ t. codeOutside last (c .writeData t))
     || (codeOutside last (c .WE) || codeOutside last (c .RE) || codeOutside last (c .P))
