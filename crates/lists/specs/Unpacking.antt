@@ -9,8 +9,8 @@ use Rattle.lists.specs.declared.Gate.{Gate}
 use Rattle.lists.specs.declared.Latch.{Latch}
 
 -- record `at`'s two numbers put at its place
-unfoldable pub putPair : ℕ → ℕ → ℕ → List ℕ → List ℕ
-putPair at first second codes = set (set codes (2 * at) first) (2 * at + 1) second
+unfoldable pub putNumbers : ℕ → ℕ → ℕ → List ℕ → List ℕ
+putNumbers at first second codes = set (set codes (2 * at) first) (2 * at + 1) second
 
 -- how many records of a list of this length are looked at
 abbrev pub bounded : Bool → ℕ → ℕ

@@ -21,7 +21,7 @@ use Rattle.model.proofs.Below.{all-below-suc}
 use Rattle.model.proofs.Booleans.{and-true, iff-eq}
 use Rattle.model.proofs.Bits.{fromBits-same, bit-fromBits}
 use Rattle.model.proofs.Circuit.{code-same, IsFrame, frame-unique}
-use Rattle.model.proofs.Truth.{value, Holds, PairHolds, ClosingHolds}
+use Rattle.model.proofs.Truth.{value, AllHold, PairHolds, ClosingHolds}
 use Rattle.model.proofs.InFrame.{assigned, assigned-zero, assigned-wire, readBit-value, codeIn-value}
 use Rattle.model.proofs.Forwarding.{stepped, Chain, selected-read}
 use Rattle.model.proofs.Variables.{noneSince-last}
@@ -62,7 +62,7 @@ module _ (c : Netlist) (a : Assignment) where
       h .valid ∙ and-comm (value a (literals j i .E)) (value a (literals j i .WE))
       ∙ ap₂ _&&_ (codeIn-value c a j (c .WE)) (E-value j i h)
 
-  module _ (k : ℕ) (holds : EachGroup c k (Holds a)) where
+  module _ (k : ℕ) (holds : EachGroup c k (AllHold a)) where
     pair-at : (j i : ℕ) → j < i → i ≤ k → PairHolds a (c .m) (c .n) (literals j i)
     pair-at j i b d = pair-holds c a k j i .0 (holds .pairs j i b d)
 

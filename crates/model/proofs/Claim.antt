@@ -20,7 +20,7 @@ use Rattle.model.proofs.Gather.{Splits}
 use Rattle.model.proofs.Variables.{base-least}
 use Rattle.model.proofs.Joined.{joinedClauses, formula-written, EachGroup, each-group}
 use Rattle.model.proofs.Bounds.{formula-within}
-use Rattle.model.proofs.Truth.{value, someOf, everyOf, everyOf-splits, everyOf-same, Holds, holds-splits}
+use Rattle.model.proofs.Truth.{value, someOf, everyOf, everyOf-splits, everyOf-same, AllHold, allHold-splits}
 use Rattle.model.proofs.Numbers.{clausesIn-written, numberValue, allTrue-numbers, number-value, number-same}
 use Rattle.model.proofs.Groups.{wires-hold, state-first-holds}
 use Rattle.model.proofs.AssignmentToRun.{assignment-agrees, assignment-breaks}
@@ -44,12 +44,12 @@ module _ {c : Netlist} (ok : Accepted c) (k : ℕ) where
   first-clause a h = sym (or-false (a 1)) ∙ and-true (a 1 || false) _ .0 h .0
 
   -- where variable 1 is true, they are true where each group holds
-  satisfies-groups : (a : Assignment) → a 1 ≡ true → Satisfies c k a ↔ EachGroup c k (Holds a)
+  satisfies-groups : (a : Assignment) → a 1 ≡ true → Satisfies c k a ↔ EachGroup c k (AllHold a)
   unfolding Satisfies
   satisfies-groups a one =
       Iff·trans
       (eq-iff (satisfies-numbers a ∙ everyOf-same (numberValue a) (value a) _ (number-value a one (base c (k + 1))) all (formula-within ok k)))
-      (each-group c k (Holds a) (holds-splits a))
+      (each-group c k (AllHold a) (allHold-splits a))
 
   -- the first clause makes variable 1 true
   satisfies-one : (a : Assignment) → Satisfies c k a → a 1 ≡ true

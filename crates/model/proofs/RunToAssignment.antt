@@ -21,7 +21,7 @@ use Rattle.model.specs.Numbers.{Assignment}
 use Rattle.model.specs.Claim.{Agrees, Breaks}
 use Rattle.model.proofs.Booleans.{and-true, iff-eq, beq-true}
 use Rattle.model.proofs.Circuit.{IsFrame, frame-is, address-same}
-use Rattle.model.proofs.Truth.{value, Holds, PairHolds, ClosingHolds}
+use Rattle.model.proofs.Truth.{value, AllHold, PairHolds, ClosingHolds}
 use Rattle.model.proofs.InFrame.{assigned, assigned-zero, assigned-wire, readBit-value, codeIn-value}
 use Rattle.model.proofs.Forwarding.{stepped, Chain, noneFrom-last, noneFrom-chain, none-unchanged, source-exists}
 use Rattle.model.proofs.Variables.{noneSince-last, noneSince-earlier}
@@ -62,7 +62,7 @@ module _ (c : Netlist) (ok : Accepted c) (f : Feeds) (k : ℕ) where
       agrees : (x : ℕ) → x < 2 * gateWire c g → codeValue (assigned c a i) x ≡ codeValue (u i) x
       agrees x l = code-agrees c (assigned c a i) (u i) (same i d) x (omega arith)
 
-  wires-at : (i : ℕ) → i ≤ k → Holds a (clausesOf c k (Wires i))
+  wires-at : (i : ℕ) → i ≤ k → AllHold a (clausesOf c k (Wires i))
   unfolding stateAt initial step run
   wires-at zero d =
       wires-hold c a k 0 .1 (
@@ -176,7 +176,7 @@ module _ (c : Netlist) (ok : Accepted c) (f : Feeds) (k : ℕ) where
       }
 
   -- so does every group, where the run breaks the property
-  pub run-groups : Breaks c (initial c) k f → EachGroup c k (Holds a)
+  pub run-groups : Breaks c (initial c) k f → EachGroup c k (AllHold a)
   unfolding Breaks
   run-groups h =
       record {
