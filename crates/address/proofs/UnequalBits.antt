@@ -5,7 +5,8 @@ use mathlib.Core.Path.{_≡_}
 use mathlib.Core.List.{List, [], _∷_, map}
 use native.Mathlib.Nat.{add-assoc}
 use lib.IntN.{ℤ}
-use Rattle.model.specs.Clauses.{plus, neg, gather, unequalOf}
+use Rattle.model.specs.Gather.{gather}
+use Rattle.model.specs.Clauses.{plus, neg, unequalOf}
 use Rattle.model.specs.Variables.{pairBase, pairLiterals}
 use Rattle.model.specs.Numbers.{numberOf}
 use Rattle.netlist.specs.declared.Netlist.{Netlist}

@@ -7,7 +7,8 @@ use variables::Port;
 ghost use Prim.Native.Nat.{_+_, _/_, _≤_};
 ghost use mathlib.Core.List.{[], _∷_, map};
 ghost use lib.ListN.{length};
-ghost use Rattle.model.specs.Clauses.{plus, bitClauses, gather, bitOf, unequalOf, allBits};
+ghost use Rattle.model.specs.Gather.{gather};
+ghost use Rattle.model.specs.Clauses.{plus, bitClauses, addressBitClauses, unequalOf, allBits};
 ghost use Rattle.model.specs.Variables.{codeAt};
 ghost use Rattle.model.specs.Numbers.{numberOf, written};
 ghost use Rattle.literals.specs.Lit.{HasNumber};
@@ -43,8 +44,8 @@ fn put_address_bit(
 
 // The clauses of each address bit, in bit order.
 pub fn put_address_bits(out: &mut [i32], net: Netlist, port: Port, j: u32, i: u32) -> usize
-    requires { ⌜ PairFits net port j i × (length (written (gather (net .m) (bitOf (ofPair net port j i)))) ≤ length (now out)) ⌝ }
-    ensures { λ r. ⌜ Wrote (written (gather (net .m) (bitOf (ofPair net port j i)))) (now (out .entry)) (now (out .exit)) r ⌝ }
+    requires { ⌜ PairFits net port j i × (length (written (gather (net .m) (addressBitClauses (ofPair net port j i)))) ≤ length (now out)) ⌝ }
+    ensures { λ r. ⌜ Wrote (written (gather (net .m) (addressBitClauses (ofPair net port j i)))) (now (out .entry)) (now (out .exit)) r ⌝ }
 {
     let q = variables::pair_base(net, port, j, i);
     let writing = variables::frame_base(net, j);

@@ -2,7 +2,8 @@
 use mathlib.Core.Path.{refl}
 use Rattle.model.specs.Bits.{odd, bit}
 use Rattle.model.specs.Circuit.{sweep, isRead, eitherWire, dependsOnRead}
-use Rattle.model.specs.Clauses.{neg, gather, gatherDown, andClauses, sameIf, bitClauses, bitOf, unequalOf, allBits, forwarded, pairClauses, initialRead, selectedOf, someSource, closingClauses}
+use Rattle.model.specs.Gather.{gather, gatherDown}
+use Rattle.model.specs.Clauses.{neg, andClauses, sameIfClauses, bitClauses, addressBitClauses, unequalOf, allBits, forwardedClauses, pairClauses, initialReadClauses, selectedOf, someSource, closingClauses}
 use Rattle.model.specs.Variables.{baseOf, base, pairBaseOf, pairBase, wireAt, codeAt, noneSince, selected, readBit, pairLiterals, closingLiterals}
 use Rattle.model.specs.Groups.{stateClauses, violationOf, clausesOf, pairOf, frameGroups, groupOrder, inDepth}
 use Rattle.model.specs.Numbers.{numberOf, written, numbersOf, joined, formula, splitAfter, clausesIn}
@@ -18,15 +19,15 @@ use Rattle.fields.specs.Fields.{dropSpaces, filledWith, behindSpaces, fieldOf}
 use Rattle.lines.specs.Letters.{kindOf, isFilled}
 use Rattle.lines.specs.Lines.{fieldIn, allAsWanted, lineWith, lineOf, columnText, lineText}
 use Rattle.lines.specs.Depth.{valueAnswer, depthAnswer}
-use Rattle.steps.specs.Steps.{faultsAt}
+use Rattle.steps.specs.LineFaults.{faultsAt}
 use Rattle.parse.specs.Files.{lineIn, sizesIn, netOfLines, netIn}
 use Rattle.parse.specs.FileTests.{ragged, notDue, testLineIn}
 use Rattle.sheet.specs.Sheet.{endVerdict, fileVerdict, sheetVerdict}
 use Rattle.calls.specs.Starred.{sheetWith, net, rows, Starred}
 
 pub starred : Starred
-unfolding odd bit sweep isRead eitherWire dependsOnRead neg gather gatherDown andClauses sameIf bitClauses bitOf unequalOf allBits
-    forwarded pairClauses initialRead selectedOf someSource closingClauses baseOf base pairBaseOf pairBase wireAt codeAt noneSince
+unfolding odd bit sweep isRead eitherWire dependsOnRead neg gather gatherDown andClauses sameIfClauses bitClauses addressBitClauses unequalOf allBits
+    forwardedClauses pairClauses initialReadClauses selectedOf someSource closingClauses baseOf base pairBaseOf pairBase wireAt codeAt noneSince
     selected readBit pairLiterals closingLiterals stateClauses violationOf clausesOf pairOf frameGroups groupOrder inDepth numberOf
     written numbersOf joined formula splitAfter clausesIn _then_ inOrder lineAt sizeFault codeFault loopFaultBy testLines
     recordVerdict testDepth testGroup testNumbers testRoom groupVerdict headingVerdict digitsWithin digits field sameText

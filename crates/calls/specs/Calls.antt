@@ -5,6 +5,7 @@ use mathlib.Core.Path.{_≡_}
 use mathlib.Core.List.{List}
 use lib.IntN.{ℤ}
 use lib.ListN.{length}
+use Rattle.model.specs.Limits.{mostDepth}
 use Rattle.model.specs.declared.Group.{Group}
 use Rattle.refusals.specs.Slices.{CountReply}
 use Rattle.refusals.specs.declared.Verdict.the-variants.{Passed}
@@ -28,5 +29,5 @@ numbersLeft net latches gates k g old = groupLeaves (netLent net latches gates) 
 -- "for every accepted record and depth 0 to 255"
 abbrev pub Claim : Netlist → List Latch → List Gate → ℕ → Type 0
 Claim net latches gates k =
-    recordVerdict (netLent net latches gates) (length latches) (length gates) ≡ Passed → k ≤ 255
+    recordVerdict (netLent net latches gates) (length latches) (length gates) ≡ Passed → k ≤ mostDepth
     → CallsEncode (netLent net latches gates) (length latches) (length gates) k

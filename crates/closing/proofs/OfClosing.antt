@@ -10,7 +10,8 @@ use lib.ListN.{length}
 use Rattle.model.specs.Bits.{bit}
 use Rattle.model.specs.Netlist.{Port, readWire}
 use Rattle.model.specs.Netlist as M
-use Rattle.model.specs.Clauses.{Literal, known, plus, gather, sameIf, ClosingLiterals, initialRead, selectedOf, someSource, closingClauses}
+use Rattle.model.specs.Gather.{gather}
+use Rattle.model.specs.Clauses.{Literal, known, plus, sameIfClauses, ClosingLiterals, initialReadClauses, selectedOf, someSource, closingClauses}
 use Rattle.model.specs.Variables.{stride, base, pairBase, wireAt, noneSince, selected, readBit, closingLiterals}
 use Rattle.model.specs.Numbers.{numberOf, written}
 use Rattle.model.proofs.Variables.{pairBase-base}
@@ -24,14 +25,14 @@ use Rattle.closing.specs.OfClosing.{ofClosing}
 
 -- the clauses of data bit t, from Z, the frame's base, the read wires before the port's and the port's before it, the start word
 abbrev pub initialBit : Literal → ℕ → ℕ → ℕ → ℕ → ℕ → List ℤ
-initialBit z reading first read word t = written (sameIf z (wireAt reading (first + (read + t))) (known (bit word t)))
+initialBit z reading first read word t = written (sameIfClauses z (wireAt reading (first + (read + t))) (known (bit word t)))
 
 pub initial-bits : (net : Netlist) (port : R.Port) (i n : ℕ) {reading first : ℕ} {z : Literal}
     → z ≡ noneSince (alone net) (portOf port) 0 i → reading ≡ base (alone net) i → first ≡ readWire (alone net) 0
-    → written (gather n (initialRead (ofClosing net port i)))
+    → written (gather n (initialReadClauses (ofClosing net port i)))
     ≡ gather n (initialBit z reading first (port .«first_read») (net .«initial_word»))
-unfolding initialRead closingLiterals readBit netOf portOf
-initial-bits net port i n ez er ef = rw (written-gather n (initialRead (ofClosing net port i)), ez, er, ef, add-zero)
+unfolding initialReadClauses closingLiterals readBit netOf portOf
+initial-bits net port i n ez er ef = rw (written-gather n (initialReadClauses (ofClosing net port i)), ez, er, ef, add-zero)
 
 -- where the variables of pair (j, i) start, from those of pair (0, i)
 pub source-base : (c : M.Netlist) (p : Port) (i : ℕ) {q s : ℕ} → q ≡ pairBase c p 0 i → s ≡ stride c → (j : ℕ)
@@ -54,12 +55,12 @@ sources net port i n {q} {s} e es =
 
 -- the parts of a closing's clauses, in their order, and their room
 pub closing-parts : (n i : ℕ) (x : ClosingLiterals)
-    → written (closingClauses n i x) ≡ written (gather n (initialRead x)) ++ written (someSource i x ∷ [])
+    → written (closingClauses n i x) ≡ written (gather n (initialReadClauses x)) ++ written (someSource i x ∷ [])
 unfolding closingClauses
-closing-parts n i x = written-append (gather n (initialRead x)) (someSource i x ∷ [])
+closing-parts n i x = written-append (gather n (initialReadClauses x)) (someSource i x ∷ [])
 
 pub closing-room : (n i : ℕ) (x : ClosingLiterals)
     → length (written (closingClauses n i x))
-    ≡ length (written (gather n (initialRead x))) + length (written (someSource i x ∷ []))
+    ≡ length (written (gather n (initialReadClauses x))) + length (written (someSource i x ∷ []))
 unfolding closingClauses
-closing-room n i x = length-written (gather n (initialRead x)) (someSource i x ∷ [])
+closing-room n i x = length-written (gather n (initialReadClauses x)) (someSource i x ∷ [])

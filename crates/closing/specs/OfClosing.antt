@@ -1,6 +1,7 @@
 -- The literals of the closing of a frame at a port of a record, and what is asked of them. Cited by every function of this
 -- crate. Assumes nothing.
 use Prim.Native.Nat.{ℕ, _≤_}
+use Rattle.model.specs.Limits.{mostDepth}
 use Rattle.model.specs.Clauses.{ClosingLiterals}
 use Rattle.model.specs.Variables.{closingLiterals}
 use Rattle.netlist.specs.declared.Netlist.{Netlist}
@@ -14,4 +15,4 @@ ofClosing net port i = closingLiterals (alone net) (portOf port) i
 
 pub record ClosingFits (net : Netlist) (port : Port) (i : ℕ) : Type 0 where
   pub fits : PortFits (alone net) (portOf port)
-  pub depth : i ≤ 255
+  pub depth : i ≤ mostDepth

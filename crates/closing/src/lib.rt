@@ -8,7 +8,8 @@ ghost use Prim.Native.Nat.{_≤_, _<_};
 ghost use mathlib.Core.List.{[], _∷_, map};
 ghost use lib.ListN.{length};
 ghost use Rattle.model.specs.Bits.{bit};
-ghost use Rattle.model.specs.Clauses.{known, sameIf, gather, initialRead, selectedOf, someSource, closingClauses};
+ghost use Rattle.model.specs.Gather.{gather};
+ghost use Rattle.model.specs.Clauses.{known, sameIfClauses, initialReadClauses, selectedOf, someSource, closingClauses};
 ghost use Rattle.model.specs.Variables.{wireAt};
 ghost use Rattle.model.specs.Numbers.{numberOf, written};
 ghost use Rattle.literals.specs.Lit.{literalOf, IsLit, HasNumber};
@@ -25,8 +26,8 @@ fn put_initial_bit(
     t: u32,
 ) -> usize
     requires { ⌜ IsLit «none_since» × HasNumber reading (rd .0) × (1 ≤ rd .0) × (t < 32)
-        × (length (written (sameIf (literalOf «none_since») (wireAt reading (rd .0)) (known (bit word t)))) ≤ length (now out)) ⌝ }
-    ensures { λ r. ⌜ Wrote (written (sameIf (literalOf «none_since») (wireAt reading (rd .0)) (known (bit word t))))
+        × (length (written (sameIfClauses (literalOf «none_since») (wireAt reading (rd .0)) (known (bit word t)))) ≤ length (now out)) ⌝ }
+    ensures { λ r. ⌜ Wrote (written (sameIfClauses (literalOf «none_since») (wireAt reading (rd .0)) (known (bit word t))))
         (now (out .entry)) (now (out .exit)) r ⌝ }
 {
     tseitin::put_same_if(out, none_since, rd.in_frame(reading), Lit::bit(word, t))
@@ -34,8 +35,8 @@ fn put_initial_bit(
 
 // The clauses of each data bit, in bit order.
 fn put_initial_reads(out: &mut [i32], net: Netlist, port: Port, i: u32) -> usize
-    requires { ⌜ ClosingFits net port i × (length (written (gather (net .n) (initialRead (ofClosing net port i)))) ≤ length (now out)) ⌝ }
-    ensures { λ r. ⌜ Wrote (written (gather (net .n) (initialRead (ofClosing net port i)))) (now (out .entry)) (now (out .exit)) r ⌝ }
+    requires { ⌜ ClosingFits net port i × (length (written (gather (net .n) (initialReadClauses (ofClosing net port i)))) ≤ length (now out)) ⌝ }
+    ensures { λ r. ⌜ Wrote (written (gather (net .n) (initialReadClauses (ofClosing net port i)))) (now (out .entry)) (now (out .exit)) r ⌝ }
 {
     let none_since = variables::none_since(net, port, 0, i);
     let reading = variables::frame_base(net, i);

@@ -6,6 +6,7 @@ use mathlib.Core.Bool.{cond}
 use mathlib.Core.List.{List}
 use lib.Dec.{eqb}
 use lib.ListN.{drop}
+use Rattle.model.specs.Limits.{mostWires, mostDepth}
 use Rattle.model.specs.Acceptance.{Accepted}
 use Rattle.refusals.specs.Refusal.{replyOf}
 use Rattle.refusals.specs.declared.Reply.{Reply}
@@ -18,7 +19,7 @@ use Rattle.input.specs.declared.Input.{Input}
 
 -- a sheet's number and place, for lists of 600 records
 unfoldable pub sheetReply : List ℕ → Reply
-sheetReply file = replyOf (sheetVerdict file 600 600)
+sheetReply file = replyOf (sheetVerdict file mostWires mostWires)
 
 -- an input's: the depth's where that is refused, and else the sheet's behind it
 unfoldable pub inputReply : List ℕ → Reply
@@ -37,5 +38,5 @@ pub record SheetTaken (file : List ℕ) (net : Netlist) (latches gates : List �
 -- an input that is taken: its depth, and the sheet behind it
 pub record InputTaken (s : List ℕ) (depth : ℕ) (net : Netlist) (latches gates : List ℕ) : Type 0 where
   pub depth-is : depth ≡ depthAnswer s .depth
-  pub depth-most : depth ≤ 255
+  pub depth-most : depth ≤ mostDepth
   pub sheet : SheetTaken (drop 11 s) net latches gates

@@ -44,7 +44,7 @@ pub fn read_input(input: &[u8], latches: &mut [u32; 1200], gates: &mut [u32; 120
             number: refusals::number(refusal),
             place: 0,
             depth: 0,
-            net: steps::empty_net(),
+            net: netlist::empty_net(),
         },
         DepthLine::Accepted(depth) => read_sheet(&input[11..], depth, latches, gates),
     }

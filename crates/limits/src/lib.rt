@@ -7,7 +7,7 @@ ghost use Prim.Native.Nat.{_≤_};
 ghost use Rattle.model.specs.Acceptance.{SizesFit};
 ghost use Rattle.netlist.specs.NetOf.{netOf, alone};
 ghost use Rattle.netlist.specs.Faults.{codeFault};
-ghost use Rattle.limits.specs.AnyLine.{anyLatch, anyGate, anyInPort, anyLine};
+ghost use Rattle.limits.specs.AnyLine.{anyLatch, anyGate, anyInRecord, anyLine};
 
 // Whether any latch's next code or reset is outside its limit.
 fn any_latch(last: u32, latches: &[u32; 1200], count: u32) -> bool
@@ -42,10 +42,10 @@ fn any_gate(first: u32, gates: &[u32; 1200], count: u32) -> bool
     any
 }
 
-// Whether any code of the memory's port or of line C is outside its limit.
-fn any_in_port(net: Netlist, last: u32) -> bool
+// Whether any code that the record itself holds is outside its limit: those of lines A, D and C.
+fn any_in_record(net: Netlist, last: u32) -> bool
     requires { ⌜ SizesFit (alone net) ⌝ }
-    ensures { λ r. ⌜ r ≡ anyInPort last (alone net) ⌝ }
+    ensures { λ r. ⌜ r ≡ anyInRecord last (alone net) ⌝ }
 {
     let mut any = false;
     let mut t = 0;
@@ -75,5 +75,5 @@ pub fn any_code_fault(net: Netlist, latches: &[u32; 1200], gates: &[u32; 1200]) 
     let first = netlist::first_gate_wire(net);
     any_latch(last, latches, net.latches)
         | any_gate(first, gates, net.gates)
-        | any_in_port(net, last)
+        | any_in_record(net, last)
 }

@@ -5,6 +5,7 @@ use mathlib.Core.Bool.{cond, _&&_}
 use mathlib.Core.List.{List}
 use lib.Dec.{eqb, leb}
 use lib.ListN.{length, getD, take}
+use Rattle.model.specs.Limits.{mostDepth}
 use Rattle.refusals.specs.Refusal.{refusalNumber}
 use Rattle.refusals.specs.declared.Refusal.{Refusal}
 use Rattle.refusals.specs.declared.Refusal.the-variants.{Misprint, Depth}
@@ -35,7 +36,7 @@ answerOf (Refused r) = refusedBy r
 -- "form 2": an empty field, or no number; "value 7": over 255
 unfoldable pub valueAnswer : Field → DepthAnswer
 valueAnswer Empty = refusedBy Misprint
-valueAnswer (Filled k) = cond (leb k 255) (acceptedAt k) (refusedBy Depth)
+valueAnswer (Filled k) = cond (leb k mostDepth) (acceptedAt k) (refusedBy Depth)
 valueAnswer Misprinted = refusedBy Misprint
 
 -- "form 2 (input of fewer than eleven bytes included)", then the value: "the depth in ten columns and a line feed"

@@ -6,6 +6,7 @@ use mathlib.Core.Bool.{Bool, true, false, not, cond, _&&_}
 use mathlib.Core.List.{List, [], _∷_, _++_}
 use lib.Dec.{eqb}
 use lib.ListN.{length, getD, take, drop}
+use Rattle.model.specs.Limits.{lineBytes}
 use Rattle.decimal.specs.Digits.{lineFeed, field, emptyField}
 use Rattle.fields.specs.Fields.{fieldOf}
 use Rattle.fields.specs.declared.Field.{Field}
@@ -42,7 +43,7 @@ lineWith k a b c =
 -- "a letter, three fields of ten columns, a line feed": 32 bytes, of which the last is a line feed, or a misprint
 unfoldable pub lineOf : List ℕ → ParsedLine
 lineOf s =
-    cond (eqb (length s) 32 && eqb (getD s 31 0) lineFeed)
+    cond (eqb (length s) lineBytes && eqb (getD s 31 0) lineFeed)
     (lineWith (kindOf (getD s 0 0)) (fieldIn s 0) (fieldIn s 1) (fieldIn s 2))
     Misprint
 

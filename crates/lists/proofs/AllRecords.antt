@@ -48,7 +48,8 @@ use denote.Triple.Spec.{Meets, tripleOf}
 use denote.Triple.Statement.{Triple}
 use denote.Triple.Walked.{says, Stays, stay-none-slice, stay-ref, walkOf, goes-none-slice, goes-ref, ends-at}
 use denote.Exit.{yes}
-use Rattle.lists.specs.Unpacked.{pairsOf, putPair, spanOf}
+use Rattle.lists.specs.Unpacked.{pairsOf}
+use Rattle.lists.specs.Unpacking.{putNumbers, spanOf}
 use Rattle.model.specs.Wrote.{over}
 use Rattle.lists.proofs.Unpacked.{unpackedTo, unpackedTo-none, unpackedTo-next, unpackedTo-all, span-within}
 use Rattle.lists.proofs.OneRecord as one
@@ -212,7 +213,7 @@ module _ (T : Declared) (L : LL.Laws T) (P : one.Pair T L) where
             (and-then ! (load ! (from ! (stop !)) (look ! 3 refl))
             (and-then ! (load ! (from ! (stop !)) (look ! 15 refl))
             (and-then ! (load ! (from ! (stop !)) (look ! 11 refl)) (no-more !)))) (λ w r ws.
-            heard ! (ws .0 ≡ putPair i (P .first (getD ys i (P .none))) (P .second (getD ys i (P .none))) (upTo i))
+            heard ! (ws .0 ≡ putNumbers i (P .first (getD ys i (P .none))) (P .second (getD ys i (P .none))) (upTo i))
             (λ is. fsplit ! $ move ! (2 ∷ []) $ feqL ! (λ unit-is.
             -- [the codes' last; …; the tokens; what the list owns; what was kept of the codes; _8; …; _7; …]
             land ! (from ! (stop !)) (init ! 7 refl (subst (λ (y : Val). Holds (hasTy tyUnit y) × WT y) (sym (ap only unit-is))

@@ -1,5 +1,5 @@
--- A function that reads record i of a lent slice and hands its two numbers to `put_pair`, for every record of two numbers: its
--- MIR, its contract, and the walk between them. `put_gate` and `put_latch` are this function at `Gate` and at `Latch`.
+-- A function that reads record i of a lent slice and hands its two numbers to `put_numbers`, for every record of two numbers: its
+-- MIR, its contract, and the walk between them. `unpack_gate` and `unpack_latch` are this function at `Gate` and at `Latch`.
 --     Reading st f     the place `st` of a local record holds the number f of the record
 --     Pair             what the walk needs of a record of two numbers
 -- Assumes nothing.
@@ -43,10 +43,10 @@ use denote.Triple.Spec.{Meets, tripleOf}
 use denote.Triple.Statement.{Triple}
 use denote.Triple.Walked.{says, needs, Stays, stay-none, stay-none-slice, gave-ref, walkOf, goes-none, goes-none-slice, goes-gave-ref, ends-at}
 use denote.Exit.{yes}
-use Rattle.lists.specs.Unpacked.{putPair}
+use Rattle.lists.specs.Unpacking.{putNumbers}
 use Rattle.lists.proofs.Walk.{calls-told, frees-at, meets-of}
-use Rattle.lists.proofs.unpack.put_pair as put
-use Rattle.lists.proofs.unpack.put_pair.Symbol.{name as #put}
+use Rattle.lists.proofs.unpack.put_numbers as put
+use Rattle.lists.proofs.unpack.put_numbers.Symbol.{name as #put}
 
 -- the unpacked codes, and their type in MIR
 abbrev pub Codes : RattleType
@@ -101,7 +101,7 @@ module _ (T : Declared) (L : LL.Laws T) where
     clauses 𝓤 κs a = record {
       ghost = Unit {0};
       requires = λ _. fact 𝓤 ((a .1 .1 .0 < length (now (a .1 .0))) × (a .1 .1 .0 < 600));
-      ensures = λ _ _ e. fact 𝓤 (now (e .0) ≡ putPair (a .1 .1 .0) (P .first (getD (now (a .1 .0)) (a .1 .1 .0) (P .none)))
+      ensures = λ _ _ e. fact 𝓤 (now (e .0) ≡ putNumbers (a .1 .1 .0) (P .first (getD (now (a .1 .0)) (a .1 .1 .0) (P .none)))
           (P .second (getD (now (a .1 .0)) (a .1 .1 .0) (P .none))) (now (a .0)));
     }
 
@@ -114,7 +114,7 @@ module _ (T : Declared) (L : LL.Laws T) where
       ),
     )
 
-    -- the locals: the result, the codes, the list, i, the record, i * 8, the place of the record, its copy, put_pair's result,
+    -- the locals: the result, the codes, the list, i, the record, i * 8, the place of the record, its copy, put_numbers's result,
     -- the codes lent on
     abbrev pub function : Fn
     function = record {
@@ -217,7 +217,7 @@ module _ (T : Declared) (L : LL.Laws T) where
             (and-then ! (load ! (from ! (P .reads₁ .way ! l₄)) (look-in ! 15 (P .reads₁ .part ! l₄ e .1)))
             (and-then ! (load ! (from ! (P .reads₂ .way ! l₄)) (look-in ! 15 (P .reads₂ .part ! l₄ e .1))) (no-more !)))))
             (λ w r ws.
-            heard ! (ws .0 ≡ putPair i (P .first e) (P .second e) cs) (λ is. fsplit ! $ move ! (2 ∷ []) $ feqL ! (λ unit-is.
+            heard ! (ws .0 ≡ putNumbers i (P .first e) (P .second e) cs) (λ is. fsplit ! $ move ! (2 ∷ []) $ feqL ! (λ unit-is.
             -- [the codes' last; …; κ₀'s token; κ₁'s token; its borrow; what the list owns; what i owns; _9; …]
             land ! (from ! (stop !)) (init ! 9 refl (subst (λ (y : Val). Holds (hasTy tyUnit y) × WT y) (sym (ap only unit-is))
             (tt, tt))) $
@@ -232,7 +232,7 @@ module _ (T : Declared) (L : LL.Laws T) where
             join ! $ move ! (1 ∷ 0 ∷ []) $ join ! $ frame ! $ frame ! $
             feqI ! (List Val) (vunit ∷ []) (vunit ∷ []) refl $ keep ! (0 ∷ []) $ done !)))))))))))))))
 
-    -- the function meets its contract, where `put_pair` meets its own
+    -- the function meets its contract, where `put_numbers` meets its own
     pub meets : {M : Type 1} (𝓤 : URA M) (H : Heap 𝓤) (A : Atoms 𝓤) (W : Given 𝓤 H A) (run-mem : Memory → SProp 𝓤)
         (run : Routine → Fun 𝓤) (𝓣 : Tables 𝓤 H)
         → Triple 𝓤 (𝓣 .C #put) (tripleOf 𝓤 H A put.signature (put.spec 𝓤 H A run-mem run))

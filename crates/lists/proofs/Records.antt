@@ -4,7 +4,7 @@ use mathlib.Core.List.{[], _∷_}
 use mir.Syntax.{field}
 use types.Part.{whole, sub}
 use types.Run.{stop, fld}
-use Rattle.lists.specs.Unpacked.{noGate, noLatch}
+use Rattle.lists.specs.Unpacking.{noGate, noLatch}
 use Rattle.lists.specs.declared.Gate.{Gate}
 use Rattle.lists.specs.declared.Latch.{Latch}
 use Rattle.lists.proofs.Gate as G

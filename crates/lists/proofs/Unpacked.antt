@@ -10,7 +10,8 @@ use borrow.Author.Tests.{ltb-true, ltb-false}
 use lib.Dec.{ltb}
 use lib.ListN.{length, take, drop, getD, replicate}
 use lib.Seq.{drop-nil, take-all, take-length, length-take-le}
-use Rattle.lists.specs.Unpacked.{pairsOf, putPair, bounded, spanOf}
+use Rattle.lists.specs.Unpacked.{pairsOf}
+use Rattle.lists.specs.Unpacking.{putNumbers, bounded, spanOf}
 use Rattle.model.specs.Wrote.{over}
 
 -- no more records are looked at than there are, and no more than 600
@@ -43,8 +44,8 @@ module _ {X : Type 0} (first second : X → ℕ) where
   after-suc j = omega arith
 
   at-suc : (xs : List X) (none : X) (old : List ℕ) (i : ℕ) → i < length xs → 2 * i + 2 ≤ length old
-      → putPair i (first (getD xs i none)) (second (getD xs i none)) (unpackedTo xs old i) ≡ unpackedTo xs old (suc i)
-  unfolding pairsOf putPair
+      → putNumbers i (first (getD xs i none)) (second (getD xs i none)) (unpackedTo xs old i) ≡ unpackedTo xs old (suc i)
+  unfolding pairsOf putNumbers
   at-suc [] none old i h g = absurd (not-suc-le-zero h)
   at-suc (x ∷ xs) none [] i h g = absurd (omega (arith, g))
   at-suc (x ∷ xs) none (u ∷ []) i h g = absurd (omega (arith, g))
@@ -55,7 +56,7 @@ module _ {X : Type 0} (first second : X → ℕ) where
       (λ k. pairsOf first second (take (suc j) xs) ++ drop k old) (twice-suc j)))
 
   pub unpackedTo-next : (xs : List X) (none : X) (old : List ℕ) (i : ℕ) → i < length xs → 2 * i + 2 ≤ length old
-      → putPair i (first (getD xs i none)) (second (getD xs i none)) (unpackedTo xs old i) ≡ unpackedTo xs old (i + 1)
+      → putNumbers i (first (getD xs i none)) (second (getD xs i none)) (unpackedTo xs old i) ≡ unpackedTo xs old (i + 1)
   unpackedTo-next xs none old i h g = at-suc xs none old i h g ∙ ap (unpackedTo xs old) (let e : suc i ≡ i + 1 = omega arith in e)
 
   -- the records that are looked at are the first 600

@@ -1,19 +1,9 @@
 -- Records delivered into the front of a lent list (document 01, "On success only the first L and A records of the lent lists
--- change"). Cited by the functions that deliver and by the reader of sheets. Assumes nothing.
-use Prim.Native.Nat.{ℕ, _+_, _*_}
+-- change"). Cited by the functions that deliver and by reader/specs/ReadCall. Assumes nothing.
+use Prim.Native.Nat.{ℕ}
 use mathlib.Core.List.{List, [], _∷_}
-use lib.ListN.{getD}
-use Rattle.model.specs.Clauses.{gather}
+use Rattle.model.specs.Gather.{gather}
 use Rattle.model.specs.Wrote.{over}
-use Rattle.lists.specs.declared.Latch.{Latch}
-use Rattle.lists.specs.declared.Gate.{Gate}
-
--- a record of unpacked codes, two codes a record
-abbrev pub latchAt : List ℕ → ℕ → Latch
-latchAt codes l = record { next = record { 0 = getD codes (2 * l) 0 }; reset = getD codes (2 * l + 1) 0 }
-
-abbrev pub gateAt : List ℕ → ℕ → Gate
-gateAt codes g = record { left = record { 0 = getD codes (2 * g) 0 }; right = record { 0 = getD codes (2 * g + 1) 0 } }
 
 -- the first n records of f
 abbrev pub firstRecords : {A : Type 0} → ℕ → (ℕ → A) → List A

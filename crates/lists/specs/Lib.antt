@@ -2,3 +2,5 @@
 pub mod Unpacked
 pub mod Lent
 pub mod Delivered
+pub mod Unpacking
+pub mod RecordAt

@@ -5,7 +5,8 @@ use literals::Code;
 ghost use mathlib.Core.Path.{_≡_};
 ghost use Prim.Native.Nat.{_≤_, _<_};
 ghost use lib.ListN.{length};
-ghost use Rattle.lists.specs.Delivered.{latchAt, gateAt, delivered};
+ghost use Rattle.lists.specs.RecordAt.{latchAt, gateAt};
+ghost use Rattle.lists.specs.Delivered.{delivered};
 
 // A latch of unpacked codes.
 fn latch_at(codes: &[u32; 1200], l: usize) -> Latch

@@ -5,13 +5,14 @@ use crate::Latch;
 ghost use mathlib.Core.Path.{_≡_};
 ghost use Prim.Native.Nat.{_<_};
 ghost use lib.ListN.{length, getD};
-ghost use Rattle.lists.specs.Unpacked.{putPair, noGate, noLatch, spanOf, gateCodes, latchCodes};
+ghost use Rattle.lists.specs.Unpacked.{gateCodes, latchCodes};
+ghost use Rattle.lists.specs.Unpacking.{putNumbers, noGate, noLatch, spanOf};
 ghost use Rattle.model.specs.Wrote.{over};
 
 // Puts a record's two numbers at its place.
-pub fn put_pair(codes: &mut [u32; 1200], at: usize, first: u32, second: u32)
+pub fn put_numbers(codes: &mut [u32; 1200], at: usize, first: u32, second: u32)
     requires { ⌜ at < 600 ⌝ }
-    ensures { λ _. ⌜ now (codes .exit) ≡ putPair at first second (now (codes .entry)) ⌝ }
+    ensures { λ _. ⌜ now (codes .exit) ≡ putNumbers at first second (now (codes .entry)) ⌝ }
 {
     codes[2 * at] = first;
     codes[2 * at + 1] = second;
@@ -25,21 +26,21 @@ pub fn span(count: usize) -> usize
 }
 
 // Reads gate g and hands its two codes on.
-pub fn put_gate(codes: &mut [u32; 1200], gates: &[Gate], g: usize)
+pub fn unpack_gate(codes: &mut [u32; 1200], gates: &[Gate], g: usize)
     requires { ⌜ (g < length (now gates)) × (g < 600) ⌝ }
-    ensures { λ _. ⌜ now (codes .exit) ≡ putPair g (getD (now (gates .entry)) g noGate .left .0) (getD (now (gates .entry)) g noGate .right .0) (now (codes .entry)) ⌝ }
+    ensures { λ _. ⌜ now (codes .exit) ≡ putNumbers g (getD (now (gates .entry)) g noGate .left .0) (getD (now (gates .entry)) g noGate .right .0) (now (codes .entry)) ⌝ }
 {
     let gate = gates[g];
-    put_pair(codes, g, gate.left.0, gate.right.0);
+    put_numbers(codes, g, gate.left.0, gate.right.0);
 }
 
 // Reads latch l and hands its next code and its reset on.
-pub fn put_latch(codes: &mut [u32; 1200], latches: &[Latch], l: usize)
+pub fn unpack_latch(codes: &mut [u32; 1200], latches: &[Latch], l: usize)
     requires { ⌜ (l < length (now latches)) × (l < 600) ⌝ }
-    ensures { λ _. ⌜ now (codes .exit) ≡ putPair l (getD (now (latches .entry)) l noLatch .next .0) (getD (now (latches .entry)) l noLatch .reset) (now (codes .entry)) ⌝ }
+    ensures { λ _. ⌜ now (codes .exit) ≡ putNumbers l (getD (now (latches .entry)) l noLatch .next .0) (getD (now (latches .entry)) l noLatch .reset) (now (codes .entry)) ⌝ }
 {
     let latch = latches[l];
-    put_pair(codes, l, latch.next.0, latch.reset);
+    put_numbers(codes, l, latch.next.0, latch.reset);
 }
 
 // Unpacks a list of gates, into the first numbers of `codes`.
@@ -49,7 +50,7 @@ pub fn unpack_gates(codes: &mut [u32; 1200], gates: &[Gate])
     let end = span(gates.len());
     let mut g = 0;
     while g < end {
-        put_gate(codes, gates, g);
+        unpack_gate(codes, gates, g);
         g = g + 1;
     }
 }
@@ -61,7 +62,7 @@ pub fn unpack_latches(codes: &mut [u32; 1200], latches: &[Latch])
     let end = span(latches.len());
     let mut l = 0;
     while l < end {
-        put_latch(codes, latches, l);
+        unpack_latch(codes, latches, l);
         l = l + 1;
     }
 }

@@ -8,7 +8,7 @@ use native.Mathlib.Omega.{arith}
 use lib.Dec.{eqb}
 use Rattle.model.specs.Bits.{bit}
 use Rattle.model.specs.Netlist.{Netlist, Port, port, lastWire}
-use Rattle.model.specs.Circuit.{Values, code, addressOf, wordWritten, State, Feed, step, stateAt, run}
+use Rattle.model.specs.Circuit.{Values, codeValue, addressOf, wordWritten, State, Feeds, step, stateAt, run}
 use Rattle.model.specs.Acceptance.{Accepted, CodesFit, IsCode}
 use Rattle.model.proofs.Bits.{fromBits-same, bit-fromBits}
 use Rattle.model.proofs.Circuit.{code-same, address-same}
@@ -17,13 +17,13 @@ use Rattle.model.proofs.Forwarding.{stepped}
 abbrev pub Same : Netlist → Values → Values → Type 0
 Same c u v = (w : ℕ) → w ≤ lastWire c → u w ≡ v w
 
-pub code-agrees : (c : Netlist) (u v : Values) → Same c u v → (x : ℕ) → IsCode c x → code u x ≡ code v x
+pub code-agrees : (c : Netlist) (u v : Values) → Same c u v → (x : ℕ) → IsCode c x → codeValue u x ≡ codeValue v x
 code-agrees c u v h x b = code-same u v x (h (x / 2) (omega arith))
 
 -- the bits of the word written are the write-data codes
-pub word-bit : (c : Netlist) (v : Values) (t : ℕ) → t < c .n → bit (wordWritten c v) t ≡ code v (c .writeData t)
+pub word-bit : (c : Netlist) (v : Values) (t : ℕ) → t < c .n → bit (wordWritten c v) t ≡ codeValue v (c .writeData t)
 unfolding wordWritten
-word-bit c v t b = bit-fromBits (c .n) (λ t. code v (c .writeData t)) t b
+word-bit c v t b = bit-fromBits (c .n) (λ t. codeValue v (c .writeData t)) t b
 
 pub word-agrees : (c : Netlist) → CodesFit c → (u v : Values) → Same c u v → wordWritten c u ≡ wordWritten c v
 unfolding wordWritten
@@ -34,14 +34,14 @@ address-agrees c fit u v h = address-same c (port c) u v (λ t b. code-agrees c 
 
 -- equal addresses are equal bit by bit
 pub address-bits : (c : Netlist) (p q : Port) (u v : Values) → addressOf c p u ≡ addressOf c q v
-    → (t : ℕ) → t < c .m → code u (p .address t) ≡ code v (q .address t)
+    → (t : ℕ) → t < c .m → codeValue u (p .address t) ≡ codeValue v (q .address t)
 unfolding addressOf
 address-bits c p q u v e t b =
-    sym (bit-fromBits (c .m) (λ t. code u (p .address t)) t b) ∙ ap (λ (x : ℕ). bit x t) e ∙ bit-fromBits (c .m) (λ t. code v (q .address t)) t b
+    sym (bit-fromBits (c .m) (λ t. codeValue u (p .address t)) t b) ∙ ap (λ (x : ℕ). bit x t) e ∙ bit-fromBits (c .m) (λ t. codeValue v (q .address t)) t b
 
 -- whether frame j, of frames with the values u, writes the word x
 unfoldable pub writes : Netlist → (ℕ → Values) → ℕ → ℕ → Bool
-writes c u x j = code (u j) (c .WE) && eqb x (addressOf c (port c) (u j))
+writes c u x j = codeValue (u j) (c .WE) && eqb x (addressOf c (port c) (u j))
 
 -- the writes to the word that frame i reads
 unfoldable pub hits : Netlist → (ℕ → Values) → ℕ → ℕ → Bool
@@ -52,12 +52,12 @@ abbrev pub wordBefore : Netlist → (ℕ → Values) → ℕ → ℕ → ℕ →
 wordBefore c u start x i = stepped start (writes c u x) (λ j. wordWritten c (u j)) i
 
 -- a run's memory is stepped through its writes
-pub memory-stepped : (c : Netlist) (s : State) (f : ℕ → Feed) (x i : ℕ)
+pub memory-stepped : (c : Netlist) (s : State) (f : Feeds) (x i : ℕ)
     → stateAt c s f i .memory x ≡ wordBefore c (run c s f) (s .memory x) x i
 unfolding stateAt step stepped writes run
 memory-stepped c s f x zero = refl
 memory-stepped c s f x (suc i) =
-    cc (memory-stepped c s f x i, and-comm (code (run c s f i) (c .WE)) (eqb x (addressOf c (port c) (run c s f i))))
+    cc (memory-stepped c s f x i, and-comm (codeValue (run c s f i) (c .WE)) (eqb x (addressOf c (port c) (run c s f i))))
 
 pub writes-agrees : (c : Netlist) → CodesFit c → (u v : ℕ → Values) (x j : ℕ) → Same c (u j) (v j) → writes c u x j ≡ writes c v x j
 unfolding writes

@@ -11,7 +11,7 @@ use lib.Dec.{eqb}
 use borrow.Author.Tests.{eqb-true, eq-eqb}
 use Rattle.model.specs.Bits.{bit, fromBits}
 use Rattle.model.specs.Netlist.{Netlist, Port, port, lastWire, readBits, inputWire, latchWire, readWire, gateWire}
-use Rattle.model.specs.Circuit.{Values, code, State, Feed, addressOf, readData, frame, wordWritten, step, stateAt, run, initial}
+use Rattle.model.specs.Circuit.{Values, codeValue, State, addressOf, readData, frame, wordWritten, step, stateAt, run, initial}
 use Rattle.model.specs.Acceptance.{Accepted}
 use Rattle.model.specs.Clauses.{Literal, known, PairLiterals}
 use Rattle.model.specs.Variables.{base, codeIn, noneSince, readBit, pairLiterals, closingLiterals}
@@ -21,13 +21,13 @@ use Rattle.model.proofs.Below.{all-below-suc}
 use Rattle.model.proofs.Booleans.{and-true, iff-eq}
 use Rattle.model.proofs.Bits.{fromBits-same, bit-fromBits}
 use Rattle.model.proofs.Circuit.{code-same, IsFrame, frame-unique}
-use Rattle.model.proofs.Truth.{value, Holds, PairHolds, ClosingHolds}
+use Rattle.model.proofs.Truth.{value, AllHold, PairHolds, ClosingHolds}
 use Rattle.model.proofs.InFrame.{assigned, assigned-zero, assigned-wire, readBit-value, codeIn-value}
 use Rattle.model.proofs.Forwarding.{stepped, Chain, selected-read}
 use Rattle.model.proofs.Variables.{noneSince-last}
 use Rattle.model.proofs.Joined.{EachGroup}
 use Rattle.model.proofs.Agreement.{Same, address-bits, code-agrees, address-agrees, word-bit, writes, hits, wordBefore, memory-stepped, wordBefore-agrees}
-use Rattle.model.proofs.Groups.{wires-hold, state-first-holds, state-later-holds, gateClauses-holds, resetClause-holds, latchClauses-holds, pair-holds, closing-holds, property-holds}
+use Rattle.model.proofs.Groups.{wires-hold, state-first-holds, state-later-holds, gateClauses-holds, resetClauses-holds, latchClauses-holds, pair-holds, closing-holds, property-holds}
 
 module _ (c : Netlist) (a : Assignment) where
   -- the frames as assigned, the address in a frame, and the literals of a pair
@@ -49,10 +49,10 @@ module _ (c : Netlist) (a : Assignment) where
       (λ e. h .E-where-all-e (λ t b. h .address-bit t b .1
       (Aj t ∙ sym (address-bits c (port c) (port c) (u i) (u j) (eqb-true _ _ e) t b) ∙ sym (Ai t))))
     where
-      Aj : (t : ℕ) → value a (literals j i .Aj t) ≡ code (u j) (c .address t)
+      Aj : (t : ℕ) → value a (literals j i .Aj t) ≡ codeValue (u j) (c .address t)
       Aj t = codeIn-value c a j (c .address t)
 
-      Ai : (t : ℕ) → value a (literals j i .Ai t) ≡ code (u i) (c .address t)
+      Ai : (t : ℕ) → value a (literals j i .Ai t) ≡ codeValue (u i) (c .address t)
       Ai t = codeIn-value c a i (c .address t)
 
   -- s is true exactly where frame j writes the word that frame i reads
@@ -62,7 +62,7 @@ module _ (c : Netlist) (a : Assignment) where
       h .valid ∙ and-comm (value a (literals j i .E)) (value a (literals j i .WE))
       ∙ ap₂ _&&_ (codeIn-value c a j (c .WE)) (E-value j i h)
 
-  module _ (k : ℕ) (holds : EachGroup c k (Holds a)) where
+  module _ (k : ℕ) (holds : EachGroup c k (AllHold a)) where
     pair-at : (j i : ℕ) → j < i → i ≤ k → PairHolds a (c .m) (c .n) (literals j i)
     pair-at j i b d = pair-holds c a k j i .0 (holds .pairs j i b d)
 
@@ -90,7 +90,7 @@ module _ (c : Netlist) (a : Assignment) where
         let p = pair-at j i b d in p .exclusive ∙ ap₂ _&&_ (s-value j i p) (N-value j i) ∙ h
 
     -- where RE is true, the read bits assigned are the word that the writes assigned leave
-    read-at : (i : ℕ) → i ≤ k → code (u i) (c .RE) ≡ true → (t : ℕ) → t < c .n
+    read-at : (i : ℕ) → i ≤ k → codeValue (u i) (c .RE) ≡ true → (t : ℕ) → t < c .n
         → u i (readWire c t) ≡ bit (wordBefore c u (c .initialWord) (at i) i) t
     unfolding closingLiterals pairLiterals value hits
     read-at i d r t b = sym (readBit-value c a i t) ∙ reads i (le-refl i) RE t b
@@ -129,7 +129,7 @@ module _ (c : Netlist) (a : Assignment) where
       unfolding stateAt initial step run
       latch-at zero d before l b =
           let first = state-first-holds c a .0 (wires-hold c a k 0 .0 (holds .wires 0 d) .0) in
-          resetClause-holds c a l .0 (first .1 l b)
+          resetClauses-holds c a l .0 (first .1 l b)
       latch-at (suc i) d before l b =
           let later = state-later-holds c a i .0 (wires-hold c a k (suc i) .0 (holds .wires (suc i) d) .0) in
           ap (λ (x : ℕ). u x (latchWire c l)) (sym (add-one i))
@@ -151,11 +151,11 @@ module _ (c : Netlist) (a : Assignment) where
             at-zero = assigned-zero c a i;
             at-input = λ x b. assigned-wire c a i (inputWire c x) (omega arith);
             at-latch = latch-at i d before;
-            at-read = λ t b. reads t b (code (u i) (c .RE)) refl;
+            at-read = λ t b. reads t b (codeValue (u i) (c .RE)) refl;
             at-gate = λ g b. gateClauses-holds c a i g .0 (wires-hold c a k i .0 (holds .wires i d) .1 g b);
           }
         where
-          reads : (t : ℕ) → t < c .n → (r : Bool) → code (u i) (c .RE) ≡ r
+          reads : (t : ℕ) → t < c .n → (r : Bool) → codeValue (u i) (c .RE) ≡ r
               → u i (readWire c t) ≡ readData c (state i) (feedOf c a i) (u i) t
           reads t b true e = rw e (read-at i d e t b ∙ ap (λ (w : ℕ). bit w t) (word-at i before (at i)))
           reads t b false e = rw e (assigned-wire c a i (readWire c t) (omega arith))
@@ -171,11 +171,11 @@ module _ (c : Netlist) (a : Assignment) where
       agree : (i : ℕ) → i < k + 1 → Same c (u i) (driven i)
       agree = agree-below (k + 1) (le-refl (k + 1))
 
-      pub assignment-agrees : Agrees c k a (feedOf c a)
+      pub assignment-agrees : Agrees c (initial c) k a (feedOf c a)
       unfolding Agrees
       assignment-agrees i d w l b = sym (assigned-wire c a i w l) ∙ agree i (omega arith) w b
 
-      pub assignment-breaks : Breaks c k (feedOf c a)
+      pub assignment-breaks : Breaks c (initial c) k (feedOf c a)
       unfolding Breaks
       assignment-breaks =
           let p = property-holds c a k .0 (holds .property) in

@@ -17,6 +17,11 @@ or-true false y = (λ h. inr h, or-false-true y)
     or-false-true y (inl h) = absurd (false≢true h)
     or-false-true y (inr h) = h
 
+-- and false where neither is true
+pub neither-true : (x y : Bool) → ((x || y) ≡ false) ↔ ((x ≡ false) × (y ≡ false))
+neither-true true y = (λ h. absurd (true≢false h), λ h. h .0)
+neither-true false y = (λ h. (refl, h), λ h. h .1)
+
 -- true or false
 pub either : (x : Bool) → (x ≡ true) ⊎ (x ≡ false)
 either true = inl refl

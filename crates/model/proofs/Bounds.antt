@@ -10,10 +10,10 @@ use lib.Dec.{eqb, ltb}
 use lib.IntN.{natAbs}
 use Rattle.model.specs.Bits.{odd}
 use Rattle.model.specs.Netlist.{Netlist, port, gateWire, lastWire}
-use Rattle.model.specs.Clauses.{Literal, known, plus, minus, Clause, neg, andClauses, sameClauses, sameIf, bitClauses, PairLiterals, bitOf, unequalOf, allBits, forwarded, pairClauses, ClosingLiterals, initialRead, selectedOf, someSource, closingClauses}
+use Rattle.model.specs.Clauses.{Literal, known, plus, minus, Clause, neg, andClauses, sameClauses, sameIfClauses, bitClauses, PairLiterals, addressBitClauses, unequalOf, allBits, forwardedClauses, pairClauses, ClosingLiterals, initialReadClauses, selectedOf, someSource, closingClauses}
 use Rattle.model.specs.Variables.{stride, base, pairBase, wireAt, codeAt, wireIn, codeIn, noneSince, selected, readBit, pairLiterals, closingLiterals}
 use Rattle.model.specs.Acceptance.{Accepted, IsCode}
-use Rattle.model.specs.Groups.{gateClauses, resetClause, latchClauses, stateClauses, violationOf, clausesOf, pairOf, frameGroups, groupOrder}
+use Rattle.model.specs.Groups.{gateClauses, resetClauses, latchClauses, stateClauses, violationOf, clausesOf, pairOf, frameGroups, groupOrder}
 use Rattle.model.specs.Numbers.{numberOf, written, formula}
 use Rattle.model.specs.declared.Group.{Group}
 use Rattle.model.specs.declared.Group.the-variants.{Wires, Pair, Closing, Property}
@@ -71,9 +71,9 @@ module _ {P : Literal → Type 0} (keeps : (l : Literal) → P l → P (neg l)) 
   same-all q d = search (also, nothing, keeps) depth 12
 
   -- of the clauses of two literals that are equal where a third is true
-  sameIf-all : {p a b : Literal} → P p → P a → P b → AllLits P (sameIf p a b)
-  unfolding sameIf
-  sameIf-all p a b = search (also, nothing, keeps) depth 12
+  sameIfClauses-all : {p a b : Literal} → P p → P a → P b → AllLits P (sameIfClauses p a b)
+  unfolding sameIfClauses
+  sameIfClauses-all p a b = search (also, nothing, keeps) depth 12
 
   -- of an address bit's clauses
   bit-all : {E e x y : Literal} → P E → P e → P x → P y → AllLits P (bitClauses E e x y)
@@ -82,15 +82,15 @@ module _ {P : Literal → Type 0} (keeps : (l : Literal) → P l → P (neg l)) 
 
   -- of a pair's clauses
   pair-all : (m n : ℕ) (x : PairLiterals) → PairAll P m n x → AllLits P (pairClauses m n x)
-  unfolding pairClauses bitOf allBits unequalOf forwarded
+  unfolding pairClauses addressBitClauses allBits unequalOf forwardedClauses
   pair-all m n x a =
-      search (_⧺_, just, also, all-gather, bit-all, and-all, sameIf-all, keeps, a .E, a .e, a .s, a .PS, a .S, a .N, a .WE, a .Aj, a .WD, a .Ai, a .RD) depth 20
+      search (_⧺_, just, also, all-gather, bit-all, and-all, sameIfClauses-all, keeps, a .E, a .e, a .s, a .PS, a .S, a .N, a .WE, a .Aj, a .WD, a .Ai, a .RD) depth 20
 
   -- of a closing's clauses
   closing-all : (n i : ℕ) (x : ClosingLiterals) → ClosingAll P n i x → AllLits P (closingClauses n i x)
-  unfolding closingClauses initialRead someSource selectedOf
+  unfolding closingClauses initialReadClauses someSource selectedOf
   closing-all n i x a =
-      search (_⧺_, just, also, all-gather, sameIf-all, keeps, a .Z, a .RE, a .S, a .RD, a .W) depth 20
+      search (_⧺_, just, also, all-gather, sameIfClauses-all, keeps, a .Z, a .RE, a .S, a .RD, a .W) depth 20
 
 -- what each group's clauses have, all groups' clauses joined have
 pub joined-all : {Q : Clause → Type 0} (f : Group → List Clause) (gs : List Group)
@@ -169,8 +169,8 @@ module _ {c : Netlist} (accepted : Accepted c) (k : ℕ) where
       (code-within c k i _ h (operand _ (accepted .limits .codes .right-fits g b)))
 
   -- a latch's in frame 0
-  reset-within : (l : ℕ) → l < c .latches → AllLits (Bounded c k) (resetClause c l)
-  unfolding resetClause
+  reset-within : (l : ℕ) → l < c .latches → AllLits (Bounded c k) (resetClauses c l)
+  unfolding resetClauses
   reset-within l b =
       just (just (either-all (within-neg _) (eqb (c .reset l) 1) (wire-within c k 0 _ (omega arith) (omega arith))))
 
@@ -187,7 +187,7 @@ module _ {c : Netlist} (accepted : Accepted c) (k : ℕ) where
   unfolding stateClauses
   state-within zero h =
       just (just (variable-within c k 0 1 h (omega (arith, base-least c 1))))
-      ⧺ all-gather (c .latches) (resetClause c) (λ l b. reset-within l b)
+      ⧺ all-gather (c .latches) (resetClauses c) (λ l b. reset-within l b)
   state-within (suc i) h = all-gather (c .latches) (latchClauses c i) (λ l b. latch-within i l h b)
 
   -- the wires of frame i

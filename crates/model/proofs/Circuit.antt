@@ -5,15 +5,15 @@ use mathlib.Core.Bool.{Bool, false, _&&_, true≢false}
 use native.Mathlib.Omega.{arith}
 use borrow.Author.Tests.{lt-ltb, le-ltb}
 use Rattle.model.specs.Netlist.{Netlist, Port, port, readBits, inputWire, latchWire, readWire, gateWire, lastWire}
-use Rattle.model.specs.Circuit.{Values, code, sources, conjunction, evaluate, dependsOnRead, State, Feed, addressOf, readData, firstPass, frame}
+use Rattle.model.specs.Circuit.{Values, codeValue, sources, conjunction, evaluate, dependsOnRead, State, Feed, addressOf, readData, firstPass, frame}
 use Rattle.model.specs.Acceptance.{Accepted, CodesFit, IsCode}
 use Rattle.model.proofs.Bits.{fromBits-same}
 use Rattle.model.proofs.Sweep.{OfTwoWires, sweep-outside, sweep-solves, wire-induction}
 use Rattle.model.proofs.Dependence.{depends-read, independent-gate}
 
 -- a code's value needs its wire's value alone
-pub code-same : (u v : Values) (x : ℕ) → u (x / 2) ≡ v (x / 2) → code u x ≡ code v x
-unfolding code
+pub code-same : (u v : Values) (x : ℕ) → u (x / 2) ≡ v (x / 2) → codeValue u x ≡ codeValue v x
+unfolding codeValue
 code-same u v x h = rw h
 
 -- a gate looks at its two wires alone
@@ -27,7 +27,7 @@ pub record Solves (c : Netlist) (input latch read : ℕ → Bool) (v : Values) :
   pub at-input : (x : ℕ) → x < c .inputs → v (inputWire c x) ≡ input x
   pub at-latch : (l : ℕ) → l < c .latches → v (latchWire c l) ≡ latch l
   pub at-read : (t : ℕ) → t < readBits c → v (readWire c t) ≡ read t
-  pub at-gate : (g : ℕ) → g < c .gates → v (gateWire c g) ≡ (code v (c .left g) && code v (c .right g))
+  pub at-gate : (g : ℕ) → g < c .gates → v (gateWire c g) ≡ (codeValue v (c .left g) && codeValue v (c .right g))
 
 module _ (c : Netlist) (input latch read : ℕ → Bool) where
   -- wire 0 is false
@@ -111,14 +111,14 @@ independent-agree {c} q =
     (λ t h free. absurd (true≢false (sym (depends-read c t h) ∙ free)))
 
 -- equal address codes make the same address
-pub address-same : (c : Netlist) (p : Port) (u v : Values) → ((t : ℕ) → t < c .m → code u (p .address t) ≡ code v (p .address t))
+pub address-same : (c : Netlist) (p : Port) (u v : Values) → ((t : ℕ) → t < c .m → codeValue u (p .address t) ≡ codeValue v (p .address t))
     → addressOf c p u ≡ addressOf c p v
 unfolding addressOf
-address-same c p u v h = fromBits-same (c .m) (λ t. code u (p .address t)) (λ t. code v (p .address t)) h
+address-same c p u v h = fromBits-same (c .m) (λ t. codeValue u (p .address t)) (λ t. codeValue v (p .address t)) h
 
 -- what is read follows from the address and RE
 pub readData-same : (c : Netlist) (s : State) (f : Feed) (u v : Values) → addressOf c (port c) u ≡ addressOf c (port c) v
-    → code u (port c .RE) ≡ code v (port c .RE) → (t : ℕ) → readData c s f u t ≡ readData c s f v t
+    → codeValue u (port c .RE) ≡ codeValue v (port c .RE) → (t : ℕ) → readData c s f u t ≡ readData c s f v t
 unfolding readData
 readData-same c s f u v a e t = rw (a, e)
 
@@ -128,7 +128,7 @@ pub record IsFrame (c : Netlist) (s : State) (f : Feed) (v : Values) : Type 0 wh
   pub at-input : (x : ℕ) → x < c .inputs → v (inputWire c x) ≡ f .input x
   pub at-latch : (l : ℕ) → l < c .latches → v (latchWire c l) ≡ s .latch l
   pub at-read : (t : ℕ) → t < readBits c → v (readWire c t) ≡ readData c s f v t
-  pub at-gate : (g : ℕ) → g < c .gates → v (gateWire c g) ≡ (code v (c .left g) && code v (c .right g))
+  pub at-gate : (g : ℕ) → g < c .gates → v (gateWire c g) ≡ (codeValue v (c .left g) && codeValue v (c .right g))
 
 -- what is read is settled before any read bit is
 read-settled : {c : Netlist} → Accepted c → (s : State) (f : Feed) → {read other : ℕ → Bool} {u v : Values}
@@ -138,7 +138,7 @@ read-settled {c} h s f {u} {v} p q =
     (address-same c (port c) u v (λ t l. settled (c .address t) (h .limits .codes .address-fits t l) (h .noLoop .address-free t l)))
     (settled (c .RE) (h .limits .codes .RE-fits) (h .noLoop .RE-free))
   where
-    settled : (x : ℕ) → IsCode c x → dependsOnRead c (x / 2) ≡ false → code u x ≡ code v x
+    settled : (x : ℕ) → IsCode c x → dependsOnRead c (x / 2) ≡ false → codeValue u x ≡ codeValue v x
     settled x l free = code-same u v x (independent-agree (h .limits .codes) p q (x / 2) (omega arith) free)
 
 -- the first pass is a solution with all read bits false

@@ -6,9 +6,10 @@ use mathlib.Core.List.{List, [], _∷_, _++_, map}
 use mathlib.Core.Logic.{_↔_, Iff·trans, inl, inr, ⊎-elim}
 use lib.ListN.{length, length-map}
 use Rattle.model.specs.Netlist.{Netlist}
-use Rattle.model.specs.Circuit.{Feed, run, initial}
+use Rattle.model.specs.Circuit.{Feeds, run, initial}
 use Rattle.model.specs.Acceptance.{Accepted}
-use Rattle.model.specs.Clauses.{Clause, plus, gather}
+use Rattle.model.specs.Gather.{gather}
+use Rattle.model.specs.Clauses.{Clause, plus}
 use Rattle.model.specs.Variables.{base}
 use Rattle.model.specs.Groups.{clausesOf, groupOrder, stateClauses}
 use Rattle.model.specs.Numbers.{Assignment, numberOf, written, formula, clausesIn, numberTrue, allTrue}
@@ -19,7 +20,7 @@ use Rattle.model.proofs.Gather.{Splits}
 use Rattle.model.proofs.Variables.{base-least}
 use Rattle.model.proofs.Joined.{joinedClauses, formula-written, EachGroup, each-group}
 use Rattle.model.proofs.Bounds.{formula-within}
-use Rattle.model.proofs.Truth.{value, someOf, everyOf, everyOf-splits, everyOf-same, Holds, holds-splits}
+use Rattle.model.proofs.Truth.{value, someOf, everyOf, everyOf-splits, everyOf-same, AllHold, allHold-splits}
 use Rattle.model.proofs.Numbers.{clausesIn-written, numberValue, allTrue-numbers, number-value, number-same}
 use Rattle.model.proofs.Groups.{wires-hold, state-first-holds}
 use Rattle.model.proofs.AssignmentToRun.{assignment-agrees, assignment-breaks}
@@ -43,12 +44,12 @@ module _ {c : Netlist} (ok : Accepted c) (k : ℕ) where
   first-clause a h = sym (or-false (a 1)) ∙ and-true (a 1 || false) _ .0 h .0
 
   -- where variable 1 is true, they are true where each group holds
-  satisfies-groups : (a : Assignment) → a 1 ≡ true → Satisfies c k a ↔ EachGroup c k (Holds a)
+  satisfies-groups : (a : Assignment) → a 1 ≡ true → Satisfies c k a ↔ EachGroup c k (AllHold a)
   unfolding Satisfies
   satisfies-groups a one =
       Iff·trans
       (eq-iff (satisfies-numbers a ∙ everyOf-same (numberValue a) (value a) _ (number-value a one (base c (k + 1))) all (formula-within ok k)))
-      (each-group c k (Holds a) (holds-splits a))
+      (each-group c k (AllHold a) (allHold-splits a))
 
   -- the first clause makes variable 1 true
   satisfies-one : (a : Assignment) → Satisfies c k a → a 1 ≡ true
@@ -89,5 +90,5 @@ encodes c ok k = encodes-depth ok k
 
 -- What a designer relies on: where no assignment satisfies the clauses of depth k, no run breaks the property up to frame k.
 pub unsatisfiable→safe : {c : Netlist} {k : ℕ} → Encodes c k → ((a : Assignment) → Satisfies c k a → ⊥)
-    → (f : ℕ → Feed) → Breaks c k f → ⊥
+    → (f : Feeds) → Breaks c (initial c) k f → ⊥
 unsatisfiable→safe e none f h = let found = e .run→assignment f h in none (found .0) (found .1)

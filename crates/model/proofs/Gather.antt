@@ -1,4 +1,4 @@
--- Laws of gather and gatherDown (specs/Clauses.antt): what adds up over joined lists, and what holds all over them.
+-- Laws of gather and gatherDown (specs/Gather.antt): what adds up over joined lists, and what holds all over them.
 -- No contract cites this file. Assumes nothing.
 use Prim.Native.Nat.{ℕ, zero, suc, _+_, _*_, _<_}
 use mathlib.Core.Path.{_≡_, refl, sym, _∙_}
@@ -7,7 +7,7 @@ use mathlib.Core.Logic.{_↔_, Iff·rfl, Iff·trans, Iff·and}
 use native.Mathlib.Nat.{suc-mul, zero-mul, not-suc-le-zero}
 use native.Mathlib.Omega.{arith}
 use lib.ListN.{length, length-append, getD}
-use Rattle.model.specs.Clauses.{gather, gatherDown}
+use Rattle.model.specs.Gather.{gather, gatherDown}
 use Rattle.model.proofs.Below.{all-below-suc-iff}
 
 -- a count of lists that adds up

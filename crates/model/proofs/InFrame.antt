@@ -9,7 +9,7 @@ use lib.Dec.{eqb, ltb}
 use borrow.Author.Tests.{ltb-true, ltb-false, ne-eqb}
 use Rattle.model.specs.Bits.{odd}
 use Rattle.model.specs.Netlist.{Netlist, port, readWire}
-use Rattle.model.specs.Circuit.{Values, code}
+use Rattle.model.specs.Circuit.{Values, codeValue}
 use Rattle.model.specs.Clauses.{Literal, known, plus, minus}
 use Rattle.model.specs.Variables.{base, wireAt, codeAt, wireIn, codeIn, readBit}
 use Rattle.model.specs.Numbers.{Assignment}
@@ -37,8 +37,8 @@ unfolding readBit
 readBit-value c a i t = rw (zero-add t) (wireIn-value c a i (readWire c t) (omega arith))
 
 -- a code's literal, in whatever frame, has the code's value
-pub codeIn-value : (c : Netlist) (a : Assignment) (i x : ℕ) → value a (codeIn c i x) ≡ code (assigned c a i) x
-unfolding codeAt code value
+pub codeIn-value : (c : Netlist) (a : Assignment) (i x : ℕ) → value a (codeIn c i x) ≡ codeValue (assigned c a i) x
+unfolding codeAt codeValue value
 codeIn-value c a i x = go (ltb x 2) refl (odd x) refl
   where
     constant : x < 2 → assigned c a i (x / 2) ≡ false
@@ -47,7 +47,7 @@ codeIn-value c a i x = go (ltb x 2) refl (odd x) refl
     variable : 2 ≤ x → assigned c a i (x / 2) ≡ a (base c i + x / 2)
     variable h = assigned-wire c a i (x / 2) (omega arith)
 
-    go : (s : Bool) → ltb x 2 ≡ s → (o : Bool) → odd x ≡ o → value a (codeIn c i x) ≡ code (assigned c a i) x
+    go : (s : Bool) → ltb x 2 ≡ s → (o : Bool) → odd x ≡ o → value a (codeIn c i x) ≡ codeValue (assigned c a i) x
     go true e true q = rw (e, q, constant (ltb-true x 2 e))
     go true e false q = rw (e, q, constant (ltb-true x 2 e))
     go false e true q = rw (e, q, variable (ltb-false x 2 e))

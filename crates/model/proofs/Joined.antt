@@ -11,7 +11,8 @@ use lib.Dec.{leb, ltb}
 use lib.IntN.{ℤ, pos}
 use borrow.Author.Tests.{le-leb, lt-ltb}
 use Rattle.model.specs.Netlist.{Netlist}
-use Rattle.model.specs.Clauses.{Clause, gather, gatherDown}
+use Rattle.model.specs.Gather.{gather, gatherDown}
+use Rattle.model.specs.Clauses.{Clause}
 use Rattle.model.specs.Groups.{clausesOf, pairOf, frameGroups, groupOrder, inDepth}
 use Rattle.model.specs.Numbers.{numberOf, written, numbersOf, joined, formula}
 use Rattle.model.specs.declared.Group.{Group}

@@ -9,8 +9,9 @@ use native.Mathlib.Omega.{arith}
 use lib.ListN.{length, length-append, length-map}
 use lib.IntN.{pos}
 use Rattle.model.specs.Netlist.{Netlist}
-use Rattle.model.specs.Clauses.{Literal, Clause, gather, gatherDown, andClauses, sameClauses, sameIf, bitClauses, PairLiterals, bitOf, unequalOf, allBits, forwarded, pairClauses, ClosingLiterals, initialRead, selectedOf, someSource, closingClauses}
-use Rattle.model.specs.Groups.{gateClauses, resetClause, latchClauses, stateClauses, violationOf, clausesOf, pairOf, frameGroups, groupOrder}
+use Rattle.model.specs.Gather.{gather, gatherDown}
+use Rattle.model.specs.Clauses.{Literal, Clause, andClauses, sameClauses, sameIfClauses, bitClauses, PairLiterals, addressBitClauses, unequalOf, allBits, forwardedClauses, pairClauses, ClosingLiterals, initialReadClauses, selectedOf, someSource, closingClauses}
+use Rattle.model.specs.Groups.{gateClauses, resetClauses, latchClauses, stateClauses, violationOf, clausesOf, pairOf, frameGroups, groupOrder}
 use Rattle.model.specs.Numbers.{numberOf, written, numbersOf, joined, formula}
 use Rattle.model.specs.declared.Group.{Group}
 use Rattle.model.specs.declared.Group.the-variants.{Wires, Pair, Closing, Property}
@@ -60,9 +61,9 @@ unfolding sameClauses written
 same-counts q d = record { in-clauses = refl; in-numbers = refl }
 
 -- of two literals that are equal where a third is true
-pub sameIf-counts : (p a b : Literal) → Counts (sameIf p a b) 2 8
-unfolding sameIf written
-sameIf-counts p a b = record { in-clauses = refl; in-numbers = refl }
+pub sameIfClauses-counts : (p a b : Literal) → Counts (sameIfClauses p a b) 2 8
+unfolding sameIfClauses written
+sameIfClauses-counts p a b = record { in-clauses = refl; in-numbers = refl }
 
 -- of an address bit
 pub bit-counts : (E e x y : Literal) → Counts (bitClauses E e x y) 4 16
@@ -76,15 +77,15 @@ allBits-length m x = rw (length-append, length-gather m 1 (unequalOf x) (λ t h.
 
 -- of a pair
 pub pair-counts : (m n : ℕ) (x : PairLiterals) → Counts (pairClauses m n x) (4 * m + 2 * n + 10) (17 * m + 8 * n + 32)
-unfolding pairClauses bitOf forwarded
+unfolding pairClauses addressBitClauses forwardedClauses
 pair-counts m n x =
     counts-as
-    (counts-gather m 4 16 (bitOf x) (λ t. bit-counts _ _ _ _)
+    (counts-gather m 4 16 (addressBitClauses x) (λ t. bit-counts _ _ _ _)
     ⊕ counts-one (allBits m x)
     ⊕ and-counts _ _ _
     ⊕ and-counts _ _ _
     ⊕ and-counts _ _ _
-    ⊕ counts-gather n 2 8 (forwarded x) (λ t. sameIf-counts _ _ _))
+    ⊕ counts-gather n 2 8 (forwardedClauses x) (λ t. sameIfClauses-counts _ _ _))
     (omega arith)
     (omega (arith, allBits-length m x))
 
@@ -95,10 +96,10 @@ someSource-length i x = rw (length-gather i 1 (selectedOf x) (λ t h. refl)) (om
 
 -- of a closing
 pub closing-counts : (n i : ℕ) (x : ClosingLiterals) → Counts (closingClauses n i x) (2 * n + 1) (8 * n + i + 3)
-unfolding closingClauses initialRead
+unfolding closingClauses initialReadClauses
 closing-counts n i x =
     counts-as
-    (counts-gather n 2 8 (initialRead x) (λ t. sameIf-counts _ _ _) ⊕ counts-one (someSource i x))
+    (counts-gather n 2 8 (initialReadClauses x) (λ t. sameIfClauses-counts _ _ _) ⊕ counts-one (someSource i x))
     (omega arith)
     (omega (arith, someSource-length i x))
 
@@ -111,10 +112,10 @@ gates-counts c i = counts-gather (c .gates) 3 10 (gateClauses c i) (λ g. and-co
 module _ (c : Netlist) (k : ℕ) where
   -- the wires of frame 0
   wires-counts-first : Counts (clausesOf c k (Wires 0)) (1 + c .latches + 3 * c .gates) (2 + 2 * c .latches + 10 * c .gates)
-  unfolding clausesOf stateClauses resetClause
+  unfolding clausesOf stateClauses resetClauses
   wires-counts-first =
       counts-as
-      (counts-one _ ⊕ counts-gather (c .latches) 1 2 (resetClause c) (λ l. counts-one _) ⊕ gates-counts c 0)
+      (counts-one _ ⊕ counts-gather (c .latches) 1 2 (resetClauses c) (λ l. counts-one _) ⊕ gates-counts c 0)
       (omega arith)
       (omega arith)
 

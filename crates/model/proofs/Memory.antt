@@ -3,19 +3,19 @@ use Prim.Native.Nat.{ℕ, zero, suc, _^_, _<_}
 use mathlib.Core.Bool.{Bool, true, false, cond, _&&_}
 use lib.Dec.{eqb}
 use Rattle.model.specs.Netlist.{Netlist, Port, port}
-use Rattle.model.specs.Circuit.{Values, code, State, Feed, addressOf, frame, wordWritten, step, stateAt, initial}
+use Rattle.model.specs.Circuit.{Values, codeValue, State, Feeds, addressOf, frame, wordWritten, step, stateAt, initial}
 use Rattle.model.specs.Acceptance.{Accepted}
 use Rattle.model.proofs.Bits.{fromBits-below}
 
 -- every address is below 2^m
 pub address-below : (c : Netlist) (p : Port) (v : Values) → addressOf c p v < 2 ^ c .m
 unfolding addressOf
-address-below c p v = fromBits-below (c .m) (λ t. code v (p .address t))
+address-below c p v = fromBits-below (c .m) (λ t. codeValue v (p .address t))
 
 -- every word written is below 2^n
 pub wordWritten-below : (c : Netlist) (v : Values) → wordWritten c v < 2 ^ c .n
 unfolding wordWritten
-wordWritten-below c v = fromBits-below (c .n) (λ t. code v (c .writeData t))
+wordWritten-below c v = fromBits-below (c .n) (λ t. codeValue v (c .writeData t))
 
 -- every word of the memory is below 2^n
 abbrev pub WordsFit : Netlist → State → Type 0
@@ -24,19 +24,19 @@ WordsFit c s = (x : ℕ) → s .memory x < 2 ^ c .n
 -- after a frame, words below 2^n are still so
 pub step-fits : (c : Netlist) (s : State) (v : Values) → WordsFit c s → WordsFit c (step c s v)
 unfolding step
-step-fits c s v h x = written (code v (c .WE) && eqb x (addressOf c (port c) v))
+step-fits c s v h x = written (codeValue v (c .WE) && eqb x (addressOf c (port c) v))
   where
     written : (b : Bool) → cond b (wordWritten c v) (s .memory x) < 2 ^ c .n
     written true = wordWritten-below c v
     written false = h x
 
 -- where a run begins with words below 2^n, they are so in every frame
-pub stateAt-fits : (c : Netlist) (s : State) → WordsFit c s → (f : ℕ → Feed) (i : ℕ) → WordsFit c (stateAt c s f i)
+pub stateAt-fits : (c : Netlist) (s : State) → WordsFit c s → (f : Feeds) (i : ℕ) → WordsFit c (stateAt c s f i)
 unfolding stateAt
 stateAt-fits c s h f zero = h
 stateAt-fits c s h f (suc i) = step-fits c (stateAt c s f i) (frame c (stateAt c s f i) (f i)) (stateAt-fits c s h f i)
 
 -- in a run from the start, every word is below 2^n
-pub word-below : (c : Netlist) → Accepted c → (f : ℕ → Feed) (i x : ℕ) → stateAt c (initial c) f i .memory x < 2 ^ c .n
+pub word-below : (c : Netlist) → Accepted c → (f : Feeds) (i x : ℕ) → stateAt c (initial c) f i .memory x < 2 ^ c .n
 unfolding initial
 word-below c h f i x = stateAt-fits c (initial c) (λ y. h .limits .sizes .word-fits) f i x

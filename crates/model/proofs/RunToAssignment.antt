@@ -11,7 +11,7 @@ use lib.Dec.{eqb}
 use borrow.Author.Tests.{eqb-true, eq-eqb, ne-eqb}
 use Rattle.model.specs.Bits.{bit, fromBits}
 use Rattle.model.specs.Netlist.{Netlist, Port, port, lastWire, readBits, inputWire, latchWire, readWire, gateWire}
-use Rattle.model.specs.Circuit.{Values, code, State, Feed, addressOf, readData, frame, wordWritten, step, stateAt, run, initial}
+use Rattle.model.specs.Circuit.{Values, codeValue, State, Feeds, addressOf, readData, frame, wordWritten, step, stateAt, run, initial}
 use Rattle.model.specs.Acceptance.{Accepted, IsCode}
 use Rattle.model.specs.Clauses.{Literal, known, PairLiterals}
 use Rattle.model.specs.Variables.{base, codeIn, noneSince, selected, readBit, pairLiterals, closingLiterals}
@@ -21,16 +21,16 @@ use Rattle.model.specs.Numbers.{Assignment}
 use Rattle.model.specs.Claim.{Agrees, Breaks}
 use Rattle.model.proofs.Booleans.{and-true, iff-eq, beq-true}
 use Rattle.model.proofs.Circuit.{IsFrame, frame-is, address-same}
-use Rattle.model.proofs.Truth.{value, Holds, PairHolds, ClosingHolds}
+use Rattle.model.proofs.Truth.{value, AllHold, PairHolds, ClosingHolds}
 use Rattle.model.proofs.InFrame.{assigned, assigned-zero, assigned-wire, readBit-value, codeIn-value}
 use Rattle.model.proofs.Forwarding.{stepped, Chain, noneFrom-last, noneFrom-chain, none-unchanged, source-exists}
 use Rattle.model.proofs.Variables.{noneSince-last, noneSince-earlier}
 use Rattle.model.proofs.Joined.{EachGroup}
 use Rattle.model.proofs.Agreement.{Same, code-agrees, word-bit, writes, hits, wordBefore, memory-stepped, address-bits}
 use Rattle.model.proofs.Witness.{nones, witness, witness-one, witness-wire, witness-E, witness-e, witness-s, witness-PS, witness-S}
-use Rattle.model.proofs.Groups.{wires-hold, state-first-holds, state-later-holds, gateClauses-holds, resetClause-holds, latchClauses-holds, pair-holds, closing-holds, property-holds}
+use Rattle.model.proofs.Groups.{wires-hold, state-first-holds, state-later-holds, gateClauses-holds, resetClauses-holds, latchClauses-holds, pair-holds, closing-holds, property-holds}
 
-module _ (c : Netlist) (ok : Accepted c) (f : ℕ → Feed) (k : ℕ) where
+module _ (c : Netlist) (ok : Accepted c) (f : Feeds) (k : ℕ) where
   -- the run's frames, and their witness
   abbrev u : ℕ → Values
   u = run c (initial c) f
@@ -49,26 +49,26 @@ module _ (c : Netlist) (ok : Accepted c) (f : ℕ → Feed) (k : ℕ) where
   same i d (suc w) b = assigned-wire c a i (suc w) (omega arith) ∙ witness-wire c k u i (suc w) d (omega arith) b
 
   -- a code's literal has the code's value in the run
-  code-value : (i : ℕ) → i ≤ k → (x : ℕ) → IsCode c x → value a (codeIn c i x) ≡ code (u i) x
+  code-value : (i : ℕ) → i ≤ k → (x : ℕ) → IsCode c x → value a (codeIn c i x) ≡ codeValue (u i) x
   code-value i d x fits = codeIn-value c a i x ∙ code-agrees c (assigned c a i) (u i) (same i d) x fits
 
   -- the clauses of a frame's gates and latches hold, as the frame's equations do
   gate-holds : (i : ℕ) → i ≤ k → (g : ℕ) → g < c .gates
-      → assigned c a i (gateWire c g) ≡ (code (assigned c a i) (c .left g) && code (assigned c a i) (c .right g))
+      → assigned c a i (gateWire c g) ≡ (codeValue (assigned c a i) (c .left g) && codeValue (assigned c a i) (c .right g))
   gate-holds i d g b =
       same i d (gateWire c g) (omega arith) ∙ frame-at i .at-gate g b
       ∙ sym (ap₂ _&&_ (agrees (c .left g) (ok .limits .codes .left-fits g b)) (agrees (c .right g) (ok .limits .codes .right-fits g b)))
     where
-      agrees : (x : ℕ) → x < 2 * gateWire c g → code (assigned c a i) x ≡ code (u i) x
+      agrees : (x : ℕ) → x < 2 * gateWire c g → codeValue (assigned c a i) x ≡ codeValue (u i) x
       agrees x l = code-agrees c (assigned c a i) (u i) (same i d) x (omega arith)
 
-  wires-at : (i : ℕ) → i ≤ k → Holds a (clausesOf c k (Wires i))
+  wires-at : (i : ℕ) → i ≤ k → AllHold a (clausesOf c k (Wires i))
   unfolding stateAt initial step run
   wires-at zero d =
       wires-hold c a k 0 .1 (
         state-first-holds c a .1 (
           witness-one c k u,
-          λ l b. resetClause-holds c a l .1 (same 0 d (latchWire c l) (omega arith) ∙ frame-at 0 .at-latch l b),
+          λ l b. resetClauses-holds c a l .1 (same 0 d (latchWire c l) (omega arith) ∙ frame-at 0 .at-latch l b),
         ),
         λ g b. gateClauses-holds c a 0 g .1 (gate-holds 0 d g b),
       )
@@ -84,7 +84,7 @@ module _ (c : Netlist) (ok : Accepted c) (f : ℕ → Feed) (k : ℕ) where
       )
 
   -- where frame i reads, its read bits are the word that the writes before it leave
-  read-bit : (i : ℕ) → code (u i) (c .RE) ≡ true → (t : ℕ) → t < c .n
+  read-bit : (i : ℕ) → codeValue (u i) (c .RE) ≡ true → (t : ℕ) → t < c .n
       → u i (readWire c t) ≡ bit (stepped (c .initialWord) (hits c u i) (λ j. wordWritten c (u j)) i) t
   unfolding readData initial hits
   read-bit i r t b =
@@ -94,7 +94,7 @@ module _ (c : Netlist) (ok : Accepted c) (f : ℕ → Feed) (k : ℕ) where
   -- the writes to the word that frame i reads, and its RE, make a chain
   chain-at : (i : ℕ) → Chain i (hits c u i) (nones c u i)
   unfolding nones
-  chain-at i = noneFrom-chain (hits c u i) (code (u i) (c .RE)) i
+  chain-at i = noneFrom-chain (hits c u i) (codeValue (u i) (c .RE)) i
 
   -- where no frame from j on writes the word, frame i reads what it was before frame j
   read-since : (j i : ℕ) → j ≤ i → nones c u i j ≡ true → (t : ℕ) → t < c .n
@@ -102,7 +102,7 @@ module _ (c : Netlist) (ok : Accepted c) (f : ℕ → Feed) (k : ℕ) where
   unfolding nones
   read-since j i d h t b =
       let p = none-unchanged i (hits c u i) (nones c u i) (chain-at i) (c .initialWord) (λ j. wordWritten c (u j)) (i - j) j (omega arith) h in
-      read-bit i (sym (noneFrom-last (hits c u i) (code (u i) (c .RE)) i) ∙ p .1) t b ∙ ap (λ (w : ℕ). bit w t) (p .0)
+      read-bit i (sym (noneFrom-last (hits c u i) (codeValue (u i) (c .RE)) i) ∙ p .1) t b ∙ ap (λ (w : ℕ). bit w t) (p .0)
 
   -- a read bit's literal has the read bit's value in the run
   read-value : (i : ℕ) → i ≤ k → (t : ℕ) → t < c .n → value a (readBit c (port c) i t) ≡ u i (readWire c t)
@@ -117,7 +117,7 @@ module _ (c : Netlist) (ok : Accepted c) (f : ℕ → Feed) (k : ℕ) where
       last e =
           rw e
           (ap (value a) (noneSince-last c (port c) i) ∙ code-value i d (c .RE) (ok .limits .codes .RE-fits)
-          ∙ sym (noneFrom-last (hits c u i) (code (u i) (c .RE)) i))
+          ∙ sym (noneFrom-last (hits c u i) (codeValue (u i) (c .RE)) i))
 
       earlier : j < i → value a (noneSince c (port c) j i) ≡ nones c u i j
       earlier l = ap (value a) (noneSince-earlier c (port c) j i l) ∙ witness-PS c k u j i l d
@@ -132,7 +132,7 @@ module _ (c : Netlist) (ok : Accepted c) (f : ℕ → Feed) (k : ℕ) where
           λ h. witness-e c k u j i l d t b ∙ beq-true _ _ .1 (sym (Aj t b) ∙ h ∙ Ai t b),
         );
         E-where-all-e = λ h. E ∙ eq-eqb _ _ (address-same c (port c) (u i) (u j) (λ t b. sym (beq-true _ _ .0 (sym (witness-e c k u j i l d t b) ∙ h t b))));
-        valid = s ∙ and-comm (code (u j) (c .WE)) _ ∙ ap₂ _&&_ (sym E) (sym (code-value j before (c .WE) (ok .limits .codes .WE-fits)));
+        valid = s ∙ and-comm (codeValue (u j) (c .WE)) _ ∙ ap₂ _&&_ (sym E) (sym (code-value j before (c .WE) (ok .limits .codes .WE-fits)));
         none-since = noneSince-value j i (le-of-lt l) d ∙ chain-at i .link j l ∙ ap₂ (λ (x y : Bool). not x && y) (sym s) N;
         exclusive = witness-S c k u j i l d ∙ ap₂ _&&_ (sym s) N;
         data-where-S = λ t b h. forwards t b (and-true (hits c u i j) (nones c u i (suc j)) .0 (sym (witness-S c k u j i l d) ∙ h));
@@ -150,10 +150,10 @@ module _ (c : Netlist) (ok : Accepted c) (f : ℕ → Feed) (k : ℕ) where
       N : nones c u i (suc j) ≡ value a (pairLiterals c (port c) j i .N)
       N = sym (noneSince-value (suc j) i l d) ∙ ap (λ (x : ℕ). value a (noneSince c (port c) x i)) (sym (add-one j))
 
-      Aj : (t : ℕ) → t < c .m → value a (pairLiterals c (port c) j i .Aj t) ≡ code (u j) (c .address t)
+      Aj : (t : ℕ) → t < c .m → value a (pairLiterals c (port c) j i .Aj t) ≡ codeValue (u j) (c .address t)
       Aj t b = code-value j before (c .address t) (ok .limits .codes .address-fits t b)
 
-      Ai : (t : ℕ) → t < c .m → value a (pairLiterals c (port c) j i .Ai t) ≡ code (u i) (c .address t)
+      Ai : (t : ℕ) → t < c .m → value a (pairLiterals c (port c) j i .Ai t) ≡ codeValue (u i) (c .address t)
       Ai t b = code-value i d (c .address t) (ok .limits .codes .address-fits t b)
 
       forwards : (t : ℕ) → t < c .n → (hits c u i j ≡ true) × (nones c u i (suc j) ≡ true)
@@ -172,11 +172,11 @@ module _ (c : Netlist) (ok : Accepted c) (f : ℕ → Feed) (k : ℕ) where
         source-where-RE = λ h.
             ⊎-map (λ z. noneSince-value 0 i zero-le d ∙ z) (λ p. (p .0, p .1, witness-S c k u (p .0) i (p .1) d ∙ p .2))
             (source-exists i (hits c u i) (nones c u i) (chain-at i) (c .initialWord) (λ j. wordWritten c (u j)) i (le-refl i)
-            (noneFrom-last (hits c u i) (code (u i) (c .RE)) i ∙ sym (code-value i d (c .RE) (ok .limits .codes .RE-fits)) ∙ h));
+            (noneFrom-last (hits c u i) (codeValue (u i) (c .RE)) i ∙ sym (code-value i d (c .RE) (ok .limits .codes .RE-fits)) ∙ h));
       }
 
   -- so does every group, where the run breaks the property
-  pub run-groups : Breaks c k f → EachGroup c k (Holds a)
+  pub run-groups : Breaks c (initial c) k f → EachGroup c k (AllHold a)
   unfolding Breaks
   run-groups h =
       record {
@@ -187,6 +187,6 @@ module _ (c : Netlist) (ok : Accepted c) (f : ℕ → Feed) (k : ℕ) where
       }
 
   -- and the witness agrees with the run
-  pub run-agrees : Agrees c k a f
+  pub run-agrees : Agrees c (initial c) k a f
   unfolding Agrees
   run-agrees i d w lo hi = witness-wire c k u i w d lo hi

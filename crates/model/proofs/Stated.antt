@@ -9,7 +9,8 @@ use borrow.Author.Tests.{leb-true, ltb-true}
 use lib.Dec.{leb, ltb}
 use lib.IntN.{natAbs, pos}
 use lib.ListN.{length, length-map, getD}
-use Rattle.model.specs.Netlist.{Netlist}
+use Rattle.model.specs.Netlist.{Netlist, port}
+use Rattle.model.specs.Circuit.{run, initial}
 use Rattle.model.specs.Acceptance.{Accepted}
 use Rattle.model.specs.Clauses.{Clause}
 use Rattle.model.specs.Variables.{base, Numbered}
@@ -21,6 +22,7 @@ use Rattle.model.specs.declared.Group.{Group}
 use Rattle.model.specs.declared.Group.the-variants.{Wires, Pair, Closing, Property}
 use Rattle.model.proofs.Booleans.{and-true}
 use Rattle.model.proofs.Dependence.{depends-path, path-depends}
+use Rattle.model.proofs.Memory.{address-below, word-below}
 use Rattle.model.proofs.Gather.{all-getD}
 use Rattle.model.proofs.Numbering.{numbered}
 use Rattle.model.proofs.Lengths.{wires-clauses-first, wires-clauses-later, pair-clauses, closing-clauses, property-clauses, wires-numbers-first, wires-numbers-later, pair-numbers, closing-numbers, property-numbers}
@@ -74,6 +76,8 @@ module _ {c : Netlist} (ok : Accepted c) (k : ℕ) where
         clauses-counted = clauses-in-group;
         numbers-counted = group-numbers c k;
         depends-by-path = λ w. (depends-path c (ok .limits .codes) w, path-depends c (ok .limits .codes) w);
+        addresses-within = λ f i. address-below c (port c) (run c (initial c) f i);
+        words-within = word-below c ok;
       }
 
 pub stated : StatedTheorem

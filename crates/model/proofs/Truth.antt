@@ -7,7 +7,8 @@ use mathlib.Core.List.{List, [], _∷_, _++_}
 use mathlib.Core.Logic.{_⊎_, inl, inr, _↔_, Iff·trans, Iff·and, ⊎-elim, ⊎-map}
 use native.Mathlib.Nat.{not-suc-le-zero, lt-suc-self, le-step}
 use native.Mathlib.Omega.{arith}
-use Rattle.model.specs.Clauses.{Literal, known, plus, minus, Clause, neg, gather, andClauses, sameClauses, sameIf, bitClauses, PairLiterals, bitOf, unequalOf, allBits, forwarded, pairClauses, ClosingLiterals, initialRead, selectedOf, someSource, closingClauses}
+use Rattle.model.specs.Gather.{gather}
+use Rattle.model.specs.Clauses.{Literal, known, plus, minus, Clause, neg, andClauses, sameClauses, sameIfClauses, bitClauses, PairLiterals, addressBitClauses, unequalOf, allBits, forwardedClauses, pairClauses, ClosingLiterals, initialReadClauses, selectedOf, someSource, closingClauses}
 use Rattle.model.specs.Numbers.{Assignment}
 use borrow.Author.Tests.{not-true, not-false}
 use Rattle.model.proofs.Below.{below-suc}
@@ -35,8 +36,8 @@ anyTrue a = someOf (value a)
 abbrev pub allHold : Assignment → List Clause → Bool
 allHold a = everyOf (value a)
 
-abbrev pub Holds : Assignment → List Clause → Type 0
-Holds a xs = allHold a xs ≡ true
+abbrev pub AllHold : Assignment → List Clause → Type 0
+AllHold a xs = allHold a xs ≡ true
 
 pub value-neg : (a : Assignment) (l : Literal) → value a (neg l) ≡ not (value a l)
 unfolding value neg
@@ -66,18 +67,18 @@ everyOf-splits t =
     record { of-none = refl; of-both = λ xs ys. rw (everyOf-append t xs ys) (and-true (everyOf t xs) (everyOf t ys)) }
 
 -- one clause
-pub holds-one : (a : Assignment) (x : Clause) → Holds a (x ∷ []) ↔ (anyTrue a x ≡ true)
+pub allHold-one : (a : Assignment) (x : Clause) → AllHold a (x ∷ []) ↔ (anyTrue a x ≡ true)
 unfolding everyOf
-holds-one a x = (λ h. and-true (anyTrue a x) true .0 h .0, λ h. and-true (anyTrue a x) true .1 (h, refl))
+allHold-one a x = (λ h. and-true (anyTrue a x) true .0 h .0, λ h. and-true (anyTrue a x) true .1 (h, refl))
 
 -- no clause, and one clause more
-pub holds-none : (a : Assignment) → Holds a [] ↔ Unit {0}
+pub allHold-none : (a : Assignment) → AllHold a [] ↔ Unit {0}
 unfolding everyOf
-holds-none a = (λ h. tt, λ h. refl)
+allHold-none a = (λ h. tt, λ h. refl)
 
-pub holds-cons : (a : Assignment) (x : Clause) (xs : List Clause) → Holds a (x ∷ xs) ↔ ((anyTrue a x ≡ true) × Holds a xs)
+pub allHold-cons : (a : Assignment) (x : Clause) (xs : List Clause) → AllHold a (x ∷ xs) ↔ ((anyTrue a x ≡ true) × AllHold a xs)
 unfolding everyOf
-holds-cons a x xs = and-true (anyTrue a x) (allHold a xs)
+allHold-cons a x xs = and-true (anyTrue a x) (allHold a xs)
 
 -- two truths that agree on the literals of some clauses make the same of them true
 pub someOf-same : (t t′ : Literal → Bool) (P : Literal → Type 0) → ((l : Literal) → P l → t l ≡ t′ l)
@@ -93,14 +94,14 @@ everyOf-same t t′ P h [] nothing = refl
 everyOf-same t t′ P h (x ∷ xs) (also p r) = ap₂ _&&_ (someOf-same t t′ P h x p) (everyOf-same t t′ P h xs r)
 
 -- joined clauses hold where each part does
-pub holds-splits : (a : Assignment) → Splits (Holds a)
-holds-splits a = everyOf-splits (value a)
+pub allHold-splits : (a : Assignment) → Splits (AllHold a)
+allHold-splits a = everyOf-splits (value a)
 
-pub holds-append : (a : Assignment) (xs ys : List Clause) → Holds a (xs ++ ys) ↔ (Holds a xs × Holds a ys)
-holds-append a = holds-splits a .of-both
+pub allHold-append : (a : Assignment) (xs ys : List Clause) → AllHold a (xs ++ ys) ↔ (AllHold a xs × AllHold a ys)
+allHold-append a = allHold-splits a .of-both
 
-pub holds-gather : (a : Assignment) (n : ℕ) (f : ℕ → List Clause) → Holds a (gather n f) ↔ ((t : ℕ) → t < n → Holds a (f t))
-holds-gather a = splits-gather (holds-splits a)
+pub allHold-gather : (a : Assignment) (n : ℕ) (f : ℕ → List Clause) → AllHold a (gather n f) ↔ ((t : ℕ) → t < n → AllHold a (f t))
+allHold-gather a = splits-gather (allHold-splits a)
 
 -- a joined clause is true where some part is
 pub anyTrue-gather : (a : Assignment) (n : ℕ) (f : ℕ → Clause)
@@ -122,7 +123,7 @@ anyTrue-one a l = or-false (value a l)
 
 -- g = x ∧ y
 pub andClauses-holds : (a : Assignment) (g x y : Literal)
-    → Holds a (andClauses g x y) ↔ (value a g ≡ (value a x && value a y))
+    → AllHold a (andClauses g x y) ↔ (value a g ≡ (value a x && value a y))
 unfolding andClauses neg everyOf someOf value
 andClauses-holds a g x y =
     simp (value-neg a)
@@ -134,7 +135,7 @@ andClauses-holds a g x y =
     test g x y = allHold a (andClauses (known g) (known x) (known y))
 
 -- q = d
-pub sameClauses-holds : (a : Assignment) (q d : Literal) → Holds a (sameClauses q d) ↔ (value a q ≡ value a d)
+pub sameClauses-holds : (a : Assignment) (q d : Literal) → AllHold a (sameClauses q d) ↔ (value a q ≡ value a d)
 unfolding sameClauses neg everyOf someOf value
 sameClauses-holds a q d =
     simp (value-neg a)
@@ -146,21 +147,21 @@ sameClauses-holds a q d =
     test q d = allHold a (sameClauses (known q) (known d))
 
 -- where p is true, x = y
-pub sameIf-holds : (a : Assignment) (p x y : Literal)
-    → Holds a (sameIf p x y) ↔ (value a p ≡ true → value a x ≡ value a y)
-unfolding sameIf neg everyOf someOf value
-sameIf-holds a p x y =
+pub sameIfClauses-holds : (a : Assignment) (p x y : Literal)
+    → AllHold a (sameIfClauses p x y) ↔ (value a p ≡ true → value a x ≡ value a y)
+unfolding sameIfClauses neg everyOf someOf value
+sameIfClauses-holds a p x y =
     simp (value-neg a)
     (Iff·trans
     (eq-iff (tables-equal (λ _. test) (λ _ p x y. not p || Bool·beq x y) refl true (value a p) (value a x) (value a y)))
     (equal-if (value a p) (value a x) (value a y)))
   where
     test : Bool → Bool → Bool → Bool
-    test p x y = allHold a (sameIf (known p) (known x) (known y))
+    test p x y = allHold a (sameIfClauses (known p) (known x) (known y))
 
 -- one address bit: E only where the two bits are equal, e wherever they are
 pub bitClauses-holds : (a : Assignment) (E e x y : Literal)
-    → Holds a (bitClauses E e x y)
+    → AllHold a (bitClauses E e x y)
     ↔ ((value a E ≡ true → value a x ≡ value a y) × (value a x ≡ value a y → value a e ≡ true))
 unfolding bitClauses neg everyOf someOf value
 bitClauses-holds a E e x y =
@@ -221,22 +222,22 @@ allBits-holds a m x =
     from (inl h) f = inl h
     from (inr h) f = inr (f (no-unequalOf a m x h))
 
-pub bitOf-holds : (a : Assignment) (x : PairLiterals) (t : ℕ)
-    → Holds a (bitOf x t)
+pub addressBitClauses-holds : (a : Assignment) (x : PairLiterals) (t : ℕ)
+    → AllHold a (addressBitClauses x t)
     ↔ ((value a (x .E) ≡ true → value a (x .Aj t) ≡ value a (x .Ai t)) × (value a (x .Aj t) ≡ value a (x .Ai t) → value a (x .e t) ≡ true))
-unfolding bitOf
-bitOf-holds a x t = bitClauses-holds a (x .E) (x .e t) (x .Aj t) (x .Ai t)
+unfolding addressBitClauses
+addressBitClauses-holds a x t = bitClauses-holds a (x .E) (x .e t) (x .Aj t) (x .Ai t)
 
-pub forwarded-holds : (a : Assignment) (x : PairLiterals) (t : ℕ)
-    → Holds a (forwarded x t) ↔ (value a (x .S) ≡ true → value a (x .RD t) ≡ value a (x .WD t))
-unfolding forwarded
-forwarded-holds a x t = Iff·trans (sameIf-holds a _ _ _) (λ h e. let q = h e in (cc), λ h e. let q = h e in (cc))
+pub forwardedClauses-holds : (a : Assignment) (x : PairLiterals) (t : ℕ)
+    → AllHold a (forwardedClauses x t) ↔ (value a (x .S) ≡ true → value a (x .RD t) ≡ value a (x .WD t))
+unfolding forwardedClauses
+forwardedClauses-holds a x t = Iff·trans (sameIfClauses-holds a _ _ _) (λ h e. let q = h e in (cc), λ h e. let q = h e in (cc))
 
-pub pairClauses-holds : (a : Assignment) (m n : ℕ) (x : PairLiterals) → Holds a (pairClauses m n x) ↔ PairHolds a m n x
+pub pairClauses-holds : (a : Assignment) (m n : ℕ) (x : PairLiterals) → AllHold a (pairClauses m n x) ↔ PairHolds a m n x
 unfolding pairClauses
 pairClauses-holds a m n x =
     simp
-    (holds-append a, holds-cons a, holds-none a, holds-gather a, allBits-holds a, bitOf-holds a, forwarded-holds a, andClauses-holds a, value-neg a)
+    (allHold-append a, allHold-cons a, allHold-none a, allHold-gather a, allBits-holds a, addressBitClauses-holds a, forwardedClauses-holds a, andClauses-holds a, value-neg a)
     (λ h. search, λ h. search)
 
 -- The closing's clauses hold exactly where all of this does.
@@ -244,10 +245,10 @@ pub record ClosingHolds (a : Assignment) (n i : ℕ) (x : ClosingLiterals) : Typ
   pub initial-where-Z : (t : ℕ) → t < n → value a (x .Z) ≡ true → value a (x .RD t) ≡ value a (x .W t)
   pub source-where-RE : value a (x .RE) ≡ true → (value a (x .Z) ≡ true) ⊎ ((j : ℕ) × (j < i) × (value a (x .S j) ≡ true))
 
-pub initialRead-holds : (a : Assignment) (x : ClosingLiterals) (t : ℕ)
-    → Holds a (initialRead x t) ↔ (value a (x .Z) ≡ true → value a (x .RD t) ≡ value a (x .W t))
-unfolding initialRead
-initialRead-holds a x t = Iff·trans (sameIf-holds a _ _ _) (λ h e. let q = h e in (cc), λ h e. let q = h e in (cc))
+pub initialReadClauses-holds : (a : Assignment) (x : ClosingLiterals) (t : ℕ)
+    → AllHold a (initialReadClauses x t) ↔ (value a (x .Z) ≡ true → value a (x .RD t) ≡ value a (x .W t))
+unfolding initialReadClauses
+initialReadClauses-holds a x t = Iff·trans (sameIfClauses-holds a _ _ _) (λ h e. let q = h e in (cc), λ h e. let q = h e in (cc))
 
 pub selectedOf-holds : (a : Assignment) (x : ClosingLiterals) (j : ℕ) → anyTrue a (selectedOf x j) ≡ value a (x .S j)
 unfolding selectedOf
@@ -279,8 +280,8 @@ someSource-holds a i x =
     back h r = or-true (value a (x .Z)) (anyTrue a (gather i (selectedOf x))) .1 (⊎-map (λ z. z) (someS-holds a i x .1) (h r))
 
 pub closingClauses-holds : (a : Assignment) (n i : ℕ) (x : ClosingLiterals)
-    → Holds a (closingClauses n i x) ↔ ClosingHolds a n i x
+    → AllHold a (closingClauses n i x) ↔ ClosingHolds a n i x
 unfolding closingClauses
 closingClauses-holds a n i x =
-    simp (holds-append a, holds-cons a, holds-none a, holds-gather a, initialRead-holds a, someSource-holds a)
+    simp (allHold-append a, allHold-cons a, allHold-none a, allHold-gather a, initialReadClauses-holds a, someSource-holds a)
     (λ h. search, λ h. search)

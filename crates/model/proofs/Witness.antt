@@ -9,7 +9,7 @@ use native.Mathlib.Omega.{arith}
 use lib.Dec.{eqb, ltb, leb}
 use borrow.Author.Tests.{lt-ltb, le-ltb, le-leb, lt-leb, eq-eqb, ne-eqb}
 use Rattle.model.specs.Netlist.{Netlist, Port, port, lastWire}
-use Rattle.model.specs.Circuit.{Values, code, addressOf}
+use Rattle.model.specs.Circuit.{Values, codeValue, addressOf}
 use Rattle.model.specs.Variables.{stride, base, pairBase}
 use Rattle.model.specs.Numbers.{Assignment}
 use Rattle.model.proofs.Variables.{base-suc, base-monotone, base-least, pairBase-base, pair-within}
@@ -31,13 +31,13 @@ frameOf-at c (suc k) i v b lo hi =
 
 -- the chain that the writes to the word that frame i reads make with its RE
 unfoldable pub nones : Netlist → (ℕ → Values) → ℕ → ℕ → Bool
-nones c u i = noneFrom (hits c u i) (code (u i) (c .RE)) i
+nones c u i = noneFrom (hits c u i) (codeValue (u i) (c .RE)) i
 
 -- the variables of a pair, counted from 0: E, e of each bit, s, PS, S
 unfoldable pub pairValue : Netlist → (ℕ → Values) → ℕ → ℕ → ℕ → Bool
 pairValue c u j i x =
     cond (eqb x 0) (eqb (addressOf c (port c) (u i)) (addressOf c (port c) (u j)))
-    (cond (ltb x (c .m + 1)) (Bool·beq (code (u j) (c .address (x - 1))) (code (u i) (c .address (x - 1))))
+    (cond (ltb x (c .m + 1)) (Bool·beq (codeValue (u j) (c .address (x - 1))) (codeValue (u i) (c .address (x - 1))))
     (cond (eqb x (c .m + 1)) (hits c u i j)
     (cond (eqb x (c .m + 2)) (nones c u i j) (hits c u i j && nones c u i (suc j)))))
 
@@ -89,7 +89,7 @@ module _ (c : Netlist) (k : ℕ) (u : ℕ → Values) (j i : ℕ) (below : j < i
   witness-E = pair-variable (pairBase c (port c) j i + 1) 0 (omega arith) (omega arith)
 
   pub witness-e : (t : ℕ) → t < c .m
-      → witness c k u (pairBase c (port c) j i + 2 + t) ≡ Bool·beq (code (u j) (c .address t)) (code (u i) (c .address t))
+      → witness c k u (pairBase c (port c) j i + 2 + t) ≡ Bool·beq (codeValue (u j) (c .address t)) (codeValue (u i) (c .address t))
   unfolding pairValue
   witness-e t l =
       pair-variable (pairBase c (port c) j i + 2 + t) (1 + t) (omega arith) (omega arith)

@@ -49,9 +49,9 @@ module _ {A : Type 0} {xs old mid : List A} {r : ℕ} (w : Wrote xs old mid r) w
   wrote-length h = ap length (w .leaves) ∙ simp (length-append, length-drop) (omega arith)
 
   -- the rest begins within the slice
-  pub rest-within : length xs ≤ length old → r ≤ length mid
-  rest-within h = omega (arith, wrote-length h, w .counted)
+  pub rest-within : r ≤ length old → r ≤ length mid
+  rest-within h = omega (arith, wrote-length (omega (arith, w .counted)))
 
   -- and has the room that is left
-  pub rest-room : {n : ℕ} → length xs + n ≤ length old → n ≤ length (midOf r (length mid - r) mid)
-  rest-room h = rw (w .counted, w .leaves, rest-of xs (drop (length xs) old), length-drop) (omega arith)
+  pub rest-room : {n : ℕ} → r + n ≤ length old → n ≤ length (midOf r (length mid - r) mid)
+  rest-room h = rw (w .counted, w .leaves, rest-of xs (drop (length xs) old), length-drop) (omega (arith, w .counted))

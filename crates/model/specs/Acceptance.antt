@@ -3,20 +3,21 @@
 use Prim.Native.Nat.{ℕ, _+_, _*_, _/_, _^_, _≤_, _<_}
 use mathlib.Core.Path.{_≡_}
 use mathlib.Core.Bool.{false}
+use Rattle.model.specs.Limits.{mostWires, mostAddressBits, mostDataBits}
 use Rattle.model.specs.Netlist.{Netlist, Port, port, gateWire, lastWire}
 use Rattle.model.specs.Circuit.{dependsOnRead}
 
 -- refusal 4: a size outside its limit
 pub record SizesFit (c : Netlist) : Type 0 where
-  pub inputs-fit : c .inputs ≤ 600
-  pub latches-fit : c .latches ≤ 600
-  pub gates-fit : c .gates ≤ 600
+  pub inputs-fit : c .inputs ≤ mostWires
+  pub latches-fit : c .latches ≤ mostWires
+  pub gates-fit : c .gates ≤ mostWires
   pub m-least : 1 ≤ c .m
-  pub m-most : c .m ≤ 12
+  pub m-most : c .m ≤ mostAddressBits
   pub n-least : 1 ≤ c .n
-  pub n-most : c .n ≤ 32
+  pub n-most : c .n ≤ mostDataBits
   pub word-fits : c .initialWord < 2 ^ c .n
-  pub wires-fit : lastWire c ≤ 600
+  pub wires-fit : lastWire c ≤ mostWires
 
 -- a code is at most 2V + 1
 abbrev pub IsCode : Netlist → ℕ → Type 0

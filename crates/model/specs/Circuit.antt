@@ -11,8 +11,8 @@ abbrev pub Values : Type 0
 Values = ℕ → Bool
 
 -- the value of a code: its wire's, inverted where the code is odd
-unfoldable pub code : Values → ℕ → Bool
-code v x = cond (odd x) (not (v (x / 2))) (v (x / 2))
+unfoldable pub codeValue : Values → ℕ → Bool
+codeValue v x = cond (odd x) (not (v (x / 2))) (v (x / 2))
 
 -- all wires but the gates: inputs, latches and read bits as given
 unfoldable pub sources : Netlist → (ℕ → Bool) → (ℕ → Bool) → (ℕ → Bool) → Values
@@ -29,7 +29,7 @@ sweep op c v (suc g) w =
     cond (eqb w (gateWire c g)) (op (sweep op c v g) (c .left g) (c .right g)) (sweep op c v g w)
 
 unfoldable pub conjunction : Values → ℕ → ℕ → Bool
-conjunction v a b = code v a && code v b
+conjunction v a b = codeValue v a && codeValue v b
 
 -- all wires: the gates worked out in wire order
 unfoldable pub evaluate : Netlist → (ℕ → Bool) → (ℕ → Bool) → (ℕ → Bool) → Values
@@ -62,13 +62,17 @@ pub record Feed : Type 0 where
   pub input : ℕ → Bool
   pub idle : ℕ → Bool
 
+-- what a run is fed, frame by frame
+abbrev pub Feeds : Type 0
+Feeds = ℕ → Feed
+
 -- the address at a port
 unfoldable pub addressOf : Netlist → Port → Values → ℕ
-addressOf c p v = fromBits (c .m) (λ t. code v (p .address t))
+addressOf c p v = fromBits (c .m) (λ t. codeValue v (p .address t))
 
 -- the read bits that follow from the memory before this frame's write, and from the address and RE in the values v
 unfoldable pub readData : Netlist → State → Feed → Values → ℕ → Bool
-readData c s f v t = cond (code v (port c .RE)) (bit (s .memory (addressOf c (port c) v)) t) (f .idle t)
+readData c s f v t = cond (codeValue v (port c .RE)) (bit (s .memory (addressOf c (port c) v)) t) (f .idle t)
 
 -- One frame. First pass: every read bit 0, which settles address and RE. Second pass: all gates afresh, with the read bits.
 unfoldable pub firstPass : Netlist → State → Feed → Values
@@ -79,22 +83,22 @@ frame c s f = evaluate c (f .input) (s .latch) (readData c s f (firstPass c s f)
 
 -- the word written in a frame
 unfoldable pub wordWritten : Netlist → Values → ℕ
-wordWritten c v = fromBits (c .n) (λ t. code v (c .writeData t))
+wordWritten c v = fromBits (c .n) (λ t. codeValue v (c .writeData t))
 
 -- after a frame: the write, and all latches at once, both from this frame's values
 unfoldable pub step : Netlist → State → Values → State
 step c s v =
     record {
-      latch = λ l. code v (c .next l);
-      memory = λ x. cond (code v (c .WE) && eqb x (addressOf c (port c) v)) (wordWritten c v) (s .memory x);
+      latch = λ l. codeValue v (c .next l);
+      memory = λ x. cond (codeValue v (c .WE) && eqb x (addressOf c (port c) v)) (wordWritten c v) (s .memory x);
     }
 
 -- the state in which frame i begins, and the values in frame i, of the run from state s
-unfoldable pub stateAt : Netlist → State → (ℕ → Feed) → ℕ → State
+unfoldable pub stateAt : Netlist → State → Feeds → ℕ → State
 stateAt c s f zero = s
 stateAt c s f (suc i) = step c (stateAt c s f i) (frame c (stateAt c s f i) (f i))
 
-unfoldable pub run : Netlist → State → (ℕ → Feed) → ℕ → Values
+unfoldable pub run : Netlist → State → Feeds → ℕ → Values
 run c s f i = frame c (stateAt c s f i) (f i)
 
 -- the state at the start: latches at their reset, each word the initial word

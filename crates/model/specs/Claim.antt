@@ -8,14 +8,14 @@
 -- Without the first a solver's answer could be no run of the chip; without the second a fault could go unfound.
 -- The theorem says so of every accepted netlist and every depth; its proof is `encodes` in proofs/Claim.antt. Cited by the contract of
 -- `heading`. Assumes nothing.
-use Prim.Native.Nat.{ℕ, _+_, _≤_}
+use Prim.Native.Nat.{ℕ, _+_, _^_, _≤_, _<_}
 use mathlib.Core.Path.{_≡_}
 use mathlib.Core.Bool.{true, false}
 use mathlib.Core.Logic.{_↔_}
 use lib.IntN.{natAbs, pos}
 use lib.ListN.{length, getD}
-use Rattle.model.specs.Netlist.{Netlist, inputWire, readWire, lastWire}
-use Rattle.model.specs.Circuit.{Feed, code, run, initial, dependsOnRead, ReadPath}
+use Rattle.model.specs.Netlist.{Netlist, port, inputWire, readWire, lastWire}
+use Rattle.model.specs.Circuit.{State, Feeds, codeValue, addressOf, stateAt, run, initial, dependsOnRead, ReadPath}
 use Rattle.model.specs.Acceptance.{Accepted}
 use Rattle.model.specs.Variables.{base, Numbered}
 use Rattle.model.specs.Groups.{inDepth}
@@ -27,22 +27,22 @@ unfoldable pub Satisfies : Netlist → ℕ → Assignment → Type 0
 Satisfies c k a = allTrue a (clausesIn (formula c k)) ≡ true
 
 -- what an assignment feeds in frame i: its input variables and, as idle word, its read-bit variables
-unfoldable pub feedOf : Netlist → Assignment → ℕ → Feed
+unfoldable pub feedOf : Netlist → Assignment → Feeds
 feedOf c a i = record { input = λ x. a (base c i + inputWire c x); idle = λ t. a (base c i + readWire c t) }
 
--- the assignment and the run agree on every wire of every frame from 0 to k
-unfoldable pub Agrees : Netlist → ℕ → Assignment → (ℕ → Feed) → Type 0
-Agrees c k a f =
-    (i : ℕ) → i ≤ k → (w : ℕ) → 1 ≤ w → w ≤ lastWire c → a (base c i + w) ≡ run c (initial c) f i w
+-- the assignment and the run from state s agree on every wire of every frame from 0 to k
+unfoldable pub Agrees : Netlist → State → ℕ → Assignment → Feeds → Type 0
+Agrees c s k a f = (i : ℕ) → i ≤ k → (w : ℕ) → 1 ≤ w → w ≤ lastWire c → a (base c i + w) ≡ run c s f i w
 
--- the run breaks the property in at least one frame from 0 to k: P is false there (a counterexample; AIGER's "bad" is ¬P)
-unfoldable pub Breaks : Netlist → ℕ → (ℕ → Feed) → Type 0
-Breaks c k f = (i : ℕ) × (i ≤ k) × (code (run c (initial c) f i) (c .P) ≡ false)
+-- the run from state s breaks the property in at least one frame from 0 to k: P is false there (a counterexample; AIGER's "bad"
+-- is ¬P)
+unfoldable pub Breaks : Netlist → State → ℕ → Feeds → Type 0
+Breaks c s k f = (i : ℕ) × (i ≤ k) × (codeValue (run c s f i) (c .P) ≡ false)
 
 -- demand 3
 pub record Encodes (c : Netlist) (k : ℕ) : Type 0 where
-  pub assignment→run : (a : Assignment) → Satisfies c k a → Agrees c k a (feedOf c a) × Breaks c k (feedOf c a)
-  pub run→assignment : (f : ℕ → Feed) → Breaks c k f → (a : Assignment) × Satisfies c k a × Agrees c k a f
+  pub assignment→run : (a : Assignment) → Satisfies c k a → Agrees c (initial c) k a (feedOf c a) × Breaks c (initial c) k (feedOf c a)
+  pub run→assignment : (f : Feeds) → Breaks c (initial c) k f → (a : Assignment) × Satisfies c k a × Agrees c (initial c) k a f
 
 -- The theorem: `encodes` in proofs/Claim.antt is of this type.
 abbrev pub EncodingTheorem : Type 0
@@ -51,15 +51,17 @@ EncodingTheorem = (c : Netlist) → Accepted c → (k : ℕ) → Encodes c k
 -- What else is said of the clauses of a depth. An assignment is of "each variable from 1 to B(k + 1)": no other matters, each of
 -- them is numbered, and every number written is one of them or an end mark. Where no assignment satisfies the clauses, no run breaks
 -- the property: this is what a designer relies on. A group has as many clauses and numbers as document 01 counts. Dependence on a
--- read bit is a path through gates.
+-- read bit is a path through gates. A run's memory is "2^m words" of n bits: no frame has another address, and no word is longer.
 pub record Stated (c : Netlist) (k : ℕ) : Type 0 where
   pub only-numbered : (a a′ : Assignment) → ((v : ℕ) → 1 ≤ v → v ≤ base c (k + 1) → a v ≡ a′ v) → Satisfies c k a → Satisfies c k a′
   pub all-numbered : (v : ℕ) → 1 ≤ v → v ≤ base c (k + 1) → Numbered c k v
   pub numbers-within : (x : ℕ) → natAbs (getD (formula c k) x (pos 0)) ≤ base c (k + 1)
-  pub unsatisfiable→safe : ((a : Assignment) → Satisfies c k a → ⊥) → (f : ℕ → Feed) → Breaks c k f → ⊥
+  pub unsatisfiable→safe : ((a : Assignment) → Satisfies c k a → ⊥) → (f : Feeds) → Breaks c (initial c) k f → ⊥
   pub clauses-counted : (g : Group) → inDepth k g ≡ true → length (clausesIn (numbersOf c k g)) ≡ clauseCount c k g
   pub numbers-counted : (g : Group) → length (numbersOf c k g) ≡ numberCount c k g
   pub depends-by-path : (w : ℕ) → (dependsOnRead c w ≡ true) ↔ ReadPath c w
+  pub addresses-within : (f : Feeds) (i : ℕ) → addressOf c (port c) (run c (initial c) f i) < 2 ^ c .m
+  pub words-within : (f : Feeds) (i x : ℕ) → stateAt c (initial c) f i .memory x < 2 ^ c .n
 
 -- likewise: `stated` in proofs/Stated.antt
 abbrev pub StatedTheorem : Type 0

@@ -1,9 +1,10 @@
 -- Clauses over literals, and the clauses of a gate, a pair and a closing: nothing here knows a variable's number.
 -- Document 01, "Groups of clauses"; Ganai et al. 2004, section 4.1 and equations (3) and (4). Cited by `Groups` and by what
 -- writes clauses. Assumes nothing.
-use Prim.Native.Nat.{ℕ, zero, suc}
+use Prim.Native.Nat.{ℕ}
 use mathlib.Core.Bool.{Bool, not}
 use mathlib.Core.List.{List, [], _∷_, _++_}
+use Rattle.model.specs.Gather.{gather}
 
 -- A literal: a constant, or a variable, inverted or not. Which number stands for a constant is said in `Numbers` alone.
 pub data Literal : Type 0 where
@@ -20,15 +21,6 @@ neg (known b) = known (not b)
 neg (plus v) = minus v
 neg (minus v) = plus v
 
--- f 0 to f (n - 1), joined; and the same from f (n - 1) down to f 0
-unfoldable pub gather {ℓ} : {A : Type ℓ} → ℕ → (ℕ → List A) → List A
-gather zero f = []
-gather (suc n) f = gather n f ++ f n
-
-unfoldable pub gatherDown {ℓ} : {A : Type ℓ} → ℕ → (ℕ → List A) → List A
-gatherDown zero f = []
-gatherDown (suc n) f = f n ++ gatherDown n f
-
 -- g = a ∧ b
 unfoldable pub andClauses : Literal → Literal → Literal → List Clause
 andClauses g a b = (neg g ∷ a ∷ []) ∷ (neg g ∷ b ∷ []) ∷ (g ∷ neg a ∷ neg b ∷ []) ∷ []
@@ -38,8 +30,8 @@ unfoldable pub sameClauses : Literal → Literal → List Clause
 sameClauses q d = (neg q ∷ d ∷ []) ∷ (q ∷ neg d ∷ []) ∷ []
 
 -- where p is true, a = b
-unfoldable pub sameIf : Literal → Literal → Literal → List Clause
-sameIf p a b = (neg p ∷ neg a ∷ b ∷ []) ∷ (neg p ∷ a ∷ neg b ∷ []) ∷ []
+unfoldable pub sameIfClauses : Literal → Literal → Literal → List Clause
+sameIfClauses p a b = (neg p ∷ neg a ∷ b ∷ []) ∷ (neg p ∷ a ∷ neg b ∷ []) ∷ []
 
 -- One address bit x of frame j and y of frame i, with E and the bit's own e. The paper's e lost its subscript: it is per bit.
 unfoldable pub bitClauses : Literal → Literal → Literal → Literal → List Clause
@@ -65,8 +57,8 @@ pub record PairLiterals : Type 0 where
   pub Ai : ℕ → Literal
   pub RD : ℕ → Literal
 
-unfoldable pub bitOf : PairLiterals → ℕ → List Clause
-bitOf x t = bitClauses (x .E) (x .e t) (x .Aj t) (x .Ai t)
+unfoldable pub addressBitClauses : PairLiterals → ℕ → List Clause
+addressBitClauses x t = bitClauses (x .E) (x .e t) (x .Aj t) (x .Ai t)
 
 -- ¬e of address bit t
 unfoldable pub unequalOf : PairLiterals → ℕ → List Literal
@@ -76,15 +68,15 @@ unequalOf x t = neg (x .e t) ∷ []
 unfoldable pub allBits : ℕ → PairLiterals → Clause
 allBits m x = gather m (unequalOf x) ++ x .E ∷ []
 
-unfoldable pub forwarded : PairLiterals → ℕ → List Clause
-forwarded x t = sameIf (x .S) (x .RD t) (x .WD t)
+unfoldable pub forwardedClauses : PairLiterals → ℕ → List Clause
+forwardedClauses x t = sameIfClauses (x .S) (x .RD t) (x .WD t)
 
 -- The paper's equation (1) has a misprinted inner sign, "or"; its sentence decides: all frames strictly between j and i.
 -- That is what N carries from pair to pair, by equation (3).
 unfoldable pub pairClauses : ℕ → ℕ → PairLiterals → List Clause
 pairClauses m n x =
-    gather m (bitOf x) ++ allBits m x ∷ [] ++ andClauses (x .s) (x .E) (x .WE) ++ andClauses (x .PS) (neg (x .s)) (x .N)
-    ++ andClauses (x .S) (x .s) (x .N) ++ gather n (forwarded x)
+    gather m (addressBitClauses x) ++ allBits m x ∷ [] ++ andClauses (x .s) (x .E) (x .WE) ++ andClauses (x .PS) (neg (x .s)) (x .N)
+    ++ andClauses (x .S) (x .s) (x .N) ++ gather n (forwardedClauses x)
 
 -- The literals of document 01's "closing" of frame i: the paper's j = -1, a read that no earlier frame wrote.
 pub record ClosingLiterals : Type 0 where
@@ -97,8 +89,8 @@ pub record ClosingLiterals : Type 0 where
   pub RD : ℕ → Literal
   pub W : ℕ → Literal
 
-unfoldable pub initialRead : ClosingLiterals → ℕ → List Clause
-initialRead x t = sameIf (x .Z) (x .RD t) (x .W t)
+unfoldable pub initialReadClauses : ClosingLiterals → ℕ → List Clause
+initialReadClauses x t = sameIfClauses (x .Z) (x .RD t) (x .W t)
 
 -- S of pair (j, i)
 unfoldable pub selectedOf : ClosingLiterals → ℕ → List Literal
@@ -109,4 +101,4 @@ unfoldable pub someSource : ℕ → ClosingLiterals → Clause
 someSource i x = neg (x .RE) ∷ x .Z ∷ gather i (selectedOf x)
 
 unfoldable pub closingClauses : ℕ → ℕ → ClosingLiterals → List Clause
-closingClauses n i x = gather n (initialRead x) ++ someSource i x ∷ []
+closingClauses n i x = gather n (initialReadClauses x) ++ someSource i x ∷ []

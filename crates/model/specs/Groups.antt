@@ -5,7 +5,8 @@ use mathlib.Core.Bool.{Bool, true, cond, _&&_}
 use mathlib.Core.List.{List, [], _∷_, _++_}
 use lib.Dec.{eqb, leb, ltb}
 use Rattle.model.specs.Netlist.{Netlist, port, latchWire, gateWire}
-use Rattle.model.specs.Clauses.{Literal, Clause, plus, neg, gather, gatherDown, andClauses, sameClauses, pairClauses, closingClauses}
+use Rattle.model.specs.Gather.{gather, gatherDown}
+use Rattle.model.specs.Clauses.{Literal, Clause, plus, neg, andClauses, sameClauses, pairClauses, closingClauses}
 use Rattle.model.specs.Variables.{wireIn, codeIn, pairLiterals, closingLiterals}
 use Rattle.model.specs.declared.Group.{Group}
 use Rattle.model.specs.declared.Group.the-variants.{Wires, Pair, Closing, Property}
@@ -15,8 +16,8 @@ unfoldable pub gateClauses : Netlist → ℕ → ℕ → List Clause
 gateClauses c i g = andClauses (wireIn c i (gateWire c g)) (codeIn c i (c .left g)) (codeIn c i (c .right g))
 
 -- latch l in frame 0: its own literal, inverted if reset is 0
-unfoldable pub resetClause : Netlist → ℕ → List Clause
-resetClause c l = (cond (eqb (c .reset l) 1) (wireIn c 0 (latchWire c l)) (neg (wireIn c 0 (latchWire c l))) ∷ []) ∷ []
+unfoldable pub resetClauses : Netlist → ℕ → List Clause
+resetClauses c l = (cond (eqb (c .reset l) 1) (wireIn c 0 (latchWire c l)) (neg (wireIn c 0 (latchWire c l))) ∷ []) ∷ []
 
 -- latch l in frame i + 1: what its next code was in frame i
 unfoldable pub latchClauses : Netlist → ℕ → ℕ → List Clause
@@ -24,7 +25,7 @@ latchClauses c i l = sameClauses (wireIn c (i + 1) (latchWire c l)) (codeIn c i 
 
 -- the latches of frame i; in frame 0 also (1), by which variable 1 is true
 unfoldable pub stateClauses : Netlist → ℕ → List Clause
-stateClauses c zero = (plus 1 ∷ []) ∷ gather (c .latches) (resetClause c)
+stateClauses c zero = (plus 1 ∷ []) ∷ gather (c .latches) (resetClauses c)
 stateClauses c (suc i) = gather (c .latches) (latchClauses c i)
 
 -- ¬P of frame i

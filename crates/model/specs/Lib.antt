@@ -1,8 +1,10 @@
 -- The definitions of document 01, in reading order. Nothing here imports a law or a proof.
+pub mod Limits
 pub mod Bits
 pub mod Netlist
 pub mod Circuit
 pub mod Acceptance
+pub mod Gather
 pub mod Clauses
 pub mod Variables
 pub mod Groups

@@ -3,6 +3,7 @@
 use Prim.Native.Nat.{ℕ, _+_, _-_, _*_, _/_, _^_}
 use mathlib.Core.Bool.{Bool, false, _||_}
 use lib.Dec.{ltb, leb}
+use Rattle.model.specs.Limits.{mostWires, mostAddressBits, mostDataBits}
 use Rattle.model.specs.Netlist.{Netlist, gateWire, lastWire}
 use Rattle.model.specs.Circuit.{dependsOnRead}
 use Rattle.netlist.specs.declared.Line.{Line}
@@ -14,9 +15,9 @@ outside low high x = ltb x low || ltb high x
 
 -- refusal 4: "a number of N or M, or V, outside its limit"; V is tested at the M line
 unfoldable pub sizeFault : Netlist → Line → Bool
-sizeFault c Sizes = outside 0 600 (c .inputs) || outside 0 600 (c .latches) || outside 0 600 (c .gates)
+sizeFault c Sizes = outside 0 mostWires (c .inputs) || outside 0 mostWires (c .latches) || outside 0 mostWires (c .gates)
 sizeFault c Memory =
-    outside 1 12 (c .m) || outside 1 32 (c .n) || outside 0 (2 ^ c .n - 1) (c .initialWord) || outside 0 600 (lastWire c)
+    outside 1 mostAddressBits (c .m) || outside 1 mostDataBits (c .n) || outside 0 (2 ^ c .n - 1) (c .initialWord) || outside 0 mostWires (lastWire c)
 sizeFault c (Latch l) = false
 sizeFault c (Gate g) = false
 sizeFault c (Address t) = false

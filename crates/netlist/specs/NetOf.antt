@@ -10,6 +10,13 @@ use Rattle.netlist.specs.declared.Netlist.{Netlist}
 unfoldable pub codeOf : List Code → ℕ → ℕ
 codeOf xs t = getD xs t (record { 0 = 0 }) .0
 
+-- an unpacked list has two numbers a record: the first and the second of record x
+abbrev pub firstAt : List ℕ → ℕ → ℕ
+firstAt list x = getD list (2 * x) 0
+
+abbrev pub secondAt : List ℕ → ℕ → ℕ
+secondAt list x = getD list (2 * x + 1) 0
+
 unfoldable pub netOf : Netlist → List ℕ → List ℕ → M.Netlist
 netOf r latches gates =
     record {
@@ -19,10 +26,10 @@ netOf r latches gates =
       m = r .m;
       n = r .n;
       initialWord = r .«initial_word»;
-      next = λ l. getD latches (2 * l) 0;
-      reset = λ l. getD latches (2 * l + 1) 0;
-      left = λ g. getD gates (2 * g) 0;
-      right = λ g. getD gates (2 * g + 1) 0;
+      next = firstAt latches;
+      reset = secondAt latches;
+      left = firstAt gates;
+      right = secondAt gates;
       address = codeOf (r .address);
       writeData = codeOf (r .«write_data»);
       WE = r .we .0;

@@ -8,6 +8,7 @@ ghost use Prim.Native.Nat.{_+_, _-_, _^_};
 ghost use Rattle.model.specs.Netlist.{latchWire, readWire, gateWire, lastWire};
 ghost use Rattle.model.specs.Acceptance.{SizesFit};
 ghost use Rattle.netlist.specs.NetOf.{netOf, alone};
+ghost use Rattle.netlist.specs.RecordOf.{recordOf, noNetlist};
 ghost use Rattle.netlist.specs.Lines.{controlLine, lineAt, HasLine};
 ghost use Rattle.netlist.specs.Faults.{outside, sizeFault, codeOutside, latchFault, gateFault, codeFault};
 
@@ -35,6 +36,26 @@ pub enum Line {
     Address(u32),
     Data(u32),
     Control,
+}
+
+// The record that is all zeros.
+pub fn empty_net() -> Netlist
+    ensures { λ r. ⌜ r ≡ recordOf noNetlist ⌝ }
+{
+    let none = Code(0);
+    Netlist {
+        inputs: 0,
+        latches: 0,
+        gates: 0,
+        m: 0,
+        n: 0,
+        initial_word: 0,
+        address: [none; 12],
+        write_data: [none; 32],
+        we: none,
+        re: none,
+        p: none,
+    }
 }
 
 // Whether x is outside the limits `low` to `high`.

@@ -7,7 +7,8 @@ use netlist::Netlist;
 use variables::Port;
 ghost use Prim.Native.Nat.{_/_, _≤_};
 ghost use lib.ListN.{length};
-ghost use Rattle.model.specs.Clauses.{sameIf, gather, forwarded, pairClauses};
+ghost use Rattle.model.specs.Gather.{gather};
+ghost use Rattle.model.specs.Clauses.{sameIfClauses, forwardedClauses, pairClauses};
 ghost use Rattle.model.specs.Variables.{wireAt, codeAt};
 ghost use Rattle.model.specs.Numbers.{written};
 ghost use Rattle.literals.specs.Lit.{literalOf, IsLit, HasNumber};
@@ -24,8 +25,8 @@ fn put_forwarded_bit(
     wd: Code,
 ) -> usize
     requires { ⌜ IsLit selected × HasNumber reading (rd .0) × (1 ≤ rd .0) × HasNumber writing (wd .0 / 2)
-        × (length (written (sameIf (literalOf selected) (wireAt reading (rd .0)) (codeAt writing (wd .0)))) ≤ length (now out)) ⌝ }
-    ensures { λ r. ⌜ Wrote (written (sameIf (literalOf selected) (wireAt reading (rd .0)) (codeAt writing (wd .0))))
+        × (length (written (sameIfClauses (literalOf selected) (wireAt reading (rd .0)) (codeAt writing (wd .0)))) ≤ length (now out)) ⌝ }
+    ensures { λ r. ⌜ Wrote (written (sameIfClauses (literalOf selected) (wireAt reading (rd .0)) (codeAt writing (wd .0))))
         (now (out .entry)) (now (out .exit)) r ⌝ }
 {
     tseitin::put_same_if(out, selected, rd.in_frame(reading), wd.in_frame(writing))
@@ -33,8 +34,8 @@ fn put_forwarded_bit(
 
 // The clauses of each data bit, in bit order.
 fn put_forwarded(out: &mut [i32], net: Netlist, port: Port, j: u32, i: u32) -> usize
-    requires { ⌜ PairFits net port j i × (length (written (gather (net .n) (forwarded (ofPair net port j i)))) ≤ length (now out)) ⌝ }
-    ensures { λ r. ⌜ Wrote (written (gather (net .n) (forwarded (ofPair net port j i)))) (now (out .entry)) (now (out .exit)) r ⌝ }
+    requires { ⌜ PairFits net port j i × (length (written (gather (net .n) (forwardedClauses (ofPair net port j i)))) ≤ length (now out)) ⌝ }
+    ensures { λ r. ⌜ Wrote (written (gather (net .n) (forwardedClauses (ofPair net port j i)))) (now (out .entry)) (now (out .exit)) r ⌝ }
 {
     let selected = variables::selected(net, port, j, i);
     let writing = variables::frame_base(net, j);

@@ -11,11 +11,11 @@ use native.Mathlib.Omega.{arith}
 use lib.Dec.{eqb, ltb}
 use lib.ListN.{length, take, drop, length-take, length-drop, drop-of-length-le}
 use borrow.Author.Tests.{ltb-false, eqb-true, eqb-false, not-false, lt-ltb, le-ltb, le-leb, lt-leb}
+use Rattle.model.proofs.Booleans.{neither-true}
 use Rattle.netlist.specs.Lines.{latchLine, gateLine, addressLine, dataLine, controlLine, lineAt}
 use Rattle.netlist.specs.Faults.{sizeFault, codeFault}
 use Rattle.netlist.specs.declared.Line as Due
 use Rattle.netlist.specs.declared.Line.the-variants.{Sizes, Memory, Latch, Gate, Address, Data, Control}
-use Rattle.steps.proofs.Neither.{neither}
 use Rattle.lines.specs.Lines.{lineOf}
 use Rattle.lines.proofs.Lines.{lineOf-length}
 use Rattle.lines.specs.declared.ParsedLine.{ParsedLine}
@@ -162,8 +162,8 @@ pub record WholeLines (file : List ℕ) : Type 0 where
 pub whole-lines : (file : List ℕ) → ragged file ≡ false → WholeLines file
 unfolding ragged
 whole-lines file e =
-    let long = neither (eqb (length file) 0 || not (eqb (length file % 32) 0)) (ltb 19680 (length file)) .0 e in
-    let part = neither (eqb (length file) 0) (not (eqb (length file % 32) 0)) .0 (long .0) in
+    let long = neither-true (eqb (length file) 0 || not (eqb (length file % 32) 0)) (ltb 19680 (length file)) .0 e in
+    let part = neither-true (eqb (length file) 0) (not (eqb (length file % 32) 0)) .0 (long .0) in
     let none : length file ≡ 0 → ⊥ = eqb-false (length file) 0 (part .0) in
     let rest : length file % 32 ≡ 0 = eqb-true (length file % 32) 0 (not-false (eqb (length file % 32) 0) (part .1)) in
     record { some = omega arith; whole = omega arith; most = ltb-false 19680 (length file) (long .1) }

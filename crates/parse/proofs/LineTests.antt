@@ -19,6 +19,7 @@ use Rattle.refusals.specs.declared.Verdict.the-variants.{Passed, Refused}
 use Rattle.refusals.proofs.Tests.{refuseIf-passes, then-passes, inOrder-suc, inOrder-kept, inOrder-passes}
 use Rattle.model.specs.Netlist as M
 use Rattle.model.specs.Acceptance.{SizesFit}
+use Rattle.model.proofs.Booleans.{neither-true}
 use Rattle.netlist.specs.NetOf.{netOf, alone}
 use Rattle.netlist.specs.Lines.{controlLine, lineAt}
 use Rattle.netlist.specs.Faults.{sizeFault, codeFault}
@@ -26,7 +27,6 @@ use Rattle.netlist.specs.declared.Netlist.{Netlist}
 use Rattle.netlist.proofs.NetOf.{sizes-lists}
 use Rattle.netlist.proofs.Lines.{at-sizes, at-memory}
 use Rattle.netlist.proofs.Faults.{sizes-fit}
-use Rattle.steps.proofs.Neither.{neither}
 use Rattle.lines.specs.Letters.{rowOf}
 use Rattle.lines.specs.declared.Kind.{Kind}
 use Rattle.lines.specs.declared.ParsedLine.the-variants as ParsedLine
@@ -34,7 +34,8 @@ use Rattle.steps.specs.declared.SheetAnswer.{SheetAnswer}
 use Rattle.parse.specs.Files.{lineCount, lineIn, sizesIn, netIn}
 use Rattle.steps.specs.Due.{kindDue}
 use Rattle.parse.specs.FileTests.{misprinted, isOf, notDue, testLineIn}
-use Rattle.steps.specs.Steps.{stepNet, stepVerdict, faultsAt, SizesKnown, Outcome}
+use Rattle.steps.specs.LineFaults.{faultsAt}
+use Rattle.steps.specs.Steps.{stepNet, stepVerdict, SizesKnown, Outcome}
 use Rattle.parse.specs.Progress.{netTo, ReadTo}
 use Rattle.steps.proofs.Places.{placeOf, place-lineAt, sizesFit-same}
 use Rattle.parse.proofs.Files.{stored-next, lineAt-in, controlLine-in, sizes-to, due-to, past-to, sizeFault-to, codeFault-to, netTo-all, WholeLines}
@@ -139,7 +140,7 @@ pub within-last : (c : M.Netlist) (file : List ℕ) (q : ℕ) → testLineIn c f
 unfolding notDue
 within-last c file q e =
     let b = isOf (kindDue (lineAt c q)) (lineIn file q) in
-    ltb-false (controlLine c) q (neither (ltb (controlLine c) q) (not b) .0 (sym (not-within q (controlLine c) b) ∙ no-fault c file q e .due) .0)
+    ltb-false (controlLine c) q (neither-true (ltb (controlLine c) q) (not b) .0 (sym (not-within q (controlLine c) b) ∙ no-fault c file q e .due) .0)
 
 -- what a line does to the record and the lists as far as they are read is what it does in the whole file
 pub outcome-next : (file : List ℕ) (p : ℕ) (r : Netlist) (latches gates : List ℕ) → ReadTo file p r latches gates

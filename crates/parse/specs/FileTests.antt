@@ -5,6 +5,7 @@ use mathlib.Core.Bool.{Bool, true, false, not, _&&_, _||_}
 use mathlib.Core.List.{List}
 use lib.Dec.{eqb, ltb, leb}
 use lib.ListN.{length}
+use Rattle.model.specs.Limits.{lineBytes, mostBytes}
 use Rattle.model.specs.Netlist.{Netlist}
 use Rattle.refusals.specs.Tests.{refuseIf, _then_}
 use Rattle.refusals.specs.declared.Refusal.the-variants.{Misprint, OutOfOrder}
@@ -15,12 +16,12 @@ use Rattle.lines.specs.declared.Kind.{Kind}
 use Rattle.lines.specs.declared.ParsedLine.{ParsedLine}
 use Rattle.lines.specs.declared.ParsedLine.the-variants as ParsedLine
 use Rattle.steps.specs.Due.{kindDue}
-use Rattle.steps.specs.Steps.{faultsAt}
+use Rattle.steps.specs.LineFaults.{faultsAt}
 use Rattle.parse.specs.Files.{lineIn}
 
 -- 1: "file empty, not a multiple of 32 bytes, or over 19,680"
 unfoldable pub ragged : List ℕ → Bool
-ragged file = eqb (length file) 0 || not (eqb (length file % 32) 0) || ltb 19680 (length file)
+ragged file = eqb (length file) 0 || not (eqb (length file % lineBytes) 0) || ltb mostBytes (length file)
 
 -- 2: a line that is misprinted
 abbrev pub misprinted : ParsedLine → Bool

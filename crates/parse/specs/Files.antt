@@ -6,19 +6,20 @@ use mathlib.Core.Bool.{cond}
 use mathlib.Core.List.{List}
 use lib.Dec.{ltb}
 use lib.ListN.{length, take, drop}
+use Rattle.model.specs.Limits.{lineBytes}
 use Rattle.model.specs.Netlist.{Netlist}
 use Rattle.netlist.specs.Lines.{sizesLine, memoryLine, latchLine, gateLine, addressLine, dataLine, controlLine}
-use Rattle.steps.specs.Records.{withoutCodes}
+use Rattle.netlist.specs.RecordOf.{withoutCodes}
 use Rattle.lines.specs.Lines.{lineOf}
 use Rattle.lines.specs.declared.ParsedLine.{ParsedLine}
 use Rattle.lines.specs.declared.ParsedLine.the-variants.{Misprint, Read}
 
 -- "lines of 32 bytes"; the line at a place, the first being 1
 abbrev pub lineCount : List ℕ → ℕ
-lineCount file = length file / 32
+lineCount file = length file / lineBytes
 
 unfoldable pub lineIn : List ℕ → ℕ → ParsedLine
-lineIn file p = lineOf (take 32 (drop (32 * (p - 1)) file))
+lineIn file p = lineOf (take lineBytes (drop (lineBytes * (p - 1)) file))
 
 -- the first, second and third number of a line
 abbrev pub firstNumber : ParsedLine → ℕ

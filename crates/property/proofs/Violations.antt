@@ -5,7 +5,8 @@ use mathlib.Core.Path.{_≡_, refl}
 use mathlib.Core.List.{List, [], _∷_, map}
 use lib.IntN.{ℤ}
 use Rattle.model.specs.Netlist.{lastWire}
-use Rattle.model.specs.Clauses.{neg, gather}
+use Rattle.model.specs.Gather.{gather}
+use Rattle.model.specs.Clauses.{neg}
 use Rattle.model.specs.Variables.{stride, baseOf, base, codeAt}
 use Rattle.model.specs.Groups.{violationOf}
 use Rattle.model.specs.Numbers.{numberOf}

@@ -3,7 +3,7 @@ use netlist::Netlist;
 ghost use Prim.Native.Nat.{_+_, _≤_};
 ghost use mathlib.Core.List.{map};
 ghost use lib.ListN.{length};
-ghost use Rattle.model.specs.Clauses.{gather};
+ghost use Rattle.model.specs.Gather.{gather};
 ghost use Rattle.model.specs.Groups.{violationOf};
 ghost use Rattle.model.specs.Numbers.{numberOf, numbersOf};
 ghost use Rattle.model.specs.declared.Group.the-variants.{Property};

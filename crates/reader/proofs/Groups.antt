@@ -5,9 +5,10 @@ use mathlib.Core.Path.{_≡_, refl, _∙_, ap, ap₂}
 use mathlib.Core.List.{List, [], _∷_, _++_}
 use native.Mathlib.Omega.{arith}
 use Rattle.model.specs.Netlist.{Netlist, port}
-use Rattle.model.specs.Clauses.{Clause, Literal, PairLiterals, ClosingLiterals, gather, bitOf, unequalOf, allBits, forwarded, pairClauses, initialRead, selectedOf, someSource, closingClauses, plus, neg, andClauses}
+use Rattle.model.specs.Gather.{gather}
+use Rattle.model.specs.Clauses.{Clause, Literal, PairLiterals, ClosingLiterals, addressBitClauses, unequalOf, allBits, forwardedClauses, pairClauses, initialReadClauses, selectedOf, someSource, closingClauses, plus, neg, andClauses}
 use Rattle.model.specs.Variables.{base, pairBase, noneSince, selected, readBit, pairLiterals, closingLiterals}
-use Rattle.model.specs.Groups.{gateClauses, resetClause, latchClauses, stateClauses, violationOf, clausesOf}
+use Rattle.model.specs.Groups.{gateClauses, resetClauses, latchClauses, stateClauses, violationOf, clausesOf}
 use Rattle.model.specs.Numbers.{written, numbersOf}
 use Rattle.model.specs.declared.Group.{Group}
 use Rattle.model.specs.declared.Group.the-variants.{Wires, Pair, Closing, Property}
@@ -35,8 +36,8 @@ module _ (c d : Netlist) (q : Agree c d) where
   unfolding gateClauses
   gate-same i g b = rw (q .left-same g b, q .right-same g b, base-same i, inputs-same c d q, latches-same c d q, n-same c d q)
 
-  reset-same : (l : ℕ) → l < c .latches → resetClause c l ≡ resetClause d l
-  unfolding resetClause
+  reset-same : (l : ℕ) → l < c .latches → resetClauses c l ≡ resetClauses d l
+  unfolding resetClauses
   reset-same l b = rw (q .reset-same l b, base-same 0, inputs-same c d q)
 
   latch-same : (i l : ℕ) → l < c .latches → latchClauses c i l ≡ latchClauses d i l
@@ -67,16 +68,16 @@ module _ (c d : Netlist) (q : Agree c d) where
     abbrev y : PairLiterals
     y = pairLiterals d (port d) j i
 
-    bit-same : (t : ℕ) → t < c .m → bitOf x t ≡ bitOf y t
-    unfolding bitOf pairLiterals
+    bit-same : (t : ℕ) → t < c .m → addressBitClauses x t ≡ addressBitClauses y t
+    unfolding addressBitClauses pairLiterals
     bit-same t b = rw (pairBase-same j i, base-same j, base-same i, q .address-same t b)
 
     own-same : (t : ℕ) → t < c .m → unequalOf x t ≡ unequalOf y t
     unfolding unequalOf pairLiterals
     own-same t b = rw (pairBase-same j i)
 
-    data-same : (t : ℕ) → t < c .n → forwarded x t ≡ forwarded y t
-    unfolding forwarded pairLiterals
+    data-same : (t : ℕ) → t < c .n → forwardedClauses x t ≡ forwardedClauses y t
+    unfolding forwardedClauses pairLiterals
     data-same t b = rw (selected-same j i, readBit-same i t, base-same j, q .data-same t b)
 
     -- its three gates
@@ -115,8 +116,8 @@ module _ (c d : Netlist) (q : Agree c d) where
     abbrev v : ClosingLiterals
     v = closingLiterals d (port d) i
 
-    initial-same : (t : ℕ) → t < c .n → initialRead u t ≡ initialRead v t
-    unfolding initialRead closingLiterals
+    initial-same : (t : ℕ) → t < c .n → initialReadClauses u t ≡ initialReadClauses v t
+    unfolding initialReadClauses closingLiterals
     initial-same t b = rw (none-same 0 i, readBit-same i t, word-same c d q)
 
     source-same : (j : ℕ) → j < i → selectedOf u j ≡ selectedOf v j

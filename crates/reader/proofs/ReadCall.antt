@@ -18,16 +18,18 @@ use Rattle.model.proofs.Claim.{encodes}
 use Rattle.records.specs.Record.{recordVerdict}
 use Rattle.records.proofs.Acceptance.{passes-accepted}
 use Rattle.steps.specs.declared.SheetAnswer.{SheetAnswer}
-use Rattle.steps.specs.Records.{codeEntry, recordOf}
+use Rattle.netlist.specs.RecordOf.{codeEntry, recordOf}
+use Rattle.steps.specs.Records.{recordBeside}
 use Rattle.parse.specs.Files.{netIn}
 use Rattle.sheet.specs.Sheet.{sheetVerdict}
-use Rattle.sheet.specs.Codes.{recordBeside, CodesRead}
+use Rattle.sheet.specs.Codes.{CodesRead}
 use Rattle.sheet.proofs.Codes.{passed-sheet}
 use Rattle.lists.specs.declared.Latch.{Latch}
 use Rattle.lists.specs.declared.Gate.{Gate}
 use Rattle.lists.specs.Unpacked.{latchCodes, gateCodes}
 use Rattle.lists.specs.Lent.{netLent}
-use Rattle.lists.specs.Delivered.{latchAt, gateAt, delivered}
+use Rattle.lists.specs.RecordAt.{latchAt, gateAt}
+use Rattle.lists.specs.Delivered.{delivered}
 use Rattle.lists.proofs.Delivered.{delivered-none, length-delivered}
 use Rattle.reader.specs.ReadCall.{latchOf, gateOf, readVerdict, readRecord, latchesLeft, gatesLeft, SheetDelivered}
 use Rattle.reader.proofs.Lists.{getD-gather-alone, delivered-pairs}

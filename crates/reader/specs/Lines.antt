@@ -5,6 +5,7 @@ use mathlib.Core.Bool.{cond}
 use mathlib.Core.List.{List}
 use lib.Dec.{ltb}
 use denote.Ref.{RefT, now}
+use Rattle.model.specs.Limits.{mostLines}
 use Rattle.parse.specs.Files.{lineIn}
 use Rattle.reader.specs.declared.SheetReader.{SheetReader}
 use Rattle.reader.specs.declared.NextLine.{NextLine}
@@ -15,7 +16,7 @@ atStart file = record { file = file; line = 0 }
 
 -- one line more; no sheet has more than 615, and the number goes no further
 unfoldable pub nextNumber : ℕ → ℕ
-nextNumber line = cond (ltb line 615) (line + 1) line
+nextNumber line = cond (ltb line mostLines) (line + 1) line
 
 -- one line further on, in the same file
 abbrev pub movedOn : SheetReader → SheetReader

@@ -16,7 +16,7 @@ use Rattle.netlist.specs.declared.Netlist.{Netlist}
 use Rattle.records.specs.Record.{recordVerdict}
 use Rattle.parse.specs.Files.{netIn}
 use Rattle.sheet.specs.Sheet.{sheetVerdict}
-use Rattle.sheet.specs.Codes.{recordBeside}
+use Rattle.steps.specs.Records.{recordBeside}
 use Rattle.lists.specs.declared.Latch.{Latch}
 use Rattle.lists.specs.declared.Gate.{Gate}
 use Rattle.lists.specs.Lent.{netLent}

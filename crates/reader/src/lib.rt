@@ -6,7 +6,7 @@ use refusals::Verdict;
 use steps::SheetAnswer;
 ghost use mathlib.Core.Path.{_≡_};
 ghost use Prim.Native.Nat.{_≤_};
-ghost use Rattle.steps.specs.Records.{recordOf, noNetlist};
+ghost use Rattle.netlist.specs.RecordOf.{recordOf, noNetlist};
 ghost use Rattle.parse.specs.Files.{lineCount};
 ghost use Rattle.parse.specs.Progress.{ReadTo};
 ghost use Rattle.sheet.specs.Codes.{CodesRead};

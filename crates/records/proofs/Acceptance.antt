@@ -16,17 +16,19 @@ use Rattle.records.specs.Record.{testLines, listsShort, recordVerdict}
 use Rattle.netlist.proofs.Faults.{neither, sizes-fit, codes-fit, no-loop}
 use Rattle.records.proofs.Record.{testLines-passes}
 
--- the test of the lists' lengths passes where each is long enough
+-- no list is short where each is long enough
+pub lists-long : (c : Netlist) (latchCount gateCount : ℕ)
+    → (listsShort c latchCount gateCount ≡ false) ↔ ((c .latches ≤ latchCount) × (c .gates ≤ gateCount))
+lists-long c x y = neither (ltb-false x (c .latches), le-ltb x (c .latches)) (ltb-false y (c .gates), le-ltb y (c .gates))
+
+-- then the test of their lengths passes
 lists-pass : (c : Netlist) (latchCount gateCount : ℕ)
     → (refuseIf (listsShort c latchCount gateCount) OutOfOrder 0 ≡ Passed) ↔ ((c .latches ≤ latchCount) × (c .gates ≤ gateCount))
 lists-pass c x y =
-    (λ e. long .0 (test .0 e), λ h. test .1 (long .1 h))
+    (λ e. lists-long c x y .0 (test .0 e), λ h. test .1 (lists-long c x y .1 h))
   where
     test : (refuseIf (listsShort c x y) OutOfOrder 0 ≡ Passed) ↔ (listsShort c x y ≡ false)
     test = refuseIf-passes (listsShort c x y) OutOfOrder 0
-
-    long : (listsShort c x y ≡ false) ↔ ((c .latches ≤ x) × (c .gates ≤ y))
-    long = neither (ltb-false x (c .latches), le-ltb x (c .latches)) (ltb-false y (c .gates), le-ltb y (c .gates))
 
 -- no test of a record refuses exactly where the model accepts the netlist and both lists have as many records as their sizes say
 pub passes-accepted : (c : Netlist) (latchCount gateCount : ℕ)

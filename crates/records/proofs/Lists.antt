@@ -13,7 +13,7 @@ use Rattle.netlist.specs.declared.Line.the-variants.{Sizes, Memory, Latch, Gate
 use Rattle.netlist.specs.declared.Netlist.{Netlist}
 use Rattle.netlist.proofs.NetOf.{lineAt-lists, sizeFault-lists, depends-latches}
 use Rattle.limits.specs.AnyLine.{anyLine}
-use Rattle.records.specs.Record.{testLines}
+use Rattle.records.specs.Record.{testLines, testLoops}
 use Rattle.records.proofs.Record.{testLines-same}
 
 module _ (r : Netlist) (latches gates : List ℕ) where
@@ -24,7 +24,7 @@ module _ (r : Netlist) (latches gates : List ℕ) where
       testLines-same (alone r) (netOf r latches gates) Size sizeFault (sizeFault-lists r latches gates) (lineAt-lists r latches gates) refl
 
   -- the tests of memory loops
-  pub test-loops-latches : testLines (netOf r [] gates) MemoryLoop loopFault ≡ testLines (netOf r latches gates) MemoryLoop loopFault
+  pub test-loops-latches : testLoops (netOf r [] gates) ≡ testLoops (netOf r latches gates)
   unfolding netOf lineAt loopFaultBy
   test-loops-latches = testLines-same (netOf r [] gates) (netOf r latches gates) MemoryLoop loopFault same (λ p. refl) refl
     where

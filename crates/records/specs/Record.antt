@@ -21,9 +21,14 @@ testLine c r fault p = refuseIf (fault c (lineAt c p)) r p
 unfoldable pub testLines : Netlist → Refusal → (Netlist → Line → Bool) → Verdict
 testLines c r fault = inOrder (testLine c r fault) (controlLine c)
 
--- refusal 3: "in a record, a lent list shorter than its size", of lists that have latchCount and gateCount records
+-- "a lent list shorter than its size", of lists that have latchCount and gateCount records: 3 in a record, and 9 where the records
+-- of a sheet are to be written there
 abbrev pub listsShort : Netlist → ℕ → ℕ → Bool
 listsShort c latchCount gateCount = ltb latchCount (c .latches) || ltb gateCount (c .gates)
+
+-- refusal 6: the first A line concerned, else the C line
+abbrev pub testLoops : Netlist → Verdict
+testLoops c = testLines c MemoryLoop loopFault
 
 -- "4, then 3 (place 0), then 5 in line order, then 6, with the place it would have in a sheet"
 unfoldable pub recordVerdict : Netlist → ℕ → ℕ → Verdict
@@ -31,4 +36,4 @@ recordVerdict c latchCount gateCount =
     testLines c Size sizeFault
     then refuseIf (listsShort c latchCount gateCount) OutOfOrder 0
     then testLines c CodeOutside codeFault
-    then testLines c MemoryLoop loopFault
+    then testLoops c

@@ -9,9 +9,9 @@ ghost use Rattle.model.specs.Circuit.{isRead, dependsOnRead};
 ghost use Rattle.model.specs.Acceptance.{SizesFit, WithinLimits};
 ghost use Rattle.netlist.specs.NetOf.{netOf, alone};
 ghost use Rattle.netlist.specs.Lines.{HasLine};
-ghost use Rattle.netlist.specs.Faults.{sizeFault, codeFault, loopFaultBy, loopFault};
+ghost use Rattle.netlist.specs.Faults.{sizeFault, codeFault, loopFaultBy};
 ghost use Rattle.limits.specs.AnyLine.{anyLine};
-ghost use Rattle.records.specs.Record.{testLines, recordVerdict};
+ghost use Rattle.records.specs.Record.{testLines, testLoops, recordVerdict};
 ghost use Rattle.records.specs.Dependence.{Table, entry};
 
 // Tests the numbers of lines N and M (refusal 4).
@@ -133,7 +133,7 @@ fn any_loop(net: Netlist, flags: &[bool; 601]) -> bool
 // address codes make no memory loop.
 pub fn test_loops(net: Netlist, gates: &[u32; 1200]) -> Verdict
     requires { ⌜ WithinLimits (netOf net [] (now gates)) ⌝ }
-    ensures { λ r. ⌜ r ≡ testLines (netOf net [] (now (gates .entry))) Refusal.MemoryLoop loopFault ⌝ }
+    ensures { λ r. ⌜ r ≡ testLoops (netOf net [] (now (gates .entry))) ⌝ }
 {
     let flags = depends_on_read(net, gates);
     if !any_loop(net, &flags) {

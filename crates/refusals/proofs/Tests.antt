@@ -2,7 +2,7 @@
 -- records and sheets. Assumes nothing.
 use Prim.Native.Nat.{ℕ, zero, suc, _≤_}
 use mathlib.Core.Path.{_≡_, refl, _∙_, ap}
-use mathlib.Core.Bool.{Bool, true, false, _||_, true≢false}
+use mathlib.Core.Bool.{Bool, true, false, true≢false}
 use mathlib.Core.Logic.{_⊎_, inl, inr, _↔_}
 use native.Mathlib.Nat.{le-refl, le-suc-iff}
 use native.Mathlib.Decide.{le-ind}
@@ -26,12 +26,6 @@ pub then-passes : (v w : Verdict) → (v then w ≡ Passed) ↔ ((v ≡ Passed) 
 unfolding _then_
 then-passes Passed w = (λ e. (refl, e), λ h. h .1)
 then-passes (Refused r p) w = (λ e. absurd (refused-not-passed e), λ h. absurd (refused-not-passed (h .0)))
-
--- two tests with the same refusal are one
-pub refuseIf-either : (a b : Bool) (r : Refusal) (p : ℕ) → refuseIf a r p then refuseIf b r p ≡ refuseIf (a || b) r p
-unfolding _then_
-refuseIf-either true b r p = refl
-refuseIf-either false b r p = refl
 
 -- after a pass the rest decides
 pub passed-then : (w : Verdict) → Passed then w ≡ w

@@ -1,5 +1,5 @@
 -- The three gates of a pair, the part of the model's `pairClauses` between its bits: "gates s = E ∧ WE of frame j; PS = ¬s ∧ N;
--- S = s ∧ N". Cited by `put_gates` and `put_select`. Assumes nothing.
+-- S = s ∧ N". Cited by `put_select_gates` and `put_select`. Assumes nothing.
 use mathlib.Core.List.{List, _++_}
 use Rattle.model.specs.Clauses.{Literal, Clause, neg, andClauses, PairLiterals}
 

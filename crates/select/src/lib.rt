@@ -11,7 +11,7 @@ ghost use Rattle.model.specs.Wrote.{Wrote};
 ghost use Rattle.select.specs.SelectClauses.{selectClauses, pairSelect};
 
 // The gates s = E ∧ WE, PS = ¬s ∧ N, S = s ∧ N, from their literals: `valid` is s, `none_since` PS, `selected` S, `none_after` N.
-fn put_gates(
+fn put_select_gates(
     out: &mut [i32],
     valid: Lit,
     address_equal: Lit,
@@ -43,7 +43,7 @@ pub fn put_select(out: &mut [i32], net: Netlist, port: Port, j: u32, i: u32) -> 
     let none_since = variables::none_since(net, port, j, i);
     let selected = variables::selected(net, port, j, i);
     let none_after = variables::none_since(net, port, j + 1, i);
-    put_gates(
+    put_select_gates(
         out,
         valid,
         address_equal,

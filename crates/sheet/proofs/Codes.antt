@@ -2,7 +2,7 @@
 -- Assumes nothing.
 use Prim.Native.Nat.{ℕ, _+_, _≤_}
 use mathlib.Core.Path.{_≡_, sym, _∙_, ap}
-use mathlib.Core.Bool.{Bool, true, false, _||_}
+use mathlib.Core.Bool.{Bool, true, false}
 use mathlib.Core.List.{List}
 use native.Mathlib.Omega.{arith}
 use lib.Dec.{ltb}
@@ -11,9 +11,7 @@ use Rattle.refusals.specs.Tests.{refuseIf, _then_, inOrder}
 use Rattle.refusals.specs.declared.Refusal.{Refusal}
 use Rattle.refusals.specs.declared.Refusal.the-variants.{Ragged, OutOfOrder, MemoryLoop, NoRoom}
 use Rattle.refusals.specs.declared.Verdict.the-variants.{Passed, Refused}
-use Rattle.refusals.specs.Slices.{testRoom}
-use Rattle.refusals.proofs.Tests.{refused-not-passed, refuseIf-passes, refuseIf-either, then-passes, passed-then}
-use Rattle.refusals.proofs.Slices.{room-shown}
+use Rattle.refusals.proofs.Tests.{refused-not-passed, refuseIf-passes, then-passes, passed-then}
 use Rattle.model.specs.Netlist as M
 use Rattle.model.specs.Acceptance.{Accepted}
 use Rattle.netlist.specs.NetOf.{netOf}
@@ -22,16 +20,17 @@ use Rattle.netlist.specs.Faults.{codeFault, loopFault}
 use Rattle.netlist.specs.declared.Netlist.{Netlist}
 use Rattle.netlist.proofs.Lines.{every-place}
 use Rattle.netlist.proofs.Faults.{Without, codes-fit, no-loop}
-use Rattle.records.specs.Record.{testLines}
+use Rattle.records.specs.Record.{testLoops, listsShort}
 use Rattle.records.proofs.Record.{testLines-passes}
-use Rattle.records.proofs.Acceptance.{passes-accepted}
-use Rattle.steps.specs.Records.{recordOf, refusedAt}
+use Rattle.records.proofs.Acceptance.{lists-long, passes-accepted}
+use Rattle.netlist.specs.RecordOf.{recordOf}
+use Rattle.steps.specs.Records.{recordBeside, refusedAt}
 use Rattle.steps.specs.Steps.{FullLength, Holds}
 use Rattle.parse.specs.Files.{lineCount, netIn}
 use Rattle.parse.specs.FileTests.{ragged, testLineIn}
 use Rattle.parse.proofs.LineTests.{line-passed, sizes-passed}
 use Rattle.sheet.specs.Sheet.{endVerdict, fileVerdict, sheetVerdict}
-use Rattle.sheet.specs.Codes.{recordBeside, CodesRead}
+use Rattle.sheet.specs.Codes.{CodesRead}
 use Rattle.sheet.proofs.Lists.{gather-all}
 
 -- the file's netlist, where all tests of the file pass
@@ -43,11 +42,11 @@ module _ (file : List ℕ) (passed : fileVerdict file ≡ Passed) where
       (then-passes (refuseIf (ragged file) Ragged 0)
       (inOrder (testLineIn (netIn file) file) (lineCount file) then endVerdict (netIn file) (lineCount file)) .0 passed .1) .0
 
-  end-passes : (controlLine (netIn file) ≤ lineCount file) × (testLines (netIn file) MemoryLoop loopFault ≡ Passed)
+  end-passes : (controlLine (netIn file) ≤ lineCount file) × (testLoops (netIn file) ≡ Passed)
   unfolding fileVerdict endVerdict _then_
   end-passes =
       let missing = refuseIf (ltb (lineCount file) (controlLine (netIn file))) OutOfOrder (lineCount file + 1) in
-      let loops = testLines (netIn file) MemoryLoop loopFault in
+      let loops = testLoops (netIn file) in
       let lines = inOrder (testLineIn (netIn file) file) (lineCount file) in
       let end = then-passes lines (missing then loops) .0
       (then-passes (refuseIf (ragged file) Ragged 0) (lines then missing then loops) .0 passed .1) .1 in
@@ -103,7 +102,7 @@ sizes-held r latches gates holds = (
 module _ (file : List ℕ) (latchRoom gateRoom : ℕ) where
   -- whether a list has too little room
   abbrev pub short : Bool
-  short = ltb latchRoom (netIn file .latches) || ltb gateRoom (netIn file .gates)
+  short = listsShort (netIn file) latchRoom gateRoom
 
   -- the verdict, where the file is refused, where a list has too little room, and where neither is so
   pub sheet-refused : {r : Refusal} {p : ℕ} → fileVerdict file ≡ Refused r p → sheetVerdict file latchRoom gateRoom ≡ Refused r p
@@ -111,10 +110,8 @@ module _ (file : List ℕ) (latchRoom gateRoom : ℕ) where
   sheet-refused e = rw e
 
   by-room : fileVerdict file ≡ Passed → sheetVerdict file latchRoom gateRoom ≡ refuseIf short NoRoom 0
-  unfolding sheetVerdict testRoom
-  by-room e =
-      rw (e, passed-then _)
-      (refuseIf-either (ltb latchRoom (netIn file .latches)) (ltb gateRoom (netIn file .gates)) NoRoom 0)
+  unfolding sheetVerdict
+  by-room e = rw (e, passed-then _)
 
   pub sheet-short : fileVerdict file ≡ Passed → short ≡ true → sheetVerdict file latchRoom gateRoom ≡ Refused NoRoom 0
   sheet-short e h = by-room e ∙ rw h
@@ -128,11 +125,8 @@ module _ (file : List ℕ) (latchRoom gateRoom : ℕ) where
   unfolding sheetVerdict
   passed-sheet e =
       let parts = then-passes (fileVerdict file) _ .0 e in
-      let long = then-passes (testRoom (netIn file .latches) latchRoom) (testRoom (netIn file .gates) gateRoom) .0 (parts .1) in (
-        accepted-in file (parts .0),
-        room-shown (netIn file .latches) latchRoom (long .0),
-        room-shown (netIn file .gates) gateRoom (long .1),
-      )
+      let long = lists-long (netIn file) latchRoom gateRoom .0 (refuseIf-passes short NoRoom 0 .0 (parts .1)) in
+      (accepted-in file (parts .0), long .0, long .1)
 
   -- at a refusal: a record of zeros
   pub codes-refused : {r : Refusal} {p : ℕ} → sheetVerdict file latchRoom gateRoom ≡ Refused r p → (latches gates : List ℕ)

@@ -5,10 +5,10 @@ use mathlib.Core.List.{List}
 use native.Mathlib.Omega.{arith}
 use lib.ListN.{length, take}
 use lib.Seq.{take-suc, take-all}
-use Rattle.model.specs.Clauses.{gather}
+use Rattle.model.specs.Gather.{gather}
 use Rattle.literals.specs.declared.Code.{Code}
 use Rattle.netlist.specs.NetOf.{codeOf}
-use Rattle.steps.specs.Records.{codeEntry}
+use Rattle.netlist.specs.RecordOf.{codeEntry}
 
 -- the codes of a record's array, gathered again
 pub gather-codes : (xs : List Code) (n : ℕ) → n ≤ length xs → gather n (codeEntry (codeOf xs)) ≡ take n xs

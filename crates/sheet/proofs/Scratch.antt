@@ -9,7 +9,7 @@ use lib.ListN.{getD, replicate, length-replicate}
 use Rattle.refusals.specs.Tests.{inOrder, _then_}
 use Rattle.refusals.specs.declared.Verdict.the-variants.{Passed}
 use Rattle.model.specs.Netlist as M
-use Rattle.model.specs.Clauses.{gather}
+use Rattle.model.specs.Gather.{gather}
 use Rattle.model.specs.Acceptance.{SizesFit, WithinLimits}
 use Rattle.literals.specs.declared.Code.{Code}
 use Rattle.netlist.specs.NetOf.{codeOf, netOf}
@@ -19,7 +19,7 @@ use Rattle.netlist.specs.declared.Netlist.{Netlist}
 use Rattle.netlist.proofs.NetOf.{sizes-lists, limits-without-latches}
 use Rattle.netlist.proofs.Lines.{every-place}
 use Rattle.netlist.proofs.Faults.{Without, codes-fit}
-use Rattle.steps.specs.Records.{recordOf, noNetlist}
+use Rattle.netlist.specs.RecordOf.{recordOf, noNetlist}
 use Rattle.lines.specs.declared.ParsedLine.{ParsedLine}
 use Rattle.lines.specs.declared.ParsedLine.the-variants.{Misprint}
 use lib.Dec.{ltb}

@@ -6,13 +6,12 @@ use mathlib.Core.List.{List, []}
 use borrow.Author.Tests.{lt-ltb, le-ltb}
 use Rattle.refusals.specs.Tests.{inOrder, _then_}
 use Rattle.refusals.specs.declared.Refusal.{Refusal}
-use Rattle.refusals.specs.declared.Refusal.the-variants.{Ragged, OutOfOrder, MemoryLoop}
+use Rattle.refusals.specs.declared.Refusal.the-variants.{Ragged, OutOfOrder}
 use Rattle.refusals.specs.declared.Verdict.the-variants.{Passed, Refused}
 use Rattle.model.specs.Netlist as M
 use Rattle.netlist.specs.NetOf.{netOf}
 use Rattle.netlist.specs.Lines.{controlLine}
-use Rattle.netlist.specs.Faults.{loopFault}
-use Rattle.records.specs.Record.{testLines}
+use Rattle.records.specs.Record.{testLoops}
 use Rattle.netlist.specs.declared.Netlist.{Netlist}
 use Rattle.records.proofs.Lists.{test-loops-latches}
 use Rattle.parse.specs.Files.{lineCount, netIn}
@@ -24,7 +23,7 @@ pub end-missing : (c : M.Netlist) (count : ℕ) → count < controlLine c → en
 unfolding endVerdict _then_
 end-missing c count h = rw (lt-ltb count (controlLine c) h)
 
-pub end-whole : (c : M.Netlist) (count : ℕ) → controlLine c ≤ count → endVerdict c count ≡ testLines c MemoryLoop loopFault
+pub end-whole : (c : M.Netlist) (count : ℕ) → controlLine c ≤ count → endVerdict c count ≡ testLoops c
 unfolding endVerdict _then_
 end-whole c count h = rw (le-ltb count (controlLine c) h)
 

@@ -1,25 +1,16 @@
--- What a reader returns and leaves in its own unpacked lists, for lent lists that have room for so many records (document 01,
--- "a .. record returned beside them is all zeros"). Cited by `read_codes` here and in `reader`, and by reader/specs/ReadCall.
--- Assumes nothing.
+-- What a reader returns and leaves in its own unpacked lists, for lent lists that have room for so many records. Cited by
+-- `read_codes` here and in `reader`. Assumes nothing.
 use Prim.Native.Nat.{ℕ}
 use mathlib.Core.Path.{_≡_}
 use mathlib.Core.List.{List}
-use Rattle.model.specs.Netlist as M
-use Rattle.refusals.specs.declared.Verdict.{Verdict}
-use Rattle.refusals.specs.declared.Verdict.the-variants.{Passed, Refused}
+use Rattle.refusals.specs.declared.Verdict.the-variants.{Passed}
 use Rattle.netlist.specs.NetOf.{netOf}
-use Rattle.netlist.specs.declared.Netlist.{Netlist}
 use Rattle.records.specs.Record.{recordVerdict}
-use Rattle.steps.specs.Records.{recordOf, noNetlist}
+use Rattle.steps.specs.Records.{recordBeside}
 use Rattle.steps.specs.Steps.{Holds}
 use Rattle.steps.specs.declared.SheetAnswer.{SheetAnswer}
 use Rattle.parse.specs.Files.{netIn}
 use Rattle.sheet.specs.Sheet.{sheetVerdict}
-
--- the record returned beside a verdict
-unfoldable pub recordBeside : Verdict → M.Netlist → Netlist
-recordBeside Passed c = recordOf c
-recordBeside (Refused r p) c = recordOf noNetlist
 
 -- the verdict and the record; and on success the lists hold the codes, and no test of records refuses them
 pub record CodesRead (file : List ℕ) (latchRoom gateRoom : ℕ) (sheet : SheetAnswer) (latches gates : List ℕ) : Type 0 where

@@ -6,12 +6,10 @@ use mathlib.Core.List.{List}
 use lib.Dec.{ltb}
 use Rattle.model.specs.Netlist.{Netlist}
 use Rattle.refusals.specs.Tests.{refuseIf, _then_, inOrder}
-use Rattle.refusals.specs.Slices.{testRoom}
-use Rattle.refusals.specs.declared.Refusal.the-variants.{Ragged, OutOfOrder, MemoryLoop}
+use Rattle.refusals.specs.declared.Refusal.the-variants.{Ragged, OutOfOrder, NoRoom}
 use Rattle.refusals.specs.declared.Verdict.{Verdict}
 use Rattle.netlist.specs.Lines.{controlLine}
-use Rattle.netlist.specs.Faults.{loopFault}
-use Rattle.records.specs.Record.{testLines}
+use Rattle.records.specs.Record.{listsShort, testLoops}
 use Rattle.parse.specs.Files.{lineCount, netIn}
 use Rattle.parse.specs.FileTests.{ragged, testLineIn}
 
@@ -19,7 +17,7 @@ use Rattle.parse.specs.FileTests.{ragged, testLineIn}
 unfoldable pub endVerdict : Netlist → ℕ → Verdict
 endVerdict c count =
     refuseIf (ltb count (controlLine c)) OutOfOrder (count + 1)
-    then testLines c MemoryLoop loopFault
+    then testLoops c
 
 -- "1 (place 0); then line by line ..": the tests of what the file says
 unfoldable pub fileVerdict : List ℕ → Verdict
@@ -28,7 +26,7 @@ fileVerdict file =
     then inOrder (testLineIn (netIn file) file) (lineCount file)
     then endVerdict (netIn file) (lineCount file)
 
--- "Then 9, place 0", for lists of latchRoom and gateRoom records
+-- "Then 9, place 0", for lists that have room for latchRoom and gateRoom records
 unfoldable pub sheetVerdict : List ℕ → ℕ → ℕ → Verdict
 sheetVerdict file latchRoom gateRoom =
-    fileVerdict file then testRoom (netIn file .latches) latchRoom then testRoom (netIn file .gates) gateRoom
+    fileVerdict file then refuseIf (listsShort (netIn file) latchRoom gateRoom) NoRoom 0

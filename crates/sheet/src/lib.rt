@@ -9,7 +9,7 @@ ghost use mathlib.Core.List.{[]};
 ghost use Prim.Native.Nat.{_≤_};
 ghost use Rattle.netlist.specs.NetOf.{netOf};
 ghost use Rattle.steps.specs.Steps.{Outcome};
-ghost use Rattle.steps.specs.Records.{recordOf, noNetlist};
+ghost use Rattle.netlist.specs.RecordOf.{recordOf, noNetlist};
 ghost use Rattle.parse.specs.Files.{lineCount, netIn};
 ghost use Rattle.parse.specs.Progress.{ReadTo};
 ghost use Rattle.sheet.specs.Sheet.{endVerdict, fileVerdict};
@@ -51,7 +51,7 @@ fn test_file(
     if parse::is_ragged(file) {
         return steps::refused(Refusal::Ragged, 0);
     }
-    let sheet = parse::read_lines(file, line, steps::empty_net(), latches, gates);
+    let sheet = parse::read_lines(file, line, netlist::empty_net(), latches, gates);
     let read = sheet.verdict;
     if let Verdict::Refused(refusal, place) = read {
         return steps::refused(refusal, place);

@@ -11,9 +11,10 @@ use lib.IntN.{ℤ}
 use lib.ListN.{getD}
 use Rattle.model.specs.Netlist as M
 use Rattle.model.specs.Netlist.{latchWire}
-use Rattle.model.specs.Clauses.{known, neg, gather, sameClauses}
+use Rattle.model.specs.Gather.{gather}
+use Rattle.model.specs.Clauses.{known, neg, sameClauses}
 use Rattle.model.specs.Variables.{base, wireAt, codeAt}
-use Rattle.model.specs.Groups.{resetClause, latchClauses, stateClauses}
+use Rattle.model.specs.Groups.{resetClauses, latchClauses, stateClauses}
 use Rattle.model.specs.Numbers.{numberOf, written}
 use Rattle.netlist.specs.NetOf.{netOf, alone}
 use Rattle.netlist.specs.declared.Netlist.{Netlist}
@@ -25,9 +26,9 @@ resetAt b first ls l =
     written ((cond (eqb (getD ls (2 * l + 1) 0) 1) (wireAt b (first + l)) (neg (wireAt b (first + l))) ∷ []) ∷ [])
 
 pub resets : (net : Netlist) (ls : List ℕ) (n : ℕ) {b first : ℕ} → b ≡ base (alone net) 0 → first ≡ latchWire (alone net) 0
-    → written (gather n (resetClause (netOf net ls []))) ≡ gather n (resetAt b first ls)
-unfolding resetClause base netOf
-resets net ls n e f = rw (written-gather n (resetClause (netOf net ls [])), e, f, add-zero)
+    → written (gather n (resetClauses (netOf net ls []))) ≡ gather n (resetAt b first ls)
+unfolding resetClauses base netOf
+resets net ls n e f = rw (written-gather n (resetClauses (netOf net ls [])), e, f, add-zero)
 
 -- latch l in a later frame
 abbrev pub latchAt : ℕ → ℕ → ℕ → List ℕ → ℕ → List ℤ
@@ -47,6 +48,6 @@ state-later c (suc i) h = rw sub-one
 
 -- the clause (1), and the latches of frame 0, and their room
 pub state-first : (c : M.Netlist) {i : ℕ} → i ≡ 0
-    → written (stateClauses c i) ≡ written ((known true ∷ []) ∷ []) ++ written (gather (c .latches) (resetClause c))
+    → written (stateClauses c i) ≡ written ((known true ∷ []) ∷ []) ++ written (gather (c .latches) (resetClauses c))
 unfolding stateClauses written numberOf
 state-first c e = rw e

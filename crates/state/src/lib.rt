@@ -9,9 +9,10 @@ ghost use mathlib.Core.Bool.{cond};
 ghost use mathlib.Core.List.{[], _∷_};
 ghost use lib.Dec.{eqb};
 ghost use lib.ListN.{length};
-ghost use Rattle.model.specs.Clauses.{neg, gather, sameClauses};
+ghost use Rattle.model.specs.Gather.{gather};
+ghost use Rattle.model.specs.Clauses.{neg, sameClauses};
 ghost use Rattle.model.specs.Variables.{wireAt, codeAt};
-ghost use Rattle.model.specs.Groups.{resetClause, latchClauses, stateClauses};
+ghost use Rattle.model.specs.Groups.{resetClauses, latchClauses, stateClauses};
 ghost use Rattle.model.specs.Numbers.{written};
 ghost use Rattle.literals.specs.Lit.{HasNumber};
 ghost use Rattle.netlist.specs.NetOf.{netOf};
@@ -35,8 +36,8 @@ fn put_reset(out: &mut [i32], b: u32, q: Wire, reset: u32) -> usize
 // Each latch in frame 0.
 fn put_resets(out: &mut [i32], net: Netlist, latches: &[u32; 1200]) -> usize
     requires { ⌜ FrameFits (netOf net (now latches) []) 0
-        × (length (written (gather (net .latches) (resetClause (netOf net (now latches) [])))) ≤ length (now out)) ⌝ }
-    ensures { λ r. ⌜ Wrote (written (gather (net .latches) (resetClause (netOf net (now (latches .entry)) []))))
+        × (length (written (gather (net .latches) (resetClauses (netOf net (now latches) [])))) ≤ length (now out)) ⌝ }
+    ensures { λ r. ⌜ Wrote (written (gather (net .latches) (resetClauses (netOf net (now (latches .entry)) []))))
         (now (out .entry)) (now (out .exit)) r ⌝ }
 {
     let b = variables::frame_base(net, 0);

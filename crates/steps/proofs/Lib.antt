@@ -1,3 +1,2 @@
-pub mod Neither
 pub mod Places
 pub mod Steps

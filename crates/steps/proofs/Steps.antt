@@ -19,31 +19,32 @@ use Rattle.model.specs.Netlist as M
 use Rattle.netlist.specs.Lines.{controlLine, lineAt}
 use Rattle.lines.specs.Letters.{rowOf}
 use Rattle.lines.specs.declared.Kind.{Kind}
-use Rattle.netlist.specs.NetOf.{codeOf, netOf, alone}
+use Rattle.netlist.specs.NetOf.{codeOf, firstAt, secondAt, netOf, alone}
 use Rattle.netlist.specs.declared.Netlist.{Netlist}
 use Rattle.netlist.specs.declared.Line.the-variants.{Latch, Gate}
 use Rattle.steps.specs.Due.{kindDue}
-use Rattle.steps.specs.Steps.{stored, stepNet, stepVerdict, faultsAt, SizesKnown, FullLength, Holds, Outcome}
+use Rattle.steps.specs.Steps.{stored, stepNet, stepVerdict, SizesKnown, FullLength, Holds, Outcome}
+use Rattle.steps.specs.LineFaults.{faultsAt}
 use Rattle.steps.specs.Records.{refusedAt}
 use Rattle.steps.proofs.Places.{codes-from-3, sizesOf, SameSizes, sizesFit-same, lineAt-known}
 use Rattle.refusals.specs.Tests.{_then_}
 
 -- the two codes of record i set, in a list of records unpacked: the first codes and the second codes then
 module _ (xs : List ℕ) (i x y : ℕ) (full : length xs ≡ 1200) (h : i < 600) where
-  first-set : (j : ℕ) → getD (set (set xs (2 * i) x) (2 * i + 1) y) (2 * j) 0 ≡ cond (eqb i j) x (getD xs (2 * j) 0)
-  first-set j =
+  first-set : firstAt (set (set xs (2 * i) x) (2 * i + 1) y) ≡ (λ j. cond (eqb i j) x (firstAt xs j))
+  first-set = fun-ext (λ j.
       getD-set-other (set xs (2 * i) x) (2 * i + 1) (2 * j) y 0 (λ e. omega arith)
       ∙ by-cases (ℕ-discrete i j)
       (λ e. rw (eq-eqb i j e, ← e) (getD-set-same xs (2 * i) x 0 (omega arith)))
-      (λ e. rw (ne-eqb i j e) (getD-set-other xs (2 * i) (2 * j) x 0 (λ q. e (omega arith))))
+      (λ e. rw (ne-eqb i j e) (getD-set-other xs (2 * i) (2 * j) x 0 (λ q. e (omega arith)))))
 
-  second-set : (j : ℕ) → getD (set (set xs (2 * i) x) (2 * i + 1) y) (2 * j + 1) 0 ≡ cond (eqb i j) y (getD xs (2 * j + 1) 0)
-  second-set j =
+  second-set : secondAt (set (set xs (2 * i) x) (2 * i + 1) y) ≡ (λ j. cond (eqb i j) y (secondAt xs j))
+  second-set = fun-ext (λ j.
       by-cases (ℕ-discrete i j)
       (λ e. rw (eq-eqb i j e, ← e) (getD-set-same (set xs (2 * i) x) (2 * i + 1) y 0 (omega (arith, length-set xs (2 * i) x))))
       (λ e. rw (ne-eqb i j e)
       (getD-set-other (set xs (2 * i) x) (2 * i + 1) (2 * j + 1) y 0 (λ q. e (omega arith))
-      ∙ getD-set-other xs (2 * i) (2 * j + 1) x 0 (λ q. omega arith)))
+      ∙ getD-set-other xs (2 * i) (2 * j + 1) x 0 (λ q. omega arith))))
 
 -- one code of a record's array set
 pub code-set : (xs : List Code) (i x : ℕ) → i < length xs → codeOf (set xs i (record { 0 = x })) ≡ (λ j. cond (eqb i j) x (codeOf xs j))

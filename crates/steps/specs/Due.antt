@@ -3,6 +3,7 @@
 use Prim.Native.Nat.{ℕ}
 use mathlib.Core.Bool.{Bool, _&&_}
 use lib.Dec.{eqb}
+use Rattle.model.specs.Limits.{mostWires, mostAddressBits, mostDataBits}
 use Rattle.netlist.specs.declared.Line.{Line}
 use Rattle.netlist.specs.declared.Line.the-variants as Due
 use Rattle.lines.specs.Letters.{rowOf}
@@ -33,10 +34,10 @@ lineIndex Due.Control = 0
 abbrev pub roomFor : Line → ℕ
 roomFor Due.Sizes = 1
 roomFor Due.Memory = 1
-roomFor (Due.Latch l) = 600
-roomFor (Due.Gate g) = 600
-roomFor (Due.Address t) = 12
-roomFor (Due.Data t) = 32
+roomFor (Due.Latch l) = mostWires
+roomFor (Due.Gate g) = mostWires
+roomFor (Due.Address t) = mostAddressBits
+roomFor (Due.Data t) = mostDataBits
 roomFor Due.Control = 1
 
 -- whether two lines are the same: of one kind, and with the same number

@@ -1,4 +1,5 @@
 -- One line more of a sheet, in reading order. Nothing here imports a law or a proof.
 pub mod Due
+pub mod LineFaults
 pub mod Records
 pub mod Steps

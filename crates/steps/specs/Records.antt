@@ -1,59 +1,18 @@
--- The record of a netlist, and the one that is all zeros (document 01, "a .. record returned beside them is all zeros").
--- Cited by `empty_net`, `refused`, and parse/specs/Files and sheet/specs/Codes. Assumes nothing.
+-- The record returned beside a verdict (document 01, "a .. record returned beside them is all zeros"). Cited by `refused`,
+-- sheet/specs/Codes and reader/specs/ReadCall. Assumes nothing.
 use Prim.Native.Nat.{ℕ}
-use mathlib.Core.List.{List, [], _∷_}
 use Rattle.model.specs.Netlist as M
-use Rattle.model.specs.Clauses.{gather}
-use Rattle.literals.specs.declared.Code.{Code}
 use Rattle.refusals.specs.declared.Refusal.{Refusal}
-use Rattle.refusals.specs.declared.Verdict.the-variants.{Refused}
+use Rattle.refusals.specs.declared.Verdict.{Verdict}
+use Rattle.refusals.specs.declared.Verdict.the-variants.{Passed, Refused}
+use Rattle.netlist.specs.RecordOf.{recordOf, noNetlist}
 use Rattle.netlist.specs.declared.Netlist.{Netlist}
 use Rattle.steps.specs.declared.SheetAnswer.{SheetAnswer}
 
--- the record of a netlist: arrays of 12 and 32 codes
-abbrev pub codeEntry : (ℕ → ℕ) → ℕ → List Code
-codeEntry f t = record { 0 = f t } ∷ []
-
-unfoldable pub recordOf : M.Netlist → Netlist
-recordOf c =
-    record {
-      inputs = c .inputs;
-      latches = c .latches;
-      gates = c .gates;
-      m = c .m;
-      n = c .n;
-      «initial_word» = c .initialWord;
-      address = gather 12 (codeEntry (c .address));
-      «write_data» = gather 32 (codeEntry (c .writeData));
-      we = record { 0 = c .WE };
-      re = record { 0 = c .RE };
-      p = record { 0 = c .P };
-    }
-
--- sizes with no codes
-abbrev pub withoutCodes : ℕ → ℕ → ℕ → ℕ → ℕ → ℕ → M.Netlist
-withoutCodes inputs latches gates m n initialWord =
-    record {
-      inputs = inputs;
-      latches = latches;
-      gates = gates;
-      m = m;
-      n = n;
-      initialWord = initialWord;
-      next = λ l. 0;
-      reset = λ l. 0;
-      left = λ g. 0;
-      right = λ g. 0;
-      address = λ t. 0;
-      writeData = λ t. 0;
-      WE = 0;
-      RE = 0;
-      P = 0;
-    }
-
--- the record that is all zeros
-abbrev pub noNetlist : M.Netlist
-noNetlist = withoutCodes 0 0 0 0 0 0
+-- the netlist's where nothing is refused
+unfoldable pub recordBeside : Verdict → M.Netlist → Netlist
+recordBeside Passed c = recordOf c
+recordBeside (Refused r p) c = recordOf noNetlist
 
 -- a refusal with its record
 abbrev pub refusedAt : Refusal → ℕ → SheetAnswer

@@ -1,5 +1,5 @@
 -- What one line more does: its numbers put into the netlist read so far, and its tests there. Cited by the functions that take one
--- line more, and by parse/specs and sheet/specs. Assumes nothing.
+-- line more, parse/specs/Progress, sheet/specs/Scratch and sheet/specs/Codes. Assumes nothing.
 use Prim.Native.Nat.{ℕ, _≤_}
 use mathlib.Core.Path.{_≡_}
 use mathlib.Core.Bool.{cond, not, _||_}
@@ -7,7 +7,7 @@ use mathlib.Core.List.{List}
 use lib.Dec.{eqb, ltb}
 use lib.ListN.{length}
 use Rattle.refusals.specs.Tests.{refuseIf, _then_}
-use Rattle.refusals.specs.declared.Refusal.the-variants.{OutOfOrder, Size, CodeOutside}
+use Rattle.refusals.specs.declared.Refusal.the-variants.{OutOfOrder}
 use Rattle.refusals.specs.declared.Verdict.{Verdict}
 use Rattle.refusals.specs.declared.Verdict.the-variants.{Passed}
 use Rattle.literals.specs.declared.Code.{Code}
@@ -15,7 +15,6 @@ use Rattle.model.specs.Netlist.{Netlist}
 use Rattle.model.specs.Acceptance.{SizesFit}
 use Rattle.netlist.specs.NetOf.{netOf}
 use Rattle.netlist.specs.Lines.{lineAt, controlLine}
-use Rattle.netlist.specs.Faults.{sizeFault, codeFault}
 use Rattle.netlist.specs.declared.Netlist as R
 use Rattle.netlist.specs.declared.Line.{Line}
 use Rattle.netlist.specs.declared.Line.the-variants.{Sizes, Memory, Latch, Gate, Address, Data, Control}
@@ -23,6 +22,7 @@ use Rattle.lines.specs.Letters.{rowOf}
 use Rattle.lines.specs.declared.Kind.{Kind}
 use Rattle.steps.specs.declared.SheetAnswer.{SheetAnswer}
 use Rattle.steps.specs.Due.{kindDue, sameLine}
+use Rattle.steps.specs.LineFaults.{faultsAt}
 
 -- a number that stands in line `at`, where line `due` is read: the new one if it is that line, else the old one
 abbrev pub numberAfter : Line → Line → ℕ → ℕ → ℕ
@@ -66,10 +66,6 @@ abbrev pub StoredIn : R.Netlist → R.Netlist → Line → ℕ → ℕ → ℕ �
 StoredIn r old due x y z =
     (latches gates : List ℕ) → FullLength (old .address) (old .«write_data») latches gates
     → Holds r latches gates (stored (netOf old latches gates) due x y z)
-
--- 4 or 5 at line `due`, which stands at place p
-unfoldable pub faultsAt : Netlist → Line → ℕ → Verdict
-faultsAt c due p = refuseIf (sizeFault c due) Size p then refuseIf (codeFault c due) CodeOutside p
 
 -- the netlist c of the lines before place p, with the numbers of the line at p
 unfoldable pub stepNet : Netlist → ℕ → ℕ → ℕ → ℕ → Netlist

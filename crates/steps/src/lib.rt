@@ -3,7 +3,6 @@
 //
 // The lists are unpacked and of full length: 600 records of two codes each.
 use lines::Kind;
-use literals::Code;
 use netlist::Line;
 use netlist::Netlist;
 use refusals::Refusal;
@@ -16,33 +15,14 @@ ghost use Rattle.netlist.specs.NetOf.{netOf, alone};
 ghost use Rattle.netlist.specs.Lines.{lineAt, controlLine};
 ghost use Rattle.lines.specs.Letters.{rowOf};
 ghost use Rattle.steps.specs.Due.{kindDue, lineIndex, roomFor};
-ghost use Rattle.steps.specs.Records.{recordOf, noNetlist, refusedAt};
-ghost use Rattle.steps.specs.Steps.{stored, FullLength, Holds, StoredIn, Outcome, SizesKnown, faultsAt, stepNet, stepVerdict};
+ghost use Rattle.steps.specs.LineFaults.{faultsAt};
+ghost use Rattle.steps.specs.Records.{refusedAt};
+ghost use Rattle.steps.specs.Steps.{stored, FullLength, Holds, StoredIn, Outcome, SizesKnown, stepNet, stepVerdict};
 
 // What a sheet is read as: the verdict of its tests, and the record, all zeros at a refusal.
 pub struct SheetAnswer {
     pub verdict: Verdict,
     pub net: Netlist,
-}
-
-// The record that is all zeros.
-pub fn empty_net() -> Netlist
-    ensures { λ r. ⌜ r ≡ recordOf noNetlist ⌝ }
-{
-    let none = Code(0);
-    Netlist {
-        inputs: 0,
-        latches: 0,
-        gates: 0,
-        m: 0,
-        n: 0,
-        initial_word: 0,
-        address: [none; 12],
-        write_data: [none; 32],
-        we: none,
-        re: none,
-        p: none,
-    }
 }
 
 // A refusal, with a record that is all zeros.
@@ -51,7 +31,7 @@ pub fn refused(refusal: Refusal, place: u32) -> SheetAnswer
 {
     SheetAnswer {
         verdict: Verdict::Refused(refusal, place),
-        net: empty_net(),
+        net: netlist::empty_net(),
     }
 }
 

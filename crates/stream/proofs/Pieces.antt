@@ -9,7 +9,7 @@ use lib.ListN.{length, take, drop}
 use lib.Seq.{take-append-seam}
 use borrow.Rule.Slice.PartMut.{midOf, putMid}
 use Rattle.model.specs.Netlist.{Netlist}
-use Rattle.model.specs.Clauses.{gather}
+use Rattle.model.specs.Gather.{gather}
 use Rattle.model.specs.Groups.{frameGroups, groupOrder, inDepth}
 use Rattle.model.specs.Numbers.{numbersOf, joined}
 use Rattle.model.specs.Wrote.{Wrote}

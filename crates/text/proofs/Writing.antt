@@ -9,7 +9,7 @@ use borrow.Rule.Slice.PartMut.{midOf}
 use lib.ListN.{length, length-append, getD, take, drop, set}
 use lib.Seq.{paste-suc}
 use Rattle.model.specs.Wrote.{Wrote}
-use Rattle.model.proofs.Wrote as W
+use Rattle.model.proofs.Wrote.{rest-within, rest-room}
 
 -- two bytes
 pub wrote-two : (a b : ℕ) (old : List ℕ) → 2 ≤ length old → Wrote (a ∷ b ∷ []) old (set (set old 0 a) 1 b) 2
@@ -40,8 +40,8 @@ front-room a b room h = omega (arith, length-append a b)
 
 -- after a text is written, the rest starts within the slice and has room for what is to stand behind it
 module _ {A : Type 0} (a b old mid : List A) (i : ℕ) (w : Wrote a old mid i) (room : length (a ++ b) ≤ length old) where
-  pub rest-within : i ≤ length mid
-  rest-within = W.rest-within w (front-room a b (length old) room)
+  pub behind-within : i ≤ length mid
+  behind-within = rest-within w (omega (arith, w .counted, length-append a b))
 
-  pub rest-room : length b ≤ length (midOf i (length mid - i) mid)
-  rest-room = W.rest-room w (omega (arith, length-append a b))
+  pub behind-room : length b ≤ length (midOf i (length mid - i) mid)
+  behind-room = rest-room w (omega (arith, w .counted, length-append a b))

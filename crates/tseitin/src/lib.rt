@@ -5,7 +5,7 @@ use writer::put_binary;
 use writer::put_ternary;
 ghost use Prim.Native.Nat.{_≤_};
 ghost use lib.ListN.{length};
-ghost use Rattle.model.specs.Clauses.{andClauses, sameClauses, sameIf, bitClauses};
+ghost use Rattle.model.specs.Clauses.{andClauses, sameClauses, sameIfClauses, bitClauses};
 ghost use Rattle.model.specs.Numbers.{written};
 ghost use Rattle.literals.specs.Lit.{literalOf, IsLit};
 ghost use Rattle.model.specs.Wrote.{Wrote};
@@ -44,8 +44,8 @@ fn put_both(out: &mut [i32], p: Lit, a: Lit, b: Lit, c: Lit, d: Lit) -> usize
 
 // The clauses of a = b where p is true.
 pub fn put_same_if(out: &mut [i32], p: Lit, a: Lit, b: Lit) -> usize
-    requires { ⌜ IsLit p × IsLit a × IsLit b × (length (written (sameIf (literalOf p) (literalOf a) (literalOf b))) ≤ length (now out)) ⌝ }
-    ensures { λ r. ⌜ Wrote (written (sameIf (literalOf p) (literalOf a) (literalOf b))) (now (out .entry)) (now (out .exit)) r ⌝ }
+    requires { ⌜ IsLit p × IsLit a × IsLit b × (length (written (sameIfClauses (literalOf p) (literalOf a) (literalOf b))) ≤ length (now out)) ⌝ }
+    ensures { λ r. ⌜ Wrote (written (sameIfClauses (literalOf p) (literalOf a) (literalOf b))) (now (out .entry)) (now (out .exit)) r ⌝ }
 {
     put_both(out, p.negated(), a.negated(), b, a, b.negated())
 }

@@ -83,6 +83,7 @@ module _ (c : Netlist) (latchCount gateCount k : ℕ) (record-passed : recordVer
         formula-stated = stated c accepted k;
         variables-most = base-most c (accepted .limits .sizes) (k + 1) (omega arith);
         numbers-suffice = numbers-suffice c k accepted d;
+        lines-most = omega (arith, accepted .limits .sizes .wires-fit, accepted .limits .sizes .m-most);
       }
 
 -- which test of a heading call decides

@@ -8,6 +8,7 @@ use mathlib.Core.List.{List}
 use lib.Dec.{ltb}
 use lib.IntN.{ℤ}
 use lib.ListN.{length, take}
+use Rattle.model.specs.Limits.{mostDepth, mostLines}
 use Rattle.model.specs.Netlist.{Netlist}
 use Rattle.model.specs.Variables.{base}
 use Rattle.model.specs.Groups.{inDepth, groupOrder}
@@ -20,6 +21,7 @@ use Rattle.refusals.specs.Slices.{testRoom, CountReply, withCount, contentsAfte
 use Rattle.refusals.specs.declared.Refusal.the-variants.{Depth, NoSuchGroup, OutOfNumbers}
 use Rattle.refusals.specs.declared.Verdict.{Verdict}
 use Rattle.refusals.specs.declared.Verdict.the-variants.{Passed, Refused}
+use Rattle.netlist.specs.Lines.{controlLine}
 use Rattle.records.specs.Record.{recordVerdict}
 use Rattle.unpacked.specs.declared.GroupAnswer.{GroupAnswer}
 use Rattle.unpacked.specs.declared.GroupAnswer.the-variants.{Written}
@@ -28,7 +30,7 @@ use Rattle.unpacked.specs.declared.HeadingAnswer.the-variants.{Heading}
 
 -- 7: "k over 255"
 unfoldable pub testDepth : ℕ → Verdict
-testDepth k = refuseIf (ltb 255 k) Depth 0
+testDepth k = refuseIf (ltb mostDepth k) Depth 0
 
 -- 8: "frame over k, or pair with j not below i"
 unfoldable pub testGroup : ℕ → Group → Verdict
@@ -86,7 +88,8 @@ headingSent c latchCount gateCount k =
 
 -- Demand 3, of the calls: "The clauses for depth k stand in the numbers that the group calls write, one call with room enough for
 -- each group, joined in the order of the whole". Those numbers are the formula, and the formula encodes the runs
--- and is as document 01 says; "Depth k uses B(k + 1) variables, at most 675,841", so that refusal 10 is never met.
+-- and is as document 01 says; "Depth k uses B(k + 1) variables, at most 675,841", so that refusal 10 is never met; and the netlist's
+-- sheet has "L + A + m + n + 3 lines, 615 at most".
 abbrev pub RoomEnough : Netlist → ℕ → (Group → List ℤ) → Type 0
 RoomEnough c k slice = (g : Group) → inDepth k g ≡ true → length (numbersOf c k g) ≤ length (slice g)
 
@@ -100,3 +103,4 @@ pub record CallsEncode (c : Netlist) (latchCount gateCount k : ℕ) : Type 0 whe
   pub formula-stated : Stated c k
   pub variables-most : base c (k + 1) ≤ 675841
   pub numbers-suffice : testNumbers c k ≡ Passed
+  pub lines-most : controlLine c ≤ mostLines

@@ -8,7 +8,7 @@ use native.Mathlib.Numerals.{add-one}
 use native.Mathlib.Omega.{arith}
 use lib.Dec.{eqb, ltb, leb}
 use borrow.Author.Tests.{le-leb, lt-leb, ne-eqb, ltb-true}
-use Rattle.model.specs.Clauses.{gather, gatherDown}
+use Rattle.model.specs.Gather.{gather, gatherDown}
 use Rattle.model.specs.Groups.{pairOf, frameGroups, groupOrder}
 use Rattle.model.specs.declared.Group.{Group}
 use Rattle.model.specs.declared.Group.the-variants.{Wires, Pair, Closing, Property}

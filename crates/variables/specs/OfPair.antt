@@ -1,6 +1,7 @@
 -- The literals of a pair of frames at a port of a record, and what is asked of them. Cited by the writers of a pair's clauses.
 -- Assumes nothing.
 use Prim.Native.Nat.{ℕ, _≤_, _<_}
+use Rattle.model.specs.Limits.{mostDepth}
 use Rattle.model.specs.Clauses.{PairLiterals}
 use Rattle.model.specs.Variables.{pairLiterals}
 use Rattle.netlist.specs.declared.Netlist.{Netlist}
@@ -16,4 +17,4 @@ ofPair net port j i = pairLiterals (alone net) (portOf port) j i
 pub record PairFits (net : Netlist) (port : Port) (j i : ℕ) : Type 0 where
   pub fits : PortFits (alone net) (portOf port)
   pub earlier : j < i
-  pub depth : i ≤ 255
+  pub depth : i ≤ mostDepth

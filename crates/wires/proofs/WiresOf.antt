@@ -7,9 +7,10 @@ use native.Mathlib.Nat.{add-zero}
 use lib.IntN.{ℤ}
 use lib.ListN.{length, getD, length-append}
 use Rattle.model.specs.Netlist.{gateWire}
-use Rattle.model.specs.Clauses.{Clause, plus, gather, andClauses}
+use Rattle.model.specs.Gather.{gather}
+use Rattle.model.specs.Clauses.{Clause, plus, andClauses}
 use Rattle.model.specs.Variables.{base, wireAt, codeAt}
-use Rattle.model.specs.Groups.{resetClause, latchClauses, gateClauses, stateClauses, clausesOf}
+use Rattle.model.specs.Groups.{resetClauses, latchClauses, gateClauses, stateClauses, clausesOf}
 use Rattle.model.specs.Numbers.{written, numbersOf}
 use Rattle.model.specs.declared.Group.the-variants.{Wires}
 use Rattle.model.proofs.Joined.{written-append}
@@ -28,10 +29,10 @@ all-gates net gs i n e f = rw (written-gather n (gateClauses (netOf net [] gs) i
 
 -- latches do not look at the gates
 state-without-gates : (net : Netlist) (ls gs : List ℕ) (i : ℕ) → stateClauses (netOf net ls gs) i ≡ stateClauses (netOf net ls []) i
-unfolding stateClauses resetClause latchClauses base netOf
+unfolding stateClauses resetClauses latchClauses base netOf
 state-without-gates net ls gs zero =
     ap (λ (xs : List Clause). (plus 1 ∷ []) ∷ xs)
-    (gather-same (net .latches) (resetClause (netOf net ls gs)) (resetClause (netOf net ls [])) (λ l. refl))
+    (gather-same (net .latches) (resetClauses (netOf net ls gs)) (resetClauses (netOf net ls [])) (λ l. refl))
 state-without-gates net ls gs (suc i) =
     gather-same (net .latches) (latchClauses (netOf net ls gs) i) (latchClauses (netOf net ls []) i) (λ l. refl)
 

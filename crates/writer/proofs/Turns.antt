@@ -10,7 +10,8 @@ use native.Mathlib.Omega.{arith}
 use lib.IntN.{ℤ, pos}
 use lib.ListN.{length, length-append}
 use borrow.Rule.Slice.PartMut.{midOf, putMid}
-use Rattle.model.specs.Clauses.{Literal, Clause, gather}
+use Rattle.model.specs.Gather.{gather}
+use Rattle.model.specs.Clauses.{Literal, Clause}
 use Rattle.model.specs.Numbers.{numberOf, written}
 use Rattle.model.proofs.Below.{below-suc}
 use Rattle.model.proofs.Joined.{written-append}

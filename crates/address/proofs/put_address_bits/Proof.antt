@@ -2,7 +2,7 @@
 use Prim.Native.Nat.{_-_}
 use native.Mathlib.Omega.{arith}
 use borrow.Author.Needs.{needs}
-use Rattle.model.specs.Clauses.{bitOf}
+use Rattle.model.specs.Clauses.{addressBitClauses}
 use Rattle.model.specs.Variables.{pairLiterals}
 use Rattle.model.specs.Numbers.{written}
 use Rattle.netlist.specs.NetOf.{codeOf, netOf}
@@ -19,7 +19,7 @@ use Rattle.variables.proofs.frame_base.Reads as frame-base-reads
 use Rattle.variables.proofs.pair_base.Reads as pair-base-reads
 
 abbrev Inv-loop : tie.InvT-loop
-Inv-loop out₀ j i net port q writing reading m at₀ t₀ out at t = Turns (net .m) (λ s. written (bitOf (ofPair net port j i) s)) out₀ out t at
+Inv-loop out₀ j i net port q writing reading m at₀ t₀ out at t = Turns (net .m) (λ s. written (addressBitClauses (ofPair net port j i) s)) out₀ out t at
 
 abbrev μ-loop : tie.MeasureT-loop
 μ-loop out₀ j i net port q writing reading m at₀ t₀ out at t = net .m - t
@@ -71,7 +71,7 @@ part-put-address-bit-end : tie.Need-part-put-address-bit-end Inv-loop μ-loop
 part-put-address-bit-end c = search needs
 
 put-address-bit-requires : tie.Need-put-address-bit-requires Inv-loop μ-loop
-unfolding bitOf pairLiterals codeOf netOf portOf
+unfolding addressBitClauses pairLiterals codeOf netOf portOf
 put-address-bit-requires c κs =
     let is = c .before .before .before .before .before .before .before .before .pre .0 in
     let a = c .before .before .before .before .before .before .before .before .args in
@@ -85,7 +85,7 @@ put-address-bit-requires c κs =
     )
 
 add-at : tie.Need-add-at Inv-loop μ-loop
-unfolding bitOf pairLiterals codeOf netOf portOf
+unfolding addressBitClauses pairLiterals codeOf netOf portOf
 add-at c =
     let wrote = rw (c .before .before .before .before .before .before .before .before .before .pair-base .ensures, c .before .before .before .before .before .before .before .before .frame-base .ensures, c .before .before .before .before .before .before .before .frame-base2 .ensures) at (c .before .put-address-bit .ensures) in
     let count = turns-count (c .before .before .before .before .before .before .loop .inv) (c .before .before .before .before .before .loop-test .taken) (wrote .counted) in
@@ -98,7 +98,7 @@ loop-less : tie.Need-loop-less Inv-loop μ-loop
 loop-less c = search needs
 
 loop-again : tie.Need-loop-again Inv-loop μ-loop
-unfolding bitOf pairLiterals codeOf netOf portOf
+unfolding addressBitClauses pairLiterals codeOf netOf portOf
 loop-again c =
     turns-next (c .before .before .before .before .before .before .loop .inv) (c .before .before .before .before .before .loop-test .taken)
     (rw (c .before .before .before .before .before .before .before .before .before .pair-base .ensures, c .before .before .before .before .before .before .before .before .frame-base .ensures, c .before .before .before .before .before .before .before .frame-base2 .ensures) at (c .before .put-address-bit .ensures))

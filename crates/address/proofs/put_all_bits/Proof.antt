@@ -2,7 +2,8 @@
 use mathlib.Core.List.{[], _∷_}
 use native.Mathlib.Omega.{arith}
 use borrow.Author.Needs.{needs}
-use Rattle.model.specs.Clauses.{gather, unequalOf, allBits}
+use Rattle.model.specs.Gather.{gather}
+use Rattle.model.specs.Clauses.{unequalOf, allBits}
 use Rattle.model.specs.Variables.{pairLiterals}
 use Rattle.model.specs.Numbers.{written}
 use Rattle.variables.proofs.Room.{pair-has-number}

@@ -1,6 +1,6 @@
 -- `closing::put_initial_bit` meets its contract. Assumes nothing.
 use borrow.Author.Needs.{needs}
-use Rattle.model.specs.Clauses.{sameIf}
+use Rattle.model.specs.Clauses.{sameIfClauses}
 use Rattle.model.specs.Numbers.{written}
 use Rattle.closing.proofs.put_initial_bit.Statement.{statement}
 use Rattle.closing.proofs.put_initial_bit.Tie as tie
@@ -12,7 +12,7 @@ bit-requires : tie.Need-bit-requires
 bit-requires c κs = search needs
 
 put-same-if-requires : tie.Need-put-same-if-requires
-unfolding written sameIf
+unfolding written sameIfClauses
 put-same-if-requires c κs = search needs
 
 same-length : tie.Need-same-length

@@ -1,7 +1,8 @@
 -- `closing::put_last_sources` meets its contract. Assumes nothing.
 use native.Mathlib.Omega.{arith}
 use borrow.Author.Needs.{needs}
-use Rattle.model.specs.Clauses.{gather, selectedOf}
+use Rattle.model.specs.Gather.{gather}
+use Rattle.model.specs.Clauses.{selectedOf}
 use Rattle.writer.proofs.Wrote.{rest-within, rest-room, wrote-then}
 use Rattle.writer.proofs.Turns.{written-ended, length-ended}
 use Rattle.closing.specs.OfClosing.{ofClosing}

@@ -9,7 +9,7 @@ use Rattle.decimal.specs.Digits.{digits, space, lineFeed}
 use Rattle.model.specs.Wrote.{Wrote}
 use Rattle.model.proofs.Wrote.{wrote-then}
 use Rattle.dimacs.specs.Text.{problem, headerText}
-use Rattle.text.proofs.Writing.{front-room, rest-within, rest-room}
+use Rattle.text.proofs.Writing.{front-room, behind-within, behind-room}
 use Rattle.dimacs.proofs.write_header.Statement.{statement}
 use Rattle.dimacs.proofs.write_header.Tie as tie
 
@@ -55,7 +55,7 @@ sub-write-ended : tie.Need-sub-write-ended
 sub-write-ended c =
     let start = c .before .before .before .before .before .before in
     let first = c .before .before .write-word in
-    rest-within problem (variables start) (old start) (first .last .0) (first .result) (first .ensures) (room-first start)
+    behind-within problem (variables start) (old start) (first .last .0) (first .result) (first .ensures) (room-first start)
 
 part-write-ended-start : tie.Need-part-write-ended-start
 part-write-ended-start c = omega (arith, sub-write-ended c)
@@ -67,7 +67,7 @@ write-ended-requires : tie.Need-write-ended-requires
 write-ended-requires c κs =
     let start = c .before .before .before .before .before .before .before in
     let first = c .before .before .before .write-word in
-    rest-room problem (variables start) (old start) (first .last .0) (first .result) (first .ensures) (room-first start)
+    behind-room problem (variables start) (old start) (first .last .0) (first .result) (first .ensures) (room-first start)
 
 add-middle : tie.Need-add-middle
 add-middle c = omega (arith, both (c .before .before) .counted, room-first (c .before .before .before .before .before .before .before .before .before .before))
@@ -75,7 +75,7 @@ add-middle c = omega (arith, both (c .before .before) .counted, room-first (c .b
 sub-write-ended-2 : tie.Need-sub-write-ended-2
 sub-write-ended-2 c =
     let start = c .before .before .before .before .before .before .before .before .before .before in
-    rest-within (problem ++ variables start) (clauses start) (old start) _ _ (both (c .before .before)) (room start)
+    behind-within (problem ++ variables start) (clauses start) (old start) _ _ (both (c .before .before)) (room start)
 
 part-write-ended-start-2 : tie.Need-part-write-ended-start-2
 part-write-ended-start-2 c = omega (arith, sub-write-ended-2 c)
@@ -86,7 +86,7 @@ part-write-ended-end-2 c = search needs
 write-ended-requires-2 : tie.Need-write-ended-requires-2
 write-ended-requires-2 c κs =
     let start = c .before .before .before .before .before .before .before .before .before .before .before in
-    rest-room (problem ++ variables start) (clauses start) (old start) _ _ (both (c .before .before .before)) (room start)
+    behind-room (problem ++ variables start) (clauses start) (old start) _ _ (both (c .before .before .before)) (room start)
 
 same-length : tie.Need-same-length
 same-length c = search needs

@@ -10,7 +10,7 @@ use Rattle.model.specs.Wrote.{Wrote}
 use Rattle.decimal.proofs.Digits.{length-field}
 use Rattle.model.proofs.Wrote.{wrote-then}
 use Rattle.dimacs.specs.Text.{refused, refusalText}
-use Rattle.text.proofs.Writing.{front-room, rest-within, rest-room}
+use Rattle.text.proofs.Writing.{front-room, behind-within, behind-room}
 use Rattle.dimacs.proofs.write_refusal.Statement.{statement}
 use Rattle.dimacs.proofs.write_refusal.Tie as tie
 
@@ -72,7 +72,7 @@ sub-put-field : tie.Need-sub-put-field
 sub-put-field c =
     let start = c .before .before .before .before .before .before in
     let first = c .before .before .write-word in
-    rest-within refused (number start) (old start) (first .last .0) (first .result) (first .ensures) (room-number start)
+    behind-within refused (number start) (old start) (first .last .0) (first .result) (first .ensures) (room-number start)
 
 part-put-field-start : tie.Need-part-put-field-start
 part-put-field-start c = omega (arith, sub-put-field c)
@@ -84,7 +84,7 @@ put-field-requires : tie.Need-put-field-requires
 put-field-requires c κs =
     let start = c .before .before .before .before .before .before .before in
     let first = c .before .before .before .write-word in
-    omega (arith, length-field (start .args .number) (start .fits .number .fits), rest-room refused (number start) (old start) (first .last .0) (first .result) (first .ensures) (room-number start))
+    omega (arith, length-field (start .args .number) (start .fits .number .fits), behind-room refused (number start) (old start) (first .last .0) (first .result) (first .ensures) (room-number start))
 
 add-middle : tie.Need-add-middle
 add-middle c = omega (arith, numbered (c .before .before) .counted, room-number (c .before .before .before .before .before .before .before .before .before .before))
@@ -92,7 +92,7 @@ add-middle c = omega (arith, numbered (c .before .before) .counted, room-number 
 sub-put-field-2 : tie.Need-sub-put-field-2
 sub-put-field-2 c =
     let start = c .before .before .before .before .before .before .before .before .before .before in
-    rest-within (refused ++ number start) (place start) (old start) _ _ (numbered (c .before .before)) (room-place start)
+    behind-within (refused ++ number start) (place start) (old start) _ _ (numbered (c .before .before)) (room-place start)
 
 part-put-field-start-2 : tie.Need-part-put-field-start-2
 part-put-field-start-2 c = omega (arith, sub-put-field-2 c)
@@ -103,7 +103,7 @@ part-put-field-end-2 c = search needs
 put-field-requires-2 : tie.Need-put-field-requires-2
 put-field-requires-2 c κs =
     let start = c .before .before .before .before .before .before .before .before .before .before .before in
-    omega (arith, length-field (start .args .place) (start .fits .place .fits), rest-room (refused ++ number start) (place start) (old start) _ _ (numbered (c .before .before .before)) (room-place start))
+    omega (arith, length-field (start .args .place) (start .fits .place .fits), behind-room (refused ++ number start) (place start) (old start) _ _ (numbered (c .before .before .before)) (room-place start))
 
 add-end : tie.Need-add-end
 add-end c = omega (arith, placed (c .before .before) .counted, room-place (c .before .before .before .before .before .before .before .before .before .before .before .before .before .before))
@@ -111,7 +111,7 @@ add-end c = omega (arith, placed (c .before .before) .counted, room-place (c .be
 sub-write-byte : tie.Need-sub-write-byte
 sub-write-byte c =
     let start = c .before .before .before .before .before .before .before .before .before .before .before .before .before .before in
-    rest-within (refused ++ number start ++ place start) (lineFeed ∷ []) (old start) _ _ (placed (c .before .before)) (room start)
+    behind-within (refused ++ number start ++ place start) (lineFeed ∷ []) (old start) _ _ (placed (c .before .before)) (room start)
 
 part-write-byte-start : tie.Need-part-write-byte-start
 part-write-byte-start c = omega (arith, sub-write-byte c)
@@ -122,7 +122,7 @@ part-write-byte-end c = search needs
 write-byte-requires : tie.Need-write-byte-requires
 write-byte-requires c κs =
     let start = c .before .before .before .before .before .before .before .before .before .before .before .before .before .before .before in
-    rest-room (refused ++ number start ++ place start) (lineFeed ∷ []) (old start) _ _ (placed (c .before .before .before)) (room start)
+    behind-room (refused ++ number start ++ place start) (lineFeed ∷ []) (old start) _ _ (placed (c .before .before .before)) (room start)
 
 same-length : tie.Need-same-length
 same-length c = search needs

@@ -5,7 +5,7 @@ use native.Mathlib.Omega.{arith}
 use Rattle.model.specs.Netlist.{gateWire}
 use Rattle.netlist.specs.NetOf.{netOf, alone}
 use Rattle.netlist.specs.Faults.{codeFault}
-use Rattle.limits.specs.AnyLine.{anyLatch, anyGate, anyInPort, anyLine}
+use Rattle.limits.specs.AnyLine.{anyLatch, anyGate, anyInRecord, anyLine}
 use Rattle.limits.proofs.any_code_fault.Statement.{statement}
 use Rattle.limits.proofs.any_code_fault.Tie as tie
 
@@ -23,15 +23,15 @@ any-gate-requires : tie.Need-any-gate-requires
 unfolding netOf
 any-gate-requires c κs = (omega (arith, c .before .first-gate-wire .ensures, c .before .before .before .pre), c .before .before .before .pre .gates-fit)
 
-any-in-port-requires : tie.Need-any-in-port-requires
-any-in-port-requires c κs = c .before .before .before .before .pre
+any-in-record-requires : tie.Need-any-in-record-requires
+any-in-record-requires c κs = c .before .before .before .before .pre
 
 returns : tie.Need-returns
-unfolding netOf codeFault anyLatch anyGate anyInPort anyLine
+unfolding netOf codeFault anyLatch anyGate anyInRecord anyLine
 returns c =
     let net = c .before .before .before .before .before .args .net in
     let own : (g : ℕ) → c .before .before .before .first-gate-wire .result + g ≡ gateWire (alone net) g = λ g. omega (arith, c .before .before .before .first-gate-wire .ensures) in
-    rw (c .before .before .any-latch .ensures, c .before .any-gate .ensures, c .any-in-port .ensures, c .before .before .before .before .last-wire .ensures)
+    rw (c .before .before .any-latch .ensures, c .before .any-gate .ensures, c .any-in-record .ensures, c .before .before .before .before .last-wire .ensures)
     (simp own)
 
 pub any-code-fault-spec : {M : Type 1} → statement M
@@ -42,5 +42,5 @@ any-code-fault-spec =
     first-gate-wire-requires
     any-latch-requires
     any-gate-requires
-    any-in-port-requires
+    any-in-record-requires
     returns)

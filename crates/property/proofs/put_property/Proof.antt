@@ -2,7 +2,7 @@
 use Prim.Native.Nat.{_+_}
 use native.Mathlib.Omega.{arith}
 use borrow.Author.Needs.{needs}
-use Rattle.model.specs.Clauses.{gather}
+use Rattle.model.specs.Gather.{gather}
 use Rattle.model.specs.Groups.{violationOf, clausesOf}
 use Rattle.model.specs.Numbers.{numbersOf}
 use Rattle.netlist.specs.NetOf.{alone}

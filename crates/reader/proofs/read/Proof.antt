@@ -60,7 +60,8 @@ use Rattle.sheet.proofs.no_codes.Symbol.{name as #no-codes}
 use Rattle.sheet.proofs.no_codes.Met as none-thm
 use Rattle.lists.specs.declared.Latch.{Latch}
 use Rattle.lists.specs.declared.Gate.{Gate}
-use Rattle.lists.specs.Delivered.{latchAt, gateAt, delivered}
+use Rattle.lists.specs.RecordAt.{latchAt, gateAt}
+use Rattle.lists.specs.Delivered.{delivered}
 use Rattle.lists.proofs.Delivered.{length-delivered}
 use Rattle.lists.proofs.DeliverContract as promise
 use Rattle.lists.proofs.Latch as La

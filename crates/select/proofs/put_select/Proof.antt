@@ -51,9 +51,9 @@ add-none-since c = search needs
 none-since-requires-2 : tie.Need-none-since-requires-2
 none-since-requires-2 c κs = search needs
 
-put-gates-requires : tie.Need-put-gates-requires
+put-select-gates-requires : tie.Need-put-select-gates-requires
 unfolding written andClauses selectClauses pairSelect
-put-gates-requires c κs = search needs
+put-select-gates-requires c κs = search needs
 
 same-length : tie.Need-same-length
 same-length c = search needs
@@ -63,7 +63,7 @@ unfolding pairSelect pairLiterals netOf
 returns c =
     let valid = c .before .before .before .before .before .before .before .before .in-pair2 .ensures .0 ∙ behind-bits (alone (c .before .before .before .before .before .before .before .before .before .before .before .before .args .net)) (portOf (c .before .before .before .before .before .before .before .before .before .before .before .before .args .port)) (c .before .before .before .before .before .before .before .before .before .before .before .before .args .j) (c .before .before .before .before .before .before .before .before .before .before .before .before .args .i) _ 2 (c .before .before .before .before .before .before .before .before .before .before .before .pair-base .ensures) in
     rw (rw (c .before .before .before .before .before .before .before .before .before .before .before .pair-base .ensures) at (c .before .before .before .before .before .before .before .before .before .before .in-pair .ensures .0), valid, rw (c .before .before .before .before .before .before .before .frame-base .ensures) at (c .before .before .before .before .before .before .in-frame .ensures .0), c .before .before .before .before .before .none-since .ensures .0, c .before .before .before .before .selected .ensures .0, c .before .before .before .none-since2 .ensures .0)
-    at (c .before .put-gates .ensures)
+    at (c .before .put-select-gates .ensures)
 
 pub put-select-spec : {M : Type 1} → statement M
 put-select-spec =
@@ -79,6 +79,6 @@ put-select-spec =
     selected-requires
     add-none-since
     none-since-requires-2
-    put-gates-requires
+    put-select-gates-requires
     same-length
     returns)

@@ -6,8 +6,9 @@ use mathlib.Core.List.{[], _∷_}
 use native.Mathlib.Omega.{arith}
 use borrow.Author.Needs.{needs}
 use lib.ListN.{length, length-append}
-use Rattle.model.specs.Clauses.{known, gather}
-use Rattle.model.specs.Groups.{resetClause}
+use Rattle.model.specs.Gather.{gather}
+use Rattle.model.specs.Clauses.{known}
+use Rattle.model.specs.Groups.{resetClauses}
 use Rattle.model.specs.Numbers.{written}
 use Rattle.netlist.specs.NetOf.{netOf}
 use Rattle.writer.proofs.Wrote.{rest-within, rest-room, wrote-then}
@@ -23,7 +24,7 @@ unfolding written netOf
 put-unit-requires c κs =
     let a = c .before .before .before .args in
     let x = netOf (a .net) (a .latches .now) [] in
-    let room = ap length (state-first x (c .before .before .if1 .taken)) ∙ length-append (written ((known true ∷ []) ∷ [])) (written (gather (a .net .latches) (resetClause x))) in
+    let room = ap length (state-first x (c .before .before .if1 .taken)) ∙ length-append (written ((known true ∷ []) ∷ [])) (written (gather (a .net .latches) (resetClauses x))) in
     (c .constant .ensures .1, omega arith)
 
 mul-put-resets : tie.Need-mul-put-resets
@@ -31,7 +32,7 @@ unfolding written netOf
 mul-put-resets c =
     let a = c .before .before .before .before .before .args in
     let x = netOf (a .net) (a .latches .now) [] in
-    let room = ap length (state-first x (c .before .before .before .before .if1 .taken)) ∙ length-append (written ((known true ∷ []) ∷ [])) (written (gather (a .net .latches) (resetClause x))) in
+    let room = ap length (state-first x (c .before .before .before .before .if1 .taken)) ∙ length-append (written ((known true ∷ []) ∷ [])) (written (gather (a .net .latches) (resetClauses x))) in
     let within = rest-within (rw (c .before .before .constant .ensures .0) at (c .before .put-unit .ensures)) (omega arith) in
     search needs
 
@@ -40,7 +41,7 @@ unfolding written netOf
 sub-put-resets c =
     let a = c .before .before .before .before .before .args in
     let x = netOf (a .net) (a .latches .now) [] in
-    let room = ap length (state-first x (c .before .before .before .before .if1 .taken)) ∙ length-append (written ((known true ∷ []) ∷ [])) (written (gather (a .net .latches) (resetClause x))) in
+    let room = ap length (state-first x (c .before .before .before .before .if1 .taken)) ∙ length-append (written ((known true ∷ []) ∷ [])) (written (gather (a .net .latches) (resetClauses x))) in
     rest-within (rw (c .before .before .constant .ensures .0) at (c .before .put-unit .ensures)) (omega arith)
 
 part-put-resets-start : tie.Need-part-put-resets-start
@@ -48,7 +49,7 @@ unfolding written netOf
 part-put-resets-start c =
     let a = c .before .before .before .before .before .args in
     let x = netOf (a .net) (a .latches .now) [] in
-    let room = ap length (state-first x (c .before .before .before .before .if1 .taken)) ∙ length-append (written ((known true ∷ []) ∷ [])) (written (gather (a .net .latches) (resetClause x))) in
+    let room = ap length (state-first x (c .before .before .before .before .if1 .taken)) ∙ length-append (written ((known true ∷ []) ∷ [])) (written (gather (a .net .latches) (resetClauses x))) in
     let within = rest-within (rw (c .before .before .constant .ensures .0) at (c .before .put-unit .ensures)) (omega arith) in
     search needs
 
@@ -60,7 +61,7 @@ unfolding written netOf
 put-resets-requires c κs =
     let a = c .before .before .before .before .before .before .args in
     let x = netOf (a .net) (a .latches .now) [] in
-    let room = ap length (state-first x (c .before .before .before .before .before .if1 .taken)) ∙ length-append (written ((known true ∷ []) ∷ [])) (written (gather (a .net .latches) (resetClause x))) in
+    let room = ap length (state-first x (c .before .before .before .before .before .if1 .taken)) ∙ length-append (written ((known true ∷ []) ∷ [])) (written (gather (a .net .latches) (resetClauses x))) in
     (record { limits = c .before .before .before .before .before .before .pre .0 .limits; depth = omega arith }, rest-room (rw (c .before .before .before .constant .ensures .0) at (c .before .before .put-unit .ensures)) (omega arith))
 
 add-result : tie.Need-add-result
@@ -68,7 +69,7 @@ unfolding written netOf
 add-result c =
     let a = c .before .before .before .before .before .before .before .before .args in
     let x = netOf (a .net) (a .latches .now) [] in
-    let room = ap length (state-first x (c .before .before .before .before .before .before .before .if1 .taken)) ∙ length-append (written ((known true ∷ []) ∷ [])) (written (gather (a .net .latches) (resetClause x))) in
+    let room = ap length (state-first x (c .before .before .before .before .before .before .before .if1 .taken)) ∙ length-append (written ((known true ∷ []) ∷ [])) (written (gather (a .net .latches) (resetClauses x))) in
     omega arith
 
 same-length : tie.Need-same-length
@@ -79,7 +80,7 @@ unfolding written netOf
 returns c =
     let a = c .before .before .before .before .before .before .before .before .args in
     let x = netOf (a .net) (a .latches .now) [] in
-    let room = ap length (state-first x (c .before .before .before .before .before .before .before .if1 .taken)) ∙ length-append (written ((known true ∷ []) ∷ [])) (written (gather (a .net .latches) (resetClause x))) in
+    let room = ap length (state-first x (c .before .before .before .before .before .before .before .if1 .taken)) ∙ length-append (written ((known true ∷ []) ∷ [])) (written (gather (a .net .latches) (resetClauses x))) in
     rw (state-first x (c .before .before .before .before .before .before .before .if1 .taken)) (wrote-then (rw (c .before .before .before .before .before .constant .ensures .0) at (c .before .before .before .before .put-unit .ensures)) (c .before .put-resets .ensures) (omega arith))
 
 sub-put-latches : tie.Need-sub-put-latches

@@ -4,7 +4,7 @@ use native.Mathlib.Omega.{arith}
 use borrow.Author.Needs.{needs}
 use Rattle.decimal.specs.Digits.{digits}
 use Rattle.model.proofs.Wrote.{wrote-then}
-use Rattle.text.proofs.Writing.{front-room, rest-within, rest-room}
+use Rattle.text.proofs.Writing.{front-room, behind-within, behind-room}
 use Rattle.text.proofs.write_ended.Statement.{statement}
 use Rattle.text.proofs.write_ended.Tie as tie
 
@@ -17,7 +17,7 @@ sub-write-byte : tie.Need-sub-write-byte
 sub-write-byte c =
     let start = c .before .before .before .before .before in
     let written = c .before .before .put-digits in
-    rest-within (digits (start .args .x)) (start .args .byte ∷ []) (start .args .out .now) (written .last .0) (written .result) (written .ensures) (start .pre)
+    behind-within (digits (start .args .x)) (start .args .byte ∷ []) (start .args .out .now) (written .last .0) (written .result) (written .ensures) (start .pre)
 
 part-write-byte-start : tie.Need-part-write-byte-start
 part-write-byte-start c = omega (arith, sub-write-byte c)
@@ -29,7 +29,7 @@ write-byte-requires : tie.Need-write-byte-requires
 write-byte-requires c κs =
     let start = c .before .before .before .before .before .before in
     let written = c .before .before .before .put-digits in
-    rest-room (digits (start .args .x)) (start .args .byte ∷ []) (start .args .out .now) (written .last .0) (written .result) (written .ensures) (start .pre)
+    behind-room (digits (start .args .x)) (start .args .byte ∷ []) (start .args .out .now) (written .last .0) (written .result) (written .ensures) (start .pre)
 
 same-length : tie.Need-same-length
 same-length c = search needs

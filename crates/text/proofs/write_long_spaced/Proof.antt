@@ -10,7 +10,7 @@ use Rattle.model.specs.Wrote.{Wrote}
 use Rattle.model.proofs.Wrote.{wrote-then}
 use Rattle.text.specs.Table.{fourDigits}
 use Rattle.text.proofs.Table.{digits-behind-four}
-use Rattle.text.proofs.Writing.{front-room, rest-within, rest-room}
+use Rattle.text.proofs.Writing.{front-room, behind-within, behind-room}
 use borrow.Author.Needs.{needs}
 use Rattle.text.proofs.write_long_spaced.Statement.{statement}
 use Rattle.text.proofs.write_long_spaced.Tie as tie
@@ -43,7 +43,7 @@ sub-write-four-spaced : tie.Need-sub-write-four-spaced
 sub-write-four-spaced c =
     let start = c .before .before .before .before .before .before .before in
     let led = c .before .before .write-leading in
-    rest-within (leading start) (others start) (start .args .out .now) (led .last .0) (led .result) (first (c .before .before)) (room start)
+    behind-within (leading start) (others start) (start .args .out .now) (led .last .0) (led .result) (first (c .before .before)) (room start)
 
 part-write-four-spaced-start : tie.Need-part-write-four-spaced-start
 part-write-four-spaced-start c = omega (arith, sub-write-four-spaced c)
@@ -61,7 +61,7 @@ write-four-spaced-requires : tie.Need-write-four-spaced-requires
 write-four-spaced-requires c κs =
     let start = c .before .before .before .before .before .before .before .before in
     let led = c .before .before .before .write-leading in
-    (start .pre .0, omega arith, rest-room (leading start) (others start) (start .args .out .now) (led .last .0) (led .result) (first (c .before .before .before)) (room start))
+    (start .pre .0, omega arith, behind-room (leading start) (others start) (start .args .out .now) (led .last .0) (led .result) (first (c .before .before .before)) (room start))
 
 same-length : tie.Need-same-length
 same-length c = search needs

@@ -1,7 +1,7 @@
 -- `tseitin::put_same_if` meets its contract: two clauses that begin alike. Assumes nothing.
 use native.Mathlib.Omega.{arith}
 use borrow.Author.Needs.{needs}
-use Rattle.model.specs.Clauses.{sameIf}
+use Rattle.model.specs.Clauses.{sameIfClauses}
 use Rattle.model.specs.Numbers.{written}
 use Rattle.tseitin.specs.BothClauses.{bothClauses}
 use Rattle.writer.proofs.Wrote.{rest-within, rest-room, wrote-then}
@@ -18,14 +18,14 @@ negated-requires-3 : tie.Need-negated-requires-3
 negated-requires-3 c κs = search needs
 
 put-both-requires : tie.Need-put-both-requires
-unfolding written sameIf bothClauses
+unfolding written sameIfClauses bothClauses
 put-both-requires c κs = search needs
 
 same-length : tie.Need-same-length
 same-length c = search needs
 
 returns : tie.Need-returns
-unfolding written sameIf bothClauses
+unfolding written sameIfClauses bothClauses
 returns c =
     simp (c .before .before .before .before .negated .ensures .0, c .before .before .before .negated2 .ensures .0, c .before .before .negated3 .ensures .0)
     at (c .before .put-both .ensures)

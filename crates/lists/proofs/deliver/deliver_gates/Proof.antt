@@ -5,7 +5,7 @@ use contract.Running.{givenOf, tables, tablesOf}
 use denote.Memory.{pointee}
 use denote.Triple.Spec.{tripleOf}
 use denote.Triple.Table.{entered, cited}
-use Rattle.lists.specs.Delivered.{gateAt}
+use Rattle.lists.specs.RecordAt.{gateAt}
 use Rattle.lists.proofs.Gate as T
 use Rattle.lists.proofs.Gate.Laws as T′
 use Rattle.lists.proofs.DeliverContract.{MakesRecord}

@@ -5,7 +5,7 @@ use contract.Running.{givenOf, tables, tablesOf}
 use denote.Memory.{pointee}
 use denote.Triple.Spec.{tripleOf}
 use denote.Triple.Table.{entered, cited}
-use Rattle.lists.specs.Delivered.{latchAt}
+use Rattle.lists.specs.RecordAt.{latchAt}
 use Rattle.lists.proofs.Latch as T
 use Rattle.lists.proofs.Latch.Laws as T′
 use Rattle.lists.proofs.DeliverContract.{MakesRecord}

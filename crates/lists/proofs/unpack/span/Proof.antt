@@ -1,6 +1,6 @@
 -- `lists::unpack::span` meets its contract, at each side of 600. Assumes nothing.
 use borrow.Author.Tests.{lt-ltb, le-ltb}
-use Rattle.lists.specs.Unpacked.{spanOf}
+use Rattle.lists.specs.Unpacking.{spanOf}
 use Rattle.lists.proofs.unpack.span.Statement.{statement}
 use Rattle.lists.proofs.unpack.span.Tie as tie
 

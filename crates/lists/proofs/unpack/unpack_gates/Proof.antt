@@ -7,10 +7,10 @@ use Rattle.lists.proofs.Gate as G
 use Rattle.lists.proofs.Gate.Laws as G′
 use Rattle.lists.proofs.AllRecords as all
 use Rattle.lists.proofs.Records.{gatePair}
-use Rattle.lists.proofs.unpack.put_gate as put
-use Rattle.lists.proofs.unpack.put_gate.Symbol as put-def
-use Rattle.lists.proofs.unpack.put_gate.Symbol.{name as #put}
-use Rattle.lists.proofs.unpack.put_gate.Met as put-thm
+use Rattle.lists.proofs.unpack.unpack_gate as put
+use Rattle.lists.proofs.unpack.unpack_gate.Symbol as put-def
+use Rattle.lists.proofs.unpack.unpack_gate.Symbol.{name as #put}
+use Rattle.lists.proofs.unpack.unpack_gate.Met as put-thm
 use Rattle.lists.proofs.unpack.span as span
 use Rattle.lists.proofs.unpack.span.Symbol as span-def
 use Rattle.lists.proofs.unpack.span.Symbol.{name as #span}
@@ -28,6 +28,6 @@ unpack-gates-spec 𝓤 H 𝓜 𝓖 𝓡 =
     (all.meets G.the-type G′.the-laws gatePair #put 𝓤 H (𝓖 .A) (givenOf 𝓤 H 𝓜 𝓖) (𝓜 .mem) (𝓡 .run)
     (tablesOf 𝓤 H 𝓜 (tables 𝓤 H 𝓜 𝓡 code.env))
     (cited 𝓤 H (tripleOf 𝓤 H (𝓖 .A) put.signature (put.spec 𝓤 H (𝓖 .A) (𝓜 .mem) (𝓡 .run))) 𝓜 𝓡 code.env #put put-def.routine
-    code.calls-lists·unpack·put-gate (put-thm.met 𝓤 H 𝓜 𝓖 𝓡))
+    code.calls-lists·unpack·unpack-gate (put-thm.met 𝓤 H 𝓜 𝓖 𝓡))
     (cited 𝓤 H (tripleOf 𝓤 H (𝓖 .A) span.signature (span.spec 𝓤 H (𝓖 .A) (𝓜 .mem) (𝓡 .run))) 𝓜 𝓡 code.env #span span-def.routine
     code.calls-lists·unpack·span (span-thm.met 𝓤 H 𝓜 𝓖 𝓡)))

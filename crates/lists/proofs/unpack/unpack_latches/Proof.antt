@@ -7,10 +7,10 @@ use Rattle.lists.proofs.Latch as L
 use Rattle.lists.proofs.Latch.Laws as L′
 use Rattle.lists.proofs.AllRecords as all
 use Rattle.lists.proofs.Records.{latchPair}
-use Rattle.lists.proofs.unpack.put_latch as put
-use Rattle.lists.proofs.unpack.put_latch.Symbol as put-def
-use Rattle.lists.proofs.unpack.put_latch.Symbol.{name as #put}
-use Rattle.lists.proofs.unpack.put_latch.Met as put-thm
+use Rattle.lists.proofs.unpack.unpack_latch as put
+use Rattle.lists.proofs.unpack.unpack_latch.Symbol as put-def
+use Rattle.lists.proofs.unpack.unpack_latch.Symbol.{name as #put}
+use Rattle.lists.proofs.unpack.unpack_latch.Met as put-thm
 use Rattle.lists.proofs.unpack.span as span
 use Rattle.lists.proofs.unpack.span.Symbol as span-def
 use Rattle.lists.proofs.unpack.span.Symbol.{name as #span}
@@ -28,6 +28,6 @@ unpack-latches-spec 𝓤 H 𝓜 𝓖 𝓡 =
     (all.meets L.the-type L′.the-laws latchPair #put 𝓤 H (𝓖 .A) (givenOf 𝓤 H 𝓜 𝓖) (𝓜 .mem) (𝓡 .run)
     (tablesOf 𝓤 H 𝓜 (tables 𝓤 H 𝓜 𝓡 code.env))
     (cited 𝓤 H (tripleOf 𝓤 H (𝓖 .A) put.signature (put.spec 𝓤 H (𝓖 .A) (𝓜 .mem) (𝓡 .run))) 𝓜 𝓡 code.env #put put-def.routine
-    code.calls-lists·unpack·put-latch (put-thm.met 𝓤 H 𝓜 𝓖 𝓡))
+    code.calls-lists·unpack·unpack-latch (put-thm.met 𝓤 H 𝓜 𝓖 𝓡))
     (cited 𝓤 H (tripleOf 𝓤 H (𝓖 .A) span.signature (span.spec 𝓤 H (𝓖 .A) (𝓜 .mem) (𝓡 .run))) 𝓜 𝓡 code.env #span span-def.routine
     code.calls-lists·unpack·span (span-thm.met 𝓤 H 𝓜 𝓖 𝓡)))

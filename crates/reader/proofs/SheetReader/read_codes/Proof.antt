@@ -42,7 +42,7 @@ use denote.Triple.Table.{entered, cited}
 use denote.Triple.Walked.{says, needs, Stays, stay-none, gave-ref, walkOf, goes-none, goes-gave-ref, Walks, ends-at, walked, walk-meets}
 use denote.Exit.{yes}
 use denote.Triple.Clauses.{Lasts, ensured, lasts}
-use Rattle.steps.specs.Records.{recordOf, noNetlist}
+use Rattle.netlist.specs.RecordOf.{recordOf, noNetlist}
 use Rattle.steps.specs.declared.SheetAnswer.{SheetAnswer}
 use Rattle.steps.proofs.SheetAnswer as S
 use Rattle.steps.proofs.SheetAnswer.Laws as S′

@@ -1,9 +1,9 @@
--- `lists::unpack::put_pair` meets its contract: two stores. Assumes nothing.
+-- `lists::unpack::put_numbers` meets its contract: two stores. Assumes nothing.
 use mathlib.Core.Path.{refl}
 use borrow.Author.Needs.{needs}
-use Rattle.lists.specs.Unpacked.{putPair}
-use Rattle.lists.proofs.unpack.put_pair.Statement.{statement}
-use Rattle.lists.proofs.unpack.put_pair.Tie as tie
+use Rattle.lists.specs.Unpacking.{putNumbers}
+use Rattle.lists.proofs.unpack.put_numbers.Statement.{statement}
+use Rattle.lists.proofs.unpack.put_numbers.Tie as tie
 
 mul-codes : tie.Need-mul-codes
 mul-codes c = search needs
@@ -27,11 +27,11 @@ element-write-codes-2 : tie.Need-element-write-codes-2
 element-write-codes-2 c = search needs
 
 returns : tie.Need-returns
-unfolding putPair
+unfolding putNumbers
 returns c = refl
 
-pub put-pair-spec : {M : Type 1} → statement M
-put-pair-spec =
+pub put-numbers-spec : {M : Type 1} → statement M
+put-numbers-spec =
     tie.close
     (tie.spec
     mul-codes

@@ -1,12 +1,12 @@
--- `select::put_gates` meets its contract: three gates, one after the other. Assumes nothing.
+-- `select::put_select_gates` meets its contract: three gates, one after the other. Assumes nothing.
 use native.Mathlib.Omega.{arith}
 use borrow.Author.Needs.{needs}
 use Rattle.model.specs.Clauses.{andClauses}
 use Rattle.model.specs.Numbers.{written}
 use Rattle.writer.proofs.Wrote.{rest-within, rest-room, wrote-then}
 use Rattle.select.specs.SelectClauses.{selectClauses}
-use Rattle.select.proofs.put_gates.Statement.{statement}
-use Rattle.select.proofs.put_gates.Tie as tie
+use Rattle.select.proofs.put_select_gates.Statement.{statement}
+use Rattle.select.proofs.put_select_gates.Tie as tie
 
 put-and-requires : tie.Need-put-and-requires
 unfolding written andClauses selectClauses
@@ -74,8 +74,8 @@ unfolding written andClauses selectClauses
 returns c =
     rw (c .before .before .before .before .before .negated .ensures .0) at (wrote-then (wrote-then (c .before .before .before .before .before .before .before .before .put-and .ensures) (c .before .before .before .before .put-and2 .ensures) (omega arith)) (c .before .put-and3 .ensures) (omega arith))
 
-pub put-gates-spec : {M : Type 1} → statement M
-put-gates-spec =
+pub put-select-gates-spec : {M : Type 1} → statement M
+put-select-gates-spec =
     tie.close
     (tie.spec
     put-and-requires

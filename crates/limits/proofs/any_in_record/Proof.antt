@@ -1,4 +1,4 @@
--- `limits::any_in_port` meets its contract. The loops' invariants: what was found is what the first t address codes have, and, or it
+-- `limits::any_in_record` meets its contract. The loops' invariants: what was found is what the first t address codes have, and, or it
 -- was found before, what the first t write-data codes have. Assumes nothing.
 use Prim.Native.Nat.{_-_, _≤_}
 use mathlib.Core.Path.{_≡_}
@@ -6,10 +6,10 @@ use mathlib.Core.Bool.{false, _||_}
 use native.Mathlib.Omega.{arith}
 use Rattle.netlist.specs.NetOf.{codeOf, netOf}
 use Rattle.netlist.specs.Faults.{codeOutside}
-use Rattle.limits.specs.AnyLine.{anyBelow, anyInPort}
+use Rattle.limits.specs.AnyLine.{anyBelow, anyInRecord}
 use Rattle.limits.proofs.AnyLine.{any-none, any-next}
-use Rattle.limits.proofs.any_in_port.Statement.{statement}
-use Rattle.limits.proofs.any_in_port.Tie as tie
+use Rattle.limits.proofs.any_in_record.Statement.{statement}
+use Rattle.limits.proofs.any_in_record.Tie as tie
 
 abbrev Inv-loop : tie.InvT-loop
 Inv-loop last net any₀ t₀ any t = (t ≤ net .m) × (any ≡ anyBelow t (λ x. codeOutside last (codeOf (net .address) x)))
@@ -93,15 +93,15 @@ is-code-outside-requires-5 : tie.Need-is-code-outside-requires-5 Inv-loop μ-loo
 is-code-outside-requires-5 c κs = tt
 
 returns : tie.Need-returns Inv-loop μ-loop Inv-loop2 μ-loop2
-unfolding netOf anyInPort
+unfolding netOf anyInRecord
 returns c =
     let a = c .before .before .before .before .before .before .before .before .before .before .args in
     let m-th : c .before .before .before .before .before .before .before .before .before .loop .t ≡ a .t1 .m = omega arith in
     let n-th : c .before .before .before .before .before .before .before .loop2 .t ≡ a .t1 .n = omega arith in
     rw (c .before .before .before .before .is-code-outside3 .ensures, c .before .before .is-code-outside4 .ensures, c .is-code-outside5 .ensures, c .before .before .before .before .before .before .before .loop2 .inv .1, c .before .before .before .before .before .before .before .before .before .loop .inv .1, m-th, n-th)
 
-pub any-in-port-spec : {M : Type 1} → statement M
-any-in-port-spec =
+pub any-in-record-spec : {M : Type 1} → statement M
+any-in-record-spec =
     tie.close
     (tie.spec
     Inv-loop

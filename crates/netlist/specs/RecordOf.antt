@@ -1,0 +1,54 @@
+-- The record of a netlist, whose lists stand beside it (`netOf` goes the other way), and the record that is all zeros (document 01,
+-- "a .. record returned beside them is all zeros"). Cited by `empty_net`, steps/specs/Records and parse/specs/Files. Assumes nothing.
+use Prim.Native.Nat.{ℕ}
+use mathlib.Core.List.{List, [], _∷_}
+use Rattle.model.specs.Limits.{mostAddressBits, mostDataBits}
+use Rattle.model.specs.Netlist as M
+use Rattle.model.specs.Gather.{gather}
+use Rattle.literals.specs.declared.Code.{Code}
+use Rattle.netlist.specs.declared.Netlist.{Netlist}
+
+-- the record of a netlist: arrays of as many codes as there may be
+abbrev pub codeEntry : (ℕ → ℕ) → ℕ → List Code
+codeEntry f t = record { 0 = f t } ∷ []
+
+unfoldable pub recordOf : M.Netlist → Netlist
+recordOf c =
+    record {
+      inputs = c .inputs;
+      latches = c .latches;
+      gates = c .gates;
+      m = c .m;
+      n = c .n;
+      «initial_word» = c .initialWord;
+      address = gather mostAddressBits (codeEntry (c .address));
+      «write_data» = gather mostDataBits (codeEntry (c .writeData));
+      we = record { 0 = c .WE };
+      re = record { 0 = c .RE };
+      p = record { 0 = c .P };
+    }
+
+-- sizes with no codes
+abbrev pub withoutCodes : ℕ → ℕ → ℕ → ℕ → ℕ → ℕ → M.Netlist
+withoutCodes inputs latches gates m n initialWord =
+    record {
+      inputs = inputs;
+      latches = latches;
+      gates = gates;
+      m = m;
+      n = n;
+      initialWord = initialWord;
+      next = λ l. 0;
+      reset = λ l. 0;
+      left = λ g. 0;
+      right = λ g. 0;
+      address = λ t. 0;
+      writeData = λ t. 0;
+      WE = 0;
+      RE = 0;
+      P = 0;
+    }
+
+-- the record that is all zeros
+abbrev pub noNetlist : M.Netlist
+noNetlist = withoutCodes 0 0 0 0 0 0
