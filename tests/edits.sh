@@ -1,16 +1,18 @@
 #!/usr/bin/env bash
 # Reads what the prover said of each must-fail edit (after `rt ci`). An edit says in its comment why the wrong definition or program
 # breaks a promise ('# counterexample: ..') and at which fact it is refused ('# refused at: NAME', a law, or a need of a function's
-# proof). It passes where the prover's first error of its own stands at that name under proofs/, or where no proof file is
-# concerned and the prover's search leaves that need open. A parse error, a name out of scope, a definition that no longer type
-# checks, or a proof file that merely no longer fits the code shows nothing about the promise, and fails.
+# proof): one that is false of the wrong definition or program. It passes where an error of the prover's own stands at that name, in
+# the proof file of its first error, or where no proof file is concerned and the prover's search leaves that need open. Needs before
+# it may be refused too, for their proofs name the values that the edit changes (as an invariant does). A parse error, a name out of
+# scope, a definition that no longer type checks, or a proof file that merely no longer fits the code shows nothing about the
+# promise, and fails.
 set -u
 cd "$(dirname "$0")/.." || exit 2
 passed=0
 failed=0
 
 judge() { # edit file
-  local crate label log first at
+  local crate label log errors misfit first at
   crate=$(basename "$(dirname "$(dirname "$1")")")
   label=$(basename "$1" .edit)
   log=target/must-fail/$crate/$label/.log
@@ -19,7 +21,8 @@ judge() { # edit file
   [ -n "$at" ] || { echo "$crate/$label: no '# refused at:' line"; return 1; }
   [ -f "$log" ] || { echo "$crate/$label: no log at $log"; return 1; }
   # what only follows from another refusal is passed over
-  first=$(grep ': error: ' "$log" | grep -v 'was not admitted' | head -n 1)
+  errors=$(grep ': error: ' "$log" | grep -v 'was not admitted')
+  first=${errors%%$'\n'*}
   if [ -z "$first" ]; then
     grep -E '^fn .*: no proof: .*`search` does not close ' "$log" | sed 's/.*does not close//' | grep -qF "\`$at\`" && return 0
     echo "$crate/$label: the need $at is not among those left open"; return 1
@@ -28,14 +31,10 @@ judge() { # edit file
     *'/proofs/'*) ;;
     *) echo "$crate/$label: refused outside proofs/: ${first:0:240}"; return 1 ;;
   esac
-  case "$first" in
-    *'is not in scope'* | *'has no `Need-'* | *'enclosing block'* | *'no `mod` line'* | *'that can be named from here'*)
-      echo "$crate/$label: the proof file no longer fits: ${first:0:240}"; return 1 ;;
-  esac
-  case "$first" in
-    *"error: \`$at\`"*) ;;
-    *) echo "$crate/$label: refused at another place than $at: ${first:0:240}"; return 1 ;;
-  esac
+  misfit='is not in scope|has no `Need-|enclosing block|no `mod` line|that can be named from here'
+  if grep -qE "$misfit" <<<"$first"; then echo "$crate/$label: the proof file no longer fits: ${first:0:240}"; return 1; fi
+  grep -F "${first%%:*}:" <<<"$errors" | grep -vE "$misfit" | grep -qF "error: \`$at\`" && return 0
+  echo "$crate/$label: refused at another place than $at: ${first:0:240}"; return 1
 }
 
 for edit in crates/*/must-fail/*.edit; do
