@@ -25,8 +25,8 @@ typedef struct {
 typedef struct { marrubigai_code next; uint32_t reset; } marrubigai_latch;
 typedef struct { marrubigai_code left, right; } marrubigai_gate;
 
-/* number is 0 where nothing is refused; what stands beside a refusal is all zeros */
-typedef struct { uint32_t number, place; size_t count; } marrubigai_group_reply;
+/* number is 0 where nothing is refused; what stands beside a refusal is all zeros. A count is of numbers or bytes written. */
+typedef struct { uint32_t number, place; size_t count; } marrubigai_count_reply;
 typedef struct { uint32_t number, place, variables, clauses; } marrubigai_heading_reply;
 typedef struct { uint32_t number, place; marrubigai_netlist net; } marrubigai_sheet_reply;
 
@@ -42,8 +42,14 @@ marrubigai_heading_reply marrubigai_heading(marrubigai_netlist net, const marrub
 
 /* writes the clauses of one group, each ended by 0, and answers how many numbers that is: wires or closing of frame i, pair (j, i),
  * or the property. The order of the whole: for each frame wires, pairs from j = i - 1 down to 0, closing; then the property. */
-marrubigai_group_reply marrubigai_write_group(marrubigai_netlist net, const marrubigai_latch *latches, size_t latch_count,
+marrubigai_count_reply marrubigai_write_group(marrubigai_netlist net, const marrubigai_latch *latches, size_t latch_count,
                                               const marrubigai_gate *gates, size_t gate_count, uint32_t depth, uint32_t kind,
                                               uint32_t j, uint32_t i, int32_t *out, size_t room);
+
+/* the text of the program `frames`: DIMACS' problem line, numbers that a group call wrote with a clause a line, and a refusal, its
+ * number and place in ten columns each. Each answers how many bytes it wrote; 9 where the buffer is shorter than the text. */
+marrubigai_count_reply marrubigai_put_header(uint8_t *out, size_t room, uint32_t variables, uint32_t clauses);
+marrubigai_count_reply marrubigai_put_clauses(uint8_t *out, size_t room, const int32_t *numbers, size_t count);
+marrubigai_count_reply marrubigai_put_refusal(uint8_t *out, size_t room, uint32_t number, uint32_t place);
 
 #endif

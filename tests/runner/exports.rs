@@ -41,7 +41,7 @@ struct LatchRecord {
 
 #[repr(C)]
 #[derive(Clone, Copy, Debug, PartialEq, Eq)]
-struct GroupReply {
+struct CountReply {
     number: u32,
     place: u32,
     count: usize,
@@ -77,7 +77,7 @@ extern "C" {
         i: u32,
         out: *mut i32,
         room: usize,
-    ) -> GroupReply;
+    ) -> CountReply;
 
     fn marrubigai_heading(
         net: Record,

@@ -6,11 +6,11 @@ use lib.Dec.{eqb}
 use Rattle.model.specs.declared.Group.{Group}
 use Rattle.model.specs.declared.Group.the-variants.{Wires, Pair, Closing, Property}
 use Rattle.refusals.specs.Refusal.{replyOf}
-use Rattle.refusals.specs.Slices.{CountReply}
+use Rattle.refusals.specs.Slices as Slices
 use Rattle.refusals.specs.declared.Verdict.{Verdict}
 use Rattle.netlist.specs.declared.Netlist.{Netlist}
 use Rattle.unpacked.specs.Calls as Calls
-use Rattle.replies.specs.declared.GroupReply.{GroupReply}
+use Rattle.replies.specs.declared.CountReply.{CountReply}
 use Rattle.replies.specs.declared.HeadingReply.{HeadingReply}
 use Rattle.replies.specs.declared.SheetReply.{SheetReply}
 
@@ -19,8 +19,8 @@ unfoldable pub groupOf : ℕ → ℕ → ℕ → Group
 groupOf kind j i =
     cond (eqb kind 0) (Wires i) (cond (eqb kind 1) (Pair j i) (cond (eqb kind 2) (Closing i) (cond (eqb kind 3) Property (Pair i i))))
 
-unfoldable pub groupNumbers : CountReply → GroupReply
-groupNumbers r = record { number = r .number; place = r .place; count = r .count }
+unfoldable pub countNumbers : Slices.CountReply → CountReply
+countNumbers r = record { number = r .number; place = r .place; count = r .count }
 
 unfoldable pub headingNumbers : Calls.HeadingReply → HeadingReply
 headingNumbers r = record { number = r .number; place = r .place; variables = r .variables; clauses = r .clauses }
