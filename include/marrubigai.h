@@ -29,12 +29,17 @@ typedef struct { marrubigai_code left, right; } marrubigai_gate;
 typedef struct { uint32_t number, place; size_t count; } marrubigai_count_reply;
 typedef struct { uint32_t number, place, variables, clauses; } marrubigai_heading_reply;
 typedef struct { uint32_t number, place; marrubigai_netlist net; } marrubigai_sheet_reply;
+typedef struct { uint32_t number; uint8_t letter; uint32_t first, second, third, line; } marrubigai_line_reply;
 
 enum { MARRUBIGAI_WIRES, MARRUBIGAI_PAIR, MARRUBIGAI_CLOSING, MARRUBIGAI_PROPERTY };
 
 /* reads a sheet: its record, and its latches and gates into the first elements of the lists */
 marrubigai_sheet_reply marrubigai_read(const uint8_t *file, size_t bytes, marrubigai_latch *latches, size_t latch_room,
                                        marrubigai_gate *gates, size_t gate_room);
+
+/* the line behind the first `line` lines of a sheet: its letter, its fields (0 where one is empty), and how many lines are read with
+ * it, at most 615. Number 2 where it is misprinted, cut short or missing. */
+marrubigai_line_reply marrubigai_next_line(const uint8_t *file, size_t bytes, uint32_t line);
 
 /* how many variables and clauses the formula of a depth has */
 marrubigai_heading_reply marrubigai_heading(marrubigai_netlist net, const marrubigai_latch *latches, size_t latch_count,

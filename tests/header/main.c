@@ -42,6 +42,13 @@ SIZE(marrubigai_sheet_reply, 220);
 FIELD(marrubigai_sheet_reply, number, 0);
 FIELD(marrubigai_sheet_reply, place, 4);
 FIELD(marrubigai_sheet_reply, net, 8);
+SIZE(marrubigai_line_reply, 24);
+FIELD(marrubigai_line_reply, number, 0);
+FIELD(marrubigai_line_reply, letter, 4);
+FIELD(marrubigai_line_reply, first, 8);
+FIELD(marrubigai_line_reply, second, 12);
+FIELD(marrubigai_line_reply, third, 16);
+FIELD(marrubigai_line_reply, line, 20);
 
 static int passed, failed;
 
@@ -140,6 +147,20 @@ static void reading(void) {
   check("an empty file gives 1, place 0", answers_sheet(read_text(DISTINCT, 0, ROOM, ROOM), 1, 0, &nothing));
   check("a file without its last line gives 3, one past the lines left",
         answers_sheet(read_text(DISTINCT, bytes - 32, ROOM, ROOM), 3, 15, &nothing) && lists_hold(0, 0, 0, 0));
+}
+
+static int answers_line(uint32_t line, marrubigai_line_reply expected) {
+  marrubigai_line_reply reply = marrubigai_next_line((const uint8_t *)DISTINCT, sizeof DISTINCT - 1, line);
+  return reply.number == expected.number && reply.letter == expected.letter && reply.first == expected.first &&
+         reply.second == expected.second && reply.third == expected.third && reply.line == expected.line;
+}
+
+static void lines(void) {
+  check("the first line", answers_line(0, (marrubigai_line_reply){0, 'N', 3, 2, 1, 1}));
+  check("a line with an empty field", answers_line(2, (marrubigai_line_reply){0, 'L', 22, 1, 0, 3}));
+  check("the last line", answers_line(14, (marrubigai_line_reply){0, 'C', 23, 11, 13, 15}));
+  check("a missing line gives 2", answers_line(15, (marrubigai_line_reply){2, 0, 0, 0, 0, 16}));
+  check("a number above 615 goes no further", answers_line(UINT32_MAX, (marrubigai_line_reply){2, 0, 0, 0, 0, UINT32_MAX}));
 }
 
 static int answers_heading(marrubigai_heading_reply reply, uint32_t number, uint32_t place, uint32_t variables, uint32_t clauses) {
@@ -275,6 +296,7 @@ static void printing(void) {
 
 int main(void) {
   reading();
+  lines();
   headings();
   groups();
   printing();

@@ -2,16 +2,21 @@
 use lists::Gate;
 use lists::Latch;
 use netlist::Netlist;
+use reader::SheetReader;
 use replies::CountReply;
 use replies::HeadingReply;
+use replies::LineReply;
 use replies::SheetReply;
 ghost use mathlib.Core.Path.{_≡_};
+ghost use Prim.Native.Nat.{_+_};
 ghost use lib.ListN.{length};
 ghost use Rattle.calls.specs.Calls.{headingFor, groupFor, numbersLeft};
 ghost use Rattle.dimacs.specs.Text.{headerText, clauseText, refusalText};
 ghost use Rattle.dimacs.specs.PrintCalls.{printSent, printLeaves};
+ghost use Rattle.parse.specs.Files.{lineIn};
+ghost use Rattle.reader.specs.Lines.{nextNumber};
 ghost use Rattle.reader.specs.ReadCall.{readVerdict, readRecord, latchesLeft, gatesLeft, SheetDelivered};
-ghost use Rattle.replies.specs.Numbers.{groupOf, countNumbers, headingNumbers, sheetNumbers};
+ghost use Rattle.replies.specs.Numbers.{groupOf, countNumbers, headingNumbers, sheetNumbers, lineNumbers};
 
 // `calls::write_group`. The kind is 0 for the wires of frame i, 1 for the pair (j, i), 2 for the closing of frame i, 3 for the property.
 #[no_mangle]
@@ -64,6 +69,15 @@ pub extern "C" fn marrubigai_read(
     ensures accepted { λ r. ⌜ (r .number ≡ 0 → SheetDelivered (now (file .entry)) (r .net) (now (latches .exit)) (now (gates .exit))) ⌝ }
 {
     replies::sheet_numbers(reader::read(file, latches, gates))
+}
+
+// `SheetReader::next_line`, of the reader that has read so many lines of the file.
+#[no_mangle]
+pub extern "C" fn marrubigai_next_line(file: &[u8], line: u32) -> LineReply
+    ensures { λ r. ⌜ r ≡ lineNumbers (lineIn (now (file .entry)) (line + 1)) (nextNumber line) ⌝ }
+{
+    let next = SheetReader { file, line }.next_line();
+    replies::line_numbers(next.line, next.reader.line)
 }
 
 // `dimacs::put_header`.

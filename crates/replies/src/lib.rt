@@ -1,5 +1,7 @@
 // Groups and answers as numbers, for C and Rust: an exported function can neither take nor return an enum.
 use dimacs::PrintAnswer;
+use lines::Kind;
+use lines::ParsedLine;
 use model::Group;
 use netlist::Netlist;
 use refusals::Refusal;
@@ -11,7 +13,8 @@ ghost use mathlib.Core.Path.{_≡_};
 ghost use Rattle.refusals.specs.Slices.{withCount};
 ghost use Rattle.unpacked.specs.Calls.{groupReply, headingReply};
 ghost use Rattle.dimacs.specs.PrintCalls.{printReply};
-ghost use Rattle.replies.specs.Numbers.{groupOf, countNumbers, headingNumbers, sheetNumbers};
+ghost use Rattle.lines.specs.Letters.{letterOf};
+ghost use Rattle.replies.specs.Numbers.{groupOf, countNumbers, headingNumbers, sheetNumbers, lineNumbers};
 
 // What is sent back of a call that writes into a slice: number (0 where it is not refused), place, and how many numbers or bytes
 // were written.
@@ -125,5 +128,62 @@ pub fn sheet_numbers(sheet: SheetAnswer) -> SheetReply
         number: reply.number,
         place: reply.place,
         net,
+    }
+}
+
+// What is sent back of a line: number (2 for a misprint, else 0), its letter, its fields, and how many lines are read with it. An
+// empty field is 0, and at a misprint letter and fields are.
+#[repr(C)]
+pub struct LineReply {
+    pub number: u32,
+    pub letter: u8,
+    pub first: u32,
+    pub second: u32,
+    pub third: u32,
+    pub line: u32,
+}
+
+// The letter of a line.
+fn letter_of(kind: Kind) -> u8
+    ensures { λ r. ⌜ r ≡ letterOf kind ⌝ }
+{
+    match kind {
+        Kind::Sizes => b'N',
+        Kind::Memory => b'M',
+        Kind::Latch => b'L',
+        Kind::Gate => b'G',
+        Kind::Address => b'A',
+        Kind::WriteData => b'D',
+        Kind::Control => b'C',
+        Kind::Unknown => 0,
+    }
+}
+
+// A line's.
+pub fn line_numbers(parsed: ParsedLine, line: u32) -> LineReply
+    ensures { λ r. ⌜ r ≡ lineNumbers parsed line ⌝ }
+{
+    match parsed {
+        ParsedLine::Misprint => LineReply {
+            number: refusals::number(Refusal::Misprint),
+            letter: 0,
+            first: 0,
+            second: 0,
+            third: 0,
+            line,
+        },
+        ParsedLine::Read {
+            kind,
+            first,
+            second,
+            third,
+        } => LineReply {
+            number: 0,
+            letter: letter_of(kind),
+            first,
+            second,
+            third,
+            line,
+        },
     }
 }
