@@ -15,7 +15,7 @@ static uint32_t depth;
 
 static size_t group(uint32_t kind, uint32_t j, uint32_t i) {
   static int32_t numbers[MOST_NUMBERS];
-  marrubigai_group_reply reply =
+  marrubigai_count_reply reply =
       marrubigai_write_group(net, latches, net.latches, gates, net.gates, depth, kind, j, i, numbers, MOST_NUMBERS);
   if (reply.number != 0) exit(1);
   return reply.count;

@@ -25,10 +25,11 @@ typedef struct {
 typedef struct { marrubigai_code next; uint32_t reset; } marrubigai_latch;
 typedef struct { marrubigai_code left, right; } marrubigai_gate;
 
-/* number is 0 where nothing is refused; what stands beside a refusal is all zeros */
-typedef struct { uint32_t number, place; size_t count; } marrubigai_group_reply;
+/* number is 0 where nothing is refused; what stands beside a refusal is all zeros. A count is of numbers or bytes written. */
+typedef struct { uint32_t number, place; size_t count; } marrubigai_count_reply;
 typedef struct { uint32_t number, place, variables, clauses; } marrubigai_heading_reply;
 typedef struct { uint32_t number, place; marrubigai_netlist net; } marrubigai_sheet_reply;
+typedef struct { uint32_t number; uint8_t letter; uint32_t first, second, third, line; } marrubigai_line_reply;
 
 enum { MARRUBIGAI_WIRES, MARRUBIGAI_PAIR, MARRUBIGAI_CLOSING, MARRUBIGAI_PROPERTY };
 
@@ -36,14 +37,24 @@ enum { MARRUBIGAI_WIRES, MARRUBIGAI_PAIR, MARRUBIGAI_CLOSING, MARRUBIGAI_PROPERT
 marrubigai_sheet_reply marrubigai_read(const uint8_t *file, size_t bytes, marrubigai_latch *latches, size_t latch_room,
                                        marrubigai_gate *gates, size_t gate_room);
 
+/* the line behind the first `line` lines of a sheet: its letter, its fields (0 where one is empty), and how many lines are read with
+ * it, at most 615. Number 2 where it is misprinted, cut short or missing. */
+marrubigai_line_reply marrubigai_next_line(const uint8_t *file, size_t bytes, uint32_t line);
+
 /* how many variables and clauses the formula of a depth has */
 marrubigai_heading_reply marrubigai_heading(marrubigai_netlist net, const marrubigai_latch *latches, size_t latch_count,
                                             const marrubigai_gate *gates, size_t gate_count, uint32_t depth);
 
 /* writes the clauses of one group, each ended by 0, and answers how many numbers that is: wires or closing of frame i, pair (j, i),
  * or the property. The order of the whole: for each frame wires, pairs from j = i - 1 down to 0, closing; then the property. */
-marrubigai_group_reply marrubigai_write_group(marrubigai_netlist net, const marrubigai_latch *latches, size_t latch_count,
+marrubigai_count_reply marrubigai_write_group(marrubigai_netlist net, const marrubigai_latch *latches, size_t latch_count,
                                               const marrubigai_gate *gates, size_t gate_count, uint32_t depth, uint32_t kind,
                                               uint32_t j, uint32_t i, int32_t *out, size_t room);
+
+/* the text of the program `frames`: DIMACS' problem line, numbers that a group call wrote with a clause a line, and a refusal, its
+ * number and place in ten columns each. Each answers how many bytes it wrote; 9 where the buffer is shorter than the text. */
+marrubigai_count_reply marrubigai_put_header(uint8_t *out, size_t room, uint32_t variables, uint32_t clauses);
+marrubigai_count_reply marrubigai_put_clauses(uint8_t *out, size_t room, const int32_t *numbers, size_t count);
+marrubigai_count_reply marrubigai_put_refusal(uint8_t *out, size_t room, uint32_t number, uint32_t place);
 
 #endif

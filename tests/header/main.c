@@ -29,10 +29,10 @@ FIELD(marrubigai_latch, reset, 4);
 SIZE(marrubigai_gate, 8);
 FIELD(marrubigai_gate, left, 0);
 FIELD(marrubigai_gate, right, 4);
-SIZE(marrubigai_group_reply, 16);
-FIELD(marrubigai_group_reply, number, 0);
-FIELD(marrubigai_group_reply, place, 4);
-FIELD(marrubigai_group_reply, count, 8);
+SIZE(marrubigai_count_reply, 16);
+FIELD(marrubigai_count_reply, number, 0);
+FIELD(marrubigai_count_reply, place, 4);
+FIELD(marrubigai_count_reply, count, 8);
 SIZE(marrubigai_heading_reply, 16);
 FIELD(marrubigai_heading_reply, number, 0);
 FIELD(marrubigai_heading_reply, place, 4);
@@ -42,6 +42,13 @@ SIZE(marrubigai_sheet_reply, 220);
 FIELD(marrubigai_sheet_reply, number, 0);
 FIELD(marrubigai_sheet_reply, place, 4);
 FIELD(marrubigai_sheet_reply, net, 8);
+SIZE(marrubigai_line_reply, 24);
+FIELD(marrubigai_line_reply, number, 0);
+FIELD(marrubigai_line_reply, letter, 4);
+FIELD(marrubigai_line_reply, first, 8);
+FIELD(marrubigai_line_reply, second, 12);
+FIELD(marrubigai_line_reply, third, 16);
+FIELD(marrubigai_line_reply, line, 20);
 
 static int passed, failed;
 
@@ -142,6 +149,20 @@ static void reading(void) {
         answers_sheet(read_text(DISTINCT, bytes - 32, ROOM, ROOM), 3, 15, &nothing) && lists_hold(0, 0, 0, 0));
 }
 
+static int answers_line(uint32_t line, marrubigai_line_reply expected) {
+  marrubigai_line_reply reply = marrubigai_next_line((const uint8_t *)DISTINCT, sizeof DISTINCT - 1, line);
+  return reply.number == expected.number && reply.letter == expected.letter && reply.first == expected.first &&
+         reply.second == expected.second && reply.third == expected.third && reply.line == expected.line;
+}
+
+static void lines(void) {
+  check("the first line", answers_line(0, (marrubigai_line_reply){0, 'N', 3, 2, 1, 1}));
+  check("a line with an empty field", answers_line(2, (marrubigai_line_reply){0, 'L', 22, 1, 0, 3}));
+  check("the last line", answers_line(14, (marrubigai_line_reply){0, 'C', 23, 11, 13, 15}));
+  check("a missing line gives 2", answers_line(15, (marrubigai_line_reply){2, 0, 0, 0, 0, 16}));
+  check("a number above 615 goes no further", answers_line(UINT32_MAX, (marrubigai_line_reply){2, 0, 0, 0, 0, UINT32_MAX}));
+}
+
 static int answers_heading(marrubigai_heading_reply reply, uint32_t number, uint32_t place, uint32_t variables, uint32_t clauses) {
   return reply.number == number && reply.place == place && reply.variables == variables && reply.clauses == clauses;
 }
@@ -170,21 +191,21 @@ typedef struct {
   uint32_t depth;
 } lent;
 
-static marrubigai_group_reply group(lent of, uint32_t kind, uint32_t j, uint32_t i, size_t room) {
+static marrubigai_count_reply group(lent of, uint32_t kind, uint32_t j, uint32_t i, size_t room) {
   for (size_t t = 0; t < MOST; t++) out[t] = UNWRITTEN;
   return marrubigai_write_group(*of.net, of.latches, of.net->latches, of.gates, of.net->gates, of.depth, kind, j, i, out, room);
 }
 
 // the numbers in a slice of exactly their length, and nothing behind it
 static void writes(const char *what, lent of, uint32_t kind, uint32_t j, uint32_t i, const int32_t *numbers, size_t count) {
-  marrubigai_group_reply reply = group(of, kind, j, i, count);
+  marrubigai_count_reply reply = group(of, kind, j, i, count);
   int holds = reply.number == 0 && reply.place == 0 && reply.count == count;
   for (size_t t = 0; t < MOST; t++) holds = holds && out[t] == (t < count ? numbers[t] : UNWRITTEN);
   check(what, holds);
 }
 
 static void refuses(const char *what, lent of, uint32_t kind, uint32_t j, uint32_t i, size_t room, uint32_t number, uint32_t place) {
-  marrubigai_group_reply reply = group(of, kind, j, i, room);
+  marrubigai_count_reply reply = group(of, kind, j, i, room);
   int holds = reply.number == number && reply.place == place && reply.count == 0;
   for (size_t t = 0; t < MOST; t++) holds = holds && out[t] == UNWRITTEN;
   check(what, holds);
@@ -237,10 +258,48 @@ static void groups(void) {
           MOST, 5, 15);
 }
 
+enum { MOST_BYTES = 40, UNPRINTED = 0xa5 };
+static uint8_t text[MOST_BYTES];
+
+static uint8_t *unprinted(void) {
+  memset(text, UNPRINTED, sizeof text);
+  return text;
+}
+
+// whether the reply is a success with these bytes, and nothing behind them was written
+static int printed(marrubigai_count_reply reply, const char *expected) {
+  const size_t count = strlen(expected);
+  int holds = reply.number == 0 && reply.place == 0 && reply.count == count && memcmp(text, expected, count) == 0;
+  for (size_t t = count; t < MOST_BYTES; t++) holds = holds && text[t] == UNPRINTED;
+  return holds;
+}
+
+static int not_printed(marrubigai_count_reply reply) {
+  int holds = reply.number == 9 && reply.place == 0 && reply.count == 0;
+  for (size_t t = 0; t < MOST_BYTES; t++) holds = holds && text[t] == UNPRINTED;
+  return holds;
+}
+
+static void printing(void) {
+  check("a header of 12 bytes", printed(marrubigai_put_header(unprinted(), 12, 10, 24), "p cnf 10 24\n"));
+  check("11 bytes are too few for it", not_printed(marrubigai_put_header(unprinted(), 11, 10, 24)));
+  check("the largest numbers in a header",
+        printed(marrubigai_put_header(unprinted(), MOST_BYTES, UINT32_MAX, 0), "p cnf 4294967295 0\n"));
+  static const int32_t numbers[] = {-9, 5, 1, 0, 3, INT32_MIN, 0};
+  const size_t count = COUNT(numbers);
+  check("a clause a line", printed(marrubigai_put_clauses(unprinted(), 25, numbers, count), "-9 5 1 0\n3 -2147483648 0\n"));
+  check("24 bytes are too few for them", not_printed(marrubigai_put_clauses(unprinted(), 24, numbers, count)));
+  check("no numbers, into a slice of length 0", printed(marrubigai_put_clauses(unprinted(), 0, numbers, 0), ""));
+  check("a refusal of 28 bytes", printed(marrubigai_put_refusal(unprinted(), 28, 6, 3), "refused         6         3\n"));
+  check("27 bytes are too few for it", not_printed(marrubigai_put_refusal(unprinted(), 27, 6, 3)));
+}
+
 int main(void) {
   reading();
+  lines();
   headings();
   groups();
+  printing();
   printf("%d passed, %d failed\n", passed, failed);
   return failed != 0;
 }

@@ -414,15 +414,27 @@ fn formula_text(input: &[u8]) -> Result<Vec<u8>, Refusal> {
     // The program's lists have room for every accepted sheet, so 9 does not occur.
     let netlist = read_sheet(sheet, usize::MAX, usize::MAX)?;
     let Heading { variables, clauses } = heading(&netlist, depth)?;
-    let mut text = format!("p cnf {variables} {clauses}\n").into_bytes();
+    let mut text = header_text(variables, clauses);
     let formula = Formula::new(&netlist, depth, Fault::None);
     for group in formula.groups() {
-        for number in formula.group(group) {
-            let end = if number == 0 { '\n' } else { ' ' };
-            write!(text, "{number}{end}").expect("writing into memory");
-        }
+        text.extend(clauses_text(&formula.group(group)));
     }
     Ok(text)
+}
+
+/// `p cnf`, variables, clauses.
+pub fn header_text(variables: i64, clauses: i64) -> Vec<u8> {
+    format!("p cnf {variables} {clauses}\n").into_bytes()
+}
+
+/// One clause a line, single spaces.
+pub fn clauses_text(numbers: &[i32]) -> Vec<u8> {
+    let mut text = Vec::new();
+    for number in numbers {
+        let end = if *number == 0 { '\n' } else { ' ' };
+        write!(text, "{number}{end}").expect("writing into memory");
+    }
+    text
 }
 
 /// `refused`, number and place as fields, nothing between.

@@ -39,7 +39,7 @@ fn read_number(field: &[u8]) -> Option<u32> {
 
 /// The kind and the numbers of a line, with 0 for empty fields; none for a misprint.
 /// The fields are judged by the letter on the line, whichever line is due.
-fn read_line(line: &[u8]) -> Option<(Kind, [u32; FIELDS])> {
+pub fn read_line(line: &[u8]) -> Option<(Kind, [u32; FIELDS])> {
     let (_, kind, filled) = *LETTERS.iter().find(|row| row.0 == line[0])?;
     let (fields, end) = line[1..].split_at(FIELDS * FIELD_BYTES);
     let mut numbers = [0; FIELDS];

@@ -41,7 +41,7 @@ struct LatchRecord {
 
 #[repr(C)]
 #[derive(Clone, Copy, Debug, PartialEq, Eq)]
-struct GroupReply {
+struct CountReply {
     number: u32,
     place: u32,
     count: usize,
@@ -64,6 +64,17 @@ struct SheetReply {
     net: Record,
 }
 
+#[repr(C)]
+#[derive(Clone, Copy, Debug, PartialEq, Eq)]
+struct LineReply {
+    number: u32,
+    letter: u8,
+    first: u32,
+    second: u32,
+    third: u32,
+    line: u32,
+}
+
 extern "C" {
     fn marrubigai_write_group(
         net: Record,
@@ -77,7 +88,7 @@ extern "C" {
         i: u32,
         out: *mut i32,
         room: usize,
-    ) -> GroupReply;
+    ) -> CountReply;
 
     fn marrubigai_heading(
         net: Record,
@@ -96,6 +107,20 @@ extern "C" {
         gates: *mut GateRecord,
         gate_room: usize,
     ) -> SheetReply;
+
+    fn marrubigai_next_line(file: *const u8, length: usize, line: u32) -> LineReply;
+
+    fn marrubigai_put_header(out: *mut u8, room: usize, variables: u32, clauses: u32)
+        -> CountReply;
+
+    fn marrubigai_put_clauses(
+        out: *mut u8,
+        room: usize,
+        numbers: *const i32,
+        count: usize,
+    ) -> CountReply;
+
+    fn marrubigai_put_refusal(out: *mut u8, room: usize, number: u32, place: u32) -> CountReply;
 }
 
 fn record_of(netlist: &Netlist) -> Record {
@@ -288,6 +313,52 @@ pub fn read(file: &[u8], latch_room: usize, gate_room: usize) -> Answer<Netlist>
         .ok_or("gates behind the size, or no room for it")?;
     answer(number, place, net == Record::default(), || {
         Ok(netlist_of(net, &latches, &gates))
+    })
+}
+
+/// Letter and fields of the line behind the first `line` lines, and the new line number.
+pub fn next_line(file: &[u8], line: u32) -> (Answer<(u8, [u32; 3])>, u32) {
+    // SAFETY: the pointer and the length are those of a live slice.
+    let reply = unsafe { marrubigai_next_line(file.as_ptr(), file.len(), line) };
+    let found = (reply.letter, [reply.first, reply.second, reply.third]);
+    let found = answer(reply.number, 0, found == (0, [0; 3]), || Ok(found));
+    (found, reply.line)
+}
+
+/// No byte of any text, different at nearby indices.
+fn unprinted(index: usize) -> u8 {
+    128 | index as u8
+}
+
+/// A call that prints, with a slice of `room` bytes: the bytes written.
+fn printed(room: usize, call: impl FnOnce(*mut u8, usize) -> CountReply) -> Answer<Vec<u8>> {
+    let mut out = Lent::new(room, unprinted);
+    let slice = out.slice();
+    let reply = call(slice.as_mut_ptr(), slice.len());
+    let text = out
+        .written(reply.count, unprinted)
+        .ok_or("bytes behind the count, or a count above the room")?;
+    answer(reply.number, reply.place, reply.count == 0, || Ok(text))
+}
+
+pub fn put_header(variables: u32, clauses: u32, room: usize) -> Answer<Vec<u8>> {
+    // SAFETY: pointer and length are those of the slice that `printed` lends.
+    printed(room, |out, room| unsafe {
+        marrubigai_put_header(out, room, variables, clauses)
+    })
+}
+
+pub fn put_clauses(numbers: &[i32], room: usize) -> Answer<Vec<u8>> {
+    // SAFETY: each pointer and length are those of a live slice, and only `out` is written to.
+    printed(room, |out, room| unsafe {
+        marrubigai_put_clauses(out, room, numbers.as_ptr(), numbers.len())
+    })
+}
+
+pub fn put_refusal(number: u32, place: u32, room: usize) -> Answer<Vec<u8>> {
+    // SAFETY: pointer and length are those of the slice that `printed` lends.
+    printed(room, |out, room| unsafe {
+        marrubigai_put_refusal(out, room, number, place)
     })
 }
 

@@ -7,6 +7,7 @@ mod calls;
 mod exports;
 mod fuzz_exports;
 mod mutate;
+mod prints;
 mod reads;
 mod reference;
 
@@ -34,13 +35,17 @@ impl Counts {
 #[derive(Default)]
 pub struct Library {
     reads: RefCell<Counts>,
+    lines: RefCell<Counts>,
     calls: RefCell<Counts>,
     headings: RefCell<Counts>,
+    headers: RefCell<Counts>,
+    clauses: RefCell<Counts>,
+    refusals: RefCell<Counts>,
 }
 
 type Family = (&'static str, fn(&Library, &mut Tally));
 
-const FAMILIES: [Family; 10] = [
+const FAMILIES: [Family; 14] = [
     ("document 01's facts", calls::stated),
     ("table of group calls", calls::table_of_calls),
     ("table of records", calls::table_of_records),
@@ -50,6 +55,10 @@ const FAMILIES: [Family; 10] = [
     ("tables of sheets", reads::tables),
     ("rooms of lists", reads::rooms),
     ("damaged sheets", reads::damaged),
+    ("lines of sheets", reads::lines),
+    ("texts at their limits", prints::limits),
+    ("random texts", prints::random),
+    ("joined texts", prints::joined),
     ("hostile calls", |library, tally| {
         fuzz_exports::calls(library, tally, 701, 200_000)
     }),
@@ -57,10 +66,14 @@ const FAMILIES: [Family; 10] = [
 
 /// Each function, and the numbers that the tests must have made it answer: all that it has. 10 has none.
 fn every_number(library: &Library, tally: &mut Tally) {
-    let rows: [(&str, &RefCell<Counts>, &[usize]); 3] = [
+    let rows: [(&str, &RefCell<Counts>, &[usize]); 7] = [
         ("read", &library.reads, &[1, 2, 3, 4, 5, 6, 9]),
+        ("next_line", &library.lines, &[2]),
         ("write_group", &library.calls, &[3, 4, 5, 6, 7, 8, 9]),
         ("heading", &library.headings, &[3, 4, 5, 6, 7]),
+        ("put_header", &library.headers, &[9]),
+        ("put_clauses", &library.clauses, &[9]),
+        ("put_refusal", &library.refusals, &[9]),
     ];
     let mut remarks = Vec::new();
     for (name, counts, numbers) in rows {
@@ -114,6 +127,10 @@ fn main() {
                 calls::table_of_records(&library, tally)
             });
             report.family("tables of sheets", |tally| reads::tables(&library, tally));
+            report.family("lines of sheets", |tally| reads::lines(&library, tally));
+            report.family("texts at their limits", |tally| {
+                prints::limits(&library, tally)
+            });
             report.family("hostile calls", |tally| {
                 fuzz_exports::calls(&library, tally, 703, 1_000)
             });

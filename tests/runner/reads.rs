@@ -2,13 +2,14 @@
 //! and 9.
 
 use super::calls::differ;
-use super::exports::read;
+use super::exports::{next_line, read};
+use super::mutate;
 use super::reference::check_refusals::{
     field_and_letter_rows, length_rows, short_sheet_rows, verdict, ACCEPTED, ROOMS,
 };
 use super::reference::random::{damaged_sheet, wide_netlist, Random};
-use super::reference::refusal::{Refusal, NO_ROOM};
-use super::reference::sheet::{expand, read_sheet, write_sheet};
+use super::reference::refusal::{Refusal, MISPRINT, NO_ROOM};
+use super::reference::sheet::{expand, read_line, read_sheet, write_sheet, LINE_BYTES};
 use super::reference::Tally;
 use super::{Counts, Library};
 
@@ -21,6 +22,55 @@ impl Library {
         tally.check_with((latch_room, gate_room), found == expected, || {
             differ(file.escape_ascii().to_string(), &found, &expected)
         });
+    }
+}
+
+/// Letter and numbers of the line behind the first `line` lines; none where it is misprinted, cut short or
+/// missing.
+fn line_behind(file: &[u8], line: u32) -> Option<(u8, [u32; 3])> {
+    let start = line as usize * LINE_BYTES;
+    let line = file.get(start..start + LINE_BYTES)?;
+    read_line(line).map(|(_, numbers)| (line[0], numbers))
+}
+
+impl Library {
+    /// One check: `next_line` answers what the second implementation does, and one line more, up to 615.
+    fn line_agrees(&self, tally: &mut Tally, file: &[u8], line: u32) {
+        let (found, behind) = next_line(file, line);
+        Counts::add(&self.lines, &found);
+        let misprint = Refusal {
+            number: MISPRINT,
+            place: 0,
+        };
+        let expected = (
+            Ok(line_behind(file, line).ok_or(misprint)),
+            if line < 615 { line + 1 } else { line },
+        );
+        tally.check_with(line, (&found, behind) == (&expected.0, expected.1), || {
+            let file = file.escape_ascii().to_string();
+            differ(file, (found, behind), expected)
+        });
+    }
+}
+
+/// Every line of the tables' sheets and of random ones, damaged and sound, and lines behind the last.
+pub fn lines(library: &Library, tally: &mut Tally) {
+    let mut random = Random::new(603);
+    let rows = [field_and_letter_rows(), short_sheet_rows()].concat();
+    let mut files: Vec<Vec<u8>> = rows.into_iter().map(|(_, sheet, _)| sheet).collect();
+    files.extend((0..500).map(|_| mutate::sheet(&mut random)));
+    files.push(write_sheet(&wide_netlist(&mut random)));
+    for file in files {
+        for line in 0..=(file.len() / LINE_BYTES + 1) as u32 {
+            library.line_agrees(tally, &file, line);
+        }
+        for line in [614, 615, 616, i32::MAX as u32, 1 << 27, u32::MAX] {
+            library.line_agrees(tally, &file, line);
+        }
+    }
+    let longest = vec![expand("C 1 2 3"); 700].concat();
+    for line in [0, 613, 614, 615, 616, 699, 700] {
+        library.line_agrees(tally, &longest, line);
     }
 }
 

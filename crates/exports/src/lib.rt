@@ -2,14 +2,21 @@
 use lists::Gate;
 use lists::Latch;
 use netlist::Netlist;
-use replies::GroupReply;
+use reader::SheetReader;
+use replies::CountReply;
 use replies::HeadingReply;
+use replies::LineReply;
 use replies::SheetReply;
 ghost use mathlib.Core.Path.{_≡_};
+ghost use Prim.Native.Nat.{_+_};
 ghost use lib.ListN.{length};
 ghost use Rattle.calls.specs.Calls.{headingFor, groupFor, numbersLeft};
+ghost use Rattle.dimacs.specs.Text.{headerText, clauseText, refusalText};
+ghost use Rattle.dimacs.specs.PrintCalls.{printSent, printLeaves};
+ghost use Rattle.parse.specs.Files.{lineIn};
+ghost use Rattle.reader.specs.Lines.{nextNumber};
 ghost use Rattle.reader.specs.ReadCall.{readVerdict, readRecord, latchesLeft, gatesLeft, SheetDelivered};
-ghost use Rattle.replies.specs.Numbers.{groupOf, groupNumbers, headingNumbers, sheetNumbers};
+ghost use Rattle.replies.specs.Numbers.{groupOf, countNumbers, headingNumbers, sheetNumbers, lineNumbers};
 
 // `calls::write_group`. The kind is 0 for the wires of frame i, 1 for the pair (j, i), 2 for the closing of frame i, 3 for the property.
 #[no_mangle]
@@ -22,8 +29,8 @@ pub extern "C" fn marrubigai_write_group(
     j: u32,
     i: u32,
     out: &mut [i32],
-) -> GroupReply
-    ensures answer { λ r. ⌜ r ≡ groupNumbers (groupFor net (now (latches .entry)) (now (gates .entry)) depth (groupOf kind j i) (length (now (out .entry)))) ⌝ }
+) -> CountReply
+    ensures answer { λ r. ⌜ r ≡ countNumbers (groupFor net (now (latches .entry)) (now (gates .entry)) depth (groupOf kind j i) (length (now (out .entry)))) ⌝ }
     ensures borrowed { λ r. ⌜ now (out .exit) ≡ numbersLeft net (now (latches .entry)) (now (gates .entry)) depth (groupOf kind j i) (now (out .entry)) ⌝ }
 {
     replies::group_numbers(calls::write_group(
@@ -62,4 +69,40 @@ pub extern "C" fn marrubigai_read(
     ensures accepted { λ r. ⌜ (r .number ≡ 0 → SheetDelivered (now (file .entry)) (r .net) (now (latches .exit)) (now (gates .exit))) ⌝ }
 {
     replies::sheet_numbers(reader::read(file, latches, gates))
+}
+
+// `SheetReader::next_line`, of the reader that has read so many lines of the file.
+#[no_mangle]
+pub extern "C" fn marrubigai_next_line(file: &[u8], line: u32) -> LineReply
+    ensures { λ r. ⌜ r ≡ lineNumbers (lineIn (now (file .entry)) (line + 1)) (nextNumber line) ⌝ }
+{
+    let next = SheetReader { file, line }.next_line();
+    replies::line_numbers(next.line, next.reader.line)
+}
+
+// `dimacs::put_header`.
+#[no_mangle]
+pub extern "C" fn marrubigai_put_header(out: &mut [u8], variables: u32, clauses: u32) -> CountReply
+    ensures answer { λ r. ⌜ r ≡ countNumbers (printSent (headerText variables clauses) (length (now (out .entry)))) ⌝ }
+    ensures borrowed { λ _. ⌜ now (out .exit) ≡ printLeaves (headerText variables clauses) (now (out .entry)) ⌝ }
+{
+    replies::print_numbers(dimacs::put_header(out, variables, clauses))
+}
+
+// `dimacs::put_clauses`.
+#[no_mangle]
+pub extern "C" fn marrubigai_put_clauses(out: &mut [u8], numbers: &[i32]) -> CountReply
+    ensures answer { λ r. ⌜ r ≡ countNumbers (printSent (clauseText (now (numbers .entry))) (length (now (out .entry)))) ⌝ }
+    ensures borrowed { λ _. ⌜ now (out .exit) ≡ printLeaves (clauseText (now (numbers .entry))) (now (out .entry)) ⌝ }
+{
+    replies::print_numbers(dimacs::put_clauses(out, numbers))
+}
+
+// `dimacs::put_refusal`.
+#[no_mangle]
+pub extern "C" fn marrubigai_put_refusal(out: &mut [u8], number: u32, place: u32) -> CountReply
+    ensures answer { λ r. ⌜ r ≡ countNumbers (printSent (refusalText number place) (length (now (out .entry)))) ⌝ }
+    ensures borrowed { λ _. ⌜ now (out .exit) ≡ printLeaves (refusalText number place) (now (out .entry)) ⌝ }
+{
+    replies::print_numbers(dimacs::put_refusal(out, number, place))
 }

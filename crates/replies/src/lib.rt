@@ -1,16 +1,25 @@
 // Groups and answers as numbers, for C and Rust: an exported function can neither take nor return an enum.
+use dimacs::PrintAnswer;
+use lines::Kind;
+use lines::ParsedLine;
 use model::Group;
 use netlist::Netlist;
+use refusals::Refusal;
+use refusals::Verdict;
 use steps::SheetAnswer;
 use unpacked::GroupAnswer;
 use unpacked::HeadingAnswer;
 ghost use mathlib.Core.Path.{_≡_};
+ghost use Rattle.refusals.specs.Slices.{withCount};
 ghost use Rattle.unpacked.specs.Calls.{groupReply, headingReply};
-ghost use Rattle.replies.specs.Numbers.{groupOf, groupNumbers, headingNumbers, sheetNumbers};
+ghost use Rattle.dimacs.specs.PrintCalls.{printReply};
+ghost use Rattle.lines.specs.Letters.{letterOf};
+ghost use Rattle.replies.specs.Numbers.{groupOf, countNumbers, headingNumbers, sheetNumbers, lineNumbers};
 
-// What is sent back of a group call: number (0 where it is not refused), place, and how many numbers were written.
+// What is sent back of a call that writes into a slice: number (0 where it is not refused), place, and how many numbers or bytes
+// were written.
 #[repr(C)]
-pub struct GroupReply {
+pub struct CountReply {
     pub number: u32,
     pub place: u32,
     pub count: usize,
@@ -38,21 +47,45 @@ pub fn group_of(kind: u32, j: u32, i: u32) -> Group
     }
 }
 
+// So many were written.
+fn written(count: usize) -> CountReply
+    ensures { λ r. ⌜ r ≡ countNumbers (withCount Verdict.Passed count) ⌝ }
+{
+    CountReply {
+        number: 0,
+        place: 0,
+        count,
+    }
+}
+
+// None were: the call is refused.
+fn refused(refusal: Refusal, place: u32) -> CountReply
+    ensures { λ r. ⌜ r ≡ countNumbers (withCount (Verdict.Refused refusal place) 0) ⌝ }
+{
+    CountReply {
+        number: refusals::number(refusal),
+        place,
+        count: 0,
+    }
+}
+
 // A group call's answer in numbers.
-pub fn group_numbers(answer: GroupAnswer) -> GroupReply
-    ensures { λ r. ⌜ r ≡ groupNumbers (groupReply answer) ⌝ }
+pub fn group_numbers(answer: GroupAnswer) -> CountReply
+    ensures { λ r. ⌜ r ≡ countNumbers (groupReply answer) ⌝ }
 {
     match answer {
-        GroupAnswer::Written(count) => GroupReply {
-            number: 0,
-            place: 0,
-            count,
-        },
-        GroupAnswer::Refused(refusal, place) => GroupReply {
-            number: refusals::number(refusal),
-            place,
-            count: 0,
-        },
+        GroupAnswer::Written(count) => written(count),
+        GroupAnswer::Refused(refusal, place) => refused(refusal, place),
+    }
+}
+
+// That of a call that prints.
+pub fn print_numbers(answer: PrintAnswer) -> CountReply
+    ensures { λ r. ⌜ r ≡ countNumbers (printReply answer) ⌝ }
+{
+    match answer {
+        PrintAnswer::Written(count) => written(count),
+        PrintAnswer::Refused(refusal, place) => refused(refusal, place),
     }
 }
 
@@ -95,5 +128,62 @@ pub fn sheet_numbers(sheet: SheetAnswer) -> SheetReply
         number: reply.number,
         place: reply.place,
         net,
+    }
+}
+
+// What is sent back of a line: number (2 for a misprint, else 0), its letter, its fields, and how many lines are read with it. An
+// empty field is 0, and at a misprint letter and fields are.
+#[repr(C)]
+pub struct LineReply {
+    pub number: u32,
+    pub letter: u8,
+    pub first: u32,
+    pub second: u32,
+    pub third: u32,
+    pub line: u32,
+}
+
+// The letter of a line.
+fn letter_of(kind: Kind) -> u8
+    ensures { λ r. ⌜ r ≡ letterOf kind ⌝ }
+{
+    match kind {
+        Kind::Sizes => b'N',
+        Kind::Memory => b'M',
+        Kind::Latch => b'L',
+        Kind::Gate => b'G',
+        Kind::Address => b'A',
+        Kind::WriteData => b'D',
+        Kind::Control => b'C',
+        Kind::Unknown => 0,
+    }
+}
+
+// A line's.
+pub fn line_numbers(parsed: ParsedLine, line: u32) -> LineReply
+    ensures { λ r. ⌜ r ≡ lineNumbers parsed line ⌝ }
+{
+    match parsed {
+        ParsedLine::Misprint => LineReply {
+            number: refusals::number(Refusal::Misprint),
+            letter: 0,
+            first: 0,
+            second: 0,
+            third: 0,
+            line,
+        },
+        ParsedLine::Read {
+            kind,
+            first,
+            second,
+            third,
+        } => LineReply {
+            number: 0,
+            letter: letter_of(kind),
+            first,
+            second,
+            third,
+            line,
+        },
     }
 }

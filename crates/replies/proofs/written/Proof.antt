@@ -1,0 +1,13 @@
+-- `replies::written` meets its contract: it is the definition. Assumes nothing.
+use mathlib.Core.Path.{refl}
+use Rattle.refusals.specs.Slices.{withCount}
+use Rattle.replies.specs.Numbers.{countNumbers}
+use Rattle.replies.proofs.written.Statement.{statement}
+use Rattle.replies.proofs.written.Tie as tie
+
+returns : tie.Need-returns
+unfolding countNumbers withCount
+returns c = refl
+
+pub written-spec : {M : Type 1} → statement M
+written-spec = tie.close (tie.spec returns)
