@@ -3,38 +3,48 @@
 # breaks a promise ('# counterexample: ..') and at which fact it is refused ('# refused at: NAME', a law, or a need of a function's
 # proof): one that is false of the wrong definition or program. It passes where an error of the prover's own stands at that name, in
 # the proof file of its first error, or where no proof file is concerned and the prover's search leaves that need open. Needs before
-# it may be refused too, for their proofs name the values that the edit changes (as an invariant does). A parse error, a name out of
-# scope, a definition that no longer type checks, or a proof file that merely no longer fits the code shows nothing about the
-# promise, and fails.
+# it may be refused too, for their proofs name the values that the edit changes (as an invariant does). An edit of several functions
+# names each with its fact ('# refused at: FUNCTION/NAME'): a function's proof goes by the contracts of those that it calls, so each
+# is refused on its own, in one check of the crate. A parse error, a name out of scope, a definition that no longer type checks, or a
+# proof file that merely no longer fits the code shows nothing about the promise, and fails.
 set -u
 cd "$(dirname "$0")/.." || exit 2
 passed=0
 failed=0
 
+misfit='is not in scope|has no `Need-|enclosing block|no `mod` line|that can be named from here'
+
+# whether the errors, or the needs that the search left open, have a fact
+is_refused_at() { # log, errors, fact
+  local name=${3##*/} file=${2%%:*} open
+  open=$(grep -E '^fn .*: no proof: .*`search` does not close ' "$1")
+  case "$3" in
+    */*) file=/proofs/${3%/*}/Proof.antt; open=$(grep -F "$file;" <<<"$open") ;;
+    *) [ -z "$2" ] || open= ;;
+  esac
+  [ -n "$2" ] && grep -F "$file:" <<<"$2" | grep -vE "$misfit" | grep -qF "error: \`$name\`" && return 0
+  sed 's/.*does not close//' <<<"$open" | grep -qF "\`$name\`"
+}
+
 judge() { # edit file
-  local crate label log errors misfit first at
+  local crate label log errors first at
   crate=$(basename "$(dirname "$(dirname "$1")")")
   label=$(basename "$1" .edit)
   log=target/must-fail/$crate/$label/.log
-  at=$(sed -n 's/^# refused at: *//p' "$1" | head -n 1)
   grep -q '^# counterexample: ' "$1" || { echo "$crate/$label: no '# counterexample:' line"; return 1; }
-  [ -n "$at" ] || { echo "$crate/$label: no '# refused at:' line"; return 1; }
+  grep -q '^# refused at: ' "$1" || { echo "$crate/$label: no '# refused at:' line"; return 1; }
   [ -f "$log" ] || { echo "$crate/$label: no log at $log"; return 1; }
   # what only follows from another refusal is passed over
   errors=$(grep ': error: ' "$log" | grep -v 'was not admitted')
   first=${errors%%$'\n'*}
-  if [ -z "$first" ]; then
-    grep -E '^fn .*: no proof: .*`search` does not close ' "$log" | sed 's/.*does not close//' | grep -qF "\`$at\`" && return 0
-    echo "$crate/$label: the need $at is not among those left open"; return 1
-  fi
   case "$first" in
-    *'/proofs/'*) ;;
+    '' | *'/proofs/'*) ;;
     *) echo "$crate/$label: refused outside proofs/: ${first:0:240}"; return 1 ;;
   esac
-  misfit='is not in scope|has no `Need-|enclosing block|no `mod` line|that can be named from here'
   if grep -qE "$misfit" <<<"$first"; then echo "$crate/$label: the proof file no longer fits: ${first:0:240}"; return 1; fi
-  grep -F "${first%%:*}:" <<<"$errors" | grep -vE "$misfit" | grep -qF "error: \`$at\`" && return 0
-  echo "$crate/$label: refused at another place than $at: ${first:0:240}"; return 1
+  while IFS= read -r at; do
+    is_refused_at "$log" "$errors" "$at" || { echo "$crate/$label: not refused at $at: ${first:0:240}"; return 1; }
+  done < <(sed -n 's/^# refused at: *//p' "$1")
 }
 
 for edit in crates/*/must-fail/*.edit; do
