@@ -26,7 +26,7 @@ pub struct NextLine<'a> {
 }
 
 // A reader of which no line is read.
-pub fn at_start<'a>(file: &'a [u8]) -> SheetReader<'a>
+fn at_start<'a>(file: &'a [u8]) -> SheetReader<'a>
     ensures { λ r. ⌜ r ≡ atStart (file .entry) ⌝ }
 {
     SheetReader { file, line: 0 }
