@@ -8,16 +8,17 @@ use std::collections::{BTreeMap, BTreeSet};
 use std::fs;
 use std::path::{Path, PathBuf};
 
-/// The functions for designers, with their files; every exported C function is public too.
-const PUBLIC: [(&str, &str); 7] = [
-    ("calls/src/lib.rt", "heading"),
-    ("calls/src/lib.rt", "write_group"),
-    ("reader/src/lib.rt", "read"),
-    ("lines/src/lib.rt", "read_depth"),
-    ("dimacs/src/lib.rt", "put_header"),
-    ("dimacs/src/lib.rt", "put_clauses"),
-    ("dimacs/src/lib.rt", "put_refusal"),
-];
+/// The crates with the functions for designers: every `pub fn` and every exported C function, methods included.
+const SHOWN: [&str; 5] = ["calls", "reader", "lines", "dimacs", "exports"];
+
+/// Of `lines` it is the depth line's alone; what asks something of its caller in `dimacs` is the program's.
+fn is_shown(of: &str, it: &Public) -> bool {
+    match of {
+        "lines" => it.name == "read_depth",
+        "dimacs" => !it.has_requires,
+        _ => true,
+    }
+}
 
 struct Repository(PathBuf);
 
@@ -28,6 +29,8 @@ struct Public {
     file: String,
     name: String,
     has_requires: bool,
+    /// The parameters that are lent for writing and of whose last contents nothing is promised.
+    unsaid: Vec<String>,
     /// What each `ensures` is called, and the definitions that it cites.
     promises: Vec<(String, Vec<(String, Module)>)>,
 }
@@ -53,18 +56,11 @@ impl Repository {
 
     fn public_functions(&self) -> Vec<Public> {
         let mut all = Vec::new();
-        for (file, name) in PUBLIC {
-            let text = self.read(&format!("crates/{file}"));
-            all.push(function(file, &text, &format!("pub fn {name}("), name));
-        }
-        for path in self.files("crates/exports/src", ".rt") {
-            let text = self.read(&path);
-            for line in text.lines() {
-                if let Some(rest) = line.strip_prefix("pub extern \"C\" fn ") {
-                    let name = rest.split('(').next().unwrap_or(rest);
-                    let head = format!("pub extern \"C\" fn {name}(");
-                    all.push(function(&path["crates/".len()..], &text, &head, name));
-                }
+        for of in SHOWN {
+            for path in self.files(&format!("crates/{of}/src"), ".rt") {
+                let text = self.read(&path);
+                let found = functions(&path["crates/".len()..], &text);
+                all.extend(found.into_iter().filter(|it| is_shown(of, it)));
             }
         }
         all
@@ -114,11 +110,10 @@ fn import(line: &str, own: &str) -> Option<(Module, Vec<String>)> {
     Some(((of, module), names))
 }
 
-/// A function's contract: from its head to the brace that opens its body.
-fn function(file: &str, text: &str, head: &str, name: &str) -> Public {
+/// The public functions of a file, in its order. A contract goes from a function's head to the brace that opens its body, which
+/// stands on a line of its own, as far to the right as the head.
+fn functions(file: &str, text: &str) -> Vec<Public> {
     let own = file.split('/').next().expect("a crate");
-    let start = text.find(head).unwrap_or_else(|| panic!("{file}: no {head}"));
-    let contract = text[start..].split("\n{").next().expect("a contract");
     let mut cited: BTreeMap<String, Module> = BTreeMap::new();
     for line in text.lines().filter(|line| line.starts_with("ghost use Rattle·")) {
         if let Some((module, names)) = import(line, own) {
@@ -127,8 +122,30 @@ fn function(file: &str, text: &str, head: &str, name: &str) -> Public {
             }
         }
     }
+    let mut found = Vec::new();
+    let mut start = 0;
+    for line in text.split_inclusive('\n') {
+        let head = line.trim_start();
+        let after = head.strip_prefix("pub fn ").or_else(|| head.strip_prefix("pub extern \"C\" fn "));
+        if let Some(after) = after {
+            let indent = &line[..line.len() - head.len()];
+            let contract = text[start..].split(&format!("\n{indent}{{")).next().expect("a contract");
+            let name = after.split(['(', '<']).next().unwrap_or(after);
+            found.push(public(file, name, indent, contract, &cited));
+        }
+        start += line.len();
+    }
+    found
+}
+
+fn public(file: &str, name: &str, indent: &str, contract: &str, cited: &BTreeMap<String, Module>) -> Public {
+    let requires = format!("\n{indent}    requires ");
+    let ensures = format!("\n{indent}    ensures ");
+    let mut clauses = contract.split(&ensures);
+    let head = clauses.next().expect("a head").split(&requires).next().expect("a head");
     let mut promises = Vec::new();
-    for clause in contract.split("\n    ensures ").skip(1) {
+    let mut bodies = String::new();
+    for clause in clauses {
         let (called, body) = clause.split_once('{').expect("an ensures");
         let words: BTreeSet<&str> = body.split(|c: char| c.is_whitespace() || "()⌜⌝{}".contains(c)).collect();
         let definitions = cited.iter().filter(|(name, _)| words.contains(name.as_str()));
@@ -136,11 +153,18 @@ fn function(file: &str, text: &str, head: &str, name: &str) -> Public {
             called.trim().to_string(),
             definitions.map(|(name, module)| (name.clone(), module.clone())).collect(),
         ));
+        bodies += body;
     }
+    let lent = head.split(['(', ',']).filter_map(|parameter| {
+        let (name, of) = parameter.split_once(": &")?;
+        let is_mut = of.split([' ', '[']).take(2).any(|word| word == "mut");
+        is_mut.then(|| name.trim().to_string())
+    });
     Public {
         file: file.to_string(),
         name: name.to_string(),
-        has_requires: contract.contains("\n    requires "),
+        has_requires: contract.contains(&requires),
+        unsaid: lent.filter(|name| !bodies.contains(&format!("now ({name} .exit)"))).collect(),
         promises,
     }
 }
@@ -278,6 +302,7 @@ fn main() {
     for it in &functions {
         check(format!("{} has a requires", it.name), !it.has_requires);
         check(format!("{} promises nothing", it.name), !it.promises.is_empty());
+        check(format!("{} says nothing of the last contents of {:?}", it.name, it.unsaid), it.unsaid.is_empty());
     }
     for what in short {
         check(what, false);

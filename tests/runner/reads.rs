@@ -1,5 +1,5 @@
-//! `read` through the static library: the record and the lists, what is left untouched, refusals 1 to 6
-//! and 9.
+//! `read` and `next_line` through the static library: the record and the lists, what is left untouched, refusals 1
+//! to 6 and 9; a line and the number behind it.
 
 use super::calls::differ;
 use super::exports::{next_line, read};

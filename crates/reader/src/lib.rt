@@ -2,11 +2,11 @@
 // and "Reading"). Each function here takes its structs and lists apart and leaves the work to functions over plain slices.
 use lists::Gate;
 use lists::Latch;
+use netlist::Netlist;
 use refusals::Verdict;
 use steps::SheetAnswer;
 ghost use mathlib.Core.Path.{_≡_};
 ghost use Prim.Native.Nat.{_≤_};
-ghost use Rattle.netlist.specs.RecordOf.{recordOf, noNetlist};
 ghost use Rattle.parse.specs.Files.{lineCount};
 ghost use Rattle.parse.specs.Progress.{ReadTo};
 ghost use Rattle.sheet.specs.Codes.{CodesRead};
@@ -26,7 +26,7 @@ pub struct NextLine<'a> {
 }
 
 // A reader of which no line is read.
-pub fn at_start<'a>(file: &'a [u8]) -> SheetReader<'a>
+fn at_start<'a>(file: &'a [u8]) -> SheetReader<'a>
     ensures { λ r. ⌜ r ≡ atStart (file .entry) ⌝ }
 {
     SheetReader { file, line: 0 }
@@ -55,18 +55,27 @@ impl<'a> SheetReader<'a> {
         }
     }
 
-    // Reads the sheet from this line on into unpacked lists.
+    // Reads the sheet from this line on into unpacked lists, for a record that has the lines before it.
     fn read_codes(
         self,
+        net: Netlist,
         latch_room: usize,
         gate_room: usize,
         latches: &mut [u32; 1200],
         gates: &mut [u32; 1200],
     ) -> SheetAnswer
-        requires { ⌜ (self .line ≤ lineCount (now (self .file))) × ReadTo (now (self .file)) (self .line) (recordOf noNetlist) (now latches) (now gates) ⌝ }
+        requires { ⌜ (self .line ≤ lineCount (now (self .file))) × ReadTo (now (self .file)) (self .line) net (now latches) (now gates) ⌝ }
         ensures { λ r. ⌜ CodesRead (now (self .entry .file)) «latch_room» «gate_room» r (now (latches .exit)) (now (gates .exit)) ⌝ }
     {
-        sheet::read_codes(self.file, self.line, latch_room, gate_room, latches, gates)
+        sheet::read_codes(
+            self.file,
+            self.line,
+            net,
+            latch_room,
+            gate_room,
+            latches,
+            gates,
+        )
     }
 }
 
@@ -82,6 +91,7 @@ pub fn read(file: &[u8], latches: &mut [Latch], gates: &mut [Gate]) -> SheetAnsw
     let mut latch_codes = sheet::no_codes();
     let mut gate_codes = sheet::no_codes();
     let sheet = at_start(file).read_codes(
+        steps::empty_net(),
         latches.len(),
         gates.len(),
         &mut latch_codes,

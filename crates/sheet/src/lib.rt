@@ -9,7 +9,6 @@ ghost use mathlib.Core.List.{[]};
 ghost use Prim.Native.Nat.{_≤_};
 ghost use Rattle.netlist.specs.NetOf.{netOf};
 ghost use Rattle.steps.specs.Steps.{Outcome};
-ghost use Rattle.netlist.specs.RecordOf.{recordOf, noNetlist};
 ghost use Rattle.parse.specs.Files.{lineCount, netIn};
 ghost use Rattle.parse.specs.Progress.{ReadTo};
 ghost use Rattle.sheet.specs.Sheet.{endVerdict, fileVerdict};
@@ -37,21 +36,22 @@ fn test_end(net: Netlist, gates: &[u32; 1200], count: u32) -> Verdict
     records::test_loops(net, gates)
 }
 
-// The tests of a file from `line` on, which is how many lines are read already; they gave nothing but zeros. Where it passes, its
-// codes are in the lists and the rest in the record.
+// The tests of a file from `line` on, which is how many lines are read already, into `net` and the lists. Where it passes, its codes
+// are in the lists and the rest in the record.
 fn test_file(
     file: &[u8],
     line: u32,
+    net: Netlist,
     latches: &mut [u32; 1200],
     gates: &mut [u32; 1200],
 ) -> SheetAnswer
-    requires { ⌜ (line ≤ lineCount (now file)) × ReadTo (now file) line (recordOf noNetlist) (now latches) (now gates) ⌝ }
+    requires { ⌜ (line ≤ lineCount (now file)) × ReadTo (now file) line net (now latches) (now gates) ⌝ }
     ensures { λ r. ⌜ Outcome r (now (latches .exit)) (now (gates .exit)) (fileVerdict (now (file .entry))) (netIn (now (file .entry))) ⌝ }
 {
     if parse::is_ragged(file) {
         return steps::refused(Refusal::Ragged, 0);
     }
-    let sheet = parse::read_lines(file, line, netlist::empty_net(), latches, gates);
+    let sheet = parse::read_lines(file, line, net, latches, gates);
     let read = sheet.verdict;
     if let Verdict::Refused(refusal, place) = read {
         return steps::refused(refusal, place);
@@ -67,19 +67,21 @@ fn test_file(
     }
 }
 
-// Reads a sheet from `line` on, for lists that have room for so many records: its record, and its codes into unpacked lists.
+// Reads a sheet from `line` on, which is how many lines are read already, for lists that have room for so many records: its record,
+// and its codes into unpacked lists.
 pub fn read_codes(
     file: &[u8],
     line: u32,
+    net: Netlist,
     latch_room: usize,
     gate_room: usize,
     latches: &mut [u32; 1200],
     gates: &mut [u32; 1200],
 ) -> SheetAnswer
-    requires { ⌜ (line ≤ lineCount (now file)) × ReadTo (now file) line (recordOf noNetlist) (now latches) (now gates) ⌝ }
+    requires { ⌜ (line ≤ lineCount (now file)) × ReadTo (now file) line net (now latches) (now gates) ⌝ }
     ensures { λ r. ⌜ CodesRead (now (file .entry)) «latch_room» «gate_room» r (now (latches .exit)) (now (gates .exit)) ⌝ }
 {
-    let sheet = test_file(file, line, latches, gates);
+    let sheet = test_file(file, line, net, latches, gates);
     let tested = sheet.verdict;
     if let Verdict::Refused(refusal, place) = tested {
         return steps::refused(refusal, place);

@@ -10,9 +10,13 @@ use Rattle.input.proofs.Replies.{sheet-taken}
 use Rattle.input.proofs.read_sheet.Statement.{statement}
 use Rattle.input.proofs.read_sheet.Tie as tie
 
+empty-net-requires : tie.Need-empty-net-requires
+empty-net-requires c κs = search needs
+
 read-codes-requires : tie.Need-read-codes-requires
 read-codes-requires c κs =
-    let p = c .before .before .before .pre in (omega arith, rw (p .0, p .1) (read-none _))
+    let p = c .before .before .before .before .pre in
+    (omega arith, rw (c .before .before .empty-net .ensures, p .0, p .1) (read-none _))
 
 reply-of-requires : tie.Need-reply-of-requires
 reply-of-requires c κs = search needs
@@ -27,4 +31,4 @@ returns c =
     )
 
 pub read-sheet-spec : {M : Type 1} → statement M
-read-sheet-spec = tie.close (tie.spec read-codes-requires reply-of-requires returns)
+read-sheet-spec = tie.close (tie.spec empty-net-requires read-codes-requires reply-of-requires returns)

@@ -48,7 +48,15 @@ use denote.Triple.Walked.{says, Stays, stay-none-slice, gave-slice, onExit, walk
 use denote.Exit.{yes}
 use denote.Triple.Clauses.{Lasts, lasts}
 use Rattle.refusals.specs.declared.Verdict.the-variants.{Passed}
+use Rattle.netlist.specs.declared.Netlist.{Netlist}
+use Rattle.netlist.proofs.Netlist as N
+use Rattle.netlist.proofs.Netlist.Laws as N′
+use Rattle.steps.specs.Records.{recordOf, noNetlist}
 use Rattle.steps.specs.declared.SheetAnswer.{SheetAnswer}
+use Rattle.steps.proofs.empty_net as empty
+use Rattle.steps.proofs.empty_net.Symbol as empty-def
+use Rattle.steps.proofs.empty_net.Symbol.{name as #empty-net}
+use Rattle.steps.proofs.empty_net.Met as empty-thm
 use Rattle.steps.proofs.SheetAnswer as S
 use Rattle.steps.proofs.SheetAnswer.Laws as S′
 use Rattle.sheet.specs.Scratch.{noCodes}
@@ -110,6 +118,9 @@ module _ {M : Type 1} (𝓤 : URA M) (H : Heap 𝓤) (A : Atoms 𝓤) (mem : Mem
   abbrev None : Contract 𝓤
   None = tripleOf 𝓤 H A none.signature (none.spec 𝓤 H A mem run)
 
+  abbrev Empty : Contract 𝓤
+  Empty = tripleOf 𝓤 H A empty.signature (empty.spec 𝓤 H A mem run)
+
   abbrev Start : Contract 𝓤
   Start = tripleOf 𝓤 H A start.signature (start.spec 𝓤 H A mem run)
 
@@ -139,6 +150,25 @@ module _ {M : Type 1} (𝓤 : URA M) (H : Heap 𝓤) (A : Atoms 𝓤) (W : Given
       await ! tt $ pick ! (λ xs.
       split ! $ move ! (1 ∷ []) $ pick ! (λ ws. split ! $ move ! (1 ∷ []) $ heard ! (xs ≡ noCodes) (λ e. drop ! $ split ! $
       drop ! $ rewrite ! 0 (λ (ys : List ℕ). ‵ (Codes .own ys (v ∷ []))) e refl $ at-once ! $ done !)))
+
+  -- ---- `empty_net`: nor does it
+  abbrev zeros : Netlist
+  zeros = recordOf noNetlist
+
+  abbrev to-empty : Empty 𝓤 H A mem run .Ghost
+  to-empty = ((tt, tt, tt, tt, tt), tt)
+
+  empty-goes : ent 𝓤 (emp 𝓤) (Empty 𝓤 H A mem run .pre to-empty)
+  empty-goes = qed W [] ∵ nothing ! $ nothing ! $ join ! $ nothing ! $ move ! (1 ∷ 0 ∷ []) $ done !
+
+  empty-gives : (v : Val) → ent 𝓤 (Empty 𝓤 H A mem run .post to-empty v) (H .⇛ (sem 𝓤 H A (N.the-row .own zeros (v ∷ []))))
+  empty-gives v =
+      qed W (raw (Empty 𝓤 H A mem run .post to-empty v) ∷ []) ∵ updating ! $
+      use1 W (later (some (λ (net : Netlist). (‵ ftrue ⊛ ‵ (N.the-row .own net (v ∷ [])))
+      ⊛ some (λ (ws : Lasts empty.ended tt tt). ‵ (lasts empty.ended tt tt ws) ⊛ raw (fact 𝓤 (net ≡ zeros)))))) (id⊢ 𝓤 _) $
+      await ! tt $ pick ! (λ net.
+      split ! $ move ! (1 ∷ []) $ pick ! (λ ws. split ! $ move ! (1 ∷ []) $ heard ! (net ≡ zeros) (λ e. drop ! $ split ! $
+      drop ! $ rewrite ! 0 (λ (c : Netlist). ‵ (N.the-row .own c (v ∷ []))) e refl $ at-once ! $ done !)))
 
   module _ (κs : Lfts 3) (qs : Shares 3) (file : RefT (List ℕ)) (x : RefT (List Latch)) (y : RefT (List Gate)) where
     abbrev κ : Lft
@@ -205,7 +235,7 @@ module _ {M : Type 1} (𝓤 : URA M) (H : Heap 𝓤) (A : Atoms 𝓤) (W : Given
         done !)))
 
     -- ---- `SheetReader::read_codes`, with the unpacked lists lent for α and β under the names γ and δ
-    module _ (l₄ l₅ α β : ℕ) (γ δ : GName) (w : Val) where
+    module _ (l₄ l₅ α β : ℕ) (γ δ : GName) (w z : Val) where
       abbrev cx : RefT (List ℕ)
       cx = record { ptr = (l₄, 0); name = γ; now = noCodes }
 
@@ -216,7 +246,7 @@ module _ {M : Type 1} (𝓤 : URA M) (H : Heap 𝓤) (A : Atoms 𝓤) (W : Given
       κs′ = (κ, (α ∷ [], (β ∷ [], tt)))
 
       abbrev b : Args codes.signature κs′
-      b = (atStart file, (m, (n, (cx, (cy, tt)))))
+      b = (atStart file, (zeros, (m, (n, (cx, (cy, tt))))))
 
       abbrev to-codes : ReadCodes 𝓤 H A mem run .Ghost
       to-codes = (
@@ -225,7 +255,7 @@ module _ {M : Type 1} (𝓤 : URA M) (H : Heap 𝓤) (A : Atoms 𝓤) (W : Given
           (q, (fullShare, (fullShare, tt))),
           tt,
           b,
-          (w ∷ [], (vint w64 m ∷ [], (vint w64 n ∷ [], (ptr-vals cx, (ptr-vals cy, tt))))),
+          (w ∷ [], (z ∷ [], (vint w64 m ∷ [], (vint w64 n ∷ [], (ptr-vals cx, (ptr-vals cy, tt)))))),
         ),
         tt,
       )
@@ -235,13 +265,15 @@ module _ {M : Type 1} (𝓤 : URA M) (H : Heap 𝓤) (A : Atoms 𝓤) (W : Given
           ∷ ‵ (MutRef (named 2) (β ∷ []) Codes .own cy (ptr-vals cy)) ∷ ‵ (flft κ q) ∷ ‵ (flft (α ∷ []) fullShare)
           ∷ ‵ (flft (β ∷ []) fullShare) ∷ []
 
-      codes-goes : m < 2 ^ 64 → n < 2 ^ 64 → ent 𝓤 (⋆ 𝓤 H A Asks) (ReadCodes 𝓤 H A mem run .pre to-codes)
-      codes-goes m-fits n-fits =
+      codes-goes : m < 2 ^ 64 → n < 2 ^ 64 → Is N.the-row zeros (z ∷ []) → ent 𝓤 (⋆ 𝓤 H A Asks) (ReadCodes 𝓤 H A mem run .pre to-codes)
+      codes-goes m-fits n-fits is-zeros =
           qed W Asks ∵ says ! (omega arith, read-none (now file)) $
           nothing ! $ move ! (6 ∷ 0 ∷ []) $ join ! $ move ! (5 ∷ 0 ∷ []) $ join ! $ move ! (4 ∷ 0 ∷ []) $ join ! $ frame ! $
           nothing ! $ move ! (3 ∷ 0 ∷ []) $ fjoin ! $ move ! (2 ∷ 0 ∷ []) $ fjoin ! $
           owned ! usize (Is usize) (uint-makes 𝓤 H A W w64) n _ (refl, n-fits) $ fjoin ! $
-          owned ! usize (Is usize) (uint-makes 𝓤 H A W w64) m _ (refl, m-fits) $ fjoin ! $ move ! (1 ∷ 0 ∷ []) $ fjoin ! $ done !
+          owned ! usize (Is usize) (uint-makes 𝓤 H A W w64) m _ (refl, m-fits) $ fjoin ! $
+          owned ! N.the-row (Is N.the-row) (LL.makes N.the-type N′.the-plain 𝓤 H A) zeros _ is-zeros $ fjoin ! $
+          move ! (1 ∷ 0 ∷ []) $ fjoin ! $ done !
 
       -- what it answers, and what it leaves in the lists
       abbrev Answer : Type 0
@@ -261,15 +293,16 @@ module _ {M : Type 1} (𝓤 : URA M) (H : Heap 𝓤) (A : Atoms 𝓤) (W : Given
           use1 W (later (some (λ (sheet : SheetAnswer). ((‵ (flft κ q) ⊛ ‵ (flft (α ∷ []) fullShare) ⊛ ‵ (flft (β ∷ []) fullShare)
           ⊛ ‵ ftrue) ⊛ ‵ (S.the-row .own sheet (u ∷ [])))
           ⊛ some (λ (zs : Lasts codes.ended κs′ b). ‵ (lasts codes.ended κs′ b zs)
-          ⊛ raw (fact 𝓤 (Read (sheet, (zs .1 .1 .1 .0, zs .1 .1 .1 .1 .0)))))))) (id⊢ 𝓤 _) $ await ! tt $ pick ! (λ sheet.
+          ⊛ raw (fact 𝓤 (Read (sheet, (zs .1 .1 .1 .1 .0, zs .1 .1 .1 .1 .1 .0)))))))) (id⊢ 𝓤 _) $ await ! tt $ pick ! (λ sheet.
           split ! $ move ! (1 ∷ []) $ pick ! (λ zs. split ! $ move ! (1 ∷ []) $
-          heard ! (Read (sheet, (zs .1 .1 .1 .0, zs .1 .1 .1 .1 .0))) (λ e.
+          heard ! (Read (sheet, (zs .1 .1 .1 .1 .0, zs .1 .1 .1 .1 .1 .0))) (λ e.
           -- [what is last in the lists; the tokens and the result]
-          fsplit ! $ drop ! $ fsplit ! $ drop ! $ fsplit ! $ drop ! $ fsplit ! $ move ! (1 ∷ []) $ fsplit ! $ move ! (3 ∷ []) $
+          fsplit ! $ drop ! $ fsplit ! $ drop ! $ fsplit ! $ drop ! $ fsplit ! $ drop ! $ fsplit ! $ move ! (1 ∷ []) $ fsplit ! $
+          move ! (3 ∷ []) $
           split ! $ split ! $ move ! (1 ∷ []) $ split ! $ move ! (1 ∷ []) $ split ! $
           -- [β's token; true; α's token; the file's; the result; gates; true; latches]
           at-once ! $ show ! (λ (o : Answer). guard 𝓤 (Read o) (⋆ 𝓤 H A (Gets u o ∷ [])))
-          (sheet, (zs .1 .1 .1 .0, zs .1 .1 .1 .1 .0)) $ check ! e $ keep ! (4 ∷ 3 ∷ 2 ∷ 0 ∷ 7 ∷ 5 ∷ []) $ done !)))
+          (sheet, (zs .1 .1 .1 .1 .0, zs .1 .1 .1 .1 .1 .0)) $ check ! e $ keep ! (4 ∷ 3 ∷ 2 ∷ 0 ∷ 7 ∷ 5 ∷ []) $ done !)))
 
     -- ---- the end: what is had, and what the contract says of it
     exits : (sheet : SheetAnswer) (xs ys : List ℕ) → CodesRead (now file) m n sheet xs ys
@@ -297,7 +330,7 @@ module _ {M : Type 1} (𝓤 : URA M) (H : Heap 𝓤) (A : Atoms 𝓤) (W : Given
         done !
 
     module _ (C : Calls 𝓤 H) (Λ : Loops 𝓤 H) (fm : FmC 𝓤 H (W .laws) C) (known-none : Triple 𝓤 (C #no-codes) (None 𝓤 H A mem run))
-        (known-start : Triple 𝓤 (C #at-start) (Start 𝓤 H A mem run))
+        (known-empty : Triple 𝓤 (C #empty-net) (Empty 𝓤 H A mem run)) (known-start : Triple 𝓤 (C #at-start) (Start 𝓤 H A mem run))
         (known-codes : Triple 𝓤 (C #read-codes) (ReadCodes 𝓤 H A mem run))
         (known-latches : Triple 𝓤 (C #deliver-latches) (DeliverLatches 𝓤 H A mem run))
         (known-gates : Triple 𝓤 (C #deliver-gates) (DeliverGates 𝓤 H A mem run)) where
@@ -314,46 +347,52 @@ module _ {M : Type 1} (𝓤 : URA M) (H : Heap 𝓤) (A : Atoms 𝓤) (W : Given
           (λ l₃. alloc1 ! (λ l₄. alloc1 ! (λ l₅. alloc1 ! (λ l₆. alloc1 ! (λ l₇. alloc1 ! (λ l₈. alloc1 ! (λ l₉.
           alloc1 ! (λ l₁₀. alloc1 ! (λ l₁₁. alloc1 !
           (λ l₁₂. alloc1 ! (λ l₁₃. alloc1 ! (λ l₁₄. alloc1 !
-          (λ l₁₅. alloc1 ! (λ l₁₆. alloc1 ! (λ l₁₇. alloc1 ! (λ l₁₈. alloc1 ! (λ l₁₉. alloc0 ! $ params1 ! $
-          pass1 ! (init ! 36 refl (shr-slice-lawful 𝓤 H A W (named 0) κ u8 .typed file (slice-vals file) file-is .0)) $
-          pass1 ! (init ! 34 refl (tt, (tt, (record { fits = latch-room .0 }, tt)))) $
-          pass1 ! (init ! 32 refl (tt, (tt, (record { fits = gate-room .0 }, tt)))) $ pass0 ! $
-          -- from here on the locals but _4 and _5 stand at the end: _19, _18, .. at every second place, that _5 and _4 die behind
+          (λ l₁₅. alloc1 ! (λ l₁₆. alloc1 ! (λ l₁₇. alloc1 ! (λ l₁₈. alloc1 ! (λ l₁₉. alloc1 ! (λ l₂₀. alloc0 ! $ params1 ! $
+          pass1 ! (init ! 38 refl (shr-slice-lawful 𝓤 H A W (named 0) κ u8 .typed file (slice-vals file) file-is .0)) $
+          pass1 ! (init ! 36 refl (tt, (tt, (record { fits = latch-room .0 }, tt)))) $
+          pass1 ! (init ! 34 refl (tt, (tt, (record { fits = gate-room .0 }, tt)))) $ pass0 ! $
+          -- from here on the locals but _4 and _5 stand at the end: _20, _19, .. at every second place, that _5 and _4 die behind
           -- _6
-          move ! (41 ∷ 40 ∷ 30 ∷ 28 ∷ []) $ fsplit ! $ move ! (1 ∷ []) $ fsplit ! $ move ! (1 ∷ []) $ fsplit ! $ move ! (1 ∷ []) $
+          move ! (43 ∷ 42 ∷ 32 ∷ 30 ∷ []) $ fsplit ! $ move ! (1 ∷ []) $ fsplit ! $ move ! (1 ∷ []) $ fsplit ! $ move ! (1 ∷ []) $
           drop ! $
           move ! (3 ∷ []) $ split ! $ move ! (1 ∷ []) $ split ! $ move ! (1 ∷ []) $ split ! $ move ! (1 ∷ []) $ drop ! $
           move ! (2 ∷ 1 ∷ 0 ∷ 5 ∷ 4 ∷ 3 ∷ []) $
-          -- [the file's token; the latches'; the gates'; file; latches; gates; _4; _5; _19; …]
+          -- [the file's token; the latches'; the gates'; file; latches; gates; _4; _5; _20; …]
           use0 W (raw (None 𝓤 H A mem run .pre to-none)) none-goes $
           calls-at ! fm (None 𝓤 H A mem run) known-none to-none (no-more !)
           (λ u₄. use1 W (later (‵ (Codes .own noCodes (u₄ ∷ [])))) (none-gives u₄) $ await ! tt $
           peeks ! Codes (Is Codes) (shows 𝓤 H A Codes) noCodes (u₄ ∷ []) (λ is₄.
-          land ! (from ! (stop !)) (init ! 33 refl (typed-codes 𝓤 H A W noCodes l₄ u₄ is₄ .0)) $
-          assigns ! (of-opd ! (load ! (from ! (stop !)) (look ! 33 refl))) (from ! (stop !))
-          (init ! 7 refl (typed-codes 𝓤 H A W noCodes l₄ u₄ is₄ .0)) $ forget ! 33 refl $
+          land ! (from ! (stop !)) (init ! 35 refl (typed-codes 𝓤 H A W noCodes l₄ u₄ is₄ .0)) $
+          assigns ! (of-opd ! (load ! (from ! (stop !)) (look ! 35 refl))) (from ! (stop !))
+          (init ! 7 refl (typed-codes 𝓤 H A W noCodes l₄ u₄ is₄ .0)) $ forget ! 35 refl $
           move ! (7 ∷ 0 ∷ []) $ use2 W (‵ (partAt Codes fullShare noCodes l₄ 0)) (stored 𝓤 H A W noCodes l₄ u₄) $
           use0 W (raw (None 𝓤 H A mem run .pre to-none)) none-goes $
           calls-at ! fm (None 𝓤 H A mem run) known-none to-none (no-more !)
           (λ u₅. use1 W (later (‵ (Codes .own noCodes (u₅ ∷ [])))) (none-gives u₅) $ await ! tt $
           peeks ! Codes (Is Codes) (shows 𝓤 H A Codes) noCodes (u₅ ∷ []) (λ is₅.
-          land ! (from ! (stop !)) (init ! 33 refl (typed-codes 𝓤 H A W noCodes l₅ u₅ is₅ .0)) $
-          assigns ! (of-opd ! (load ! (from ! (stop !)) (look ! 33 refl))) (from ! (stop !))
-          (init ! 8 refl (typed-codes 𝓤 H A W noCodes l₅ u₅ is₅ .0)) $ forget ! 33 refl $
+          land ! (from ! (stop !)) (init ! 35 refl (typed-codes 𝓤 H A W noCodes l₅ u₅ is₅ .0)) $
+          assigns ! (of-opd ! (load ! (from ! (stop !)) (look ! 35 refl))) (from ! (stop !))
+          (init ! 8 refl (typed-codes 𝓤 H A W noCodes l₅ u₅ is₅ .0)) $ forget ! 35 refl $
           move ! (8 ∷ 0 ∷ []) $ use2 W (‵ (partAt Codes fullShare noCodes l₅ 0)) (stored 𝓤 H A W noCodes l₅ u₅) $
-          -- [_5; _4; the file's token; the latches'; the gates'; file; latches; gates; _19; …]
+          -- [_5; _4; the file's token; the latches'; the gates'; file; latches; gates; _20; …]
           move ! (5 ∷ []) $ use1 W (‵ File ⊛ ‵ File) (shr-slice-copy 𝓤 H A W (named 0) κ u8 .twice file (slice-vals file)) $
           split ! $ move ! (0 ∷ 4 ∷ []) $ use2 W (raw (Start 𝓤 H A mem run .pre to-start)) start-goes $
           calls-at ! fm (Start 𝓤 H A mem run) known-start to-start
-          (and-then ! (load ! (from ! (stop !)) (look ! 42 refl)) (no-more !)) (λ w.
+          (and-then ! (load ! (from ! (stop !)) (look ! 44 refl)) (no-more !)) (λ w.
           use1 W (later (‵ (flft κ q) ⊛ ‵ (Reader w))) (start-gives w) $ await ! tt $ split ! $ move ! (1 ∷ []) $
           peeks ! (T.the-row α₀) (Is (T.the-row α₀)) (shows 𝓤 H A (T.the-row α₀)) (atStart file) (w ∷ []) (λ is.
-          -- [the reader; the file's token; file; _5; _4; the latches' token; the gates'; latches; gates; _19; …]
-          land ! (from ! (stop !)) (init ! 31 refl (LL.lawful (T.the-type (record { mir = erased; lft = κ }))
+          -- [the reader; the file's token; file; _5; _4; the latches' token; the gates'; latches; gates; _20; …]
+          land ! (from ! (stop !)) (init ! 33 refl (LL.lawful (T.the-type (record { mir = erased; lft = κ }))
           (T′.the-laws (record { mir = erased; lft = κ })) 𝓤 H A W .typed (atStart file) (w ∷ []) is .0)) $
-          assigns ! (of-opd ! (load ! (from ! (fld ! refl (stop !))) (look-in ! 41 (sub ! 1 refl (whole !))))) (from ! (stop !))
+          use0 W (raw (Empty 𝓤 H A mem run .pre to-empty)) empty-goes $
+          calls-at ! fm (Empty 𝓤 H A mem run) known-empty to-empty (no-more !)
+          (λ z. use1 W (later (‵ (N.the-row .own zeros (z ∷ [])))) (empty-gives z) $ await ! tt $
+          peeks ! N.the-row (Is N.the-row) (shows 𝓤 H A N.the-row) zeros (z ∷ []) (λ is-zeros.
+          land ! (from ! (stop !)) (init ! 32 refl (LL.lawful N.the-type N′.the-laws 𝓤 H A W .typed zeros (z ∷ []) is-zeros .0)) $
+          drop ! $
+          assigns ! (of-opd ! (load ! (from ! (fld ! refl (stop !))) (look-in ! 43 (sub ! 1 refl (whole !))))) (from ! (stop !))
           (init ! 29 refl (tt, record { fits = latch-room .0 })) $
-          assigns ! (of-opd ! (load ! (from ! (fld ! refl (stop !))) (look-in ! 39 (sub ! 1 refl (whole !))))) (from ! (stop !))
+          assigns ! (of-opd ! (load ! (from ! (fld ! refl (stop !))) (look-in ! 41 (sub ! 1 refl (whole !))))) (from ! (stop !))
           (init ! 27 refl (tt, record { fits = gate-room .0 })) $
           assigns ! (addr ! (from ! (stop !))) (from ! (stop !)) (init ! 25 refl (tt, tt)) $
           assigns ! (addr ! (from ! (stop !))) (from ! (stop !)) (init ! 23 refl (tt, tt)) $
@@ -369,16 +408,17 @@ module _ {M : Type 1} (𝓤 : URA M) (H : Heap 𝓤) (A : Atoms 𝓤) (W : Given
           ⊛ ‵ (flent (β ∷ []) (Body (memory Codes) l₅ 0 δ))))) (lends-ref 𝓤 H A W Codes (named 2) (β ∷ []) noCodes l₅ 0) $
           await ! tt $ pick ! (λ δ. split ! $
           move ! (6 ∷ 3 ∷ 0 ∷ 7 ∷ 5 ∷ 2 ∷ []) $ group ! 6 $
-          use1 W (raw (ReadCodes 𝓤 H A mem run .pre (to-codes l₄ l₅ α β γ δ w)))
-          (codes-goes l₄ l₅ α β γ δ w (latch-room .0) (gate-room .0)) $
-          calls-at ! fm (ReadCodes 𝓤 H A mem run) known-codes (to-codes l₄ l₅ α β γ δ w)
+          use1 W (raw (ReadCodes 𝓤 H A mem run .pre (to-codes l₄ l₅ α β γ δ w z)))
+          (codes-goes l₄ l₅ α β γ δ w z (latch-room .0) (gate-room .0) is-zeros) $
+          calls-at ! fm (ReadCodes 𝓤 H A mem run) known-codes (to-codes l₄ l₅ α β γ δ w z)
+          (and-then ! (load ! (from ! (stop !)) (look ! 32 refl))
           (and-then ! (load ! (from ! (stop !)) (look ! 30 refl))
           (and-then ! (load ! (from ! (stop !)) (look ! 28 refl))
           (and-then ! (load ! (from ! (stop !)) (look ! 26 refl))
           (and-then ! (load ! (from ! (stop !)) (look ! 24 refl))
-          (and-then ! (load ! (from ! (stop !)) (look ! 22 refl)) (no-more !)))))) (λ u.
+          (and-then ! (load ! (from ! (stop !)) (look ! 22 refl)) (no-more !))))))) (λ u.
           use1 W (later (some (λ (o : SheetAnswer × (List ℕ × List ℕ)). given (CodesRead (now file) m n (o .0) (o .1 .0) (o .1 .1))
-          (Gets l₄ l₅ α β γ δ w u o)))) (codes-gives l₄ l₅ α β γ δ w u) $ await ! tt $ pick ! (λ o. learn ! (λ e.
+          (Gets l₄ l₅ α β γ δ w z u o)))) (codes-gives l₄ l₅ α β γ δ w z u) $ await ! tt $ pick ! (λ o. learn ! (λ e.
           split ! $ move ! (1 ∷ []) $ split ! $ move ! (1 ∷ []) $ split ! $ move ! (1 ∷ []) $ split ! $ move ! (1 ∷ []) $
           split ! $ move ! (5 ∷ []) $
           peeks ! S.the-row (Is S.the-row) (shows 𝓤 H A S.the-row) (o .0) (u ∷ []) (λ sheet-is.
@@ -386,9 +426,9 @@ module _ {M : Type 1} (𝓤 : URA M) (H : Heap 𝓤) (A : Atoms 𝓤) (W : Given
           let low : u ≡ S′.lowered (o .0) = ap only (S′.lowers .val-is (o .0) (u ∷ []) sheet-is) in
           let ok = deliverable (now file) (now x) (now y) (o .0) (o .1 .0) (o .1 .1) e in
           -- [the sheet; latches' last; gates' last; β's token; α's; the file's; β's loan; α's loan; file; the latches' token; the
-          -- gates'; latches; gates; _19; …]
-          land ! (from ! (stop !)) (init ! 39 refl typed) $
-          rewrite ! 39 (λ (v : Val). ‵ (fat fullShare sheetTy l₆ 0 v)) low refl $
+          -- gates'; latches; gates; _20; …]
+          land ! (from ! (stop !)) (init ! 41 refl typed) $
+          rewrite ! 41 (λ (v : Val). ‵ (fat fullShare sheetTy l₆ 0 v)) low refl $
           rewrite ! 0 (λ (v : Val). ‵ (S.the-row .own (o .0) (v ∷ []))) low refl $
           move ! (4 ∷ []) $ lft-end ! tt $ move ! (0 ∷ 7 ∷ 2 ∷ []) $
           use3 W (later (‵ (partAt Codes fullShare (o .1 .0) l₄ 0))) (ref-back 𝓤 H A W Codes (α ∷ []) γ (o .1 .0) l₄ 0) $
@@ -396,13 +436,13 @@ module _ {M : Type 1} (𝓤 : URA M) (H : Heap 𝓤) (A : Atoms 𝓤) (W : Given
           move ! (3 ∷ []) $ lft-end ! tt $ move ! (0 ∷ 5 ∷ 3 ∷ []) $
           use3 W (later (‵ (partAt Codes fullShare (o .1 .1) l₅ 0))) (ref-back 𝓤 H A W Codes (β ∷ []) δ (o .1 .1) l₅ 0) $
           await ! tt $
-          -- [_5; _4; the sheet; the file's token; file; the latches' token; the gates'; latches; gates; _19; …]: the latches are
+          -- [_5; _4; the sheet; the file's token; file; the latches' token; the gates'; latches; gates; _20; …]: the latches are
           -- delivered
           assigns ! (addr ! (from ! (stop !))) (from ! (stop !)) (init ! 19 refl (tt, tt)) $
-          assigns ! (addr ! (from ! (fld ! refl (hop ! (look-in ! 41 (sub ! 0 refl (whole !))) (stop !))))) (from ! (stop !))
+          assigns ! (addr ! (from ! (fld ! refl (hop ! (look-in ! 43 (sub ! 0 refl (whole !))) (stop !))))) (from ! (stop !))
           (init ! 17 refl (tt, tt)) $
           assigns ! (agg ! (and-then ! (load ! (from ! (stop !)) (look ! 17 refl))
-          (and-then ! (load ! (from ! (fld ! refl (stop !))) (look-in ! 41 (sub ! 1 refl (whole !)))) (no-more !))))
+          (and-then ! (load ! (from ! (fld ! refl (stop !))) (look-in ! 43 (sub ! 1 refl (whole !)))) (no-more !))))
           (from ! (stop !)) (init ! 15 refl (tt, (tt, (record { fits = latch-room .0 }, tt)))) $
           lft-new ! tt (λ α′. move ! (2 ∷ []) $
           use1 W (later (some (λ (γ′ : GName). ‵ (ShrRef (named 0) (α′ ∷ []) Codes .own
@@ -420,7 +460,7 @@ module _ {M : Type 1} (𝓤 : URA M) (H : Heap 𝓤) (A : Atoms 𝓤) (W : Given
           (record { ptr = (l₄, 0); name = γ′; now = o .1 .0 }) (o .0 .net .latches) x)
           (and-then ! (load ! (from ! (stop !)) (look ! 18 refl))
           (and-then ! (load ! (from ! (fld ! refl (fld ! refl (stop !))))
-          (look-in ! 34 (sub ! 1 refl (sub ! 1 refl (whole !)))))
+          (look-in ! 36 (sub ! 1 refl (sub ! 1 refl (whole !)))))
           (and-then ! (load ! (from ! (stop !)) (look ! 14 refl)) (no-more !)))) (λ v.
           use1 W (later (given (v ≡ vunit) (‵ (flft (α′ ∷ []) fullShare) ⊛ ‵ (flft (κs .1 .0) (qs .1 .0))
           ⊛ ‵ (finally La.the-row (x .name) (newLatches (o .0) (o .1 .0))))))
@@ -429,13 +469,13 @@ module _ {M : Type 1} (𝓤 : URA M) (H : Heap 𝓤) (A : Atoms 𝓤) (W : Given
           land ! (from ! (stop !)) (init ! 22 refl (subst (λ (z : Val). Holds (hasTy tyUnit z) × WT z) (sym v-is) (tt, tt))) $
           forget ! 22 refl $
           move ! (2 ∷ []) $ lft-end ! tt $ move ! (0 ∷ 3 ∷ []) $ lent-back ! tt $
-          -- [_4; the latches' token; latches' last; _5; the sheet; the file's token; file; the gates' token; gates; _19; …]: and
+          -- [_4; the latches' token; latches' last; _5; the sheet; the file's token; file; the gates' token; gates; _20; …]: and
           -- the gates
           assigns ! (addr ! (from ! (stop !))) (from ! (stop !)) (init ! 13 refl (tt, tt)) $
-          assigns ! (addr ! (from ! (fld ! refl (hop ! (look-in ! 39 (sub ! 0 refl (whole !))) (stop !))))) (from ! (stop !))
+          assigns ! (addr ! (from ! (fld ! refl (hop ! (look-in ! 41 (sub ! 0 refl (whole !))) (stop !))))) (from ! (stop !))
           (init ! 11 refl (tt, tt)) $
           assigns ! (agg ! (and-then ! (load ! (from ! (stop !)) (look ! 11 refl))
-          (and-then ! (load ! (from ! (fld ! refl (stop !))) (look-in ! 39 (sub ! 1 refl (whole !)))) (no-more !))))
+          (and-then ! (load ! (from ! (fld ! refl (stop !))) (look-in ! 41 (sub ! 1 refl (whole !)))) (no-more !))))
           (from ! (stop !)) (init ! 9 refl (tt, (tt, (record { fits = gate-room .0 }, tt)))) $
           lft-new ! tt (λ β′. move ! (4 ∷ []) $
           use1 W (later (some (λ (δ′ : GName). ‵ (ShrRef (named 0) (β′ ∷ []) Codes .own
@@ -454,7 +494,7 @@ module _ {M : Type 1} (𝓤 : URA M) (H : Heap 𝓤) (A : Atoms 𝓤) (W : Given
           (record { ptr = (l₅, 0); name = δ′; now = o .1 .1 }) (o .0 .net .gates) y)
           (and-then ! (load ! (from ! (stop !)) (look ! 12 refl))
           (and-then ! (load ! (from ! (fld ! refl (fld ! refl (stop !))))
-          (look-in ! 34 (sub ! 2 refl (sub ! 1 refl (whole !)))))
+          (look-in ! 36 (sub ! 2 refl (sub ! 1 refl (whole !)))))
           (and-then ! (load ! (from ! (stop !)) (look ! 8 refl)) (no-more !)))) (λ v′.
           use1 W (later (given (v′ ≡ vunit) (‵ (flft (β′ ∷ []) fullShare) ⊛ ‵ (flft (κs .1 .1 .0) (qs .1 .1 .0))
           ⊛ ‵ (finally Ga.the-row (y .name) (newGates (o .0) (o .1 .1))))))
@@ -463,32 +503,33 @@ module _ {M : Type 1} (𝓤 : URA M) (H : Heap 𝓤) (A : Atoms 𝓤) (W : Given
           learn ! (λ v′-is. split ! $ move ! (1 ∷ []) $ split ! $
           land ! (from ! (stop !)) (init ! 22 refl (subst (λ (z : Val). Holds (hasTy tyUnit z) × WT z) (sym v′-is) (tt, tt))) $
           move ! (2 ∷ []) $ lft-end ! tt $ move ! (0 ∷ 3 ∷ []) $ lent-back ! tt $
-          -- [_5; the gates' token; gates' last; _4; the latches' token; latches' last; the sheet; the file's token; file; _19; …]
-          assigns ! (of-opd ! (load ! (from ! (stop !)) (look ! 35 refl))) (from ! (stop !))
-          (init ! 45 refl (subst (λ (z : Val). Holds (hasTy sheetTy z) × WT z) low typed)) $
-          returns ! (look ! 45 refl) $
+          -- [_5; the gates' token; gates' last; _4; the latches' token; latches' last; the sheet; the file's token; file; _20; …]
+          assigns ! (of-opd ! (load ! (from ! (stop !)) (look ! 37 refl))) (from ! (stop !))
+          (init ! 47 refl (subst (λ (z : Val). Holds (hasTy sheetTy z) × WT z) low typed)) $
+          returns ! (look ! 47 refl) $
           use1 W (some (λ (z : Val). ‵ (fat fullShare codesTy l₅ 0 z))) (freed 𝓤 H A W (o .1 .1) l₅) $
           pick ! (λ z₅. forget ! 0 refl $ move ! (3 ∷ []) $
           use1 W (some (λ (z : Val). ‵ (fat fullShare codesTy l₄ 0 z))) (freed 𝓤 H A W (o .1 .0) l₄) $
           pick ! (λ z₄. forget ! 0 refl $
-          -- [_4; _5; the gates' token; gates' last; the latches' token; latches' last; the sheet; the file's token; file; _19; …]
+          -- [_4; _5; the gates' token; gates' last; the latches' token; latches' last; the sheet; the file's token; file; _20; …]
           forget ! 9 refl $ forget ! 11 refl $ forget ! 13 refl $ forget ! 15 refl $ forget ! 17 refl $ forget ! 19 refl $
           forget ! 21 refl $ forget ! 23 refl $ forget ! 25 refl $ forget ! 27 refl $ forget ! 29 refl $ forget ! 31 refl $
-          forget ! 35 refl $ forget ! 39 refl $ forget ! 41 refl $ forget ! 43 refl $ forget ! 45 refl $
-          move ! (45 ∷ 46 ∷ []) $ free1 ! $ move ! (43 ∷ 44 ∷ []) $ free1 ! $ move ! (41 ∷ 42 ∷ []) $ free1 ! $
-          move ! (39 ∷ 40 ∷ []) $ free1 ! $ move ! (0 ∷ 38 ∷ []) $ free1 ! $ move ! (0 ∷ 36 ∷ []) $ free1 ! $
-          move ! (33 ∷ 34 ∷ []) $ free1 ! $ move ! (31 ∷ 32 ∷ []) $ free1 ! $ move ! (29 ∷ 30 ∷ []) $ free1 ! $
+          forget ! 33 refl $ forget ! 37 refl $ forget ! 41 refl $ forget ! 43 refl $ forget ! 45 refl $ forget ! 47 refl $
+          move ! (47 ∷ 48 ∷ []) $ free1 ! $ move ! (45 ∷ 46 ∷ []) $ free1 ! $ move ! (43 ∷ 44 ∷ []) $ free1 ! $
+          move ! (41 ∷ 42 ∷ []) $ free1 ! $ move ! (0 ∷ 40 ∷ []) $ free1 ! $ move ! (0 ∷ 38 ∷ []) $ free1 ! $
+          move ! (35 ∷ 36 ∷ []) $ free1 ! $ move ! (33 ∷ 34 ∷ []) $ free1 ! $ move ! (31 ∷ 32 ∷ []) $ free1 ! $ move ! (29 ∷ 30 ∷ []) $ free1 ! $
           move ! (27 ∷ 28 ∷ []) $ free1 ! $ move ! (25 ∷ 26 ∷ []) $ free1 ! $ move ! (23 ∷ 24 ∷ []) $ free1 ! $
           move ! (21 ∷ 22 ∷ []) $ free1 ! $
           move ! (19 ∷ 20 ∷ []) $ free1 ! $ move ! (17 ∷ 18 ∷ []) $ free1 ! $ move ! (15 ∷ 16 ∷ []) $ free1 ! $
           move ! (13 ∷ 14 ∷ []) $ free1 ! $ move ! (11 ∷ 12 ∷ []) $ free1 ! $ move ! (9 ∷ 10 ∷ []) $ free1 ! $
           move ! (7 ∷ 8 ∷ []) $ free1 ! $ free0 ! $
           move ! (4 ∷ 5 ∷ 2 ∷ 0 ∷ 6 ∷ 3 ∷ 1 ∷ []) $
-          by ! (exits (o .0) (o .1 .0) (o .1 .1) e)))))))))))))))))))))))))))))))))))))))))))))
+          by ! (exits (o .0) (o .1 .0) (o .1 .1) e))))))))))))))))))))))))))))))))))))))))))))))))
 
 module _ {M : Type 1} (𝓤 : URA M) (H : Heap 𝓤) (A : Atoms 𝓤) (W : Given 𝓤 H A) (mem : Memory → SProp 𝓤) (run : Routine → Fun 𝓤)
     (𝓣 : Tables 𝓤 H)
-    (known-none : Triple 𝓤 (𝓣 .C #no-codes) (None 𝓤 H A mem run)) (known-start : Triple 𝓤 (𝓣 .C #at-start) (Start 𝓤 H A mem run))
+    (known-none : Triple 𝓤 (𝓣 .C #no-codes) (None 𝓤 H A mem run))
+    (known-empty : Triple 𝓤 (𝓣 .C #empty-net) (Empty 𝓤 H A mem run)) (known-start : Triple 𝓤 (𝓣 .C #at-start) (Start 𝓤 H A mem run))
     (known-codes : Triple 𝓤 (𝓣 .C #read-codes) (ReadCodes 𝓤 H A mem run))
     (known-latches : Triple 𝓤 (𝓣 .C #deliver-latches) (DeliverLatches 𝓤 H A mem run))
     (known-gates : Triple 𝓤 (𝓣 .C #deliver-gates) (DeliverGates 𝓤 H A mem run)) where
@@ -502,7 +543,7 @@ module _ {M : Type 1} (𝓤 : URA M) (H : Heap 𝓤) (A : Atoms 𝓤) (W : Given
       ))
       (λ κs qs bounds a g are. via 𝓤 _ (fst∗ 𝓤 _ (emp 𝓤))
       (walk 𝓤 H A W mem run κs qs (a .0) (a .1 .0) (a .1 .1 .0) (𝓣 .C) (𝓣 .Λ)
-      (fmOf 𝓤 H (W .laws) 𝓣) known-none known-start known-codes known-latches known-gates (are .0) (are .1 .0 .0 .1)
+      (fmOf 𝓤 H (W .laws) 𝓣) known-none known-empty known-start known-codes known-latches known-gates (are .0) (are .1 .0 .0 .1)
       (are .1 .1 .0 .0 .1)))
 
   reads-meets : Meets 𝓤 H A read.signature (WpFn 𝓤 H (𝓣 .C) (𝓣 .Λ) code.function) (read.spec 𝓤 H A mem run)
@@ -524,6 +565,8 @@ read-spec 𝓤 H 𝓜 𝓖 𝓡 =
     (reads-meets 𝓤 H (𝓖 .A) (givenOf 𝓤 H 𝓜 𝓖) (𝓜 .mem) (𝓡 .run) (tablesOf 𝓤 H 𝓜 (tables 𝓤 H 𝓜 𝓡 code.env))
     (cited 𝓤 H (None 𝓤 H (𝓖 .A) (𝓜 .mem) (𝓡 .run)) 𝓜 𝓡 code.env #no-codes none-def.routine code.calls-sheet·no-codes
     (none-thm.met 𝓤 H 𝓜 𝓖 𝓡))
+    (cited 𝓤 H (Empty 𝓤 H (𝓖 .A) (𝓜 .mem) (𝓡 .run)) 𝓜 𝓡 code.env #empty-net empty-def.routine code.calls-steps·empty-net
+    (empty-thm.met 𝓤 H 𝓜 𝓖 𝓡))
     (cited 𝓤 H (Start 𝓤 H (𝓖 .A) (𝓜 .mem) (𝓡 .run)) 𝓜 𝓡 code.env #at-start start-def.routine code.calls-reader·at-start
     (start-thm.met 𝓤 H 𝓜 𝓖 𝓡))
     (cited 𝓤 H (ReadCodes 𝓤 H (𝓖 .A) (𝓜 .mem) (𝓡 .run)) 𝓜 𝓡 code.env #read-codes codes-def.routine

@@ -16,8 +16,8 @@ passed : (c : tie.After-enum-told) → fileVerdict (c .before .before .before .b
 passed c = sym (c .before .before .test-file .ensures .verdict-is) ∙ c .enum-told .given .1
 
 -- the record and the lists hold its netlist
-held : (c : tie.After-enum-told) → Holds (c .before .before .test-file .result .net) (c .before .before .test-file .last .1 .1 .0)
-    (c .before .before .test-file .last .1 .1 .1 .0) (netIn (c .before .before .before .before .before .before .args .file .now))
+held : (c : tie.After-enum-told) → Holds (c .before .before .test-file .result .net) (c .before .before .test-file .last .1 .1 .1 .0)
+    (c .before .before .test-file .last .1 .1 .1 .1 .0) (netIn (c .before .before .before .before .before .before .args .file .now))
 held c = c .before .before .test-file .ensures .holds (passed c)
 
 -- whether a list has too little room, by the record
@@ -29,7 +29,7 @@ short-held : (c : tie.After-enum-told) → (ltb (c .before .before .before .befo
     (c .before .before .before .before .before .before .args .gate-room)
 short-held c =
     let file = c .before .before .test-file in
-    let sizes = sizes-held (file .result .net) (file .last .1 .1 .0) (file .last .1 .1 .1 .0) (held c) in
+    let sizes = sizes-held (file .result .net) (file .last .1 .1 .1 .0) (file .last .1 .1 .1 .1 .0) (held c) in
     rw (sizes .0, sizes .1)
 
 test-file-requires : tie.Need-test-file-requires
@@ -75,7 +75,7 @@ returns-3 c =
     let a = c .before .before .before .before .before .before .before .before .before .before .args in
     let told = c .before .before .before .before in
     let file = told .before .before .test-file in
-    codes-passed (a .file .now) (a .latch-room) (a .gate-room) (file .result .net) (file .last .1 .1 .0) (file .last .1 .1 .1 .0)
+    codes-passed (a .file .now) (a .latch-room) (a .gate-room) (file .result .net) (file .last .1 .1 .1 .0) (file .last .1 .1 .1 .1 .0)
     (held told) (passed told) (sym (short-held told) ∙ c .if1 .left)
 
 pub read-codes-spec : {M : Type 1} → statement M

@@ -21,15 +21,15 @@ even : (c : tie.Else1) → ragged (c .before .before .before .args .file .now) �
 even c = sym (c .before .is-ragged .ensures) ∙ c .if1 .left
 
 -- all its lines have passed
-passed-lines : (c : tie.After-enum-told) → inOrder (testLineIn (netIn (c .before .before .before .before .before .before .before .before .before .args .file .now)) (c .before .before .before .before .before .before .before .before .before .args .file .now)) (lineCount (c .before .before .before .before .before .before .before .before .before .args .file .now)) ≡ Passed
+passed-lines : (c : tie.After-enum-told) → inOrder (testLineIn (netIn (c .before .before .before .before .before .before .before .before .args .file .now)) (c .before .before .before .before .before .before .before .before .args .file .now)) (lineCount (c .before .before .before .before .before .before .before .before .args .file .now)) ≡ Passed
 passed-lines c = sym (c .before .before .read-lines .ensures .verdict-is) ∙ c .enum-told .given .1
 
 -- the tests behind the last line are those in the file's netlist
-ended : (c : tie.After-test-end) → c .test-end .result ≡ endVerdict (netIn (c .before .before .before .before .before .before .before .before .before .before .before .before .args .file .now)) (lineCount (c .before .before .before .before .before .before .before .before .before .before .before .before .args .file .now))
+ended : (c : tie.After-test-end) → c .test-end .result ≡ endVerdict (netIn (c .before .before .before .before .before .before .before .before .before .before .before .args .file .now)) (lineCount (c .before .before .before .before .before .before .before .before .before .before .before .args .file .now))
 ended c =
     let read = c .before .before .before .before .before .read-lines in
     c .test-end .ensures
-    ∙ end-latches (read .result .net) (read .last .1 .1 .1 .0) (read .last .1 .1 .1 .1 .0) (lineCount (c .before .before .before .before .before .before .before .before .before .before .before .before .args .file .now))
+    ∙ end-latches (read .result .net) (read .last .1 .1 .1 .0) (read .last .1 .1 .1 .1 .0) (lineCount (c .before .before .before .before .before .before .before .before .before .before .before .args .file .now))
     ∙ rw (read .ensures .holds (passed-lines (c .before .before .before)) .net-is)
 
 is-ragged-requires : tie.Need-is-ragged-requires
@@ -44,13 +44,10 @@ returns c =
     rw (c .refused .ensures, file-ragged file (sym (c .before .before .is-ragged .ensures) ∙ c .before .if1 .taken))
     (outcome-refused Ragged 0 _ _ (netIn file))
 
-empty-net-requires : tie.Need-empty-net-requires
-empty-net-requires c κs = search needs
-
 read-lines-requires : tie.Need-read-lines-requires
 read-lines-requires c κs =
-    let start = c .before .before .before .before .before .before in
-    (sym (c .before .before .before .before .is-ragged .ensures) ∙ c .before .before .before .if1 .left, start .pre .0, rw (c .before .before .empty-net .ensures) (start .pre .1))
+    let start = c .before .before .before .before .before in
+    (sym (c .before .before .before .is-ragged .ensures) ∙ c .before .before .if1 .left, start .pre .0, start .pre .1)
 
 enum-known-read : tie.Need-enum-known-read
 enum-known-read c = search needs
@@ -60,24 +57,24 @@ refused-requires-2 c κs = search needs
 
 returns-2 : tie.Need-returns-2
 returns-2 c =
-    let file = c .before .before .before .before .before .before .before .before .before .before .before .args .file .now in
+    let file = c .before .before .before .before .before .before .before .before .before .before .args .file .now in
     let read = c .before .before .read .given in
-    rw (c .refused2 .ensures, file-refused file (even (c .before .before .before .before .before .before .before .before)) (sym (c .before .before .before .before .read-lines .ensures .verdict-is) ∙ read .1))
+    rw (c .refused2 .ensures, file-refused file (even (c .before .before .before .before .before .before .before)) (sym (c .before .before .before .before .read-lines .ensures .verdict-is) ∙ read .1))
     (outcome-refused (read .0 .0) (read .0 .1 .0) _ _ (netIn file))
 
 enum-told : tie.Need-enum-told
 enum-told c = search needs
 
 cast-count : tie.Need-cast-count
-cast-count c = record { fits = omega (arith, whole-lines (c .before .before .before .before .before .before .before .before .before .before .args .file .now) (even (c .before .before .before .before .before .before .before)) .most) }
+cast-count c = record { fits = omega (arith, whole-lines (c .before .before .before .before .before .before .before .before .before .args .file .now) (even (c .before .before .before .before .before .before)) .most) }
 
 test-end-requires : tie.Need-test-end-requires
 test-end-requires c κs =
-    let start = c .before .before .before .before .before .before .before .before .before .before .before in
+    let start = c .before .before .before .before .before .before .before .before .before .before in
     let file = start .args .file .now in
     let read = c .before .before .before .before .read-lines in
     let passed = passed-lines (c .before .before) in
-    (omega (arith, whole-lines file (even (c .before .before .before .before .before .before .before .before)) .most), lines-passed file (read .result .net) (read .last .1 .1 .1 .0) (read .last .1 .1 .1 .1 .0) passed (read .ensures .holds passed .net-is))
+    (omega (arith, whole-lines file (even (c .before .before .before .before .before .before .before)) .most), lines-passed file (read .result .net) (read .last .1 .1 .1 .0) (read .last .1 .1 .1 .1 .0) passed (read .ensures .holds passed .net-is))
 
 enum-known-refusal : tie.Need-enum-known-refusal
 enum-known-refusal c = search needs
@@ -87,9 +84,9 @@ refused-requires-3 c κs = search needs
 
 returns-3 : tie.Need-returns-3
 returns-3 c =
-    let file = c .before .before .before .before .before .before .before .before .before .before .before .before .before .before .before .before .args .file .now in
+    let file = c .before .before .before .before .before .before .before .before .before .before .before .before .before .before .before .args .file .now in
     let refusal = c .before .before .refusal .given in
-    rw (c .refused3 .ensures, file-lines file (even (c .before .before .before .before .before .before .before .before .before .before .before .before .before)) (passed-lines (c .before .before .before .before .before .before .before)) ∙ sym (ended (c .before .before .before .before)) ∙ refusal .1)
+    rw (c .refused3 .ensures, file-lines file (even (c .before .before .before .before .before .before .before .before .before .before .before .before)) (passed-lines (c .before .before .before .before .before .before .before)) ∙ sym (ended (c .before .before .before .before)) ∙ refusal .1)
     (outcome-refused (refusal .0 .0) (refusal .0 .1 .0) _ _ (netIn file))
 
 enum-told-2 : tie.Need-enum-told-2
@@ -97,9 +94,9 @@ enum-told-2 c = search needs
 
 returns-4 : tie.Need-returns-4
 returns-4 c =
-    let file = c .before .before .before .before .before .before .before .before .before .before .before .before .before .before .args .file .now in
+    let file = c .before .before .before .before .before .before .before .before .before .before .before .before .before .args .file .now in
     record {
-      verdict-is = sym (file-lines file (even (c .before .before .before .before .before .before .before .before .before .before .before)) (passed-lines (c .before .before .before .before .before)) ∙ sym (ended (c .before .before)) ∙ c .enum-told2 .given .1);
+      verdict-is = sym (file-lines file (even (c .before .before .before .before .before .before .before .before .before .before)) (passed-lines (c .before .before .before .before .before)) ∙ sym (ended (c .before .before)) ∙ c .enum-told2 .given .1);
       holds = λ e. c .before .before .before .before .before .before .before .read-lines .ensures .holds (passed-lines (c .before .before .before .before .before));
     }
 
@@ -110,7 +107,6 @@ test-file-spec =
     is-ragged-requires
     refused-requires
     returns
-    empty-net-requires
     read-lines-requires
     enum-known-read
     refused-requires-2

@@ -29,7 +29,7 @@ use denote.Array.{Array}
 use denote.Ref.{RefT, MutRef, now, ptr-vals, mut-tells}
 use denote.Signature.{Slot, plain, namedLft}
 use denote.Slice.{ShrSlice, slice-vals}
-use denote.Steps.{owned, peeks, heard}
+use denote.Steps.{owned, peeks, heard, nothing}
 use denote.Struct.Declared.{Declared}
 use denote.Struct.Laws as LL
 use denote.Struct.Rest.{all-own, own-open}
@@ -39,10 +39,12 @@ use denote.Triple.Call.{calls-at}
 use denote.Triple.Entry.{Args, Vals, onEntry}
 use denote.Triple.Spec.{Meets, tripleOf}
 use denote.Triple.Table.{entered, cited}
-use denote.Triple.Walked.{says, needs, Stays, stay-none, gave-ref, walkOf, goes-none, goes-gave-ref, Walks, ends-at, walked, walk-meets}
+use denote.Triple.Walked.{says, needs, Stays, stay-none, stay-dropped, gave-ref, walkOf, goes-none, goes-dropped, goes-gave-ref, Walks, ends-at, walked, walk-meets}
 use denote.Exit.{yes}
 use denote.Triple.Clauses.{Lasts, ensured, lasts}
-use Rattle.netlist.specs.RecordOf.{recordOf, noNetlist}
+use Rattle.netlist.specs.declared.Netlist.{Netlist}
+use Rattle.netlist.proofs.Netlist as N
+use Rattle.netlist.proofs.Netlist.Laws as N′
 use Rattle.steps.specs.declared.SheetAnswer.{SheetAnswer}
 use Rattle.steps.proofs.SheetAnswer as S
 use Rattle.steps.proofs.SheetAnswer.Laws as S′
@@ -72,8 +74,11 @@ abbrev stayed : Stays (reads.ended .signature .params) (reads.ended .kept)
 stayed = (
   stay-none B yes,
   (
-    stay-none (λ _. usize) yes,
-    (stay-none (λ _. usize) yes, (gave-ref (1 ∷ []) tt list, (gave-ref (2 ∷ []) tt list, tt))),
+    stay-dropped _ yes,
+    (
+      stay-none (λ _. usize) yes,
+      (stay-none (λ _. usize) yes, (gave-ref (1 ∷ []) tt list, (gave-ref (2 ∷ []) tt list, tt))),
+    ),
   ),
 )
 
@@ -84,16 +89,19 @@ module _ {M : Type 1} (𝓤 : URA M) (H : Heap 𝓤) (A : Atoms 𝓤) (mem : Mem
 
 module _ {M : Type 1} (𝓤 : URA M) (H : Heap 𝓤) (A : Atoms 𝓤) (W : Given 𝓤 H A) (mem : Memory → SProp 𝓤) (run : Routine → Fun 𝓤)
     (κs : Lfts 3) (qs : Shares 3)
-    (r : SheetReader) (m n : ℕ) (m-fits : m < 2 ^ 64) (n-fits : n < 2 ^ 64) (x y : RefT (List ℕ))
-    (ok : (r .line ≤ lineCount (now (r .file))) × ReadTo (now (r .file)) (r .line) (recordOf noNetlist) (now x) (now y)) where
+    (r : SheetReader) (net : Netlist) (m n : ℕ) (m-fits : m < 2 ^ 64) (n-fits : n < 2 ^ 64) (x y : RefT (List ℕ))
+    (ok : (r .line ≤ lineCount (now (r .file))) × ReadTo (now (r .file)) (r .line) net (now x) (now y)) where
   abbrev mach : Val
   mach = T′.lowered r
 
+  abbrev v : Val
+  v = LL.val N.the-type N′.the-laws net
+
   abbrev a : Args reads.signature κs
-  a = (r, (m, (n, (x, (y, tt)))))
+  a = (r, (net, (m, (n, (x, (y, tt))))))
 
   abbrev at : Vals reads.signature κs
-  at = (mach ∷ [], (vint w64 m ∷ [], (vint w64 n ∷ [], (ptr-vals x, (ptr-vals y, tt)))))
+  at = (mach ∷ [], (v ∷ [], (vint w64 m ∷ [], (vint w64 n ∷ [], (ptr-vals x, (ptr-vals y, tt))))))
 
   abbrev bound : walkOf 𝓤 H A reads.ended stayed (reads.clauses 𝓤 H A mem run) .Ghost
   bound = ((κs, qs, tt, a, at), tt)
@@ -118,10 +126,13 @@ module _ {M : Type 1} (𝓤 : URA M) (H : Heap 𝓤) (A : Atoms 𝓤) (W : Given
 
   -- the call: what it is passed and what it asks
   abbrev b : Args codes.signature κs
-  b = (r .file, (r .line, (m, (n, (x, (y, tt))))))
+  b = (r .file, (r .line, (net, (m, (n, (x, (y, tt)))))))
 
   abbrev passed : Vals codes.signature κs
-  passed = (slice-vals (r .file), (vint w32 (r .line) ∷ [], (vint w64 m ∷ [], (vint w64 n ∷ [], (ptr-vals x, (ptr-vals y, tt))))))
+  passed = (
+    slice-vals (r .file),
+    (vint w32 (r .line) ∷ [], (v ∷ [], (vint w64 m ∷ [], (vint w64 n ∷ [], (ptr-vals x, (ptr-vals y, tt)))))),
+  )
 
   abbrev to : Codes 𝓤 H A mem run .Ghost
   to = ((κs, qs, tt, b, passed), tt)
@@ -131,12 +142,12 @@ module _ {M : Type 1} (𝓤 : URA M) (H : Heap 𝓤) (A : Atoms 𝓤) (W : Given
 
   asked : ent 𝓤 (onEntry 𝓤 H A codes.signature κs qs b passed) (Codes 𝓤 H A mem run .pre to)
   asked =
-      qed W (Tokens ∷ ‵ (owns (ShrSlice (named 0) (κs .0) u8 ∷ u32 ∷ usize ∷ usize ∷ MutRef (named 1) (κs .1 .0) Array′
+      qed W (Tokens ∷ ‵ (owns (ShrSlice (named 0) (κs .0) u8 ∷ u32 ∷ N.the-row ∷ usize ∷ usize ∷ MutRef (named 1) (κs .1 .0) Array′
       ∷ MutRef (named 2) (κs .1 .1 .0) Array′ ∷ []) b passed) ∷ []) ∵ says ! ok $ done !
 
   apart : ent 𝓤 (onEntry 𝓤 H A reads.signature κs qs a at) (sep 𝓤 (Codes 𝓤 H A mem run .pre to) (sem 𝓤 H A Own))
   apart =
-      qed W (Tokens ∷ ‵ (owns (B κs ∷ usize ∷ usize ∷ MutRef (named 1) (κs .1 .0) Array′ ∷ MutRef (named 2) (κs .1 .1 .0) Array′
+      qed W (Tokens ∷ ‵ (owns (B κs ∷ N.the-row ∷ usize ∷ usize ∷ MutRef (named 1) (κs .1 .0) Array′ ∷ MutRef (named 2) (κs .1 .1 .0) Array′
       ∷ []) a at) ∷ []) ∵
       move ! (1 ∷ []) $ fsplit ! $
       use1 W (‵ Own ⊛ ‵ Own) (LL.copy D (T′.the-copy (namedLft 3 0 tt κs)) 𝓤 H A W .twice r (mach ∷ [])) $ split ! $
@@ -147,67 +158,69 @@ module _ {M : Type 1} (𝓤 : URA M) (H : Heap 𝓤) (A : Atoms 𝓤) (W : Given
       move ! (1 ∷ []) $ drop ! $ frame ! $ done !)
 
   exits : (sheet : SheetAnswer) (u : Val) (zs : Lasts codes.ended κs b)
-      → CodesRead (now (r .file)) m n sheet (zs .1 .1 .1 .1 .0) (zs .1 .1 .1 .1 .1 .0)
+      → CodesRead (now (r .file)) m n sheet (zs .1 .1 .1 .1 .1 .0) (zs .1 .1 .1 .1 .1 .1 .0)
       → ent 𝓤 (⋆ 𝓤 H A (‵ (lasts codes.ended κs b zs) ∷ ‵ (S.the-row .own sheet (u ∷ [])) ∷ Tokens ∷ ‵ Own ∷ [])) (Post u)
   exits sheet u zs e =
       qed W (‵ (lasts codes.ended κs b zs) ∷ ‵ (S.the-row .own sheet (u ∷ [])) ∷ Tokens ∷ ‵ Own ∷ []) ∵
       suffices ! _ (ends-at 𝓤 H A reads.ended stayed (reads.clauses 𝓤 H A mem run) W bound u sheet
-      (tt, (tt, (tt, (zs .1 .1 .1 .1 .0, (zs .1 .1 .1 .1 .1 .0, tt))))) (tt, (tt, (tt, (tt, (tt, tt)))))) $ says ! e $
-      move ! (2 ∷ []) $ frame ! $ fsplit ! $ drop ! $ fsplit ! $ drop ! $ fsplit ! $ drop ! $ fsplit ! $ drop ! $
+      (tt, (tt, (tt, (tt, (zs .1 .1 .1 .1 .1 .0, (zs .1 .1 .1 .1 .1 .1 .0, tt)))))) (tt, (tt, (tt, (tt, (tt, (tt, tt))))))) $ says ! e $
+      move ! (2 ∷ []) $ frame ! $ fsplit ! $ drop ! $ fsplit ! $ drop ! $ fsplit ! $ drop ! $ fsplit ! $ drop ! $ fsplit ! $ drop ! $
       owned ! usize (Is usize) (uint-makes 𝓤 H A W w64) n _ (refl, n-fits) $ fjoin ! $
-      owned ! usize (Is usize) (uint-makes 𝓤 H A W w64) m _ (refl, m-fits) $ fjoin ! $ move ! (2 ∷ 0 ∷ []) $ fjoin ! $ frame ! $
-      done !
+      owned ! usize (Is usize) (uint-makes 𝓤 H A W w64) m _ (refl, m-fits) $ fjoin ! $ nothing ! $ fjoin ! $
+      move ! (2 ∷ 0 ∷ []) $ fjoin ! $ frame ! $ done !
 
   module _ (C : Calls 𝓤 H) (Λ : Loops 𝓤 H) (fm : FmC 𝓤 H (W .laws) C)
       (known : Triple 𝓤 (C #sheet-codes) (Codes 𝓤 H A mem run)) where
-    walk : Holds (hasTy (T′.mir (named 0)) mach) × WT mach
+    walk : Holds (hasTy (T′.mir (named 0)) mach) × WT mach → Is N.the-row net (v ∷ [])
         → ent 𝓤 (onEntry 𝓤 H A reads.signature κs qs a at)
-        (WpFn 𝓤 H C Λ code.function (mach ∷ vint w64 m ∷ vint w64 n ∷ vptr (x .ptr .0) (x .ptr .1)
+        (WpFn 𝓤 H C Λ code.function (mach ∷ v ∷ vint w64 m ∷ vint w64 n ∷ vptr (x .ptr .0) (x .ptr .1)
         ∷ vptr (y .ptr .0) (y .ptr .1) ∷ []) Post)
-    walk wt =
+    walk wt is-net =
         qed W (raw (onEntry 𝓤 H A reads.signature κs qs a at) ∷ []) ∵ enter ! C Λ code.function
-        (mach ∷ vint w64 m ∷ vint w64 n ∷ vptr (x .ptr .0) (x .ptr .1) ∷ vptr (y .ptr .0) (y .ptr .1) ∷ []) _ $
+        (mach ∷ v ∷ vint w64 m ∷ vint w64 n ∷ vptr (x .ptr .0) (x .ptr .1) ∷ vptr (y .ptr .0) (y .ptr .1) ∷ []) _ $
         alloc1 ! (λ l₀. alloc1 ! (λ l₁. alloc1 ! (λ l₂. alloc1 !
-        (λ l₃. alloc1 ! (λ l₄. alloc1 ! (λ l₅. alloc1 ! (λ l₆. alloc1 ! (λ l₇. alloc1 ! (λ l₈. alloc1 ! (λ l₉. alloc0 ! $
+        (λ l₃. alloc1 ! (λ l₄. alloc1 ! (λ l₅. alloc1 ! (λ l₆. alloc1 ! (λ l₇. alloc1 ! (λ l₈. alloc1 ! (λ l₉. alloc1 ! (λ l₁₀. alloc0 ! $
         params1 ! $
-        pass1 ! (init ! 16 refl wt) $ pass1 ! (init ! 14 refl (tt, record { fits = m-fits })) $
+        pass1 ! (init ! 18 refl wt) $
+        pass1 ! (init ! 16 refl (LL.lawful N.the-type N′.the-laws 𝓤 H A W .typed net (v ∷ []) is-net .0)) $ pass1 ! (init ! 14 refl (tt, record { fits = m-fits })) $
         pass1 ! (init ! 12 refl (tt, record { fits = n-fits })) $ pass1 ! (init ! 10 refl (tt, tt)) $
         pass1 ! (init ! 8 refl (tt, tt)) $ pass0 ! $
-        assigns ! (of-opd ! (load ! (from ! (fld ! refl (stop !))) (look-in ! 16 (sub ! 0 refl (whole !))))) (from ! (stop !))
+        assigns ! (of-opd ! (load ! (from ! (fld ! refl (stop !))) (look-in ! 18 (sub ! 0 refl (whole !))))) (from ! (stop !))
         (init ! 6 refl (tt, wt .1 .0)) $
-        assigns ! (of-opd ! (load ! (from ! (fld ! refl (stop !))) (look-in ! 16 (sub ! 1 refl (whole !))))) (from ! (stop !))
+        assigns ! (of-opd ! (load ! (from ! (fld ! refl (stop !))) (look-in ! 18 (sub ! 1 refl (whole !))))) (from ! (stop !))
         (init ! 4 refl (tt, wt .1 .1 .0)) $
         assigns ! (addr ! (from ! (hop ! (look ! 10 refl) (stop !)))) (from ! (stop !)) (init ! 2 refl (tt, tt)) $
         assigns ! (addr ! (from ! (hop ! (look ! 8 refl) (stop !)))) (from ! (stop !)) (init ! 0 refl (tt, tt)) $
-        move ! (20 ∷ []) $ use1 W (raw (Codes 𝓤 H A mem run .pre to) ⊛ ‵ Own) apart $ split ! $
-        -- [what the callee asks; what the reader owns; _9; …; _8; …; _7; …; _6; …; _5; …; _4; …; _3; …; _2; …; _1; …; _0; …]
+        move ! (22 ∷ []) $ use1 W (raw (Codes 𝓤 H A mem run .pre to) ⊛ ‵ Own) apart $ split ! $
+        -- [what the callee asks; what the reader owns; _10; …; _9; …; _8; …; _7; …; _6; …; _5; …; _4; …; _3; …; _2; …; _1; …; _0; …]
         calls-at ! fm (Codes 𝓤 H A mem run) known to
         (and-then ! (load ! (from ! (stop !)) (look ! 8 refl))
         (and-then ! (load ! (from ! (stop !)) (look ! 6 refl))
+        (and-then ! (load ! (from ! (stop !)) (look ! 18 refl))
         (and-then ! (load ! (from ! (stop !)) (look ! 16 refl))
         (and-then ! (load ! (from ! (stop !)) (look ! 14 refl))
         (and-then ! (load ! (from ! (stop !)) (look ! 4 refl))
-        (and-then ! (load ! (from ! (stop !)) (look ! 2 refl)) (no-more !))))))) (λ u.
+        (and-then ! (load ! (from ! (stop !)) (look ! 2 refl)) (no-more !)))))))) (λ u.
         use1 W (later (some (λ (sheet : SheetAnswer). (Tokens ⊛ ‵ (S.the-row .own sheet (u ∷ [])))
         ⊛ raw (ensured 𝓤 H A codes.ended (codes.clauses 𝓤 H A mem run) κs b tt sheet)))) (id⊢ 𝓤 _) $ await ! tt $
         pick ! (λ sheet.
         split ! $ move ! (1 ∷ []) $
         use1 W (some (λ (zs : Lasts codes.ended κs b). ‵ (lasts codes.ended κs b zs)
-        ⊛ raw (fact 𝓤 (CodesRead (now (r .file)) m n sheet (zs .1 .1 .1 .1 .0) (zs .1 .1 .1 .1 .1 .0))))) (id⊢ 𝓤 _) $
+        ⊛ raw (fact 𝓤 (CodesRead (now (r .file)) m n sheet (zs .1 .1 .1 .1 .1 .0) (zs .1 .1 .1 .1 .1 .1 .0))))) (id⊢ 𝓤 _) $
         pick ! (λ zs.
         split ! $ move ! (1 ∷ []) $
-        heard ! (CodesRead (now (r .file)) m n sheet (zs .1 .1 .1 .1 .0) (zs .1 .1 .1 .1 .1 .0)) (λ e. move ! (1 ∷ []) $ split ! $
+        heard ! (CodesRead (now (r .file)) m n sheet (zs .1 .1 .1 .1 .1 .0) (zs .1 .1 .1 .1 .1 .1 .0)) (λ e. move ! (1 ∷ []) $ split ! $
         move ! (1 ∷ []) $
-        -- [what the sheet owns; the tokens; what is last in the lists; what the reader owns; _9; …; _0; …]
+        -- [what the sheet owns; the tokens; what is last in the lists; what the reader owns; _10; …; _0; …]
         peeks ! S.the-row (Is S.the-row) (shows 𝓤 H A S.the-row) sheet (u ∷ []) (λ is.
-        land ! (from ! (stop !)) (init ! 22 refl (LL.lawful S.the-type S′.the-laws 𝓤 H A W .typed sheet (u ∷ []) is .0)) $
-        returns ! (look ! 22 refl) $ forget ! 4 refl $ forget ! 6 refl $ forget ! 8 refl $ forget ! 10 refl $ forget ! 12 refl $
-        forget ! 14 refl $ forget ! 16 refl $ forget ! 18 refl $ forget ! 20 refl $ forget ! 22 refl $
-        move ! (22 ∷ 23 ∷ []) $ free1 ! $ move ! (20 ∷ 21 ∷ []) $ free1 ! $ move ! (18 ∷ 19 ∷ []) $ free1 ! $
+        land ! (from ! (stop !)) (init ! 24 refl (LL.lawful S.the-type S′.the-laws 𝓤 H A W .typed sheet (u ∷ []) is .0)) $
+        returns ! (look ! 24 refl) $ forget ! 4 refl $ forget ! 6 refl $ forget ! 8 refl $ forget ! 10 refl $ forget ! 12 refl $
+        forget ! 14 refl $ forget ! 16 refl $ forget ! 18 refl $ forget ! 20 refl $ forget ! 22 refl $ forget ! 24 refl $
+        move ! (24 ∷ 25 ∷ []) $ free1 ! $ move ! (22 ∷ 23 ∷ []) $ free1 ! $ move ! (20 ∷ 21 ∷ []) $ free1 ! $ move ! (18 ∷ 19 ∷ []) $ free1 ! $
         move ! (16 ∷ 17 ∷ []) $ free1 ! $ move ! (14 ∷ 15 ∷ []) $ free1 ! $ move ! (12 ∷ 13 ∷ []) $ free1 ! $
         move ! (10 ∷ 11 ∷ []) $ free1 ! $ move ! (8 ∷ 9 ∷ []) $ free1 ! $ move ! (6 ∷ 7 ∷ []) $ free1 ! $ move ! (4 ∷ 5 ∷ []) $
         free1 ! $ free0 ! $
-        move ! (2 ∷ 0 ∷ 1 ∷ 3 ∷ []) $ by ! (exits sheet u zs e))))))))))))))))
+        move ! (2 ∷ 0 ∷ 1 ∷ 3 ∷ []) $ by ! (exits sheet u zs e)))))))))))))))))
 
 module _ {M : Type 1} (𝓤 : URA M) (H : Heap 𝓤) (A : Atoms 𝓤) (W : Given 𝓤 H A) (mem : Memory → SProp 𝓤) (run : Routine → Fun 𝓤)
     (𝓣 : Tables 𝓤 H) (known : Triple 𝓤 (𝓣 .C #sheet-codes) (Codes 𝓤 H A mem run)) where
@@ -216,35 +229,41 @@ module _ {M : Type 1} (𝓤 : URA M) (H : Heap 𝓤) (A : Atoms 𝓤) (W : Given
       walked 𝓤 H A reads.ended stayed (reads.clauses 𝓤 H A mem run) (WpFn 𝓤 H (𝓣 .C) (𝓣 .Λ) code.function)
       (λ κs. (
         LL.vals (T.the-type (namedLft 3 0 tt κs)) (T′.the-laws (namedLft 3 0 tt κs)),
-        (uint-vals w64, (uint-vals w64, (ptr-vals, (ptr-vals, tt)))),
+        (LL.vals N.the-type N′.the-laws, (uint-vals w64, (uint-vals w64, (ptr-vals, (ptr-vals, tt))))),
       ))
       (λ κs. (
         LL.tells (T.the-type (namedLft 3 0 tt κs)) (T′.the-laws (namedLft 3 0 tt κs)),
         (
-          uint-tells w64,
+          LL.tells N.the-type N′.the-laws,
           (
             uint-tells w64,
             (
-              mut-tells (named 1) (κs .1 .0) (Array u32 1200),
-              (mut-tells (named 2) (κs .1 .1 .0) (Array u32 1200), tt),
+              uint-tells w64,
+              (
+                mut-tells (named 1) (κs .1 .0) (Array u32 1200),
+                (mut-tells (named 2) (κs .1 .1 .0) (Array u32 1200), tt),
+              ),
             ),
           ),
         ),
       ))
       (λ κs qs bounds a g are. needs 𝓤 _ _ (λ ok.
-      walk 𝓤 H A W mem run κs qs (a .0) (a .1 .0) (a .1 .1 .0) (are .1 .0 .1) (are .1 .1 .0 .1) (a .1 .1 .1 .0)
-      (a .1 .1 .1 .1 .0) ok (𝓣 .C) (𝓣 .Λ) (fmOf 𝓤 H (W .laws) 𝓣) known
-      (LL.lawful (T.the-type (namedLft 3 0 tt κs)) (T′.the-laws (namedLft 3 0 tt κs)) 𝓤 H A W .typed (a .0) _ (are .0) .0)))
+      walk 𝓤 H A W mem run κs qs (a .0) (a .1 .0) (a .1 .1 .0) (a .1 .1 .1 .0) (are .1 .1 .0 .1) (are .1 .1 .1 .0 .1)
+      (a .1 .1 .1 .1 .0) (a .1 .1 .1 .1 .1 .0) ok (𝓣 .C) (𝓣 .Λ) (fmOf 𝓤 H (W .laws) 𝓣) known
+      (LL.lawful (T.the-type (namedLft 3 0 tt κs)) (T′.the-laws (namedLft 3 0 tt κs)) 𝓤 H A W .typed (a .0) _ (are .0) .0) (are .1 .0)))
 
   passes-meets : Meets 𝓤 H A reads.signature (WpFn 𝓤 H (𝓣 .C) (𝓣 .Λ) code.function) (reads.spec 𝓤 H A mem run)
   passes-meets =
       walk-meets 𝓤 H A reads.ended stayed W (
         goes-none 𝓤 H A W 3 B yes (λ κs x f. refl),
         (
-          goes-none 𝓤 H A W 3 (λ _. usize) yes (λ κs x f. refl),
+          goes-dropped 𝓤 H A W 3 (plain (λ _. N.the-row)) yes (λ κs x f. refl),
           (
             goes-none 𝓤 H A W 3 (λ _. usize) yes (λ κs x f. refl),
-            (goes-gave-ref 𝓤 H A W 3 1 tt list, (goes-gave-ref 𝓤 H A W 3 2 tt list, tt)),
+            (
+              goes-none 𝓤 H A W 3 (λ _. usize) yes (λ κs x f. refl),
+              (goes-gave-ref 𝓤 H A W 3 1 tt list, (goes-gave-ref 𝓤 H A W 3 2 tt list, tt)),
+            ),
           ),
         ),
       )
