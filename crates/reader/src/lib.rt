@@ -91,7 +91,7 @@ pub fn read(file: &[u8], latches: &mut [Latch], gates: &mut [Gate]) -> SheetAnsw
     let mut latch_codes = sheet::no_codes();
     let mut gate_codes = sheet::no_codes();
     let sheet = at_start(file).read_codes(
-        steps::empty_net(),
+        netlist::empty_net(),
         latches.len(),
         gates.len(),
         &mut latch_codes,

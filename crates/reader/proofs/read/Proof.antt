@@ -51,12 +51,12 @@ use Rattle.refusals.specs.declared.Verdict.the-variants.{Passed}
 use Rattle.netlist.specs.declared.Netlist.{Netlist}
 use Rattle.netlist.proofs.Netlist as N
 use Rattle.netlist.proofs.Netlist.Laws as N′
-use Rattle.steps.specs.Records.{recordOf, noNetlist}
+use Rattle.netlist.specs.RecordOf.{recordOf, noNetlist}
 use Rattle.steps.specs.declared.SheetAnswer.{SheetAnswer}
-use Rattle.steps.proofs.empty_net as empty
-use Rattle.steps.proofs.empty_net.Symbol as empty-def
-use Rattle.steps.proofs.empty_net.Symbol.{name as #empty-net}
-use Rattle.steps.proofs.empty_net.Met as empty-thm
+use Rattle.netlist.proofs.empty_net as empty
+use Rattle.netlist.proofs.empty_net.Symbol as empty-def
+use Rattle.netlist.proofs.empty_net.Symbol.{name as #empty-net}
+use Rattle.netlist.proofs.empty_net.Met as empty-thm
 use Rattle.steps.proofs.SheetAnswer as S
 use Rattle.steps.proofs.SheetAnswer.Laws as S′
 use Rattle.sheet.specs.Scratch.{noCodes}
