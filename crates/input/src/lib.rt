@@ -21,7 +21,7 @@ fn read_sheet(file: &[u8], depth: u32, latches: &mut [u32; 1200], gates: &mut [u
     ensures depth { λ r. ⌜ r .depth ≡ depth ⌝ }
     ensures taken { λ r. ⌜ (r .number ≡ 0 → SheetTaken (now (file .entry)) (r .net) (now (latches .exit)) (now (gates .exit))) ⌝ }
 {
-    let sheet = sheet::read_codes(file, 0, steps::empty_net(), 600, 600, latches, gates);
+    let sheet = sheet::read_codes(file, 0, netlist::empty_net(), 600, 600, latches, gates);
     let verdict = sheet.verdict;
     let net = sheet.net;
     let reply = refusals::reply_of(verdict);
