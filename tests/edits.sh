@@ -31,8 +31,9 @@ judge() { # edit file
   crate=$(basename "$(dirname "$(dirname "$1")")")
   label=$(basename "$1" .edit)
   log=target/must-fail/$crate/$label/.log
-  grep -q '^# counterexample: ' "$1" || { echo "$crate/$label: no '# counterexample:' line"; return 1; }
   grep -q '^# refused at: ' "$1" || { echo "$crate/$label: no '# refused at:' line"; return 1; }
+  [ "$(grep -c '^# counterexample: ' "$1")" -eq "$(grep -c '^# refused at: ' "$1")" ] ||
+    { echo "$crate/$label: not one '# counterexample:' line for each '# refused at:' line"; return 1; }
   [ -f "$log" ] || { echo "$crate/$label: no log at $log"; return 1; }
   # what only follows from another refusal is passed over
   errors=$(grep ': error: ' "$log" | grep -v 'was not admitted')
