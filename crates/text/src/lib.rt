@@ -42,7 +42,7 @@ fn ten_thousands(x: u32) -> u32
 }
 
 // Writes both digits of a number below 100, a leading zero included, and answers two.
-fn put_pair(out: &mut [u8], x: u32) -> usize
+fn put_two_digits(out: &mut [u8], x: u32) -> usize
     requires { ⌜ (x < 100) × (2 ≤ length (now out)) ⌝ }
     ensures { λ r. ⌜ Wrote (pairDigits x) (now (out .entry)) (now (out .exit)) r ⌝ }
 {
@@ -52,12 +52,12 @@ fn put_pair(out: &mut [u8], x: u32) -> usize
 }
 
 // Writes the four digits of a number below 10,000, leading zeros included, and answers four.
-fn put_four(out: &mut [u8], x: u32) -> usize
+fn put_four_digits(out: &mut [u8], x: u32) -> usize
     requires { ⌜ (x < 10000) × (4 ≤ length (now out)) ⌝ }
     ensures { λ r. ⌜ Wrote (fourDigits x) (now (out .entry)) (now (out .exit)) r ⌝ }
 {
-    let first = put_pair(out, x / 100);
-    first + put_pair(&mut out[first..], x % 100)
+    let first = put_two_digits(out, x / 100);
+    first + put_two_digits(&mut out[first..], x % 100)
 }
 
 // Fills the table of all groups of four digits, and answers its length. It pays where many numbers are written.
@@ -68,7 +68,7 @@ pub fn fill_table(table: &mut [u8]) -> usize
     let mut at: usize = 0;
     let mut x: u32 = 0;
     while x < 10000 {
-        at = at + put_four(&mut table[at..], x);
+        at = at + put_four_digits(&mut table[at..], x);
         x = x + 1;
     }
     at

@@ -30,23 +30,23 @@ room c =
     let at = c .before .loop in
     omega (arith, at .inv .1, at .inv .2 .counted, length-tableBelow (at .x), c .before .before .before .pre)
 
-sub-put-four : tie.Need-sub-put-four Inv-loop μ-loop
-sub-put-four c = omega (arith, room c)
+sub-put-four-digits : tie.Need-sub-put-four-digits Inv-loop μ-loop
+sub-put-four-digits c = omega (arith, room c)
 
-part-put-four-start : tie.Need-part-put-four-start Inv-loop μ-loop
-part-put-four-start c = omega (arith, room c)
+part-put-four-digits-start : tie.Need-part-put-four-digits-start Inv-loop μ-loop
+part-put-four-digits-start c = omega (arith, room c)
 
-part-put-four-end : tie.Need-part-put-four-end Inv-loop μ-loop
-part-put-four-end c = search needs
+part-put-four-digits-end : tie.Need-part-put-four-digits-end Inv-loop μ-loop
+part-put-four-digits-end c = search needs
 
-put-four-requires : tie.Need-put-four-requires Inv-loop μ-loop
-put-four-requires c κs =
+put-four-digits-requires : tie.Need-put-four-digits-requires Inv-loop μ-loop
+put-four-digits-requires c κs =
     let at = c .before .before .loop in
     let table : List ℕ = at .table in
     (omega arith, rw (mid-len (at .at) (length table) table (omega arith)) (omega (arith, room (c .before))))
 
 add-at : tie.Need-add-at Inv-loop μ-loop
-add-at c = omega (arith, room (c .before .before .before .before), c .before .before .put-four .ensures .counted)
+add-at c = omega (arith, room (c .before .before .before .before), c .before .before .put-four-digits .ensures .counted)
 
 add-x : tie.Need-add-x Inv-loop μ-loop
 add-x c = omega arith
@@ -59,7 +59,7 @@ unfolding tableBelow
 loop-again c =
     let at = c .before .before .before .before .before .loop in
     let start = c .before .before .before .before .before .before .before in
-    let written = c .before .before .put-four in (
+    let written = c .before .before .put-four-digits in (
       omega arith,
       same-len-mid (at .at) (length (at .table) - at .at) (at .table) (written .last .0) (written .kept .0) ∙ at .inv .1,
       rw add-one
@@ -82,10 +82,10 @@ fill-table-spec =
     Inv-loop
     μ-loop
     loop-holds
-    sub-put-four
-    part-put-four-start
-    part-put-four-end
-    put-four-requires
+    sub-put-four-digits
+    part-put-four-digits-start
+    part-put-four-digits-end
+    put-four-digits-requires
     add-at
     add-x
     loop-less

@@ -1,11 +1,11 @@
--- `text::put_pair` meets its contract: both digits by division. Assumes nothing.
+-- `text::put_two_digits` meets its contract: both digits by division. Assumes nothing.
 use Prim.Native.Nat.{_/_, _%_}
 use native.Mathlib.Omega.{arith}
 use borrow.Author.Needs.{needs}
 use Rattle.decimal.specs.Digits.{digit}
 use Rattle.text.proofs.Writing.{wrote-two}
-use Rattle.text.proofs.put_pair.Statement.{statement}
-use Rattle.text.proofs.put_pair.Tie as tie
+use Rattle.text.proofs.put_two_digits.Statement.{statement}
+use Rattle.text.proofs.put_two_digits.Tie as tie
 
 cast-out : tie.Need-cast-out
 cast-out c = search needs
@@ -31,8 +31,8 @@ same-length c = search needs
 returns : tie.Need-returns
 returns c = wrote-two (digit (c .args .x / 10)) (digit (c .args .x % 10)) (c .args .out .now) (omega arith)
 
-pub put-pair-spec : {M : Type 1} → statement M
-put-pair-spec =
+pub put-two-digits-spec : {M : Type 1} → statement M
+put-two-digits-spec =
     tie.close
     (tie.spec
     cast-out
