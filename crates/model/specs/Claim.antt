@@ -6,8 +6,8 @@
 -- Second direction: for every run from that state, whatever it is fed, that breaks the property in some frame 0 to k, there is an
 -- assignment that does so and agrees with the run on every wire of every frame 0 to k.
 -- Without the first a solver's answer could be no run of the chip; without the second a fault could go unfound.
--- The theorem says so of every accepted netlist and every depth; its proof is `encodes` in proofs/Claim.antt. Cited by the contract of
--- `heading`. Assumes nothing.
+-- The theorem says so of every accepted netlist and every depth; its proof is `encodes` in proofs/Claim.antt. Cited by the contracts of
+-- `heading` and `read`. Assumes nothing.
 use Prim.Native.Nat.{ℕ, _+_, _^_, _≤_, _<_}
 use mathlib.Core.Path.{_≡_}
 use mathlib.Core.Bool.{true, false}
