@@ -20,6 +20,9 @@ fn is_shown(of: &str, it: &Public) -> bool {
     }
 }
 
+/// The crates whose functions the program is put together from; what they promise must be believed too.
+const PROGRAM: [&str; 2] = ["input", "stream"];
+
 struct Repository(PathBuf);
 
 /// A file of definitions: crate and module.
@@ -54,13 +57,14 @@ impl Repository {
         found
     }
 
-    fn public_functions(&self) -> Vec<Public> {
+    /// The public functions of some crates.
+    fn functions_of(&self, crates: &[&str], shown: fn(&str, &Public) -> bool) -> Vec<Public> {
         let mut all = Vec::new();
-        for of in SHOWN {
+        for of in crates {
             for path in self.files(&format!("crates/{of}/src"), ".rt") {
                 let text = self.read(&path);
                 let found = functions(&path["crates/".len()..], &text);
-                all.extend(found.into_iter().filter(|it| is_shown(of, it)));
+                all.extend(found.into_iter().filter(|it| shown(of, it)));
             }
         }
         all
@@ -184,8 +188,8 @@ fn functions_block(functions: &[Public]) -> String {
     text
 }
 
-fn definitions_block(repository: &Repository, functions: &[Public]) -> String {
-    let cited = functions.iter().flat_map(|it| it.promises.iter().flat_map(|(_, names)| names));
+fn definitions_block<'a>(repository: &Repository, functions: impl Iterator<Item = &'a Public>) -> String {
+    let cited = functions.flat_map(|it| it.promises.iter().flat_map(|(_, names)| names));
     let reached = repository.reached(cited.map(|(_, module)| module.clone()).collect());
     let mut by_crate: BTreeMap<&str, Vec<(&str, usize)>> = BTreeMap::new();
     for module in &reached {
@@ -204,34 +208,36 @@ fn definitions_block(repository: &Repository, functions: &[Public]) -> String {
 
 /// The wrong programs that stand for a public function: edits with a line '# public: NAME'.
 fn edits_block(repository: &Repository, functions: &[Public]) -> (String, Vec<String>) {
-    let mut of_function: BTreeMap<String, Vec<(String, String)>> = BTreeMap::new();
+    let mut count: BTreeMap<String, usize> = BTreeMap::new();
     let mut crates: Vec<String> = fs::read_dir(repository.0.join("crates"))
         .expect("crates")
         .map(|entry| entry.expect("a crate").file_name().to_string_lossy().into_owned())
         .collect();
     crates.sort();
+    let mut text = String::from("| wrong program | of | edit |\n|---|---|---|\n");
     for of in crates {
         for path in repository.files(&format!("crates/{of}/must-fail"), ".edit") {
-            let text = repository.read(&path);
-            let says = text.lines().next().unwrap_or("").trim_start_matches("# ").to_string();
-            for name in text.lines().filter_map(|line| line.strip_prefix("# public: ")) {
-                of_function.entry(name.to_string()).or_default().push((path.clone(), says.clone()));
+            let edit = repository.read(&path);
+            let says = edit.lines().next().unwrap_or("").trim_start_matches("# ");
+            let names: Vec<&str> = edit.lines().filter_map(|line| line.strip_prefix("# public: ")).collect();
+            if names.is_empty() {
+                continue;
             }
+            for name in &names {
+                *count.entry(name.to_string()).or_default() += 1;
+            }
+            let file = Path::new(&path).file_stem().expect("a name").to_string_lossy().into_owned();
+            text += &format!("| {says} | `{}` | [{of}/{file}](../{path}) |\n", names.join("` `"));
         }
     }
-    let mut text = String::from("| function | wrong program | edit |\n|---|---|---|\n");
     let mut short = Vec::new();
     for it in functions {
-        let edits = of_function.remove(&it.name).unwrap_or_default();
-        if edits.len() < 2 {
-            short.push(format!("{} has {} wrong programs", it.name, edits.len()));
-        }
-        for (path, says) in edits {
-            let name = Path::new(&path).file_stem().expect("a name").to_string_lossy().into_owned();
-            text += &format!("| `{}` | {says} | [{name}](../{path}) |\n", it.name);
+        let edits = count.remove(&it.name).unwrap_or_default();
+        if edits < 2 {
+            short.push(format!("{} has {edits} wrong programs", it.name));
         }
     }
-    short.extend(of_function.into_keys().map(|name| format!("no public function {name}")));
+    short.extend(count.into_keys().map(|name| format!("no public function {name}")));
     (text, short)
 }
 
@@ -262,11 +268,12 @@ fn main() {
         }
     };
     let repository = Repository(PathBuf::from(folder));
-    let functions = repository.public_functions();
+    let functions = repository.functions_of(&SHOWN, is_shown);
+    let program = repository.functions_of(&PROGRAM, |_, _| true);
     let (edits, short) = edits_block(&repository, &functions);
     let blocks = [
         ("functions", functions_block(&functions)),
-        ("definitions", definitions_block(&repository, &functions)),
+        ("definitions", definitions_block(&repository, functions.iter().chain(&program))),
         ("assumed", axioms_block(&repository)),
         ("wrong programs", edits),
     ];

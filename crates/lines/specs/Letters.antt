@@ -1,5 +1,5 @@
 -- Document 01's table of letters: which line a letter stands for, and which of its fields are filled. Cited by the functions that
--- read a line, and by steps/specs and parse/specs for the line due. Assumes nothing.
+-- read a line, by steps/specs and parse/specs for the line due, and by replies/specs. Assumes nothing.
 use Prim.Native.Nat.{ℕ, _<_}
 use mathlib.Core.Path.{_≡_}
 use mathlib.Core.Bool.{Bool, cond}
