@@ -1,29 +1,20 @@
-// Runs programs in turn, several times over, each with the same file as standard input and /dev/null as standard output.
-// Prints for each program: its name, the least processor time of a run (user and system, in microseconds), the least elapsed
-// time, and the most resident memory (KiB). What this program itself holds before it becomes the other is a floor of the last
-// figure. Arguments: repetitions, input file, programs.
+// Runs jobs, each a program with a file as standard input and /dev/null as standard output, one after the other and all of them
+// several times over, so that a slow phase of the machine meets all alike. Prints for each job the least processor time of a run
+// (user and system, in microseconds) and the most resident memory (KiB); what this program itself holds before it becomes the other
+// is a floor of the last figure. Arguments: repetitions, then an input file and a program for each job.
 
 #include <fcntl.h>
 #include <stdio.h>
 #include <stdlib.h>
 #include <sys/resource.h>
-#include <sys/time.h>
 #include <sys/wait.h>
-#include <time.h>
 #include <unistd.h>
 
-typedef struct { long processor, elapsed, resident; } Figures;
+typedef struct { long processor, resident; } Figures;
 
 static long micros(struct timeval t) { return t.tv_sec * 1000000L + t.tv_usec; }
 
-static long now(void) {
-  struct timespec t;
-  clock_gettime(CLOCK_MONOTONIC, &t);
-  return t.tv_sec * 1000000L + t.tv_nsec / 1000;
-}
-
-static Figures run(const char *program, const char *input) {
-  long begin = now();
+static Figures run(const char *input, const char *program) {
   pid_t child = fork();
   if (child == 0) {
     int in = open(input, O_RDONLY), out = open("/dev/null", O_WRONLY);
@@ -37,22 +28,20 @@ static Figures run(const char *program, const char *input) {
     fprintf(stderr, "%s failed\n", program);
     exit(1);
   }
-  return (Figures){micros(use.ru_utime) + micros(use.ru_stime), now() - begin, use.ru_maxrss};
+  return (Figures){micros(use.ru_utime) + micros(use.ru_stime), use.ru_maxrss};
 }
 
 int main(int count, char **words) {
-  if (count < 4) return 2;
-  int programs = count - 3;
-  Figures *best = calloc((size_t)programs, sizeof *best);
-  for (int repetition = 0; repetition < atoi(words[1]); repetition++) {
-    for (int p = 0; p < programs; p++) {
-      Figures one = run(words[3 + p], words[2]);
-      if (repetition == 0 || one.processor < best[p].processor) best[p].processor = one.processor;
-      if (repetition == 0 || one.elapsed < best[p].elapsed) best[p].elapsed = one.elapsed;
-      if (one.resident > best[p].resident) best[p].resident = one.resident;
+  int repetitions = count < 2 ? 0 : atoi(words[1]), jobs = (count - 2) / 2;
+  if (repetitions < 1 || jobs < 1 || count % 2 != 0) return 2;
+  Figures *best = calloc((size_t)jobs, sizeof *best);
+  for (int repetition = 0; repetition < repetitions; repetition++) {
+    for (int job = 0; job < jobs; job++) {
+      Figures one = run(words[2 + 2 * job], words[3 + 2 * job]);
+      if (repetition == 0 || one.processor < best[job].processor) best[job].processor = one.processor;
+      if (one.resident > best[job].resident) best[job].resident = one.resident;
     }
   }
-  for (int p = 0; p < programs; p++)
-    printf("%s %ld %ld %ld\n", words[3 + p], best[p].processor, best[p].elapsed, best[p].resident);
+  for (int job = 0; job < jobs; job++) printf("%ld %ld\n", best[job].processor, best[job].resident);
   return 0;
 }

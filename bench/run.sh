@@ -1,14 +1,13 @@
 #!/usr/bin/env bash
 # Measures `frames` on the largest kind of sheet (I = 60, L = 100, A = 408, m = 12, n = 32) at depths 15, 63 and 255, beside a C
-# generator of the same text that is optimised by hand and one that prints through fprintf. Every figure is the best of several
-# repetitions, the three programs in turn, input from a file, output to /dev/null; the time is the process's processor time (user
-# and system), so that other work on the machine matters little. It says which targets are reached, and fails only where a program
-# fails or the texts differ. The last figure is of the library: every group of depth 255 through the exported call, which tests its
-# record each time.
-# Argument: repetitions at depth 255 (20), five times as many at the others; the program is target/bin/frames unless FRAMES names another.
+# generator of the same text that is optimised by hand and one that prints through fprintf; and, of the library, every group of depth
+# 255 through the exported call, which tests its record each time. Every figure is the best of several repetitions, all programs and
+# depths in turn, input from a file, output to /dev/null; the time is the process's processor time (user and system), so that other
+# work on the machine matters little. It says which targets are reached, and fails only where a program fails or the texts differ.
+# Argument: repetitions (100; a tenth as many of the slow generator); the program is target/bin/frames unless FRAMES names another.
 set -euo pipefail
 cd "$(dirname "$0")/.."
-repetitions=${1:-20}
+repetitions=${1:-100}
 frames=${FRAMES:-target/bin/frames}
 for command in cc rustc awk cmp "$frames"; do
   command -v "$command" >/dev/null 2>&1 || { echo "$command is missing" >&2; exit 1; }
@@ -25,51 +24,58 @@ rustc -O --edition 2021 -o "$work/sheet" bench/sheet.rs
 compile -o "$work/library" bench/library.c -L target/staticlib -lexports
 "$work/sheet" > "$work/sheet.txt"
 
-# depth 0 is the start of the process, the reading of the sheet and next to no text
-for depth in 0 15 63 255; do
+# Depth 0 is the start of the process, the reading of the sheet and next to no text. The longest run comes first: the one behind it
+# in the next repetition, which finds the caches full of something else, is then not the shortest.
+depths=(255 63 15 0)
+bytes=()
+fast=()
+slow=()
+for depth in "${depths[@]}"; do
   input=$work/input.$depth
   { printf '%10d\n' "$depth"; cat "$work/sheet.txt"; } > "$input"
   for other in optimised formatted; do
     "$work/$other" < "$input" | cmp - <("$frames" < "$input") || { echo "frames and $other differ at depth $depth" >&2; exit 1; }
   done
-  bytes=$("$frames" < "$input" | wc -c)
-  # a short run is disturbed more easily, and costs less to repeat
-  times=$repetitions
-  [ "$depth" -lt 255 ] && times=$((5 * repetitions))
-  echo "depth $depth: $bytes bytes, the same from all three; measuring $times times" >&2
-  "$work/measure" "$times" "$input" "$frames" "$work/optimised" "$work/formatted" |
-    awk -v depth="$depth" -v bytes="$bytes" '
-      { time[NR] = $2; resident[NR] = $4 }
-      END { print depth, bytes, time[1], time[2], time[3], resident[1] }'
-done | awk '
-  function say(met, what, figure) { printf "%-8s %s: %s\n", met ? "reached" : "missed", what, figure }
-  NR == 1 { print "depth     bytes  frames, optimised, formatted: ms  frames/optimised  formatted/frames  ns/byte  resident: KiB" }
-  {
-    bytes[$1] = $2; time[$1] = $3
-    slower[$1] = $3 / $4; faster[$1] = $5 / $3; cost[$1] = 1000 * $3 / $2; resident[$1] = $6
-    printf "%5d %9d %11.2f %10.2f %10.2f %19.2f %17.1f %8.3f %15d\n",
-      $1, $2, $3 / 1000, $4 / 1000, $5 / 1000, slower[$1], faster[$1], cost[$1], $6
-  }
-  END {
-    split("15 63 255", depths, " ")
-    for (d = 1; d <= 3; d++) {
-      k = depths[d]
-      say(slower[k] <= 1.3, "depth " k ", at most 1.3 times the optimised generator", sprintf("%.2f", slower[k]))
-      say(faster[k] >= 4, "depth " k ", at least 4 times faster than formatted printing", sprintf("%.1f", faster[k]))
-      say(resident[k] <= 4096, "depth " k ", at most 4 MiB resident", resident[k] " KiB")
-    }
-    # depth 0 is the start of the process and next to no text: it is no cost of a byte
-    flat = ((time[255] - time[0]) / (bytes[255] - bytes[0])) / ((time[63] - time[0]) / (bytes[63] - bytes[0]))
-    say(flat >= 0.8 && flat <= 1.2, "cost per byte from depth 63 to 255 within 20%, the time of depth 0 taken off", sprintf("%+.0f%%", 100 * (flat - 1)))
-    printf "         with that time: %+.0f%%\n", 100 * (cost[255] / cost[63] - 1)
-  }'
-
+  bytes+=("$("$frames" < "$input" | wc -c)")
+  fast+=("$input" "$frames" "$input" "$work/optimised")
+  slow+=("$input" "$work/formatted")
+done
 input=$work/input.255
 [ "$("$work/library" < "$input")" -eq "$("$frames" < "$input" | tail -n +2 | wc -w)" ] ||
   { echo "the library writes other numbers than frames prints" >&2; exit 1; }
-"$work/measure" "$repetitions" "$input" "$frames" "$work/library" | awk '
-  { time[NR] = $2 }
+
+echo "the three programs print the same; measuring $repetitions times" >&2
+"$work/measure" "$repetitions" "$input" "$work/library" "${fast[@]}" > "$work/fast.out"
+"$work/measure" $(((repetitions + 9) / 10)) "${slow[@]}" > "$work/slow.out"
+
+awk -v depths="${depths[*]}" -v bytes="${bytes[*]}" '
+  function say(met, what, figure) { printf "%-8s %s: %s\n", met ? "reached" : "missed", what, figure }
+  # how much less or more a byte costs at depth 255 than at 63, in percent, with so much of the time taken off at each
+  function change(time, off, less) {
+    return 100 * ((time[255] - off) / (size[255] - less) / ((time[63] - off) / (size[63] - less)) - 1)
+  }
+  BEGIN { most = split(depths, depth, " "); split(bytes, counts, " "); for (d = 1; d <= most; d++) size[depth[d]] = counts[d] }
+  FNR < NR { formatted[depth[FNR]] = $1; next }
+  FNR == 1 { library = $1; next }
+  FNR % 2 == 0 { time[depth[FNR / 2]] = $1; resident[depth[FNR / 2]] = $2; next }
+  { optimised[depth[(FNR - 1) / 2]] = $1 }
   END {
-    printf "%-8s depth 255, all groups through the library, at most the time of frames: %.2f (%.2f ms)\n",
-      time[2] <= time[1] ? "reached" : "missed", time[2] / time[1], time[2] / 1000
-  }'
+    print "depth     bytes  frames, optimised, formatted: ms  frames/optimised  formatted/frames  ns/byte  resident: KiB"
+    for (d = most; d >= 1; d--) {
+      k = depth[d]
+      printf "%5d %9d %11.2f %10.2f %10.2f %19.2f %17.1f %8.3f %15d\n", k, size[k], time[k] / 1000, optimised[k] / 1000,
+        formatted[k] / 1000, time[k] / optimised[k], formatted[k] / time[k], 1000 * time[k] / size[k], resident[k]
+    }
+    for (d = most - 1; d >= 1; d--) {
+      k = depth[d]
+      say(time[k] <= 1.3 * optimised[k], "depth " k ", at most 1.3 times the optimised generator", sprintf("%.2f", time[k] / optimised[k]))
+      say(formatted[k] >= 4 * time[k], "depth " k ", at least 4 times faster than formatted printing", sprintf("%.1f", formatted[k] / time[k]))
+      say(resident[k] <= 4096, "depth " k ", at most 4 MiB resident", resident[k] " KiB")
+    }
+    # what depth 0 takes is the start of the process: no cost of a byte
+    flat = change(time, time[0], size[0])
+    say(flat >= -20 && flat <= 20, "cost per byte from depth 63 to 255 within 20%, the time of depth 0 taken off", sprintf("%+.0f%%", flat))
+    printf "         the same of the optimised generator: %+.0f%%\n", change(optimised, optimised[0], size[0])
+    printf "         with the time of depth 0: frames %+.0f%%, the optimised generator %+.0f%%\n", change(time, 0, 0), change(optimised, 0, 0)
+    say(library <= time[255], "depth 255, all groups through the library, at most the time of frames", sprintf("%.2f (%.2f ms)", library / time[255], library / 1000))
+  }' "$work/fast.out" "$work/slow.out"
