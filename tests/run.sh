@@ -51,12 +51,14 @@ count "rt ci" "$status" "$log"
 mkdir -p "$logs" # rt ci removes target/ first
 mv "$log" "$logs/rt-ci.out"
 
-# Runs a command whose last line is 'N passed, M failed'.
+# Runs a command whose last line is 'N passed, M failed', and says how long it took.
 run() { # heading, name, command ..
   echo "== $1"
+  local began=$SECONDS
   "${@:3}" > "$logs/$2.out" 2>&1
   local status=$?
   cat "$logs/$2.out"
+  echo "($((SECONDS - began)) s)"
   count "$2" "$status" "$logs/$2.out"
 }
 

@@ -1,6 +1,7 @@
 //! Hostile calls of the exported functions, each compared with the second implementation.
 
 use super::mutate::{netlist, sheet, LIMITS};
+use super::prints;
 use super::reference::netlist::{Gate, Latch, Netlist};
 use super::reference::random::{damaged_record, Random};
 use super::reference::Tally;
@@ -92,14 +93,20 @@ fn room(random: &mut Random) -> usize {
 pub fn calls(library: &Library, tally: &mut Tally, seed: u64, count: usize) {
     let mut random = Random::new(seed);
     for _ in 0..count {
-        match random.below(8) {
-            0..=2 => {
+        match random.below(10) {
+            0 => {
+                let file = sheet(&mut random);
+                let line = small_or_limit(&mut random);
+                library.line_agrees(tally, &file, line);
+            }
+            1 => prints::any(library, tally, &mut random),
+            2..=4 => {
                 let file = sheet(&mut random);
                 let (few, many) = (random.index(4), random.index(601));
                 let rooms = [0, few, few, many, 600];
                 library.read_agrees(tally, &file, random.pick(&rooms), random.pick(&rooms));
             }
-            3..=6 => {
+            5..=8 => {
                 let netlist = record(&mut random);
                 let depth = small_or_limit(&mut random);
                 let of = (

@@ -107,33 +107,36 @@ pub fn limits(library: &Library, tally: &mut Tally) {
     library.clauses_agree(tally, &most);
 }
 
-/// Random numbers of every length, with end marks anywhere.
+/// A number of any length.
+fn number(random: &mut Random) -> u32 {
+    random.next() as u32 >> random.below(32)
+}
+
+/// Numbers of every length and both signs, with end marks anywhere.
+fn list(random: &mut Random) -> Vec<i32> {
+    let count = random.index(120);
+    (0..count)
+        .map(|_| match random.below(10) {
+            0 | 1 => 0,
+            2..=5 => (number(random) as i32).wrapping_neg(),
+            _ => number(random) as i32,
+        })
+        .collect()
+}
+
+/// One text of random numbers.
+pub fn any(library: &Library, tally: &mut Tally, random: &mut Random) {
+    match random.below(3) {
+        0 => library.header_agrees(tally, number(random), number(random)),
+        1 => library.refusal_agrees(tally, number(random), number(random)),
+        _ => library.clauses_agree(tally, &list(random)),
+    }
+}
+
 pub fn random(library: &Library, tally: &mut Tally) {
     let mut random = Random::new(801);
-    for _ in 0..400 {
-        let count = random.index(120);
-        let list: Vec<i32> = (0..count)
-            .map(|_| {
-                let number = (random.next() as u32 >> random.below(32)) as i32;
-                let number = if random.percent(50) {
-                    number.wrapping_neg()
-                } else {
-                    number
-                };
-                if random.percent(20) {
-                    0
-                } else {
-                    number
-                }
-            })
-            .collect();
-        library.clauses_agree(tally, &list);
-        let (first, second) = (
-            random.next() as u32 >> random.below(32),
-            random.next() as u32,
-        );
-        library.header_agrees(tally, first, second);
-        library.refusal_agrees(tally, first, second);
+    for _ in 0..1_200 {
+        any(library, tally, &mut random);
     }
 }
 

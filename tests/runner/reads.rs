@@ -35,7 +35,7 @@ fn line_behind(file: &[u8], line: u32) -> Option<(u8, [u32; 3])> {
 
 impl Library {
     /// One check: `next_line` answers what the second implementation does, and one line more, up to 615.
-    fn line_agrees(&self, tally: &mut Tally, file: &[u8], line: u32) {
+    pub fn line_agrees(&self, tally: &mut Tally, file: &[u8], line: u32) {
         let (found, behind) = next_line(file, line);
         Counts::add(&self.lines, &found);
         let misprint = Refusal {
