@@ -18,7 +18,7 @@ use Rattle.decimal.specs.TextValue.{sameText, valueAfter, numberIn}
 use Rattle.fields.specs.Fields.{dropSpaces, filledWith, behindSpaces, fieldOf}
 use Rattle.lines.specs.Letters.{kindOf, isFilled}
 use Rattle.lines.specs.Lines.{fieldIn, allAsWanted, lineWith, lineOf, columnText, lineText}
-use Rattle.lines.specs.Depth.{valueAnswer, depthAnswer}
+use Rattle.lines.specs.Depth.{depthField, fieldVerdict, depthVerdict}
 use Rattle.steps.specs.LineFaults.{faultsAt}
 use Rattle.parse.specs.Files.{lineIn, sizesIn, netOfLines, netIn}
 use Rattle.parse.specs.FileTests.{ragged, notDue, testLineIn}
@@ -32,6 +32,6 @@ unfolding odd bit sweep isRead eitherWire dependsOnRead neg gather gatherDown an
     written numbersOf joined formula splitAfter clausesIn _then_ inOrder lineAt sizeFault codeFault loopFaultBy testLines
     recordVerdict testDepth testGroup testNumbers testRoom groupVerdict headingVerdict digitsWithin digits field sameText
     valueAfter numberIn dropSpaces filledWith behindSpaces fieldOf kindOf isFilled fieldIn allAsWanted lineWith lineOf
-    columnText lineText valueAnswer depthAnswer faultsAt lineIn sizesIn netOfLines netIn ragged notDue testLineIn endVerdict
+    columnText lineText depthField fieldVerdict depthVerdict faultsAt lineIn sizesIn netOfLines netIn ragged notDue testLineIn endVerdict
     fileVerdict sheetVerdict sheetWith net rows
 starred = refl

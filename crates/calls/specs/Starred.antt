@@ -12,7 +12,7 @@ use Rattle.refusals.specs.Refusal.{replyOf}
 use Rattle.refusals.specs.declared.Verdict.{Verdict}
 use Rattle.decimal.specs.Digits.{lineFeed, field}
 use Rattle.lines.specs.Lines.{lineText}
-use Rattle.lines.specs.Depth.{depthAnswer}
+use Rattle.lines.specs.Depth.{depthVerdict}
 use Rattle.lines.specs.declared.Kind.the-variants.{Sizes, Memory, Address, WriteData, Control}
 use Rattle.parse.specs.Files.{netIn}
 use Rattle.sheet.specs.Sheet.{sheetVerdict}
@@ -40,9 +40,9 @@ row f s = record { found = f; stated = s }
 abbrev pub sent : Verdict → List ℕ
 sent v = replyOf v .number ∷ replyOf v .place ∷ []
 
--- and of the depth line of a depth
-abbrev pub sentOfDepth : ℕ → List ℕ
-sentOfDepth k = depthAnswer (field k ++ lineFeed ∷ []) .number ∷ depthAnswer (field k ++ lineFeed ∷ []) .place ∷ []
+-- the depth line of a depth
+abbrev pub depthText : ℕ → List ℕ
+depthText k = field k ++ lineFeed ∷ []
 
 unfoldable pub rows : List Row
 rows =
@@ -58,7 +58,7 @@ rows =
     -- address code 0 is taken, 4 gives 6 at line 3
     ∷ row (sent (sheetVerdict (sheetWith 0) 0 0) ++ sent (sheetVerdict (sheetWith 4) 0 0)) (0 ∷ 0 ∷ 6 ∷ 3 ∷ [])
     -- depth 255 is taken, 256 gives 7, in a call and on the depth line
-    ∷ row (sent (headingVerdict net 0 0 255) ++ sent (headingVerdict net 0 0 256) ++ sentOfDepth 255 ++ sentOfDepth 256)
+    ∷ row (sent (headingVerdict net 0 0 255) ++ sent (headingVerdict net 0 0 256) ++ sent (depthVerdict (depthText 255)) ++ sent (depthVerdict (depthText 256)))
     (0 ∷ 0 ∷ 7 ∷ 0 ∷ 0 ∷ 0 ∷ 7 ∷ 0 ∷ [])
     -- pair (1, 1) gives 8
     ∷ row (sent (groupVerdict net 0 0 1 (Pair 1 1) 57)) (8 ∷ 0 ∷ [])

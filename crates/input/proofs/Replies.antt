@@ -4,28 +4,35 @@ use Prim.Native.Nat.{ℕ, _+_, _-_, _≤_}
 use mathlib.Core.Path.{_≡_, refl, sym, _∙_, ap}
 use mathlib.Core.List.{List}
 use native.Mathlib.Omega.{arith}
-use borrow.Author.Tests.{ne-eqb}
 use lib.ListN.{length, take, drop, length-drop}
 use lib.Seq.{take-all}
-use Rattle.refusals.specs.Refusal.{refusalNumber, replyOf}
-use Rattle.refusals.specs.declared.Refusal.{Refusal}
-use Rattle.refusals.specs.declared.Reply.{Reply}
-use Rattle.refusals.proofs.Table.{refusalNumber-some, reply-passed}
+use Rattle.refusals.specs.Refusal.{replyOf}
+use Rattle.refusals.specs.Tests.{_then_}
+use Rattle.refusals.specs.declared.Verdict.{Verdict}
+use Rattle.refusals.specs.declared.Verdict.the-variants.{Passed, Refused}
+use Rattle.refusals.proofs.Table.{reply-passed}
+use Rattle.refusals.proofs.Tests.{passed-then}
 use Rattle.records.proofs.Acceptance.{passes-accepted}
-use Rattle.lines.specs.Depth.{DepthAnswer, refusedBy, acceptedAt, depthAnswer}
+use Rattle.lines.specs.Depth.{depthVerdict}
 use Rattle.sheet.specs.Codes.{CodesRead}
 use Rattle.steps.specs.declared.SheetAnswer.{SheetAnswer}
-use Rattle.input.specs.Input.{sheetReply, inputReply, SheetTaken}
+use Rattle.input.specs.Input.{sheetIn, inputVerdict, SheetTaken}
+
+-- a test that sends back a number has the last word
+refused-then : (v w : Verdict) → (replyOf v .number ≡ 0 → ⊥) → v then w ≡ v
+unfolding _then_
+refused-then Passed w n = absurd (n refl)
+refused-then (Refused r p) w n = refl
 
 -- the depth is refused
-pub reply-depth : (s : List ℕ) (r : Refusal) → refusedBy r ≡ depthAnswer s → record { number = refusalNumber r; place = 0 } ≡ inputReply s
-unfolding inputReply
-reply-depth s r h = rw (sym h, ne-eqb (refusalNumber r) 0 (λ e. omega (arith, refusalNumber-some r)))
+pub depth-decides : (s : List ℕ) → (replyOf (depthVerdict s) .number ≡ 0 → ⊥) → inputVerdict s ≡ depthVerdict s
+unfolding inputVerdict
+depth-decides s n = refused-then (depthVerdict s) (sheetIn (drop 11 s)) n
 
 -- or the sheet decides
-pub reply-sheet : (s : List ℕ) (k : ℕ) → acceptedAt k ≡ depthAnswer s → sheetReply (drop 11 s) ≡ inputReply s
-unfolding inputReply
-reply-sheet s k h = rw (sym h)
+pub sheet-decides : (s : List ℕ) → depthVerdict s ≡ Passed → inputVerdict s ≡ sheetIn (drop 11 s)
+unfolding inputVerdict
+sheet-decides s h = rw h (passed-then _)
 
 -- the part of an input behind its eleventh byte
 pub behind-depth : (s : List ℕ) → take (length s - 11) (drop 11 s) ≡ drop 11 s

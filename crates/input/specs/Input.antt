@@ -2,30 +2,27 @@
 -- depth is tested first"). Cited by `read_sheet` and `read_input`. Assumes nothing.
 use Prim.Native.Nat.{ℕ, _≤_}
 use mathlib.Core.Path.{_≡_}
-use mathlib.Core.Bool.{cond}
 use mathlib.Core.List.{List}
-use lib.Dec.{eqb}
 use lib.ListN.{drop}
 use Rattle.model.specs.Limits.{mostWires, mostDepth}
 use Rattle.model.specs.Acceptance.{Accepted}
-use Rattle.refusals.specs.Refusal.{replyOf}
+use Rattle.refusals.specs.Tests.{_then_}
+use Rattle.refusals.specs.declared.Verdict.{Verdict}
 use Rattle.refusals.specs.declared.Reply.{Reply}
 use Rattle.netlist.specs.NetOf.{netOf}
 use Rattle.netlist.specs.declared.Netlist.{Netlist}
-use Rattle.lines.specs.Depth.{depthAnswer}
+use Rattle.lines.specs.Depth.{depthVerdict, depthLine}
 use Rattle.parse.specs.Files.{netIn}
 use Rattle.sheet.specs.Sheet.{sheetVerdict}
 use Rattle.input.specs.declared.Input.{Input}
 
--- a sheet's number and place, for lists of 600 records
-unfoldable pub sheetReply : List ℕ → Reply
-sheetReply file = replyOf (sheetVerdict file mostWires mostWires)
+-- a sheet's verdict, for lists of 600 records
+abbrev pub sheetIn : List ℕ → Verdict
+sheetIn file = sheetVerdict file mostWires mostWires
 
--- an input's: the depth's where that is refused, and else the sheet's behind it
-unfoldable pub inputReply : List ℕ → Reply
-inputReply s =
-    cond (eqb (depthAnswer s .number) 0) (sheetReply (drop 11 s))
-    (record { number = depthAnswer s .number; place = depthAnswer s .place })
+-- an input's: "The depth is tested first", then the sheet behind it
+unfoldable pub inputVerdict : List ℕ → Verdict
+inputVerdict s = depthVerdict s then sheetIn (drop 11 s)
 
 abbrev pub replyIn : Input → Reply
 replyIn r = record { number = r .number; place = r .place }
@@ -37,6 +34,6 @@ pub record SheetTaken (file : List ℕ) (net : Netlist) (latches gates : List �
 
 -- an input that is taken: its depth, and the sheet behind it
 pub record InputTaken (s : List ℕ) (depth : ℕ) (net : Netlist) (latches gates : List ℕ) : Type 0 where
-  pub depth-is : depth ≡ depthAnswer s .depth
+  pub depth-is : depth ≡ depthLine s .depth
   pub depth-most : depth ≤ mostDepth
   pub sheet : SheetTaken (drop 11 s) net latches gates

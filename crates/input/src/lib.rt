@@ -1,10 +1,10 @@
 // The program's input: a depth line and a sheet (document 01, "The program and one full run").
-use lines::DepthLine;
 use netlist::Netlist;
 ghost use mathlib.Core.Path.{_≡_};
 ghost use lib.ListN.{drop};
 ghost use Rattle.sheet.specs.Scratch.{noCodes};
-ghost use Rattle.input.specs.Input.{sheetReply, inputReply, replyIn, SheetTaken, InputTaken};
+ghost use Rattle.refusals.specs.Refusal.{replyOf};
+ghost use Rattle.input.specs.Input.{sheetIn, inputVerdict, replyIn, SheetTaken, InputTaken};
 
 // What an input is read as: document 01's number and place (both 0 where it is taken), the depth, and the sheet's record.
 pub struct Input {
@@ -17,7 +17,7 @@ pub struct Input {
 // Reads the sheet behind an accepted depth line.
 fn read_sheet(file: &[u8], depth: u32, latches: &mut [u32; 1200], gates: &mut [u32; 1200]) -> Input
     requires { ⌜ (now latches ≡ noCodes) × (now gates ≡ noCodes) ⌝ }
-    ensures reply { λ r. ⌜ replyIn r ≡ sheetReply (now (file .entry)) ⌝ }
+    ensures reply { λ r. ⌜ replyIn r ≡ replyOf (sheetIn (now (file .entry))) ⌝ }
     ensures depth { λ r. ⌜ r .depth ≡ depth ⌝ }
     ensures taken { λ r. ⌜ (r .number ≡ 0 → SheetTaken (now (file .entry)) (r .net) (now (latches .exit)) (now (gates .exit))) ⌝ }
 {
@@ -36,16 +36,19 @@ fn read_sheet(file: &[u8], depth: u32, latches: &mut [u32; 1200], gates: &mut [u
 // Reads an input: the depth is tested first. Where it is taken, the sheet's codes are in the lists.
 pub fn read_input(input: &[u8], latches: &mut [u32; 1200], gates: &mut [u32; 1200]) -> Input
     requires { ⌜ (now latches ≡ noCodes) × (now gates ≡ noCodes) ⌝ }
-    ensures reply { λ r. ⌜ replyIn r ≡ inputReply (now (input .entry)) ⌝ }
+    ensures reply { λ r. ⌜ replyIn r ≡ replyOf (inputVerdict (now (input .entry))) ⌝ }
     ensures taken { λ r. ⌜ (r .number ≡ 0 → InputTaken (now (input .entry)) (r .depth) (r .net) (now (latches .exit)) (now (gates .exit))) ⌝ }
 {
-    match lines::read_depth(input) {
-        DepthLine::Refused(refusal) => Input {
-            number: refusals::number(refusal),
-            place: 0,
-            depth: 0,
-            net: netlist::empty_net(),
-        },
-        DepthLine::Accepted(depth) => read_sheet(&input[11..], depth, latches, gates),
+    let line = lines::read_depth(input);
+    let verdict = line.verdict;
+    let reply = refusals::reply_of(verdict);
+    if reply.number == 0 {
+        return read_sheet(&input[11..], line.depth, latches, gates);
+    }
+    Input {
+        number: reply.number,
+        place: reply.place,
+        depth: 0,
+        net: netlist::empty_net(),
     }
 }

@@ -1,57 +1,64 @@
--- Laws of specs/Depth.antt: the tests of the depth line, one by one. No contract cites this file. Assumes nothing.
+-- Laws of specs/Depth.antt: the depth line's field, and what a depth that passes has shown. No contract cites this file.
+-- Assumes nothing.
 use Prim.Native.Nat.{ℕ, _≤_, _<_}
 use mathlib.Core.Path.{_≡_, refl, _∙_, ap}
-use mathlib.Core.Bool.{Bool, true, false, cond, _&&_}
+use mathlib.Core.Bool.{Bool, true, false}
 use mathlib.Core.List.{List}
 use native.Mathlib.Omega.{arith}
-use borrow.Author.Tests.{le-leb, lt-leb, leb-true, leb-false, eq-eqb, ne-eqb}
-use lib.Dec.{leb, eqb}
+use borrow.Author.Tests.{le-leb, lt-leb, ltb-false, leb-true, leb-false, eq-eqb, ne-eqb}
+use lib.Dec.{leb, ltb}
 use lib.ListN.{length, getD, take}
-use Rattle.refusals.specs.declared.Refusal.the-variants.{Misprint, Depth}
+use Rattle.refusals.specs.Tests.{_then_}
+use Rattle.refusals.specs.declared.Refusal.the-variants.{Depth}
+use Rattle.refusals.specs.declared.Verdict.{Verdict}
+use Rattle.refusals.specs.declared.Verdict.the-variants.{Passed, Refused}
+use Rattle.refusals.proofs.Tests.{refused-not-passed, refuseIf-passes, rest-passes}
 use Rattle.decimal.specs.Digits.{lineFeed}
 use Rattle.fields.specs.Fields.{fieldOf}
 use Rattle.fields.specs.declared.Field.{Field}
-use Rattle.fields.specs.declared.Field.the-variants.{Empty, Filled, Misprinted}
-use Rattle.lines.specs.Depth.{DepthAnswer, refusedBy, acceptedAt, valueAnswer, depthAnswer}
+use Rattle.fields.specs.declared.Field.the-variants.{Misprinted}
+use Rattle.lines.specs.Lines.{valueOf}
+use Rattle.lines.specs.Depth.{depthField, fieldVerdict, depthVerdict, withDepth, depthLine}
 
--- eleven bytes or more with a line feed in the eleventh: the field decides
-pub depthAnswer-field : (s : List ℕ) → 11 ≤ length s → getD s 10 0 ≡ lineFeed → depthAnswer s ≡ valueAnswer (fieldOf (take 10 s))
-unfolding depthAnswer
-depthAnswer-field s l f = rw (le-leb 11 (length s) l, eq-eqb (getD s 10 0) lineFeed f)
+-- eleven bytes or more with a line feed in the eleventh: ten columns
+pub depthField-columns : (s : List ℕ) → 11 ≤ length s → getD s 10 0 ≡ lineFeed → depthField s ≡ fieldOf (take 10 s)
+unfolding depthField
+depthField-columns s l f = rw (le-leb 11 (length s) l, eq-eqb (getD s 10 0) lineFeed f)
 
 -- fewer bytes, and no line feed, are of the wrong form
-pub depthAnswer-short : (s : List ℕ) → length s < 11 → depthAnswer s ≡ refusedBy Misprint
-unfolding depthAnswer
-depthAnswer-short s l = rw (lt-leb 11 (length s) l)
+pub depthField-short : (s : List ℕ) → length s < 11 → depthField s ≡ Misprinted
+unfolding depthField
+depthField-short s l = rw (lt-leb 11 (length s) l)
 
-pub depthAnswer-no-feed : (s : List ℕ) → 11 ≤ length s → (getD s 10 0 ≡ lineFeed → ⊥) → depthAnswer s ≡ refusedBy Misprint
-unfolding depthAnswer
-depthAnswer-no-feed s l n = rw (le-leb 11 (length s) l, ne-eqb (getD s 10 0) lineFeed n)
+pub depthField-no-feed : (s : List ℕ) → 11 ≤ length s → (getD s 10 0 ≡ lineFeed → ⊥) → depthField s ≡ Misprinted
+unfolding depthField
+depthField-no-feed s l n = rw (le-leb 11 (length s) l, ne-eqb (getD s 10 0) lineFeed n)
 
--- an accepted depth is at most 255
-accepted-value : (f : Field) (k : ℕ) → acceptedAt k ≡ valueAnswer f → k ≤ 255
-unfolding valueAnswer
-accepted-value Empty k h = absurd (omega (arith, ap (λ (a : DepthAnswer). a .number) h))
-accepted-value (Filled x) k h = by-test (leb x 255) refl h
-  where
-    by-test : (b : Bool) → leb x 255 ≡ b → acceptedAt k ≡ cond b (acceptedAt x) (refusedBy Depth) → k ≤ 255
-    by-test true e h = omega (arith, leb-true x 255 e, ap (λ (a : DepthAnswer). a .depth) h)
-    by-test false e h = absurd (omega (arith, ap (λ (a : DepthAnswer). a .number) h))
-accepted-value Misprinted k h = absurd (omega (arith, ap (λ (a : DepthAnswer). a .number) h))
+-- the depth beside a verdict does not change it
+withDepth-verdict : (v : Verdict) (f : Field) → withDepth v f .verdict ≡ v
+unfolding withDepth
+withDepth-verdict Passed f = refl
+withDepth-verdict (Refused r p) f = refl
 
-pub accepted-most : (s : List ℕ) (k : ℕ) → acceptedAt k ≡ depthAnswer s → k ≤ 255
-unfolding depthAnswer
-accepted-most s k h = by-form (leb 11 (length s) && eqb (getD s 10 0) lineFeed) h
-  where
-    by-form : (b : Bool) → acceptedAt k ≡ cond b (valueAnswer (fieldOf (take 10 s))) (refusedBy Misprint) → k ≤ 255
-    by-form true h = accepted-value (fieldOf (take 10 s)) k h
-    by-form false h = absurd (omega (arith, ap (λ (a : DepthAnswer). a .number) h))
+pub depthLine-verdict : (s : List ℕ) → depthLine s .verdict ≡ depthVerdict s
+unfolding depthLine
+depthLine-verdict s = withDepth-verdict (depthVerdict s) (depthField s)
+
+-- a depth that passes is at most 255
+passed-value : (f : Field) → fieldVerdict f ≡ Passed → valueOf f ≤ 255
+unfolding fieldVerdict
+passed-value f h = ltb-false 255 (valueOf f) (refuseIf-passes (ltb 255 (valueOf f)) Depth 0 .0 (rest-passes _ _ h))
+
+pub passed-most : (s : List ℕ) → depthVerdict s ≡ Passed → depthLine s .depth ≤ 255
+unfolding depthLine withDepth depthVerdict
+passed-most s h = rw h (passed-value (depthField s) h)
 
 -- and stands in an input of at least eleven bytes
-pub accepted-long : (s : List ℕ) (k : ℕ) → acceptedAt k ≡ depthAnswer s → 11 ≤ length s
-accepted-long s k h = by-length (leb 11 (length s)) refl
+pub passed-long : (s : List ℕ) → depthVerdict s ≡ Passed → 11 ≤ length s
+unfolding depthVerdict fieldVerdict _then_
+passed-long s h = by-length (leb 11 (length s)) refl
   where
     by-length : (b : Bool) → leb 11 (length s) ≡ b → 11 ≤ length s
     by-length true e = leb-true 11 (length s) e
     by-length false e =
-        absurd (omega (arith, ap (λ (a : DepthAnswer). a .number) (h ∙ depthAnswer-short s (leb-false 11 (length s) e))))
+        absurd (refused-not-passed (rw (depthField-short s (leb-false 11 (length s) e)) at h))

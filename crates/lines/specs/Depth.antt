@@ -1,45 +1,37 @@
--- The depth line, the first eleven bytes of the input (document 01, "The program and one full run"). Cited by `read_depth`,
--- input/specs/Input and calls/specs/Starred. Assumes nothing.
+-- The depth line, the first eleven bytes of the input (document 01, "The program and one full run"). Cited by `read_depth`
+-- and its parts, input/specs/Input and calls/specs/Starred. Assumes nothing.
 use Prim.Native.Nat.{ℕ}
-use mathlib.Core.Bool.{cond, _&&_}
+use mathlib.Core.Bool.{true, not, cond, _&&_}
 use mathlib.Core.List.{List}
-use lib.Dec.{eqb, leb}
+use lib.Dec.{eqb, leb, ltb}
 use lib.ListN.{length, getD, take}
 use Rattle.model.specs.Limits.{mostDepth}
-use Rattle.refusals.specs.Refusal.{refusalNumber}
-use Rattle.refusals.specs.declared.Refusal.{Refusal}
+use Rattle.refusals.specs.Tests.{refuseIf, _then_}
 use Rattle.refusals.specs.declared.Refusal.the-variants.{Misprint, Depth}
+use Rattle.refusals.specs.declared.Verdict.{Verdict}
+use Rattle.refusals.specs.declared.Verdict.the-variants.{Passed, Refused}
 use Rattle.decimal.specs.Digits.{lineFeed}
 use Rattle.fields.specs.Fields.{fieldOf}
 use Rattle.fields.specs.declared.Field.{Field}
-use Rattle.fields.specs.declared.Field.the-variants.{Empty, Filled, Misprinted}
+use Rattle.fields.specs.declared.Field.the-variants.{Misprinted}
+use Rattle.lines.specs.Lines.{asWanted, valueOf}
 use Rattle.lines.specs.declared.DepthLine.{DepthLine}
-use Rattle.lines.specs.declared.DepthLine.the-variants.{Accepted, Refused}
 
--- document 01's numbers for an answer: the refusal's number, 0 where there is none; its place; the depth, 0 at a refusal
-pub record DepthAnswer : Type 0 where
-  pub number : ℕ
-  pub place : ℕ
-  pub depth : ℕ
+-- "the depth in ten columns and a line feed"; "input of fewer than eleven bytes" has no such field
+unfoldable pub depthField : List ℕ → Field
+depthField s = cond (leb 11 (length s) && eqb (getD s 10 0) lineFeed) (fieldOf (take 10 s)) Misprinted
 
--- "place 0"
-abbrev pub refusedBy : Refusal → DepthAnswer
-refusedBy r = record { number = refusalNumber r; place = 0; depth = 0 }
+-- "form 2 .., value 7, place 0": a number, and at most 255
+unfoldable pub fieldVerdict : Field → Verdict
+fieldVerdict f = refuseIf (not (asWanted true f)) Misprint 0 then refuseIf (ltb mostDepth (valueOf f)) Depth 0
 
-abbrev pub acceptedAt : ℕ → DepthAnswer
-acceptedAt k = record { number = 0; place = 0; depth = k }
+unfoldable pub depthVerdict : List ℕ → Verdict
+depthVerdict s = fieldVerdict (depthField s)
 
-abbrev pub answerOf : DepthLine → DepthAnswer
-answerOf (Accepted k) = acceptedAt k
-answerOf (Refused r) = refusedBy r
+-- a verdict with the depth in a field beside it, 0 at a refusal
+unfoldable pub withDepth : Verdict → Field → DepthLine
+withDepth Passed f = record { verdict = Passed; depth = valueOf f }
+withDepth (Refused r p) f = record { verdict = Refused r p; depth = 0 }
 
--- "form 2": an empty field, or no number; "value 7": over 255
-unfoldable pub valueAnswer : Field → DepthAnswer
-valueAnswer Empty = refusedBy Misprint
-valueAnswer (Filled k) = cond (leb k mostDepth) (acceptedAt k) (refusedBy Depth)
-valueAnswer Misprinted = refusedBy Misprint
-
--- "form 2 (input of fewer than eleven bytes included)", then the value: "the depth in ten columns and a line feed"
-unfoldable pub depthAnswer : List ℕ → DepthAnswer
-depthAnswer s =
-    cond (leb 11 (length s) && eqb (getD s 10 0) lineFeed) (valueAnswer (fieldOf (take 10 s))) (refusedBy Misprint)
+unfoldable pub depthLine : List ℕ → DepthLine
+depthLine s = withDepth (depthVerdict s) (depthField s)

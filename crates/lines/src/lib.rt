@@ -3,9 +3,10 @@ ghost use mathlib.Core.Path.{_≡_};
 ghost use Prim.Native.Nat.{_<_};
 ghost use Rattle.lines.specs.Letters.{kindOf, rowOf, isFilled, FilledAsPrinted};
 ghost use Rattle.lines.specs.Lines.{asWanted, valueOf, lineWith, lineOf, ReadAsWritten};
-ghost use Rattle.lines.specs.Depth.{answerOf, valueAnswer, depthAnswer};
+ghost use Rattle.lines.specs.Depth.{depthField, fieldVerdict, withDepth, depthLine};
 use fields::Field;
 use refusals::Refusal;
+use refusals::Verdict;
 
 // Which line it is: the rows of document 01's table, and any other letter.
 pub enum Kind {
@@ -30,10 +31,10 @@ pub enum ParsedLine {
     },
 }
 
-// What the depth line says.
-pub enum DepthLine {
-    Accepted(u32),
-    Refused(Refusal),
+// What the depth line is read as: the verdict of its tests, and the depth, 0 where one refuses.
+pub struct DepthLine {
+    pub verdict: Verdict,
+    pub depth: u32,
 }
 
 // Which fields are filled, 1, and which are empty, 0, in the order of document 01's table.
@@ -161,31 +162,48 @@ pub fn read_line(line: &[u8]) -> ParsedLine
     ParsedLine::Misprint
 }
 
-// The depth in a field.
-fn depth_in(field: Field) -> DepthLine
-    ensures { λ r. ⌜ answerOf r ≡ valueAnswer field ⌝ }
-{
-    match field {
-        Field::Empty => DepthLine::Refused(Refusal::Misprint),
-        Field::Filled(depth) => {
-            if depth <= 255 {
-                DepthLine::Accepted(depth)
-            } else {
-                DepthLine::Refused(Refusal::Depth)
-            }
-        }
-        Field::Misprinted => DepthLine::Refused(Refusal::Misprint),
-    }
-}
-
-// What the first eleven bytes of the input are read as: the depth in ten columns and a line feed.
-pub fn read_depth(input: &[u8]) -> DepthLine
-    ensures { λ r. ⌜ answerOf r ≡ depthAnswer (now (input .entry)) ⌝ }
+// The field in which the depth stands: ten columns, and a line feed behind them.
+fn depth_field(input: &[u8]) -> Field
+    ensures { λ r. ⌜ r ≡ depthField (now (input .entry)) ⌝ }
 {
     if 11 <= input.len() {
         if input[10] == b'\n' {
-            return depth_in(fields::read_field(&input[..10]));
+            return fields::read_field(&input[..10]);
         }
     }
-    DepthLine::Refused(Refusal::Misprint)
+    Field::Misprinted
+}
+
+// Tests the form of a depth, then its value.
+fn test_depth(field: Field) -> Verdict
+    ensures { λ r. ⌜ r ≡ fieldVerdict field ⌝ }
+{
+    match field {
+        Field::Empty => Verdict::Refused(Refusal::Misprint, 0),
+        Field::Filled(depth) => {
+            if depth <= 255 {
+                return Verdict::Passed;
+            }
+            Verdict::Refused(Refusal::Depth, 0)
+        }
+        Field::Misprinted => Verdict::Refused(Refusal::Misprint, 0),
+    }
+}
+
+fn with_depth(verdict: Verdict, field: Field) -> DepthLine
+    ensures { λ r. ⌜ r ≡ withDepth verdict field ⌝ }
+{
+    let depth = match verdict {
+        Verdict::Passed => value_of(field),
+        Verdict::Refused(_, _) => 0,
+    };
+    DepthLine { verdict, depth }
+}
+
+// What the first eleven bytes of the input are read as.
+pub fn read_depth(input: &[u8]) -> DepthLine
+    ensures { λ r. ⌜ r ≡ depthLine (now (input .entry)) ⌝ }
+{
+    let field = depth_field(input);
+    with_depth(test_depth(field), field)
 }

@@ -5,7 +5,6 @@ use borrow.Author.Needs.{needs}
 use Rattle.refusals.specs.Refusal.{replyOf}
 use Rattle.refusals.specs.declared.Reply.{Reply}
 use Rattle.sheet.proofs.Scratch.{read-none}
-use Rattle.input.specs.Input.{sheetReply}
 use Rattle.input.proofs.Replies.{sheet-taken}
 use Rattle.input.proofs.read_sheet.Statement.{statement}
 use Rattle.input.proofs.read_sheet.Tie as tie
@@ -22,7 +21,6 @@ reply-of-requires : tie.Need-reply-of-requires
 reply-of-requires c κs = search needs
 
 returns : tie.Need-returns
-unfolding sheetReply
 returns c =
     let read = c .before .before .read-codes .ensures in
     let reply = c .reply-of .ensures in (
