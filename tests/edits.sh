@@ -1,12 +1,11 @@
 #!/usr/bin/env bash
 # Reads what the prover said of each must-fail edit (after `rt ci`). An edit says in its comment why the wrong definition or program
 # breaks a promise ('# counterexample: ..') and at which fact it is refused ('# refused at: NAME', a law, or a need of a function's
-# proof): one that is false of the wrong definition or program. It passes where an error of the prover's own stands at that name, in
-# the proof file of its first error, or where no proof file is concerned and the prover's search leaves that need open. Needs before
-# it may be refused too, for their proofs name the values that the edit changes (as an invariant does). An edit of several functions
-# names each with its fact ('# refused at: FUNCTION/NAME'): a function's proof goes by the contracts of those that it calls, so each
-# is refused on its own, in one check of the crate. A parse error, a name out of scope, a definition that no longer type checks, or a
-# proof file that merely no longer fits the code shows nothing about the promise, and fails.
+# proof): one that is false of the wrong definition or program. It passes where the prover's first error stands at that name, or where
+# no proof file is concerned and the prover's search leaves that need open. An edit of several functions names each with its fact
+# ('# refused at: FUNCTION/NAME', the first error in that function's proof): a function's proof goes by the contracts of those that it
+# calls, so each is refused on its own, in one check of the crate. A parse error, a name out of scope, a definition that no longer type
+# checks, or a proof file that merely no longer fits the code shows nothing about the promise, and fails.
 set -u
 cd "$(dirname "$0")/.." || exit 2
 passed=0
@@ -14,15 +13,18 @@ failed=0
 
 misfit='is not in scope|has no `Need-|enclosing block|no `mod` line|that can be named from here'
 
-# whether the errors, or the needs that the search left open, have a fact
+# whether the first error, or a need that the search left open, is the fact
 is_refused_at() { # log, errors, fact
-  local name=${3##*/} file=${2%%:*} open
+  local name=${3##*/} errors=$2 open file
   open=$(grep -E '^fn .*: no proof: .*`search` does not close ' "$1")
   case "$3" in
-    */*) file=/proofs/${3%/*}/Proof.antt; open=$(grep -F "$file;" <<<"$open") ;;
-    *) [ -z "$2" ] || open= ;;
+    */*)
+      file=/proofs/${3%/*}/Proof.antt
+      errors=$(grep -F "$file:" <<<"$errors")
+      open=$(grep -F "$file;" <<<"$open")
+      ;;
   esac
-  [ -n "$2" ] && grep -F "$file:" <<<"$2" | grep -vE "$misfit" | grep -qF "error: \`$name\`" && return 0
+  if [ -n "$errors" ]; then head -n 1 <<<"$errors" | grep -vE "$misfit" | grep -qF "error: \`$name\`"; return; fi
   sed 's/.*does not close//' <<<"$open" | grep -qF "\`$name\`"
 }
 

@@ -217,6 +217,21 @@ pub fn parameters(group: Group) -> (u32, u32, u32) {
     }
 }
 
+/// A call that writes into a slice of `room` entries and answers how many: the entries written.
+fn written_into<T: Copy + PartialEq>(
+    room: usize,
+    fill: fn(usize) -> T,
+    call: impl FnOnce(*mut T, usize) -> CountReply,
+) -> Answer<Vec<T>> {
+    let mut out = Lent::new(room, fill);
+    let slice = out.slice();
+    let reply = call(slice.as_mut_ptr(), slice.len());
+    let entries = out
+        .written(reply.count, fill)
+        .ok_or("something behind the count, or a count above the room")?;
+    answer(reply.number, reply.place, reply.count == 0, || Ok(entries))
+}
+
 /// No number of any formula, different at each index.
 fn unwritten(index: usize) -> i32 {
     i32::MIN + index as i32
@@ -238,10 +253,8 @@ impl Lists {
         (kind, j, i): (u32, u32, u32),
         room: usize,
     ) -> Answer<Vec<i32>> {
-        let mut out = Lent::new(room, unwritten);
-        let slice = out.slice();
         // SAFETY: each pointer and length are those of a live slice, and only `out` is written to.
-        let reply = unsafe {
+        written_into(room, unwritten, |out, room| unsafe {
             marrubigai_write_group(
                 self.record,
                 self.latches.as_ptr(),
@@ -252,14 +265,10 @@ impl Lists {
                 kind,
                 j,
                 i,
-                slice.as_mut_ptr(),
-                slice.len(),
+                out,
+                room,
             )
-        };
-        let numbers = out
-            .written(reply.count, unwritten)
-            .ok_or("numbers behind the count, or a count above the room")?;
-        answer(reply.number, reply.place, reply.count == 0, || Ok(numbers))
+        })
     }
 
     pub fn heading(&self, depth: u32) -> Answer<(u32, u32)> {
@@ -330,34 +339,23 @@ fn unprinted(index: usize) -> u8 {
     128 | index as u8
 }
 
-/// A call that prints, with a slice of `room` bytes: the bytes written.
-fn printed(room: usize, call: impl FnOnce(*mut u8, usize) -> CountReply) -> Answer<Vec<u8>> {
-    let mut out = Lent::new(room, unprinted);
-    let slice = out.slice();
-    let reply = call(slice.as_mut_ptr(), slice.len());
-    let text = out
-        .written(reply.count, unprinted)
-        .ok_or("bytes behind the count, or a count above the room")?;
-    answer(reply.number, reply.place, reply.count == 0, || Ok(text))
-}
-
 pub fn put_header(variables: u32, clauses: u32, room: usize) -> Answer<Vec<u8>> {
-    // SAFETY: pointer and length are those of the slice that `printed` lends.
-    printed(room, |out, room| unsafe {
+    // SAFETY: pointer and length are those of the slice that `written_into` lends.
+    written_into(room, unprinted, |out, room| unsafe {
         marrubigai_put_header(out, room, variables, clauses)
     })
 }
 
 pub fn put_clauses(numbers: &[i32], room: usize) -> Answer<Vec<u8>> {
     // SAFETY: each pointer and length are those of a live slice, and only `out` is written to.
-    printed(room, |out, room| unsafe {
+    written_into(room, unprinted, |out, room| unsafe {
         marrubigai_put_clauses(out, room, numbers.as_ptr(), numbers.len())
     })
 }
 
 pub fn put_refusal(number: u32, place: u32, room: usize) -> Answer<Vec<u8>> {
-    // SAFETY: pointer and length are those of the slice that `printed` lends.
-    printed(room, |out, room| unsafe {
+    // SAFETY: pointer and length are those of the slice that `written_into` lends.
+    written_into(room, unprinted, |out, room| unsafe {
         marrubigai_put_refusal(out, room, number, place)
     })
 }

@@ -12,7 +12,7 @@ use std::process::{Child, Command, Stdio};
 use std::thread;
 use std::time::{Duration, Instant};
 
-use super::process::{collect, shown, start, Program, Ran};
+use super::process::{collect, shown, start, whole, Program, Ran};
 use super::reference::check_examples::{input, FULL_RUN, RICH};
 use super::reference::check_refusals::largest_sheet;
 use super::reference::formula::frames;
@@ -136,13 +136,7 @@ fn stopped(mut child: Child, output: Vec<u8>) -> Option<Ran> {
     let begin = Instant::now();
     loop {
         if let Some(status) = child.try_wait().expect("waiting for the program") {
-            let mut errors = Vec::new();
-            child
-                .stderr
-                .take()
-                .expect("piped")
-                .read_to_end(&mut errors)
-                .expect("reading the messages");
+            let errors = whole(child.stderr.take());
             return Some(Ran {
                 output,
                 errors,

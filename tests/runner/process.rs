@@ -125,23 +125,21 @@ fn feed(mut stdin: ChildStdin, input: &[u8]) {
     }
 }
 
+/// What stands in a stream up to its end.
+pub fn whole(stream: Option<impl Read>) -> Vec<u8> {
+    let mut bytes = Vec::new();
+    stream
+        .expect("piped")
+        .read_to_end(&mut bytes)
+        .expect("reading what the program writes");
+    bytes
+}
+
 /// Reads what a program writes until it ends. It says little on standard error, so that pipe does
 /// not fill while the other is read.
 pub fn collect(mut child: Child) -> Ran {
-    let mut output = Vec::new();
-    let mut errors = Vec::new();
-    child
-        .stdout
-        .take()
-        .expect("piped")
-        .read_to_end(&mut output)
-        .expect("reading the output");
-    child
-        .stderr
-        .take()
-        .expect("piped")
-        .read_to_end(&mut errors)
-        .expect("reading the messages");
+    let output = whole(child.stdout.take());
+    let errors = whole(child.stderr.take());
     let status = child.wait().expect("waiting for the program");
     Ran {
         output,
