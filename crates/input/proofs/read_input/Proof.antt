@@ -31,10 +31,10 @@ long : (c : tie.After-known-told2) → 11 ≤ length (c .before .before .before 
 long c = accepted-long _ _ (rw (c .before .depth .given .1) at (c .before .before .before .read-depth .ensures))
 
 sub-read-sheet : tie.Need-sub-read-sheet
-sub-read-sheet c = long c
+sub-read-sheet c = omega (arith, long c)
 
 part-read-sheet-start : tie.Need-part-read-sheet-start
-part-read-sheet-start c = long c
+part-read-sheet-start c = omega (arith, long c)
 
 part-read-sheet-end : tie.Need-part-read-sheet-end
 part-read-sheet-end c = search needs

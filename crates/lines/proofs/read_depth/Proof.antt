@@ -2,7 +2,7 @@
 use mathlib.Core.Path.{sym, ap, _∙_}
 use native.Mathlib.Omega.{arith}
 use borrow.Author.Needs.{needs}
-use lib.Seq.{length-take-le}
+use lib.ListN.{length-take}
 use Rattle.lines.specs.Depth.{valueAnswer}
 use Rattle.lines.proofs.Depth.{depthAnswer-field, depthAnswer-short, depthAnswer-no-feed}
 use Rattle.lines.proofs.read_depth.Statement.{statement}
@@ -12,7 +12,7 @@ shared-slice-read-if2 : tie.Need-shared-slice-read-if2
 shared-slice-read-if2 c = search needs
 
 slice-aggregate-read-field : tie.Need-slice-aggregate-read-field
-slice-aggregate-read-field c = sym (length-take-le 10 (c .before .before .before .before .before .args .input .now) (omega arith))
+slice-aggregate-read-field c = rw length-take (omega arith)
 
 read-field-requires : tie.Need-read-field-requires
 read-field-requires c κs = search needs
