@@ -184,10 +184,14 @@ module _ (T : Declared) (L : LL.Laws T) (P : one.Pair T L) where
         abbrev Left : Out → SProp 𝓤
         Left = afterBlock 𝓤 H (afterSeq 𝓤 H (Wp 𝓤 H (𝓣 .C) (𝓣 .Λ) En rest (atReturn 𝓤 H En Post)) (atReturn 𝓤 H En Post))
 
-        turns-by : (x : Turn) (t : Bool) → ltb (x .i) end ≡ t
-            → Seq (Go {0}) W (I x) (runs (𝓣 .C) (𝓣 .Λ) En turn (anyQ (afterTurn 𝓤 H (Below 𝓤 H A ≺ I x) Left)))
+        -- what a turn is to show
+        abbrev Turns : Turn → Type 1
+        Turns x = Seq (Go {0}) W (I x) (runs (𝓣 .C) (𝓣 .Λ) En turn (anyQ (afterTurn 𝓤 H (Below 𝓤 H A ≺ I x) Left)))
+
+        -- one record more
+        turn-on : (x : Turn) → ltb (x .i) end ≡ true → Turns x
         unfolding afterTurn
-        turns-by x true e =
+        turn-on x e =
             assigns ! (bin ! (load ! (from ! (stop !)) (look ! 12 refl)) (load ! (from ! (stop !)) (look ! 14 refl)) tt)
             (from ! (stop !)) (init ! 8 refl (tt, tt)) $
             rewrite ! 8 (λ (t : Bool). ‵ (fat fullShare tyBool l₆ 0 (vbool t))) e refl $
@@ -244,7 +248,11 @@ module _ (T : Declared) (L : LL.Laws T) (P : one.Pair T L) where
 
             in-codes : i < 600
             in-codes = omega (arith, small, within)
-        turns-by x false e =
+
+        -- none is left
+        turn-out : (x : Turn) → ltb (x .i) end ≡ false → Turns x
+        unfolding afterTurn
+        turn-out x e =
             assigns ! (bin ! (load ! (from ! (stop !)) (look ! 12 refl)) (load ! (from ! (stop !)) (look ! 14 refl)) tt)
             (from ! (stop !)) (init ! 8 refl (tt, tt)) $
             rewrite ! 8 (λ (t : Bool). ‵ (fat fullShare tyBool l₆ 0 (vbool t))) e refl $
@@ -262,6 +270,10 @@ module _ (T : Declared) (L : LL.Laws T) (P : one.Pair T L) where
           where
             at-end : x .i ≡ end
             at-end = let h = ltb-false (x .i) end e in omega (arith, h, x .within)
+
+        turns-by : (x : Turn) (t : Bool) → ltb (x .i) end ≡ t → Turns x
+        turns-by x true e = turn-on x e
+        turns-by x false e = turn-out x e
 
       -- the MIR up to the loop
       walk : Room (row T) (length ys) → ent 𝓤 (onEntry 𝓤 H A signature (κ₀, (κ₁, tt)) (q₀, (q₁, tt)) a vals)
