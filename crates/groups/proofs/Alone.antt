@@ -11,7 +11,7 @@ use lib.ListN.{length}
 use borrow.Author.Tests.{leb-true, ltb-true}
 use Rattle.model.specs.Netlist as M
 use Rattle.model.specs.Acceptance.{Accepted}
-use Rattle.model.specs.Clauses.{pairClauses, closingClauses}
+use Rattle.model.specs.Clauses.{PairLiterals, pairClauses, closingClauses}
 use Rattle.model.specs.Variables.{base, pairBase, noneSince, selected, readBit, pairLiterals, closingLiterals}
 use Rattle.model.specs.Groups.{violationOf, clausesOf, inDepth}
 use Rattle.model.specs.Numbers.{written, numbersOf}
@@ -19,6 +19,7 @@ use Rattle.model.specs.Wrote.{Wrote}
 use Rattle.model.specs.declared.Group.{Group}
 use Rattle.model.specs.declared.Group.the-variants.{Wires, Pair, Closing, Property}
 use Rattle.model.proofs.Booleans.{and-true}
+use Rattle.model.proofs.Lengths.{pair-counts, pair-numbers, property-numbers}
 use Rattle.netlist.specs.NetOf.{netOf, alone}
 use Rattle.netlist.specs.declared.Netlist.{Netlist}
 use Rattle.variables.specs.PortFits.{PortFits}
@@ -54,6 +55,17 @@ module _ (r : Netlist) (ls gs : List ℕ) where
   pub property-alone : (k : ℕ) → numbersOf (alone r) k Property ≡ numbersOf (netOf r ls gs) k Property
   unfolding netOf numbersOf clausesOf violationOf base
   property-alone k = refl
+
+  -- a group known by its kind: every pair needs the same room, and the property at least that of a lower depth
+  module _ (k : ℕ) {g : Group} {room : ℕ} (l : length (numbersOf (netOf r ls gs) k g) ≤ room) where
+    pub pair-room : {j i : ℕ} → g ≡ Pair j i → (x : PairLiterals) → length (written (pairClauses (r .m) (r .n) x)) ≤ room
+    unfolding netOf
+    pair-room {j} {i} e x =
+        omega (arith, ap (λ h. length (numbersOf (netOf r ls gs) k h)) e, pair-numbers (netOf r ls gs) k j i, pair-counts (r .m) (r .n) x .in-numbers)
+
+    pub property-room : g ≡ Property → (d : ℕ) → d ≤ k → length (numbersOf (alone r) d Property) ≤ room
+    property-room e d h =
+        omega (arith, ap (λ h. length (numbersOf (netOf r ls gs) k h)) e, property-numbers (netOf r ls gs) k, property-numbers (alone r) d)
 
 -- the wires of a frame, at any depth
 pub wires-depth : (c : M.Netlist) (k i : ℕ) → numbersOf c i (Wires i) ≡ numbersOf c k (Wires i)

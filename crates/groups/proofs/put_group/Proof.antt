@@ -1,7 +1,7 @@
 -- `groups::put_group` meets its contract: each arm writes the group of its kind. Assumes nothing.
 use mathlib.Core.Path.{refl}
 use native.Mathlib.Omega.{arith}
-use Rattle.groups.proofs.Alone.{fits-alone, pair-alone, closing-alone, property-alone, wires-depth, room-by-kind, wrote-by-kind, wires-frame, pair-frames, closing-frame}
+use Rattle.groups.proofs.Alone.{fits-alone, pair-alone, closing-alone, property-alone, pair-room, property-room, wires-depth, room-by-kind, wrote-by-kind, wires-frame, pair-frames, closing-frame}
 use borrow.Author.Needs.{needs}
 use Rattle.groups.proofs.put_group.Statement.{statement}
 use Rattle.groups.proofs.put_group.Tie as tie
@@ -28,8 +28,8 @@ put-pair-requires c κs =
     let p = c .before .before .before .before .before .pre in
     let e = c .before .before .before .group2 .given .1 in
     let f = pair-frames _ _ _ e (p .2) in (
-      record { fits = fits-alone _ _ _ (p .0) _ (c .port-of .ensures); earlier = f .1; depth = omega (arith, f .0, p .1) },
-      room-by-kind _ _ e (pair-alone _ _ _ _ (c .port-of .ensures) _ _ _) (p .3),
+      record { fits = fits-alone _ _ _ (p .0) _ (c .port-of .ensures); earlier = omega arith; depth = omega arith },
+      pair-room _ _ _ _ (p .3) e _,
     )
 
 enum-known-group-3 : tie.Need-enum-known-group-3
@@ -53,8 +53,8 @@ put-property-requires : tie.Need-put-property-requires
 put-property-requires c κs =
     let p = c .before .before .before .pre in
     let f = fits-alone _ _ _ (p .0) _ refl in (
-      record { limits = f .limits; depth = p .1 },
-      room-by-kind _ _ (c .before .enum-told .given .1) (property-alone _ _ _ _) (p .3),
+      record { limits = f .limits; depth = omega arith },
+      property-room _ _ _ _ (p .3) (c .before .enum-told .given .1) _ (omega arith),
     )
 
 same-length : tie.Need-same-length
