@@ -22,7 +22,7 @@ use Rattle.lines.specs.declared.ParsedLine.{ParsedLine}
 use Rattle.lines.specs.declared.ParsedLine.the-variants.{Misprint}
 use Rattle.parse.specs.Files.{lineCount, lineIn, firstNumber, secondNumber, thirdNumber, sizesIn, netOfLines, netIn}
 use Rattle.parse.specs.FileTests.{ragged}
-use Rattle.steps.specs.Due.{lineIndex}
+use Rattle.steps.specs.LineIndex.{lineIndex}
 use Rattle.steps.specs.Steps.{numberAfter, stored}
 use Rattle.parse.specs.Progress.{linesTo, netTo}
 use Rattle.steps.proofs.Places.{rowOfLine, sizeOfRow, placeOf, InRow, sameLine-here, sameLine-elsewhere, sameLine-none, SameSizes, lineAt-known, past-known}

@@ -19,7 +19,8 @@ use Rattle.netlist.specs.declared.Line.{Line}
 use Rattle.netlist.specs.declared.Line.the-variants.{Sizes, Memory, Latch, Gate, Address, Data, Control}
 use Rattle.netlist.proofs.Lines.{at-sizes, at-memory, at-latch, at-gate, at-address, at-data, at-control, has-lineAt}
 use Rattle.lines.specs.Letters.{rowOf}
-use Rattle.steps.specs.Due.{kindDue, lineIndex, roomFor, sameLine}
+use Rattle.steps.specs.Due.{kindDue}
+use Rattle.steps.specs.LineIndex.{lineIndex, roomFor, sameLine}
 use Rattle.steps.specs.Steps.{SizesKnown}
 
 -- the row of a line's kind

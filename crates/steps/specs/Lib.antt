@@ -2,4 +2,5 @@
 pub mod Due
 pub mod LineFaults
 pub mod Records
+pub mod LineIndex
 pub mod Steps

@@ -21,7 +21,8 @@ use Rattle.netlist.specs.declared.Line.the-variants.{Sizes, Memory, Latch, Gate
 use Rattle.lines.specs.Letters.{rowOf}
 use Rattle.lines.specs.declared.Kind.{Kind}
 use Rattle.steps.specs.declared.SheetAnswer.{SheetAnswer}
-use Rattle.steps.specs.Due.{kindDue, sameLine}
+use Rattle.steps.specs.Due.{kindDue}
+use Rattle.steps.specs.LineIndex.{sameLine}
 use Rattle.steps.specs.LineFaults.{faultsAt}
 
 -- a number that stands in line `at`, where line `due` is read: the new one if it is that line, else the old one

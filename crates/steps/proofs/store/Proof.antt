@@ -2,7 +2,7 @@
 use Prim.Native.Nat.{_<_}
 use mathlib.Core.Path.{_≡_, subst}
 use Rattle.netlist.specs.declared.Line.{Line}
-use Rattle.steps.specs.Due.{lineIndex, roomFor}
+use Rattle.steps.specs.LineIndex.{lineIndex, roomFor}
 use Rattle.steps.specs.Steps.{stored}
 use Rattle.steps.proofs.Steps.{holds-latch, holds-gate}
 use borrow.Author.Needs.{needs}
