@@ -60,6 +60,14 @@ unfolding gather
 gather-same zero f g h = refl
 gather-same (suc n) f g h = ap₂ _++_ (gather-same n f g h) (h n)
 
+-- and lists that are as long one by one take as much room
+pub length-gather-same : {A : Type 0} (n : ℕ) (f g : ℕ → List A) → ((t : ℕ) → length (f t) ≡ length (g t))
+    → length (gather n f) ≡ length (gather n g)
+unfolding gather
+length-gather-same zero f g h = refl
+length-gather-same (suc n) f g h =
+    rw (length-append (gather n f) (f n), length-append (gather n g) (g n), length-gather-same n f g h, h n)
+
 -- what is gathered up to t, and list t, are part of the whole
 gather-part : (n t : ℕ) (f : ℕ → List ℤ) → t < n → length (gather t f) + length (f t) ≤ length (gather n f)
 unfolding gather
@@ -85,6 +93,11 @@ unfolding gather
 turns-start n f old h =
     record { turns = omega arith; wrote = wrote-nothing old; room = h; within = omega arith; kept = refl }
 
+-- also where the room was asked for lists that are as long
+pub turns-start-as : (n : ℕ) (f g : ℕ → List ℤ) (old : List ℤ) → ((t : ℕ) → length (f t) ≡ length (g t))
+    → length (gather n g) ≤ length old → Turns n f old old 0 0
+turns-start-as n f g old e h = turns-start n f old (rw (length-gather-same n f g e) h)
+
 module _ {n : ℕ} {f : ℕ → List ℤ} {old new : List ℤ} {t at : ℕ} (w : Turns n f old new t at) where
   -- one more turn has room for its list
   pub turns-room : t < n → length (f t) ≤ length (midOf at (length new - at) new)
@@ -100,8 +113,7 @@ module _ {n : ℕ} {f : ℕ → List ℤ} {old new : List ℤ} {t at : ℕ} (w :
   unfolding gather
   turns-next {part} {s} h v =
       let whole = gather-part n t f h in
-      let first : at ≤ length old = omega (arith, w .room, w .wrote .counted) in
-      let both : Wrote (gather (t + 1) f) old (putMid at (length new - at) new part) (at + s) = rw (add-one t) (wrote-then (w .wrote) v first) in
+      let both : Wrote (gather (t + 1) f) old (putMid at (length new - at) new part) (at + s) = rw (add-one t) (wrote-then (w .wrote) v) in
       let same : length (putMid at (length new - at) new part) ≡ length old = wrote-length both (rw (add-one t, length-append) (omega (arith, w .room))) in
       record { turns = omega arith; wrote = both; room = w .room; within = omega (arith, turns-count h (v .counted)); kept = same }
 

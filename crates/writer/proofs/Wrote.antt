@@ -10,6 +10,6 @@ pub use Rattle.model.proofs.Wrote.{wrote-nothing, wrote-length, rest-within, re
 
 module _ {A : Type 0} {xs old mid : List A} {r : ℕ} (w : Wrote xs old mid r) where
   -- a second writer is lent the rest
-  pub wrote-then : {ys part : List A} {s : ℕ} → Wrote ys (midOf r (length mid - r) mid) part s → r ≤ length old
+  pub wrote-then : {ys part : List A} {s : ℕ} → Wrote ys (midOf r (length mid - r) mid) part s
       → Wrote (xs ++ ys) old (putMid r (length mid - r) mid part) (r + s)
-  wrote-then {ys} {part} {s} v h = W.wrote-then xs ys old mid part r s w v
+  wrote-then {ys} {part} {s} v = W.wrote-then xs ys old mid part r s w v

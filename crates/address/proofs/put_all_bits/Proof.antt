@@ -70,7 +70,7 @@ unfolding allBits pairLiterals
 returns c =
     let x = ofPair (c .before .before .before .before .before .before .before .before .args .net) (c .before .before .before .before .before .before .before .before .args .port) (c .before .before .before .before .before .before .before .before .args .j) (c .before .before .before .before .before .before .before .before .args .i) in
     let last = rw (c .before .before .before .before .before .before .in-pair .ensures .0, c .before .before .before .before .before .before .before .pair-base .ensures) at (c .before .put-unit .ensures) in
-    rw (written-clause (gather (c .before .before .before .before .before .before .before .before .args .net .m) (unequalOf x)) (x .E ∷ [])) (wrote-then (c .before .before .before .before .put-unequal-bits .ensures) last (omega (arith, length-clause (gather (c .before .before .before .before .before .before .before .before .args .net .m) (unequalOf x)) (x .E ∷ []))))
+    rw (written-clause (gather (c .before .before .before .before .before .before .before .before .args .net .m) (unequalOf x)) (x .E ∷ [])) (wrote-then (c .before .before .before .before .put-unequal-bits .ensures) last)
 
 pub put-all-bits-spec : {M : Type 1} → statement M
 put-all-bits-spec =

@@ -56,7 +56,7 @@ returns c =
     let a = c .before .before .before .before .before .before .args in
     let room = closing-room (a .net .n) (a .i) (ofClosing (a .net) (a .port) (a .i)) in
     rw (closing-parts (a .net .n) (a .i) (ofClosing (a .net) (a .port) (a .i)))
-    (wrote-then (c .before .before .before .before .put-initial-reads .ensures) (c .before .put-some-source .ensures) (omega arith))
+    (wrote-then (c .before .before .before .before .put-initial-reads .ensures) (c .before .put-some-source .ensures))
 
 pub put-closing-spec : {M : Type 1} → statement M
 put-closing-spec =

@@ -57,7 +57,7 @@ returns : tie.Need-returns
 returns c =
     let a = c .before .before .before .before .before .before .args in
     let room = length-ended (gather (a .i) (selectedOf (ofClosing (a .net) (a .port) (a .i)))) in
-    rw (written-ended (gather (a .i) (selectedOf (ofClosing (a .net) (a .port) (a .i))))) (wrote-then (c .before .before .before .before .put-sources .ensures) (c .before .put-end .ensures) (omega arith))
+    rw (written-ended (gather (a .i) (selectedOf (ofClosing (a .net) (a .port) (a .i))))) (wrote-then (c .before .before .before .before .put-sources .ensures) (c .before .put-end .ensures))
 
 pub put-last-sources-spec : {M : Type 1} → statement M
 put-last-sources-spec =

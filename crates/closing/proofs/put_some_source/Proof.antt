@@ -58,17 +58,17 @@ add-b c = omega arith
 mul-put-last-sources : tie.Need-mul-put-last-sources
 unfolding written someSource
 mul-put-last-sources c =
-    let within = rest-within (wrote-then (c .before .before .before .before .put-literal .ensures) (c .before .put-literal2 .ensures) (omega arith)) (omega arith) in search needs
+    let within = rest-within (wrote-then (c .before .before .before .before .put-literal .ensures) (c .before .put-literal2 .ensures)) (omega arith) in search needs
 
 sub-put-last-sources : tie.Need-sub-put-last-sources
 unfolding written someSource
 sub-put-last-sources c =
-    rest-within (wrote-then (c .before .before .before .before .put-literal .ensures) (c .before .put-literal2 .ensures) (omega arith)) (omega arith)
+    rest-within (wrote-then (c .before .before .before .before .put-literal .ensures) (c .before .put-literal2 .ensures)) (omega arith)
 
 part-put-last-sources-start : tie.Need-part-put-last-sources-start
 unfolding written someSource
 part-put-last-sources-start c =
-    let within = rest-within (wrote-then (c .before .before .before .before .put-literal .ensures) (c .before .put-literal2 .ensures) (omega arith)) (omega arith) in search needs
+    let within = rest-within (wrote-then (c .before .before .before .before .put-literal .ensures) (c .before .put-literal2 .ensures)) (omega arith) in search needs
 
 part-put-last-sources-end : tie.Need-part-put-last-sources-end
 part-put-last-sources-end c = search needs
@@ -76,7 +76,7 @@ part-put-last-sources-end c = search needs
 put-last-sources-requires : tie.Need-put-last-sources-requires
 unfolding written someSource
 put-last-sources-requires c κs =
-    (c .before .before .before .before .before .before .before .before .before .before .before .pre .0, rest-room (wrote-then (c .before .before .before .before .before .put-literal .ensures) (c .before .before .put-literal2 .ensures) (omega arith)) (omega arith))
+    (c .before .before .before .before .before .before .before .before .before .before .before .pre .0, rest-room (wrote-then (c .before .before .before .before .before .put-literal .ensures) (c .before .before .put-literal2 .ensures)) (omega arith))
 
 add-result : tie.Need-add-result
 unfolding written someSource
@@ -91,7 +91,7 @@ returns c =
     let re = rw (c .before .before .before .before .before .before .before .before .before .before .before .before .frame-base .ensures) at (c .before .before .before .before .before .before .before .before .before .before .before .in-frame .ensures .0) in
     let first = rw (c .before .before .before .before .before .before .before .before .negated .ensures .0, re) at (c .before .before .before .before .before .before .before .put-literal .ensures) in
     let second = rw (c .before .before .before .before .before .before .before .before .before .before .none-since .ensures .0) at (c .before .before .before .before .put-literal2 .ensures) in
-    wrote-then (wrote-then first second (omega arith)) (c .before .put-last-sources .ensures) (omega arith)
+    wrote-then (wrote-then first second) (c .before .put-last-sources .ensures)
 
 pub put-some-source-spec : {M : Type 1} → statement M
 put-some-source-spec =

@@ -52,20 +52,20 @@ mul-put-select : tie.Need-mul-put-select
 mul-put-select c =
     let a = c .before .before .before .before .before .before .args in
     let room = pair-room (a .net .m) (a .net .n) (ofPair (a .net) (a .port) (a .j) (a .i)) in
-    let within = rest-within (wrote-then (c .before .before .before .before .put-address-bits .ensures) (c .before .put-all-bits .ensures) (omega arith)) (omega arith) in
+    let within = rest-within (wrote-then (c .before .before .before .before .put-address-bits .ensures) (c .before .put-all-bits .ensures)) (omega arith) in
     search needs
 
 sub-put-select : tie.Need-sub-put-select
 sub-put-select c =
     let a = c .before .before .before .before .before .before .args in
     let room = pair-room (a .net .m) (a .net .n) (ofPair (a .net) (a .port) (a .j) (a .i)) in
-    rest-within (wrote-then (c .before .before .before .before .put-address-bits .ensures) (c .before .put-all-bits .ensures) (omega arith)) (omega arith)
+    rest-within (wrote-then (c .before .before .before .before .put-address-bits .ensures) (c .before .put-all-bits .ensures)) (omega arith)
 
 part-put-select-start : tie.Need-part-put-select-start
 part-put-select-start c =
     let a = c .before .before .before .before .before .before .args in
     let room = pair-room (a .net .m) (a .net .n) (ofPair (a .net) (a .port) (a .j) (a .i)) in
-    let within = rest-within (wrote-then (c .before .before .before .before .put-address-bits .ensures) (c .before .put-all-bits .ensures) (omega arith)) (omega arith) in
+    let within = rest-within (wrote-then (c .before .before .before .before .put-address-bits .ensures) (c .before .put-all-bits .ensures)) (omega arith) in
     search needs
 
 part-put-select-end : tie.Need-part-put-select-end
@@ -75,7 +75,7 @@ put-select-requires : tie.Need-put-select-requires
 put-select-requires c κs =
     let a = c .before .before .before .before .before .before .before .args in
     let room = pair-room (a .net .m) (a .net .n) (ofPair (a .net) (a .port) (a .j) (a .i)) in
-    (c .before .before .before .before .before .before .before .pre .0, rest-room (wrote-then (c .before .before .before .before .before .put-address-bits .ensures) (c .before .before .put-all-bits .ensures) (omega arith)) (omega arith))
+    (c .before .before .before .before .before .before .before .pre .0, rest-room (wrote-then (c .before .before .before .before .before .put-address-bits .ensures) (c .before .before .put-all-bits .ensures)) (omega arith))
 
 add-d : tie.Need-add-d
 add-d c =
@@ -87,20 +87,20 @@ mul-put-forwarded : tie.Need-mul-put-forwarded
 mul-put-forwarded c =
     let a = c .before .before .before .before .before .before .before .before .before .args in
     let room = pair-room (a .net .m) (a .net .n) (ofPair (a .net) (a .port) (a .j) (a .i)) in
-    let within = rest-within (wrote-then (wrote-then (c .before .before .before .before .before .before .before .put-address-bits .ensures) (c .before .before .before .before .put-all-bits .ensures) (omega arith)) (c .before .put-select .ensures) (omega arith)) (omega arith) in
+    let within = rest-within (wrote-then (wrote-then (c .before .before .before .before .before .before .before .put-address-bits .ensures) (c .before .before .before .before .put-all-bits .ensures)) (c .before .put-select .ensures)) (omega arith) in
     search needs
 
 sub-put-forwarded : tie.Need-sub-put-forwarded
 sub-put-forwarded c =
     let a = c .before .before .before .before .before .before .before .before .before .args in
     let room = pair-room (a .net .m) (a .net .n) (ofPair (a .net) (a .port) (a .j) (a .i)) in
-    rest-within (wrote-then (wrote-then (c .before .before .before .before .before .before .before .put-address-bits .ensures) (c .before .before .before .before .put-all-bits .ensures) (omega arith)) (c .before .put-select .ensures) (omega arith)) (omega arith)
+    rest-within (wrote-then (wrote-then (c .before .before .before .before .before .before .before .put-address-bits .ensures) (c .before .before .before .before .put-all-bits .ensures)) (c .before .put-select .ensures)) (omega arith)
 
 part-put-forwarded-start : tie.Need-part-put-forwarded-start
 part-put-forwarded-start c =
     let a = c .before .before .before .before .before .before .before .before .before .args in
     let room = pair-room (a .net .m) (a .net .n) (ofPair (a .net) (a .port) (a .j) (a .i)) in
-    let within = rest-within (wrote-then (wrote-then (c .before .before .before .before .before .before .before .put-address-bits .ensures) (c .before .before .before .before .put-all-bits .ensures) (omega arith)) (c .before .put-select .ensures) (omega arith)) (omega arith) in
+    let within = rest-within (wrote-then (wrote-then (c .before .before .before .before .before .before .before .put-address-bits .ensures) (c .before .before .before .before .put-all-bits .ensures)) (c .before .put-select .ensures)) (omega arith) in
     search needs
 
 part-put-forwarded-end : tie.Need-part-put-forwarded-end
@@ -110,7 +110,7 @@ put-forwarded-requires : tie.Need-put-forwarded-requires
 put-forwarded-requires c κs =
     let a = c .before .before .before .before .before .before .before .before .before .before .args in
     let room = pair-room (a .net .m) (a .net .n) (ofPair (a .net) (a .port) (a .j) (a .i)) in
-    (c .before .before .before .before .before .before .before .before .before .before .pre .0, rest-room (wrote-then (wrote-then (c .before .before .before .before .before .before .before .before .put-address-bits .ensures) (c .before .before .before .before .before .put-all-bits .ensures) (omega arith)) (c .before .before .put-select .ensures) (omega arith)) (omega arith))
+    (c .before .before .before .before .before .before .before .before .before .before .pre .0, rest-room (wrote-then (wrote-then (c .before .before .before .before .before .before .before .before .put-address-bits .ensures) (c .before .before .before .before .before .put-all-bits .ensures)) (c .before .before .put-select .ensures)) (omega arith))
 
 add-result : tie.Need-add-result
 add-result c =
@@ -126,7 +126,7 @@ returns c =
     let a = c .before .before .before .before .before .before .before .before .before .before .before .before .args in
     let room = pair-room (a .net .m) (a .net .n) (ofPair (a .net) (a .port) (a .j) (a .i)) in
     rw (pair-parts (a .net .m) (a .net .n) (ofPair (a .net) (a .port) (a .j) (a .i)))
-    (wrote-then (wrote-then (wrote-then (c .before .before .before .before .before .before .before .before .before .before .put-address-bits .ensures) (c .before .before .before .before .before .before .before .put-all-bits .ensures) (omega arith)) (c .before .before .before .before .put-select .ensures) (omega arith)) (c .before .put-forwarded .ensures) (omega arith))
+    (wrote-then (wrote-then (wrote-then (c .before .before .before .before .before .before .before .before .before .before .put-address-bits .ensures) (c .before .before .before .before .before .before .before .put-all-bits .ensures)) (c .before .before .before .before .put-select .ensures)) (c .before .put-forwarded .ensures))
 
 pub put-pair-spec : {M : Type 1} → statement M
 put-pair-spec =

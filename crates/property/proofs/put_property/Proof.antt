@@ -65,8 +65,7 @@ returns : tie.Need-returns
 unfolding numbersOf clausesOf
 returns c =
     let a = c .before .before .before .before .before .before .args in
-    let room = length-ended (gather (a .k + 1) (violationOf (alone (a .net)))) in
-    rw (written-ended (gather (a .k + 1) (violationOf (alone (a .net))))) (wrote-then (c .before .before .before .before .put-violations .ensures) (c .before .put-end .ensures) (omega arith))
+    rw (written-ended (gather (a .k + 1) (violationOf (alone (a .net))))) (wrote-then (c .before .before .before .before .put-violations .ensures) (c .before .put-end .ensures))
 
 pub put-property-spec : {M : Type 1} → statement M
 put-property-spec =

@@ -1,11 +1,15 @@
 -- `property::put_violations` meets its contract. The loop has written the frames passed. Assumes nothing.
 use Prim.Native.Nat.{_+_, _-_}
+use mathlib.Core.Path.{refl}
+use mathlib.Core.List.{map}
 use native.Mathlib.Omega.{arith}
 use borrow.Author.Needs.{needs}
 use Rattle.model.specs.Variables.{base}
-use Rattle.netlist.specs.NetOf.{netOf}
+use Rattle.model.specs.Groups.{violationOf}
+use Rattle.model.specs.Numbers.{numberOf}
+use Rattle.netlist.specs.NetOf.{netOf, alone}
 use Rattle.variables.proofs.Room.{code-has-number}
-use Rattle.writer.proofs.Turns.{Turns, turns-start, turns-room, turns-count, turns-next, turns-end}
+use Rattle.writer.proofs.Turns.{Turns, numbers-gather, turns-start-as, turns-room, turns-count, turns-next, turns-end}
 use Rattle.property.proofs.Violations.{violation, violations}
 use Rattle.property.proofs.put_violations.Statement.{statement}
 use Rattle.property.proofs.put_violations.Tie as tie
@@ -20,9 +24,10 @@ numbering-requires : tie.Need-numbering-requires Inv-loop μ-loop
 numbering-requires c κs = search needs
 
 loop-holds : tie.Need-loop-holds Inv-loop μ-loop
+unfolding violationOf
 loop-holds c =
     let a = c .before .before .args in
-    turns-start _ _ _ (rw (violations (a .net) _ _ (c .before .numbering .ensures)) at (c .before .before .pre .1))
+    turns-start-as _ _ (λ i. map numberOf (violationOf (alone (a .net)) i)) _ (λ i. refl) (rw numbers-gather at (c .before .before .pre .1))
 
 add-loop : tie.Need-add-loop Inv-loop μ-loop
 add-loop c = search needs
@@ -35,7 +40,7 @@ unfolding base netOf
 in-frame-requires c κs =
     let is = c .before .before .before .before .before .pre .0 in
     rw (c .base .ensures, c .before .before .before .before .numbering .ensures .0, c .before .before .before .before .numbering .ensures .1)
-    (code-has-number _ (is .limits .sizes) _ _ (omega arith) (is .limits .codes .P-fits))
+    (code-has-number _ (is .limits .sizes) _ _ (omega arith) (omega arith))
 
 mul-put-literal : tie.Need-mul-put-literal Inv-loop μ-loop
 mul-put-literal c = search needs

@@ -42,17 +42,17 @@ add-b c = omega arith
 mul-put-and-2 : tie.Need-mul-put-and-2
 unfolding written andClauses selectClauses
 mul-put-and-2 c =
-    let within = rest-within (wrote-then (c .before .before .before .before .before .put-and .ensures) (c .before .put-and2 .ensures) (omega arith)) (omega arith) in search needs
+    let within = rest-within (wrote-then (c .before .before .before .before .before .put-and .ensures) (c .before .put-and2 .ensures)) (omega arith) in search needs
 
 sub-put-and-2 : tie.Need-sub-put-and-2
 unfolding written andClauses selectClauses
 sub-put-and-2 c =
-    rest-within (wrote-then (c .before .before .before .before .before .put-and .ensures) (c .before .put-and2 .ensures) (omega arith)) (omega arith)
+    rest-within (wrote-then (c .before .before .before .before .before .put-and .ensures) (c .before .put-and2 .ensures)) (omega arith)
 
 part-put-and-start-2 : tie.Need-part-put-and-start-2
 unfolding written andClauses selectClauses
 part-put-and-start-2 c =
-    let within = rest-within (wrote-then (c .before .before .before .before .before .put-and .ensures) (c .before .put-and2 .ensures) (omega arith)) (omega arith) in search needs
+    let within = rest-within (wrote-then (c .before .before .before .before .before .put-and .ensures) (c .before .put-and2 .ensures)) (omega arith) in search needs
 
 part-put-and-end-2 : tie.Need-part-put-and-end-2
 part-put-and-end-2 c = search needs
@@ -60,7 +60,7 @@ part-put-and-end-2 c = search needs
 put-and-requires-3 : tie.Need-put-and-requires-3
 unfolding written andClauses selectClauses
 put-and-requires-3 c κs =
-    (search needs, search needs, search needs, rest-room (wrote-then (c .before .before .before .before .before .before .put-and .ensures) (c .before .before .put-and2 .ensures) (omega arith)) (omega arith))
+    (search needs, search needs, search needs, rest-room (wrote-then (c .before .before .before .before .before .before .put-and .ensures) (c .before .before .put-and2 .ensures)) (omega arith))
 
 add-result : tie.Need-add-result
 unfolding written andClauses selectClauses
@@ -72,7 +72,7 @@ same-length c = search needs
 returns : tie.Need-returns
 unfolding written andClauses selectClauses
 returns c =
-    rw (c .before .before .before .before .before .negated .ensures .0) at (wrote-then (wrote-then (c .before .before .before .before .before .before .before .before .put-and .ensures) (c .before .before .before .before .put-and2 .ensures) (omega arith)) (c .before .put-and3 .ensures) (omega arith))
+    rw (c .before .before .before .before .before .negated .ensures .0) at (wrote-then (wrote-then (c .before .before .before .before .before .before .before .before .put-and .ensures) (c .before .before .before .before .put-and2 .ensures)) (c .before .put-and3 .ensures))
 
 pub put-select-gates-spec : {M : Type 1} → statement M
 put-select-gates-spec =

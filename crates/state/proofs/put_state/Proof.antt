@@ -81,7 +81,7 @@ returns c =
     let a = c .before .before .before .before .before .before .before .before .args in
     let x = netOf (a .net) (a .latches .now) [] in
     let room = ap length (state-first x (c .before .before .before .before .before .before .before .if1 .taken)) ∙ length-append (written ((known true ∷ []) ∷ [])) (written (gather (a .net .latches) (resetClauses x))) in
-    rw (state-first x (c .before .before .before .before .before .before .before .if1 .taken)) (wrote-then (rw (c .before .before .before .before .before .constant .ensures .0) at (c .before .before .before .before .put-unit .ensures)) (c .before .put-resets .ensures) (omega arith))
+    rw (state-first x (c .before .before .before .before .before .before .before .if1 .taken)) (wrote-then (rw (c .before .before .before .before .before .constant .ensures .0) at (c .before .before .before .before .put-unit .ensures)) (c .before .put-resets .ensures))
 
 sub-put-latches : tie.Need-sub-put-latches
 sub-put-latches c = search needs

@@ -39,15 +39,15 @@ add-j c = search needs
 
 mul-put-ternary : tie.Need-mul-put-ternary
 unfolding written andClauses
-mul-put-ternary c = let within = rest-within (wrote-then (c .before .before .before .before .put-binary .ensures) (c .before .put-binary2 .ensures) (omega arith)) (omega arith) in search needs
+mul-put-ternary c = let within = rest-within (wrote-then (c .before .before .before .before .put-binary .ensures) (c .before .put-binary2 .ensures)) (omega arith) in search needs
 
 sub-put-ternary : tie.Need-sub-put-ternary
 unfolding written andClauses
-sub-put-ternary c = rest-within (wrote-then (c .before .before .before .before .put-binary .ensures) (c .before .put-binary2 .ensures) (omega arith)) (omega arith)
+sub-put-ternary c = rest-within (wrote-then (c .before .before .before .before .put-binary .ensures) (c .before .put-binary2 .ensures)) (omega arith)
 
 part-put-ternary-start : tie.Need-part-put-ternary-start
 unfolding written andClauses
-part-put-ternary-start c = let within = rest-within (wrote-then (c .before .before .before .before .put-binary .ensures) (c .before .put-binary2 .ensures) (omega arith)) (omega arith) in search needs
+part-put-ternary-start c = let within = rest-within (wrote-then (c .before .before .before .before .put-binary .ensures) (c .before .put-binary2 .ensures)) (omega arith) in search needs
 
 part-put-ternary-end : tie.Need-part-put-ternary-end
 part-put-ternary-end c = search needs
@@ -60,7 +60,7 @@ negated-requires-3 c κs = search needs
 
 put-ternary-requires : tie.Need-put-ternary-requires
 unfolding written andClauses
-put-ternary-requires c κs = (search needs, search needs, search needs, rest-room (wrote-then (c .before .before .before .before .before .before .before .put-binary .ensures) (c .before .before .before .before .put-binary2 .ensures) (omega arith)) (omega arith))
+put-ternary-requires c κs = (search needs, search needs, search needs, rest-room (wrote-then (c .before .before .before .before .before .before .before .put-binary .ensures) (c .before .before .before .before .put-binary2 .ensures)) (omega arith))
 
 add-result : tie.Need-add-result
 unfolding written andClauses
@@ -73,7 +73,7 @@ returns : tie.Need-returns
 unfolding written andClauses
 returns c =
     simp (c .before .before .before .before .before .before .before .before .before .before .before .negated .ensures .0, c .before .before .before .negated2 .ensures .0, c .before .before .negated3 .ensures .0)
-    at (wrote-then (wrote-then (c .before .before .before .before .before .before .before .before .before .put-binary .ensures) (c .before .before .before .before .before .before .put-binary2 .ensures) (omega arith)) (c .before .put-ternary .ensures) (omega arith))
+    at (wrote-then (wrote-then (c .before .before .before .before .before .before .before .before .before .put-binary .ensures) (c .before .before .before .before .before .before .put-binary2 .ensures)) (c .before .put-ternary .ensures))
 
 pub put-and-spec : {M : Type 1} → statement M
 put-and-spec =

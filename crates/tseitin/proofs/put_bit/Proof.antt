@@ -51,7 +51,7 @@ returns : tie.Need-returns
 unfolding written bitClauses bothClauses
 returns c =
     simp (c .before .before .before .before .before .before .before .before .negated .ensures .0, c .before .before .before .before .before .before .before .negated2 .ensures .0, c .before .before .before .before .before .negated3 .ensures .0)
-    at (wrote-then (c .before .before .before .before .put-both .ensures) (c .before .put-both2 .ensures) (omega arith))
+    at (wrote-then (c .before .before .before .before .put-both .ensures) (c .before .put-both2 .ensures))
 
 pub put-bit-spec : {M : Type 1} → statement M
 put-bit-spec =

@@ -39,7 +39,7 @@ same-length c = search needs
 
 returns : tie.Need-returns
 unfolding written bothClauses
-returns c = wrote-then (c .before .before .before .before .put-ternary .ensures) (c .before .put-ternary2 .ensures) (omega arith)
+returns c = wrote-then (c .before .before .before .before .put-ternary .ensures) (c .before .put-ternary2 .ensures)
 
 pub put-both-spec : {M : Type 1} → statement M
 put-both-spec =

@@ -47,7 +47,7 @@ returns : tie.Need-returns
 unfolding written sameClauses
 returns c =
     simp (c .before .before .before .before .before .before .negated .ensures .0, c .before .before .negated2 .ensures .0)
-    at (wrote-then (c .before .before .before .before .before .put-binary .ensures) (c .before .put-binary2 .ensures) (omega arith))
+    at (wrote-then (c .before .before .before .before .before .put-binary .ensures) (c .before .put-binary2 .ensures))
 
 pub put-same-spec : {M : Type 1} → statement M
 put-same-spec =

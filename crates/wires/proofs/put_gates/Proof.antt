@@ -1,12 +1,16 @@
 -- `wires::put_gates` meets its contract. The loop has written the gates passed. Assumes nothing.
 use Prim.Native.Nat.{_-_}
+use mathlib.Core.Path.{refl}
 use mathlib.Core.List.{[]}
 use native.Mathlib.Omega.{arith}
 use borrow.Author.Needs.{needs}
+use Rattle.model.specs.Clauses.{andClauses}
+use Rattle.model.specs.Groups.{gateClauses}
+use Rattle.model.specs.Numbers.{written}
 use Rattle.netlist.specs.NetOf.{netOf}
 use Rattle.netlist.proofs.NetOf.{sizes-lists}
 use Rattle.variables.proofs.Room.{wire-has-number, code-has-number}
-use Rattle.writer.proofs.Turns.{Turns, turns-start, turns-room, turns-count, turns-next, turns-end}
+use Rattle.writer.proofs.Turns.{Turns, written-gather, turns-start-as, turns-room, turns-count, turns-next, turns-end}
 use Rattle.wires.proofs.WiresOf.{gateAt, all-gates}
 use Rattle.wires.proofs.put_gates.Statement.{statement}
 use Rattle.wires.proofs.put_gates.Tie as tie
@@ -25,8 +29,10 @@ first-gate-wire-requires : tie.Need-first-gate-wire-requires Inv-loop μ-loop
 first-gate-wire-requires c κs = sizes-lists (c .before .args .net) [] (c .before .args .gates .now) [] [] (c .before .pre .0 .limits .sizes)
 
 loop-holds : tie.Need-loop-holds Inv-loop μ-loop
+unfolding written gateClauses andClauses
 loop-holds c =
-    turns-start _ _ _ (rw (all-gates (c .before .before .args .net) (c .before .before .args .gates .now) (c .before .before .args .i) _ (c .before .frame-base .ensures) (c .first-gate-wire .ensures)) at (c .before .before .pre .1))
+    let a = c .before .before .args in
+    turns-start-as _ _ (λ g. written (gateClauses (netOf (a .net) [] (a .gates .now)) (a .i) g)) _ (λ g. refl) (rw written-gather at (c .before .before .pre .1))
 
 mul-t13 : tie.Need-mul-t13 Inv-loop μ-loop
 unfolding netOf
@@ -85,10 +91,10 @@ unfolding netOf
 put-gate-requires c κs =
     let sizes = sizes-lists (c .before .before .before .before .before .before .before .args .net) [] (c .before .before .before .before .before .before .before .args .gates .now) [] [] (c .before .before .before .before .before .before .before .pre .0 .limits .sizes) in
     let codes = c .before .before .before .before .before .before .before .pre .0 .limits .codes in (
-      rw (c .before .before .before .before .before .before .frame-base .ensures) (wire-has-number _ sizes _ _ (c .before .before .before .before .before .before .before .pre .0 .depth) (omega arith)),
+      rw (c .before .before .before .before .before .before .frame-base .ensures) (wire-has-number _ sizes _ _ (omega arith) (omega arith)),
       omega arith,
-      rw (c .before .before .before .before .before .before .frame-base .ensures) (code-has-number _ sizes _ _ (c .before .before .before .before .before .before .before .pre .0 .depth) (omega (arith, codes .left-fits (c .before .before .before .before .loop .g) (c .before .before .before .loop-test .taken)))),
-      rw (c .before .before .before .before .before .before .frame-base .ensures) (code-has-number _ sizes _ _ (c .before .before .before .before .before .before .before .pre .0 .depth) (omega (arith, codes .right-fits (c .before .before .before .before .loop .g) (c .before .before .before .loop-test .taken)))),
+      rw (c .before .before .before .before .before .before .frame-base .ensures) (code-has-number _ sizes _ _ (omega arith) (omega (arith, codes .left-fits (c .before .before .before .before .loop .g) (c .before .before .before .loop-test .taken)))),
+      rw (c .before .before .before .before .before .before .frame-base .ensures) (code-has-number _ sizes _ _ (omega arith) (omega (arith, codes .right-fits (c .before .before .before .before .loop .g) (c .before .before .before .loop-test .taken)))),
       turns-room (c .before .before .before .before .loop .inv) (c .before .before .before .loop-test .taken),
     )
 

@@ -60,9 +60,8 @@ same-length c = search needs
 returns : tie.Need-returns
 returns c =
     let a = c .before .before .before .before .before .before .args in
-    let room = wires-room (a .net) (a .latches .now) (a .gates .now) (a .i) (a .i) in
     rw (wires-parts (a .net) (a .latches .now) (a .gates .now) (a .i) (a .i))
-    (wrote-then (c .before .before .before .before .put-state .ensures) (c .before .put-gates .ensures) (omega arith))
+    (wrote-then (c .before .before .before .before .put-state .ensures) (c .before .put-gates .ensures))
 
 pub put-wires-spec : {M : Type 1} → statement M
 put-wires-spec =
