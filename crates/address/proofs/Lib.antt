@@ -1,1 +1,1 @@
-pub mod UnequalBits
+pub mod BitsOf

@@ -3,6 +3,7 @@
 use literals::Lit;
 use writer::put_binary;
 use writer::put_ternary;
+ghost use mathlib.Core.List.{[], _∷_};
 ghost use Prim.Native.Nat.{_≤_};
 ghost use lib.ListN.{length};
 ghost use Rattle.model.specs.Clauses.{andClauses, sameClauses, sameIfClauses, bitClauses};
@@ -11,15 +12,25 @@ ghost use Rattle.literals.specs.Lit.{literalOf, IsLit};
 ghost use Rattle.model.specs.Wrote.{Wrote};
 ghost use Rattle.tseitin.specs.BothClauses.{bothClauses};
 
+// Two clauses of two literals: (a b), (c d).
+fn put_two(out: &mut [i32], a: Lit, b: Lit, c: Lit, d: Lit) -> usize
+    requires { ⌜ IsLit a × IsLit b × IsLit c × IsLit d
+        × (length (written ((literalOf a ∷ literalOf b ∷ []) ∷ (literalOf c ∷ literalOf d ∷ []) ∷ [])) ≤ length (now out)) ⌝ }
+    ensures { λ r. ⌜ Wrote (written ((literalOf a ∷ literalOf b ∷ []) ∷ (literalOf c ∷ literalOf d ∷ []) ∷ []))
+        (now (out .entry)) (now (out .exit)) r ⌝ }
+{
+    let i = put_binary(out, a, b);
+    i + put_binary(&mut out[i..], c, d)
+}
+
 // The clauses of a gate g = a ∧ b.
 pub fn put_and(out: &mut [i32], g: Lit, a: Lit, b: Lit) -> usize
     requires { ⌜ IsLit g × IsLit a × IsLit b × (length (written (andClauses (literalOf g) (literalOf a) (literalOf b))) ≤ length (now out)) ⌝ }
     ensures { λ r. ⌜ Wrote (written (andClauses (literalOf g) (literalOf a) (literalOf b))) (now (out .entry)) (now (out .exit)) r ⌝ }
 {
     let not_g = g.negated();
-    let i = put_binary(out, not_g, a);
-    let j = i + put_binary(&mut out[i..], not_g, b);
-    j + put_ternary(&mut out[j..], g, a.negated(), b.negated())
+    let i = put_two(out, not_g, a, not_g, b);
+    i + put_ternary(&mut out[i..], g, a.negated(), b.negated())
 }
 
 // The clauses of q = d.
@@ -27,8 +38,7 @@ pub fn put_same(out: &mut [i32], q: Lit, d: Lit) -> usize
     requires { ⌜ IsLit q × IsLit d × (length (written (sameClauses (literalOf q) (literalOf d))) ≤ length (now out)) ⌝ }
     ensures { λ r. ⌜ Wrote (written (sameClauses (literalOf q) (literalOf d))) (now (out .entry)) (now (out .exit)) r ⌝ }
 {
-    let i = put_binary(out, q.negated(), d);
-    i + put_binary(&mut out[i..], q, d.negated())
+    put_two(out, q.negated(), d, q, d.negated())
 }
 
 // Two clauses of three literals that begin alike: (p a b), (p c d).

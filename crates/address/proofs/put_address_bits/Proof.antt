@@ -1,28 +1,24 @@
 -- `address::put_address_bits` meets its contract. The loop has written the bits passed. Assumes nothing.
 use Prim.Native.Nat.{_-_}
+use mathlib.Core.Path.{refl}
 use native.Mathlib.Omega.{arith}
 use borrow.Author.Needs.{needs}
-use Rattle.model.specs.Clauses.{addressBitClauses}
-use Rattle.model.specs.Variables.{pairLiterals}
+use Rattle.model.specs.Clauses.{bitClauses, addressBitClauses}
 use Rattle.model.specs.Numbers.{written}
 use Rattle.netlist.specs.NetOf.{codeOf, netOf}
 use Rattle.variables.specs.PortOf.{portOf}
 use Rattle.variables.proofs.Room.{code-has-number, pair-has-number}
-use Rattle.writer.proofs.Turns.{Turns, written-gather, turns-start, turns-room, turns-count, turns-next, turns-end}
 use Rattle.variables.specs.OfPair.{ofPair}
+use Rattle.writer.proofs.Turns.{Turns, written-gather, turns-start-as, turns-room, turns-count, turns-next, turns-end}
+use Rattle.address.proofs.BitsOf.{addressBit, address-bits}
 use Rattle.address.proofs.put_address_bits.Statement.{statement}
 use Rattle.address.proofs.put_address_bits.Tie as tie
-use Rattle.address.proofs.put_address_bits.Reads as reads
-use Rattle.address.proofs.put_address_bits.Lts as lts
-use Rattle.address.proofs.put_address_bit.Reads as put-address-bit-reads
-use Rattle.variables.proofs.frame_base.Reads as frame-base-reads
-use Rattle.variables.proofs.pair_base.Reads as pair-base-reads
 
 abbrev Inv-loop : tie.InvT-loop
-Inv-loop out₀ j i net port q writing reading m at₀ t₀ out at t = Turns (net .m) (λ s. written (addressBitClauses (ofPair net port j i) s)) out₀ out t at
+Inv-loop out₀ j i net port q writing reading m at₀ t₀ out at t = Turns m (addressBit q writing reading net port) out₀ out t at
 
 abbrev μ-loop : tie.MeasureT-loop
-μ-loop out₀ j i net port q writing reading m at₀ t₀ out at t = net .m - t
+μ-loop out₀ j i net port q writing reading m at₀ t₀ out at t = m - t
 
 pair-base-requires : tie.Need-pair-base-requires Inv-loop μ-loop
 pair-base-requires c κs = search needs
@@ -34,7 +30,10 @@ frame-base-requires-2 : tie.Need-frame-base-requires-2 Inv-loop μ-loop
 frame-base-requires-2 c κs = search needs
 
 loop-holds : tie.Need-loop-holds Inv-loop μ-loop
-loop-holds c = turns-start _ _ _ (rw written-gather at (c .before .before .before .pre .1))
+unfolding written addressBitClauses bitClauses
+loop-holds c =
+    let a = c .before .before .before .args in
+    turns-start-as _ _ (λ t. written (addressBitClauses (ofPair (a .t2) (a .t3) (a .j) (a .i)) t)) _ (λ t. refl) (rw written-gather at (c .before .before .before .pre .1))
 
 cast-x : tie.Need-cast-x Inv-loop μ-loop
 cast-x c = search needs
@@ -71,24 +70,21 @@ part-put-address-bit-end : tie.Need-part-put-address-bit-end Inv-loop μ-loop
 part-put-address-bit-end c = search needs
 
 put-address-bit-requires : tie.Need-put-address-bit-requires Inv-loop μ-loop
-unfolding addressBitClauses pairLiterals codeOf netOf portOf
+unfolding codeOf netOf portOf
 put-address-bit-requires c κs =
     let is = c .before .before .before .before .before .before .before .before .pre .0 in
-    let a = c .before .before .before .before .before .before .before .before .args in
     let h = c .before .before .before .loop-test .taken in
-    let t = c .before .before .before .before .loop .t in
-    rw (c .before .before .before .before .before .before .before .pair-base .ensures, c .before .before .before .before .before .before .frame-base .ensures, c .before .before .before .before .before .frame-base2 .ensures) (
-      pair-has-number _ _ (is .fits) (a .j) (a .i) _ (is .earlier) (is .depth) (omega arith),
-      code-has-number _ (is .fits .limits .sizes) (a .j) _ (omega arith) (is .fits .limits .codes .address-fits t h),
-      code-has-number _ (is .fits .limits .sizes) (a .i) _ (is .depth) (is .fits .port-address-fits t h),
+    let t = c .before .before .before .before .loop .t in (
+      rw (c .before .before .before .before .before .before .before .pair-base .ensures) (pair-has-number _ _ (is .fits) _ _ _ (is .earlier) (is .depth) (omega arith)),
+      rw (c .before .before .before .before .before .before .frame-base .ensures) (code-has-number _ (is .fits .limits .sizes) _ _ (omega arith) (is .fits .limits .codes .address-fits t h)),
+      rw (c .before .before .before .before .before .frame-base2 .ensures) (code-has-number _ (is .fits .limits .sizes) _ _ (omega arith) (is .fits .port-address-fits t h)),
       turns-room (c .before .before .before .before .loop .inv) h,
     )
 
 add-at : tie.Need-add-at Inv-loop μ-loop
-unfolding addressBitClauses pairLiterals codeOf netOf portOf
+unfolding codeOf netOf portOf
 add-at c =
-    let wrote = rw (c .before .before .before .before .before .before .before .before .before .pair-base .ensures, c .before .before .before .before .before .before .before .before .frame-base .ensures, c .before .before .before .before .before .before .before .frame-base2 .ensures) at (c .before .put-address-bit .ensures) in
-    let count = turns-count (c .before .before .before .before .before .before .loop .inv) (c .before .before .before .before .before .loop-test .taken) (wrote .counted) in
+    let count = turns-count (c .before .before .before .before .before .before .loop .inv) (c .before .before .before .before .before .loop-test .taken) (c .before .put-address-bit .ensures .counted) in
     search needs
 
 add-t : tie.Need-add-t Inv-loop μ-loop
@@ -98,16 +94,17 @@ loop-less : tie.Need-loop-less Inv-loop μ-loop
 loop-less c = search needs
 
 loop-again : tie.Need-loop-again Inv-loop μ-loop
-unfolding addressBitClauses pairLiterals codeOf netOf portOf
+unfolding codeOf netOf portOf
 loop-again c =
-    turns-next (c .before .before .before .before .before .before .loop .inv) (c .before .before .before .before .before .loop-test .taken)
-    (rw (c .before .before .before .before .before .before .before .before .before .pair-base .ensures, c .before .before .before .before .before .before .before .before .frame-base .ensures, c .before .before .before .before .before .before .before .frame-base2 .ensures) at (c .before .put-address-bit .ensures))
+    turns-next (c .before .before .before .before .before .before .loop .inv) (c .before .before .before .before .before .loop-test .taken) (c .before .put-address-bit .ensures)
 
 same-length : tie.Need-same-length Inv-loop μ-loop
 same-length c = search needs
 
 returns : tie.Need-returns Inv-loop μ-loop
-returns c = rw written-gather (turns-end (c .before .loop .inv) (omega arith))
+returns c =
+    let a = c .before .before .before .before .before .args in
+    rw (address-bits (a .t2) (a .t3) (a .j) (a .i) _ (c .before .before .before .before .pair-base .ensures) (c .before .before .before .frame-base .ensures) (c .before .before .frame-base2 .ensures)) (turns-end (c .before .loop .inv) (omega arith))
 
 pub put-address-bits-spec : {M : Type 1} → statement M
 put-address-bits-spec =

@@ -5,7 +5,7 @@ use borrow.Author.Needs.{needs}
 use Rattle.netlist.specs.NetOf.{netOf}
 use Rattle.variables.proofs.Room.{pair-has-number}
 use Rattle.writer.proofs.Turns.{Turns, turns-start, turns-room, turns-count, turns-next, turns-end}
-use Rattle.address.proofs.UnequalBits.{unequalBit, unequal-bits}
+use Rattle.address.proofs.BitsOf.{unequalBit, unequal-bits}
 use Rattle.address.proofs.put_unequal_bits.Statement.{statement}
 use Rattle.address.proofs.put_unequal_bits.Tie as tie
 

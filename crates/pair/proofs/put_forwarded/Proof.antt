@@ -1,12 +1,16 @@
 -- `pair::put_forwarded` meets its contract. The loop has written the bits passed. Assumes nothing.
 use Prim.Native.Nat.{_-_}
+use mathlib.Core.Path.{refl}
 use native.Mathlib.Omega.{arith}
 use borrow.Author.Needs.{needs}
+use Rattle.model.specs.Clauses.{sameIfClauses, forwardedClauses}
+use Rattle.model.specs.Numbers.{written}
 use Rattle.netlist.specs.NetOf.{codeOf, netOf}
 use Rattle.variables.specs.PortOf.{portOf}
+use Rattle.variables.specs.OfPair.{ofPair}
 use Rattle.variables.proofs.Room.{wire-has-number, code-has-number}
 use Rattle.literals.specs.Lit.{literalOf}
-use Rattle.writer.proofs.Turns.{Turns, turns-start, turns-room, turns-count, turns-next, turns-end}
+use Rattle.writer.proofs.Turns.{Turns, written-gather, turns-start-as, turns-room, turns-count, turns-next, turns-end}
 use Rattle.pair.proofs.OfPair.{forwardedBit, forwarded-bits}
 use Rattle.pair.proofs.put_forwarded.Statement.{statement}
 use Rattle.pair.proofs.put_forwarded.Tie as tie
@@ -30,9 +34,10 @@ first-read-wire-requires : tie.Need-first-read-wire-requires Inv-loop μ-loop
 first-read-wire-requires c κs = c .before .before .before .pre .0 .fits .limits .sizes
 
 loop-holds : tie.Need-loop-holds Inv-loop μ-loop
+unfolding written forwardedClauses sameIfClauses
 loop-holds c =
     let a = c .before .before .before .before .args in
-    turns-start _ _ _ (rw (forwarded-bits (a .t2) (a .port) (a .j) (a .i) _ (c .before .before .before .selected .ensures .0) (c .before .frame-base2 .ensures) (c .before .before .frame-base .ensures) (c .first-read-wire .ensures)) at (c .before .before .before .before .pre .1))
+    turns-start-as _ _ (λ t. written (forwardedClauses (ofPair (a .t2) (a .port) (a .j) (a .i)) t)) _ (λ t. refl) (rw written-gather at (c .before .before .before .before .pre .1))
 
 cast-wd : tie.Need-cast-wd Inv-loop μ-loop
 unfolding netOf portOf
@@ -73,7 +78,7 @@ put-forwarded-bit-requires c κs =
     let t = c .before .before .before .loop .t in
     let h = c .before .before .loop-test .taken in (
       c .before .before .before .before .before .before .before .selected .ensures .1,
-      rw (c .before .before .before .before .before .frame-base2 .ensures) (wire-has-number _ (is .fits .limits .sizes) _ _ (is .depth) (omega arith)),
+      rw (c .before .before .before .before .before .frame-base2 .ensures) (wire-has-number _ (is .fits .limits .sizes) _ _ (omega arith) (omega arith)),
       omega arith,
       rw (c .before .before .before .before .before .before .frame-base .ensures) (code-has-number _ (is .fits .limits .sizes) _ _ (omega arith) (is .fits .limits .codes .data-fits t h)),
       turns-room (c .before .before .before .loop .inv) h,

@@ -1,4 +1,4 @@
--- `tseitin::put_and` meets its contract: three clauses, one after the other. Assumes nothing.
+-- `tseitin::put_and` meets its contract: two clauses, then the third. Assumes nothing.
 use native.Mathlib.Omega.{arith}
 use borrow.Author.Needs.{needs}
 use Rattle.model.specs.Clauses.{andClauses}
@@ -10,44 +10,21 @@ use Rattle.tseitin.proofs.put_and.Tie as tie
 negated-requires : tie.Need-negated-requires
 negated-requires c κs = search needs
 
-put-binary-requires : tie.Need-put-binary-requires
+put-two-requires : tie.Need-put-two-requires
 unfolding written andClauses
-put-binary-requires c κs = search needs
-
-mul-put-binary : tie.Need-mul-put-binary
-unfolding written andClauses
-mul-put-binary c = let within = rest-within (c .before .put-binary .ensures) (omega arith) in search needs
-
-sub-put-binary : tie.Need-sub-put-binary
-unfolding written andClauses
-sub-put-binary c = rest-within (c .before .put-binary .ensures) (omega arith)
-
-part-put-binary-start : tie.Need-part-put-binary-start
-unfolding written andClauses
-part-put-binary-start c = let within = rest-within (c .before .put-binary .ensures) (omega arith) in search needs
-
-part-put-binary-end : tie.Need-part-put-binary-end
-part-put-binary-end c = search needs
-
-put-binary-requires-2 : tie.Need-put-binary-requires-2
-unfolding written andClauses
-put-binary-requires-2 c κs = (search needs, search needs, rest-room (c .before .before .put-binary .ensures) (omega arith))
-
-add-j : tie.Need-add-j
-unfolding written andClauses
-add-j c = search needs
+put-two-requires c κs = search needs
 
 mul-put-ternary : tie.Need-mul-put-ternary
 unfolding written andClauses
-mul-put-ternary c = let within = rest-within (wrote-then (c .before .before .before .before .put-binary .ensures) (c .before .put-binary2 .ensures)) (omega arith) in search needs
+mul-put-ternary c = let within = rest-within (c .before .put-two .ensures) (omega arith) in search needs
 
 sub-put-ternary : tie.Need-sub-put-ternary
 unfolding written andClauses
-sub-put-ternary c = rest-within (wrote-then (c .before .before .before .before .put-binary .ensures) (c .before .put-binary2 .ensures)) (omega arith)
+sub-put-ternary c = rest-within (c .before .put-two .ensures) (omega arith)
 
 part-put-ternary-start : tie.Need-part-put-ternary-start
 unfolding written andClauses
-part-put-ternary-start c = let within = rest-within (wrote-then (c .before .before .before .before .put-binary .ensures) (c .before .put-binary2 .ensures)) (omega arith) in search needs
+part-put-ternary-start c = let within = rest-within (c .before .put-two .ensures) (omega arith) in search needs
 
 part-put-ternary-end : tie.Need-part-put-ternary-end
 part-put-ternary-end c = search needs
@@ -60,7 +37,7 @@ negated-requires-3 c κs = search needs
 
 put-ternary-requires : tie.Need-put-ternary-requires
 unfolding written andClauses
-put-ternary-requires c κs = (search needs, search needs, search needs, rest-room (wrote-then (c .before .before .before .before .before .before .before .put-binary .ensures) (c .before .before .before .before .put-binary2 .ensures)) (omega arith))
+put-ternary-requires c κs = (search needs, search needs, search needs, rest-room (c .before .before .before .before .put-two .ensures) (omega arith))
 
 add-result : tie.Need-add-result
 unfolding written andClauses
@@ -72,21 +49,15 @@ same-length c = search needs
 returns : tie.Need-returns
 unfolding written andClauses
 returns c =
-    simp (c .before .before .before .before .before .before .before .before .before .before .before .negated .ensures .0, c .before .before .before .negated2 .ensures .0, c .before .before .negated3 .ensures .0)
-    at (wrote-then (wrote-then (c .before .before .before .before .before .before .before .before .before .put-binary .ensures) (c .before .before .before .before .before .before .put-binary2 .ensures)) (c .before .put-ternary .ensures))
+    simp (c .before .before .before .before .before .before .before .before .negated .ensures .0, c .before .before .before .negated2 .ensures .0, c .before .before .negated3 .ensures .0)
+    at (wrote-then (c .before .before .before .before .before .before .put-two .ensures) (c .before .put-ternary .ensures))
 
 pub put-and-spec : {M : Type 1} → statement M
 put-and-spec =
     tie.close
     (tie.spec
     negated-requires
-    put-binary-requires
-    mul-put-binary
-    sub-put-binary
-    part-put-binary-start
-    part-put-binary-end
-    put-binary-requires-2
-    add-j
+    put-two-requires
     mul-put-ternary
     sub-put-ternary
     part-put-ternary-start

@@ -1,44 +1,19 @@
--- `tseitin::put_same` meets its contract: two clauses, one after the other. Assumes nothing.
-use native.Mathlib.Omega.{arith}
+-- `tseitin::put_same` meets its contract: two clauses. Assumes nothing.
 use borrow.Author.Needs.{needs}
 use Rattle.model.specs.Clauses.{sameClauses}
 use Rattle.model.specs.Numbers.{written}
-use Rattle.writer.proofs.Wrote.{rest-within, rest-room, wrote-then}
 use Rattle.tseitin.proofs.put_same.Statement.{statement}
 use Rattle.tseitin.proofs.put_same.Tie as tie
 
 negated-requires : tie.Need-negated-requires
 negated-requires c κs = search needs
 
-put-binary-requires : tie.Need-put-binary-requires
-unfolding written sameClauses
-put-binary-requires c κs = search needs
-
-mul-put-binary : tie.Need-mul-put-binary
-unfolding written sameClauses
-mul-put-binary c = let within = rest-within (c .before .put-binary .ensures) (omega arith) in search needs
-
-sub-put-binary : tie.Need-sub-put-binary
-unfolding written sameClauses
-sub-put-binary c = rest-within (c .before .put-binary .ensures) (omega arith)
-
-part-put-binary-start : tie.Need-part-put-binary-start
-unfolding written sameClauses
-part-put-binary-start c = let within = rest-within (c .before .put-binary .ensures) (omega arith) in search needs
-
-part-put-binary-end : tie.Need-part-put-binary-end
-part-put-binary-end c = search needs
-
 negated-requires-2 : tie.Need-negated-requires-2
 negated-requires-2 c κs = search needs
 
-put-binary-requires-2 : tie.Need-put-binary-requires-2
+put-two-requires : tie.Need-put-two-requires
 unfolding written sameClauses
-put-binary-requires-2 c κs = (search needs, search needs, rest-room (c .before .before .before .put-binary .ensures) (omega arith))
-
-add-result : tie.Need-add-result
-unfolding written sameClauses
-add-result c = search needs
+put-two-requires c κs = search needs
 
 same-length : tie.Need-same-length
 same-length c = search needs
@@ -46,21 +21,8 @@ same-length c = search needs
 returns : tie.Need-returns
 unfolding written sameClauses
 returns c =
-    simp (c .before .before .before .before .before .before .negated .ensures .0, c .before .before .negated2 .ensures .0)
-    at (wrote-then (c .before .before .before .before .before .put-binary .ensures) (c .before .put-binary2 .ensures))
+    simp (c .before .before .before .negated .ensures .0, c .before .before .negated2 .ensures .0)
+    at (c .before .put-two .ensures)
 
 pub put-same-spec : {M : Type 1} → statement M
-put-same-spec =
-    tie.close
-    (tie.spec
-    negated-requires
-    put-binary-requires
-    mul-put-binary
-    sub-put-binary
-    part-put-binary-start
-    part-put-binary-end
-    negated-requires-2
-    put-binary-requires-2
-    add-result
-    same-length
-    returns)
+put-same-spec = tie.close (tie.spec negated-requires negated-requires-2 put-two-requires same-length returns)
