@@ -4,7 +4,7 @@
 -- No contract cites this file. Assumes nothing.
 use Prim.Native.Nat.{ℕ, suc, _+_, _-_, _*_, _≤_, _<_, _^_}
 use mathlib.Core.Path.{_≡_, refl, sym, _∙_, ap, subst}
-use mathlib.Core.Bool.{Bool, true}
+use mathlib.Core.Bool.{Bool}
 use mathlib.Core.Logic.{by-cases}
 use mathlib.Core.List.{List, [], _∷_}
 use mathlib.Core.WellFounded.{InvImage·wf}
@@ -28,7 +28,7 @@ use ghost.Atoms.{Atoms, sem}
 use sound.WpLaws.{fmOf, WpFn-mono}
 use types.Kit.{Given, Item, Post as Post′, post, Seq, Go, runs, ‵, raw, _⊛_, ⋆, some, later, anyQ, atRet, _$_, _∵_, !, qed, by, move, keep, drop, use1, use2, split, join, pick, rewrite, fsplit, fjoin, feqI, suffices, frame, await, done}
 use types.Part.{whole, sub, look-in}
-use types.Run.{look, store, store-raw, init, forget, stop, hop, fld, from, load, lit, unit-lit, of-opd, bin, un, and-then, no-more, assigns, assigns-last, stays, leaves-loop, returns, enter, alloc1, alloc0, params1, pass1, pass0, free1, free0, exec, first, blocks, land, again, loops, Below}
+use types.Run.{look, store, store-raw, init, forget, stop, hop, fld, from, load, lit, unit-lit, of-opd, bin, un, and-then, no-more, assigns, assigns-last, stays, leaves-loop, returns, enter, alloc1, alloc0, params1, pass1, pass0, exec, first, blocks, land, again, loops, Below}
 use contract.Monad.{fact}
 use denote.Exit.{yes}
 use denote.RattleType.{RattleType, owns}
@@ -54,6 +54,7 @@ use denote.Triple.Spec.{Meets}
 use denote.Triple.Clauses.{Clauses, Ended, ensured, lasts, closing}
 use denote.Triple.Walked.{says, needs, Stays, stay-slice, stay-none, stay-none-ref, walkOf, Walks, ends-at, walked, goes-slice, goes-none, goes-none-ref, walk-meets}
 use Rattle.lists.specs.Delivered.{delivered}
+use Rattle.lists.proofs.Walk.{bare, cell, frees-all}
 use Rattle.lists.proofs.DeliverContract as promise
 use Rattle.lists.proofs.Delivered.{delivered-none, length-delivered, delivered-next}
 
@@ -296,12 +297,7 @@ module _ (D : Declared) (laws : LL.Laws D) (one : One (row′ D .mir)) (elem : T
             closes-slice ! tt R old (after n) (length-delivered (recordAt (now c)) old n long) b o $
             -- [obs; the borrow; its token; codes; their token; _5; _6; _7; _8; _9; _4; _3; _1; _2; _0; and that each local dies]
             assigns ! (of-opd ! (unit-lit !)) (from ! (stop !)) (init ! 14 refl (tt, tt)) $
-            returns ! (look ! 14 refl) $ forget ! 5 refl $ forget ! 6 refl $ forget ! 10 refl $ forget ! 11 refl $
-            forget ! 12 refl $ forget ! 13 refl $ forget ! 14 refl $
-            move ! (14 ∷ 15 ∷ []) $ free1 ! $ move ! (12 ∷ 14 ∷ []) $ free1 ! $ move ! (12 ∷ 13 ∷ []) $ free1 ! $
-            move ! (11 ∷ 12 ∷ []) $ free1 ! $ move ! (10 ∷ 11 ∷ []) $ free1 ! $
-            move ! (5 ∷ 10 ∷ []) $ free1 ! $ move ! (5 ∷ 9 ∷ []) $ free1 ! $ move ! (5 ∷ 8 ∷ []) $ free1 ! $ move ! (5 ∷ 7 ∷ []) $
-            free1 ! $ move ! (5 ∷ 6 ∷ []) $ free1 ! $ free0 ! $ by ! exits
+            returns ! (look ! 14 refl) $ move ! (14 ∷ 15 ∷ 12 ∷ 16 ∷ 13 ∷ 17 ∷ 11 ∷ 18 ∷ 10 ∷ 19 ∷ 5 ∷ 20 ∷ 6 ∷ 21 ∷ 7 ∷ 22 ∷ 8 ∷ 23 ∷ 9 ∷ 24 ∷ []) $ frees-all ! (cell W, (cell W, (cell W, (cell W, (cell W, (cell W, (cell W, (bare W, (bare W, (bare W, tt)))))))))) $ by ! exits
 
         turns : (t : Done) → Turn t
         turns t = by-cases (decLt (t .0) n) (more t) (λ h. ends t (omega (arith, t .1)))

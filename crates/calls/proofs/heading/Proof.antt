@@ -19,7 +19,7 @@ use contract.Monad.{Fun, factI}
 use contract.Running.{givenOf, tables, tablesOf}
 use types.Kit.{Given, ‵, _⊛_, _$_, _∵_, !, qed, by, move, keep, split, join, fsplit, fjoin, suffices, frame}
 use types.Part.{whole, sub, look-in}
-use types.Run.{look, init, forget, stop, fld, from, load, addr, of-opd, and-then, no-more, assigns, land, returns, enter, alloc1, alloc0, params1, pass1, pass0, free0}
+use types.Run.{look, init, forget, stop, fld, from, load, addr, of-opd, and-then, no-more, assigns, land, returns, enter, alloc1, alloc0, params1, pass1, pass0}
 use sound.WpLaws.{FmC, fmOf}
 use denote.RattleType.{owns}
 use denote.Laws.{Is, shows}
@@ -50,7 +50,7 @@ use Rattle.lists.proofs.Latch.Laws as L′
 use Rattle.lists.proofs.Gate as G
 use Rattle.lists.proofs.Gate.Laws as G′
 use Rattle.lists.proofs.Records.{latchPair, gatePair}
-use Rattle.lists.proofs.Walk.{both, calls-told, frees-at, meets-of}
+use Rattle.lists.proofs.Walk.{both, calls-told, cell, frees-all, meets-of}
 use Rattle.lists.proofs.Zeroed.{zeros, unpacks, lends, takes-back}
 use Rattle.lists.proofs.unpack.unpack_latches as latches
 use Rattle.lists.proofs.unpack.unpack_latches.Symbol as latches-def
@@ -205,10 +205,7 @@ module _ {M : Type 1} (𝓤 : URA M) (H : Heap 𝓤) (A : Atoms 𝓤) (W : Given
           returns ! (look ! 36 refl) $
           move ! (36 ∷ 37 ∷ 34 ∷ 35 ∷ 11 ∷ 33 ∷ 7 ∷ 32 ∷ 30 ∷ 31 ∷ 2 ∷ 29 ∷ 0 ∷ 28 ∷ 6 ∷ 27 ∷ 10 ∷ 26 ∷ 5 ∷ 25 ∷ 23 ∷ 24 ∷ 21 ∷
           22 ∷ 19 ∷ 20 ∷ 17 ∷ 18 ∷ []) $
-          frees-at ! 0 refl refl $ frees-at ! 0 refl refl $ frees-at ! 0 refl refl $ frees-at ! 0 refl refl $
-          frees-at ! 0 refl refl $ frees-at ! 0 refl refl $ frees-at ! 0 refl refl $
-          frees-at ! 0 refl refl $ frees-at ! 0 refl refl $ frees-at ! 0 refl refl $ frees-at ! 0 refl refl $
-          frees-at ! 0 refl refl $ frees-at ! 0 refl refl $ frees-at ! 0 refl refl $ free0 ! $
+          frees-all ! (cell W, (cell W, (cell W, (cell W, (cell W, (cell W, (cell W, (cell W, (cell W, (cell W, (cell W, (cell W, (cell W, (cell W, tt)))))))))))))) $
           -- [true; the answer; what is said of last values; what gates own; κ₁'s token; what latches own; κ₀'s token; true;
           -- depth; net]
           suffices ! _ (ends-at 𝓤 H A f.ended stayed (f.clauses 𝓤 H A mem run) W

@@ -19,7 +19,7 @@ use contract.Monad.{Fun, fact, factI}
 use contract.Running.{givenOf, tables, tablesOf}
 use types.Kit.{Given, ‵, raw, _⊛_, _$_, _∵_, !, qed, by, move, keep, drop, use1, split, join, fsplit, fjoin, feqL, suffices, frame}
 use types.Part.{agg, whole, sub, look-in}
-use types.Run.{look, init, forget, stop, hop, fld, from, load, addr, of-opd, and-then, no-more, assigns, land, returns, enter, alloc1, alloc0, params1, pass1, pass0, free0}
+use types.Run.{look, init, forget, stop, hop, fld, from, load, addr, of-opd, and-then, no-more, assigns, land, returns, enter, alloc1, alloc0, params1, pass1, pass0}
 use sound.WpLaws.{FmC, fmOf}
 use denote.RattleType.{owns}
 use denote.Laws.{Is, shows}
@@ -53,7 +53,7 @@ use Rattle.lists.proofs.Latch.Laws as L′
 use Rattle.lists.proofs.Gate as G
 use Rattle.lists.proofs.Gate.Laws as G′
 use Rattle.lists.proofs.Records.{latchPair, gatePair}
-use Rattle.lists.proofs.Walk.{both, calls-told, frees-at, meets-of}
+use Rattle.lists.proofs.Walk.{both, calls-told, cell, frees-all, meets-of}
 use Rattle.lists.proofs.Zeroed.{zeros, unpacks, lends, takes-back}
 use Rattle.lists.proofs.unpack.unpack_latches as latches
 use Rattle.lists.proofs.unpack.unpack_latches.Symbol as latches-def
@@ -242,12 +242,7 @@ module _ {M : Type 1} (𝓤 : URA M) (H : Heap 𝓤) (A : Atoms 𝓤) (W : Given
           returns ! (look ! 46 refl) $
           move ! (46 ∷ 47 ∷ 44 ∷ 45 ∷ 12 ∷ 43 ∷ 8 ∷ 42 ∷ 40 ∷ 41 ∷ 38 ∷ 39 ∷ 36 ∷ 37 ∷ 2 ∷ 35 ∷ 0 ∷ 34 ∷ 7 ∷ 33 ∷ 11 ∷ 32 ∷ 6 ∷
           31 ∷ 29 ∷ 30 ∷ 27 ∷ 28 ∷ 25 ∷ 26 ∷ 23 ∷ 24 ∷ 21 ∷ 22 ∷ 19 ∷ 20 ∷ []) $
-          frees-at ! 0 refl refl $ frees-at ! 0 refl refl $ frees-at ! 0 refl refl $ frees-at ! 0 refl refl $
-          frees-at ! 0 refl refl $ frees-at ! 0 refl refl $ frees-at ! 0 refl refl $ frees-at ! 0 refl refl $
-          frees-at ! 0 refl refl $
-          frees-at ! 0 refl refl $ frees-at ! 0 refl refl $ frees-at ! 0 refl refl $ frees-at ! 0 refl refl $
-          frees-at ! 0 refl refl $ frees-at ! 0 refl refl $ frees-at ! 0 refl refl $ frees-at ! 0 refl refl $
-          frees-at ! 0 refl refl $ free0 ! $
+          frees-all ! (cell W, (cell W, (cell W, (cell W, (cell W, (cell W, (cell W, (cell W, (cell W, (cell W, (cell W, (cell W, (cell W, (cell W, (cell W, (cell W, (cell W, (cell W, tt)))))))))))))))))) $
           -- [κ₂'s token; the answer; what out is left; true; what gates own; κ₁'s token; what latches own; κ₀'s token; true;
           -- group; depth; net]
           suffices ! _ (ends-at 𝓤 H A f.ended stayed (f.clauses 𝓤 H A mem run) W

@@ -16,7 +16,7 @@ use ghost.Atoms.{Atoms}
 use contract.Monad.{Fun, fact}
 use contract.Running.{givenOf, tables, tablesOf}
 use types.Kit.{Given, ‵, raw, _⊛_, _$_, _∵_, !, qed, move, keep, drop, use1, split, join, fjoin, suffices, frame, done}
-use types.Run.{look, init, stop, from, load, and-then, no-more, land, returns, enter, alloc1, alloc0, params1, pass1, pass0, free0}
+use types.Run.{look, init, stop, from, load, and-then, no-more, land, returns, enter, alloc1, alloc0, params1, pass1, pass0}
 use sound.WpLaws.{FmC, fmOf}
 use denote.RattleType.{owns}
 use denote.Laws.{Is, shows}
@@ -41,8 +41,7 @@ use Rattle.lists.specs.declared.Latch.{Latch}
 use Rattle.lists.specs.declared.Gate.{Gate}
 use Rattle.lists.proofs.Latch as L
 use Rattle.lists.proofs.Gate as G
-use Rattle.lists.proofs.Walk.{calls-told, frees-at, meets-of}
-use Rattle.refusals.specs.declared.Verdict.the-variants.{Passed}
+use Rattle.lists.proofs.Walk.{calls-told, cell, frees-all, meets-of}
 use Rattle.unpacked.specs.Calls.{headingReply}
 use Rattle.calls.specs.Starred.{Starred}
 use Rattle.unpacked.specs.declared.HeadingAnswer.{HeadingAnswer}
@@ -141,8 +140,7 @@ module _ {M : Type 1} (𝓤 : URA M) (H : Heap 𝓤) (A : Atoms 𝓤) (W : Given
           peeks ! Reply.the-row (Is Reply.the-row) (shows 𝓤 H A Reply.the-row) r′ (w′ ∷ []) (λ is-reply.
           land ! (from ! (stop !)) (init ! 15 refl (LL.lawful Reply.the-type Reply′.the-laws 𝓤 H A W .typed r′
           (w′ ∷ []) is-reply .0)) $ returns ! (look ! 15 refl) $
-          frees-at ! 15 refl refl $ frees-at ! 13 refl refl $ frees-at ! 11 refl refl $ frees-at ! 9 refl refl $
-          frees-at ! 7 refl refl $ frees-at ! 5 refl refl $ free0 ! $
+          move ! (15 ∷ 16 ∷ 13 ∷ 14 ∷ 11 ∷ 12 ∷ 9 ∷ 10 ∷ 7 ∷ 8 ∷ 5 ∷ 6 ∷ []) $ frees-all ! (cell W, (cell W, (cell W, (cell W, (cell W, (cell W, tt)))))) $
           -- [the reply; …; …; …; the tokens]
           suffices ! _ (ends-at 𝓤 H A f.ended stayed (f.clauses 𝓤 H A mem run) W
           (((κ₀, (κ₁, tt)), (q₀, (q₁, tt)), tt, a, vals), tt) w′ r′ (tt, (tt, (tt, (tt, tt)))) (tt, (tt, (tt, (tt, tt))))) $

@@ -24,7 +24,7 @@ use contract.Monad.{Fun, fact}
 use contract.Running.{givenOf, tables, tablesOf}
 use types.Kit.{Given, Item, ‵, raw, _⊛_, given, ⋆, some, later, _$_, _∵_, !, qed, by, move, keep, drop, group, use0, use1, use2, use3, split, join, learn, pick, rewrite, fsplit, fjoin, check, show, suffices, frame, await, updating, now as at-once, done}
 use types.Part.{whole, sub, look-in, agg}
-use types.Run.{look, init, forget, stop, hop, fld, from, load, of-opd, addr, and-then, no-more, assigns, land, returns, enter, alloc1, alloc0, params1, pass1, pass0, free1, free0}
+use types.Run.{look, init, forget, stop, hop, fld, from, load, of-opd, addr, and-then, no-more, assigns, land, returns, enter, alloc1, alloc0, params1, pass1, pass0}
 use types.SemTy.{Body}
 use types.Tokens.{lft-new, lft-end, lent-back}
 use sound.WpLaws.{FmC, fmOf, WpFn-mono}
@@ -47,6 +47,7 @@ use denote.Triple.Table.{entered, cited}
 use denote.Triple.Walked.{says, Stays, stay-none-slice, gave-slice, onExit, walkOf, goes-none-slice, goes-gave-slice, Walks, ends-at, walked, walk-meets}
 use denote.Exit.{yes}
 use denote.Triple.Clauses.{Lasts, lasts}
+use Rattle.lists.proofs.Walk.{bare, cell, frees-all}
 use Rattle.refusals.specs.declared.Verdict.the-variants.{Passed}
 use Rattle.netlist.specs.declared.Netlist.{Netlist}
 use Rattle.netlist.proofs.Netlist as N
@@ -512,17 +513,7 @@ module _ {M : Type 1} (𝓤 : URA M) (H : Heap 𝓤) (A : Atoms 𝓤) (W : Given
           use1 W (some (λ (z : Val). ‵ (fat fullShare codesTy l₄ 0 z))) (freed 𝓤 H A W (o .1 .0) l₄) $
           pick ! (λ z₄. forget ! 0 refl $
           -- [_4; _5; the gates' token; gates' last; the latches' token; latches' last; the sheet; the file's token; file; _20; …]
-          forget ! 9 refl $ forget ! 11 refl $ forget ! 13 refl $ forget ! 15 refl $ forget ! 17 refl $ forget ! 19 refl $
-          forget ! 21 refl $ forget ! 23 refl $ forget ! 25 refl $ forget ! 27 refl $ forget ! 29 refl $ forget ! 31 refl $
-          forget ! 33 refl $ forget ! 37 refl $ forget ! 41 refl $ forget ! 43 refl $ forget ! 45 refl $ forget ! 47 refl $
-          move ! (47 ∷ 48 ∷ []) $ free1 ! $ move ! (45 ∷ 46 ∷ []) $ free1 ! $ move ! (43 ∷ 44 ∷ []) $ free1 ! $
-          move ! (41 ∷ 42 ∷ []) $ free1 ! $ move ! (0 ∷ 40 ∷ []) $ free1 ! $ move ! (0 ∷ 38 ∷ []) $ free1 ! $
-          move ! (35 ∷ 36 ∷ []) $ free1 ! $ move ! (33 ∷ 34 ∷ []) $ free1 ! $ move ! (31 ∷ 32 ∷ []) $ free1 ! $ move ! (29 ∷ 30 ∷ []) $ free1 ! $
-          move ! (27 ∷ 28 ∷ []) $ free1 ! $ move ! (25 ∷ 26 ∷ []) $ free1 ! $ move ! (23 ∷ 24 ∷ []) $ free1 ! $
-          move ! (21 ∷ 22 ∷ []) $ free1 ! $
-          move ! (19 ∷ 20 ∷ []) $ free1 ! $ move ! (17 ∷ 18 ∷ []) $ free1 ! $ move ! (15 ∷ 16 ∷ []) $ free1 ! $
-          move ! (13 ∷ 14 ∷ []) $ free1 ! $ move ! (11 ∷ 12 ∷ []) $ free1 ! $ move ! (9 ∷ 10 ∷ []) $ free1 ! $
-          move ! (7 ∷ 8 ∷ []) $ free1 ! $ free0 ! $
+          move ! (47 ∷ 48 ∷ 45 ∷ 46 ∷ 43 ∷ 44 ∷ 41 ∷ 42 ∷ 0 ∷ 40 ∷ 1 ∷ 39 ∷ 37 ∷ 38 ∷ 35 ∷ 36 ∷ 33 ∷ 34 ∷ 31 ∷ 32 ∷ 29 ∷ 30 ∷ 27 ∷ 28 ∷ 25 ∷ 26 ∷ 23 ∷ 24 ∷ 21 ∷ 22 ∷ 19 ∷ 20 ∷ 17 ∷ 18 ∷ 15 ∷ 16 ∷ 13 ∷ 14 ∷ 11 ∷ 12 ∷ 9 ∷ 10 ∷ []) $ frees-all ! (cell W, (cell W, (cell W, (cell W, (bare W, (bare W, (cell W, (bare W, (cell W, (cell W, (cell W, (cell W, (cell W, (cell W, (cell W, (cell W, (cell W, (cell W, (cell W, (cell W, (cell W, tt))))))))))))))))))))) $
           move ! (4 ∷ 5 ∷ 2 ∷ 0 ∷ 6 ∷ 3 ∷ 1 ∷ []) $
           by ! (exits (o .0) (o .1 .0) (o .1 .1) e))))))))))))))))))))))))))))))))))))))))))))))))
 
