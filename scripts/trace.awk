@@ -13,7 +13,7 @@ function value(code, frame,   wire, bit) { # of a code in a frame; code 0 is fal
 
 function word(codes, frame,   parts, t, sum) { # of codes parted by spaces
   for (t = split(codes, parts, " "); t >= 1; t--) sum = 2 * sum + value(parts[t], frame)
-  return sum + 0
+  return sprintf("%.0f", sum) # a word of 32 bits too, whatever awk makes of large numbers
 }
 
 function read_of(frame, at) {
@@ -27,12 +27,15 @@ function write_of(frame, at) {
   return "writes " word(write_data, frame) " at " at
 }
 
+# a field of a sheet's line, by its columns: one that is full has no space before it
+function field(column) { return substr($0, 2 + 10 * column, 10) + 0 }
+
 file == "names" { name[++names] = $1; $1 = ""; codes[names] = $0 }
-file == "sheet" && $1 == "N" { V = $2 + $3 + $4; first_read = $2 + $3 + 1 }
-file == "sheet" && $1 == "M" { m = $2; V += $3; for (t = 0; t < $3; t++) read_data = read_data " " 2 * (first_read + t) }
-file == "sheet" && $1 == "A" { address = address " " $2 }
-file == "sheet" && $1 == "D" { write_data = write_data " " $2 }
-file == "sheet" && $1 == "C" { we = $2; re = $3; property = $4 }
+file == "sheet" && /^N/ { V = field(0) + field(1) + field(2); first_read = field(0) + field(1) + 1 }
+file == "sheet" && /^M/ { m = field(0); n = field(1); V += n; for (t = 0; t < n; t++) read_data = read_data " " 2 * (first_read + t) }
+file == "sheet" && /^A/ { address = address " " field(0) }
+file == "sheet" && /^D/ { write_data = write_data " " field(0) }
+file == "sheet" && /^C/ { we = field(0); re = field(1); property = field(2) }
 file == "answer" && $1 == "v" { for (f = 2; f <= NF; f++) if ($f > 0) holds[$f] }
 
 END {
@@ -41,7 +44,7 @@ END {
   print line "  memory"
   for (i = 0; i <= depth; i++) {
     line = sprintf("%5d", i)
-    for (w = 1; w <= names; w++) line = line sprintf("  %" length(name[w]) "d", word(codes[w], i))
+    for (w = 1; w <= names; w++) line = line sprintf("  %" length(name[w]) "s", word(codes[w], i))
     at = word(address, i)
     read = read_of(i, at)
     written = write_of(i, at)

@@ -50,6 +50,26 @@ chip=examples/document-01/chip
 awk -f scripts/trace.awk depth=1 file=names $chip.names file=sheet $chip.sheet file=answer "$work/answer" > "$work/shown"
 check "an answer shown frame by frame" diff "$work/expected" "$work/shown"
 
+# A word of 32 bits, all of them 1: its field fills its columns, so that no space stands before it. No input, no latch, no gate; wires 1
+# to 32 are the read bits, and the property is that bit 0 reads 0.
+{
+  printf 'N%10d%10d%10d\n' 0 0 0
+  printf 'M%10d%10d%10.0f\n' 1 32 4294967295
+  printf 'A%10d%20s\n' 0 ''
+  for _ in $(seq 32); do printf 'D%10d%20s\n' 0 ''; done
+  printf 'C%10d%10d%10d\n' 0 1 3
+} > "$work/wide.sheet"
+printf 'read' > "$work/wide.names"
+for wire in $(seq 32); do printf ' %d' $((2 * wire)); done >> "$work/wide.names"
+echo >> "$work/wide.names"
+cat > "$work/expected" <<END
+$work/wide.sheet: the property is broken in one of the frames 0 to 0:
+frame  read  memory
+    0  4294967295  reads 4294967295 at 0 (start word)  <- property broken
+END
+FRAMES=$frames timeout 60 bash scripts/find.sh "$work/wide.sheet" 0 > "$work/shown"
+check "a word of 32 bits" diff "$work/expected" "$work/shown"
+
 # Each transcript of scripts/find.sh on the pages is what it prints: whole with Debian's CaDiCaL, and its first line with another
 # version, which may choose another run.
 if [ "$(cadical --version)" = sc2021 ]; then shown=cat; else shown="head -n 1"; fi

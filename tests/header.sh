@@ -28,5 +28,20 @@ else
   failed=$((failed + 1))
   echo "FAILED: tests/header/main.c does not compile with the header"
 fi
+
+# a program in C++ finds the functions by their names too
+cat > "$work/call.cpp" <<'END'
+#include "marrubigai.h"
+int main() {
+  uint8_t text[28];
+  return marrubigai_put_refusal(text, sizeof text, 9, 0).count == sizeof text ? 0 : 1;
+}
+END
+if g++ -std=c++11 -pedantic -Wall -Wextra -Werror -Iinclude -o "$work/call" "$work/call.cpp" -L target/staticlib -lexports && "$work/call"; then
+  passed=$((passed + 1))
+else
+  failed=$((failed + 1))
+  echo "FAILED: a program in C++ that calls the library"
+fi
 echo "$passed passed, $failed failed"
 [ "$failed" -eq 0 ]
