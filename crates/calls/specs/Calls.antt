@@ -26,7 +26,7 @@ groupFor net latches gates k g room = groupSent (netLent net latches gates) (len
 abbrev pub numbersLeft : Netlist → List Latch → List Gate → ℕ → Group → List ℤ → List ℤ
 numbersLeft net latches gates k g old = groupLeaves (netLent net latches gates) (length latches) (length gates) k g old
 
--- "for every accepted record and depth 0 to 255"
+-- demand 3, for every accepted record and every depth from 0 to 255
 abbrev pub Claim : Netlist → List Latch → List Gate → ℕ → Type 0
 Claim net latches gates k =
     recordVerdict (netLent net latches gates) (length latches) (length gates) ≡ Passed → k ≤ mostDepth

@@ -1,5 +1,5 @@
-// The clauses of the closing of frame i at a port (document 01, "Closing, frame i"): a read that no earlier frame wrote is the
-// start word, and a read has some source.
+// The clauses of the closing of frame i at a port (document 01, "Closing, frame i"): a read of a word that no earlier
+// frame wrote is the start word, and a read has some source.
 use literals::Lit;
 use literals::Wire;
 use netlist::Netlist;

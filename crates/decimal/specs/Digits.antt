@@ -25,7 +25,7 @@ unfoldable pub digitsWithin : ℕ → ℕ → List ℕ
 digitsWithin zero x = []
 digitsWithin (suc n) x = cond (ltb x 10) [] (digitsWithin n (x / 10)) ++ digit (x % 10) ∷ []
 
--- "decimal, without leading zeros; zero is `0`". More divisions than x are never needed
+-- "decimal, .. without leading zeros, ..; zero is `0`". More divisions than x are never needed
 unfoldable pub digits : ℕ → List ℕ
 digits x = digitsWithin (suc x) x
 
@@ -33,7 +33,7 @@ digits x = digitsWithin (suc x) x
 unfoldable pub field : ℕ → List ℕ
 field x = replicate (10 - length (digits x)) space ++ digits x
 
--- "an empty field is ten spaces"
+-- "An empty field is ten spaces"
 abbrev pub emptyField : List ℕ
 emptyField = replicate 10 space
 

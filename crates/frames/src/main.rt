@@ -1,6 +1,5 @@
 // The program (document 01, "The program and one full run"): a depth line and a sheet on standard input, the formula as DIMACS text
 // or one refusal on standard output. What is read and what is printed is in the crates below; here are only input and output.
-use model::Group;
 use netlist::Netlist;
 use unrolling::order::Next;
 ghost use Prim.Native.Nat.{_≤_};
@@ -40,7 +39,7 @@ fn print_clauses(net: Netlist, latches: &[u32; 1200], gates: &[u32; 1200], depth
     let mut numbers = [0; 5992];
     let mut table = [0; 40000];
     text::fill_table(&mut table);
-    let mut next = Next::Then(Group::Wires(0));
+    let mut next = unrolling::order::first_group(depth);
     while let Next::Then(group) = next {
         let piece = stream::print_groups(
             &mut text,

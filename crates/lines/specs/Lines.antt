@@ -1,5 +1,5 @@
--- A line of 32 bytes as it is read and as it is written (document 01, "The sheet"). Cited by `read_line`, the reader of sheets
--- and calls/specs/Starred. Assumes nothing.
+-- A line of 32 bytes as it is read and as it is written (document 01, "The sheet"). Cited by `read_line` and its parts,
+-- lines/specs/Depth, parse/specs/Files and calls/specs/Starred. Assumes nothing.
 use Prim.Native.Nat.{ℕ, _+_, _*_, _^_, _<_}
 use mathlib.Core.Path.{_≡_}
 use mathlib.Core.Bool.{Bool, true, false, not, cond, _&&_}
@@ -20,7 +20,7 @@ use Rattle.lines.specs.declared.ParsedLine.the-variants.{Misprint, Read}
 unfoldable pub fieldIn : List ℕ → ℕ → Field
 fieldIn s column = fieldOf (take 10 (drop (1 + 10 * column) s))
 
--- "a field as its letter wants": a number where it is to be filled, and else empty
+-- a field as its letter wants it: a number where it is to be filled, and else empty
 abbrev pub asWanted : Bool → Field → Bool
 asWanted filled Empty = not filled
 asWanted filled (Filled x) = filled

@@ -78,7 +78,7 @@ pairClauses m n x =
     gather m (addressBitClauses x) ++ allBits m x ∷ [] ++ andClauses (x .s) (x .E) (x .WE) ++ andClauses (x .PS) (neg (x .s)) (x .N)
     ++ andClauses (x .S) (x .s) (x .N) ++ gather n (forwardedClauses x)
 
--- The literals of document 01's "closing" of frame i: the paper's j = -1, a read that no earlier frame wrote.
+-- The literals of document 01's "closing" of frame i: the paper's j = -1, a read of a word that no earlier frame wrote.
 pub record ClosingLiterals : Type 0 where
   -- PS of pair (0, i), or RE where i = 0
   pub Z : Literal

@@ -1,6 +1,5 @@
 -- Laws of specs/Pieces.antt: nothing printed yet, and one group more. No contract cites this file. Assumes nothing.
-use Prim.Native.Nat.{ℕ, zero, suc, _+_, _-_}
-use native.Mathlib.Numerals.{add-one}
+use Prim.Native.Nat.{ℕ, _+_, _-_}
 use mathlib.Core.Path.{_≡_, refl, sym, _∙_, ap, subst}
 use mathlib.Core.Bool.{true}
 use mathlib.Core.List.{List, [], _∷_, _++_, append-assoc, append-nil}
@@ -9,12 +8,10 @@ use lib.ListN.{length, take, drop}
 use lib.Seq.{take-append-seam}
 use borrow.Rule.Slice.PartMut.{midOf, putMid}
 use Rattle.model.specs.Netlist.{Netlist}
-use Rattle.model.specs.Gather.{gather}
-use Rattle.model.specs.Groups.{frameGroups, groupOrder, inDepth}
+use Rattle.model.specs.Groups.{groupOrder, inDepth}
 use Rattle.model.specs.Numbers.{numbersOf, joined}
 use Rattle.model.specs.Wrote.{Wrote}
 use Rattle.model.specs.declared.Group.{Group}
-use Rattle.model.specs.declared.Group.the-variants.{Wires, Property}
 use Rattle.model.proofs.Gather.{All, all-at}
 use Rattle.model.proofs.Joined.{order-inDepth}
 use Rattle.model.proofs.Wrote.{wrote-nothing, wrote-then}
@@ -23,7 +20,7 @@ use Rattle.unrolling.specs.declared.order.Next.{Next}
 use Rattle.unrolling.specs.declared.order.Next.the-variants.{Then, End}
 use Rattle.dimacs.specs.Text.{clauseText}
 use Rattle.dimacs.proofs.Text.{clauseText-append}
-use Rattle.stream.specs.Pieces.{OrderHas, OrderHasNext, Printed, Continues}
+use Rattle.stream.specs.Pieces.{OrderHas, Printed, Continues}
 
 -- what a writer wrote stands in front
 pub wrote-front : {A : Type 0} {xs old new : List A} {r : ℕ} → Wrote xs old new r → take r new ≡ xs
@@ -104,6 +101,11 @@ module _ {c : Netlist} {k : ℕ} {old mid : List ℕ} {bytes : ℕ} {due : Group
           ap clauseText (joined-snoc (numbersOf c k) (p .printed) due)
           ∙ clauseText-append (joined (numbersOf c k) (p .printed)) (numbersOf c k due)
 
+-- the order of the whole has the group that comes next, if there is one
+abbrev pub OrderHasNext : ℕ → Next → Type 0
+OrderHasNext k (Then g) = OrderHas k g
+OrderHasNext k End = Unit {0}
+
 -- what comes after a piece stands in the order of the whole
 pub orderHas-next : (c : Netlist) (k : ℕ) (group : Group) (old new : List ℕ) (bytes : ℕ) (next : Next)
     → OrderHas k group → Continues c k group old new bytes next → OrderHasNext k next
@@ -111,21 +113,7 @@ orderHas-next c k group old new bytes (Then due) s p =
     orderHas-due (s .before) (group ∷ s .behind) (s .order) (p (s .before) (s .behind) (s .order))
 orderHas-next c k group old new bytes End s p = tt
 
--- the first group
-frames-begin : (n : ℕ) → Left (Wires 0) (gather (suc n) frameGroups)
-unfolding gather frameGroups
-frames-begin zero = record { behind = _; begins = refl }
-frames-begin (suc n) =
-    record {
-      behind = frames-begin n .behind ++ frameGroups (suc n);
-      begins = ap (λ (t : List Group). t ++ frameGroups (suc n)) (frames-begin n .begins);
-    }
-
-pub orderHas-first : (k : ℕ) → OrderHas k (Wires 0)
-unfolding groupOrder
-orderHas-first k =
-    record {
-      before = [];
-      behind = frames-begin k .behind ++ Property ∷ [];
-      order = ap (λ (t : List Group). t ++ Property ∷ []) (ap (λ (n : ℕ). gather n frameGroups) (add-one k) ∙ frames-begin k .begins);
-    }
+-- and so does the first group
+pub orderHas-first : (k : ℕ) (next : Next) → next ≡ firstGroup (groupOrder k) → OrderHasNext k next
+orderHas-first k (Then g) h = let first = left-begins g (groupOrder k) h in record { before = []; behind = first .behind; order = first .begins }
+orderHas-first k End h = tt

@@ -1,5 +1,5 @@
--- The text of a depth, piece by piece: its header, then whole groups in the order of the whole. Cited by `print_header` and
--- `print_groups`. Assumes nothing.
+-- The text of a depth, piece by piece: its header, then whole groups in the order of the whole. Cited by `print_header`,
+-- `print_group` and `print_groups`. Assumes nothing.
 use Prim.Native.Nat.{ℕ, _+_}
 use mathlib.Core.Path.{_≡_}
 use mathlib.Core.List.{List, _∷_, _++_}
@@ -12,7 +12,6 @@ use Rattle.model.specs.Wrote.{Wrote}
 use Rattle.model.specs.declared.Group.{Group}
 use Rattle.unrolling.specs.Next.{firstGroup}
 use Rattle.unrolling.specs.declared.order.Next.{Next}
-use Rattle.unrolling.specs.declared.order.Next.the-variants.{Then, End}
 use Rattle.dimacs.specs.Text.{headerText, clauseText}
 
 -- "It prints `p cnf`, variables, clauses": of depth k
@@ -25,13 +24,8 @@ pub record OrderHas (k : ℕ) (group : Group) : Type 0 where
   pub behind : List Group
   pub order : groupOrder k ≡ before ++ group ∷ behind
 
--- it has the group that comes next, if there is one
-abbrev pub OrderHasNext : ℕ → Next → Type 0
-OrderHasNext k (Then g) = OrderHas k g
-OrderHasNext k End = Unit {0}
-
--- wherever `group` stands in the order of the whole, the text at the start of the buffer is that of the groups `printed`, which
--- begin with it, and `next` is the first of those that are left
+-- of the groups `due`, the first ones (`printed`) have their text at the start of the buffer, and `next` is the first of those that
+-- are left. That there are fewer left than were due is `print_groups`' promise `ends`
 pub record Printed (c : Netlist) (k : ℕ) (old new : List ℕ) (bytes : ℕ) (next : Next) (due : List Group) : Type 0 where
   pub printed : List Group
   pub left : List Group
@@ -39,6 +33,7 @@ pub record Printed (c : Netlist) (k : ℕ) (old new : List ℕ) (bytes : ℕ) (n
   pub wrote : Wrote (clauseText (joined (numbersOf c k) printed)) old new bytes
   pub next-left : next ≡ firstGroup left
 
+-- so it is of `group` and all behind it, wherever it stands in the order of the whole
 abbrev pub Continues : Netlist → ℕ → Group → List ℕ → List ℕ → ℕ → Next → Type 0
 Continues c k group old new bytes next =
     (before behind : List Group) → groupOrder k ≡ before ++ group ∷ behind → Printed c k old new bytes next (group ∷ behind)

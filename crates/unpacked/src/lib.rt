@@ -15,8 +15,8 @@ pub enum GroupAnswer {
     Refused(Refusal, u32),
 }
 
-// What a heading call answers (document 01's heading is DIMACS' problem line): the variables and clauses of a depth, or the
-// refusal with its place.
+// What a heading call answers: document 01's heading, the two counts of DIMACS' problem line (the line as text is the header, crate
+// `dimacs`); or the refusal with its place.
 pub enum HeadingAnswer {
     Heading { variables: u32, clauses: u32 },
     Refused(Refusal, u32),

@@ -1,8 +1,8 @@
--- What follows each group in the order of the whole, and that fewer are left then. No contract cites this file. Assumes nothing.
+-- The first group in the order of the whole, what follows each group, and that fewer are left then. No contract cites this file. Assumes nothing.
 use Prim.Native.Nat.{ℕ, zero, suc, _+_, _-_, _*_, _≤_, _<_}
 use mathlib.Core.Path.{_≡_, refl, sym, _∙_, ap, subst}
 use mathlib.Core.Bool.{Bool, true, false, cond}
-use mathlib.Core.List.{List, [], _∷_, _++_}
+use mathlib.Core.List.{List, [], _∷_, _++_, append-assoc}
 use native.Mathlib.Nat.{le-of-suc-le}
 use native.Mathlib.Numerals.{add-one}
 use native.Mathlib.Omega.{arith}
@@ -15,6 +15,17 @@ use Rattle.model.specs.declared.Group.the-variants.{Wires, Pair, Closing, Prope
 use Rattle.unrolling.specs.Next.{firstGroup, leftAfter, leftFrom}
 use Rattle.unrolling.specs.declared.order.Next.{Next}
 use Rattle.unrolling.specs.declared.order.Next.the-variants.{Then, End}
+
+-- the wires of frame 0 come first, whatever stands behind the frames
+frames-first : (n : ℕ) (ys : List Group) → firstGroup (gather (suc n) frameGroups ++ ys) ≡ Then (Wires 0)
+unfolding gather frameGroups
+frames-first zero ys = refl
+frames-first (suc n) ys =
+    ap firstGroup (append-assoc (gather (suc n) frameGroups) (frameGroups (suc n)) ys) ∙ frames-first n (frameGroups (suc n) ++ ys)
+
+pub order-first : (k : ℕ) → firstGroup (groupOrder k) ≡ Then (Wires 0)
+unfolding groupOrder
+order-first k = rw (add-one k) (frames-first k (Property ∷ []))
 
 -- the group after a group, by its kind and numbers
 abbrev pub successor : ℕ → Group → Next

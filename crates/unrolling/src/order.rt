@@ -6,10 +6,17 @@ ghost use Rattle.model.specs.Groups.{groupOrder};
 ghost use Rattle.unrolling.specs.Next.{firstGroup, leftAfter, leftFrom};
 use model::Group;
 
-// What comes after a group in the order of the whole.
+// What comes next in the order of the whole.
 pub enum Next {
     Then(Group),
     End,
+}
+
+// The group with which the order of the whole begins.
+pub fn first_group(depth: u32) -> Next
+    ensures { λ r. ⌜ r ≡ firstGroup (groupOrder depth) ⌝ }
+{
+    Next::Then(Group::Wires(0))
 }
 
 // The group that follows `group` in the order of the whole at this depth.

@@ -64,7 +64,7 @@ pub fn pair_base(net: Netlist, port: Port, j: u32, i: u32) -> u32
     numbering(net).pair_base(port.first_variable, j, i)
 }
 
-// PS of pair (j, i), or RE of frame i where j = i: N of the pair before, and Z where j = 0.
+// PS of pair (j, i), or RE of frame i where j = i: N of pair (j − 1, i), and Z where j = 0.
 pub fn none_since(net: Netlist, port: Port, j: u32, i: u32) -> Lit
     requires { ⌜ PortFits (alone net) (portOf port) × (j ≤ i) × (i ≤ 255) ⌝ }
     ensures literal { λ r. ⌜ literalOf r ≡ noneSince (alone net) (portOf port) j i ⌝ }

@@ -9,8 +9,7 @@ use lib.Seq.{length-take-le}
 use Rattle.text.specs.Table.{tableBelow}
 use Rattle.text.proofs.Table.{filled-table}
 use Rattle.unrolling.specs.Next.{leftFrom}
-use Rattle.stream.specs.Pieces.{OrderHasNext}
-use Rattle.stream.proofs.Pieces.{orderHas-first, orderHas-next}
+use Rattle.stream.proofs.Pieces.{OrderHasNext, orderHas-first, orderHas-next}
 use Rattle.frames.proofs.print_clauses.Statement.{statement}
 use Rattle.frames.proofs.print_clauses.Tie as tie
 
@@ -27,10 +26,13 @@ slice-aggregate-fill-table c = search needs
 fill-table-requires : tie.Need-fill-table-requires Inv-loop μ-loop
 fill-table-requires c κs = search needs
 
+first-group-requires : tie.Need-first-group-requires Inv-loop μ-loop
+first-group-requires c κs = search needs
+
 loop-holds : tie.Need-loop-holds Inv-loop μ-loop
 loop-holds c =
-    let filled = c .before .fill-table in
-    (search needs, search needs, filled-table _ _ (search needs) (filled .ensures), orderHas-first (c .before .before .before .args .depth))
+    let filled = c .before .before .fill-table in
+    (search needs, search needs, filled-table _ _ (search needs) (filled .ensures), orderHas-first _ _ (c .first-group .ensures))
 
 enum-known-next : tie.Need-enum-known-next Inv-loop μ-loop
 enum-known-next c = search needs
@@ -46,7 +48,7 @@ slice-aggregate-print-groups-3 c = search needs
 
 print-groups-requires : tie.Need-print-groups-requires Inv-loop μ-loop
 print-groups-requires c κs =
-    let start = c .before .before .before .before .before .before .before .before .before .before in
+    let start = c .before .before .before .before .before .before .before .before .before .before .before in
     let at = c .before .before .before .before .before .before .loop in
     (start .pre .0, start .pre .1, rw (c .before .before .before .before .next .given .1) at (at .inv .3), λ long. at .inv .2, omega (arith, at .inv .1), omega (arith, at .inv .0))
 
@@ -97,6 +99,7 @@ print-clauses-spec =
     μ-loop
     slice-aggregate-fill-table
     fill-table-requires
+    first-group-requires
     loop-holds
     enum-known-next
     slice-aggregate-print-groups
