@@ -2,15 +2,29 @@
 use literals::Lit;
 use netlist::Netlist;
 use variables::Port;
+ghost use mathlib.Core.List.{_++_};
 ghost use Prim.Native.Nat.{_≤_};
 ghost use lib.ListN.{length};
+ghost use Rattle.model.specs.Clauses.{neg, andClauses};
 ghost use Rattle.model.specs.Numbers.{written};
 ghost use Rattle.literals.specs.Lit.{literalOf, IsLit};
 ghost use Rattle.variables.specs.OfPair.{ofPair, PairFits};
 ghost use Rattle.model.specs.Wrote.{Wrote};
 ghost use Rattle.select.specs.SelectClauses.{selectClauses, pairSelect};
 
-// The gates s = E ∧ WE, PS = ¬s ∧ N, S = s ∧ N, from their literals: `valid` is s, `none_since` PS, `selected` S, `none_after` N.
+// The gates PS = ¬s ∧ N, S = s ∧ N, from their literals: `valid` is s, `none_since` PS, `selected` S, `none_after` N.
+fn put_chain(out: &mut [i32], valid: Lit, none_since: Lit, selected: Lit, none_after: Lit) -> usize
+    requires { ⌜ IsLit valid × IsLit «none_since» × IsLit selected × IsLit «none_after»
+        × (length (written (andClauses (literalOf «none_since») (neg (literalOf valid)) (literalOf «none_after»)
+        ++ andClauses (literalOf selected) (literalOf valid) (literalOf «none_after»))) ≤ length (now out)) ⌝ }
+    ensures { λ r. ⌜ Wrote (written (andClauses (literalOf «none_since») (neg (literalOf valid)) (literalOf «none_after»)
+        ++ andClauses (literalOf selected) (literalOf valid) (literalOf «none_after»))) (now (out .entry)) (now (out .exit)) r ⌝ }
+{
+    let a = tseitin::put_and(out, none_since, valid.negated(), none_after);
+    a + tseitin::put_and(&mut out[a..], selected, valid, none_after)
+}
+
+// The gate s = E ∧ WE, and those two.
 fn put_select_gates(
     out: &mut [i32],
     valid: Lit,
@@ -27,8 +41,7 @@ fn put_select_gates(
         (literalOf «none_since») (literalOf selected) (literalOf «none_after»))) (now (out .entry)) (now (out .exit)) r ⌝ }
 {
     let a = tseitin::put_and(out, valid, address_equal, write_enable);
-    let b = a + tseitin::put_and(&mut out[a..], none_since, valid.negated(), none_after);
-    b + tseitin::put_and(&mut out[b..], selected, valid, none_after)
+    a + put_chain(&mut out[a..], valid, none_since, selected, none_after)
 }
 
 // The gates of the pair: valid read, none since, exclusive valid read. WE is of the writing frame, N of the pair after it.

@@ -7,13 +7,15 @@ use Rattle.model.specs.Numbers.{written}
 use Rattle.model.specs.Variables.{pairLiterals}
 use Rattle.netlist.specs.NetOf.{netOf, alone}
 use Rattle.variables.specs.PortOf.{portOf}
+use Rattle.variables.specs.OfPair.{ofPair}
 use Rattle.variables.proofs.Room.{code-has-number, pair-has-number, behind-bits}
 use Rattle.select.specs.SelectClauses.{pairSelect, selectClauses}
+use Rattle.select.proofs.PairGates.{pair-gates}
 use Rattle.select.proofs.put_select.Statement.{statement}
 use Rattle.select.proofs.put_select.Tie as tie
 
 pair-base-requires : tie.Need-pair-base-requires
-pair-base-requires c κs = search needs
+pair-base-requires c κs = let is = c .pre .0 in (is .fits, omega arith, omega arith)
 
 in-pair-requires : tie.Need-in-pair-requires
 in-pair-requires c κs =
@@ -40,16 +42,16 @@ in-frame-requires c κs =
     rw (c .frame-base .ensures) (code-has-number _ (is .fits .limits .sizes) _ _ (omega arith) (is .fits .limits .codes .WE-fits))
 
 none-since-requires : tie.Need-none-since-requires
-none-since-requires c κs = search needs
+none-since-requires c κs = let is = c .before .before .before .before .before .before .pre .0 in (is .fits, omega arith, omega arith)
 
 selected-requires : tie.Need-selected-requires
-selected-requires c κs = search needs
+selected-requires c κs = let is = c .before .before .before .before .before .before .before .pre .0 in (is .fits, omega arith, omega arith)
 
 add-none-since : tie.Need-add-none-since
 add-none-since c = search needs
 
 none-since-requires-2 : tie.Need-none-since-requires-2
-none-since-requires-2 c κs = search needs
+none-since-requires-2 c κs = let is = c .before .before .before .before .before .before .before .before .pre .0 in (is .fits, omega arith, omega arith)
 
 put-select-gates-requires : tie.Need-put-select-gates-requires
 unfolding written andClauses selectClauses pairSelect
@@ -59,11 +61,18 @@ same-length : tie.Need-same-length
 same-length c = search needs
 
 returns : tie.Need-returns
-unfolding pairSelect pairLiterals netOf
+unfolding pairLiterals netOf
 returns c =
-    let valid = c .before .before .before .before .before .before .before .before .in-pair2 .ensures .0 ∙ behind-bits (alone (c .before .before .before .before .before .before .before .before .before .before .before .before .args .net)) (portOf (c .before .before .before .before .before .before .before .before .before .before .before .before .args .port)) (c .before .before .before .before .before .before .before .before .before .before .before .before .args .j) (c .before .before .before .before .before .before .before .before .before .before .before .before .args .i) _ 2 (c .before .before .before .before .before .before .before .before .before .before .before .pair-base .ensures) in
-    rw (rw (c .before .before .before .before .before .before .before .before .before .before .before .pair-base .ensures) at (c .before .before .before .before .before .before .before .before .before .before .in-pair .ensures .0), valid, rw (c .before .before .before .before .before .before .before .frame-base .ensures) at (c .before .before .before .before .before .before .in-frame .ensures .0), c .before .before .before .before .before .none-since .ensures .0, c .before .before .before .before .selected .ensures .0, c .before .before .before .none-since2 .ensures .0)
-    at (c .before .put-select-gates .ensures)
+    let a = c .before .before .before .before .before .before .before .before .before .before .before .before .args in
+    let q = c .before .before .before .before .before .before .before .before .before .before .before .pair-base .ensures in
+    pair-gates (ofPair (a .net) (a .port) (a .j) (a .i))
+    (c .before .before .before .before .before .before .before .before .in-pair2 .ensures .0 ∙ behind-bits (alone (a .net)) (portOf (a .port)) (a .j) (a .i) _ 2 q)
+    (rw q at (c .before .before .before .before .before .before .before .before .before .before .in-pair .ensures .0))
+    (rw (c .before .before .before .before .before .before .before .frame-base .ensures) at (c .before .before .before .before .before .before .in-frame .ensures .0))
+    (c .before .before .before .before .before .none-since .ensures .0)
+    (c .before .before .before .before .selected .ensures .0)
+    (c .before .before .before .none-since2 .ensures .0)
+    (c .before .put-select-gates .ensures)
 
 pub put-select-spec : {M : Type 1} → statement M
 put-select-spec =
