@@ -42,14 +42,6 @@ part-read-sheet-end c = search needs
 read-sheet-requires : tie.Need-read-sheet-requires
 read-sheet-requires c κs = search needs
 
-returns : tie.Need-returns
-returns c =
-    let told = c .before .before in
-    let answer = rw (told .before .refusal .given .1) at (told .before .before .before .read-depth .ensures) in (
-      rw (c .before .number .ensures) (reply-depth _ (told .before .refusal .given .0 .0) answer),
-      λ h. absurd (omega (arith, c .before .number .ensures, refusalNumber-some (told .before .refusal .given .0 .0), h)),
-    )
-
 returns-2 : tie.Need-returns-2
 returns-2 c =
     let told = c .before .before .before .before in
@@ -63,6 +55,14 @@ returns-2 c =
             depth-most = omega (arith, read .1 .0, accepted-most input _ answer);
             sheet = read .1 .1 h;
           },
+    )
+
+returns : tie.Need-returns
+returns c =
+    let told = c .before .before in
+    let answer = rw (told .before .refusal .given .1) at (told .before .before .before .read-depth .ensures) in (
+      rw (c .before .number .ensures) (reply-depth _ (told .before .refusal .given .0 .0) answer),
+      λ h. absurd (omega (arith, c .before .number .ensures, refusalNumber-some (told .before .refusal .given .0 .0), h)),
     )
 
 pub read-input-spec : {M : Type 1} → statement M
