@@ -73,8 +73,8 @@ pub fn read_lines(
     while done < count {
         let step = read_next(file, done, read, latches, gates);
         let verdict = step.verdict;
-        if let Verdict::Refused(refusal, place) = verdict {
-            return steps::refused(refusal, place);
+        if let Verdict::Refused(_, _) = verdict {
+            return step;
         }
         read = step.net;
         done += 1;

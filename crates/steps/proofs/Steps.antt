@@ -12,6 +12,7 @@ use lib.Seq.{getD-set-same, getD-set-other}
 use borrow.Author.Tests.{eq-eqb, ne-eqb}
 use Rattle.refusals.specs.declared.Refusal.{Refusal}
 use Rattle.refusals.specs.declared.Refusal.the-variants.{OutOfOrder}
+use Rattle.refusals.specs.declared.Verdict.{Verdict}
 use Rattle.refusals.specs.declared.Verdict.the-variants.{Refused}
 use Rattle.refusals.proofs.Tests.{refused-not-passed}
 use Rattle.literals.specs.declared.Code.{Code}
@@ -23,9 +24,9 @@ use Rattle.netlist.specs.NetOf.{codeOf, firstAt, secondAt, netOf, alone}
 use Rattle.netlist.specs.declared.Netlist.{Netlist}
 use Rattle.netlist.specs.declared.Line.the-variants.{Latch, Gate}
 use Rattle.steps.specs.Due.{kindDue}
+use Rattle.steps.specs.declared.SheetAnswer.{SheetAnswer}
 use Rattle.steps.specs.Steps.{stored, stepNet, stepVerdict, SizesKnown, FullLength, Holds, Outcome}
 use Rattle.steps.specs.LineFaults.{faultsAt}
-use Rattle.steps.specs.Records.{refusedAt}
 use Rattle.steps.proofs.Places.{codes-from-3, sizesOf, SameSizes, sizesFit-same, lineAt-known}
 use Rattle.refusals.specs.Tests.{_then_}
 
@@ -123,6 +124,8 @@ module _ (c : M.Netlist) (kind : Kind) (x y z p : ℕ) where
   unfolding stepVerdict _then_
   step-due h e = rw (h, eq-eqb (rowOf kind) (rowOf (kindDue (lineAt c p))) e)
 
--- a refusal's record and lists hold nothing
-pub outcome-refused : (r : Refusal) (p : ℕ) (latches gates : List ℕ) (c : M.Netlist) → Outcome (refusedAt r p) latches gates (Refused r p) c
-outcome-refused r p latches gates c = record { verdict-is = refl; holds = λ e. absurd (refused-not-passed e) }
+-- a refusal's record and lists need hold nothing
+pub outcome-refused : {sheet : SheetAnswer} {v : Verdict} {r : Refusal} {p : ℕ} (latches gates : List ℕ) (c : M.Netlist)
+    → sheet .verdict ≡ Refused r p → v ≡ Refused r p → Outcome sheet latches gates v c
+outcome-refused latches gates c told e =
+    record { verdict-is = told ∙ sym e; holds = λ passed. absurd (refused-not-passed (sym e ∙ passed)) }

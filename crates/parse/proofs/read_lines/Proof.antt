@@ -31,23 +31,19 @@ read-next-requires c κs =
     let whole = whole-lines (start .args .file .now) (start .pre .0) in
     (c .before .before .before .loop .inv .1, omega arith, omega arith)
 
-enum-known-verdict : tie.Need-enum-known-verdict Inv-loop μ-loop
-enum-known-verdict c = search needs
-
-refused-requires : tie.Need-refused-requires Inv-loop μ-loop
-refused-requires c κs = search needs
+enum-told : tie.Need-enum-told Inv-loop μ-loop
+enum-told c = search needs
 
 returns : tie.Need-returns Inv-loop μ-loop
 returns c =
-    let start = c .before .before .before .before .before .before .before .before .before .before in
+    let start = c .before .before .before .before .before .before .before .before in
     let file = start .args .file .now in
-    let p = c .before .before .before .before .before .before .before .before .loop .done in
-    let verdict = c .before .before .verdict .given in
-    rw (c .refused .ensures, next-refuses (testLineIn (netIn file) file) p (c .before .before .before .before .before .before .before .before .loop .inv .1 .passed) (lineCount file) (omega (arith, c .before .before .before .before .before .before .before .loop-test .taken)) (sym (c .before .before .before .before .read-next .ensures .verdict-is) ∙ verdict .1))
-    (outcome-refused (verdict .0 .0) (verdict .0 .1 .0) _ _ (netIn file))
+    let at = c .before .before .before .before .before .before .loop in
+    let told = c .enum-told .given in
+    outcome-refused _ _ (netIn file) (told .1) (next-refuses (testLineIn (netIn file) file) (at .done) (at .inv .1 .passed) (lineCount file) (omega (arith, c .before .before .before .before .before .loop-test .taken)) (sym (c .before .before .read-next .ensures .verdict-is) ∙ told .1))
 
-enum-told : tie.Need-enum-told Inv-loop μ-loop
-enum-told c = search needs
+enum-told-2 : tie.Need-enum-told-2 Inv-loop μ-loop
+enum-told-2 c = search needs
 
 add-done : tie.Need-add-done Inv-loop μ-loop
 add-done c =
@@ -64,7 +60,7 @@ loop-again c =
     let file = start .args .file .now in
     let p = c .before .before .before .before .before .before .before .loop .done in
     let step = c .before .before .before .read-next .ensures in
-    let passed : testLineIn (netIn file) file (p + 1) ≡ Passed = sym (step .verdict-is) ∙ c .before .enum-told .given .1 in
+    let passed : testLineIn (netIn file) file (p + 1) ≡ Passed = sym (step .verdict-is) ∙ c .before .enum-told2 .given .1 in
     (omega (arith, c .before .before .before .before .before .before .loop-test .taken), record { passed = next-passes (testLineIn (netIn file) file) p (c .before .before .before .before .before .before .before .loop .inv .1 .passed) passed; holds = step .holds passed })
 
 returns-2 : tie.Need-returns-2 Inv-loop μ-loop
@@ -82,10 +78,9 @@ read-lines-spec =
     cast-count
     loop-holds
     read-next-requires
-    enum-known-verdict
-    refused-requires
-    returns
     enum-told
+    returns
+    enum-told-2
     add-done
     loop-less
     loop-again

@@ -1,7 +1,6 @@
 -- `parse::read_next` meets its contract: the line as it is printed, tested as far as the file is read, is tested as in the whole file. Assumes nothing.
 use Prim.Native.Nat.{_+_}
-use mathlib.Core.Path.{sym, _∙_}
-use Rattle.refusals.specs.declared.Refusal.the-variants.{Misprint}
+use mathlib.Core.Path.{refl, sym, _∙_}
 use Rattle.parse.specs.Files.{netIn}
 use Rattle.parse.specs.Progress.{netTo}
 use Rattle.steps.proofs.Steps.{outcome-refused}
@@ -35,8 +34,9 @@ returns : tie.Need-returns
 returns c =
     let start = c .before .before .before .before .before in
     let a = start .args in
-    rw (c .refused .ensures, test-misprint (netIn (a .file .now)) (a .file .now) (a .line + 1) (sym (c .before .before .before .line-after .ensures) ∙ c .before .enum-told .given .1))
-    (outcome-refused Misprint (a .line + 1) (a .latches .now) (a .gates .now) (netTo (a .file .now) (a .line + 1)))
+    rw (c .refused .ensures)
+    (outcome-refused (a .latches .now) (a .gates .now) (netTo (a .file .now) (a .line + 1)) refl
+    (test-misprint (netIn (a .file .now)) (a .file .now) (a .line + 1) (sym (c .before .before .before .line-after .ensures) ∙ c .before .enum-told .given .1)))
 
 returns-2 : tie.Need-returns-2
 returns-2 c =

@@ -1,9 +1,8 @@
 -- `sheet::test_file` meets its contract: each test is passed on where it refuses, and what it passes the next one may assume. Assumes nothing.
-use mathlib.Core.Path.{_≡_, sym, _∙_}
+use mathlib.Core.Path.{_≡_, refl, sym, _∙_}
 use mathlib.Core.Bool.{false}
 use native.Mathlib.Omega.{arith}
 use Rattle.refusals.specs.Tests.{inOrder}
-use Rattle.refusals.specs.declared.Refusal.the-variants.{Ragged}
 use Rattle.refusals.specs.declared.Verdict.the-variants.{Passed}
 use Rattle.steps.proofs.Steps.{outcome-refused}
 use Rattle.parse.specs.Files.{lineCount, netIn}
@@ -21,8 +20,8 @@ even : (c : tie.Else1) → ragged (c .before .before .before .args .file .now) �
 even c = sym (c .before .is-ragged .ensures) ∙ c .if1 .left
 
 -- all its lines have passed
-passed-lines : (c : tie.After-enum-told) → inOrder (testLineIn (netIn (c .before .before .before .before .before .before .before .before .args .file .now)) (c .before .before .before .before .before .before .before .before .args .file .now)) (lineCount (c .before .before .before .before .before .before .before .before .args .file .now)) ≡ Passed
-passed-lines c = sym (c .before .before .read-lines .ensures .verdict-is) ∙ c .enum-told .given .1
+passed-lines : (c : tie.After-enum-told2) → inOrder (testLineIn (netIn (c .before .before .before .before .before .before .before .before .args .file .now)) (c .before .before .before .before .before .before .before .before .args .file .now)) (lineCount (c .before .before .before .before .before .before .before .before .args .file .now)) ≡ Passed
+passed-lines c = sym (c .before .before .read-lines .ensures .verdict-is) ∙ c .enum-told2 .given .1
 
 -- the tests behind the last line are those in the file's netlist
 ended : (c : tie.After-test-end) → c .test-end .result ≡ endVerdict (netIn (c .before .before .before .before .before .before .before .before .before .before .before .args .file .now)) (lineCount (c .before .before .before .before .before .before .before .before .before .before .before .args .file .now))
@@ -41,29 +40,26 @@ refused-requires c κs = search needs
 returns : tie.Need-returns
 returns c =
     let file = c .before .before .before .before .args .file .now in
-    rw (c .refused .ensures, file-ragged file (sym (c .before .before .is-ragged .ensures) ∙ c .before .if1 .taken))
-    (outcome-refused Ragged 0 _ _ (netIn file))
+    rw (c .refused .ensures)
+    (outcome-refused _ _ (netIn file) refl (file-ragged file (sym (c .before .before .is-ragged .ensures) ∙ c .before .if1 .taken)))
 
 read-lines-requires : tie.Need-read-lines-requires
 read-lines-requires c κs =
     let start = c .before .before .before .before .before in
     (sym (c .before .before .before .is-ragged .ensures) ∙ c .before .before .if1 .left, start .pre .0, start .pre .1)
 
-enum-known-read : tie.Need-enum-known-read
-enum-known-read c = search needs
-
-refused-requires-2 : tie.Need-refused-requires-2
-refused-requires-2 c κs = search needs
+enum-told : tie.Need-enum-told
+enum-told c = search needs
 
 returns-2 : tie.Need-returns-2
 returns-2 c =
-    let file = c .before .before .before .before .before .before .before .before .before .before .args .file .now in
-    let read = c .before .before .read .given in
-    rw (c .refused2 .ensures, file-refused file (even (c .before .before .before .before .before .before .before)) (sym (c .before .before .before .before .read-lines .ensures .verdict-is) ∙ read .1))
-    (outcome-refused (read .0 .0) (read .0 .1 .0) _ _ (netIn file))
+    let file = c .before .before .before .before .before .before .before .before .args .file .now in
+    let told = c .enum-told .given in
+    outcome-refused _ _ (netIn file) (told .1)
+    (file-refused file (even (c .before .before .before .before .before)) (sym (c .before .before .read-lines .ensures .verdict-is) ∙ told .1))
 
-enum-told : tie.Need-enum-told
-enum-told c = search needs
+enum-told-2 : tie.Need-enum-told-2
+enum-told-2 c = search needs
 
 cast-count : tie.Need-cast-count
 cast-count c = record { fits = omega (arith, whole-lines (c .before .before .before .before .before .before .before .before .before .args .file .now) (even (c .before .before .before .before .before .before)) .most) }
@@ -76,28 +72,13 @@ test-end-requires c κs =
     let passed = passed-lines (c .before .before) in
     (omega (arith, whole-lines file (even (c .before .before .before .before .before .before .before)) .most), lines-passed file (read .result .net) (read .last .1 .1 .1 .0) (read .last .1 .1 .1 .1 .0) passed (read .ensures .holds passed .net-is))
 
-enum-known-refusal : tie.Need-enum-known-refusal
-enum-known-refusal c = search needs
-
-refused-requires-3 : tie.Need-refused-requires-3
-refused-requires-3 c κs = search needs
-
 returns-3 : tie.Need-returns-3
 returns-3 c =
-    let file = c .before .before .before .before .before .before .before .before .before .before .before .before .before .before .before .args .file .now in
-    let refusal = c .before .before .refusal .given in
-    rw (c .refused3 .ensures, file-lines file (even (c .before .before .before .before .before .before .before .before .before .before .before .before)) (passed-lines (c .before .before .before .before .before .before .before)) ∙ sym (ended (c .before .before .before .before)) ∙ refusal .1)
-    (outcome-refused (refusal .0 .0) (refusal .0 .1 .0) _ _ (netIn file))
-
-enum-told-2 : tie.Need-enum-told-2
-enum-told-2 c = search needs
-
-returns-4 : tie.Need-returns-4
-returns-4 c =
-    let file = c .before .before .before .before .before .before .before .before .before .before .before .before .before .args .file .now in
+    let file = c .before .before .before .before .before .before .before .before .before .before .before .args .file .now in
+    let passed = passed-lines (c .before .before .before) in
     record {
-      verdict-is = sym (file-lines file (even (c .before .before .before .before .before .before .before .before .before .before)) (passed-lines (c .before .before .before .before .before)) ∙ sym (ended (c .before .before)) ∙ c .enum-told2 .given .1);
-      holds = λ e. c .before .before .before .before .before .before .before .read-lines .ensures .holds (passed-lines (c .before .before .before .before .before));
+      verdict-is = ended c ∙ sym (file-lines file (even (c .before .before .before .before .before .before .before .before)) passed);
+      holds = λ e. c .before .before .before .before .before .read-lines .ensures .holds passed;
     }
 
 pub test-file-spec : {M : Type 1} → statement M
@@ -108,14 +89,9 @@ test-file-spec =
     refused-requires
     returns
     read-lines-requires
-    enum-known-read
-    refused-requires-2
-    returns-2
     enum-told
+    returns-2
+    enum-told-2
     cast-count
     test-end-requires
-    enum-known-refusal
-    refused-requires-3
-    returns-3
-    enum-told-2
-    returns-4)
+    returns-3)

@@ -1,8 +1,7 @@
 -- `steps::take_line` meets its contract: each test is passed on where it refuses; the line that passes is put into the record and the lists, and tested there. Assumes nothing.
-use mathlib.Core.Path.{_≡_, sym, _∙_, ap}
+use mathlib.Core.Path.{_≡_, refl, sym, _∙_, ap}
 use mathlib.Core.Logic.{_↔_}
 use lib.Dec.{ltb}
-use Rattle.refusals.specs.declared.Refusal.the-variants.{OutOfOrder}
 use Rattle.netlist.specs.NetOf.{netOf, alone}
 use Rattle.netlist.specs.Lines.{controlLine, lineAt}
 use Rattle.netlist.specs.declared.Line.{Line}
@@ -50,8 +49,9 @@ returns : tie.Need-returns
 returns c =
     let start = c .before .before .before in
     let a = start .args in
-    rw (c .refused .ensures, step-past (netOf (a .net) (a .latches .now) (a .gates .now)) (a .kind) (a .first) (a .second) (a .third) (a .place) (past (c .before .before) ∙ c .before .if1 .taken))
-    (outcome-refused OutOfOrder (a .place) (a .latches .now) (a .gates .now) (stepNet (netOf (a .net) (a .latches .now) (a .gates .now)) (a .first) (a .second) (a .third) (a .place)))
+    rw (c .refused .ensures)
+    (outcome-refused (a .latches .now) (a .gates .now) (stepNet (netOf (a .net) (a .latches .now) (a .gates .now)) (a .first) (a .second) (a .third) (a .place)) refl
+    (step-past (netOf (a .net) (a .latches .now) (a .gates .now)) (a .kind) (a .first) (a .second) (a .third) (a .place) (past (c .before .before) ∙ c .before .if1 .taken)))
 
 line-due-requires : tie.Need-line-due-requires
 line-due-requires c κs = search needs
@@ -95,8 +95,9 @@ returns-3 : tie.Need-returns-3
 returns-3 c =
     let start = c .before .before .before .before .before .before .before in
     let a = start .args in
-    rw (c .refused2 .ensures, step-unlike (netOf (a .net) (a .latches .now) (a .gates .now)) (a .kind) (a .first) (a .second) (a .third) (a .place) (past (c .before .before .before .before .before .before) ∙ c .before .before .before .before .before .if1 .left) (λ e. c .before .if2 .left (row-tested (c .before .before) .1 e)))
-    (outcome-refused OutOfOrder (a .place) (a .latches .now) (a .gates .now) (stepNet (netOf (a .net) (a .latches .now) (a .gates .now)) (a .first) (a .second) (a .third) (a .place)))
+    rw (c .refused2 .ensures)
+    (outcome-refused (a .latches .now) (a .gates .now) (stepNet (netOf (a .net) (a .latches .now) (a .gates .now)) (a .first) (a .second) (a .third) (a .place)) refl
+    (step-unlike (netOf (a .net) (a .latches .now) (a .gates .now)) (a .kind) (a .first) (a .second) (a .third) (a .place) (past (c .before .before .before .before .before .before) ∙ c .before .before .before .before .before .if1 .left) (λ e. c .before .if2 .left (row-tested (c .before .before) .1 e))))
 
 pub take-line-spec : {M : Type 1} → statement M
 take-line-spec =
