@@ -25,7 +25,7 @@ none-since-requires : tie.Need-none-since-requires
 none-since-requires c κs = let is = c .before .before .pre .0 in (is .fits, omega arith, omega arith)
 
 negated-requires : tie.Need-negated-requires
-negated-requires c κs = search needs
+negated-requires c κs = c .before .before .in-frame .ensures .1
 
 put-literal-requires : tie.Need-put-literal-requires
 unfolding written someSource
