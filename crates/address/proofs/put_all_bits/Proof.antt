@@ -14,7 +14,7 @@ use Rattle.address.proofs.put_all_bits.Statement.{statement}
 use Rattle.address.proofs.put_all_bits.Tie as tie
 
 pair-base-requires : tie.Need-pair-base-requires
-pair-base-requires c κs = search needs
+pair-base-requires c κs = let is = c .pre .0 in (is .fits, omega arith, omega arith)
 
 in-pair-requires : tie.Need-in-pair-requires
 in-pair-requires c κs =

@@ -18,10 +18,10 @@ abbrev μ-loop : tie.MeasureT-loop
 μ-loop out₀ i noneSince reading first read word n at₀ t₀ out at t = n - t
 
 none-since-requires : tie.Need-none-since-requires Inv-loop μ-loop
-none-since-requires c κs = search needs
+none-since-requires c κs = let is = c .pre .0 in (is .fits, omega arith, omega arith)
 
 frame-base-requires : tie.Need-frame-base-requires Inv-loop μ-loop
-frame-base-requires c κs = search needs
+frame-base-requires c κs = let is = c .before .pre .0 in (is .fits .limits .sizes, omega arith)
 
 first-read-wire-requires : tie.Need-first-read-wire-requires Inv-loop μ-loop
 first-read-wire-requires c κs = c .before .before .pre .0 .fits .limits .sizes

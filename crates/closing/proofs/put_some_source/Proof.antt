@@ -13,7 +13,7 @@ use Rattle.closing.proofs.put_some_source.Statement.{statement}
 use Rattle.closing.proofs.put_some_source.Tie as tie
 
 frame-base-requires : tie.Need-frame-base-requires
-frame-base-requires c κs = search needs
+frame-base-requires c κs = let is = c .pre .0 in (is .fits .limits .sizes, omega arith)
 
 in-frame-requires : tie.Need-in-frame-requires
 unfolding portOf
@@ -22,10 +22,10 @@ in-frame-requires c κs =
     rw (c .frame-base .ensures) (code-has-number _ (is .fits .limits .sizes) _ _ (is .depth) (is .fits .port-RE-fits))
 
 none-since-requires : tie.Need-none-since-requires
-none-since-requires c κs = search needs
+none-since-requires c κs = let is = c .before .before .pre .0 in (is .fits, omega arith, omega arith)
 
 negated-requires : tie.Need-negated-requires
-negated-requires c κs = search needs
+negated-requires c κs = c .before .before .in-frame .ensures .1
 
 put-literal-requires : tie.Need-put-literal-requires
 unfolding written someSource

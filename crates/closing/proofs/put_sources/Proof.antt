@@ -17,10 +17,10 @@ abbrev μ-loop : tie.MeasureT-loop
 μ-loop out₀ i q stride offset at₀ j₀ out at j = i - j
 
 pair-base-requires : tie.Need-pair-base-requires Inv-loop μ-loop
-pair-base-requires c κs = search needs
+pair-base-requires c κs = let is = c .pre .0 in (is .fits, omega arith, omega arith)
 
 numbering-requires : tie.Need-numbering-requires Inv-loop μ-loop
-numbering-requires c κs = search needs
+numbering-requires c κs = c .before .pre .0 .fits .limits .sizes
 
 add-offset : tie.Need-add-offset Inv-loop μ-loop
 unfolding netOf

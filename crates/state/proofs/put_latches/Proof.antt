@@ -1,12 +1,16 @@
 -- `state::put_latches` meets its contract. The loop has written the latches passed. Assumes nothing.
 use Prim.Native.Nat.{_-_}
+use mathlib.Core.Path.{refl}
 use mathlib.Core.List.{[]}
 use native.Mathlib.Omega.{arith}
 use borrow.Author.Needs.{needs}
+use Rattle.model.specs.Clauses.{sameClauses}
+use Rattle.model.specs.Groups.{latchClauses}
+use Rattle.model.specs.Numbers.{written}
 use Rattle.netlist.specs.NetOf.{netOf}
 use Rattle.netlist.proofs.NetOf.{sizes-lists}
 use Rattle.variables.proofs.Room.{wire-has-number, code-has-number}
-use Rattle.writer.proofs.Turns.{Turns, turns-start, turns-room, turns-count, turns-next, turns-end}
+use Rattle.writer.proofs.Turns.{Turns, written-gather, turns-start-as, turns-room, turns-count, turns-next, turns-end}
 use Rattle.state.proofs.StateOf.{latchAt, later-latches}
 use Rattle.state.proofs.put_latches.Statement.{statement}
 use Rattle.state.proofs.put_latches.Tie as tie
@@ -36,8 +40,10 @@ first-latch-wire-requires c κs =
     sizes-lists (c .before .before .args .net) (c .before .before .args .latches .now) [] [] [] (c .before .before .pre .0 .limits .sizes)
 
 loop-holds : tie.Need-loop-holds Inv-loop μ-loop
+unfolding written latchClauses sameClauses
 loop-holds c =
-    turns-start _ _ _ (rw (later-latches (c .before .before .before .args .net) (c .before .before .before .args .latches .now) (c .before .before .before .args .i) _ (c .before .before .frame-base .ensures) (c .before .frame-base2 .ensures) (c .first-latch-wire .ensures)) at (c .before .before .before .pre .1))
+    let a = c .before .before .before .args in
+    turns-start-as _ _ (λ l. written (latchClauses (netOf (a .net) (a .latches .now) []) (a .i) l)) _ (λ l. refl) (rw written-gather at (c .before .before .before .pre .1))
 
 mul-t14 : tie.Need-mul-t14 Inv-loop μ-loop
 unfolding netOf
