@@ -54,7 +54,7 @@ use Rattle.model.specs.Wrote.{over}
 use Rattle.lists.proofs.Unpacked.{unpackedTo, unpackedTo-none, unpackedTo-next, unpackedTo-all, span-within}
 use Rattle.lists.proofs.OneRecord as one
 use Rattle.lists.proofs.OneRecord.{Codes, codes-ty}
-use Rattle.lists.proofs.Walk.{bare, calls-told, cell, frees-all, array-length, meets-of}
+use Rattle.lists.proofs.Walk.{bare, calls-told, _&_, cell, frees-all, array-length, meets-of}
 use Rattle.lists.proofs.unpack.span as span
 use Rattle.lists.proofs.unpack.span.Symbol.{name as #span}
 
@@ -259,7 +259,8 @@ module _ (T : Declared) (L : LL.Laws T) (P : one.Pair T L) where
             leaves-loop ! (load ! (from ! (stop !)) (look ! 8 refl)) $
             exec ! (𝓣 .C) (𝓣 .Λ) En rest (atRet En Post) $
             assigns ! (of-opd ! (unit-lit !)) (from ! (stop !)) (init ! 20 refl (tt, tt)) $ returns ! (look ! 20 refl) $
-            move ! (20 ∷ 21 ∷ 18 ∷ 19 ∷ 16 ∷ 17 ∷ 14 ∷ 15 ∷ 12 ∷ 13 ∷ 10 ∷ 11 ∷ 8 ∷ 9 ∷ 6 ∷ 7 ∷ 4 ∷ 5 ∷ []) $ frees-all ! (cell W, (cell W, (cell W, (cell W, (cell W, (cell W, (cell W, (bare W, (bare W, tt))))))))) $
+            move ! (20 ∷ 21 ∷ 18 ∷ 19 ∷ 16 ∷ 17 ∷ 14 ∷ 15 ∷ 12 ∷ 13 ∷ 10 ∷ 11 ∷ 8 ∷ 9 ∷ 6 ∷ 7 ∷ 4 ∷ 5 ∷ []) $
+            frees-all ! (cell W & cell W & cell W & cell W & cell W & cell W & cell W & bare W & bare W & tt) $
             suffices ! _ (ends-at 𝓤 H A ended stayed (clauses 𝓤) W (((κ₀, (κ₁, tt)), (q₀, (q₁, tt)), tt, a, vals), tt) vunit tt
             (upTo (x .i), (tt, tt)) (tt, (tt, tt))) $ says ! (ap upTo at-end ∙ unpackedTo-all (P .first) (P .second) ys cs) $
             nothing ! $ move ! (4 ∷ 0 ∷ []) $ fjoin ! $ move ! (1 ∷ 0 ∷ []) $ fjoin ! $ nothing ! $ move ! (3 ∷ 0 ∷ []) $ join ! $

@@ -54,7 +54,7 @@ use denote.Triple.Spec.{Meets}
 use denote.Triple.Clauses.{Clauses, Ended, ensured, lasts, closing}
 use denote.Triple.Walked.{says, needs, Stays, stay-slice, stay-none, stay-none-ref, walkOf, Walks, ends-at, walked, goes-slice, goes-none, goes-none-ref, walk-meets}
 use Rattle.lists.specs.Delivered.{delivered}
-use Rattle.lists.proofs.Walk.{bare, cell, frees-all}
+use Rattle.lists.proofs.Walk.{bare, _&_, cell, frees-all}
 use Rattle.lists.proofs.DeliverContract as promise
 use Rattle.lists.proofs.Delivered.{delivered-none, length-delivered, delivered-next}
 
@@ -297,7 +297,10 @@ module _ (D : Declared) (laws : LL.Laws D) (one : One (row′ D .mir)) (elem : T
             closes-slice ! tt R old (after n) (length-delivered (recordAt (now c)) old n long) b o $
             -- [obs; the borrow; its token; codes; their token; _5; _6; _7; _8; _9; _4; _3; _1; _2; _0; and that each local dies]
             assigns ! (of-opd ! (unit-lit !)) (from ! (stop !)) (init ! 14 refl (tt, tt)) $
-            returns ! (look ! 14 refl) $ move ! (14 ∷ 15 ∷ 12 ∷ 16 ∷ 13 ∷ 17 ∷ 11 ∷ 18 ∷ 10 ∷ 19 ∷ 5 ∷ 20 ∷ 6 ∷ 21 ∷ 7 ∷ 22 ∷ 8 ∷ 23 ∷ 9 ∷ 24 ∷ []) $ frees-all ! (cell W, (cell W, (cell W, (cell W, (cell W, (cell W, (cell W, (bare W, (bare W, (bare W, tt)))))))))) $ by ! exits
+            returns ! (look ! 14 refl) $ move ! (14 ∷ 15 ∷ 12 ∷ 16 ∷ 13 ∷ 17 ∷ 11 ∷ 18 ∷ 10 ∷ 19 ∷ 5 ∷ 20 ∷ 6 ∷ 21 ∷ 7 ∷ 22 ∷ 8
+            ∷ 23 ∷ 9 ∷ 24 ∷ []) $
+            frees-all ! (cell W & cell W & cell W & cell W & cell W & cell W & cell W & bare W & bare W & bare W & tt) $ by !
+            exits
 
         turns : (t : Done) → Turn t
         turns t = by-cases (decLt (t .0) n) (more t) (λ h. ends t (omega (arith, t .1)))

@@ -44,7 +44,7 @@ use denote.Triple.Statement.{Triple}
 use denote.Triple.Walked.{says, needs, Stays, stay-none, stay-none-slice, gave-ref, walkOf, goes-none, goes-none-slice, goes-gave-ref, ends-at}
 use denote.Exit.{yes}
 use Rattle.lists.specs.Unpacking.{putNumbers}
-use Rattle.lists.proofs.Walk.{calls-told, cell, frees-all, meets-of}
+use Rattle.lists.proofs.Walk.{calls-told, _&_, cell, frees-all, meets-of}
 use Rattle.lists.proofs.unpack.put_numbers as put
 use Rattle.lists.proofs.unpack.put_numbers.Symbol.{name as #put}
 
@@ -222,7 +222,8 @@ module _ (T : Declared) (L : LL.Laws T) where
             land ! (from ! (stop !)) (init ! 9 refl (subst (λ (y : Val). Holds (hasTy tyUnit y) × WT y) (sym (ap only unit-is))
             (tt, tt))) $
             assigns ! (of-opd ! (unit-lit !)) (from ! (stop !)) (init ! 25 refl (tt, tt)) $ returns ! (look ! 25 refl) $
-            move ! (25 ∷ 26 ∷ 23 ∷ 24 ∷ 21 ∷ 22 ∷ 19 ∷ 20 ∷ 17 ∷ 18 ∷ 15 ∷ 16 ∷ 13 ∷ 14 ∷ 11 ∷ 12 ∷ 9 ∷ 10 ∷ 7 ∷ 8 ∷ []) $ frees-all ! (cell W, (cell W, (cell W, (cell W, (cell W, (cell W, (cell W, (cell W, (cell W, (cell W, tt)))))))))) $
+            move ! (25 ∷ 26 ∷ 23 ∷ 24 ∷ 21 ∷ 22 ∷ 19 ∷ 20 ∷ 17 ∷ 18 ∷ 15 ∷ 16 ∷ 13 ∷ 14 ∷ 11 ∷ 12 ∷ 9 ∷ 10 ∷ 7 ∷ 8 ∷ []) $
+            frees-all ! (cell W & cell W & cell W & cell W & cell W & cell W & cell W & cell W & cell W & cell W & tt) $
             suffices ! _ (ends-at 𝓤 H A ended stayed (clauses 𝓤) W (((κ₀, (κ₁, tt)), (q₀, (q₁, tt)), tt, a, vals), tt) vunit tt
             (ws .0, (tt, (tt, tt))) (tt, (tt, (tt, tt)))) $ says ! is $
             move ! (5 ∷ 6 ∷ []) $ fjoin ! $ move ! (1 ∷ 0 ∷ []) $ fjoin ! $ move ! (2 ∷ []) $ split ! $ move ! (4 ∷ 1 ∷ []) $

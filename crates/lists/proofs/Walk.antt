@@ -111,6 +111,11 @@ module _ {M : Type 1} {𝓤 : URA M} {H : Heap 𝓤} {A : Atoms 𝓤} (W : Given
   pub bare : ent 𝓤 (sep 𝓤 (H .room τ b 0) (H .dies τ b)) (sep 𝓤 (H .room τ b 0) (H .dies τ b))
   bare = id⊢ 𝓤 _
 
+-- one local after the other
+infixr 20 _&_
+abbrev pub _&_ : {X : Type 1} {Y : Type 2} → X → Y → X × Y
+x & y = (x, y)
+
 module _ {M : Type 1} {𝓤 : URA M} {H : Heap 𝓤} {A : Atoms 𝓤} {K : Type 0} {W : Given 𝓤 H A} {G : Goal 𝓤 H} where
   frees-by : K → (E : Env 𝓤 H) (Γ : List (Item 𝓤)) → Freeable 𝓤 H A E Γ → Step K W (behind 𝓤 H A E Γ) G Γ (freed E G)
   frees-by t [] Γ h = free0 t

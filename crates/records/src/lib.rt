@@ -161,14 +161,16 @@ pub fn test_record(
 ) -> Verdict
     ensures { λ r. ⌜ r ≡ recordVerdict (netOf net (now (latches .entry)) (now (gates .entry))) «latch_count» «gate_count» ⌝ }
 {
-    if let Verdict::Refused(refusal, place) = test_sizes(net) {
-        return Verdict::Refused(refusal, place);
+    let sizes = test_sizes(net);
+    if let Verdict::Refused(_, _) = sizes {
+        return sizes;
     }
     if (latch_count < net.latches as usize) | (gate_count < net.gates as usize) {
         return Verdict::Refused(Refusal::OutOfOrder, 0);
     }
-    if let Verdict::Refused(refusal, place) = test_codes(net, latches, gates) {
-        return Verdict::Refused(refusal, place);
+    let codes = test_codes(net, latches, gates);
+    if let Verdict::Refused(_, _) = codes {
+        return codes;
     }
     test_loops(net, gates)
 }

@@ -1,7 +1,7 @@
 -- Laws of reading line by line (specs/Steps.antt). Assumes nothing.
 use Prim.Native.Nat.{ℕ, _+_, _*_, _≤_, _<_}
 use mathlib.Core.Path.{_≡_, refl, sym, _∙_, ap, fun-ext}
-use mathlib.Core.Bool.{true, false, cond}
+use mathlib.Core.Bool.{Bool, true, false, not, cond, _||_}
 use mathlib.Core.Logic.{by-cases}
 use mathlib.Core.List.{List}
 use native.Mathlib.Decide.{ℕ-discrete}
@@ -110,19 +110,19 @@ module _ (r next : Netlist) (latches gates newLatches newGates : List ℕ) (p x 
   pub due-step : lineAt (alone r) p ≡ lineAt (alone next) p
   due-step = lineAt-known (alone r) (alone next) p sizes-step
 
--- the verdict on a line, by what is tested first
-module _ (c : M.Netlist) (kind : Kind) (x y z p : ℕ) where
-  pub step-past : ltb (controlLine c) p ≡ true → stepVerdict c kind x y z p ≡ Refused OutOfOrder p
-  unfolding stepVerdict _then_
-  step-past h = rw h
+-- the verdict on a line, by whether it is out of order
+module _ (c : M.Netlist) (kind : Kind) (p : ℕ) where
+  abbrev pub outOfOrder : Bool
+  outOfOrder = ltb (controlLine c) p || not (eqb (rowOf kind) (rowOf (kindDue (lineAt c p))))
 
-  pub step-unlike : ltb (controlLine c) p ≡ false → (rowOf kind ≡ rowOf (kindDue (lineAt c p)) → ⊥) → stepVerdict c kind x y z p ≡ Refused OutOfOrder p
-  unfolding stepVerdict _then_
-  step-unlike h n = rw (h, ne-eqb (rowOf kind) (rowOf (kindDue (lineAt c p))) n)
+  module _ (x y z : ℕ) where
+    pub step-refused : outOfOrder ≡ true → stepVerdict c kind x y z p ≡ Refused OutOfOrder p
+    unfolding stepVerdict _then_
+    step-refused h = rw h
 
-  pub step-due : ltb (controlLine c) p ≡ false → rowOf kind ≡ rowOf (kindDue (lineAt c p)) → stepVerdict c kind x y z p ≡ faultsAt (stepNet c x y z p) (lineAt c p) p
-  unfolding stepVerdict _then_
-  step-due h e = rw (h, eq-eqb (rowOf kind) (rowOf (kindDue (lineAt c p))) e)
+    pub step-due : outOfOrder ≡ false → stepVerdict c kind x y z p ≡ faultsAt (stepNet c x y z p) (lineAt c p) p
+    unfolding stepVerdict _then_
+    step-due h = rw h
 
 -- a refusal's record and lists need hold nothing
 pub outcome-refused : {sheet : SheetAnswer} {v : Verdict} {r : Refusal} {p : ℕ} (latches gates : List ℕ) (c : M.Netlist)

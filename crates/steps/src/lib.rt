@@ -214,14 +214,11 @@ pub fn take_line(
     requires { ⌜ FullLength (net .address) (net .«write_data») (now latches) (now gates) × SizesKnown (alone net) place ⌝ }
     ensures { λ r. ⌜ Outcome r (now (latches .exit)) (now (gates .exit)) (stepVerdict (netOf net (now (latches .entry)) (now (gates .entry))) kind first second third place) (stepNet (netOf net (now (latches .entry)) (now (gates .entry))) first second third place) ⌝ }
 {
-    if is_past_last(net, place) {
+    let due = line_due(net, place);
+    if is_past_last(net, place) | (lines::row_of(kind) != row_due(due)) {
         return refused(Refusal::OutOfOrder, place);
     }
-    let due = line_due(net, place);
-    if lines::row_of(kind) == row_due(due) {
-        let next = store(net, latches, gates, due, first, second, third);
-        let verdict = test_stored(next, latches, gates, due, place);
-        return SheetAnswer { verdict, net: next };
-    }
-    refused(Refusal::OutOfOrder, place)
+    let next = store(net, latches, gates, due, first, second, third);
+    let verdict = test_stored(next, latches, gates, due, place);
+    SheetAnswer { verdict, net: next }
 }

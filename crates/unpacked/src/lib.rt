@@ -80,14 +80,9 @@ fn test_group(
 ) -> Verdict
     ensures { λ r. ⌜ r ≡ groupVerdict (netOf net (now (latches .entry)) (now (gates .entry))) «latch_count» «gate_count» depth group room ⌝ }
 {
-    if let Verdict::Refused(refusal, place) = records::test_record(
-        net,
-        latches,
-        latch_count,
-        gates,
-        gate_count,
-    ) {
-        return Verdict::Refused(refusal, place);
+    let record = records::test_record(net, latches, latch_count, gates, gate_count);
+    if let Verdict::Refused(_, _) = record {
+        return record;
     }
     if 255 < depth {
         return Verdict::Refused(Refusal::Depth, 0);

@@ -50,7 +50,7 @@ use Rattle.lists.proofs.Latch.Laws as L′
 use Rattle.lists.proofs.Gate as G
 use Rattle.lists.proofs.Gate.Laws as G′
 use Rattle.lists.proofs.Records.{latchPair, gatePair}
-use Rattle.lists.proofs.Walk.{both, calls-told, cell, frees-all, meets-of}
+use Rattle.lists.proofs.Walk.{both, calls-told, _&_, cell, frees-all, meets-of}
 use Rattle.lists.proofs.Zeroed.{zeros, unpacks, lends, takes-back}
 use Rattle.lists.proofs.unpack.unpack_latches as latches
 use Rattle.lists.proofs.unpack.unpack_latches.Symbol as latches-def
@@ -205,7 +205,8 @@ module _ {M : Type 1} (𝓤 : URA M) (H : Heap 𝓤) (A : Atoms 𝓤) (W : Given
           returns ! (look ! 36 refl) $
           move ! (36 ∷ 37 ∷ 34 ∷ 35 ∷ 11 ∷ 33 ∷ 7 ∷ 32 ∷ 30 ∷ 31 ∷ 2 ∷ 29 ∷ 0 ∷ 28 ∷ 6 ∷ 27 ∷ 10 ∷ 26 ∷ 5 ∷ 25 ∷ 23 ∷ 24 ∷ 21 ∷
           22 ∷ 19 ∷ 20 ∷ 17 ∷ 18 ∷ []) $
-          frees-all ! (cell W, (cell W, (cell W, (cell W, (cell W, (cell W, (cell W, (cell W, (cell W, (cell W, (cell W, (cell W, (cell W, (cell W, tt)))))))))))))) $
+          frees-all ! (cell W & cell W & cell W & cell W & cell W & cell W & cell W & cell W & cell W & cell W & cell W & cell W
+          & cell W & cell W & tt) $
           -- [true; the answer; what is said of last values; what gates own; κ₁'s token; what latches own; κ₀'s token; true;
           -- depth; net]
           suffices ! _ (ends-at 𝓤 H A f.ended stayed (f.clauses 𝓤 H A mem run) W

@@ -53,7 +53,7 @@ use Rattle.lists.proofs.Latch.Laws as L′
 use Rattle.lists.proofs.Gate as G
 use Rattle.lists.proofs.Gate.Laws as G′
 use Rattle.lists.proofs.Records.{latchPair, gatePair}
-use Rattle.lists.proofs.Walk.{both, calls-told, cell, frees-all, meets-of}
+use Rattle.lists.proofs.Walk.{both, calls-told, _&_, cell, frees-all, meets-of}
 use Rattle.lists.proofs.Zeroed.{zeros, unpacks, lends, takes-back}
 use Rattle.lists.proofs.unpack.unpack_latches as latches
 use Rattle.lists.proofs.unpack.unpack_latches.Symbol as latches-def
@@ -242,7 +242,8 @@ module _ {M : Type 1} (𝓤 : URA M) (H : Heap 𝓤) (A : Atoms 𝓤) (W : Given
           returns ! (look ! 46 refl) $
           move ! (46 ∷ 47 ∷ 44 ∷ 45 ∷ 12 ∷ 43 ∷ 8 ∷ 42 ∷ 40 ∷ 41 ∷ 38 ∷ 39 ∷ 36 ∷ 37 ∷ 2 ∷ 35 ∷ 0 ∷ 34 ∷ 7 ∷ 33 ∷ 11 ∷ 32 ∷ 6 ∷
           31 ∷ 29 ∷ 30 ∷ 27 ∷ 28 ∷ 25 ∷ 26 ∷ 23 ∷ 24 ∷ 21 ∷ 22 ∷ 19 ∷ 20 ∷ []) $
-          frees-all ! (cell W, (cell W, (cell W, (cell W, (cell W, (cell W, (cell W, (cell W, (cell W, (cell W, (cell W, (cell W, (cell W, (cell W, (cell W, (cell W, (cell W, (cell W, tt)))))))))))))))))) $
+          frees-all ! (cell W & cell W & cell W & cell W & cell W & cell W & cell W & cell W & cell W & cell W & cell W & cell W
+          & cell W & cell W & cell W & cell W & cell W & cell W & tt) $
           -- [κ₂'s token; the answer; what out is left; true; what gates own; κ₁'s token; what latches own; κ₀'s token; true;
           -- group; depth; net]
           suffices ! _ (ends-at 𝓤 H A f.ended stayed (f.clauses 𝓤 H A mem run) W

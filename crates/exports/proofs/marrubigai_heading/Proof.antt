@@ -41,7 +41,7 @@ use Rattle.lists.specs.declared.Latch.{Latch}
 use Rattle.lists.specs.declared.Gate.{Gate}
 use Rattle.lists.proofs.Latch as L
 use Rattle.lists.proofs.Gate as G
-use Rattle.lists.proofs.Walk.{calls-told, cell, frees-all, meets-of}
+use Rattle.lists.proofs.Walk.{calls-told, _&_, cell, frees-all, meets-of}
 use Rattle.unpacked.specs.Calls.{headingReply}
 use Rattle.calls.specs.Starred.{Starred}
 use Rattle.unpacked.specs.declared.HeadingAnswer.{HeadingAnswer}
@@ -140,7 +140,8 @@ module _ {M : Type 1} (𝓤 : URA M) (H : Heap 𝓤) (A : Atoms 𝓤) (W : Given
           peeks ! Reply.the-row (Is Reply.the-row) (shows 𝓤 H A Reply.the-row) r′ (w′ ∷ []) (λ is-reply.
           land ! (from ! (stop !)) (init ! 15 refl (LL.lawful Reply.the-type Reply′.the-laws 𝓤 H A W .typed r′
           (w′ ∷ []) is-reply .0)) $ returns ! (look ! 15 refl) $
-          move ! (15 ∷ 16 ∷ 13 ∷ 14 ∷ 11 ∷ 12 ∷ 9 ∷ 10 ∷ 7 ∷ 8 ∷ 5 ∷ 6 ∷ []) $ frees-all ! (cell W, (cell W, (cell W, (cell W, (cell W, (cell W, tt)))))) $
+          move ! (15 ∷ 16 ∷ 13 ∷ 14 ∷ 11 ∷ 12 ∷ 9 ∷ 10 ∷ 7 ∷ 8 ∷ 5 ∷ 6 ∷ []) $
+          frees-all ! (cell W & cell W & cell W & cell W & cell W & cell W & tt) $
           -- [the reply; …; …; …; the tokens]
           suffices ! _ (ends-at 𝓤 H A f.ended stayed (f.clauses 𝓤 H A mem run) W
           (((κ₀, (κ₁, tt)), (q₀, (q₁, tt)), tt, a, vals), tt) w′ r′ (tt, (tt, (tt, (tt, tt)))) (tt, (tt, (tt, (tt, tt))))) $

@@ -39,7 +39,7 @@ use denote.Triple.Statement.{Contract, Triple}
 use denote.Triple.Table.{entered, cited}
 use denote.Triple.Walked.{says, Stays, stay-dropped, walkOf, goes-dropped, ends-at}
 use denote.Exit.{yes}
-use Rattle.lists.proofs.Walk.{calls-told, cell, frees-all, meets-of}
+use Rattle.lists.proofs.Walk.{calls-told, _&_, cell, frees-all, meets-of}
 use Rattle.lines.specs.declared.ParsedLine.{ParsedLine}
 use Rattle.lines.proofs.ParsedLine as K
 use Rattle.lines.proofs.ParsedLine.Laws as K′
@@ -172,7 +172,8 @@ module _ {M : Type 1} (𝓤 : URA M) (H : Heap 𝓤) (A : Atoms 𝓤) (W : Given
           peeks ! Reply.the-row (Is Reply.the-row) (shows 𝓤 H A Reply.the-row) y (w′ ∷ []) (λ is-reply.
           land ! (from ! (stop !)) (init ! 17 refl (LL.lawful Reply.the-type Reply′.the-laws 𝓤 H A W .typed y
           (w′ ∷ []) is-reply .0)) $ returns ! (look ! 17 refl) $
-          move ! (17 ∷ 18 ∷ 15 ∷ 16 ∷ 13 ∷ 14 ∷ 11 ∷ 12 ∷ 9 ∷ 10 ∷ 7 ∷ 8 ∷ 5 ∷ 6 ∷ []) $ frees-all ! (cell W, (cell W, (cell W, (cell W, (cell W, (cell W, (cell W, tt))))))) $
+          move ! (17 ∷ 18 ∷ 15 ∷ 16 ∷ 13 ∷ 14 ∷ 11 ∷ 12 ∷ 9 ∷ 10 ∷ 7 ∷ 8 ∷ 5 ∷ 6 ∷ []) $
+          frees-all ! (cell W & cell W & cell W & cell W & cell W & cell W & cell W & tt) $
           -- [the reply; …; …; …; the token]
           suffices ! _ (ends-at 𝓤 H A f.ended stayed (f.clauses 𝓤 H A mem run) W (((κ, tt), (q, tt), tt, a, vals), tt) w′ y
           (tt, (tt, tt)) (tt, (tt, tt))) $

@@ -36,7 +36,7 @@ use denote.Triple.Table.{entered, cited}
 use denote.Triple.Walked.{says, Stays, stay-none-slice, gave-slice, onExit, walkOf, goes-none-slice, goes-gave-slice, Walks, ends-at, walked, walk-meets}
 use denote.Exit.{yes}
 use denote.Triple.Clauses.{Lasts, lasts}
-use Rattle.lists.proofs.Walk.{cell, frees-all}
+use Rattle.lists.proofs.Walk.{_&_, cell, frees-all}
 use Rattle.refusals.specs.declared.Verdict.the-variants.{Passed}
 use Rattle.steps.specs.declared.SheetAnswer.{SheetAnswer}
 use Rattle.steps.proofs.SheetAnswer as S
@@ -249,7 +249,9 @@ module _ {M : Type 1} (𝓤 : URA M) (H : Heap 𝓤) (A : Atoms 𝓤) (W : Given
           (λ reply-is.
           land ! (from ! (stop !)) (init ! 21 refl (LL.lawful R.the-type R′.the-laws 𝓤 H A W .typed
           (sheetNumbers (o .0 .verdict) (o .0 .net)) (v ∷ []) reply-is .0)) $
-          returns ! (look ! 21 refl) $ move ! (21 ∷ 22 ∷ 19 ∷ 20 ∷ 17 ∷ 18 ∷ 15 ∷ 16 ∷ 13 ∷ 14 ∷ 11 ∷ 12 ∷ 9 ∷ 10 ∷ 7 ∷ 8 ∷ 5 ∷ 6 ∷ []) $ frees-all ! (cell W, (cell W, (cell W, (cell W, (cell W, (cell W, (cell W, (cell W, (cell W, tt))))))))) $
+          returns ! (look ! 21 refl) $ move ! (21 ∷ 22 ∷ 19 ∷ 20 ∷ 17 ∷ 18 ∷ 15 ∷ 16 ∷ 13 ∷ 14 ∷ 11 ∷ 12 ∷ 9 ∷ 10 ∷ 7 ∷ 8 ∷ 5 ∷
+          6 ∷ []) $
+          frees-all ! (cell W & cell W & cell W & cell W & cell W & cell W & cell W & cell W & cell W & tt) $
           by ! (exits o v (e .0) (e .1 .0) (e .1 .1)))))))))))))))))
 
 module _ {M : Type 1} (𝓤 : URA M) (H : Heap 𝓤) (A : Atoms 𝓤) (W : Given 𝓤 H A) (mem : Memory → SProp 𝓤) (run : Routine → Fun 𝓤)

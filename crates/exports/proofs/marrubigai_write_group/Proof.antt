@@ -46,7 +46,7 @@ use Rattle.lists.specs.declared.Latch.{Latch}
 use Rattle.lists.specs.declared.Gate.{Gate}
 use Rattle.lists.proofs.Latch as L
 use Rattle.lists.proofs.Gate as G
-use Rattle.lists.proofs.Walk.{both, calls-told, cell, frees-all, meets-of}
+use Rattle.lists.proofs.Walk.{both, calls-told, _&_, cell, frees-all, meets-of}
 use Rattle.unpacked.specs.Calls.{groupReply}
 use Rattle.unpacked.specs.declared.GroupAnswer.{GroupAnswer}
 use Rattle.unpacked.proofs.GroupAnswer as Answer
@@ -230,7 +230,10 @@ module _ {M : Type 1} (𝓤 : URA M) (H : Heap 𝓤) (A : Atoms 𝓤) (W : Given
           peeks ! Reply.the-row (Is Reply.the-row) (shows 𝓤 H A Reply.the-row) r₂ (w₂ ∷ []) (λ is-reply.
           land ! (from ! (stop !)) (init ! 32 refl (LL.lawful Reply.the-type Reply′.the-laws 𝓤 H A W .typed r₂
           (w₂ ∷ []) is-reply .0)) $ returns ! (look ! 32 refl) $
-          move ! (32 ∷ 33 ∷ 30 ∷ 31 ∷ 28 ∷ 29 ∷ 26 ∷ 27 ∷ 24 ∷ 25 ∷ 22 ∷ 23 ∷ 20 ∷ 21 ∷ 18 ∷ 19 ∷ 16 ∷ 17 ∷ 14 ∷ 15 ∷ 12 ∷ 13 ∷ 10 ∷ 11 ∷ 8 ∷ 9 ∷ []) $ frees-all ! (cell W, (cell W, (cell W, (cell W, (cell W, (cell W, (cell W, (cell W, (cell W, (cell W, (cell W, (cell W, (cell W, tt))))))))))))) $
+          move ! (32 ∷ 33 ∷ 30 ∷ 31 ∷ 28 ∷ 29 ∷ 26 ∷ 27 ∷ 24 ∷ 25 ∷ 22 ∷ 23 ∷ 20 ∷ 21 ∷ 18 ∷ 19 ∷ 16 ∷ 17 ∷ 14 ∷ 15 ∷ 12 ∷ 13 ∷
+          10 ∷ 11 ∷ 8 ∷ 9 ∷ []) $
+          frees-all ! (cell W & cell W & cell W & cell W & cell W & cell W & cell W & cell W & cell W & cell W & cell W & cell W
+          & cell W & tt) $
           -- [the reply; …; …; what out is left; true; the tokens; …]
           suffices ! _ (ends-at 𝓤 H A f.ended stayed (f.clauses 𝓤 H A mem run) W
           (((κ₀, (κ₁, (κ₂, tt))), (q₀, (q₁, (q₂, tt))), tt, a, vals), tt) w₂ r₂ (tt, (tt, (tt, (tt, (tt, (tt, (tt, (zs, tt))))))))

@@ -47,7 +47,7 @@ use denote.Triple.Table.{entered, cited}
 use denote.Triple.Walked.{says, Stays, stay-none-slice, gave-slice, onExit, walkOf, goes-none-slice, goes-gave-slice, Walks, ends-at, walked, walk-meets}
 use denote.Exit.{yes}
 use denote.Triple.Clauses.{Lasts, lasts}
-use Rattle.lists.proofs.Walk.{bare, cell, frees-all}
+use Rattle.lists.proofs.Walk.{bare, _&_, cell, frees-all}
 use Rattle.refusals.specs.declared.Verdict.the-variants.{Passed}
 use Rattle.netlist.specs.declared.Netlist.{Netlist}
 use Rattle.netlist.proofs.Netlist as N
@@ -513,7 +513,10 @@ module _ {M : Type 1} (𝓤 : URA M) (H : Heap 𝓤) (A : Atoms 𝓤) (W : Given
           use1 W (some (λ (z : Val). ‵ (fat fullShare codesTy l₄ 0 z))) (freed 𝓤 H A W (o .1 .0) l₄) $
           pick ! (λ z₄. forget ! 0 refl $
           -- [_4; _5; the gates' token; gates' last; the latches' token; latches' last; the sheet; the file's token; file; _20; …]
-          move ! (47 ∷ 48 ∷ 45 ∷ 46 ∷ 43 ∷ 44 ∷ 41 ∷ 42 ∷ 0 ∷ 40 ∷ 1 ∷ 39 ∷ 37 ∷ 38 ∷ 35 ∷ 36 ∷ 33 ∷ 34 ∷ 31 ∷ 32 ∷ 29 ∷ 30 ∷ 27 ∷ 28 ∷ 25 ∷ 26 ∷ 23 ∷ 24 ∷ 21 ∷ 22 ∷ 19 ∷ 20 ∷ 17 ∷ 18 ∷ 15 ∷ 16 ∷ 13 ∷ 14 ∷ 11 ∷ 12 ∷ 9 ∷ 10 ∷ []) $ frees-all ! (cell W, (cell W, (cell W, (cell W, (bare W, (bare W, (cell W, (bare W, (cell W, (cell W, (cell W, (cell W, (cell W, (cell W, (cell W, (cell W, (cell W, (cell W, (cell W, (cell W, (cell W, tt))))))))))))))))))))) $
+          move ! (47 ∷ 48 ∷ 45 ∷ 46 ∷ 43 ∷ 44 ∷ 41 ∷ 42 ∷ 0 ∷ 40 ∷ 1 ∷ 39 ∷ 37 ∷ 38 ∷ 35 ∷ 36 ∷ 33 ∷ 34 ∷ 31 ∷ 32 ∷ 29 ∷ 30 ∷ 27
+          ∷ 28 ∷ 25 ∷ 26 ∷ 23 ∷ 24 ∷ 21 ∷ 22 ∷ 19 ∷ 20 ∷ 17 ∷ 18 ∷ 15 ∷ 16 ∷ 13 ∷ 14 ∷ 11 ∷ 12 ∷ 9 ∷ 10 ∷ []) $
+          frees-all ! (cell W & cell W & cell W & cell W & bare W & bare W & cell W & bare W & cell W & cell W & cell W & cell W
+          & cell W & cell W & cell W & cell W & cell W & cell W & cell W & cell W & cell W & tt) $
           move ! (4 ∷ 5 ∷ 2 ∷ 0 ∷ 6 ∷ 3 ∷ 1 ∷ []) $
           by ! (exits (o .0) (o .1 .0) (o .1 .1) e))))))))))))))))))))))))))))))))))))))))))))))))
 

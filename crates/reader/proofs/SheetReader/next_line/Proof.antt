@@ -44,7 +44,7 @@ use denote.Triple.Table.{entered, cited}
 use denote.Triple.Walked.{says, Stays, stay-none, walkOf, goes-none, Walks, ends-at, walked, walk-meets}
 use denote.Exit.{yes}
 use denote.Triple.Clauses.{Lasts, ensured, lasts}
-use Rattle.lists.proofs.Walk.{cell, frees-all}
+use Rattle.lists.proofs.Walk.{_&_, cell, frees-all}
 use Rattle.parse.specs.Files.{lineIn}
 use Rattle.parse.proofs.line_after as after
 use Rattle.parse.proofs.line_after.Symbol as after-def
@@ -244,7 +244,9 @@ module _ {M : Type 1} (𝓤 : URA M) (H : Heap 𝓤) (A : Atoms 𝓤) (W : Given
           first-holds (hasTy K′.mir u) (typed .0),
           (typed .1, ((wt .1 .0, (record { fits = next-is .1 }, tt)), tt)),
         )) $
-        returns ! (look ! 19 refl) $ move ! (19 ∷ 20 ∷ 17 ∷ 18 ∷ 15 ∷ 16 ∷ 13 ∷ 14 ∷ 11 ∷ 12 ∷ 9 ∷ 10 ∷ 7 ∷ 8 ∷ 5 ∷ 6 ∷ 3 ∷ 4 ∷ []) $ frees-all ! (cell W, (cell W, (cell W, (cell W, (cell W, (cell W, (cell W, (cell W, (cell W, tt))))))))) $
+        returns ! (look ! 19 refl) $ move ! (19 ∷ 20 ∷ 17 ∷ 18 ∷ 15 ∷ 16 ∷ 13 ∷ 14 ∷ 11 ∷ 12 ∷ 9 ∷ 10 ∷ 7 ∷ 8 ∷ 5 ∷ 6 ∷ 3 ∷ 4 ∷
+        []) $
+        frees-all ! (cell W & cell W & cell W & cell W & cell W & cell W & cell W & cell W & cell W & tt) $
         by ! (exits u (ap only (EL.tells K.the-type K′.the-laws line (u ∷ []) is)) (next-is .1)))))))))))))))))
 
 module _ {M : Type 1} (𝓤 : URA M) (H : Heap 𝓤) (A : Atoms 𝓤) (W : Given 𝓤 H A) (mem : Memory → SProp 𝓤) (run : Routine → Fun 𝓤)

@@ -42,7 +42,7 @@ use denote.Triple.Table.{entered, cited}
 use denote.Triple.Walked.{says, needs, Stays, stay-none, stay-dropped, gave-ref, walkOf, goes-none, goes-dropped, goes-gave-ref, Walks, ends-at, walked, walk-meets}
 use denote.Exit.{yes}
 use denote.Triple.Clauses.{Lasts, ensured, lasts}
-use Rattle.lists.proofs.Walk.{cell, frees-all}
+use Rattle.lists.proofs.Walk.{_&_, cell, frees-all}
 use Rattle.netlist.specs.declared.Netlist.{Netlist}
 use Rattle.netlist.proofs.Netlist as N
 use Rattle.netlist.proofs.Netlist.Laws as N′
@@ -215,7 +215,9 @@ module _ {M : Type 1} (𝓤 : URA M) (H : Heap 𝓤) (A : Atoms 𝓤) (W : Given
         -- [what the sheet owns; the tokens; what is last in the lists; what the reader owns; _10; …; _0; …]
         peeks ! S.the-row (Is S.the-row) (shows 𝓤 H A S.the-row) sheet (u ∷ []) (λ is.
         land ! (from ! (stop !)) (init ! 24 refl (LL.lawful S.the-type S′.the-laws 𝓤 H A W .typed sheet (u ∷ []) is .0)) $
-        returns ! (look ! 24 refl) $ move ! (24 ∷ 25 ∷ 22 ∷ 23 ∷ 20 ∷ 21 ∷ 18 ∷ 19 ∷ 16 ∷ 17 ∷ 14 ∷ 15 ∷ 12 ∷ 13 ∷ 10 ∷ 11 ∷ 8 ∷ 9 ∷ 6 ∷ 7 ∷ 4 ∷ 5 ∷ []) $ frees-all ! (cell W, (cell W, (cell W, (cell W, (cell W, (cell W, (cell W, (cell W, (cell W, (cell W, (cell W, tt))))))))))) $
+        returns ! (look ! 24 refl) $ move ! (24 ∷ 25 ∷ 22 ∷ 23 ∷ 20 ∷ 21 ∷ 18 ∷ 19 ∷ 16 ∷ 17 ∷ 14 ∷ 15 ∷ 12 ∷ 13 ∷ 10 ∷ 11 ∷ 8 ∷
+        9 ∷ 6 ∷ 7 ∷ 4 ∷ 5 ∷ []) $
+        frees-all ! (cell W & cell W & cell W & cell W & cell W & cell W & cell W & cell W & cell W & cell W & cell W & tt) $
         move ! (2 ∷ 0 ∷ 1 ∷ 3 ∷ []) $ by ! (exits sheet u zs e)))))))))))))))))
 
 module _ {M : Type 1} (𝓤 : URA M) (H : Heap 𝓤) (A : Atoms 𝓤) (W : Given 𝓤 H A) (mem : Memory → SProp 𝓤) (run : Routine → Fun 𝓤)
