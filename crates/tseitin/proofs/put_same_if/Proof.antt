@@ -1,10 +1,8 @@
 -- `tseitin::put_same_if` meets its contract: two clauses that begin alike. Assumes nothing.
-use native.Mathlib.Omega.{arith}
 use borrow.Author.Needs.{needs}
 use Rattle.model.specs.Clauses.{sameIfClauses}
 use Rattle.model.specs.Numbers.{written}
 use Rattle.tseitin.specs.BothClauses.{bothClauses}
-use Rattle.writer.proofs.Wrote.{rest-within, rest-room, wrote-then}
 use Rattle.tseitin.proofs.put_same_if.Statement.{statement}
 use Rattle.tseitin.proofs.put_same_if.Tie as tie
 

@@ -12,7 +12,7 @@ use Rattle.variables.proofs.none_since.Statement.{statement}
 use Rattle.variables.proofs.none_since.Tie as tie
 
 frame-base-requires : tie.Need-frame-base-requires
-frame-base-requires c κs = search needs
+frame-base-requires c κs = let p = c .before .pre in (p .0 .limits .sizes, omega arith)
 
 in-frame-requires : tie.Need-in-frame-requires
 unfolding portOf
@@ -28,7 +28,7 @@ returns c =
     (rw (c .before .frame-base .ensures) at (c .in-frame .ensures))
 
 pair-base-requires : tie.Need-pair-base-requires
-pair-base-requires c κs = search needs
+pair-base-requires c κs = c .before .pre
 
 add-in-pair : tie.Need-add-in-pair
 unfolding netOf

@@ -7,7 +7,7 @@ use Rattle.variables.proofs.pair_base.Statement.{statement}
 use Rattle.variables.proofs.pair_base.Tie as tie
 
 numbering-requires : tie.Need-numbering-requires
-numbering-requires c κs = search needs
+numbering-requires c κs = c .pre .0 .limits .sizes
 
 pair-base-requires : tie.Need-pair-base-requires
 unfolding portOf

@@ -10,7 +10,7 @@ use Rattle.variables.proofs.selected.Statement.{statement}
 use Rattle.variables.proofs.selected.Tie as tie
 
 pair-base-requires : tie.Need-pair-base-requires
-pair-base-requires c κs = search needs
+pair-base-requires c κs = let p = c .pre in (p .0, omega arith, p .2)
 
 add-in-pair : tie.Need-add-in-pair
 unfolding netOf
