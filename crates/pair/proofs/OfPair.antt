@@ -19,8 +19,8 @@ use Rattle.variables.specs.declared.Port.{Port}
 use Rattle.variables.specs.PortOf.{portOf}
 use Rattle.writer.proofs.Turns.{written-gather}
 use Rattle.variables.specs.OfPair.{ofPair}
-use Rattle.select.specs.SelectClauses.{selectClauses, pairSelect}
-use Rattle.pair.specs.Parts.{comparison, gatedData}
+use Rattle.select.specs.SelectClauses.{selectClauses, pairSelectClauses}
+use Rattle.pair.specs.PairParts.{comparisonClauses, gatedDataClauses}
 
 -- the clauses of data bit t, from S, the frames' bases, the read wires before the port's and the port's before it, the write data
 abbrev pub forwardedBit : Literal → ℕ → ℕ → ℕ → ℕ → Netlist → ℕ → List ℤ
@@ -36,17 +36,17 @@ unfolding forwardedClauses pairLiterals readBit netOf portOf
 forwarded-bits net port j i n es er ew ef = rw (written-gather n (forwardedClauses (ofPair net port j i)), es, er, ew, ef, add-zero)
 
 -- the parts of a pair's clauses, in their order
-pub pair-parts : (m n : ℕ) (x : PairLiterals) → written (pairClauses m n x) ≡ written (comparison m x) ++ written (gatedData n x)
-unfolding pairClauses comparison gatedData pairSelect selectClauses
+pub pair-parts : (m n : ℕ) (x : PairLiterals) → written (pairClauses m n x) ≡ written (comparisonClauses m x) ++ written (gatedDataClauses n x)
+unfolding pairClauses comparisonClauses gatedDataClauses pairSelectClauses selectClauses
 pair-parts m n x =
-    let joined : pairClauses m n x ≡ comparison m x ++ gatedData n x = simp append-assoc in
-    rw joined (written-append (comparison m x) (gatedData n x))
+    let joined : pairClauses m n x ≡ comparisonClauses m x ++ gatedDataClauses n x = simp append-assoc in
+    rw joined (written-append (comparisonClauses m x) (gatedDataClauses n x))
 
 -- the gates and the data take the same room whatever their literals
-pub gatedData-length : (n : ℕ) (x : PairLiterals) → length (written (gatedData n x)) ≡ 30 + n * 8
-unfolding gatedData pairSelect selectClauses forwardedClauses
-gatedData-length n x =
+pub length-gatedDataClauses : (n : ℕ) (x : PairLiterals) → length (written (gatedDataClauses n x)) ≡ 30 + n * 8
+unfolding gatedDataClauses pairSelectClauses selectClauses forwardedClauses
+length-gatedDataClauses n x =
     (and-counts _ _ _ ⊕ and-counts _ _ _ ⊕ and-counts _ _ _ ⊕ counts-gather n 2 8 (forwardedClauses x) (λ t. sameIfClauses-counts _ _ _)) .in-numbers
 
-pub pair-room : (m n : ℕ) (x : PairLiterals) → length (written (pairClauses m n x)) ≡ length (written (comparison m x)) + (30 + n * 8)
-pair-room m n x = rw (pair-parts m n x, length-append, gatedData-length n x)
+pub pair-room : (m n : ℕ) (x : PairLiterals) → length (written (pairClauses m n x)) ≡ length (written (comparisonClauses m x)) + (30 + n * 8)
+pair-room m n x = rw (pair-parts m n x, length-append, length-gatedDataClauses n x)

@@ -14,7 +14,7 @@ ghost use Rattle.model.specs.Numbers.{written};
 ghost use Rattle.literals.specs.Lit.{literalOf, IsLit, HasNumber};
 ghost use Rattle.variables.specs.OfPair.{ofPair, PairFits};
 ghost use Rattle.model.specs.Wrote.{Wrote};
-ghost use Rattle.pair.specs.Parts.{comparison, gatedData};
+ghost use Rattle.pair.specs.PairParts.{comparisonClauses, gatedDataClauses};
 
 // The two clauses of data bit t: where S is true, the read bit `rd` is the code `wd` of the writing frame.
 fn put_forwarded_bit(
@@ -64,8 +64,8 @@ fn put_forwarded(out: &mut [i32], net: Netlist, port: Port, j: u32, i: u32) -> u
 
 // The address comparison: its bits, and the clause of all of them.
 fn put_comparison(out: &mut [i32], net: Netlist, port: Port, j: u32, i: u32) -> usize
-    requires { ⌜ PairFits net port j i × (length (written (comparison (net .m) (ofPair net port j i))) ≤ length (now out)) ⌝ }
-    ensures { λ r. ⌜ Wrote (written (comparison (net .m) (ofPair net port j i))) (now (out .entry)) (now (out .exit)) r ⌝ }
+    requires { ⌜ PairFits net port j i × (length (written (comparisonClauses (net .m) (ofPair net port j i))) ≤ length (now out)) ⌝ }
+    ensures { λ r. ⌜ Wrote (written (comparisonClauses (net .m) (ofPair net port j i))) (now (out .entry)) (now (out .exit)) r ⌝ }
 {
     let a = address::put_address_bits(out, net, port, j, i);
     a + address::put_all_bits(&mut out[a..], net, port, j, i)
@@ -73,8 +73,8 @@ fn put_comparison(out: &mut [i32], net: Netlist, port: Port, j: u32, i: u32) -> 
 
 // The gates, and the data bits where S is true.
 fn put_gated_data(out: &mut [i32], net: Netlist, port: Port, j: u32, i: u32) -> usize
-    requires { ⌜ PairFits net port j i × (length (written (gatedData (net .n) (ofPair net port j i))) ≤ length (now out)) ⌝ }
-    ensures { λ r. ⌜ Wrote (written (gatedData (net .n) (ofPair net port j i))) (now (out .entry)) (now (out .exit)) r ⌝ }
+    requires { ⌜ PairFits net port j i × (length (written (gatedDataClauses (net .n) (ofPair net port j i))) ≤ length (now out)) ⌝ }
+    ensures { λ r. ⌜ Wrote (written (gatedDataClauses (net .n) (ofPair net port j i))) (now (out .entry)) (now (out .exit)) r ⌝ }
 {
     let a = select::put_select(out, net, port, j, i);
     a + put_forwarded(&mut out[a..], net, port, j, i)

@@ -7,10 +7,10 @@ use lib.IntN.{ℤ}
 use Rattle.model.specs.Clauses.{Literal, PairLiterals}
 use Rattle.model.specs.Numbers.{written}
 use Rattle.model.specs.Wrote.{Wrote}
-use Rattle.select.specs.SelectClauses.{selectClauses, pairSelect}
+use Rattle.select.specs.SelectClauses.{selectClauses, pairSelectClauses}
 
 pub pair-gates : (x : PairLiterals) {s E WE PS S N : Literal}
     → s ≡ x .s → E ≡ x .E → WE ≡ x .WE → PS ≡ x .PS → S ≡ x .S → N ≡ x .N → {old new : List ℤ} {r : ℕ}
-    → Wrote (written (selectClauses s E WE PS S N)) old new r → Wrote (written (pairSelect x)) old new r
-unfolding pairSelect
+    → Wrote (written (selectClauses s E WE PS S N)) old new r → Wrote (written (pairSelectClauses x)) old new r
+unfolding pairSelectClauses
 pair-gates x es eE eWE ePS eS eN w = rw (es, eE, eWE, ePS, eS, eN) at w

@@ -1,5 +1,5 @@
--- The three gates of a pair, the part of the model's `pairClauses` between its bits: "gates s = E ∧ WE of frame j; PS = ¬s ∧ N;
--- S = s ∧ N". Cited by `put_select_gates` and `put_select`. Assumes nothing.
+-- The three gates of a pair, the part of the model's `pairClauses` between the address and the data clauses: "gates s = E ∧ WE of
+-- frame j; PS = ¬s ∧ N; S = s ∧ N". Cited by `put_select_gates` and `put_select`. Assumes nothing.
 use mathlib.Core.List.{List, _++_}
 use Rattle.model.specs.Clauses.{Literal, Clause, neg, andClauses, PairLiterals}
 
@@ -9,5 +9,5 @@ unfoldable pub selectClauses : Literal → Literal → Literal → Literal → L
 selectClauses s E WE PS S N = andClauses s E WE ++ andClauses PS (neg s) N ++ andClauses S s N
 
 -- of a pair's literals
-unfoldable pub pairSelect : PairLiterals → List Clause
-pairSelect x = selectClauses (x .s) (x .E) (x .WE) (x .PS) (x .S) (x .N)
+unfoldable pub pairSelectClauses : PairLiterals → List Clause
+pairSelectClauses x = selectClauses (x .s) (x .E) (x .WE) (x .PS) (x .S) (x .N)

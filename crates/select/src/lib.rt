@@ -10,7 +10,7 @@ ghost use Rattle.model.specs.Numbers.{written};
 ghost use Rattle.literals.specs.Lit.{literalOf, IsLit};
 ghost use Rattle.variables.specs.OfPair.{ofPair, PairFits};
 ghost use Rattle.model.specs.Wrote.{Wrote};
-ghost use Rattle.select.specs.SelectClauses.{selectClauses, pairSelect};
+ghost use Rattle.select.specs.SelectClauses.{selectClauses, pairSelectClauses};
 
 // The gates PS = ¬s ∧ N, S = s ∧ N, from their literals: `valid` is s, `none_since` PS, `selected` S, `none_after` N.
 fn put_chain(out: &mut [i32], valid: Lit, none_since: Lit, selected: Lit, none_after: Lit) -> usize
@@ -46,8 +46,8 @@ fn put_select_gates(
 
 // The gates of the pair: valid read, none since, exclusive valid read. WE is of the writing frame, N of the pair after it.
 pub fn put_select(out: &mut [i32], net: Netlist, port: Port, j: u32, i: u32) -> usize
-    requires { ⌜ PairFits net port j i × (length (written (pairSelect (ofPair net port j i))) ≤ length (now out)) ⌝ }
-    ensures { λ r. ⌜ Wrote (written (pairSelect (ofPair net port j i))) (now (out .entry)) (now (out .exit)) r ⌝ }
+    requires { ⌜ PairFits net port j i × (length (written (pairSelectClauses (ofPair net port j i))) ≤ length (now out)) ⌝ }
+    ensures { λ r. ⌜ Wrote (written (pairSelectClauses (ofPair net port j i))) (now (out .entry)) (now (out .exit)) r ⌝ }
 {
     let q = variables::pair_base(net, port, j, i);
     let address_equal = Lit::in_pair(q, 1);

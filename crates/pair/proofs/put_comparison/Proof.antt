@@ -8,19 +8,19 @@ use Rattle.model.proofs.Joined.{written-append}
 use Rattle.writer.proofs.Wrote.{rest-within, rest-room, wrote-then}
 use Rattle.writer.proofs.Turns.{length-written}
 use Rattle.variables.specs.OfPair.{ofPair}
-use Rattle.pair.specs.Parts.{comparison}
+use Rattle.pair.specs.PairParts.{comparisonClauses}
 use Rattle.pair.proofs.put_comparison.Statement.{statement}
 use Rattle.pair.proofs.put_comparison.Tie as tie
 
 put-address-bits-requires : tie.Need-put-address-bits-requires
-unfolding comparison
+unfolding comparisonClauses
 put-address-bits-requires c κs =
     let a = c .before .args in
     let room = length-written (gather (a .net .m) (addressBitClauses (ofPair (a .net) (a .port) (a .j) (a .i)))) (allBits (a .net .m) (ofPair (a .net) (a .port) (a .j) (a .i)) ∷ []) in
     (c .before .pre .0, omega arith)
 
 mul-put-all-bits : tie.Need-mul-put-all-bits
-unfolding comparison
+unfolding comparisonClauses
 mul-put-all-bits c =
     let a = c .before .before .before .args in
     let room = length-written (gather (a .net .m) (addressBitClauses (ofPair (a .net) (a .port) (a .j) (a .i)))) (allBits (a .net .m) (ofPair (a .net) (a .port) (a .j) (a .i)) ∷ []) in
@@ -28,14 +28,14 @@ mul-put-all-bits c =
     search needs
 
 sub-put-all-bits : tie.Need-sub-put-all-bits
-unfolding comparison
+unfolding comparisonClauses
 sub-put-all-bits c =
     let a = c .before .before .before .args in
     let room = length-written (gather (a .net .m) (addressBitClauses (ofPair (a .net) (a .port) (a .j) (a .i)))) (allBits (a .net .m) (ofPair (a .net) (a .port) (a .j) (a .i)) ∷ []) in
     rest-within (c .before .put-address-bits .ensures) (omega arith)
 
 part-put-all-bits-start : tie.Need-part-put-all-bits-start
-unfolding comparison
+unfolding comparisonClauses
 part-put-all-bits-start c =
     let a = c .before .before .before .args in
     let room = length-written (gather (a .net .m) (addressBitClauses (ofPair (a .net) (a .port) (a .j) (a .i)))) (allBits (a .net .m) (ofPair (a .net) (a .port) (a .j) (a .i)) ∷ []) in
@@ -46,14 +46,14 @@ part-put-all-bits-end : tie.Need-part-put-all-bits-end
 part-put-all-bits-end c = search needs
 
 put-all-bits-requires : tie.Need-put-all-bits-requires
-unfolding comparison
+unfolding comparisonClauses
 put-all-bits-requires c κs =
     let a = c .before .before .before .before .args in
     let room = length-written (gather (a .net .m) (addressBitClauses (ofPair (a .net) (a .port) (a .j) (a .i)))) (allBits (a .net .m) (ofPair (a .net) (a .port) (a .j) (a .i)) ∷ []) in
     (c .before .before .before .before .pre .0, rest-room (c .before .before .put-address-bits .ensures) (omega arith))
 
 add-result : tie.Need-add-result
-unfolding comparison
+unfolding comparisonClauses
 add-result c =
     let a = c .before .before .before .before .before .before .args in
     let room = length-written (gather (a .net .m) (addressBitClauses (ofPair (a .net) (a .port) (a .j) (a .i)))) (allBits (a .net .m) (ofPair (a .net) (a .port) (a .j) (a .i)) ∷ []) in
@@ -63,7 +63,7 @@ same-length : tie.Need-same-length
 same-length c = search needs
 
 returns : tie.Need-returns
-unfolding comparison
+unfolding comparisonClauses
 returns c =
     let a = c .before .before .before .before .before .before .args in
     rw (written-append (gather (a .net .m) (addressBitClauses (ofPair (a .net) (a .port) (a .j) (a .i)))) (allBits (a .net .m) (ofPair (a .net) (a .port) (a .j) (a .i)) ∷ []))

@@ -3,7 +3,7 @@ use native.Mathlib.Omega.{arith}
 use borrow.Author.Needs.{needs}
 use Rattle.writer.proofs.Wrote.{rest-within, rest-room, wrote-then}
 use Rattle.variables.specs.OfPair.{ofPair}
-use Rattle.pair.proofs.OfPair.{pair-parts, gatedData-length, pair-room}
+use Rattle.pair.proofs.OfPair.{pair-parts, length-gatedDataClauses, pair-room}
 use Rattle.pair.proofs.put_pair.Statement.{statement}
 use Rattle.pair.proofs.put_pair.Tie as tie
 
@@ -41,13 +41,13 @@ put-gated-data-requires c κs =
     let a = c .before .before .before .before .args in
     let room = pair-room (a .net .m) (a .net .n) (ofPair (a .net) (a .port) (a .j) (a .i)) in
     let is = c .before .before .before .before .pre .0 in
-    (record { fits = is .fits; earlier = omega arith; depth = omega arith }, rw gatedData-length (rest-room (c .before .before .put-comparison .ensures) (omega arith)))
+    (record { fits = is .fits; earlier = omega arith; depth = omega arith }, rw length-gatedDataClauses (rest-room (c .before .before .put-comparison .ensures) (omega arith)))
 
 add-result : tie.Need-add-result
 add-result c =
     let a = c .before .before .before .before .before .before .args in
     let room = pair-room (a .net .m) (a .net .n) (ofPair (a .net) (a .port) (a .j) (a .i)) in
-    let second = rw gatedData-length at (c .before .put-gated-data .ensures .counted) in
+    let second = rw length-gatedDataClauses at (c .before .put-gated-data .ensures .counted) in
     omega arith
 
 same-length : tie.Need-same-length

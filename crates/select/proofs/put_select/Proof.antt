@@ -9,7 +9,7 @@ use Rattle.netlist.specs.NetOf.{netOf, alone}
 use Rattle.variables.specs.PortOf.{portOf}
 use Rattle.variables.specs.OfPair.{ofPair}
 use Rattle.variables.proofs.Room.{code-has-number, pair-has-number, behind-bits}
-use Rattle.select.specs.SelectClauses.{pairSelect, selectClauses}
+use Rattle.select.specs.SelectClauses.{pairSelectClauses, selectClauses}
 use Rattle.select.proofs.PairGates.{pair-gates}
 use Rattle.select.proofs.put_select.Statement.{statement}
 use Rattle.select.proofs.put_select.Tie as tie
@@ -54,7 +54,7 @@ none-since-requires-2 : tie.Need-none-since-requires-2
 none-since-requires-2 c κs = let is = c .before .before .before .before .before .before .before .before .pre .0 in (is .fits, omega arith, omega arith)
 
 put-select-gates-requires : tie.Need-put-select-gates-requires
-unfolding written andClauses selectClauses pairSelect
+unfolding written andClauses selectClauses pairSelectClauses
 put-select-gates-requires c κs = search needs
 
 same-length : tie.Need-same-length

@@ -10,21 +10,21 @@ use Rattle.tseitin.proofs.put_and.Tie as tie
 negated-requires : tie.Need-negated-requires
 negated-requires c κs = search needs
 
-put-two-requires : tie.Need-put-two-requires
+put-two-binary-requires : tie.Need-put-two-binary-requires
 unfolding written andClauses
-put-two-requires c κs = search needs
+put-two-binary-requires c κs = search needs
 
 mul-put-ternary : tie.Need-mul-put-ternary
 unfolding written andClauses
-mul-put-ternary c = let within = rest-within (c .before .put-two .ensures) (omega arith) in search needs
+mul-put-ternary c = let within = rest-within (c .before .put-two-binary .ensures) (omega arith) in search needs
 
 sub-put-ternary : tie.Need-sub-put-ternary
 unfolding written andClauses
-sub-put-ternary c = rest-within (c .before .put-two .ensures) (omega arith)
+sub-put-ternary c = rest-within (c .before .put-two-binary .ensures) (omega arith)
 
 part-put-ternary-start : tie.Need-part-put-ternary-start
 unfolding written andClauses
-part-put-ternary-start c = let within = rest-within (c .before .put-two .ensures) (omega arith) in search needs
+part-put-ternary-start c = let within = rest-within (c .before .put-two-binary .ensures) (omega arith) in search needs
 
 part-put-ternary-end : tie.Need-part-put-ternary-end
 part-put-ternary-end c = search needs
@@ -37,7 +37,7 @@ negated-requires-3 c κs = search needs
 
 put-ternary-requires : tie.Need-put-ternary-requires
 unfolding written andClauses
-put-ternary-requires c κs = (search needs, search needs, search needs, rest-room (c .before .before .before .before .put-two .ensures) (omega arith))
+put-ternary-requires c κs = (search needs, search needs, search needs, rest-room (c .before .before .before .before .put-two-binary .ensures) (omega arith))
 
 add-result : tie.Need-add-result
 unfolding written andClauses
@@ -50,14 +50,14 @@ returns : tie.Need-returns
 unfolding written andClauses
 returns c =
     simp (c .before .before .before .before .before .before .before .before .negated .ensures .0, c .before .before .before .negated2 .ensures .0, c .before .before .negated3 .ensures .0)
-    at (wrote-then (c .before .before .before .before .before .before .put-two .ensures) (c .before .put-ternary .ensures))
+    at (wrote-then (c .before .before .before .before .before .before .put-two-binary .ensures) (c .before .put-ternary .ensures))
 
 pub put-and-spec : {M : Type 1} → statement M
 put-and-spec =
     tie.close
     (tie.spec
     negated-requires
-    put-two-requires
+    put-two-binary-requires
     mul-put-ternary
     sub-put-ternary
     part-put-ternary-start

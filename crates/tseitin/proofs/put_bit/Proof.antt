@@ -17,28 +17,28 @@ negated-requires-2 c κs = search needs
 negated-requires-3 : tie.Need-negated-requires-3
 negated-requires-3 c κs = search needs
 
-put-both-requires : tie.Need-put-both-requires
+put-two-ternary-requires : tie.Need-put-two-ternary-requires
 unfolding written bitClauses bothClauses
-put-both-requires c κs = search needs
+put-two-ternary-requires c κs = search needs
 
-mul-put-both : tie.Need-mul-put-both
+mul-put-two-ternary : tie.Need-mul-put-two-ternary
 unfolding written bitClauses bothClauses
-mul-put-both c = let within = rest-within (c .before .put-both .ensures) (omega arith) in search needs
+mul-put-two-ternary c = let within = rest-within (c .before .put-two-ternary .ensures) (omega arith) in search needs
 
-sub-put-both : tie.Need-sub-put-both
+sub-put-two-ternary : tie.Need-sub-put-two-ternary
 unfolding written bitClauses bothClauses
-sub-put-both c = rest-within (c .before .put-both .ensures) (omega arith)
+sub-put-two-ternary c = rest-within (c .before .put-two-ternary .ensures) (omega arith)
 
-part-put-both-start : tie.Need-part-put-both-start
+part-put-two-ternary-start : tie.Need-part-put-two-ternary-start
 unfolding written bitClauses bothClauses
-part-put-both-start c = let within = rest-within (c .before .put-both .ensures) (omega arith) in search needs
+part-put-two-ternary-start c = let within = rest-within (c .before .put-two-ternary .ensures) (omega arith) in search needs
 
-part-put-both-end : tie.Need-part-put-both-end
-part-put-both-end c = search needs
+part-put-two-ternary-end : tie.Need-part-put-two-ternary-end
+part-put-two-ternary-end c = search needs
 
-put-both-requires-2 : tie.Need-put-both-requires-2
+put-two-ternary-requires-2 : tie.Need-put-two-ternary-requires-2
 unfolding written bitClauses bothClauses
-put-both-requires-2 c κs = (search needs, search needs, search needs, search needs, search needs, rest-room (c .before .before .put-both .ensures) (omega arith))
+put-two-ternary-requires-2 c κs = (search needs, search needs, search needs, search needs, search needs, rest-room (c .before .before .put-two-ternary .ensures) (omega arith))
 
 add-result : tie.Need-add-result
 unfolding written bitClauses bothClauses
@@ -51,7 +51,7 @@ returns : tie.Need-returns
 unfolding written bitClauses bothClauses
 returns c =
     simp (c .before .before .before .before .before .before .before .before .negated .ensures .0, c .before .before .before .before .before .before .before .negated2 .ensures .0, c .before .before .before .before .before .negated3 .ensures .0)
-    at (wrote-then (c .before .before .before .before .put-both .ensures) (c .before .put-both2 .ensures))
+    at (wrote-then (c .before .before .before .before .put-two-ternary .ensures) (c .before .put-two-ternary2 .ensures))
 
 pub put-bit-spec : {M : Type 1} → statement M
 put-bit-spec =
@@ -60,12 +60,12 @@ put-bit-spec =
     negated-requires
     negated-requires-2
     negated-requires-3
-    put-both-requires
-    mul-put-both
-    sub-put-both
-    part-put-both-start
-    part-put-both-end
-    put-both-requires-2
+    put-two-ternary-requires
+    mul-put-two-ternary
+    sub-put-two-ternary
+    part-put-two-ternary-start
+    part-put-two-ternary-end
+    put-two-ternary-requires-2
     add-result
     same-length
     returns)

@@ -11,9 +11,9 @@ negated-requires c κs = search needs
 negated-requires-2 : tie.Need-negated-requires-2
 negated-requires-2 c κs = search needs
 
-put-two-requires : tie.Need-put-two-requires
+put-two-binary-requires : tie.Need-put-two-binary-requires
 unfolding written sameClauses
-put-two-requires c κs = search needs
+put-two-binary-requires c κs = search needs
 
 same-length : tie.Need-same-length
 same-length c = search needs
@@ -22,7 +22,7 @@ returns : tie.Need-returns
 unfolding written sameClauses
 returns c =
     simp (c .before .before .before .negated .ensures .0, c .before .before .negated2 .ensures .0)
-    at (c .before .put-two .ensures)
+    at (c .before .put-two-binary .ensures)
 
 pub put-same-spec : {M : Type 1} → statement M
-put-same-spec = tie.close (tie.spec negated-requires negated-requires-2 put-two-requires same-length returns)
+put-same-spec = tie.close (tie.spec negated-requires negated-requires-2 put-two-binary-requires same-length returns)

@@ -15,9 +15,9 @@ negated-requires-2 c κs = search needs
 negated-requires-3 : tie.Need-negated-requires-3
 negated-requires-3 c κs = search needs
 
-put-both-requires : tie.Need-put-both-requires
+put-two-ternary-requires : tie.Need-put-two-ternary-requires
 unfolding written sameIfClauses bothClauses
-put-both-requires c κs = search needs
+put-two-ternary-requires c κs = search needs
 
 same-length : tie.Need-same-length
 same-length c = search needs
@@ -26,7 +26,7 @@ returns : tie.Need-returns
 unfolding written sameIfClauses bothClauses
 returns c =
     simp (c .before .before .before .before .negated .ensures .0, c .before .before .before .negated2 .ensures .0, c .before .before .negated3 .ensures .0)
-    at (c .before .put-both .ensures)
+    at (c .before .put-two-ternary .ensures)
 
 pub put-same-if-spec : {M : Type 1} → statement M
 put-same-if-spec =
@@ -35,6 +35,6 @@ put-same-if-spec =
     negated-requires
     negated-requires-2
     negated-requires-3
-    put-both-requires
+    put-two-ternary-requires
     same-length
     returns)

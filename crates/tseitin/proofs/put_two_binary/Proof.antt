@@ -1,10 +1,10 @@
--- `tseitin::put_two` meets its contract: two clauses, one after the other. Assumes nothing.
+-- `tseitin::put_two_binary` meets its contract: two clauses, one after the other. Assumes nothing.
 use native.Mathlib.Omega.{arith}
 use borrow.Author.Needs.{needs}
 use Rattle.model.specs.Numbers.{written}
 use Rattle.writer.proofs.Wrote.{rest-within, rest-room, wrote-then}
-use Rattle.tseitin.proofs.put_two.Statement.{statement}
-use Rattle.tseitin.proofs.put_two.Tie as tie
+use Rattle.tseitin.proofs.put_two_binary.Statement.{statement}
+use Rattle.tseitin.proofs.put_two_binary.Tie as tie
 
 put-binary-requires : tie.Need-put-binary-requires
 unfolding written
@@ -40,8 +40,8 @@ returns : tie.Need-returns
 unfolding written
 returns c = wrote-then (c .before .before .before .before .put-binary .ensures) (c .before .put-binary2 .ensures)
 
-pub put-two-spec : {M : Type 1} → statement M
-put-two-spec =
+pub put-two-binary-spec : {M : Type 1} → statement M
+put-two-binary-spec =
     tie.close
     (tie.spec
     put-binary-requires

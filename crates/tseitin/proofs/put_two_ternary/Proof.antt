@@ -1,11 +1,11 @@
--- `tseitin::put_both` meets its contract: two clauses, one after the other. Assumes nothing.
+-- `tseitin::put_two_ternary` meets its contract: two clauses, one after the other. Assumes nothing.
 use native.Mathlib.Omega.{arith}
 use borrow.Author.Needs.{needs}
 use Rattle.model.specs.Numbers.{written}
 use Rattle.tseitin.specs.BothClauses.{bothClauses}
 use Rattle.writer.proofs.Wrote.{rest-within, rest-room, wrote-then}
-use Rattle.tseitin.proofs.put_both.Statement.{statement}
-use Rattle.tseitin.proofs.put_both.Tie as tie
+use Rattle.tseitin.proofs.put_two_ternary.Statement.{statement}
+use Rattle.tseitin.proofs.put_two_ternary.Tie as tie
 
 put-ternary-requires : tie.Need-put-ternary-requires
 unfolding written bothClauses
@@ -41,8 +41,8 @@ returns : tie.Need-returns
 unfolding written bothClauses
 returns c = wrote-then (c .before .before .before .before .put-ternary .ensures) (c .before .put-ternary2 .ensures)
 
-pub put-both-spec : {M : Type 1} → statement M
-put-both-spec =
+pub put-two-ternary-spec : {M : Type 1} → statement M
+put-two-ternary-spec =
     tie.close
     (tie.spec
     put-ternary-requires
