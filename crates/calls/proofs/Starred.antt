@@ -8,7 +8,7 @@ use Rattle.model.specs.Variables.{baseOf, base, pairBaseOf, pairBase, wireAt, c
 use Rattle.model.specs.Groups.{stateClauses, violationOf, clausesOf, pairOf, frameGroups, groupOrder, inDepth}
 use Rattle.model.specs.Numbers.{numberOf, written, numbersOf, joined, formula, splitAfter, clausesIn}
 use Rattle.refusals.specs.Tests.{_then_, inOrder}
-use Rattle.netlist.specs.Lines.{lineAt}
+use Rattle.netlist.specs.Places.{lineAt}
 use Rattle.netlist.specs.Faults.{sizeFault, codeFault, loopFaultBy}
 use Rattle.records.specs.Record.{testLines, recordVerdict}
 use Rattle.refusals.specs.Slices.{testRoom}

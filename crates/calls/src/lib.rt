@@ -10,7 +10,7 @@ ghost use mathlib.Core.Path.{_≡_};
 ghost use lib.ListN.{length};
 ghost use Rattle.calls.specs.Starred.{Starred};
 ghost use Rattle.unpacked.specs.Calls.{groupReply, headingReply};
-ghost use Rattle.calls.specs.Calls.{headingFor, groupFor, numbersLeft, Claim};
+ghost use Rattle.calls.specs.LentCalls.{headingFor, groupFor, numbersLeft, Claim};
 
 // The heading of a depth: "the variables numbered and the clauses really written".
 pub fn heading(net: Netlist, latches: &[Latch], gates: &[Gate], depth: u32) -> HeadingAnswer

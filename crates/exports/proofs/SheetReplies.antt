@@ -9,7 +9,7 @@ use Rattle.lists.specs.declared.Gate.{Gate}
 use Rattle.reader.specs.ReadCall.{readVerdict, readRecord, latchesLeft, gatesLeft, SheetDelivered}
 use Rattle.reader.proofs.ReadCall.{Reads}
 use Rattle.replies.specs.declared.SheetReply.{SheetReply}
-use Rattle.replies.specs.Numbers.{sheetNumbers}
+use Rattle.replies.specs.Replies.{sheetNumbers}
 
 module _ (file : List ℕ) (latches : List Latch) (gates : List Gate) where
   abbrev pub Replies : SheetReply → List Latch → List Gate → Type 0

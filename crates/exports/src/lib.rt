@@ -10,13 +10,13 @@ use replies::SheetReply;
 ghost use mathlib.Core.Path.{_≡_};
 ghost use Prim.Native.Nat.{_+_};
 ghost use lib.ListN.{length};
-ghost use Rattle.calls.specs.Calls.{headingFor, groupFor, numbersLeft};
+ghost use Rattle.calls.specs.LentCalls.{headingFor, groupFor, numbersLeft};
 ghost use Rattle.dimacs.specs.Text.{headerText, clauseText, refusalText};
 ghost use Rattle.dimacs.specs.PrintCalls.{printSent, printLeaves};
 ghost use Rattle.parse.specs.Files.{lineIn};
-ghost use Rattle.reader.specs.Lines.{nextNumber};
+ghost use Rattle.reader.specs.NextLine.{nextNumber};
 ghost use Rattle.reader.specs.ReadCall.{readVerdict, readRecord, latchesLeft, gatesLeft, SheetDelivered};
-ghost use Rattle.replies.specs.Numbers.{groupOf, countNumbers, headingNumbers, sheetNumbers, lineNumbers};
+ghost use Rattle.replies.specs.Replies.{groupOf, countNumbers, headingNumbers, sheetNumbers, lineNumbers};
 
 // `calls::write_group`. The kind is 0 for the wires of frame i, 1 for the pair (j, i), 2 for the closing of frame i, 3 for the property.
 #[no_mangle]

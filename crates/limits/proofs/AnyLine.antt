@@ -9,8 +9,8 @@ use native.Mathlib.Numerals.{add-one}
 use native.Mathlib.Omega.{arith}
 use Rattle.model.specs.Netlist.{Netlist}
 use Rattle.netlist.specs.declared.Line.{Line}
-use Rattle.netlist.specs.declared.Line.the-variants.{Sizes, Memory, Latch, Gate, Address, Data, Control}
-use Rattle.netlist.proofs.Lines.{EveryLine}
+use Rattle.netlist.specs.declared.Line.the-variants.{Sizes, Memory, Latch, Gate, Address, WriteData, Control}
+use Rattle.netlist.proofs.Places.{EveryLine}
 use Rattle.netlist.proofs.Faults.{neither, Without}
 use Rattle.limits.specs.AnyLine.{anyBelow, anyLine}
 
@@ -48,7 +48,7 @@ pub none-in-lines : (c : Netlist) (fault : Netlist → Line → Bool) → Withou
 unfolding anyLine
 none-in-lines c fault sizes memory e =
     let lists = neither (none-below (λ l. fault c (Latch l)) (c .latches)) (none-below (λ g. fault c (Gate g)) (c .gates)) in
-    let codes = neither (none-below (λ t. fault c (Address t)) (c .m)) (none-below (λ t. fault c (Data t)) (c .n)) in
+    let codes = neither (none-below (λ t. fault c (Address t)) (c .m)) (none-below (λ t. fault c (WriteData t)) (c .n)) in
     let q = neither lists (neither codes (same (fault c Control))) .0 e in
     record {
       of-sizes = sizes;

@@ -7,7 +7,7 @@ use Rattle.model.specs.Netlist.{Netlist}
 use Rattle.netlist.specs.NetOf.{firstAt, secondAt}
 use Rattle.netlist.specs.Faults.{codeOutside, latchFault, gateFault}
 use Rattle.netlist.specs.declared.Line.{Line}
-use Rattle.netlist.specs.declared.Line.the-variants.{Latch, Gate, Address, Data, Control}
+use Rattle.netlist.specs.declared.Line.the-variants.{Latch, Gate, Address, WriteData, Control}
 
 -- whether any number below n has a property
 unfoldable pub anyBelow : ℕ → (ℕ → Bool) → Bool
@@ -33,4 +33,4 @@ unfoldable pub anyLine : Netlist → (Netlist → Line → Bool) → Bool
 anyLine c fault =
     anyBelow (c .latches) (λ l. fault c (Latch l))
     || anyBelow (c .gates) (λ g. fault c (Gate g))
-    || (anyBelow (c .m) (λ t. fault c (Address t)) || anyBelow (c .n) (λ t. fault c (Data t)) || fault c Control)
+    || (anyBelow (c .m) (λ t. fault c (Address t)) || anyBelow (c .n) (λ t. fault c (WriteData t)) || fault c Control)

@@ -1,4 +1,4 @@
--- The model's netlist that a record and its lent lists stand for. Cited by what the public calls promise (calls/specs/Calls,
+-- The model's netlist that a record and its lent lists stand for. Cited by what the public calls promise (calls/specs/LentCalls,
 -- reader/specs/ReadCall). Assumes nothing.
 use mathlib.Core.List.{List}
 use Rattle.model.specs.Netlist as M

@@ -15,7 +15,7 @@ use Rattle.model.specs.Acceptance.{SizesFit, CodesFit, NoLoop}
 use Rattle.netlist.specs.Faults.{outside, sizeFault, codeOutside, codeFault, loopFaultBy, loopFault}
 use Rattle.netlist.specs.declared.Line.{Line}
 use Rattle.netlist.specs.declared.Line.the-variants.{Sizes, Memory, Latch, Gate, Control}
-use Rattle.netlist.proofs.Lines.{EveryLine}
+use Rattle.netlist.proofs.Places.{EveryLine}
 
 -- two conditions of which neither holds, each by what its absence means
 pub neither : {x y : Bool} {A B : Type 0} → (x ≡ false) ↔ A → (y ≡ false) ↔ B → ((x || y) ≡ false) ↔ (A × B)

@@ -10,10 +10,10 @@ use Rattle.model.specs.Circuit.{sweep, isRead, eitherWire, dependsOnRead}
 use Rattle.model.specs.Variables.{base}
 use Rattle.model.specs.Acceptance.{SizesFit, WithinLimits}
 use Rattle.netlist.specs.NetOf.{netOf, alone}
-use Rattle.netlist.specs.Lines.{lineAt}
+use Rattle.netlist.specs.Places.{lineAt}
 use Rattle.netlist.specs.Faults.{sizeFault, loopFaultBy}
 use Rattle.netlist.specs.declared.Line.{Line}
-use Rattle.netlist.specs.declared.Line.the-variants.{Sizes, Memory, Latch, Gate, Address, Data, Control}
+use Rattle.netlist.specs.declared.Line.the-variants.{Sizes, Memory, Latch, Gate, Address, WriteData, Control}
 use Rattle.netlist.specs.declared.Netlist.{Netlist}
 
 -- the sizes' limits
@@ -91,7 +91,7 @@ module _ (r : Netlist) (latches gates : List ℕ) where
   sizeFault-lists (Latch l) = refl
   sizeFault-lists (Gate g) = refl
   sizeFault-lists (Address t) = refl
-  sizeFault-lists (Data t) = refl
+  sizeFault-lists (WriteData t) = refl
   sizeFault-lists Control = refl
 
   -- refusal 6 at a line, once it is known which wires depend on a read bit
@@ -102,7 +102,7 @@ module _ (r : Netlist) (latches gates : List ℕ) where
   loopFaultBy-lists d (Latch l) = refl
   loopFaultBy-lists d (Gate g) = refl
   loopFaultBy-lists d (Address t) = refl
-  loopFaultBy-lists d (Data t) = refl
+  loopFaultBy-lists d (WriteData t) = refl
   loopFaultBy-lists d Control = refl
 
   -- after some gates, dependence on a read bit

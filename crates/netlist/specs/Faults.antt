@@ -7,7 +7,7 @@ use Rattle.model.specs.Limits.{mostWires, mostAddressBits, mostDataBits}
 use Rattle.model.specs.Netlist.{Netlist, gateWire, lastWire}
 use Rattle.model.specs.Circuit.{dependsOnRead}
 use Rattle.netlist.specs.declared.Line.{Line}
-use Rattle.netlist.specs.declared.Line.the-variants.{Sizes, Memory, Latch, Gate, Address, Data, Control}
+use Rattle.netlist.specs.declared.Line.the-variants.{Sizes, Memory, Latch, Gate, Address, WriteData, Control}
 
 -- a number is outside the limits low to high
 abbrev pub outside : ℕ → ℕ → ℕ → Bool
@@ -21,7 +21,7 @@ sizeFault c Memory =
 sizeFault c (Latch l) = false
 sizeFault c (Gate g) = false
 sizeFault c (Address t) = false
-sizeFault c (Data t) = false
+sizeFault c (WriteData t) = false
 sizeFault c Control = false
 
 -- "A code is at most 2V + 1", V the last wire
@@ -43,7 +43,7 @@ codeFault c Memory = false
 codeFault c (Latch l) = latchFault (lastWire c) (c .next l) (c .reset l)
 codeFault c (Gate g) = gateFault (gateWire c g) (c .left g) (c .right g)
 codeFault c (Address t) = codeOutside (lastWire c) (c .address t)
-codeFault c (Data t) = codeOutside (lastWire c) (c .writeData t)
+codeFault c (WriteData t) = codeOutside (lastWire c) (c .writeData t)
 codeFault c Control = codeOutside (lastWire c) (c .WE) || codeOutside (lastWire c) (c .RE) || codeOutside (lastWire c) (c .P)
 
 -- refusal 6: "an address code or RE depends on a read bit", d saying which wires do
@@ -53,7 +53,7 @@ loopFaultBy d c Memory = false
 loopFaultBy d c (Latch l) = false
 loopFaultBy d c (Gate g) = false
 loopFaultBy d c (Address t) = d (c .address t / 2)
-loopFaultBy d c (Data t) = false
+loopFaultBy d c (WriteData t) = false
 loopFaultBy d c Control = d (c .RE / 2)
 
 abbrev pub loopFault : Netlist → Line → Bool

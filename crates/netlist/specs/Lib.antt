@@ -1,4 +1,4 @@
 pub mod NetOf
 pub mod RecordOf
-pub mod Lines
+pub mod Places
 pub mod Faults

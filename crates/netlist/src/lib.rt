@@ -9,7 +9,7 @@ ghost use Rattle.model.specs.Netlist.{latchWire, readWire, gateWire, lastWire};
 ghost use Rattle.model.specs.Acceptance.{SizesFit};
 ghost use Rattle.netlist.specs.NetOf.{netOf, alone};
 ghost use Rattle.netlist.specs.RecordOf.{recordOf, noNetlist};
-ghost use Rattle.netlist.specs.Lines.{controlLine, lineAt, HasLine};
+ghost use Rattle.netlist.specs.Places.{controlLine, lineAt, HasLine};
 ghost use Rattle.netlist.specs.Faults.{outside, sizeFault, codeOutside, latchFault, gateFault, codeFault};
 
 #[repr(C)]
@@ -34,7 +34,7 @@ pub enum Line {
     Latch(u32),
     Gate(u32),
     Address(u32),
-    Data(u32),
+    WriteData(u32),
     Control,
 }
 
@@ -160,7 +160,7 @@ pub fn line_at(net: Netlist, place: u32) -> Line
         return Line::Address(place - address);
     }
     if place < data + net.n {
-        return Line::Data(place - data);
+        return Line::WriteData(place - data);
     }
     Line::Control
 }
@@ -211,7 +211,7 @@ pub fn code_fault(net: Netlist, latches: &[u32; 1200], gates: &[u32; 1200], line
             let at = t as usize;
             is_code_outside(last, net.address[at])
         }
-        Line::Data(t) => {
+        Line::WriteData(t) => {
             let at = t as usize;
             is_code_outside(last, net.write_data[at])
         }

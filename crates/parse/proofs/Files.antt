@@ -12,10 +12,10 @@ use lib.Dec.{eqb, ltb}
 use lib.ListN.{length, take, drop, length-take, length-drop, drop-of-length-le}
 use borrow.Author.Tests.{ltb-false, eqb-true, eqb-false, not-false, lt-ltb, le-ltb, le-leb, lt-leb}
 use Rattle.model.proofs.Booleans.{neither-true}
-use Rattle.netlist.specs.Lines.{latchLine, gateLine, addressLine, dataLine, controlLine, lineAt}
+use Rattle.netlist.specs.Places.{latchLine, gateLine, addressLine, dataLine, controlLine, lineAt}
 use Rattle.netlist.specs.Faults.{sizeFault, codeFault}
 use Rattle.netlist.specs.declared.Line as Due
-use Rattle.netlist.specs.declared.Line.the-variants.{Sizes, Memory, Latch, Gate, Address, Data, Control}
+use Rattle.netlist.specs.declared.Line.the-variants.{Sizes, Memory, Latch, Gate, Address, WriteData, Control}
 use Rattle.lines.specs.Lines.{lineOf}
 use Rattle.lines.proofs.Lines.{lineOf-length}
 use Rattle.lines.specs.declared.ParsedLine.{ParsedLine}
@@ -84,7 +84,7 @@ module _ (file : List ℕ) where
         left = λ g. number-next p b firstNumber (Gate g) i;
         right = λ g. number-next p b secondNumber (Gate g) i;
         address = λ t. number-next p b firstNumber (Address t) i;
-        writeData = λ t. number-next p b firstNumber (Data t) i;
+        writeData = λ t. number-next p b firstNumber (WriteData t) i;
         WE = control-next p b firstNumber i;
         RE = control-next p b secondNumber i;
         P = control-next p b thirdNumber i;
@@ -119,7 +119,7 @@ module _ (file : List ℕ) where
   sizeFault-to p (Latch l) h = refl
   sizeFault-to p (Gate g) h = refl
   sizeFault-to p (Address t) h = refl
-  sizeFault-to p (Data t) h = refl
+  sizeFault-to p (WriteData t) h = refl
   sizeFault-to p Control h = refl
 
   pub codeFault-to : (p : ℕ) (x : Due.Line) → placeOf (sizesIn file) x ≤ p → codeFault (netTo file p) x ≡ codeFault (netIn file) x
@@ -132,7 +132,7 @@ module _ (file : List ℕ) where
       rw (linesTo-read p 1 (omega arith), linesTo-read p 2 (omega arith), linesTo-read p (gateLine (sizesIn file) g) h)
   codeFault-to p (Address t) h =
       rw (linesTo-read p 1 (omega arith), linesTo-read p 2 (omega arith), linesTo-read p (addressLine (sizesIn file) t) h)
-  codeFault-to p (Data t) h =
+  codeFault-to p (WriteData t) h =
       rw (linesTo-read p 1 (omega arith), linesTo-read p 2 (omega arith), linesTo-read p (dataLine (sizesIn file) t) h)
   codeFault-to p Control h =
       rw (linesTo-read p 1 (omega arith), linesTo-read p 2 (omega arith), linesTo-read p (controlLine (sizesIn file)) (omega arith))

@@ -21,11 +21,11 @@ use Rattle.model.specs.Netlist as M
 use Rattle.model.specs.Acceptance.{SizesFit}
 use Rattle.model.proofs.Booleans.{neither-true}
 use Rattle.netlist.specs.NetOf.{netOf, alone}
-use Rattle.netlist.specs.Lines.{controlLine, lineAt}
+use Rattle.netlist.specs.Places.{controlLine, lineAt}
 use Rattle.netlist.specs.Faults.{sizeFault, codeFault}
 use Rattle.netlist.specs.declared.Netlist.{Netlist}
 use Rattle.netlist.proofs.NetOf.{sizes-lists}
-use Rattle.netlist.proofs.Lines.{at-sizes, at-memory}
+use Rattle.netlist.proofs.Places.{at-sizes, at-memory}
 use Rattle.netlist.proofs.Faults.{sizes-fit}
 use Rattle.lines.specs.Letters.{rowOf}
 use Rattle.lines.specs.declared.Kind.{Kind}

@@ -11,7 +11,7 @@ use Rattle.model.specs.Netlist.{Netlist}
 use Rattle.refusals.specs.Tests.{refuseIf, _then_}
 use Rattle.refusals.specs.declared.Refusal.the-variants.{Misprint, OutOfOrder}
 use Rattle.refusals.specs.declared.Verdict.{Verdict}
-use Rattle.netlist.specs.Lines.{lineAt, controlLine}
+use Rattle.netlist.specs.Places.{lineAt, controlLine}
 use Rattle.lines.specs.Letters.{rowOf}
 use Rattle.lines.specs.declared.Kind.{Kind}
 use Rattle.lines.specs.declared.ParsedLine.{ParsedLine}

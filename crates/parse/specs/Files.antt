@@ -8,7 +8,7 @@ use lib.Dec.{ltb}
 use lib.ListN.{length, take, drop}
 use Rattle.model.specs.Limits.{lineBytes}
 use Rattle.model.specs.Netlist.{Netlist}
-use Rattle.netlist.specs.Lines.{sizesLine, memoryLine, latchLine, gateLine, addressLine, dataLine, controlLine}
+use Rattle.netlist.specs.Places.{sizesLine, memoryLine, latchLine, gateLine, addressLine, dataLine, controlLine}
 use Rattle.netlist.specs.RecordOf.{withoutCodes}
 use Rattle.lines.specs.Lines.{lineOf}
 use Rattle.lines.specs.declared.ParsedLine.{ParsedLine}

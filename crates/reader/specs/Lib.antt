@@ -1,3 +1,3 @@
 -- The sheet reader and what it returns and leaves, in reading order. Nothing here imports a law or a proof.
-pub mod Lines
+pub mod NextLine
 pub mod ReadCall

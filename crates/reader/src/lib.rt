@@ -10,7 +10,7 @@ ghost use Prim.Native.Nat.{_≤_};
 ghost use Rattle.parse.specs.Files.{lineCount};
 ghost use Rattle.parse.specs.Progress.{ReadTo};
 ghost use Rattle.sheet.specs.Codes.{CodesRead};
-ghost use Rattle.reader.specs.Lines.{atStart, nextNumber, nextLine};
+ghost use Rattle.reader.specs.NextLine.{atStart, nextNumber, nextLine};
 ghost use Rattle.reader.specs.ReadCall.{readVerdict, readRecord, latchesLeft, gatesLeft, SheetDelivered};
 
 // A file, and how many of its lines are read.

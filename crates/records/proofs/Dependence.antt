@@ -18,14 +18,14 @@ use Rattle.refusals.proofs.Tests.{refuseIf-passes, inOrder-passes}
 use Rattle.model.specs.Netlist.{Netlist, readWire, gateWire}
 use Rattle.model.specs.Circuit.{Values, sweep, isRead, dependsOnRead}
 use Rattle.model.specs.Acceptance.{WithinLimits}
-use Rattle.netlist.specs.Lines.{memoryLine, latchLine, gateLine, addressLine, lineAt, HasLine}
+use Rattle.netlist.specs.Places.{memoryLine, latchLine, gateLine, addressLine, lineAt, HasLine}
 use Rattle.netlist.specs.Faults.{loopFaultBy, loopFault}
 use Rattle.limits.specs.AnyLine.{anyLine}
 use Rattle.records.specs.Record.{testLine, testLines}
 use Rattle.records.specs.Dependence.{entry, Table}
 use Rattle.netlist.specs.declared.Line.{Line}
-use Rattle.netlist.specs.declared.Line.the-variants.{Sizes, Memory, Latch, Gate, Address, Data, Control}
-use Rattle.netlist.proofs.Lines.{at-sizes, at-memory, at-latch, at-gate}
+use Rattle.netlist.specs.declared.Line.the-variants.{Sizes, Memory, Latch, Gate, Address, WriteData, Control}
+use Rattle.netlist.proofs.Places.{at-sizes, at-memory, at-latch, at-gate}
 use Rattle.netlist.proofs.Faults.{no-loop}
 use Rattle.limits.proofs.AnyLine.{none-in-lines}
 use Rattle.records.proofs.Record.{PassedTo, testLines-passes}
@@ -87,7 +87,7 @@ loopFault-table {c} q h Memory s = refl
 loopFault-table {c} q h (Latch l) s = refl
 loopFault-table {c} q h (Gate g) s = refl
 loopFault-table {c} q h (Address t) s = sym (q .has (c .address t / 2) (omega (arith, h .codes .address-fits t s, h .sizes .wires-fit)))
-loopFault-table {c} q h (Data t) s = refl
+loopFault-table {c} q h (WriteData t) s = refl
 loopFault-table {c} q h Control s = sym (q .has (c .RE / 2) (omega (arith, h .codes .RE-fits, h .sizes .wires-fit)))
 
 -- no line makes a memory loop where the pass over the lists finds none by such a table

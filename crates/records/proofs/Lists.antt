@@ -6,10 +6,10 @@ use mathlib.Core.Bool.{Bool}
 use mathlib.Core.List.{List, []}
 use Rattle.refusals.specs.declared.Refusal.the-variants.{Size, MemoryLoop}
 use Rattle.netlist.specs.NetOf.{codeOf, netOf, alone}
-use Rattle.netlist.specs.Lines.{lineAt}
+use Rattle.netlist.specs.Places.{lineAt}
 use Rattle.netlist.specs.Faults.{sizeFault, loopFaultBy, loopFault}
 use Rattle.netlist.specs.declared.Line.{Line}
-use Rattle.netlist.specs.declared.Line.the-variants.{Sizes, Memory, Latch, Gate, Address, Data, Control}
+use Rattle.netlist.specs.declared.Line.the-variants.{Sizes, Memory, Latch, Gate, Address, WriteData, Control}
 use Rattle.netlist.specs.declared.Netlist.{Netlist}
 use Rattle.netlist.proofs.NetOf.{lineAt-lists, sizeFault-lists, depends-latches}
 use Rattle.limits.specs.AnyLine.{anyLine}
@@ -34,7 +34,7 @@ module _ (r : Netlist) (latches gates : List ℕ) where
       same (Latch l) = refl
       same (Gate g) = refl
       same (Address t) = depends-latches r latches gates (codeOf (r .address) t / 2)
-      same (Data t) = refl
+      same (WriteData t) = refl
       same Control = depends-latches r latches gates (r .re .0 / 2)
 
   -- the pass over the lists that looks for memory loops

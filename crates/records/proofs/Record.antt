@@ -10,12 +10,12 @@ use Rattle.refusals.specs.declared.Refusal.{Refusal}
 use Rattle.refusals.specs.declared.Verdict.the-variants.{Passed, Refused}
 use Rattle.refusals.proofs.Tests.{refuseIf-passes, inOrder-suc, inOrder-kept, inOrder-passes, inOrder-same}
 use Rattle.model.specs.Netlist.{Netlist}
-use Rattle.netlist.specs.Lines.{controlLine, lineAt}
+use Rattle.netlist.specs.Places.{controlLine, lineAt}
 use Rattle.records.specs.Record.{testLine, testLines}
 use Rattle.netlist.specs.declared.Line.{Line}
 use Rattle.netlist.specs.declared.Line.the-variants.{Sizes, Memory}
 use Rattle.limits.specs.AnyLine.{anyLine}
-use Rattle.netlist.proofs.Lines.{EveryLine, every-place}
+use Rattle.netlist.proofs.Places.{EveryLine, every-place}
 use Rattle.netlist.proofs.Faults.{Without}
 use Rattle.limits.proofs.AnyLine.{none-in-lines}
 

@@ -9,7 +9,7 @@ use Rattle.refusals.specs.declared.Refusal.{Refusal}
 use Rattle.refusals.specs.declared.Refusal.the-variants.{OutOfOrder, Size, CodeOutside, MemoryLoop}
 use Rattle.refusals.specs.declared.Verdict.{Verdict}
 use Rattle.model.specs.Netlist.{Netlist}
-use Rattle.netlist.specs.Lines.{controlLine, lineAt}
+use Rattle.netlist.specs.Places.{controlLine, lineAt}
 use Rattle.netlist.specs.Faults.{sizeFault, codeFault, loopFault}
 use Rattle.netlist.specs.declared.Line.{Line}
 

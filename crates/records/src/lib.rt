@@ -8,7 +8,7 @@ ghost use mathlib.Core.List.{[]};
 ghost use Rattle.model.specs.Circuit.{isRead, dependsOnRead};
 ghost use Rattle.model.specs.Acceptance.{SizesFit, WithinLimits};
 ghost use Rattle.netlist.specs.NetOf.{netOf, alone};
-ghost use Rattle.netlist.specs.Lines.{HasLine};
+ghost use Rattle.netlist.specs.Places.{HasLine};
 ghost use Rattle.netlist.specs.Faults.{sizeFault, codeFault, loopFaultBy};
 ghost use Rattle.limits.specs.AnyLine.{anyLine};
 ghost use Rattle.records.specs.Record.{testLines, testLoops, recordVerdict};
@@ -104,7 +104,7 @@ fn loop_fault(net: Netlist, flags: &[bool; 601], line: Line) -> bool
             let w = (net.address[at].0 / 2) as usize;
             flags[w]
         }
-        Line::Data(_) => false,
+        Line::WriteData(_) => false,
         Line::Control => {
             let w = (net.re.0 / 2) as usize;
             flags[w]

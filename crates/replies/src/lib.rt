@@ -14,7 +14,7 @@ ghost use Rattle.refusals.specs.Slices.{withCount};
 ghost use Rattle.unpacked.specs.Calls.{groupReply, headingReply};
 ghost use Rattle.dimacs.specs.PrintCalls.{printReply};
 ghost use Rattle.lines.specs.Letters.{letterOf};
-ghost use Rattle.replies.specs.Numbers.{groupOf, countNumbers, headingNumbers, sheetNumbers, lineNumbers};
+ghost use Rattle.replies.specs.Replies.{groupOf, countNumbers, headingNumbers, sheetNumbers, lineNumbers};
 
 // What is sent back of a call that writes into a slice: number (0 where it is not refused), place, and how many numbers or bytes
 // were written.

@@ -15,10 +15,10 @@ use Rattle.refusals.proofs.Tests.{refused-not-passed, refuseIf-passes, then-pas
 use Rattle.model.specs.Netlist as M
 use Rattle.model.specs.Acceptance.{Accepted}
 use Rattle.netlist.specs.NetOf.{netOf}
-use Rattle.netlist.specs.Lines.{controlLine}
+use Rattle.netlist.specs.Places.{controlLine}
 use Rattle.netlist.specs.Faults.{codeFault, loopFault}
 use Rattle.netlist.specs.declared.Netlist.{Netlist}
-use Rattle.netlist.proofs.Lines.{every-place}
+use Rattle.netlist.proofs.Places.{every-place}
 use Rattle.netlist.proofs.Faults.{Without, codes-fit, no-loop}
 use Rattle.records.specs.Record.{testLoops, listsShort}
 use Rattle.records.proofs.Record.{testLines-passes}

@@ -13,11 +13,11 @@ use Rattle.model.specs.Gather.{gather}
 use Rattle.model.specs.Acceptance.{SizesFit, WithinLimits}
 use Rattle.literals.specs.declared.Code.{Code}
 use Rattle.netlist.specs.NetOf.{codeOf, netOf}
-use Rattle.netlist.specs.Lines.{controlLine, latchLine, gateLine, addressLine, dataLine}
+use Rattle.netlist.specs.Places.{controlLine, latchLine, gateLine, addressLine, dataLine}
 use Rattle.netlist.specs.Faults.{codeFault}
 use Rattle.netlist.specs.declared.Netlist.{Netlist}
 use Rattle.netlist.proofs.NetOf.{sizes-lists, limits-without-latches}
-use Rattle.netlist.proofs.Lines.{every-place}
+use Rattle.netlist.proofs.Places.{every-place}
 use Rattle.netlist.proofs.Faults.{Without, codes-fit}
 use Rattle.netlist.specs.RecordOf.{recordOf, noNetlist}
 use Rattle.lines.specs.declared.ParsedLine.{ParsedLine}

@@ -10,7 +10,7 @@ use Rattle.refusals.specs.declared.Refusal.the-variants.{Ragged, OutOfOrder}
 use Rattle.refusals.specs.declared.Verdict.the-variants.{Passed, Refused}
 use Rattle.model.specs.Netlist as M
 use Rattle.netlist.specs.NetOf.{netOf}
-use Rattle.netlist.specs.Lines.{controlLine}
+use Rattle.netlist.specs.Places.{controlLine}
 use Rattle.records.specs.Record.{testLoops}
 use Rattle.netlist.specs.declared.Netlist.{Netlist}
 use Rattle.records.proofs.Lists.{test-loops-latches}

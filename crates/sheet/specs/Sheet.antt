@@ -8,7 +8,7 @@ use Rattle.model.specs.Netlist.{Netlist}
 use Rattle.refusals.specs.Tests.{refuseIf, _then_, inOrder}
 use Rattle.refusals.specs.declared.Refusal.the-variants.{Ragged, OutOfOrder, NoRoom}
 use Rattle.refusals.specs.declared.Verdict.{Verdict}
-use Rattle.netlist.specs.Lines.{controlLine}
+use Rattle.netlist.specs.Places.{controlLine}
 use Rattle.records.specs.Record.{listsShort, testLoops}
 use Rattle.parse.specs.Files.{lineCount, netIn}
 use Rattle.parse.specs.FileTests.{ragged, testLineIn}

@@ -13,11 +13,11 @@ use borrow.Author.Tests.{eq-eqb, eqb-true, le-ltb}
 use Rattle.model.specs.Netlist.{Netlist}
 use Rattle.model.specs.Acceptance.{SizesFit}
 use Rattle.model.proofs.Booleans.{and-true, not-true-false}
-use Rattle.netlist.specs.Lines.{memoryLine, latchLine, gateLine, addressLine, dataLine, controlLine, lineAt, HasLine}
+use Rattle.netlist.specs.Places.{memoryLine, latchLine, gateLine, addressLine, dataLine, controlLine, lineAt, HasLine}
 use Rattle.netlist.specs.Faults.{sizeFault}
 use Rattle.netlist.specs.declared.Line.{Line}
-use Rattle.netlist.specs.declared.Line.the-variants.{Sizes, Memory, Latch, Gate, Address, Data, Control}
-use Rattle.netlist.proofs.Lines.{at-sizes, at-memory, at-latch, at-gate, at-address, at-data, at-control, has-lineAt}
+use Rattle.netlist.specs.declared.Line.the-variants.{Sizes, Memory, Latch, Gate, Address, WriteData, Control}
+use Rattle.netlist.proofs.Places.{at-sizes, at-memory, at-latch, at-gate, at-address, at-data, at-control, has-lineAt}
 use Rattle.lines.specs.Letters.{rowOf}
 use Rattle.steps.specs.Due.{kindDue}
 use Rattle.steps.specs.LineIndex.{lineIndex, roomFor, sameLine}
@@ -49,7 +49,7 @@ inRow-of-hasLine c Memory h = omega arith
 inRow-of-hasLine c (Latch l) h = h
 inRow-of-hasLine c (Gate g) h = h
 inRow-of-hasLine c (Address t) h = h
-inRow-of-hasLine c (Data t) h = h
+inRow-of-hasLine c (WriteData t) h = h
 inRow-of-hasLine c Control h = omega arith
 
 pub inRow-at : (c : Netlist) (p : ℕ) → InRow c (lineAt c p)
@@ -62,7 +62,7 @@ lineAt-place c Memory h = at-memory c 2 refl
 lineAt-place c (Latch l) h = at-latch c (3 + l) l h refl
 lineAt-place c (Gate g) h = at-gate c (gateLine c g) g h refl
 lineAt-place c (Address t) h = at-address c (addressLine c t) t h refl
-lineAt-place c (Data t) h = at-data c (dataLine c t) t h refl
+lineAt-place c (WriteData t) h = at-data c (dataLine c t) t h refl
 lineAt-place c Control h = at-control c (controlLine c + 0) (omega arith)
 
 -- the place of the line at a place is the place
@@ -108,7 +108,7 @@ module _ (c : Netlist) (p : ℕ) (h : 1 ≤ p) (b : p ≤ controlLine c) (x : Li
       not-true-false (sameLine (lineAt c p) x) (λ s. n (same-inRow c (lineAt c p) x s (inRow-at c p)))
 
 -- what holds of every line of codes holds of each line from line 3 on
-pub codes-from-3 : (c : Netlist) (p : ℕ) (P : Line → Type 0) → 3 ≤ p → ((l : ℕ) → P (Latch l)) → ((g : ℕ) → P (Gate g)) → ((t : ℕ) → P (Address t)) → ((t : ℕ) → P (Data t)) → P Control → P (lineAt c p)
+pub codes-from-3 : (c : Netlist) (p : ℕ) (P : Line → Type 0) → 3 ≤ p → ((l : ℕ) → P (Latch l)) → ((g : ℕ) → P (Gate g)) → ((t : ℕ) → P (Address t)) → ((t : ℕ) → P (WriteData t)) → P Control → P (lineAt c p)
 codes-from-3 c p P h latch gate address writeData control =
     by-cases (decLt p (gateLine c 0)) (λ b. rw (at-latch c p (p - latchLine c 0) (omega arith) (omega arith)) (latch (p - latchLine c 0))) λ l.
     by-cases (decLt p (addressLine c 0)) (λ b. rw (at-gate c p (p - gateLine c 0) (omega arith) (omega arith)) (gate (p - gateLine c 0))) λ g.

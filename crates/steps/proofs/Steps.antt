@@ -17,7 +17,7 @@ use Rattle.refusals.specs.declared.Verdict.the-variants.{Refused}
 use Rattle.refusals.proofs.Tests.{refused-not-passed}
 use Rattle.literals.specs.declared.Code.{Code}
 use Rattle.model.specs.Netlist as M
-use Rattle.netlist.specs.Lines.{controlLine, lineAt}
+use Rattle.netlist.specs.Places.{controlLine, lineAt}
 use Rattle.lines.specs.Letters.{rowOf}
 use Rattle.lines.specs.declared.Kind.{Kind}
 use Rattle.netlist.specs.NetOf.{codeOf, firstAt, secondAt, netOf, alone}

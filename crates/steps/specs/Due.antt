@@ -11,5 +11,5 @@ kindDue Due.Memory = Memory
 kindDue (Due.Latch l) = Latch
 kindDue (Due.Gate g) = Gate
 kindDue (Due.Address t) = Address
-kindDue (Due.Data t) = WriteData
+kindDue (Due.WriteData t) = WriteData
 kindDue Due.Control = Control

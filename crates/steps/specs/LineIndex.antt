@@ -4,7 +4,7 @@ use mathlib.Core.Bool.{Bool, _&&_}
 use lib.Dec.{eqb}
 use Rattle.model.specs.Limits.{mostWires, mostAddressBits, mostDataBits}
 use Rattle.netlist.specs.declared.Line.{Line}
-use Rattle.netlist.specs.declared.Line.the-variants.{Sizes, Memory, Latch, Gate, Address, Data, Control}
+use Rattle.netlist.specs.declared.Line.the-variants.{Sizes, Memory, Latch, Gate, Address, WriteData, Control}
 use Rattle.lines.specs.Letters.{rowOf}
 use Rattle.steps.specs.Due.{kindDue}
 
@@ -15,7 +15,7 @@ lineIndex Memory = 0
 lineIndex (Latch l) = l
 lineIndex (Gate g) = g
 lineIndex (Address t) = t
-lineIndex (Data t) = t
+lineIndex (WriteData t) = t
 lineIndex Control = 0
 
 -- how many lines of its kind the record and the lists have room for
@@ -25,7 +25,7 @@ roomFor Memory = 1
 roomFor (Latch l) = mostWires
 roomFor (Gate g) = mostWires
 roomFor (Address t) = mostAddressBits
-roomFor (Data t) = mostDataBits
+roomFor (WriteData t) = mostDataBits
 roomFor Control = 1
 
 -- whether two lines are the same: of one kind, and with the same number

@@ -14,10 +14,10 @@ use Rattle.literals.specs.declared.Code.{Code}
 use Rattle.model.specs.Netlist.{Netlist}
 use Rattle.model.specs.Acceptance.{SizesFit}
 use Rattle.netlist.specs.NetOf.{netOf}
-use Rattle.netlist.specs.Lines.{lineAt, controlLine}
+use Rattle.netlist.specs.Places.{lineAt, controlLine}
 use Rattle.netlist.specs.declared.Netlist as R
 use Rattle.netlist.specs.declared.Line.{Line}
-use Rattle.netlist.specs.declared.Line.the-variants.{Sizes, Memory, Latch, Gate, Address, Data, Control}
+use Rattle.netlist.specs.declared.Line.the-variants.{Sizes, Memory, Latch, Gate, Address, WriteData, Control}
 use Rattle.lines.specs.Letters.{rowOf}
 use Rattle.lines.specs.declared.Kind.{Kind}
 use Rattle.steps.specs.declared.SheetAnswer.{SheetAnswer}
@@ -44,7 +44,7 @@ stored c due x y z =
       left = λ g. numberAfter due (Gate g) x (c .left g);
       right = λ g. numberAfter due (Gate g) y (c .right g);
       address = λ t. numberAfter due (Address t) x (c .address t);
-      writeData = λ t. numberAfter due (Data t) x (c .writeData t);
+      writeData = λ t. numberAfter due (WriteData t) x (c .writeData t);
       WE = numberAfter due Control x (c .WE);
       RE = numberAfter due Control y (c .RE);
       P = numberAfter due Control z (c .P);

@@ -12,7 +12,7 @@ ghost use Prim.Native.Nat.{_+_, _*_, _<_};
 ghost use lib.Dec.{ltb};
 ghost use lib.ListN.{set};
 ghost use Rattle.netlist.specs.NetOf.{netOf, alone};
-ghost use Rattle.netlist.specs.Lines.{lineAt, controlLine};
+ghost use Rattle.netlist.specs.Places.{lineAt, controlLine};
 ghost use Rattle.lines.specs.Letters.{rowOf};
 ghost use Rattle.steps.specs.Due.{kindDue};
 ghost use Rattle.steps.specs.LineIndex.{lineIndex, roomFor};
@@ -46,7 +46,7 @@ fn row_due(due: Line) -> usize
         Line::Latch(_) => 2,
         Line::Gate(_) => 3,
         Line::Address(_) => 4,
-        Line::Data(_) => 5,
+        Line::WriteData(_) => 5,
         Line::Control => 6,
     }
 }
@@ -97,7 +97,7 @@ fn store_address(net: Netlist, t: u32, first: u32) -> Netlist
 // Puts a write-data code into the record.
 fn store_data(net: Netlist, t: u32, first: u32) -> Netlist
     requires { ⌜ t < 32 ⌝ }
-    ensures { λ r. ⌜ StoredIn r net (Line.Data t) first 0 0 ⌝ }
+    ensures { λ r. ⌜ StoredIn r net (Line.WriteData t) first 0 0 ⌝ }
 {
     let mut next = net;
     let at = t as usize;
@@ -141,7 +141,7 @@ fn store(
             net
         }
         Line::Address(t) => store_address(net, t, first),
-        Line::Data(t) => store_data(net, t, first),
+        Line::WriteData(t) => store_data(net, t, first),
         Line::Control => store_control(net, first, second, third),
     }
 }

@@ -21,7 +21,7 @@ use Rattle.refusals.specs.Slices.{testRoom, CountReply, withCount, contentsAfte
 use Rattle.refusals.specs.declared.Refusal.the-variants.{Depth, NoSuchGroup, OutOfNumbers}
 use Rattle.refusals.specs.declared.Verdict.{Verdict}
 use Rattle.refusals.specs.declared.Verdict.the-variants.{Passed, Refused}
-use Rattle.netlist.specs.Lines.{controlLine}
+use Rattle.netlist.specs.Places.{controlLine}
 use Rattle.records.specs.Record.{recordVerdict}
 use Rattle.unpacked.specs.declared.GroupAnswer.{GroupAnswer}
 use Rattle.unpacked.specs.declared.GroupAnswer.the-variants.{Written}

@@ -47,12 +47,12 @@ use Rattle.calls.specs.Starred.{Starred}
 use Rattle.unpacked.specs.declared.HeadingAnswer.{HeadingAnswer}
 use Rattle.unpacked.proofs.HeadingAnswer as Answer
 use Rattle.unpacked.proofs.HeadingAnswer.Laws as Answer′
-use Rattle.calls.specs.Calls.{headingFor, Claim}
+use Rattle.calls.specs.LentCalls.{headingFor, Claim}
 use Rattle.calls.proofs.heading as inner
 use Rattle.calls.proofs.heading.Symbol as inner-def
 use Rattle.calls.proofs.heading.Symbol.{name as #inner}
 use Rattle.calls.proofs.heading.Met as inner-thm
-use Rattle.replies.specs.Numbers.{headingNumbers}
+use Rattle.replies.specs.Replies.{headingNumbers}
 use Rattle.replies.proofs.HeadingReply as Reply
 use Rattle.replies.proofs.HeadingReply.Laws as Reply′
 use Rattle.replies.proofs.heading_numbers as numbers

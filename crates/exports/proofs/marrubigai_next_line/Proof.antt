@@ -44,7 +44,7 @@ use Rattle.lines.specs.declared.ParsedLine.{ParsedLine}
 use Rattle.lines.proofs.ParsedLine as K
 use Rattle.lines.proofs.ParsedLine.Laws as K′
 use Rattle.parse.specs.Files.{lineIn}
-use Rattle.reader.specs.Lines.{nextNumber, movedOn, nextLine}
+use Rattle.reader.specs.NextLine.{nextNumber, movedOn, nextLine}
 use Rattle.reader.specs.declared.SheetReader.{SheetReader}
 use Rattle.reader.specs.declared.NextLine.{NextLine}
 use Rattle.reader.proofs.SheetReader as T
@@ -55,7 +55,7 @@ use Rattle.reader.proofs.SheetReader.next_line as next
 use Rattle.reader.proofs.SheetReader.next_line.Symbol as next-def
 use Rattle.reader.proofs.SheetReader.next_line.Symbol.{name as #next}
 use Rattle.reader.proofs.SheetReader.next_line.Met as next-thm
-use Rattle.replies.specs.Numbers.{lineNumbers}
+use Rattle.replies.specs.Replies.{lineNumbers}
 use Rattle.replies.proofs.LineReply as Reply
 use Rattle.replies.proofs.LineReply.Laws as Reply′
 use Rattle.replies.proofs.line_numbers as numbers

@@ -1,7 +1,7 @@
 -- `exports::marrubigai_put_header` meets its contract: what `put_header` answers and leaves, in numbers. Assumes nothing.
 use mathlib.Core.Path.{_∙_, ap}
 use borrow.Author.Needs.{needs}
-use Rattle.replies.specs.Numbers.{countNumbers}
+use Rattle.replies.specs.Replies.{countNumbers}
 use Rattle.exports.proofs.marrubigai_put_header.Statement.{statement}
 use Rattle.exports.proofs.marrubigai_put_header.Tie as tie
 

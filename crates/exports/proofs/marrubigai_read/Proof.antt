@@ -52,7 +52,7 @@ use Rattle.reader.proofs.read as read
 use Rattle.reader.proofs.read.Symbol as read-def
 use Rattle.reader.proofs.read.Symbol.{name as #read}
 use Rattle.reader.proofs.read.Met as read-thm
-use Rattle.replies.specs.Numbers.{sheetNumbers}
+use Rattle.replies.specs.Replies.{sheetNumbers}
 use Rattle.replies.specs.declared.SheetReply.{SheetReply}
 use Rattle.exports.proofs.SheetReplies.{replies}
 use Rattle.replies.proofs.SheetReply as R

@@ -51,12 +51,12 @@ use Rattle.unpacked.specs.Calls.{groupReply}
 use Rattle.unpacked.specs.declared.GroupAnswer.{GroupAnswer}
 use Rattle.unpacked.proofs.GroupAnswer as Answer
 use Rattle.unpacked.proofs.GroupAnswer.Laws as Answer′
-use Rattle.calls.specs.Calls.{groupFor, numbersLeft}
+use Rattle.calls.specs.LentCalls.{groupFor, numbersLeft}
 use Rattle.calls.proofs.write_group as inner
 use Rattle.calls.proofs.write_group.Symbol as inner-def
 use Rattle.calls.proofs.write_group.Symbol.{name as #inner}
 use Rattle.calls.proofs.write_group.Met as inner-thm
-use Rattle.replies.specs.Numbers.{groupOf, countNumbers}
+use Rattle.replies.specs.Replies.{groupOf, countNumbers}
 use Rattle.replies.proofs.CountReply as Reply
 use Rattle.replies.proofs.CountReply.Laws as Reply′
 use Rattle.replies.proofs.group_of as group

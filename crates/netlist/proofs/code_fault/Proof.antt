@@ -5,7 +5,7 @@ use borrow.Author.Needs.{needs}
 use native.Mathlib.Omega.{arith}
 use Rattle.model.specs.Netlist.{gateWire}
 use Rattle.netlist.specs.NetOf.{codeOf, netOf, alone}
-use Rattle.netlist.specs.Lines.{HasLine}
+use Rattle.netlist.specs.Places.{HasLine}
 use Rattle.netlist.specs.Faults.{codeFault}
 use Rattle.netlist.proofs.code_fault.Statement.{statement}
 use Rattle.netlist.proofs.code_fault.Tie as tie

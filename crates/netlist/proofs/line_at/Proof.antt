@@ -3,7 +3,7 @@ use Prim.Native.Nat.{_+_, _-_}
 use mathlib.Core.Path.{sym}
 use native.Mathlib.Omega.{arith}
 use Rattle.netlist.specs.NetOf.{netOf, alone}
-use Rattle.netlist.proofs.Lines.{at-sizes, at-memory, at-latch, at-gate, at-address, at-data, at-control}
+use Rattle.netlist.proofs.Places.{at-sizes, at-memory, at-latch, at-gate, at-address, at-data, at-control}
 use Rattle.netlist.proofs.line_at.Statement.{statement}
 use Rattle.netlist.proofs.line_at.Tie as tie
 

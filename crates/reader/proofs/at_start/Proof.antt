@@ -32,7 +32,7 @@ use denote.Triple.Spec.{Meets, tripleOf}
 use denote.Triple.Table.{entered}
 use denote.Triple.Walked.{says, Stays, stay-none-slice, walkOf, goes-none-slice, Walks, ends-at, walked, walk-meets}
 use denote.Exit.{yes}
-use Rattle.reader.specs.Lines.{atStart}
+use Rattle.reader.specs.NextLine.{atStart}
 use Rattle.reader.proofs.SheetReader as T
 use Rattle.reader.proofs.SheetReader.Laws as T′
 use Rattle.reader.proofs.at_start.Key.{name as #at-start}

@@ -2,7 +2,7 @@
 use borrow.Author.Tests.{lt-ltb, le-ltb}
 use native.Mathlib.Omega.{arith}
 use borrow.Author.Needs.{needs}
-use Rattle.reader.specs.Lines.{nextNumber}
+use Rattle.reader.specs.NextLine.{nextNumber}
 use Rattle.reader.proofs.next_number.Statement.{statement}
 use Rattle.reader.proofs.next_number.Tie as tie
 

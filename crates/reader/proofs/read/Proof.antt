@@ -81,7 +81,7 @@ use Rattle.lists.proofs.deliver.deliver_latches.Met as latches-thm
 use Rattle.lists.proofs.deliver.deliver_gates.Symbol as gates-def
 use Rattle.lists.proofs.deliver.deliver_gates.Symbol.{name as #deliver-gates}
 use Rattle.lists.proofs.deliver.deliver_gates.Met as gates-thm
-use Rattle.reader.specs.Lines.{atStart}
+use Rattle.reader.specs.NextLine.{atStart}
 use Rattle.reader.specs.ReadCall.{readVerdict, readRecord, latchesLeft, gatesLeft, SheetDelivered}
 use Rattle.reader.specs.declared.SheetReader.{SheetReader}
 use Rattle.reader.proofs.Facts.{spread}

@@ -6,10 +6,10 @@ use native.Mathlib.Omega.{arith}
 use Rattle.refusals.specs.Tests.{inOrder}
 use Rattle.refusals.specs.declared.Refusal.the-variants.{CodeOutside}
 use Rattle.netlist.specs.NetOf.{netOf, alone}
-use Rattle.netlist.specs.Lines.{lineAt}
+use Rattle.netlist.specs.Places.{lineAt}
 use Rattle.netlist.specs.Faults.{codeFault}
 use Rattle.netlist.proofs.NetOf.{lineAt-lists}
-use Rattle.netlist.proofs.Lines.{has-lineAt}
+use Rattle.netlist.proofs.Places.{has-lineAt}
 use Rattle.records.proofs.Record.{PassedTo, passed-next, refused-next, passed-all}
 use Rattle.records.proofs.first_code_fault.Statement.{statement}
 use Rattle.records.proofs.first_code_fault.Tie as tie

@@ -3,7 +3,7 @@ use mathlib.Core.Path.{subst}
 use borrow.Author.Needs.{needs}
 use native.Mathlib.Omega.{arith}
 use Rattle.netlist.specs.NetOf.{codeOf, netOf, alone}
-use Rattle.netlist.specs.Lines.{HasLine}
+use Rattle.netlist.specs.Places.{HasLine}
 use Rattle.netlist.specs.Faults.{loopFaultBy}
 use Rattle.records.proofs.loop_fault.Statement.{statement}
 use Rattle.records.proofs.loop_fault.Tie as tie

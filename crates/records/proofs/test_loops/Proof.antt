@@ -7,11 +7,11 @@ use native.Mathlib.Omega.{arith}
 use borrow.Author.Tests.{not-true}
 use Rattle.refusals.specs.declared.Refusal.the-variants.{MemoryLoop}
 use Rattle.netlist.specs.NetOf.{netOf, alone}
-use Rattle.netlist.specs.Lines.{lineAt}
+use Rattle.netlist.specs.Places.{lineAt}
 use Rattle.netlist.specs.Faults.{loopFaultBy, loopFault}
 use Rattle.records.specs.Dependence.{entry}
 use Rattle.netlist.proofs.NetOf.{sizes-lists, limits-alone, lineAt-lists, loopFaultBy-lists}
-use Rattle.netlist.proofs.Lines.{has-lineAt}
+use Rattle.netlist.proofs.Places.{has-lineAt}
 use Rattle.records.proofs.Lists.{any-loop-lists}
 use Rattle.records.proofs.Record.{PassedTo, passed-next, refused-next, passed-all}
 use Rattle.records.proofs.Dependence.{loopFault-table, loops-none, loops-before}

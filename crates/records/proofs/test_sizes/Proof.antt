@@ -6,10 +6,10 @@ use Rattle.refusals.specs.Tests.{inOrder}
 use Rattle.refusals.specs.declared.Refusal.the-variants.{Size}
 use Rattle.model.specs.Netlist as M
 use Rattle.netlist.specs.NetOf.{alone}
-use Rattle.netlist.specs.Lines.{sizesLine, memoryLine}
+use Rattle.netlist.specs.Places.{sizesLine, memoryLine}
 use Rattle.netlist.specs.Faults.{sizeFault}
 use Rattle.netlist.specs.declared.Line.the-variants.{Sizes, Memory}
-use Rattle.netlist.proofs.Lines.{at-sizes, at-memory}
+use Rattle.netlist.proofs.Places.{at-sizes, at-memory}
 use Rattle.records.proofs.Record.{PassedTo, passed-next, refused-next, testLines-passes}
 use Rattle.records.proofs.test_sizes.Statement.{statement}
 use Rattle.records.proofs.test_sizes.Tie as tie

@@ -1,6 +1,6 @@
 -- `replies::group_of` meets its contract: each arm knows its kind. Assumes nothing.
 use borrow.Author.Tests.{ne-eqb}
-use Rattle.replies.specs.Numbers.{groupOf}
+use Rattle.replies.specs.Replies.{groupOf}
 use Rattle.replies.proofs.group_of.Statement.{statement}
 use Rattle.replies.proofs.group_of.Tie as tie
 

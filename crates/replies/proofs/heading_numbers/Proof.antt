@@ -1,6 +1,6 @@
 -- `replies::heading_numbers` meets its contract: each arm knows its answer. Assumes nothing.
 use Rattle.unpacked.specs.Calls.{headingReply, withHeading}
-use Rattle.replies.specs.Numbers.{headingNumbers}
+use Rattle.replies.specs.Replies.{headingNumbers}
 use borrow.Author.Needs.{needs}
 use Rattle.replies.proofs.heading_numbers.Statement.{statement}
 use Rattle.replies.proofs.heading_numbers.Tie as tie

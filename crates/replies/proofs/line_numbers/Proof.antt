@@ -1,6 +1,6 @@
 -- `replies::line_numbers` meets its contract: each arm knows its line. Assumes nothing.
 use borrow.Author.Needs.{needs}
-use Rattle.replies.specs.Numbers.{lineNumbers}
+use Rattle.replies.specs.Replies.{lineNumbers}
 use Rattle.replies.proofs.line_numbers.Statement.{statement}
 use Rattle.replies.proofs.line_numbers.Tie as tie
 

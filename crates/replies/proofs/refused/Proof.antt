@@ -1,7 +1,7 @@
 -- `replies::refused` meets its contract: it is the definition. Assumes nothing.
 use borrow.Author.Needs.{needs}
 use Rattle.refusals.specs.Slices.{withCount}
-use Rattle.replies.specs.Numbers.{countNumbers}
+use Rattle.replies.specs.Replies.{countNumbers}
 use Rattle.replies.proofs.refused.Statement.{statement}
 use Rattle.replies.proofs.refused.Tie as tie
 

@@ -1,6 +1,6 @@
 -- `replies::sheet_numbers` meets its contract: it is the definition. Assumes nothing.
 use borrow.Author.Needs.{needs}
-use Rattle.replies.specs.Numbers.{sheetNumbers}
+use Rattle.replies.specs.Replies.{sheetNumbers}
 use Rattle.replies.proofs.sheet_numbers.Statement.{statement}
 use Rattle.replies.proofs.sheet_numbers.Tie as tie
 

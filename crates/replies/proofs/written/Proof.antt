@@ -1,7 +1,7 @@
 -- `replies::written` meets its contract: it is the definition. Assumes nothing.
 use mathlib.Core.Path.{refl}
 use Rattle.refusals.specs.Slices.{withCount}
-use Rattle.replies.specs.Numbers.{countNumbers}
+use Rattle.replies.specs.Replies.{countNumbers}
 use Rattle.replies.proofs.written.Statement.{statement}
 use Rattle.replies.proofs.written.Tie as tie
 

@@ -3,7 +3,7 @@ use mathlib.Core.Path.{sym}
 use native.Mathlib.Omega.{arith}
 use borrow.Author.Tests.{le-ltb}
 use Rattle.netlist.specs.NetOf.{alone}
-use Rattle.netlist.specs.Lines.{controlLine}
+use Rattle.netlist.specs.Places.{controlLine}
 use Rattle.steps.proofs.is_past_last.Statement.{statement}
 use Rattle.steps.proofs.is_past_last.Tie as tie
 

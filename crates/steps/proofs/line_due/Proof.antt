@@ -2,7 +2,7 @@
 use native.Mathlib.Omega.{arith}
 use mathlib.Core.Path.{sym}
 use Rattle.netlist.specs.NetOf.{alone}
-use Rattle.netlist.proofs.Lines.{at-sizes, at-memory}
+use Rattle.netlist.proofs.Places.{at-sizes, at-memory}
 use borrow.Author.Needs.{needs}
 use Rattle.steps.proofs.line_due.Statement.{statement}
 use Rattle.steps.proofs.line_due.Tie as tie

@@ -3,7 +3,7 @@ use mathlib.Core.Path.{_≡_, refl, sym, _∙_}
 use mathlib.Core.Bool.{not, _||_}
 use lib.Dec.{eqb}
 use Rattle.netlist.specs.NetOf.{netOf, alone}
-use Rattle.netlist.specs.Lines.{lineAt}
+use Rattle.netlist.specs.Places.{lineAt}
 use Rattle.netlist.proofs.NetOf.{lineAt-lists}
 use Rattle.steps.specs.Steps.{stepNet, Holds}
 use Rattle.steps.proofs.Places.{roomFor-due}

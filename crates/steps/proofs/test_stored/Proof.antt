@@ -4,7 +4,7 @@ use mathlib.Core.Path.{_≡_, sym, _∙_}
 use mathlib.Core.Bool.{false}
 use Rattle.netlist.specs.NetOf.{netOf, alone}
 use Rattle.netlist.specs.Faults.{sizeFault, codeFault}
-use Rattle.netlist.proofs.Lines.{at-sizes, at-memory, has-lineAt}
+use Rattle.netlist.proofs.Places.{at-sizes, at-memory, has-lineAt}
 use Rattle.steps.specs.LineFaults.{faultsAt}
 use Rattle.steps.proofs.Places.{no-size-from-3}
 use borrow.Author.Needs.{needs}

@@ -53,7 +53,7 @@ use Rattle.parse.proofs.line_after.Met as after-thm
 use Rattle.lines.specs.declared.ParsedLine.{ParsedLine}
 use Rattle.lines.proofs.ParsedLine as K
 use Rattle.lines.proofs.ParsedLine.Laws as K′
-use Rattle.reader.specs.Lines.{nextNumber, movedOn, nextLine}
+use Rattle.reader.specs.NextLine.{nextNumber, movedOn, nextLine}
 use Rattle.reader.specs.declared.SheetReader.{SheetReader}
 use Rattle.reader.proofs.SheetReader as T
 use Rattle.reader.proofs.SheetReader.Laws as T′

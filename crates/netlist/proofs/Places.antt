@@ -1,4 +1,4 @@
--- Laws of the lines of a sheet (specs/Lines.antt): which line stands at which place, and properties of every line. Cited by the
+-- Laws of the lines of a sheet (specs/Places.antt): which line stands at which place, and properties of every line. Cited by the
 -- tests of records and by the sheet reader. Assumes nothing.
 use Prim.Native.Nat.{ℕ, _-_, _≤_, _<_}
 use mathlib.Core.Path.{_≡_, refl, ap, subst}
@@ -7,9 +7,9 @@ use native.Mathlib.Decide.{decLt}
 use native.Mathlib.Omega.{arith}
 use borrow.Author.Tests.{lt-ltb, le-ltb}
 use Rattle.model.specs.Netlist.{Netlist}
-use Rattle.netlist.specs.Lines.{sizesLine, memoryLine, latchLine, gateLine, addressLine, dataLine, controlLine, lineAt, HasLine}
+use Rattle.netlist.specs.Places.{sizesLine, memoryLine, latchLine, gateLine, addressLine, dataLine, controlLine, lineAt, HasLine}
 use Rattle.netlist.specs.declared.Line.{Line}
-use Rattle.netlist.specs.declared.Line.the-variants.{Sizes, Memory, Latch, Gate, Address, Data, Control}
+use Rattle.netlist.specs.declared.Line.the-variants.{Sizes, Memory, Latch, Gate, Address, WriteData, Control}
 
 -- the line at the place of each kind
 module _ (c : Netlist) (p : ℕ) where
@@ -48,12 +48,12 @@ module _ (c : Netlist) (p : ℕ) where
       (ap Address t-th)
 
   -- a write-data code
-  pub at-data : (t : ℕ) → t < c .n → p ≡ dataLine c t → lineAt c p ≡ Data t
+  pub at-data : (t : ℕ) → t < c .n → p ≡ dataLine c t → lineAt c p ≡ WriteData t
   unfolding lineAt
   at-data t h e =
       let t-th : p - dataLine c 0 ≡ t = omega arith in
       rw (le-ltb p memoryLine (omega arith), le-ltb p (latchLine c 0) (omega arith), le-ltb p (gateLine c 0) (omega arith), le-ltb p (addressLine c 0) (omega arith), le-ltb p (dataLine c 0) (omega arith), lt-ltb p (controlLine c) (omega arith))
-      (ap Data t-th)
+      (ap WriteData t-th)
 
   -- line C, the last
   pub at-control : controlLine c ≤ p → lineAt c p ≡ Control
@@ -79,7 +79,7 @@ pub record EveryLine (c : Netlist) (P : Line → Type 0) : Type 0 where
   pub of-latch : (l : ℕ) → l < c .latches → P (Latch l)
   pub of-gate : (g : ℕ) → g < c .gates → P (Gate g)
   pub of-address : (t : ℕ) → t < c .m → P (Address t)
-  pub of-data : (t : ℕ) → t < c .n → P (Data t)
+  pub of-data : (t : ℕ) → t < c .n → P (WriteData t)
   pub of-control : P Control
 
 module _ (c : Netlist) (P : Line → Type 0) where
@@ -90,7 +90,7 @@ module _ (c : Netlist) (P : Line → Type 0) where
   every-hasLine q (Latch l) h = q .of-latch l h
   every-hasLine q (Gate g) h = q .of-gate g h
   every-hasLine q (Address t) h = q .of-address t h
-  every-hasLine q (Data t) h = q .of-data t h
+  every-hasLine q (WriteData t) h = q .of-data t h
   every-hasLine q Control h = q .of-control
 
   -- it is the property of the lines at all places

@@ -6,7 +6,7 @@ use mathlib.Core.Bool.{cond}
 use lib.Dec.{ltb}
 use Rattle.model.specs.Netlist.{Netlist}
 use Rattle.netlist.specs.declared.Line.{Line}
-use Rattle.netlist.specs.declared.Line.the-variants.{Sizes, Memory, Latch, Gate, Address, Data, Control}
+use Rattle.netlist.specs.declared.Line.the-variants.{Sizes, Memory, Latch, Gate, Address, WriteData, Control}
 
 -- the places: one line N, one line M, then latches, gates, address codes, write-data codes, and last one line C
 abbrev pub sizesLine : ℕ
@@ -38,7 +38,7 @@ lineAt c p =
     (cond (ltb p (gateLine c 0)) (Latch (p - latchLine c 0))
     (cond (ltb p (addressLine c 0)) (Gate (p - gateLine c 0))
     (cond (ltb p (dataLine c 0)) (Address (p - addressLine c 0))
-    (cond (ltb p (controlLine c)) (Data (p - dataLine c 0)) Control)))))
+    (cond (ltb p (controlLine c)) (WriteData (p - dataLine c 0)) Control)))))
 
 -- a line that the netlist has: its number is below the size
 abbrev pub HasLine : Netlist → Line → Type 0
@@ -47,5 +47,5 @@ HasLine c Memory = Unit {0}
 HasLine c (Latch l) = l < c .latches
 HasLine c (Gate g) = g < c .gates
 HasLine c (Address t) = t < c .m
-HasLine c (Data t) = t < c .n
+HasLine c (WriteData t) = t < c .n
 HasLine c Control = Unit {0}
