@@ -93,14 +93,14 @@ put-gate-requires c κs =
     let codes = c .before .before .before .before .before .before .before .pre .0 .limits .codes in (
       rw (c .before .before .before .before .before .before .frame-base .ensures) (wire-has-number _ sizes _ _ (omega arith) (omega arith)),
       omega arith,
-      rw (c .before .before .before .before .before .before .frame-base .ensures) (code-has-number _ sizes _ _ (omega arith) (omega (arith, codes .left-fits (c .before .before .before .before .loop .g) (c .before .before .before .loop-test .taken)))),
-      rw (c .before .before .before .before .before .before .frame-base .ensures) (code-has-number _ sizes _ _ (omega arith) (omega (arith, codes .right-fits (c .before .before .before .before .loop .g) (c .before .before .before .loop-test .taken)))),
-      turns-room (c .before .before .before .before .loop .inv) (c .before .before .before .loop-test .taken),
+      rw (c .before .before .before .before .before .before .frame-base .ensures) (code-has-number _ sizes _ _ (omega arith) (omega (arith, codes .left-fits (c .before .before .before .before .loop .g) (omega arith)))),
+      rw (c .before .before .before .before .before .before .frame-base .ensures) (code-has-number _ sizes _ _ (omega arith) (omega (arith, codes .right-fits (c .before .before .before .before .loop .g) (omega arith)))),
+      turns-room (c .before .before .before .before .loop .inv) (omega arith),
     )
 
 add-at : tie.Need-add-at Inv-loop μ-loop
 add-at c =
-    let count = turns-count (c .before .before .before .before .before .before .loop .inv) (c .before .before .before .before .before .loop-test .taken) (c .before .put-gate .ensures .counted) in
+    let count = turns-count (c .before .before .before .before .before .before .loop .inv) (omega arith) (c .before .put-gate .ensures .counted) in
     search needs
 
 add-g : tie.Need-add-g Inv-loop μ-loop
@@ -111,7 +111,7 @@ loop-less c = search needs
 
 loop-again : tie.Need-loop-again Inv-loop μ-loop
 loop-again c =
-    turns-next (c .before .before .before .before .before .before .loop .inv) (c .before .before .before .before .before .loop-test .taken) (c .before .put-gate .ensures)
+    turns-next (c .before .before .before .before .before .before .loop .inv) (omega arith) (c .before .put-gate .ensures)
 
 same-length : tie.Need-same-length Inv-loop μ-loop
 same-length c = search needs
