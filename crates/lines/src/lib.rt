@@ -190,6 +190,7 @@ fn test_depth(field: Field) -> Verdict
     }
 }
 
+// A verdict with the depth in a field beside it, 0 where it is refused.
 fn with_depth(verdict: Verdict, field: Field) -> DepthLine
     ensures { λ r. ⌜ r ≡ withDepth verdict field ⌝ }
 {

@@ -1,9 +1,8 @@
 -- What each walk of a function's MIR repeats, said once. Nothing here speaks of a function or of a type of this repository.
 --     tokens           the lifetimes' tokens of a signature, as an entry of a context
 --     both             two facts, of nothing: an `ensures` of several clauses
---      calls-told       a call of a function that meets its clauses: from the tokens and what the arguments own, to the tokens,
--- the result,
---                      what is said of the last values, and what the `ensures` says
+--     calls-told       a call of a function that meets its clauses: from the tokens and what the arguments own, to the tokens, the
+--                      result, what is said of the last values, and what the `ensures` says
 --     frees-all        all locals are freed at once: in front stand each one's cell (`cell`), or room for it (`bare`), and that it
 --                      dies
 --     array-length     the length of the array that a `&mut` refers to

@@ -11,6 +11,7 @@ ghost use Rattle.netlist.specs.NetOf.{netOf};
 use model::Group;
 use netlist::Netlist;
 
+// Document 01, "Numbers with end marks": of the wires of a frame, of a pair, and of the closing of a frame.
 fn wires_length(latches: u32, gates: u32, frame: u32) -> u32
     requires { ⌜ (latches ≤ 600) × (gates ≤ 600) ⌝ }
     ensures first { λ r. ⌜ (frame ≡ 0 → r ≡ 2 + 2 * latches + 10 * gates) ⌝ }
@@ -63,6 +64,7 @@ fn product(a: u32, b: u32) -> u32
     a * b
 }
 
+// The clauses of a depth by the sizes: wires, pairs, closings, property.
 fn count(latches: u32, gates: u32, m: u32, n: u32, depth: u32) -> u32
     requires { ⌜ (latches ≤ 600) × (gates ≤ 600) × (m ≤ 12) × (n ≤ 32) × (depth ≤ 255) ⌝ }
     ensures { λ r. ⌜ r ≡ (1 + latches + 3 * gates) + depth * (2 * latches + 3 * gates) + depth * (depth + 1) / 2 * (4 * m + 2 * n + 10) + (depth + 1) * (2 * n + 1) + 1 ⌝ }
