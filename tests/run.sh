@@ -45,8 +45,10 @@ if out=$(rt fmt --check 2>&1); then pass; else echo "$out"; fail "rt fmt --check
 
 echo "== proofs and must-fail edits: rt ci"
 log=$(mktemp)
+began=$SECONDS
 rt ci 2>&1 | tee "$log"
 status=${PIPESTATUS[0]}
+echo "($((SECONDS - began)) s)"
 count "rt ci" "$status" "$log"
 mkdir -p "$logs" # rt ci removes target/ first
 mv "$log" "$logs/rt-ci.out"
