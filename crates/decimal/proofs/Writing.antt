@@ -1,10 +1,10 @@
 -- Digits as a loop writes them, from the last to the first. No contract cites this file. Assumes nothing.
-use Prim.Native.Nat.{ℕ, zero, suc, _+_, _-_, _/_, _%_, _≤_, _<_}
+use Prim.Native.Nat.{ℕ, zero, suc, _+_, _/_, _%_, _≤_, _<_}
 use mathlib.Core.Path.{_≡_, refl, sym, ap, _∙_}
-use mathlib.Core.List.{List, [], _∷_, _++_, append-assoc, append-nil}
+use mathlib.Core.List.{List, [], _∷_, _++_}
 use native.Mathlib.Omega.{arith}
-use lib.ListN.{length, length-append, drop, drop-of-length-le, set}
-use lib.Seq.{take-all, take-append-seam, drop-append-seam, drop-drop, lt-length-set, append-snoc, drop-cons, drop-set-lt, getD-set-same}
+use lib.ListN.{length, length-append, drop, set}
+use lib.Seq.{lt-length-set, append-snoc, drop-cons, drop-set-lt, getD-set-same}
 use Rattle.decimal.specs.Digits.{digit, digits}
 use Rattle.decimal.proofs.Digits.{digits-single, digits-snoc, by-tenths}
 

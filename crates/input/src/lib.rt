@@ -1,7 +1,6 @@
 // The program's input: a depth line and a sheet (document 01, "The program and one full run").
 use netlist::Netlist;
 ghost use mathlib.Core.Path.{_≡_};
-ghost use lib.ListN.{drop};
 ghost use Rattle.sheet.specs.Scratch.{noCodes};
 ghost use Rattle.refusals.specs.Refusal.{replyOf};
 ghost use Rattle.input.specs.Input.{sheetIn, inputVerdict, replyIn, SheetTaken, InputTaken};

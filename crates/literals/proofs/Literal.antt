@@ -13,7 +13,7 @@ use mir.Syntax.{w32}
 use mir.Val.{SFits, toZ, ofZ}
 use mir.ValLaws.{toZ-ofZ, toZ-pos}
 use Rattle.model.specs.Bits.{odd}
-use Rattle.model.specs.Clauses.{Literal, known, plus, minus, neg}
+use Rattle.model.specs.Clauses.{known, plus, neg}
 use Rattle.model.specs.Variables.{codeAt}
 use Rattle.model.specs.Numbers.{numberOf}
 use Rattle.literals.specs.Lit.{literalAt, literalOf, IsLit, HasNumber}

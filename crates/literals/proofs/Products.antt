@@ -1,5 +1,5 @@
 -- Bounds of B(i) within document 01's limits. No contract cites this file. Assumes nothing.
-use Prim.Native.Nat.{ℕ, _+_, _-_, _*_, _/_, _≤_}
+use Prim.Native.Nat.{ℕ, _-_, _*_, _≤_}
 use native.Mathlib.Nat.{mul-le-mul}
 use native.Mathlib.Omega.{arith}
 use Rattle.model.specs.Variables.{baseOf}

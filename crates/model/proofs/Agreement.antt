@@ -1,15 +1,15 @@
 -- Values that agree on every wire agree on every code, on addresses, on words written and on who writes which word.
 -- No contract cites this file. Assumes nothing.
-use Prim.Native.Nat.{ℕ, zero, suc, _+_, _*_, _/_, _<_, _≤_}
+use Prim.Native.Nat.{ℕ, zero, suc, _/_, _<_, _≤_}
 use mathlib.Core.Path.{_≡_, refl, sym, _∙_, ap, ap₂}
-use mathlib.Core.Bool.{Bool, true, false, cond, _&&_, and-comm}
+use mathlib.Core.Bool.{Bool, _&&_, and-comm}
 use native.Mathlib.Nat.{le-step, lt-suc-self}
 use native.Mathlib.Omega.{arith}
 use lib.Dec.{eqb}
 use Rattle.model.specs.Bits.{bit}
 use Rattle.model.specs.Netlist.{Netlist, Port, port, lastWire}
 use Rattle.model.specs.Circuit.{Values, codeValue, addressOf, wordWritten, State, Feeds, step, stateAt, run}
-use Rattle.model.specs.Acceptance.{Accepted, CodesFit, IsCode}
+use Rattle.model.specs.Acceptance.{CodesFit, IsCode}
 use Rattle.model.proofs.Bits.{fromBits-same, bit-fromBits}
 use Rattle.model.proofs.Circuit.{code-same, address-same}
 use Rattle.model.proofs.Forwarding.{stepped}

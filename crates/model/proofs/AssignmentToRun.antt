@@ -1,32 +1,31 @@
 -- From an assignment that makes all clauses true to the run that it feeds: frame by frame, the values assigned are the frame's.
 -- No contract cites this file. Assumes nothing.
-use Prim.Native.Nat.{ℕ, zero, suc, _+_, _*_, _/_, _<_, _≤_}
-use mathlib.Core.Path.{_≡_, refl, sym, _∙_, ap, ap₂, subst}
-use mathlib.Core.Bool.{Bool, true, false, cond, not, _&&_, and-comm}
-use mathlib.Core.Logic.{_⊎_, inl, inr, ⊎-elim}
+use Prim.Native.Nat.{ℕ, zero, suc, _+_, _<_, _≤_}
+use mathlib.Core.Path.{_≡_, refl, sym, _∙_, ap, ap₂}
+use mathlib.Core.Bool.{Bool, true, false, not, _&&_, and-comm}
 use native.Mathlib.Numerals.{add-one}
 use native.Mathlib.Nat.{le-refl, le-of-suc-le, lt-suc-self, not-suc-le-zero}
 use native.Mathlib.Omega.{arith}
 use lib.Dec.{eqb}
 use borrow.Author.Tests.{eqb-true, eq-eqb}
-use Rattle.model.specs.Bits.{bit, fromBits}
-use Rattle.model.specs.Netlist.{Netlist, Port, port, lastWire, readBits, inputWire, latchWire, readWire, gateWire}
-use Rattle.model.specs.Circuit.{Values, codeValue, State, addressOf, readData, frame, wordWritten, step, stateAt, run, initial}
+use Rattle.model.specs.Bits.{bit}
+use Rattle.model.specs.Netlist.{Netlist, port, inputWire, latchWire, readWire}
+use Rattle.model.specs.Circuit.{Values, codeValue, State, addressOf, readData, wordWritten, step, stateAt, run, initial}
 use Rattle.model.specs.Acceptance.{Accepted}
-use Rattle.model.specs.Clauses.{Literal, known, PairLiterals}
-use Rattle.model.specs.Variables.{base, codeIn, noneSince, readBit, pairLiterals, closingLiterals}
+use Rattle.model.specs.Clauses.{PairLiterals}
+use Rattle.model.specs.Variables.{noneSince, readBit, pairLiterals, closingLiterals}
 use Rattle.model.specs.Numbers.{Assignment}
 use Rattle.model.specs.Claim.{feedOf, Agrees, Breaks}
 use Rattle.model.proofs.Below.{all-below-suc}
-use Rattle.model.proofs.Booleans.{and-true, iff-eq}
-use Rattle.model.proofs.Bits.{fromBits-same, bit-fromBits}
-use Rattle.model.proofs.Circuit.{code-same, IsFrame, frame-unique}
+use Rattle.model.proofs.Booleans.{iff-eq}
+use Rattle.model.proofs.Bits.{fromBits-same}
+use Rattle.model.proofs.Circuit.{IsFrame, frame-unique}
 use Rattle.model.proofs.Truth.{value, AllHold, PairHolds, ClosingHolds}
 use Rattle.model.proofs.InFrame.{assigned, assigned-zero, assigned-wire, readBit-value, codeIn-value}
-use Rattle.model.proofs.Forwarding.{stepped, Chain, selected-read}
+use Rattle.model.proofs.Forwarding.{Chain, selected-read}
 use Rattle.model.proofs.Variables.{noneSince-last}
 use Rattle.model.proofs.Joined.{EachGroup}
-use Rattle.model.proofs.Agreement.{Same, address-bits, code-agrees, address-agrees, word-bit, writes, hits, wordBefore, memory-stepped, wordBefore-agrees}
+use Rattle.model.proofs.Agreement.{Same, address-bits, code-agrees, word-bit, writes, hits, wordBefore, memory-stepped, wordBefore-agrees}
 use Rattle.model.proofs.Groups.{wires-hold, state-first-holds, state-later-holds, gateClauses-holds, resetClauses-holds, latchClauses-holds, pair-holds, closing-holds, property-holds}
 
 module _ (c : Netlist) (a : Assignment) where

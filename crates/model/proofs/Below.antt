@@ -1,5 +1,5 @@
 -- Facts about every number below a bound, one more at a time. No contract cites this file. Assumes nothing.
-use Prim.Native.Nat.{ℕ, zero, suc, _<_}
+use Prim.Native.Nat.{ℕ, suc, _<_}
 use mathlib.Core.Path.{_≡_, subst, sym}
 use mathlib.Core.Logic.{_⊎_, inl, inr, ⊎-elim, _↔_}
 use native.Mathlib.Nat.{le-suc-iff, le-step, lt-suc-self, suc-inj}

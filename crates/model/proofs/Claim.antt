@@ -1,28 +1,25 @@
 -- Demand 3, proved: every accepted netlist is encoded, at every depth; and what a designer relies on. Assumes nothing.
-use Prim.Native.Nat.{ℕ, zero, suc, zero-le, _+_, _≤_}
-use mathlib.Core.Path.{_≡_, refl, sym, _∙_, ap}
-use mathlib.Core.Bool.{Bool, true, false, _&&_, _||_, or-false}
-use mathlib.Core.List.{List, [], _∷_, _++_, map}
-use mathlib.Core.Logic.{_↔_, Iff·trans, inl, inr, ⊎-elim}
+use Prim.Native.Nat.{ℕ, zero-le, _+_, _≤_}
+use mathlib.Core.Path.{_≡_, sym, _∙_, ap}
+use mathlib.Core.Bool.{true, false, _||_, or-false}
+use mathlib.Core.List.{List, map}
+use mathlib.Core.Logic.{_↔_, Iff·trans}
 use lib.ListN.{length, length-map}
 use Rattle.model.specs.Netlist.{Netlist}
 use Rattle.model.specs.Circuit.{Feeds, run, initial}
 use Rattle.model.specs.Acceptance.{Accepted}
-use Rattle.model.specs.Gather.{gather}
-use Rattle.model.specs.Clauses.{Clause, plus}
+use Rattle.model.specs.Clauses.{Clause}
 use Rattle.model.specs.Variables.{base}
 use Rattle.model.specs.Groups.{clausesOf, groupOrder, stateClauses}
-use Rattle.model.specs.Numbers.{Assignment, numberOf, written, formula, clausesIn, numberTrue, allTrue}
-use Rattle.model.specs.Claim.{Satisfies, feedOf, Agrees, Breaks, Encodes, EncodingTheorem}
+use Rattle.model.specs.Numbers.{Assignment, numberOf, formula, clausesIn, numberTrue, allTrue}
+use Rattle.model.specs.Claim.{Satisfies, Breaks, Encodes, EncodingTheorem}
 use Rattle.model.specs.declared.Group.the-variants.{Wires}
 use Rattle.model.proofs.Booleans.{eq-iff, and-true}
-use Rattle.model.proofs.Gather.{Splits}
 use Rattle.model.proofs.Variables.{base-least}
 use Rattle.model.proofs.Joined.{joinedClauses, formula-written, EachGroup, each-group}
 use Rattle.model.proofs.Bounds.{formula-within}
 use Rattle.model.proofs.Truth.{value, someOf, everyOf, everyOf-splits, everyOf-same, AllHold, allHold-splits}
 use Rattle.model.proofs.Numbers.{clausesIn-written, numberValue, allTrue-numbers, number-value, number-same}
-use Rattle.model.proofs.Groups.{wires-hold, state-first-holds}
 use Rattle.model.proofs.AssignmentToRun.{assignment-agrees, assignment-breaks}
 use Rattle.model.proofs.Witness.{witness, witness-one}
 use Rattle.model.proofs.RunToAssignment.{run-groups, run-agrees}

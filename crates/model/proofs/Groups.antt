@@ -1,22 +1,20 @@
 -- What the groups of specs/Groups.antt mean, in the values that an assignment gives the wires of each frame.
 -- No contract cites this file. Assumes nothing.
-use Prim.Native.Nat.{ℕ, zero, suc, _+_, _<_, _≤_}
+use Prim.Native.Nat.{ℕ, suc, _+_, _<_}
 use mathlib.Core.Path.{_≡_, refl, sym, _∙_, ap}
-use mathlib.Core.Bool.{Bool, true, false, cond, not, _&&_, true≢false, false≢true}
-use mathlib.Core.Logic.{_↔_, Iff·rfl, Iff·trans, Iff·and}
-use mathlib.Core.List.{List, [], _∷_, _++_}
+use mathlib.Core.Bool.{Bool, true, false, cond, not, _&&_}
+use mathlib.Core.Logic.{_↔_, Iff·trans}
 use native.Mathlib.Omega.{arith}
 use lib.Dec.{eqb}
 use borrow.Author.Tests.{not-true}
 use Rattle.model.specs.Netlist.{Netlist, port, latchWire, gateWire}
 use Rattle.model.specs.Circuit.{codeValue}
 use Rattle.model.specs.Gather.{gather}
-use Rattle.model.specs.Clauses.{Literal, plus, neg}
+use Rattle.model.specs.Clauses.{plus, neg}
 use Rattle.model.specs.Variables.{wireIn, codeIn, pairLiterals, closingLiterals}
 use Rattle.model.specs.Groups.{gateClauses, resetClauses, latchClauses, stateClauses, violationOf, clausesOf}
 use Rattle.model.specs.Numbers.{Assignment}
 use Rattle.model.specs.declared.Group.the-variants.{Wires, Pair, Closing, Property}
-use Rattle.model.proofs.Booleans.{eq-iff}
 use Rattle.model.proofs.Truth.{value, value-neg, anyTrue, anyTrue-one, anyTrue-gather, AllHold, allHold-append, allHold-one, allHold-none, allHold-cons, allHold-gather, andClauses-holds, sameClauses-holds, PairHolds, pairClauses-holds, ClosingHolds, closingClauses-holds}
 use Rattle.model.proofs.InFrame.{assigned, wireIn-value, codeIn-value}
 

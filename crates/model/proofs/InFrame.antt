@@ -1,8 +1,8 @@
 -- The values that an assignment gives the wires of a frame, and what the literals of specs/Variables.antt mean by them.
 -- No contract cites this file. Assumes nothing.
-use Prim.Native.Nat.{ℕ, zero, suc, _+_, _/_, _<_, _≤_}
+use Prim.Native.Nat.{ℕ, _+_, _/_, _<_, _≤_}
 use mathlib.Core.Path.{_≡_, refl, sym, _∙_, ap}
-use mathlib.Core.Bool.{Bool, true, false, cond, not}
+use mathlib.Core.Bool.{Bool, true, false, cond}
 use native.Mathlib.Nat.{zero-add}
 use native.Mathlib.Omega.{arith}
 use lib.Dec.{eqb, ltb}
@@ -10,7 +10,6 @@ use borrow.Author.Tests.{ltb-true, ltb-false, ne-eqb}
 use Rattle.model.specs.Bits.{odd}
 use Rattle.model.specs.Netlist.{Netlist, port, readWire}
 use Rattle.model.specs.Circuit.{Values, codeValue}
-use Rattle.model.specs.Clauses.{Literal, known, plus, minus}
 use Rattle.model.specs.Variables.{base, wireAt, codeAt, wireIn, codeIn, readBit}
 use Rattle.model.specs.Numbers.{Assignment}
 use Rattle.model.proofs.Truth.{value}

@@ -1,17 +1,16 @@
 -- The clauses of all groups of a depth, joined in the order of the whole: their numbers are the formula, and what splits over
 -- joined clauses splits into the groups. No contract cites this file. Assumes nothing.
-use Prim.Native.Nat.{ℕ, zero, suc, _+_, _<_, _≤_}
+use Prim.Native.Nat.{ℕ, _+_, _<_, _≤_}
 use mathlib.Core.Path.{_≡_, refl, ap₂}
 use mathlib.Core.Bool.{true}
 use mathlib.Core.List.{List, [], _∷_, _++_, map, append-assoc, append-nil}
 use mathlib.Core.Logic.{_↔_, Iff·rfl, Iff·trans, Iff·and}
-use native.Mathlib.Numerals.{add-one}
 use native.Mathlib.Omega.{arith}
 use lib.Dec.{leb, ltb}
 use lib.IntN.{ℤ, pos}
 use borrow.Author.Tests.{le-leb, lt-ltb}
 use Rattle.model.specs.Netlist.{Netlist}
-use Rattle.model.specs.Gather.{gather, gatherDown}
+use Rattle.model.specs.Gather.{gather}
 use Rattle.model.specs.Clauses.{Clause}
 use Rattle.model.specs.Groups.{clausesOf, pairOf, frameGroups, groupOrder, inDepth}
 use Rattle.model.specs.Numbers.{numberOf, written, numbersOf, joined, formula}

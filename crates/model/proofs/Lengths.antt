@@ -2,17 +2,16 @@
 -- clauses a depth has. No contract cites this file. Assumes nothing.
 use Prim.Native.Nat.{ℕ, zero, suc, _+_, _*_, _/_}
 use mathlib.Core.Path.{_≡_, refl, _∙_}
-use mathlib.Core.List.{List, [], _∷_, _++_, append-assoc, append-nil, map}
+use mathlib.Core.List.{List, [], _∷_, _++_, append-nil}
 use native.Mathlib.Nat.{add-mul, suc-mul, mul-suc}
 use native.Mathlib.Numerals.{add-one}
 use native.Mathlib.Omega.{arith}
 use lib.ListN.{length, length-append, length-map}
-use lib.IntN.{pos}
 use Rattle.model.specs.Netlist.{Netlist}
 use Rattle.model.specs.Gather.{gather, gatherDown}
 use Rattle.model.specs.Clauses.{Literal, Clause, andClauses, sameClauses, sameIfClauses, bitClauses, PairLiterals, addressBitClauses, unequalOf, allBits, forwardedClauses, pairClauses, ClosingLiterals, initialReadClauses, selectedOf, someSource, closingClauses}
 use Rattle.model.specs.Groups.{gateClauses, resetClauses, latchClauses, stateClauses, violationOf, clausesOf, pairOf, frameGroups, groupOrder}
-use Rattle.model.specs.Numbers.{numberOf, written, numbersOf, joined, formula}
+use Rattle.model.specs.Numbers.{written, numbersOf}
 use Rattle.model.specs.declared.Group.{Group}
 use Rattle.model.specs.declared.Group.the-variants.{Wires, Pair, Closing, Property}
 use Rattle.model.proofs.Joined.{written-append, joinedClauses, joinedClauses-append}

@@ -1,12 +1,12 @@
 -- Depth k uses exactly the variables 1 to B(k + 1) (document 01, "Numbers of variables"): each of them is numbered. No contract
 -- cites this file. Assumes nothing.
 use Prim.Native.Nat.{ℕ, zero, suc, _+_, _-_, _*_, _/_, _%_, _≤_, _<_}
-use mathlib.Core.Path.{_≡_, refl}
+use mathlib.Core.Path.{_≡_}
 use native.Mathlib.Nat.{div-lt-iff-lt-mul, div-add-mod', mod-lt}
 use native.Mathlib.Decide.{decLe}
 use native.Mathlib.Omega.{arith}
 use Rattle.model.specs.Netlist.{Netlist, port, lastWire}
-use Rattle.model.specs.Variables.{stride, base, pairBase, Numbered, constant, wire, pair}
+use Rattle.model.specs.Variables.{stride, base, Numbered, constant, wire, pair}
 use Rattle.model.proofs.Variables.{base-zero, base-suc, pairBase-base}
 
 -- what a depth numbers, a greater one numbers alike

@@ -1,12 +1,12 @@
 -- Clauses written as numbers and split at 0 again are the same clauses, and an assignment makes them true alike.
 -- No contract cites this file. Assumes nothing.
-use Prim.Native.Nat.{ℕ, zero, suc, _+_, _<_, _≤_}
+use Prim.Native.Nat.{ℕ, zero, suc, _+_, _≤_}
 use mathlib.Core.Path.{_≡_, refl, sym, _∙_, ap, ap₂}
 use mathlib.Core.Bool.{Bool, true, false, not, _&&_, _||_}
 use mathlib.Core.List.{List, [], _∷_, _++_, map, append-assoc, append-nil}
 use native.Mathlib.Omega.{arith}
 use native.Mathlib.Nat.{not-suc-le-zero}
-use lib.IntN.{ℤ, pos, negsuc, negℤ}
+use lib.IntN.{ℤ, pos}
 use Rattle.model.specs.Clauses.{Literal, known, plus, minus, Clause}
 use Rattle.model.specs.Numbers.{numberOf, written, splitAfter, clausesIn, Assignment, numberTrue, clauseTrue, allTrue}
 use Rattle.model.proofs.Gather.{All, nothing, also}

@@ -1,32 +1,31 @@
 -- From a run that breaks the property to the assignment that makes all clauses true: the witness of its frames.
 -- No contract cites this file. Assumes nothing.
-use Prim.Native.Nat.{ℕ, zero, suc, zero-le, _+_, _-_, _*_, _/_, _<_, _≤_}
-use mathlib.Core.Path.{_≡_, refl, sym, _∙_, ap, ap₂, subst}
-use mathlib.Core.Bool.{Bool, true, false, cond, not, _&&_, and-comm}
-use mathlib.Core.Logic.{_⊎_, inl, inr, ⊎-elim, ⊎-map}
+use Prim.Native.Nat.{ℕ, zero, suc, zero-le, _-_, _*_, _<_, _≤_}
+use mathlib.Core.Path.{_≡_, sym, _∙_, ap, ap₂}
+use mathlib.Core.Bool.{Bool, true, cond, not, _&&_, and-comm}
+use mathlib.Core.Logic.{_⊎_, ⊎-elim, ⊎-map}
 use native.Mathlib.Numerals.{add-one}
 use native.Mathlib.Nat.{le-refl, le-of-lt, le-of-suc-le, le-trans, eq-or-lt-of-le}
 use native.Mathlib.Omega.{arith}
 use lib.Dec.{eqb}
-use borrow.Author.Tests.{eqb-true, eq-eqb, ne-eqb}
-use Rattle.model.specs.Bits.{bit, fromBits}
-use Rattle.model.specs.Netlist.{Netlist, Port, port, lastWire, readBits, inputWire, latchWire, readWire, gateWire}
-use Rattle.model.specs.Circuit.{Values, codeValue, State, Feeds, addressOf, readData, frame, wordWritten, step, stateAt, run, initial}
+use borrow.Author.Tests.{eqb-true, eq-eqb}
+use Rattle.model.specs.Bits.{bit}
+use Rattle.model.specs.Netlist.{Netlist, port, latchWire, readWire, gateWire}
+use Rattle.model.specs.Circuit.{Values, codeValue, Feeds, addressOf, readData, wordWritten, step, stateAt, run, initial}
 use Rattle.model.specs.Acceptance.{Accepted, IsCode}
-use Rattle.model.specs.Clauses.{Literal, known, PairLiterals}
-use Rattle.model.specs.Variables.{base, codeIn, noneSince, selected, readBit, pairLiterals, closingLiterals}
+use Rattle.model.specs.Variables.{codeIn, noneSince, selected, readBit, pairLiterals, closingLiterals}
 use Rattle.model.specs.Groups.{clausesOf}
-use Rattle.model.specs.declared.Group.the-variants.{Wires, Pair, Closing, Property}
+use Rattle.model.specs.declared.Group.the-variants.{Wires}
 use Rattle.model.specs.Numbers.{Assignment}
 use Rattle.model.specs.Claim.{Agrees, Breaks}
-use Rattle.model.proofs.Booleans.{and-true, iff-eq, beq-true}
+use Rattle.model.proofs.Booleans.{and-true, beq-true}
 use Rattle.model.proofs.Circuit.{IsFrame, frame-is, address-same}
 use Rattle.model.proofs.Truth.{value, AllHold, PairHolds, ClosingHolds}
 use Rattle.model.proofs.InFrame.{assigned, assigned-zero, assigned-wire, readBit-value, codeIn-value}
 use Rattle.model.proofs.Forwarding.{stepped, Chain, noneFrom-last, noneFrom-chain, none-unchanged, source-exists}
 use Rattle.model.proofs.Variables.{noneSince-last, noneSince-earlier}
 use Rattle.model.proofs.Joined.{EachGroup}
-use Rattle.model.proofs.Agreement.{Same, code-agrees, word-bit, writes, hits, wordBefore, memory-stepped, address-bits}
+use Rattle.model.proofs.Agreement.{Same, code-agrees, word-bit, writes, hits, memory-stepped, address-bits}
 use Rattle.model.proofs.Witness.{nones, witness, witness-one, witness-wire, witness-E, witness-e, witness-s, witness-PS, witness-S}
 use Rattle.model.proofs.Groups.{wires-hold, state-first-holds, state-later-holds, gateClauses-holds, resetClauses-holds, latchClauses-holds, pair-holds, closing-holds, property-holds}
 

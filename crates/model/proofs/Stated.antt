@@ -1,21 +1,19 @@
 -- What else is said of the clauses of a depth (`Stated` of specs/Claim.antt), proved for every accepted netlist. No contract cites
 -- this file. Assumes nothing.
-use Prim.Native.Nat.{ℕ, zero, suc, zero-le, _+_, _≤_, _<_}
-use mathlib.Core.Path.{_≡_, refl, sym, _∙_, ap, subst}
-use mathlib.Core.Bool.{true, _&&_}
-use mathlib.Core.List.{List, map}
+use Prim.Native.Nat.{ℕ, zero, suc, zero-le, _+_, _≤_}
+use mathlib.Core.Path.{_≡_, _∙_, ap, subst}
+use mathlib.Core.Bool.{true}
+use mathlib.Core.List.{map}
 use native.Mathlib.Numerals.{add-one}
 use borrow.Author.Tests.{leb-true, ltb-true}
 use lib.Dec.{leb, ltb}
-use lib.IntN.{natAbs, pos}
-use lib.ListN.{length, length-map, getD}
+use lib.ListN.{length, length-map}
 use Rattle.model.specs.Netlist.{Netlist, port}
 use Rattle.model.specs.Circuit.{run, initial}
 use Rattle.model.specs.Acceptance.{Accepted}
-use Rattle.model.specs.Clauses.{Clause}
-use Rattle.model.specs.Variables.{base, Numbered}
+use Rattle.model.specs.Variables.{base}
 use Rattle.model.specs.Groups.{clausesOf, inDepth}
-use Rattle.model.specs.Numbers.{numberOf, written, numbersOf, formula, clausesIn}
+use Rattle.model.specs.Numbers.{numberOf, numbersOf, clausesIn}
 use Rattle.model.specs.Counts.{clauseCount, numberCount}
 use Rattle.model.specs.Claim.{Stated, StatedTheorem}
 use Rattle.model.specs.declared.Group.{Group}

@@ -1,12 +1,11 @@
 -- What clauses over literals mean: each family of specs/Clauses.antt is true exactly where its equation holds. Nothing here knows a
 -- variable's number. No contract cites this file. Assumes nothing.
-use Prim.Native.Nat.{ℕ, zero, suc, _<_, _≤_}
+use Prim.Native.Nat.{ℕ, zero, suc, _<_}
 use mathlib.Core.Path.{_≡_, refl, sym, _∙_, ap, ap₂, subst}
-use mathlib.Core.Bool.{Bool, true, false, cond, not, _&&_, _||_, Bool·beq, true≢false, false≢true, or-false, or-assoc, and-assoc}
+use mathlib.Core.Bool.{Bool, true, false, not, _&&_, _||_, Bool·beq, true≢false, false≢true, or-false, or-assoc, and-assoc}
 use mathlib.Core.List.{List, [], _∷_, _++_}
 use mathlib.Core.Logic.{_⊎_, inl, inr, _↔_, Iff·trans, Iff·and, ⊎-elim, ⊎-map}
 use native.Mathlib.Nat.{not-suc-le-zero, lt-suc-self, le-step}
-use native.Mathlib.Omega.{arith}
 use Rattle.model.specs.Gather.{gather}
 use Rattle.model.specs.Clauses.{Literal, known, plus, minus, Clause, neg, andClauses, sameClauses, sameIfClauses, bitClauses, PairLiterals, addressBitClauses, unequalOf, allBits, forwardedClauses, pairClauses, ClosingLiterals, initialReadClauses, selectedOf, someSource, closingClauses}
 use Rattle.model.specs.Numbers.{Assignment}

@@ -1,14 +1,14 @@
 -- The assignment that a run gives: a variable's number is decoded into its frame, and there into a wire or a pair's variable.
 -- No contract cites this file. Assumes nothing.
 use Prim.Native.Nat.{ℕ, zero, suc, _+_, _-_, _*_, _/_, _%_, _<_, _≤_}
-use mathlib.Core.Path.{_≡_, refl, sym, _∙_, ap, ap₂, subst}
-use mathlib.Core.Bool.{Bool, true, false, cond, not, _&&_, Bool·beq}
-use mathlib.Core.Logic.{_⊎_, inl, inr, ⊎-elim}
+use mathlib.Core.Path.{_≡_, refl, sym, _∙_, ap, subst}
+use mathlib.Core.Bool.{Bool, true, cond, _&&_, Bool·beq}
+use mathlib.Core.Logic.{_⊎_, ⊎-elim}
 use native.Mathlib.Nat.{le-refl, add-zero, mul-add-div-right, mul-add-mod-self-right, div-eq-of-lt, mod-eq-of-lt, le-suc-iff, suc-le-suc-iff, add-sub-cancel-left}
 use native.Mathlib.Omega.{arith}
 use lib.Dec.{eqb, ltb, leb}
 use borrow.Author.Tests.{lt-ltb, le-ltb, le-leb, lt-leb, eq-eqb, ne-eqb}
-use Rattle.model.specs.Netlist.{Netlist, Port, port, lastWire}
+use Rattle.model.specs.Netlist.{Netlist, port, lastWire}
 use Rattle.model.specs.Circuit.{Values, codeValue, addressOf}
 use Rattle.model.specs.Variables.{stride, base, pairBase}
 use Rattle.model.specs.Numbers.{Assignment}

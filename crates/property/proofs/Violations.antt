@@ -1,7 +1,7 @@
 -- What the property's loop writes, from the numbering that it holds: frame by frame the model's literal. No contract cites this
 -- file. Assumes nothing.
-use Prim.Native.Nat.{ℕ, _+_}
-use mathlib.Core.Path.{_≡_, refl}
+use Prim.Native.Nat.{ℕ}
+use mathlib.Core.Path.{_≡_}
 use mathlib.Core.List.{List, [], _∷_, map}
 use lib.IntN.{ℤ}
 use Rattle.model.specs.Netlist.{lastWire}

@@ -5,7 +5,7 @@ use mathlib.Core.Path.{_≡_}
 use mathlib.Core.Bool.{false}
 use mathlib.Core.Logic.{_↔_}
 use borrow.Author.Tests.{ltb-false, le-ltb}
-use Rattle.refusals.specs.Tests.{refuseIf, _then_}
+use Rattle.refusals.specs.Tests.{refuseIf}
 use Rattle.refusals.specs.declared.Refusal.the-variants.{OutOfOrder, Size, CodeOutside, MemoryLoop}
 use Rattle.refusals.specs.declared.Verdict.the-variants.{Passed}
 use Rattle.refusals.proofs.Tests.{refuseIf-passes, passed-then, first-passes, rest-passes}

@@ -1,13 +1,12 @@
 -- How long a group of an accepted netlist can be, in numbers and as text. No contract cites this file. Assumes nothing.
-use Prim.Native.Nat.{ℕ, zero, suc, _+_, _*_, _≤_, _<_}
+use Prim.Native.Nat.{ℕ, zero, suc, _+_, _≤_}
 use mathlib.Core.Path.{_≡_, subst}
 use mathlib.Core.Bool.{true}
 use native.Mathlib.Omega.{arith}
-use lib.IntN.{natAbs}
 use lib.ListN.{length}
 use borrow.Author.Tests.{leb-true}
-use Rattle.model.specs.Netlist.{Netlist, lastWire}
-use Rattle.model.specs.Acceptance.{Accepted, SizesFit}
+use Rattle.model.specs.Netlist.{Netlist}
+use Rattle.model.specs.Acceptance.{Accepted}
 use Rattle.model.specs.Groups.{inDepth}
 use Rattle.model.specs.Numbers.{numbersOf}
 use Rattle.model.specs.declared.Group.{Group}
@@ -16,7 +15,7 @@ use Rattle.model.proofs.Gather.{All, all-at, all-weaken}
 use Rattle.model.proofs.Bounds.{AllLits, Within, groups-within, written-within}
 use Rattle.model.proofs.Variables.{base-least, base-most}
 use Rattle.model.specs.Variables.{base}
-use Rattle.model.specs.Groups.{clausesOf, groupOrder}
+use Rattle.model.specs.Groups.{clausesOf}
 use Rattle.literals.proofs.Literal.{fits}
 use Rattle.dimacs.specs.Text.{clauseText}
 use Rattle.dimacs.proofs.Text.{length-clauseText}

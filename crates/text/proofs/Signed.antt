@@ -16,7 +16,6 @@ use Rattle.model.specs.Wrote.{Wrote}
 use Rattle.decimal.proofs.Digits.{length-digits-some}
 use Rattle.model.proofs.Wrote.{wrote-one, wrote-then}
 use Rattle.text.specs.Signed.{partsOf}
-use Rattle.text.specs.declared.Parts.{Parts}
 
 -- below zero is not at least zero, and the other way round
 pub below-not-least : (z : ℤ) → ltZ z (pos 0) ≡ true → leZ (pos 0) z ≡ false

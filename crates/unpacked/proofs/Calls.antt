@@ -1,8 +1,8 @@
 -- Laws of specs/Calls.antt: which tests a call passes, and demand 3 of the calls. No contract cites this file. Assumes nothing.
-use Prim.Native.Nat.{ℕ, suc, _+_, _≤_, _<_}
-use mathlib.Core.Path.{_≡_, refl, sym, _∙_, ap}
+use Prim.Native.Nat.{ℕ, _+_, _≤_, _<_}
+use mathlib.Core.Path.{_≡_, ap}
 use mathlib.Core.Bool.{true, false, not}
-use mathlib.Core.List.{List, _++_}
+use mathlib.Core.List.{List}
 use native.Mathlib.Omega.{arith}
 use lib.Dec.{ltb}
 use lib.IntN.{ℤ}
@@ -12,8 +12,8 @@ use borrow.Author.Tests.{ltb-false, le-ltb, lt-ltb, not-false}
 use Rattle.model.specs.Netlist.{Netlist}
 use Rattle.model.specs.Acceptance.{Accepted}
 use Rattle.model.specs.Variables.{base}
-use Rattle.model.specs.Groups.{inDepth, groupOrder}
-use Rattle.model.specs.Numbers.{numbersOf, joined, formula}
+use Rattle.model.specs.Groups.{inDepth}
+use Rattle.model.specs.Numbers.{numbersOf, formula}
 use Rattle.model.specs.declared.Group.{Group}
 use Rattle.model.proofs.Variables.{base-most}
 use Rattle.model.proofs.Gather.{all-weaken}
@@ -25,12 +25,12 @@ use Rattle.refusals.specs.declared.Refusal.{Refusal}
 use Rattle.refusals.specs.declared.Refusal.the-variants.{Depth, NoSuchGroup, NoRoom}
 use Rattle.refusals.specs.declared.Verdict.{Verdict}
 use Rattle.refusals.specs.declared.Verdict.the-variants.{Passed, Refused}
-use Rattle.refusals.specs.Slices.{testRoom, withCount, contentsAfter}
+use Rattle.refusals.specs.Slices.{withCount, contentsAfter}
 use Rattle.refusals.proofs.Tests.{refuseIf-passes, then-passes}
 use Rattle.refusals.proofs.Slices.{room-enough, room-short, room-shown}
 use Rattle.records.specs.Record.{recordVerdict}
 use Rattle.records.proofs.Acceptance.{passes-accepted}
-use Rattle.unpacked.specs.Calls.{testDepth, testGroup, testNumbers, groupVerdict, headingVerdict, groupSent, groupLeaves, RoomEnough, CallsEncode}
+use Rattle.unpacked.specs.Calls.{testDepth, testGroup, testNumbers, groupVerdict, headingVerdict, groupSent, groupLeaves, CallsEncode}
 
 -- a depth passes up to 255
 pub depth-passes : (k : ℕ) → testDepth k ≡ Passed → k ≤ 255

@@ -8,7 +8,7 @@ use Rattle.model.specs.Netlist.{Netlist, Port, lastWire}
 use Rattle.model.specs.Clauses.{plus}
 use Rattle.model.specs.Variables.{base, pairBase}
 use Rattle.model.specs.Acceptance.{SizesFit, IsCode}
-use Rattle.model.proofs.Variables.{base-least, base-suc, base-most, base-monotone, pairBase-base, port-within}
+use Rattle.model.proofs.Variables.{base-least, base-suc, base-most, pairBase-base, port-within}
 use Rattle.literals.specs.Lit.{HasNumber}
 use Rattle.variables.specs.PortFits.{PortFits}
 

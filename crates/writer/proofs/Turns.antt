@@ -16,7 +16,7 @@ use Rattle.model.specs.Numbers.{numberOf, written}
 use Rattle.model.proofs.Below.{below-suc}
 use Rattle.model.proofs.Joined.{written-append}
 use Rattle.model.specs.Wrote.{Wrote}
-use Rattle.writer.proofs.Wrote.{wrote-nothing, wrote-length, rest-within, rest-room, wrote-then}
+use Rattle.writer.proofs.Wrote.{wrote-nothing, wrote-length, rest-room, wrote-then}
 
 -- gathered clauses are written one list after the other
 pub written-gather : (n : ℕ) (f : ℕ → List Clause) → written (gather n f) ≡ gather n (λ t. written (f t))

@@ -1,11 +1,9 @@
 -- `closing::put_some_source` meets its contract: ¬RE, then Z, then the sources. Assumes nothing.
-use mathlib.Core.Path.{_∙_, ap}
 use native.Mathlib.Omega.{arith}
 use borrow.Author.Needs.{needs}
-use Rattle.model.specs.Clauses.{neg, someSource}
+use Rattle.model.specs.Clauses.{someSource}
 use Rattle.model.specs.Variables.{closingLiterals}
 use Rattle.model.specs.Numbers.{written}
-use Rattle.netlist.specs.NetOf.{netOf, alone}
 use Rattle.variables.specs.PortOf.{portOf}
 use Rattle.variables.proofs.Room.{code-has-number}
 use Rattle.writer.proofs.Wrote.{rest-within, rest-room, wrote-then}

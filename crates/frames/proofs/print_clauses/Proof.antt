@@ -1,7 +1,7 @@
 -- `frames::print_clauses` meets its contract. The loop's invariant: what comes next stands in the order of the whole. Each piece
 -- leaves fewer groups, so the loop ends. Assumes nothing.
 use Prim.Native.Nat.{_≤_}
-use mathlib.Core.Path.{_≡_, refl, sym, _∙_, subst}
+use mathlib.Core.Path.{_≡_, sym, _∙_}
 use native.Mathlib.Omega.{arith}
 use borrow.Author.Needs.{needs}
 use lib.ListN.{length}

@@ -1,5 +1,4 @@
 -- `lines::read_depth` meets its contract. Assumes nothing.
-use mathlib.Core.Path.{_∙_}
 use borrow.Author.Needs.{needs}
 use Rattle.lines.specs.Depth.{depthVerdict, depthLine}
 use Rattle.lines.proofs.read_depth.Statement.{statement}

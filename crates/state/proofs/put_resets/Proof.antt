@@ -5,7 +5,7 @@ use native.Mathlib.Omega.{arith}
 use borrow.Author.Needs.{needs}
 use Rattle.netlist.specs.NetOf.{netOf}
 use Rattle.netlist.proofs.NetOf.{sizes-lists}
-use Rattle.variables.proofs.Room.{wire-has-number, code-has-number}
+use Rattle.variables.proofs.Room.{wire-has-number}
 use Rattle.writer.proofs.Turns.{Turns, turns-start, turns-room, turns-count, turns-next, turns-end}
 use Rattle.state.proofs.StateOf.{resetAt, resets}
 use Rattle.state.proofs.put_resets.Statement.{statement}

@@ -1,17 +1,13 @@
 -- `stream::print_group` meets its contract: what the group's writer left in front of the numbers is the group. Assumes nothing.
-use Prim.Native.Nat.{ℕ, _≤_}
-use mathlib.Core.Path.{_≡_, sym, _∙_}
-use mathlib.Core.List.{List}
+use Prim.Native.Nat.{_≤_}
+use mathlib.Core.Path.{_≡_, sym}
 use native.Mathlib.Omega.{arith}
 use borrow.Author.Needs.{needs}
-use lib.IntN.{ℤ}
 use lib.ListN.{length, take}
 use lib.Seq.{length-take-le}
 use Rattle.model.specs.Numbers.{numbersOf}
-use Rattle.model.specs.Wrote.{Wrote}
 use Rattle.model.proofs.Wrote.{wrote-length}
 use Rattle.netlist.specs.NetOf.{netOf}
-use Rattle.dimacs.specs.Text.{clauseText}
 use Rattle.stream.proofs.Room.{numbers-most, text-most}
 use Rattle.stream.proofs.Pieces.{orderHas-inDepth, wrote-front}
 use Rattle.stream.proofs.print_group.Statement.{statement}

@@ -1,20 +1,20 @@
 -- `stream::print_groups` meets its contract. The loop's invariant: wherever the first group stands, what is printed is the text of
 -- the groups from it on, `next` comes after them, and nothing is printed yet or fewer groups are left. Assumes nothing.
 use Prim.Native.Nat.{ℕ, _+_, _-_, _≤_, _<_}
-use mathlib.Core.Path.{_≡_, refl, sym, _∙_, ap}
+use mathlib.Core.Path.{_≡_, refl, _∙_, ap}
 use mathlib.Core.List.{List, _∷_, _++_}
 use mathlib.Core.Logic.{_⊎_, inl, inr}
 use native.Mathlib.Omega.{arith}
 use borrow.Author.Needs.{needs}
-use borrow.Rule.Slice.PartMut.{midOf, mid-len, same-len-mid}
+use borrow.Rule.Slice.PartMut.{mid-len, same-len-mid}
 use lib.ListN.{length}
 use Rattle.model.specs.Groups.{groupOrder}
 use Rattle.model.specs.declared.Group.{Group}
 use Rattle.netlist.specs.NetOf.{netOf}
-use Rattle.unrolling.specs.Next.{firstGroup, leftAfter, leftFrom}
+use Rattle.unrolling.specs.Next.{firstGroup, leftFrom}
 use Rattle.unrolling.specs.declared.order.Next.{Next}
-use Rattle.unrolling.specs.declared.order.Next.the-variants.{Then, End}
-use Rattle.stream.specs.Pieces.{OrderHas, Printed}
+use Rattle.unrolling.specs.declared.order.Next.the-variants.{Then}
+use Rattle.stream.specs.Pieces.{Printed}
 use Rattle.stream.proofs.Pieces.{printed-nothing, orderHas-due, printed-next}
 use Rattle.stream.proofs.print_groups.Statement.{statement}
 use Rattle.stream.proofs.print_groups.Tie as tie

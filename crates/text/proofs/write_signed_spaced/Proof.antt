@@ -10,7 +10,6 @@ use lib.ListN.{length, length-append, set, length-set}
 use Rattle.decimal.specs.Digits.{digits, space, minus, signedDigits}
 use Rattle.decimal.proofs.Signed.{read-back}
 use Rattle.text.specs.Signed.{partsOf}
-use Rattle.text.specs.declared.Parts.{Parts}
 use Rattle.text.proofs.Signed.{length-parts, wrote-signed}
 use Rattle.text.proofs.write_signed_spaced.Statement.{statement}
 use Rattle.text.proofs.write_signed_spaced.Tie as tie

@@ -1,5 +1,4 @@
 -- `variables::frame_base` meets its contract. Assumes nothing.
-use mathlib.Core.Path.{_∙_, ap₂}
 use borrow.Author.Needs.{needs}
 use Rattle.model.specs.Variables.{base}
 use Rattle.variables.proofs.frame_base.Statement.{statement}

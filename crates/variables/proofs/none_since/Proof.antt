@@ -1,9 +1,7 @@
 -- `variables::none_since` meets its contract. Assumes nothing.
 use mathlib.Core.Path.{_∙_}
-use native.Mathlib.Nat.{le-refl}
 use native.Mathlib.Omega.{arith}
 use borrow.Author.Needs.{needs}
-use Rattle.model.specs.Variables.{noneSince}
 use Rattle.model.proofs.Variables.{noneSince-last, noneSince-earlier}
 use Rattle.netlist.specs.NetOf.{netOf, alone}
 use Rattle.variables.specs.PortOf.{portOf}

@@ -1,5 +1,4 @@
 -- `variables::pair_base` meets its contract. Assumes nothing.
-use native.Mathlib.Omega.{arith}
 use borrow.Author.Needs.{needs}
 use Rattle.model.specs.Variables.{pairBase}
 use Rattle.variables.specs.PortOf.{portOf}
