@@ -21,8 +21,8 @@ compile -DOUTPUT='"output_buffer.h"' -o "$work/optimised" bench/generate.c
 compile -DOUTPUT='"output_printf.h"' -o "$work/formatted" bench/generate.c
 compile -o "$work/measure" bench/measure.c
 rustc -O --edition 2021 -o "$work/sheet" bench/sheet.rs
-[ -f target/staticlib/libexports.a ] || rt staticlib exports > "$work/staticlib.out" || { cat "$work/staticlib.out" >&2; exit 1; }
-compile -o "$work/library" bench/library.c -L target/staticlib -lexports
+[ -f target/staticlib/libmarrubigai.a ] || rt staticlib marrubigai > "$work/staticlib.out" || { cat "$work/staticlib.out" >&2; exit 1; }
+compile -o "$work/library" bench/library.c -L target/staticlib -lmarrubigai
 "$work/sheet" > "$work/sheet.txt"
 
 # Depth 0 is the start of the process, the reading of the sheet and next to no text. The longest run comes first: the one behind it

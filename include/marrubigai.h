@@ -1,4 +1,4 @@
-/* The library for C: `rt staticlib exports` writes target/staticlib/libexports.a. The contracts stand in crates/exports/src; what a
+/* The library for C: `rt staticlib marrubigai` writes target/staticlib/libmarrubigai.a. The contracts stand in crates/marrubigai/src; what a
  * refusal's number and place mean is in docs/FORMAT.md, "Refusals of the library". Every function takes any numbers, tests them
  * first, and after a refusal has changed nothing that it was lent.
  *

@@ -1,6 +1,6 @@
 #!/usr/bin/env bash
 # The header for C, include/marrubigai.h, against the library: it declares what is exported, and a C program that is compiled with it
-# calls each function (tests/header). After `rt staticlib exports`.
+# calls each function (tests/header). After `rt staticlib marrubigai`.
 set -u
 cd "$(dirname "$0")/.." || exit 2
 passed=0
@@ -8,7 +8,7 @@ failed=0
 work=$(mktemp -d)
 trap 'rm -rf "$work"' EXIT
 
-exported() { sed -n 's/^pub extern "C" fn \([a-z_]*\)(.*/\1/p' crates/exports/src/*.rt | sort; }
+exported() { sed -n 's/^pub extern "C" fn \([a-z_]*\)(.*/\1/p' crates/marrubigai/src/*.rt | sort; }
 called() { grep -oE 'marrubigai_[a-z_]+\(' "$1" | tr -d '(' | sort -u; }
 same() { # what, list, list
   if [ "$2" = "$3" ]; then passed=$((passed + 1)); else failed=$((failed + 1)); echo "FAILED: $1"; diff <(echo "$2") <(echo "$3"); fi
@@ -16,7 +16,7 @@ same() { # what, list, list
 same "the header declares the exported functions" "$(exported)" "$(called include/marrubigai.h)"
 same "the test calls the exported functions" "$(exported)" "$(called tests/header/main.c)"
 
-if cc -std=c11 -pedantic -Wall -Wextra -Werror -O -o "$work/header" tests/header/main.c -L target/staticlib -lexports; then
+if cc -std=c11 -pedantic -Wall -Wextra -Werror -O -o "$work/header" tests/header/main.c -L target/staticlib -lmarrubigai; then
   "$work/header" > "$work/out"
   status=$?
   sed '$d' "$work/out"
@@ -37,7 +37,7 @@ int main() {
   return marrubigai_put_refusal(text, sizeof text, 9, 0).count == sizeof text ? 0 : 1;
 }
 END
-if g++ -std=c++11 -pedantic -Wall -Wextra -Werror -Iinclude -o "$work/call" "$work/call.cpp" -L target/staticlib -lexports && "$work/call"; then
+if g++ -std=c++11 -pedantic -Wall -Wextra -Werror -Iinclude -o "$work/call" "$work/call.cpp" -L target/staticlib -lmarrubigai && "$work/call"; then
   passed=$((passed + 1))
 else
   failed=$((failed + 1))

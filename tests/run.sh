@@ -75,10 +75,10 @@ compile reference tests/reference/main.rs && run "the second implementation's ow
 compile runner tests/runner/main.rs &&
   run "the program against the second implementation" runner timeout 900 "$logs/runner" target/bin/frames docs/FORMAT.md
 
-echo "== the static library: rt staticlib exports"
-if rt staticlib exports > "$logs/staticlib.out" 2>&1; then
+echo "== the static library: rt staticlib marrubigai"
+if rt staticlib marrubigai > "$logs/staticlib.out" 2>&1; then
   pass
-  if compile library tests/runner/library.rs -L target/staticlib -l static=exports; then
+  if compile library tests/runner/library.rs -L target/staticlib -l static=marrubigai; then
     run "the library against the second implementation" library timeout 600 "$logs/library"
     run "a sample of the library's calls under valgrind" library-valgrind \
       timeout 600 valgrind --quiet --error-exitcode=99 "$logs/library" sample
@@ -86,7 +86,7 @@ if rt staticlib exports > "$logs/staticlib.out" 2>&1; then
   run "the header for C against the library" header bash tests/header.sh
 else
   cat "$logs/staticlib.out"
-  fail "rt staticlib exports"
+  fail "rt staticlib marrubigai"
 fi
 
 run "the examples' sheets, and runs shown frame by frame" examples bash tests/examples.sh target/bin/frames

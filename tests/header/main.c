@@ -1,6 +1,6 @@
 // include/marrubigai.h against the static library: the layout of every struct, and each exported function on two sheets and at
 // refusals. What is expected was worked out by hand from document 01. The last line is 'N passed, M failed'.
-// Build: cc -std=c11 main.c -L FOLDER -lexports
+// Build: cc -std=c11 main.c -L FOLDER -lmarrubigai
 
 #include <stdio.h>
 #include <string.h>

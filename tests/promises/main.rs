@@ -9,19 +9,19 @@ use std::fs;
 use std::path::{Path, PathBuf};
 
 /// The crates with the functions for designers: every `pub fn` and every exported C function, methods included.
-const SHOWN: [&str; 5] = ["calls", "reader", "lines", "dimacs", "exports"];
+const SHOWN: [&str; 5] = ["calls", "sheet_reader", "sheet_lines", "dimacs", "marrubigai"];
 
-/// Of `lines` it is the depth line's alone; what asks something of its caller in `dimacs` is the program's.
+/// Of `sheet_lines` it is the depth line's alone; what asks something of its caller in `dimacs` is the program's.
 fn is_shown(of: &str, it: &Public) -> bool {
     match of {
-        "lines" => it.name == "read_depth",
+        "sheet_lines" => it.name == "read_depth",
         "dimacs" => !it.has_requires,
         _ => true,
     }
 }
 
 /// The crates whose functions the program is put together from; what they promise must be believed too.
-const PROGRAM: [&str; 2] = ["input", "stream"];
+const PROGRAM: [&str; 2] = ["program_input", "program_output"];
 
 struct Repository(PathBuf);
 

@@ -6,8 +6,8 @@ use mathlib.Core.List.{List}
 use Rattle.netlist.specs.NetOf.{codeOf, netOf}
 use Rattle.netlist.specs.declared.Netlist.{Netlist}
 use Rattle.model.specs.Wrote.{over}
-use Rattle.lists.proofs.Unpacked.{getD-over}
-use Rattle.lists.proofs.Zeroed.{zeros}
+use Rattle.call_lists.proofs.Unpacked.{getD-over}
+use Rattle.call_lists.proofs.Zeroed.{zeros}
 
 pub netOf-unpacked : (net : Netlist) (latches gates : List ℕ)
     → netOf net (over latches zeros) (over gates zeros) ≡ netOf net latches gates

@@ -10,19 +10,19 @@ use Rattle.model.specs.Numbers.{numberOf, written, numbersOf, joined, formula, 
 use Rattle.refusals.specs.Tests.{_then_, inOrder}
 use Rattle.netlist.specs.Places.{lineAt}
 use Rattle.netlist.specs.Faults.{sizeFault, codeFault, loopFaultBy}
-use Rattle.records.specs.Record.{testLines, recordVerdict}
+use Rattle.netlist_tests.specs.Record.{testLines, recordVerdict}
 use Rattle.refusals.specs.Slices.{testRoom}
-use Rattle.unpacked.specs.Calls.{testDepth, testGroup, testNumbers, groupVerdict, headingVerdict}
+use Rattle.call_unpacked.specs.Calls.{testDepth, testGroup, testNumbers, groupVerdict, headingVerdict}
 use Rattle.decimal.specs.Digits.{digitsWithin, digits, field}
 use Rattle.decimal.specs.TextValue.{sameText, valueAfter, numberIn}
-use Rattle.fields.specs.Fields.{dropSpaces, filledWith, behindSpaces, fieldOf}
-use Rattle.lines.specs.Letters.{kindOf, isFilled}
-use Rattle.lines.specs.Lines.{fieldIn, allAsWanted, lineWith, lineOf, columnText, lineText}
-use Rattle.lines.specs.Depth.{depthField, fieldVerdict, depthVerdict}
-use Rattle.steps.specs.LineFaults.{faultsAt}
-use Rattle.parse.specs.Files.{lineIn, sizesIn, netOfLines, netIn}
-use Rattle.parse.specs.FileTests.{ragged, notDue, testLineIn}
-use Rattle.sheet.specs.Sheet.{endVerdict, fileVerdict, sheetVerdict}
+use Rattle.sheet_fields.specs.Fields.{dropSpaces, filledWith, behindSpaces, fieldOf}
+use Rattle.sheet_lines.specs.Letters.{kindOf, isFilled}
+use Rattle.sheet_lines.specs.Lines.{fieldIn, allAsWanted, lineWith, lineOf, columnText, lineText}
+use Rattle.sheet_lines.specs.Depth.{depthField, fieldVerdict, depthVerdict}
+use Rattle.sheet_steps.specs.LineFaults.{faultsAt}
+use Rattle.sheet_parse.specs.Files.{lineIn, sizesIn, netOfLines, netIn}
+use Rattle.sheet_parse.specs.FileTests.{ragged, notDue, testLineIn}
+use Rattle.sheet_tests.specs.Sheet.{endVerdict, fileVerdict, sheetVerdict}
 use Rattle.calls.specs.Starred.{sheetWith, net, rows, Starred}
 
 pub starred : Starred

@@ -1,5 +1,5 @@
--- What the public calls over a record and its lent lists answer, leave and claim: the calls over a netlist (unpacked/specs/Calls), for
--- the netlist that record and lists stand for. Cited by `heading` and `write_group`, here and in `exports`. Assumes nothing.
+-- What the public calls over a record and its lent lists answer, leave and claim: the calls over a netlist (call_unpacked/specs/Calls), for
+-- the netlist that record and lists stand for. Cited by `heading` and `write_group`, here and in `marrubigai`. Assumes nothing.
 use Prim.Native.Nat.{ℕ, _≤_}
 use mathlib.Core.Path.{_≡_}
 use mathlib.Core.List.{List}
@@ -10,11 +10,11 @@ use Rattle.model.specs.declared.Group.{Group}
 use Rattle.refusals.specs.Slices.{CountReply}
 use Rattle.refusals.specs.declared.Verdict.the-variants.{Passed}
 use Rattle.netlist.specs.declared.Netlist.{Netlist}
-use Rattle.records.specs.Record.{recordVerdict}
-use Rattle.lists.specs.Lent.{netLent}
-use Rattle.lists.specs.declared.Latch.{Latch}
-use Rattle.lists.specs.declared.Gate.{Gate}
-use Rattle.unpacked.specs.Calls.{groupSent, groupLeaves, HeadingReply, headingSent, CallsEncode}
+use Rattle.netlist_tests.specs.Record.{recordVerdict}
+use Rattle.call_lists.specs.Lent.{netLent}
+use Rattle.call_lists.specs.declared.Latch.{Latch}
+use Rattle.call_lists.specs.declared.Gate.{Gate}
+use Rattle.call_unpacked.specs.Calls.{groupSent, groupLeaves, HeadingReply, headingSent, CallsEncode}
 
 abbrev pub headingFor : Netlist → List Latch → List Gate → ℕ → HeadingReply
 headingFor net latches gates k = headingSent (netLent net latches gates) (length latches) (length gates) k

@@ -11,12 +11,12 @@ use Rattle.model.specs.declared.Group.the-variants.{Pair}
 use Rattle.refusals.specs.Refusal.{replyOf}
 use Rattle.refusals.specs.declared.Verdict.{Verdict}
 use Rattle.decimal.specs.Digits.{lineFeed, field}
-use Rattle.lines.specs.Lines.{lineText}
-use Rattle.lines.specs.Depth.{depthVerdict}
-use Rattle.lines.specs.declared.Kind.the-variants.{Sizes, Memory, Address, WriteData, Control}
-use Rattle.parse.specs.Files.{netIn}
-use Rattle.sheet.specs.Sheet.{sheetVerdict}
-use Rattle.unpacked.specs.Calls.{groupVerdict, headingVerdict}
+use Rattle.sheet_lines.specs.Lines.{lineText}
+use Rattle.sheet_lines.specs.Depth.{depthVerdict}
+use Rattle.sheet_lines.specs.declared.Kind.the-variants.{Sizes, Memory, Address, WriteData, Control}
+use Rattle.sheet_parse.specs.Files.{netIn}
+use Rattle.sheet_tests.specs.Sheet.{sheetVerdict}
+use Rattle.call_unpacked.specs.Calls.{groupVerdict, headingVerdict}
 
 -- `N 1 0 0`, `M 1 1 0`, `A` with the address code given, `D 2`, `C 1 1 5`, "each spread to 32 bytes"; document 01's has address
 -- code 0

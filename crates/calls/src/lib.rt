@@ -1,15 +1,15 @@
 // The public calls over a record and the lists that the caller lends (document 01, "What is sent back"). Each unpacks the lists and
 // leaves the rest to a call over unpacked lists.
-use lists::Gate;
-use lists::Latch;
+use call_lists::Gate;
+use call_lists::Latch;
+use call_unpacked::GroupAnswer;
+use call_unpacked::HeadingAnswer;
 use model::Group;
 use netlist::Netlist;
-use unpacked::GroupAnswer;
-use unpacked::HeadingAnswer;
 ghost use mathlib.Core.Path.{_≡_};
 ghost use lib.ListN.{length};
 ghost use Rattle.calls.specs.Starred.{Starred};
-ghost use Rattle.unpacked.specs.Calls.{groupReply, headingReply};
+ghost use Rattle.call_unpacked.specs.Calls.{groupReply, headingReply};
 ghost use Rattle.calls.specs.LentCalls.{headingFor, groupFor, numbersLeft, Claim};
 
 // The heading of a depth: "the variables numbered and the clauses really written".
@@ -19,10 +19,10 @@ pub fn heading(net: Netlist, latches: &[Latch], gates: &[Gate], depth: u32) -> H
     ensures starred { λ r. ⌜ Starred ⌝ }
 {
     let mut latch_codes = [0; 1200];
-    lists::unpack::unpack_latches(&mut latch_codes, latches);
+    call_lists::unpack::unpack_latches(&mut latch_codes, latches);
     let mut gate_codes = [0; 1200];
-    lists::unpack::unpack_gates(&mut gate_codes, gates);
-    unpacked::heading(
+    call_lists::unpack::unpack_gates(&mut gate_codes, gates);
+    call_unpacked::heading(
         net,
         &latch_codes,
         latches.len(),
@@ -46,10 +46,10 @@ pub fn write_group(
     ensures borrowed { λ r. ⌜ now (out .exit) ≡ numbersLeft net (now (latches .entry)) (now (gates .entry)) depth group (now (out .entry)) ⌝ }
 {
     let mut latch_codes = [0; 1200];
-    lists::unpack::unpack_latches(&mut latch_codes, latches);
+    call_lists::unpack::unpack_latches(&mut latch_codes, latches);
     let mut gate_codes = [0; 1200];
-    lists::unpack::unpack_gates(&mut gate_codes, gates);
-    unpacked::write_group(
+    call_lists::unpack::unpack_gates(&mut gate_codes, gates);
+    call_unpacked::write_group(
         net,
         &latch_codes,
         latches.len(),

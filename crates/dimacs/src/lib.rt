@@ -4,17 +4,17 @@ ghost use Prim.Native.Nat.{_≤_};
 ghost use lib.Dec.{leb};
 ghost use lib.ListN.{length};
 ghost use Rattle.model.specs.Wrote.{Wrote};
-ghost use Rattle.text.specs.Table.{TableOrNone};
+ghost use Rattle.text_writer.specs.Table.{TableOrNone};
 ghost use Rattle.dimacs.specs.Text.{headerText, numberText, clauseText, refusalText};
 ghost use Rattle.dimacs.specs.PrintCalls.{printReply, printSent, printLeaves};
 use decimal::digit_count;
 use decimal::put_field;
 use refusals::Refusal;
-use text::parts_of;
-use text::write_byte;
-use text::write_ended;
-use text::write_signed_spaced;
-use text::write_word;
+use text_writer::parts_of;
+use text_writer::write_byte;
+use text_writer::write_ended;
+use text_writer::write_signed_spaced;
+use text_writer::write_word;
 
 // What a call that prints answers: how many bytes it wrote, or a refusal and its place.
 pub enum PrintAnswer {

@@ -1,7 +1,8 @@
 // The program (document 01, "The program and one full run"): a depth line and a sheet on standard input, the formula as DIMACS text
 // or one refusal on standard output. What is read and what is printed is in the crates below; here are only input and output.
+use group_order::order::Next;
 use netlist::Netlist;
-use unrolling::order::Next;
+use netlist::UnpackedList;
 ghost use Prim.Native.Nat.{_≤_};
 ghost use Rattle.model.specs.Acceptance.{Accepted};
 ghost use Rattle.netlist.specs.NetOf.{netOf};
@@ -23,25 +24,25 @@ fn print_refusal(number: u32, place: u32) {
 }
 
 // Answers whether the header could be written.
-fn print_header(net: Netlist, latches: &[u32; 1200], gates: &[u32; 1200], depth: u32) -> bool
+fn print_header(net: Netlist, latches: &UnpackedList, gates: &UnpackedList, depth: u32) -> bool
     requires { ⌜ Accepted (netOf net (now latches) (now gates)) × (depth ≤ 255) ⌝ }
 {
     let mut text = [0; 28];
-    let bytes = stream::print_header(&mut text, net, latches, gates, depth);
+    let bytes = program_output::print_header(&mut text, net, latches, gates, depth);
     write_text(&text[..bytes])
 }
 
 // Prints all groups of an accepted netlist in the order of the whole.
-fn print_clauses(net: Netlist, latches: &[u32; 1200], gates: &[u32; 1200], depth: u32)
+fn print_clauses(net: Netlist, latches: &UnpackedList, gates: &UnpackedList, depth: u32)
     requires { ⌜ Accepted (netOf net (now latches) (now gates)) × (depth ≤ 255) ⌝ }
 {
     let mut text = [0; 131072];
     let mut numbers = [0; 5992];
     let mut table = [0; 40000];
-    text::fill_table(&mut table);
-    let mut next = unrolling::order::first_group(depth);
+    text_writer::fill_table(&mut table);
+    let mut next = group_order::order::first_group(depth);
     while let Next::Then(group) = next {
-        let piece = stream::print_groups(
+        let piece = program_output::print_groups(
             &mut text,
             &mut numbers,
             &table,
@@ -60,9 +61,9 @@ fn print_clauses(net: Netlist, latches: &[u32; 1200], gates: &[u32; 1200], depth
 }
 
 fn print_answer(bytes: &[u8]) {
-    let mut latches = sheet::no_codes();
-    let mut gates = sheet::no_codes();
-    let input = input::read_input(bytes, &mut latches, &mut gates);
+    let mut latches = sheet_tests::no_codes();
+    let mut gates = sheet_tests::no_codes();
+    let input = program_input::read_input(bytes, &mut latches, &mut gates);
     if input.number != 0 {
         print_refusal(input.number, input.place);
     } else if print_header(input.net, &latches, &gates, input.depth) {

@@ -22,7 +22,7 @@ use Rattle.model.proofs.Booleans.{and-true}
 use Rattle.model.proofs.Lengths.{pair-counts, pair-numbers, property-numbers}
 use Rattle.netlist.specs.NetOf.{netOf, alone}
 use Rattle.netlist.specs.declared.Netlist.{Netlist}
-use Rattle.variables.specs.PortFits.{PortFits}
+use Rattle.clause_variables.specs.PortFits.{PortFits}
 use Rattle.netlist.proofs.NetOf.{limits-alone}
 
 module _ (r : Netlist) (ls gs : List ℕ) where

@@ -1,6 +1,7 @@
 // The groups of clauses of a depth (document 01, "Groups of clauses"), each written into a borrowed slice.
 use model::Group;
 use netlist::Netlist;
+use netlist::UnpackedList;
 ghost use mathlib.Core.Path.{_≡_};
 ghost use Prim.Native.Nat.{_≤_};
 ghost use mathlib.Core.Bool.{true};
@@ -15,8 +16,8 @@ ghost use Rattle.netlist.specs.NetOf.{netOf};
 pub fn put_group(
     out: &mut [i32],
     net: Netlist,
-    latches: &[u32; 1200],
-    gates: &[u32; 1200],
+    latches: &UnpackedList,
+    gates: &UnpackedList,
     depth: u32,
     group: Group,
 ) -> usize
@@ -25,9 +26,14 @@ pub fn put_group(
     ensures { λ r. ⌜ Wrote (numbersOf (netOf net (now (latches .entry)) (now (gates .entry))) depth group) (now (out .entry)) (now (out .exit)) r ⌝ }
 {
     match group {
-        Group::Wires(i) => wires::put_wires(out, net, latches, gates, i),
-        Group::Pair(j, i) => pair::put_pair(out, net, variables::port_of(net), j, i),
-        Group::Closing(i) => closing::put_closing(out, net, variables::port_of(net), i),
-        Group::Property => property::put_property(out, net, depth),
+        Group::Wires(i) => group_wires::put_wires(out, net, latches, gates, i),
+        Group::Pair(j, i) => group_pair::put_pair(out, net, clause_variables::port_of(net), j, i),
+        Group::Closing(i) => group_closing::put_closing(
+            out,
+            net,
+            clause_variables::port_of(net),
+            i,
+        ),
+        Group::Property => group_property::put_property(out, net, depth),
     }
 }

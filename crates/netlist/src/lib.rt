@@ -12,6 +12,9 @@ ghost use Rattle.netlist.specs.RecordOf.{recordOf, noNetlist};
 ghost use Rattle.netlist.specs.Places.{controlLine, lineAt, HasLine};
 ghost use Rattle.netlist.specs.Faults.{outside, sizeFault, codeOutside, latchFault, gateFault, codeFault};
 
+// 600 latches or gates, unpacked: two numbers each.
+pub type UnpackedList = [u32; 1200];
+
 #[repr(C)]
 pub struct Netlist {
     pub inputs: u32,
@@ -187,7 +190,7 @@ pub fn gate_fault(own: u32, left: Code, right: Code) -> bool
 }
 
 // Refusal 5 at a line.
-pub fn code_fault(net: Netlist, latches: &[u32; 1200], gates: &[u32; 1200], line: Line) -> bool
+pub fn code_fault(net: Netlist, latches: &UnpackedList, gates: &UnpackedList, line: Line) -> bool
     requires { ⌜ SizesFit (alone net) × HasLine (alone net) line ⌝ }
     ensures { λ r. ⌜ r ≡ codeFault (netOf net (now (latches .entry)) (now (gates .entry))) line ⌝ }
 {

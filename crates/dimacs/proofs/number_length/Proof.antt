@@ -7,9 +7,9 @@ use borrow.Author.Needs.{needs}
 use lib.ListN.{length, length-append}
 use Rattle.decimal.specs.Digits.{digits, signedDigits}
 use Rattle.decimal.proofs.Signed.{read-back, length-signedDigits}
-use Rattle.text.specs.Signed.{partsOf}
-use Rattle.text.specs.declared.Parts.{Parts}
-use Rattle.text.proofs.Signed.{length-parts}
+use Rattle.text_writer.specs.Signed.{partsOf}
+use Rattle.text_writer.specs.declared.Parts.{Parts}
+use Rattle.text_writer.proofs.Signed.{length-parts}
 use Rattle.dimacs.specs.Text.{behind}
 use Rattle.dimacs.proofs.number_length.Statement.{statement}
 use Rattle.dimacs.proofs.number_length.Tie as tie

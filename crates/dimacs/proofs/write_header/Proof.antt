@@ -9,7 +9,7 @@ use Rattle.decimal.specs.Digits.{digits, space, lineFeed}
 use Rattle.model.specs.Wrote.{Wrote}
 use Rattle.model.proofs.Wrote.{wrote-then}
 use Rattle.dimacs.specs.Text.{problem, headerText}
-use Rattle.text.proofs.Writing.{front-room, behind-within, behind-room}
+use Rattle.text_writer.proofs.Writing.{front-room, behind-within, behind-room}
 use Rattle.dimacs.proofs.write_header.Statement.{statement}
 use Rattle.dimacs.proofs.write_header.Tie as tie
 

@@ -7,7 +7,7 @@ use borrow.Author.Needs.{needs}
 use lib.ListN.{length, length-set}
 use Rattle.decimal.specs.Digits.{digit, space, lineFeed, signedDigits}
 use Rattle.decimal.proofs.Signed.{read-back}
-use Rattle.text.proofs.Writing.{wrote-two}
+use Rattle.text_writer.proofs.Writing.{wrote-two}
 use Rattle.dimacs.specs.Text.{numberText}
 use Rattle.dimacs.proofs.Text.{numberText-zero, behind-other}
 use Rattle.dimacs.proofs.write_number.Statement.{statement}

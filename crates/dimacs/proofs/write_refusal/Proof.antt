@@ -10,7 +10,7 @@ use Rattle.model.specs.Wrote.{Wrote}
 use Rattle.decimal.proofs.Digits.{length-field}
 use Rattle.model.proofs.Wrote.{wrote-then}
 use Rattle.dimacs.specs.Text.{refused, refusalText}
-use Rattle.text.proofs.Writing.{front-room, behind-within, behind-room}
+use Rattle.text_writer.proofs.Writing.{front-room, behind-within, behind-room}
 use Rattle.dimacs.proofs.write_refusal.Statement.{statement}
 use Rattle.dimacs.proofs.write_refusal.Tie as tie
 

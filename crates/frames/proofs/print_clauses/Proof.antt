@@ -6,10 +6,10 @@ use native.Mathlib.Omega.{arith}
 use borrow.Author.Needs.{needs}
 use lib.ListN.{length}
 use lib.Seq.{length-take-le}
-use Rattle.text.specs.Table.{tableBelow}
-use Rattle.text.proofs.Table.{filled-table}
-use Rattle.unrolling.specs.Next.{leftFrom}
-use Rattle.stream.proofs.Pieces.{OrderHasNext, orderHas-first, orderHas-next}
+use Rattle.text_writer.specs.Table.{tableBelow}
+use Rattle.text_writer.proofs.Table.{filled-table}
+use Rattle.group_order.specs.Next.{leftFrom}
+use Rattle.program_output.proofs.Pieces.{OrderHasNext, orderHas-first, orderHas-next}
 use Rattle.frames.proofs.print_clauses.Statement.{statement}
 use Rattle.frames.proofs.print_clauses.Tie as tie
 

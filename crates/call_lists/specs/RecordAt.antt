@@ -1,0 +1,12 @@
+-- A record of unpacked codes. Cited by the functions that deliver, and by no public contract. Assumes nothing.
+use Prim.Native.Nat.{ℕ}
+use mathlib.Core.List.{List}
+use Rattle.netlist.specs.NetOf.{firstAt, secondAt}
+use Rattle.call_lists.specs.declared.Latch.{Latch}
+use Rattle.call_lists.specs.declared.Gate.{Gate}
+
+abbrev pub latchAt : List ℕ → ℕ → Latch
+latchAt codes l = record { next = record { 0 = firstAt codes l }; reset = secondAt codes l }
+
+abbrev pub gateAt : List ℕ → ℕ → Gate
+gateAt codes g = record { left = record { 0 = firstAt codes g }; right = record { 0 = secondAt codes g } }

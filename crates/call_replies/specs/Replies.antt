@@ -1,0 +1,41 @@
+-- What the numbers of an exported function stand for: a group for three numbers, and the fields of a reply. Cited by
+-- the functions of `call_replies` and by the exported functions. Assumes nothing.
+use Prim.Native.Nat.{ℕ}
+use mathlib.Core.Bool.{cond}
+use lib.Dec.{eqb}
+use Rattle.model.specs.declared.Group.{Group}
+use Rattle.model.specs.declared.Group.the-variants.{Wires, Pair, Closing, Property}
+use Rattle.refusals.specs.Refusal.{refusalNumber, replyOf}
+use Rattle.refusals.specs.Slices as Slices
+use Rattle.refusals.specs.declared.Refusal.the-variants as Refusal
+use Rattle.refusals.specs.declared.Verdict.{Verdict}
+use Rattle.netlist.specs.declared.Netlist.{Netlist}
+use Rattle.sheet_lines.specs.Letters.{letterOf}
+use Rattle.sheet_lines.specs.declared.ParsedLine.{ParsedLine}
+use Rattle.sheet_lines.specs.declared.ParsedLine.the-variants.{Misprint, Read}
+use Rattle.call_unpacked.specs.Calls as Calls
+use Rattle.call_replies.specs.declared.CountReply.{CountReply}
+use Rattle.call_replies.specs.declared.HeadingReply.{HeadingReply}
+use Rattle.call_replies.specs.declared.SheetReply.{SheetReply}
+use Rattle.call_replies.specs.declared.LineReply.{LineReply}
+
+-- Another kind than 0 to 3 is no group. A pair of a frame with itself is none at any depth, so it gets refusal 8.
+unfoldable pub groupOf : ℕ → ℕ → ℕ → Group
+groupOf kind j i =
+    cond (eqb kind 0) (Wires i) (cond (eqb kind 1) (Pair j i) (cond (eqb kind 2) (Closing i) (cond (eqb kind 3) Property (Pair i i))))
+
+unfoldable pub countNumbers : Slices.CountReply → CountReply
+countNumbers r = record { number = r .number; place = r .place; count = r .count }
+
+unfoldable pub headingNumbers : Calls.HeadingReply → HeadingReply
+headingNumbers r = record { number = r .number; place = r .place; variables = r .variables; clauses = r .clauses }
+
+unfoldable pub sheetNumbers : Verdict → Netlist → SheetReply
+sheetNumbers verdict net = record { number = replyOf verdict .number; place = replyOf verdict .place; net = net }
+
+-- a line, and how many are read with it
+unfoldable pub lineNumbers : ParsedLine → ℕ → LineReply
+lineNumbers Misprint line =
+    record { number = refusalNumber Refusal.Misprint; letter = 0; first = 0; second = 0; third = 0; line = line }
+lineNumbers (Read kind first second third) line =
+    record { number = 0; letter = letterOf kind; first = first; second = second; third = third; line = line }

@@ -1,0 +1,189 @@
+// Groups and answers as numbers, for C and Rust: an exported function can neither take nor return an enum.
+use call_unpacked::GroupAnswer;
+use call_unpacked::HeadingAnswer;
+use dimacs::PrintAnswer;
+use model::Group;
+use netlist::Netlist;
+use refusals::Refusal;
+use refusals::Verdict;
+use sheet_lines::Kind;
+use sheet_lines::ParsedLine;
+use sheet_steps::SheetAnswer;
+ghost use mathlib.Core.Path.{_≡_};
+ghost use Rattle.refusals.specs.Slices.{withCount};
+ghost use Rattle.call_unpacked.specs.Calls.{groupReply, headingReply};
+ghost use Rattle.dimacs.specs.PrintCalls.{printReply};
+ghost use Rattle.sheet_lines.specs.Letters.{letterOf};
+ghost use Rattle.call_replies.specs.Replies.{groupOf, countNumbers, headingNumbers, sheetNumbers, lineNumbers};
+
+// What is sent back of a call that writes into a slice: number (0 where it is not refused), place, and how many numbers or bytes
+// were written.
+#[repr(C)]
+pub struct CountReply {
+    pub number: u32,
+    pub place: u32,
+    pub count: usize,
+}
+
+// What is sent back of a heading call.
+#[repr(C)]
+pub struct HeadingReply {
+    pub number: u32,
+    pub place: u32,
+    pub variables: u32,
+    pub clauses: u32,
+}
+
+// The group that three numbers stand for. Another kind is no group: a pair of a frame with itself, which no depth has.
+pub fn group_of(kind: u32, j: u32, i: u32) -> Group
+    ensures { λ r. ⌜ r ≡ groupOf kind j i ⌝ }
+{
+    match kind {
+        0 => Group::Wires(i),
+        1 => Group::Pair(j, i),
+        2 => Group::Closing(i),
+        3 => Group::Property,
+        _ => Group::Pair(i, i),
+    }
+}
+
+// So many were written.
+fn written(count: usize) -> CountReply
+    ensures { λ r. ⌜ r ≡ countNumbers (withCount Verdict.Passed count) ⌝ }
+{
+    CountReply {
+        number: 0,
+        place: 0,
+        count,
+    }
+}
+
+// None were: the call is refused.
+fn refused(refusal: Refusal, place: u32) -> CountReply
+    ensures { λ r. ⌜ r ≡ countNumbers (withCount (Verdict.Refused refusal place) 0) ⌝ }
+{
+    CountReply {
+        number: refusals::number(refusal),
+        place,
+        count: 0,
+    }
+}
+
+// A group call's answer in numbers.
+pub fn group_numbers(answer: GroupAnswer) -> CountReply
+    ensures { λ r. ⌜ r ≡ countNumbers (groupReply answer) ⌝ }
+{
+    match answer {
+        GroupAnswer::Written(count) => written(count),
+        GroupAnswer::Refused(refusal, place) => refused(refusal, place),
+    }
+}
+
+// That of a call that prints.
+pub fn print_numbers(answer: PrintAnswer) -> CountReply
+    ensures { λ r. ⌜ r ≡ countNumbers (printReply answer) ⌝ }
+{
+    match answer {
+        PrintAnswer::Written(count) => written(count),
+        PrintAnswer::Refused(refusal, place) => refused(refusal, place),
+    }
+}
+
+// A heading call's.
+pub fn heading_numbers(answer: HeadingAnswer) -> HeadingReply
+    ensures { λ r. ⌜ r ≡ headingNumbers (headingReply answer) ⌝ }
+{
+    match answer {
+        HeadingAnswer::Heading { variables, clauses } => HeadingReply {
+            number: 0,
+            place: 0,
+            variables,
+            clauses,
+        },
+        HeadingAnswer::Refused(refusal, place) => HeadingReply {
+            number: refusals::number(refusal),
+            place,
+            variables: 0,
+            clauses: 0,
+        },
+    }
+}
+
+// What is sent back of a sheet: number (0 where it is not refused), place, and the record, all zeros at a refusal.
+#[repr(C)]
+pub struct SheetReply {
+    pub number: u32,
+    pub place: u32,
+    pub net: Netlist,
+}
+
+// A sheet's.
+pub fn sheet_numbers(sheet: SheetAnswer) -> SheetReply
+    ensures { λ r. ⌜ r ≡ sheetNumbers (sheet .verdict) (sheet .net) ⌝ }
+{
+    let verdict = sheet.verdict;
+    let net = sheet.net;
+    let reply = refusals::reply_of(verdict);
+    SheetReply {
+        number: reply.number,
+        place: reply.place,
+        net,
+    }
+}
+
+// What is sent back of a line: number (2 for a misprint, else 0), its letter, its fields, and how many lines are read with it. An
+// empty field is 0, and at a misprint letter and fields are.
+#[repr(C)]
+pub struct LineReply {
+    pub number: u32,
+    pub letter: u8,
+    pub first: u32,
+    pub second: u32,
+    pub third: u32,
+    pub line: u32,
+}
+
+// The letter of a line.
+fn letter_of(kind: Kind) -> u8
+    ensures { λ r. ⌜ r ≡ letterOf kind ⌝ }
+{
+    match kind {
+        Kind::Sizes => b'N',
+        Kind::Memory => b'M',
+        Kind::Latch => b'L',
+        Kind::Gate => b'G',
+        Kind::Address => b'A',
+        Kind::WriteData => b'D',
+        Kind::Control => b'C',
+        Kind::Unknown => 0,
+    }
+}
+
+// A line's.
+pub fn line_numbers(parsed: ParsedLine, line: u32) -> LineReply
+    ensures { λ r. ⌜ r ≡ lineNumbers parsed line ⌝ }
+{
+    match parsed {
+        ParsedLine::Misprint => LineReply {
+            number: refusals::number(Refusal::Misprint),
+            letter: 0,
+            first: 0,
+            second: 0,
+            third: 0,
+            line,
+        },
+        ParsedLine::Read {
+            kind,
+            first,
+            second,
+            third,
+        } => LineReply {
+            number: 0,
+            letter: letter_of(kind),
+            first,
+            second,
+            third,
+            line,
+        },
+    }
+}

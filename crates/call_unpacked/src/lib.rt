@@ -1,0 +1,133 @@
+// The calls over a record and its lists in unpacked form: the work of the public calls (crate `calls`).
+use model::Group;
+use netlist::Netlist;
+use netlist::UnpackedList;
+use refusals::Refusal;
+use refusals::Verdict;
+ghost use mathlib.Core.Path.{_≡_};
+ghost use lib.ListN.{length};
+ghost use Rattle.model.specs.Groups.{inDepth};
+ghost use Rattle.netlist.specs.NetOf.{netOf};
+ghost use Rattle.call_unpacked.specs.Calls.{groupReply, groupVerdict, groupSent, groupLeaves, headingReply, headingSent};
+
+// What a group call answers: how many numbers it wrote, or the refusal with its place.
+pub enum GroupAnswer {
+    Written(usize),
+    Refused(Refusal, u32),
+}
+
+// What a heading call answers: document 01's heading, the two counts of DIMACS' problem line (the line as text is the header, crate
+// `dimacs`); or the refusal with its place.
+pub enum HeadingAnswer {
+    Heading { variables: u32, clauses: u32 },
+    Refused(Refusal, u32),
+}
+
+// The heading of a depth: "the variables numbered and the clauses really written".
+pub fn heading(
+    net: Netlist,
+    latches: &UnpackedList,
+    latch_count: usize,
+    gates: &UnpackedList,
+    gate_count: usize,
+    depth: u32,
+) -> HeadingAnswer
+    ensures { λ r. ⌜ headingReply r ≡ headingSent (netOf net (now (latches .entry)) (now (gates .entry))) «latch_count» «gate_count» depth ⌝ }
+{
+    if let Verdict::Refused(refusal, place) = netlist_tests::test_record(
+        net,
+        latches,
+        latch_count,
+        gates,
+        gate_count,
+    ) {
+        return HeadingAnswer::Refused(refusal, place);
+    }
+    if 255 < depth {
+        return HeadingAnswer::Refused(Refusal::Depth, 0);
+    }
+    let variables = clause_variables::frame_base(net, depth + 1);
+    if 2147483647 < variables {
+        return HeadingAnswer::Refused(Refusal::OutOfNumbers, 0);
+    }
+    HeadingAnswer::Heading {
+        variables,
+        clauses: group_order::lengths::clause_count(net, latches, gates, depth),
+    }
+}
+
+// Whether there is such a group at this depth.
+fn is_in_depth(depth: u32, group: Group) -> bool
+    ensures { λ r. ⌜ r ≡ inDepth depth group ⌝ }
+{
+    match group {
+        Group::Wires(i) => i <= depth,
+        Group::Pair(j, i) => (i <= depth) & (j < i),
+        Group::Closing(i) => i <= depth,
+        Group::Property => true,
+    }
+}
+
+// The tests of a group call with a slice of `room` numbers.
+fn test_group(
+    net: Netlist,
+    latches: &UnpackedList,
+    latch_count: usize,
+    gates: &UnpackedList,
+    gate_count: usize,
+    depth: u32,
+    group: Group,
+    room: usize,
+) -> Verdict
+    ensures { λ r. ⌜ r ≡ groupVerdict (netOf net (now (latches .entry)) (now (gates .entry))) «latch_count» «gate_count» depth group room ⌝ }
+{
+    let record = netlist_tests::test_record(net, latches, latch_count, gates, gate_count);
+    if let Verdict::Refused(_, _) = record {
+        return record;
+    }
+    if 255 < depth {
+        return Verdict::Refused(Refusal::Depth, 0);
+    }
+    if !is_in_depth(depth, group) {
+        return Verdict::Refused(Refusal::NoSuchGroup, 0);
+    }
+    if 2147483647 < clause_variables::frame_base(net, depth + 1) {
+        return Verdict::Refused(Refusal::OutOfNumbers, 0);
+    }
+    let need = group_order::lengths::group_length(net, latches, gates, depth, group);
+    if room < need as usize {
+        return Verdict::Refused(Refusal::NoRoom, 0);
+    }
+    Verdict::Passed
+}
+
+// Writes one group's clauses at the start of a slice, in document 01's order, and answers how many numbers that is; or refuses and
+// writes nothing.
+pub fn write_group(
+    net: Netlist,
+    latches: &UnpackedList,
+    latch_count: usize,
+    gates: &UnpackedList,
+    gate_count: usize,
+    depth: u32,
+    group: Group,
+    out: &mut [i32],
+) -> GroupAnswer
+    ensures answer { λ r. ⌜ groupReply r ≡ groupSent (netOf net (now (latches .entry)) (now (gates .entry))) «latch_count» «gate_count» depth group (length (now (out .entry))) ⌝ }
+    ensures borrowed { λ r. ⌜ now (out .exit) ≡ groupLeaves (netOf net (now (latches .entry)) (now (gates .entry))) «latch_count» «gate_count» depth group (now (out .entry)) ⌝ }
+{
+    let room = out.len();
+    if let Verdict::Refused(refusal, place) = test_group(
+        net,
+        latches,
+        latch_count,
+        gates,
+        gate_count,
+        depth,
+        group,
+        room,
+    ) {
+        return GroupAnswer::Refused(refusal, place);
+    }
+    GroupAnswer::Written(groups::put_group(out, net, latches, gates, depth, group))
+}

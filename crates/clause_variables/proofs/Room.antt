@@ -1,0 +1,39 @@
+-- Every variable of frames 0 to 255 of a netlist within its limits has a clause number. No contract cites this file.
+-- Assumes nothing.
+use Prim.Native.Nat.{ℕ, suc, _+_, _/_, _≤_, _<_}
+use mathlib.Core.Path.{_≡_}
+use native.Mathlib.Nat.{add-assoc}
+use native.Mathlib.Omega.{arith}
+use Rattle.model.specs.Netlist.{Netlist, Port, lastWire}
+use Rattle.model.specs.Clauses.{plus}
+use Rattle.model.specs.Variables.{base, pairBase}
+use Rattle.model.specs.Acceptance.{SizesFit, IsCode}
+use Rattle.model.proofs.Variables.{base-least, base-suc, base-most, pairBase-base, port-within}
+use Rattle.literals.specs.Lit.{HasNumber}
+use Rattle.clause_variables.specs.PortFits.{PortFits}
+
+-- a wire in a frame
+pub wire-has-number : (c : Netlist) → SizesFit c → (i w : ℕ) → i ≤ 255 → w ≤ lastWire c → HasNumber (base c i) w
+wire-has-number c h i w d l =
+    record {
+      after = base-least c i;
+      bounded = omega (arith, base-suc c i, base-most c h (suc i) (omega arith));
+    }
+
+-- a code in a frame
+pub code-has-number : (c : Netlist) → SizesFit c → (i x : ℕ) → i ≤ 255 → IsCode c x → HasNumber (base c i) (x / 2)
+code-has-number c h i x d l = wire-has-number c h i (x / 2) d (omega arith)
+
+-- a variable of a pair
+pub pair-has-number : (c : Netlist) (p : Port) → PortFits c p → (j i v : ℕ) → j < i → i ≤ 255 → v ≤ c .m + 4
+    → HasNumber (pairBase c p j i) v
+pair-has-number c p h j i v l d b =
+    record {
+      after = omega (arith, base-least c i, pairBase-base c p j i);
+      bounded = omega (arith, port-within c p j i v l (omega (arith, h .variables-fit)), base-most c (h .limits .sizes) (suc i) (omega arith));
+    }
+
+-- a variable of a pair, counted behind the e's of its address bits
+pub behind-bits : (c : Netlist) (p : Port) (j i q o : ℕ) → q ≡ pairBase c p j i
+    → plus (q + (c .m + o)) ≡ plus (pairBase c p j i + c .m + o)
+behind-bits c p j i q o e = rw (e, add-assoc)

@@ -1,0 +1,18 @@
+-- `clause_variables::frame_base` meets its contract. Assumes nothing.
+use borrow.Author.Needs.{needs}
+use Rattle.model.specs.Variables.{base}
+use Rattle.clause_variables.proofs.frame_base.Statement.{statement}
+use Rattle.clause_variables.proofs.frame_base.Tie as tie
+
+numbering-requires : tie.Need-numbering-requires
+numbering-requires c κs = c .pre .0
+
+base-requires : tie.Need-base-requires
+base-requires c κs = search needs
+
+returns : tie.Need-returns
+unfolding base
+returns c = rw (c .before .numbering .ensures .0, c .before .numbering .ensures .1) at (c .base .ensures)
+
+pub frame-base-spec : {M : Type 1} → statement M
+frame-base-spec = tie.close (tie.spec numbering-requires base-requires returns)

@@ -1,0 +1,19 @@
+-- `clause_variables::numbering` meets its contract. Assumes nothing.
+use borrow.Author.Needs.{needs}
+use Rattle.netlist.specs.NetOf.{netOf}
+use Rattle.clause_variables.proofs.numbering.Statement.{statement}
+use Rattle.clause_variables.proofs.numbering.Tie as tie
+
+last-wire-requires : tie.Need-last-wire-requires
+last-wire-requires c κs = search needs
+
+add-t3 : tie.Need-add-t3
+unfolding netOf
+add-t3 c = search needs
+
+returns : tie.Need-returns
+unfolding netOf
+returns c = search needs
+
+pub numbering-spec : {M : Type 1} → statement M
+numbering-spec = tie.close (tie.spec last-wire-requires add-t3 returns)

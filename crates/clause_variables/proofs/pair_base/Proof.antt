@@ -1,0 +1,20 @@
+-- `clause_variables::pair_base` meets its contract. Assumes nothing.
+use borrow.Author.Needs.{needs}
+use Rattle.model.specs.Variables.{pairBase}
+use Rattle.clause_variables.specs.PortOf.{portOf}
+use Rattle.clause_variables.proofs.pair_base.Statement.{statement}
+use Rattle.clause_variables.proofs.pair_base.Tie as tie
+
+numbering-requires : tie.Need-numbering-requires
+numbering-requires c κs = c .pre .0 .limits .sizes
+
+pair-base-requires : tie.Need-pair-base-requires
+unfolding portOf
+pair-base-requires c κs = search needs
+
+returns : tie.Need-returns
+unfolding pairBase portOf
+returns c = rw (c .before .numbering .ensures .0, c .before .numbering .ensures .1) at (c .pair-base .ensures)
+
+pub pair-base-spec : {M : Type 1} → statement M
+pair-base-spec = tie.close (tie.spec numbering-requires pair-base-requires returns)

@@ -1,0 +1,66 @@
+-- What the loops of a closing write, from the numbers and literals that they hold: one by one the model's clauses and
+-- literals. No contract cites this file. Assumes nothing.
+use Prim.Native.Nat.{ℕ, _+_, _*_}
+use mathlib.Core.Path.{_≡_, _∙_}
+use mathlib.Core.List.{List, [], _∷_, _++_, map}
+use native.Mathlib.Nat.{add-zero, add-assoc, zero-mul}
+use native.Mathlib.Omega.{arith}
+use lib.IntN.{ℤ}
+use lib.ListN.{length}
+use Rattle.model.specs.Bits.{bit}
+use Rattle.model.specs.Netlist.{Port, readWire}
+use Rattle.model.specs.Netlist as M
+use Rattle.model.specs.Gather.{gather}
+use Rattle.model.specs.Clauses.{Literal, known, plus, sameIfClauses, ClosingLiterals, initialReadClauses, selectedOf, someSource, closingClauses}
+use Rattle.model.specs.Variables.{stride, base, pairBase, wireAt, noneSince, selected, readBit, closingLiterals}
+use Rattle.model.specs.Numbers.{numberOf, written}
+use Rattle.model.proofs.Variables.{pairBase-base}
+use Rattle.model.proofs.Joined.{written-append}
+use Rattle.netlist.specs.NetOf.{netOf, alone}
+use Rattle.netlist.specs.declared.Netlist.{Netlist}
+use Rattle.clause_variables.specs.declared.Port as R
+use Rattle.clause_variables.specs.PortOf.{portOf}
+use Rattle.clause_writer.proofs.Turns.{written-gather, numbers-gather, gather-same, length-written}
+use Rattle.group_closing.specs.OfClosing.{ofClosing}
+
+-- the clauses of data bit t, from Z, the frame's base, the read wires before the port's and the port's before it, the start word
+abbrev pub initialBit : Literal → ℕ → ℕ → ℕ → ℕ → ℕ → List ℤ
+initialBit z reading first read word t = written (sameIfClauses z (wireAt reading (first + (read + t))) (known (bit word t)))
+
+pub initial-bits : (net : Netlist) (port : R.Port) (i n : ℕ) {reading first : ℕ} {z : Literal}
+    → z ≡ noneSince (alone net) (portOf port) 0 i → reading ≡ base (alone net) i → first ≡ readWire (alone net) 0
+    → written (gather n (initialReadClauses (ofClosing net port i)))
+    ≡ gather n (initialBit z reading first (port .«first_read») (net .«initial_word»))
+unfolding initialReadClauses closingLiterals readBit netOf portOf
+initial-bits net port i n ez er ef = rw (written-gather n (initialReadClauses (ofClosing net port i)), ez, er, ef, add-zero)
+
+-- where the variables of pair (j, i) start, from those of pair (0, i)
+pub source-base : (c : M.Netlist) (p : Port) (i : ℕ) {q s : ℕ} → q ≡ pairBase c p 0 i → s ≡ stride c → (j : ℕ)
+    → q + j * s ≡ pairBase c p j i
+source-base c p i e es j =
+    rw (e, es, pairBase-base c p 0 i, pairBase-base c p j i) (omega (arith, zero-mul (stride c)))
+
+-- S of pair (j, i), from where the pairs start and how far apart they are
+abbrev pub sourceAt : ℕ → ℕ → ℕ → ℕ → List ℤ
+sourceAt q s offset j = numberOf (plus (q + j * s + offset)) ∷ []
+
+pub sources : (net : Netlist) (port : R.Port) (i n : ℕ) {q s : ℕ}
+    → q ≡ pairBase (alone net) (portOf port) 0 i → s ≡ stride (alone net)
+    → map numberOf (gather n (selectedOf (ofClosing net port i))) ≡ gather n (sourceAt q s (net .m + 4))
+unfolding selectedOf closingLiterals selected netOf
+sources net port i n {q} {s} e es =
+    numbers-gather n (selectedOf (ofClosing net port i))
+    ∙ gather-same n _ (sourceAt q s (net .m + 4))
+    (λ j. rw (source-base (alone net) (portOf port) i e es j, add-assoc (pairBase (alone net) (portOf port) j i) (net .m) 4))
+
+-- the parts of a closing's clauses, in their order, and their room
+pub closing-parts : (n i : ℕ) (x : ClosingLiterals)
+    → written (closingClauses n i x) ≡ written (gather n (initialReadClauses x)) ++ written (someSource i x ∷ [])
+unfolding closingClauses
+closing-parts n i x = written-append (gather n (initialReadClauses x)) (someSource i x ∷ [])
+
+pub closing-room : (n i : ℕ) (x : ClosingLiterals)
+    → length (written (closingClauses n i x))
+    ≡ length (written (gather n (initialReadClauses x))) + length (written (someSource i x ∷ []))
+unfolding closingClauses
+closing-room n i x = length-written (gather n (initialReadClauses x)) (someSource i x ∷ [])

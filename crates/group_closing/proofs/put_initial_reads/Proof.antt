@@ -1,0 +1,113 @@
+-- `group_closing::put_initial_reads` meets its contract. The loop has written the bits passed. Assumes nothing.
+use Prim.Native.Nat.{_-_}
+use native.Mathlib.Omega.{arith}
+use borrow.Author.Needs.{needs}
+use Rattle.netlist.specs.NetOf.{netOf}
+use Rattle.literals.specs.Lit.{literalOf}
+use Rattle.clause_variables.specs.PortOf.{portOf}
+use Rattle.clause_variables.proofs.Room.{wire-has-number}
+use Rattle.clause_writer.proofs.Turns.{Turns, turns-start, turns-room, turns-count, turns-next, turns-end}
+use Rattle.group_closing.proofs.OfClosing.{initialBit, initial-bits}
+use Rattle.group_closing.proofs.put_initial_reads.Statement.{statement}
+use Rattle.group_closing.proofs.put_initial_reads.Tie as tie
+
+abbrev Inv-loop : tie.InvT-loop
+Inv-loop out₀ i noneSince reading first read word n at₀ t₀ out at t = Turns n (initialBit (literalOf noneSince) reading first read word) out₀ out t at
+
+abbrev μ-loop : tie.MeasureT-loop
+μ-loop out₀ i noneSince reading first read word n at₀ t₀ out at t = n - t
+
+none-since-requires : tie.Need-none-since-requires Inv-loop μ-loop
+none-since-requires c κs = let is = c .pre .0 in (is .fits, omega arith, omega arith)
+
+frame-base-requires : tie.Need-frame-base-requires Inv-loop μ-loop
+frame-base-requires c κs = let is = c .before .pre .0 in (is .fits .limits .sizes, omega arith)
+
+first-read-wire-requires : tie.Need-first-read-wire-requires Inv-loop μ-loop
+first-read-wire-requires c κs = c .before .before .pre .0 .fits .limits .sizes
+
+loop-holds : tie.Need-loop-holds Inv-loop μ-loop
+loop-holds c =
+    let a = c .before .before .before .args in
+    turns-start _ _ _ (rw (initial-bits (a .net) (a .port) (a .i) _ (c .before .before .none-since .ensures .0) (c .before .frame-base .ensures) (c .first-read-wire .ensures)) at (c .before .before .before .pre .1))
+
+mul-put-initial-bit : tie.Need-mul-put-initial-bit Inv-loop μ-loop
+mul-put-initial-bit c = search needs
+
+sub-put-initial-bit : tie.Need-sub-put-initial-bit Inv-loop μ-loop
+sub-put-initial-bit c = search needs
+
+part-put-initial-bit-start : tie.Need-part-put-initial-bit-start Inv-loop μ-loop
+part-put-initial-bit-start c = search needs
+
+part-put-initial-bit-end : tie.Need-part-put-initial-bit-end Inv-loop μ-loop
+part-put-initial-bit-end c = search needs
+
+add-t20 : tie.Need-add-t20 Inv-loop μ-loop
+unfolding netOf portOf
+add-t20 c = search needs
+
+add-t21 : tie.Need-add-t21 Inv-loop μ-loop
+unfolding netOf portOf
+add-t21 c = search needs
+
+put-initial-bit-requires : tie.Need-put-initial-bit-requires Inv-loop μ-loop
+unfolding netOf portOf
+put-initial-bit-requires c κs =
+    let is = c .before .before .before .before .before .before .pre .0 in
+    let h = c .before .loop-test .taken in (
+      c .before .before .before .before .before .none-since .ensures .1,
+      rw (c .before .before .before .before .frame-base .ensures) (wire-has-number _ (is .fits .limits .sizes) _ _ (is .depth) (omega arith)),
+      omega arith,
+      omega arith,
+      turns-room (c .before .before .loop .inv) h,
+    )
+
+add-at : tie.Need-add-at Inv-loop μ-loop
+unfolding netOf portOf
+add-at c =
+    let count = turns-count (c .before .before .before .before .loop .inv) (c .before .before .before .loop-test .taken) (c .before .put-initial-bit .ensures .counted) in
+    search needs
+
+add-t : tie.Need-add-t Inv-loop μ-loop
+add-t c = search needs
+
+loop-less : tie.Need-loop-less Inv-loop μ-loop
+loop-less c = search needs
+
+loop-again : tie.Need-loop-again Inv-loop μ-loop
+unfolding netOf portOf
+loop-again c =
+    turns-next (c .before .before .before .before .loop .inv) (c .before .before .before .loop-test .taken) (c .before .put-initial-bit .ensures)
+
+same-length : tie.Need-same-length Inv-loop μ-loop
+same-length c = search needs
+
+returns : tie.Need-returns Inv-loop μ-loop
+returns c =
+    let a = c .before .before .before .before .before .args in
+    rw (initial-bits (a .net) (a .port) (a .i) _ (c .before .before .before .before .none-since .ensures .0) (c .before .before .before .frame-base .ensures) (c .before .before .first-read-wire .ensures)) (turns-end (c .before .loop .inv) (omega arith))
+
+pub put-initial-reads-spec : {M : Type 1} → statement M
+put-initial-reads-spec =
+    tie.close
+    (tie.spec
+    Inv-loop
+    μ-loop
+    none-since-requires
+    frame-base-requires
+    first-read-wire-requires
+    loop-holds
+    mul-put-initial-bit
+    sub-put-initial-bit
+    part-put-initial-bit-start
+    part-put-initial-bit-end
+    add-t20
+    add-t21
+    put-initial-bit-requires
+    add-at
+    add-t
+    loop-less
+    loop-again
+    same-length
+    returns)

@@ -1,0 +1,111 @@
+// The clauses of the closing of frame i at a port (document 01, "Closing, frame i"): a read of a word that no earlier
+// frame wrote is the start word, and a read has some source.
+use clause_variables::Port;
+use literals::Lit;
+use literals::Wire;
+use netlist::Netlist;
+ghost use Prim.Native.Nat.{_≤_, _<_};
+ghost use mathlib.Core.List.{[], _∷_, map};
+ghost use lib.ListN.{length};
+ghost use Rattle.model.specs.Bits.{bit};
+ghost use Rattle.model.specs.Gather.{gather};
+ghost use Rattle.model.specs.Clauses.{known, sameIfClauses, initialReadClauses, selectedOf, someSource, closingClauses};
+ghost use Rattle.model.specs.Variables.{wireAt};
+ghost use Rattle.model.specs.Numbers.{numberOf, written};
+ghost use Rattle.literals.specs.Lit.{literalOf, IsLit, HasNumber};
+ghost use Rattle.model.specs.Wrote.{Wrote};
+ghost use Rattle.group_closing.specs.OfClosing.{ofClosing, ClosingFits};
+
+// The two clauses of data bit t: where Z is true, the read bit `rd` is the start bit.
+fn put_initial_bit(
+    out: &mut [i32],
+    none_since: Lit,
+    reading: u32,
+    rd: Wire,
+    word: u32,
+    t: u32,
+) -> usize
+    requires { ⌜ IsLit «none_since» × HasNumber reading (rd .0) × (1 ≤ rd .0) × (t < 32)
+        × (length (written (sameIfClauses (literalOf «none_since») (wireAt reading (rd .0)) (known (bit word t)))) ≤ length (now out)) ⌝ }
+    ensures { λ r. ⌜ Wrote (written (sameIfClauses (literalOf «none_since») (wireAt reading (rd .0)) (known (bit word t))))
+        (now (out .entry)) (now (out .exit)) r ⌝ }
+{
+    clause_tseitin::put_same_if(out, none_since, rd.in_frame(reading), Lit::bit(word, t))
+}
+
+// The clauses of each data bit, in bit order.
+fn put_initial_reads(out: &mut [i32], net: Netlist, port: Port, i: u32) -> usize
+    requires { ⌜ ClosingFits net port i × (length (written (gather (net .n) (initialReadClauses (ofClosing net port i)))) ≤ length (now out)) ⌝ }
+    ensures { λ r. ⌜ Wrote (written (gather (net .n) (initialReadClauses (ofClosing net port i)))) (now (out .entry)) (now (out .exit)) r ⌝ }
+{
+    let none_since = clause_variables::none_since(net, port, 0, i);
+    let reading = clause_variables::frame_base(net, i);
+    let first = netlist::first_read_wire(net);
+    let read = port.first_read;
+    let word = net.initial_word;
+    let n = net.n;
+    let mut at: usize = 0;
+    let mut t: u32 = 0;
+    while t < n {
+        at = at
+            + put_initial_bit(
+                &mut out[at..],
+                none_since,
+                reading,
+                Wire(first + (read + t)),
+                word,
+                t,
+            );
+        t = t + 1;
+    }
+    at
+}
+
+// S of each earlier frame, in ascending order.
+fn put_sources(out: &mut [i32], net: Netlist, port: Port, i: u32) -> usize
+    requires { ⌜ ClosingFits net port i × (length (map numberOf (gather i (selectedOf (ofClosing net port i)))) ≤ length (now out)) ⌝ }
+    ensures { λ r. ⌜ Wrote (map numberOf (gather i (selectedOf (ofClosing net port i)))) (now (out .entry)) (now (out .exit)) r ⌝ }
+{
+    let q = clause_variables::pair_base(net, port, 0, i);
+    let numbering = clause_variables::numbering(net);
+    let stride = numbering.stride;
+    let offset = net.m + 4;
+    let mut at: usize = 0;
+    let mut j: u32 = 0;
+    while j < i {
+        let selected = Lit::in_pair(q + j * stride, offset);
+        at = at + clause_writer::put_literal(&mut out[at..], selected);
+        j = j + 1;
+    }
+    at
+}
+
+// The sources, with the end mark.
+fn put_last_sources(out: &mut [i32], net: Netlist, port: Port, i: u32) -> usize
+    requires { ⌜ ClosingFits net port i × (length (written (gather i (selectedOf (ofClosing net port i)) ∷ [])) ≤ length (now out)) ⌝ }
+    ensures { λ r. ⌜ Wrote (written (gather i (selectedOf (ofClosing net port i)) ∷ [])) (now (out .entry)) (now (out .exit)) r ⌝ }
+{
+    let a = put_sources(out, net, port, i);
+    a + clause_writer::put_end(&mut out[a..])
+}
+
+// The clause (¬RE Z S(0,i) .. S(i−1,i)).
+fn put_some_source(out: &mut [i32], net: Netlist, port: Port, i: u32) -> usize
+    requires { ⌜ ClosingFits net port i × (length (written (someSource i (ofClosing net port i) ∷ [])) ≤ length (now out)) ⌝ }
+    ensures { λ r. ⌜ Wrote (written (someSource i (ofClosing net port i) ∷ [])) (now (out .entry)) (now (out .exit)) r ⌝ }
+{
+    let read_enable = port.re.in_frame(clause_variables::frame_base(net, i));
+    let none_since = clause_variables::none_since(net, port, 0, i);
+    let a = clause_writer::put_literal(out, read_enable.negated());
+    let b = a + clause_writer::put_literal(&mut out[a..], none_since);
+    b + put_last_sources(&mut out[b..], net, port, i)
+}
+
+// All clauses of the closing.
+pub fn put_closing(out: &mut [i32], net: Netlist, port: Port, i: u32) -> usize
+    requires { ⌜ ClosingFits net port i × (length (written (closingClauses (net .n) i (ofClosing net port i))) ≤ length (now out)) ⌝ }
+    ensures { λ r. ⌜ Wrote (written (closingClauses (net .n) i (ofClosing net port i))) (now (out .entry)) (now (out .exit)) r ⌝ }
+{
+    let a = put_initial_reads(out, net, port, i);
+    a + put_some_source(&mut out[a..], net, port, i)
+}

@@ -1,0 +1,139 @@
+-- `group_latches::put_latches` meets its contract. The loop has written the latches passed. Assumes nothing.
+use Prim.Native.Nat.{_-_}
+use mathlib.Core.Path.{refl}
+use mathlib.Core.List.{[]}
+use native.Mathlib.Omega.{arith}
+use borrow.Author.Needs.{needs}
+use Rattle.model.specs.Clauses.{sameClauses}
+use Rattle.model.specs.Groups.{latchClauses}
+use Rattle.model.specs.Numbers.{written}
+use Rattle.netlist.specs.NetOf.{netOf}
+use Rattle.netlist.proofs.NetOf.{sizes-lists}
+use Rattle.clause_variables.proofs.Room.{wire-has-number, code-has-number}
+use Rattle.clause_writer.proofs.Turns.{Turns, written-gather, turns-start-as, turns-room, turns-count, turns-next, turns-end}
+use Rattle.group_latches.proofs.StateOf.{latchAt, later-latches}
+use Rattle.group_latches.proofs.put_latches.Statement.{statement}
+use Rattle.group_latches.proofs.put_latches.Tie as tie
+
+abbrev Inv-loop : tie.InvT-loop
+Inv-loop out₀ latches i before b first n at₀ l₀ out at l = Turns n (latchAt b first before latches) out₀ out l at
+
+abbrev μ-loop : tie.MeasureT-loop
+μ-loop out₀ latches i before b first n at₀ l₀ out at l = n - l
+
+frame-base-requires : tie.Need-frame-base-requires Inv-loop μ-loop
+unfolding netOf
+frame-base-requires c κs =
+    (sizes-lists (c .args .net) (c .args .latches .now) [] [] [] (c .pre .0 .limits .sizes), omega arith)
+
+add-frame-base : tie.Need-add-frame-base Inv-loop μ-loop
+unfolding netOf
+add-frame-base c = search needs
+
+frame-base-requires-2 : tie.Need-frame-base-requires-2 Inv-loop μ-loop
+unfolding netOf
+frame-base-requires-2 c κs =
+    (sizes-lists (c .before .args .net) (c .before .args .latches .now) [] [] [] (c .before .pre .0 .limits .sizes), omega arith)
+
+first-latch-wire-requires : tie.Need-first-latch-wire-requires Inv-loop μ-loop
+first-latch-wire-requires c κs =
+    sizes-lists (c .before .before .args .net) (c .before .before .args .latches .now) [] [] [] (c .before .before .pre .0 .limits .sizes)
+
+loop-holds : tie.Need-loop-holds Inv-loop μ-loop
+unfolding written latchClauses sameClauses
+loop-holds c =
+    let a = c .before .before .before .args in
+    turns-start-as _ _ (λ l. written (latchClauses (netOf (a .net) (a .latches .now) []) (a .i) l)) _ (λ l. refl) (rw written-gather at (c .before .before .before .pre .1))
+
+mul-t14 : tie.Need-mul-t14 Inv-loop μ-loop
+unfolding netOf
+mul-t14 c = search needs
+
+cast-t15 : tie.Need-cast-t15 Inv-loop μ-loop
+unfolding netOf
+cast-t15 c = search needs
+
+mul-t16 : tie.Need-mul-t16 Inv-loop μ-loop
+unfolding netOf
+mul-t16 c = search needs
+
+element-copy-out-t19 : tie.Need-element-copy-out-t19 Inv-loop μ-loop
+unfolding netOf
+element-copy-out-t19 c = search needs
+
+mul-put-latch : tie.Need-mul-put-latch Inv-loop μ-loop
+mul-put-latch c = search needs
+
+sub-put-latch : tie.Need-sub-put-latch Inv-loop μ-loop
+sub-put-latch c = search needs
+
+part-put-latch-start : tie.Need-part-put-latch-start Inv-loop μ-loop
+part-put-latch-start c = search needs
+
+part-put-latch-end : tie.Need-part-put-latch-end Inv-loop μ-loop
+part-put-latch-end c = search needs
+
+add-t14 : tie.Need-add-t14 Inv-loop μ-loop
+unfolding netOf
+add-t14 c = search needs
+
+put-latch-requires : tie.Need-put-latch-requires Inv-loop μ-loop
+unfolding netOf
+put-latch-requires c κs =
+    let sizes = sizes-lists (c .before .before .before .before .before .before .before .args .net) (c .before .before .before .before .before .before .before .args .latches .now) [] [] [] (c .before .before .before .before .before .before .before .pre .0 .limits .sizes) in
+    let codes = c .before .before .before .before .before .before .before .pre .0 .limits .codes in (
+      rw (c .before .before .before .before .before .frame-base2 .ensures) (wire-has-number _ sizes _ _ (omega arith) (omega arith)),
+      omega arith,
+      rw (c .before .before .before .before .before .before .frame-base .ensures) (code-has-number _ sizes _ _ (omega arith) (codes .next-fits (c .before .before .before .loop .l) (c .before .before .loop-test .taken))),
+      turns-room (c .before .before .before .loop .inv) (c .before .before .loop-test .taken),
+    )
+
+add-at : tie.Need-add-at Inv-loop μ-loop
+add-at c =
+    let count = turns-count (c .before .before .before .before .before .loop .inv) (c .before .before .before .before .loop-test .taken) (c .before .put-latch .ensures .counted) in
+    search needs
+
+add-l : tie.Need-add-l Inv-loop μ-loop
+add-l c = search needs
+
+loop-less : tie.Need-loop-less Inv-loop μ-loop
+loop-less c = search needs
+
+loop-again : tie.Need-loop-again Inv-loop μ-loop
+loop-again c =
+    turns-next (c .before .before .before .before .before .loop .inv) (c .before .before .before .before .loop-test .taken) (c .before .put-latch .ensures)
+
+same-length : tie.Need-same-length Inv-loop μ-loop
+same-length c = search needs
+
+returns : tie.Need-returns Inv-loop μ-loop
+returns c =
+    rw (later-latches (c .before .before .before .before .before .args .net) (c .before .before .before .before .before .args .latches .now) (c .before .before .before .before .before .args .i) _ (c .before .before .before .before .frame-base .ensures) (c .before .before .before .frame-base2 .ensures) (c .before .before .first-latch-wire .ensures)) (turns-end (c .before .loop .inv) (omega arith))
+
+pub put-latches-spec : {M : Type 1} → statement M
+put-latches-spec =
+    tie.close
+    (tie.spec
+    Inv-loop
+    μ-loop
+    frame-base-requires
+    add-frame-base
+    frame-base-requires-2
+    first-latch-wire-requires
+    loop-holds
+    mul-t14
+    cast-t15
+    mul-t16
+    element-copy-out-t19
+    mul-put-latch
+    sub-put-latch
+    part-put-latch-start
+    part-put-latch-end
+    add-t14
+    put-latch-requires
+    add-at
+    add-l
+    loop-less
+    loop-again
+    same-length
+    returns)

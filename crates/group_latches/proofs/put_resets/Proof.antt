@@ -1,0 +1,125 @@
+-- `group_latches::put_resets` meets its contract. The loop has written the latches passed. Assumes nothing.
+use Prim.Native.Nat.{_-_}
+use mathlib.Core.List.{[]}
+use native.Mathlib.Omega.{arith}
+use borrow.Author.Needs.{needs}
+use Rattle.netlist.specs.NetOf.{netOf}
+use Rattle.netlist.proofs.NetOf.{sizes-lists}
+use Rattle.clause_variables.proofs.Room.{wire-has-number}
+use Rattle.clause_writer.proofs.Turns.{Turns, turns-start, turns-room, turns-count, turns-next, turns-end}
+use Rattle.group_latches.proofs.StateOf.{resetAt, resets}
+use Rattle.group_latches.proofs.put_resets.Statement.{statement}
+use Rattle.group_latches.proofs.put_resets.Tie as tie
+
+abbrev Inv-loop : tie.InvT-loop
+Inv-loop out₀ latches b first n at₀ l₀ out at l = Turns n (resetAt b first latches) out₀ out l at
+
+abbrev μ-loop : tie.MeasureT-loop
+μ-loop out₀ latches b first n at₀ l₀ out at l = n - l
+
+frame-base-requires : tie.Need-frame-base-requires Inv-loop μ-loop
+unfolding netOf
+frame-base-requires c κs =
+    (sizes-lists (c .args .net) (c .args .latches .now) [] [] [] (c .pre .0 .limits .sizes), omega arith)
+
+first-latch-wire-requires : tie.Need-first-latch-wire-requires Inv-loop μ-loop
+first-latch-wire-requires c κs =
+    sizes-lists (c .before .args .net) (c .before .args .latches .now) [] [] [] (c .before .pre .0 .limits .sizes)
+
+loop-holds : tie.Need-loop-holds Inv-loop μ-loop
+loop-holds c =
+    turns-start _ _ _ (rw (resets (c .before .before .args .net) (c .before .before .args .latches .now) _ (c .before .frame-base .ensures) (c .first-latch-wire .ensures)) at (c .before .before .pre .1))
+
+mul-reset : tie.Need-mul-reset Inv-loop μ-loop
+unfolding netOf
+mul-reset c = search needs
+
+add-reset : tie.Need-add-reset Inv-loop μ-loop
+unfolding netOf
+add-reset c = search needs
+
+cast-reset : tie.Need-cast-reset Inv-loop μ-loop
+unfolding netOf
+cast-reset c = search needs
+
+mul-reset-2 : tie.Need-mul-reset-2 Inv-loop μ-loop
+unfolding netOf
+mul-reset-2 c = search needs
+
+element-copy-out-reset : tie.Need-element-copy-out-reset Inv-loop μ-loop
+unfolding netOf
+element-copy-out-reset c = search needs
+
+mul-put-reset : tie.Need-mul-put-reset Inv-loop μ-loop
+mul-put-reset c = search needs
+
+sub-put-reset : tie.Need-sub-put-reset Inv-loop μ-loop
+sub-put-reset c = search needs
+
+part-put-reset-start : tie.Need-part-put-reset-start Inv-loop μ-loop
+part-put-reset-start c = search needs
+
+part-put-reset-end : tie.Need-part-put-reset-end Inv-loop μ-loop
+part-put-reset-end c = search needs
+
+add-t11 : tie.Need-add-t11 Inv-loop μ-loop
+unfolding netOf
+add-t11 c = search needs
+
+put-reset-requires : tie.Need-put-reset-requires Inv-loop μ-loop
+unfolding netOf
+put-reset-requires c κs =
+    let sizes = sizes-lists (c .before .before .before .before .before .before .args .net) (c .before .before .before .before .before .before .args .latches .now) [] [] [] (c .before .before .before .before .before .before .pre .0 .limits .sizes) in (
+      rw (c .before .before .before .before .before .frame-base .ensures) (wire-has-number _ sizes 0 _ (omega arith) (omega arith)),
+      omega arith,
+      turns-room (c .before .before .before .loop .inv) (c .before .before .loop-test .taken),
+    )
+
+add-at : tie.Need-add-at Inv-loop μ-loop
+add-at c =
+    let count = turns-count (c .before .before .before .before .before .loop .inv) (c .before .before .before .before .loop-test .taken) (c .before .put-reset .ensures .counted) in
+    search needs
+
+add-l : tie.Need-add-l Inv-loop μ-loop
+add-l c = search needs
+
+loop-less : tie.Need-loop-less Inv-loop μ-loop
+loop-less c = search needs
+
+loop-again : tie.Need-loop-again Inv-loop μ-loop
+loop-again c =
+    turns-next (c .before .before .before .before .before .loop .inv) (c .before .before .before .before .loop-test .taken) (c .before .put-reset .ensures)
+
+same-length : tie.Need-same-length Inv-loop μ-loop
+same-length c = search needs
+
+returns : tie.Need-returns Inv-loop μ-loop
+returns c =
+    rw (resets (c .before .before .before .before .args .net) (c .before .before .before .before .args .latches .now) _ (c .before .before .before .frame-base .ensures) (c .before .before .first-latch-wire .ensures)) (turns-end (c .before .loop .inv) (omega arith))
+
+pub put-resets-spec : {M : Type 1} → statement M
+put-resets-spec =
+    tie.close
+    (tie.spec
+    Inv-loop
+    μ-loop
+    frame-base-requires
+    first-latch-wire-requires
+    loop-holds
+    mul-reset
+    add-reset
+    cast-reset
+    mul-reset-2
+    element-copy-out-reset
+    mul-put-reset
+    sub-put-reset
+    part-put-reset-start
+    part-put-reset-end
+    add-t11
+    put-reset-requires
+    add-at
+    add-l
+    loop-less
+    loop-again
+    same-length
+    returns)

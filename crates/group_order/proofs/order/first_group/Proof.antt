@@ -1,0 +1,11 @@
+-- `group_order::order::first_group` meets its contract. Assumes nothing.
+use mathlib.Core.Path.{sym}
+use Rattle.group_order.proofs.Successor.{order-first}
+use Rattle.group_order.proofs.order.first_group.Statement.{statement}
+use Rattle.group_order.proofs.order.first_group.Tie as tie
+
+returns : tie.Need-returns
+returns c = sym (order-first (c .args .depth))
+
+pub first-group-spec : {M : Type 1} → statement M
+first-group-spec = tie.close (tie.spec returns)

@@ -1,0 +1,24 @@
+-- What stands first in a list of groups, and that the walk from group to group ends. Cited by `next_group` and by the text of a
+-- depth. Assumes nothing.
+use Prim.Native.Nat.{ℕ, _+_, _-_, _*_}
+use mathlib.Core.List.{List, [], _∷_}
+use Rattle.model.specs.declared.Group.{Group}
+use Rattle.model.specs.declared.Group.the-variants.{Wires, Pair, Closing, Property}
+use Rattle.group_order.specs.declared.order.Next.{Next}
+use Rattle.group_order.specs.declared.order.Next.the-variants.{Then, End}
+
+abbrev pub firstGroup : List Group → Next
+firstGroup [] = End
+firstGroup (g ∷ gs) = Then g
+
+-- at most so many groups follow at depth k: k + 3 for each later frame, those of its own frame, and the property
+abbrev pub leftAfter : ℕ → Group → ℕ
+leftAfter k (Wires i) = (k - i) * (k + 3) + (i + 2)
+leftAfter k (Pair j i) = (k - i) * (k + 3) + (j + 2)
+leftAfter k (Closing i) = (k - i) * (k + 3) + 1
+leftAfter k Property = 0
+
+-- the same of what comes next, itself included
+abbrev pub leftFrom : ℕ → Next → ℕ
+leftFrom k (Then g) = leftAfter k g + 1
+leftFrom k End = 0

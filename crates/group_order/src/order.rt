@@ -1,0 +1,45 @@
+// The order of the groups of a depth (document 01, "Order of the whole").
+ghost use mathlib.Core.Path.{_≡_};
+ghost use Prim.Native.Nat.{_≤_};
+ghost use mathlib.Core.List.{List, _∷_, _++_};
+ghost use Rattle.model.specs.Groups.{groupOrder};
+ghost use Rattle.group_order.specs.Next.{firstGroup, leftAfter, leftFrom};
+use model::Group;
+
+// What comes next in the order of the whole.
+pub enum Next {
+    Then(Group),
+    End,
+}
+
+// The group with which the order of the whole begins.
+pub fn first_group(depth: u32) -> Next
+    ensures { λ r. ⌜ r ≡ firstGroup (groupOrder depth) ⌝ }
+{
+    Next::Then(Group::Wires(0))
+}
+
+// The group that follows `group` in the order of the whole at this depth.
+pub fn next_group(depth: u32, group: Group) -> Next
+    ensures follows { λ r. ⌜ ((xs ys : List Group) → groupOrder depth ≡ xs ++ group ∷ ys → r ≡ firstGroup ys) ⌝ }
+    ensures ends { λ r. ⌜ leftFrom depth r ≤ leftAfter depth group ⌝ }
+{
+    match group {
+        Group::Wires(i) => if i == 0 {
+            Next::Then(Group::Closing(i))
+        } else {
+            Next::Then(Group::Pair(i - 1, i))
+        },
+        Group::Pair(j, i) => if j == 0 {
+            Next::Then(Group::Closing(i))
+        } else {
+            Next::Then(Group::Pair(j - 1, i))
+        },
+        Group::Closing(i) => if i < depth {
+            Next::Then(Group::Wires(i + 1))
+        } else {
+            Next::Then(Group::Property)
+        },
+        Group::Property => Next::End,
+    }
+}

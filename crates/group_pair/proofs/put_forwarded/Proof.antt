@@ -1,0 +1,138 @@
+-- `group_pair::put_forwarded` meets its contract. The loop has written the bits passed. Assumes nothing.
+use Prim.Native.Nat.{_-_}
+use mathlib.Core.Path.{refl}
+use native.Mathlib.Omega.{arith}
+use borrow.Author.Needs.{needs}
+use Rattle.model.specs.Clauses.{sameIfClauses, forwardedClauses}
+use Rattle.model.specs.Numbers.{written}
+use Rattle.netlist.specs.NetOf.{codeOf, netOf}
+use Rattle.clause_variables.specs.PortOf.{portOf}
+use Rattle.clause_variables.specs.OfPair.{ofPair}
+use Rattle.clause_variables.proofs.Room.{wire-has-number, code-has-number}
+use Rattle.literals.specs.Lit.{literalOf}
+use Rattle.clause_writer.proofs.Turns.{Turns, written-gather, turns-start-as, turns-room, turns-count, turns-next, turns-end}
+use Rattle.group_pair.proofs.OfPair.{forwardedBit, forwarded-bits}
+use Rattle.group_pair.proofs.put_forwarded.Statement.{statement}
+use Rattle.group_pair.proofs.put_forwarded.Tie as tie
+
+abbrev Inv-loop : tie.InvT-loop
+Inv-loop out₀ j i net selected writing reading first read n at₀ t₀ out at t = Turns n (forwardedBit (literalOf selected) reading first read writing net) out₀ out t at
+
+abbrev μ-loop : tie.MeasureT-loop
+μ-loop out₀ j i net selected writing reading first read n at₀ t₀ out at t = n - t
+
+selected-requires : tie.Need-selected-requires Inv-loop μ-loop
+selected-requires c κs = let is = c .pre .0 in (is .fits, omega arith, omega arith)
+
+frame-base-requires : tie.Need-frame-base-requires Inv-loop μ-loop
+frame-base-requires c κs = let is = c .before .pre .0 in (is .fits .limits .sizes, omega arith)
+
+frame-base-requires-2 : tie.Need-frame-base-requires-2 Inv-loop μ-loop
+frame-base-requires-2 c κs = let is = c .before .before .pre .0 in (is .fits .limits .sizes, omega arith)
+
+first-read-wire-requires : tie.Need-first-read-wire-requires Inv-loop μ-loop
+first-read-wire-requires c κs = c .before .before .before .pre .0 .fits .limits .sizes
+
+loop-holds : tie.Need-loop-holds Inv-loop μ-loop
+unfolding written forwardedClauses sameIfClauses
+loop-holds c =
+    let a = c .before .before .before .before .args in
+    turns-start-as _ _ (λ t. written (forwardedClauses (ofPair (a .t2) (a .port) (a .j) (a .i)) t)) _ (λ t. refl) (rw written-gather at (c .before .before .before .before .pre .1))
+
+cast-wd : tie.Need-cast-wd Inv-loop μ-loop
+unfolding netOf portOf
+cast-wd c = search needs
+
+mul-wd : tie.Need-mul-wd Inv-loop μ-loop
+unfolding netOf portOf
+mul-wd c = search needs
+
+element-copy-out-wd : tie.Need-element-copy-out-wd Inv-loop μ-loop
+unfolding netOf portOf
+element-copy-out-wd c = search needs
+
+mul-put-forwarded-bit : tie.Need-mul-put-forwarded-bit Inv-loop μ-loop
+mul-put-forwarded-bit c = search needs
+
+sub-put-forwarded-bit : tie.Need-sub-put-forwarded-bit Inv-loop μ-loop
+sub-put-forwarded-bit c = search needs
+
+part-put-forwarded-bit-start : tie.Need-part-put-forwarded-bit-start Inv-loop μ-loop
+part-put-forwarded-bit-start c = search needs
+
+part-put-forwarded-bit-end : tie.Need-part-put-forwarded-bit-end Inv-loop μ-loop
+part-put-forwarded-bit-end c = search needs
+
+add-t27 : tie.Need-add-t27 Inv-loop μ-loop
+unfolding netOf portOf
+add-t27 c = search needs
+
+add-t28 : tie.Need-add-t28 Inv-loop μ-loop
+unfolding netOf portOf
+add-t28 c = search needs
+
+put-forwarded-bit-requires : tie.Need-put-forwarded-bit-requires Inv-loop μ-loop
+unfolding codeOf netOf portOf
+put-forwarded-bit-requires c κs =
+    let is = c .before .before .before .before .before .before .before .before .pre .0 in
+    let t = c .before .before .before .loop .t in
+    let h = c .before .before .loop-test .taken in (
+      c .before .before .before .before .before .before .before .selected .ensures .1,
+      rw (c .before .before .before .before .before .frame-base2 .ensures) (wire-has-number _ (is .fits .limits .sizes) _ _ (omega arith) (omega arith)),
+      omega arith,
+      rw (c .before .before .before .before .before .before .frame-base .ensures) (code-has-number _ (is .fits .limits .sizes) _ _ (omega arith) (is .fits .limits .codes .data-fits t h)),
+      turns-room (c .before .before .before .loop .inv) h,
+    )
+
+add-at : tie.Need-add-at Inv-loop μ-loop
+unfolding codeOf netOf portOf
+add-at c =
+    let count = turns-count (c .before .before .before .before .before .loop .inv) (c .before .before .before .before .loop-test .taken) (c .before .put-forwarded-bit .ensures .counted) in
+    search needs
+
+add-t : tie.Need-add-t Inv-loop μ-loop
+add-t c = search needs
+
+loop-less : tie.Need-loop-less Inv-loop μ-loop
+loop-less c = search needs
+
+loop-again : tie.Need-loop-again Inv-loop μ-loop
+unfolding codeOf netOf portOf
+loop-again c =
+    turns-next (c .before .before .before .before .before .loop .inv) (c .before .before .before .before .loop-test .taken) (c .before .put-forwarded-bit .ensures)
+
+same-length : tie.Need-same-length Inv-loop μ-loop
+same-length c = search needs
+
+returns : tie.Need-returns Inv-loop μ-loop
+returns c =
+    let a = c .before .before .before .before .before .before .args in
+    rw (forwarded-bits (a .t2) (a .port) (a .j) (a .i) _ (c .before .before .before .before .before .selected .ensures .0) (c .before .before .before .frame-base2 .ensures) (c .before .before .before .before .frame-base .ensures) (c .before .before .first-read-wire .ensures)) (turns-end (c .before .loop .inv) (omega arith))
+
+pub put-forwarded-spec : {M : Type 1} → statement M
+put-forwarded-spec =
+    tie.close
+    (tie.spec
+    Inv-loop
+    μ-loop
+    selected-requires
+    frame-base-requires
+    frame-base-requires-2
+    first-read-wire-requires
+    loop-holds
+    cast-wd
+    mul-wd
+    element-copy-out-wd
+    mul-put-forwarded-bit
+    sub-put-forwarded-bit
+    part-put-forwarded-bit-start
+    part-put-forwarded-bit-end
+    add-t27
+    add-t28
+    put-forwarded-bit-requires
+    add-at
+    add-t
+    loop-less
+    loop-again
+    same-length
+    returns)

@@ -1,0 +1,135 @@
+-- `group_pair_address::put_address_bits` meets its contract. The loop has written the bits passed. Assumes nothing.
+use Prim.Native.Nat.{_-_}
+use mathlib.Core.Path.{refl}
+use native.Mathlib.Omega.{arith}
+use borrow.Author.Needs.{needs}
+use Rattle.model.specs.Clauses.{bitClauses, addressBitClauses}
+use Rattle.model.specs.Numbers.{written}
+use Rattle.netlist.specs.NetOf.{codeOf, netOf}
+use Rattle.clause_variables.specs.PortOf.{portOf}
+use Rattle.clause_variables.proofs.Room.{code-has-number, pair-has-number}
+use Rattle.clause_variables.specs.OfPair.{ofPair}
+use Rattle.clause_writer.proofs.Turns.{Turns, written-gather, turns-start-as, turns-room, turns-count, turns-next, turns-end}
+use Rattle.group_pair_address.proofs.BitsOf.{addressBit, address-bits}
+use Rattle.group_pair_address.proofs.put_address_bits.Statement.{statement}
+use Rattle.group_pair_address.proofs.put_address_bits.Tie as tie
+
+abbrev Inv-loop : tie.InvT-loop
+Inv-loop out₀ j i net port q writing reading m at₀ t₀ out at t = Turns m (addressBit q writing reading net port) out₀ out t at
+
+abbrev μ-loop : tie.MeasureT-loop
+μ-loop out₀ j i net port q writing reading m at₀ t₀ out at t = m - t
+
+pair-base-requires : tie.Need-pair-base-requires Inv-loop μ-loop
+pair-base-requires c κs = let is = c .pre .0 in (is .fits, omega arith, omega arith)
+
+frame-base-requires : tie.Need-frame-base-requires Inv-loop μ-loop
+frame-base-requires c κs = let is = c .before .pre .0 in (is .fits .limits .sizes, omega arith)
+
+frame-base-requires-2 : tie.Need-frame-base-requires-2 Inv-loop μ-loop
+frame-base-requires-2 c κs = let is = c .before .before .pre .0 in (is .fits .limits .sizes, omega arith)
+
+loop-holds : tie.Need-loop-holds Inv-loop μ-loop
+unfolding written addressBitClauses bitClauses
+loop-holds c =
+    let a = c .before .before .before .args in
+    turns-start-as _ _ (λ t. written (addressBitClauses (ofPair (a .t2) (a .t3) (a .j) (a .i)) t)) _ (λ t. refl) (rw written-gather at (c .before .before .before .pre .1))
+
+cast-x : tie.Need-cast-x Inv-loop μ-loop
+cast-x c = search needs
+
+mul-x : tie.Need-mul-x Inv-loop μ-loop
+unfolding netOf
+mul-x c = search needs
+
+element-copy-out-x : tie.Need-element-copy-out-x Inv-loop μ-loop
+unfolding netOf
+element-copy-out-x c = search needs
+
+cast-y : tie.Need-cast-y Inv-loop μ-loop
+cast-y c = search needs
+
+mul-y : tie.Need-mul-y Inv-loop μ-loop
+unfolding netOf
+mul-y c = search needs
+
+element-copy-out-y : tie.Need-element-copy-out-y Inv-loop μ-loop
+unfolding netOf
+element-copy-out-y c = search needs
+
+mul-put-address-bit : tie.Need-mul-put-address-bit Inv-loop μ-loop
+mul-put-address-bit c = search needs
+
+sub-put-address-bit : tie.Need-sub-put-address-bit Inv-loop μ-loop
+sub-put-address-bit c = search needs
+
+part-put-address-bit-start : tie.Need-part-put-address-bit-start Inv-loop μ-loop
+part-put-address-bit-start c = search needs
+
+part-put-address-bit-end : tie.Need-part-put-address-bit-end Inv-loop μ-loop
+part-put-address-bit-end c = search needs
+
+put-address-bit-requires : tie.Need-put-address-bit-requires Inv-loop μ-loop
+unfolding codeOf netOf portOf
+put-address-bit-requires c κs =
+    let is = c .before .before .before .before .before .before .before .before .pre .0 in
+    let h = c .before .before .before .loop-test .taken in
+    let t = c .before .before .before .before .loop .t in (
+      rw (c .before .before .before .before .before .before .before .pair-base .ensures) (pair-has-number _ _ (is .fits) _ _ _ (is .earlier) (is .depth) (omega arith)),
+      rw (c .before .before .before .before .before .before .frame-base .ensures) (code-has-number _ (is .fits .limits .sizes) _ _ (omega arith) (is .fits .limits .codes .address-fits t h)),
+      rw (c .before .before .before .before .before .frame-base2 .ensures) (code-has-number _ (is .fits .limits .sizes) _ _ (omega arith) (is .fits .port-address-fits t h)),
+      turns-room (c .before .before .before .before .loop .inv) h,
+    )
+
+add-at : tie.Need-add-at Inv-loop μ-loop
+unfolding codeOf netOf portOf
+add-at c =
+    let count = turns-count (c .before .before .before .before .before .before .loop .inv) (c .before .before .before .before .before .loop-test .taken) (c .before .put-address-bit .ensures .counted) in
+    search needs
+
+add-t : tie.Need-add-t Inv-loop μ-loop
+add-t c = search needs
+
+loop-less : tie.Need-loop-less Inv-loop μ-loop
+loop-less c = search needs
+
+loop-again : tie.Need-loop-again Inv-loop μ-loop
+unfolding codeOf netOf portOf
+loop-again c =
+    turns-next (c .before .before .before .before .before .before .loop .inv) (c .before .before .before .before .before .loop-test .taken) (c .before .put-address-bit .ensures)
+
+same-length : tie.Need-same-length Inv-loop μ-loop
+same-length c = search needs
+
+returns : tie.Need-returns Inv-loop μ-loop
+returns c =
+    let a = c .before .before .before .before .before .args in
+    rw (address-bits (a .t2) (a .t3) (a .j) (a .i) _ (c .before .before .before .before .pair-base .ensures) (c .before .before .before .frame-base .ensures) (c .before .before .frame-base2 .ensures)) (turns-end (c .before .loop .inv) (omega arith))
+
+pub put-address-bits-spec : {M : Type 1} → statement M
+put-address-bits-spec =
+    tie.close
+    (tie.spec
+    Inv-loop
+    μ-loop
+    pair-base-requires
+    frame-base-requires
+    frame-base-requires-2
+    loop-holds
+    cast-x
+    mul-x
+    element-copy-out-x
+    cast-y
+    mul-y
+    element-copy-out-y
+    mul-put-address-bit
+    sub-put-address-bit
+    part-put-address-bit-start
+    part-put-address-bit-end
+    put-address-bit-requires
+    add-at
+    add-t
+    loop-less
+    loop-again
+    same-length
+    returns)

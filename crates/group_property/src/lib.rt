@@ -1,0 +1,38 @@
+// The clause of the property (document 01, "Property"): P is false in some frame from 0 to k.
+use netlist::Netlist;
+ghost use Prim.Native.Nat.{_+_, _≤_};
+ghost use mathlib.Core.List.{map};
+ghost use lib.ListN.{length};
+ghost use Rattle.model.specs.Gather.{gather};
+ghost use Rattle.model.specs.Groups.{violationOf};
+ghost use Rattle.model.specs.Numbers.{numberOf, numbersOf};
+ghost use Rattle.model.specs.declared.Group.the-variants.{Property};
+ghost use Rattle.netlist.specs.NetOf.{alone};
+ghost use Rattle.clause_variables.specs.FrameFits.{FrameFits};
+ghost use Rattle.model.specs.Wrote.{Wrote};
+
+// ¬P of each frame from 0 to k.
+fn put_violations(out: &mut [i32], net: Netlist, k: u32) -> usize
+    requires { ⌜ FrameFits (alone net) k × (length (map numberOf (gather (k + 1) (violationOf (alone net)))) ≤ length (now out)) ⌝ }
+    ensures { λ r. ⌜ Wrote (map numberOf (gather (k + 1) (violationOf (alone net)))) (now (out .entry)) (now (out .exit)) r ⌝ }
+{
+    let numbering = clause_variables::numbering(net);
+    let p = net.p;
+    let mut at: usize = 0;
+    let mut i: u32 = 0;
+    while i < k + 1 {
+        let property = p.in_frame(numbering.base(i));
+        at = at + clause_writer::put_literal(&mut out[at..], property.negated());
+        i = i + 1;
+    }
+    at
+}
+
+// The clause, with its end mark.
+pub fn put_property(out: &mut [i32], net: Netlist, k: u32) -> usize
+    requires { ⌜ FrameFits (alone net) k × (length (numbersOf (alone net) k Property) ≤ length (now out)) ⌝ }
+    ensures { λ r. ⌜ Wrote (numbersOf (alone net) k Property) (now (out .entry)) (now (out .exit)) r ⌝ }
+{
+    let a = put_violations(out, net, k);
+    a + clause_writer::put_end(&mut out[a..])
+}

@@ -1,0 +1,59 @@
+-- What the loop over the gates writes, from the base and the list that it holds: one by one the model's clauses; and the parts
+-- of a frame's wires. No contract cites this file. Assumes nothing.
+use Prim.Native.Nat.{ℕ, zero, suc, _+_, _*_}
+use mathlib.Core.Path.{_≡_, refl, _∙_, ap₂, ap}
+use mathlib.Core.List.{List, [], _∷_, _++_}
+use native.Mathlib.Nat.{add-zero}
+use lib.IntN.{ℤ}
+use lib.ListN.{length, getD, length-append}
+use Rattle.model.specs.Netlist.{gateWire}
+use Rattle.model.specs.Gather.{gather}
+use Rattle.model.specs.Clauses.{Clause, plus, andClauses}
+use Rattle.model.specs.Variables.{base, wireAt, codeAt}
+use Rattle.model.specs.Groups.{resetClauses, latchClauses, gateClauses, stateClauses, clausesOf}
+use Rattle.model.specs.Numbers.{written, numbersOf}
+use Rattle.model.specs.declared.Group.the-variants.{Wires}
+use Rattle.model.proofs.Joined.{written-append}
+use Rattle.netlist.specs.NetOf.{netOf, alone}
+use Rattle.netlist.specs.declared.Netlist.{Netlist}
+use Rattle.clause_writer.proofs.Turns.{written-gather, gather-same}
+
+-- gate g
+abbrev pub gateAt : ℕ → ℕ → List ℕ → ℕ → List ℤ
+gateAt b first gs g = written (andClauses (wireAt b (first + g)) (codeAt b (getD gs (2 * g) 0)) (codeAt b (getD gs (2 * g + 1) 0)))
+
+pub all-gates : (net : Netlist) (gs : List ℕ) (i n : ℕ) {b first : ℕ} → b ≡ base (alone net) i → first ≡ gateWire (alone net) 0
+    → written (gather n (gateClauses (netOf net [] gs) i)) ≡ gather n (gateAt b first gs)
+unfolding gateClauses base netOf
+all-gates net gs i n e f = rw (written-gather n (gateClauses (netOf net [] gs) i), e, f, add-zero)
+
+-- latches do not look at the gates
+state-without-gates : (net : Netlist) (ls gs : List ℕ) (i : ℕ) → stateClauses (netOf net ls gs) i ≡ stateClauses (netOf net ls []) i
+unfolding stateClauses resetClauses latchClauses base netOf
+state-without-gates net ls gs zero =
+    ap (λ (xs : List Clause). (plus 1 ∷ []) ∷ xs)
+    (gather-same (net .latches) (resetClauses (netOf net ls gs)) (resetClauses (netOf net ls [])) (λ l. refl))
+state-without-gates net ls gs (suc i) =
+    gather-same (net .latches) (latchClauses (netOf net ls gs) i) (latchClauses (netOf net ls []) i) (λ l. refl)
+
+-- nor gates at the latches
+gates-without-latches : (net : Netlist) (ls gs : List ℕ) (i g : ℕ)
+    → gateClauses (netOf net ls gs) i g ≡ gateClauses (netOf net [] gs) i g
+unfolding gateClauses base netOf
+gates-without-latches net ls gs i g = refl
+
+-- the parts of a frame's wires, in their order, and their room
+pub wires-parts : (net : Netlist) (ls gs : List ℕ) (k i : ℕ)
+    → numbersOf (netOf net ls gs) k (Wires i)
+    ≡ written (stateClauses (netOf net ls []) i) ++ written (gather (net .gates) (gateClauses (netOf net [] gs) i))
+unfolding numbersOf clausesOf netOf
+wires-parts net ls gs k i =
+    written-append (stateClauses (netOf net ls gs) i) (gather (net .gates) (gateClauses (netOf net ls gs) i))
+    ∙ ap₂ (λ xs ys. written xs ++ written ys) (state-without-gates net ls gs i)
+    (gather-same (net .gates) (gateClauses (netOf net ls gs) i) (gateClauses (netOf net [] gs) i) (gates-without-latches net ls gs i))
+
+pub wires-room : (net : Netlist) (ls gs : List ℕ) (k i : ℕ)
+    → length (numbersOf (netOf net ls gs) k (Wires i))
+    ≡ length (written (stateClauses (netOf net ls []) i))
+    + length (written (gather (net .gates) (gateClauses (netOf net [] gs) i)))
+wires-room net ls gs k i = rw (wires-parts net ls gs k i, length-append)

@@ -1,0 +1,152 @@
+-- `group_wires::put_gates` meets its contract. The loop has written the gates passed. Assumes nothing.
+use Prim.Native.Nat.{_-_}
+use mathlib.Core.Path.{refl}
+use mathlib.Core.List.{[]}
+use native.Mathlib.Omega.{arith}
+use borrow.Author.Needs.{needs}
+use Rattle.model.specs.Clauses.{andClauses}
+use Rattle.model.specs.Groups.{gateClauses}
+use Rattle.model.specs.Numbers.{written}
+use Rattle.netlist.specs.NetOf.{netOf}
+use Rattle.netlist.proofs.NetOf.{sizes-lists}
+use Rattle.clause_variables.proofs.Room.{wire-has-number, code-has-number}
+use Rattle.clause_writer.proofs.Turns.{Turns, written-gather, turns-start-as, turns-room, turns-count, turns-next, turns-end}
+use Rattle.group_wires.proofs.WiresOf.{gateAt, all-gates}
+use Rattle.group_wires.proofs.put_gates.Statement.{statement}
+use Rattle.group_wires.proofs.put_gates.Tie as tie
+
+abbrev Inv-loop : tie.InvT-loop
+Inv-loop out₀ gates i b first n at₀ g₀ out at g = Turns n (gateAt b first gates) out₀ out g at
+
+abbrev μ-loop : tie.MeasureT-loop
+μ-loop out₀ gates i b first n at₀ g₀ out at g = n - g
+
+frame-base-requires : tie.Need-frame-base-requires Inv-loop μ-loop
+unfolding netOf
+frame-base-requires c κs = (sizes-lists (c .args .net) [] (c .args .gates .now) [] [] (c .pre .0 .limits .sizes), omega arith)
+
+first-gate-wire-requires : tie.Need-first-gate-wire-requires Inv-loop μ-loop
+first-gate-wire-requires c κs = sizes-lists (c .before .args .net) [] (c .before .args .gates .now) [] [] (c .before .pre .0 .limits .sizes)
+
+loop-holds : tie.Need-loop-holds Inv-loop μ-loop
+unfolding written gateClauses andClauses
+loop-holds c =
+    let a = c .before .before .args in
+    turns-start-as _ _ (λ g. written (gateClauses (netOf (a .net) [] (a .gates .now)) (a .i) g)) _ (λ g. refl) (rw written-gather at (c .before .before .pre .1))
+
+mul-t13 : tie.Need-mul-t13 Inv-loop μ-loop
+unfolding netOf
+mul-t13 c = search needs
+
+cast-t14 : tie.Need-cast-t14 Inv-loop μ-loop
+unfolding netOf
+cast-t14 c = search needs
+
+mul-t15 : tie.Need-mul-t15 Inv-loop μ-loop
+unfolding netOf
+mul-t15 c = search needs
+
+element-copy-out-t18 : tie.Need-element-copy-out-t18 Inv-loop μ-loop
+unfolding netOf
+element-copy-out-t18 c = search needs
+
+mul-t13-2 : tie.Need-mul-t13-2 Inv-loop μ-loop
+unfolding netOf
+mul-t13-2 c = search needs
+
+add-t18 : tie.Need-add-t18 Inv-loop μ-loop
+unfolding netOf
+add-t18 c = search needs
+
+cast-t15 : tie.Need-cast-t15 Inv-loop μ-loop
+unfolding netOf
+cast-t15 c = search needs
+
+mul-t14 : tie.Need-mul-t14 Inv-loop μ-loop
+unfolding netOf
+mul-t14 c = search needs
+
+element-copy-out-t21 : tie.Need-element-copy-out-t21 Inv-loop μ-loop
+unfolding netOf
+element-copy-out-t21 c = search needs
+
+mul-put-gate : tie.Need-mul-put-gate Inv-loop μ-loop
+mul-put-gate c = search needs
+
+sub-put-gate : tie.Need-sub-put-gate Inv-loop μ-loop
+sub-put-gate c = search needs
+
+part-put-gate-start : tie.Need-part-put-gate-start Inv-loop μ-loop
+part-put-gate-start c = search needs
+
+part-put-gate-end : tie.Need-part-put-gate-end Inv-loop μ-loop
+part-put-gate-end c = search needs
+
+add-t13 : tie.Need-add-t13 Inv-loop μ-loop
+unfolding netOf
+add-t13 c = search needs
+
+put-gate-requires : tie.Need-put-gate-requires Inv-loop μ-loop
+unfolding netOf
+put-gate-requires c κs =
+    let sizes = sizes-lists (c .before .before .before .before .before .before .before .args .net) [] (c .before .before .before .before .before .before .before .args .gates .now) [] [] (c .before .before .before .before .before .before .before .pre .0 .limits .sizes) in
+    let codes = c .before .before .before .before .before .before .before .pre .0 .limits .codes in (
+      rw (c .before .before .before .before .before .before .frame-base .ensures) (wire-has-number _ sizes _ _ (omega arith) (omega arith)),
+      omega arith,
+      rw (c .before .before .before .before .before .before .frame-base .ensures) (code-has-number _ sizes _ _ (omega arith) (omega (arith, codes .left-fits (c .before .before .before .before .loop .g) (omega arith)))),
+      rw (c .before .before .before .before .before .before .frame-base .ensures) (code-has-number _ sizes _ _ (omega arith) (omega (arith, codes .right-fits (c .before .before .before .before .loop .g) (omega arith)))),
+      turns-room (c .before .before .before .before .loop .inv) (omega arith),
+    )
+
+add-at : tie.Need-add-at Inv-loop μ-loop
+add-at c =
+    let count = turns-count (c .before .before .before .before .before .before .loop .inv) (omega arith) (c .before .put-gate .ensures .counted) in
+    search needs
+
+add-g : tie.Need-add-g Inv-loop μ-loop
+add-g c = search needs
+
+loop-less : tie.Need-loop-less Inv-loop μ-loop
+loop-less c = search needs
+
+loop-again : tie.Need-loop-again Inv-loop μ-loop
+loop-again c =
+    turns-next (c .before .before .before .before .before .before .loop .inv) (omega arith) (c .before .put-gate .ensures)
+
+same-length : tie.Need-same-length Inv-loop μ-loop
+same-length c = search needs
+
+returns : tie.Need-returns Inv-loop μ-loop
+returns c =
+    rw (all-gates (c .before .before .before .before .args .net) (c .before .before .before .before .args .gates .now) (c .before .before .before .before .args .i) _ (c .before .before .before .frame-base .ensures) (c .before .before .first-gate-wire .ensures)) (turns-end (c .before .loop .inv) (omega arith))
+
+pub put-gates-spec : {M : Type 1} → statement M
+put-gates-spec =
+    tie.close
+    (tie.spec
+    Inv-loop
+    μ-loop
+    frame-base-requires
+    first-gate-wire-requires
+    loop-holds
+    mul-t13
+    cast-t14
+    mul-t15
+    element-copy-out-t18
+    mul-t13-2
+    add-t18
+    cast-t15
+    mul-t14
+    element-copy-out-t21
+    mul-put-gate
+    sub-put-gate
+    part-put-gate-start
+    part-put-gate-end
+    add-t13
+    put-gate-requires
+    add-at
+    add-g
+    loop-less
+    loop-again
+    same-length
+    returns)

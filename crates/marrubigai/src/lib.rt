@@ -1,0 +1,108 @@
+// The library for C and Rust: each public call under its plain name (include/marrubigai.h).
+use call_lists::Gate;
+use call_lists::Latch;
+use call_replies::CountReply;
+use call_replies::HeadingReply;
+use call_replies::LineReply;
+use call_replies::SheetReply;
+use netlist::Netlist;
+use sheet_reader::SheetReader;
+ghost use mathlib.Core.Path.{_≡_};
+ghost use Prim.Native.Nat.{_+_};
+ghost use lib.ListN.{length};
+ghost use Rattle.calls.specs.LentCalls.{headingFor, groupFor, numbersLeft};
+ghost use Rattle.dimacs.specs.Text.{headerText, clauseText, refusalText};
+ghost use Rattle.dimacs.specs.PrintCalls.{printSent, printLeaves};
+ghost use Rattle.sheet_parse.specs.Files.{lineIn};
+ghost use Rattle.sheet_reader.specs.NextLine.{nextNumber};
+ghost use Rattle.sheet_reader.specs.ReadCall.{readVerdict, readRecord, latchesLeft, gatesLeft, SheetDelivered};
+ghost use Rattle.call_replies.specs.Replies.{groupOf, countNumbers, headingNumbers, sheetNumbers, lineNumbers};
+
+// `calls::write_group`. The kind is 0 for the wires of frame i, 1 for the pair (j, i), 2 for the closing of frame i, 3 for the property.
+#[no_mangle]
+pub extern "C" fn marrubigai_write_group(
+    net: Netlist,
+    latches: &[Latch],
+    gates: &[Gate],
+    depth: u32,
+    kind: u32,
+    j: u32,
+    i: u32,
+    out: &mut [i32],
+) -> CountReply
+    ensures answer { λ r. ⌜ r ≡ countNumbers (groupFor net (now (latches .entry)) (now (gates .entry)) depth (groupOf kind j i) (length (now (out .entry)))) ⌝ }
+    ensures borrowed { λ r. ⌜ now (out .exit) ≡ numbersLeft net (now (latches .entry)) (now (gates .entry)) depth (groupOf kind j i) (now (out .entry)) ⌝ }
+{
+    call_replies::group_numbers(calls::write_group(
+        net,
+        latches,
+        gates,
+        depth,
+        call_replies::group_of(kind, j, i),
+        out,
+    ))
+}
+
+// `calls::heading`.
+#[no_mangle]
+pub extern "C" fn marrubigai_heading(
+    net: Netlist,
+    latches: &[Latch],
+    gates: &[Gate],
+    depth: u32,
+) -> HeadingReply
+    ensures { λ r. ⌜ r ≡ headingNumbers (headingFor net (now (latches .entry)) (now (gates .entry)) depth) ⌝ }
+{
+    call_replies::heading_numbers(calls::heading(net, latches, gates, depth))
+}
+
+// `sheet_reader::read`.
+#[no_mangle]
+pub extern "C" fn marrubigai_read(
+    file: &[u8],
+    latches: &mut [Latch],
+    gates: &mut [Gate],
+) -> SheetReply
+    ensures reply { λ r. ⌜ r ≡ sheetNumbers (readVerdict (now (file .entry)) (now (latches .entry)) (now (gates .entry))) (readRecord (now (file .entry)) (now (latches .entry)) (now (gates .entry))) ⌝ }
+    ensures latches { λ _. ⌜ now (latches .exit) ≡ latchesLeft (now (file .entry)) (now (latches .entry)) (now (gates .entry)) ⌝ }
+    ensures gates { λ _. ⌜ now (gates .exit) ≡ gatesLeft (now (file .entry)) (now (latches .entry)) (now (gates .entry)) ⌝ }
+    ensures accepted { λ r. ⌜ (r .number ≡ 0 → SheetDelivered (now (file .entry)) (r .net) (now (latches .exit)) (now (gates .exit))) ⌝ }
+{
+    call_replies::sheet_numbers(sheet_reader::read(file, latches, gates))
+}
+
+// `SheetReader::next_line`, of the reader that has read so many lines of the file.
+#[no_mangle]
+pub extern "C" fn marrubigai_next_line(file: &[u8], line: u32) -> LineReply
+    ensures { λ r. ⌜ r ≡ lineNumbers (lineIn (now (file .entry)) (line + 1)) (nextNumber line) ⌝ }
+{
+    let next = SheetReader { file, line }.next_line();
+    call_replies::line_numbers(next.line, next.reader.line)
+}
+
+// `dimacs::put_header`.
+#[no_mangle]
+pub extern "C" fn marrubigai_put_header(out: &mut [u8], variables: u32, clauses: u32) -> CountReply
+    ensures answer { λ r. ⌜ r ≡ countNumbers (printSent (headerText variables clauses) (length (now (out .entry)))) ⌝ }
+    ensures borrowed { λ _. ⌜ now (out .exit) ≡ printLeaves (headerText variables clauses) (now (out .entry)) ⌝ }
+{
+    call_replies::print_numbers(dimacs::put_header(out, variables, clauses))
+}
+
+// `dimacs::put_clauses`.
+#[no_mangle]
+pub extern "C" fn marrubigai_put_clauses(out: &mut [u8], numbers: &[i32]) -> CountReply
+    ensures answer { λ r. ⌜ r ≡ countNumbers (printSent (clauseText (now (numbers .entry))) (length (now (out .entry)))) ⌝ }
+    ensures borrowed { λ _. ⌜ now (out .exit) ≡ printLeaves (clauseText (now (numbers .entry))) (now (out .entry)) ⌝ }
+{
+    call_replies::print_numbers(dimacs::put_clauses(out, numbers))
+}
+
+// `dimacs::put_refusal`.
+#[no_mangle]
+pub extern "C" fn marrubigai_put_refusal(out: &mut [u8], number: u32, place: u32) -> CountReply
+    ensures answer { λ r. ⌜ r ≡ countNumbers (printSent (refusalText number place) (length (now (out .entry)))) ⌝ }
+    ensures borrowed { λ _. ⌜ now (out .exit) ≡ printLeaves (refusalText number place) (now (out .entry)) ⌝ }
+{
+    call_replies::print_numbers(dimacs::put_refusal(out, number, place))
+}

@@ -1,0 +1,82 @@
+-- `netlist_scan::any_latch` meets its contract. The loop's invariant: what was found is what the first l latches have. Assumes nothing.
+use Prim.Native.Nat.{_-_, _≤_}
+use mathlib.Core.Path.{_≡_}
+use mathlib.Core.Bool.{false}
+use native.Mathlib.Omega.{arith}
+use Rattle.netlist_scan.specs.AnyLine.{anyLatch}
+use Rattle.netlist_scan.proofs.AnyLine.{any-none, any-next}
+use Rattle.netlist_scan.proofs.any_latch.Statement.{statement}
+use Rattle.netlist_scan.proofs.any_latch.Tie as tie
+
+abbrev Inv-loop : tie.InvT-loop
+Inv-loop last latches count any₀ l₀ any l = (l ≤ count) × (any ≡ anyLatch last latches l)
+
+abbrev μ-loop : tie.MeasureT-loop
+μ-loop last latches count any₀ l₀ any l = count - l
+
+loop-holds : tie.Need-loop-holds Inv-loop μ-loop
+unfolding anyLatch
+loop-holds c = (omega arith, any-none false _)
+
+cast-at : tie.Need-cast-at Inv-loop μ-loop
+cast-at c = omega arith
+
+mul-at : tie.Need-mul-at Inv-loop μ-loop
+mul-at c = omega arith
+
+mul-t8 : tie.Need-mul-t8 Inv-loop μ-loop
+mul-t8 c = omega arith
+
+element-copy-out-t11 : tie.Need-element-copy-out-t11 Inv-loop μ-loop
+element-copy-out-t11 c = omega arith
+
+add-latch-fault : tie.Need-add-latch-fault Inv-loop μ-loop
+add-latch-fault c = omega arith
+
+mul-latch-fault : tie.Need-mul-latch-fault Inv-loop μ-loop
+mul-latch-fault c = omega arith
+
+element-copy-out-latch-fault : tie.Need-element-copy-out-latch-fault Inv-loop μ-loop
+element-copy-out-latch-fault c = omega arith
+
+latch-fault-requires : tie.Need-latch-fault-requires Inv-loop μ-loop
+latch-fault-requires c κs = tt
+
+add-l : tie.Need-add-l Inv-loop μ-loop
+add-l c = omega arith
+
+loop-less : tie.Need-loop-less Inv-loop μ-loop
+loop-less c = omega arith
+
+loop-again : tie.Need-loop-again Inv-loop μ-loop
+unfolding anyLatch
+loop-again c = (
+  omega arith,
+  rw (c .before .before .before .before .loop .inv .1, c .latch-fault .ensures) (any-next false _ (c .before .before .before .before .loop .l)),
+)
+
+returns : tie.Need-returns Inv-loop μ-loop
+unfolding anyLatch
+returns c =
+    let all : c .before .loop .l ≡ c .before .before .args .count = omega arith in
+    rw all at (c .before .loop .inv .1)
+
+pub any-latch-spec : {M : Type 1} → statement M
+any-latch-spec =
+    tie.close
+    (tie.spec
+    Inv-loop
+    μ-loop
+    loop-holds
+    cast-at
+    mul-at
+    mul-t8
+    element-copy-out-t11
+    add-latch-fault
+    mul-latch-fault
+    element-copy-out-latch-fault
+    latch-fault-requires
+    add-l
+    loop-less
+    loop-again
+    returns)

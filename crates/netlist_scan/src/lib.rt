@@ -1,0 +1,80 @@
+// Whether any line of a record has a code, gate operand or reset outside its limit (refusal 5). Every call tests its record, and
+// nearly all pass: each loop runs to its end and looks for no place, so that the compiler can take several codes at a time.
+use literals::Code;
+use netlist::Netlist;
+use netlist::UnpackedList;
+ghost use mathlib.Core.Path.{_≡_};
+ghost use Prim.Native.Nat.{_≤_};
+ghost use Rattle.model.specs.Acceptance.{SizesFit};
+ghost use Rattle.netlist.specs.NetOf.{netOf, alone};
+ghost use Rattle.netlist.specs.Faults.{codeFault};
+ghost use Rattle.netlist_scan.specs.AnyLine.{anyLatch, anyGate, anyInRecord, anyLine};
+
+// Whether any latch's next code or reset is outside its limit.
+fn any_latch(last: u32, latches: &UnpackedList, count: u32) -> bool
+    requires { ⌜ count ≤ 600 ⌝ }
+    ensures { λ r. ⌜ r ≡ anyLatch last (now (latches .entry)) count ⌝ }
+{
+    let mut any = false;
+    let mut l = 0;
+    while l < count {
+        let at = 2 * (l as usize);
+        any = any | netlist::latch_fault(last, Code(latches[at]), latches[at + 1]);
+        l += 1;
+    }
+    any
+}
+
+// Whether any gate's operand is outside its limit; the first gate's wire is given. A gate's own wire is counted beside its number:
+// as a sum with the number it would be compiled to 64 bits, and compared one gate at a time.
+fn any_gate(first: u32, gates: &UnpackedList, count: u32) -> bool
+    requires { ⌜ (first ≤ 601) × (count ≤ 600) ⌝ }
+    ensures { λ r. ⌜ r ≡ anyGate first (now (gates .entry)) count ⌝ }
+{
+    let mut any = false;
+    let mut own = first;
+    let mut g = 0;
+    while g < count {
+        let at = 2 * (g as usize);
+        any = any | netlist::gate_fault(own, Code(gates[at]), Code(gates[at + 1]));
+        own += 1;
+        g += 1;
+    }
+    any
+}
+
+// Whether any code that the record itself holds is outside its limit: those of lines A, D and C.
+fn any_in_record(net: Netlist, last: u32) -> bool
+    requires { ⌜ SizesFit (alone net) ⌝ }
+    ensures { λ r. ⌜ r ≡ anyInRecord last (alone net) ⌝ }
+{
+    let mut any = false;
+    let mut t = 0;
+    while t < net.m {
+        let at = t as usize;
+        any = any | netlist::is_code_outside(last, net.address[at]);
+        t += 1;
+    }
+    t = 0;
+    while t < net.n {
+        let at = t as usize;
+        any = any | netlist::is_code_outside(last, net.write_data[at]);
+        t += 1;
+    }
+    any
+        | (netlist::is_code_outside(last, net.we)
+            | netlist::is_code_outside(last, net.re)
+            | netlist::is_code_outside(last, net.p))
+}
+
+// Whether any line has refusal 5.
+pub fn any_code_fault(net: Netlist, latches: &UnpackedList, gates: &UnpackedList) -> bool
+    requires { ⌜ SizesFit (alone net) ⌝ }
+    ensures { λ r. ⌜ r ≡ anyLine (netOf net (now (latches .entry)) (now (gates .entry))) codeFault ⌝ }
+{
+    let last = netlist::last_wire(net);
+    let first = netlist::first_gate_wire(net);
+    any_latch(last, latches, net.latches)
+        | any_gate(first, gates, net.gates)
+        | any_in_record(net, last)
+}

@@ -1,0 +1,118 @@
+-- Laws of tables of wires (specs/Dependence.antt): a table made entry by entry, of the read bits and of a sweep over the gates.
+-- No contract cites this file. Assumes nothing.
+use Prim.Native.Nat.{ℕ, _+_, _-_, _/_, _≤_, _<_}
+use mathlib.Core.Path.{_≡_, refl, sym, _∙_}
+use mathlib.Core.Bool.{Bool, true, false, cond, _&&_}
+use mathlib.Core.Logic.{by-cases}
+use mathlib.Core.List.{List}
+use native.Mathlib.Decide.{ℕ-discrete, decLt}
+use native.Mathlib.Numerals.{add-one}
+use native.Mathlib.Omega.{arith}
+use lib.Dec.{eqb, leb, ltb}
+use lib.ListN.{getD, set, replicate, length-set, length-replicate, getD-replicate}
+use lib.Seq.{getD-set-same, getD-set-other}
+use borrow.Author.Tests.{eq-eqb, ne-eqb, le-leb, lt-leb, lt-ltb, le-ltb}
+use Rattle.refusals.specs.declared.Refusal.the-variants.{MemoryLoop}
+use Rattle.refusals.specs.declared.Verdict.the-variants.{Passed}
+use Rattle.refusals.proofs.Tests.{refuseIf-passes, inOrder-passes}
+use Rattle.model.specs.Netlist.{Netlist, readWire, gateWire}
+use Rattle.model.specs.Circuit.{Values, sweep, isRead, dependsOnRead}
+use Rattle.model.specs.Acceptance.{WithinLimits}
+use Rattle.netlist.specs.Places.{memoryLine, latchLine, gateLine, addressLine, lineAt, HasLine}
+use Rattle.netlist.specs.Faults.{loopFaultBy, loopFault}
+use Rattle.netlist_scan.specs.AnyLine.{anyLine}
+use Rattle.netlist_tests.specs.Record.{testLine, testLines}
+use Rattle.netlist_tests.specs.Dependence.{entry, Table}
+use Rattle.netlist.specs.declared.Line.{Line}
+use Rattle.netlist.specs.declared.Line.the-variants.{Sizes, Memory, Latch, Gate, Address, WriteData, Control}
+use Rattle.netlist.proofs.Places.{at-sizes, at-memory, at-latch, at-gate}
+use Rattle.netlist.proofs.Faults.{no-loop}
+use Rattle.netlist_scan.proofs.AnyLine.{none-in-lines}
+use Rattle.netlist_tests.proofs.Record.{PassedTo, testLines-passes}
+
+-- a table of nothing
+pub table-none : Table (λ w. false) (replicate 601 false)
+table-none = record { size = length-replicate 601 false; has = λ w h. getD-replicate 601 w false false (omega arith) }
+
+-- a table with one entry set
+pub table-set : {f : ℕ → Bool} {flags : List Bool} → Table f flags → (v : ℕ) → v ≤ 600 → (b : Bool)
+    → Table (λ w. cond (eqb w v) b (f w)) (set flags v b)
+table-set {f} {flags} q v h b = record { size = length-set flags v b ∙ q .size; has = λ w k. at w k }
+  where
+    at : (w : ℕ) → w ≤ 600 → getD (set flags v b) w false ≡ cond (eqb w v) b (f w)
+    at w k =
+        by-cases (ℕ-discrete w v)
+        (λ e. rw (eq-eqb w v e, e) (getD-set-same flags v b false (omega (arith, q .size))))
+        (λ e. rw (ne-eqb w v e) (getD-set-other flags v w b false e ∙ q .has w k))
+
+-- a table of the same values
+pub table-same : {f g : ℕ → Bool} {flags : List Bool} → ((w : ℕ) → f w ≡ g w) → Table f flags → Table g flags
+table-same same q = record { size = q .size; has = λ w h. q .has w h ∙ same w }
+
+-- whether a wire is from a on and before b, as a loop over such wires meets it
+abbrev pub between : ℕ → ℕ → ℕ → Bool
+between a b w = leb a w && ltb w b
+
+-- none is, where the two are equal
+pub between-none : (a w : ℕ) → false ≡ between a a w
+between-none a w =
+    by-cases (decLt w a) (λ h. rw (lt-leb a w h)) (λ h. rw (le-leb a w (omega arith), le-ltb w a (omega arith)))
+
+-- with b one on, b is too
+pub between-next : (a b w : ℕ) → a ≤ b → cond (eqb w b) true (between a b w) ≡ between a (b + 1) w
+between-next a b w h =
+    by-cases (decLt w b)
+    (λ l. rw (ne-eqb w b (omega arith), lt-ltb w b l, lt-ltb w (b + 1) (omega arith)))
+    (λ l. by-cases (decLt b w)
+    (λ m. rw (ne-eqb w b (omega arith), le-ltb w b (omega arith), le-ltb w (b + 1) (omega arith)))
+    (λ m. rw (eq-eqb w b (omega arith), le-leb a w (omega arith), lt-ltb w (b + 1) (omega arith))))
+
+-- the read bits are such wires
+pub between-isRead : (c : Netlist) (a b : ℕ) → a ≡ readWire c 0 → b ≡ gateWire c 0 → (w : ℕ) → between a b w ≡ isRead c w
+unfolding isRead
+between-isRead c a b e f w = rw (e, f)
+
+-- a sweep over one gate more sets the gate's wire
+pub sweep-next : (op : Values → ℕ → ℕ → Bool) (c : Netlist) (v : Values) (g w : ℕ)
+    → cond (eqb w (gateWire c g)) (op (sweep op c v g) (c .left g) (c .right g)) (sweep op c v g w) ≡ sweep op c v (g + 1) w
+unfolding sweep
+sweep-next op c v g w = rw add-one
+
+-- the tests of memory loops by a table are those by the wires themselves: every code is within the table
+pub loopFault-table : {c : Netlist} {flags : List Bool} → Table (dependsOnRead c) flags → WithinLimits c → (x : Line) → HasLine c x
+    → loopFault c x ≡ loopFaultBy (entry flags) c x
+unfolding loopFaultBy
+loopFault-table {c} q h Sizes s = refl
+loopFault-table {c} q h Memory s = refl
+loopFault-table {c} q h (Latch l) s = refl
+loopFault-table {c} q h (Gate g) s = refl
+loopFault-table {c} q h (Address t) s = sym (q .has (c .address t / 2) (omega (arith, h .codes .address-fits t s, h .sizes .wires-fit)))
+loopFault-table {c} q h (WriteData t) s = refl
+loopFault-table {c} q h Control s = sym (q .has (c .RE / 2) (omega (arith, h .codes .RE-fits, h .sizes .wires-fit)))
+
+-- no line makes a memory loop where the pass over the lists finds none by such a table
+pub loops-none : {c : Netlist} {flags : List Bool} → Table (dependsOnRead c) flags → WithinLimits c
+    → anyLine c (loopFaultBy (entry flags)) ≡ false → testLines c MemoryLoop loopFault ≡ Passed
+unfolding loopFaultBy
+loops-none {c} {flags} q h e =
+    let none = none-in-lines c (loopFaultBy (entry flags)) refl refl e in
+    testLines-passes c MemoryLoop loopFault .1
+    (no-loop c .1
+    (record {
+      address-free = λ t b. loopFault-table q h (Address t) b ∙ none .of-address t b;
+      RE-free = loopFault-table q h Control tt ∙ none .of-control;
+    }))
+
+-- no line before the address codes makes a memory loop
+pub loops-before : (c : Netlist) (p : ℕ) → p < addressLine c 0 → PassedTo c MemoryLoop loopFault p
+unfolding loopFaultBy
+loops-before c p h =
+    inOrder-passes (testLine c MemoryLoop loopFault) p .1
+    (λ q l b. refuseIf-passes (loopFault c (lineAt c q)) MemoryLoop q .1 (none q (omega arith)))
+  where
+    none : (q : ℕ) → q < addressLine c 0 → loopFault c (lineAt c q) ≡ false
+    none q b =
+        by-cases (decLt q memoryLine) (λ s. rw (at-sizes c q s)) λ s.
+        by-cases (decLt q (latchLine c 0)) (λ m. rw (at-memory c q (omega arith))) λ m.
+        by-cases (decLt q (gateLine c 0)) (λ l. rw (at-latch c q (q - latchLine c 0) (omega arith) (omega arith))) λ l.
+        rw (at-gate c q (q - gateLine c 0) (omega arith) (omega arith))

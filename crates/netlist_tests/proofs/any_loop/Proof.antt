@@ -1,0 +1,88 @@
+-- `netlist_tests::any_loop` meets its contract. The loop's invariant: what was found is what the first t address codes have. No line but
+-- these and line C can make a memory loop. Assumes nothing.
+use Prim.Native.Nat.{_-_, _/_, _≤_}
+use mathlib.Core.Path.{_≡_}
+use mathlib.Core.Bool.{false, or-false}
+use native.Mathlib.Omega.{arith}
+use Rattle.netlist.specs.NetOf.{codeOf, netOf}
+use Rattle.netlist.specs.Faults.{loopFaultBy}
+use Rattle.netlist_scan.specs.AnyLine.{anyBelow, anyLine}
+use Rattle.netlist_scan.proofs.AnyLine.{any-none, any-next, any-never}
+use Rattle.netlist_tests.specs.Dependence.{entry}
+use Rattle.netlist_tests.proofs.any_loop.Statement.{statement}
+use Rattle.netlist_tests.proofs.any_loop.Tie as tie
+
+abbrev Inv-loop : tie.InvT-loop
+Inv-loop flags net any₀ t₀ any t = (t ≤ net .m) × (any ≡ anyBelow t (λ x. entry flags (codeOf (net .address) x / 2)))
+
+abbrev μ-loop : tie.MeasureT-loop
+μ-loop flags net any₀ t₀ any t = net .m - t
+
+loop-holds : tie.Need-loop-holds Inv-loop μ-loop
+loop-holds c = (omega arith, any-none false _)
+
+cast-at : tie.Need-cast-at Inv-loop μ-loop
+cast-at c = omega arith
+
+mul-w : tie.Need-mul-w Inv-loop μ-loop
+mul-w c = omega arith
+
+element-copy-out-w : tie.Need-element-copy-out-w Inv-loop μ-loop
+unfolding netOf
+element-copy-out-w c = omega arith
+
+cast-w : tie.Need-cast-w Inv-loop μ-loop
+unfolding netOf codeOf
+cast-w c = omega (arith, c .before .before .pre .codes .address-fits (c .before .loop .t) (c .loop-test .taken), c .before .before .pre .sizes)
+
+element-copy-out-any : tie.Need-element-copy-out-any Inv-loop μ-loop
+unfolding netOf codeOf
+element-copy-out-any c = omega (arith, c .before .before .pre .codes .address-fits (c .before .loop .t) (c .loop-test .taken), c .before .before .pre .sizes)
+
+add-t : tie.Need-add-t Inv-loop μ-loop
+unfolding netOf
+add-t c = omega arith
+
+loop-less : tie.Need-loop-less Inv-loop μ-loop
+loop-less c = omega arith
+
+loop-again : tie.Need-loop-again Inv-loop μ-loop
+unfolding codeOf
+loop-again c = (
+  omega arith,
+  rw (c .before .before .loop .inv .1) (any-next false _ (c .before .before .loop .t)),
+)
+
+cast-w-2 : tie.Need-cast-w-2 Inv-loop μ-loop
+unfolding netOf
+cast-w-2 c = omega (arith, c .before .before .pre .codes .RE-fits, c .before .before .pre .sizes)
+
+element-copy-out-result : tie.Need-element-copy-out-result Inv-loop μ-loop
+unfolding netOf
+element-copy-out-result c = omega (arith, c .before .before .pre .codes .RE-fits, c .before .before .pre .sizes)
+
+returns : tie.Need-returns Inv-loop μ-loop
+unfolding netOf loopFaultBy anyLine
+returns c =
+    let net = c .before .before .before .args .t1 in
+    let all : c .before .before .loop .t ≡ net .m = omega arith in
+    rw (c .before .before .loop .inv .1, all) (simp (any-never, or-false))
+
+pub any-loop-spec : {M : Type 1} → statement M
+any-loop-spec =
+    tie.close
+    (tie.spec
+    Inv-loop
+    μ-loop
+    loop-holds
+    cast-at
+    mul-w
+    element-copy-out-w
+    cast-w
+    element-copy-out-any
+    add-t
+    loop-less
+    loop-again
+    cast-w-2
+    element-copy-out-result
+    returns)

@@ -1,0 +1,118 @@
+-- `netlist_tests::loop_fault` meets its contract: each arm knows its line, and every code's wire is within the table. Assumes nothing.
+use mathlib.Core.Path.{subst}
+use borrow.Author.Needs.{needs}
+use native.Mathlib.Omega.{arith}
+use Rattle.netlist.specs.NetOf.{codeOf, netOf, alone}
+use Rattle.netlist.specs.Places.{HasLine}
+use Rattle.netlist.specs.Faults.{loopFaultBy}
+use Rattle.netlist_tests.proofs.loop_fault.Statement.{statement}
+use Rattle.netlist_tests.proofs.loop_fault.Tie as tie
+
+enum-told : tie.Need-enum-told
+enum-told c = c .match .keys1
+
+enum-told-2 : tie.Need-enum-told-2
+enum-told-2 c = c .match .keys2
+
+enum-told-3 : tie.Need-enum-told-3
+enum-told-3 c = c .match .keys3
+
+enum-told-4 : tie.Need-enum-told-4
+enum-told-4 c = c .match .keys4
+
+enum-known-line : tie.Need-enum-known-line
+enum-known-line c = c .match .keys5
+
+cast-at : tie.Need-cast-at
+cast-at c = search needs
+
+mul-w : tie.Need-mul-w
+mul-w c = search needs
+
+element-copy-out-w : tie.Need-element-copy-out-w
+unfolding netOf codeOf
+element-copy-out-w c =
+    let p = c .before .before .before .pre in
+    let has = subst (HasLine (alone (c .before .before .before .args .t1))) (c .before .line .given .1) (p .1) in
+    omega (arith, has, p .0 .codes .address-fits (c .before .line .given .0 .0) has, p .0 .sizes)
+
+cast-w : tie.Need-cast-w
+unfolding netOf codeOf
+cast-w c =
+    let p = c .before .before .before .pre in
+    let has = subst (HasLine (alone (c .before .before .before .args .t1))) (c .before .line .given .1) (p .1) in
+    omega (arith, has, p .0 .codes .address-fits (c .before .line .given .0 .0) has, p .0 .sizes)
+
+element-copy-out-result : tie.Need-element-copy-out-result
+unfolding netOf codeOf
+element-copy-out-result c =
+    let p = c .before .before .before .pre in
+    let has = subst (HasLine (alone (c .before .before .before .args .t1))) (c .before .line .given .1) (p .1) in
+    omega (arith, has, p .0 .codes .address-fits (c .before .line .given .0 .0) has, p .0 .sizes)
+
+enum-told-5 : tie.Need-enum-told-5
+enum-told-5 c = c .match .keys6
+
+enum-told-6 : tie.Need-enum-told-6
+enum-told-6 c = c .match .keys7
+
+cast-w-2 : tie.Need-cast-w-2
+cast-w-2 c = search needs
+
+element-copy-out-result-2 : tie.Need-element-copy-out-result-2
+unfolding netOf
+element-copy-out-result-2 c = omega (arith, c .before .before .pre .0 .codes .RE-fits, c .before .before .pre .0 .sizes)
+
+returns : tie.Need-returns
+unfolding loopFaultBy
+returns c = rw (c .enum-told .given .1)
+
+returns-2 : tie.Need-returns-2
+unfolding loopFaultBy
+returns-2 c = rw (c .enum-told2 .given .1)
+
+returns-3 : tie.Need-returns-3
+unfolding loopFaultBy
+returns-3 c = rw (c .enum-told3 .given .1)
+
+returns-4 : tie.Need-returns-4
+unfolding loopFaultBy
+returns-4 c = rw (c .enum-told4 .given .1)
+
+returns-5 : tie.Need-returns-5
+unfolding netOf codeOf loopFaultBy
+returns-5 c = rw (c .before .before .line .given .1)
+
+returns-6 : tie.Need-returns-6
+unfolding loopFaultBy
+returns-6 c = rw (c .enum-told5 .given .1)
+
+returns-7 : tie.Need-returns-7
+unfolding netOf loopFaultBy
+returns-7 c = rw (c .before .enum-told6 .given .1)
+
+pub loop-fault-spec : {M : Type 1} → statement M
+loop-fault-spec =
+    tie.close
+    (tie.spec
+    enum-told
+    enum-told-2
+    enum-told-3
+    enum-told-4
+    enum-known-line
+    cast-at
+    mul-w
+    element-copy-out-w
+    cast-w
+    element-copy-out-result
+    enum-told-5
+    enum-told-6
+    cast-w-2
+    element-copy-out-result-2
+    returns
+    returns-2
+    returns-3
+    returns-4
+    returns-5
+    returns-6
+    returns-7)

@@ -1,0 +1,177 @@
+// The tests of a record with its lists (document 01, "A record handed in is tested alike").
+use netlist::Line;
+use netlist::Netlist;
+use netlist::UnpackedList;
+use refusals::Refusal;
+use refusals::Verdict;
+ghost use mathlib.Core.Path.{_≡_};
+ghost use mathlib.Core.List.{[]};
+ghost use Rattle.model.specs.Circuit.{isRead, dependsOnRead};
+ghost use Rattle.model.specs.Acceptance.{SizesFit, WithinLimits};
+ghost use Rattle.netlist.specs.NetOf.{netOf, alone};
+ghost use Rattle.netlist.specs.Places.{HasLine};
+ghost use Rattle.netlist.specs.Faults.{sizeFault, codeFault, loopFaultBy};
+ghost use Rattle.netlist_scan.specs.AnyLine.{anyLine};
+ghost use Rattle.netlist_tests.specs.Record.{testLines, testLoops, recordVerdict};
+ghost use Rattle.netlist_tests.specs.Dependence.{Table, entry};
+
+// Tests the numbers of lines N and M (refusal 4).
+fn test_sizes(net: Netlist) -> Verdict
+    ensures { λ r. ⌜ r ≡ testLines (alone net) Refusal.Size sizeFault ⌝ }
+{
+    if netlist::sizes_fault(net) {
+        return Verdict::Refused(Refusal::Size, 1);
+    }
+    if netlist::memory_fault(net) {
+        return Verdict::Refused(Refusal::Size, 2);
+    }
+    Verdict::Passed
+}
+
+// Looks for the first line, in line order, with a code, gate operand or reset outside its limit.
+fn first_code_fault(net: Netlist, latches: &UnpackedList, gates: &UnpackedList) -> Verdict
+    requires { ⌜ SizesFit (alone net) ⌝ }
+    ensures { λ r. ⌜ r ≡ testLines (netOf net (now (latches .entry)) (now (gates .entry))) Refusal.CodeOutside codeFault ⌝ }
+{
+    let last = netlist::control_line(net);
+    let mut place = 0;
+    while place < last {
+        place += 1;
+        let line = netlist::line_at(net, place);
+        if netlist::code_fault(net, latches, gates, line) {
+            return Verdict::Refused(Refusal::CodeOutside, place);
+        }
+    }
+    Verdict::Passed
+}
+
+// Tests every code, gate operand and reset (refusal 5). A place is looked for only where there is one.
+fn test_codes(net: Netlist, latches: &UnpackedList, gates: &UnpackedList) -> Verdict
+    requires { ⌜ SizesFit (alone net) ⌝ }
+    ensures { λ r. ⌜ r ≡ testLines (netOf net (now (latches .entry)) (now (gates .entry))) Refusal.CodeOutside codeFault ⌝ }
+{
+    if netlist_scan::any_code_fault(net, latches, gates) {
+        return first_code_fault(net, latches, gates);
+    }
+    Verdict::Passed
+}
+
+// Makes the table of the read bits.
+fn read_bits(net: Netlist) -> [bool; 601]
+    requires { ⌜ SizesFit (alone net) ⌝ }
+    ensures { λ r. ⌜ Table (isRead (alone net)) r ⌝ }
+{
+    let mut flags = [false; 601];
+    let last = netlist::first_gate_wire(net) as usize;
+    let mut w = netlist::first_read_wire(net) as usize;
+    while w < last {
+        flags[w] = true;
+        w += 1;
+    }
+    flags
+}
+
+// Makes the table of the wires that depend on a read bit, in one pass over the gates.
+fn depends_on_read(net: Netlist, gates: &UnpackedList) -> [bool; 601]
+    requires { ⌜ WithinLimits (netOf net [] (now gates)) ⌝ }
+    ensures { λ r. ⌜ Table (dependsOnRead (netOf net [] (now (gates .entry)))) r ⌝ }
+{
+    let mut flags = read_bits(net);
+    let first = netlist::first_gate_wire(net);
+    let mut g = 0;
+    while g < net.gates {
+        let at = 2 * (g as usize);
+        let left = (gates[at] / 2) as usize;
+        let right = (gates[at + 1] / 2) as usize;
+        let own = (first + g) as usize;
+        flags[own] = flags[left] | flags[right];
+        g += 1;
+    }
+    flags
+}
+
+// Whether a line makes a memory loop, by a table of the wires that depend on a read bit.
+fn loop_fault(net: Netlist, flags: &[bool; 601], line: Line) -> bool
+    requires { ⌜ WithinLimits (alone net) × HasLine (alone net) line ⌝ }
+    ensures { λ r. ⌜ r ≡ loopFaultBy (entry (now (flags .entry))) (alone net) line ⌝ }
+{
+    match line {
+        Line::Sizes => false,
+        Line::Memory => false,
+        Line::Latch(_) => false,
+        Line::Gate(_) => false,
+        Line::Address(t) => {
+            let at = t as usize;
+            let w = (net.address[at].0 / 2) as usize;
+            flags[w]
+        }
+        Line::WriteData(_) => false,
+        Line::Control => {
+            let w = (net.re.0 / 2) as usize;
+            flags[w]
+        }
+    }
+}
+
+// Whether any line makes a memory loop, by such a table.
+fn any_loop(net: Netlist, flags: &[bool; 601]) -> bool
+    requires { ⌜ WithinLimits (alone net) ⌝ }
+    ensures { λ r. ⌜ r ≡ anyLine (alone net) (loopFaultBy (entry (now (flags .entry)))) ⌝ }
+{
+    let mut any = false;
+    let mut t = 0;
+    while t < net.m {
+        let at = t as usize;
+        let w = (net.address[at].0 / 2) as usize;
+        any = any | flags[w];
+        t += 1;
+    }
+    let w = (net.re.0 / 2) as usize;
+    any | flags[w]
+}
+
+// Tests the address codes and RE, in line order (refusal 6). A place is looked for only where there is one. The lines before the
+// address codes make no memory loop.
+pub fn test_loops(net: Netlist, gates: &UnpackedList) -> Verdict
+    requires { ⌜ WithinLimits (netOf net [] (now gates)) ⌝ }
+    ensures { λ r. ⌜ r ≡ testLoops (netOf net [] (now (gates .entry))) ⌝ }
+{
+    let flags = depends_on_read(net, gates);
+    if !any_loop(net, &flags) {
+        return Verdict::Passed;
+    }
+    let last = netlist::control_line(net);
+    let mut place = 2 + net.latches + net.gates;
+    while place < last {
+        place += 1;
+        let line = netlist::line_at(net, place);
+        if loop_fault(net, &flags, line) {
+            return Verdict::Refused(Refusal::MemoryLoop, place);
+        }
+    }
+    Verdict::Passed
+}
+
+// Tests a record with its lists, in document 01's order. The caller's lists have `latch_count` and `gate_count` records.
+pub fn test_record(
+    net: Netlist,
+    latches: &UnpackedList,
+    latch_count: usize,
+    gates: &UnpackedList,
+    gate_count: usize,
+) -> Verdict
+    ensures { λ r. ⌜ r ≡ recordVerdict (netOf net (now (latches .entry)) (now (gates .entry))) «latch_count» «gate_count» ⌝ }
+{
+    let sizes = test_sizes(net);
+    if let Verdict::Refused(_, _) = sizes {
+        return sizes;
+    }
+    if (latch_count < net.latches as usize) | (gate_count < net.gates as usize) {
+        return Verdict::Refused(Refusal::OutOfOrder, 0);
+    }
+    let codes = test_codes(net, latches, gates);
+    if let Verdict::Refused(_, _) = codes {
+        return codes;
+    }
+    test_loops(net, gates)
+}

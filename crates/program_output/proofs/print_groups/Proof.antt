@@ -1,0 +1,186 @@
+-- `program_output::print_groups` meets its contract. The loop's invariant: wherever the first group stands, what is printed is the text of
+-- the groups from it on, `next` comes after them, and nothing is printed yet or fewer groups are left. Assumes nothing.
+use Prim.Native.Nat.{ℕ, _+_, _-_, _≤_, _<_}
+use mathlib.Core.Path.{_≡_, refl, _∙_, ap}
+use mathlib.Core.List.{List, _∷_, _++_}
+use mathlib.Core.Logic.{_⊎_, inl, inr}
+use native.Mathlib.Omega.{arith}
+use borrow.Author.Needs.{needs}
+use borrow.Rule.Slice.PartMut.{mid-len, same-len-mid}
+use lib.ListN.{length}
+use Rattle.model.specs.Groups.{groupOrder}
+use Rattle.model.specs.declared.Group.{Group}
+use Rattle.netlist.specs.NetOf.{netOf}
+use Rattle.group_order.specs.Next.{firstGroup, leftFrom}
+use Rattle.group_order.specs.declared.order.Next.{Next}
+use Rattle.group_order.specs.declared.order.Next.the-variants.{Then}
+use Rattle.program_output.specs.Pieces.{Printed}
+use Rattle.program_output.proofs.Pieces.{printed-nothing, orderHas-due, printed-next}
+use Rattle.program_output.proofs.print_groups.Statement.{statement}
+use Rattle.program_output.proofs.print_groups.Tie as tie
+
+-- nothing is printed yet, or fewer groups are left
+abbrev Begun : ℕ → ℕ → Next → Next → Type 0
+Begun k bytes next next₀ = ((bytes ≡ 0) × (next ≡ next₀)) ⊎ (leftFrom k next < leftFrom k next₀)
+
+not-more : (k bytes : ℕ) (next next₀ : Next) → Begun k bytes next next₀ → leftFrom k next ≤ leftFrom k next₀
+not-more k bytes next next₀ (inl e) = let same : leftFrom k next ≡ leftFrom k next₀ = ap (leftFrom k) (e .1) in omega arith
+not-more k bytes next next₀ (inr l) = omega (arith, l)
+
+fewer : (k bytes : ℕ) (next next₀ : Next) → Begun k bytes next next₀ → 0 < bytes → leftFrom k next < leftFrom k next₀
+fewer k bytes next next₀ (inl e) h = absurd (omega (arith, e .0, h))
+fewer k bytes next next₀ (inr l) h = l
+
+abbrev Inv-loop : tie.InvT-loop
+Inv-loop text₀ numbers₀ table net latches gates depth last bytes₀ next₀ text numbers bytes next =
+    (bytes ≤ length text) × (length text ≡ length text₀) × (length numbers ≡ length numbers₀)
+    × ((before from : List Group) → groupOrder depth ≡ before ++ from → next₀ ≡ firstGroup from
+    → Printed (netOf net latches gates) depth text₀ text bytes next from)
+    × Begun depth bytes next next₀
+
+abbrev μ-loop : tie.MeasureT-loop
+μ-loop text₀ numbers₀ table net latches gates depth last bytes₀ next₀ text numbers bytes next = leftFrom depth next
+
+sub-last : tie.Need-sub-last Inv-loop μ-loop
+sub-last c = search needs
+
+loop-holds : tie.Need-loop-holds Inv-loop μ-loop
+loop-holds c = (omega arith, refl, refl, λ before from o h. printed-nothing _ _ _ _ from h, inl (refl, refl))
+
+enum-known-next : tie.Need-enum-known-next Inv-loop μ-loop
+enum-known-next c = search needs
+
+enum-told : tie.Need-enum-told Inv-loop μ-loop
+enum-told c = search needs
+
+-- what is printed so far, of the groups from the first on
+so-far : (c : tie.After-known-told Inv-loop μ-loop) →
+    let start = c .before .before .before .before .before .before .before in
+    let at = c .before .before .before .before .loop in
+    Printed (netOf (start .args .net) (start .args .latches .now) (start .args .gates .now)) (start .args .depth)
+    (start .args .text .now) (at .text) (at .bytes) (Then (c .before .next .given .0 .0)) (start .args .group ∷ start .pre .2 .behind)
+so-far c =
+    let start = c .before .before .before .before .before .before .before in
+    let has = start .pre .2 in
+    rw (c .before .next .given .1) at
+    (c .before .before .before .before .loop .inv .3 (has .before) (start .args .group ∷ has .behind) (has .order) refl)
+
+-- the room that is left
+room : (c : tie.After-known-told Inv-loop μ-loop) →
+    let at = c .before .before .before .before .loop in at .bytes + 71904 ≤ length (at .text)
+room c =
+    let at = c .before .before .before .before .loop in
+    omega (arith, c .before .before .before .loop-test .taken, at .inv .1, c .before .before .before .before .before .before .before .pre .5)
+
+sub-print-group : tie.Need-sub-print-group Inv-loop μ-loop
+sub-print-group c = omega (arith, room c)
+
+part-print-group-start : tie.Need-part-print-group-start Inv-loop μ-loop
+part-print-group-start c = omega (arith, room c)
+
+part-print-group-end : tie.Need-part-print-group-end Inv-loop μ-loop
+part-print-group-end c = search needs
+
+print-group-requires : tie.Need-print-group-requires Inv-loop μ-loop
+print-group-requires c κs =
+    let told = c .before .before in
+    let start = told .before .before .before .before .before .before .before in
+    let at = told .before .before .before .before .loop in
+    let p = start .pre in
+    let text : List ℕ = at .text in (
+      p .0,
+      p .1,
+      orderHas-due (p .2 .before) (start .args .group ∷ p .2 .behind) (p .2 .order) (so-far told),
+      p .3,
+      omega (arith, at .inv .2, p .4),
+      rw (mid-len (at .bytes) (length text) text (omega arith)) (omega (arith, room told)),
+    )
+
+add-bytes : tie.Need-add-bytes Inv-loop μ-loop
+add-bytes c =
+    let told = c .before .before .before .before .before .before in
+    omega (arith, room told, c .before .before .before .print-group .ensures .1)
+
+next-group-requires : tie.Need-next-group-requires Inv-loop μ-loop
+next-group-requires c κs = search needs
+
+loop-less : tie.Need-loop-less Inv-loop μ-loop
+loop-less c =
+    let told = c .before .before .before .before .before .before .before in
+    rw (told .before .next .given .1) (omega (arith, c .next-group .ensures .1))
+
+loop-again : tie.Need-loop-again Inv-loop μ-loop
+loop-again c =
+    let told = c .before .before .before .before .before .before .before in
+    let start = told .before .before .before .before .before .before .before in
+    let at = told .before .before .before .before .loop in
+    let printed = c .before .before .before .before .print-group in
+    let same = same-len-mid (at .bytes) (length (at .text) - at .bytes) (at .text) (printed .last .0) (printed .kept .0) in (
+      omega (arith, room told, printed .ensures .1, same),
+      same ∙ at .inv .1,
+      printed .kept .1 .0 ∙ at .inv .2,
+      λ before from o h.
+          printed-next before from o (rw (told .before .next .given .1) at (at .inv .3 before from o h)) (printed .last .0) (printed .result)
+          (c .next-group .result) (printed .ensures .0) (c .next-group .ensures .0),
+      inr (omega (
+        arith,
+        c .next-group .ensures .1,
+        rw (told .before .next .given .1) at (not-more (start .args .depth) (at .bytes) (at .next) (Then (start .args .group)) (at .inv .4)),
+      )),
+    )
+
+same-length : tie.Need-same-length Inv-loop μ-loop
+same-length c = search needs
+
+same-length-2 : tie.Need-same-length-2 Inv-loop μ-loop
+same-length-2 c = search needs
+
+returns : tie.Need-returns Inv-loop μ-loop
+returns c =
+    let start = c .before .before .before .before in
+    let at = c .before .loop in (
+      λ before behind o. at .inv .3 before (start .args .group ∷ behind) o refl,
+      (
+        omega (arith, fewer (start .args .depth) (at .bytes) (at .next) (Then (start .args .group)) (at .inv .4) (omega arith)),
+        omega (arith, at .inv .0, at .inv .1),
+      ),
+    )
+
+same-length-3 : tie.Need-same-length-3 Inv-loop μ-loop
+same-length-3 c = search needs
+
+same-length-4 : tie.Need-same-length-4 Inv-loop μ-loop
+same-length-4 c = search needs
+
+returns-2 : tie.Need-returns-2 Inv-loop μ-loop
+returns-2 c =
+    let start = c .before .before .before .before .before .before in
+    let at = c .before .before .before .loop in (
+      λ before behind o. at .inv .3 before (start .args .group ∷ behind) o refl,
+      (rw (c .enum-told .given .1) (omega arith), omega (arith, at .inv .0, at .inv .1)),
+    )
+
+pub print-groups-spec : {M : Type 1} → statement M
+print-groups-spec =
+    tie.close
+    (tie.spec
+    Inv-loop
+    μ-loop
+    sub-last
+    loop-holds
+    enum-known-next
+    enum-told
+    sub-print-group
+    part-print-group-start
+    part-print-group-end
+    print-group-requires
+    add-bytes
+    next-group-requires
+    loop-less
+    loop-again
+    same-length
+    same-length-2
+    returns
+    same-length-3
+    same-length-4
+    returns-2)

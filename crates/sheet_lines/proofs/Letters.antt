@@ -1,0 +1,95 @@
+-- Laws of specs/Letters.antt: a letter and its kind, and the rule of a table of filled fields. No contract cites this file.
+-- Assumes nothing.
+use Prim.Native.Nat.{ℕ, zero, suc, _<_}
+use mathlib.Core.Path.{_≡_, refl, sym, ap, _∙_}
+use mathlib.Core.Bool.{Bool, true, false, cond, _&&_, Bool·beq, false≢true}
+use mathlib.Core.List.{List, [], _∷_}
+use mathlib.Core.Logic.{⊎-elim}
+use native.Mathlib.Nat.{eq-or-lt-of-le, le-of-suc-le-suc}
+use native.Mathlib.Omega.{arith}
+use borrow.Author.Tests.{eqb-true}
+use lib.Dec.{eqb}
+use lib.ListN.{getD}
+use Rattle.model.proofs.Booleans.{and-true, beq-true}
+use Rattle.sheet_lines.specs.Letters.{letterOf, kindOf, rowOf, isKnown, isFilled, FilledAsPrinted}
+use Rattle.sheet_lines.specs.declared.Kind.{Kind}
+use Rattle.sheet_lines.specs.declared.Kind.the-variants.{Sizes, Memory, Latch, Gate, Address, WriteData, Control, Unknown}
+
+-- the kinds in the order of their rows, and the first of a list that has the letter c
+abbrev pub kinds : List Kind
+kinds = Sizes ∷ Memory ∷ Latch ∷ Gate ∷ Address ∷ WriteData ∷ Control ∷ []
+
+abbrev firstWith : ℕ → List Kind → Kind
+firstWith c [] = Unknown
+firstWith c (k ∷ ks) = cond (eqb c (letterOf k)) k (firstWith c ks)
+
+letterOf-firstWith : (c : ℕ) (ks : List Kind) → isKnown (firstWith c ks) ≡ true → letterOf (firstWith c ks) ≡ c
+letterOf-firstWith c [] h = absurd (false≢true h)
+letterOf-firstWith c (k ∷ ks) h = by-test (eqb c (letterOf k)) refl (letterOf-firstWith c ks) h
+  where
+    by-test :
+        (b : Bool) → eqb c (letterOf k) ≡ b → (isKnown (firstWith c ks) ≡ true → letterOf (firstWith c ks) ≡ c) →
+        isKnown (cond b k (firstWith c ks)) ≡ true → letterOf (cond b k (firstWith c ks)) ≡ c
+    by-test true e other h = sym (eqb-true c (letterOf k) e)
+    by-test false e other h = other h
+
+-- a letter of a known line is that line's letter
+pub letterOf-kindOf : (c : ℕ) → isKnown (kindOf c) ≡ true → letterOf (kindOf c) ≡ c
+unfolding kindOf
+letterOf-kindOf c h = letterOf-firstWith c kinds h
+
+-- and back
+pub kindOf-letterOf : (k : Kind) → isKnown k ≡ true → kindOf (letterOf k) ≡ k
+unfolding kindOf
+kindOf-letterOf Sizes h = refl
+kindOf-letterOf Memory h = refl
+kindOf-letterOf Latch h = refl
+kindOf-letterOf Gate h = refl
+kindOf-letterOf Address h = refl
+kindOf-letterOf WriteData h = refl
+kindOf-letterOf Control h = refl
+kindOf-letterOf Unknown h = absurd (false≢true h)
+
+-- a test passed at every number below n
+abbrev pub every : ℕ → (ℕ → Bool) → Bool
+every zero f = true
+every (suc n) f = f n && every n f
+
+every-at : (n : ℕ) (f : ℕ → Bool) → every n f ≡ true → (i : ℕ) → i < n → f i ≡ true
+every-at zero f h i l = absurd (omega arith)
+every-at (suc n) f h i l =
+    let p : (f n ≡ true) × (every n f ≡ true) = and-true (f n) (every n f) .0 h in
+    ⊎-elim (λ (e : i ≡ n). rw e (p .0)) (λ (b : i < n). every-at n f (p .1) i b) (eq-or-lt-of-le (le-of-suc-le-suc l))
+
+kind-at-row : (k : Kind) → rowOf k < 7 → getD kinds (rowOf k) Unknown ≡ k
+kind-at-row Sizes h = refl
+kind-at-row Memory h = refl
+kind-at-row Latch h = refl
+kind-at-row Gate h = refl
+kind-at-row Address h = refl
+kind-at-row WriteData h = refl
+kind-at-row Control h = refl
+kind-at-row Unknown h = absurd (omega arith)
+
+-- whether an entry of a table says what the rule says, and whether all 21 do
+abbrev pub entry-right : List (List ℕ) → ℕ → ℕ → Bool
+entry-right table row column =
+    Bool·beq (eqb (getD (getD table row []) column 0) 1) (isFilled (getD kinds row Unknown) column)
+
+abbrev pub table-right : List (List ℕ) → Bool
+table-right table = every 7 (λ row. every 3 (entry-right table row))
+
+-- a table that passes that one test says at every row and column what the rule says
+pub table-follows : (table : List (List ℕ)) → table-right table ≡ true → FilledAsPrinted table
+unfolding FilledAsPrinted
+table-follows table right k column l c =
+    let at-row : every 3 (entry-right table (rowOf k)) ≡ true = every-at 7 (λ row. every 3 (entry-right table row)) right (rowOf k) l in
+    let at-column : entry-right table (rowOf k) column ≡ true = every-at 3 (entry-right table (rowOf k)) at-row column c in
+    beq-true _ _ .0 at-column ∙ ap (λ (k : Kind). isFilled k column) (kind-at-row k l)
+
+-- what such a table says at the row of a kind
+pub filled-at :
+    (table : List (List ℕ)) → FilledAsPrinted table → (k : Kind) (row column : ℕ) → row ≡ rowOf k → rowOf k < 7 → column < 3 →
+    eqb (getD (getD table row []) column 0) 1 ≡ isFilled k column
+unfolding FilledAsPrinted
+filled-at table rule k row column e l c = rw e (rule k column l c)

@@ -1,0 +1,210 @@
+// Lines of 32 bytes: a letter, three fields of ten columns, a line feed (document 01, "The sheet"); and the depth line.
+ghost use mathlib.Core.Path.{_≡_};
+ghost use Prim.Native.Nat.{_<_};
+ghost use Rattle.sheet_lines.specs.Letters.{kindOf, rowOf, isFilled, FilledAsPrinted};
+ghost use Rattle.sheet_lines.specs.Lines.{asWanted, valueOf, lineWith, lineOf, ReadAsWritten};
+ghost use Rattle.sheet_lines.specs.Depth.{depthField, fieldVerdict, withDepth, depthLine};
+use refusals::Refusal;
+use refusals::Verdict;
+use sheet_fields::Field;
+
+// Which line it is: the rows of document 01's table, and any other letter.
+pub enum Kind {
+    Sizes,
+    Memory,
+    Latch,
+    Gate,
+    Address,
+    WriteData,
+    Control,
+    Unknown,
+}
+
+// A line as it is read: its kind and three numbers, 0 where a field is empty.
+pub enum ParsedLine {
+    Misprint,
+    Read {
+        kind: Kind,
+        first: u32,
+        second: u32,
+        third: u32,
+    },
+}
+
+// What the depth line is read as: the verdict of its tests, and the depth, 0 where one refuses.
+pub struct DepthLine {
+    pub verdict: Verdict,
+    pub depth: u32,
+}
+
+// Which fields are filled, 1, and which are empty, 0, in the order of document 01's table.
+const FILLED: [[u8; 3]; 7] = [
+    [1, 1, 1], // N
+    [1, 1, 1], // M
+    [1, 1, 0], // L
+    [1, 1, 0], // G
+    [1, 0, 0], // A
+    [1, 0, 0], // D
+    [1, 1, 1], // C
+];
+
+// The letter decides which line it is.
+pub fn kind_of(letter: u8) -> Kind
+    ensures { λ r. ⌜ r ≡ kindOf letter ⌝ }
+{
+    match letter {
+        b'N' => Kind::Sizes,
+        b'M' => Kind::Memory,
+        b'L' => Kind::Latch,
+        b'G' => Kind::Gate,
+        b'A' => Kind::Address,
+        b'D' => Kind::WriteData,
+        b'C' => Kind::Control,
+        _ => Kind::Unknown,
+    }
+}
+
+// The row of the table that a kind has, and 7 where the letter is unknown.
+pub fn row_of(kind: Kind) -> usize
+    ensures { λ r. ⌜ r ≡ rowOf kind ⌝ }
+{
+    match kind {
+        Kind::Sizes => 0,
+        Kind::Memory => 1,
+        Kind::Latch => 2,
+        Kind::Gate => 3,
+        Kind::Address => 4,
+        Kind::WriteData => 5,
+        Kind::Control => 6,
+        Kind::Unknown => 7,
+    }
+}
+
+// The table: at every row and column it says what document 01's table says.
+fn filled_fields() -> [[u8; 3]; 7]
+    ensures { λ table. ⌜ FilledAsPrinted table ⌝ }
+{
+    FILLED
+}
+
+// Whether a column, 0 to 2, is filled.
+fn is_filled(kind: Kind, column: usize) -> bool
+    requires { ⌜ (rowOf kind < 7) × (column < 3) ⌝ }
+    ensures { λ r. ⌜ r ≡ isFilled kind column ⌝ }
+{
+    let row = row_of(kind);
+    let table = filled_fields();
+    table[row][column] == 1
+}
+
+// Whether a field is as its letter wants it.
+fn is_wanted(kind: Kind, column: usize, field: Field) -> bool
+    requires { ⌜ (rowOf kind < 7) × (column < 3) ⌝ }
+    ensures { λ r. ⌜ r ≡ asWanted (isFilled kind column) field ⌝ }
+{
+    let filled = is_filled(kind, column);
+    match field {
+        Field::Empty => !filled,
+        Field::Filled(_) => filled,
+        Field::Misprinted => false,
+    }
+}
+
+// The number in a field, 0 where it has none.
+fn value_of(field: Field) -> u32
+    ensures { λ r. ⌜ r ≡ valueOf field ⌝ }
+{
+    match field {
+        Field::Empty => 0,
+        Field::Filled(x) => x,
+        Field::Misprinted => 0,
+    }
+}
+
+// The line of a kind with three fields, or a misprint.
+fn line_with(kind: Kind, first: Field, second: Field, third: Field) -> ParsedLine
+    ensures { λ r. ⌜ r ≡ lineWith kind first second third ⌝ }
+{
+    if 7 <= row_of(kind) {
+        return ParsedLine::Misprint;
+    }
+    if !is_wanted(kind, 0, first) {
+        return ParsedLine::Misprint;
+    }
+    if !is_wanted(kind, 1, second) {
+        return ParsedLine::Misprint;
+    }
+    if !is_wanted(kind, 2, third) {
+        return ParsedLine::Misprint;
+    }
+    ParsedLine::Read {
+        kind,
+        first: value_of(first),
+        second: value_of(second),
+        third: value_of(third),
+    }
+}
+
+// What 32 bytes are read as. The fields are held to the letter on the line, whichever line is due.
+pub fn read_line(line: &[u8]) -> ParsedLine
+    ensures line { λ r. ⌜ r ≡ lineOf (now (line .entry)) ⌝ }
+    ensures written { λ _. ⌜ ReadAsWritten ⌝ }
+{
+    if line.len() == 32 {
+        if line[31] == b'\n' {
+            let kind = kind_of(line[0]);
+            let first = sheet_fields::read_field(&line[1..11]);
+            let second = sheet_fields::read_field(&line[11..21]);
+            let third = sheet_fields::read_field(&line[21..31]);
+            return line_with(kind, first, second, third);
+        }
+    }
+    ParsedLine::Misprint
+}
+
+// The field in which the depth stands: ten columns, and a line feed behind them.
+fn depth_field(input: &[u8]) -> Field
+    ensures { λ r. ⌜ r ≡ depthField (now (input .entry)) ⌝ }
+{
+    if 11 <= input.len() {
+        if input[10] == b'\n' {
+            return sheet_fields::read_field(&input[..10]);
+        }
+    }
+    Field::Misprinted
+}
+
+// Tests the form of a depth, then its value.
+fn test_depth(field: Field) -> Verdict
+    ensures { λ r. ⌜ r ≡ fieldVerdict field ⌝ }
+{
+    match field {
+        Field::Empty => Verdict::Refused(Refusal::Misprint, 0),
+        Field::Filled(depth) => {
+            if depth <= 255 {
+                return Verdict::Passed;
+            }
+            Verdict::Refused(Refusal::Depth, 0)
+        }
+        Field::Misprinted => Verdict::Refused(Refusal::Misprint, 0),
+    }
+}
+
+// A verdict with the depth in a field beside it, 0 where it is refused.
+fn with_depth(verdict: Verdict, field: Field) -> DepthLine
+    ensures { λ r. ⌜ r ≡ withDepth verdict field ⌝ }
+{
+    let depth = match verdict {
+        Verdict::Passed => value_of(field),
+        Verdict::Refused(_, _) => 0,
+    };
+    DepthLine { verdict, depth }
+}
+
+// What the first eleven bytes of the input are read as.
+pub fn read_depth(input: &[u8]) -> DepthLine
+    ensures { λ r. ⌜ r ≡ depthLine (now (input .entry)) ⌝ }
+{
+    let field = depth_field(input);
+    with_depth(test_depth(field), field)
+}

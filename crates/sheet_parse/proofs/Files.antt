@@ -1,0 +1,169 @@
+-- The netlist as far as a line (specs/Progress.antt) and the netlist of the whole file (specs/Files.antt): one line more, the faults
+-- of the last line, and the last line of all. No contract cites this file. Assumes nothing.
+use Prim.Native.Nat.{ℕ, _+_, _-_, _*_, _%_, _≤_, _<_}
+use mathlib.Core.Path.{_≡_, refl, sym, _∙_, ap, fun-ext}
+use mathlib.Core.Bool.{false, cond, not, _||_}
+use mathlib.Core.Logic.{by-cases}
+use mathlib.Core.List.{List}
+use native.Mathlib.Decide.{ℕ-discrete, decLt, decLe}
+use native.Mathlib.Nat.{add-zero}
+use native.Mathlib.Omega.{arith}
+use lib.Dec.{eqb, ltb}
+use lib.ListN.{length, take, drop, length-take, length-drop, drop-of-length-le}
+use borrow.Author.Tests.{ltb-false, eqb-true, eqb-false, not-false, lt-ltb, le-ltb, le-leb, lt-leb}
+use Rattle.model.proofs.Booleans.{neither-true}
+use Rattle.netlist.specs.Places.{latchLine, gateLine, addressLine, dataLine, controlLine, lineAt}
+use Rattle.netlist.specs.Faults.{sizeFault, codeFault}
+use Rattle.netlist.specs.declared.Line as Due
+use Rattle.netlist.specs.declared.Line.the-variants.{Sizes, Memory, Latch, Gate, Address, WriteData, Control}
+use Rattle.sheet_lines.specs.Lines.{lineOf}
+use Rattle.sheet_lines.proofs.Lines.{lineOf-length}
+use Rattle.sheet_lines.specs.declared.ParsedLine.{ParsedLine}
+use Rattle.sheet_lines.specs.declared.ParsedLine.the-variants.{Misprint}
+use Rattle.sheet_parse.specs.Files.{lineCount, lineIn, firstNumber, secondNumber, thirdNumber, sizesIn, netOfLines, netIn}
+use Rattle.sheet_parse.specs.FileTests.{ragged}
+use Rattle.sheet_steps.specs.LineIndex.{lineIndex}
+use Rattle.sheet_steps.specs.Steps.{numberAfter, stored}
+use Rattle.sheet_parse.specs.Progress.{linesTo, netTo}
+use Rattle.sheet_steps.proofs.Places.{rowOfLine, sizeOfRow, placeOf, InRow, sameLine-here, sameLine-elsewhere, sameLine-none, SameSizes, lineAt-known, past-known}
+
+-- a line that is cut short, or missing
+pub lineIn-missing : (file : List ℕ) (p : ℕ) → length file < 32 * p + 32 → lineIn file (p + 1) ≡ Misprint
+unfolding lineIn
+lineIn-missing file p h =
+    let rest = drop (32 * (p + 1 - 1)) file in
+    lineOf-length (take 32 rest) (λ e. omega (arith, e, length-take 32 rest, length-drop (32 * (p + 1 - 1)) file))
+
+module _ (file : List ℕ) where
+  -- a line that is read, and one that is not yet
+  pub linesTo-read : (p q : ℕ) → q ≤ p → linesTo file p q ≡ lineIn file q
+  linesTo-read p q h = rw (le-leb q p h)
+
+  pub linesTo-unread : (p q : ℕ) → p < q → linesTo file p q ≡ Misprint
+  linesTo-unread p q h = rw (lt-leb q p h)
+
+  -- one line more: a number f of the line x, which stands where the sizes have it, or is 0 past them
+  module _ (p : ℕ) (b : p + 1 ≤ controlLine (sizesIn file)) (f : ParsedLine → ℕ) (x : Due.Line) where
+    here : InRow (sizesIn file) x → p + 1 ≡ placeOf (sizesIn file) x → numberAfter (lineAt (sizesIn file) (p + 1)) x (f (lineIn file (p + 1))) (f (linesTo file p (placeOf (sizesIn file) x))) ≡ f (linesTo file (p + 1) (placeOf (sizesIn file) x))
+    here r e =
+        rw (sameLine-here (sizesIn file) (p + 1) (omega arith) b x r e, linesTo-read (p + 1) (placeOf (sizesIn file) x) (omega arith), ← e)
+
+    elsewhere : (p + 1 ≡ placeOf (sizesIn file) x → ⊥) → numberAfter (lineAt (sizesIn file) (p + 1)) x (f (lineIn file (p + 1))) (f (linesTo file p (placeOf (sizesIn file) x))) ≡ f (linesTo file (p + 1) (placeOf (sizesIn file) x))
+    elsewhere n =
+        rw (sameLine-elsewhere (sizesIn file) (p + 1) (omega arith) b x n)
+        (by-cases (decLe (placeOf (sizesIn file) x) p)
+        (λ h. rw (linesTo-read p (placeOf (sizesIn file) x) h, linesTo-read (p + 1) (placeOf (sizesIn file) x) (omega arith)))
+        (λ h. rw (linesTo-unread p (placeOf (sizesIn file) x) (omega arith), linesTo-unread (p + 1) (placeOf (sizesIn file) x) (omega arith))))
+
+    number-next : numberAfter (lineAt (sizesIn file) (p + 1)) x (f (lineIn file (p + 1))) (cond (ltb (lineIndex x) (sizeOfRow (sizesIn file) (rowOfLine x))) (f (linesTo file p (placeOf (sizesIn file) x))) 0) ≡ cond (ltb (lineIndex x) (sizeOfRow (sizesIn file) (rowOfLine x))) (f (linesTo file (p + 1) (placeOf (sizesIn file) x))) 0
+    number-next =
+        by-cases (decLt (lineIndex x) (sizeOfRow (sizesIn file) (rowOfLine x)))
+        (λ r. rw (lt-ltb (lineIndex x) (sizeOfRow (sizesIn file) (rowOfLine x)) r)
+        (by-cases (ℕ-discrete (p + 1) (placeOf (sizesIn file) x)) (here r) elsewhere))
+        (λ r. rw (le-ltb (lineIndex x) (sizeOfRow (sizesIn file) (rowOfLine x)) (omega arith), sameLine-none (sizesIn file) (p + 1) (omega arith) b x r))
+
+  -- the same of the last line, which is alone of its kind
+  control-next : (p : ℕ) (b : p + 1 ≤ controlLine (sizesIn file)) (f : ParsedLine → ℕ)
+      → numberAfter (lineAt (sizesIn file) (p + 1)) Control (f (lineIn file (p + 1))) (f (linesTo file p (controlLine (sizesIn file)))) ≡ f (linesTo file (p + 1) (controlLine (sizesIn file)))
+  control-next p b f = simp add-zero at (number-next p b f Control)
+
+  -- one line more puts its numbers into the netlist
+  pub stored-next : (p : ℕ) → p + 1 ≤ controlLine (sizesIn file)
+      → stored (netTo file p) (lineAt (sizesIn file) (p + 1)) (firstNumber (lineIn file (p + 1))) (secondNumber (lineIn file (p + 1))) (thirdNumber (lineIn file (p + 1))) ≡ netTo file (p + 1)
+  unfolding stored netTo netOfLines
+  stored-next p b =
+      λ i. record {
+        inputs = number-next p b firstNumber Sizes i;
+        latches = number-next p b secondNumber Sizes i;
+        gates = number-next p b thirdNumber Sizes i;
+        m = number-next p b firstNumber Memory i;
+        n = number-next p b secondNumber Memory i;
+        initialWord = number-next p b thirdNumber Memory i;
+        next = λ l. number-next p b firstNumber (Latch l) i;
+        reset = λ l. number-next p b secondNumber (Latch l) i;
+        left = λ g. number-next p b firstNumber (Gate g) i;
+        right = λ g. number-next p b secondNumber (Gate g) i;
+        address = λ t. number-next p b firstNumber (Address t) i;
+        writeData = λ t. number-next p b firstNumber (WriteData t) i;
+        WE = control-next p b firstNumber i;
+        RE = control-next p b secondNumber i;
+        P = control-next p b thirdNumber i;
+      }
+
+  -- the lines of the file's netlist are where its sizes have them
+  pub lineAt-in : (p : ℕ) → lineAt (sizesIn file) p ≡ lineAt (netIn file) p
+  unfolding sizesIn netIn netOfLines lineAt
+  lineAt-in p = refl
+
+  pub controlLine-in : controlLine (sizesIn file) ≡ controlLine (netIn file)
+  unfolding sizesIn netIn netOfLines
+  controlLine-in = refl
+
+  -- from line 2 on they are known
+  pub sizes-to : (p : ℕ) → 2 ≤ p → SameSizes (netTo file p) (netIn file)
+  unfolding netTo netIn netOfLines
+  sizes-to p h = rw (linesTo-read p 1 (omega arith), linesTo-read p 2 h)
+
+  -- so is the line due next, in any case, and whether it is behind the last
+  pub due-to : (p : ℕ) → lineAt (netTo file p) (p + 1) ≡ lineAt (netIn file) (p + 1)
+  due-to p = lineAt-known (netTo file p) (netIn file) (p + 1) (λ h. sizes-to p (omega arith))
+
+  pub past-to : (p : ℕ) → ltb (controlLine (netTo file p)) (p + 1) ≡ ltb (controlLine (netIn file)) (p + 1)
+  past-to p = past-known (netTo file p) (netIn file) (p + 1) (λ h. sizes-to p (omega arith))
+
+  -- the faults of a line that is read are those in the whole file
+  pub sizeFault-to : (p : ℕ) (x : Due.Line) → placeOf (sizesIn file) x ≤ p → sizeFault (netTo file p) x ≡ sizeFault (netIn file) x
+  unfolding netTo netIn netOfLines sizeFault
+  sizeFault-to p Sizes h = rw (linesTo-read p 1 h)
+  sizeFault-to p Memory h = rw (linesTo-read p 1 (omega arith), linesTo-read p 2 h)
+  sizeFault-to p (Latch l) h = refl
+  sizeFault-to p (Gate g) h = refl
+  sizeFault-to p (Address t) h = refl
+  sizeFault-to p (WriteData t) h = refl
+  sizeFault-to p Control h = refl
+
+  pub codeFault-to : (p : ℕ) (x : Due.Line) → placeOf (sizesIn file) x ≤ p → codeFault (netTo file p) x ≡ codeFault (netIn file) x
+  unfolding netTo netIn netOfLines codeFault
+  codeFault-to p Sizes h = refl
+  codeFault-to p Memory h = refl
+  codeFault-to p (Latch l) h =
+      rw (linesTo-read p 1 (omega arith), linesTo-read p 2 (omega arith), linesTo-read p (latchLine (sizesIn file) l) h)
+  codeFault-to p (Gate g) h =
+      rw (linesTo-read p 1 (omega arith), linesTo-read p 2 (omega arith), linesTo-read p (gateLine (sizesIn file) g) h)
+  codeFault-to p (Address t) h =
+      rw (linesTo-read p 1 (omega arith), linesTo-read p 2 (omega arith), linesTo-read p (addressLine (sizesIn file) t) h)
+  codeFault-to p (WriteData t) h =
+      rw (linesTo-read p 1 (omega arith), linesTo-read p 2 (omega arith), linesTo-read p (dataLine (sizesIn file) t) h)
+  codeFault-to p Control h =
+      rw (linesTo-read p 1 (omega arith), linesTo-read p 2 (omega arith), linesTo-read p (controlLine (sizesIn file)) (omega arith))
+
+  -- behind the last line of the file there is nothing to read
+  lineIn-past : (q : ℕ) → length file ≤ 32 * (q - 1) → lineIn file q ≡ Misprint
+  unfolding lineIn lineOf
+  lineIn-past q h = rw (drop-of-length-le file h)
+
+  -- as far as the last line of a file of whole lines, the netlist is that of the file
+  pub netTo-all : length file ≡ 32 * lineCount file → netTo file (lineCount file) ≡ netIn file
+  unfolding netTo netIn
+  netTo-all whole = ap (netOfLines (sizesIn file)) (fun-ext same)
+    where
+      same : (q : ℕ) → linesTo file (lineCount file) q ≡ lineIn file q
+      same q =
+          by-cases (decLe q (lineCount file))
+          (λ h. linesTo-read (lineCount file) q h)
+          (λ h. linesTo-unread (lineCount file) q (omega arith) ∙ sym (lineIn-past q (omega arith)))
+
+-- a file that is not ragged: whole lines, at least one and at most 615
+pub record WholeLines (file : List ℕ) : Type 0 where
+  pub some : 1 ≤ length file
+  pub whole : length file ≡ 32 * lineCount file
+  pub most : length file ≤ 19680
+
+pub whole-lines : (file : List ℕ) → ragged file ≡ false → WholeLines file
+unfolding ragged
+whole-lines file e =
+    let long = neither-true (eqb (length file) 0 || not (eqb (length file % 32) 0)) (ltb 19680 (length file)) .0 e in
+    let part = neither-true (eqb (length file) 0) (not (eqb (length file % 32) 0)) .0 (long .0) in
+    let none : length file ≡ 0 → ⊥ = eqb-false (length file) 0 (part .0) in
+    let rest : length file % 32 ≡ 0 = eqb-true (length file % 32) 0 (not-false (eqb (length file % 32) 0) (part .1)) in
+    record { some = omega arith; whole = omega arith; most = ltb-false 19680 (length file) (long .1) }

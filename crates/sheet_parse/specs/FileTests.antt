@@ -1,0 +1,46 @@
+-- The tests of a file and of its lines, in document 01's order ("Reading: .."): the line due at a place from the sizes alone, and
+-- the faults of a line in their order. Cited by `is_ragged`, `read_next`, `read_lines`,
+-- sheet_parse/specs/Progress and sheet_tests/specs/Sheet. Assumes nothing.
+use Prim.Native.Nat.{ℕ, _%_}
+use mathlib.Core.Bool.{Bool, true, false, not, _&&_, _||_}
+use mathlib.Core.List.{List}
+use lib.Dec.{eqb, ltb, leb}
+use lib.ListN.{length}
+use Rattle.model.specs.Limits.{lineBytes, mostBytes}
+use Rattle.model.specs.Netlist.{Netlist}
+use Rattle.refusals.specs.Tests.{refuseIf, _then_}
+use Rattle.refusals.specs.declared.Refusal.the-variants.{Misprint, OutOfOrder}
+use Rattle.refusals.specs.declared.Verdict.{Verdict}
+use Rattle.netlist.specs.Places.{lineAt, controlLine}
+use Rattle.sheet_lines.specs.Letters.{rowOf}
+use Rattle.sheet_lines.specs.declared.Kind.{Kind}
+use Rattle.sheet_lines.specs.declared.ParsedLine.{ParsedLine}
+use Rattle.sheet_lines.specs.declared.ParsedLine.the-variants as ParsedLine
+use Rattle.sheet_steps.specs.Due.{kindDue}
+use Rattle.sheet_steps.specs.LineFaults.{faultsAt}
+use Rattle.sheet_parse.specs.Files.{lineIn}
+
+-- 1: "file empty, not a multiple of 32 bytes, or over 19,680"
+unfoldable pub ragged : List ℕ → Bool
+ragged file = eqb (length file) 0 || not (eqb (length file % lineBytes) 0) || ltb mostBytes (length file)
+
+-- 2: a line that is misprinted
+abbrev pub misprinted : ParsedLine → Bool
+misprinted ParsedLine.Misprint = true
+misprinted (ParsedLine.Read k x y z) = false
+
+-- whether a line is of a kind
+abbrev pub isOf : Kind → ParsedLine → Bool
+isOf k ParsedLine.Misprint = false
+isOf k (ParsedLine.Read kind x y z) = eqb (rowOf kind) (rowOf k)
+
+-- 3: "not the line due, .. or too many"
+unfoldable pub notDue : Netlist → List ℕ → ℕ → Bool
+notDue c file p = not (leb p (controlLine c) && isOf (kindDue (lineAt c p)) (lineIn file p))
+
+-- "line by line 2, 3, then 4 or 5, place being the line, the first as 1"
+unfoldable pub testLineIn : Netlist → List ℕ → ℕ → Verdict
+testLineIn c file p =
+    refuseIf (misprinted (lineIn file p)) Misprint p
+    then refuseIf (notDue c file p) OutOfOrder p
+    then faultsAt c (lineAt c p) p

@@ -1,0 +1,69 @@
+-- The netlist that the lines of a file give (document 01, "The sheet"). The sizes stand in lines 1 and 2, and they alone say where
+-- everything else stands. Cited by the functions that read a file, by the specs of sheet_tests, sheet_reader and program_input, by calls/specs/Starred and
+-- by `marrubigai_next_line`. Assumes nothing.
+use Prim.Native.Nat.{ℕ, _-_, _*_, _/_}
+use mathlib.Core.Bool.{cond}
+use mathlib.Core.List.{List}
+use lib.Dec.{ltb}
+use lib.ListN.{length, take, drop}
+use Rattle.model.specs.Limits.{lineBytes}
+use Rattle.model.specs.Netlist.{Netlist}
+use Rattle.netlist.specs.Places.{sizesLine, memoryLine, latchLine, gateLine, addressLine, dataLine, controlLine}
+use Rattle.netlist.specs.RecordOf.{withoutCodes}
+use Rattle.sheet_lines.specs.Lines.{lineOf}
+use Rattle.sheet_lines.specs.declared.ParsedLine.{ParsedLine}
+use Rattle.sheet_lines.specs.declared.ParsedLine.the-variants.{Misprint, Read}
+
+-- "lines of 32 bytes"; the line at a place, the first being 1
+abbrev pub lineCount : List ℕ → ℕ
+lineCount file = length file / lineBytes
+
+unfoldable pub lineIn : List ℕ → ℕ → ParsedLine
+lineIn file p = lineOf (take lineBytes (drop (lineBytes * (p - 1)) file))
+
+-- the first, second and third number of a line
+abbrev pub firstNumber : ParsedLine → ℕ
+firstNumber Misprint = 0
+firstNumber (Read k x y z) = x
+
+abbrev pub secondNumber : ParsedLine → ℕ
+secondNumber Misprint = 0
+secondNumber (Read k x y z) = y
+
+abbrev pub thirdNumber : ParsedLine → ℕ
+thirdNumber Misprint = 0
+thirdNumber (Read k x y z) = z
+
+-- the sizes in lines N and M, with no codes
+unfoldable pub sizesIn : List ℕ → Netlist
+sizesIn file =
+    withoutCodes (firstNumber (lineIn file sizesLine)) (secondNumber (lineIn file sizesLine)) (thirdNumber (lineIn file sizesLine))
+    (firstNumber (lineIn file memoryLine)) (secondNumber (lineIn file memoryLine)) (thirdNumber (lineIn file memoryLine))
+
+-- below a size what the lines say, and 0 past it: "the returned record's entries past its sizes are 0"
+abbrev pub upTo : ℕ → (ℕ → ℕ) → ℕ → ℕ
+upTo size f x = cond (ltb x size) (f x) 0
+
+-- the netlist whose numbers stand in the given lines, at the places that the sizes s have
+unfoldable pub netOfLines : Netlist → (ℕ → ParsedLine) → Netlist
+netOfLines s line =
+    record {
+      inputs = firstNumber (line sizesLine);
+      latches = secondNumber (line sizesLine);
+      gates = thirdNumber (line sizesLine);
+      m = firstNumber (line memoryLine);
+      n = secondNumber (line memoryLine);
+      initialWord = thirdNumber (line memoryLine);
+      next = upTo (s .latches) (λ l. firstNumber (line (latchLine s l)));
+      reset = upTo (s .latches) (λ l. secondNumber (line (latchLine s l)));
+      left = upTo (s .gates) (λ g. firstNumber (line (gateLine s g)));
+      right = upTo (s .gates) (λ g. secondNumber (line (gateLine s g)));
+      address = upTo (s .m) (λ t. firstNumber (line (addressLine s t)));
+      writeData = upTo (s .n) (λ t. firstNumber (line (dataLine s t)));
+      WE = firstNumber (line (controlLine s));
+      RE = secondNumber (line (controlLine s));
+      P = thirdNumber (line (controlLine s));
+    }
+
+unfoldable pub netIn : List ℕ → Netlist
+netIn file = netOfLines (sizesIn file) (lineIn file)

@@ -1,0 +1,150 @@
+-- Two netlists that agree below their sizes have the same variables and the same clauses, group by group: no entry past a size is
+-- asked for. Cited where a record and its lists have something past the sizes. Assumes nothing.
+use Prim.Native.Nat.{ℕ, zero, suc, _+_, _<_}
+use mathlib.Core.Path.{_≡_, refl, _∙_, ap, ap₂}
+use mathlib.Core.List.{List, [], _∷_, _++_}
+use native.Mathlib.Omega.{arith}
+use Rattle.model.specs.Netlist.{Netlist, port}
+use Rattle.model.specs.Gather.{gather}
+use Rattle.model.specs.Clauses.{Clause, Literal, PairLiterals, ClosingLiterals, addressBitClauses, unequalOf, allBits, forwardedClauses, pairClauses, initialReadClauses, selectedOf, someSource, closingClauses, plus, neg, andClauses}
+use Rattle.model.specs.Variables.{base, pairBase, noneSince, selected, readBit, pairLiterals, closingLiterals}
+use Rattle.model.specs.Groups.{gateClauses, resetClauses, latchClauses, stateClauses, violationOf, clausesOf}
+use Rattle.model.specs.Numbers.{written, numbersOf}
+use Rattle.model.specs.declared.Group.{Group}
+use Rattle.model.specs.declared.Group.the-variants.{Wires, Pair, Closing, Property}
+use Rattle.sheet_reader.proofs.Entries.{Agree, inputs-same, latches-same, gates-same, m-same, n-same, word-same, lastWire-same}
+
+-- what is gathered needs to be the same below the number alone
+gather-same : {A : Type 0} (n : ℕ) (f h : ℕ → List A) → ((t : ℕ) → t < n → f t ≡ h t) → gather n f ≡ gather n h
+unfolding gather
+gather-same zero f h same = refl
+gather-same (suc n) f h same = ap₂ _++_ (gather-same n f h (λ t b. same t (omega arith))) (same n (omega arith))
+
+gathers-same : {A : Type 0} {n o : ℕ} {f h : ℕ → List A} → n ≡ o → ((t : ℕ) → t < n → f t ≡ h t) → gather n f ≡ gather o h
+gathers-same {n = n} {f = f} {h = h} e same = gather-same n f h same ∙ ap (λ x. gather x h) e
+
+module _ (c d : Netlist) (q : Agree c d) where
+  pub base-same : (i : ℕ) → base c i ≡ base d i
+  unfolding base
+  base-same i = rw (lastWire-same c d q, m-same c d q)
+
+  pairBase-same : (j i : ℕ) → pairBase c (port c) j i ≡ pairBase d (port d) j i
+  unfolding pairBase
+  pairBase-same j i = rw (lastWire-same c d q, m-same c d q)
+
+  gate-same : (i g : ℕ) → g < c .gates → gateClauses c i g ≡ gateClauses d i g
+  unfolding gateClauses
+  gate-same i g b = rw (q .left-same g b, q .right-same g b, base-same i, inputs-same c d q, latches-same c d q, n-same c d q)
+
+  reset-same : (l : ℕ) → l < c .latches → resetClauses c l ≡ resetClauses d l
+  unfolding resetClauses
+  reset-same l b = rw (q .reset-same l b, base-same 0, inputs-same c d q)
+
+  latch-same : (i l : ℕ) → l < c .latches → latchClauses c i l ≡ latchClauses d i l
+  unfolding latchClauses
+  latch-same i l b = rw (q .next-same l b, base-same i, base-same (i + 1), inputs-same c d q)
+
+  state-same : (i : ℕ) → stateClauses c i ≡ stateClauses d i
+  unfolding stateClauses
+  state-same zero = ap (λ (xs : List Clause). (plus 1 ∷ []) ∷ xs) (gathers-same (latches-same c d q) reset-same)
+  state-same (suc i) = gathers-same (latches-same c d q) (latch-same i)
+
+  none-same : (j i : ℕ) → noneSince c (port c) j i ≡ noneSince d (port d) j i
+  unfolding noneSince
+  none-same j i = rw (pairBase-same j i, base-same i, q .RE-same, m-same c d q)
+
+  selected-same : (j i : ℕ) → selected c (port c) j i ≡ selected d (port d) j i
+  unfolding selected
+  selected-same j i = rw (pairBase-same j i, m-same c d q)
+
+  readBit-same : (i t : ℕ) → readBit c (port c) i t ≡ readBit d (port d) i t
+  unfolding readBit
+  readBit-same i t = rw (base-same i, inputs-same c d q, latches-same c d q)
+
+  module _ (j i : ℕ) where
+    abbrev x : PairLiterals
+    x = pairLiterals c (port c) j i
+
+    abbrev y : PairLiterals
+    y = pairLiterals d (port d) j i
+
+    bit-same : (t : ℕ) → t < c .m → addressBitClauses x t ≡ addressBitClauses y t
+    unfolding addressBitClauses pairLiterals
+    bit-same t b = rw (pairBase-same j i, base-same j, base-same i, q .address-same t b)
+
+    own-same : (t : ℕ) → t < c .m → unequalOf x t ≡ unequalOf y t
+    unfolding unequalOf pairLiterals
+    own-same t b = rw (pairBase-same j i)
+
+    data-same : (t : ℕ) → t < c .n → forwardedClauses x t ≡ forwardedClauses y t
+    unfolding forwardedClauses pairLiterals
+    data-same t b = rw (selected-same j i, readBit-same i t, base-same j, q .data-same t b)
+
+    -- its three gates
+    valid-same : andClauses (x .s) (x .E) (x .WE) ≡ andClauses (y .s) (y .E) (y .WE)
+    unfolding pairLiterals
+    valid-same = rw (pairBase-same j i, base-same j, q .WE-same, m-same c d q)
+
+    newer-same : andClauses (x .PS) (neg (x .s)) (x .N) ≡ andClauses (y .PS) (neg (y .s)) (y .N)
+    unfolding pairLiterals
+    newer-same = rw (none-same j i, none-same (j + 1) i, pairBase-same j i, m-same c d q)
+
+    exclusive-same : andClauses (x .S) (x .s) (x .N) ≡ andClauses (y .S) (y .s) (y .N)
+    unfolding pairLiterals
+    exclusive-same = rw (none-same (j + 1) i, selected-same j i, pairBase-same j i, m-same c d q)
+
+    compared-same : x .E ≡ y .E
+    unfolding pairLiterals
+    compared-same = rw (pairBase-same j i)
+
+    all-same : allBits (c .m) x ≡ allBits (d .m) y
+    unfolding allBits
+    all-same = ap₂ (λ (a : Clause) (e : Literal). a ++ e ∷ []) (gathers-same (m-same c d q) own-same) compared-same
+
+    pair-same : pairClauses (c .m) (c .n) x ≡ pairClauses (d .m) (d .n) y
+    unfolding pairClauses
+    pair-same =
+        ap₂ _++_
+        (ap₂ _++_ (ap₂ _++_ (ap₂ _++_ (ap₂ (λ (b : List Clause) (a : Clause). b ++ a ∷ []) (gathers-same (m-same c d q) bit-same) all-same) valid-same) newer-same)
+        exclusive-same)
+        (gathers-same (n-same c d q) data-same)
+
+  module _ (i : ℕ) where
+    abbrev u : ClosingLiterals
+    u = closingLiterals c (port c) i
+
+    abbrev v : ClosingLiterals
+    v = closingLiterals d (port d) i
+
+    initial-same : (t : ℕ) → t < c .n → initialReadClauses u t ≡ initialReadClauses v t
+    unfolding initialReadClauses closingLiterals
+    initial-same t b = rw (none-same 0 i, readBit-same i t, word-same c d q)
+
+    source-same : (j : ℕ) → j < i → selectedOf u j ≡ selectedOf v j
+    unfolding selectedOf closingLiterals
+    source-same j b = rw (selected-same j i)
+
+    some-same : someSource i u ≡ someSource i v
+    unfolding someSource closingLiterals
+    some-same =
+        ap₂ (λ (r : Literal) (zs : Clause). neg r ∷ zs) (rw (base-same i, q .RE-same))
+        (ap₂ (λ (z : Literal) (ss : Clause). z ∷ ss) (none-same 0 i) (gather-same i (selectedOf u) (selectedOf v) source-same))
+
+    closing-same : closingClauses (c .n) i u ≡ closingClauses (d .n) i v
+    unfolding closingClauses
+    closing-same = ap₂ (λ (a : List Clause) (s : Clause). a ++ s ∷ []) (gathers-same (n-same c d q) initial-same) some-same
+
+  violated-same : (i : ℕ) → violationOf c i ≡ violationOf d i
+  unfolding violationOf
+  violated-same i = rw (base-same i, q .P-same)
+
+  pub clauses-same : (k : ℕ) (g : Group) → clausesOf c k g ≡ clausesOf d k g
+  unfolding clausesOf
+  clauses-same k (Wires i) = ap₂ _++_ (state-same i) (gathers-same (gates-same c d q) (gate-same i))
+  clauses-same k (Pair j i) = pair-same j i
+  clauses-same k (Closing i) = closing-same i
+  clauses-same k Property = ap (λ (x : Clause). x ∷ []) (gather-same (k + 1) (violationOf c) (violationOf d) (λ i b. violated-same i))
+
+  pub numbers-same : (k : ℕ) (g : Group) → numbersOf c k g ≡ numbersOf d k g
+  unfolding numbersOf
+  numbers-same k g = ap written (clauses-same k g)

@@ -1,0 +1,54 @@
+-- What `read` returns and leaves in the lists that it is lent (document 01, "On success only the first L and A records of the lent
+-- lists change, ..", "a .. record returned beside them is all zeros"). Cited by `read` and `marrubigai_read`. Assumes nothing.
+use Prim.Native.Nat.{ℕ}
+use mathlib.Core.Path.{_≡_}
+use mathlib.Core.List.{List}
+use lib.ListN.{length}
+use Rattle.model.specs.Netlist as M
+use Rattle.model.specs.Variables.{base}
+use Rattle.model.specs.Numbers.{numbersOf}
+use Rattle.model.specs.Claim.{Encodes}
+use Rattle.model.specs.declared.Group.{Group}
+use Rattle.refusals.specs.Slices.{contentsAfter}
+use Rattle.refusals.specs.declared.Verdict.{Verdict}
+use Rattle.refusals.specs.declared.Verdict.the-variants.{Passed}
+use Rattle.netlist.specs.declared.Netlist.{Netlist}
+use Rattle.netlist_tests.specs.Record.{recordVerdict}
+use Rattle.sheet_parse.specs.Files.{netIn}
+use Rattle.sheet_tests.specs.Sheet.{sheetVerdict}
+use Rattle.sheet_steps.specs.Records.{recordBeside}
+use Rattle.call_lists.specs.declared.Latch.{Latch}
+use Rattle.call_lists.specs.declared.Gate.{Gate}
+use Rattle.call_lists.specs.Lent.{netLent}
+use Rattle.call_lists.specs.Delivered.{firstRecords}
+
+-- a latch and a gate of a netlist, as records
+abbrev pub latchOf : M.Netlist → ℕ → Latch
+latchOf c l = record { next = record { 0 = c .next l }; reset = c .reset l }
+
+abbrev pub gateOf : M.Netlist → ℕ → Gate
+gateOf c g = record { left = record { 0 = c .left g }; right = record { 0 = c .right g } }
+
+-- the verdict, the record and both lists, for lent lists `latches` and `gates`
+unfoldable pub readVerdict : List ℕ → List Latch → List Gate → Verdict
+readVerdict file latches gates = sheetVerdict file (length latches) (length gates)
+
+unfoldable pub readRecord : List ℕ → List Latch → List Gate → Netlist
+readRecord file latches gates = recordBeside (readVerdict file latches gates) (netIn file)
+
+unfoldable pub latchesLeft : List ℕ → List Latch → List Gate → List Latch
+latchesLeft file latches gates =
+    contentsAfter (readVerdict file latches gates) (firstRecords (netIn file .latches) (latchOf (netIn file))) latches
+
+unfoldable pub gatesLeft : List ℕ → List Latch → List Gate → List Gate
+gatesLeft file latches gates =
+    contentsAfter (readVerdict file latches gates) (firstRecords (netIn file .gates) (gateOf (netIn file))) gates
+
+-- What holds of the record and the lists that `read` leaves where it refuses nothing. "A sheet is accepted when no test of sheets
+-- refuses it, a record with its lists when no test of records does": here neither does. "Demands 2 and 3 speak of both": the
+-- variables and every group's numbers are those of the sheet's netlist, and demand 3 holds of it.
+pub record SheetDelivered (file : List ℕ) (r : Netlist) (latches : List Latch) (gates : List Gate) : Type 0 where
+  pub not-refused : recordVerdict (netLent r latches gates) (length latches) (length gates) ≡ Passed
+  pub variables-same : (i : ℕ) → base (netLent r latches gates) i ≡ base (netIn file) i
+  pub numbers-same : (k : ℕ) (g : Group) → numbersOf (netLent r latches gates) k g ≡ numbersOf (netIn file) k g
+  pub sheet-encodes : (k : ℕ) → Encodes (netIn file) k

@@ -1,0 +1,131 @@
+-- Laws of reading line by line (specs/Steps.antt). Assumes nothing.
+use Prim.Native.Nat.{ℕ, _+_, _*_, _≤_, _<_}
+use mathlib.Core.Path.{_≡_, refl, sym, _∙_, ap, fun-ext}
+use mathlib.Core.Bool.{Bool, true, false, not, cond, _||_}
+use mathlib.Core.Logic.{by-cases}
+use mathlib.Core.List.{List}
+use native.Mathlib.Decide.{ℕ-discrete}
+use native.Mathlib.Omega.{arith}
+use lib.Dec.{eqb, ltb}
+use lib.ListN.{length, getD, set, length-set}
+use lib.Seq.{getD-set-same, getD-set-other}
+use borrow.Author.Tests.{eq-eqb, ne-eqb}
+use Rattle.refusals.specs.declared.Refusal.{Refusal}
+use Rattle.refusals.specs.declared.Refusal.the-variants.{OutOfOrder}
+use Rattle.refusals.specs.declared.Verdict.{Verdict}
+use Rattle.refusals.specs.declared.Verdict.the-variants.{Refused}
+use Rattle.refusals.proofs.Tests.{refused-not-passed}
+use Rattle.literals.specs.declared.Code.{Code}
+use Rattle.model.specs.Netlist as M
+use Rattle.netlist.specs.Places.{controlLine, lineAt}
+use Rattle.sheet_lines.specs.Letters.{rowOf}
+use Rattle.sheet_lines.specs.declared.Kind.{Kind}
+use Rattle.netlist.specs.NetOf.{codeOf, firstAt, secondAt, netOf, alone}
+use Rattle.netlist.specs.declared.Netlist.{Netlist}
+use Rattle.netlist.specs.declared.Line.the-variants.{Latch, Gate}
+use Rattle.sheet_steps.specs.Due.{kindDue}
+use Rattle.sheet_steps.specs.declared.SheetAnswer.{SheetAnswer}
+use Rattle.sheet_steps.specs.Steps.{stored, stepNet, stepVerdict, SizesKnown, FullLength, Holds, Outcome}
+use Rattle.sheet_steps.specs.LineFaults.{faultsAt}
+use Rattle.sheet_steps.proofs.Places.{codes-from-3, sizesOf, SameSizes, sizesFit-same, lineAt-known}
+use Rattle.refusals.specs.Tests.{_then_}
+
+-- the two codes of record i set, in a list of records unpacked: the first codes and the second codes then
+module _ (xs : List ℕ) (i x y : ℕ) (full : length xs ≡ 1200) (h : i < 600) where
+  first-set : firstAt (set (set xs (2 * i) x) (2 * i + 1) y) ≡ (λ j. cond (eqb i j) x (firstAt xs j))
+  first-set = fun-ext (λ j.
+      getD-set-other (set xs (2 * i) x) (2 * i + 1) (2 * j) y 0 (λ e. omega arith)
+      ∙ by-cases (ℕ-discrete i j)
+      (λ e. rw (eq-eqb i j e, ← e) (getD-set-same xs (2 * i) x 0 (omega arith)))
+      (λ e. rw (ne-eqb i j e) (getD-set-other xs (2 * i) (2 * j) x 0 (λ q. e (omega arith)))))
+
+  second-set : secondAt (set (set xs (2 * i) x) (2 * i + 1) y) ≡ (λ j. cond (eqb i j) y (secondAt xs j))
+  second-set = fun-ext (λ j.
+      by-cases (ℕ-discrete i j)
+      (λ e. rw (eq-eqb i j e, ← e) (getD-set-same (set xs (2 * i) x) (2 * i + 1) y 0 (omega (arith, length-set xs (2 * i) x))))
+      (λ e. rw (ne-eqb i j e)
+      (getD-set-other (set xs (2 * i) x) (2 * i + 1) (2 * j + 1) y 0 (λ q. e (omega arith))
+      ∙ getD-set-other xs (2 * i) (2 * j + 1) x 0 (λ q. omega arith))))
+
+-- one code of a record's array set
+pub code-set : (xs : List Code) (i x : ℕ) → i < length xs → codeOf (set xs i (record { 0 = x })) ≡ (λ j. cond (eqb i j) x (codeOf xs j))
+unfolding codeOf
+code-set xs i x h = fun-ext at
+  where
+    at : (j : ℕ) → getD (set xs i (record { 0 = x })) j (record { 0 = 0 }) .0 ≡ cond (eqb i j) x (getD xs j (record { 0 = 0 }) .0)
+    at j =
+        by-cases (ℕ-discrete i j)
+        (λ e. rw (eq-eqb i j e, ← e) (ap (λ (k : Code). k .0) (getD-set-same xs i (record { 0 = x }) (record { 0 = 0 }) h)))
+        (λ e. rw (ne-eqb i j e) (ap (λ (k : Code). k .0) (getD-set-other xs i j (record { 0 = x }) (record { 0 = 0 }) (λ q. e (omega arith)))))
+
+-- a line's numbers put into a record and lists of full length
+module _ (r : Netlist) (latches gates : List ℕ) (full : FullLength (r .address) (r .«write_data») latches gates) (x y z : ℕ) where
+  -- those of a latch
+  pub holds-latch : (l : ℕ) → l < 600 → Holds r (set (set latches (2 * l) x) (2 * l + 1) y) gates (stored (netOf r latches gates) (Latch l) x y z)
+  unfolding netOf stored
+  holds-latch l h =
+      record {
+        full =
+            record {
+              address-codes = full .address-codes;
+              data-codes = full .data-codes;
+              latch-codes = simp length-set (full .latch-codes);
+              gate-codes = full .gate-codes;
+            };
+        net-is = simp (first-set latches l x y (full .latch-codes) h, second-set latches l x y (full .latch-codes) h);
+      }
+
+  -- of a gate
+  pub holds-gate : (g : ℕ) → g < 600 → Holds r latches (set (set gates (2 * g) x) (2 * g + 1) y) (stored (netOf r latches gates) (Gate g) x y z)
+  unfolding netOf stored
+  holds-gate g h =
+      record {
+        full =
+            record {
+              address-codes = full .address-codes;
+              data-codes = full .data-codes;
+              latch-codes = full .latch-codes;
+              gate-codes = simp length-set (full .gate-codes);
+            };
+        net-is = simp (first-set gates g x y (full .gate-codes) h, second-set gates g x y (full .gate-codes) h);
+      }
+
+-- a line of codes leaves the sizes
+same-stored : (c d : M.Netlist) (p x y z : ℕ) → 3 ≤ p → SameSizes c (stored c (lineAt d p) x y z)
+unfolding stored
+same-stored c d p x y z h =
+    codes-from-3 d p (λ due. SameSizes c (stored c due x y z)) h (λ l. refl) (λ g. refl) (λ t. refl) (λ t. refl) refl
+
+-- the record after a line, from line 3 on: its sizes, and so the line due at this place
+module _ (r next : Netlist) (latches gates newLatches newGates : List ℕ) (p x y z : ℕ)
+    (holds : Holds next newLatches newGates (stepNet (netOf r latches gates) x y z p)) where
+  sizes-step : 3 ≤ p → SameSizes (alone r) (alone next)
+  unfolding netOf stepNet
+  sizes-step h =
+      same-stored (netOf r latches gates) (netOf r latches gates) p x y z h ∙ sym (ap sizesOf (holds .net-is))
+
+  pub sizesKnown-step : SizesKnown (alone r) p → SizesKnown (alone next) p
+  sizesKnown-step known h = sizesFit-same (alone r) (alone next) (sizes-step h) (known h)
+
+  pub due-step : lineAt (alone r) p ≡ lineAt (alone next) p
+  due-step = lineAt-known (alone r) (alone next) p sizes-step
+
+-- the verdict on a line, by whether it is out of order
+module _ (c : M.Netlist) (kind : Kind) (p : ℕ) where
+  abbrev pub outOfOrder : Bool
+  outOfOrder = ltb (controlLine c) p || not (eqb (rowOf kind) (rowOf (kindDue (lineAt c p))))
+
+  module _ (x y z : ℕ) where
+    pub step-refused : outOfOrder ≡ true → stepVerdict c kind x y z p ≡ Refused OutOfOrder p
+    unfolding stepVerdict _then_
+    step-refused h = rw h
+
+    pub step-due : outOfOrder ≡ false → stepVerdict c kind x y z p ≡ faultsAt (stepNet c x y z p) (lineAt c p) p
+    unfolding stepVerdict _then_
+    step-due h = rw h
+
+-- a refusal's record and lists need hold nothing
+pub outcome-refused : {sheet : SheetAnswer} {v : Verdict} {r : Refusal} {p : ℕ} (latches gates : List ℕ) (c : M.Netlist)
+    → sheet .verdict ≡ Refused r p → v ≡ Refused r p → Outcome sheet latches gates v c
+outcome-refused latches gates c told e =
+    record { verdict-is = told ∙ sym e; holds = λ passed. absurd (refused-not-passed (sym e ∙ passed)) }

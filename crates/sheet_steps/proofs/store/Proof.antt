@@ -1,0 +1,125 @@
+-- `sheet_steps::store` meets its contract: each arm knows its line. Assumes nothing.
+use Prim.Native.Nat.{_<_}
+use mathlib.Core.Path.{_≡_, subst}
+use Rattle.netlist.specs.declared.Line.{Line}
+use Rattle.sheet_steps.specs.LineIndex.{lineIndex, roomFor}
+use Rattle.sheet_steps.specs.Steps.{stored}
+use Rattle.sheet_steps.proofs.Steps.{holds-latch, holds-gate}
+use borrow.Author.Needs.{needs}
+use Rattle.sheet_steps.proofs.store.Statement.{statement}
+use Rattle.sheet_steps.proofs.store.Tie as tie
+
+-- the number of a line whose kind is known is within its room
+within : {due known : Line} → due ≡ known → lineIndex due < roomFor due → lineIndex known < roomFor known
+within e h = subst (λ (x : Line). lineIndex x < roomFor x) e h
+
+enum-told : tie.Need-enum-told
+enum-told c = search needs
+
+store-sizes-requires : tie.Need-store-sizes-requires
+store-sizes-requires c κs = search needs
+
+enum-told-2 : tie.Need-enum-told-2
+enum-told-2 c = search needs
+
+store-memory-requires : tie.Need-store-memory-requires
+store-memory-requires c κs = search needs
+
+enum-known-due : tie.Need-enum-known-due
+enum-known-due c = search needs
+
+store-pair-requires : tie.Need-store-pair-requires
+store-pair-requires c κs = within (c .before .before .due .given .1) (c .before .before .before .before .pre .1)
+
+enum-known-due-2 : tie.Need-enum-known-due-2
+enum-known-due-2 c = search needs
+
+store-pair-requires-2 : tie.Need-store-pair-requires-2
+store-pair-requires-2 c κs = within (c .before .before .due2 .given .1) (c .before .before .before .before .pre .1)
+
+enum-known-due-3 : tie.Need-enum-known-due-3
+enum-known-due-3 c = search needs
+
+store-address-requires : tie.Need-store-address-requires
+store-address-requires c κs = within (c .before .due3 .given .1) (c .before .before .before .pre .1)
+
+enum-known-due-4 : tie.Need-enum-known-due-4
+enum-known-due-4 c = search needs
+
+store-data-requires : tie.Need-store-data-requires
+store-data-requires c κs = within (c .before .due4 .given .1) (c .before .before .before .pre .1)
+
+enum-told-3 : tie.Need-enum-told-3
+enum-told-3 c = search needs
+
+store-control-requires : tie.Need-store-control-requires
+store-control-requires c κs = search needs
+
+returns : tie.Need-returns
+returns c =
+    let start = c .before .before .before in
+    rw (c .before .enum-told .given .1) (c .store-sizes .ensures (start .args .latches .now) (start .args .gates .now) (start .pre .0))
+
+returns-2 : tie.Need-returns-2
+returns-2 c =
+    let start = c .before .before .before in
+    rw (c .before .enum-told2 .given .1) (c .store-memory .ensures (start .args .latches .now) (start .args .gates .now) (start .pre .0))
+
+returns-3 : tie.Need-returns-3
+returns-3 c =
+    let start = c .before .before .before .before .before in
+    let a = start .args in
+    let due = c .before .before .before .due in
+    rw (due .given .1, c .store-pair .ensures)
+    (holds-latch (a .net) (a .latches .now) (a .gates .now) (start .pre .0) (a .first) (a .second) (a .third) (due .given .0 .0) (within (due .given .1) (start .pre .1)))
+
+returns-4 : tie.Need-returns-4
+returns-4 c =
+    let start = c .before .before .before .before .before in
+    let a = start .args in
+    let due = c .before .before .before .due2 in
+    rw (due .given .1, c .store-pair2 .ensures)
+    (holds-gate (a .net) (a .latches .now) (a .gates .now) (start .pre .0) (a .first) (a .second) (a .third) (due .given .0 .0) (within (due .given .1) (start .pre .1)))
+
+returns-5 : tie.Need-returns-5
+unfolding stored
+returns-5 c =
+    let start = c .before .before .before .before in
+    rw (c .before .before .due3 .given .1) (c .store-address .ensures (start .args .latches .now) (start .args .gates .now) (start .pre .0))
+
+returns-6 : tie.Need-returns-6
+unfolding stored
+returns-6 c =
+    let start = c .before .before .before .before in
+    rw (c .before .before .due4 .given .1) (c .store-data .ensures (start .args .latches .now) (start .args .gates .now) (start .pre .0))
+
+returns-7 : tie.Need-returns-7
+returns-7 c =
+    let start = c .before .before .before in
+    rw (c .before .enum-told3 .given .1) (c .store-control .ensures (start .args .latches .now) (start .args .gates .now) (start .pre .0))
+
+pub store-spec : {M : Type 1} → statement M
+store-spec =
+    tie.close
+    (tie.spec
+    enum-told
+    store-sizes-requires
+    enum-told-2
+    store-memory-requires
+    enum-known-due
+    store-pair-requires
+    enum-known-due-2
+    store-pair-requires-2
+    enum-known-due-3
+    store-address-requires
+    enum-known-due-4
+    store-data-requires
+    enum-told-3
+    store-control-requires
+    returns
+    returns-2
+    returns-3
+    returns-4
+    returns-5
+    returns-6
+    returns-7)

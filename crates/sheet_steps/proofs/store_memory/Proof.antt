@@ -1,0 +1,13 @@
+-- `sheet_steps::store_memory` meets its contract: it sets what the line has. Assumes nothing.
+use mathlib.Core.Path.{refl}
+use Rattle.netlist.specs.NetOf.{netOf}
+use Rattle.sheet_steps.specs.Steps.{stored}
+use Rattle.sheet_steps.proofs.store_memory.Statement.{statement}
+use Rattle.sheet_steps.proofs.store_memory.Tie as tie
+
+returns : tie.Need-returns
+unfolding netOf stored
+returns c latches gates full = record { full = full; net-is = refl }
+
+pub store-memory-spec : {M : Type 1} → statement M
+store-memory-spec = tie.close (tie.spec returns)

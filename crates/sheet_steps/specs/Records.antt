@@ -1,0 +1,19 @@
+-- The record returned beside a verdict (document 01, "a .. record returned beside them is all zeros"). Cited by `refused`,
+-- sheet_tests/specs/Codes and sheet_reader/specs/ReadCall. Assumes nothing.
+use Prim.Native.Nat.{ℕ}
+use Rattle.model.specs.Netlist as M
+use Rattle.refusals.specs.declared.Refusal.{Refusal}
+use Rattle.refusals.specs.declared.Verdict.{Verdict}
+use Rattle.refusals.specs.declared.Verdict.the-variants.{Passed, Refused}
+use Rattle.netlist.specs.RecordOf.{recordOf, noNetlist}
+use Rattle.netlist.specs.declared.Netlist.{Netlist}
+use Rattle.sheet_steps.specs.declared.SheetAnswer.{SheetAnswer}
+
+-- the netlist's where nothing is refused
+unfoldable pub recordBeside : Verdict → M.Netlist → Netlist
+recordBeside Passed c = recordOf c
+recordBeside (Refused r p) c = recordOf noNetlist
+
+-- a refusal with its record
+abbrev pub refusedAt : Refusal → ℕ → SheetAnswer
+refusedAt r p = record { verdict = Refused r p; net = recordOf noNetlist }

@@ -1,0 +1,88 @@
+-- What one line more does: its numbers put into the netlist read so far, and its tests there. Cited by the functions that take one
+-- line more, sheet_parse/specs/Progress, sheet_tests/specs/Scratch and sheet_tests/specs/Codes. Assumes nothing.
+use Prim.Native.Nat.{ℕ, _≤_}
+use mathlib.Core.Path.{_≡_}
+use mathlib.Core.Bool.{cond, not, _||_}
+use mathlib.Core.List.{List}
+use lib.Dec.{eqb, ltb}
+use lib.ListN.{length}
+use Rattle.refusals.specs.Tests.{refuseIf, _then_}
+use Rattle.refusals.specs.declared.Refusal.the-variants.{OutOfOrder}
+use Rattle.refusals.specs.declared.Verdict.{Verdict}
+use Rattle.refusals.specs.declared.Verdict.the-variants.{Passed}
+use Rattle.literals.specs.declared.Code.{Code}
+use Rattle.model.specs.Netlist.{Netlist}
+use Rattle.model.specs.Acceptance.{SizesFit}
+use Rattle.netlist.specs.NetOf.{netOf}
+use Rattle.netlist.specs.Places.{lineAt, controlLine}
+use Rattle.netlist.specs.declared.Netlist as R
+use Rattle.netlist.specs.declared.Line.{Line}
+use Rattle.netlist.specs.declared.Line.the-variants.{Sizes, Memory, Latch, Gate, Address, WriteData, Control}
+use Rattle.sheet_lines.specs.Letters.{rowOf}
+use Rattle.sheet_lines.specs.declared.Kind.{Kind}
+use Rattle.sheet_steps.specs.declared.SheetAnswer.{SheetAnswer}
+use Rattle.sheet_steps.specs.Due.{kindDue}
+use Rattle.sheet_steps.specs.LineIndex.{sameLine}
+use Rattle.sheet_steps.specs.LineFaults.{faultsAt}
+
+-- a number that stands in line `at`, where line `due` is read: the new one if it is that line, else the old one
+abbrev pub numberAfter : Line → Line → ℕ → ℕ → ℕ
+numberAfter due at new old = cond (sameLine due at) new old
+
+-- a netlist with the three numbers of line `due` put where that line has them
+unfoldable pub stored : Netlist → Line → ℕ → ℕ → ℕ → Netlist
+stored c due x y z =
+    record {
+      inputs = numberAfter due Sizes x (c .inputs);
+      latches = numberAfter due Sizes y (c .latches);
+      gates = numberAfter due Sizes z (c .gates);
+      m = numberAfter due Memory x (c .m);
+      n = numberAfter due Memory y (c .n);
+      initialWord = numberAfter due Memory z (c .initialWord);
+      next = λ l. numberAfter due (Latch l) x (c .next l);
+      reset = λ l. numberAfter due (Latch l) y (c .reset l);
+      left = λ g. numberAfter due (Gate g) x (c .left g);
+      right = λ g. numberAfter due (Gate g) y (c .right g);
+      address = λ t. numberAfter due (Address t) x (c .address t);
+      writeData = λ t. numberAfter due (WriteData t) x (c .writeData t);
+      WE = numberAfter due Control x (c .WE);
+      RE = numberAfter due Control y (c .RE);
+      P = numberAfter due Control z (c .P);
+    }
+
+-- a record's arrays and unpacked lists of full length
+pub record FullLength (address writeData : List Code) (latches gates : List ℕ) : Type 0 where
+  pub address-codes : length address ≡ 12
+  pub data-codes : length writeData ≡ 32
+  pub latch-codes : length latches ≡ 1200
+  pub gate-codes : length gates ≡ 1200
+
+-- a record and lists of full length that stand for the netlist c
+pub record Holds (r : R.Netlist) (latches gates : List ℕ) (c : Netlist) : Type 0 where
+  pub full : FullLength (r .address) (r .«write_data») latches gates
+  pub net-is : netOf r latches gates ≡ c
+
+-- the record r is the old one with the numbers of line `due` put in, whatever the lists
+abbrev pub StoredIn : R.Netlist → R.Netlist → Line → ℕ → ℕ → ℕ → Type 0
+StoredIn r old due x y z =
+    (latches gates : List ℕ) → FullLength (old .address) (old .«write_data») latches gates
+    → Holds r latches gates (stored (netOf old latches gates) due x y z)
+
+-- the netlist c of the lines before place p, with the numbers of the line at p
+unfoldable pub stepNet : Netlist → ℕ → ℕ → ℕ → ℕ → Netlist
+stepNet c x y z p = stored c (lineAt c p) x y z
+
+-- "3, then 4 or 5" at place p: a line of this kind and with these numbers
+unfoldable pub stepVerdict : Netlist → Kind → ℕ → ℕ → ℕ → ℕ → Verdict
+stepVerdict c kind x y z p =
+    refuseIf (ltb (controlLine c) p || not (eqb (rowOf kind) (rowOf (kindDue (lineAt c p))))) OutOfOrder p
+    then faultsAt (stepNet c x y z p) (lineAt c p) p
+
+-- a verdict v, and where it is Passed a record and lists that hold c
+pub record Outcome (sheet : SheetAnswer) (latches gates : List ℕ) (v : Verdict) (c : Netlist) : Type 0 where
+  pub verdict-is : sheet .verdict ≡ v
+  pub holds : v ≡ Passed → Holds (sheet .net) latches gates c
+
+-- from line 3 on the sizes are known to be within their limits
+abbrev pub SizesKnown : Netlist → ℕ → Type 0
+SizesKnown c p = 3 ≤ p → SizesFit c

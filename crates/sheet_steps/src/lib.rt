@@ -1,0 +1,225 @@
+// One line more of a sheet (document 01, "The sheet"): the line due at a place, its tests, and its numbers put into the record and
+// the lists.
+//
+// The lists are unpacked and of full length: 600 records of two codes each.
+use netlist::Line;
+use netlist::Netlist;
+use netlist::UnpackedList;
+use refusals::Refusal;
+use refusals::Verdict;
+use sheet_lines::Kind;
+ghost use mathlib.Core.Path.{_≡_};
+ghost use Prim.Native.Nat.{_+_, _*_, _<_};
+ghost use lib.Dec.{ltb};
+ghost use lib.ListN.{set};
+ghost use Rattle.netlist.specs.NetOf.{netOf, alone};
+ghost use Rattle.netlist.specs.Places.{lineAt, controlLine};
+ghost use Rattle.sheet_lines.specs.Letters.{rowOf};
+ghost use Rattle.sheet_steps.specs.Due.{kindDue};
+ghost use Rattle.sheet_steps.specs.LineIndex.{lineIndex, roomFor};
+ghost use Rattle.sheet_steps.specs.LineFaults.{faultsAt};
+ghost use Rattle.sheet_steps.specs.Records.{refusedAt};
+ghost use Rattle.sheet_steps.specs.Steps.{stored, FullLength, Holds, StoredIn, Outcome, SizesKnown, stepNet, stepVerdict};
+
+// What a sheet is read as: the verdict of its tests, and the record, all zeros at a refusal.
+pub struct SheetAnswer {
+    pub verdict: Verdict,
+    pub net: Netlist,
+}
+
+// A refusal, with a record that is all zeros.
+pub fn refused(refusal: Refusal, place: u32) -> SheetAnswer
+    ensures { λ r. ⌜ r ≡ refusedAt refusal place ⌝ }
+{
+    SheetAnswer {
+        verdict: Verdict::Refused(refusal, place),
+        net: netlist::empty_net(),
+    }
+}
+
+// The row of the kind that a line due is of.
+fn row_due(due: Line) -> usize
+    ensures { λ r. ⌜ r ≡ rowOf (kindDue due) ⌝ }
+{
+    match due {
+        Line::Sizes => 0,
+        Line::Memory => 1,
+        Line::Latch(_) => 2,
+        Line::Gate(_) => 3,
+        Line::Address(_) => 4,
+        Line::WriteData(_) => 5,
+        Line::Control => 6,
+    }
+}
+
+// Puts the two codes of a latch or a gate into a list.
+fn store_pair(list: &mut UnpackedList, index: u32, first: u32, second: u32)
+    requires { ⌜ index < 600 ⌝ }
+    ensures { λ _. ⌜ now (list .exit) ≡ set (set (now (list .entry)) (2 * index) first) (2 * index + 1) second ⌝ }
+{
+    let at = 2 * (index as usize);
+    list[at] = first;
+    list[at + 1] = second;
+}
+
+// Puts the sizes of line N into the record.
+fn store_sizes(net: Netlist, first: u32, second: u32, third: u32) -> Netlist
+    ensures { λ r. ⌜ StoredIn r net Line.Sizes first second third ⌝ }
+{
+    let mut next = net;
+    next.inputs = first;
+    next.latches = second;
+    next.gates = third;
+    next
+}
+
+// Puts the numbers of line M into the record.
+fn store_memory(net: Netlist, first: u32, second: u32, third: u32) -> Netlist
+    ensures { λ r. ⌜ StoredIn r net Line.Memory first second third ⌝ }
+{
+    let mut next = net;
+    next.m = first;
+    next.n = second;
+    next.initial_word = third;
+    next
+}
+
+// Puts an address code into the record.
+fn store_address(net: Netlist, t: u32, first: u32) -> Netlist
+    requires { ⌜ t < 12 ⌝ }
+    ensures { λ r. ⌜ StoredIn r net (Line.Address t) first 0 0 ⌝ }
+{
+    let mut next = net;
+    let at = t as usize;
+    next.address[at].0 = first;
+    next
+}
+
+// Puts a write-data code into the record.
+fn store_data(net: Netlist, t: u32, first: u32) -> Netlist
+    requires { ⌜ t < 32 ⌝ }
+    ensures { λ r. ⌜ StoredIn r net (Line.WriteData t) first 0 0 ⌝ }
+{
+    let mut next = net;
+    let at = t as usize;
+    next.write_data[at].0 = first;
+    next
+}
+
+// Puts the codes of line C into the record.
+fn store_control(net: Netlist, first: u32, second: u32, third: u32) -> Netlist
+    ensures { λ r. ⌜ StoredIn r net Line.Control first second third ⌝ }
+{
+    let mut next = net;
+    next.we.0 = first;
+    next.re.0 = second;
+    next.p.0 = third;
+    next
+}
+
+// Puts the numbers of a line where the line has them.
+fn store(
+    net: Netlist,
+    latches: &mut UnpackedList,
+    gates: &mut UnpackedList,
+    due: Line,
+    first: u32,
+    second: u32,
+    third: u32,
+) -> Netlist
+    requires { ⌜ FullLength (net .address) (net .«write_data») (now latches) (now gates) × (lineIndex due < roomFor due) ⌝ }
+    ensures { λ r. ⌜ Holds r (now (latches .exit)) (now (gates .exit)) (stored (netOf net (now (latches .entry)) (now (gates .entry))) due first second third) ⌝ }
+{
+    match due {
+        Line::Sizes => store_sizes(net, first, second, third),
+        Line::Memory => store_memory(net, first, second, third),
+        Line::Latch(l) => {
+            store_pair(latches, l, first, second);
+            net
+        }
+        Line::Gate(g) => {
+            store_pair(gates, g, first, second);
+            net
+        }
+        Line::Address(t) => store_address(net, t, first),
+        Line::WriteData(t) => store_data(net, t, first),
+        Line::Control => store_control(net, first, second, third),
+    }
+}
+
+// The line due at a place. Lines N and M are due before any size is known.
+fn line_due(net: Netlist, place: u32) -> Line
+    requires { ⌜ SizesKnown (alone net) place ⌝ }
+    ensures { λ r. ⌜ r ≡ lineAt (alone net) place ⌝ }
+{
+    if place <= 1 {
+        return Line::Sizes;
+    }
+    if place <= 2 {
+        return Line::Memory;
+    }
+    netlist::line_at(net, place)
+}
+
+// Whether a place is behind the last line.
+fn is_past_last(net: Netlist, place: u32) -> bool
+    requires { ⌜ SizesKnown (alone net) place ⌝ }
+    ensures { λ r. ⌜ r ≡ ltb (controlLine (alone net)) place ⌝ }
+{
+    if 3 <= place {
+        return netlist::control_line(net) < place;
+    }
+    false
+}
+
+// Refusals 4 and 5 at the line just put into the record and the lists.
+fn test_stored(
+    net: Netlist,
+    latches: &UnpackedList,
+    gates: &UnpackedList,
+    due: Line,
+    place: u32,
+) -> Verdict
+    requires { ⌜ SizesKnown (alone net) place × (due ≡ lineAt (alone net) place) ⌝ }
+    ensures { λ r. ⌜ r ≡ faultsAt (netOf net (now (latches .entry)) (now (gates .entry))) due place ⌝ }
+{
+    if place < 2 {
+        if netlist::sizes_fault(net) {
+            return Verdict::Refused(Refusal::Size, place);
+        }
+        return Verdict::Passed;
+    }
+    if place < 3 {
+        if netlist::memory_fault(net) {
+            return Verdict::Refused(Refusal::Size, place);
+        }
+        return Verdict::Passed;
+    }
+    if netlist::code_fault(net, latches, gates, due) {
+        return Verdict::Refused(Refusal::CodeOutside, place);
+    }
+    Verdict::Passed
+}
+
+// A line that was read, taken for the line due: refusals 3, 4 and 5, and its numbers put into the record and the lists.
+pub fn take_line(
+    net: Netlist,
+    latches: &mut UnpackedList,
+    gates: &mut UnpackedList,
+    place: u32,
+    kind: Kind,
+    first: u32,
+    second: u32,
+    third: u32,
+) -> SheetAnswer
+    requires { ⌜ FullLength (net .address) (net .«write_data») (now latches) (now gates) × SizesKnown (alone net) place ⌝ }
+    ensures { λ r. ⌜ Outcome r (now (latches .exit)) (now (gates .exit)) (stepVerdict (netOf net (now (latches .entry)) (now (gates .entry))) kind first second third place) (stepNet (netOf net (now (latches .entry)) (now (gates .entry))) first second third place) ⌝ }
+{
+    let due = line_due(net, place);
+    if is_past_last(net, place) | (sheet_lines::row_of(kind) != row_due(due)) {
+        return refused(Refusal::OutOfOrder, place);
+    }
+    let next = store(net, latches, gates, due, first, second, third);
+    let verdict = test_stored(next, latches, gates, due, place);
+    SheetAnswer { verdict, net: next }
+}

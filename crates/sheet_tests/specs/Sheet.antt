@@ -1,0 +1,32 @@
+-- The verdict on a sheet: document 01's order of tests ("Reading: .."), over the line due at a place from the sizes alone, the faults
+-- of a line, and the first faulty line. It is not the reader's own way through the file. Cited by `test_end`, `test_file`,
+-- sheet_tests/specs/Codes, sheet_reader/specs/ReadCall, program_input/specs/Input and calls/specs/Starred. Assumes nothing.
+use Prim.Native.Nat.{ℕ, _+_}
+use mathlib.Core.List.{List}
+use lib.Dec.{ltb}
+use Rattle.model.specs.Netlist.{Netlist}
+use Rattle.refusals.specs.Tests.{refuseIf, _then_, inOrder}
+use Rattle.refusals.specs.declared.Refusal.the-variants.{Ragged, OutOfOrder, NoRoom}
+use Rattle.refusals.specs.declared.Verdict.{Verdict}
+use Rattle.netlist.specs.Places.{controlLine}
+use Rattle.netlist_tests.specs.Record.{listsShort, testLoops}
+use Rattle.sheet_parse.specs.Files.{lineCount, netIn}
+use Rattle.sheet_parse.specs.FileTests.{ragged, testLineIn}
+
+-- after the last of `count` lines: "a missing line's place is one past the last. Then 6, .."
+unfoldable pub endVerdict : Netlist → ℕ → Verdict
+endVerdict c count =
+    refuseIf (ltb count (controlLine c)) OutOfOrder (count + 1)
+    then testLoops c
+
+-- "1 (place 0); then line by line ..": the tests of what the file says
+unfoldable pub fileVerdict : List ℕ → Verdict
+fileVerdict file =
+    refuseIf (ragged file) Ragged 0
+    then inOrder (testLineIn (netIn file) file) (lineCount file)
+    then endVerdict (netIn file) (lineCount file)
+
+-- "Then 9, place 0", for lists that have room for latchRoom and gateRoom records
+unfoldable pub sheetVerdict : List ℕ → ℕ → ℕ → Verdict
+sheetVerdict file latchRoom gateRoom =
+    fileVerdict file then refuseIf (listsShort (netIn file) latchRoom gateRoom) NoRoom 0
