@@ -38,7 +38,7 @@ typedef struct { marrubigai_code left, right; } marrubigai_gate;
 typedef struct { uint32_t number, place; size_t count; } marrubigai_count_reply;
 typedef struct { uint32_t number, place, variables, clauses; } marrubigai_heading_reply;
 typedef struct { uint32_t number, place; marrubigai_netlist net; } marrubigai_sheet_reply;
-typedef struct { uint32_t number; uint8_t letter; uint32_t first, second, third, line; } marrubigai_line_reply;
+typedef struct { uint32_t number, place; uint8_t letter; uint32_t first, second, third, line; } marrubigai_line_reply;
 
 enum { MARRUBIGAI_WIRES, MARRUBIGAI_PAIR, MARRUBIGAI_CLOSING, MARRUBIGAI_PROPERTY };
 
@@ -47,7 +47,8 @@ marrubigai_sheet_reply marrubigai_read(const uint8_t *file, size_t bytes, marrub
                                        marrubigai_gate *gates, size_t gate_room);
 
 /* the line behind the first `line` lines of a sheet: its letter, its fields (0 where one is empty), and how many lines are read with
- * it: one more, and from 615 on, the most that a sheet has, `line` itself. Number 2 where it is misprinted, cut short or missing. */
+ * it, one more. Where it is misprinted, 2 with its place, line + 1, and it is read too. Where there is none (missing, cut short, or
+ * behind 615 lines, the most that a sheet has), number and letter are 0 and the line number is `line` itself. */
 marrubigai_line_reply marrubigai_next_line(const uint8_t *file, size_t bytes, uint32_t line);
 
 /* how many variables and clauses the formula of a depth has */

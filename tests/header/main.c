@@ -149,18 +149,31 @@ static void reading(void) {
         answers_sheet(read_text(DISTINCT, bytes - 32, ROOM, ROOM), 3, 15, &nothing) && lists_hold(0, 0, 0, 0));
 }
 
+static int answers_line_of(const char *text, size_t bytes, uint32_t line, marrubigai_line_reply expected) {
+  marrubigai_line_reply reply = marrubigai_next_line((const uint8_t *)text, bytes, line);
+  return reply.number == expected.number && reply.place == expected.place && reply.letter == expected.letter &&
+         reply.first == expected.first && reply.second == expected.second && reply.third == expected.third &&
+         reply.line == expected.line;
+}
+
 static int answers_line(uint32_t line, marrubigai_line_reply expected) {
-  marrubigai_line_reply reply = marrubigai_next_line((const uint8_t *)DISTINCT, sizeof DISTINCT - 1, line);
-  return reply.number == expected.number && reply.letter == expected.letter && reply.first == expected.first &&
-         reply.second == expected.second && reply.third == expected.third && reply.line == expected.line;
+  return answers_line_of(DISTINCT, sizeof DISTINCT - 1, line, expected);
 }
 
 static void lines(void) {
-  check("the first line", answers_line(0, (marrubigai_line_reply){0, 'N', 3, 2, 1, 1}));
-  check("a line with an empty field", answers_line(2, (marrubigai_line_reply){0, 'L', 22, 1, 0, 3}));
-  check("the last line", answers_line(14, (marrubigai_line_reply){0, 'C', 23, 11, 13, 15}));
-  check("a missing line gives 2", answers_line(15, (marrubigai_line_reply){2, 0, 0, 0, 0, 16}));
-  check("a number above 615 goes no further", answers_line(UINT32_MAX, (marrubigai_line_reply){2, 0, 0, 0, 0, UINT32_MAX}));
+  const size_t bytes = sizeof DISTINCT - 1;
+  char misprinted[sizeof DISTINCT];
+  memcpy(misprinted, DISTINCT, sizeof DISTINCT);
+  misprinted[32] = '?';
+  check("the first line", answers_line(0, (marrubigai_line_reply){0, 0, 'N', 3, 2, 1, 1}));
+  check("a line with an empty field", answers_line(2, (marrubigai_line_reply){0, 0, 'L', 22, 1, 0, 3}));
+  check("the last line", answers_line(14, (marrubigai_line_reply){0, 0, 'C', 23, 11, 13, 15}));
+  check("a misprinted line gives 2 at its place, and is read",
+        answers_line_of(misprinted, bytes, 1, (marrubigai_line_reply){2, 2, 0, 0, 0, 0, 2}));
+  check("behind the last line there is none", answers_line(15, (marrubigai_line_reply){0, 0, 0, 0, 0, 0, 15}));
+  check("a line cut short is none",
+        answers_line_of(DISTINCT, bytes - 1, 14, (marrubigai_line_reply){0, 0, 0, 0, 0, 0, 14}));
+  check("the greatest line number stays", answers_line(UINT32_MAX, (marrubigai_line_reply){0, 0, 0, 0, 0, 0, UINT32_MAX}));
 }
 
 static int answers_heading(marrubigai_heading_reply reply, uint32_t number, uint32_t place, uint32_t variables, uint32_t clauses) {

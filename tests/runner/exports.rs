@@ -68,6 +68,7 @@ struct SheetReply {
 #[derive(Clone, Copy, Debug, PartialEq, Eq)]
 struct LineReply {
     number: u32,
+    place: u32,
     letter: u8,
     first: u32,
     second: u32,
@@ -325,12 +326,20 @@ pub fn read(file: &[u8], latch_room: usize, gate_room: usize) -> Answer<Netlist>
     })
 }
 
-/// Letter and fields of the line behind the first `line` lines, and the new line number.
-pub fn next_line(file: &[u8], line: u32) -> (Answer<(u8, [u32; 3])>, u32) {
+/// A line: its letter and its fields.
+pub type Line = (u8, [u32; 3]);
+
+/// What is answered of the line behind the first `line` lines, `None` where there is none, and the new line number.
+pub fn next_line(file: &[u8], line: u32) -> (Answer<Option<Line>>, u32) {
     // SAFETY: the pointer and the length are those of a live slice.
     let reply = unsafe { marrubigai_next_line(file.as_ptr(), file.len(), line) };
     let found = (reply.letter, [reply.first, reply.second, reply.third]);
-    let found = answer(reply.number, 0, found == (0, [0; 3]), || Ok(found));
+    let zeros = found == (0, [0; 3]);
+    let found = answer(reply.number, reply.place, zeros, || match found.0 {
+        0 if zeros => Ok(None),
+        0 => Err("fields without a letter"),
+        _ => Ok(Some(found)),
+    });
     (found, reply.line)
 }
 

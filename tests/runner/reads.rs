@@ -1,8 +1,8 @@
 //! `read` and `next_line` through the static library: the record and the lists, what is left untouched, refusals 1
-//! to 6 and 9; a line and the number behind it.
+//! to 6 and 9; a line, a misprint or no line, and the number behind it.
 
 use super::calls::differ;
-use super::exports::{next_line, read};
+use super::exports::{next_line, read, Answer, Line};
 use super::mutate;
 use super::reference::check_refusals::{
     field_and_letter_rows, length_rows, short_sheet_rows, verdict, ACCEPTED, ROOMS,
@@ -25,27 +25,27 @@ impl Library {
     }
 }
 
-/// Letter and numbers of the line behind the first `line` lines; none where it is misprinted, cut short or
-/// missing.
-fn line_behind(file: &[u8], line: u32) -> Option<(u8, [u32; 3])> {
+/// What is answered of the line behind the first `line` lines, and how many are read then.
+fn line_behind(file: &[u8], line: u32) -> (Result<Option<Line>, Refusal>, u32) {
     let start = line as usize * LINE_BYTES;
-    let line = file.get(start..start + LINE_BYTES)?;
-    read_line(line).map(|(_, numbers)| (line[0], numbers))
+    let Some(bytes) = file.get(start..start + LINE_BYTES).filter(|_| line < 615) else {
+        return (Ok(None), line);
+    };
+    let misprint = Refusal {
+        number: MISPRINT,
+        place: line + 1,
+    };
+    let read = read_line(bytes).map(|(_, numbers)| (bytes[0], numbers));
+    (read.map(Some).ok_or(misprint), line + 1)
 }
 
 impl Library {
-    /// One check: `next_line` answers what the second implementation does, and one line more, up to 615.
+    /// One check: `next_line` answers what the second implementation does.
     pub fn line_agrees(&self, tally: &mut Tally, file: &[u8], line: u32) {
         let (found, behind) = next_line(file, line);
         Counts::add(&self.lines, &found);
-        let misprint = Refusal {
-            number: MISPRINT,
-            place: 0,
-        };
-        let expected = (
-            Ok(line_behind(file, line).ok_or(misprint)),
-            if line < 615 { line + 1 } else { line },
-        );
+        let (expected, expected_behind) = line_behind(file, line);
+        let expected = (Ok(expected), expected_behind);
         tally.check_with(line, (&found, behind) == (&expected.0, expected.1), || {
             let file = file.escape_ascii().to_string();
             differ(file, (found, behind), expected)
@@ -53,8 +53,45 @@ impl Library {
     }
 }
 
+/// Answers that were written down: the end of a file, a line cut short, a misprint with its place, and line 616.
+fn stated_lines(tally: &mut Tally) {
+    let two = expand("N 1 0 0/M 1 1 0");
+    let misprinted = expand("N 1 0 0/X 1 1 0/A 0");
+    let long = vec![expand("C 1 2 3"); 700].concat();
+    let none = |line| (Ok(Ok(None)), line);
+    let read = |letter, numbers, line| (Ok(Ok(Some((letter, numbers)))), line);
+    let misprint = |place| (Ok(Err(Refusal { number: 2, place })), place);
+    let rows: [(&str, &[u8], u32, (Answer<Option<Line>>, u32)); 15] = [
+        ("no file", &[], 0, none(0)),
+        ("the first line", &two, 0, read(b'N', [1, 0, 0], 1)),
+        ("the last line", &two, 1, read(b'M', [1, 1, 0], 2)),
+        ("a missing line", &two, 2, none(2)),
+        ("a line further behind", &two, 3, none(3)),
+        ("31 bytes", &two[..31], 0, none(0)),
+        ("31 bytes behind a line", &two[..63], 1, none(1)),
+        ("32 bytes behind 31", &two[31..63], 0, misprint(1)),
+        ("a misprinted line", &misprinted, 1, misprint(2)),
+        ("the line behind it", &misprinted, 2, read(b'A', [0, 0, 0], 3)),
+        ("line 615 of 700", &long, 614, read(b'C', [1, 2, 3], 615)),
+        ("line 616 of 700", &long, 615, none(615)),
+        ("line 617 of 700", &long, 616, none(616)),
+        ("line 2^27", &long, 1 << 27, none(1 << 27)),
+        ("the greatest number", &long, u32::MAX, none(u32::MAX)),
+    ];
+    for (name, file, line, expected) in rows {
+        tally.equal(name, next_line(file, line), expected);
+    }
+    // From the first line on to where there is none.
+    let (mut line, mut count) = (0, 0);
+    while let (Ok(Ok(Some(_))), behind) = next_line(&long, line) {
+        (line, count) = (behind, count + 1);
+    }
+    tally.equal("lines of a file of 700", (count, next_line(&long, line)), (615, none(615)));
+}
+
 /// Every line of the tables' sheets and of random ones, damaged and sound, and lines behind the last.
 pub fn lines(library: &Library, tally: &mut Tally) {
+    stated_lines(tally);
     let mut random = Random::new(603);
     let rows = [field_and_letter_rows(), short_sheet_rows()].concat();
     let mut files: Vec<Vec<u8>> = rows.into_iter().map(|(_, sheet, _)| sheet).collect();

@@ -7,12 +7,11 @@ use Rattle.model.specs.declared.Group.{Group}
 use Rattle.model.specs.declared.Group.the-variants.{Wires, Pair, Closing, Property}
 use Rattle.refusals.specs.Refusal.{refusalNumber, replyOf}
 use Rattle.refusals.specs.Slices as Slices
-use Rattle.refusals.specs.declared.Refusal.the-variants as Refusal
 use Rattle.refusals.specs.declared.Verdict.{Verdict}
 use Rattle.netlist.specs.declared.Netlist.{Netlist}
 use Rattle.sheet_lines.specs.Letters.{letterOf}
-use Rattle.sheet_lines.specs.declared.ParsedLine.{ParsedLine}
-use Rattle.sheet_lines.specs.declared.ParsedLine.the-variants.{Misprint, Read}
+use Rattle.sheet_parse.specs.declared.LineAnswer.{LineAnswer}
+use Rattle.sheet_parse.specs.declared.LineAnswer.the-variants.{Line, Refused, NoLine}
 use Rattle.call_unpacked.specs.Calls as Calls
 use Rattle.call_replies.specs.declared.CountReply.{CountReply}
 use Rattle.call_replies.specs.declared.HeadingReply.{HeadingReply}
@@ -33,9 +32,13 @@ headingNumbers r = record { number = r .number; place = r .place; variables = r 
 unfoldable pub sheetNumbers : Verdict → Netlist → SheetReply
 sheetNumbers verdict net = record { number = replyOf verdict .number; place = replyOf verdict .place; net = net }
 
--- a line, and how many are read with it
-unfoldable pub lineNumbers : ParsedLine → ℕ → LineReply
-lineNumbers Misprint line =
-    record { number = refusalNumber Refusal.Misprint; letter = 0; first = 0; second = 0; third = 0; line = line }
-lineNumbers (Read kind first second third) line =
-    record { number = 0; letter = letterOf kind; first = first; second = second; third = third; line = line }
+-- what is answered of a line, and how many are read with it: where it is refused, and where there is none, letter and fields are 0
+abbrev pub withoutFields : ℕ → ℕ → ℕ → LineReply
+withoutFields number place line =
+    record { number = number; place = place; letter = 0; first = 0; second = 0; third = 0; line = line }
+
+unfoldable pub lineNumbers : LineAnswer → ℕ → LineReply
+lineNumbers (Line kind first second third) line =
+    record { number = 0; place = 0; letter = letterOf kind; first = first; second = second; third = third; line = line }
+lineNumbers (Refused refusal place) line = withoutFields (refusalNumber refusal) place line
+lineNumbers NoLine line = withoutFields 0 0 line

@@ -7,14 +7,14 @@ use netlist::Netlist;
 use refusals::Refusal;
 use refusals::Verdict;
 use sheet_lines::Kind;
-use sheet_lines::ParsedLine;
+use sheet_parse::LineAnswer;
 use sheet_steps::SheetAnswer;
 ghost use mathlib.Core.Path.{_≡_};
 ghost use Rattle.refusals.specs.Slices.{withCount};
 ghost use Rattle.call_unpacked.specs.Calls.{groupReply, headingReply};
 ghost use Rattle.dimacs.specs.PrintCalls.{printReply};
 ghost use Rattle.sheet_lines.specs.Letters.{letterOf};
-ghost use Rattle.call_replies.specs.Replies.{groupOf, countNumbers, headingNumbers, sheetNumbers, lineNumbers};
+ghost use Rattle.call_replies.specs.Replies.{groupOf, countNumbers, headingNumbers, sheetNumbers, withoutFields, lineNumbers};
 
 // What is sent back of a call that writes into a slice: number (0 where it is not refused), place, and how many numbers or bytes
 // were written.
@@ -131,11 +131,12 @@ pub fn sheet_numbers(sheet: SheetAnswer) -> SheetReply
     }
 }
 
-// What is sent back of a line: number (2 for a misprint, else 0), its letter, its fields, and how many lines are read with it. An
-// empty field is 0, and at a misprint letter and fields are.
+// What is sent back of a line: number and place (0 where it is not refused), its letter, its fields, and how many lines are read with
+// it. An empty field is 0; letter and fields are 0 beside a refusal, and where there is no line.
 #[repr(C)]
 pub struct LineReply {
     pub number: u32,
+    pub place: u32,
     pub letter: u8,
     pub first: u32,
     pub second: u32,
@@ -159,31 +160,45 @@ fn letter_of(kind: Kind) -> u8
     }
 }
 
-// A line's.
-pub fn line_numbers(parsed: ParsedLine, line: u32) -> LineReply
-    ensures { λ r. ⌜ r ≡ lineNumbers parsed line ⌝ }
+// What is sent back where no line is read.
+fn without_fields(number: u32, place: u32, line: u32) -> LineReply
+    ensures { λ r. ⌜ r ≡ withoutFields number place line ⌝ }
 {
-    match parsed {
-        ParsedLine::Misprint => LineReply {
-            number: refusals::number(Refusal::Misprint),
-            letter: 0,
-            first: 0,
-            second: 0,
-            third: 0,
-            line,
-        },
-        ParsedLine::Read {
+    LineReply {
+        number,
+        place,
+        letter: 0,
+        first: 0,
+        second: 0,
+        third: 0,
+        line,
+    }
+}
+
+// A line's.
+pub fn line_numbers(answer: LineAnswer, line: u32) -> LineReply
+    ensures { λ r. ⌜ r ≡ lineNumbers answer line ⌝ }
+{
+    match answer {
+        LineAnswer::Line {
             kind,
             first,
             second,
             third,
         } => LineReply {
             number: 0,
+            place: 0,
             letter: letter_of(kind),
             first,
             second,
             third,
             line,
         },
+        LineAnswer::Refused(refusal, place) => without_fields(
+            refusals::number(refusal),
+            place,
+            line,
+        ),
+        LineAnswer::NoLine => without_fields(0, 0, line),
     }
 }

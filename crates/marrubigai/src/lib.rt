@@ -8,13 +8,11 @@ use call_replies::SheetReply;
 use netlist::Netlist;
 use sheet_reader::SheetReader;
 ghost use mathlib.Core.Path.{_≡_};
-ghost use Prim.Native.Nat.{_+_};
 ghost use lib.ListN.{length};
 ghost use Rattle.calls.specs.LentCalls.{headingFor, groupFor, numbersLeft};
 ghost use Rattle.dimacs.specs.Text.{headerText, clauseText, refusalText};
 ghost use Rattle.dimacs.specs.PrintCalls.{printSent, printLeaves};
-ghost use Rattle.sheet_parse.specs.Files.{lineIn};
-ghost use Rattle.sheet_reader.specs.NextLine.{nextNumber};
+ghost use Rattle.sheet_parse.specs.LineAnswers.{lineAnswer, linesRead};
 ghost use Rattle.sheet_reader.specs.ReadCall.{readVerdict, readRecord, latchesLeft, gatesLeft, SheetDelivered};
 ghost use Rattle.call_replies.specs.Replies.{groupOf, countNumbers, headingNumbers, sheetNumbers, lineNumbers};
 
@@ -74,7 +72,7 @@ pub extern "C" fn marrubigai_read(
 // `SheetReader::next_line`, of the reader that has read so many lines of the file.
 #[no_mangle]
 pub extern "C" fn marrubigai_next_line(file: &[u8], line: u32) -> LineReply
-    ensures { λ r. ⌜ r ≡ lineNumbers (lineIn (now (file .entry)) (line + 1)) (nextNumber line) ⌝ }
+    ensures { λ r. ⌜ r ≡ lineNumbers (lineAnswer (now (file .entry)) line) (linesRead (now (file .entry)) line) ⌝ }
 {
     let next = SheetReader { file, line }.next_line();
     call_replies::line_numbers(next.line, next.reader.line)

@@ -1,4 +1,5 @@
 -- A file of lines and what is read of it, in reading order. Nothing here imports a law or a proof.
 pub mod Files
+pub mod LineAnswers
 pub mod FileTests
 pub mod Progress

@@ -3,6 +3,7 @@ use netlist::Netlist;
 use netlist::UnpackedList;
 use refusals::Refusal;
 use refusals::Verdict;
+use sheet_lines::Kind;
 use sheet_steps::SheetAnswer;
 ghost use mathlib.Core.Path.{_≡_};
 ghost use mathlib.Core.Bool.{false};
@@ -11,8 +12,27 @@ ghost use lib.ListN.{length};
 ghost use Rattle.refusals.specs.Tests.{inOrder};
 ghost use Rattle.sheet_steps.specs.Steps.{Outcome};
 ghost use Rattle.sheet_parse.specs.Files.{lineCount, lineIn, netIn};
+ghost use Rattle.sheet_parse.specs.LineAnswers.{hasLine, lineAfter};
 ghost use Rattle.sheet_parse.specs.FileTests.{ragged, testLineIn};
 ghost use Rattle.sheet_parse.specs.Progress.{netTo, ReadTo};
+
+// What is answered of a line: its kind and three numbers, 0 where a field is empty; a refusal with its place; or that there is none.
+pub enum LineAnswer {
+    Line {
+        kind: Kind,
+        first: u32,
+        second: u32,
+        third: u32,
+    },
+    Refused(Refusal, u32),
+    NoLine,
+}
+
+// An answer, and how many lines are read with it.
+pub struct LineAfter {
+    pub line: LineAnswer,
+    pub lines_read: u32,
+}
 
 // Refusal 1.
 pub fn is_ragged(file: &[u8]) -> bool
@@ -22,8 +42,8 @@ pub fn is_ragged(file: &[u8]) -> bool
     (size == 0) | (size % 32 != 0) | (19680 < size)
 }
 
-// The line behind the first `line` lines. One that is cut short, or missing, is a misprint.
-pub fn line_after(file: &[u8], line: u32) -> sheet_lines::ParsedLine
+// The line behind the first `line` lines, as it is read. One that is cut short, or missing, is a misprint.
+fn parse_line(file: &[u8], line: u32) -> sheet_lines::ParsedLine
     ensures { λ r. ⌜ r ≡ lineIn (now (file .entry)) (line + 1) ⌝ }
 {
     let start = 32 * (line as usize);
@@ -32,6 +52,48 @@ pub fn line_after(file: &[u8], line: u32) -> sheet_lines::ParsedLine
         return sheet_lines::ParsedLine::Misprint;
     }
     sheet_lines::read_line(&file[start..end])
+}
+
+// Whether there is a line behind the first `line` lines: one that is missing or cut short is none, nor is one behind the 615 that a
+// sheet has at most.
+fn has_line(file: &[u8], line: u32) -> bool
+    ensures { λ r. ⌜ r ≡ hasLine (now (file .entry)) line ⌝ }
+{
+    let end = 32 * (line as usize) + 32;
+    (line < 615) & (end <= file.len())
+}
+
+// What is answered of the line behind the first `line` lines. A misprinted line is read too: the next answer is of the line behind it.
+pub fn line_after(file: &[u8], line: u32) -> LineAfter
+    ensures { λ r. ⌜ r ≡ lineAfter (now (file .entry)) line ⌝ }
+{
+    if !has_line(file, line) {
+        return LineAfter {
+            line: LineAnswer::NoLine,
+            lines_read: line,
+        };
+    }
+    let place = line + 1;
+    match parse_line(file, line) {
+        sheet_lines::ParsedLine::Misprint => LineAfter {
+            line: LineAnswer::Refused(Refusal::Misprint, place),
+            lines_read: place,
+        },
+        sheet_lines::ParsedLine::Read {
+            kind,
+            first,
+            second,
+            third,
+        } => LineAfter {
+            line: LineAnswer::Line {
+                kind,
+                first,
+                second,
+                third,
+            },
+            lines_read: place,
+        },
+    }
 }
 
 // Reads one line more: refusals 2 to 5, and its numbers put into the record and the lists. `line` lines are read already.
@@ -46,7 +108,7 @@ fn read_next(
     ensures { λ r. ⌜ Outcome r (now (latches .exit)) (now (gates .exit)) (testLineIn (netIn (now (file .entry))) (now (file .entry)) (line + 1)) (netTo (now (file .entry)) (line + 1)) ⌝ }
 {
     let place = line + 1;
-    match line_after(file, line) {
+    match parse_line(file, line) {
         sheet_lines::ParsedLine::Misprint => sheet_steps::refused(Refusal::Misprint, place),
         sheet_lines::ParsedLine::Read {
             kind,

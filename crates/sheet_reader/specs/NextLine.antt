@@ -1,12 +1,9 @@
 -- A reader's file and line number, line by line (document 01, "The sheet reader carries the file and its own line number").
--- Cited by `at_start`, `next_number`, `next_line` and `marrubigai_next_line`. Assumes nothing.
-use Prim.Native.Nat.{ℕ, _+_}
-use mathlib.Core.Bool.{cond}
+-- Cited by `at_start` and `next_line`. Assumes nothing.
+use Prim.Native.Nat.{ℕ}
 use mathlib.Core.List.{List}
-use lib.Dec.{ltb}
 use denote.Ref.{RefT, now}
-use Rattle.model.specs.Limits.{mostLines}
-use Rattle.sheet_parse.specs.Files.{lineIn}
+use Rattle.sheet_parse.specs.LineAnswers.{lineAnswer, linesRead}
 use Rattle.sheet_reader.specs.declared.SheetReader.{SheetReader}
 use Rattle.sheet_reader.specs.declared.NextLine.{NextLine}
 
@@ -14,14 +11,10 @@ use Rattle.sheet_reader.specs.declared.NextLine.{NextLine}
 abbrev pub atStart : RefT (List ℕ) → SheetReader
 atStart file = record { file = file; line = 0 }
 
--- one line more; no sheet has more than 615, and the number goes no further
-unfoldable pub nextNumber : ℕ → ℕ
-nextNumber line = cond (ltb line mostLines) (line + 1) line
-
--- one line further on, in the same file
+-- behind the next line, in the same file
 abbrev pub movedOn : SheetReader → SheetReader
-movedOn r = record { file = r .file; line = nextNumber (r .line) }
+movedOn r = record { file = r .file; line = linesRead (now (r .file)) (r .line) }
 
--- the line behind those that are read, and the reader behind it
+-- what is answered of the line behind those that are read, and the reader behind it
 abbrev pub nextLine : SheetReader → NextLine
-nextLine r = record { line = lineIn (now (r .file)) (r .line + 1); reader = movedOn r }
+nextLine r = record { line = lineAnswer (now (r .file)) (r .line); reader = movedOn r }

@@ -5,13 +5,14 @@ use call_lists::Latch;
 use netlist::Netlist;
 use netlist::UnpackedList;
 use refusals::Verdict;
+use sheet_parse::LineAnswer;
 use sheet_steps::SheetAnswer;
 ghost use mathlib.Core.Path.{_≡_};
 ghost use Prim.Native.Nat.{_≤_};
 ghost use Rattle.sheet_parse.specs.Files.{lineCount};
 ghost use Rattle.sheet_parse.specs.Progress.{ReadTo};
 ghost use Rattle.sheet_tests.specs.Codes.{CodesRead};
-ghost use Rattle.sheet_reader.specs.NextLine.{atStart, nextNumber, nextLine};
+ghost use Rattle.sheet_reader.specs.NextLine.{atStart, nextLine};
 ghost use Rattle.sheet_reader.specs.ReadCall.{readVerdict, readRecord, latchesLeft, gatesLeft, SheetDelivered};
 
 // A file, and how many of its lines are read.
@@ -20,9 +21,9 @@ pub struct SheetReader<'a> {
     pub line: u32,
 }
 
-// A line, and the reader behind it.
+// What is answered of a line, and the reader behind it.
 pub struct NextLine<'a> {
-    pub line: sheet_lines::ParsedLine,
+    pub line: LineAnswer,
     pub reader: SheetReader<'a>,
 }
 
@@ -33,25 +34,17 @@ fn at_start<'a>(file: &'a [u8]) -> SheetReader<'a>
     SheetReader { file, line: 0 }
 }
 
-// How many lines are read with one more. No sheet has more than 615, and the number goes no further.
-fn next_number(line: u32) -> u32
-    ensures { λ r. ⌜ r ≡ nextNumber line ⌝ }
-{
-    if line < 615 { line + 1 } else { line }
-}
-
 impl<'a> SheetReader<'a> {
-    // The next line, and the reader moved on. A line that is cut short, or missing, is a misprint.
+    // The next line, and the reader behind it: moved on where there is a line, be it misprinted or not, and else unmoved.
     pub fn next_line(self) -> NextLine<'a>
         ensures { λ r. ⌜ r ≡ nextLine (self .entry) ⌝ }
     {
-        let line = sheet_parse::line_after(self.file, self.line);
-        let number = next_number(self.line);
+        let after = sheet_parse::line_after(self.file, self.line);
         NextLine {
-            line,
+            line: after.line,
             reader: SheetReader {
                 file: self.file,
-                line: number,
+                line: after.lines_read,
             },
         }
     }

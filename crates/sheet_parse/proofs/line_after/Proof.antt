@@ -1,53 +1,64 @@
--- `sheet_parse::line_after` meets its contract: the part of 32 bytes behind the lines before, or fewer. Assumes nothing.
-use Prim.Native.Nat.{_+_, _-_, _*_}
+-- `sheet_parse::line_after` meets its contract: there is no line, or it is misprinted, or it is read. Assumes nothing.
 use mathlib.Core.Path.{_≡_, sym, _∙_}
+use mathlib.Core.Bool.{true}
 use native.Mathlib.Omega.{arith}
 use borrow.Author.Needs.{needs}
-use Rattle.sheet_parse.specs.Files.{lineIn}
-use Rattle.sheet_parse.proofs.Files.{lineIn-missing}
+use borrow.Author.Tests.{not-true, not-false}
+use Rattle.sheet_parse.specs.LineAnswers.{hasLine}
+use Rattle.sheet_parse.proofs.LineAnswers.{line-there, after-none, after-misprint, after-read}
 use Rattle.sheet_parse.proofs.line_after.Statement.{statement}
 use Rattle.sheet_parse.proofs.line_after.Tie as tie
 
-mul-start : tie.Need-mul-start
-mul-start c = search needs
+-- what the test that is passed says
+there : (c : tie.Else1) → hasLine (c .before .before .before .args .file .now) (c .before .before .before .args .line) ≡ true
+there c = sym (c .before .has-line .ensures) ∙ not-false _ (c .if1 .left)
 
-add-end : tie.Need-add-end
-add-end c = search needs
+has-line-requires : tie.Need-has-line-requires
+has-line-requires c κs = search needs
 
 returns : tie.Need-returns
 returns c =
-    let a = c .before .before .args in
-    sym (lineIn-missing (a .file .now) (a .line) (omega arith))
+    let a = c .before .before .before .args in
+    sym (after-none (a .file .now) (a .line) (sym (c .before .has-line .ensures) ∙ not-true _ (c .if1 .taken)))
 
-sub-read-line : tie.Need-sub-read-line
-sub-read-line c = search needs
+add-place : tie.Need-add-place
+add-place c =
+    let a = c .before .before .before .args in
+    record { fits = omega (arith, line-there (a .file .now) (a .line) (there c) .0) }
 
-part-read-line-start : tie.Need-part-read-line-start
-part-read-line-start c = search needs
+parse-line-requires : tie.Need-parse-line-requires
+parse-line-requires c κs = search needs
 
-part-read-line-end : tie.Need-part-read-line-end
-part-read-line-end c = search needs
+enum-told : tie.Need-enum-told
+enum-told c = search needs
 
-read-line-requires : tie.Need-read-line-requires
-read-line-requires c κs = search needs
+enum-known-kind : tie.Need-enum-known-kind
+enum-known-kind c = search needs
 
 returns-2 : tie.Need-returns-2
-unfolding lineIn
 returns-2 c =
-    let line = c .before .before .before .before .args .line in
-    let behind : line + 1 - 1 ≡ line = omega arith in
-    let size : 32 * line + 32 - 32 * line ≡ 32 = omega arith in
-    c .read-line .ensures .0 ∙ rw (size, behind)
+    let a = c .before .before .before .before .before .before .args in
+    sym
+    (after-misprint (a .file .now) (a .line) (there (c .before .before .before))
+    (sym (c .before .before .parse-line .ensures) ∙ c .enum-told .given .1))
+
+returns-3 : tie.Need-returns-3
+returns-3 c =
+    let a = c .before .before .before .before .before .before .before .args in
+    let read = c .before .kind .given in
+    sym
+    (after-read (a .file .now) (a .line) (there (c .before .before .before .before)) (read .0 .0) (read .0 .1 .0) (read .0 .1 .1 .0)
+    (read .0 .1 .1 .1 .0) (sym (c .before .before .before .parse-line .ensures) ∙ read .1))
 
 pub line-after-spec : {M : Type 1} → statement M
 line-after-spec =
     tie.close
     (tie.spec
-    mul-start
-    add-end
+    has-line-requires
     returns
-    sub-read-line
-    part-read-line-start
-    part-read-line-end
-    read-line-requires
-    returns-2)
+    add-place
+    parse-line-requires
+    enum-told
+    enum-known-kind
+    returns-2
+    returns-3)

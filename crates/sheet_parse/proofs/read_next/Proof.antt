@@ -12,8 +12,8 @@ use Rattle.sheet_parse.proofs.read_next.Tie as tie
 add-place : tie.Need-add-place
 add-place c = search needs
 
-line-after-requires : tie.Need-line-after-requires
-line-after-requires c κs = search needs
+parse-line-requires : tie.Need-parse-line-requires
+parse-line-requires c κs = search needs
 
 enum-told : tie.Need-enum-told
 enum-told c = search needs
@@ -36,21 +36,21 @@ returns c =
     let a = start .args in
     rw (c .refused .ensures)
     (outcome-refused (a .latches .now) (a .gates .now) (netTo (a .file .now) (a .line + 1)) refl
-    (test-misprint (netIn (a .file .now)) (a .file .now) (a .line + 1) (sym (c .before .before .before .line-after .ensures) ∙ c .before .enum-told .given .1)))
+    (test-misprint (netIn (a .file .now)) (a .file .now) (a .line + 1) (sym (c .before .before .before .parse-line .ensures) ∙ c .before .enum-told .given .1)))
 
 returns-2 : tie.Need-returns-2
 returns-2 c =
     let start = c .before .before .before .before .before .before .before .before in
     let a = start .args in
     let printed = c .before .before .before .before .kind .given in
-    outcome-next (a .file .now) (a .line) (a .net) (a .latches .now) (a .gates .now) (start .pre .0) (printed .0 .0) (printed .0 .1 .0) (printed .0 .1 .1 .0) (printed .0 .1 .1 .1 .0) (sym (c .before .before .before .before .before .before .line-after .ensures) ∙ printed .1) (c .take-line .result) _ _ (c .take-line .ensures)
+    outcome-next (a .file .now) (a .line) (a .net) (a .latches .now) (a .gates .now) (start .pre .0) (printed .0 .0) (printed .0 .1 .0) (printed .0 .1 .1 .0) (printed .0 .1 .1 .1 .0) (sym (c .before .before .before .before .before .before .parse-line .ensures) ∙ printed .1) (c .take-line .result) _ _ (c .take-line .ensures)
 
 pub read-next-spec : {M : Type 1} → statement M
 read-next-spec =
     tie.close
     (tie.spec
     add-place
-    line-after-requires
+    parse-line-requires
     enum-told
     refused-requires
     enum-known-kind

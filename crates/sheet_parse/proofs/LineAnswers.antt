@@ -1,0 +1,38 @@
+-- Laws of specs/LineAnswers.antt: where there is a line, and the three answers. No contract cites this file. Assumes nothing.
+use Prim.Native.Nat.{ℕ, _+_, _*_, _≤_, _<_}
+use mathlib.Core.Path.{_≡_}
+use mathlib.Core.Bool.{true, false}
+use mathlib.Core.List.{List}
+use borrow.Author.Tests.{ltb-true, leb-true}
+use lib.Dec.{leb, ltb}
+use lib.ListN.{length}
+use Rattle.model.proofs.Booleans.{and-true}
+use Rattle.refusals.specs.declared.Refusal.the-variants as Refusal
+use Rattle.sheet_lines.specs.declared.Kind.{Kind}
+use Rattle.sheet_lines.specs.declared.ParsedLine.the-variants.{Misprint, Read}
+use Rattle.sheet_parse.specs.declared.LineAnswer.the-variants.{Line, Refused, NoLine}
+use Rattle.sheet_parse.specs.Files.{lineIn}
+use Rattle.sheet_parse.specs.LineAnswers.{hasLine, lineAnswer, linesRead, lineAfter}
+
+module _ (file : List ℕ) (line : ℕ) where
+  -- a line that is there is one of the first 615, and its 32 bytes are the file's
+  pub line-there : hasLine file line ≡ true → (line < 615) × (32 * line + 32 ≤ length file)
+  unfolding hasLine
+  line-there h =
+      let both = and-true (ltb line 615) (leb (32 * line + 32) (length file)) .0 h in
+      (ltb-true line 615 (both .0), leb-true (32 * line + 32) (length file) (both .1))
+
+  -- the answers
+  pub after-none : hasLine file line ≡ false → lineAfter file line ≡ record { line = NoLine; «lines_read» = line }
+  unfolding lineAnswer linesRead
+  after-none h = rw h
+
+  pub after-misprint : hasLine file line ≡ true → lineIn file (line + 1) ≡ Misprint
+      → lineAfter file line ≡ record { line = Refused Refusal.Misprint (line + 1); «lines_read» = line + 1 }
+  unfolding lineAnswer linesRead
+  after-misprint h e = rw (h, e)
+
+  pub after-read : hasLine file line ≡ true → (k : Kind) (a b c : ℕ) → lineIn file (line + 1) ≡ Read k a b c
+      → lineAfter file line ≡ record { line = Line k a b c; «lines_read» = line + 1 }
+  unfolding lineAnswer linesRead
+  after-read h k a b c e = rw (h, e)

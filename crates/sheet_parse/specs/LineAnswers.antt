@@ -1,0 +1,35 @@
+-- What is answered of the lines of a file one by one (document 01, "The sheet" and "Reading"): the line behind those that are read, a
+-- refusal of it with its place, or that there is none. Cited by `line_after`, sheet_reader/specs/NextLine, call_replies/specs/Replies
+-- and `marrubigai_next_line`. Assumes nothing.
+use Prim.Native.Nat.{ℕ, _+_, _*_}
+use mathlib.Core.Bool.{Bool, cond, _&&_}
+use mathlib.Core.List.{List}
+use lib.Dec.{leb, ltb}
+use lib.ListN.{length}
+use Rattle.model.specs.Limits.{lineBytes, mostLines}
+use Rattle.refusals.specs.declared.Refusal.the-variants as Refusal
+use Rattle.sheet_lines.specs.declared.ParsedLine.{ParsedLine}
+use Rattle.sheet_lines.specs.declared.ParsedLine.the-variants.{Misprint, Read}
+use Rattle.sheet_parse.specs.declared.LineAnswer.{LineAnswer}
+use Rattle.sheet_parse.specs.declared.LineAnswer.the-variants.{Line, Refused, NoLine}
+use Rattle.sheet_parse.specs.declared.LineAfter.{LineAfter}
+use Rattle.sheet_parse.specs.Files.{lineIn}
+
+-- whether there is a line behind the first `line`: 32 bytes of the file, and no sheet has more than 615 lines
+unfoldable pub hasLine : List ℕ → ℕ → Bool
+hasLine file line = ltb line mostLines && leb (lineBytes * line + lineBytes) (length file)
+
+-- a line at a place as an answer: a misprinted one is refused, "place being the line, the first as 1"
+abbrev pub answerOf : ParsedLine → ℕ → LineAnswer
+answerOf Misprint place = Refused Refusal.Misprint place
+answerOf (Read kind first second third) place = Line kind first second third
+
+-- the answer, and how many lines are read with it: one more, be it misprinted or not, and no more where there is none
+unfoldable pub lineAnswer : List ℕ → ℕ → LineAnswer
+lineAnswer file line = cond (hasLine file line) (answerOf (lineIn file (line + 1)) (line + 1)) NoLine
+
+unfoldable pub linesRead : List ℕ → ℕ → ℕ
+linesRead file line = cond (hasLine file line) (line + 1) line
+
+abbrev pub lineAfter : List ℕ → ℕ → LineAfter
+lineAfter file line = record { line = lineAnswer file line; «lines_read» = linesRead file line }
