@@ -1,7 +1,7 @@
 -- Laws of specs/Input.antt: which test decides, and what an input that is not refused has shown. No contract cites this file.
 -- Assumes nothing.
 use Prim.Native.Nat.{ℕ, _-_}
-use mathlib.Core.Path.{_≡_, refl}
+use mathlib.Core.Path.{_≡_, refl, sym, _∙_}
 use mathlib.Core.List.{List}
 use native.Mathlib.Omega.{arith}
 use lib.ListN.{length, take, drop, length-drop}
@@ -15,6 +15,8 @@ use Rattle.refusals.proofs.Tests.{passed-then}
 use Rattle.netlist_tests.proofs.Acceptance.{passes-accepted}
 use Rattle.sheet_lines.specs.Depth.{depthVerdict}
 use Rattle.sheet_tests.specs.Codes.{CodesRead}
+use Rattle.sheet_tests.proofs.Codes.{passed-record}
+use Rattle.sheet_steps.proofs.Records.{verdict-is, holds}
 use Rattle.sheet_steps.specs.declared.SheetAnswer.{SheetAnswer}
 use Rattle.program_input.specs.Input.{sheetIn, inputVerdict, SheetTaken}
 
@@ -42,5 +44,8 @@ behind-depth s = take-all (length s - 11) (drop 11 s) (rw length-drop (omega ari
 pub sheet-taken : (file : List ℕ) (sheet : SheetAnswer) (latches gates : List ℕ) → CodesRead file 600 600 sheet latches gates
     → replyOf (sheet .verdict) .number ≡ 0 → SheetTaken file (sheet .net) latches gates
 sheet-taken file sheet latches gates c h =
-    let passed = reply-passed (sheet .verdict) h in
-    record { net-is = c .holds passed .net-is; accepted = passes-accepted _ 600 600 .0 (c .accepted passed) .0 }
+    let passed = sym (verdict-is c) ∙ reply-passed (sheet .verdict) h in
+    record {
+      net-is = holds c passed .net-is;
+      accepted = passes-accepted _ 600 600 .0 (passed-record file 600 600 latches gates c passed) .0;
+    }

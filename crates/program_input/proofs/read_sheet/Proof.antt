@@ -5,6 +5,7 @@ use borrow.Author.Needs.{needs}
 use Rattle.refusals.specs.Refusal.{replyOf}
 use Rattle.refusals.specs.declared.Reply.{Reply}
 use Rattle.sheet_tests.proofs.Scratch.{read-none}
+use Rattle.sheet_steps.proofs.Records.{verdict-is}
 use Rattle.program_input.proofs.Replies.{sheet-taken}
 use Rattle.program_input.proofs.read_sheet.Statement.{statement}
 use Rattle.program_input.proofs.read_sheet.Tie as tie
@@ -24,7 +25,7 @@ returns : tie.Need-returns
 returns c =
     let read = c .before .before .read-codes .ensures in
     let reply = c .reply-of .ensures in (
-      ap (λ (r : Reply). record { number = r .number; place = r .place }) (reply ∙ ap replyOf (read .verdict-is)),
+      ap (λ (r : Reply). record { number = r .number; place = r .place }) (reply ∙ ap replyOf (verdict-is read)),
       (refl, λ h. sheet-taken _ _ _ _ read (sym (ap (λ (r : Reply). r .number) reply) ∙ h)),
     )
 
