@@ -42,13 +42,14 @@ SIZE(marrubigai_sheet_reply, 220);
 FIELD(marrubigai_sheet_reply, number, 0);
 FIELD(marrubigai_sheet_reply, place, 4);
 FIELD(marrubigai_sheet_reply, net, 8);
-SIZE(marrubigai_line_reply, 24);
+SIZE(marrubigai_line_reply, 28);
 FIELD(marrubigai_line_reply, number, 0);
-FIELD(marrubigai_line_reply, letter, 4);
-FIELD(marrubigai_line_reply, first, 8);
-FIELD(marrubigai_line_reply, second, 12);
-FIELD(marrubigai_line_reply, third, 16);
-FIELD(marrubigai_line_reply, line, 20);
+FIELD(marrubigai_line_reply, place, 4);
+FIELD(marrubigai_line_reply, letter, 8);
+FIELD(marrubigai_line_reply, first, 12);
+FIELD(marrubigai_line_reply, second, 16);
+FIELD(marrubigai_line_reply, third, 20);
+FIELD(marrubigai_line_reply, line, 24);
 
 static int passed, failed;
 

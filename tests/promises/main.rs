@@ -9,11 +9,19 @@ use std::fs;
 use std::path::{Path, PathBuf};
 
 /// The crates with the functions for designers: every `pub fn` and every exported C function, methods included.
-const SHOWN: [&str; 5] = ["calls", "sheet_reader", "sheet_lines", "dimacs", "marrubigai"];
+const SHOWN: [&str; 6] = [
+    "calls",
+    "sheet_reader",
+    "sheet_parse",
+    "sheet_lines",
+    "dimacs",
+    "marrubigai",
+];
 
-/// Of `sheet_lines` it is the depth line's alone; what asks something of its caller in `dimacs` is the program's.
+/// Of `sheet_parse` it is the reader's method alone, of `sheet_lines` the depth line's; what asks something of its caller in `dimacs` is the program's.
 fn is_shown(of: &str, it: &Public) -> bool {
     match of {
+        "sheet_parse" => it.name == "next_line",
         "sheet_lines" => it.name == "read_depth",
         "dimacs" => !it.has_requires,
         _ => true,

@@ -5,5 +5,4 @@ pub mod DeliverLoop
 pub mod OneRecord
 pub mod Records
 pub mod Unpacked
-pub mod Walk
 pub mod Zeroed

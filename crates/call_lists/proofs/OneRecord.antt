@@ -44,7 +44,7 @@ use denote.Triple.Statement.{Triple}
 use denote.Triple.Walked.{says, needs, Stays, stay-none, stay-none-slice, gave-ref, walkOf, goes-none, goes-none-slice, goes-gave-ref, ends-at}
 use denote.Exit.{yes}
 use Rattle.call_lists.specs.Unpacking.{putNumbers}
-use Rattle.call_lists.proofs.Walk.{calls-told, _&_, cell, frees-all, meets-of}
+use Rattle.walks.proofs.Walk.{calls-told, _&_, cell, frees-all, meets-of}
 use Rattle.call_lists.proofs.unpack.put_numbers as put
 use Rattle.call_lists.proofs.unpack.put_numbers.Symbol.{name as #put}
 

@@ -6,7 +6,7 @@ use call_replies::HeadingReply;
 use call_replies::LineReply;
 use call_replies::SheetReply;
 use netlist::Netlist;
-use sheet_reader::SheetReader;
+use sheet_parse::SheetReader;
 ghost use mathlib.Core.Path.{_≡_};
 ghost use lib.ListN.{length};
 ghost use Rattle.calls.specs.LentCalls.{headingFor, groupFor, numbersLeft};

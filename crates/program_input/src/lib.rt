@@ -2,7 +2,7 @@
 use netlist::Netlist;
 use netlist::UnpackedList;
 ghost use mathlib.Core.Path.{_≡_};
-ghost use Rattle.sheet_tests.specs.Scratch.{noCodes};
+ghost use Rattle.sheet_parse.specs.Progress.{noCodes};
 ghost use Rattle.refusals.specs.Refusal.{replyOf};
 ghost use Rattle.program_input.specs.Input.{sheetIn, inputVerdict, replyIn, SheetTaken, InputTaken};
 
@@ -26,7 +26,7 @@ fn read_sheet(
     ensures depth { λ r. ⌜ r .depth ≡ depth ⌝ }
     ensures taken { λ r. ⌜ (r .number ≡ 0 → SheetTaken (now (file .entry)) (r .net) (now (latches .exit)) (now (gates .exit))) ⌝ }
 {
-    let sheet = sheet_tests::read_codes(file, 0, netlist::empty_net(), 600, 600, latches, gates);
+    let sheet = sheet_tests::read_codes(file, 600, 600, latches, gates);
     let verdict = sheet.verdict;
     let net = sheet.net;
     let reply = refusals::reply_of(verdict);

@@ -1,3 +1,4 @@
 pub mod Files
 pub mod LineAnswers
 pub mod LineTests
+pub mod InProgress

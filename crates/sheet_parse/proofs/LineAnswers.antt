@@ -1,9 +1,12 @@
 -- Laws of specs/LineAnswers.antt: where there is a line, and the three answers. No contract cites this file. Assumes nothing.
 use Prim.Native.Nat.{ℕ, _+_, _*_, _≤_, _<_}
-use mathlib.Core.Path.{_≡_}
-use mathlib.Core.Bool.{true, false}
+use mathlib.Core.Path.{_≡_, sym, _∙_}
+use mathlib.Core.Bool.{true, false, false≢true}
 use mathlib.Core.List.{List}
-use borrow.Author.Tests.{ltb-true, leb-true}
+use mathlib.Core.Logic.{by-cases}
+use native.Mathlib.Decide.{decLt}
+use native.Mathlib.Omega.{arith}
+use borrow.Author.Tests.{ltb-true, leb-true, lt-ltb, le-leb}
 use lib.Dec.{leb, ltb}
 use lib.ListN.{length}
 use Rattle.model.proofs.Booleans.{and-true}
@@ -11,8 +14,9 @@ use Rattle.refusals.specs.declared.Refusal.the-variants as Refusal
 use Rattle.sheet_lines.specs.declared.Kind.{Kind}
 use Rattle.sheet_lines.specs.declared.ParsedLine.the-variants.{Misprint, Read}
 use Rattle.sheet_parse.specs.declared.LineAnswer.the-variants.{Line, Refused, NoLine}
-use Rattle.sheet_parse.specs.Files.{lineIn}
+use Rattle.sheet_parse.specs.Files.{lineCount, lineIn}
 use Rattle.sheet_parse.specs.LineAnswers.{hasLine, lineAnswer, linesRead, lineAfter}
+use Rattle.sheet_parse.proofs.Files.{WholeLines}
 
 module _ (file : List ℕ) (line : ℕ) where
   -- a line that is there is one of the first 615, and its 32 bytes are the file's
@@ -21,6 +25,17 @@ module _ (file : List ℕ) (line : ℕ) where
   line-there h =
       let both = and-true (ltb line 615) (leb (32 * line + 32) (length file)) .0 h in
       (ltb-true line 615 (both .0), leb-true (32 * line + 32) (length file) (both .1))
+
+  -- behind the last line of a file of whole lines there is none
+  pub line-none : hasLine file line ≡ false → WholeLines file → line ≤ lineCount file → line ≡ lineCount file
+  unfolding hasLine
+  line-none h whole within =
+      by-cases (decLt line (lineCount file))
+      (λ less. absurd (false≢true (sym h ∙ rw (
+        lt-ltb line 615 (omega (arith, whole .whole, whole .most)),
+        le-leb (32 * line + 32) (length file) (omega (arith, whole .whole)),
+      ))))
+      (λ more. omega arith)
 
   -- the answers
   pub after-none : hasLine file line ≡ false → lineAfter file line ≡ record { line = NoLine; «lines_read» = line }

@@ -31,15 +31,15 @@ use Rattle.sheet_lines.specs.Letters.{rowOf}
 use Rattle.sheet_lines.specs.declared.Kind.{Kind}
 use Rattle.sheet_lines.specs.declared.ParsedLine.the-variants as ParsedLine
 use Rattle.sheet_steps.specs.declared.SheetAnswer.{SheetAnswer}
-use Rattle.sheet_parse.specs.Files.{lineCount, lineIn, sizesIn, netIn}
+use Rattle.sheet_parse.specs.Files.{lineIn, sizesIn, netIn}
 use Rattle.sheet_steps.specs.Due.{kindDue}
 use Rattle.sheet_parse.specs.FileTests.{misprinted, isOf, notDue, testLineIn}
 use Rattle.sheet_steps.specs.LineFaults.{faultsAt}
-use Rattle.sheet_steps.specs.Steps.{stepNet, stepVerdict, SizesKnown, Outcome}
-use Rattle.sheet_parse.specs.Progress.{netTo, ReadTo}
+use Rattle.sheet_steps.specs.Steps.{stepNet, stepVerdict, SizesKnown, Holds, Outcome}
+use Rattle.sheet_parse.specs.Progress.{netTo}
 use Rattle.sheet_steps.proofs.Places.{placeOf, place-lineAt, sizesFit-same}
-use Rattle.sheet_steps.proofs.Records.{outcome-same, outcome-passed}
-use Rattle.sheet_parse.proofs.Files.{stored-next, lineAt-in, controlLine-in, sizes-to, due-to, past-to, sizeFault-to, codeFault-to, netTo-all, WholeLines}
+use Rattle.sheet_steps.proofs.Records.{outcome-same}
+use Rattle.sheet_parse.proofs.Files.{stored-next, lineAt-in, controlLine-in, sizes-to, due-to, past-to, sizeFault-to, codeFault-to}
 
 -- within the last line and of the kind due, or else past it or unlike
 not-within : (q k : ℕ) (b : Bool) → not (leb q k && b) ≡ (ltb k q || not b)
@@ -130,6 +130,11 @@ module _ (file : List ℕ) (p : ℕ) (passed : inOrder (testLineIn (netIn file) 
         of-control = refl;
       })
 
+-- the lines up to place p have passed, and what they say is in the record and the lists
+pub record ReadTo (file : List ℕ) (p : ℕ) (r : Netlist) (latches gates : List ℕ) : Type 0 where
+  pub passed : inOrder (testLineIn (netIn file) file) p ≡ Passed
+  pub holds : Holds r latches gates (netTo file p)
+
 -- so are those of the record as far as it is read
 pub sizesKnown-to : (file : List ℕ) (p : ℕ) (r : Netlist) (latches gates : List ℕ) → ReadTo file p r latches gates → SizesKnown (alone r) (p + 1)
 sizesKnown-to file p r latches gates read h =
@@ -162,9 +167,3 @@ module _ (test : ℕ → Verdict) (p : ℕ) (h : inOrder test p ≡ Passed) wher
 
   pub next-refuses : (n : ℕ) {r : Refusal} {q : ℕ} → p + 1 ≤ n → test (p + 1) ≡ Refused r q → inOrder test n ≡ Refused r q
   next-refuses n l e = inOrder-kept test (p + 1) n l (one-more ∙ e)
-
--- where all lines of a file are read, the record and the lists hold its netlist
-pub outcome-all : (file : List ℕ) (p : ℕ) (r : Netlist) (latches gates : List ℕ) → WholeLines file → p ≡ lineCount file → ReadTo file p r latches gates
-    → Outcome (record { verdict = Passed; net = r }) latches gates (inOrder (testLineIn (netIn file) file) (lineCount file)) (netIn file)
-outcome-all file p r latches gates h e read =
-    outcome-passed latches gates (netIn file) r (rw (e, netTo-all file (h .whole)) at (read .holds)) (rw (← e) (read .passed))

@@ -1,6 +1,6 @@
 -- What is answered of the lines of a file one by one (document 01, "The sheet" and "Reading"): the line behind those that are read, a
--- refusal of it with its place, or that there is none. Cited by `line_after`, sheet_reader/specs/NextLine, call_replies/specs/Replies
--- and `marrubigai_next_line`. Assumes nothing.
+-- refusal of it with its place, or that there is none. Cited by `has_line`, `line_after`, sheet_parse/specs/NextLine and
+-- `marrubigai_next_line`. Assumes nothing.
 use Prim.Native.Nat.{ℕ, _+_, _*_}
 use mathlib.Core.Bool.{Bool, cond, _&&_}
 use mathlib.Core.List.{List}

@@ -1,19 +1,23 @@
--- How far a file is read: the netlist as far as a line, and the lines before it passed. Cited by the functions that go through a
--- file line by line. Assumes nothing.
+-- How far a file is read: the netlist as far as a line, and what one answer more does. Cited by the functions that go through a
+-- file line by line, by those that lend them lists, and by `no_codes`. Assumes nothing.
 use Prim.Native.Nat.{ℕ}
-use mathlib.Core.Path.{_≡_}
-use mathlib.Core.Bool.{cond}
+use mathlib.Core.Bool.{Bool, true, false, cond}
 use mathlib.Core.List.{List}
 use lib.Dec.{leb}
-use Rattle.refusals.specs.Tests.{inOrder}
-use Rattle.refusals.specs.declared.Verdict.the-variants.{Passed}
+use lib.ListN.{replicate}
+use Rattle.refusals.specs.declared.Verdict.{Verdict}
+use Rattle.refusals.specs.declared.Verdict.the-variants.{Passed, Refused}
 use Rattle.model.specs.Netlist.{Netlist}
-use Rattle.netlist.specs.declared.Netlist as R
+use Rattle.netlist.specs.RecordOf.{noNetlist}
 use Rattle.sheet_lines.specs.declared.ParsedLine.{ParsedLine}
 use Rattle.sheet_lines.specs.declared.ParsedLine.the-variants.{Misprint}
-use Rattle.sheet_steps.specs.Steps.{Holds}
-use Rattle.sheet_parse.specs.Files.{lineIn, sizesIn, netOfLines, netIn}
-use Rattle.sheet_parse.specs.FileTests.{testLineIn}
+use Rattle.sheet_steps.specs.Records.{sheetAnswer}
+use Rattle.sheet_steps.specs.Steps.{stepNet, stepVerdict}
+use Rattle.sheet_steps.specs.declared.SheetAnswer.{SheetAnswer}
+use Rattle.sheet_parse.specs.Files.{lineIn, sizesIn, netOfLines}
+use Rattle.sheet_parse.specs.declared.LineAnswer.{LineAnswer}
+use Rattle.sheet_parse.specs.declared.LineAnswer.the-variants as Answer
+use Rattle.sheet_parse.specs.declared.Progress.{Progress}
 
 -- the lines up to place p; those behind say nothing yet
 abbrev pub linesTo : List ℕ → ℕ → ℕ → ParsedLine
@@ -23,7 +27,34 @@ linesTo file p q = cond (leb q p) (lineIn file q) Misprint
 unfoldable pub netTo : List ℕ → ℕ → Netlist
 netTo file p = netOfLines (sizesIn file) (linesTo file p)
 
--- the lines up to place p have passed, and what they say is in the record and the lists
-pub record ReadTo (file : List ℕ) (p : ℕ) (r : R.Netlist) (latches gates : List ℕ) : Type 0 where
-  pub passed : inOrder (testLineIn (netIn file) file) p ≡ Passed
-  pub holds : Holds r latches gates (netTo file p)
+-- before the first line: 600 records of two codes each, all 0, and a record that is all zeros
+unfoldable pub noCodes : List ℕ
+noCodes = replicate 1200 0
+
+unfoldable pub noProgress : Progress
+noProgress = record { more = true; sheet = sheetAnswer Passed noNetlist }
+
+-- behind a line there may be one more where it has passed
+abbrev pub passes : Verdict → Bool
+passes Passed = true
+passes (Refused r p) = false
+
+abbrev pub progressWith : SheetAnswer → Progress
+progressWith sheet = record { more = passes (sheet .verdict); sheet = sheet }
+
+-- the answer about the line at place p, for the netlist c of the lines before it: its verdict, the netlist then, and whether there
+-- may be one line more
+abbrev pub answerVerdict : Netlist → LineAnswer → ℕ → Verdict
+answerVerdict c (Answer.Line kind x y z) p = stepVerdict c kind x y z p
+answerVerdict c (Answer.Refused r q) p = Refused r q
+answerVerdict c Answer.NoLine p = Passed
+
+abbrev pub answerNet : Netlist → LineAnswer → ℕ → Netlist
+answerNet c (Answer.Line kind x y z) p = stepNet c x y z p
+answerNet c (Answer.Refused r q) p = c
+answerNet c Answer.NoLine p = c
+
+abbrev pub moreAfter : LineAnswer → Verdict → Bool
+moreAfter (Answer.Line kind x y z) v = passes v
+moreAfter (Answer.Refused r q) v = passes v
+moreAfter Answer.NoLine v = false

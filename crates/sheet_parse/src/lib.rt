@@ -1,5 +1,5 @@
-// A file of lines, read line by line into the record and the lists (document 01, "The sheet" and "Reading").
-use netlist::Netlist;
+// The sheet reader, which carries the file and its own line number, and a file read line by line into the record and the lists
+// (document 01, "The sheet" and "Reading").
 use netlist::UnpackedList;
 use refusals::Refusal;
 use refusals::Verdict;
@@ -7,14 +7,15 @@ use sheet_lines::Kind;
 use sheet_steps::SheetAnswer;
 ghost use mathlib.Core.Path.{_≡_};
 ghost use mathlib.Core.Bool.{false};
-ghost use Prim.Native.Nat.{_+_, _*_, _≤_, _<_};
-ghost use lib.ListN.{length};
+ghost use Prim.Native.Nat.{_+_};
 ghost use Rattle.refusals.specs.Tests.{inOrder};
-ghost use Rattle.sheet_steps.specs.Steps.{Outcome};
+ghost use Rattle.netlist.specs.NetOf.{netOf, alone};
+ghost use Rattle.sheet_steps.specs.Steps.{FullLength, Outcome, SizesKnown};
 ghost use Rattle.sheet_parse.specs.Files.{lineCount, lineIn, netIn};
 ghost use Rattle.sheet_parse.specs.LineAnswers.{hasLine, lineAfter};
+ghost use Rattle.sheet_parse.specs.NextLine.{nextLine};
 ghost use Rattle.sheet_parse.specs.FileTests.{ragged, testLineIn};
-ghost use Rattle.sheet_parse.specs.Progress.{netTo, ReadTo};
+ghost use Rattle.sheet_parse.specs.Progress.{noCodes, noProgress, progressWith, answerVerdict, answerNet, moreAfter};
 
 // What is answered of a line: its kind and three numbers, 0 where a field is empty; a refusal with its place; or that there is none.
 pub enum LineAnswer {
@@ -29,9 +30,9 @@ pub enum LineAnswer {
 }
 
 // An answer, and how many lines are read with it.
-pub struct LineAfter {
-    pub line: LineAnswer,
-    pub lines_read: u32,
+struct LineAfter {
+    line: LineAnswer,
+    lines_read: u32,
 }
 
 // Refusal 1.
@@ -64,7 +65,7 @@ fn has_line(file: &[u8], line: u32) -> bool
 }
 
 // What is answered of the line behind the first `line` lines. A misprinted line is read too: the next answer is of the line behind it.
-pub fn line_after(file: &[u8], line: u32) -> LineAfter
+fn line_after(file: &[u8], line: u32) -> LineAfter
     ensures { λ r. ⌜ r ≡ lineAfter (now (file .entry)) line ⌝ }
 {
     if !has_line(file, line) {
@@ -96,54 +97,117 @@ pub fn line_after(file: &[u8], line: u32) -> LineAfter
     }
 }
 
-// Reads one line more: refusals 2 to 5, and its numbers put into the record and the lists. `line` lines are read already.
-fn read_next(
-    file: &[u8],
-    line: u32,
-    net: Netlist,
+// A file, and how many of its lines are read.
+pub struct SheetReader<'a> {
+    pub file: &'a [u8],
+    pub line: u32,
+}
+
+// What is answered of a line, and the reader behind it.
+pub struct NextLine<'a> {
+    pub line: LineAnswer,
+    pub reader: SheetReader<'a>,
+}
+
+impl<'a> SheetReader<'a> {
+    // The next line, and the reader behind it: moved on where there is a line, be it misprinted or not, and else unmoved.
+    pub fn next_line(self) -> NextLine<'a>
+        ensures { λ r. ⌜ r ≡ nextLine (self .entry) ⌝ }
+    {
+        let after = line_after(self.file, self.line);
+        NextLine {
+            line: after.line,
+            reader: SheetReader {
+                file: self.file,
+                line: after.lines_read,
+            },
+        }
+    }
+}
+
+// How far a sheet is read: whether there may be one line more, and what the lines so far are answered with.
+struct Progress {
+    more: bool,
+    sheet: SheetAnswer,
+}
+
+// Before the first line.
+fn no_progress() -> Progress
+    ensures { λ r. ⌜ r ≡ noProgress ⌝ }
+{
+    Progress {
+        more: true,
+        sheet: SheetAnswer {
+            verdict: Verdict::Passed,
+            net: netlist::empty_net(),
+        },
+    }
+}
+
+// Behind a line: there may be one more where it has passed.
+fn progress_with(sheet: SheetAnswer) -> Progress
+    ensures { λ r. ⌜ r ≡ progressWith sheet ⌝ }
+{
+    let verdict = sheet.verdict;
+    let more = match verdict {
+        Verdict::Passed => true,
+        Verdict::Refused(_, _) => false,
+    };
+    Progress { more, sheet }
+}
+
+// One answer more: refusal 2, or 3 to 5 with the line's numbers put into the record and the lists, or the end of the file. After a
+// refusal the lists are scratch.
+fn take_answer(
+    progress: Progress,
     latches: &mut UnpackedList,
     gates: &mut UnpackedList,
-) -> SheetAnswer
-    requires { ⌜ ReadTo (now file) line net (now latches) (now gates) × (line < 615) × (32 * (line + 1) ≤ length (now file)) ⌝ }
-    ensures { λ r. ⌜ Outcome r (now (latches .exit)) (now (gates .exit)) (testLineIn (netIn (now (file .entry))) (now (file .entry)) (line + 1)) (netTo (now (file .entry)) (line + 1)) ⌝ }
+    line: LineAnswer,
+    place: u32,
+) -> Progress
+    requires { ⌜ FullLength (progress .sheet .net .address) (progress .sheet .net .«write_data») (now latches) (now gates) × SizesKnown (alone (progress .sheet .net)) place ⌝ }
+    ensures { λ r. ⌜ Outcome (r .sheet) (now (latches .exit)) (now (gates .exit)) (answerVerdict (netOf (progress .sheet .net) (now (latches .entry)) (now (gates .entry))) line place) (answerNet (netOf (progress .sheet .net) (now (latches .entry)) (now (gates .entry))) line place) × (r .more ≡ moreAfter line (r .sheet .verdict)) ⌝ }
 {
-    let place = line + 1;
-    match parse_line(file, line) {
-        sheet_lines::ParsedLine::Misprint => sheet_steps::refused(Refusal::Misprint, place),
-        sheet_lines::ParsedLine::Read {
+    let sheet = progress.sheet;
+    let net = sheet.net;
+    match line {
+        LineAnswer::Line {
             kind,
             first,
             second,
             third,
-        } => sheet_steps::take_line(net, latches, gates, place, kind, first, second, third),
+        } => progress_with(sheet_steps::take_line(
+            net,
+            latches,
+            gates,
+            place,
+            kind,
+            first,
+            second,
+            third,
+        )),
+        LineAnswer::Refused(refusal, at) => progress_with(sheet_steps::refused(refusal, at)),
+        LineAnswer::NoLine => Progress {
+            more: false,
+            sheet: SheetAnswer {
+                verdict: Verdict::Passed,
+                net,
+            },
+        },
     }
 }
 
-// Reads the lines of a file from `line` on, which is how many are read already: refusals 2 to 5 line by line.
-pub fn read_lines(
-    file: &[u8],
-    line: u32,
-    net: Netlist,
-    latches: &mut UnpackedList,
-    gates: &mut UnpackedList,
-) -> SheetAnswer
-    requires { ⌜ (ragged (now file) ≡ false) × (line ≤ lineCount (now file)) × ReadTo (now file) line net (now latches) (now gates) ⌝ }
+// Reads the lines of a file by a reader that moves on line by line: refusals 2 to 5. After a refusal the lists are scratch.
+pub fn read_lines(file: &[u8], latches: &mut UnpackedList, gates: &mut UnpackedList) -> SheetAnswer
+    requires { ⌜ (ragged (now file) ≡ false) × (now latches ≡ noCodes) × (now gates ≡ noCodes) ⌝ }
     ensures { λ r. ⌜ Outcome r (now (latches .exit)) (now (gates .exit)) (inOrder (testLineIn (netIn (now (file .entry))) (now (file .entry))) (lineCount (now (file .entry)))) (netIn (now (file .entry))) ⌝ }
 {
-    let count = (file.len() / 32) as u32;
-    let mut read = net;
-    let mut done = line;
-    while done < count {
-        let step = read_next(file, done, read, latches, gates);
-        let verdict = step.verdict;
-        if let Verdict::Refused(_, _) = verdict {
-            return step;
-        }
-        read = step.net;
-        done += 1;
+    let mut reader = SheetReader { file, line: 0 };
+    let mut progress = no_progress();
+    while progress.more {
+        let next = reader.next_line();
+        progress = take_answer(progress, latches, gates, next.line, next.reader.line);
+        reader = next.reader;
     }
-    SheetAnswer {
-        verdict: Verdict::Passed,
-        net: read,
-    }
+    progress.sheet
 }

@@ -1,3 +1,2 @@
--- The sheet reader and what it returns and leaves, in reading order. Nothing here imports a law or a proof.
-pub mod NextLine
+-- What `read` returns and leaves. Nothing here imports a law or a proof.
 pub mod ReadCall

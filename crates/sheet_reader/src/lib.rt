@@ -1,77 +1,11 @@
-// The sheet reader, which carries the file and its own line number, and `read` into lent lists of records (document 01, "The sheet"
-// and "Reading"). Each function here takes its structs and lists apart and leaves the work to functions over plain slices.
+// `read` into lent lists of records (document 01, "Reading"). It takes the lists apart and leaves the work to functions over plain
+// slices.
 use call_lists::Gate;
 use call_lists::Latch;
-use netlist::Netlist;
-use netlist::UnpackedList;
 use refusals::Verdict;
-use sheet_parse::LineAnswer;
 use sheet_steps::SheetAnswer;
 ghost use mathlib.Core.Path.{_≡_};
-ghost use Prim.Native.Nat.{_≤_};
-ghost use Rattle.sheet_parse.specs.Files.{lineCount};
-ghost use Rattle.sheet_parse.specs.Progress.{ReadTo};
-ghost use Rattle.sheet_tests.specs.Codes.{CodesRead};
-ghost use Rattle.sheet_reader.specs.NextLine.{atStart, nextLine};
 ghost use Rattle.sheet_reader.specs.ReadCall.{readVerdict, readRecord, latchesLeft, gatesLeft, SheetDelivered};
-
-// A file, and how many of its lines are read.
-pub struct SheetReader<'a> {
-    pub file: &'a [u8],
-    pub line: u32,
-}
-
-// What is answered of a line, and the reader behind it.
-pub struct NextLine<'a> {
-    pub line: LineAnswer,
-    pub reader: SheetReader<'a>,
-}
-
-// A reader of which no line is read.
-fn at_start<'a>(file: &'a [u8]) -> SheetReader<'a>
-    ensures { λ r. ⌜ r ≡ atStart (file .entry) ⌝ }
-{
-    SheetReader { file, line: 0 }
-}
-
-impl<'a> SheetReader<'a> {
-    // The next line, and the reader behind it: moved on where there is a line, be it misprinted or not, and else unmoved.
-    pub fn next_line(self) -> NextLine<'a>
-        ensures { λ r. ⌜ r ≡ nextLine (self .entry) ⌝ }
-    {
-        let after = sheet_parse::line_after(self.file, self.line);
-        NextLine {
-            line: after.line,
-            reader: SheetReader {
-                file: self.file,
-                line: after.lines_read,
-            },
-        }
-    }
-
-    // Reads the sheet from this line on into unpacked lists, for a record that has the lines before it.
-    fn read_codes(
-        self,
-        net: Netlist,
-        latch_room: usize,
-        gate_room: usize,
-        latches: &mut UnpackedList,
-        gates: &mut UnpackedList,
-    ) -> SheetAnswer
-        requires { ⌜ (self .line ≤ lineCount (now (self .file))) × ReadTo (now (self .file)) (self .line) net (now latches) (now gates) ⌝ }
-        ensures { λ r. ⌜ CodesRead (now (self .entry .file)) «latch_room» «gate_room» r (now (latches .exit)) (now (gates .exit)) ⌝ }
-    {
-        sheet_tests::read_codes(
-            self.file,
-            self.line,
-            net,
-            latch_room,
-            gate_room,
-            latches,
-            gates,
-        )
-    }
-}
 
 // Reads a sheet: its record, and its latches and gates into the lent lists. Nothing lent is written before the last test has passed:
 // a refusal's record is all zeros, so nothing of it is delivered.
@@ -84,8 +18,8 @@ pub fn read(file: &[u8], latches: &mut [Latch], gates: &mut [Gate]) -> SheetAnsw
 {
     let mut latch_codes = sheet_tests::no_codes();
     let mut gate_codes = sheet_tests::no_codes();
-    let sheet = at_start(file).read_codes(
-        netlist::empty_net(),
+    let sheet = sheet_tests::read_codes(
+        file,
         latches.len(),
         gates.len(),
         &mut latch_codes,

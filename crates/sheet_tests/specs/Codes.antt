@@ -1,5 +1,5 @@
 -- What a reader returns and leaves in its own unpacked lists, for lent lists that have room for so many records. Cited by
--- `read_codes` here and in `sheet_reader`. Assumes nothing.
+-- `read_codes`. Assumes nothing.
 use Prim.Native.Nat.{ℕ}
 use mathlib.Core.List.{List}
 use Rattle.sheet_steps.specs.Steps.{Outcome}

@@ -10,10 +10,10 @@ ghost use mathlib.Core.List.{[]};
 ghost use Prim.Native.Nat.{_≤_};
 ghost use Rattle.netlist.specs.NetOf.{netOf};
 ghost use Rattle.sheet_steps.specs.Steps.{Outcome};
-ghost use Rattle.sheet_parse.specs.Files.{lineCount, netIn};
-ghost use Rattle.sheet_parse.specs.Progress.{ReadTo};
+ghost use Rattle.sheet_parse.specs.Files.{netIn};
+ghost use Rattle.sheet_parse.specs.Progress.{noCodes};
 ghost use Rattle.sheet_tests.specs.Sheet.{endVerdict, fileVerdict};
-ghost use Rattle.sheet_tests.specs.Scratch.{noCodes, LinesPassed};
+ghost use Rattle.sheet_tests.specs.Scratch.{LinesPassed};
 ghost use Rattle.sheet_tests.specs.Codes.{CodesRead};
 
 // 600 records of two codes, all 0.
@@ -37,22 +37,16 @@ fn test_end(net: Netlist, gates: &UnpackedList, count: u32) -> Verdict
     netlist_tests::test_loops(net, gates)
 }
 
-// The tests of a file from `line` on, which is how many lines are read already, into `net` and the lists. Where it passes, its codes
-// are in the lists and the rest in the record; after a refusal the lists are scratch.
-fn test_file(
-    file: &[u8],
-    line: u32,
-    net: Netlist,
-    latches: &mut UnpackedList,
-    gates: &mut UnpackedList,
-) -> SheetAnswer
-    requires { ⌜ (line ≤ lineCount (now file)) × ReadTo (now file) line net (now latches) (now gates) ⌝ }
+// The tests of a file, read into lists of no codes. Where it passes, its codes are in the lists and the rest in the record; after a
+// refusal the lists are scratch.
+fn test_file(file: &[u8], latches: &mut UnpackedList, gates: &mut UnpackedList) -> SheetAnswer
+    requires { ⌜ (now latches ≡ noCodes) × (now gates ≡ noCodes) ⌝ }
     ensures { λ r. ⌜ Outcome r (now (latches .exit)) (now (gates .exit)) (fileVerdict (now (file .entry))) (netIn (now (file .entry))) ⌝ }
 {
     if sheet_parse::is_ragged(file) {
         return sheet_steps::refused(Refusal::Ragged, 0);
     }
-    let sheet = sheet_parse::read_lines(file, line, net, latches, gates);
+    let sheet = sheet_parse::read_lines(file, latches, gates);
     let read = sheet.verdict;
     if let Verdict::Refused(_, _) = read {
         return sheet;
@@ -66,21 +60,19 @@ fn test_file(
     sheet
 }
 
-// Reads a sheet from `line` on, which is how many lines are read already, for lists that have room for so many records: its record,
-// and its codes into unpacked lists, which are scratch after a refusal.
+// Reads a sheet, for lists that have room for so many records: its record, and its codes into unpacked lists of no codes, which are
+// scratch after a refusal.
 pub fn read_codes(
     file: &[u8],
-    line: u32,
-    net: Netlist,
     latch_room: usize,
     gate_room: usize,
     latches: &mut UnpackedList,
     gates: &mut UnpackedList,
 ) -> SheetAnswer
-    requires { ⌜ (line ≤ lineCount (now file)) × ReadTo (now file) line net (now latches) (now gates) ⌝ }
+    requires { ⌜ (now latches ≡ noCodes) × (now gates ≡ noCodes) ⌝ }
     ensures { λ r. ⌜ CodesRead (now (file .entry)) «latch_room» «gate_room» r (now (latches .exit)) (now (gates .exit)) ⌝ }
 {
-    let sheet = test_file(file, line, net, latches, gates);
+    let sheet = test_file(file, latches, gates);
     let tested = sheet.verdict;
     if let Verdict::Refused(_, _) = tested {
         return sheet;

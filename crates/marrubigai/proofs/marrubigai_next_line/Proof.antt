@@ -39,22 +39,22 @@ use denote.Triple.Statement.{Contract, Triple}
 use denote.Triple.Table.{entered, cited}
 use denote.Triple.Walked.{says, Stays, stay-dropped, walkOf, goes-dropped, ends-at}
 use denote.Exit.{yes}
-use Rattle.call_lists.proofs.Walk.{calls-told, _&_, cell, frees-all, meets-of}
+use Rattle.walks.proofs.Walk.{calls-told, _&_, cell, frees-all, meets-of}
 use Rattle.sheet_parse.specs.LineAnswers.{lineAnswer, linesRead}
 use Rattle.sheet_parse.specs.declared.LineAnswer.{LineAnswer}
 use Rattle.sheet_parse.proofs.LineAnswer as K
 use Rattle.sheet_parse.proofs.LineAnswer.Laws as K′
-use Rattle.sheet_reader.specs.NextLine.{movedOn, nextLine}
-use Rattle.sheet_reader.specs.declared.SheetReader.{SheetReader}
-use Rattle.sheet_reader.specs.declared.NextLine.{NextLine}
-use Rattle.sheet_reader.proofs.SheetReader as T
-use Rattle.sheet_reader.proofs.SheetReader.Laws as T′
-use Rattle.sheet_reader.proofs.NextLine as N
-use Rattle.sheet_reader.proofs.NextLine.Laws as N′
-use Rattle.sheet_reader.proofs.SheetReader.next_line as next
-use Rattle.sheet_reader.proofs.SheetReader.next_line.Symbol as next-def
-use Rattle.sheet_reader.proofs.SheetReader.next_line.Symbol.{name as #next}
-use Rattle.sheet_reader.proofs.SheetReader.next_line.Met as next-thm
+use Rattle.sheet_parse.specs.NextLine.{movedOn, nextLine}
+use Rattle.sheet_parse.specs.declared.SheetReader.{SheetReader}
+use Rattle.sheet_parse.specs.declared.NextLine.{NextLine}
+use Rattle.sheet_parse.proofs.SheetReader as T
+use Rattle.sheet_parse.proofs.SheetReader.Laws as T′
+use Rattle.sheet_parse.proofs.NextLine as N
+use Rattle.sheet_parse.proofs.NextLine.Laws as N′
+use Rattle.sheet_parse.proofs.SheetReader.next_line as next
+use Rattle.sheet_parse.proofs.SheetReader.next_line.Symbol as next-def
+use Rattle.sheet_parse.proofs.SheetReader.next_line.Symbol.{name as #next}
+use Rattle.sheet_parse.proofs.SheetReader.next_line.Met as next-thm
 use Rattle.call_replies.specs.Replies.{lineNumbers}
 use Rattle.call_replies.proofs.LineReply as Reply
 use Rattle.call_replies.proofs.LineReply.Laws as Reply′
@@ -206,6 +206,6 @@ marrubigai-next-line-spec 𝓤 H 𝓜 𝓖 𝓡 =
     (tables 𝓤 H 𝓜 𝓡 code.env .C) (tables 𝓤 H 𝓜 𝓡 code.env .Λ) #marrubigai-next-line code.function (code.unfolded 𝓤 H 𝓜 𝓡)
     (marrubigai-next-line-meets 𝓤 H (𝓖 .A) (givenOf 𝓤 H 𝓜 𝓖) (𝓜 .mem) (𝓡 .run) (tablesOf 𝓤 H 𝓜 (tables 𝓤 H 𝓜 𝓡 code.env))
     (cited 𝓤 H (Next 𝓤 H (𝓖 .A) (givenOf 𝓤 H 𝓜 𝓖) (𝓜 .mem) (𝓡 .run)) 𝓜 𝓡 code.env #next next-def.routine
-    code.calls-sheet-reader·SheetReader·next-line (next-thm.met 𝓤 H 𝓜 𝓖 𝓡))
+    code.calls-sheet-parse·SheetReader·next-line (next-thm.met 𝓤 H 𝓜 𝓖 𝓡))
     (cited 𝓤 H (Numbers 𝓤 H (𝓖 .A) (givenOf 𝓤 H 𝓜 𝓖) (𝓜 .mem) (𝓡 .run)) 𝓜 𝓡 code.env #numbers numbers-def.routine
     code.calls-call-replies·line-numbers (numbers-thm.met 𝓤 H 𝓜 𝓖 𝓡)))

@@ -36,7 +36,7 @@ use denote.Triple.Table.{entered, cited}
 use denote.Triple.Walked.{says, Stays, stay-none-slice, gave-slice, onExit, walkOf, goes-none-slice, goes-gave-slice, Walks, ends-at, walked, walk-meets}
 use denote.Exit.{yes}
 use denote.Triple.Clauses.{Lasts, lasts}
-use Rattle.call_lists.proofs.Walk.{_&_, cell, frees-all}
+use Rattle.walks.proofs.Walk.{_&_, cell, frees-all}
 use Rattle.refusals.specs.declared.Verdict.the-variants.{Passed}
 use Rattle.sheet_steps.specs.declared.SheetAnswer.{SheetAnswer}
 use Rattle.sheet_steps.proofs.SheetAnswer as S

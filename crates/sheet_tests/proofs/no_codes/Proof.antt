@@ -1,6 +1,6 @@
 -- `sheet_tests::no_codes` meets its contract: it is the definition. Assumes nothing.
 use mathlib.Core.Path.{refl}
-use Rattle.sheet_tests.specs.Scratch.{noCodes}
+use Rattle.sheet_parse.specs.Progress.{noCodes}
 use Rattle.sheet_tests.proofs.no_codes.Statement.{statement}
 use Rattle.sheet_tests.proofs.no_codes.Tie as tie
 

@@ -17,8 +17,8 @@ passed : (c : tie.After-enum-told2) → fileVerdict (c .before .before .before .
 passed c = sym (verdict-is (c .before .before .test-file .ensures)) ∙ c .enum-told2 .given .1
 
 -- the record and the lists hold its netlist
-held : (c : tie.After-enum-told2) → Holds (c .before .before .test-file .result .net) (c .before .before .test-file .last .1 .1 .1 .0)
-    (c .before .before .test-file .last .1 .1 .1 .1 .0) (netIn (c .before .before .before .before .before .before .args .file .now))
+held : (c : tie.After-enum-told2) → Holds (c .before .before .test-file .result .net) (c .before .before .test-file .last .1 .0)
+    (c .before .before .test-file .last .1 .1 .0) (netIn (c .before .before .before .before .before .before .args .file .now))
 held c = holds (c .before .before .test-file .ensures) (passed c)
 
 -- whether a list has too little room, by the record
@@ -28,7 +28,7 @@ short-held : (c : tie.After-enum-told2) →
     (ltb (a .latch-room) (net .latches) || ltb (a .gate-room) (net .gates)) ≡ short (a .file .now) (a .latch-room) (a .gate-room)
 short-held c =
     let file = c .before .before .test-file in
-    let sizes = sizes-held (file .result .net) (file .last .1 .1 .1 .0) (file .last .1 .1 .1 .1 .0) (held c) in
+    let sizes = sizes-held (file .result .net) (file .last .1 .0) (file .last .1 .1 .0) (held c) in
     rw (sizes .0, sizes .1)
 
 test-file-requires : tie.Need-test-file-requires

@@ -28,7 +28,7 @@ ended : (c : tie.After-test-end) → c .test-end .result ≡ endVerdict (netIn (
 ended c =
     let read = c .before .before .before .before .before .read-lines in
     c .test-end .ensures
-    ∙ end-latches (read .result .net) (read .last .1 .1 .1 .0) (read .last .1 .1 .1 .1 .0) (lineCount (c .before .before .before .before .before .before .before .before .before .before .before .args .file .now))
+    ∙ end-latches (read .result .net) (read .last .1 .0) (read .last .1 .1 .0) (lineCount (c .before .before .before .before .before .before .before .before .before .before .before .args .file .now))
     ∙ rw (holds (read .ensures) (passed-lines (c .before .before .before)) .net-is)
 
 -- so they are the rest of the file's verdict
@@ -76,7 +76,7 @@ test-end-requires c κs =
     let file = start .args .file .now in
     let read = c .before .before .before .before .read-lines in
     let passed = passed-lines (c .before .before) in
-    (omega (arith, whole-lines file (even (c .before .before .before .before .before .before .before)) .most), lines-passed file (read .result .net) (read .last .1 .1 .1 .0) (read .last .1 .1 .1 .1 .0) passed (holds (read .ensures) passed .net-is))
+    (omega (arith, whole-lines file (even (c .before .before .before .before .before .before .before)) .most), lines-passed file (read .result .net) (read .last .1 .0) (read .last .1 .1 .0) passed (holds (read .ensures) passed .net-is))
 
 enum-known-ended : tie.Need-enum-known-ended
 enum-known-ended c = search needs
