@@ -1,5 +1,5 @@
 -- What one line more does: its numbers put into the netlist read so far, and its tests there. Cited by the functions that take one
--- line more, by those that read a whole file, sheet_parse/specs/Progress and sheet_tests/specs/Scratch. Assumes nothing.
+-- line more, by those that read a whole file, sheet_parse/specs/Progress and sheet_tests/specs/LinesPassed. Assumes nothing.
 use Prim.Native.Nat.{ℕ, _≤_}
 use mathlib.Core.Path.{_≡_}
 use mathlib.Core.Bool.{cond, not, _||_}

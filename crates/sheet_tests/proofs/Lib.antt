@@ -1,3 +1,3 @@
-pub mod Scratch
+pub mod LinesPassed
 pub mod Verdicts
 pub mod Codes

@@ -13,7 +13,7 @@ ghost use Rattle.sheet_steps.specs.Steps.{Outcome};
 ghost use Rattle.sheet_parse.specs.Files.{netIn};
 ghost use Rattle.sheet_parse.specs.Progress.{noCodes};
 ghost use Rattle.sheet_tests.specs.Sheet.{endVerdict, fileVerdict};
-ghost use Rattle.sheet_tests.specs.Scratch.{LinesPassed};
+ghost use Rattle.sheet_tests.specs.LinesPassed.{LinesPassed};
 ghost use Rattle.sheet_tests.specs.Codes.{CodesRead};
 
 // 600 records of two codes, all 0.

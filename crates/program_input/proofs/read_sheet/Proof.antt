@@ -1,5 +1,5 @@
 -- `program_input::read_sheet` meets its contract: it passes on what is read. Assumes nothing.
-use mathlib.Core.Path.{_≡_, _∙_, ap}
+use mathlib.Core.Path.{_∙_, ap}
 use borrow.Author.Needs.{needs}
 use Rattle.sheet_steps.proofs.Records.{verdict-is, record-is}
 use Rattle.program_input.specs.declared.Input.{Input}

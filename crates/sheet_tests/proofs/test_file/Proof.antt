@@ -9,7 +9,7 @@ use Rattle.sheet_parse.specs.Files.{lineCount, netIn}
 use Rattle.sheet_parse.specs.FileTests.{ragged, testLineIn}
 use Rattle.sheet_parse.proofs.Files.{whole-lines}
 use Rattle.sheet_tests.specs.Sheet.{endVerdict, fileVerdict}
-use Rattle.sheet_tests.proofs.Scratch.{lines-passed}
+use Rattle.sheet_tests.proofs.LinesPassed.{lines-passed}
 use Rattle.sheet_tests.proofs.Verdicts.{end-latches, file-ragged, file-refused, file-lines}
 use borrow.Author.Needs.{needs}
 use Rattle.sheet_tests.proofs.test_file.Statement.{statement}

@@ -1,4 +1,4 @@
--- Laws of specs/Scratch.antt: what lines that have passed say of the record and the lists. Assumes nothing.
+-- Laws of specs/LinesPassed.antt: what lines that have passed say of the record and the lists. Assumes nothing.
 use Prim.Native.Nat.{ℕ, _≤_}
 use mathlib.Core.Path.{_≡_, refl, sym, _∙_, ap, subst}
 use mathlib.Core.List.{List, []}
@@ -17,7 +17,7 @@ use Rattle.netlist.proofs.Faults.{Without, codes-fit}
 use Rattle.sheet_parse.specs.Files.{lineCount, netIn}
 use Rattle.sheet_parse.specs.FileTests.{testLineIn}
 use Rattle.sheet_parse.proofs.LineTests.{line-passed, sizes-passed}
-use Rattle.sheet_tests.specs.Scratch.{LinesPassed}
+use Rattle.sheet_tests.specs.LinesPassed.{LinesPassed}
 
 -- the last line's place has nothing to do with the latches' codes
 controlLine-lists : (r : Netlist) (latches gates : List ℕ) → controlLine (netOf r [] gates) ≡ controlLine (netOf r latches gates)
