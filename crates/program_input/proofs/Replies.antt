@@ -12,8 +12,6 @@ use Rattle.refusals.specs.declared.Verdict.{Verdict}
 use Rattle.refusals.specs.declared.Verdict.the-variants.{Passed, Refused}
 use Rattle.refusals.proofs.Table.{reply-passed}
 use Rattle.refusals.proofs.Tests.{passed-then, then-passes}
-use Rattle.model.specs.Acceptance.{Accepted}
-use Rattle.netlist.specs.NetOf.{netOf}
 use Rattle.sheet_lines.specs.Depth.{depthVerdict, depthLine}
 use Rattle.sheet_lines.proofs.Depth.{passed-most}
 use Rattle.sheet_steps.specs.Steps.{Holds, ListsBeside}

@@ -9,7 +9,7 @@ use native.Mathlib.Decide.{ℕ-discrete, decLt, decLe}
 use native.Mathlib.Nat.{add-zero}
 use native.Mathlib.Omega.{arith}
 use lib.Dec.{eqb, ltb}
-use lib.ListN.{length, take, drop, length-take, length-drop, drop-of-length-le}
+use lib.ListN.{length, drop-of-length-le}
 use borrow.Author.Tests.{ltb-false, eqb-true, eqb-false, not-false, lt-ltb, le-ltb, le-leb, lt-leb}
 use Rattle.model.proofs.Booleans.{neither-true}
 use Rattle.netlist.specs.Places.{latchLine, gateLine, addressLine, dataLine, controlLine, lineAt}
@@ -17,7 +17,6 @@ use Rattle.netlist.specs.Faults.{sizeFault, codeFault}
 use Rattle.netlist.specs.declared.Line as Due
 use Rattle.netlist.specs.declared.Line.the-variants.{Sizes, Memory, Latch, Gate, Address, WriteData, Control}
 use Rattle.sheet_lines.specs.Lines.{lineOf}
-use Rattle.sheet_lines.proofs.Lines.{lineOf-length}
 use Rattle.sheet_lines.specs.declared.ParsedLine.{ParsedLine}
 use Rattle.sheet_lines.specs.declared.ParsedLine.the-variants.{Misprint}
 use Rattle.sheet_parse.specs.Files.{lineCount, lineIn, firstNumber, secondNumber, thirdNumber, sizesIn, netOfLines, netIn}
@@ -26,13 +25,6 @@ use Rattle.sheet_steps.specs.LineIndex.{lineIndex}
 use Rattle.sheet_steps.specs.Steps.{numberAfter, stored}
 use Rattle.sheet_parse.specs.Progress.{linesTo, netTo}
 use Rattle.sheet_steps.proofs.Places.{rowOfLine, sizeOfRow, placeOf, InRow, sameLine-here, sameLine-elsewhere, sameLine-none, SameSizes, lineAt-known, past-known}
-
--- a line that is cut short, or missing
-pub lineIn-missing : (file : List ℕ) (p : ℕ) → length file < 32 * p + 32 → lineIn file (p + 1) ≡ Misprint
-unfolding lineIn
-lineIn-missing file p h =
-    let rest = drop (32 * (p + 1 - 1)) file in
-    lineOf-length (take 32 rest) (λ e. omega (arith, e, length-take 32 rest, length-drop (32 * (p + 1 - 1)) file))
 
 module _ (file : List ℕ) where
   -- a line that is read, and one that is not yet

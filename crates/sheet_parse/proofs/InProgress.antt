@@ -83,7 +83,7 @@ module _ (file : List ℕ) where
         P = sym (unread-last thirdNumber refl) i;
       }
 
-  pub read-none : ReadTo file 0 (recordOf noNetlist) noCodes noCodes
+  read-none : ReadTo file 0 (recordOf noNetlist) noCodes noCodes
   unfolding inOrder recordOf gather noCodes _then_
   read-none =
       record {

@@ -7,7 +7,8 @@ use sheet_lines::Kind;
 use sheet_steps::SheetAnswer;
 ghost use mathlib.Core.Path.{_≡_};
 ghost use mathlib.Core.Bool.{false};
-ghost use Prim.Native.Nat.{_+_};
+ghost use Prim.Native.Nat.{_+_, _*_, _≤_};
+ghost use lib.ListN.{length};
 ghost use Rattle.refusals.specs.Tests.{inOrder};
 ghost use Rattle.netlist.specs.NetOf.{netOf, alone};
 ghost use Rattle.sheet_steps.specs.Steps.{FullLength, Outcome, SizesKnown};
@@ -43,15 +44,13 @@ pub fn is_ragged(file: &[u8]) -> bool
     (size == 0) | (size % 32 != 0) | (19680 < size)
 }
 
-// The line behind the first `line` lines, as it is read. One that is cut short, or missing, is a misprint.
+// The line behind the first `line` lines, as it is read.
 fn parse_line(file: &[u8], line: u32) -> sheet_lines::ParsedLine
+    requires { ⌜ 32 * line + 32 ≤ length (now file) ⌝ }
     ensures { λ r. ⌜ r ≡ lineIn (now (file .entry)) (line + 1) ⌝ }
 {
     let start = 32 * (line as usize);
     let end = start + 32;
-    if file.len() < end {
-        return sheet_lines::ParsedLine::Misprint;
-    }
     sheet_lines::read_line(&file[start..end])
 }
 

@@ -27,7 +27,9 @@ add-place c =
     record { fits = omega (arith, line-there (a .file .now) (a .line) (there c) .0) }
 
 parse-line-requires : tie.Need-parse-line-requires
-parse-line-requires c κs = search needs
+parse-line-requires c κs =
+    let a = c .before .before .before .args in
+    line-there (a .file .now) (a .line) (there c) .1
 
 enum-told : tie.Need-enum-told
 enum-told c = search needs

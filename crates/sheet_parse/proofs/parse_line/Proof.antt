@@ -1,10 +1,9 @@
--- `sheet_parse::parse_line` meets its contract: the part of 32 bytes behind the lines before, or fewer. Assumes nothing.
+-- `sheet_parse::parse_line` meets its contract: the part of 32 bytes behind the lines before. Assumes nothing.
 use Prim.Native.Nat.{_+_, _-_, _*_}
-use mathlib.Core.Path.{_≡_, sym, _∙_}
+use mathlib.Core.Path.{_≡_, _∙_}
 use native.Mathlib.Omega.{arith}
 use borrow.Author.Needs.{needs}
 use Rattle.sheet_parse.specs.Files.{lineIn}
-use Rattle.sheet_parse.proofs.Files.{lineIn-missing}
 use Rattle.sheet_parse.proofs.parse_line.Statement.{statement}
 use Rattle.sheet_parse.proofs.parse_line.Tie as tie
 
@@ -13,11 +12,6 @@ mul-start c = search needs
 
 add-end : tie.Need-add-end
 add-end c = search needs
-
-returns : tie.Need-returns
-returns c =
-    let a = c .before .before .args in
-    sym (lineIn-missing (a .file .now) (a .line) (omega arith))
 
 sub-read-line : tie.Need-sub-read-line
 sub-read-line c = search needs
@@ -31,10 +25,10 @@ part-read-line-end c = search needs
 read-line-requires : tie.Need-read-line-requires
 read-line-requires c κs = search needs
 
-returns-2 : tie.Need-returns-2
+returns : tie.Need-returns
 unfolding lineIn
-returns-2 c =
-    let line = c .before .before .before .before .args .line in
+returns c =
+    let line = c .before .before .before .args .line in
     let behind : line + 1 - 1 ≡ line = omega arith in
     let size : 32 * line + 32 - 32 * line ≡ 32 = omega arith in
     c .read-line .ensures .0 ∙ rw (size, behind)
@@ -45,9 +39,8 @@ parse-line-spec =
     (tie.spec
     mul-start
     add-end
-    returns
     sub-read-line
     part-read-line-start
     part-read-line-end
     read-line-requires
-    returns-2)
+    returns)
