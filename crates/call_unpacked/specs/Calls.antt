@@ -1,6 +1,6 @@
 -- What the calls over a record answer and leave (document 01, "What is sent back", "Groups of clauses"). The right-hand sides of
 -- the public contracts, and the subject of the claim about them. Cited by the calls in `call_unpacked` and
--- `calls`, by calls/specs, by `call_replies` and by call_replies/specs. Assumes nothing.
+-- `calls`, by calls/specs, by `call_replies` and by call_replies/specs.
 use Prim.Native.Nat.{ℕ, _+_, _≤_}
 use mathlib.Core.Path.{_≡_}
 use mathlib.Core.Bool.{true, not}

@@ -1,5 +1,5 @@
 -- Document 01's starred facts about the sheet of its one full run, as rows of one table: of the sheet's bytes, and of the netlist
--- that they are read as. Nine rows, one claim, `Starred`. Cited by the contract of `heading`. Assumes nothing.
+-- that they are read as. Nine rows, one claim, `Starred`. Cited by the contract of `heading`.
 use Prim.Native.Nat.{ℕ}
 use mathlib.Core.Path.{_≡_}
 use mathlib.Core.List.{List, [], _∷_, _++_, map}

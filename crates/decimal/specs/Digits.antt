@@ -1,5 +1,5 @@
 -- The decimal text of a number and the field of ten columns (document 01, "The sheet"): the one definition by which numbers are
--- written and read. A text is a list of bytes. Cited by every function that reads or writes a number. Assumes nothing.
+-- written and read. A text is a list of bytes. Cited by every function that reads or writes a number.
 use Prim.Native.Nat.{ℕ, zero, suc, _+_, _-_, _/_, _%_}
 use mathlib.Core.Bool.{cond}
 use mathlib.Core.List.{List, [], _∷_, _++_}

@@ -1,5 +1,5 @@
 -- The number that a text stands for: reading as the inverse of `digits`. Cited by `read_number` and by
--- sheet_fields/specs/Fields. Assumes nothing.
+-- sheet_fields/specs/Fields.
 use Prim.Native.Nat.{ℕ, _+_, _-_, _*_, _^_}
 use mathlib.Core.Bool.{Bool, true, false, cond, _&&_}
 use mathlib.Core.List.{List, [], _∷_}

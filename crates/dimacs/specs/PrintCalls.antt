@@ -1,5 +1,5 @@
 -- What a call that prints a text sends back and leaves (document 01, "What is sent back"): 9 is its only test. Cited by
--- `put_header`, `put_clauses` and `put_refusal`, here and in `marrubigai`, and by `print_numbers`. Assumes nothing.
+-- `put_header`, `put_clauses` and `put_refusal`, here and in `marrubigai`, and by `print_numbers`.
 use Prim.Native.Nat.{ℕ}
 use mathlib.Core.List.{List}
 use lib.ListN.{length}

@@ -1,5 +1,5 @@
 -- The bytes that `frames` prints (document 01, "The program and one full run"): header, clauses, refusal. A text is a list of
--- bytes. Cited by every function that writes one. Assumes nothing.
+-- bytes. Cited by every function that writes one.
 use Prim.Native.Nat.{ℕ, zero, suc}
 use mathlib.Core.List.{List, [], _∷_, _++_}
 use lib.IntN.{ℤ, pos, negsuc}

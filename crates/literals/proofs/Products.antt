@@ -1,4 +1,4 @@
--- Bounds of B(i) within document 01's limits. No contract cites this file. Assumes nothing.
+-- Bounds of B(i) within document 01's limits. No contract cites this file.
 use Prim.Native.Nat.{ℕ, _-_, _*_, _≤_}
 use native.Mathlib.Nat.{mul-le-mul}
 use native.Mathlib.Omega.{arith}

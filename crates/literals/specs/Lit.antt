@@ -1,5 +1,4 @@
 -- The literal that a clause number stands for, and its bounds. Cited by every function that makes or writes one.
--- Assumes nothing.
 use Prim.Native.Nat.{ℕ, zero, suc, _+_, _≤_, _<_}
 use mathlib.Core.Bool.{true, false}
 use lib.IntN.{ℤ, pos, negsuc, natAbs}

@@ -1,4 +1,4 @@
--- The sizes for which B(i) is at most document 01's 675,841, and Q below 2^31. Cited by `base` and `pair_base`. Assumes nothing.
+-- The sizes for which B(i) is at most document 01's 675,841, and Q below 2^31. Cited by `base` and `pair_base`.
 use Prim.Native.Nat.{ℕ, _≤_}
 use Rattle.literals.specs.declared.Numbering.{Numbering}
 

@@ -1,5 +1,5 @@
 -- What else is said of the clauses of a depth (`Stated` of specs/Claim.antt), proved for every accepted netlist. No contract cites
--- this file. Assumes nothing.
+-- this file.
 use Prim.Native.Nat.{ℕ, zero, suc, zero-le, _+_, _≤_}
 use mathlib.Core.Path.{_≡_, _∙_, ap, subst}
 use mathlib.Core.Bool.{true}

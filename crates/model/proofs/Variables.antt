@@ -1,4 +1,4 @@
--- Laws of specs/Variables.antt: where the variables of frames and pairs start. No contract cites this file. Assumes nothing.
+-- Laws of specs/Variables.antt: where the variables of frames and pairs start. No contract cites this file.
 use Prim.Native.Nat.{ℕ, zero, suc, _+_, _-_, _*_, _/_, _≤_, _<_}
 use mathlib.Core.Path.{_≡_, refl}
 use native.Mathlib.Nat.{mul-suc, suc-mul, zero-mul, mul-zero, mul-comm, mul-le-mul-right, le-refl, add-zero, add-suc, add-sub-of-le}

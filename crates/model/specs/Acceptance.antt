@@ -1,5 +1,5 @@
 -- Which netlists are accepted (document 01, "Limits" and the conditions of refusals 4, 5 and 6). Cited by the
--- theorem, by what writes clauses, and by the tests of records, which are proved to pass exactly these. Assumes nothing.
+-- theorem, by what writes clauses, and by the tests of records, which are proved to pass exactly these.
 use Prim.Native.Nat.{ℕ, _+_, _*_, _/_, _^_, _≤_, _<_}
 use mathlib.Core.Path.{_≡_}
 use mathlib.Core.Bool.{false}

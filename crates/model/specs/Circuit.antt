@@ -1,5 +1,5 @@
 -- The sequential circuit with its whole memory, and its runs through time frames (document 01, "The chip"). Cited by the claim,
--- and for dependence on a read bit by the tests of records. Assumes nothing.
+-- and for dependence on a read bit by the tests of records.
 use Prim.Native.Nat.{ℕ, zero, suc, _-_, _/_, _<_}
 use mathlib.Core.Bool.{Bool, false, cond, not, _&&_, _||_}
 use lib.Dec.{eqb, leb, ltb}

@@ -7,7 +7,7 @@
 -- assignment that does so and agrees with the run on every wire of every frame 0 to k.
 -- Without the first a solver's answer could be no run of the chip; without the second a fault could go unfound.
 -- The theorem says so of every accepted netlist and every depth; its proof is `encodes` in proofs/Claim.antt. Cited by the contracts of
--- `heading` and `read`. Assumes nothing.
+-- `heading` and `read`.
 use Prim.Native.Nat.{ℕ, _+_, _^_, _≤_, _<_}
 use mathlib.Core.Path.{_≡_}
 use mathlib.Core.Bool.{true, false}

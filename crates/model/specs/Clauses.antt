@@ -1,6 +1,6 @@
 -- Clauses over literals, and the clauses of a gate, a pair and a closing: nothing here knows a variable's number.
 -- Document 01, "Groups of clauses"; Ganai et al. 2004, section 4.1 and equations (3) and (4). Cited by `Groups` and by what
--- writes clauses. Assumes nothing.
+-- writes clauses.
 use Prim.Native.Nat.{ℕ}
 use mathlib.Core.Bool.{Bool, not}
 use mathlib.Core.List.{List, [], _∷_, _++_}

@@ -1,5 +1,4 @@
 -- Document 01's limits, by name ("Limits", "The sheet", refusal 1). Cited by every test that holds a number to its limit.
--- Assumes nothing.
 use Prim.Native.Nat.{ℕ, _+_, _*_}
 
 -- "I, L, A 0 to 600 each", "V at most 600"

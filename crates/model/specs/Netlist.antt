@@ -1,5 +1,5 @@
 -- A netlist with one memory: document 01's record with its lists, and the numbers of its wires ("Wires and codes").
--- Cited by nearly every other file. Assumes nothing.
+-- Cited by nearly every other file.
 use Prim.Native.Nat.{ℕ, _+_}
 
 -- What the lists hold are functions, so that an entry past its size has no meaning to ignore: it is never asked for.

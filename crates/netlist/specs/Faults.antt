@@ -1,5 +1,5 @@
 -- The faults of a line (document 01, "Limits", and the conditions of refusals 4, 5 and 6), as computed tests. Cited by the tests
--- of records and by the sheet reader. Assumes nothing.
+-- of records and by the sheet reader.
 use Prim.Native.Nat.{ℕ, _+_, _-_, _*_, _/_, _^_}
 use mathlib.Core.Bool.{Bool, false, _||_}
 use lib.Dec.{ltb, leb}

@@ -1,6 +1,6 @@
 -- The tests of a record with its lists, in document 01's order ("What is sent back"). That they pass exactly the accepted netlists is
 -- the law `passes-accepted` in proofs/Acceptance.antt. Cited by the tests of this crate, by the calls over a record and by
--- the reading of a sheet. Assumes nothing.
+-- the reading of a sheet.
 use Prim.Native.Nat.{ℕ}
 use mathlib.Core.Bool.{Bool, _||_}
 use lib.Dec.{ltb}

@@ -1,5 +1,5 @@
 -- What the program makes of its input (document 01: "eleven bytes, the depth in ten columns and a line feed, then the sheet", "The
--- depth is tested first"). Cited by `read_sheet` and `read_input`. Assumes nothing.
+-- depth is tested first"). Cited by `read_sheet` and `read_input`.
 use Prim.Native.Nat.{ℕ, _≤_}
 use mathlib.Core.Path.{_≡_}
 use mathlib.Core.List.{List}

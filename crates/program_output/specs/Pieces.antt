@@ -1,5 +1,5 @@
 -- The text of a depth, piece by piece: its header, then whole groups in the order of the whole. Cited by `print_header`,
--- `print_group` and `print_groups`. Assumes nothing.
+-- `print_group` and `print_groups`.
 use Prim.Native.Nat.{ℕ, _+_}
 use mathlib.Core.Path.{_≡_}
 use mathlib.Core.List.{List, _∷_, _++_}

@@ -1,5 +1,5 @@
 -- The numbers of document 01's table "What is sent back": the only place that has them. Cited by `number`, `reply_of` and every
--- definition of what is sent back. Assumes nothing.
+-- definition of what is sent back.
 use Prim.Native.Nat.{ℕ}
 use Rattle.refusals.specs.declared.Refusal.{Refusal}
 use Rattle.refusals.specs.declared.Refusal.the-variants.{Ragged, Misprint, OutOfOrder, Size, CodeOutside, MemoryLoop, Depth, NoSuchGroup, NoRoom, OutOfNumbers}

@@ -1,5 +1,5 @@
 -- A field of ten columns as it is read (document 01, "The sheet"). Its text is `field` or `emptyField` of decimal/specs/Digits.
--- Cited by `after_spaces`, `read_field` and the functions that read a line. Assumes nothing.
+-- Cited by `after_spaces`, `read_field` and the functions that read a line.
 use Prim.Native.Nat.{ℕ}
 use mathlib.Core.Bool.{cond}
 use mathlib.Core.List.{List, [], _∷_}

@@ -1,5 +1,5 @@
 -- The depth line, the first eleven bytes of the input (document 01, "The program and one full run"). Cited by `read_depth`
--- and its parts, program_input/specs/Input and calls/specs/Starred. Assumes nothing.
+-- and its parts, program_input/specs/Input and calls/specs/Starred.
 use Prim.Native.Nat.{ℕ}
 use mathlib.Core.Bool.{true, not, cond, _&&_}
 use mathlib.Core.List.{List}

@@ -1,5 +1,5 @@
 -- Document 01's table of letters: which line a letter stands for, and which of its fields are filled. Cited by the functions that
--- read a line, by sheet_steps/specs and sheet_parse/specs for the line due, and by call_replies/specs. Assumes nothing.
+-- read a line, by sheet_steps/specs and sheet_parse/specs for the line due, and by call_replies/specs.
 use Prim.Native.Nat.{ℕ, _<_}
 use mathlib.Core.Path.{_≡_}
 use mathlib.Core.Bool.{Bool, cond}

@@ -1,6 +1,6 @@
 -- The tests of a file and of its lines, in document 01's order ("Reading: .."): the line due at a place from the sizes alone, and
 -- the faults of a line in their order. Cited by `is_ragged`, `read_next`, `read_lines`,
--- sheet_parse/specs/Progress and sheet_tests/specs/Sheet. Assumes nothing.
+-- sheet_parse/specs/Progress and sheet_tests/specs/Sheet.
 use Prim.Native.Nat.{ℕ, _%_}
 use mathlib.Core.Bool.{Bool, true, false, not, _&&_, _||_}
 use mathlib.Core.List.{List}

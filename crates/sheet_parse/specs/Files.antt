@@ -1,6 +1,6 @@
 -- The netlist that the lines of a file give (document 01, "The sheet"). The sizes stand in lines 1 and 2, and they alone say where
 -- everything else stands. Cited by the functions that read a file, by the specs of sheet_tests, sheet_reader and program_input, by calls/specs/Starred and
--- by `marrubigai_next_line`. Assumes nothing.
+-- by `marrubigai_next_line`.
 use Prim.Native.Nat.{ℕ, _-_, _*_, _/_}
 use mathlib.Core.Bool.{cond}
 use mathlib.Core.List.{List}

@@ -1,5 +1,5 @@
 -- A reader's file and line number, line by line (document 01, "The sheet reader carries the file and its own line number").
--- Cited by `at_start`, `next_number`, `next_line` and `marrubigai_next_line`. Assumes nothing.
+-- Cited by `at_start`, `next_number`, `next_line` and `marrubigai_next_line`.
 use Prim.Native.Nat.{ℕ, _+_}
 use mathlib.Core.Bool.{cond}
 use mathlib.Core.List.{List}

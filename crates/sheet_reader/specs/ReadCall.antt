@@ -1,5 +1,5 @@
 -- What `read` returns and leaves in the lists that it is lent (document 01, "On success only the first L and A records of the lent
--- lists change, ..", "a .. record returned beside them is all zeros"). Cited by `read` and `marrubigai_read`. Assumes nothing.
+-- lists change, ..", "a .. record returned beside them is all zeros"). Cited by `read` and `marrubigai_read`.
 use Prim.Native.Nat.{ℕ}
 use mathlib.Core.Path.{_≡_}
 use mathlib.Core.List.{List}

@@ -1,5 +1,5 @@
 -- What one line more does: its numbers put into the netlist read so far, and its tests there. Cited by the functions that take one
--- line more, sheet_parse/specs/Progress, sheet_tests/specs/Scratch and sheet_tests/specs/Codes. Assumes nothing.
+-- line more, sheet_parse/specs/Progress, sheet_tests/specs/Scratch and sheet_tests/specs/Codes.
 use Prim.Native.Nat.{ℕ, _≤_}
 use mathlib.Core.Path.{_≡_}
 use mathlib.Core.Bool.{cond, not, _||_}
