@@ -21,7 +21,7 @@ rt prove || stop "something is not proved"
 echo "$((SECONDS - begin)) seconds"
 cat docs/PROVED.txt
 
-step "3 of 4: document 01's example"
+step "3 of 4: the chip of the full run in docs/RULES.md"
 echo "Every frame writes the input to address 0 and reads address 0 (one bit, start word 0). Property: a 0 is read."
 cat examples/document-01/chip.sheet
 echo "The formula of depth 1 (frames 0 and 1) as 'frames' prints it:"

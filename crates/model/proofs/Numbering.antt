@@ -1,4 +1,4 @@
--- Depth k uses exactly the variables 1 to B(k + 1) (document 01, "Numbers of variables"): each of them is numbered. No contract
+-- Depth k uses exactly the variables 1 to B(k + 1) (RULES V6): each of them is numbered. No contract
 -- cites this file.
 use Prim.Native.Nat.{ℕ, zero, suc, _+_, _-_, _*_, _/_, _%_, _≤_, _<_}
 use mathlib.Core.Path.{_≡_}

@@ -28,7 +28,7 @@ use Rattle.model.proofs.Bounds.{AllLits, Within, wires-within, pairs-wi
 use Rattle.model.proofs.Numbers.{clausesIn-written}
 use Rattle.model.proofs.Claim.{encodes, satisfies-same, unsatisfiable→safe}
 
--- the numbers of a group, as document 01 counts them
+-- the numbers of a group, as RULES G19 counts them
 group-numbers : (c : Netlist) (k : ℕ) (g : Group) → length (numbersOf c k g) ≡ numberCount c k g
 unfolding numberCount
 group-numbers c k (Wires zero) = wires-numbers-first c k

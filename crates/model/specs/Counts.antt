@@ -1,4 +1,4 @@
--- How many clauses and numbers a group has (document 01: "Clauses: ..", "Numbers with end marks: ..", line for line). Cited by the
+-- How many clauses and numbers a group has (RULES G18 and G19, line for line). Cited by the
 -- claim.
 use Prim.Native.Nat.{ℕ, zero, suc, _+_, _*_}
 use Rattle.model.specs.Netlist.{Netlist}
