@@ -84,6 +84,7 @@ if rt staticlib marrubigai > "$logs/staticlib.out" 2>&1; then
       timeout 600 valgrind --quiet --error-exitcode=99 "$logs/library" sample
   fi
   run "the header for C against the library" header bash tests/header.sh
+  run "a search depth by depth with the library and CaDiCaL's" search bash tests/search.sh target/bin/frames
 else
   cat "$logs/staticlib.out"
   fail "rt staticlib marrubigai"
