@@ -44,12 +44,12 @@ if [ "$(cadical --version)" = sc2021 ]; then shown=cat; else shown="head -n 1"; 
 awk -v work="$work" '
   /^```/ || /^\$ / { file = "" }
   file != "" { print > file }
-  /^\$ scripts\/find\.sh / { file = work "/page." ++asked; print FILENAME, $3, $4 }' README.md examples/*/README.md > "$work/asked"
+  /^\$ scripts\/find\.sh / { file = work "/page." ++asked; $1 = FILENAME; $2 = ""; print }' README.md examples/*/README.md > "$work/asked"
 asked=0
-while read -r page sheet depth; do
+while read -r page arguments; do
   asked=$((asked + 1))
-  FRAMES=$frames bash scripts/find.sh "$sheet" "$depth" | $shown > "$work/found"
-  check "$page: scripts/find.sh $sheet $depth" diff <($shown "$work/page.$asked") "$work/found"
+  FRAMES=$frames bash scripts/find.sh $arguments | $shown > "$work/found"
+  check "$page: scripts/find.sh $arguments" diff <($shown "$work/page.$asked") "$work/found"
 done < "$work/asked"
 check "the pages have transcripts" [ "$asked" -ge 8 ]
 
