@@ -22,7 +22,7 @@ begin=$SECONDS
 rt prove || stop "something is not proved"
 [ -x target/bin/frames ] || rt check frames || stop "the program was not built"
 echo "$((SECONDS - begin)) seconds"
-cat docs/PROVED.txt
+bash scripts/proved.sh || stop "the README does not say what is proved"
 
 step "3 of 4: the chip of the full run in docs/RULES.md"
 echo "Every frame writes the input to address 0 and reads address 0 (one bit, start word 0). Property: a 0 is read."

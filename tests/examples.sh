@@ -58,5 +58,11 @@ sed -n '/^\$ .*target\/bin\/frames$/,/^```$/p' README.md | sed '1d;$d' > "$work/
 { printf '%10d\n' 1; cat examples/echo/chip.sheet; } | "$frames" > "$work/printed"
 check "the README's formula" diff "$work/formula" "$work/printed"
 
+# What the demo says is proved is the README's section: its four points, and nothing behind them.
+bash scripts/proved.sh > "$work/proved"
+check "what is proved is told" [ $? -eq 0 ]
+check "in four points" [ "$(grep -cE '^[1-4]\. [A-Z]' "$work/proved")" -eq 4 ]
+check "of one section" [ "$(grep -c '^#' "$work/proved")" -eq 0 ]
+
 echo "$passed passed, $failed failed"
 [ "$failed" -eq 0 ]
