@@ -1,4 +1,4 @@
-// The program's input: a depth line and a sheet (document 01, "The program and one full run").
+// The program's input: a depth line and a sheet (RULES P1, P4 and P5).
 use netlist::Netlist;
 use netlist::UnpackedList;
 use refusals::Verdict;
@@ -9,7 +9,7 @@ ghost use Rattle.sheet_parse.specs.Files.{netIn};
 ghost use Rattle.sheet_parse.specs.Progress.{noCodes};
 ghost use Rattle.program_input.specs.Input.{sheetIn, inputVerdict, depthBeside, withDepthAndRecord, sheetInput, inputAnswer, InputTaken};
 
-// What an input is read as: document 01's number and place (both 0 where it is taken), the depth, and the sheet's record. The depth
+// What an input is read as: a refusal's number and place (both 0 where it is taken), the depth, and the sheet's record. The depth
 // and the record are all zeros at a refusal.
 pub struct Input {
     pub number: u32,

@@ -1,5 +1,5 @@
 -- How far a file is read, as the loop over its lines keeps it (`ReadTo`, `InProgress`): before the first line nothing is read and every
--- entry is 0; one answer more; and behind the last line the answer is the file's. No contract cites this file. Assumes nothing.
+-- entry is 0; one answer more; and behind the last line the answer is the file's. No contract cites this file.
 use Prim.Native.Nat.{ℕ, zero, suc, _+_, _-_, _*_, _≤_, _<_}
 use mathlib.Core.Path.{_≡_, refl, sym, _∙_, ap, subst}
 use mathlib.Core.Bool.{Bool, true, false, cond, false≢true}

@@ -1,4 +1,4 @@
--- Laws of specs/LineAnswers.antt: where there is a line, and the three answers. No contract cites this file. Assumes nothing.
+-- Laws of specs/LineAnswers.antt: where there is a line, and the three answers. No contract cites this file.
 use Prim.Native.Nat.{ℕ, _+_, _*_, _≤_, _<_}
 use mathlib.Core.Path.{_≡_, sym, _∙_}
 use mathlib.Core.Bool.{true, false, false≢true}

@@ -1,6 +1,5 @@
--- What is answered of the lines of a file one by one (document 01, "The sheet" and "Reading"): the line behind those that are read, a
--- refusal of it with its place, or that there is none. Cited by `has_line`, `line_after`, sheet_parse/specs/NextLine and
--- `marrubigai_next_line`. Assumes nothing.
+-- What is answered of the lines of a file one by one (RULES L2): the line behind those that are read, a refusal of it with its place, or
+-- that there is none. Cited by `has_line`, `line_after`, sheet_parse/specs/NextLine and `marrubigai_next_line`.
 use Prim.Native.Nat.{ℕ, _+_, _*_}
 use mathlib.Core.Bool.{Bool, cond, _&&_}
 use mathlib.Core.List.{List}
@@ -15,11 +14,11 @@ use Rattle.sheet_parse.specs.declared.LineAnswer.the-variants.{Line, Ref
 use Rattle.sheet_parse.specs.declared.LineAfter.{LineAfter}
 use Rattle.sheet_parse.specs.Files.{lineIn}
 
--- whether there is a line behind the first `line`: 32 bytes of the file, and no sheet has more than 615 lines
+-- whether there is a line behind the first `line`: 32 bytes of the file, and no sheet has more than 615 lines (RULES S6)
 unfoldable pub hasLine : List ℕ → ℕ → Bool
 hasLine file line = ltb line mostLines && leb (lineBytes * line + lineBytes) (length file)
 
--- a line at a place as an answer: a misprinted one is refused, "place being the line, the first as 1"
+-- a line at a place as an answer: a misprinted one is refused, the place being the line (RULES T2)
 abbrev pub answerOf : ParsedLine → ℕ → LineAnswer
 answerOf Misprint place = Refused Refusal.Misprint place
 answerOf (Read kind first second third) place = Line kind first second third

@@ -1,5 +1,4 @@
--- A reader's file and line number, line by line (document 01, "The sheet reader carries the file and its own line number").
--- Cited by `next_line`. Assumes nothing.
+-- A reader's file and line number, line by line (RULES S10, "carries the file and its line number", and L2). Cited by `next_line`.
 use denote.Ref.{now}
 use Rattle.sheet_parse.specs.LineAnswers.{lineAnswer, linesRead}
 use Rattle.sheet_parse.specs.declared.SheetReader.{SheetReader}

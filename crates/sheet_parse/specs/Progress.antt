@@ -1,5 +1,5 @@
 -- How far a file is read: the netlist as far as a line, and what one answer more does. Cited by the functions that go through a
--- file line by line, by those that lend them lists, and by `no_codes`. Assumes nothing.
+-- file line by line, by those that lend them lists, and by `no_codes`.
 use Prim.Native.Nat.{ℕ}
 use mathlib.Core.Bool.{Bool, true, false, cond}
 use mathlib.Core.List.{List}

@@ -1,5 +1,5 @@
-// The sheet reader, which carries the file and its own line number, and a file read line by line into the record and the lists
-// (document 01, "The sheet" and "Reading").
+// The sheet reader, which carries the file and its own line number (RULES S10 and L2), and a file read line by line into the record and
+// the lists (RULES S5 to S7 and T33).
 use netlist::UnpackedList;
 use refusals::Refusal;
 use refusals::Verdict;

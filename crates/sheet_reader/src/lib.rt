@@ -1,5 +1,4 @@
-// `read` into lent lists of records (document 01, "Reading"). It takes the lists apart and leaves the work to functions over plain
-// slices.
+// `read` into lent lists of records (RULES T45). It takes the lists apart and leaves the work to functions over plain slices.
 use call_lists::Gate;
 use call_lists::Latch;
 use refusals::Verdict;

@@ -1,5 +1,5 @@
 -- What one line more does: its numbers put into the netlist read so far, and its tests there. Cited by the functions that take one
--- line more, by those that read a whole file, sheet_parse/specs/Progress and sheet_tests/specs/LinesPassed. Assumes nothing.
+-- line more, by those that read a whole file, sheet_parse/specs/Progress and sheet_tests/specs/LinesPassed.
 use Prim.Native.Nat.{ℕ, _≤_}
 use mathlib.Core.Path.{_≡_}
 use mathlib.Core.Bool.{cond, not, _||_}
@@ -73,7 +73,7 @@ StoredIn r old due x y z =
 unfoldable pub stepNet : Netlist → ℕ → ℕ → ℕ → ℕ → Netlist
 stepNet c x y z p = stored c (lineAt c p) x y z
 
--- "3, then 4 or 5" at place p: a line of this kind and with these numbers
+-- RULES T33, "3, then 4 or 5", at place p: a line of this kind and with these numbers
 unfoldable pub stepVerdict : Netlist → Kind → ℕ → ℕ → ℕ → ℕ → Verdict
 stepVerdict c kind x y z p =
     refuseIf (ltb (controlLine c) p || not (eqb (rowOf kind) (rowOf (kindDue (lineAt c p))))) OutOfOrder p

@@ -1,4 +1,4 @@
--- Laws of specs/LinesPassed.antt: what lines that have passed say of the record and the lists. Assumes nothing.
+-- Laws of specs/LinesPassed.antt: what lines that have passed say of the record and the lists.
 use Prim.Native.Nat.{ℕ, _≤_}
 use mathlib.Core.Path.{_≡_, refl, sym, _∙_, ap, subst}
 use mathlib.Core.List.{List, []}

@@ -1,5 +1,5 @@
 -- What a reader returns and leaves in its own unpacked lists, for lent lists that have room for so many records. Cited by
--- `read_codes`. Assumes nothing.
+-- `read_codes`.
 use Prim.Native.Nat.{ℕ}
 use mathlib.Core.List.{List}
 use Rattle.sheet_steps.specs.Steps.{Outcome}

@@ -1,4 +1,4 @@
--- What lines that have passed say of the record and the lists. Cited by `test_end`. Assumes nothing.
+-- What lines that have passed say of the record and the lists. Cited by `test_end`.
 use Prim.Native.Nat.{ℕ, _≤_}
 use Rattle.model.specs.Netlist.{Netlist}
 use Rattle.model.specs.Acceptance.{WithinLimits}

@@ -1,4 +1,4 @@
--- `program_input::read_sheet` meets its contract: it passes on what is read. Assumes nothing.
+-- `program_input::read_sheet` meets its contract: it passes on what is read.
 use mathlib.Core.Path.{_∙_, ap}
 use borrow.Author.Needs.{needs}
 use Rattle.sheet_steps.proofs.Records.{verdict-is, record-is}

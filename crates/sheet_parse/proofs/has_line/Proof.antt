@@ -1,4 +1,4 @@
--- `sheet_parse::has_line` meets its contract: it is the definition. Assumes nothing.
+-- `sheet_parse::has_line` meets its contract: it is the definition.
 use mathlib.Core.Path.{refl}
 use borrow.Author.Needs.{needs}
 use Rattle.sheet_parse.specs.LineAnswers.{hasLine}

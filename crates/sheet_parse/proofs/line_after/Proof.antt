@@ -1,4 +1,4 @@
--- `sheet_parse::line_after` meets its contract: there is no line, or it is misprinted, or it is read. Assumes nothing.
+-- `sheet_parse::line_after` meets its contract: there is no line, or it is misprinted, or it is read.
 use mathlib.Core.Path.{_≡_, sym, _∙_}
 use mathlib.Core.Bool.{true}
 use native.Mathlib.Omega.{arith}

@@ -1,4 +1,4 @@
--- `sheet_parse::no_progress` meets its contract: it is the definition. Assumes nothing.
+-- `sheet_parse::no_progress` meets its contract: it is the definition.
 use borrow.Author.Needs.{needs}
 use Rattle.sheet_steps.specs.Records.{recordBeside}
 use Rattle.sheet_parse.specs.Progress.{noProgress}

@@ -1,4 +1,4 @@
--- `sheet_parse::parse_line` meets its contract: the part of 32 bytes behind the lines before. Assumes nothing.
+-- `sheet_parse::parse_line` meets its contract: the part of 32 bytes behind the lines before.
 use Prim.Native.Nat.{_+_, _-_, _*_}
 use mathlib.Core.Path.{_≡_, _∙_}
 use native.Mathlib.Omega.{arith}

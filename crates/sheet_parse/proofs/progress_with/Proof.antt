@@ -1,4 +1,4 @@
--- `sheet_parse::progress_with` meets its contract: each arm knows its verdict. Assumes nothing.
+-- `sheet_parse::progress_with` meets its contract: each arm knows its verdict.
 use borrow.Author.Needs.{needs}
 use Rattle.sheet_parse.proofs.progress_with.Statement.{statement}
 use Rattle.sheet_parse.proofs.progress_with.Tie as tie

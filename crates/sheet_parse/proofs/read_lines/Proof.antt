@@ -1,6 +1,6 @@
 -- `sheet_parse::read_lines` meets its contract: a walk of its MIR, by hand. A reader is made of the file, and in every turn of the loop
 -- `next_line` takes it and `take_answer` its answer, with both lists lent on for a lifetime of the turn. The loop keeps the state of
--- `InProgress`; in each turn one answer less is left. Assumes nothing.
+-- `InProgress`; in each turn one answer less is left.
 use Prim.Native.Nat.{ℕ, _≤_, _<_}
 use mathlib.Core.Path.{_≡_, refl, ap, subst}
 use mathlib.Core.Bool.{Bool, true, false}

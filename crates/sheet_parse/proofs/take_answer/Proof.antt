@@ -1,4 +1,4 @@
--- `sheet_parse::take_answer` meets its contract: each arm knows its answer. Assumes nothing.
+-- `sheet_parse::take_answer` meets its contract: each arm knows its answer.
 use mathlib.Core.Path.{refl}
 use borrow.Author.Needs.{needs}
 use Rattle.sheet_steps.proofs.Records.{outcome-refused, outcome-passed}

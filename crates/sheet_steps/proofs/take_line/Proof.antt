@@ -1,4 +1,4 @@
--- `sheet_steps::take_line` meets its contract: a test that refuses is passed on; the line due is put into the record and the lists, and tested there. Assumes nothing.
+-- `sheet_steps::take_line` meets its contract: a test that refuses is passed on; the line due is put into the record and the lists, and tested there.
 use mathlib.Core.Path.{_≡_, sym, _∙_}
 use mathlib.Core.Bool.{not, _||_}
 use lib.Dec.{eqb}
