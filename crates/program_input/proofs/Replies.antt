@@ -13,7 +13,7 @@ use Rattle.refusals.proofs.Table.{reply-passed}
 use Rattle.refusals.proofs.Tests.{passed-then, then-passes}
 use Rattle.sheet_lines.specs.Depth.{depthVerdict, depthLine}
 use Rattle.sheet_lines.proofs.Depth.{passed-most}
-use Rattle.sheet_steps.specs.Steps.{Holds, ListsBeside}
+use Rattle.sheet_steps.specs.Lists.{Holds, ListsBeside}
 use Rattle.sheet_parse.specs.Files.{netIn}
 use Rattle.sheet_tests.proofs.Codes.{passed-sheet}
 use Rattle.program_input.specs.declared.Input.{Input}

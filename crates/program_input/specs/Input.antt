@@ -5,6 +5,7 @@ use mathlib.Core.List.{List}
 use lib.ListN.{drop}
 use Rattle.model.specs.Limits.{mostWires, mostDepth}
 use Rattle.model.specs.Acceptance.{Accepted}
+use Rattle.model.specs.Netlist as M
 use Rattle.refusals.specs.Refusal.{replyOf}
 use Rattle.refusals.specs.Tests.{_then_}
 use Rattle.refusals.specs.declared.Verdict.{Verdict}
@@ -35,13 +36,12 @@ abbrev pub withDepthAndRecord : Verdict → ℕ → Netlist → Input
 withDepthAndRecord v k net =
     record { number = replyOf v .number; place = replyOf v .place; depth = depthBeside v k; net = net }
 
--- a sheet behind depth k
-unfoldable pub sheetInput : List ℕ → ℕ → Input
-sheetInput file k = withDepthAndRecord (sheetIn file) k (recordBeside (sheetIn file) (netIn file))
+-- what is answered with verdict v, depth k and netlist c: the depth and the record are all zeros at a refusal
+abbrev pub inputBeside : Verdict → ℕ → M.Netlist → Input
+inputBeside v k c = withDepthAndRecord v k (recordBeside v c)
 
--- an input: where anything is refused, the depth and the record are all zeros
 unfoldable pub inputAnswer : List ℕ → Input
-inputAnswer s = withDepthAndRecord (inputVerdict s) (depthLine s .depth) (recordBeside (inputVerdict s) (netIn (drop 11 s)))
+inputAnswer s = inputBeside (inputVerdict s) (depthLine s .depth) (netIn (drop 11 s))
 
 -- an input that is not refused: an accepted netlist, and a depth within its limit
 pub record InputTaken (r : Input) (latches gates : List ℕ) : Type 0 where

@@ -4,10 +4,10 @@ use netlist::UnpackedList;
 use refusals::Verdict;
 ghost use mathlib.Core.Path.{_≡_};
 ghost use lib.ListN.{drop};
-ghost use Rattle.sheet_steps.specs.Steps.{ListsBeside};
+ghost use Rattle.sheet_steps.specs.Lists.{ListsBeside};
 ghost use Rattle.sheet_parse.specs.Files.{netIn};
 ghost use Rattle.sheet_parse.specs.Progress.{noCodes};
-ghost use Rattle.program_input.specs.Input.{sheetIn, inputVerdict, depthBeside, withDepthAndRecord, sheetInput, inputAnswer, InputTaken};
+ghost use Rattle.program_input.specs.Input.{sheetIn, inputVerdict, depthBeside, withDepthAndRecord, inputBeside, inputAnswer, InputTaken};
 
 // What an input is read as: a refusal's number and place (both 0 where it is taken), the depth, and the sheet's record. The depth
 // and the record are all zeros at a refusal.
@@ -49,7 +49,7 @@ fn read_sheet(
     gates: &mut UnpackedList,
 ) -> Input
     requires { ⌜ (now latches ≡ noCodes) × (now gates ≡ noCodes) ⌝ }
-    ensures answer { λ r. ⌜ r ≡ sheetInput (now (file .entry)) depth ⌝ }
+    ensures answer { λ r. ⌜ r ≡ inputBeside (sheetIn (now (file .entry))) depth (netIn (now (file .entry))) ⌝ }
     ensures lists { λ r. ⌜ ListsBeside (sheetIn (now (file .entry))) (r .net) (now (latches .exit)) (now (gates .exit)) (netIn (now (file .entry))) ⌝ }
 {
     let sheet = sheet_tests::read_codes(file, 600, 600, latches, gates);

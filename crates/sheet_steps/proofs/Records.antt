@@ -17,7 +17,8 @@ use Rattle.netlist.specs.RecordOf.{codeEntry, recordOf}
 use Rattle.netlist.specs.declared.Netlist.{Netlist}
 use Rattle.sheet_steps.specs.declared.SheetAnswer.{SheetAnswer}
 use Rattle.sheet_steps.specs.Records.{recordBeside, sheetAnswer, refusedAt}
-use Rattle.sheet_steps.specs.Steps.{FullLength, Holds, ListsBeside, Outcome}
+use Rattle.sheet_steps.specs.Lists.{FullLength, Holds, ListsBeside}
+use Rattle.sheet_steps.specs.Steps.{Outcome}
 
 -- the codes of a record's array, gathered again
 gather-codes : (xs : List Code) (n : ℕ) → n ≤ length xs → gather n (codeEntry (codeOf xs)) ≡ take n xs

@@ -3,4 +3,5 @@ pub mod Due
 pub mod LineFaults
 pub mod Records
 pub mod LineIndex
+pub mod Lists
 pub mod Steps

@@ -5,12 +5,9 @@ use mathlib.Core.Path.{_≡_}
 use mathlib.Core.Bool.{cond, not, _||_}
 use mathlib.Core.List.{List}
 use lib.Dec.{eqb, ltb}
-use lib.ListN.{length}
 use Rattle.refusals.specs.Tests.{refuseIf, _then_}
 use Rattle.refusals.specs.declared.Refusal.the-variants.{OutOfOrder}
 use Rattle.refusals.specs.declared.Verdict.{Verdict}
-use Rattle.refusals.specs.declared.Verdict.the-variants.{Passed, Refused}
-use Rattle.literals.specs.declared.Code.{Code}
 use Rattle.model.specs.Netlist.{Netlist}
 use Rattle.model.specs.Acceptance.{SizesFit}
 use Rattle.netlist.specs.NetOf.{netOf}
@@ -25,6 +22,8 @@ use Rattle.sheet_steps.specs.Due.{kindDue}
 use Rattle.sheet_steps.specs.LineIndex.{sameLine}
 use Rattle.sheet_steps.specs.LineFaults.{faultsAt}
 use Rattle.sheet_steps.specs.Records.{sheetAnswer}
+use Rattle.sheet_steps.specs.Lists.{ListsBeside}
+pub use Rattle.sheet_steps.specs.Lists.{FullLength, Holds}
 
 -- a number that stands in line `at`, where line `due` is read: the new one if it is that line, else the old one
 abbrev pub numberAfter : Line → Line → ℕ → ℕ → ℕ
@@ -51,18 +50,6 @@ stored c due x y z =
       P = numberAfter due Control z (c .P);
     }
 
--- a record's arrays and unpacked lists of full length
-pub record FullLength (address writeData : List Code) (latches gates : List ℕ) : Type 0 where
-  pub address-codes : length address ≡ 12
-  pub data-codes : length writeData ≡ 32
-  pub latch-codes : length latches ≡ 1200
-  pub gate-codes : length gates ≡ 1200
-
--- a record and lists of full length that stand for the netlist c
-pub record Holds (r : R.Netlist) (latches gates : List ℕ) (c : Netlist) : Type 0 where
-  pub full : FullLength (r .address) (r .«write_data») latches gates
-  pub net-is : netOf r latches gates ≡ c
-
 -- the record r is the old one with the numbers of line `due` put in, whatever the lists
 abbrev pub StoredIn : R.Netlist → R.Netlist → Line → ℕ → ℕ → ℕ → Type 0
 StoredIn r old due x y z =
@@ -78,15 +65,6 @@ unfoldable pub stepVerdict : Netlist → Kind → ℕ → ℕ → ℕ → ℕ �
 stepVerdict c kind x y z p =
     refuseIf (ltb (controlLine c) p || not (eqb (rowOf kind) (rowOf (kindDue (lineAt c p))))) OutOfOrder p
     then faultsAt (stepNet c x y z p) (lineAt c p) p
-
--- lists that were lent to be used up: nothing is said of what they hold
-abbrev pub Scratch : List ℕ → List ℕ → Type 0
-Scratch latches gates = Unit {0}
-
--- what the lists hold beside a verdict: with the record they stand for c; after a refusal they are scratch
-abbrev pub ListsBeside : Verdict → R.Netlist → List ℕ → List ℕ → Netlist → Type 0
-ListsBeside Passed r latches gates c = Holds r latches gates c
-ListsBeside (Refused w p) r latches gates c = Scratch latches gates
 
 -- the answer with verdict v and netlist c, and the lists beside it
 pub record Outcome (sheet : SheetAnswer) (latches gates : List ℕ) (v : Verdict) (c : Netlist) : Type 0 where

@@ -7,7 +7,7 @@ use Rattle.sheet_lines.specs.Depth.{depthVerdict}
 use Rattle.sheet_lines.specs.declared.DepthLine.{DepthLine}
 use Rattle.sheet_lines.proofs.Depth.{depthLine-verdict, passed-long}
 use Rattle.sheet_steps.specs.Records.{recordBeside}
-use Rattle.program_input.specs.Input.{sheetInput, inputAnswer}
+use Rattle.program_input.specs.Input.{inputAnswer}
 use Rattle.program_input.proofs.Replies.{depth-decides, sheet-decides, behind-depth, input-taken}
 use Rattle.program_input.proofs.read_input.Statement.{statement}
 use Rattle.program_input.proofs.read_input.Tie as tie
@@ -58,7 +58,7 @@ read-sheet-requires : tie.Need-read-sheet-requires
 read-sheet-requires c κs = search needs
 
 returns-2 : tie.Need-returns-2
-unfolding inputAnswer sheetInput
+unfolding inputAnswer
 returns-2 c =
     let passed = c .before .before .before .before in
     let line = passed .before .before in

@@ -3,7 +3,6 @@ use mathlib.Core.Path.{_∙_, ap}
 use borrow.Author.Needs.{needs}
 use Rattle.sheet_steps.proofs.Records.{verdict-is, record-is}
 use Rattle.program_input.specs.declared.Input.{Input}
-use Rattle.program_input.specs.Input.{sheetInput}
 use Rattle.program_input.proofs.read_sheet.Statement.{statement}
 use Rattle.program_input.proofs.read_sheet.Tie as tie
 
@@ -14,7 +13,6 @@ answer-requires : tie.Need-answer-requires
 answer-requires c κs = search needs
 
 returns : tie.Need-returns
-unfolding sheetInput
 returns c =
     let read = c .before .before .read-codes .ensures in
     let net = ap (λ (i : Input). i .net) (c .answer .ensures) in
