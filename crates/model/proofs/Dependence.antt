@@ -13,7 +13,7 @@ use Rattle.model.specs.Acceptance.{CodesFit}
 use Rattle.model.proofs.Sweep.{ByWires, OfTwoWires, sweep-outside, sweep-solves, wire-induction}
 
 -- the sweep looks at a gate's two wires alone
-eitherWire-of-two : OfTwoWires eitherWire
+pub eitherWire-of-two : OfTwoWires eitherWire
 unfolding eitherWire
 eitherWire-of-two u v a b h k = rw (h, k)
 

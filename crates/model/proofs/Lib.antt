@@ -4,6 +4,7 @@ pub mod Bits
 pub mod Sweep
 pub mod Dependence
 pub mod Circuit
+pub mod Renumbering
 pub mod Memory
 pub mod Gather
 pub mod Joined
@@ -22,4 +23,7 @@ pub mod Witness
 pub mod RunToAssignment
 pub mod Claim
 pub mod Stated
+pub mod Agree
+pub mod AgreeNumbers
+pub mod AgreeRuns
 pub mod Wrote

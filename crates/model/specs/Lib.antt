@@ -3,7 +3,9 @@ pub mod Limits
 pub mod Bits
 pub mod Netlist
 pub mod Circuit
+pub mod Network
 pub mod Acceptance
+pub mod Agree
 pub mod Gather
 pub mod Clauses
 pub mod Variables

@@ -12,9 +12,12 @@ use Rattle.refusals.specs.Slices.{contentsAfter}
 use Rattle.refusals.proofs.Tests.{refused-not-passed}
 use Rattle.model.specs.Netlist as M
 use Rattle.model.specs.Acceptance.{Accepted}
+use Rattle.model.specs.Agree.{Agree}
 use Rattle.literals.specs.declared.Code.{Code}
 use Rattle.netlist.specs.NetOf.{codeOf, netOf}
 use Rattle.model.proofs.Claim.{encodes}
+use Rattle.model.proofs.Agree.{accepted-same}
+use Rattle.model.proofs.AgreeNumbers.{base-same, numbers-same}
 use Rattle.netlist_tests.specs.Record.{recordVerdict}
 use Rattle.netlist_tests.proofs.Acceptance.{passes-accepted}
 use Rattle.sheet_steps.specs.declared.SheetAnswer.{SheetAnswer}
@@ -33,8 +36,6 @@ use Rattle.call_lists.specs.Delivered.{delivered}
 use Rattle.call_lists.proofs.Delivered.{delivered-none, length-delivered}
 use Rattle.sheet_reader.specs.ReadCall.{latchOf, gateOf, readVerdict, readRecord, latchesLeft, gatesLeft, SheetDelivered}
 use Rattle.sheet_reader.proofs.Lists.{getD-gather-alone, delivered-pairs}
-use Rattle.sheet_reader.proofs.Entries.{Agree, accepted-same}
-use Rattle.sheet_reader.proofs.Groups.{base-same, numbers-same}
 
 -- an accepted netlist, its record, and its latches and gates delivered into lists
 module _ (c : M.Netlist) (accepted : Accepted c) (latches : List Latch) (gates : List Gate)

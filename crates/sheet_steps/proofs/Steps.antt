@@ -17,6 +17,8 @@ use Rattle.refusals.specs.declared.Verdict.the-variants.{Refused}
 use Rattle.refusals.proofs.Tests.{refused-not-passed}
 use Rattle.literals.specs.declared.Code.{Code}
 use Rattle.model.specs.Netlist as M
+use Rattle.model.specs.Agree.{sizesOf, SameSizes}
+use Rattle.model.proofs.Agree.{sizesFit-same}
 use Rattle.netlist.specs.Places.{controlLine, lineAt}
 use Rattle.sheet_lines.specs.Letters.{rowOf}
 use Rattle.sheet_lines.specs.declared.Kind.{Kind}
@@ -27,7 +29,7 @@ use Rattle.sheet_steps.specs.Due.{kindDue}
 use Rattle.sheet_steps.specs.declared.SheetAnswer.{SheetAnswer}
 use Rattle.sheet_steps.specs.Steps.{stored, stepNet, stepVerdict, SizesKnown, FullLength, Holds, Outcome}
 use Rattle.sheet_steps.specs.LineFaults.{faultsAt}
-use Rattle.sheet_steps.proofs.Places.{codes-from-3, sizesOf, SameSizes, sizesFit-same, lineAt-known}
+use Rattle.sheet_steps.proofs.Places.{codes-from-3, lineAt-known}
 use Rattle.refusals.specs.Tests.{_then_}
 
 -- the two codes of record i set, in a list of records unpacked: the first codes and the second codes then
