@@ -18,7 +18,9 @@ pub mod InFrame
 pub mod Groups
 pub mod Forwarding
 pub mod Agreement
+pub mod AssignedReads
 pub mod AssignmentToRun
+pub mod WitnessedReads
 pub mod Witness
 pub mod RunToAssignment
 pub mod Claim
