@@ -26,6 +26,7 @@ pub mod RunToAssignment
 pub mod Claim
 pub mod Stated
 pub mod Agree
-pub mod AgreeNumbers
-pub mod AgreeRuns
+pub mod SameNumbers
+pub mod SameRuns
 pub mod Wrote
+pub mod Search

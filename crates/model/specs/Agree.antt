@@ -1,5 +1,5 @@
 -- Netlists that agree below their sizes: "entries past the sizes are ignored". Such netlists are accepted alike, have the same
--- numbers and the same runs, by laws in proofs/Agree.antt, AgreeNumbers and AgreeRuns. Cited where a netlist has been delivered into lists that
+-- numbers and the same runs, by laws in proofs/Agree.antt, SameNumbers and SameRuns. Cited where a netlist has been delivered into lists that
 -- have something past the sizes. Assumes nothing.
 use Prim.Native.Nat.{ℕ, _<_}
 use mathlib.Core.Path.{_≡_}

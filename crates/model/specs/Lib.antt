@@ -14,3 +14,4 @@ pub mod Numbers
 pub mod Counts
 pub mod Claim
 pub mod Wrote
+pub mod Search

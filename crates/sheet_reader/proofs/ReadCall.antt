@@ -17,7 +17,7 @@ use Rattle.literals.specs.declared.Code.{Code}
 use Rattle.netlist.specs.NetOf.{codeOf, netOf}
 use Rattle.model.proofs.Claim.{encodes}
 use Rattle.model.proofs.Agree.{accepted-same}
-use Rattle.model.proofs.AgreeNumbers.{base-same, numbers-same}
+use Rattle.model.proofs.SameNumbers.{base-same, numbers-same}
 use Rattle.netlist_tests.specs.Record.{recordVerdict}
 use Rattle.netlist_tests.proofs.Acceptance.{passes-accepted}
 use Rattle.sheet_steps.specs.declared.SheetAnswer.{SheetAnswer}

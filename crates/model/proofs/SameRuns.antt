@@ -17,7 +17,7 @@ use Rattle.model.proofs.Booleans.{cond-same}
 use Rattle.model.proofs.Bits.{fromBits-same}
 use Rattle.model.proofs.Circuit.{code-same, conjunction-of-two}
 use Rattle.model.proofs.Agree.{inputs-same, latches-same, gates-same, m-same, n-same, word-same, lastWire-same, sweep-same}
-use Rattle.model.proofs.AgreeNumbers.{base-same}
+use Rattle.model.proofs.SameNumbers.{base-same}
 
 -- a state agrees with itself
 pub same-state : (c : Netlist) (s : State) → SameState c s s
