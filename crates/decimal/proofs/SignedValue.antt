@@ -1,5 +1,5 @@
 -- Laws of specs/SignedValue.antt: what is written reads back as the same number, what is read is the text of its number, and any other
--- text is none; and by `numberIn` of the digits behind at most one minus. No contract cites this file. Assumes nothing.
+-- text is none; and by `numberIn` of the digits behind at most one minus. No contract cites this file.
 use Prim.Native.Nat.{ℕ, zero, suc, _-_, _^_, _≤_, _<_}
 use mathlib.Core.Path.{_≡_, refl, sym, ap, _∙_}
 use mathlib.Core.Bool.{Bool, true, false, cond, _&&_}

@@ -1,5 +1,5 @@
 -- Netlists that agree below their sizes (specs/Agree.antt) have the same limits, the same wires and the same wires that depend on a
--- read bit: they are accepted alike. No contract cites this file. Assumes nothing.
+-- read bit: they are accepted alike. No contract cites this file.
 use Prim.Native.Nat.{ℕ, zero, suc, _/_, _≤_, _<_}
 use mathlib.Core.Path.{_≡_, sym, _∙_, ap}
 use mathlib.Core.Bool.{Bool, false}

@@ -1,6 +1,6 @@
 -- What an assignment says of a read, at any port and whatever the word is at the start: where the clauses of the pairs of frame i hold,
 -- E, s, S and the chain of `noneSince` are those of the writes assigned, and the read bits are the word that these leave.
--- No contract cites this file. Assumes nothing.
+-- No contract cites this file.
 use Prim.Native.Nat.{ℕ, suc, _+_, _<_, _≤_}
 use mathlib.Core.Path.{_≡_, sym, _∙_, ap, ap₂}
 use mathlib.Core.Bool.{Bool, true, not, _&&_, and-comm}

@@ -1,5 +1,5 @@
 -- A network under other numbers has the same values (specs/Network.antt). Of a code as of a variable; and in a netlist, by `evaluate`.
--- No contract cites this file. Assumes nothing.
+-- No contract cites this file.
 use Prim.Native.Nat.{ℕ, zero, suc, _-_, _/_, _%_, _≤_, _<_}
 use mathlib.Core.Path.{_≡_, ap, ap₂, sym, _∙_}
 use mathlib.Core.Bool.{Bool, _&&_, and-comm}

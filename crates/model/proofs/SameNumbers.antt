@@ -1,5 +1,5 @@
 -- Netlists that agree below their sizes (specs/Agree.antt) have the same variables and the same clauses, group by group: no entry
--- past a size is asked for. No contract cites this file. Assumes nothing.
+-- past a size is asked for. No contract cites this file.
 use Prim.Native.Nat.{ℕ, zero, suc, _+_, _<_}
 use mathlib.Core.Path.{_≡_, ap, ap₂}
 use mathlib.Core.List.{List, [], _∷_, _++_}

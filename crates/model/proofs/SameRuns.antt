@@ -1,5 +1,5 @@
 -- Netlists that agree below their sizes (specs/Agree.antt) have the same runs: from states that agree, fed alike, every wire has the
--- same value in every frame. No contract cites this file. Assumes nothing.
+-- same value in every frame. No contract cites this file.
 use Prim.Native.Nat.{ℕ, zero, suc, _-_, _/_, _<_}
 use mathlib.Core.Path.{_≡_, refl, sym, _∙_, ap}
 use mathlib.Core.Bool.{Bool}

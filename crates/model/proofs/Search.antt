@@ -1,4 +1,4 @@
--- Laws of specs/Search.antt. No contract cites this file. Assumes nothing.
+-- Laws of specs/Search.antt. No contract cites this file.
 use Prim.Native.Nat.{ℕ, zero, suc, _+_, _≤_, _<_, min}
 use mathlib.Core.Path.{_≡_, refl, sym, _∙_}
 use mathlib.Core.Bool.{Bool, true, false, cond, _||_, true≢false, false≢true}

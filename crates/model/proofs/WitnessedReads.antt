@@ -1,6 +1,6 @@
 -- What an assignment that is made from frames makes of a read, at any port and whatever the word is at the start: where it has the
 -- frames' codes, the values of a pair's own variables that these give, and the word read, the clauses of the pairs and the closing
--- of frame i hold. No contract cites this file. Assumes nothing.
+-- of frame i hold. No contract cites this file.
 use Prim.Native.Nat.{ℕ, suc, zero-le, _-_, _<_, _≤_}
 use mathlib.Core.Path.{_≡_, sym, _∙_, ap, ap₂}
 use mathlib.Core.Bool.{Bool, true, cond, not, _&&_, and-comm, Bool·beq}

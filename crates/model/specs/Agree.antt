@@ -1,6 +1,6 @@
--- Netlists that agree below their sizes: "entries past the sizes are ignored". Such netlists are accepted alike, have the same
--- numbers and the same runs, by laws in proofs/Agree.antt, SameNumbers and SameRuns. Cited where a netlist has been delivered into lists that
--- have something past the sizes. Assumes nothing.
+-- Netlists that agree below their sizes: entries past the sizes are ignored (RULES T39). Such netlists are accepted alike and have the
+-- same numbers and the same runs (proofs/Agree.antt, SameNumbers, SameRuns). Cited where a netlist stands in lists that have something
+-- past the sizes.
 use Prim.Native.Nat.{ℕ, _<_}
 use mathlib.Core.Path.{_≡_}
 use mathlib.Core.List.{List, [], _∷_}

@@ -1,6 +1,6 @@
 -- Clauses over literals, and the clauses of a gate, a pair and a closing: nothing here knows a variable's number.
--- Document 01, "Groups of clauses"; Ganai et al. 2004, section 4.1 and equations (3) and (4). Cited by `Groups` and by what
--- writes clauses. Assumes nothing.
+-- RULES G1 to G13; Ganai et al. 2004, section 4.1 and equations (3) and (4). Cited by `Groups` and by what
+-- writes clauses.
 use Prim.Native.Nat.{ℕ}
 use mathlib.Core.Bool.{Bool, not}
 use mathlib.Core.List.{List, [], _∷_, _++_}
@@ -15,25 +15,25 @@ pub data Literal : Type 0 where
 abbrev pub Clause : Type 0
 Clause = List Literal
 
--- negation, document 01's ¬
+-- negation, ¬ of the rules (RULES G2)
 unfoldable pub neg : Literal → Literal
 neg (known b) = known (not b)
 neg (plus v) = minus v
 neg (minus v) = plus v
 
--- g = a ∧ b
+-- g = a ∧ b (RULES G1)
 unfoldable pub andClauses : Literal → Literal → Literal → List Clause
 andClauses g a b = (neg g ∷ a ∷ []) ∷ (neg g ∷ b ∷ []) ∷ (g ∷ neg a ∷ neg b ∷ []) ∷ []
 
--- q = d
+-- q = d (RULES G4)
 unfoldable pub sameClauses : Literal → Literal → List Clause
 sameClauses q d = (neg q ∷ d ∷ []) ∷ (q ∷ neg d ∷ []) ∷ []
 
--- where p is true, a = b
+-- where p is true, a = b (RULES G10 and G12)
 unfoldable pub sameIfClauses : Literal → Literal → Literal → List Clause
 sameIfClauses p a b = (neg p ∷ neg a ∷ b ∷ []) ∷ (neg p ∷ a ∷ neg b ∷ []) ∷ []
 
--- One address bit x of frame j and y of frame i, with E and the bit's own e. The paper's e lost its subscript: it is per bit.
+-- One address bit x of frame j and y of frame i, with E and the bit's own e (RULES G6). The paper's e lost its subscript: it is per bit.
 unfoldable pub bitClauses : Literal → Literal → Literal → Literal → List Clause
 bitClauses E e x y =
     (neg E ∷ x ∷ neg y ∷ []) ∷ (neg E ∷ neg x ∷ y ∷ []) ∷ (e ∷ x ∷ y ∷ []) ∷ (e ∷ neg x ∷ neg y ∷ []) ∷ []
@@ -64,21 +64,21 @@ addressBitClauses x t = bitClauses (x .E) (x .e t) (x .Aj t) (x .Ai t)
 unfoldable pub unequalOf : PairLiterals → ℕ → List Literal
 unequalOf x t = neg (x .e t) ∷ []
 
--- (¬e of bits 0 to m - 1, E)
+-- (¬e of bits 0 to m - 1, E) (RULES G7)
 unfoldable pub allBits : ℕ → PairLiterals → Clause
 allBits m x = gather m (unequalOf x) ++ x .E ∷ []
 
 unfoldable pub forwardedClauses : PairLiterals → ℕ → List Clause
 forwardedClauses x t = sameIfClauses (x .S) (x .RD t) (x .WD t)
 
--- The paper's equation (1) has a misprinted inner sign, "or"; its sentence decides: all frames strictly between j and i.
--- That is what N carries from pair to pair, by equation (3).
+-- Equation (1) of Ganai et al. has a misprinted inner sign (RULES G24); its sentence decides: all frames strictly between j and i.
+-- That is what N carries from pair to pair, by equation (3). RULES G6 to G10, in their order.
 unfoldable pub pairClauses : ℕ → ℕ → PairLiterals → List Clause
 pairClauses m n x =
     gather m (addressBitClauses x) ++ allBits m x ∷ [] ++ andClauses (x .s) (x .E) (x .WE) ++ andClauses (x .PS) (neg (x .s)) (x .N)
     ++ andClauses (x .S) (x .s) (x .N) ++ gather n (forwardedClauses x)
 
--- The literals of document 01's "closing" of frame i: the paper's j = -1, a read of a word that no earlier frame wrote.
+-- The literals of the customer's "closing" of frame i (RULES G11): the paper's j = -1, a read of a word that no earlier frame wrote.
 pub record ClosingLiterals : Type 0 where
   -- PS of pair (0, i), or RE where i = 0
   pub Z : Literal

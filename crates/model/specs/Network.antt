@@ -1,6 +1,6 @@
 -- Gates as equations over numbers of variables, whoever numbered them: what a list of AND gates says of the values of its
--- variables, and the same list under other numbers. A code is 2 × variable, plus 1 for the inverted variable (AIGER's literal); variable 0
--- is constantly false. Cited by what is said of a circuit that another format numbers in its own way. Assumes nothing.
+-- variables, and the same list under other numbers. Codes are made of variables as of wires (RULES W3); variable 0 is constantly false.
+-- Cited by what is said of a circuit that another format numbers in its own way.
 use Prim.Native.Nat.{ℕ, _+_, _*_, _/_, _%_, _<_}
 use mathlib.Core.Path.{_≡_}
 use mathlib.Core.Bool.{false, _&&_}

@@ -1,5 +1,5 @@
--- "The first .. where", and "before": the first place where something holds, and whether a number stands at an earlier place. Cited by
--- what is said of a text, or of lines, place by place. Assumes nothing.
+-- The first place where something holds, and whether a number stands at an earlier place. Cited by what is said of lines place by
+-- place.
 use Prim.Native.Nat.{ℕ, zero, suc, _≤_, _<_}
 use mathlib.Core.Path.{_≡_}
 use mathlib.Core.Bool.{Bool, true, false, cond, _||_}

@@ -1,4 +1,4 @@
--- Laws of specs/Words.antt: parts of a text in pieces, parts found from the left, parts joined. No contract cites this file. Assumes nothing.
+-- Laws of specs/Words.antt: parts of a text in pieces, parts found from the left, parts joined. No contract cites this file.
 use Prim.Native.Nat.{ℕ, suc}
 use mathlib.Core.Path.{_≡_, refl, sym, _∙_, ap, ap₂}
 use mathlib.Core.Bool.{Bool, true, false, cond}

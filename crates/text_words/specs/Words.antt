@@ -1,6 +1,6 @@
 -- A text as lines, and a line as words: the parts that one byte ends. By these a text that comes in pieces has the lines and words of
 -- the whole, and the parts of a text are its only ones: laws in proofs/Words.antt. A text is a list of bytes. Cited by what reads
--- a text of lines. Assumes nothing.
+-- a text of lines.
 use Prim.Native.Nat.{ℕ, _<_}
 use mathlib.Core.Path.{_≡_}
 use mathlib.Core.Bool.{cond}

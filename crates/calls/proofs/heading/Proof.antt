@@ -1,6 +1,5 @@
 -- `calls::heading` meets its contract: a walk of its MIR, by hand. Both lists are unpacked into local arrays, which are lent to
 -- the call over unpacked lists. Demand 3 and the starred facts are laws of what that call answers.
--- Assumes nothing.
 use mathlib.Core.Path.{_≡_, refl, _∙_, ap}
 use Prim.Native.Nat.{ℕ, _<_, _^_}
 use mathlib.Core.List.{List, [], _∷_}

@@ -1,5 +1,5 @@
 -- `calls::write_group` meets its contract: a walk of its MIR, by hand, as `heading`'s. The slice to be written goes to the call
--- over unpacked lists for good, and what that call says of it is said here. Assumes nothing.
+-- over unpacked lists for good, and what that call says of it is said here.
 use mathlib.Core.Path.{_≡_, refl, _∙_, ap}
 use Prim.Native.Nat.{ℕ, _<_, _^_}
 use mathlib.Core.List.{List, [], _∷_}

@@ -1,5 +1,5 @@
 -- `decimal::read_clause_number` meets its contract: the number reader takes what stands behind the minus, or the whole.
--- Assumes nothing.
+--
 use mathlib.Core.Path.{sym, _∙_}
 use native.Mathlib.Omega.{arith}
 use borrow.Author.Needs.{needs}

@@ -1,4 +1,4 @@
--- `group_pair::put_comparison` meets its contract: the bits, then the clause of all of them. Assumes nothing.
+-- `group_pair::put_comparison` meets its contract: the bits, then the clause of all of them.
 use native.Mathlib.Omega.{arith}
 use borrow.Author.Needs.{needs}
 use mathlib.Core.List.{[], _∷_}

@@ -1,4 +1,4 @@
--- `group_pair::put_forwarded_bit` meets its contract. Assumes nothing.
+-- `group_pair::put_forwarded_bit` meets its contract.
 use borrow.Author.Needs.{needs}
 use Rattle.model.specs.Clauses.{sameIfClauses}
 use Rattle.model.specs.Numbers.{written}

@@ -1,4 +1,4 @@
--- `group_pair::put_gated_data` meets its contract: the gates, then the data bits. Assumes nothing.
+-- `group_pair::put_gated_data` meets its contract: the gates, then the data bits.
 use native.Mathlib.Omega.{arith}
 use borrow.Author.Needs.{needs}
 use Rattle.model.specs.Gather.{gather}

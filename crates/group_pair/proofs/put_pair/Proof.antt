@@ -1,4 +1,4 @@
--- `group_pair::put_pair` meets its contract: its two parts, one after the other. Assumes nothing.
+-- `group_pair::put_pair` meets its contract: its two parts, one after the other.
 use native.Mathlib.Omega.{arith}
 use borrow.Author.Needs.{needs}
 use Rattle.clause_writer.proofs.Wrote.{rest-within, rest-room, wrote-then}

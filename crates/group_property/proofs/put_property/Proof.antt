@@ -1,4 +1,4 @@
--- `group_property::put_property` meets its contract. Assumes nothing.
+-- `group_property::put_property` meets its contract.
 use Prim.Native.Nat.{_+_}
 use native.Mathlib.Omega.{arith}
 use borrow.Author.Needs.{needs}

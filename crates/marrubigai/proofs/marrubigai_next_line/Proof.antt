@@ -1,5 +1,5 @@
 -- `marrubigai::marrubigai_next_line` meets its contract: a walk of its MIR, by hand. The slice and the number are put together in a
--- reader, `next_line` takes it, and the line and the new number go to `line_numbers`. Assumes nothing.
+-- reader, `next_line` takes it, and the line and the new number go to `line_numbers`.
 use mathlib.Core.Path.{_≡_, refl, ap}
 use Prim.Native.Nat.{ℕ, _+_, _<_, _^_}
 use mathlib.Core.List.{List, [], _∷_}

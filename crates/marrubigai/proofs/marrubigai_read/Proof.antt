@@ -1,5 +1,4 @@
--- `marrubigai_read` meets its contract: all that was passed goes on to `sheet_reader::read`, and its answer to `sheet_numbers`. Assumes
--- nothing.
+-- `marrubigai_read` meets its contract: all that was passed goes on to `sheet_reader::read`, and its answer to `sheet_numbers`.
 use mathlib.Core.Path.{_≡_, refl}
 use mathlib.Core.List.{List, [], _∷_}
 use Prim.Native.Nat.{ℕ}

@@ -1,6 +1,6 @@
 -- `sheet_reader::read` meets its contract. Two unpacked lists stand in locals; a reader is made and handed on, with both lists lent for
 -- the call; then each list is lent to its delivery, and the lent lists of records are given to it for good. At a refusal the
--- record is all zeros, so that the same code delivers nothing. Assumes nothing.
+-- record is all zeros, so that the same code delivers nothing.
 use Prim.Native.Nat.{ℕ, _<_, _^_}
 use mathlib.Core.Path.{_≡_, refl, sym, ap, subst}
 use mathlib.Core.List.{List, [], _∷_}

@@ -1,4 +1,4 @@
--- `call_lists::deliver::deliver_gates` meets its contract: the walk of proofs/DeliverLoop.antt at a gate. Assumes nothing.
+-- `call_lists::deliver::deliver_gates` meets its contract: the walk of proofs/DeliverLoop.antt at a gate.
 use mathlib.Core.Path.{refl}
 use mir.Table.{spell}
 use contract.Running.{givenOf, tables, tablesOf}

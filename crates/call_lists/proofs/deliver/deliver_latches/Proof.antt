@@ -1,4 +1,4 @@
--- `call_lists::deliver::deliver_latches` meets its contract: the walk of proofs/DeliverLoop.antt at a latch. Assumes nothing.
+-- `call_lists::deliver::deliver_latches` meets its contract: the walk of proofs/DeliverLoop.antt at a latch.
 use mathlib.Core.Path.{refl}
 use mir.Table.{spell}
 use contract.Running.{givenOf, tables, tablesOf}

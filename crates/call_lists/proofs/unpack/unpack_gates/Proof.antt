@@ -1,4 +1,4 @@
--- `call_lists::unpack::unpack_gates` meets its contract: it is `AllRecords`' function at `Gate`. Assumes nothing.
+-- `call_lists::unpack::unpack_gates` meets its contract: it is `AllRecords`' function at `Gate`.
 use contract.Running.{givenOf, tables, tablesOf}
 use denote.Triple.Spec.{tripleOf}
 use denote.Triple.Table.{entered, cited}

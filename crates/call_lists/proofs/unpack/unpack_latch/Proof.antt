@@ -1,4 +1,4 @@
--- `call_lists::unpack::unpack_latch` meets its contract: it is `OneRecord`'s function at `Latch`. Assumes nothing.
+-- `call_lists::unpack::unpack_latch` meets its contract: it is `OneRecord`'s function at `Latch`.
 use contract.Running.{givenOf, tables, tablesOf}
 use denote.Triple.Spec.{tripleOf}
 use denote.Triple.Table.{entered, cited}

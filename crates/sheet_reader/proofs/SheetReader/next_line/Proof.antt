@@ -1,6 +1,6 @@
 -- `SheetReader::next_line` meets its contract: the reader is taken apart, `sheet_parse::line_after` is called on its slice and its number
 -- and `next_number` on its number, and the line and a reader with the next number are put together. The reader is Copy: what it
--- owns is had once for the call, once for the result and once for the exit. Assumes nothing.
+-- owns is had once for the call, once for the result and once for the exit.
 use Prim.Native.Nat.{ℕ, _+_, _<_, _^_}
 use mathlib.Core.Path.{_≡_, refl, sym, ap, subst}
 use mathlib.Core.Bool.{Bool, true, false, _&&_}

@@ -1,6 +1,5 @@
 -- `SheetReader::read_codes` meets its contract: the reader is taken apart, and `sheet_tests::read_codes` is called on its slice, its
 -- number and all else that was passed. The lists go to the callee for good; what it leaves in them is what is left at exit.
--- Assumes nothing.
 use Prim.Native.Nat.{ℕ, _≤_, _<_, _^_}
 use mathlib.Core.Path.{_≡_, refl}
 use mathlib.Core.List.{List, [], _∷_}
