@@ -1,16 +1,58 @@
 -- Laws of specs/Search.antt. No contract cites this file.
 use Prim.Native.Nat.{ℕ, zero, suc, _+_, _≤_, _<_, min}
 use mathlib.Core.Path.{_≡_, refl, sym, _∙_}
-use mathlib.Core.Bool.{Bool, true, false, cond, _||_, true≢false, false≢true}
+use mathlib.Core.Bool.{Bool, true, false, cond, _||_, true≢false, false≢true, or-false, or-assoc}
 use mathlib.Core.Logic.{_⊎_, inl, inr, _↔_, by-cases}
 use native.Mathlib.Nat.{not-suc-le-zero, lt-suc-self, le-step, min-eq-left, min-eq-right}
 use native.Mathlib.Decide.{decLt, decLe}
+use native.Mathlib.Numerals.{add-one}
 use native.Mathlib.Omega.{arith}
 use lib.Dec.{eqb}
 use borrow.Author.Tests.{eq-eqb, eqb-true}
-use Rattle.model.specs.Search.{firstFrom, firstWhere, IsFirst, seen}
+use Rattle.model.specs.Search.{anyBelow, firstFrom, firstWhere, IsFirst, seen}
 use Rattle.model.proofs.Below.{below-suc, all-below-suc}
 use Rattle.model.proofs.Booleans.{or-true, neither-true, not-true-false}
+
+-- a loop over the numbers finds b, where that was found before, or that any has a property: at its start, and one number on
+module _ (b : Bool) (has : ℕ → Bool) where
+  pub any-none : b ≡ (b || anyBelow 0 has)
+  unfolding anyBelow
+  any-none = sym (or-false b)
+
+  pub any-next : (n : ℕ) → (b || anyBelow n has || has n) ≡ (b || anyBelow (n + 1) has)
+  unfolding anyBelow
+  any-next n = rw add-one (or-assoc b (anyBelow n has) (has n))
+
+-- any below n has a property where one has it
+pub any-below : (has : ℕ → Bool) (n : ℕ) → (anyBelow n has ≡ true) ↔ ((k : ℕ) × (k < n) × (has k ≡ true))
+unfolding anyBelow
+any-below has zero = (λ h. absurd (false≢true h), λ h. absurd (not-suc-le-zero (h .1)))
+any-below has (suc n) = (
+  λ h. last (or-true (anyBelow n has) (has n) .0 h) (any-below has n .0),
+  λ h. or-true (anyBelow n has) (has n) .1 (earlier (h .0) (h .2) (below-suc (h .0) n (h .1)) (any-below has n .1)),
+)
+  where
+    last : (anyBelow n has ≡ true) ⊎ (has n ≡ true) → (anyBelow n has ≡ true → (k : ℕ) × (k < n) × (has k ≡ true))
+        → (k : ℕ) × (k < suc n) × (has k ≡ true)
+    last (inl h) before = let p = before h in (p .0, le-step (p .1), p .2)
+    last (inr h) before = (n, lt-suc-self n, h)
+
+    earlier : (k : ℕ) → has k ≡ true → (k < n) ⊎ (k ≡ n) → ((k : ℕ) × (k < n) × (has k ≡ true) → anyBelow n has ≡ true)
+        → (anyBelow n has ≡ true) ⊎ (has n ≡ true)
+    earlier k e (inl l) before = inl (before (k, l, e))
+    earlier k e (inr q) before = inr (rw q at e)
+
+-- none has it where each has it not
+pub none-below : (has : ℕ → Bool) (n : ℕ) → (anyBelow n has ≡ false) ↔ ((k : ℕ) → k < n → has k ≡ false)
+none-below has n = (
+  λ h k l. not-true-false (has k) (λ e. true≢false (sym (any-below has n .1 (k, l, e)) ∙ h)),
+  λ h. not-true-false (anyBelow n has)
+      (λ e. let found = any-below has n .0 e in true≢false (sym (found .2) ∙ h (found .0) (found .1))),
+)
+
+-- as where nothing has it
+pub any-never : (n : ℕ) → anyBelow n (λ k. false) ≡ false
+any-never n = none-below (λ k. false) n .1 (λ k h. refl)
 
 -- the search finds the first place
 firstFrom-is : (f : ℕ → Bool) (n d i : ℕ) → d + i ≡ n → ((q : ℕ) → q < i → f q ≡ false) → IsFirst f n (firstFrom f d i)
@@ -67,24 +109,13 @@ module _ {f g : ℕ → Bool} {n p q : ℕ} (a : IsFirst f n p) (b : IsFirst g n
 -- a number that was seen stands at an earlier place
 pub seen-at : (f : ℕ → ℕ) (i v : ℕ) → (seen f i v ≡ true) ↔ ((j : ℕ) × (j < i) × (f j ≡ v))
 unfolding seen
-seen-at f zero v = (λ h. absurd (false≢true h), λ h. absurd (not-suc-le-zero (h .1)))
-seen-at f (suc i) v = (
-  λ h. last (or-true (seen f i v) (eqb (f i) v) .0 h) (seen-at f i v .0),
-  λ h. earlier (h .0) (h .2) (below-suc (h .0) i (h .1)) (seen-at f i v .1),
+seen-at f i v = (
+  λ h. let found = any-below (λ x. eqb (f x) v) i .0 h in (found .0, found .1, eqb-true (f (found .0)) v (found .2)),
+  λ h. any-below (λ x. eqb (f x) v) i .1 (h .0, h .1, eq-eqb (f (h .0)) v (h .2)),
 )
-  where
-    last : (seen f i v ≡ true) ⊎ (eqb (f i) v ≡ true) → (seen f i v ≡ true → (j : ℕ) × (j < i) × (f j ≡ v))
-        → (j : ℕ) × (j < suc i) × (f j ≡ v)
-    last (inl h) before = let p = before h in (p .0, le-step (p .1), p .2)
-    last (inr h) before = (i, lt-suc-self i, eqb-true (f i) v h)
-
-    earlier : (j : ℕ) → f j ≡ v → (j < i) ⊎ (j ≡ i) → ((j : ℕ) × (j < i) × (f j ≡ v) → seen f i v ≡ true)
-        → (seen f i v || eqb (f i) v) ≡ true
-    earlier j e (inl l) before = or-true (seen f i v) (eqb (f i) v) .1 (inl (before (j, l, e)))
-    earlier j e (inr q) before = or-true (seen f i v) (eqb (f i) v) .1 (inr (eq-eqb (f i) v (rw q at e)))
 
 -- Of the places below n where v stands, the first: before i where v was seen before i
-pub seen-first : (f : ℕ → ℕ) (v : ℕ) → {n p : ℕ} → IsFirst (λ x. eqb (f x) v) n p → (i : ℕ) → i ≤ n → seen f i v ≡ true → (p < i) × (f p ≡ v)
+pub seen-first : (f : ℕ → ℕ) (v : ℕ) {n p : ℕ} → IsFirst (λ x. eqb (f x) v) n p → (i : ℕ) → i ≤ n → seen f i v ≡ true → (p < i) × (f p ≡ v)
 seen-first f v {n} {p} a i b h =
     let found = seen-at f i v .0 h in
     let least = first-least a (eq-eqb (f (found .0)) v (found .2)) in
@@ -92,9 +123,6 @@ seen-first f v {n} {p} a i b h =
 
 -- and the place itself where it was not seen before
 pub unseen-first : (f : ℕ → ℕ) (n v i : ℕ) → i < n → f i ≡ v → seen f i v ≡ false → IsFirst (λ x. eqb (f x) v) n i
+unfolding seen
 unseen-first f n v i b e h =
-    record {
-      within = omega arith;
-      none-before = λ q l. not-true-false (eqb (f q) v) (λ s. true≢false (sym (seen-at f i v .1 (q, l, eqb-true (f q) v s)) ∙ h));
-      holds-there = λ l. eq-eqb (f i) v e;
-    }
+    record { within = omega arith; none-before = none-below (λ x. eqb (f x) v) i .0 h; holds-there = λ l. eq-eqb (f i) v e }

@@ -1,9 +1,14 @@
--- The first place where something holds, and whether a number stands at an earlier place. Cited by what is said of lines place by
--- place.
+-- Whether a property holds at any place, the first place where it does, and whether a number stands at an earlier place. Cited by
+-- passes over lists (netlist_scan/specs/AnyLine) and by what is said of lines place by place.
 use Prim.Native.Nat.{ℕ, zero, suc, _≤_, _<_}
 use mathlib.Core.Path.{_≡_}
 use mathlib.Core.Bool.{Bool, true, false, cond, _||_}
 use lib.Dec.{eqb}
+
+-- whether any number below n has a property
+unfoldable pub anyBelow : ℕ → (ℕ → Bool) → Bool
+anyBelow zero has = false
+anyBelow (suc n) has = anyBelow n has || has n
 
 -- the first of the d places from i on where f holds; the place behind them if there is none
 unfoldable pub firstFrom : (ℕ → Bool) → ℕ → ℕ → ℕ
@@ -22,5 +27,4 @@ pub record IsFirst (f : ℕ → Bool) (n p : ℕ) : Type 0 where
 
 -- whether the number v stands at a place below i, where f x is the number at place x
 unfoldable pub seen : (ℕ → ℕ) → ℕ → ℕ → Bool
-seen f zero v = false
-seen f (suc i) v = seen f i v || eqb (f i) v
+seen f i v = anyBelow i (λ x. eqb (f x) v)

@@ -6,8 +6,9 @@ use mathlib.Core.Bool.{false, _||_}
 use native.Mathlib.Omega.{arith}
 use Rattle.netlist.specs.NetOf.{codeOf, netOf}
 use Rattle.netlist.specs.Faults.{codeOutside}
-use Rattle.netlist_scan.specs.AnyLine.{anyBelow, anyInRecord}
-use Rattle.netlist_scan.proofs.AnyLine.{any-none, any-next}
+use Rattle.netlist_scan.specs.AnyLine.{anyInRecord}
+use Rattle.model.specs.Search.{anyBelow}
+use Rattle.model.proofs.Search.{any-none, any-next}
 use Rattle.netlist_scan.proofs.any_in_record.Statement.{statement}
 use Rattle.netlist_scan.proofs.any_in_record.Tie as tie
 

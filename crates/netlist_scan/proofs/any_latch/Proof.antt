@@ -4,7 +4,7 @@ use mathlib.Core.Path.{_≡_}
 use mathlib.Core.Bool.{false}
 use native.Mathlib.Omega.{arith}
 use Rattle.netlist_scan.specs.AnyLine.{anyLatch}
-use Rattle.netlist_scan.proofs.AnyLine.{any-none, any-next}
+use Rattle.model.proofs.Search.{any-none, any-next}
 use Rattle.netlist_scan.proofs.any_latch.Statement.{statement}
 use Rattle.netlist_scan.proofs.any_latch.Tie as tie
 
