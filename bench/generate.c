@@ -50,7 +50,7 @@ static void read_input(void) {
   wires = inputs + latches + n + gates;
 }
 
-// B(i) and Q(j, i) of document 01
+// B(i) and Q(j, i) (RULES V2 and V4)
 static int frame_base(int i) { return 1 + i * wires + (m + 4) * (i * (i - 1) / 2); }
 static int pair_base(int base, int j) { return base + wires + j * (m + 4); }
 

@@ -3,7 +3,7 @@
 
 #include <unistd.h>
 
-// Numbers of up to six digits: document 01's largest variable is 675,841. The longest clause has 258 numbers.
+// Numbers of up to six digits: the largest variable is 675,841 (RULES V6). The longest clause has 258 numbers.
 enum { BUFFER = 65536, MOST_CLAUSE = 260 * 8 };
 
 typedef char *Out;

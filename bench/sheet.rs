@@ -32,7 +32,7 @@ fn main() {
     let netlist = random::fill(&mut random::Random::new(1), sizes);
     netlist
         .check()
-        .expect("a netlist within document 01's limits");
+        .expect("a netlist within the limits");
     let sheet = sheet::write_sheet(&netlist);
     std::io::stdout()
         .write_all(&sheet)

@@ -21,13 +21,13 @@ rt prove || stop "something is not proved"
 echo "$((SECONDS - begin)) seconds"
 cat docs/PROVED.txt
 
-step "3 of 4: document 01's example"
+step "3 of 4: the chip of the full run in docs/RULES.md"
 echo "Every frame writes the input to address 0 and reads address 0 (one bit, start word 0). Property: a 0 is read."
-cat examples/document-01/chip.sheet
+cat examples/echo/chip.sheet
 echo "The formula of depth 1 (frames 0 and 1) as 'frames' prints it:"
-{ printf '%10d\n' 1; cat examples/document-01/chip.sheet; } | target/bin/frames
-find_run document-01/chip 0
-find_run document-01/chip 1
+{ printf '%10d\n' 1; cat examples/echo/chip.sheet; } | target/bin/frames
+find_run echo/chip 0
+find_run echo/chip 1
 
 step "4 of 4: the fifth revision of the carton counter"
 echo "One scan writes the carton's size and reads the same address in one frame. The memory gives the old word there: a carton"

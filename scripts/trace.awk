@@ -3,7 +3,7 @@
 #   awk -f trace.awk depth=K file=names NAMES file=sheet SHEET file=answer ANSWER
 # A line of NAMES is a name and its codes, the lowest bit first; ANSWER is in the SAT Competition's form.
 
-function base(frame) { return 1 + frame * V + (m + 4) * frame * (frame - 1) / 2 } # document 01's B(i)
+function base(frame) { return 1 + frame * V + (m + 4) * frame * (frame - 1) / 2 } # B(i), RULES V2
 
 function value(code, frame,   wire, bit) { # of a code in a frame; code 0 is false
   wire = int(code / 2)

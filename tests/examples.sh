@@ -30,8 +30,8 @@ verdict() { # sheet, depth, words that the first line must end in
 }
 found() { check "$1 at depth $2" verdict "$1" "$2" "the property is broken in one of the frames 0 to $2:"; }
 nothing() { check "$1 at depth $2" verdict "$1" "$2" "no run breaks the property in frames 0 to $2"; }
-nothing document-01/chip 0
-found document-01/chip 1
+nothing echo/chip 0
+found echo/chip 1
 nothing fourth-revision/faulty 2
 found fourth-revision/faulty 3
 nothing fourth-revision/repaired 16
@@ -39,14 +39,14 @@ nothing fifth-revision/faulty 0
 found fifth-revision/faulty 1
 nothing fifth-revision/repaired 16
 
-# Document 01's chip at depth 1, input true in frame 0 only: by hand, from the numbers of its variables.
+# The chip of the full run (RULES P8) at depth 1, input true in frame 0 only: by hand, from the numbers of its variables.
 printf 's SATISFIABLE\nv 1 2 -3 -4 5\nv 6 7 8 -9 10 0\n' > "$work/answer"
 cat > "$work/expected" <<'END'
 frame  input  read  memory
     0      1     0  reads 0 at 0 (start word), writes 1 at 0
     1      0     1  reads 1 at 0 (written in frame 0), writes 0 at 0  <- property broken
 END
-chip=examples/document-01/chip
+chip=examples/echo/chip
 awk -f scripts/trace.awk depth=1 file=names $chip.names file=sheet $chip.sheet file=answer "$work/answer" > "$work/shown"
 check "an answer shown frame by frame" diff "$work/expected" "$work/shown"
 

@@ -92,6 +92,7 @@ fi
 run "the examples' sheets, and runs shown frame by frame" examples bash tests/examples.sh target/bin/frames
 compile solvers tests/solvers/main.rs &&
   run "the formula of frames, with public solvers" solvers "$logs/solvers" target/bin/frames "$logs/scratch" examples
+compile rules tests/rules/main.rs && run "citations and quotes stand in docs/RULES.md" rules "$logs/rules" .
 compile promises tests/promises/main.rs && run "docs/TRUST.md says what the repository has" promises "$logs/promises" check .
 
 finish

@@ -5,7 +5,7 @@ use std::ops::Not;
 use super::netlist::{Gate, Latch, Netlist};
 use super::sheet::write_sheet;
 
-/// One wire or its inverse, or a constant: a code of document 01.
+/// One wire or its inverse, or a constant: a code (RULES W3).
 #[derive(Clone, Copy, PartialEq, Eq)]
 pub struct Bit(u32);
 
@@ -213,7 +213,7 @@ impl Chip {
     pub fn sheet(&self) -> Vec<u8> {
         self.netlist
             .check()
-            .expect("a netlist within document 01's limits");
+            .expect("a netlist within the limits");
         write_sheet(&self.netlist)
     }
 

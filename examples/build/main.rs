@@ -2,7 +2,7 @@
 //! Build: rustc -O --edition 2021 main.rs
 
 mod chip;
-mod document_01;
+mod echo;
 mod fifth_revision;
 mod fourth_revision;
 mod last_scan;
@@ -29,7 +29,7 @@ fn main() {
         }
     };
     let chips = [
-        ("document-01/chip", document_01::chip()),
+        ("echo/chip", echo::chip()),
         ("fourth-revision/faulty", fourth_revision::chip(false)),
         ("fourth-revision/repaired", fourth_revision::chip(true)),
         ("fifth-revision/faulty", fifth_revision::chip(false)),

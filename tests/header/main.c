@@ -1,5 +1,5 @@
 // include/marrubigai.h against the static library: the layout of every struct, and each exported function on two sheets and at
-// refusals. What is expected was worked out by hand from document 01. The last line is 'N passed, M failed'.
+// refusals. What is expected was worked out by hand from docs/RULES.md. The last line is 'N passed, M failed'.
 // Build: cc -std=c11 main.c -L FOLDER -lmarrubigai
 
 #include <stdio.h>
@@ -65,8 +65,8 @@ static void check(const char *what, int holds) {
 #define LINE(letter, x, y, z) letter x y z "\n"
 #define EMPTY "          "
 
-// document 01's sheet, "N 1 0 0", "M 1 1 0", "A 0", "D 2", "C 1 1 5"
-static const char DOCUMENT_01[] =
+// the sheet of RULES P8: "N 1 0 0", "M 1 1 0", "A 0", "D 2", "C 1 1 5"
+static const char FULL_RUN[] =
     LINE("N", "         1", "         0", "         0")
     LINE("M", "         1", "         1", "         0")
     LINE("A", "         0", EMPTY, EMPTY)
@@ -134,8 +134,8 @@ static int answers_sheet(marrubigai_sheet_reply reply, uint32_t number, uint32_t
 static void reading(void) {
   static const marrubigai_netlist nothing = {0};
   const size_t bytes = sizeof DISTINCT - 1;
-  check("document 01's sheet is read, into lists of length 0",
-        answers_sheet(read_text(DOCUMENT_01, sizeof DOCUMENT_01 - 1, 0, 0), 0, 0, &CHIP) && lists_hold(0, 0, 0, 0));
+  check("the sheet of the full run is read, into lists of length 0",
+        answers_sheet(read_text(FULL_RUN, sizeof FULL_RUN - 1, 0, 0), 0, 0, &CHIP) && lists_hold(0, 0, 0, 0));
   check("every field of the record is in its place, and the records are in the lists",
         answers_sheet(read_text(DISTINCT, bytes, ROOM, ROOM), 0, 0, &DISTINCT_NET) &&
             lists_hold(DISTINCT_LATCHES, 2, DISTINCT_GATES, 1));
@@ -168,7 +168,7 @@ static int answers_heading(marrubigai_heading_reply reply, uint32_t number, uint
 }
 
 static void headings(void) {
-  check("depth 1 of document 01's chip: 10 variables, 24 clauses",
+  check("depth 1 of the full run: 10 variables, 24 clauses",
         answers_heading(marrubigai_heading(CHIP, latches, 0, gates, 0, 1), 0, 0, 10, 24));
   // B(3) = 1 + 3 x 11 + 8 x 3; wires 6 and 2 x 7, pairs 3 x 36, closings 3 x 11, property 1
   check("depth 2 of the other: 58 variables, 162 clauses",
@@ -212,7 +212,7 @@ static void refuses(const char *what, lent of, uint32_t kind, uint32_t j, uint32
 }
 
 static void groups(void) {
-  // the full run of document 01, group by group
+  // the full run (RULES P9), group by group
   const lent chip = {&CHIP, latches, gates, 1};
   static const int32_t wires_0[] = {1, 0};
   static const int32_t closing_0[] = {-1, -3, -1, 0, -1, 3, 1, 0, -1, 1, 0};

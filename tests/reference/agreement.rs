@@ -1,5 +1,5 @@
 //! Demand 3: satisfying assignments and runs that break the property match one another
-//! (document 01, "Assignments and runs").
+//! (RULES A2 to A9).
 
 use std::collections::HashSet;
 

@@ -1,4 +1,4 @@
-//! Document 01's own examples and figures.
+//! The rules' own examples and figures (RULES P8 to P10, F1 to F11).
 
 use super::agreement::compare;
 use super::circuit::{Feed, Run};
@@ -11,7 +11,7 @@ use super::refusal::{Refusal, DEPTH, MEMORY_LOOP, NO_ROOM, NO_SUCH_GROUP};
 use super::sheet::{expand, read_sheet, write_depth};
 use super::Tally;
 
-/// The sheet of document 01's full run.
+/// The sheet of the full run (RULES P8).
 pub const FULL_RUN: &str = "N 1 0 0/M 1 1 0/A 0/D 2/C 1 1 5";
 
 const FULL_RUN_TEXT: &str = "\
@@ -56,7 +56,7 @@ p cnf 3 5
 /// bits 3 and 4, gate 5.
 pub const RICH: &str = "N 1 1 1/M 2 2 2/L 10 1/G 2 7/A 4/A 3/D 10/D 8/C 11 5 9";
 
-/// Its text at depth 2, worked out by hand from document 01. It settles what the full run cannot
+/// Its text at depth 2, worked out by hand from the rules. It settles what the full run cannot
 /// show: clauses bit by bit, S in ascending order, pairs in descending order, N as PS. The wires
 /// of the frames are 2 to 6, 7 to 11 and 18 to 22; the pair (0, 1) is 12 to 17, the pair (0, 2)
 /// is 23 to 28 and the pair (1, 2) is 29 to 34.
@@ -133,7 +133,7 @@ pub fn of_sizes(counts: [u32; 3], widths: [u32; 2]) -> Netlist {
     }
 }
 
-/// Depth, sheet and text of the runs that were worked out by hand or stand in document 01.
+/// Depth, sheet and text of the runs that were worked out by hand or stand in the rules (RULES P9).
 pub fn full_run_rows() -> [(u32, &'static str, String); 4] {
     [
         (1, FULL_RUN, FULL_RUN_TEXT.to_string()),
@@ -168,7 +168,7 @@ pub fn full_runs(tally: &mut Tally) {
 /// values; wire 8 is the read bit, and the property.
 const MEMORY: &str = "N 5 2 0/M 2 1 1/L 14 1/L 12 0/A 2/A 4/D 6/C 8 10 16";
 
-/// Inputs from 1 to 5, idle word, and the read bit that document 01's rule for the chip gives.
+/// Inputs from 1 to 5, idle word, and the read bit that RULES C4 and C5 give.
 const MEMORY_FRAMES: [([u8; 5], u32, bool); 8] = [
     ([1, 0, 0, 1, 1], 0, true), // The start word: the read comes before this frame's write.
     ([1, 0, 1, 0, 1], 1, false), // The word written in frame 0; WE is false.
@@ -238,7 +238,7 @@ pub fn starred_facts(tally: &mut Tally) {
     }
 }
 
-/// Document 01's largest number of variables, and the largest counts that follow from its limits.
+/// The largest number of variables (RULES V6), and the largest counts that follow from its limits.
 pub fn largest_sizes(tally: &mut Tally) {
     let mut most = 0;
     for (wires, address_width) in (1..=600).flat_map(|v| (1..=12).map(move |m| (v, m))) {

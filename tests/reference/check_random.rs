@@ -162,7 +162,7 @@ pub fn numbering(tally: &mut Tally) {
     }
 }
 
-/// Whether every group of a formula has document 01's numbers of clauses and of numbers.
+/// Whether every group of a formula has the numbers of clauses and of numbers of RULES G18 and G19.
 fn lengths_hold(netlist: &Netlist, depth: u32, fault: Fault) -> bool {
     let formula = Formula::new(netlist, depth, fault);
     formula.groups().into_iter().all(|group| {

@@ -1,5 +1,5 @@
-//! Every refusal with its place at its boundaries, as tables (document 01, "The sheet", "What is
-//! sent back" and "The program and one full run").
+//! Every refusal with its place at its boundaries, as tables (RULES T1 to T10, T33 to T41,
+//! P4).
 
 use super::check_examples::{accepted, input, of_sizes, FULL_RUN, RICH};
 use super::formula::{frames, group_call, heading, refusal_text, Group};
@@ -28,7 +28,7 @@ fn judge(sheet: &[u8]) -> Verdict {
     verdict(read_sheet(sheet, 600, 600))
 }
 
-/// What a field holds, by document 01's rule for numbers.
+/// What a field holds, by RULES S2 and S3.
 const FIELD_FORMS: [(&[u8; FIELD_BYTES], Option<u32>); 22] = [
     (b"         0", Some(0)),
     (b"         1", Some(1)),

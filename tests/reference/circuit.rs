@@ -1,4 +1,4 @@
-//! The chip with its whole memory, stepped frame by frame (document 01, "The chip").
+//! The chip with its whole memory, stepped frame by frame (RULES C1 to C16).
 
 use super::netlist::Netlist;
 

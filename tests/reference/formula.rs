@@ -1,6 +1,6 @@
 //! The formula of the unrolling to depth k: numbers of variables, groups of clauses, group calls,
-//! heading, and the text of `frames`. Document 01, "Numbers of variables", "Groups of clauses",
-//! "What is sent back" and "The program and one full run".
+//! heading, and the text of `frames`. RULES V1 to V6, G1 to G23, T40 to T43,
+//! P2 and P3.
 
 use std::io::Write;
 
@@ -8,8 +8,8 @@ use super::netlist::{Netlist, MAX_DEPTH};
 use super::refusal::{require, Refusal, DEPTH, NO_ROOM, NO_SUCH_GROUP, OUT_OF_NUMBERS};
 use super::sheet::{read_depth, read_sheet, write_field};
 
-/// Deliberate mistakes of a generator (document 01, "Where generators have gone astray"). They
-/// show that the checks notice them; `None` is the formula of document 01.
+/// Deliberate mistakes of a generator (RULES M1 to M5). They
+/// show that the checks notice them; `None` is the formula of the rules.
 #[derive(Clone, Copy, Debug, PartialEq, Eq)]
 pub enum Fault {
     None,
@@ -58,7 +58,7 @@ pub fn pair_size(netlist: &Netlist) -> i64 {
     i64::from(netlist.address_width) + 4
 }
 
-/// Document 01's closed form: clauses of a group.
+/// The closed form of RULES G18: clauses of a group.
 pub fn clause_count(netlist: &Netlist, group: Group) -> i64 {
     let [latches, gates, m, n] = sizes(netlist);
     match group {
@@ -70,7 +70,7 @@ pub fn clause_count(netlist: &Netlist, group: Group) -> i64 {
     }
 }
 
-/// Document 01's closed form: numbers of a group with end marks.
+/// The closed form of RULES G19: numbers of a group with end marks.
 pub fn number_count(netlist: &Netlist, depth: u32, group: Group) -> i64 {
     let [latches, gates, m, n] = sizes(netlist);
     match group {
@@ -116,7 +116,7 @@ impl Clauses {
     }
 }
 
-/// The variables of one pair under document 01's names.
+/// The variables of one pair under the names of RULES V5.
 struct PairVariables {
     /// E: all address bits are equal.
     all_equal: i32,
@@ -352,9 +352,9 @@ impl<'a> Formula<'a> {
     }
 }
 
-/// A clause number. Document 01's largest variable is 675,841.
+/// A clause number. The largest variable is 675,841 (RULES V6).
 fn number(variable: i64) -> i32 {
-    i32::try_from(variable).expect("a variable number within document 01's bound")
+    i32::try_from(variable).expect("a variable number within the bound")
 }
 
 /// Whether all variables can be written as clause numbers (refusal 10). No accepted record at a

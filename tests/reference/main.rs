@@ -1,4 +1,4 @@
-//! Self-test of a second implementation of document 01: each family of checks prints one line,
+//! Self-test of a second implementation of docs/RULES.md: each family of checks prints one line,
 //! the last line is the total. Build: rustc -O --edition 2021 main.rs
 
 mod agreement;

@@ -1,5 +1,5 @@
 //! The netlist with one single-port memory, and the tests of a record.
-//! Document 01, "Wires and codes", "The chip" and "What is sent back".
+//! RULES W1 to W18, C8, C9, T38 and T39.
 
 use super::refusal::{require, Refusal, CODE, MEMORY_LOOP, OUT_OF_ORDER, SIZE};
 
@@ -40,7 +40,7 @@ pub struct Netlist {
     pub gates: Vec<Gate>,
 }
 
-/// The kinds of lines of a sheet, in the order in which they stand (document 01, "The sheet").
+/// The kinds of lines of a sheet, in the order in which they stand (RULES S5 and S6).
 #[derive(Clone, Copy, Debug, PartialEq, Eq)]
 pub enum Kind {
     Sizes,
@@ -120,7 +120,7 @@ impl Netlist {
         1 + index as u32 + earlier.map(|(_, count)| count).sum::<u32>()
     }
 
-    /// The tests of a record in document 01's order: 4, 3, 5, 6.
+    /// The tests of a record in the order of RULES T38: 4, 3, 5, 6.
     pub fn check(&self) -> Result<(), Refusal> {
         self.check_line(1)?;
         self.check_line(2)?;
@@ -165,7 +165,7 @@ impl Netlist {
             .all(|count| *count <= MAX_WIRES)
     }
 
-    /// The M line's numbers, and V, which document 01 tests at this line.
+    /// The M line's numbers, and V, which is tested at this line (RULES T36).
     fn memory_in_limits(&self) -> bool {
         (1..=MAX_ADDRESS_WIDTH).contains(&self.address_width)
             && (1..=MAX_DATA_WIDTH).contains(&self.data_width)

@@ -1,4 +1,4 @@
-//! Refusals: a number of document 01's table "What is sent back", and a place.
+//! Refusals: a number (RULES T1 to T10) and a place.
 
 pub const RAGGED: u32 = 1;
 pub const MISPRINT: u32 = 2;

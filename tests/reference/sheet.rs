@@ -1,5 +1,5 @@
 //! Sheets: reading, the depth line before a sheet, and writing for tests.
-//! Document 01, "The sheet", "What is sent back" and "The program and one full run".
+//! RULES S1 to S10, T33 to T37, P1 and P4.
 
 use super::netlist::{Gate, Kind, Latch, Netlist, MAX_DEPTH};
 use super::refusal::{require, Refusal, DEPTH, MISPRINT, NO_ROOM, OUT_OF_ORDER, RAGGED};

@@ -86,7 +86,7 @@ pub fn differ<T: std::fmt::Debug>(about: impl std::fmt::Debug, found: T, expecte
     )
 }
 
-/// Document 01's facts on its own sheet: the pair takes 57 numbers and not 56, and the starred refusals.
+/// The facts about the sheet of the full run (RULES F4 to F11): the pair takes 57 numbers and not 56, and the starred refusals.
 pub fn stated(library: &Library, tally: &mut Tally) {
     let lists = Lists::new(&accepted(FULL_RUN));
     let pair = parameters(Group::Pair(0, 1));
@@ -250,7 +250,7 @@ pub fn formulas(library: &Library, tally: &mut Tally) {
         library.joined_agrees(tally, &format!("random record {round}"), &netlist, depth);
     }
     for depth in [100, 254, 255] {
-        library.joined_agrees(tally, "document 01's record", &accepted(FULL_RUN), depth);
+        library.joined_agrees(tally, "the record of the full run", &accepted(FULL_RUN), depth);
     }
     let sizes = of_sizes([60, 100, 408], [12, 32]);
     let empty = Netlist {

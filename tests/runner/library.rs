@@ -46,7 +46,7 @@ pub struct Library {
 type Family = (&'static str, fn(&Library, &mut Tally));
 
 const FAMILIES: [Family; 14] = [
-    ("document 01's facts", calls::stated),
+    ("facts of the full run", calls::stated),
     ("table of group calls", calls::table_of_calls),
     ("table of records", calls::table_of_records),
     ("rooms of groups", calls::rooms),
@@ -117,7 +117,7 @@ fn main() {
             });
         }
         ["sample"] => {
-            report.family("document 01's facts", |tally| {
+            report.family("facts of the full run", |tally| {
                 calls::stated(&library, tally)
             });
             report.family("table of group calls", |tally| {

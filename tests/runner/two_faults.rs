@@ -24,7 +24,7 @@ struct Fault {
     expected: Verdict,
 }
 
-/// When document 01's tests come to a refusal: the depth's form, its value, the file's length, then line
+/// When the tests come to a refusal (RULES P4 and T33): the depth's form, its value, the file's length, then line
 /// by line 2, 3, and 4 or 5, where a missing line counts as the line behind the last; then 6.
 fn order((number, place): Verdict) -> (u32, u32, u32) {
     let stage = match (number, place) {

@@ -25,7 +25,7 @@ pub struct Faults {
     pub assignment_to_run: bool,
     /// Its second half: a run that breaks the property, without an assignment.
     pub run_to_assignment: bool,
-    /// An e that is not as free, or not as bound, as document 01 says.
+    /// An e that is not as free, or not as bound, as RULES M5 says.
     pub bit_equality: bool,
 }
 
@@ -147,7 +147,7 @@ fn projection(netlist: &Netlist, run: &Run) -> Vec<i32> {
     literals
 }
 
-/// Document 01: where the bits are equal e holds; where they differ it may be either, unless all others
+/// RULES M5: where the bits are equal e holds; where they differ it may be either, unless all others
 /// hold (E is false then, and not all e may hold).
 fn bits_as_stated(solver: &mut Cadical, netlist: &Netlist, run: &Run, feed: &[i32]) -> bool {
     let m = netlist.address_width;

@@ -36,7 +36,7 @@ fn main() {
     let programs = Programs::new(frames.clone(), scratch.clone());
     let mut report = Report::default();
     report.family("strict reading", |tally| strict_reading(tally, &programs));
-    report.family("document 01's sheet", |tally| document_01(tally, &programs));
+    report.family("the full run's sheet", |tally| full_run(tally, &programs));
     report.family("random sheets", |tally| random_sheets(tally, &programs));
     report.family("stories", |tally| {
         stories::stories(tally, &programs, examples)
@@ -67,10 +67,10 @@ fn strict_reading(tally: &mut Tally, programs: &Programs) {
     );
 }
 
-/// Depth 0: nothing breaks the property. Depth 1: every assignment has the input true in frame 0.
-fn document_01(tally: &mut Tally, programs: &Programs) {
+/// RULES P8 and P10. Depth 0: nothing breaks the property. Depth 1: every assignment has the input true in frame 0.
+fn full_run(tally: &mut Tally, programs: &Programs) {
     let sheet = expand("N 1 0 0/M 1 1 0/A 0/D 2/C 1 1 5");
-    let netlist = read_sheet(&sheet, 0, 0).expect("document 01's sheet");
+    let netlist = read_sheet(&sheet, 0, 0).expect("the sheet of the full run");
     let input = variable(&netlist, 0, 1);
     for (depth, satisfiable) in [(0, false), (1, true)] {
         let text = programs.frames(&netlist, depth);

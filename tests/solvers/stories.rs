@@ -27,8 +27,8 @@ type Story = (&'static str, u32, &'static [Fact]);
 
 #[rustfmt::skip]
 const STORIES: [Story; 8] = [
-    ("document-01/chip", 0, &[]),
-    ("document-01/chip", 1, &[Is(0, "input", 1), Is(1, "read", 1)]),
+    ("echo/chip", 0, &[]),
+    ("echo/chip", 1, &[Is(0, "input", 1), Is(1, "read", 1)]),
     // Fifty is written, a hundred is written over it; two frames later the carton is counted with the fifty.
     ("fourth-revision/faulty", 2, &[]),
     ("fourth-revision/faulty", 3, &[

@@ -1,4 +1,4 @@
-//! The five wrong generators of document 01's list: the test that the program passes must catch each of them.
+//! The five wrong generators of RULES M1 to M5: the test that the program passes must catch each of them.
 
 use super::cases::{small_cases, Case};
 use super::judge::{judge, Faults};

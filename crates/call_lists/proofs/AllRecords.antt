@@ -3,7 +3,6 @@
 -- `Gate` and at `Latch`. Between two turns it owns its `&mut` whole; for a turn it lends it on, and has it back with one record more.
 --     Turn             where a turn of the loop begins.        I         what it has then
 --     turns-by         a turn from there: the next one begins, or the loop is left
--- Assumes nothing.
 use mathlib.Core.Path.{_≡_, refl, sym, _∙_, ap, subst}
 use mathlib.Core.Bool.{Bool, true, false}
 use mathlib.Core.WellFounded.{WellFounded, InvImage·wf}

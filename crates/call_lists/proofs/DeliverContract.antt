@@ -1,6 +1,6 @@
 -- The contracts of the functions that deliver records into a lent list, for any record type: the one that makes a record of
 -- unpacked codes, and the one that delivers. Each function's own contract is one of these at its record type. No contract cites
--- this file. Assumes nothing.
+-- this file.
 use Prim.Native.Nat.{ℕ, _≤_, _<_}
 use mathlib.Core.Path.{_≡_}
 use mathlib.Core.List.{List, [], _∷_}

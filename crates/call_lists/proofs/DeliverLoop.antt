@@ -1,7 +1,7 @@
 -- The loop that delivers records into a lent list, walked once for every record type R: `deliver_latches` and `deliver_gates` are
 -- this MIR at R and at the function that makes one record of unpacked codes. All that is known of that function is its contract.
 -- The borrow of the list is opened before the loop and closed behind it; between the two the list is the function's own.
--- No contract cites this file. Assumes nothing.
+-- No contract cites this file.
 use Prim.Native.Nat.{ℕ, suc, _+_, _-_, _*_, _≤_, _<_, _^_}
 use mathlib.Core.Path.{_≡_, refl, sym, _∙_, ap, subst}
 use mathlib.Core.Bool.{Bool}

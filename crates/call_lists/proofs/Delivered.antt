@@ -1,5 +1,4 @@
 -- Laws of records delivered into a list (specs/Delivered.antt): none, one more, and the length. No contract cites this file.
--- Assumes nothing.
 use Prim.Native.Nat.{ℕ, suc, _≤_, _<_}
 use mathlib.Core.Path.{_≡_, refl, _∙_, ap}
 use mathlib.Core.List.{List, [], _∷_, _++_}

@@ -2,7 +2,6 @@
 -- MIR, its contract, and the walk between them. `unpack_gate` and `unpack_latch` are this function at `Gate` and at `Latch`.
 --     Reading st f     the place `st` of a local record holds the number f of the record
 --     Pair             what the walk needs of a record of two numbers
--- Assumes nothing.
 use mathlib.Core.Path.{_≡_, refl, sym, _∙_, ap, subst}
 use Prim.Native.Nat.{ℕ, _<_, _^_}
 use native.Mathlib.Omega.{arith}

@@ -1,4 +1,4 @@
--- Gates and latches as records of two numbers (`OneRecord`'s `Pair`). No contract cites this file. Assumes nothing.
+-- Gates and latches as records of two numbers (`OneRecord`'s `Pair`). No contract cites this file.
 use mathlib.Core.Path.{refl}
 use mathlib.Core.List.{[], _∷_}
 use mir.Syntax.{field}

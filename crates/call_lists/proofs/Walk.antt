@@ -7,7 +7,6 @@
 --                      dies
 --     array-length     the length of the array that a `&mut` refers to
 --     meets-of         from a walk at each choice of lifetimes and arguments to the contract
--- Assumes nothing.
 use Prim.Native.Nat.{ℕ, zero, suc}
 use mathlib.Core.Path.{_≡_, refl}
 use mathlib.Core.List.{List, [], _∷_}

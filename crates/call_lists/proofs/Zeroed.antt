@@ -3,7 +3,6 @@
 --     unpacks          `let mut codes = [0; 1200]; unpack(&mut codes, list);`
 --     lends            such a local is lent as `&` for a new lifetime
 --     takes-back       the lifetime ends, and the local's cell is there again
--- Assumes nothing.
 use mathlib.Core.Path.{_≡_, refl, sym, ap, subst}
 use Prim.Native.Nat.{ℕ}
 use mathlib.Core.List.{List, [], _∷_}

@@ -1,4 +1,4 @@
--- A record of unpacked codes. Cited by the functions that deliver, and by no public contract. Assumes nothing.
+-- A record of unpacked codes. Cited by the functions that deliver, and by no public contract.
 use Prim.Native.Nat.{ℕ}
 use mathlib.Core.List.{List}
 use Rattle.netlist.specs.NetOf.{firstAt, secondAt}

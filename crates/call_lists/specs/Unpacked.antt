@@ -1,5 +1,5 @@
--- What a lent list of records is, unpacked: two numbers a record. Cited by the functions that unpack and by call_lists/specs/Lent,
--- which names a caller's lists by `latchCodes` and `gateCodes`. Assumes nothing.
+-- What a lent list of records is, unpacked: two numbers a record (RULES W14 and W16). Cited by the functions that unpack and by call_lists/specs/Lent,
+-- which names a caller's lists by `latchCodes` and `gateCodes`.
 use Prim.Native.Nat.{ℕ}
 use mathlib.Core.List.{List, [], _∷_}
 use lib.ListN.{take}

@@ -1,4 +1,4 @@
--- The steps of unpacking a lent list, record by record. Cited by the functions that do so, and by no public contract. Assumes nothing.
+-- The steps of unpacking a lent list, record by record. Cited by the functions that do so, and by no public contract.
 use Prim.Native.Nat.{ℕ, _+_, _*_}
 use mathlib.Core.Bool.{Bool, true, false}
 use mathlib.Core.List.{List}

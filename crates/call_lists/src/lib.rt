@@ -1,5 +1,5 @@
-// The records of the lists that a caller lends (document 01: "the gate list is lent by the caller, one record of two codes per
-// gate (per latch: next code and reset, 0 or 1)").
+// The records of the lists that a caller lends (RULES W14 and W16): of two codes for each gate, of next code and
+// reset for each latch.
 use literals::Code;
 
 pub mod deliver;

@@ -1,4 +1,4 @@
-// From a lent list of records to the codes that everything else works on. Document 01's limits leave no list that counts more than
+// From a lent list of records to the codes that everything else works on. The limits (RULES W7) leave no list that counts more than
 // 600 records, so later ones are not looked at.
 use crate::Gate;
 use crate::Latch;

@@ -1,5 +1,5 @@
--- What the numbers of an exported function stand for: a group for three numbers, and the fields of a reply. Cited by
--- the functions of `call_replies` and by the exported functions. Assumes nothing.
+-- What the numbers of an exported function stand for: a group for three numbers, and the fields of a reply (RULES L4 and L5). Cited by
+-- the functions of `call_replies` and by the exported functions.
 use Prim.Native.Nat.{ℕ}
 use mathlib.Core.Bool.{cond}
 use lib.Dec.{eqb}

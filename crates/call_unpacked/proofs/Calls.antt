@@ -1,4 +1,4 @@
--- Laws of specs/Calls.antt: which tests a call passes, and demand 3 of the calls. No contract cites this file. Assumes nothing.
+-- Laws of specs/Calls.antt: which tests a call passes, and demand 3 of the calls. No contract cites this file.
 use Prim.Native.Nat.{ℕ, _+_, _≤_, _<_}
 use mathlib.Core.Path.{_≡_, ap}
 use mathlib.Core.Bool.{true, false, not}

@@ -1,6 +1,6 @@
--- What the calls over a record answer and leave (document 01, "What is sent back", "Groups of clauses"). The right-hand sides of
+-- What the calls over a record answer and leave (RULES T40, T41, T43 and G21 to G23). The right-hand sides of
 -- the public contracts, and the subject of the claim about them. Cited by the calls in `call_unpacked` and
--- `calls`, by calls/specs, by `call_replies` and by call_replies/specs. Assumes nothing.
+-- `calls`, by calls/specs, by `call_replies` and by call_replies/specs.
 use Prim.Native.Nat.{ℕ, _+_, _≤_}
 use mathlib.Core.Path.{_≡_}
 use mathlib.Core.Bool.{true, not}
@@ -28,26 +28,26 @@ use Rattle.call_unpacked.specs.declared.GroupAnswer.the-variants.{Writte
 use Rattle.call_unpacked.specs.declared.HeadingAnswer.{HeadingAnswer}
 use Rattle.call_unpacked.specs.declared.HeadingAnswer.the-variants.{Heading}
 
--- 7: "k over 255"
+-- RULES T7: "k is over 255"
 unfoldable pub testDepth : ℕ → Verdict
 testDepth k = refuseIf (ltb mostDepth k) Depth 0
 
--- 8: "frame over k, or pair with j not below i"
+-- RULES T8: "the frame is over k, or it is a pair with j not below i"
 unfoldable pub testGroup : ℕ → Group → Verdict
 testGroup k g = refuseIf (not (inDepth k g)) NoSuchGroup 0
 
--- 10: "a variable above 2,147,483,647", of the depth
+-- RULES T10: "a variable above 2,147,483,647", of the depth
 unfoldable pub testNumbers : Netlist → ℕ → Verdict
 testNumbers c k = refuseIf (ltb 2147483647 (base c (k + 1))) OutOfNumbers 0
 
--- "A group call then tests 7, 8, 10, 9, place 0": of a record whose lists have latchCount and gateCount records, with a slice of
+-- RULES T40: "the record with its lists, then 7, 8, 10, 9". It is of a record whose lists have latchCount and gateCount records, with a slice of
 -- `room` numbers; 9 is of this group's exact length
 unfoldable pub groupVerdict : Netlist → ℕ → ℕ → ℕ → Group → ℕ → Verdict
 groupVerdict c latchCount gateCount k g room =
     recordVerdict c latchCount gateCount then testDepth k then testGroup k g then testNumbers c k
     then testRoom (length (numbersOf c k g)) room
 
--- a heading call has no group and writes nothing: no 8, no 9
+-- RULES T41: a heading call has no group and writes nothing, so no 8 and no 9
 unfoldable pub headingVerdict : Netlist → ℕ → ℕ → ℕ → Verdict
 headingVerdict c latchCount gateCount k = recordVerdict c latchCount gateCount then testDepth k then testNumbers c k
 
@@ -58,12 +58,12 @@ pub record HeadingReply : Type 0 where
   pub variables : ℕ
   pub clauses : ℕ
 
--- a verdict, with the heading beside it: "a .. heading .. returned beside them is all zeros"
+-- a verdict, with the heading beside it. RULES T43: "A count, a heading .. is all zeros"
 unfoldable pub withHeading : Verdict → ℕ → ℕ → HeadingReply
 withHeading Passed v n = record { number = 0; place = 0; variables = v; clauses = n }
 withHeading (Refused r p) v n = record { number = refusalNumber r; place = p; variables = 0; clauses = 0 }
 
--- the answers of both calls in document 01's numbers
+-- the answers of both calls in numbers (RULES N9)
 unfoldable pub groupReply : GroupAnswer → CountReply
 groupReply (Written n) = withCount Passed n
 groupReply (GroupAnswer.Refused r p) = withCount (Refused r p) 0
@@ -81,15 +81,14 @@ unfoldable pub groupLeaves : Netlist → ℕ → ℕ → ℕ → Group → List 
 groupLeaves c latchCount gateCount k g old =
     contentsAfter (groupVerdict c latchCount gateCount k g (length old)) (numbersOf c k g) old
 
--- what a heading call answers: "the variables numbered and the clauses really written"
+-- what a heading call answers. RULES G23: "the variables that are numbered .. and the clauses that are really written"
 unfoldable pub headingSent : Netlist → ℕ → ℕ → ℕ → HeadingReply
 headingSent c latchCount gateCount k =
     withHeading (headingVerdict c latchCount gateCount k) (base c (k + 1)) (length (clausesIn (formula c k)))
 
--- Demand 3, of the calls: "The clauses for depth k stand in the numbers that the group calls write, one call with room enough for
--- each group, joined in the order of the whole". Those numbers are the formula, and the formula encodes the runs
--- and is as document 01 says; "Depth k uses B(k + 1) variables, at most 675,841", so that refusal 10 is never met; and the netlist's
--- sheet has "L + A + m + n + 3 lines, 615 at most".
+-- Demand 3, of the calls (RULES A2, A8 and A9): each group is asked for once with room enough, and the numbers are joined in the order
+-- of the whole. Those numbers are the formula, and the formula encodes the runs and is as `Stated` says; the variables are at
+-- most 675,841 (RULES V6), so that refusal 10 is never met; and the netlist's sheet has at most 615 lines (RULES S6).
 abbrev pub RoomEnough : Netlist → ℕ → (Group → List ℤ) → Type 0
 RoomEnough c k slice = (g : Group) → inDepth k g ≡ true → length (numbersOf c k g) ≤ length (slice g)
 

@@ -16,14 +16,14 @@ pub enum GroupAnswer {
     Refused(Refusal, u32),
 }
 
-// What a heading call answers: document 01's heading, the two counts of DIMACS' problem line (the line as text is the header, crate
+// What a heading call answers: the heading (RULES G23), the two counts of DIMACS' problem line (the line as text is the header, crate
 // `dimacs`); or the refusal with its place.
 pub enum HeadingAnswer {
     Heading { variables: u32, clauses: u32 },
     Refused(Refusal, u32),
 }
 
-// The heading of a depth: "the variables numbered and the clauses really written".
+// The heading of a depth, RULES G23: "the variables that are numbered .. and the clauses that are really written".
 pub fn heading(
     net: Netlist,
     latches: &UnpackedList,
@@ -101,7 +101,7 @@ fn test_group(
     Verdict::Passed
 }
 
-// Writes one group's clauses at the start of a slice, in document 01's order, and answers how many numbers that is; or refuses and
+// Writes one group's clauses at the start of a slice, in the order of RULES G3 to G14, and answers how many numbers that is; or refuses and
 // writes nothing.
 pub fn write_group(
     net: Netlist,

@@ -1,5 +1,5 @@
 -- A list unpacked over zeros stands for the same netlist as the list: behind a list every code reads as 0. No contract cites this
--- file. Assumes nothing.
+-- file.
 use Prim.Native.Nat.{ℕ, _+_, _*_}
 use mathlib.Core.Path.{_≡_}
 use mathlib.Core.List.{List}

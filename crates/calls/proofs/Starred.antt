@@ -1,4 +1,4 @@
--- The claim about the table of specs/Starred.antt, proved by computation. No contract cites this file. Assumes nothing.
+-- The claim about the table of specs/Starred.antt, proved by computation. No contract cites this file.
 use mathlib.Core.Path.{refl}
 use Rattle.model.specs.Bits.{odd, bit}
 use Rattle.model.specs.Circuit.{sweep, isRead, eitherWire, dependsOnRead}

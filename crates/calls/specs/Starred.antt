@@ -1,5 +1,5 @@
--- Document 01's starred facts about the sheet of its one full run, as rows of one table: of the sheet's bytes, and of the netlist
--- that they are read as. Nine rows, one claim, `Starred`. Cited by the contract of `heading`. Assumes nothing.
+-- The starred facts about the sheet of the full run (RULES F1 to F10, P8), as rows of one table: of the sheet's bytes, and of the netlist
+-- that they are read as. Nine rows, one claim, `Starred`. Cited by the contract of `heading`.
 use Prim.Native.Nat.{ℕ}
 use mathlib.Core.Path.{_≡_}
 use mathlib.Core.List.{List, [], _∷_, _++_, map}
@@ -18,7 +18,7 @@ use Rattle.sheet_parse.specs.Files.{netIn}
 use Rattle.sheet_tests.specs.Sheet.{sheetVerdict}
 use Rattle.call_unpacked.specs.Calls.{groupVerdict, headingVerdict}
 
--- `N 1 0 0`, `M 1 1 0`, `A` with the address code given, `D 2`, `C 1 1 5`, "each spread to 32 bytes"; document 01's has address
+-- `N 1 0 0`, `M 1 1 0`, `A` with the address code given, `D 2`, `C 1 1 5`, each spread to 32 bytes; that of RULES P8 has address
 -- code 0
 unfoldable pub sheetWith : ℕ → List ℕ
 sheetWith address =
@@ -28,7 +28,7 @@ sheetWith address =
 unfoldable pub net : Netlist
 net = netIn (sheetWith 0)
 
--- the numbers that the definitions give, and those that document 01 states
+-- the numbers that the definitions give, and those that the rules state
 pub record Row : Type 0 where
   pub found : List ℕ
   pub stated : List ℕ
@@ -46,24 +46,24 @@ depthText k = field k ++ lineFeed ∷ []
 
 unfoldable pub rows : List Row
 rows =
-    -- B(0), B(1) and B(2)
+    -- RULES F1 to F3: B(0), B(1) and B(2)
     row (base net 0 ∷ []) (1 ∷ [])
     ∷ row (base net 1 ∷ []) (3 ∷ [])
     ∷ row (base net 2 ∷ []) (10 ∷ [])
-    -- the pair has 16 clauses and 57 numbers
+    -- RULES F4 and F5: the pair has 16 clauses and 57 numbers
     ∷ row (length (clausesIn (numbersOf net 1 (Pair 0 1))) ∷ []) (16 ∷ [])
     ∷ row (length (numbersOf net 1 (Pair 0 1)) ∷ []) (57 ∷ [])
-    -- depth 1 has 24 clauses
+    -- RULES F6: depth 1 has 24 clauses
     ∷ row (length (clausesIn (formula net 1)) ∷ []) (24 ∷ [])
-    -- address code 0 is taken, 4 gives 6 at line 3
+    -- RULES F7: address code 0 is taken, 4 gives 6 at line 3
     ∷ row (sent (sheetVerdict (sheetWith 0) 0 0) ++ sent (sheetVerdict (sheetWith 4) 0 0)) (0 ∷ 0 ∷ 6 ∷ 3 ∷ [])
-    -- depth 255 is taken, 256 gives 7, in a call and on the depth line
+    -- RULES F8: depth 255 is taken, 256 gives 7, in a call and on the depth line
     ∷ row (sent (headingVerdict net 0 0 255) ++ sent (headingVerdict net 0 0 256) ++ sent (depthVerdict (depthText 255)) ++ sent (depthVerdict (depthText 256)))
     (0 ∷ 0 ∷ 7 ∷ 0 ∷ 0 ∷ 0 ∷ 7 ∷ 0 ∷ [])
-    -- pair (1, 1) gives 8
+    -- RULES F9: pair (1, 1) gives 8
     ∷ row (sent (groupVerdict net 0 0 1 (Pair 1 1) 57)) (8 ∷ 0 ∷ [])
     ∷ []
 
--- the single claim: in every row what is found is what document 01 states
+-- the single claim: in every row what is found is what the rules state (RULES F10)
 abbrev pub Starred : Type 0
 Starred = map (λ (r : Row). r .found) rows ≡ map (λ (r : Row). r .stated) rows

@@ -1,4 +1,4 @@
-// The public calls over a record and the lists that the caller lends (document 01, "What is sent back"). Each unpacks the lists and
+// The public calls over a record and the lists that the caller lends (RULES T40 and T41). Each unpacks the lists and
 // leaves the rest to a call over unpacked lists.
 use call_lists::Gate;
 use call_lists::Latch;
@@ -12,7 +12,7 @@ ghost use Rattle.calls.specs.Starred.{Starred};
 ghost use Rattle.call_unpacked.specs.Calls.{groupReply, headingReply};
 ghost use Rattle.calls.specs.LentCalls.{headingFor, groupFor, numbersLeft, Claim};
 
-// The heading of a depth: "the variables numbered and the clauses really written".
+// The heading of a depth, RULES G23: "the variables that are numbered .. and the clauses that are really written".
 pub fn heading(net: Netlist, latches: &[Latch], gates: &[Gate], depth: u32) -> HeadingAnswer
     ensures answer { λ r. ⌜ headingReply r ≡ headingFor net (now (latches .entry)) (now (gates .entry)) depth ⌝ }
     ensures claim { λ r. ⌜ Claim net (now (latches .entry)) (now (gates .entry)) depth ⌝ }
@@ -32,7 +32,7 @@ pub fn heading(net: Netlist, latches: &[Latch], gates: &[Gate], depth: u32) -> H
     )
 }
 
-// Writes one group's clauses at the start of a slice, in document 01's order, and answers how many numbers that is; or refuses and
+// Writes one group's clauses at the start of a slice, in the order of RULES G3 to G14, and answers how many numbers that is; or refuses and
 // writes nothing.
 pub fn write_group(
     net: Netlist,

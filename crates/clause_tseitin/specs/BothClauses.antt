@@ -1,5 +1,4 @@
 -- Two clauses that begin alike, the common part of `sameIfClauses` and `bitClauses` of the model. Cited by `put_two_ternary` alone.
--- Assumes nothing.
 use mathlib.Core.List.{List, [], _∷_}
 use Rattle.model.specs.Clauses.{Literal, Clause}
 

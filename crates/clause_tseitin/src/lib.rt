@@ -1,4 +1,4 @@
-// Gates and equalities as clauses (the Tseitin encoding; document 01, "Groups of clauses"). Each function writes from the start of
+// Gates and equalities as clauses (the Tseitin encoding; RULES G1, G4, G6, G10 and G12). Each function writes from the start of
 // what it is lent and answers how many numbers that was.
 use clause_writer::put_binary;
 use clause_writer::put_ternary;

@@ -1,5 +1,4 @@
 -- Every variable of frames 0 to 255 of a netlist within its limits has a clause number. No contract cites this file.
--- Assumes nothing.
 use Prim.Native.Nat.{ℕ, suc, _+_, _/_, _≤_, _<_}
 use mathlib.Core.Path.{_≡_}
 use native.Mathlib.Nat.{add-assoc}

@@ -1,5 +1,5 @@
--- What the writers of a frame's clauses ask of a netlist, and of a frame or depth: numbers within their limits ("depth k 0 to 255").
--- Cited by the writers of wires and of the property. Assumes nothing.
+-- What the writers of a frame's clauses ask of a netlist, and of a frame or depth: numbers within their limits (RULES W7 to W13).
+-- Cited by the writers of wires and of the property.
 use Prim.Native.Nat.{ℕ, _≤_}
 use Rattle.model.specs.Limits.{mostDepth}
 use Rattle.model.specs.Netlist.{Netlist}

@@ -1,5 +1,4 @@
 -- The literals of a pair of frames at a port of a record, and what is asked of them. Cited by the writers of a pair's clauses.
--- Assumes nothing.
 use Prim.Native.Nat.{ℕ, _≤_, _<_}
 use Rattle.model.specs.Limits.{mostDepth}
 use Rattle.model.specs.Clauses.{PairLiterals}

@@ -1,5 +1,5 @@
 -- What an accepted netlist and a port of it give the writers of clauses: numbers within their limits. Cited by the literals that
--- two frames have in common, and by the writers of pairs and closings. Assumes nothing.
+-- two frames have in common, and by the writers of pairs and closings.
 use Prim.Native.Nat.{ℕ, _+_, _≤_, _<_}
 use Rattle.model.specs.Netlist.{Netlist, Port, readBits}
 use Rattle.model.specs.Variables.{stride}

@@ -1,4 +1,4 @@
--- The model's port that a port of the code stands for. Cited by every contract over a port. Assumes nothing.
+-- The model's port that a port of the code stands for. Cited by every contract over a port.
 use Rattle.model.specs.Netlist as M
 use Rattle.netlist.specs.NetOf.{codeOf}
 use Rattle.clause_variables.specs.declared.Port.{Port}

@@ -1,5 +1,5 @@
 // The numbers of the variables of a record's frames and pairs, and the literals that two frames have in common: the port of the
-// memory, B(i), Q, N and Z, S (document 01, "Numbers of variables" and "Groups of clauses").
+// memory, B(i), Q, N and Z, S (RULES V2 to V5, G9, G11).
 use literals::Code;
 use literals::Lit;
 use literals::Numbering;

@@ -1,5 +1,5 @@
 -- A loop that writes one list a turn, each into the rest of the slice: its invariant, and the laws that start it, carry it on
--- and end it. No contract cites this file. Assumes nothing.
+-- and end it. No contract cites this file.
 use Prim.Native.Nat.{ℕ, zero, suc, _+_, _-_, _*_, _≤_, _<_}
 use mathlib.Core.Path.{_≡_, refl, ap₂}
 use mathlib.Core.List.{List, [], _∷_, _++_, map, append-assoc, append-nil}

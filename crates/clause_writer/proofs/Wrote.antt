@@ -1,5 +1,5 @@
 -- The laws of `Wrote` (model) as writers of clauses use them: one writer behind another with the lists left to be found.
--- No contract cites this file. Assumes nothing.
+-- No contract cites this file.
 use Prim.Native.Nat.{ℕ, _+_, _-_}
 use mathlib.Core.List.{List, _++_}
 use lib.ListN.{length}

@@ -1,5 +1,5 @@
-// Clauses as numbers in a borrowed slice (document 01: "each clause goes into the rest of the slice, from the first number not
-// yet written"). Each function writes from the start of what it is lent and answers how many numbers that was.
+// Clauses as numbers in a borrowed slice (RULES G20, "written at the start of what is left of the slice, behind
+// the numbers already written"). Each function writes from the start of what it is lent and answers how many numbers that was.
 use literals::Lit;
 ghost use mathlib.Core.List.{[], _∷_};
 ghost use Prim.Native.Nat.{_≤_};

@@ -1,5 +1,5 @@
 -- Laws of `signedDigits`, and of what a machine makes of a signed number of 32 bits where it is widened, negated and read without
--- its sign. No contract cites this file. Assumes nothing.
+-- its sign. No contract cites this file.
 use Prim.Native.Nat.{suc, _≤_}
 use mathlib.Core.Path.{_≡_, ap}
 use mathlib.Core.Bool.{true, false, false≢true}

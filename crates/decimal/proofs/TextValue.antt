@@ -1,5 +1,5 @@
 -- Laws of specs/TextValue.antt: what is written reads back as the same number (`numberIn-digits`), what is read is the text of its
--- number (`digits-numberIn`), and any other text is none (`numberIn-other`). No contract cites this file. Assumes nothing.
+-- number (`digits-numberIn`), and any other text is none (`numberIn-other`). No contract cites this file.
 use Prim.Native.Nat.{ℕ, zero, suc, _+_, _-_, _*_, _/_, _%_, _^_, _≤_, _<_}
 use mathlib.Core.Path.{_≡_, refl, sym, ap, ap₂, _∙_}
 use mathlib.Core.Bool.{Bool, true, false, cond, _&&_, true≢false, false≢true}

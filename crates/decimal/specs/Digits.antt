@@ -1,5 +1,5 @@
--- The decimal text of a number and the field of ten columns (document 01, "The sheet"): the one definition by which numbers are
--- written and read. A text is a list of bytes. Cited by every function that reads or writes a number. Assumes nothing.
+-- The decimal text of a number and the field of ten columns (RULES S2 and S3): the one definition by which numbers are
+-- written and read. A text is a list of bytes. Cited by every function that reads or writes a number.
 use Prim.Native.Nat.{ℕ, zero, suc, _+_, _-_, _/_, _%_}
 use mathlib.Core.Bool.{cond}
 use mathlib.Core.List.{List, [], _∷_, _++_}
@@ -25,15 +25,15 @@ unfoldable pub digitsWithin : ℕ → ℕ → List ℕ
 digitsWithin zero x = []
 digitsWithin (suc n) x = cond (ltb x 10) [] (digitsWithin n (x / 10)) ++ digit (x % 10) ∷ []
 
--- "decimal, .. without leading zeros, ..; zero is `0`". More divisions than x are never needed
+-- RULES S2: "decimal, .. without leading zeros, .. Zero is one `0`". More divisions than x are never needed
 unfoldable pub digits : ℕ → List ℕ
 digits x = digitsWithin (suc x) x
 
--- "right-justified behind spaces", in ten columns
+-- RULES S2: "at the right end of the field behind spaces", in ten columns
 unfoldable pub field : ℕ → List ℕ
 field x = replicate (10 - length (digits x)) space ++ digits x
 
--- "An empty field is ten spaces"
+-- RULES S3: "An empty field is ten spaces"
 abbrev pub emptyField : List ℕ
 emptyField = replicate 10 space
 

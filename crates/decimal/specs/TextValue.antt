@@ -1,5 +1,5 @@
 -- The number that a text stands for: reading as the inverse of `digits`. Cited by `read_number` and by
--- sheet_fields/specs/Fields. Assumes nothing.
+-- sheet_fields/specs/Fields.
 use Prim.Native.Nat.{ℕ, _+_, _-_, _*_, _^_}
 use mathlib.Core.Bool.{Bool, true, false, cond, _&&_}
 use mathlib.Core.List.{List, [], _∷_}
@@ -20,7 +20,7 @@ unfoldable pub valueAfter : ℕ → List ℕ → ℕ
 valueAfter v [] = v
 valueAfter v (c ∷ s) = valueAfter (v * 10 + (c - 48)) s
 
--- "at most 4,294,967,295": the number whose digits the text is. Its value is the only number whose digits it can be
+-- RULES S2: "at most 4,294,967,295"; the number whose digits the text is. Its value is the only number whose digits it can be
 unfoldable pub numberIn : List ℕ → Number
 numberIn s =
     cond (sameText s (digits (valueAfter 0 s)) && ltb (valueAfter 0 s) (2 ^ 32)) (Value (valueAfter 0 s)) NotANumber

@@ -1,4 +1,4 @@
-// Numbers as decimal text and back (document 01, "The sheet"): one definition, `digits`, says what is written and what is read.
+// Numbers as decimal text and back (RULES S2): one definition, `digits`, says what is written and what is read.
 ghost use mathlib.Core.Path.{_≡_};
 ghost use Prim.Native.Nat.{_≤_};
 ghost use lib.ListN.{length, replicate};

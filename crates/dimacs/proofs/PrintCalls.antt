@@ -1,5 +1,4 @@
 -- Laws of specs/PrintCalls.antt: what a call answers and leaves where there is room, and where not. No contract cites this file.
--- Assumes nothing.
 use Prim.Native.Nat.{ℕ, _≤_, _<_}
 use mathlib.Core.Path.{_≡_, ap}
 use mathlib.Core.List.{List}

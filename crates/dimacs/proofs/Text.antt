@@ -1,4 +1,4 @@
--- Laws of specs/Text.antt: the texts' lengths, and the clauses' text number by number. No contract cites this file. Assumes nothing.
+-- Laws of specs/Text.antt: the texts' lengths, and the clauses' text number by number. No contract cites this file.
 use Prim.Native.Nat.{ℕ, zero, suc, _+_, _*_, _^_, _≤_, _<_}
 use mathlib.Core.Path.{_≡_, refl, sym, ap, _∙_}
 use mathlib.Core.List.{List, [], _∷_, _++_, append-assoc, append-nil}

@@ -1,5 +1,5 @@
--- What a call that prints a text sends back and leaves (document 01, "What is sent back"): 9 is its only test. Cited by
--- `put_header`, `put_clauses` and `put_refusal`, here and in `marrubigai`, and by `print_numbers`. Assumes nothing.
+-- What a call that prints a text sends back and leaves (RULES L3, T43 and T44): 9 is its only test. Cited by
+-- `put_header`, `put_clauses` and `put_refusal`, here and in `marrubigai`, and by `print_numbers`.
 use Prim.Native.Nat.{ℕ}
 use mathlib.Core.List.{List}
 use lib.ListN.{length}
@@ -8,7 +8,7 @@ use Rattle.refusals.specs.declared.Verdict.the-variants.{Passed, Refused}
 use Rattle.dimacs.specs.declared.PrintAnswer.{PrintAnswer}
 use Rattle.dimacs.specs.declared.PrintAnswer.the-variants.{Written}
 
--- an answer in document 01's numbers
+-- an answer in numbers (RULES N9)
 unfoldable pub printReply : PrintAnswer → CountReply
 printReply (Written n) = withCount Passed n
 printReply (PrintAnswer.Refused r p) = withCount (Refused r p) 0

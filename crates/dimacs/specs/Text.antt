@@ -1,5 +1,5 @@
--- The bytes that `frames` prints (document 01, "The program and one full run"): header, clauses, refusal. A text is a list of
--- bytes. Cited by every function that writes one. Assumes nothing.
+-- The bytes that `frames` prints (RULES P2 and P3): header, clauses, refusal. A text is a list of
+-- bytes. Cited by every function that writes one.
 use Prim.Native.Nat.{ℕ, zero, suc}
 use mathlib.Core.List.{List, [], _∷_, _++_}
 use lib.IntN.{ℤ, pos, negsuc}
@@ -13,7 +13,7 @@ problem = 112 ∷ space ∷ 99 ∷ 110 ∷ 102 ∷ space ∷ []
 abbrev pub refused : List ℕ
 refused = 114 ∷ 101 ∷ 102 ∷ 117 ∷ 115 ∷ 101 ∷ 100 ∷ []
 
--- "prints `p cnf`, variables, clauses", on a line, single spaces
+-- RULES P2: "`p cnf`, the number of variables, the number of clauses", on a line, single spaces
 unfoldable pub headerText : ℕ → ℕ → List ℕ
 headerText variables clauses = problem ++ (digits variables ++ space ∷ []) ++ (digits clauses ++ lineFeed ∷ [])
 
@@ -27,11 +27,11 @@ behind (negsuc v) = space
 abbrev pub numberText : ℤ → List ℕ
 numberText z = signedDigits z ++ behind z ∷ []
 
--- "then one clause a line, single spaces": numbers with end marks
+-- RULES P2: "then one clause a line, with single spaces between its numbers"; numbers with end marks
 unfoldable pub clauseText : List ℤ → List ℕ
 clauseText [] = []
 clauseText (z ∷ zs) = numberText z ++ clauseText zs
 
--- "`refused`, number and place in ten columns each, written as a sheet's fields, nothing between, and a line feed"
+-- RULES P3: "`refused`, the number and the place, each of these in ten columns .. nothing between .. and a line feed"
 unfoldable pub refusalText : ℕ → ℕ → List ℕ
 refusalText number place = refused ++ field number ++ field place ++ lineFeed ∷ []

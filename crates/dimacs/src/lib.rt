@@ -1,4 +1,4 @@
-// The bytes that `frames` prints (document 01, "The program and one full run"): header, clauses, refusal.
+// The bytes that `frames` prints (RULES P2 and P3): header, clauses, refusal.
 ghost use mathlib.Core.Path.{_≡_};
 ghost use Prim.Native.Nat.{_≤_};
 ghost use lib.Dec.{leb};

@@ -1,4 +1,4 @@
-// The program (document 01, "The program and one full run"): a depth line and a sheet on standard input, the formula as DIMACS text
+// The program (RULES P1 to P7): a depth line and a sheet on standard input, the formula as DIMACS text
 // or one refusal on standard output. What is read and what is printed is in the crates below; here are only input and output.
 use group_order::order::Next;
 use netlist::Netlist;

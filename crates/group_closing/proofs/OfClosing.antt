@@ -1,5 +1,5 @@
 -- What the loops of a closing write, from the numbers and literals that they hold: one by one the model's clauses and
--- literals. No contract cites this file. Assumes nothing.
+-- literals. No contract cites this file.
 use Prim.Native.Nat.{ℕ, _+_, _*_}
 use mathlib.Core.Path.{_≡_, _∙_}
 use mathlib.Core.List.{List, [], _∷_, _++_, map}

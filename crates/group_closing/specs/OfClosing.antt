@@ -1,5 +1,5 @@
 -- The literals of the closing of a frame at a port of a record, and what is asked of them. Cited by every function of this
--- crate. Assumes nothing.
+-- crate.
 use Prim.Native.Nat.{ℕ, _≤_}
 use Rattle.model.specs.Limits.{mostDepth}
 use Rattle.model.specs.Clauses.{ClosingLiterals}

@@ -1,4 +1,4 @@
-// The clauses of the closing of frame i at a port (document 01, "Closing, frame i"): a read of a word that no earlier
+// The clauses of the closing of frame i at a port (RULES G11 to G13): a read of a word that no earlier
 // frame wrote is the start word, and a read has some source.
 use clause_variables::Port;
 use literals::Lit;

@@ -1,5 +1,5 @@
 -- What the loops over the latches write, from the bases and the list that they hold: one by one the model's clauses; and the
--- latches of frame 0 and of a later one. No contract cites this file. Assumes nothing.
+-- latches of frame 0 and of a later one. No contract cites this file.
 use Prim.Native.Nat.{ℕ, zero, suc, _+_, _-_, _*_}
 use mathlib.Core.Path.{_≡_, refl}
 use mathlib.Core.Bool.{true, cond}

@@ -1,4 +1,4 @@
-// The clauses of the latches of a frame (document 01, "Wires, frame i"): in frame 0 from their resets, later from the frame
+// The clauses of the latches of a frame (RULES G3 and G4): in frame 0 from their resets, later from the frame
 // before. The list is unpacked as the netlist's is.
 use literals::Code;
 use literals::Lit;

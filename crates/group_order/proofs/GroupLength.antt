@@ -1,4 +1,4 @@
--- The length of a group, by its kind. No contract cites this file. Assumes nothing.
+-- The length of a group, by its kind. No contract cites this file.
 use Prim.Native.Nat.{ℕ, zero, suc, _+_, _*_, _≤_}
 use mathlib.Core.Path.{_≡_, refl, sym, _∙_, ap}
 use mathlib.Core.Bool.{true}

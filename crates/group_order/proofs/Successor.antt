@@ -1,4 +1,4 @@
--- The first group in the order of the whole, what follows each group, and that fewer are left then. No contract cites this file. Assumes nothing.
+-- The first group in the order of the whole, what follows each group, and that fewer are left then. No contract cites this file.
 use Prim.Native.Nat.{ℕ, zero, suc, _+_, _-_, _*_, _≤_, _<_}
 use mathlib.Core.Path.{_≡_, refl, sym, _∙_, ap, subst}
 use mathlib.Core.Bool.{Bool, true, false, cond}

@@ -12,7 +12,7 @@ use model::Group;
 use netlist::Netlist;
 use netlist::UnpackedList;
 
-// Document 01, "Numbers with end marks": of the wires of a frame, of a pair, and of the closing of a frame.
+// RULES G19, "Numbers with their end marks": of the wires of a frame, of a pair, and of the closing of a frame.
 fn wires_length(latches: u32, gates: u32, frame: u32) -> u32
     requires { ⌜ (latches ≤ 600) × (gates ≤ 600) ⌝ }
     ensures first { λ r. ⌜ (frame ≡ 0 → r ≡ 2 + 2 * latches + 10 * gates) ⌝ }

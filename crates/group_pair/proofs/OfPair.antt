@@ -1,5 +1,5 @@
 -- What the loop over the data bits writes, from the numbers and literals that it holds: bit by bit the model's clauses; and the
--- parts of a pair's clauses. No contract cites this file. Assumes nothing.
+-- parts of a pair's clauses. No contract cites this file.
 use Prim.Native.Nat.{ℕ, _+_}
 use mathlib.Core.Path.{_≡_}
 use mathlib.Core.List.{List, _++_, append-assoc}

@@ -1,4 +1,4 @@
-// The clauses of a pair (j, i) of a writing frame j and a reading frame i at a port (document 01, "Pair (j, i)"): the address
+// The clauses of a pair (j, i) of a writing frame j and a reading frame i at a port (RULES G6 to G10): the address
 // comparison, the three gates, and the data bits.
 use clause_variables::Port;
 use literals::Code;

@@ -1,5 +1,5 @@
 -- What the loops over the address bits write, from where the variables of the pair and its frames start: bit by bit the model's
--- clauses, and the model's literal. No contract cites this file. Assumes nothing.
+-- clauses, and the model's literal. No contract cites this file.
 use Prim.Native.Nat.{ℕ, _+_}
 use mathlib.Core.Path.{_≡_}
 use mathlib.Core.List.{List, [], _∷_, map}

@@ -1,4 +1,4 @@
-// The address comparison of a pair (j, i) at a port (document 01, "Pair (j, i)"): the clauses of each bit, and the clause that
+// The address comparison of a pair (j, i) at a port (RULES G6 and G7): the clauses of each bit, and the clause that
 // makes E true where all bits are equal.
 use clause_variables::Port;
 use literals::Code;

@@ -1,5 +1,4 @@
 -- The three gates from literals that are the pair's: what they write is what the pair's gates are. No contract cites this file.
--- Assumes nothing.
 use Prim.Native.Nat.{ℕ, _≤_}
 use mathlib.Core.Path.{_≡_}
 use mathlib.Core.List.{List}

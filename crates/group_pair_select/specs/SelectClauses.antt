@@ -1,6 +1,6 @@
--- The three gates of a pair, the part of the model's `pairClauses` between the address and the data clauses: "gates s = E ∧ WE of
+-- The three gates of a pair, the part of the model's `pairClauses` between the address and the data clauses. RULES G8: "s = E ∧ WE of
 -- frame j; PS = ¬s ∧ N; S = s ∧ N". Cited by `put_select_gates`, `put_select` and
--- group_pair/specs/PairParts. Assumes nothing.
+-- group_pair/specs/PairParts.
 use mathlib.Core.List.{List, _++_}
 use Rattle.model.specs.Clauses.{Literal, Clause, neg, andClauses, PairLiterals}
 

@@ -1,4 +1,4 @@
-// The three gates of a pair (j, i) at a port (document 01, "Pair (j, i)"): which earlier write a read takes.
+// The three gates of a pair (j, i) at a port (RULES G8 and G9): which earlier write a read takes.
 use clause_variables::Port;
 use literals::Lit;
 use netlist::Netlist;

@@ -1,5 +1,5 @@
 -- What the property's loop writes, from the numbering that it holds: frame by frame the model's literal. No contract cites this
--- file. Assumes nothing.
+-- file.
 use Prim.Native.Nat.{ℕ}
 use mathlib.Core.Path.{_≡_}
 use mathlib.Core.List.{List, [], _∷_, map}

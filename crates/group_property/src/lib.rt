@@ -1,4 +1,4 @@
-// The clause of the property (document 01, "Property"): P is false in some frame from 0 to k.
+// The clause of the property (RULES G14): P is false in some frame from 0 to k.
 use netlist::Netlist;
 ghost use Prim.Native.Nat.{_+_, _≤_};
 ghost use mathlib.Core.List.{map};

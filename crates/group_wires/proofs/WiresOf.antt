@@ -1,5 +1,5 @@
 -- What the loop over the gates writes, from the base and the list that it holds: one by one the model's clauses; and the parts
--- of a frame's wires. No contract cites this file. Assumes nothing.
+-- of a frame's wires. No contract cites this file.
 use Prim.Native.Nat.{ℕ, zero, suc, _+_, _*_}
 use mathlib.Core.Path.{_≡_, refl, _∙_, ap₂, ap}
 use mathlib.Core.List.{List, [], _∷_, _++_}

@@ -1,4 +1,4 @@
-// The clauses of the wires of a frame (document 01, "Wires, frame i"): its latches, then its gates. The lists are unpacked as
+// The clauses of the wires of a frame (RULES G3 to G5): its latches, then its gates. The lists are unpacked as
 // the netlist's are.
 use literals::Code;
 use literals::Wire;

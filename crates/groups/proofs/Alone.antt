@@ -1,5 +1,5 @@
 -- What looks at no list is the same for a record with and without its lists: the numbers of pairs, closings and the property.
--- No contract cites this file. Assumes nothing.
+-- No contract cites this file.
 use Prim.Native.Nat.{ℕ, _≤_, _<_}
 use mathlib.Core.Path.{_≡_, refl, sym, _∙_, ap, subst}
 use mathlib.Core.List.{List}

@@ -1,4 +1,4 @@
-// The groups of clauses of a depth (document 01, "Groups of clauses"), each written into a borrowed slice.
+// The groups of clauses of a depth (RULES G3 to G14), each written into a borrowed slice.
 use model::Group;
 use netlist::Netlist;
 use netlist::UnpackedList;

@@ -1,5 +1,5 @@
 -- Laws of specs/Lit.antt: which literal a number stands for, negation, and back to the number; and a code in a frame by cases.
--- No contract cites this file. Assumes nothing.
+-- No contract cites this file.
 use Prim.Native.Nat.{ℕ, zero, suc, _+_, _*_, _/_, _%_, _≤_, _<_}
 use mathlib.Core.Path.{_≡_, refl, sym, _∙_, ap}
 use mathlib.Core.Bool.{false}

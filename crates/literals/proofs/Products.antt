@@ -1,4 +1,4 @@
--- Bounds of B(i) within document 01's limits. No contract cites this file. Assumes nothing.
+-- Bounds of B(i) within the limits (RULES W8 to W10). No contract cites this file.
 use Prim.Native.Nat.{ℕ, _-_, _*_, _≤_}
 use native.Mathlib.Nat.{mul-le-mul}
 use native.Mathlib.Omega.{arith}
@@ -22,7 +22,7 @@ products x i h =
       pairs-product = mul-le-mul stride-product before;
     }
 
--- document 01's most
+-- the most (RULES V6)
 pub baseOf-most : (x : Numbering) (i : ℕ) → NumberingFits x i → baseOf (x .wires) (x .stride) i ≤ 675841
 unfolding baseOf
 baseOf-most x i h = omega (arith, products x i h)

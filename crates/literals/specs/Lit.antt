@@ -1,5 +1,4 @@
--- The literal that a clause number stands for, and its bounds. Cited by every function that makes or writes one.
--- Assumes nothing.
+-- The literal that a DIMACS number stands for, and its bounds (RULES W4, W5 and V1). Cited by every function that makes or writes one.
 use Prim.Native.Nat.{ℕ, zero, suc, _+_, _≤_, _<_}
 use mathlib.Core.Bool.{true, false}
 use lib.IntN.{ℤ, pos, negsuc, natAbs}
@@ -17,7 +16,7 @@ literalAt (negsuc (suc v)) = minus (suc (suc v))
 unfoldable pub literalOf : Lit → Literal
 literalOf l = literalAt (l .0)
 
--- "0 only ends a clause, and neither 0 nor −2,147,483,648 is a clause number"
+-- RULES W4: "Neither 0 nor −2,147,483,648 is one; 0 only ends a clause"
 pub record IsLit (l : Lit) : Type 0 where
   pub nonzero : 1 ≤ natAbs (l .0)
   pub bounded : natAbs (l .0) < 2147483648

@@ -1,4 +1,4 @@
-// Wire numbers, codes and clause numbers (document 01, "Wires and codes"): three types, never accepted in each other's place.
+// Wire numbers, codes and clause numbers: three types, never accepted in each other's place (RULES W6 and N1).
 // Between them only a frame converts.
 ghost use mathlib.Core.Path.{_≡_};
 ghost use Prim.Native.Nat.{_+_, _*_, _/_, _≤_, _<_};
@@ -11,11 +11,11 @@ ghost use Rattle.literals.specs.Numbering.{NumberingFits};
 // An AIG variable, numbered from 1.
 pub struct Wire(pub u32);
 
-// Document 01's code: an AIGER literal.
+// The customer's "code" (RULES W3): an AIGER literal.
 #[repr(C)]
 pub struct Code(pub u32);
 
-// Document 01's clause number: a DIMACS literal, not 0 and not the least i32.
+// The customer's "clause number" (RULES W4): a DIMACS literal, not 0 and not the least i32.
 pub struct Lit(pub i32);
 
 // What the numbering of variables depends on: V, and how many variables a pair of frames has.
@@ -103,7 +103,7 @@ impl Lit {
         Lit::variable(q, offset)
     }
 
-    // Document 01's ¬: the sign turns.
+    // ¬ of the rules: the sign turns (RULES W5).
     pub fn negated(self) -> Lit
         requires { ⌜ IsLit self ⌝ }
         ensures literal { λ r. ⌜ literalOf r ≡ neg (literalOf self) ⌝ }

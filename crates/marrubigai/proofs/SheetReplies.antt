@@ -1,4 +1,4 @@
--- What `read` promises, in numbers (`sheetNumbers`): number 0 is success. Cited by the exported function. Assumes nothing.
+-- What `read` promises, in numbers (`sheetNumbers`): number 0 is success. Cited by the exported function.
 use Prim.Native.Nat.{ℕ}
 use mathlib.Core.Path.{_≡_}
 use mathlib.Core.List.{List}

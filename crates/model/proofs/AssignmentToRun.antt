@@ -1,5 +1,5 @@
 -- From an assignment that makes all clauses true to the run that it feeds: frame by frame, the values assigned are the frame's.
--- No contract cites this file. Assumes nothing.
+-- No contract cites this file.
 use Prim.Native.Nat.{ℕ, zero, suc, _+_, _<_, _≤_}
 use mathlib.Core.Path.{_≡_, refl, sym, _∙_, ap, ap₂}
 use mathlib.Core.Bool.{Bool, true, false, not, _&&_, and-comm}

@@ -1,4 +1,4 @@
--- Facts about every number below a bound, one more at a time. No contract cites this file. Assumes nothing.
+-- Facts about every number below a bound, one more at a time. No contract cites this file.
 use Prim.Native.Nat.{ℕ, suc, _<_}
 use mathlib.Core.Path.{_≡_, subst, sym}
 use mathlib.Core.Logic.{_⊎_, inl, inr, ⊎-elim, _↔_}

@@ -1,4 +1,4 @@
--- Laws of specs/Bits.antt: a number and its bits. No contract cites this file. Assumes nothing.
+-- Laws of specs/Bits.antt: a number and its bits. No contract cites this file.
 use Prim.Native.Nat.{ℕ, zero, suc, _+_, _-_, _*_, _/_, _^_, _<_}
 use mathlib.Core.Path.{_≡_, refl, ap, ap₂, _∙_}
 use mathlib.Core.Bool.{Bool, true, false, cond}

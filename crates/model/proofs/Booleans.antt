@@ -1,4 +1,4 @@
--- Laws of Booleans that the library has not. No contract cites this file. Assumes nothing.
+-- Laws of Booleans that the library has not. No contract cites this file.
 use mathlib.Core.Path.{_≡_, refl, sym, _∙_}
 use mathlib.Core.Bool.{Bool, true, false, not, _&&_, _||_, Bool·beq, true≢false, false≢true}
 use mathlib.Core.Logic.{_⊎_, inl, inr, _↔_}

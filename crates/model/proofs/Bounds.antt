@@ -1,5 +1,5 @@
 -- Every literal of every group of depth k is a constant or a variable from 1 to B(k + 1): so every number written for depth k
--- is within B(k + 1) of 0, and 0 only as an end mark. No contract cites this file. Assumes nothing.
+-- is within B(k + 1) of 0, and 0 only as an end mark. No contract cites this file.
 use Prim.Native.Nat.{ℕ, zero, suc, _+_, _*_, _/_, _≤_, _<_}
 use mathlib.Core.Path.{_≡_, refl}
 use mathlib.Core.Bool.{Bool, true, false, cond}

@@ -1,4 +1,4 @@
--- Laws of specs/Circuit.antt: a frame is the one solution of its equations. No contract cites this file. Assumes nothing.
+-- Laws of specs/Circuit.antt: a frame is the one solution of its equations. No contract cites this file.
 use Prim.Native.Nat.{ℕ, _-_, _/_, _≤_, _<_}
 use mathlib.Core.Path.{_≡_, refl, ap₂, sym, _∙_}
 use mathlib.Core.Bool.{Bool, false, _&&_, true≢false}

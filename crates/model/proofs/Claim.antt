@@ -1,4 +1,4 @@
--- Demand 3, proved: every accepted netlist is encoded, at every depth; and what a designer relies on. Assumes nothing.
+-- Demand 3, proved: every accepted netlist is encoded, at every depth; and what a designer relies on.
 use Prim.Native.Nat.{ℕ, zero-le, _+_, _≤_}
 use mathlib.Core.Path.{_≡_, sym, _∙_, ap}
 use mathlib.Core.Bool.{true, false, _||_, or-false}

@@ -1,5 +1,5 @@
 -- `dependsOnRead` (specs/Circuit.antt) says whether there is a path by wiring through gates from a read bit to the wire.
--- No contract cites this file. Assumes nothing.
+-- No contract cites this file.
 use Prim.Native.Nat.{ℕ, _/_, _<_}
 use mathlib.Core.Path.{_≡_, refl, sym, _∙_}
 use mathlib.Core.Bool.{Bool, true, false, _||_, true≢false, or-true}

@@ -1,6 +1,6 @@
 -- Forwarding over an abstract chain of writes, without codes or variables: what the chain of `none` selects is the newest earlier
 -- write, and that is what a memory stepped through the same writes holds. Ganai et al. 2004, equations (1) and (3).
--- No contract cites this file. Assumes nothing.
+-- No contract cites this file.
 use Prim.Native.Nat.{ℕ, zero, suc, _+_, _-_, _<_, _≤_}
 use mathlib.Core.Path.{_≡_, refl, sym, _∙_, ap, subst}
 use mathlib.Core.Bool.{Bool, true, false, cond, not, _&&_}

@@ -1,5 +1,5 @@
 -- Laws of gather and gatherDown (specs/Gather.antt): what adds up over joined lists, and what holds all over them.
--- No contract cites this file. Assumes nothing.
+-- No contract cites this file.
 use Prim.Native.Nat.{ℕ, zero, suc, _+_, _*_, _<_}
 use mathlib.Core.Path.{_≡_, refl, sym, _∙_}
 use mathlib.Core.List.{List, [], _∷_, _++_, map}

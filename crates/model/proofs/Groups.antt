@@ -1,5 +1,5 @@
 -- What the groups of specs/Groups.antt mean, in the values that an assignment gives the wires of each frame.
--- No contract cites this file. Assumes nothing.
+-- No contract cites this file.
 use Prim.Native.Nat.{ℕ, suc, _+_, _<_}
 use mathlib.Core.Path.{_≡_, refl, sym, _∙_, ap}
 use mathlib.Core.Bool.{Bool, true, false, cond, not, _&&_}

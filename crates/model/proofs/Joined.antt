@@ -1,5 +1,5 @@
 -- The clauses of all groups of a depth, joined in the order of the whole: their numbers are the formula, and what splits over
--- joined clauses splits into the groups. No contract cites this file. Assumes nothing.
+-- joined clauses splits into the groups. No contract cites this file.
 use Prim.Native.Nat.{ℕ, _+_, _<_, _≤_}
 use mathlib.Core.Path.{_≡_, refl, ap₂}
 use mathlib.Core.Bool.{true}

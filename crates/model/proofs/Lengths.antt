@@ -1,5 +1,5 @@
--- How many clauses and numbers each group has (document 01, "Clauses: .." and "Numbers with end marks: .."), and how many
--- clauses a depth has. No contract cites this file. Assumes nothing.
+-- How many clauses and numbers each group has (RULES G18 and G19), and how many
+-- clauses a depth has. No contract cites this file.
 use Prim.Native.Nat.{ℕ, zero, suc, _+_, _*_, _/_}
 use mathlib.Core.Path.{_≡_, refl, _∙_}
 use mathlib.Core.List.{List, [], _∷_, _++_, append-nil}

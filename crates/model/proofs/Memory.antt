@@ -1,4 +1,4 @@
--- Addresses stay below 2^m and words below 2^n along a run (specs/Circuit.antt). No contract cites this file. Assumes nothing.
+-- Addresses stay below 2^m and words below 2^n along a run (specs/Circuit.antt). No contract cites this file.
 use Prim.Native.Nat.{ℕ, zero, suc, _^_, _<_}
 use mathlib.Core.Bool.{Bool, true, false, cond, _&&_}
 use lib.Dec.{eqb}

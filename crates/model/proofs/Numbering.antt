@@ -1,5 +1,5 @@
--- Depth k uses exactly the variables 1 to B(k + 1) (document 01, "Numbers of variables"): each of them is numbered. No contract
--- cites this file. Assumes nothing.
+-- Depth k uses exactly the variables 1 to B(k + 1) (RULES V6): each of them is numbered. No contract
+-- cites this file.
 use Prim.Native.Nat.{ℕ, zero, suc, _+_, _-_, _*_, _/_, _%_, _≤_, _<_}
 use mathlib.Core.Path.{_≡_}
 use native.Mathlib.Nat.{div-lt-iff-lt-mul, div-add-mod', mod-lt}

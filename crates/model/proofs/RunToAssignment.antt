@@ -1,5 +1,5 @@
 -- From a run that breaks the property to the assignment that makes all clauses true: the witness of its frames.
--- No contract cites this file. Assumes nothing.
+-- No contract cites this file.
 use Prim.Native.Nat.{ℕ, zero, suc, zero-le, _-_, _*_, _<_, _≤_}
 use mathlib.Core.Path.{_≡_, sym, _∙_, ap, ap₂}
 use mathlib.Core.Bool.{Bool, true, cond, not, _&&_, and-comm}

@@ -1,5 +1,5 @@
 -- What else is said of the clauses of a depth (`Stated` of specs/Claim.antt), proved for every accepted netlist. No contract cites
--- this file. Assumes nothing.
+-- this file.
 use Prim.Native.Nat.{ℕ, zero, suc, zero-le, _+_, _≤_}
 use mathlib.Core.Path.{_≡_, _∙_, ap, subst}
 use mathlib.Core.Bool.{true}
@@ -28,7 +28,7 @@ use Rattle.model.proofs.Bounds.{AllLits, Within, wires-within, pairs-wi
 use Rattle.model.proofs.Numbers.{clausesIn-written}
 use Rattle.model.proofs.Claim.{encodes, satisfies-same, unsatisfiable→safe}
 
--- the numbers of a group, as document 01 counts them
+-- the numbers of a group, as RULES G19 counts them
 group-numbers : (c : Netlist) (k : ℕ) (g : Group) → length (numbersOf c k g) ≡ numberCount c k g
 unfolding numberCount
 group-numbers c k (Wires zero) = wires-numbers-first c k

@@ -1,4 +1,4 @@
--- Laws of `sweep` (specs/Circuit.antt), and induction over the wires in their order. No contract cites this file. Assumes nothing.
+-- Laws of `sweep` (specs/Circuit.antt), and induction over the wires in their order. No contract cites this file.
 use Prim.Native.Nat.{ℕ, zero, suc, _-_, _*_, _/_, _≤_, _<_}
 use mathlib.Core.Path.{_≡_, refl, sym, _∙_, subst⁻¹}
 use mathlib.Core.Bool.{Bool}

@@ -1,5 +1,5 @@
 -- What clauses over literals mean: each family of specs/Clauses.antt is true exactly where its equation holds. Nothing here knows a
--- variable's number. No contract cites this file. Assumes nothing.
+-- variable's number. No contract cites this file.
 use Prim.Native.Nat.{ℕ, zero, suc, _<_}
 use mathlib.Core.Path.{_≡_, refl, sym, _∙_, ap, ap₂, subst}
 use mathlib.Core.Bool.{Bool, true, false, not, _&&_, _||_, Bool·beq, true≢false, false≢true, or-false, or-assoc, and-assoc}

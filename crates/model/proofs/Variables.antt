@@ -1,4 +1,4 @@
--- Laws of specs/Variables.antt: where the variables of frames and pairs start. No contract cites this file. Assumes nothing.
+-- Laws of specs/Variables.antt: where the variables of frames and pairs start. No contract cites this file.
 use Prim.Native.Nat.{ℕ, zero, suc, _+_, _-_, _*_, _/_, _≤_, _<_}
 use mathlib.Core.Path.{_≡_, refl}
 use native.Mathlib.Nat.{mul-suc, suc-mul, zero-mul, mul-zero, mul-comm, mul-le-mul-right, le-refl, add-zero, add-suc, add-sub-of-le}
@@ -55,7 +55,7 @@ port-within c p j i v h r =
 pub pair-within : (c : Netlist) (j i : ℕ) → j < i → pairBase c (port c) j i + stride c ≤ base c (suc i)
 pair-within c j i h = port-within c (port c) j i (stride c) h (omega arith)
 
--- document 01's most: depth 255, 600 wires and addresses of 12 bits
+-- the most (RULES V6): depth 255, 600 wires and addresses of 12 bits
 pub base-most : (c : Netlist) → SizesFit c → (i : ℕ) → i ≤ 256 → base c i ≤ 675841
 unfolding base baseOf
 base-most c h i l = omega (arith, base-monotone c l)

@@ -1,5 +1,5 @@
 -- The assignment that a run gives: a variable's number is decoded into its frame, and there into a wire or a pair's variable.
--- No contract cites this file. Assumes nothing.
+-- No contract cites this file.
 use Prim.Native.Nat.{ℕ, zero, suc, _+_, _-_, _*_, _/_, _%_, _<_, _≤_}
 use mathlib.Core.Path.{_≡_, refl, sym, _∙_, ap, subst}
 use mathlib.Core.Bool.{Bool, true, cond, _&&_, Bool·beq}

@@ -1,5 +1,5 @@
 -- Laws of specs/Wrote.antt: a second writer is lent the rest of the slice, and what room it has there. The part of a slice that is
--- lent, and what comes back, are the borrow checker's `midOf` and `putMid`. No contract cites this file. Assumes nothing.
+-- lent, and what comes back, are the borrow checker's `midOf` and `putMid`. No contract cites this file.
 use Prim.Native.Nat.{ℕ, _+_, _-_, _≤_, _<_}
 use mathlib.Core.Path.{_≡_, refl, sym, _∙_, ap}
 use mathlib.Core.List.{List, [], _∷_, _++_, append-assoc, append-nil}

@@ -1,5 +1,5 @@
--- Which netlists are accepted (document 01, "Limits" and the conditions of refusals 4, 5 and 6). Cited by the
--- theorem, by what writes clauses, and by the tests of records, which are proved to pass exactly these. Assumes nothing.
+-- Which netlists are accepted (RULES A1, W7 to W9, W11 to W13, W15 and C8). Cited by the
+-- theorem, by what writes clauses, and by the tests of records, which are proved to pass exactly these.
 use Prim.Native.Nat.{ℕ, _+_, _*_, _/_, _^_, _≤_, _<_}
 use mathlib.Core.Path.{_≡_}
 use mathlib.Core.Bool.{false}
@@ -7,7 +7,7 @@ use Rattle.model.specs.Limits.{mostWires, mostAddressBits, mostDataBits}
 use Rattle.model.specs.Netlist.{Netlist, Port, port, gateWire, lastWire}
 use Rattle.model.specs.Circuit.{dependsOnRead}
 
--- refusal 4: a size outside its limit
+-- refusal 4 (RULES T4): a size outside its limit
 pub record SizesFit (c : Netlist) : Type 0 where
   pub inputs-fit : c .inputs ≤ mostWires
   pub latches-fit : c .latches ≤ mostWires
@@ -19,11 +19,11 @@ pub record SizesFit (c : Netlist) : Type 0 where
   pub word-fits : c .initialWord < 2 ^ c .n
   pub wires-fit : lastWire c ≤ mostWires
 
--- a code is at most 2V + 1
+-- RULES W12: "A code is at most 2V + 1"
 abbrev pub IsCode : Netlist → ℕ → Type 0
 IsCode c x = x ≤ 2 * lastWire c + 1
 
--- refusal 5: a code, gate operand or reset outside its limit
+-- refusal 5 (RULES T5): a code, gate operand or reset outside its limit
 pub record CodesFit (c : Netlist) : Type 0 where
   pub next-fits : (l : ℕ) → l < c .latches → IsCode c (c .next l)
   pub reset-fits : (l : ℕ) → l < c .latches → c .reset l ≤ 1
@@ -40,7 +40,7 @@ pub record WithinLimits (c : Netlist) : Type 0 where
   pub sizes : SizesFit c
   pub codes : CodesFit c
 
--- refusal 6: an address code or RE depends on a read bit
+-- refusal 6 (RULES T6): an address code or RE depends on a read bit
 pub record NoLoop (c : Netlist) (p : Port) : Type 0 where
   pub address-free : (t : ℕ) → t < c .m → dependsOnRead c (p .address t / 2) ≡ false
   pub RE-free : dependsOnRead c (p .RE / 2) ≡ false

@@ -1,5 +1,5 @@
--- Bits of numbers. Bit 0 is the lowest bit (document 01, "Wires and codes"). Cited by the circuit, by the numbering, by
--- `group_closing` and by `Lit::bit`. Assumes nothing.
+-- Bits of numbers. Bit 0 is the lowest bit (RULES W18). Cited by the circuit, by the numbering, by
+-- `group_closing` and by `Lit::bit`.
 use Prim.Native.Nat.{ℕ, zero, suc, _+_, _/_, _%_, _^_}
 use mathlib.Core.Bool.{Bool, cond}
 use lib.Dec.{eqb}

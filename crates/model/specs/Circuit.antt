@@ -1,5 +1,5 @@
--- The sequential circuit with its whole memory, and its runs through time frames (document 01, "The chip"). Cited by the claim,
--- and for dependence on a read bit by the tests of records. Assumes nothing.
+-- The sequential circuit with its whole memory, and its runs through time frames (RULES C1 to C16). Cited by the claim,
+-- and for dependence on a read bit by the tests of records.
 use Prim.Native.Nat.{ℕ, zero, suc, _-_, _/_, _<_}
 use mathlib.Core.Bool.{Bool, false, cond, not, _&&_, _||_}
 use lib.Dec.{eqb, leb, ltb}
@@ -57,7 +57,7 @@ pub record State : Type 0 where
   pub latch : ℕ → Bool
   pub memory : ℕ → ℕ
 
--- what a run is fed in a frame: the inputs, and the bits of document 01's "idle word", the read bits where RE is false
+-- what a run is fed in a frame: the inputs, and the bits of the customer's "idle word", the read bits where RE is false
 pub record Feed : Type 0 where
   pub input : ℕ → Bool
   pub idle : ℕ → Bool

@@ -1,4 +1,4 @@
--- Demand 3, the correctness of the encoding in both directions (`Encodes`), and the theorem (`EncodingTheorem`).
+-- Demand 3, the correctness of the encoding in both directions (`Encodes`), and the theorem (`EncodingTheorem`). RULES A2 to A10.
 --
 -- `Satisfies c k a`: the assignment a makes every clause true that stands in the numbers written for depth k.
 -- First direction: whatever assignment does so, its inputs and idle read bits, fed frame by frame to the circuit with its whole
@@ -7,7 +7,7 @@
 -- assignment that does so and agrees with the run on every wire of every frame 0 to k.
 -- Without the first a solver's answer could be no run of the chip; without the second a fault could go unfound.
 -- The theorem says so of every accepted netlist and every depth; its proof is `encodes` in proofs/Claim.antt. Cited by the contracts of
--- `heading` and `read`. Assumes nothing.
+-- `heading` and `read`.
 use Prim.Native.Nat.{ℕ, _+_, _^_, _≤_, _<_}
 use mathlib.Core.Path.{_≡_}
 use mathlib.Core.Bool.{true, false}
@@ -48,10 +48,10 @@ pub record Encodes (c : Netlist) (k : ℕ) : Type 0 where
 abbrev pub EncodingTheorem : Type 0
 EncodingTheorem = (c : Netlist) → Accepted c → (k : ℕ) → Encodes c k
 
--- What else is said of the clauses of a depth. An assignment is of "each variable from 1 to B(k + 1)": no other matters, each of
+-- What else is said of the clauses of a depth. An assignment is of the variables from 1 to B(k + 1) (RULES A3): no other matters, each of
 -- them is numbered, and every number written is one of them or an end mark. Where no assignment satisfies the clauses, no run breaks
--- the property: this is what a designer relies on. A group has as many clauses and numbers as document 01 counts. Dependence on a
--- read bit is a path through gates. A run's memory is "2^m words" of n bits: no frame has another address, and no word is longer.
+-- the property: this is what a designer relies on. A group has as many clauses and numbers as RULES G18 and G19 count. Dependence on a
+-- read bit is a path through gates. A run's memory is 2^m words of n bits (RULES C1): no frame has another address, and no word is longer.
 pub record Stated (c : Netlist) (k : ℕ) : Type 0 where
   pub only-numbered : (a a′ : Assignment) → ((v : ℕ) → 1 ≤ v → v ≤ base c (k + 1) → a v ≡ a′ v) → Satisfies c k a → Satisfies c k a′
   pub all-numbered : (v : ℕ) → 1 ≤ v → v ≤ base c (k + 1) → Numbered c k v

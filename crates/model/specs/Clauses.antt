@@ -1,6 +1,6 @@
 -- Clauses over literals, and the clauses of a gate, a pair and a closing: nothing here knows a variable's number.
--- Document 01, "Groups of clauses"; Ganai et al. 2004, section 4.1 and equations (3) and (4). Cited by `Groups` and by what
--- writes clauses. Assumes nothing.
+-- RULES G1 to G13; Ganai et al. 2004, section 4.1 and equations (3) and (4). Cited by `Groups` and by what
+-- writes clauses.
 use Prim.Native.Nat.{ℕ}
 use mathlib.Core.Bool.{Bool, not}
 use mathlib.Core.List.{List, [], _∷_, _++_}
@@ -15,7 +15,7 @@ pub data Literal : Type 0 where
 abbrev pub Clause : Type 0
 Clause = List Literal
 
--- negation, document 01's ¬
+-- negation, ¬ of the rules (RULES G2)
 unfoldable pub neg : Literal → Literal
 neg (known b) = known (not b)
 neg (plus v) = minus v
@@ -71,14 +71,14 @@ allBits m x = gather m (unequalOf x) ++ x .E ∷ []
 unfoldable pub forwardedClauses : PairLiterals → ℕ → List Clause
 forwardedClauses x t = sameIfClauses (x .S) (x .RD t) (x .WD t)
 
--- The paper's equation (1) has a misprinted inner sign, "or"; its sentence decides: all frames strictly between j and i.
+-- Equation (1) of Ganai et al. has a misprinted inner sign (RULES G24); its sentence decides: all frames strictly between j and i.
 -- That is what N carries from pair to pair, by equation (3).
 unfoldable pub pairClauses : ℕ → ℕ → PairLiterals → List Clause
 pairClauses m n x =
     gather m (addressBitClauses x) ++ allBits m x ∷ [] ++ andClauses (x .s) (x .E) (x .WE) ++ andClauses (x .PS) (neg (x .s)) (x .N)
     ++ andClauses (x .S) (x .s) (x .N) ++ gather n (forwardedClauses x)
 
--- The literals of document 01's "closing" of frame i: the paper's j = -1, a read of a word that no earlier frame wrote.
+-- The literals of the customer's "closing" of frame i (RULES G11): the paper's j = -1, a read of a word that no earlier frame wrote.
 pub record ClosingLiterals : Type 0 where
   -- PS of pair (0, i), or RE where i = 0
   pub Z : Literal

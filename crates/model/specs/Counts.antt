@@ -1,5 +1,5 @@
--- How many clauses and numbers a group has (document 01: "Clauses: ..", "Numbers with end marks: ..", line for line). Cited by the
--- claim. Assumes nothing.
+-- How many clauses and numbers a group has (RULES G18 and G19, line for line). Cited by the
+-- claim.
 use Prim.Native.Nat.{ℕ, zero, suc, _+_, _*_}
 use Rattle.model.specs.Netlist.{Netlist}
 use Rattle.model.specs.declared.Group.{Group}

@@ -1,5 +1,4 @@
 -- Lists joined for each number below another. Cited by the definitions of clauses and groups, and by those of lists of records.
--- Assumes nothing.
 use Prim.Native.Nat.{ℕ, zero, suc}
 use mathlib.Core.List.{List, [], _++_}
 

@@ -1,5 +1,5 @@
--- The four groups of clauses and the order of the whole (document 01, "Groups of clauses"). Cited by every group call and by
--- what writes a group. Assumes nothing.
+-- The four groups of clauses and the order of the whole (RULES G3 to G15). Cited by every group call and by
+-- what writes a group.
 use Prim.Native.Nat.{ℕ, zero, suc, _+_}
 use mathlib.Core.Bool.{Bool, true, cond, _&&_}
 use mathlib.Core.List.{List, [], _∷_, _++_}

@@ -1,4 +1,4 @@
--- The definitions of document 01, in reading order. Nothing here imports a law or a proof.
+-- What docs/RULES.md says of circuits, clauses, numbers and runs, in reading order. Nothing here imports a law or a proof.
 pub mod Limits
 pub mod Bits
 pub mod Netlist

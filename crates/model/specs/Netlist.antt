@@ -1,9 +1,9 @@
--- A netlist with one memory: document 01's record with its lists, and the numbers of its wires ("Wires and codes").
--- Cited by nearly every other file. Assumes nothing.
+-- A netlist with one memory: the record with its lists (RULES W14 to W17), and the numbers of its wires (RULES W1).
+-- Cited by nearly every other file.
 use Prim.Native.Nat.{ℕ, _+_}
 
 -- What the lists hold are functions, so that an entry past its size has no meaning to ignore: it is never asked for.
--- A code (document 01's term) is an AIGER literal: 2 × wire, plus 1 for the inverted wire; code 0 is false, code 1 true.
+-- A code (the customer's term, RULES W3) is an AIGER literal: 2 × wire, plus 1 for the inverted wire; code 0 is false, code 1 true.
 pub record Netlist : Type 0 where
   pub inputs : ℕ
   pub latches : ℕ
@@ -11,7 +11,7 @@ pub record Netlist : Type 0 where
   -- address width and data width
   pub m : ℕ
   pub n : ℕ
-  -- document 01's "start word": what every word of the memory is at first
+  -- the customer's "start word" (RULES W11, C1): what every word of the memory is at first
   pub initialWord : ℕ
   -- a latch's next code, and its reset, 0 or 1
   pub next : ℕ → ℕ
@@ -43,7 +43,7 @@ port c = record { address = c .address; RE = c .RE; firstRead = 0; firstVariable
 abbrev pub readBits : Netlist → ℕ
 readBits c = c .n
 
--- Wires are numbered from 1: inputs, latches, read bits, gates. Wire 0 is no wire of document 01: it is constantly false, so
+-- Wires are numbered from 1: inputs, latches, read bits, gates (RULES W1). Wire 0 is no wire of the rules: it is constantly false, so
 -- that codes 0 and 1 need no case of their own.
 abbrev pub inputWire : Netlist → ℕ → ℕ
 inputWire c x = 1 + x

@@ -1,5 +1,5 @@
--- Clauses as DIMACS numbers (document 01's "clause numbers", each clause ended by 0), and back; what an assignment makes true
--- (document 01, "Assignments and runs"). Cited by every group call and by the claim. Assumes nothing.
+-- Clauses as DIMACS numbers (RULES W4 and V1, each clause ended by 0: G17), and back; what an assignment makes true
+-- (RULES A2 to A4). Cited by every group call and by the claim.
 use Prim.Native.Nat.{ℕ, zero, suc}
 use mathlib.Core.Bool.{Bool, true, false, not, _&&_, _||_}
 use mathlib.Core.List.{List, [], _∷_, _++_, map}

@@ -1,5 +1,5 @@
--- The numbering of variables (document 01, "Numbers of variables"), and the literals that it gives. Cited by `Groups`, by the
--- claim, and by what makes a literal. Assumes nothing.
+-- The numbering of variables (RULES V1 to V6), and the literals that it gives. Cited by `Groups`, by the
+-- claim, and by what makes a literal.
 use Prim.Native.Nat.{ℕ, _+_, _-_, _*_, _/_, _≤_, _<_}
 use mathlib.Core.Path.{_≡_}
 use mathlib.Core.Bool.{cond}

@@ -1,6 +1,6 @@
--- What a writer leaves in the slice that it is lent (document 01: "The result is the count written; everything behind it is
--- untouched"). Cited by every function that writes numbers or text into a borrowed slice, and
--- where records are delivered (call_lists/specs/Delivered). Assumes nothing.
+-- What a writer leaves in the slice that it is lent (RULES G21, "The result is the count of numbers written .. What is behind
+-- them is untouched"). Cited by every function that writes numbers or text into a borrowed slice, and
+-- where records are delivered (call_lists/specs/Delivered).
 use Prim.Native.Nat.{ℕ}
 use mathlib.Core.Path.{_≡_}
 use mathlib.Core.List.{List, _++_}

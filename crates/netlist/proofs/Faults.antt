@@ -1,5 +1,5 @@
 -- A netlist has no fault in any line exactly where it meets the model's limits (specs/Faults.antt and the model's Acceptance).
--- Cited by the tests of records and by the sheet reader. Assumes nothing.
+-- Cited by the tests of records and by the sheet reader.
 use Prim.Native.Nat.{ℕ, _+_, _-_, _*_, _/_, _^_, _≤_, _<_, zero-le}
 use mathlib.Core.Path.{_≡_, refl, _∙_}
 use mathlib.Core.Bool.{Bool, true, false, not, _||_, true≢false}

@@ -1,5 +1,5 @@
 -- What the lists of a record (specs/NetOf.antt) have no part in: the sizes, lines and B(i) in neither, dependence on a read bit in
--- the latches; and that a list that is left out breaks no limit. Cited where a function is lent no list, or one. Assumes nothing.
+-- the latches; and that a list that is left out breaks no limit. Cited where a function is lent no list, or one.
 use Prim.Native.Nat.{ℕ, zero, suc, _+_, _*_, _/_, zero-le}
 use mathlib.Core.Path.{_≡_, refl}
 use mathlib.Core.Bool.{Bool}

@@ -1,5 +1,5 @@
 -- Laws of the lines of a sheet (specs/Places.antt): which line stands at which place, and properties of every line. Cited by the
--- tests of records and by the sheet reader. Assumes nothing.
+-- tests of records and by the sheet reader.
 use Prim.Native.Nat.{ℕ, _-_, _≤_, _<_}
 use mathlib.Core.Path.{_≡_, refl, ap, subst}
 use mathlib.Core.Logic.{_↔_, by-cases}

@@ -1,5 +1,5 @@
--- The faults of a line (document 01, "Limits", and the conditions of refusals 4, 5 and 6), as computed tests. Cited by the tests
--- of records and by the sheet reader. Assumes nothing.
+-- The faults of a line (RULES T4, T5 and T6), as computed tests. Cited by the tests
+-- of records and by the sheet reader.
 use Prim.Native.Nat.{ℕ, _+_, _-_, _*_, _/_, _^_}
 use mathlib.Core.Bool.{Bool, false, _||_}
 use lib.Dec.{ltb, leb}
@@ -13,7 +13,7 @@ use Rattle.netlist.specs.declared.Line.the-variants.{Sizes, Memory, Latc
 abbrev pub outside : ℕ → ℕ → ℕ → Bool
 outside low high x = ltb x low || ltb high x
 
--- refusal 4: "a number of N or M, or V, outside its limit"; V is tested at the M line
+-- RULES T4: "a number of the N or the M line, or V, outside its limit"; V is tested at the M line (RULES T36)
 unfoldable pub sizeFault : Netlist → Line → Bool
 sizeFault c Sizes = outside 0 mostWires (c .inputs) || outside 0 mostWires (c .latches) || outside 0 mostWires (c .gates)
 sizeFault c Memory =
@@ -24,19 +24,19 @@ sizeFault c (Address t) = false
 sizeFault c (WriteData t) = false
 sizeFault c Control = false
 
--- "A code is at most 2V + 1", V the last wire
+-- RULES W12: "A code is at most 2V + 1", V the last wire
 abbrev pub codeOutside : ℕ → ℕ → Bool
 codeOutside last x = outside 0 (2 * last + 1) x
 
--- a latch's next code and its reset, 0 or 1
+-- a latch's next code (RULES W12) and its reset, 0 or 1 (RULES W15)
 abbrev pub latchFault : ℕ → ℕ → ℕ → Bool
 latchFault last next reset = codeOutside last next || outside 0 1 reset
 
--- "A gate's two codes are less than 2 × its own wire"
+-- RULES W13: "A gate's two codes are less than 2 × its own wire"
 abbrev pub gateFault : ℕ → ℕ → ℕ → Bool
 gateFault own left right = leb (2 * own) left || leb (2 * own) right
 
--- refusal 5: "a code, gate operand or reset outside its limit"
+-- RULES T5: "a code, a gate's operand or a reset outside its limit"
 unfoldable pub codeFault : Netlist → Line → Bool
 codeFault c Sizes = false
 codeFault c Memory = false
@@ -46,7 +46,7 @@ codeFault c (Address t) = codeOutside (lastWire c) (c .address t)
 codeFault c (WriteData t) = codeOutside (lastWire c) (c .writeData t)
 codeFault c Control = codeOutside (lastWire c) (c .WE) || codeOutside (lastWire c) (c .RE) || codeOutside (lastWire c) (c .P)
 
--- refusal 6: "an address code or RE depends on a read bit", d saying which wires do
+-- RULES T6: "an address code or RE depends on a read bit", d saying which wires do
 unfoldable pub loopFaultBy : (ℕ → Bool) → Netlist → Line → Bool
 loopFaultBy d c Sizes = false
 loopFaultBy d c Memory = false

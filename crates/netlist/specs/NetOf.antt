@@ -1,4 +1,4 @@
--- The model's netlist that a record and its unpacked lists stand for. Cited by every contract over a record. Assumes nothing.
+-- The model's netlist that a record and its unpacked lists stand for (RULES W14 to W17). Cited by every contract over a record.
 use Prim.Native.Nat.{ℕ, _+_, _*_}
 use mathlib.Core.List.{List, []}
 use lib.ListN.{getD}

@@ -1,6 +1,5 @@
--- The lines of a netlist's sheet (document 01, "The sheet"): what stands at which place, the first being 1. A fault of a record has
+-- The lines of a netlist's sheet (RULES S6 and S7): what stands at which place, the first being 1. A fault of a record has
 -- the place that it would have in a sheet. Cited by the tests of records, by the sheet reader and by call_unpacked/specs/Calls.
--- Assumes nothing.
 use Prim.Native.Nat.{ℕ, _+_, _-_, _<_}
 use mathlib.Core.Bool.{cond}
 use lib.Dec.{ltb}

@@ -1,5 +1,5 @@
--- The record of a netlist, whose lists stand beside it (`netOf` goes the other way), and the record that is all zeros (document 01,
--- "a .. record returned beside them is all zeros"). Cited by `empty_net`, sheet_steps/specs/Records and sheet_parse/specs/Files. Assumes nothing.
+-- The record of a netlist, whose lists stand beside it (`netOf` goes the other way), and the record that is all zeros (RULES T43,
+-- "a record that is returned beside them is all zeros"). Cited by `empty_net`, sheet_steps/specs/Records and sheet_parse/specs/Files.
 use Prim.Native.Nat.{ℕ}
 use mathlib.Core.List.{List, [], _∷_}
 use Rattle.model.specs.Limits.{mostAddressBits, mostDataBits}

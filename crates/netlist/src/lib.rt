@@ -1,4 +1,4 @@
-// The netlist record (document 01, "A small record holds .."), the lines of its sheet, and the faults of a line.
+// The netlist record (RULES W17), the lines of its sheet, and the faults of a line.
 //
 // The lists are handed over unpacked: `latches[2 * l]` is latch l's next code and `latches[2 * l + 1]` its reset, `gates[2 * g]`
 // and `gates[2 * g + 1]` are gate g's two codes. What looks at no list speaks of the record `alone`.
@@ -30,7 +30,7 @@ pub struct Netlist {
     pub p: Code,
 }
 
-// A line of a sheet, by what it holds (document 01, "The sheet"), with its number among those of its letter.
+// A line of a sheet, by what it holds (RULES S5), with its number among those of its letter.
 pub enum Line {
     Sizes,
     Memory,

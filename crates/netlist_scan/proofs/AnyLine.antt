@@ -1,5 +1,5 @@
 -- Laws of the pass over all lines that looks for no place (specs/AnyLine.antt): as a loop over a list meets it, and what it says
--- where it finds nothing. Cited by the tests of records. Assumes nothing.
+-- where it finds nothing. Cited by the tests of records.
 use Prim.Native.Nat.{ℕ, zero, suc, _+_, _<_}
 use mathlib.Core.Path.{_≡_, refl, sym}
 use mathlib.Core.Bool.{Bool, false, _||_, or-false, or-assoc}

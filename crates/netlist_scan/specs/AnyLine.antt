@@ -1,5 +1,5 @@
 -- Whether any line of a netlist has a fault, list by list: what a pass over the lists finds that looks for no place. Cited by the
--- functions of this crate and by `any_loop` of `netlist_tests`. Assumes nothing.
+-- functions of this crate and by `any_loop` of `netlist_tests`.
 use Prim.Native.Nat.{ℕ, zero, suc, _+_}
 use mathlib.Core.Bool.{Bool, false, _||_}
 use mathlib.Core.List.{List}

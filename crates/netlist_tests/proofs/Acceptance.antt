@@ -1,5 +1,5 @@
 -- The tests of a record pass exactly the netlists that the model accepts, where the lists are long enough (specs/Record.antt and
--- the model's Acceptance). Cited wherever a contract speaks of accepted records. Assumes nothing.
+-- the model's Acceptance). Cited wherever a contract speaks of accepted records.
 use Prim.Native.Nat.{ℕ, _≤_}
 use mathlib.Core.Path.{_≡_}
 use mathlib.Core.Bool.{false}

@@ -1,5 +1,5 @@
 -- Laws of tables of wires (specs/Dependence.antt): a table made entry by entry, of the read bits and of a sweep over the gates.
--- No contract cites this file. Assumes nothing.
+-- No contract cites this file.
 use Prim.Native.Nat.{ℕ, _+_, _-_, _/_, _≤_, _<_}
 use mathlib.Core.Path.{_≡_, refl, sym, _∙_}
 use mathlib.Core.Bool.{Bool, true, false, cond, _&&_}

@@ -1,5 +1,5 @@
 -- What the lists of a record have no part in, of the tests: sizes in neither list, memory loops in the latches. No contract cites
--- this file. Assumes nothing.
+-- this file.
 use Prim.Native.Nat.{ℕ, _/_}
 use mathlib.Core.Path.{_≡_, refl}
 use mathlib.Core.Bool.{Bool}

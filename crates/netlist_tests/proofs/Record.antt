@@ -1,5 +1,5 @@
 -- Laws of the test of all lines for a fault (specs/Record.antt): as a loop over the places meets it, and when it passes.
--- No contract cites this file. Assumes nothing.
+-- No contract cites this file.
 use Prim.Native.Nat.{ℕ, _+_, _≤_}
 use mathlib.Core.Path.{_≡_, sym, _∙_, ap}
 use mathlib.Core.Bool.{Bool, true, false}

@@ -1,5 +1,5 @@
 -- Tables of wires, by which dependence on a read bit is found in one pass over the gates. Cited by the functions that make and
--- read such a table. Assumes nothing.
+-- read such a table.
 use Prim.Native.Nat.{ℕ, _+_, _≤_}
 use mathlib.Core.Path.{_≡_}
 use mathlib.Core.Bool.{Bool, false}

@@ -1,6 +1,6 @@
--- The tests of a record with its lists, in document 01's order ("What is sent back"). That they pass exactly the accepted netlists is
+-- The tests of a record with its lists, in their order (RULES T38 and T39). That they pass exactly the accepted netlists is
 -- the law `passes-accepted` in proofs/Acceptance.antt. Cited by the tests of this crate, by the calls over a record and by
--- the reading of a sheet. Assumes nothing.
+-- the reading of a sheet.
 use Prim.Native.Nat.{ℕ}
 use mathlib.Core.Bool.{Bool, _||_}
 use lib.Dec.{ltb}
@@ -21,16 +21,16 @@ testLine c r fault p = refuseIf (fault c (lineAt c p)) r p
 unfoldable pub testLines : Netlist → Refusal → (Netlist → Line → Bool) → Verdict
 testLines c r fault = inOrder (testLine c r fault) (controlLine c)
 
--- "a lent list shorter than its size", of lists that have latchCount and gateCount records: 3 in a record, and 9 where the records
+-- RULES T3: "a lent list shorter than its size", of lists that have latchCount and gateCount records: 3 in a record, and 9 (RULES T37) where the records
 -- of a sheet are to be written there
 abbrev pub listsShort : Netlist → ℕ → ℕ → Bool
 listsShort c latchCount gateCount = ltb latchCount (c .latches) || ltb gateCount (c .gates)
 
--- refusal 6: the first A line concerned, else the C line
+-- RULES T6: "the first A line concerned, else the C line"
 abbrev pub testLoops : Netlist → Verdict
 testLoops c = testLines c MemoryLoop loopFault
 
--- "4, then 3 (place 0), then 5 in line order, then 6, with the place it would have in a sheet"
+-- RULES T38: "4, then 3, then 5 in line order, then 6, each with the place that it would have in a sheet"
 unfoldable pub recordVerdict : Netlist → ℕ → ℕ → Verdict
 recordVerdict c latchCount gateCount =
     testLines c Size sizeFault

@@ -1,4 +1,4 @@
-// The tests of a record with its lists (document 01, "A record handed in is tested alike").
+// The tests of a record with its lists (RULES T38, "is tested alike").
 use netlist::Line;
 use netlist::Netlist;
 use netlist::UnpackedList;
@@ -152,7 +152,7 @@ pub fn test_loops(net: Netlist, gates: &UnpackedList) -> Verdict
     Verdict::Passed
 }
 
-// Tests a record with its lists, in document 01's order. The caller's lists have `latch_count` and `gate_count` records.
+// Tests a record with its lists, in the order of RULES T38. The caller's lists have `latch_count` and `gate_count` records.
 pub fn test_record(
     net: Netlist,
     latches: &UnpackedList,

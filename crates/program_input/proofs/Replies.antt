@@ -1,5 +1,4 @@
 -- Laws of specs/Input.antt: which test decides, and what an input that is not refused has shown. No contract cites this file.
--- Assumes nothing.
 use Prim.Native.Nat.{ℕ, _-_}
 use mathlib.Core.Path.{_≡_, refl}
 use mathlib.Core.List.{List}

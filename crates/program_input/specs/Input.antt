@@ -1,5 +1,5 @@
--- What the program makes of its input (document 01: "eleven bytes, the depth in ten columns and a line feed, then the sheet", "The
--- depth is tested first"). Cited by `read_sheet` and `read_input`. Assumes nothing.
+-- What the program makes of its input (RULES P1, "a depth line of eleven bytes, .. then the sheet", and P4, "The depth is tested
+-- first"). Cited by `read_sheet` and `read_input`.
 use Prim.Native.Nat.{ℕ, _≤_}
 use mathlib.Core.Path.{_≡_}
 use mathlib.Core.List.{List}
@@ -20,7 +20,7 @@ use Rattle.program_input.specs.declared.Input.{Input}
 abbrev pub sheetIn : List ℕ → Verdict
 sheetIn file = sheetVerdict file mostWires mostWires
 
--- an input's: "The depth is tested first", then the sheet behind it
+-- an input's. RULES P4: "The depth is tested first", then the sheet behind it
 unfoldable pub inputVerdict : List ℕ → Verdict
 inputVerdict s = depthVerdict s then sheetIn (drop 11 s)
 

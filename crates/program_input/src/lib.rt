@@ -1,4 +1,4 @@
-// The program's input: a depth line and a sheet (document 01, "The program and one full run").
+// The program's input: a depth line and a sheet (RULES P1, P4 and P5).
 use netlist::Netlist;
 use netlist::UnpackedList;
 ghost use mathlib.Core.Path.{_≡_};
@@ -6,7 +6,7 @@ ghost use Rattle.sheet_tests.specs.Scratch.{noCodes};
 ghost use Rattle.refusals.specs.Refusal.{replyOf};
 ghost use Rattle.program_input.specs.Input.{sheetIn, inputVerdict, replyIn, SheetTaken, InputTaken};
 
-// What an input is read as: document 01's number and place (both 0 where it is taken), the depth, and the sheet's record.
+// What an input is read as: a refusal's number and place (both 0 where it is taken), the depth, and the sheet's record.
 pub struct Input {
     pub number: u32,
     pub place: u32,

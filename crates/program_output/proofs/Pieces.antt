@@ -1,4 +1,4 @@
--- Laws of specs/Pieces.antt: nothing printed yet, and one group more. No contract cites this file. Assumes nothing.
+-- Laws of specs/Pieces.antt: nothing printed yet, and one group more. No contract cites this file.
 use Prim.Native.Nat.{ℕ, _+_, _-_}
 use mathlib.Core.Path.{_≡_, refl, sym, _∙_, ap, subst}
 use mathlib.Core.Bool.{true}

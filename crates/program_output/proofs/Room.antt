@@ -1,4 +1,4 @@
--- How long a group of an accepted netlist can be, in numbers and as text. No contract cites this file. Assumes nothing.
+-- How long a group of an accepted netlist can be, in numbers and as text. No contract cites this file.
 use Prim.Native.Nat.{ℕ, zero, suc, _+_, _≤_}
 use mathlib.Core.Path.{_≡_, subst}
 use mathlib.Core.Bool.{true}

@@ -1,5 +1,5 @@
--- The text of a depth, piece by piece: its header, then whole groups in the order of the whole. Cited by `print_header`,
--- `print_group` and `print_groups`. Assumes nothing.
+-- The text of a depth, piece by piece: its header, then whole groups in the order of the whole (RULES P2 and G15). Cited by `print_header`,
+-- `print_group` and `print_groups`.
 use Prim.Native.Nat.{ℕ, _+_}
 use mathlib.Core.Path.{_≡_}
 use mathlib.Core.List.{List, _∷_, _++_}
@@ -14,7 +14,7 @@ use Rattle.group_order.specs.Next.{firstGroup}
 use Rattle.group_order.specs.declared.order.Next.{Next}
 use Rattle.dimacs.specs.Text.{headerText, clauseText}
 
--- "It prints `p cnf`, variables, clauses": of depth k
+-- RULES P2: "`p cnf`, the number of variables, the number of clauses", of depth k
 unfoldable pub formulaHeader : Netlist → ℕ → List ℕ
 formulaHeader c k = headerText (base c (k + 1)) (length (clausesIn (formula c k)))
 

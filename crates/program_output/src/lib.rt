@@ -1,4 +1,4 @@
-// The text of all groups of a depth, piece by piece through buffers of fixed size (document 01, "The program and one full run").
+// The text of all groups of a depth, piece by piece through buffers of fixed size (RULES P2).
 use group_order::order::Next;
 use model::Group;
 use netlist::Netlist;

@@ -1,4 +1,4 @@
--- Laws of specs/Slices.antt: when there is room. No contract cites this file. Assumes nothing.
+-- Laws of specs/Slices.antt: when there is room. No contract cites this file.
 use Prim.Native.Nat.{ℕ, _≤_, _<_}
 use mathlib.Core.Path.{_≡_}
 use lib.Dec.{ltb}

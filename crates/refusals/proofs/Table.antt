@@ -1,4 +1,4 @@
--- Laws of document 01's table of refusals (specs/Refusal.antt): no refusal has the number 0. No contract cites this file. Assumes nothing.
+-- Laws of the table of refusals (specs/Refusal.antt): no refusal has the number 0. No contract cites this file.
 use Prim.Native.Nat.{_≤_}
 use mathlib.Core.Path.{_≡_, refl}
 use native.Mathlib.Omega.{arith}

@@ -1,5 +1,5 @@
 -- Laws of chains of tests (specs/Tests.antt): when none refuses, and which is the first that does. Cited by the crates that test
--- records and sheets. Assumes nothing.
+-- records and sheets.
 use Prim.Native.Nat.{ℕ, zero, suc, _≤_}
 use mathlib.Core.Path.{_≡_, refl, _∙_, ap}
 use mathlib.Core.Bool.{Bool, true, false, true≢false}

@@ -1,5 +1,5 @@
--- The numbers of document 01's table "What is sent back": the only place that has them. Cited by `number`, `reply_of` and every
--- definition of what is sent back. Assumes nothing.
+-- The numbers of the refusals (RULES T1 to T10): the only place that has them. Cited by `number`, `reply_of` and every
+-- definition of what is sent back.
 use Prim.Native.Nat.{ℕ}
 use Rattle.refusals.specs.declared.Refusal.{Refusal}
 use Rattle.refusals.specs.declared.Refusal.the-variants.{Ragged, Misprint, OutOfOrder, Size, CodeOutside, MemoryLoop, Depth, NoSuchGroup, NoRoom, OutOfNumbers}
@@ -20,7 +20,7 @@ refusalNumber NoSuchGroup = 8
 refusalNumber NoRoom = 9
 refusalNumber OutOfNumbers = 10
 
--- "A refusal returns its number and place"; where nothing is refused both are 0
+-- RULES T43: "A refusal returns its number and place"; where nothing is refused both are 0
 abbrev pub replyOf : Verdict → Reply
 replyOf Passed = record { number = 0; place = 0 }
 replyOf (Refused r p) = record { number = refusalNumber r; place = p }

@@ -1,6 +1,6 @@
--- What a call that writes into a lent slice or list sends back and leaves there, by its verdict (document 01, "What is sent back").
+-- What a call that writes into a lent slice or list sends back and leaves there, by its verdict (RULES T43 to T45).
 -- Cited by the calls that write numbers (call_unpacked/specs/Calls), text (dimacs/specs/PrintCalls) and records
--- (sheet_reader/specs/ReadCall), and by call_replies/specs. Assumes nothing.
+-- (sheet_reader/specs/ReadCall), and by call_replies/specs.
 use Prim.Native.Nat.{ℕ}
 use mathlib.Core.List.{List}
 use lib.Dec.{ltb}
@@ -11,7 +11,7 @@ use Rattle.refusals.specs.declared.Refusal.the-variants.{NoRoom}
 use Rattle.refusals.specs.declared.Verdict.{Verdict}
 use Rattle.refusals.specs.declared.Verdict.the-variants.{Passed, Refused}
 
--- 9: "a lent slice or list that is to be written is shorter than the exact need", place 0
+-- RULES T9: "a lent slice or list that is to be written is shorter than the exact need. Place 0"
 unfoldable pub testRoom : ℕ → ℕ → Verdict
 testRoom need room = refuseIf (ltb room need) NoRoom 0
 
@@ -21,12 +21,12 @@ pub record CountReply : Type 0 where
   pub place : ℕ
   pub count : ℕ
 
--- a verdict, with the count beside it: "a count .. returned beside them is all zeros"
+-- a verdict, with the count beside it. RULES T43: "A count .. that is returned beside them is all zeros"
 unfoldable pub withCount : Verdict → ℕ → CountReply
 withCount Passed n = record { number = 0; place = 0; count = n }
 withCount (Refused r p) n = record { number = refusalNumber r; place = p; count = 0 }
 
--- what is in the slice then: what was to be written, and everything behind untouched; at a refusal what was there
+-- what is in the slice then: what was to be written, and everything behind untouched (RULES G21); at a refusal what was there (RULES T44)
 unfoldable pub contentsAfter : {A : Type 0} → Verdict → List A → List A → List A
 contentsAfter Passed xs old = over xs old
 contentsAfter (Refused r p) xs old = old

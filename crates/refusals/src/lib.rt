@@ -1,4 +1,4 @@
-// The numbered errors of document 01's table "What is sent back", and what a chain of tests answers.
+// The numbered errors (RULES T1 to T10), and what a chain of tests answers.
 ghost use mathlib.Core.Path.{_≡_};
 ghost use Rattle.refusals.specs.Refusal.{refusalNumber, replyOf};
 
@@ -22,7 +22,7 @@ pub enum Verdict {
     Refused(Refusal, u32),
 }
 
-// A verdict in document 01's numbers, both 0 where no test refuses.
+// A verdict in numbers (RULES N9), both 0 where no test refuses.
 pub struct Reply {
     pub number: u32,
     pub place: u32,

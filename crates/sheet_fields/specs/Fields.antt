@@ -1,5 +1,5 @@
--- A field of ten columns as it is read (document 01, "The sheet"). Its text is `field` or `emptyField` of decimal/specs/Digits.
--- Cited by `after_spaces`, `read_field` and the functions that read a line. Assumes nothing.
+-- A field of ten columns as it is read (RULES S2 and S3). Its text is `field` or `emptyField` of decimal/specs/Digits.
+-- Cited by `after_spaces`, `read_field` and the functions that read a line.
 use Prim.Native.Nat.{ℕ}
 use mathlib.Core.Bool.{cond}
 use mathlib.Core.List.{List, [], _∷_}
@@ -11,7 +11,7 @@ use Rattle.decimal.specs.declared.Number.the-variants.{Value, NotANumber}
 use Rattle.sheet_fields.specs.declared.Field.{Field}
 use Rattle.sheet_fields.specs.declared.Field.the-variants.{Empty, Filled, Misprinted}
 
--- "the digits of a field are handed back as the part of the line they occupy": what stands behind the leading spaces
+-- RULES S9: "the digits of a field are answered as a part of the line"; what stands behind the leading spaces
 unfoldable pub dropSpaces : List ℕ → List ℕ
 dropSpaces [] = []
 dropSpaces (c ∷ s) = cond (eqb c space) (dropSpaces s) (c ∷ s)

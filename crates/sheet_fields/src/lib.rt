@@ -1,4 +1,4 @@
-// Fields of ten columns (document 01, "The sheet"): empty, a number behind spaces, or neither.
+// Fields of ten columns (RULES S2, S3 and S9): empty, a number behind spaces, or neither.
 ghost use mathlib.Core.Path.{_≡_};
 ghost use Rattle.sheet_fields.specs.Fields.{dropSpaces, fieldOf};
 use decimal::Number;

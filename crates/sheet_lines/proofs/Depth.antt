@@ -1,5 +1,4 @@
 -- Laws of specs/Depth.antt: the depth line's field, and what a depth that passes has shown. No contract cites this file.
--- Assumes nothing.
 use Prim.Native.Nat.{ℕ, _≤_, _<_}
 use mathlib.Core.Path.{_≡_, refl}
 use mathlib.Core.Bool.{Bool, true, false}

@@ -1,5 +1,4 @@
 -- Laws of specs/Letters.antt: a letter and its kind, and the rule of a table of filled fields. No contract cites this file.
--- Assumes nothing.
 use Prim.Native.Nat.{ℕ, zero, suc, _<_}
 use mathlib.Core.Path.{_≡_, refl, sym, ap, _∙_}
 use mathlib.Core.Bool.{Bool, true, false, cond, _&&_, Bool·beq, false≢true}

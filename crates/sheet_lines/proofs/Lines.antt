@@ -1,5 +1,5 @@
 -- Laws of specs/Lines.antt: the tests of a line, one by one; what is read is the text of the line (`lineText-lineOf`), and what is
--- written reads back (`lineOf-lineText`). No contract cites this file. Assumes nothing.
+-- written reads back (`lineOf-lineText`). No contract cites this file.
 use Prim.Native.Nat.{ℕ, _+_, _^_, _<_}
 use mathlib.Core.Path.{_≡_, refl, sym, ap, ap₂, _∙_}
 use mathlib.Core.Bool.{Bool, true, false, cond, _&&_, false≢true}

@@ -1,5 +1,5 @@
--- The depth line, the first eleven bytes of the input (document 01, "The program and one full run"). Cited by `read_depth`
--- and its parts, program_input/specs/Input and calls/specs/Starred. Assumes nothing.
+-- The depth line, the first eleven bytes of the input (RULES P1 and P4). Cited by `read_depth`
+-- and its parts, program_input/specs/Input and calls/specs/Starred.
 use Prim.Native.Nat.{ℕ}
 use mathlib.Core.Bool.{true, not, cond, _&&_}
 use mathlib.Core.List.{List}
@@ -17,18 +17,18 @@ use Rattle.sheet_fields.specs.declared.Field.the-variants.{Misprinted}
 use Rattle.sheet_lines.specs.Lines.{asWanted, valueOf}
 use Rattle.sheet_lines.specs.declared.DepthLine.{DepthLine}
 
--- "the depth in ten columns and a line feed"; "input of fewer than eleven bytes" has no such field
+-- RULES P1: "the depth in a field of ten columns .. and a line feed"; an input of fewer than eleven bytes has no such field
 unfoldable pub depthField : List ℕ → Field
 depthField s = cond (leb 11 (length s) && eqb (getD s 10 0) lineFeed) (fieldOf (take 10 s)) Misprinted
 
--- "form 2 .., value 7, place 0": a number, and at most 255
+-- RULES P4: "at place 0: its form is 2, .. then its value is 7"; a number, and at most 255
 unfoldable pub fieldVerdict : Field → Verdict
 fieldVerdict f = refuseIf (not (asWanted true f)) Misprint 0 then refuseIf (ltb mostDepth (valueOf f)) Depth 0
 
 unfoldable pub depthVerdict : List ℕ → Verdict
 depthVerdict s = fieldVerdict (depthField s)
 
--- a verdict with the depth in a field beside it, 0 at a refusal
+-- a verdict with the depth in a field beside it, 0 at a refusal (RULES L1)
 unfoldable pub withDepth : Verdict → Field → DepthLine
 withDepth Passed f = record { verdict = Passed; depth = valueOf f }
 withDepth (Refused r p) f = record { verdict = Refused r p; depth = 0 }

@@ -1,5 +1,5 @@
--- Document 01's table of letters: which line a letter stands for, and which of its fields are filled. Cited by the functions that
--- read a line, by sheet_steps/specs and sheet_parse/specs for the line due, and by call_replies/specs. Assumes nothing.
+-- The table of letters (RULES S4 and S5): which line a letter stands for, and which of its fields are filled. Cited by the functions that
+-- read a line, by sheet_steps/specs and sheet_parse/specs for the line due, and by call_replies/specs.
 use Prim.Native.Nat.{ℕ, _<_}
 use mathlib.Core.Path.{_≡_}
 use mathlib.Core.Bool.{Bool, cond}
@@ -20,7 +20,7 @@ letterOf WriteData = 68
 letterOf Control = 67
 letterOf Unknown = 0
 
--- "the letter decides which line it is"
+-- RULES S4: "The letter says which line it is"
 unfoldable pub kindOf : ℕ → Kind
 kindOf c =
     cond (eqb c (letterOf Sizes)) Sizes
@@ -31,7 +31,7 @@ kindOf c =
     (cond (eqb c (letterOf WriteData)) WriteData
     (cond (eqb c (letterOf Control)) Control Unknown))))))
 
--- the row in document 01's table, from 0; an unknown letter has none: 7 is behind the last
+-- the row in the table of RULES S5, from 0; an unknown letter has none: 7 is behind the last
 abbrev pub rowOf : Kind → ℕ
 rowOf Sizes = 0
 rowOf Memory = 1
@@ -57,7 +57,7 @@ numbersIn WriteData = 1
 numbersIn Control = 3
 numbersIn Unknown = 0
 
--- "which fields are filled for which letter": the numbers stand in the first columns (counted from 0), the others are empty
+-- RULES S8: "which of the three fields are filled"; the numbers stand in the first columns (counted from 0), the others are empty
 unfoldable pub isFilled : Kind → ℕ → Bool
 isFilled k column = ltb column (numbersIn k)
 

@@ -1,5 +1,5 @@
--- A line of 32 bytes as it is read and as it is written (document 01, "The sheet"). Cited by `read_line` and its parts,
--- sheet_lines/specs/Depth, sheet_parse/specs/Files and calls/specs/Starred. Assumes nothing.
+-- A line of 32 bytes as it is read and as it is written (RULES S1 and T2). Cited by `read_line` and its parts,
+-- sheet_lines/specs/Depth, sheet_parse/specs/Files and calls/specs/Starred.
 use Prim.Native.Nat.{ℕ, _+_, _*_, _^_, _<_}
 use mathlib.Core.Path.{_≡_}
 use mathlib.Core.Bool.{Bool, true, false, not, cond, _&&_}
@@ -35,12 +35,12 @@ valueOf Empty = 0
 valueOf (Filled x) = x
 valueOf Misprinted = 0
 
--- a line of this kind with these fields; "unknown letter, a field not as its letter wants" is a misprint
+-- a line of this kind with these fields. RULES T2: "an unknown letter, a field not as its letter wants" is a misprint
 unfoldable pub lineWith : Kind → Field → Field → Field → ParsedLine
 lineWith k a b c =
     cond (isKnown k && allAsWanted k a b c) (Read k (valueOf a) (valueOf b) (valueOf c)) Misprint
 
--- "a letter, three fields of ten columns, a line feed": 32 bytes, of which the last is a line feed, or a misprint
+-- RULES S1: "a letter, three fields of ten columns each, a line feed"; 32 bytes, of which the last is a line feed, or a misprint
 unfoldable pub lineOf : List ℕ → ParsedLine
 lineOf s =
     cond (eqb (length s) lineBytes && eqb (getD s 31 0) lineFeed)

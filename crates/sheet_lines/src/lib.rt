@@ -1,4 +1,4 @@
-// Lines of 32 bytes: a letter, three fields of ten columns, a line feed (document 01, "The sheet"); and the depth line.
+// Lines of 32 bytes: a letter, three fields of ten columns, a line feed (RULES S1); and the depth line (RULES P1).
 ghost use mathlib.Core.Path.{_≡_};
 ghost use Prim.Native.Nat.{_<_};
 ghost use Rattle.sheet_lines.specs.Letters.{kindOf, rowOf, isFilled, FilledAsPrinted};
@@ -8,7 +8,7 @@ use refusals::Refusal;
 use refusals::Verdict;
 use sheet_fields::Field;
 
-// Which line it is: the rows of document 01's table, and any other letter.
+// Which line it is: the rows of the table in RULES S5, and any other letter.
 pub enum Kind {
     Sizes,
     Memory,
@@ -37,7 +37,7 @@ pub struct DepthLine {
     pub depth: u32,
 }
 
-// Which fields are filled, 1, and which are empty, 0, in the order of document 01's table.
+// Which fields are filled, 1, and which are empty, 0, in the order of the table in RULES S5.
 const FILLED: [[u8; 3]; 7] = [
     [1, 1, 1], // N
     [1, 1, 1], // M
@@ -80,7 +80,7 @@ pub fn row_of(kind: Kind) -> usize
     }
 }
 
-// The table: at every row and column it says what document 01's table says.
+// The table: at every row and column it says what the table in RULES S5 says.
 fn filled_fields() -> [[u8; 3]; 7]
     ensures { λ table. ⌜ FilledAsPrinted table ⌝ }
 {

@@ -1,5 +1,5 @@
 -- The netlist as far as a line (specs/Progress.antt) and the netlist of the whole file (specs/Files.antt): one line more, the faults
--- of the last line, and the last line of all. No contract cites this file. Assumes nothing.
+-- of the last line, and the last line of all. No contract cites this file.
 use Prim.Native.Nat.{ℕ, _+_, _-_, _*_, _%_, _≤_, _<_}
 use mathlib.Core.Path.{_≡_, refl, sym, _∙_, ap, fun-ext}
 use mathlib.Core.Bool.{false, cond, not, _||_}

@@ -1,5 +1,5 @@
 -- The test of a line in the whole file (specs/FileTests.antt) is the test of it in the netlist as far as it is read (`stepVerdict`).
--- No contract cites this file. Assumes nothing.
+-- No contract cites this file.
 use Prim.Native.Nat.{ℕ, _+_, _≤_}
 use mathlib.Core.Path.{_≡_, refl, sym, _∙_, subst}
 use mathlib.Core.Bool.{Bool, false, not, _&&_, _||_}

@@ -1,6 +1,6 @@
--- The tests of a file and of its lines, in document 01's order ("Reading: .."): the line due at a place from the sizes alone, and
+-- The tests of a file and of its lines, in their order (RULES T33): the line due at a place from the sizes alone, and
 -- the faults of a line in their order. Cited by `is_ragged`, `read_next`, `read_lines`,
--- sheet_parse/specs/Progress and sheet_tests/specs/Sheet. Assumes nothing.
+-- sheet_parse/specs/Progress and sheet_tests/specs/Sheet.
 use Prim.Native.Nat.{ℕ, _%_}
 use mathlib.Core.Bool.{Bool, true, false, not, _&&_, _||_}
 use mathlib.Core.List.{List}
@@ -20,11 +20,11 @@ use Rattle.sheet_steps.specs.Due.{kindDue}
 use Rattle.sheet_steps.specs.LineFaults.{faultsAt}
 use Rattle.sheet_parse.specs.Files.{lineIn}
 
--- 1: "file empty, not a multiple of 32 bytes, or over 19,680"
+-- RULES T1: "the file is empty, its length is no multiple of 32 bytes, or it has more than 19,680 bytes"
 unfoldable pub ragged : List ℕ → Bool
 ragged file = eqb (length file) 0 || not (eqb (length file % lineBytes) 0) || ltb mostBytes (length file)
 
--- 2: a line that is misprinted
+-- RULES T2: a line that is misprinted
 abbrev pub misprinted : ParsedLine → Bool
 misprinted ParsedLine.Misprint = true
 misprinted (ParsedLine.Read k x y z) = false
@@ -34,11 +34,11 @@ abbrev pub isOf : Kind → ParsedLine → Bool
 isOf k ParsedLine.Misprint = false
 isOf k (ParsedLine.Read kind x y z) = eqb (rowOf kind) (rowOf k)
 
--- 3: "not the line due, .. or too many"
+-- RULES T3: "not the line due, .. or a line too many"
 unfoldable pub notDue : Netlist → List ℕ → ℕ → Bool
 notDue c file p = not (leb p (controlLine c) && isOf (kindDue (lineAt c p)) (lineIn file p))
 
--- "line by line 2, 3, then 4 or 5, place being the line, the first as 1"
+-- RULES T33: "line by line, at each line 2, then 3, then 4 or 5"; the place is the line, the first being 1 (RULES S7)
 unfoldable pub testLineIn : Netlist → List ℕ → ℕ → Verdict
 testLineIn c file p =
     refuseIf (misprinted (lineIn file p)) Misprint p

@@ -1,6 +1,6 @@
--- The netlist that the lines of a file give (document 01, "The sheet"). The sizes stand in lines 1 and 2, and they alone say where
+-- The netlist that the lines of a file give (RULES S5 to S7). The sizes stand in lines 1 and 2, and they alone say where
 -- everything else stands. Cited by the functions that read a file, by the specs of sheet_tests, sheet_reader and program_input, by calls/specs/Starred and
--- by `marrubigai_next_line`. Assumes nothing.
+-- by `marrubigai_next_line`.
 use Prim.Native.Nat.{ℕ, _-_, _*_, _/_}
 use mathlib.Core.Bool.{cond}
 use mathlib.Core.List.{List}
@@ -14,7 +14,7 @@ use Rattle.sheet_lines.specs.Lines.{lineOf}
 use Rattle.sheet_lines.specs.declared.ParsedLine.{ParsedLine}
 use Rattle.sheet_lines.specs.declared.ParsedLine.the-variants.{Misprint, Read}
 
--- "lines of 32 bytes"; the line at a place, the first being 1
+-- RULES S1: "lines of 32 bytes"; the line at a place, the first being 1
 abbrev pub lineCount : List ℕ → ℕ
 lineCount file = length file / lineBytes
 
@@ -40,7 +40,7 @@ sizesIn file =
     withoutCodes (firstNumber (lineIn file sizesLine)) (secondNumber (lineIn file sizesLine)) (thirdNumber (lineIn file sizesLine))
     (firstNumber (lineIn file memoryLine)) (secondNumber (lineIn file memoryLine)) (thirdNumber (lineIn file memoryLine))
 
--- below a size what the lines say, and 0 past it: "the returned record's entries past its sizes are 0"
+-- below a size what the lines say, and 0 past it. RULES T45: "the entries of the returned record past its sizes are 0"
 abbrev pub upTo : ℕ → (ℕ → ℕ) → ℕ → ℕ
 upTo size f x = cond (ltb x size) (f x) 0
 

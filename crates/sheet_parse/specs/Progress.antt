@@ -1,5 +1,5 @@
 -- How far a file is read: the netlist as far as a line, and the lines before it passed. Cited by the functions that go through a
--- file line by line. Assumes nothing.
+-- file line by line.
 use Prim.Native.Nat.{ℕ}
 use mathlib.Core.Path.{_≡_}
 use mathlib.Core.Bool.{cond}

@@ -1,4 +1,4 @@
-// A file of lines, read line by line into the record and the lists (document 01, "The sheet" and "Reading").
+// A file of lines, read line by line into the record and the lists (RULES S5 to S7 and T33).
 use netlist::Netlist;
 use netlist::UnpackedList;
 use refusals::Refusal;

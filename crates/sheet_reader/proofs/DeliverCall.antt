@@ -1,6 +1,6 @@
 -- A call of `deliver_latches` or `deliver_gates`, for any record type: what it asks of a caller that lends it an unpacked list
 -- for a lifetime of its own and gives it the list of records for good, and what the caller has afterwards. No contract cites this
--- file. Assumes nothing.
+-- file.
 use Prim.Native.Nat.{ℕ, _≤_, _<_, _^_}
 use mathlib.Core.Path.{_≡_, refl, ap}
 use mathlib.Core.List.{List, [], _∷_}

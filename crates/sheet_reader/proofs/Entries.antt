@@ -1,5 +1,5 @@
 -- Two netlists that agree below their sizes are accepted alike (the model's Acceptance): "entries past the sizes are ignored".
--- Cited where a record and its lists have something past the sizes. Assumes nothing.
+-- Cited where a record and its lists have something past the sizes.
 use Prim.Native.Nat.{ℕ, zero, suc, _/_, _≤_, _<_}
 use mathlib.Core.Path.{_≡_, sym, _∙_}
 use mathlib.Core.Bool.{false}

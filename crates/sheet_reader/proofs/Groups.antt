@@ -1,5 +1,5 @@
 -- Two netlists that agree below their sizes have the same variables and the same clauses, group by group: no entry past a size is
--- asked for. Cited where a record and its lists have something past the sizes. Assumes nothing.
+-- asked for. Cited where a record and its lists have something past the sizes.
 use Prim.Native.Nat.{ℕ, zero, suc, _+_, _<_}
 use mathlib.Core.Path.{_≡_, refl, _∙_, ap, ap₂}
 use mathlib.Core.List.{List, [], _∷_, _++_}

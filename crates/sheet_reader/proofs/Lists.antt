@@ -1,4 +1,4 @@
--- What stands at an index of gathered lists, and of delivered lists, unpacked. No contract cites this file. Assumes nothing.
+-- What stands at an index of gathered lists, and of delivered lists, unpacked. No contract cites this file.
 use Prim.Native.Nat.{ℕ, zero, suc, _+_, _*_, _≤_, _<_}
 use mathlib.Core.Path.{_≡_, refl, sym, _∙_, ap}
 use mathlib.Core.Logic.{by-cases}

@@ -1,5 +1,5 @@
 -- An unpacked list (`UnpackedList`) that stands in a local: what its local and its value own together, as memory that can be lent,
--- and back. No contract cites this file. Assumes nothing.
+-- and back. No contract cites this file.
 use Prim.Native.Nat.{ℕ}
 use mathlib.Core.Path.{refl}
 use mathlib.Core.List.{List, [], _∷_}

@@ -1,5 +1,5 @@
 -- What `read` returns and leaves (specs/ReadCall.antt), from what stands in its own unpacked lists; and what holds of what it
--- leaves. Cited by `read`. Assumes nothing.
+-- leaves. Cited by `read`.
 use Prim.Native.Nat.{ℕ, _≤_}
 use mathlib.Core.Path.{_≡_, refl, sym, _∙_, ap}
 use mathlib.Core.List.{List}

@@ -1,5 +1,5 @@
--- A reader's file and line number, line by line (document 01, "The sheet reader carries the file and its own line number").
--- Cited by `at_start`, `next_number`, `next_line` and `marrubigai_next_line`. Assumes nothing.
+-- A reader's file and line number, line by line (RULES S10, "carries the file and its line number", and L2).
+-- Cited by `at_start`, `next_number`, `next_line` and `marrubigai_next_line`.
 use Prim.Native.Nat.{ℕ, _+_}
 use mathlib.Core.Bool.{cond}
 use mathlib.Core.List.{List}
@@ -14,7 +14,7 @@ use Rattle.sheet_reader.specs.declared.NextLine.{NextLine}
 abbrev pub atStart : RefT (List ℕ) → SheetReader
 atStart file = record { file = file; line = 0 }
 
--- one line more; no sheet has more than 615, and the number goes no further
+-- one line more; no sheet has more than 615 (RULES S6), and the number goes no further (RULES L2)
 unfoldable pub nextNumber : ℕ → ℕ
 nextNumber line = cond (ltb line mostLines) (line + 1) line
 

@@ -1,5 +1,5 @@
--- What `read` returns and leaves in the lists that it is lent (document 01, "On success only the first L and A records of the lent
--- lists change, ..", "a .. record returned beside them is all zeros"). Cited by `read` and `marrubigai_read`. Assumes nothing.
+-- What `read` returns and leaves in the lists that it is lent (RULES T45, "only the first L and the first A records of the lent
+-- lists change", and T43, "a record that is returned beside them is all zeros"). Cited by `read` and `marrubigai_read`.
 use Prim.Native.Nat.{ℕ}
 use mathlib.Core.Path.{_≡_}
 use mathlib.Core.List.{List}
@@ -44,8 +44,8 @@ unfoldable pub gatesLeft : List ℕ → List Latch → List Gate → List Gate
 gatesLeft file latches gates =
     contentsAfter (readVerdict file latches gates) (firstRecords (netIn file .gates) (gateOf (netIn file))) gates
 
--- What holds of the record and the lists that `read` leaves where it refuses nothing. "A sheet is accepted when no test of sheets
--- refuses it, a record with its lists when no test of records does": here neither does. "Demands 2 and 3 speak of both": the
+-- What holds of the record and the lists that `read` leaves where it refuses nothing. RULES A1: "A sheet is accepted if it passes every
+-- test of sheets, and a record with its lists if it passes every test of records"; here both pass. Demands 2 and 3 hold of both: the
 -- variables and every group's numbers are those of the sheet's netlist, and demand 3 holds of it.
 pub record SheetDelivered (file : List ℕ) (r : Netlist) (latches : List Latch) (gates : List Gate) : Type 0 where
   pub not-refused : recordVerdict (netLent r latches gates) (length latches) (length gates) ≡ Passed

@@ -1,5 +1,5 @@
-// The sheet reader, which carries the file and its own line number, and `read` into lent lists of records (document 01, "The sheet"
-// and "Reading"). Each function here takes its structs and lists apart and leaves the work to functions over plain slices.
+// The sheet reader, which carries the file and its own line number, and `read` into lent lists of records (RULES S10,
+// T45 and L2). Each function here takes its structs and lists apart and leaves the work to functions over plain slices.
 use call_lists::Gate;
 use call_lists::Latch;
 use netlist::Netlist;

@@ -1,5 +1,5 @@
 -- Lines and their places: a line that a netlist has stands at one place, and the place says which line it is. Cited by the laws of
--- reading line by line. Assumes nothing.
+-- reading line by line.
 use Prim.Native.Nat.{ℕ, _+_, _-_, _≤_, _<_}
 use mathlib.Core.Path.{_≡_, refl, sym, _∙_, ap}
 use mathlib.Core.Bool.{true, false}

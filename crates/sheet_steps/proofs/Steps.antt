@@ -1,4 +1,4 @@
--- Laws of reading line by line (specs/Steps.antt). Assumes nothing.
+-- Laws of reading line by line (specs/Steps.antt).
 use Prim.Native.Nat.{ℕ, _+_, _*_, _≤_, _<_}
 use mathlib.Core.Path.{_≡_, refl, sym, _∙_, ap, fun-ext}
 use mathlib.Core.Bool.{Bool, true, false, not, cond, _||_}

@@ -1,5 +1,5 @@
--- The kind of the line due at a place (document 01, "The sheet"). Cited by the functions that take one line more and by
--- sheet_parse/specs/FileTests. Assumes nothing.
+-- The kind of the line due at a place (RULES S5 to S7). Cited by the functions that take one line more and by
+-- sheet_parse/specs/FileTests.
 use Rattle.netlist.specs.declared.Line.{Line}
 use Rattle.netlist.specs.declared.Line.the-variants as Due
 use Rattle.sheet_lines.specs.declared.Kind.{Kind}

@@ -1,5 +1,5 @@
--- Refusals 4 and 5 at one line (document 01, "line by line 2, 3, then 4 or 5"). Cited by `test_stored`, sheet_steps/specs/Steps and
--- sheet_parse/specs/FileTests. Assumes nothing.
+-- Refusals 4 and 5 at one line (RULES T33, "line by line, at each line 2, then 3, then 4 or 5"). Cited by `test_stored`, sheet_steps/specs/Steps and
+-- sheet_parse/specs/FileTests.
 use Prim.Native.Nat.{ℕ}
 use Rattle.refusals.specs.Tests.{refuseIf, _then_}
 use Rattle.refusals.specs.declared.Refusal.the-variants.{Size, CodeOutside}

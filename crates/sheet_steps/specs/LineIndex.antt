@@ -1,4 +1,4 @@
--- A line's number among those of its kind. Cited by the functions that store a line, and by no public contract. Assumes nothing.
+-- A line's number among those of its kind. Cited by the functions that store a line, and by no public contract.
 use Prim.Native.Nat.{ℕ}
 use mathlib.Core.Bool.{Bool, _&&_}
 use lib.Dec.{eqb}

@@ -1,5 +1,5 @@
--- The record returned beside a verdict (document 01, "a .. record returned beside them is all zeros"). Cited by `refused`,
--- sheet_tests/specs/Codes and sheet_reader/specs/ReadCall. Assumes nothing.
+-- The record returned beside a verdict (RULES T43, "a record that is returned beside them is all zeros"). Cited by `refused`,
+-- sheet_tests/specs/Codes and sheet_reader/specs/ReadCall.
 use Prim.Native.Nat.{ℕ}
 use Rattle.model.specs.Netlist as M
 use Rattle.refusals.specs.declared.Refusal.{Refusal}

@@ -1,5 +1,5 @@
 -- What one line more does: its numbers put into the netlist read so far, and its tests there. Cited by the functions that take one
--- line more, sheet_parse/specs/Progress, sheet_tests/specs/Scratch and sheet_tests/specs/Codes. Assumes nothing.
+-- line more, sheet_parse/specs/Progress, sheet_tests/specs/Scratch and sheet_tests/specs/Codes.
 use Prim.Native.Nat.{ℕ, _≤_}
 use mathlib.Core.Path.{_≡_}
 use mathlib.Core.Bool.{cond, not, _||_}
@@ -72,7 +72,7 @@ StoredIn r old due x y z =
 unfoldable pub stepNet : Netlist → ℕ → ℕ → ℕ → ℕ → Netlist
 stepNet c x y z p = stored c (lineAt c p) x y z
 
--- "3, then 4 or 5" at place p: a line of this kind and with these numbers
+-- RULES T33, "3, then 4 or 5", at place p: a line of this kind and with these numbers
 unfoldable pub stepVerdict : Netlist → Kind → ℕ → ℕ → ℕ → ℕ → Verdict
 stepVerdict c kind x y z p =
     refuseIf (ltb (controlLine c) p || not (eqb (rowOf kind) (rowOf (kindDue (lineAt c p))))) OutOfOrder p

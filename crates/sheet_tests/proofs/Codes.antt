@@ -1,5 +1,4 @@
 -- What a reader returns and leaves in its own lists (specs/Codes.antt), by which of its tests refuses. Cited by the reader.
--- Assumes nothing.
 use Prim.Native.Nat.{ℕ, _+_, _≤_}
 use mathlib.Core.Path.{_≡_, sym, _∙_, ap}
 use mathlib.Core.Bool.{Bool, true, false}

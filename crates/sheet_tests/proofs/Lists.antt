@@ -1,4 +1,4 @@
--- Laws of codes gathered into lists: the codes of a record's array, gathered again. No contract cites this file. Assumes nothing.
+-- Laws of codes gathered into lists: the codes of a record's array, gathered again. No contract cites this file.
 use Prim.Native.Nat.{ℕ, zero, suc, _≤_}
 use mathlib.Core.Path.{_≡_, refl, _∙_}
 use mathlib.Core.List.{List}

@@ -1,5 +1,5 @@
 -- Laws of the reader's own lists (specs/Scratch.antt): where they start, and what lines that have passed say of
--- them. Assumes nothing.
+-- them.
 use Prim.Native.Nat.{ℕ, zero, suc, _+_, _*_, _≤_}
 use mathlib.Core.Path.{_≡_, refl, sym, _∙_, ap, subst}
 use mathlib.Core.Bool.{Bool, true, false, cond}

@@ -1,4 +1,4 @@
--- Laws of the verdict on a sheet (specs/Sheet.antt), by which of its tests refuses. No contract cites this file. Assumes nothing.
+-- Laws of the verdict on a sheet (specs/Sheet.antt), by which of its tests refuses. No contract cites this file.
 use Prim.Native.Nat.{ℕ, _+_, _≤_, _<_}
 use mathlib.Core.Path.{_≡_}
 use mathlib.Core.Bool.{true, false}

@@ -1,5 +1,5 @@
 -- What a reader returns and leaves in its own unpacked lists, for lent lists that have room for so many records. Cited by
--- `read_codes` here and in `sheet_reader`. Assumes nothing.
+-- `read_codes` here and in `sheet_reader`.
 use Prim.Native.Nat.{ℕ}
 use mathlib.Core.Path.{_≡_}
 use mathlib.Core.List.{List}

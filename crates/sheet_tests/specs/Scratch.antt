@@ -1,5 +1,5 @@
 -- The reader's own lists, into which the codes go before anything that is lent is written. Cited by `no_codes`,
--- `test_end` and the functions of `program_input`. Assumes nothing.
+-- `test_end` and the functions of `program_input`.
 use Prim.Native.Nat.{ℕ, _≤_}
 use mathlib.Core.List.{List}
 use lib.ListN.{replicate}

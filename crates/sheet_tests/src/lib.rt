@@ -1,5 +1,5 @@
-// The tests of a sheet, a netlist file of fixed columns, and what it is read as, over unpacked lists (document 01, "The sheet" and
-// "Reading").
+// The tests of a sheet, a netlist file of fixed columns, and what it is read as, over unpacked lists (RULES S1 to S7,
+// T33 to T37).
 use netlist::Netlist;
 use netlist::UnpackedList;
 use refusals::Refusal;

@@ -1,4 +1,4 @@
--- Laws of specs/Signed.antt: a signed number written by its parts. No contract cites this file. Assumes nothing.
+-- Laws of specs/Signed.antt: a signed number written by its parts. No contract cites this file.
 use Prim.Native.Nat.{ℕ, suc, _+_, _-_, _<_}
 use mathlib.Core.Path.{_≡_, refl, sym, ap, _∙_}
 use mathlib.Core.Bool.{true, false, true≢false}

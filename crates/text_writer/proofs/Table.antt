@@ -1,5 +1,5 @@
 -- Laws of specs/Table.antt: a number's digits by groups of two and four, and the table of all groups of four. No contract cites
--- this file. Assumes nothing.
+-- this file.
 use Prim.Native.Nat.{ℕ, zero, suc, _+_, _*_, _/_, _%_, _≤_, _<_}
 use mathlib.Core.Path.{_≡_, refl, sym, _∙_, ap, subst}
 use mathlib.Core.List.{List, [], _∷_, _++_, append-assoc, append-nil}

@@ -1,5 +1,5 @@
 -- Laws of `Wrote`: two bytes, four bytes, a word copied byte by byte, and room for a second writer behind a first. No contract cites this
--- file. Assumes nothing.
+-- file.
 use Prim.Native.Nat.{ℕ, suc, _+_, _-_, _≤_, _<_}
 use mathlib.Core.Path.{_≡_, refl}
 use mathlib.Core.List.{List, [], _∷_, _++_}

@@ -1,4 +1,4 @@
--- A signed number taken apart. Cited by `parts_of`. Assumes nothing.
+-- A signed number taken apart. Cited by `parts_of`.
 use Prim.Native.Nat.{suc}
 use lib.IntN.{ℤ, pos, negsuc}
 use Rattle.text_writer.specs.declared.Parts.{Parts}

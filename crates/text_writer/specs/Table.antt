@@ -1,5 +1,5 @@
 -- Two and four digits at a time, and the table of all groups of four. Cited by the functions that write a number's digits by the
--- table, and by `write_numbers` and what calls it. Assumes nothing.
+-- table, and by `write_numbers` and what calls it.
 use Prim.Native.Nat.{ℕ, zero, suc, _/_, _%_, _≤_}
 use mathlib.Core.Path.{_≡_}
 use mathlib.Core.List.{List, [], _∷_, _++_}

@@ -1,4 +1,4 @@
--- `call_replies::group_numbers` meets its contract: each arm knows its answer. Assumes nothing.
+-- `call_replies::group_numbers` meets its contract: each arm knows its answer.
 use borrow.Author.Needs.{needs}
 use Rattle.call_unpacked.specs.Calls.{groupReply}
 use Rattle.call_replies.proofs.group_numbers.Statement.{statement}

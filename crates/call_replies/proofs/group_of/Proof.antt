@@ -1,4 +1,4 @@
--- `call_replies::group_of` meets its contract: each arm knows its kind. Assumes nothing.
+-- `call_replies::group_of` meets its contract: each arm knows its kind.
 use borrow.Author.Tests.{ne-eqb}
 use Rattle.call_replies.specs.Replies.{groupOf}
 use Rattle.call_replies.proofs.group_of.Statement.{statement}

@@ -1,4 +1,4 @@
--- `call_replies::heading_numbers` meets its contract: each arm knows its answer. Assumes nothing.
+-- `call_replies::heading_numbers` meets its contract: each arm knows its answer.
 use Rattle.call_unpacked.specs.Calls.{headingReply, withHeading}
 use Rattle.call_replies.specs.Replies.{headingNumbers}
 use borrow.Author.Needs.{needs}

@@ -1,4 +1,4 @@
--- `call_replies::line_numbers` meets its contract: each arm knows its line. Assumes nothing.
+-- `call_replies::line_numbers` meets its contract: each arm knows its line.
 use borrow.Author.Needs.{needs}
 use Rattle.call_replies.specs.Replies.{lineNumbers}
 use Rattle.call_replies.proofs.line_numbers.Statement.{statement}

@@ -1,4 +1,4 @@
--- `call_replies::print_numbers` meets its contract: each arm knows its answer. Assumes nothing.
+-- `call_replies::print_numbers` meets its contract: each arm knows its answer.
 use borrow.Author.Needs.{needs}
 use Rattle.dimacs.specs.PrintCalls.{printReply}
 use Rattle.call_replies.proofs.print_numbers.Statement.{statement}

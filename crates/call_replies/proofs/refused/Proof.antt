@@ -1,4 +1,4 @@
--- `call_replies::refused` meets its contract: it is the definition. Assumes nothing.
+-- `call_replies::refused` meets its contract: it is the definition.
 use borrow.Author.Needs.{needs}
 use Rattle.refusals.specs.Slices.{withCount}
 use Rattle.call_replies.specs.Replies.{countNumbers}

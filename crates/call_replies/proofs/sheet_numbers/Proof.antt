@@ -1,4 +1,4 @@
--- `call_replies::sheet_numbers` meets its contract: it is the definition. Assumes nothing.
+-- `call_replies::sheet_numbers` meets its contract: it is the definition.
 use borrow.Author.Needs.{needs}
 use Rattle.call_replies.specs.Replies.{sheetNumbers}
 use Rattle.call_replies.proofs.sheet_numbers.Statement.{statement}

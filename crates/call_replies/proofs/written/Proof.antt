@@ -1,4 +1,4 @@
--- `call_replies::written` meets its contract: it is the definition. Assumes nothing.
+-- `call_replies::written` meets its contract: it is the definition.
 use mathlib.Core.Path.{refl}
 use Rattle.refusals.specs.Slices.{withCount}
 use Rattle.call_replies.specs.Replies.{countNumbers}

@@ -1,4 +1,4 @@
--- `call_unpacked::heading` meets its contract: each answer is that of the first test that refuses. Assumes nothing.
+-- `call_unpacked::heading` meets its contract: each answer is that of the first test that refuses.
 use Prim.Native.Nat.{_+_}
 use mathlib.Core.Path.{_≡_, sym, _∙_}
 use native.Mathlib.Omega.{arith}

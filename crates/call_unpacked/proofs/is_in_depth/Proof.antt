@@ -1,4 +1,4 @@
--- `call_unpacked::is_in_depth` meets its contract: each arm is the definition at its kind. Assumes nothing.
+-- `call_unpacked::is_in_depth` meets its contract: each arm is the definition at its kind.
 use Rattle.model.specs.Groups.{inDepth}
 use borrow.Author.Needs.{needs}
 use Rattle.call_unpacked.proofs.is_in_depth.Statement.{statement}

@@ -1,4 +1,4 @@
--- `call_unpacked::test_group` meets its contract: each answer is that of the first test that refuses. Assumes nothing.
+-- `call_unpacked::test_group` meets its contract: each answer is that of the first test that refuses.
 use mathlib.Core.Path.{_≡_, sym, _∙_}
 use native.Mathlib.Omega.{arith}
 use borrow.Author.Tests.{not-true, not-false}

@@ -1,4 +1,4 @@
--- `call_unpacked::write_group` meets its contract: a verdict, and the group written where it passes. Assumes nothing.
+-- `call_unpacked::write_group` meets its contract: a verdict, and the group written where it passes.
 use mathlib.Core.Path.{sym, _∙_}
 use Rattle.refusals.specs.Slices.{withCount, contentsAfter}
 use Rattle.call_unpacked.specs.Calls.{groupReply, groupSent, groupLeaves}

@@ -1,6 +1,5 @@
 -- `calls::heading` meets its contract: a walk of its MIR, by hand. Both lists are unpacked into local arrays, which are lent to
 -- the call over unpacked lists. Demand 3 and the starred facts are laws of what that call answers.
--- Assumes nothing.
 use mathlib.Core.Path.{_≡_, refl, _∙_, ap}
 use Prim.Native.Nat.{ℕ, _<_, _^_}
 use mathlib.Core.List.{List, [], _∷_}
@@ -255,8 +254,8 @@ heading-spec 𝓤 H 𝓜 𝓖 𝓡 =
     (tables 𝓤 H 𝓜 𝓡 code.env .C) (tables 𝓤 H 𝓜 𝓡 code.env .Λ) #heading code.function (code.unfolded 𝓤 H 𝓜 𝓡)
     (heading-meets 𝓤 H (𝓖 .A) (givenOf 𝓤 H 𝓜 𝓖) (𝓜 .mem) (𝓡 .run) (tablesOf 𝓤 H 𝓜 (tables 𝓤 H 𝓜 𝓡 code.env))
     (cited 𝓤 H (Latches 𝓤 H (𝓖 .A) (givenOf 𝓤 H 𝓜 𝓖) (𝓜 .mem) (𝓡 .run)) 𝓜 𝓡 code.env #latches latches-def.routine
-    code.calls-lists·unpack·unpack-latches (latches-thm.met 𝓤 H 𝓜 𝓖 𝓡))
+    code.calls-call-lists·unpack·unpack-latches (latches-thm.met 𝓤 H 𝓜 𝓖 𝓡))
     (cited 𝓤 H (Gates 𝓤 H (𝓖 .A) (givenOf 𝓤 H 𝓜 𝓖) (𝓜 .mem) (𝓡 .run)) 𝓜 𝓡 code.env #gates gates-def.routine
-    code.calls-lists·unpack·unpack-gates (gates-thm.met 𝓤 H 𝓜 𝓖 𝓡))
+    code.calls-call-lists·unpack·unpack-gates (gates-thm.met 𝓤 H 𝓜 𝓖 𝓡))
     (cited 𝓤 H (Inner 𝓤 H (𝓖 .A) (givenOf 𝓤 H 𝓜 𝓖) (𝓜 .mem) (𝓡 .run)) 𝓜 𝓡 code.env #inner inner-def.routine
-    code.calls-unpacked·heading (inner-thm.met 𝓤 H 𝓜 𝓖 𝓡)))
+    code.calls-call-unpacked·heading (inner-thm.met 𝓤 H 𝓜 𝓖 𝓡)))

@@ -1,5 +1,5 @@
 -- `calls::write_group` meets its contract: a walk of its MIR, by hand, as `heading`'s. The slice to be written goes to the call
--- over unpacked lists for good, and what that call says of it is said here. Assumes nothing.
+-- over unpacked lists for good, and what that call says of it is said here.
 use mathlib.Core.Path.{_≡_, refl, _∙_, ap}
 use Prim.Native.Nat.{ℕ, _<_, _^_}
 use mathlib.Core.List.{List, [], _∷_}
@@ -317,8 +317,8 @@ write-group-spec 𝓤 H 𝓜 𝓖 𝓡 =
     (tables 𝓤 H 𝓜 𝓡 code.env .C) (tables 𝓤 H 𝓜 𝓡 code.env .Λ) #write-group code.function (code.unfolded 𝓤 H 𝓜 𝓡)
     (write-group-meets 𝓤 H (𝓖 .A) (givenOf 𝓤 H 𝓜 𝓖) (𝓜 .mem) (𝓡 .run) (tablesOf 𝓤 H 𝓜 (tables 𝓤 H 𝓜 𝓡 code.env))
     (cited 𝓤 H (Latches 𝓤 H (𝓖 .A) (givenOf 𝓤 H 𝓜 𝓖) (𝓜 .mem) (𝓡 .run)) 𝓜 𝓡 code.env #latches latches-def.routine
-    code.calls-lists·unpack·unpack-latches (latches-thm.met 𝓤 H 𝓜 𝓖 𝓡))
+    code.calls-call-lists·unpack·unpack-latches (latches-thm.met 𝓤 H 𝓜 𝓖 𝓡))
     (cited 𝓤 H (Gates 𝓤 H (𝓖 .A) (givenOf 𝓤 H 𝓜 𝓖) (𝓜 .mem) (𝓡 .run)) 𝓜 𝓡 code.env #gates gates-def.routine
-    code.calls-lists·unpack·unpack-gates (gates-thm.met 𝓤 H 𝓜 𝓖 𝓡))
+    code.calls-call-lists·unpack·unpack-gates (gates-thm.met 𝓤 H 𝓜 𝓖 𝓡))
     (cited 𝓤 H (Inner 𝓤 H (𝓖 .A) (givenOf 𝓤 H 𝓜 𝓖) (𝓜 .mem) (𝓡 .run)) 𝓜 𝓡 code.env #inner inner-def.routine
-    code.calls-unpacked·write-group (inner-thm.met 𝓤 H 𝓜 𝓖 𝓡)))
+    code.calls-call-unpacked·write-group (inner-thm.met 𝓤 H 𝓜 𝓖 𝓡)))

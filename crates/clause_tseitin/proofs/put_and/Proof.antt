@@ -1,4 +1,4 @@
--- `clause_tseitin::put_and` meets its contract: two clauses, then the third. Assumes nothing.
+-- `clause_tseitin::put_and` meets its contract: two clauses, then the third.
 use borrow.Author.Needs.{needs}
 use Rattle.model.specs.Clauses.{andClauses}
 use Rattle.model.specs.Numbers.{written}

@@ -1,4 +1,4 @@
--- `clause_tseitin::put_bit` meets its contract: twice two clauses that begin alike. Assumes nothing.
+-- `clause_tseitin::put_bit` meets its contract: twice two clauses that begin alike.
 use borrow.Author.Needs.{needs}
 use Rattle.model.specs.Clauses.{bitClauses}
 use Rattle.model.specs.Numbers.{written}

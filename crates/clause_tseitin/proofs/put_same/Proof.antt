@@ -1,4 +1,4 @@
--- `clause_tseitin::put_same` meets its contract: two clauses. Assumes nothing.
+-- `clause_tseitin::put_same` meets its contract: two clauses.
 use borrow.Author.Needs.{needs}
 use Rattle.model.specs.Clauses.{sameClauses}
 use Rattle.model.specs.Numbers.{written}

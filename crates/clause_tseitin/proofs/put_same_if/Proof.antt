@@ -1,4 +1,4 @@
--- `clause_tseitin::put_same_if` meets its contract: two clauses that begin alike. Assumes nothing.
+-- `clause_tseitin::put_same_if` meets its contract: two clauses that begin alike.
 use borrow.Author.Needs.{needs}
 use Rattle.model.specs.Clauses.{sameIfClauses}
 use Rattle.model.specs.Numbers.{written}

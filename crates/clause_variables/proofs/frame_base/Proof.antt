@@ -1,4 +1,4 @@
--- `clause_variables::frame_base` meets its contract. Assumes nothing.
+-- `clause_variables::frame_base` meets its contract.
 use borrow.Author.Needs.{needs}
 use Rattle.model.specs.Variables.{base}
 use Rattle.clause_variables.proofs.frame_base.Statement.{statement}

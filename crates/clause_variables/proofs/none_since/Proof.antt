@@ -1,4 +1,4 @@
--- `clause_variables::none_since` meets its contract. Assumes nothing.
+-- `clause_variables::none_since` meets its contract.
 use mathlib.Core.Path.{_∙_}
 use native.Mathlib.Omega.{arith}
 use borrow.Author.Needs.{needs}

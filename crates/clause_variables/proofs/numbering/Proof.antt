@@ -1,4 +1,4 @@
--- `clause_variables::numbering` meets its contract. Assumes nothing.
+-- `clause_variables::numbering` meets its contract.
 use borrow.Author.Needs.{needs}
 use Rattle.netlist.specs.NetOf.{netOf}
 use Rattle.clause_variables.proofs.numbering.Statement.{statement}

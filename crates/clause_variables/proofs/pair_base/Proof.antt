@@ -1,4 +1,4 @@
--- `clause_variables::pair_base` meets its contract. Assumes nothing.
+-- `clause_variables::pair_base` meets its contract.
 use borrow.Author.Needs.{needs}
 use Rattle.model.specs.Variables.{pairBase}
 use Rattle.clause_variables.specs.PortOf.{portOf}

@@ -1,4 +1,4 @@
--- `clause_variables::port_of` meets its contract. Assumes nothing.
+-- `clause_variables::port_of` meets its contract.
 use mathlib.Core.Path.{refl}
 use Rattle.netlist.specs.NetOf.{netOf}
 use Rattle.clause_variables.specs.PortOf.{portOf}

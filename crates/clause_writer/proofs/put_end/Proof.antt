@@ -1,4 +1,4 @@
--- `clause_writer::put_end` meets its contract. Assumes nothing.
+-- `clause_writer::put_end` meets its contract.
 use lib.IntN.{pos}
 use borrow.Author.Needs.{needs}
 use Rattle.model.proofs.Wrote.{wrote-one}

@@ -1,4 +1,4 @@
--- `clause_writer::put_literal` meets its contract. Assumes nothing.
+-- `clause_writer::put_literal` meets its contract.
 use borrow.Author.Needs.{needs}
 use mir.Syntax.{w32}
 use mir.ValLaws.{toZ-ofZ}

@@ -1,4 +1,4 @@
--- `clause_writer::put_unit` meets its contract: the literal, then the end mark. Assumes nothing.
+-- `clause_writer::put_unit` meets its contract: the literal, then the end mark.
 use borrow.Author.Needs.{needs}
 use Rattle.model.specs.Numbers.{written}
 use Rattle.clause_writer.proofs.Wrote.{wrote-then}

@@ -1,5 +1,4 @@
 -- `decimal::digit_count` meets its contract. The loop's invariant: the power is 10^count, and x has at least that many digits.
--- Assumes nothing.
 use Prim.Native.Nat.{_≤_, _<_, _-_, _^_}
 use mathlib.Core.Path.{_≡_}
 use native.Mathlib.Nat.{le-antisymm, pow-suc}

@@ -1,4 +1,4 @@
--- `decimal::put_field` meets its contract: spaces, and then the digits into the rest. Assumes nothing.
+-- `decimal::put_field` meets its contract: spaces, and then the digits into the rest.
 use Prim.Native.Nat.{ℕ, _-_}
 use native.Mathlib.Omega.{arith}
 use borrow.Author.Needs.{needs}

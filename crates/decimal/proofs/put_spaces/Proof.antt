@@ -1,4 +1,4 @@
--- `decimal::put_spaces` meets its contract. The loop's invariant: i spaces stand before what was there. Assumes nothing.
+-- `decimal::put_spaces` meets its contract. The loop's invariant: i spaces stand before what was there.
 use Prim.Native.Nat.{ℕ, _-_, _≤_}
 use mathlib.Core.Path.{_≡_, ap, sym, _∙_}
 use mathlib.Core.List.{List, _++_}

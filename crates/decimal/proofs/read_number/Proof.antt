@@ -1,5 +1,5 @@
 -- `decimal::read_number` meets its contract. The loop's invariant: the value taken in so far has at most i digits, and with the
--- rest of the text it makes the value, and the test for digits, of the whole. Assumes nothing.
+-- rest of the text it makes the value, and the test for digits, of the whole.
 use Prim.Native.Nat.{ℕ, _-_, _^_, _≤_, _<_}
 use mathlib.Core.Path.{_≡_, refl, sym, ap, _∙_}
 use mathlib.Core.Bool.{true, false}

@@ -1,5 +1,4 @@
 -- `dimacs::clauses_fit` meets its contract. The loop's invariant: what is left, and the text of the first i numbers, are the room.
--- Assumes nothing.
 use Prim.Native.Nat.{ℕ, _+_, _-_, _≤_}
 use mathlib.Core.Path.{_≡_, ap, sym, _∙_}
 use mathlib.Core.List.{List}

@@ -1,4 +1,4 @@
--- `dimacs::number_length` meets its contract: sign, digits, and the byte behind them. Assumes nothing.
+-- `dimacs::number_length` meets its contract: sign, digits, and the byte behind them.
 use Prim.Native.Nat.{ℕ, _+_}
 use mathlib.Core.Path.{_≡_, ap, _∙_}
 use mathlib.Core.List.{[], _∷_}

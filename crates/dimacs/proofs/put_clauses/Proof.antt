@@ -1,4 +1,4 @@
--- `dimacs::put_clauses` meets its contract: `clauses_fit` tests the exact length. Assumes nothing.
+-- `dimacs::put_clauses` meets its contract: `clauses_fit` tests the exact length.
 use mathlib.Core.Path.{sym, _∙_}
 use native.Mathlib.Omega.{arith}
 use borrow.Author.Needs.{needs}

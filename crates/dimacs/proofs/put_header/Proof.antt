@@ -1,4 +1,4 @@
--- `dimacs::put_header` meets its contract: its test is the header's exact length. Assumes nothing.
+-- `dimacs::put_header` meets its contract: its test is the header's exact length.
 use native.Mathlib.Omega.{arith}
 use borrow.Author.Needs.{needs}
 use Rattle.decimal.proofs.Digits.{length-digits-ten}

@@ -1,4 +1,4 @@
--- `dimacs::put_refusal` meets its contract: its test is the text's exact length. Assumes nothing.
+-- `dimacs::put_refusal` meets its contract: its test is the text's exact length.
 use native.Mathlib.Omega.{arith}
 use borrow.Author.Needs.{needs}
 use Rattle.dimacs.specs.Text.{refusalText}

@@ -1,4 +1,4 @@
--- `dimacs::write_header` meets its contract: the words, the variables and the clauses, one behind the other. Assumes nothing.
+-- `dimacs::write_header` meets its contract: the words, the variables and the clauses, one behind the other.
 use Prim.Native.Nat.{ℕ, _+_, _-_, _≤_}
 use mathlib.Core.List.{List, [], _∷_, _++_}
 use native.Mathlib.Omega.{arith}

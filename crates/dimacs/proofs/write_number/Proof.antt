@@ -1,4 +1,4 @@
--- `dimacs::write_number` meets its contract: the end mark and its line feed, or a number and a space. Assumes nothing.
+-- `dimacs::write_number` meets its contract: the end mark and its line feed, or a number and a space.
 use Prim.Native.Nat.{_≤_}
 use mathlib.Core.Path.{_≡_}
 use mathlib.Core.List.{[], _∷_, _++_}

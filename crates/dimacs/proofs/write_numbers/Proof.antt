@@ -1,4 +1,4 @@
--- `dimacs::write_numbers` meets its contract. The loop's invariant: the text of the first i numbers is written. Assumes nothing.
+-- `dimacs::write_numbers` meets its contract. The loop's invariant: the text of the first i numbers is written.
 use Prim.Native.Nat.{ℕ, _+_, _-_, _≤_}
 use mathlib.Core.Path.{_≡_, refl, _∙_}
 use mathlib.Core.List.{List}

@@ -1,4 +1,4 @@
--- `dimacs::write_refusal` meets its contract: the word, the two fields and the line feed, one behind the other. Assumes nothing.
+-- `dimacs::write_refusal` meets its contract: the word, the two fields and the line feed, one behind the other.
 use Prim.Native.Nat.{ℕ, _+_, _-_, _≤_}
 use mathlib.Core.List.{List, [], _∷_, _++_}
 use native.Mathlib.Omega.{arith}

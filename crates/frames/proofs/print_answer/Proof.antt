@@ -1,4 +1,4 @@
--- `frames::print_answer` meets its contract: an input without a refusal is an accepted netlist. Assumes nothing.
+-- `frames::print_answer` meets its contract: an input without a refusal is an accepted netlist.
 use borrow.Author.Needs.{needs}
 use Rattle.frames.proofs.print_answer.Statement.{statement}
 use Rattle.frames.proofs.print_answer.Tie as tie

@@ -1,5 +1,5 @@
 -- `frames::print_clauses` meets its contract. The loop's invariant: what comes next stands in the order of the whole. Each piece
--- leaves fewer groups, so the loop ends. Assumes nothing.
+-- leaves fewer groups, so the loop ends.
 use Prim.Native.Nat.{_≤_}
 use mathlib.Core.Path.{_≡_, sym, _∙_}
 use native.Mathlib.Omega.{arith}

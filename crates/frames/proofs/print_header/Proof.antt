@@ -1,4 +1,4 @@
--- `frames::print_header` meets its contract: the text is within its buffer. Assumes nothing.
+-- `frames::print_header` meets its contract: the text is within its buffer.
 use mathlib.Core.Path.{sym}
 use lib.Seq.{length-take-le}
 use borrow.Author.Needs.{needs}

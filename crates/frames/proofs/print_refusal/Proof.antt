@@ -1,4 +1,4 @@
--- `frames::print_refusal` meets its contract: the text fits into its buffer. Assumes nothing.
+-- `frames::print_refusal` meets its contract: the text fits into its buffer.
 use mathlib.Core.Path.{sym}
 use native.Mathlib.Omega.{arith}
 use borrow.Author.Needs.{needs}

@@ -1,4 +1,4 @@
--- `group_closing::put_closing` meets its contract: the bits, then the sources. Assumes nothing.
+-- `group_closing::put_closing` meets its contract: the bits, then the sources.
 use native.Mathlib.Omega.{arith}
 use borrow.Author.Needs.{needs}
 use Rattle.clause_writer.proofs.Wrote.{rest-within, rest-room, wrote-then}

@@ -1,4 +1,4 @@
--- `group_closing::put_initial_bit` meets its contract. Assumes nothing.
+-- `group_closing::put_initial_bit` meets its contract.
 use borrow.Author.Needs.{needs}
 use Rattle.model.specs.Clauses.{sameIfClauses}
 use Rattle.model.specs.Numbers.{written}

@@ -1,4 +1,4 @@
--- `group_closing::put_initial_reads` meets its contract. The loop has written the bits passed. Assumes nothing.
+-- `group_closing::put_initial_reads` meets its contract. The loop has written the bits passed.
 use Prim.Native.Nat.{_-_}
 use native.Mathlib.Omega.{arith}
 use borrow.Author.Needs.{needs}

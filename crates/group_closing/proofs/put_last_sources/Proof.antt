@@ -1,4 +1,4 @@
--- `group_closing::put_last_sources` meets its contract. Assumes nothing.
+-- `group_closing::put_last_sources` meets its contract.
 use native.Mathlib.Omega.{arith}
 use borrow.Author.Needs.{needs}
 use Rattle.model.specs.Gather.{gather}

@@ -1,4 +1,4 @@
--- `group_closing::put_some_source` meets its contract: ¬RE, then Z, then the sources. Assumes nothing.
+-- `group_closing::put_some_source` meets its contract: ¬RE, then Z, then the sources.
 use native.Mathlib.Omega.{arith}
 use borrow.Author.Needs.{needs}
 use Rattle.model.specs.Clauses.{someSource}

@@ -1,4 +1,4 @@
--- `group_closing::put_sources` meets its contract. The loop has written S of the frames passed. Assumes nothing.
+-- `group_closing::put_sources` meets its contract. The loop has written S of the frames passed.
 use Prim.Native.Nat.{_+_, _-_}
 use native.Mathlib.Omega.{arith}
 use borrow.Author.Needs.{needs}

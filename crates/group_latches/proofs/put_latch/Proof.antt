@@ -1,4 +1,4 @@
--- `group_latches::put_latch` meets its contract. Assumes nothing.
+-- `group_latches::put_latch` meets its contract.
 use borrow.Author.Needs.{needs}
 use Rattle.model.specs.Clauses.{sameClauses}
 use Rattle.model.specs.Numbers.{written}

@@ -1,4 +1,4 @@
--- `group_latches::put_reset` meets its contract. Assumes nothing.
+-- `group_latches::put_reset` meets its contract.
 use borrow.Author.Tests.{eq-eqb, ne-eqb}
 use borrow.Author.Needs.{needs}
 use Rattle.model.specs.Numbers.{written}

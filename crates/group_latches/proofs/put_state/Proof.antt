@@ -1,4 +1,4 @@
--- `group_latches::put_state` meets its contract. Assumes nothing.
+-- `group_latches::put_state` meets its contract.
 use mathlib.Core.Path.{_∙_, ap}
 use mathlib.Core.Bool.{true}
 use mathlib.Core.List.{[], _∷_}

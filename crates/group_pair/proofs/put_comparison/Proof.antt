@@ -1,4 +1,4 @@
--- `group_pair::put_comparison` meets its contract: the bits, then the clause of all of them. Assumes nothing.
+-- `group_pair::put_comparison` meets its contract: the bits, then the clause of all of them.
 use borrow.Author.Needs.{needs}
 use Rattle.model.proofs.Joined.{written-append}
 use Rattle.clause_writer.proofs.Wrote.{wrote-then}

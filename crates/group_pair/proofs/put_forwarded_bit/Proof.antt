@@ -1,4 +1,4 @@
--- `group_pair::put_forwarded_bit` meets its contract. Assumes nothing.
+-- `group_pair::put_forwarded_bit` meets its contract.
 use borrow.Author.Needs.{needs}
 use Rattle.group_pair.proofs.put_forwarded_bit.Statement.{statement}
 use Rattle.group_pair.proofs.put_forwarded_bit.Tie as tie

@@ -1,4 +1,4 @@
--- `group_pair::put_gated_data` meets its contract: the gates, then the data bits. Assumes nothing.
+-- `group_pair::put_gated_data` meets its contract: the gates, then the data bits.
 use borrow.Author.Needs.{needs}
 use Rattle.model.proofs.Joined.{written-append}
 use Rattle.clause_writer.proofs.Wrote.{wrote-then}

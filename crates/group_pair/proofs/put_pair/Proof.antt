@@ -1,4 +1,4 @@
--- `group_pair::put_pair` meets its contract: its two parts, one after the other. Assumes nothing.
+-- `group_pair::put_pair` meets its contract: its two parts, one after the other.
 use borrow.Author.Needs.{needs}
 use Rattle.clause_writer.proofs.Wrote.{wrote-then}
 use Rattle.group_pair.proofs.OfPair.{pair-parts}

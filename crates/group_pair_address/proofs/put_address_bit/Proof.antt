@@ -1,4 +1,4 @@
--- `group_pair_address::put_address_bit` meets its contract. Assumes nothing.
+-- `group_pair_address::put_address_bit` meets its contract.
 use mathlib.Core.Path.{sym}
 use native.Mathlib.Nat.{add-assoc}
 use borrow.Author.Needs.{needs}

@@ -1,4 +1,4 @@
--- `group_pair_address::put_all_bits` meets its contract: the literals of the bits, then the last with the end mark. Assumes nothing.
+-- `group_pair_address::put_all_bits` meets its contract: the literals of the bits, then the last with the end mark.
 use native.Mathlib.Omega.{arith}
 use borrow.Author.Needs.{needs}
 use Rattle.model.specs.Clauses.{allBits}

@@ -1,4 +1,4 @@
--- `group_pair_select::put_chain` meets its contract: two gates, one after the other. Assumes nothing.
+-- `group_pair_select::put_chain` meets its contract: two gates, one after the other.
 use borrow.Author.Needs.{needs}
 use Rattle.model.specs.Clauses.{andClauses}
 use Rattle.model.specs.Numbers.{written}

@@ -1,4 +1,4 @@
--- `group_pair_select::put_select` meets its contract. Assumes nothing.
+-- `group_pair_select::put_select` meets its contract.
 use mathlib.Core.Path.{_∙_}
 use native.Mathlib.Omega.{arith}
 use borrow.Author.Needs.{needs}

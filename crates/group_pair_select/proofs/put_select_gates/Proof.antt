@@ -1,4 +1,4 @@
--- `group_pair_select::put_select_gates` meets its contract: one gate, then the other two. Assumes nothing.
+-- `group_pair_select::put_select_gates` meets its contract: one gate, then the other two.
 use borrow.Author.Needs.{needs}
 use Rattle.model.specs.Clauses.{andClauses}
 use Rattle.model.specs.Numbers.{written}

@@ -1,4 +1,4 @@
--- `group_property::put_property` meets its contract. Assumes nothing.
+-- `group_property::put_property` meets its contract.
 use borrow.Author.Needs.{needs}
 use Rattle.model.specs.Groups.{clausesOf}
 use Rattle.model.specs.Numbers.{numbersOf}

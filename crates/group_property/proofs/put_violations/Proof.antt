@@ -1,4 +1,4 @@
--- `group_property::put_violations` meets its contract. The loop has written the frames passed. Assumes nothing.
+-- `group_property::put_violations` meets its contract. The loop has written the frames passed.
 use Prim.Native.Nat.{_+_, _-_}
 use native.Mathlib.Omega.{arith}
 use borrow.Author.Needs.{needs}

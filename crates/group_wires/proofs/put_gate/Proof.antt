@@ -1,4 +1,4 @@
--- `group_wires::put_gate` meets its contract. Assumes nothing.
+-- `group_wires::put_gate` meets its contract.
 use borrow.Author.Needs.{needs}
 use Rattle.model.specs.Clauses.{andClauses}
 use Rattle.model.specs.Numbers.{written}

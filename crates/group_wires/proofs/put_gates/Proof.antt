@@ -1,4 +1,4 @@
--- `group_wires::put_gates` meets its contract. The loop has written the gates passed. Assumes nothing.
+-- `group_wires::put_gates` meets its contract. The loop has written the gates passed.
 use Prim.Native.Nat.{_-_}
 use mathlib.Core.Path.{refl}
 use mathlib.Core.List.{[]}

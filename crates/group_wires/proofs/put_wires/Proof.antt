@@ -1,4 +1,4 @@
--- `group_wires::put_wires` meets its contract: the latches, then the gates. Assumes nothing.
+-- `group_wires::put_wires` meets its contract: the latches, then the gates.
 use native.Mathlib.Omega.{arith}
 use borrow.Author.Needs.{needs}
 use Rattle.netlist.proofs.NetOf.{limits-without-latches, limits-without-gates}

@@ -1,4 +1,4 @@
--- `groups::put_group` meets its contract: each arm writes the group of its kind. Assumes nothing.
+-- `groups::put_group` meets its contract: each arm writes the group of its kind.
 use mathlib.Core.Path.{refl}
 use native.Mathlib.Omega.{arith}
 use Rattle.groups.proofs.Alone.{fits-alone, pair-alone, closing-alone, property-alone, pair-room, property-room, wires-depth, room-by-kind, wrote-by-kind, wires-frame, pair-frames, closing-frame}

@@ -1,5 +1,5 @@
 -- `marrubigai::marrubigai_heading` meets its contract: a walk of its MIR, by hand, over `calls::heading` and `heading_numbers`.
--- Everything that it is passed goes on to the first. Assumes nothing.
+-- Everything that it is passed goes on to the first.
 use mathlib.Core.Path.{_≡_, refl, _∙_, ap}
 use Prim.Native.Nat.{ℕ, _<_, _^_}
 use mathlib.Core.List.{List, [], _∷_}
@@ -187,4 +187,4 @@ marrubigai-heading-spec 𝓤 H 𝓜 𝓖 𝓡 =
     (cited 𝓤 H (Inner 𝓤 H (𝓖 .A) (givenOf 𝓤 H 𝓜 𝓖) (𝓜 .mem) (𝓡 .run)) 𝓜 𝓡 code.env #inner inner-def.routine
     code.calls-calls·heading (inner-thm.met 𝓤 H 𝓜 𝓖 𝓡))
     (cited 𝓤 H (Numbers 𝓤 H (𝓖 .A) (givenOf 𝓤 H 𝓜 𝓖) (𝓜 .mem) (𝓡 .run)) 𝓜 𝓡 code.env #numbers numbers-def.routine
-    code.calls-replies·heading-numbers (numbers-thm.met 𝓤 H 𝓜 𝓖 𝓡)))
+    code.calls-call-replies·heading-numbers (numbers-thm.met 𝓤 H 𝓜 𝓖 𝓡)))

@@ -1,5 +1,5 @@
 -- `marrubigai::marrubigai_next_line` meets its contract: a walk of its MIR, by hand. The slice and the number are put together in a
--- reader, `next_line` takes it, and the line and the new number go to `line_numbers`. Assumes nothing.
+-- reader, `next_line` takes it, and the line and the new number go to `line_numbers`.
 use mathlib.Core.Path.{_≡_, refl, ap}
 use Prim.Native.Nat.{ℕ, _+_, _<_, _^_}
 use mathlib.Core.List.{List, [], _∷_}
@@ -203,6 +203,6 @@ marrubigai-next-line-spec 𝓤 H 𝓜 𝓖 𝓡 =
     (tables 𝓤 H 𝓜 𝓡 code.env .C) (tables 𝓤 H 𝓜 𝓡 code.env .Λ) #marrubigai-next-line code.function (code.unfolded 𝓤 H 𝓜 𝓡)
     (marrubigai-next-line-meets 𝓤 H (𝓖 .A) (givenOf 𝓤 H 𝓜 𝓖) (𝓜 .mem) (𝓡 .run) (tablesOf 𝓤 H 𝓜 (tables 𝓤 H 𝓜 𝓡 code.env))
     (cited 𝓤 H (Next 𝓤 H (𝓖 .A) (givenOf 𝓤 H 𝓜 𝓖) (𝓜 .mem) (𝓡 .run)) 𝓜 𝓡 code.env #next next-def.routine
-    code.calls-reader·SheetReader·next-line (next-thm.met 𝓤 H 𝓜 𝓖 𝓡))
+    code.calls-sheet-reader·SheetReader·next-line (next-thm.met 𝓤 H 𝓜 𝓖 𝓡))
     (cited 𝓤 H (Numbers 𝓤 H (𝓖 .A) (givenOf 𝓤 H 𝓜 𝓖) (𝓜 .mem) (𝓡 .run)) 𝓜 𝓡 code.env #numbers numbers-def.routine
-    code.calls-replies·line-numbers (numbers-thm.met 𝓤 H 𝓜 𝓖 𝓡)))
+    code.calls-call-replies·line-numbers (numbers-thm.met 𝓤 H 𝓜 𝓖 𝓡)))

@@ -1,4 +1,4 @@
--- `marrubigai::marrubigai_put_clauses` meets its contract: what `put_clauses` answers and leaves, in numbers. Assumes nothing.
+-- `marrubigai::marrubigai_put_clauses` meets its contract: what `put_clauses` answers and leaves, in numbers.
 use mathlib.Core.Path.{_∙_, ap}
 use borrow.Author.Needs.{needs}
 use Rattle.call_replies.specs.Replies.{countNumbers}

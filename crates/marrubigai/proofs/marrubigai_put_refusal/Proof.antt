@@ -1,4 +1,4 @@
--- `marrubigai::marrubigai_put_refusal` meets its contract: what `put_refusal` answers and leaves, in numbers. Assumes nothing.
+-- `marrubigai::marrubigai_put_refusal` meets its contract: what `put_refusal` answers and leaves, in numbers.
 use mathlib.Core.Path.{_∙_, ap}
 use borrow.Author.Needs.{needs}
 use Rattle.call_replies.specs.Replies.{countNumbers}

@@ -1,5 +1,5 @@
 -- `marrubigai::marrubigai_write_group` meets its contract: a walk of its MIR, by hand, over `group_of`, `calls::write_group` and
--- `group_numbers`. Everything that it is passed goes on. Assumes nothing.
+-- `group_numbers`. Everything that it is passed goes on.
 use mathlib.Core.Path.{_≡_, refl, _∙_, ap}
 use Prim.Native.Nat.{ℕ, _<_, _^_}
 use mathlib.Core.List.{List, [], _∷_}
@@ -309,8 +309,8 @@ marrubigai-write-group-spec 𝓤 H 𝓜 𝓖 𝓡 =
     (tables 𝓤 H 𝓜 𝓡 code.env .C) (tables 𝓤 H 𝓜 𝓡 code.env .Λ) #marrubigai-write-group code.function (code.unfolded 𝓤 H 𝓜 𝓡)
     (marrubigai-write-group-meets 𝓤 H (𝓖 .A) (givenOf 𝓤 H 𝓜 𝓖) (𝓜 .mem) (𝓡 .run) (tablesOf 𝓤 H 𝓜 (tables 𝓤 H 𝓜 𝓡 code.env))
     (cited 𝓤 H (GroupOf 𝓤 H (𝓖 .A) (givenOf 𝓤 H 𝓜 𝓖) (𝓜 .mem) (𝓡 .run)) 𝓜 𝓡 code.env #group group-def.routine
-    code.calls-replies·group-of (group-thm.met 𝓤 H 𝓜 𝓖 𝓡))
+    code.calls-call-replies·group-of (group-thm.met 𝓤 H 𝓜 𝓖 𝓡))
     (cited 𝓤 H (Inner 𝓤 H (𝓖 .A) (givenOf 𝓤 H 𝓜 𝓖) (𝓜 .mem) (𝓡 .run)) 𝓜 𝓡 code.env #inner inner-def.routine
     code.calls-calls·write-group (inner-thm.met 𝓤 H 𝓜 𝓖 𝓡))
     (cited 𝓤 H (Numbers 𝓤 H (𝓖 .A) (givenOf 𝓤 H 𝓜 𝓖) (𝓜 .mem) (𝓡 .run)) 𝓜 𝓡 code.env #numbers numbers-def.routine
-    code.calls-replies·group-numbers (numbers-thm.met 𝓤 H 𝓜 𝓖 𝓡)))
+    code.calls-call-replies·group-numbers (numbers-thm.met 𝓤 H 𝓜 𝓖 𝓡)))

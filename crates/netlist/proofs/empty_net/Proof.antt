@@ -1,4 +1,4 @@
--- `netlist::empty_net` meets its contract: no code is 0 twelve and thirty-two times. Assumes nothing.
+-- `netlist::empty_net` meets its contract: no code is 0 twelve and thirty-two times.
 use mathlib.Core.Path.{refl}
 use Rattle.model.specs.Gather.{gather}
 use Rattle.netlist.specs.RecordOf.{recordOf}

@@ -1,4 +1,4 @@
--- `netlist::gate_fault` meets its contract: an operand is compared by its wire, so that nothing can overflow. Assumes nothing.
+-- `netlist::gate_fault` meets its contract: an operand is compared by its wire, so that nothing can overflow.
 use Rattle.netlist.proofs.Faults.{operand-outside}
 use Rattle.netlist.proofs.gate_fault.Statement.{statement}
 use Rattle.netlist.proofs.gate_fault.Tie as tie

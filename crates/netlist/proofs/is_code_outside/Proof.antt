@@ -1,4 +1,4 @@
--- `netlist::is_code_outside` meets its contract: a code is compared by its wire, so that nothing can overflow. Assumes nothing.
+-- `netlist::is_code_outside` meets its contract: a code is compared by its wire, so that nothing can overflow.
 use mathlib.Core.Path.{sym}
 use Rattle.netlist.proofs.Faults.{code-outside}
 use Rattle.netlist.proofs.is_code_outside.Statement.{statement}

@@ -1,4 +1,4 @@
--- `netlist::is_last_wire_outside` meets its contract: four 32-bit numbers add up to a 64-bit number. Assumes nothing.
+-- `netlist::is_last_wire_outside` meets its contract: four 32-bit numbers add up to a 64-bit number.
 use Prim.Native.Nat.{_+_}
 use mathlib.Core.Path.{sym}
 use borrow.Author.Needs.{needs}

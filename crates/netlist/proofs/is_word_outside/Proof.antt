@@ -1,4 +1,4 @@
--- `netlist::is_word_outside` meets its contract: nothing is left of a word once its n bits are shifted out. Assumes nothing.
+-- `netlist::is_word_outside` meets its contract: nothing is left of a word once its n bits are shifted out.
 use mathlib.Core.Path.{sym}
 use borrow.Author.Needs.{needs}
 use native.Mathlib.Omega.{arith}

@@ -1,4 +1,4 @@
--- `netlist::latch_fault` meets its contract: it is the definition's disjunction. Assumes nothing.
+-- `netlist::latch_fault` meets its contract: it is the definition's disjunction.
 use Rattle.netlist.proofs.latch_fault.Statement.{statement}
 use Rattle.netlist.proofs.latch_fault.Tie as tie
 

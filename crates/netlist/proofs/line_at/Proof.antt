@@ -1,4 +1,4 @@
--- `netlist::line_at` meets its contract: the tests put the place between the first lines of two kinds. Assumes nothing.
+-- `netlist::line_at` meets its contract: the tests put the place between the first lines of two kinds.
 use Prim.Native.Nat.{_+_, _-_}
 use mathlib.Core.Path.{sym}
 use native.Mathlib.Omega.{arith}

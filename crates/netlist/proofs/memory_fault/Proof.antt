@@ -1,4 +1,4 @@
--- `netlist::memory_fault` meets its contract: it is the definition's disjunction. Assumes nothing.
+-- `netlist::memory_fault` meets its contract: it is the definition's disjunction.
 use Rattle.netlist.specs.NetOf.{netOf}
 use Rattle.netlist.specs.Faults.{sizeFault}
 use Rattle.netlist.proofs.memory_fault.Statement.{statement}

@@ -1,4 +1,4 @@
--- `netlist_scan::any_code_fault` meets its contract: it is the definition's disjunction, list by list. Assumes nothing.
+-- `netlist_scan::any_code_fault` meets its contract: it is the definition's disjunction, list by list.
 use Prim.Native.Nat.{ℕ, _+_}
 use mathlib.Core.Path.{_≡_}
 use native.Mathlib.Omega.{arith}

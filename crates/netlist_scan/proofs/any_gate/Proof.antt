@@ -1,5 +1,5 @@
 -- `netlist_scan::any_gate` meets its contract. The loop's invariant: what was found is what the first g gates have, and gate g's own wire
--- is known. Assumes nothing.
+-- is known.
 use Prim.Native.Nat.{_+_, _-_, _≤_}
 use mathlib.Core.Path.{_≡_}
 use mathlib.Core.Bool.{false}

@@ -1,5 +1,5 @@
 -- `netlist_scan::any_in_record` meets its contract. The loops' invariants: what was found is what the first t address codes have, and, or it
--- was found before, what the first t write-data codes have. Assumes nothing.
+-- was found before, what the first t write-data codes have.
 use Prim.Native.Nat.{_-_, _≤_}
 use mathlib.Core.Path.{_≡_}
 use mathlib.Core.Bool.{false, _||_}

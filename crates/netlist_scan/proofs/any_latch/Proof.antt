@@ -1,4 +1,4 @@
--- `netlist_scan::any_latch` meets its contract. The loop's invariant: what was found is what the first l latches have. Assumes nothing.
+-- `netlist_scan::any_latch` meets its contract. The loop's invariant: what was found is what the first l latches have.
 use Prim.Native.Nat.{_-_, _≤_}
 use mathlib.Core.Path.{_≡_}
 use mathlib.Core.Bool.{false}

@@ -1,5 +1,5 @@
 -- `netlist_tests::any_loop` meets its contract. The loop's invariant: what was found is what the first t address codes have. No line but
--- these and line C can make a memory loop. Assumes nothing.
+-- these and line C can make a memory loop.
 use Prim.Native.Nat.{_-_, _/_, _≤_}
 use mathlib.Core.Path.{_≡_}
 use mathlib.Core.Bool.{false, or-false}

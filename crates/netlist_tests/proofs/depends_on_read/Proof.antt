@@ -1,5 +1,4 @@
 -- `netlist_tests::depends_on_read` meets its contract. The loop's invariant: the table has the sweep over the first g gates.
--- Assumes nothing.
 use Prim.Native.Nat.{_+_, _-_, _/_, _≤_}
 use mathlib.Core.Path.{_≡_, refl, ap}
 use mathlib.Core.List.{[]}

@@ -1,5 +1,4 @@
 -- `netlist_tests::first_code_fault` meets its contract. The loop's invariant: the lines up to the place have no code outside its limit.
--- Assumes nothing.
 use Prim.Native.Nat.{_+_, _-_, _≤_}
 use mathlib.Core.Path.{_≡_, refl, sym, _∙_, ap}
 use native.Mathlib.Omega.{arith}

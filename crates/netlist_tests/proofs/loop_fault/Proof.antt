@@ -1,4 +1,4 @@
--- `netlist_tests::loop_fault` meets its contract: each arm knows its line, and every code's wire is within the table. Assumes nothing.
+-- `netlist_tests::loop_fault` meets its contract: each arm knows its line, and every code's wire is within the table.
 use mathlib.Core.Path.{subst}
 use borrow.Author.Needs.{needs}
 use native.Mathlib.Omega.{arith}

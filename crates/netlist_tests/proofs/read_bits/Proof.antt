@@ -1,5 +1,4 @@
 -- `netlist_tests::read_bits` meets its contract. The loop's invariant: the table has the wires from the first read bit up to w.
--- Assumes nothing.
 use Prim.Native.Nat.{_-_, _≤_}
 use mathlib.Core.Bool.{true}
 use native.Mathlib.Omega.{arith}

@@ -1,4 +1,4 @@
--- `netlist_tests::test_codes` meets its contract: where the pass over the lists finds nothing, no line is refused. Assumes nothing.
+-- `netlist_tests::test_codes` meets its contract: where the pass over the lists finds nothing, no line is refused.
 use mathlib.Core.Path.{refl, sym, _∙_}
 use Rattle.refusals.specs.declared.Refusal.the-variants.{CodeOutside}
 use Rattle.netlist.specs.NetOf.{netOf}

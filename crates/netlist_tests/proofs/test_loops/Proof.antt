@@ -1,5 +1,5 @@
 -- `netlist_tests::test_loops` meets its contract. Where the pass over the lists finds nothing, no line makes a memory loop. The loop's
--- invariant: the lines up to the place make none. It starts before the address codes, and no line before them does. Assumes nothing.
+-- invariant: the lines up to the place make none. It starts before the address codes, and no line before them does.
 use Prim.Native.Nat.{_+_, _-_, _≤_}
 use mathlib.Core.Path.{_≡_, sym, _∙_, ap}
 use mathlib.Core.List.{[]}

@@ -1,5 +1,4 @@
 -- `netlist_tests::test_record` meets its contract: each test is passed on where it refuses, and what it passes the next one may assume.
--- Assumes nothing.
 use mathlib.Core.Path.{_≡_, sym, _∙_}
 use mathlib.Core.List.{[]}
 use borrow.Author.Needs.{needs}

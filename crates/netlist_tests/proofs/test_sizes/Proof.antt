@@ -1,4 +1,4 @@
--- `netlist_tests::test_sizes` meets its contract: only lines N and M hold sizes. Assumes nothing.
+-- `netlist_tests::test_sizes` meets its contract: only lines N and M hold sizes.
 use mathlib.Core.Path.{_≡_, refl, sym, _∙_, ap}
 use mathlib.Core.Bool.{true, false}
 use native.Mathlib.Omega.{arith}

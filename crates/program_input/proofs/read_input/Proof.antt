@@ -1,4 +1,4 @@
--- `program_input::read_input` meets its contract: the depth is tested first, and the sheet stands behind it. Assumes nothing.
+-- `program_input::read_input` meets its contract: the depth is tested first, and the sheet stands behind it.
 use mathlib.Core.Path.{_≡_, sym, _∙_, ap}
 use native.Mathlib.Omega.{arith}
 use borrow.Author.Needs.{needs}

@@ -1,4 +1,4 @@
--- `program_input::read_sheet` meets its contract. Assumes nothing.
+-- `program_input::read_sheet` meets its contract.
 use mathlib.Core.Path.{refl, sym, _∙_, ap}
 use native.Mathlib.Omega.{arith}
 use borrow.Author.Needs.{needs}

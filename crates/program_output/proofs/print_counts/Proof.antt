@@ -1,4 +1,4 @@
--- `program_output::print_counts` meets its contract. Assumes nothing.
+-- `program_output::print_counts` meets its contract.
 use native.Mathlib.Omega.{arith}
 use borrow.Author.Needs.{needs}
 use Rattle.dimacs.proofs.Text.{headerText-most}

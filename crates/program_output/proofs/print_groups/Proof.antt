@@ -1,5 +1,5 @@
 -- `program_output::print_groups` meets its contract. The loop's invariant: wherever the first group stands, what is printed is the text of
--- the groups from it on, `next` comes after them, and nothing is printed yet or fewer groups are left. Assumes nothing.
+-- the groups from it on, `next` comes after them, and nothing is printed yet or fewer groups are left.
 use Prim.Native.Nat.{ℕ, _+_, _-_, _≤_, _<_}
 use mathlib.Core.Path.{_≡_, refl, _∙_, ap}
 use mathlib.Core.List.{List, _∷_, _++_}

@@ -1,4 +1,4 @@
--- `program_output::print_header` meets its contract: the two counts are the definition's. Assumes nothing.
+-- `program_output::print_header` meets its contract: the two counts are the definition's.
 use Prim.Native.Nat.{_+_}
 use mathlib.Core.Path.{_∙_}
 use mathlib.Core.List.{[]}

@@ -1,4 +1,4 @@
--- `refusals::number` meets its contract: each arm knows which word it has. Assumes nothing.
+-- `refusals::number` meets its contract: each arm knows which word it has.
 use Rattle.refusals.proofs.number.Statement.{statement}
 use Rattle.refusals.proofs.number.Tie as tie
 

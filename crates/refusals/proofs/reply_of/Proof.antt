@@ -1,4 +1,4 @@
--- `refusals::reply_of` meets its contract: each arm knows which verdict it has. Assumes nothing.
+-- `refusals::reply_of` meets its contract: each arm knows which verdict it has.
 use Rattle.refusals.proofs.reply_of.Statement.{statement}
 use Rattle.refusals.proofs.reply_of.Tie as tie
 

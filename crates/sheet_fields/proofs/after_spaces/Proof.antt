@@ -1,5 +1,5 @@
 -- `sheet_fields::after_spaces` meets its contract. The loop's invariant: what is behind the spaces from i on is what is behind those of
--- the whole. Assumes nothing.
+-- the whole.
 use Prim.Native.Nat.{ℕ, _-_, _≤_}
 use mathlib.Core.Path.{_≡_, refl, sym, _∙_}
 use mathlib.Core.List.{List}

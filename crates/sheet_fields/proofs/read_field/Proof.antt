@@ -1,4 +1,4 @@
--- `sheet_fields::read_field` meets its contract: the number reader takes the part behind the spaces. Assumes nothing.
+-- `sheet_fields::read_field` meets its contract: the number reader takes the part behind the spaces.
 use mathlib.Core.Path.{sym, ap, _∙_}
 use native.Mathlib.Omega.{arith}
 use borrow.Author.Needs.{needs}

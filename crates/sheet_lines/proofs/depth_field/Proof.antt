@@ -1,4 +1,4 @@
--- `sheet_lines::depth_field` meets its contract: length, line feed, field. Assumes nothing.
+-- `sheet_lines::depth_field` meets its contract: length, line feed, field.
 use mathlib.Core.Path.{sym, _∙_}
 use native.Mathlib.Omega.{arith}
 use borrow.Author.Needs.{needs}

@@ -1,5 +1,4 @@
 -- `sheet_lines::filled_fields` meets its contract: the table's rule, proved once, by one computed test of all its rows and columns.
--- Assumes nothing.
 use mathlib.Core.Path.{refl}
 use Rattle.sheet_lines.specs.Letters.{isFilled}
 use Rattle.sheet_lines.proofs.Letters.{table-follows}

@@ -1,4 +1,4 @@
--- `sheet_lines::is_filled` meets its contract, by the rule of the table. Assumes nothing.
+-- `sheet_lines::is_filled` meets its contract, by the rule of the table.
 use borrow.Author.Needs.{needs}
 use Rattle.sheet_lines.proofs.Letters.{filled-at}
 use Rattle.sheet_lines.proofs.is_filled.Statement.{statement}

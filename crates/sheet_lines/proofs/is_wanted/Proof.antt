@@ -1,4 +1,4 @@
--- `sheet_lines::is_wanted` meets its contract. Assumes nothing.
+-- `sheet_lines::is_wanted` meets its contract.
 use borrow.Author.Needs.{needs}
 use Rattle.sheet_lines.proofs.is_wanted.Statement.{statement}
 use Rattle.sheet_lines.proofs.is_wanted.Tie as tie

@@ -1,4 +1,4 @@
--- `sheet_lines::kind_of` meets its contract: each letter's arm by what the letter is, the rest by what it is not. Assumes nothing.
+-- `sheet_lines::kind_of` meets its contract: each letter's arm by what the letter is, the rest by what it is not.
 use borrow.Author.Tests.{ne-eqb}
 use Rattle.sheet_lines.specs.Letters.{kindOf}
 use Rattle.sheet_lines.proofs.kind_of.Statement.{statement}

@@ -1,4 +1,4 @@
--- `sheet_lines::line_with` meets its contract: its four tests in turn. Assumes nothing.
+-- `sheet_lines::line_with` meets its contract: its four tests in turn.
 use mathlib.Core.Path.{_≡_, refl, sym, _∙_}
 use mathlib.Core.Bool.{true, false}
 use native.Mathlib.Omega.{arith}

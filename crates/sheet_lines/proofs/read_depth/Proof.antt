@@ -1,4 +1,4 @@
--- `sheet_lines::read_depth` meets its contract. Assumes nothing.
+-- `sheet_lines::read_depth` meets its contract.
 use borrow.Author.Needs.{needs}
 use Rattle.sheet_lines.specs.Depth.{depthVerdict, depthLine}
 use Rattle.sheet_lines.proofs.read_depth.Statement.{statement}

@@ -1,4 +1,4 @@
--- `sheet_lines::read_line` meets its contract: length and line feed, then the letter and the three parts. Assumes nothing.
+-- `sheet_lines::read_line` meets its contract: length and line feed, then the letter and the three parts.
 use mathlib.Core.Path.{sym, _∙_}
 use native.Mathlib.Omega.{arith}
 use borrow.Author.Needs.{needs}

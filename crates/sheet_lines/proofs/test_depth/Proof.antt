@@ -1,4 +1,4 @@
--- `sheet_lines::test_depth` meets its contract: form, then value. Assumes nothing.
+-- `sheet_lines::test_depth` meets its contract: form, then value.
 use native.Mathlib.Omega.{arith}
 use borrow.Author.Needs.{needs}
 use borrow.Author.Tests.{lt-ltb, le-ltb}

@@ -1,4 +1,4 @@
--- `sheet_lines::with_depth` meets its contract. Assumes nothing.
+-- `sheet_lines::with_depth` meets its contract.
 use borrow.Author.Needs.{needs}
 use Rattle.sheet_lines.specs.Depth.{withDepth}
 use Rattle.sheet_lines.proofs.with_depth.Statement.{statement}

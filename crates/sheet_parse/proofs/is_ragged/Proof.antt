@@ -1,4 +1,4 @@
--- `sheet_parse::is_ragged` meets its contract: it is the definition. Assumes nothing.
+-- `sheet_parse::is_ragged` meets its contract: it is the definition.
 use mathlib.Core.Path.{refl}
 use Rattle.sheet_parse.specs.FileTests.{ragged}
 use Rattle.sheet_parse.proofs.is_ragged.Statement.{statement}

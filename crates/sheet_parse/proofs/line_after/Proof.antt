@@ -1,4 +1,4 @@
--- `sheet_parse::line_after` meets its contract: the part of 32 bytes behind the lines before, or fewer. Assumes nothing.
+-- `sheet_parse::line_after` meets its contract: the part of 32 bytes behind the lines before, or fewer.
 use Prim.Native.Nat.{_+_, _-_, _*_}
 use mathlib.Core.Path.{_≡_, sym, _∙_}
 use native.Mathlib.Omega.{arith}

@@ -1,4 +1,4 @@
--- `sheet_parse::read_lines` meets its contract. The loop's invariant: the lines so far have passed, and what they say is in the record and the lists. Assumes nothing.
+-- `sheet_parse::read_lines` meets its contract. The loop's invariant: the lines so far have passed, and what they say is in the record and the lists.
 use Prim.Native.Nat.{_+_, _-_, _≤_}
 use mathlib.Core.Path.{_≡_, sym, _∙_}
 use native.Mathlib.Omega.{arith}

@@ -1,4 +1,4 @@
--- `sheet_parse::read_next` meets its contract: the line as it is printed, tested as far as the file is read, is tested as in the whole file. Assumes nothing.
+-- `sheet_parse::read_next` meets its contract: the line as it is printed, tested as far as the file is read, is tested as in the whole file.
 use Prim.Native.Nat.{_+_}
 use mathlib.Core.Path.{refl, sym, _∙_}
 use Rattle.sheet_parse.specs.Files.{netIn}

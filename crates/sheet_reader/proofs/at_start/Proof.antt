@@ -1,4 +1,4 @@
--- `sheet_reader::at_start` meets its contract: the slice passed and 0, put together in the result. Assumes nothing.
+-- `sheet_reader::at_start` meets its contract: the slice passed and 0, put together in the result.
 use Prim.Native.Nat.{ℕ}
 use mathlib.Core.Path.{refl}
 use mathlib.Core.List.{List, [], _∷_}

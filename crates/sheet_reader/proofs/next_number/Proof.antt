@@ -1,4 +1,4 @@
--- `sheet_reader::next_number` meets its contract, by its test. Assumes nothing.
+-- `sheet_reader::next_number` meets its contract, by its test.
 use borrow.Author.Tests.{lt-ltb, le-ltb}
 use native.Mathlib.Omega.{arith}
 use borrow.Author.Needs.{needs}

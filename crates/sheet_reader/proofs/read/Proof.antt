@@ -1,6 +1,6 @@
 -- `sheet_reader::read` meets its contract. Two unpacked lists stand in locals; a reader is made and handed on, with both lists lent for
 -- the call; then each list is lent to its delivery, and the lent lists of records are given to it for good. At a refusal the
--- record is all zeros, so that the same code delivers nothing. Assumes nothing.
+-- record is all zeros, so that the same code delivers nothing.
 use Prim.Native.Nat.{ℕ, _<_, _^_}
 use mathlib.Core.Path.{_≡_, refl, sym, ap, subst}
 use mathlib.Core.List.{List, [], _∷_}
@@ -557,15 +557,15 @@ read-spec 𝓤 H 𝓜 𝓖 𝓡 =
     entered 𝓤 H (tripleOf 𝓤 H (𝓖 .A) read.signature (read.spec 𝓤 H (𝓖 .A) (𝓜 .mem) (𝓡 .run)))
     (tables 𝓤 H 𝓜 𝓡 code.env .C) (tables 𝓤 H 𝓜 𝓡 code.env .Λ) #read code.function (code.unfolded 𝓤 H 𝓜 𝓡)
     (reads-meets 𝓤 H (𝓖 .A) (givenOf 𝓤 H 𝓜 𝓖) (𝓜 .mem) (𝓡 .run) (tablesOf 𝓤 H 𝓜 (tables 𝓤 H 𝓜 𝓡 code.env))
-    (cited 𝓤 H (None 𝓤 H (𝓖 .A) (𝓜 .mem) (𝓡 .run)) 𝓜 𝓡 code.env #no-codes none-def.routine code.calls-sheet·no-codes
+    (cited 𝓤 H (None 𝓤 H (𝓖 .A) (𝓜 .mem) (𝓡 .run)) 𝓜 𝓡 code.env #no-codes none-def.routine code.calls-sheet-tests·no-codes
     (none-thm.met 𝓤 H 𝓜 𝓖 𝓡))
     (cited 𝓤 H (Empty 𝓤 H (𝓖 .A) (𝓜 .mem) (𝓡 .run)) 𝓜 𝓡 code.env #empty-net empty-def.routine code.calls-netlist·empty-net
     (empty-thm.met 𝓤 H 𝓜 𝓖 𝓡))
-    (cited 𝓤 H (Start 𝓤 H (𝓖 .A) (𝓜 .mem) (𝓡 .run)) 𝓜 𝓡 code.env #at-start start-def.routine code.calls-reader·at-start
+    (cited 𝓤 H (Start 𝓤 H (𝓖 .A) (𝓜 .mem) (𝓡 .run)) 𝓜 𝓡 code.env #at-start start-def.routine code.calls-sheet-reader·at-start
     (start-thm.met 𝓤 H 𝓜 𝓖 𝓡))
     (cited 𝓤 H (ReadCodes 𝓤 H (𝓖 .A) (𝓜 .mem) (𝓡 .run)) 𝓜 𝓡 code.env #read-codes codes-def.routine
-    code.calls-reader·SheetReader·read-codes (codes-thm.met 𝓤 H 𝓜 𝓖 𝓡))
+    code.calls-sheet-reader·SheetReader·read-codes (codes-thm.met 𝓤 H 𝓜 𝓖 𝓡))
     (cited 𝓤 H (DeliverLatches 𝓤 H (𝓖 .A) (𝓜 .mem) (𝓡 .run)) 𝓜 𝓡 code.env #deliver-latches latches-def.routine
-    code.calls-lists·deliver·deliver-latches (latches-thm.met 𝓤 H 𝓜 𝓖 𝓡))
+    code.calls-call-lists·deliver·deliver-latches (latches-thm.met 𝓤 H 𝓜 𝓖 𝓡))
     (cited 𝓤 H (DeliverGates 𝓤 H (𝓖 .A) (𝓜 .mem) (𝓡 .run)) 𝓜 𝓡 code.env #deliver-gates gates-def.routine
-    code.calls-lists·deliver·deliver-gates (gates-thm.met 𝓤 H 𝓜 𝓖 𝓡)))
+    code.calls-call-lists·deliver·deliver-gates (gates-thm.met 𝓤 H 𝓜 𝓖 𝓡)))

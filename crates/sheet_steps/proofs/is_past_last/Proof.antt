@@ -1,4 +1,4 @@
--- `sheet_steps::is_past_last` meets its contract: lines N and M are before the last in any case. Assumes nothing.
+-- `sheet_steps::is_past_last` meets its contract: lines N and M are before the last in any case.
 use mathlib.Core.Path.{sym}
 use native.Mathlib.Omega.{arith}
 use borrow.Author.Tests.{le-ltb}

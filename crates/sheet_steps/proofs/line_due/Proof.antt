@@ -1,4 +1,4 @@
--- `sheet_steps::line_due` meets its contract: the first two lines are due in any case. Assumes nothing.
+-- `sheet_steps::line_due` meets its contract: the first two lines are due in any case.
 use native.Mathlib.Omega.{arith}
 use mathlib.Core.Path.{sym}
 use Rattle.netlist.specs.NetOf.{alone}

@@ -1,4 +1,4 @@
--- `sheet_steps::refused` meets its contract: it is the definition. Assumes nothing.
+-- `sheet_steps::refused` meets its contract: it is the definition.
 use borrow.Author.Needs.{needs}
 use Rattle.sheet_steps.proofs.refused.Statement.{statement}
 use Rattle.sheet_steps.proofs.refused.Tie as tie

@@ -1,4 +1,4 @@
--- `sheet_steps::store` meets its contract: each arm knows its line. Assumes nothing.
+-- `sheet_steps::store` meets its contract: each arm knows its line.
 use Prim.Native.Nat.{_<_}
 use mathlib.Core.Path.{_≡_, subst}
 use Rattle.netlist.specs.declared.Line.{Line}

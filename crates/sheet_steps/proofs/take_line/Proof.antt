@@ -1,4 +1,4 @@
--- `sheet_steps::take_line` meets its contract: each test is passed on where it refuses; the line that passes is put into the record and the lists, and tested there. Assumes nothing.
+-- `sheet_steps::take_line` meets its contract: each test is passed on where it refuses; the line that passes is put into the record and the lists, and tested there.
 use mathlib.Core.Path.{_≡_, refl, sym, _∙_}
 use mathlib.Core.Bool.{not, _||_}
 use lib.Dec.{eqb}

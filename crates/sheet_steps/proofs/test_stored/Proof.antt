@@ -1,4 +1,4 @@
--- `sheet_steps::test_stored` meets its contract: the place says which line is due, and so which fault it can have. Assumes nothing.
+-- `sheet_steps::test_stored` meets its contract: the place says which line is due, and so which fault it can have.
 use native.Mathlib.Omega.{arith}
 use mathlib.Core.Path.{_≡_, sym, _∙_}
 use mathlib.Core.Bool.{false}

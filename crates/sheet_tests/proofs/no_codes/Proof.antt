@@ -1,4 +1,4 @@
--- `sheet_tests::no_codes` meets its contract: it is the definition. Assumes nothing.
+-- `sheet_tests::no_codes` meets its contract: it is the definition.
 use mathlib.Core.Path.{refl}
 use Rattle.sheet_tests.specs.Scratch.{noCodes}
 use Rattle.sheet_tests.proofs.no_codes.Statement.{statement}

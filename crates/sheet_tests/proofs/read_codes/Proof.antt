@@ -1,4 +1,4 @@
--- `sheet_tests::read_codes` meets its contract: the file's verdict, then the test of the lists' room. Assumes nothing.
+-- `sheet_tests::read_codes` meets its contract: the file's verdict, then the test of the lists' room.
 use mathlib.Core.Path.{_≡_, sym, _∙_}
 use mathlib.Core.Bool.{_||_}
 use lib.Dec.{ltb}

@@ -1,4 +1,4 @@
--- `sheet_tests::test_end` meets its contract: without line 3 a line is missing in any case. Assumes nothing.
+-- `sheet_tests::test_end` meets its contract: without line 3 a line is missing in any case.
 use mathlib.Core.Path.{sym, _∙_}
 use mathlib.Core.List.{[]}
 use native.Mathlib.Omega.{arith}

@@ -1,4 +1,4 @@
--- `sheet_tests::test_file` meets its contract: each test is passed on where it refuses, and what it passes the next one may assume. Assumes nothing.
+-- `sheet_tests::test_file` meets its contract: each test is passed on where it refuses, and what it passes the next one may assume.
 use mathlib.Core.Path.{_≡_, refl, sym, _∙_}
 use mathlib.Core.Bool.{false}
 use native.Mathlib.Omega.{arith}

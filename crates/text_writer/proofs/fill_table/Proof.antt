@@ -1,4 +1,4 @@
--- `text_writer::fill_table` meets its contract. The loop's invariant: the four digits of each number below x are written. Assumes nothing.
+-- `text_writer::fill_table` meets its contract. The loop's invariant: the four digits of each number below x are written.
 use Prim.Native.Nat.{ℕ, _+_, _-_, _≤_}
 use mathlib.Core.Path.{_≡_, refl, _∙_}
 use mathlib.Core.List.{List}

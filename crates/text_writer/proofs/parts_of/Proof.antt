@@ -1,4 +1,4 @@
--- `text_writer::parts_of` meets its contract: the opposite of a number of 32 bits fits 64 bits. Assumes nothing.
+-- `text_writer::parts_of` meets its contract: the opposite of a number of 32 bits fits 64 bits.
 use mathlib.Core.Path.{sym}
 use mir.Syntax.{w32}
 use mir.Val.{toZ, ofZ}

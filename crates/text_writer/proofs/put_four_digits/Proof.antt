@@ -1,4 +1,4 @@
--- `text_writer::put_four_digits` meets its contract: a pair, and then another into the rest. Assumes nothing.
+-- `text_writer::put_four_digits` meets its contract: a pair, and then another into the rest.
 use Prim.Native.Nat.{_/_, _%_}
 use borrow.Author.Needs.{needs}
 use Rattle.model.proofs.Wrote.{wrote-then}

@@ -1,4 +1,4 @@
--- `text_writer::put_two_digits` meets its contract: both digits by division. Assumes nothing.
+-- `text_writer::put_two_digits` meets its contract: both digits by division.
 use Prim.Native.Nat.{_/_, _%_}
 use native.Mathlib.Omega.{arith}
 use borrow.Author.Needs.{needs}

@@ -1,4 +1,4 @@
--- `text_writer::write_byte` meets its contract. Assumes nothing.
+-- `text_writer::write_byte` meets its contract.
 use borrow.Author.Needs.{needs}
 use Rattle.model.proofs.Wrote.{wrote-one}
 use Rattle.text_writer.proofs.write_byte.Statement.{statement}

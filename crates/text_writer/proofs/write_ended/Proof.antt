@@ -1,4 +1,4 @@
--- `text_writer::write_ended` meets its contract: the digits, and then the byte. Assumes nothing.
+-- `text_writer::write_ended` meets its contract: the digits, and then the byte.
 use mathlib.Core.List.{[], _∷_}
 use native.Mathlib.Omega.{arith}
 use borrow.Author.Needs.{needs}

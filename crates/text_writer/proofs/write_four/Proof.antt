@@ -1,4 +1,4 @@
--- `text_writer::write_four` meets its contract: the four bytes come from the table. Assumes nothing.
+-- `text_writer::write_four` meets its contract: the four bytes come from the table.
 use native.Mathlib.Omega.{arith}
 use borrow.Author.Needs.{needs}
 use lib.ListN.{length-set}

@@ -1,4 +1,4 @@
--- `text_writer::write_four_spaced` meets its contract: four digits, and then the byte into the rest. Assumes nothing.
+-- `text_writer::write_four_spaced` meets its contract: four digits, and then the byte into the rest.
 use mathlib.Core.List.{[], _∷_}
 use Rattle.decimal.specs.Digits.{space}
 use Rattle.model.proofs.Wrote.{wrote-then}

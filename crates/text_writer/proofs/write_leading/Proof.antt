@@ -1,4 +1,4 @@
--- `text_writer::write_leading` meets its contract: one digit, or a pair. Assumes nothing.
+-- `text_writer::write_leading` meets its contract: one digit, or a pair.
 use Prim.Native.Nat.{ℕ}
 use mathlib.Core.Path.{ap}
 use native.Mathlib.Omega.{arith}

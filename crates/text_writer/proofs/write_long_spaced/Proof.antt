@@ -1,5 +1,4 @@
 -- `text_writer::write_long_spaced` meets its contract: the leading digits, one or two, and then four and the byte into the rest.
--- Assumes nothing.
 use Prim.Native.Nat.{ℕ, _-_, _*_, _/_, _%_, _≤_}
 use mathlib.Core.Path.{_≡_}
 use mathlib.Core.List.{List, [], _∷_, _++_}

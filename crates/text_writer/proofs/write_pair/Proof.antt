@@ -1,4 +1,4 @@
--- `text_writer::write_pair` meets its contract: both bytes come from the table. Assumes nothing.
+-- `text_writer::write_pair` meets its contract: both bytes come from the table.
 use native.Mathlib.Omega.{arith}
 use borrow.Author.Needs.{needs}
 use Rattle.text_writer.proofs.Table.{length-table, wrote-pair-by}

@@ -1,4 +1,4 @@
--- `text_writer::write_short_spaced` meets its contract: from 1,000 on a number has four digits. Assumes nothing.
+-- `text_writer::write_short_spaced` meets its contract: from 1,000 on a number has four digits.
 use mathlib.Core.List.{[], _∷_}
 use native.Mathlib.Omega.{arith}
 use Rattle.decimal.specs.Digits.{space}

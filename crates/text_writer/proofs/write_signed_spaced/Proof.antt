@@ -1,4 +1,4 @@
--- `text_writer::write_signed_spaced` meets its contract: a minus, and then the digits, behind it or over it. Assumes nothing.
+-- `text_writer::write_signed_spaced` meets its contract: a minus, and then the digits, behind it or over it.
 use Prim.Native.Nat.{ℕ, _+_, _-_, _≤_}
 use mathlib.Core.Path.{_≡_, ap, _∙_}
 use mathlib.Core.List.{List, [], _∷_, _++_}

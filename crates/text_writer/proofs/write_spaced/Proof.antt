@@ -1,4 +1,4 @@
--- `text_writer::write_spaced` meets its contract: a slice as long as the table is the table. Assumes nothing.
+-- `text_writer::write_spaced` meets its contract: a slice as long as the table is the table.
 use native.Mathlib.Omega.{arith}
 use borrow.Author.Needs.{needs}
 use Rattle.text_writer.proofs.write_spaced.Statement.{statement}

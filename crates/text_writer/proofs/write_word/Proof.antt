@@ -1,5 +1,4 @@
 -- `text_writer::write_word` meets its contract. The loop's invariant: the word's first i bytes stand before what was there.
--- Assumes nothing.
 use Prim.Native.Nat.{ℕ, _-_, _≤_}
 use mathlib.Core.Path.{_≡_, refl, _∙_}
 use mathlib.Core.List.{List, _++_}

@@ -1,4 +1,4 @@
--- `call_lists::unpack::put_numbers` meets its contract: two stores. Assumes nothing.
+-- `call_lists::unpack::put_numbers` meets its contract: two stores.
 use mathlib.Core.Path.{refl}
 use borrow.Author.Needs.{needs}
 use Rattle.call_lists.specs.Unpacking.{putNumbers}

@@ -1,4 +1,4 @@
--- `call_lists::unpack::span` meets its contract, at each side of 600. Assumes nothing.
+-- `call_lists::unpack::span` meets its contract, at each side of 600.
 use borrow.Author.Tests.{lt-ltb, le-ltb}
 use Rattle.call_lists.specs.Unpacking.{spanOf}
 use Rattle.call_lists.proofs.unpack.span.Statement.{statement}

@@ -1,4 +1,4 @@
--- `group_order::lengths::clause_count` meets its contract: the closed form is the number of clauses of the formula. Assumes nothing.
+-- `group_order::lengths::clause_count` meets its contract: the closed form is the number of clauses of the formula.
 use mathlib.Core.Path.{sym, _∙_}
 use Rattle.netlist.specs.NetOf.{netOf}
 use Rattle.model.proofs.Lengths.{formula-clauses}

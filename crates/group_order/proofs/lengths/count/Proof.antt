@@ -1,4 +1,4 @@
--- `group_order::lengths::count` meets its contract: every sum and product is within its bounds. Assumes nothing.
+-- `group_order::lengths::count` meets its contract: every sum and product is within its bounds.
 use Prim.Native.Nat.{_+_, _≤_}
 use native.Mathlib.Nat.{mul-le-mul}
 use native.Mathlib.Omega.{arith}

@@ -1,4 +1,4 @@
--- `group_order::lengths::group_length` meets its contract: each arm's closed form is the length of its kind. Assumes nothing.
+-- `group_order::lengths::group_length` meets its contract: each arm's closed form is the length of its kind.
 use mathlib.Core.Path.{sym, _∙_}
 use native.Mathlib.Omega.{arith}
 use Rattle.netlist.specs.NetOf.{netOf}

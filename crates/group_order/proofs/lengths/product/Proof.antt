@@ -1,4 +1,4 @@
--- `group_order::lengths::product` meets its contract: the product of the bounds fits. Assumes nothing.
+-- `group_order::lengths::product` meets its contract: the product of the bounds fits.
 use native.Mathlib.Nat.{mul-le-mul}
 use native.Mathlib.Omega.{arith}
 use Rattle.group_order.proofs.lengths.product.Statement.{statement}

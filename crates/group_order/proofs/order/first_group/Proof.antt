@@ -1,4 +1,4 @@
--- `group_order::order::first_group` meets its contract. Assumes nothing.
+-- `group_order::order::first_group` meets its contract.
 use mathlib.Core.Path.{sym}
 use Rattle.group_order.proofs.Successor.{order-first}
 use Rattle.group_order.proofs.order.first_group.Statement.{statement}

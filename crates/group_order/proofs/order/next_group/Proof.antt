@@ -1,4 +1,4 @@
--- `group_order::next_group` meets its contract: each arm answers the successor of its kind. Assumes nothing.
+-- `group_order::next_group` meets its contract: each arm answers the successor of its kind.
 use mathlib.Core.Path.{refl}
 use borrow.Author.Needs.{needs}
 use borrow.Author.Tests.{eq-eqb, ne-eqb, lt-ltb, le-ltb}

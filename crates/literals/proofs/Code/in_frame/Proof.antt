@@ -1,4 +1,4 @@
--- `literals::Code::in_frame` meets its contract: the lowest bit inverts. Assumes nothing.
+-- `literals::Code::in_frame` meets its contract: the lowest bit inverts.
 use mathlib.Core.Path.{_∙_, ap}
 use borrow.Author.Needs.{needs}
 use Rattle.model.specs.Clauses.{neg}

@@ -1,4 +1,4 @@
--- `literals::Lit::bit` meets its contract. Assumes nothing.
+-- `literals::Lit::bit` meets its contract.
 use borrow.Author.Needs.{needs}
 use Rattle.model.specs.Bits.{odd, bit}
 use Rattle.literals.proofs.Lit.bit.Statement.{statement}

@@ -1,4 +1,4 @@
--- `literals::Lit::constant` meets its contract. Assumes nothing.
+-- `literals::Lit::constant` meets its contract.
 use mathlib.Core.Path.{sym, ap}
 use lib.Dec.{lit<, lit≤}
 use Rattle.model.specs.Clauses.{known}

@@ -1,4 +1,4 @@
--- `literals::Lit::even` meets its contract: codes 0 and 1 are false without their lowest bit. Assumes nothing.
+-- `literals::Lit::even` meets its contract: codes 0 and 1 are false without their lowest bit.
 use borrow.Author.Needs.{needs}
 use Rattle.literals.proofs.Literal.{codeAt-false, codeAt-wire}
 use Rattle.literals.proofs.Lit.even.Statement.{statement}

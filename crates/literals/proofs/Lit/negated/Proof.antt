@@ -1,4 +1,4 @@
--- `literals::Lit::negated` meets its contract: within the bound, the machine's 0 - x is x with its sign turned. Assumes nothing.
+-- `literals::Lit::negated` meets its contract: within the bound, the machine's 0 - x is x with its sign turned.
 use Rattle.literals.specs.Lit.{literalOf}
 use Rattle.literals.proofs.Literal.{literalAt-neg, natAbs-neg, minus-fits, minus-is}
 use Rattle.literals.proofs.Lit.negated.Statement.{statement}

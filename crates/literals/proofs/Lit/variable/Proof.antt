@@ -1,4 +1,4 @@
--- `literals::Lit::variable` meets its contract: within the bound the machine's sum is the variable's number. Assumes nothing.
+-- `literals::Lit::variable` meets its contract: within the bound the machine's sum is the variable's number.
 use native.Mathlib.Omega.{arith}
 use borrow.Author.Needs.{needs}
 use Rattle.literals.specs.Lit.{literalOf}

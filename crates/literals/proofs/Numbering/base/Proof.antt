@@ -1,4 +1,4 @@
--- `literals::Numbering::base` meets its contract: within the limits no product wraps. Assumes nothing.
+-- `literals::Numbering::base` meets its contract: within the limits no product wraps.
 use native.Mathlib.Nat.{zero-mul, mul-zero}
 use native.Mathlib.Omega.{arith}
 use borrow.Author.Needs.{needs}

@@ -1,4 +1,4 @@
--- `literals::Numbering::pair_base` meets its contract: within the limits no sum wraps. Assumes nothing.
+-- `literals::Numbering::pair_base` meets its contract: within the limits no sum wraps.
 use native.Mathlib.Omega.{arith}
 use borrow.Author.Needs.{needs}
 use Rattle.model.specs.Variables.{pairBaseOf}

@@ -1,4 +1,4 @@
--- `literals::Wire::in_frame` meets its contract. Assumes nothing.
+-- `literals::Wire::in_frame` meets its contract.
 use borrow.Author.Needs.{needs}
 use Rattle.model.specs.Variables.{wireAt}
 use Rattle.literals.proofs.Wire.in_frame.Statement.{statement}

@@ -1,6 +1,6 @@
 -- `SheetReader::next_line` meets its contract: the reader is taken apart, `sheet_parse::line_after` is called on its slice and its number
 -- and `next_number` on its number, and the line and a reader with the next number are put together. The reader is Copy: what it
--- owns is had once for the call, once for the result and once for the exit. Assumes nothing.
+-- owns is had once for the call, once for the result and once for the exit.
 use Prim.Native.Nat.{ℕ, _+_, _<_, _^_}
 use mathlib.Core.Path.{_≡_, refl, sym, ap, subst}
 use mathlib.Core.Bool.{Bool, true, false, _&&_}
@@ -272,7 +272,7 @@ next-line-spec 𝓤 H 𝓜 𝓖 𝓡 =
     entered 𝓤 H (tripleOf 𝓤 H (𝓖 .A) next.signature (next.spec 𝓤 H (𝓖 .A) (𝓜 .mem) (𝓡 .run)))
     (tables 𝓤 H 𝓜 𝓡 code.env .C) (tables 𝓤 H 𝓜 𝓡 code.env .Λ) #next-line code.function (code.unfolded 𝓤 H 𝓜 𝓡)
     (moves-meets 𝓤 H (𝓖 .A) (givenOf 𝓤 H 𝓜 𝓖) (𝓜 .mem) (𝓡 .run) (tablesOf 𝓤 H 𝓜 (tables 𝓤 H 𝓜 𝓡 code.env))
-    (cited 𝓤 H (After 𝓤 H (𝓖 .A) (𝓜 .mem) (𝓡 .run)) 𝓜 𝓡 code.env #line-after after-def.routine code.calls-parse·line-after
+    (cited 𝓤 H (After 𝓤 H (𝓖 .A) (𝓜 .mem) (𝓡 .run)) 𝓜 𝓡 code.env #line-after after-def.routine code.calls-sheet-parse·line-after
     (after-thm.met 𝓤 H 𝓜 𝓖 𝓡))
-    (cited 𝓤 H (Number 𝓤 H (𝓖 .A) (𝓜 .mem) (𝓡 .run)) 𝓜 𝓡 code.env #next-number number-def.routine code.calls-reader·next-number
+    (cited 𝓤 H (Number 𝓤 H (𝓖 .A) (𝓜 .mem) (𝓡 .run)) 𝓜 𝓡 code.env #next-number number-def.routine code.calls-sheet-reader·next-number
     (number-thm.met 𝓤 H 𝓜 𝓖 𝓡)))

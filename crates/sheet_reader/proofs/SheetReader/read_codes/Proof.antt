@@ -1,6 +1,5 @@
 -- `SheetReader::read_codes` meets its contract: the reader is taken apart, and `sheet_tests::read_codes` is called on its slice, its
 -- number and all else that was passed. The lists go to the callee for good; what it leaves in them is what is left at exit.
--- Assumes nothing.
 use Prim.Native.Nat.{ℕ, _≤_, _<_, _^_}
 use mathlib.Core.Path.{_≡_, refl}
 use mathlib.Core.List.{List, [], _∷_}
@@ -273,5 +272,5 @@ read-codes-spec 𝓤 H 𝓜 𝓖 𝓡 =
     entered 𝓤 H (tripleOf 𝓤 H (𝓖 .A) reads.signature (reads.spec 𝓤 H (𝓖 .A) (𝓜 .mem) (𝓡 .run)))
     (tables 𝓤 H 𝓜 𝓡 code.env .C) (tables 𝓤 H 𝓜 𝓡 code.env .Λ) #read-codes code.function (code.unfolded 𝓤 H 𝓜 𝓡)
     (passes-meets 𝓤 H (𝓖 .A) (givenOf 𝓤 H 𝓜 𝓖) (𝓜 .mem) (𝓡 .run) (tablesOf 𝓤 H 𝓜 (tables 𝓤 H 𝓜 𝓡 code.env))
-    (cited 𝓤 H (Codes 𝓤 H (𝓖 .A) (𝓜 .mem) (𝓡 .run)) 𝓜 𝓡 code.env #sheet-codes codes-def.routine code.calls-sheet·read-codes
+    (cited 𝓤 H (Codes 𝓤 H (𝓖 .A) (𝓜 .mem) (𝓡 .run)) 𝓜 𝓡 code.env #sheet-codes codes-def.routine code.calls-sheet-tests·read-codes
     (codes-thm.met 𝓤 H 𝓜 𝓖 𝓡)))

@@ -1,4 +1,4 @@
-//! Document 01's example: every frame writes the input to address 0 and reads it, and P says that a 0 is read.
+//! The chip of the full run (RULES P8): every frame writes the input to address 0 and reads it, and P says that a 0 is read.
 
 use super::chip::{Chip, FALSE, TRUE};
 
