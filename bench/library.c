@@ -6,28 +6,28 @@
 
 #include "../include/marrubigai.h"
 
-enum { DEPTH_LINE = 11, LONGEST = DEPTH_LINE + 615 * 32, MOST_RECORDS = 600, MOST_NUMBERS = 5992 };
+enum { DEPTH_LINE = 11 };
 
-static marrubigai_latch latches[MOST_RECORDS];
-static marrubigai_gate gates[MOST_RECORDS];
+static marrubigai_latch latches[MARRUBIGAI_LIST_ROOM];
+static marrubigai_gate gates[MARRUBIGAI_LIST_ROOM];
 static marrubigai_netlist net;
 static uint32_t depth;
 
 static size_t group(uint32_t kind, uint32_t j, uint32_t i) {
-  static int32_t numbers[MOST_NUMBERS];
+  static int32_t numbers[MARRUBIGAI_GROUP_ROOM];
   marrubigai_count_reply reply =
-      marrubigai_write_group(net, latches, net.latches, gates, net.gates, depth, kind, j, i, numbers, MOST_NUMBERS);
+      marrubigai_write_group(net, latches, net.latches, gates, net.gates, depth, kind, j, i, numbers, MARRUBIGAI_GROUP_ROOM);
   if (reply.number != 0) exit(1);
   return reply.count;
 }
 
 int main(void) {
-  static uint8_t input[LONGEST];
+  static uint8_t input[DEPTH_LINE + MARRUBIGAI_SHEET_BYTES];
   size_t bytes = fread(input, 1, sizeof input, stdin), count = 0;
   if (bytes < DEPTH_LINE) return 1;
   depth = (uint32_t)atoi((const char *)input);
   marrubigai_sheet_reply sheet =
-      marrubigai_read(input + DEPTH_LINE, bytes - DEPTH_LINE, latches, MOST_RECORDS, gates, MOST_RECORDS);
+      marrubigai_read(input + DEPTH_LINE, bytes - DEPTH_LINE, latches, MARRUBIGAI_LIST_ROOM, gates, MARRUBIGAI_LIST_ROOM);
   if (sheet.number != 0) return 1;
   net = sheet.net;
   for (uint32_t i = 0; i <= depth; i++) {

@@ -1,21 +1,22 @@
-/* The library for C: `rt staticlib marrubigai` writes target/staticlib/libmarrubigai.a. The contracts stand in crates/marrubigai/src; what a
- * refusal's number and place mean is in docs/FORMAT.md, "Refusals of the library". Every function takes any numbers, tests them
- * first, and after a refusal has changed nothing that it was lent.
+/* The library for C: `rt staticlib marrubigai` writes target/staticlib/libmarrubigai.a. docs/LIBRARY.md has the link line, the conditions and
+ * places of refusals, and a program that searches depth by depth; the contracts stand in crates/marrubigai/src. Every function takes any
+ * numbers, tests them first, and after a refusal has changed nothing that it was lent.
  *
  * A slice is a pointer and how many elements it has. Nothing can test these two, so they are the caller's to get right:
  *   - The pointer is that of an array of at least so many elements, which nothing else writes to during the call.
  *   - At length 0 nothing is read or written through it, but it is still an element's address and not NULL: any array's will do.
- *   - What a function writes to (a pointer without const) overlaps nothing else that the same call is lent.
- *
- * Room that is always enough: 600 elements for a list of latches or gates; 5,992 numbers for a group; 28 bytes for a header or a
- * refusal, and 12 bytes a number for clauses. Exactly, in numbers, with L latches and A gates: the wires of frame 0 take
- * 2 + 2L + 10A, those of a later frame 6L + 10A; a pair 17m + 8n + 32; the closing of frame i 8n + i + 3; the property of depth k
- * k + 2. */
+ *   - What a function writes to (a pointer without const) overlaps nothing else that the same call is lent. */
 #ifndef MARRUBIGAI_H
 #define MARRUBIGAI_H
 
 #include <stddef.h>
 #include <stdint.h>
+
+/* the version of this interface: the first number goes up where a program that was written for the version before has to be changed, the
+ * second where something is added; while the first is 0, the second goes up for both */
+#define MARRUBIGAI_VERSION_MAJOR 0
+#define MARRUBIGAI_VERSION_MINOR 1
+#define MARRUBIGAI_VERSION "0.1"
 
 #ifdef __cplusplus
 extern "C" {
@@ -40,7 +41,32 @@ typedef struct { uint32_t number, place, variables, clauses; } marrubigai_headin
 typedef struct { uint32_t number, place; marrubigai_netlist net; } marrubigai_sheet_reply;
 typedef struct { uint32_t number; uint8_t letter; uint32_t first, second, third, line; } marrubigai_line_reply;
 
-enum { MARRUBIGAI_WIRES, MARRUBIGAI_PAIR, MARRUBIGAI_CLOSING, MARRUBIGAI_PROPERTY };
+/* a refusal's number */
+enum marrubigai_refusal {
+  MARRUBIGAI_PASSED = 0, /* nothing is refused */
+  MARRUBIGAI_RAGGED = 1,
+  MARRUBIGAI_MISPRINT = 2,
+  MARRUBIGAI_OUT_OF_ORDER = 3,
+  MARRUBIGAI_SIZE = 4,
+  MARRUBIGAI_CODE = 5,
+  MARRUBIGAI_MEMORY_LOOP = 6,
+  MARRUBIGAI_DEPTH = 7,
+  MARRUBIGAI_NO_SUCH_GROUP = 8,
+  MARRUBIGAI_NO_ROOM = 9,
+  MARRUBIGAI_OUT_OF_NUMBERS = 10
+};
+
+/* the kinds of group */
+enum marrubigai_kind { MARRUBIGAI_WIRES = 0, MARRUBIGAI_PAIR = 1, MARRUBIGAI_CLOSING = 2, MARRUBIGAI_PROPERTY = 3 };
+
+/* room that is always enough */
+enum marrubigai_room {
+  MARRUBIGAI_SHEET_BYTES = 19680, /* no sheet has more */
+  MARRUBIGAI_LIST_ROOM = 600,     /* latches or gates */
+  MARRUBIGAI_GROUP_ROOM = 5992,   /* numbers of a group */
+  MARRUBIGAI_LINE_BYTES = 28,     /* a header, or a refusal */
+  MARRUBIGAI_NUMBER_BYTES = 12    /* clauses as text: for each number */
+};
 
 /* reads a sheet: its record, and its latches and gates into the first elements of the lists */
 marrubigai_sheet_reply marrubigai_read(const uint8_t *file, size_t bytes, marrubigai_latch *latches, size_t latch_room,
@@ -55,7 +81,8 @@ marrubigai_heading_reply marrubigai_heading(marrubigai_netlist net, const marrub
                                             const marrubigai_gate *gates, size_t gate_count, uint32_t depth);
 
 /* writes the clauses of one group, each ended by 0, and answers how many numbers that is: wires or closing of frame i, pair (j, i),
- * or the property; j counts only for a pair, and i not for the property. The order of the whole: for each frame wires, pairs from j = i - 1 down to 0, closing; then the property. */
+ * or the property; j counts only for a pair, and i not for the property. The order of the whole: for each frame wires, pairs from
+ * j = i - 1 down to 0, closing; then the property. Only the property's numbers depend on the depth: not P of frames 0 to depth, and 0. */
 marrubigai_count_reply marrubigai_write_group(marrubigai_netlist net, const marrubigai_latch *latches, size_t latch_count,
                                               const marrubigai_gate *gates, size_t gate_count, uint32_t depth, uint32_t kind,
                                               uint32_t j, uint32_t i, int32_t *out, size_t room);

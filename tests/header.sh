@@ -16,6 +16,16 @@ same() { # what, list, list
 same "the header declares the exported functions" "$(exported)" "$(called include/marrubigai.h)"
 same "the test calls the exported functions" "$(exported)" "$(called tests/header/main.c)"
 
+# The header's refusals are the rows of the library's page, MARRUBIGAI_ and the word; the test has each of them.
+rows() {
+  sed -n '/^## Refusals$/,$p' docs/LIBRARY.md | sed -n 's/^| \([0-9][0-9]*\) \([a-z ]*\) |.*/\2=\1/p' | tr 'a-z ' 'A-Z_' | sed 's/=/ = /'
+}
+refusals() { sed -n '/^enum marrubigai_refusal {$/,/^};$/s/^  MARRUBIGAI_\([A-Z_]* = [0-9]*\).*/\1/p' include/marrubigai.h; }
+same "the header's refusals are those of docs/LIBRARY.md" "PASSED = 0
+$(rows)" "$(refusals)"
+same "the test has each refusal" "$(refusals | sed 's/ =.*//' | sort)" \
+  "$(grep -oE 'MARRUBIGAI_[A-Z_]+' tests/header/main.c | sed 's/MARRUBIGAI_//' | grep -xF "$(refusals | sed 's/ =.*//')" | sort -u)"
+
 if cc -std=c11 -pedantic -Wall -Wextra -Werror -O -o "$work/header" tests/header/main.c -L target/staticlib -lmarrubigai; then
   "$work/header" > "$work/out"
   status=$?
@@ -34,7 +44,7 @@ cat > "$work/call.cpp" <<'END'
 #include "marrubigai.h"
 int main() {
   uint8_t text[28];
-  return marrubigai_put_refusal(text, sizeof text, 9, 0).count == sizeof text ? 0 : 1;
+  return marrubigai_put_refusal(text, sizeof text, MARRUBIGAI_NO_ROOM, 0).count == MARRUBIGAI_LINE_BYTES ? 0 : 1;
 }
 END
 if g++ -std=c++11 -pedantic -Wall -Wextra -Werror -Iinclude -o "$work/call" "$work/call.cpp" -L target/staticlib -lmarrubigai && "$work/call"; then

@@ -50,6 +50,13 @@ FIELD(marrubigai_line_reply, second, 12);
 FIELD(marrubigai_line_reply, third, 16);
 FIELD(marrubigai_line_reply, line, 20);
 
+#define TEXT(number) #number
+#define VERSION(major, minor) TEXT(major) "." TEXT(minor)
+_Static_assert(sizeof MARRUBIGAI_VERSION == sizeof VERSION(MARRUBIGAI_VERSION_MAJOR, MARRUBIGAI_VERSION_MINOR), "version");
+
+// no record is refused by it (docs/LIBRARY.md), so no call below answers it
+_Static_assert(MARRUBIGAI_OUT_OF_NUMBERS == 10, "out of numbers");
+
 static int passed, failed;
 
 static void check(const char *what, int holds) {
@@ -135,18 +142,22 @@ static void reading(void) {
   static const marrubigai_netlist nothing = {0};
   const size_t bytes = sizeof DISTINCT - 1;
   check("the sheet of the full run is read, into lists of length 0",
-        answers_sheet(read_text(FULL_RUN, sizeof FULL_RUN - 1, 0, 0), 0, 0, &CHIP) && lists_hold(0, 0, 0, 0));
+        answers_sheet(read_text(FULL_RUN, sizeof FULL_RUN - 1, 0, 0), MARRUBIGAI_PASSED, 0, &CHIP) && lists_hold(0, 0, 0, 0));
   check("every field of the record is in its place, and the records are in the lists",
-        answers_sheet(read_text(DISTINCT, bytes, ROOM, ROOM), 0, 0, &DISTINCT_NET) &&
+        answers_sheet(read_text(DISTINCT, bytes, ROOM, ROOM), MARRUBIGAI_PASSED, 0, &DISTINCT_NET) &&
             lists_hold(DISTINCT_LATCHES, 2, DISTINCT_GATES, 1));
-  check("lists of exactly the sizes", answers_sheet(read_text(DISTINCT, bytes, 2, 1), 0, 0, &DISTINCT_NET));
+  check("lists of exactly the sizes", answers_sheet(read_text(DISTINCT, bytes, 2, 1), MARRUBIGAI_PASSED, 0, &DISTINCT_NET));
   check("a latch list too short gives 9, place 0",
-        answers_sheet(read_text(DISTINCT, bytes, 1, ROOM), 9, 0, &nothing) && lists_hold(0, 0, 0, 0));
+        answers_sheet(read_text(DISTINCT, bytes, 1, ROOM), MARRUBIGAI_NO_ROOM, 0, &nothing) && lists_hold(0, 0, 0, 0));
   check("a gate list too short gives 9, place 0",
-        answers_sheet(read_text(DISTINCT, bytes, ROOM, 0), 9, 0, &nothing) && lists_hold(0, 0, 0, 0));
-  check("an empty file gives 1, place 0", answers_sheet(read_text(DISTINCT, 0, ROOM, ROOM), 1, 0, &nothing));
+        answers_sheet(read_text(DISTINCT, bytes, ROOM, 0), MARRUBIGAI_NO_ROOM, 0, &nothing) && lists_hold(0, 0, 0, 0));
+  check("an empty file gives 1, place 0", answers_sheet(read_text(DISTINCT, 0, ROOM, ROOM), MARRUBIGAI_RAGGED, 0, &nothing));
+  char misprinted[sizeof DISTINCT];
+  memcpy(misprinted, DISTINCT, sizeof DISTINCT);
+  misprinted[32] = 'm';
+  check("a small letter gives 2 at its line", answers_sheet(read_text(misprinted, bytes, ROOM, ROOM), MARRUBIGAI_MISPRINT, 2, &nothing));
   check("a file without its last line gives 3, one past the lines left",
-        answers_sheet(read_text(DISTINCT, bytes - 32, ROOM, ROOM), 3, 15, &nothing) && lists_hold(0, 0, 0, 0));
+        answers_sheet(read_text(DISTINCT, bytes - 32, ROOM, ROOM), MARRUBIGAI_OUT_OF_ORDER, 15, &nothing) && lists_hold(0, 0, 0, 0));
 }
 
 static int answers_line(uint32_t line, marrubigai_line_reply expected) {
@@ -169,16 +180,20 @@ static int answers_heading(marrubigai_heading_reply reply, uint32_t number, uint
 
 static void headings(void) {
   check("depth 1 of the full run: 10 variables, 24 clauses",
-        answers_heading(marrubigai_heading(CHIP, latches, 0, gates, 0, 1), 0, 0, 10, 24));
+        answers_heading(marrubigai_heading(CHIP, latches, 0, gates, 0, 1), MARRUBIGAI_PASSED, 0, 10, 24));
   // B(3) = 1 + 3 x 11 + 8 x 3; wires 6 and 2 x 7, pairs 3 x 36, closings 3 x 11, property 1
   check("depth 2 of the other: 58 variables, 162 clauses",
-        answers_heading(marrubigai_heading(DISTINCT_NET, DISTINCT_LATCHES, 2, DISTINCT_GATES, 1, 2), 0, 0, 58, 162));
-  check("depth 256 gives 7, place 0", answers_heading(marrubigai_heading(CHIP, latches, 0, gates, 0, 256), 7, 0, 0, 0));
+        answers_heading(marrubigai_heading(DISTINCT_NET, DISTINCT_LATCHES, 2, DISTINCT_GATES, 1, 2), MARRUBIGAI_PASSED, 0, 58, 162));
+  check("depth 256 gives 7, place 0", answers_heading(marrubigai_heading(CHIP, latches, 0, gates, 0, 256), MARRUBIGAI_DEPTH, 0, 0, 0));
   check("a latch list shorter than its size gives 3, place 0",
-        answers_heading(marrubigai_heading(DISTINCT_NET, DISTINCT_LATCHES, 1, DISTINCT_GATES, 1, 2), 3, 0, 0, 0));
+        answers_heading(marrubigai_heading(DISTINCT_NET, DISTINCT_LATCHES, 1, DISTINCT_GATES, 1, 2), MARRUBIGAI_OUT_OF_ORDER, 0, 0, 0));
+  marrubigai_netlist wide = CHIP;
+  wide.n = 33;
+  check("33 data bits give 4 at line 2", answers_heading(marrubigai_heading(wide, latches, 0, gates, 0, 1), MARRUBIGAI_SIZE, 2, 0, 0));
   marrubigai_netlist loop = CHIP;
   loop.address[0] = 4;
-  check("address code 4 gives 6 at line 3", answers_heading(marrubigai_heading(loop, latches, 0, gates, 0, 1), 6, 3, 0, 0));
+  check("address code 4 gives 6 at line 3",
+        answers_heading(marrubigai_heading(loop, latches, 0, gates, 0, 1), MARRUBIGAI_MEMORY_LOOP, 3, 0, 0));
 }
 
 enum { MOST = 64, UNWRITTEN = INT32_MIN };
@@ -229,12 +244,15 @@ static void groups(void) {
   writes("wires of frame 1: none, into a slice of length 0", chip, MARRUBIGAI_WIRES, 0, 1, 0, 0);
   check("the pair has 57 numbers", COUNT(pair_0_1) == 57);
   writes("pair (0, 1)", chip, MARRUBIGAI_PAIR, 0, 1, pair_0_1, COUNT(pair_0_1));
+  writes("pair (0, 1) at another depth", (lent){&CHIP, latches, gates, 255}, MARRUBIGAI_PAIR, 0, 1, pair_0_1, COUNT(pair_0_1));
   writes("closing of frame 1", chip, MARRUBIGAI_CLOSING, 0, 1, closing_1, COUNT(closing_1));
+  writes("closing of frame 1 at another depth", (lent){&CHIP, latches, gates, 255}, MARRUBIGAI_CLOSING, 0, 1, closing_1,
+         COUNT(closing_1));
   writes("property", chip, MARRUBIGAI_PROPERTY, 0, 0, property, COUNT(property));
-  refuses("a slice of 56 gives 9", chip, MARRUBIGAI_PAIR, 0, 1, 56, 9, 0);
-  refuses("pair (1, 1) gives 8", chip, MARRUBIGAI_PAIR, 1, 1, MOST, 8, 0);
-  refuses("a kind above 3 gives 8", chip, MARRUBIGAI_PROPERTY + 1, 0, 1, MOST, 8, 0);
-  refuses("depth 256 gives 7", (lent){&CHIP, latches, gates, 256}, MARRUBIGAI_PAIR, 0, 1, MOST, 7, 0);
+  refuses("a slice of 56 gives 9", chip, MARRUBIGAI_PAIR, 0, 1, 56, MARRUBIGAI_NO_ROOM, 0);
+  refuses("pair (1, 1) gives 8", chip, MARRUBIGAI_PAIR, 1, 1, MOST, MARRUBIGAI_NO_SUCH_GROUP, 0);
+  refuses("a kind above 3 gives 8", chip, MARRUBIGAI_PROPERTY + 1, 0, 1, MOST, MARRUBIGAI_NO_SUCH_GROUP, 0);
+  refuses("depth 256 gives 7", (lent){&CHIP, latches, gates, 256}, MARRUBIGAI_PAIR, 0, 1, MOST, MARRUBIGAI_DEPTH, 0);
 
   // B(1) = 12, B(2) = 31
   const lent other = {&DISTINCT_NET, DISTINCT_LATCHES, DISTINCT_GATES, 2};
@@ -255,7 +273,7 @@ static void groups(void) {
   marrubigai_netlist outside = DISTINCT_NET;
   outside.p = 24;
   refuses("code 24 of 11 wires gives 5 at the C line", (lent){&outside, DISTINCT_LATCHES, DISTINCT_GATES, 2}, MARRUBIGAI_WIRES, 0, 0,
-          MOST, 5, 15);
+          MOST, MARRUBIGAI_CODE, 15);
 }
 
 enum { MOST_BYTES = 40, UNPRINTED = 0xa5 };
@@ -275,7 +293,7 @@ static int printed(marrubigai_count_reply reply, const char *expected) {
 }
 
 static int not_printed(marrubigai_count_reply reply) {
-  int holds = reply.number == 9 && reply.place == 0 && reply.count == 0;
+  int holds = reply.number == MARRUBIGAI_NO_ROOM && reply.place == 0 && reply.count == 0;
   for (size_t t = 0; t < MOST_BYTES; t++) holds = holds && text[t] == UNPRINTED;
   return holds;
 }
@@ -294,12 +312,32 @@ static void printing(void) {
   check("27 bytes are too few for it", not_printed(marrubigai_put_refusal(unprinted(), 27, 6, 3)));
 }
 
+// what the header calls room enough is what the largest of its kind needs, and no more, but for the lists: V leaves 599
+static void rooms(void) {
+  static marrubigai_gate most_gates[MARRUBIGAI_LIST_ROOM];
+  static int32_t numbers[MARRUBIGAI_GROUP_ROOM];
+  const marrubigai_netlist largest = {.gates = 599, .m = 1, .n = 1};
+  check("the largest group", marrubigai_write_group(largest, latches, 0, most_gates, 599, 0, MARRUBIGAI_WIRES, 0, 0, numbers,
+                                                    MARRUBIGAI_GROUP_ROOM).count == MARRUBIGAI_GROUP_ROOM);
+  static uint8_t sheet[MARRUBIGAI_SHEET_BYTES + 32];
+  check("the longest sheet is not ragged",
+        marrubigai_read(sheet, MARRUBIGAI_SHEET_BYTES, latches, 0, gates, 0).number == MARRUBIGAI_MISPRINT);
+  check("a longer one is", marrubigai_read(sheet, sizeof sheet, latches, 0, gates, 0).number == MARRUBIGAI_RAGGED);
+  check("the longest header", marrubigai_put_header(text, MARRUBIGAI_LINE_BYTES, UINT32_MAX, UINT32_MAX).count == MARRUBIGAI_LINE_BYTES);
+  check("a refusal", marrubigai_put_refusal(text, MARRUBIGAI_LINE_BYTES, UINT32_MAX, UINT32_MAX).count == MARRUBIGAI_LINE_BYTES);
+  static const int32_t longest[] = {INT32_MIN};
+  check("the longest number", marrubigai_put_clauses(text, MARRUBIGAI_NUMBER_BYTES, longest, 1).count == MARRUBIGAI_NUMBER_BYTES);
+}
+
 int main(void) {
+  check("the version's text has its numbers",
+        strcmp(MARRUBIGAI_VERSION, VERSION(MARRUBIGAI_VERSION_MAJOR, MARRUBIGAI_VERSION_MINOR)) == 0);
   reading();
   lines();
   headings();
   groups();
   printing();
+  rooms();
   printf("%d passed, %d failed\n", passed, failed);
   return failed != 0;
 }

@@ -10,7 +10,7 @@ use Rattle.model.specs.Netlist.{Netlist, Port, port, readBits, inputWire
 abbrev pub Values : Type 0
 Values = ℕ → Bool
 
--- the value of a code: its wire's, inverted where the code is odd
+-- the value of a code: its wire's, inverted where the code is odd (RULES W3)
 unfoldable pub codeValue : Values → ℕ → Bool
 codeValue v x = cond (odd x) (not (v (x / 2))) (v (x / 2))
 
@@ -31,12 +31,12 @@ sweep op c v (suc g) w =
 unfoldable pub conjunction : Values → ℕ → ℕ → Bool
 conjunction v a b = codeValue v a && codeValue v b
 
--- all wires: the gates worked out in wire order
+-- all wires: the gates worked out in wire order (RULES W2)
 unfoldable pub evaluate : Netlist → (ℕ → Bool) → (ℕ → Bool) → (ℕ → Bool) → Values
 evaluate c input latch read = sweep conjunction c (sources c input latch read) (c .gates)
 
 -- Whether a wire depends on a read bit: by wiring through gates, whatever the gates compute, and not through latches.
--- The same sweep over the gates, from the read bits.
+-- The same sweep over the gates, from the read bits. RULES C9.
 unfoldable pub isRead : Netlist → ℕ → Bool
 isRead c w = leb (readWire c 0) w && ltb w (gateWire c 0)
 
@@ -46,18 +46,18 @@ eitherWire d a b = d (a / 2) || d (b / 2)
 unfoldable pub dependsOnRead : Netlist → ℕ → Bool
 dependsOnRead c = sweep eitherWire c (isRead c) (c .gates)
 
--- the same dependence as a path: from a read bit through gates to the wire
+-- the same dependence as a path: from a read bit through gates to the wire (RULES C9)
 pub data ReadPath (c : Netlist) : ℕ → Type 0 where
   at-read : (t : ℕ) → t < readBits c → ReadPath c (readWire c t)
   by-left : (g : ℕ) → g < c .gates → ReadPath c (c .left g / 2) → ReadPath c (gateWire c g)
   by-right : (g : ℕ) → g < c .gates → ReadPath c (c .right g / 2) → ReadPath c (gateWire c g)
 
--- what a run carries from frame to frame: the latches and the 2^m words
+-- what a run carries from frame to frame: the latches and the 2^m words (RULES C11)
 pub record State : Type 0 where
   pub latch : ℕ → Bool
   pub memory : ℕ → ℕ
 
--- what a run is fed in a frame: the inputs, and the bits of the customer's "idle word", the read bits where RE is false
+-- what a run is fed in a frame: the inputs, and the bits of the customer's "idle word", the read bits where RE is false (RULES C10)
 pub record Feed : Type 0 where
   pub input : ℕ → Bool
   pub idle : ℕ → Bool
@@ -66,15 +66,15 @@ pub record Feed : Type 0 where
 abbrev pub Feeds : Type 0
 Feeds = ℕ → Feed
 
--- the address at a port
+-- the address at a port (RULES W18)
 unfoldable pub addressOf : Netlist → Port → Values → ℕ
 addressOf c p v = fromBits (c .m) (λ t. codeValue v (p .address t))
 
--- the read bits that follow from the memory before this frame's write, and from the address and RE in the values v
+-- the read bits that follow from the memory before this frame's write, and from the address and RE in the values v (RULES C4 and C5)
 unfoldable pub readData : Netlist → State → Feed → Values → ℕ → Bool
 readData c s f v t = cond (codeValue v (port c .RE)) (bit (s .memory (addressOf c (port c) v)) t) (f .idle t)
 
--- One frame. First pass: every read bit 0, which settles address and RE. Second pass: all gates afresh, with the read bits.
+-- One frame. First pass: every read bit 0, which settles address and RE. Second pass: all gates afresh, with the read bits. RULES C12 and C13.
 unfoldable pub firstPass : Netlist → State → Feed → Values
 firstPass c s f = evaluate c (f .input) (s .latch) (λ t. false)
 
@@ -85,7 +85,7 @@ frame c s f = evaluate c (f .input) (s .latch) (readData c s f (firstPass c s f)
 unfoldable pub wordWritten : Netlist → Values → ℕ
 wordWritten c v = fromBits (c .n) (λ t. codeValue v (c .writeData t))
 
--- after a frame: the write, and all latches at once, both from this frame's values
+-- after a frame: the write, and all latches at once, both from this frame's values (RULES C7 and C14)
 unfoldable pub step : Netlist → State → Values → State
 step c s v =
     record {
@@ -93,7 +93,7 @@ step c s v =
       memory = λ x. cond (codeValue v (c .WE) && eqb x (addressOf c (port c) v)) (wordWritten c v) (s .memory x);
     }
 
--- the state in which frame i begins, and the values in frame i, of the run from state s
+-- the state in which frame i begins, and the values in frame i, of the run from state s (RULES C15)
 unfoldable pub stateAt : Netlist → State → Feeds → ℕ → State
 stateAt c s f zero = s
 stateAt c s f (suc i) = step c (stateAt c s f i) (frame c (stateAt c s f i) (f i))
@@ -101,6 +101,6 @@ stateAt c s f (suc i) = step c (stateAt c s f i) (frame c (stateAt c s f i) (f i
 unfoldable pub run : Netlist → State → Feeds → ℕ → Values
 run c s f i = frame c (stateAt c s f i) (f i)
 
--- the state at the start: latches at their reset, each word the initial word
+-- the state at the start: latches at their reset, each word the initial word (RULES C1 and C2)
 unfoldable pub initial : Netlist → State
 initial c = record { latch = λ l. eqb (c .reset l) 1; memory = λ x. c .initialWord }

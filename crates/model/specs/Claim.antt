@@ -1,4 +1,4 @@
--- Demand 3, the correctness of the encoding in both directions (`Encodes`), and the theorem (`EncodingTheorem`). RULES A2 to A10.
+-- Demand 3, the correctness of the encoding in both directions (`Encodes`), and the theorem (`EncodingTheorem`). RULES A2 to A11.
 --
 -- `Satisfies c k a`: the assignment a makes every clause true that stands in the numbers written for depth k.
 -- First direction: whatever assignment does so, its inputs and idle read bits, fed frame by frame to the circuit with its whole
@@ -26,20 +26,20 @@ use Rattle.model.specs.declared.Group.{Group}
 unfoldable pub Satisfies : Netlist → ℕ → Assignment → Type 0
 Satisfies c k a = allTrue a (clausesIn (formula c k)) ≡ true
 
--- what an assignment feeds in frame i: its input variables and, as idle word, its read-bit variables
+-- what an assignment feeds in frame i: its input variables and, as idle word, its read-bit variables (RULES A5)
 unfoldable pub feedOf : Netlist → Assignment → Feeds
 feedOf c a i = record { input = λ x. a (base c i + inputWire c x); idle = λ t. a (base c i + readWire c t) }
 
--- the assignment and the run from state s agree on every wire of every frame from 0 to k
+-- the assignment and the run from state s agree on every wire of every frame from 0 to k (RULES A6)
 unfoldable pub Agrees : Netlist → State → ℕ → Assignment → Feeds → Type 0
 Agrees c s k a f = (i : ℕ) → i ≤ k → (w : ℕ) → 1 ≤ w → w ≤ lastWire c → a (base c i + w) ≡ run c s f i w
 
--- the run from state s breaks the property in at least one frame from 0 to k: P is false there (a counterexample; AIGER's "bad"
+-- the run from state s breaks the property in at least one frame from 0 to k (RULES A7): P is false there (a counterexample; AIGER's "bad"
 -- is ¬P)
 unfoldable pub Breaks : Netlist → State → ℕ → Feeds → Type 0
 Breaks c s k f = (i : ℕ) × (i ≤ k) × (codeValue (run c s f i) (c .P) ≡ false)
 
--- demand 3
+-- demand 3 (RULES A8 and A9)
 pub record Encodes (c : Netlist) (k : ℕ) : Type 0 where
   pub assignment→run : (a : Assignment) → Satisfies c k a → Agrees c (initial c) k a (feedOf c a) × Breaks c (initial c) k (feedOf c a)
   pub run→assignment : (f : Feeds) → Breaks c (initial c) k f → (a : Assignment) × Satisfies c k a × Agrees c (initial c) k a f

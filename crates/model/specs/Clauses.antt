@@ -21,19 +21,19 @@ neg (known b) = known (not b)
 neg (plus v) = minus v
 neg (minus v) = plus v
 
--- g = a ∧ b
+-- g = a ∧ b (RULES G1)
 unfoldable pub andClauses : Literal → Literal → Literal → List Clause
 andClauses g a b = (neg g ∷ a ∷ []) ∷ (neg g ∷ b ∷ []) ∷ (g ∷ neg a ∷ neg b ∷ []) ∷ []
 
--- q = d
+-- q = d (RULES G4)
 unfoldable pub sameClauses : Literal → Literal → List Clause
 sameClauses q d = (neg q ∷ d ∷ []) ∷ (q ∷ neg d ∷ []) ∷ []
 
--- where p is true, a = b
+-- where p is true, a = b (RULES G10 and G12)
 unfoldable pub sameIfClauses : Literal → Literal → Literal → List Clause
 sameIfClauses p a b = (neg p ∷ neg a ∷ b ∷ []) ∷ (neg p ∷ a ∷ neg b ∷ []) ∷ []
 
--- One address bit x of frame j and y of frame i, with E and the bit's own e. The paper's e lost its subscript: it is per bit.
+-- One address bit x of frame j and y of frame i, with E and the bit's own e (RULES G6). The paper's e lost its subscript: it is per bit.
 unfoldable pub bitClauses : Literal → Literal → Literal → Literal → List Clause
 bitClauses E e x y =
     (neg E ∷ x ∷ neg y ∷ []) ∷ (neg E ∷ neg x ∷ y ∷ []) ∷ (e ∷ x ∷ y ∷ []) ∷ (e ∷ neg x ∷ neg y ∷ []) ∷ []
@@ -64,7 +64,7 @@ addressBitClauses x t = bitClauses (x .E) (x .e t) (x .Aj t) (x .Ai t)
 unfoldable pub unequalOf : PairLiterals → ℕ → List Literal
 unequalOf x t = neg (x .e t) ∷ []
 
--- (¬e of bits 0 to m - 1, E)
+-- (¬e of bits 0 to m - 1, E) (RULES G7)
 unfoldable pub allBits : ℕ → PairLiterals → Clause
 allBits m x = gather m (unequalOf x) ++ x .E ∷ []
 
@@ -72,7 +72,7 @@ unfoldable pub forwardedClauses : PairLiterals → ℕ → List Clause
 forwardedClauses x t = sameIfClauses (x .S) (x .RD t) (x .WD t)
 
 -- Equation (1) of Ganai et al. has a misprinted inner sign (RULES G24); its sentence decides: all frames strictly between j and i.
--- That is what N carries from pair to pair, by equation (3).
+-- That is what N carries from pair to pair, by equation (3). RULES G6 to G10, in their order.
 unfoldable pub pairClauses : ℕ → ℕ → PairLiterals → List Clause
 pairClauses m n x =
     gather m (addressBitClauses x) ++ allBits m x ∷ [] ++ andClauses (x .s) (x .E) (x .WE) ++ andClauses (x .PS) (neg (x .s)) (x .N)

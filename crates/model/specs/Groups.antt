@@ -11,15 +11,15 @@ use Rattle.model.specs.Variables.{wireIn, codeIn, pairLiterals, closingL
 use Rattle.model.specs.declared.Group.{Group}
 use Rattle.model.specs.declared.Group.the-variants.{Wires, Pair, Closing, Property}
 
--- gate g in frame i
+-- gate g in frame i (RULES G5)
 unfoldable pub gateClauses : Netlist → ℕ → ℕ → List Clause
 gateClauses c i g = andClauses (wireIn c i (gateWire c g)) (codeIn c i (c .left g)) (codeIn c i (c .right g))
 
--- latch l in frame 0: its own literal, inverted if reset is 0
+-- latch l in frame 0: its own literal, inverted if reset is 0 (RULES G3)
 unfoldable pub resetClauses : Netlist → ℕ → List Clause
 resetClauses c l = (cond (eqb (c .reset l) 1) (wireIn c 0 (latchWire c l)) (neg (wireIn c 0 (latchWire c l))) ∷ []) ∷ []
 
--- latch l in frame i + 1: what its next code was in frame i
+-- latch l in frame i + 1: what its next code was in frame i (RULES G4)
 unfoldable pub latchClauses : Netlist → ℕ → ℕ → List Clause
 latchClauses c i l = sameClauses (wireIn c (i + 1) (latchWire c l)) (codeIn c i (c .next l))
 
@@ -28,7 +28,7 @@ unfoldable pub stateClauses : Netlist → ℕ → List Clause
 stateClauses c zero = (plus 1 ∷ []) ∷ gather (c .latches) (resetClauses c)
 stateClauses c (suc i) = gather (c .latches) (latchClauses c i)
 
--- ¬P of frame i
+-- ¬P of frame i (RULES G14)
 unfoldable pub violationOf : Netlist → ℕ → List Literal
 violationOf c i = neg (codeIn c i (c .P)) ∷ []
 
@@ -46,11 +46,11 @@ pairOf i j = Pair j i ∷ []
 unfoldable pub frameGroups : ℕ → List Group
 frameGroups i = Wires i ∷ gatherDown i (pairOf i) ++ Closing i ∷ []
 
--- the order of the whole: the frames 0 to k, then the property
+-- the order of the whole: the frames 0 to k, then the property (RULES G15)
 unfoldable pub groupOrder : ℕ → List Group
 groupOrder k = gather (k + 1) frameGroups ++ Property ∷ []
 
--- whether there is such a group at depth k: no frame over k, and no pair with j not below i
+-- whether there is such a group at depth k: no frame over k, and no pair with j not below i (RULES T8)
 unfoldable pub inDepth : ℕ → Group → Bool
 inDepth k (Wires i) = leb i k
 inDepth k (Pair j i) = leb i k && ltb j i

@@ -9,14 +9,14 @@ use Rattle.model.specs.Clauses.{Literal, known, plus, minus, Clause}
 use Rattle.model.specs.Groups.{clausesOf, groupOrder}
 use Rattle.model.specs.declared.Group.{Group}
 
--- variable 1 is true: constants become 1 and -1
+-- variable 1 is true: constants become 1 and -1 (RULES V1)
 unfoldable pub numberOf : Literal → ℤ
 numberOf (known true) = pos 1
 numberOf (known false) = negℤ (pos 1)
 numberOf (plus v) = pos v
 numberOf (minus v) = negℤ (pos v)
 
--- clauses as they are written, each with its end mark
+-- clauses as they are written, each with its end mark (RULES G16 and G17)
 unfoldable pub written : List Clause → List ℤ
 written [] = []
 written (x ∷ xs) = map numberOf x ++ pos 0 ∷ [] ++ written xs
@@ -29,7 +29,7 @@ unfoldable pub joined : (Group → List ℤ) → List Group → List ℤ
 joined f [] = []
 joined f (g ∷ gs) = f g ++ joined f gs
 
--- all numbers written for depth k
+-- all numbers written for depth k (RULES A2)
 unfoldable pub formula : Netlist → ℕ → List ℤ
 formula c k = joined (numbersOf c k) (groupOrder k)
 
@@ -43,11 +43,11 @@ splitAfter begun (negsuc v ∷ zs) = splitAfter (begun ++ negsuc v ∷ []) zs
 unfoldable pub clausesIn : List ℤ → List (List ℤ)
 clausesIn zs = splitAfter [] zs
 
--- a value for each variable
+-- a value for each variable (RULES A3)
 abbrev pub Assignment : Type 0
 Assignment = ℕ → Bool
 
--- the number v is true if variable v is, -v if it is not
+-- the number v is true if variable v is, -v if it is not (RULES A4)
 unfoldable pub numberTrue : Assignment → ℤ → Bool
 numberTrue a (pos v) = a v
 numberTrue a (negsuc v) = not (a (suc v))

@@ -8,25 +8,25 @@ use Rattle.model.specs.Bits.{odd, bit}
 use Rattle.model.specs.Netlist.{Netlist, Port, port, lastWire, readWire}
 use Rattle.model.specs.Clauses.{Literal, known, plus, minus, PairLiterals, ClosingLiterals}
 
--- how many variables a pair of frames has, over all ports
+-- how many variables a pair of frames has, over all ports (RULES V5)
 abbrev pub stride : Netlist → ℕ
 stride c = c .m + 4
 
--- B(i): frame i's variables start after it. From V and a pair's number of variables, as code computes it; and of a netlist
+-- B(i): frame i's variables start after it (RULES V2). From V and a pair's number of variables, as code computes it; and of a netlist
 unfoldable pub baseOf : ℕ → ℕ → ℕ → ℕ
 baseOf wires stride i = 1 + i * wires + stride * i * (i - 1) / 2
 
 unfoldable pub base : Netlist → ℕ → ℕ
 base c i = baseOf (lastWire c) (stride c) i
 
--- Q: the variables of pair (j, i) at a port start after it. Again from plain numbers, and of a netlist
+-- Q: the variables of pair (j, i) at a port start after it (RULES V4). Again from plain numbers, and of a netlist
 unfoldable pub pairBaseOf : ℕ → ℕ → ℕ → ℕ → ℕ → ℕ
 pairBaseOf wires stride first j i = baseOf wires stride i + wires + j * stride + first
 
 unfoldable pub pairBase : Netlist → Port → ℕ → ℕ → ℕ
 pairBase c p j i = pairBaseOf (lastWire c) (stride c) (p .firstVariable) j i
 
--- a wire, and a code, in a frame whose variables start after b. Codes 0 and 1 are constants
+-- a wire, and a code, in a frame whose variables start after b. Codes 0 and 1 are constants (RULES V1 and V3)
 unfoldable pub wireAt : ℕ → ℕ → Literal
 wireAt b w = plus (b + w)
 
@@ -40,7 +40,7 @@ wireIn c i = wireAt (base c i)
 abbrev pub codeIn : Netlist → ℕ → ℕ → Literal
 codeIn c i = codeAt (base c i)
 
--- PS of pair (j, i), or RE of frame i where j = i: frame i reads, and no frame since j has written what it reads
+-- PS of pair (j, i), or RE of frame i where j = i (RULES G9 and G11): frame i reads, and no frame since j has written what it reads
 unfoldable pub noneSince : Netlist → Port → ℕ → ℕ → Literal
 noneSince c p j i = cond (eqb j i) (codeIn c i (p .RE)) (plus (pairBase c p j i + c .m + 3))
 
@@ -76,7 +76,7 @@ closingLiterals c p i =
       W = λ t. known (bit (c .initialWord) t);
     }
 
--- what a variable of depth k stands for: the constant, a wire of a frame, or one of a pair
+-- what a variable of depth k stands for: the constant, a wire of a frame, or one of a pair (RULES V6)
 pub data Numbered (c : Netlist) (k v : ℕ) : Type 0 where
   constant : v ≡ 1 → Numbered c k v
   wire : (i w : ℕ) → i ≤ k → 1 ≤ w → w ≤ lastWire c → v ≡ base c i + w → Numbered c k v

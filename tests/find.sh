@@ -1,0 +1,207 @@
+#!/usr/bin/env bash
+# The script that looks for a run (scripts/find.sh) and the one that shows it (scripts/trace.awk): whatever the sheet is called, each
+# exit status, each refusal with its word, its line and its hint, the earliest frame, idle read bits, and everything that can be missing.
+# Argument: the program `frames`.
+set -u
+frames=$(readlink -f "$1")
+cd "$(dirname "$0")/.." || exit 2
+here=$PWD
+passed=0
+failed=0
+check() { # what, command ..
+  local name=$1
+  shift
+  if "$@"; then passed=$((passed + 1)); else failed=$((failed + 1)); echo "FAILED: $name"; fi
+}
+
+work=$(mktemp -d)
+trap 'rm -rf "$work"' EXIT
+mkdir "$work/sheets"
+
+# Runs the script in the folder of the sheets.
+find_run() { (cd "$work/sheets" && FRAMES=${program:-$frames} timeout 60 bash "$here/scripts/find.sh" "$@") > "$work/out" 2> "$work/err"; }
+
+# The script ends with this status and prints this. What is said on standard error begins with the last of the four, each being a line
+# or more; at 1 and 2 nothing is printed.
+ends() { # what, status, printed, said, arguments ..
+  local what=$1 status=$2 printed=$3 said=$4
+  shift 4
+  find_run "$@"
+  check "$what: status" same "$status" "$?"
+  check "$what: printed" same "$printed" "$(cat "$work/out")"
+  check "$what: said" same "$said" "$(head -c ${#said} "$work/err")"
+  check "$what: something is said exactly where nothing is printed" same "$([ -s "$work/out" ])$?" "$([ ! -s "$work/err" ])$?"
+}
+same() { [ "$1" = "$2" ] || { diff <(printf '%s\n' "$1") <(printf '%s\n' "$2"); return 1; } }
+
+line() { printf "%s%10s%10s%10s\n" "$1" "${2-}" "${3-}" "${4-}"; }
+
+# One bit at address 0, which every frame reads and to which it writes the input. The property breaks where a 1 is read and the input is
+# false (the gate), so that one run alone breaks it in frame 1, whatever solver is asked.
+one_bit() {
+  line N 1 0 1; line M 1 1 0; line G 3 4; line A 0; line D 2; line C 1 1 7
+}
+one_bit > "$work/sheets/chip.sheet"
+printf 'input 2\nread 4\n' > "$work/sheets/chip.names"
+shown='frame  input  read  memory
+    0      1     0  reads 0 at 0 (start word), writes 1 at 0
+    1      0     1  reads 1 at 0 (written in frame 0), writes 0 at 0  <- property broken'
+
+for name in chip a=b 'depth=7' 'file=sheet' 'a b' ' ' -x -f -- --least 'back\slash\n' '\' '*' '$x' "quote'" 'ü'; do
+  if [ "$name" != chip ]; then
+    cp "$work/sheets/chip.sheet" "$work/sheets/$name.sheet"
+    cp "$work/sheets/chip.names" "$work/sheets/$name.names"
+  fi
+  ends "a sheet named $name.sheet" 10 "$name.sheet: the property is broken in one of the frames 0 to 1:
+$shown" "" "$name.sheet" 1
+done
+cp "$work/sheets/chip.sheet" "$work/sheets/--least"
+ends "a sheet named --least" 20 "--least: no run breaks the property in frames 0 to 0" "" -- --least 0
+mkdir "$work/a=b"
+(cd "$work" && TMPDIR="a=b" FRAMES=$frames bash "$here/scripts/find.sh" sheets/chip.sheet 1) > "$work/out"
+check "a relative folder for temporary files named a=b" same "sheets/chip.sheet: the property is broken in one of the frames 0 to 1:
+$shown" "$(cat "$work/out")"
+check "it is left empty" rmdir "$work/a=b"
+(cd "$work" && FRAMES=$frames bash "$here/scripts/find.sh" <(cat sheets/chip.sheet) 1) > "$work/out"
+check "a sheet that is a pipe" same "frame  memory" "$(sed -n 2p "$work/out")"
+
+ends "the earliest frame" 10 "chip.sheet: the property is broken in frame 1 at the earliest:
+$shown" "" --least chip.sheet 4
+ends "no earliest frame" 20 "chip.sheet: no run breaks the property in frames 0 to 0" "" --least chip.sheet 0
+
+# here the solver has a choice of runs
+for depth in 3 5; do
+  find_run --least "$here/examples/fourth-revision/faulty.sheet" $depth
+  check "the fourth revision's earliest frame, looked for to $depth: status" same 10 $?
+  check "the fourth revision's earliest frame, looked for to $depth" same \
+    "$here/examples/fourth-revision/faulty.sheet: the property is broken in frame 3 at the earliest:" "$(head -n 1 "$work/out")"
+  check "it is the last one shown, and the only one" same 6 "$(grep -n 'property broken$' "$work/out" | cut -d : -f 1)"
+  check "nothing is shown behind it" same 6 "$(wc -l < "$work/out")"
+done
+
+# usage: nothing is looked for
+wrong() { # what, first line, arguments ..
+  local what=$1 said=$2
+  shift 2
+  ends "$what" 2 "" "$said
+usage: scripts/find.sh [--least] SHEET DEPTH" "$@"
+}
+wrong "no arguments" "a sheet and a depth are wanted"
+wrong "no depth" "a sheet and a depth are wanted" chip.sheet
+wrong "an argument too many" "a sheet and a depth are wanted" chip.sheet 1 2
+wrong "an option that is none" "a sheet and a depth are wanted" --most chip.sheet 1
+for depth in x '' -1 +1 01 1x ' 1' '1 ' 1.0 0x1 '1
+2' 1000000000 99999999999; do
+  wrong "depth '$depth'" "'$depth' is no depth: a number from 0 to 255" chip.sheet "$depth"
+done
+
+# refusals, each with its word, its line and its hint
+hint() { grep -P "^$1\t" "$here/scripts/refusals.txt" | cut -f 3; }
+refused() { # number, the rest of the first line, arguments ..
+  local number=$1 said=$2
+  shift 2
+  check "refusal $number has a hint" [ -n "$(hint "$number")" ]
+  ends "refusal $number" 1 "" "wrong.sheet: refused $number $said
+$(hint "$number")" "$@"
+}
+wrong_sheet() { cat > "$work/sheets/wrong.sheet"; }
+: | wrong_sheet
+refused 1 "(ragged)" wrong.sheet 1
+one_bit | sed 's/ *$//' | wrong_sheet
+refused 1 "(ragged)" wrong.sheet 1
+one_bit | sed '1s/^N         1/N        01/' | wrong_sheet
+refused 2 "(misprint) at line 1: N        01         0         1" wrong.sheet 1
+one_bit | sed 's/^D      /D\t     /' | wrong_sheet
+refused 2 "(misprint) at line 5: D?        2" wrong.sheet 1
+one_bit | tr '\n' '\r' | wrong_sheet
+refused 2 "(misprint) at line 1: N         1         0         1" wrong.sheet 1
+{ printf 'N%10d\0%9d%10d\n' 1 0 1; one_bit | tail -n 5; } | wrong_sheet
+refused 2 "(misprint) at line 1: N         1?        0         1" wrong.sheet 1
+{ one_bit | head -n 2; printf '%31s\n' ''; } | wrong_sheet
+refused 2 "(misprint) at line 3: " wrong.sheet 1
+one_bit | sed 4d | wrong_sheet
+refused 3 "(out of order) at line 4: D         2" wrong.sheet 1
+one_bit | sed '$d' | wrong_sheet
+refused 3 "(out of order) at line 6, behind the last" wrong.sheet 1
+one_bit | sed '1s/^N         1/N       601/' | wrong_sheet
+refused 4 "(size) at line 1: N       601         0         1" wrong.sheet 1
+one_bit | sed 's/^D         2/D         8/' | wrong_sheet
+refused 5 "(code) at line 5: D         8" wrong.sheet 1
+one_bit | sed 's/^A         0/A         4/' | wrong_sheet
+refused 6 "(memory loop) at line 4: A         4" wrong.sheet 1
+refused 6 "(memory loop) at line 4: A         4" --least wrong.sheet 1
+one_bit | wrong_sheet
+refused 7 "(depth)" wrong.sheet 256
+refused 7 "(depth)" --least wrong.sheet 256
+refused 7 "(depth)" wrong.sheet 999999999
+
+# the words are those of the designers' page
+page_words() { sed -n '/^## Refusals$/,/^## /p' docs/FORMAT.md | sed -n 's/^| \([0-9]*\) | \([a-z ]*\) | .*/\1 \2/p'; }
+check "the words are those of docs/FORMAT.md" same "$(page_words)" "$(cut -f 1,2 --output-delimiter=' ' scripts/refusals.txt)"
+
+# what is not there
+ends "a missing sheet" 1 "" "missing.sheet: there is no such file" missing.sheet 1
+ends "a folder for a sheet" 1 "" ".: there is no such file" . 1
+program=$work/missing ends "no program" 1 "" "$work/missing is missing" chip.sheet 1
+program=true ends "a program that prints nothing" 1 "" "true printed neither" chip.sheet 1
+mkdir "$work/bin"
+for command in bash timeout dirname cat mktemp rm grep sed head tail tr wc awk; do ln -s "$(command -v $command)" "$work/bin/$command"; done
+PATH=$work/bin ends "no solver" 1 "" "the solver cadical is missing" chip.sheet 1
+for status in 0 1 30; do
+  printf '#!/bin/bash\nexit %d\n' $status > "$work/bin/cadical"
+  chmod +x "$work/bin/cadical"
+  PATH=$work/bin:$PATH ends "a solver that ends with $status" 1 "" "the solver gave no answer" chip.sheet 1
+done
+printf '#!/bin/bash\necho s SATISFIABLE\nexit 10\n' > "$work/bin/cadical"
+PATH=$work/bin:$PATH ends "a solver that names no values" 1 "" "trace.awk: the answer has no values" chip.sheet 1
+cp "$work/sheets/chip.sheet" "$work/sheets/named.sheet"
+for codes in '' ' x' ' 2 -4' ' 8' ' 2,4'; do
+  printf 'read 4\nword%s\n' "$codes" > "$work/sheets/named.names"
+  ends "a name for '$codes'" 1 "" "trace.awk: what the name word stands for is no codes of this sheet:${codes:+ }" named.sheet 1
+done
+
+# Where read enable, the input, is false, the bit read is free. The memory is never written, so the property, a 0 is read, is broken
+# only there.
+{ line N 1 0 0; line M 1 1 0; line A 0; line D 0; line C 0 2 5; } > "$work/sheets/idle.sheet"
+printf 'input 2\nread 4\nnot-read 5\nboth 2 4\nreversed 4 2\n' > "$work/sheets/idle.names"
+ends "idle read bits" 10 "idle.sheet: the property is broken in one of the frames 0 to 0:
+frame  input  read  not-read  both  reversed  memory
+    0      0     -         -     -         -  idle  <- property broken" "" idle.sheet 0
+
+# A word of 32 bits, all of them 1: its field fills its columns, so that no space stands before it. No input, no latch, no gate; wires 1
+# to 32 are the read bits, and the property is that bit 0 reads 0.
+{
+  line N 0 0 0; line M 1 32 4294967295; line A 0
+  for _ in $(seq 32); do line D 0; done
+  line C 0 1 3
+} > "$work/sheets/wide.sheet"
+printf 'read%s\n' "$(for wire in $(seq 32); do printf ' %d' $((2 * wire)); done)" > "$work/sheets/wide.names"
+ends "a word of 32 bits" 10 "wide.sheet: the property is broken in one of the frames 0 to 0:
+frame  read  memory
+    0  4294967295  reads 4294967295 at 0 (start word)  <- property broken" "" wide.sheet 0
+
+# The answer alone, by hand from the numbers of the variables: frame 0 reads and writes, frame 1 writes, frame 2 reads what frame 1 wrote.
+# Inputs are wires 1 to 3: write enable, read enable, data; wire 4 is the bit read. B is 1, 5, 14.
+{ line N 3 0 0; line M 1 1 0; line A 0; line D 6; line C 2 4 9; } > "$work/sheet"
+printf 'data 6\nread 8\n' > "$work/names"
+printf 's SATISFIABLE\nv 1 2 3 -4 -5 6\nv -7 8 -9 -15 16\nv -17 18 0\n' > "$work/answer"
+trace() { (cd "$work" && awk -f "$here/scripts/trace.awk" depth=2 file=names names file=sheet "$1" file=answer "$2"); }
+trace sheet answer > "$work/out"
+check "an answer by hand" same "frame  data  read  memory
+    0     0     0  reads 0 at 0 (start word), writes 0 at 0
+    1     1     -  writes 1 at 0
+    2     0     1  reads 1 at 0 (written in frame 1)  <- property broken" "$(cat "$work/out")"
+grep -v '^C' "$work/sheet" > "$work/no-property"
+head -n 1 "$work/answer" > "$work/no-values"
+check_fails() { # what, message, sheet, answer
+  trace "$3" "$4" > "$work/out" 2> "$work/err"
+  check "$1: status" same 1 $?
+  check "$1: nothing is printed" same "" "$(cat "$work/out")"
+  check "$1: message" same "trace.awk: $2" "$(cat "$work/err")"
+}
+check_fails "no C line" "the sheet has no C line" no-property answer
+check_fails "no sheet" "the sheet has no C line" /dev/null answer
+check_fails "no values" "the answer has no values" sheet no-values
+
+echo "$passed passed, $failed failed"
+[ "$failed" -eq 0 ]

@@ -1,0 +1,78 @@
+#!/usr/bin/env bash
+# The C program of docs/LIBRARY.md: the page shows the file, the page's line compiles it, its transcripts are what it prints, and it
+# finds the same earliest frame as the script, which asks the program `frames` and a solver anew at each depth.
+# Argument: the program `frames`. After `rt staticlib marrubigai`; needs libcadical-dev.
+set -u
+frames=$(readlink -f "$1")
+cd "$(dirname "$0")/.." || exit 2
+page=docs/LIBRARY.md
+source=examples/search/search.c
+passed=0
+failed=0
+check() { # what, command ..
+  local name=$1
+  shift
+  if "$@"; then passed=$((passed + 1)); else failed=$((failed + 1)); echo "FAILED: $name"; fi
+}
+
+work=$(mktemp -d)
+trap 'rm -rf "$work"' EXIT
+
+block() { # what stands behind the opening fence
+  awk -v kind="$1" '/^```/ { inside = !inside; wanted = $0 == "```" kind; next } inside && wanted' "$page"
+}
+check "the page shows the program" diff <(block c) "$source"
+rm -f target/search
+check "the page's line compiles it" bash -ec "$(block sh)"
+check "it compiles without a warning" cc -std=c11 -pedantic -Wall -Wextra -Werror -O -Iinclude -c -o "$work/search.o" "$source"
+
+# each command of the page's transcript, with what it prints
+block '' | awk -v work="$work" '/^\$ / { file = work "/shown." ++asked; print substr($0, 3); next } { print > file }' > "$work/asked"
+asked=0
+while read -r command; do
+  asked=$((asked + 1))
+  bash -c "$command" > "$work/printed"
+  check "$page: $command" diff "$work/shown.$asked" "$work/printed"
+done < "$work/asked"
+check "the page has a transcript" [ "$asked" -ge 2 ]
+
+# the script's first line, without the colon that the run stands behind, and its status
+by_script() { (FRAMES=$frames bash scripts/find.sh --least "$1" "$2"; echo $?) | sed -n '1s/:$//p; $p'; }
+by_program() { target/search "$1" "$2"; echo $?; }
+agree() { [ "$(by_script "$1" "$2")" = "$(by_program "$1" "$2")" ] || diff <(by_script "$1" "$2") <(by_program "$1" "$2"); }
+for sheet in examples/*/*.sheet; do
+  for depth in 0 1 2 3 4; do check "$sheet to depth $depth, by the script and by the program" agree "$sheet" "$depth"; done
+done
+
+# a property that is broken in a frame only when it is due: a latch chain of four, so that frame 4 is the first; and constants
+line() { printf "%s%10s%10s%10s\n" "$1" "${2-}" "${3-}" "${4-}"; }
+{ line N 0 4 0; line M 1 1 0; line L 1 0; line L 2 0; line L 4 0; line L 6 0; line A 0; line D 0; line C 0 0 9; } > "$work/chain.sheet"
+{ line N 0 0 0; line M 1 1 0; line A 0; line D 0; line C 0 0 0; } > "$work/false.sheet"
+{ line N 0 0 0; line M 1 1 0; line A 0; line D 0; line C 0 0 1; } > "$work/true.sheet"
+for depth in 3 4 255; do check "the chain to depth $depth" agree "$work/chain.sheet" "$depth"; done
+ends() { # what, status, printed, arguments ..
+  local what=$1 status=$2 printed=$3
+  shift 3
+  check "$what" [ "$(target/search "$@" 2> "$work/said"; echo $?)" = "$printed${printed:+
+}$status" ]
+}
+ends "the chain" 10 "$work/chain.sheet: the property is broken in frame 4 at the earliest" "$work/chain.sheet" 255
+ends "a property that is false" 10 "$work/false.sheet: the property is broken in frame 0 at the earliest" "$work/false.sheet" 0
+ends "a property that is true" 20 "$work/true.sheet: no run breaks the property in frames 0 to 255" "$work/true.sheet" 255
+
+said() { check "$1: said" [ "$(head -n 1 "$work/said")" = "$2" ]; }
+ends "no arguments" 2 ""
+ends "a depth that is no number" 2 "" "$work/true.sheet" x
+ends "a depth that is no 32-bit number" 2 "" "$work/true.sheet" 4294967296
+ends "a missing sheet" 1 "" "$work/missing.sheet" 1
+ends "depth 256" 1 "" "$work/true.sheet" 256
+said "depth 256" "refused 7 at 0"
+line C 0 0 1 >> "$work/true.sheet"
+ends "a line too many" 1 "" "$work/true.sheet" 1
+said "a line too many" "refused 3 at 6"
+for _ in $(seq 616); do line C 0 0 1; done > "$work/long.sheet"
+ends "a sheet that is too long" 1 "" "$work/long.sheet" 1
+said "a sheet that is too long" "refused 1 at 0"
+
+echo "$passed passed, $failed failed"
+[ "$failed" -eq 0 ]
