@@ -14,6 +14,7 @@ use Rattle.model.specs.Acceptance.{Accepted}
 use Rattle.model.specs.Variables.{base}
 use Rattle.model.specs.Groups.{inDepth}
 use Rattle.model.specs.Numbers.{numbersOf, formula}
+use Rattle.model.specs.Counts.{numberCount}
 use Rattle.model.specs.declared.Group.{Group}
 use Rattle.model.proofs.Variables.{base-most}
 use Rattle.model.proofs.Gather.{all-weaken}
@@ -146,15 +147,16 @@ module _ (c : Netlist) (latchCount gateCount k : ℕ) (g : Group) (room : ℕ) w
 
   -- what a group call that is not refused has shown
   pub group-shown : groupVerdict c latchCount gateCount k g room ≡ Passed
-      → Accepted c × (k ≤ 255) × (inDepth k g ≡ true) × (length (numbersOf c k g) ≤ room)
+      → Accepted c × (k ≤ 255) × (inDepth k g ≡ true) × (numberCount c k g ≤ room)
   unfolding groupVerdict testGroup
   group-shown h =
       let a = then-passes (recordVerdict c latchCount gateCount) _ .0 h in
       let b = then-passes (testDepth k) _ .0 (a .1) in
       let d = then-passes (refuseIf (not (inDepth k g)) NoSuchGroup 0) _ .0 (b .1) in
-      let e = then-passes (testNumbers c k) _ .0 (d .1) in (
-        passes-accepted c latchCount gateCount .0 (a .0) .0,
+      let e = then-passes (testNumbers c k) _ .0 (d .1) in
+      let ok = passes-accepted c latchCount gateCount .0 (a .0) .0 in (
+        ok,
         depth-passes k (b .0),
         not-false (inDepth k g) (refuseIf-passes (not (inDepth k g)) NoSuchGroup 0 .0 (d .0)),
-        room-shown (length (numbersOf c k g)) room (e .1),
+        rw (stated c ok k .numbers-counted g) at (room-shown (length (numbersOf c k g)) room (e .1)),
       )

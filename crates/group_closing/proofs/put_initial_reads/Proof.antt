@@ -12,7 +12,7 @@ use Rattle.group_closing.proofs.put_initial_reads.Statement.{statement}
 use Rattle.group_closing.proofs.put_initial_reads.Tie as tie
 
 abbrev Inv-loop : tie.InvT-loop
-Inv-loop out₀ i noneSince reading first read word n at₀ t₀ out at t = Turns n (initialBit (literalOf noneSince) reading first read word) out₀ out t at
+Inv-loop out₀ i noneSince reading first read word n at₀ t₀ out at t = Turns n 8 (initialBit (literalOf noneSince) reading first read word) out₀ out t at
 
 abbrev μ-loop : tie.MeasureT-loop
 μ-loop out₀ i noneSince reading first read word n at₀ t₀ out at t = n - t
@@ -27,9 +27,7 @@ first-read-wire-requires : tie.Need-first-read-wire-requires Inv-loop μ-loop
 first-read-wire-requires c κs = c .before .before .pre .0 .fits .limits .sizes
 
 loop-holds : tie.Need-loop-holds Inv-loop μ-loop
-loop-holds c =
-    let a = c .before .before .before .args in
-    turns-start _ _ _ (rw (initial-bits (a .net) (a .port) (a .i) _ (c .before .before .none-since .ensures .0) (c .before .frame-base .ensures) (c .first-read-wire .ensures)) at (c .before .before .before .pre .1))
+loop-holds c = turns-start _ _ _ _ (c .before .before .before .pre .1)
 
 mul-put-initial-bit : tie.Need-mul-put-initial-bit Inv-loop μ-loop
 mul-put-initial-bit c = search needs
@@ -66,7 +64,7 @@ put-initial-bit-requires c κs =
 add-at : tie.Need-add-at Inv-loop μ-loop
 unfolding netOf portOf
 add-at c =
-    let count = turns-count (c .before .before .before .before .loop .inv) (c .before .before .before .loop-test .taken) (c .before .put-initial-bit .ensures .counted) in
+    let count = turns-count (c .before .before .before .before .loop .inv) (c .before .before .before .loop-test .taken) (c .before .put-initial-bit .ensures .1) in
     search needs
 
 add-t : tie.Need-add-t Inv-loop μ-loop

@@ -1,22 +1,18 @@
 -- `group_latches::put_latches` meets its contract. The loop has written the latches passed.
 use Prim.Native.Nat.{_-_}
-use mathlib.Core.Path.{refl}
 use mathlib.Core.List.{[]}
 use native.Mathlib.Omega.{arith}
 use borrow.Author.Needs.{needs}
-use Rattle.model.specs.Clauses.{sameClauses}
-use Rattle.model.specs.Groups.{latchClauses}
-use Rattle.model.specs.Numbers.{written}
 use Rattle.netlist.specs.NetOf.{netOf}
 use Rattle.netlist.proofs.NetOf.{sizes-lists}
 use Rattle.clause_variables.proofs.Room.{wire-has-number, code-has-number}
-use Rattle.clause_writer.proofs.Turns.{Turns, written-gather, turns-start-as, turns-room, turns-count, turns-next, turns-end}
+use Rattle.clause_writer.proofs.Turns.{Turns, turns-start, turns-room, turns-count, turns-next, turns-end}
 use Rattle.group_latches.proofs.StateOf.{latchAt, later-latches}
 use Rattle.group_latches.proofs.put_latches.Statement.{statement}
 use Rattle.group_latches.proofs.put_latches.Tie as tie
 
 abbrev Inv-loop : tie.InvT-loop
-Inv-loop out₀ latches i before b first n at₀ l₀ out at l = Turns n (latchAt b first before latches) out₀ out l at
+Inv-loop out₀ latches i before b first n at₀ l₀ out at l = Turns n 6 (latchAt b first before latches) out₀ out l at
 
 abbrev μ-loop : tie.MeasureT-loop
 μ-loop out₀ latches i before b first n at₀ l₀ out at l = n - l
@@ -40,10 +36,7 @@ first-latch-wire-requires c κs =
     sizes-lists (c .before .before .args .net) (c .before .before .args .latches .now) [] [] [] (c .before .before .pre .0 .limits .sizes)
 
 loop-holds : tie.Need-loop-holds Inv-loop μ-loop
-unfolding written latchClauses sameClauses
-loop-holds c =
-    let a = c .before .before .before .args in
-    turns-start-as _ _ (λ l. written (latchClauses (netOf (a .net) (a .latches .now) []) (a .i) l)) _ (λ l. refl) (rw written-gather at (c .before .before .before .pre .1))
+loop-holds c = turns-start _ _ _ _ (c .before .before .before .pre .1)
 
 mul-t14 : tie.Need-mul-t14 Inv-loop μ-loop
 unfolding netOf
@@ -90,7 +83,7 @@ put-latch-requires c κs =
 
 add-at : tie.Need-add-at Inv-loop μ-loop
 add-at c =
-    let count = turns-count (c .before .before .before .before .before .loop .inv) (c .before .before .before .before .loop-test .taken) (c .before .put-latch .ensures .counted) in
+    let count = turns-count (c .before .before .before .before .before .loop .inv) (c .before .before .before .before .loop-test .taken) (c .before .put-latch .ensures .1) in
     search needs
 
 add-l : tie.Need-add-l Inv-loop μ-loop

@@ -12,7 +12,7 @@ use Rattle.group_latches.proofs.put_resets.Statement.{statement}
 use Rattle.group_latches.proofs.put_resets.Tie as tie
 
 abbrev Inv-loop : tie.InvT-loop
-Inv-loop out₀ latches b first n at₀ l₀ out at l = Turns n (resetAt b first latches) out₀ out l at
+Inv-loop out₀ latches b first n at₀ l₀ out at l = Turns n 2 (resetAt b first latches) out₀ out l at
 
 abbrev μ-loop : tie.MeasureT-loop
 μ-loop out₀ latches b first n at₀ l₀ out at l = n - l
@@ -27,8 +27,7 @@ first-latch-wire-requires c κs =
     sizes-lists (c .before .args .net) (c .before .args .latches .now) [] [] [] (c .before .pre .0 .limits .sizes)
 
 loop-holds : tie.Need-loop-holds Inv-loop μ-loop
-loop-holds c =
-    turns-start _ _ _ (rw (resets (c .before .before .args .net) (c .before .before .args .latches .now) _ (c .before .frame-base .ensures) (c .first-latch-wire .ensures)) at (c .before .before .pre .1))
+loop-holds c = turns-start _ _ _ _ (c .before .before .pre .1)
 
 mul-reset : tie.Need-mul-reset Inv-loop μ-loop
 unfolding netOf
@@ -77,7 +76,7 @@ put-reset-requires c κs =
 
 add-at : tie.Need-add-at Inv-loop μ-loop
 add-at c =
-    let count = turns-count (c .before .before .before .before .before .loop .inv) (c .before .before .before .before .loop-test .taken) (c .before .put-reset .ensures .counted) in
+    let count = turns-count (c .before .before .before .before .before .loop .inv) (c .before .before .before .before .loop-test .taken) (c .before .put-reset .ensures .1) in
     search needs
 
 add-l : tie.Need-add-l Inv-loop μ-loop
