@@ -61,14 +61,14 @@ fn number_length(z: i32) -> usize
 fn clauses_fit(room: usize, numbers: &[i32]) -> bool
     ensures { λ r. ⌜ r ≡ leb (length (clauseText (now (numbers .entry)))) room ⌝ }
 {
-    let mut left = room;
+    let mut remaining = room;
     let mut i = 0;
     while i < numbers.len() {
         let need = number_length(numbers[i]);
-        if left < need {
+        if remaining < need {
             return false;
         }
-        left -= need;
+        remaining -= need;
         i += 1;
     }
     true

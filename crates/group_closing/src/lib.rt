@@ -52,7 +52,7 @@ fn put_initial_reads(out: &mut [i32], net: Netlist, port: Port, i: u32) -> usize
                 &mut out[at..],
                 none_since,
                 reading,
-                Wire(first + (read + t)),
+                first.offset(read + t),
                 word,
                 t,
             );

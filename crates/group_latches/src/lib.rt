@@ -46,7 +46,7 @@ fn put_resets(out: &mut [i32], net: Netlist, latches: &UnpackedList) -> usize
     let mut l: u32 = 0;
     while l < n {
         let reset = latches[(2 * l + 1) as usize];
-        at = at + put_reset(&mut out[at..], b, Wire(first + l), reset);
+        at = at + put_reset(&mut out[at..], b, first.offset(l), reset);
         l = l + 1;
     }
     at
@@ -75,7 +75,7 @@ fn put_latches(out: &mut [i32], net: Netlist, latches: &UnpackedList, i: u32) ->
     let mut l: u32 = 0;
     while l < n {
         let d = Code(latches[(2 * l) as usize]);
-        at = at + put_latch(&mut out[at..], b, Wire(first + l), before, d);
+        at = at + put_latch(&mut out[at..], b, first.offset(l), before, d);
         l = l + 1;
     }
     at

@@ -1,4 +1,4 @@
--- The first group in the order of the whole, what follows each group, and that fewer are left then. No contract cites this file.
+-- The first group in the order of the whole, what follows each group, and that fewer remain then. No contract cites this file.
 use Prim.Native.Nat.{ℕ, zero, suc, _+_, _-_, _*_, _≤_, _<_}
 use mathlib.Core.Path.{_≡_, refl, sym, _∙_, ap, subst}
 use mathlib.Core.Bool.{Bool, true, false, cond}
@@ -12,7 +12,7 @@ use Rattle.model.specs.Gather.{gather, gatherDown}
 use Rattle.model.specs.Groups.{pairOf, frameGroups, groupOrder}
 use Rattle.model.specs.declared.Group.{Group}
 use Rattle.model.specs.declared.Group.the-variants.{Wires, Pair, Closing, Property}
-use Rattle.group_order.specs.Next.{firstGroup, leftAfter, leftFrom}
+use Rattle.group_order.specs.Next.{firstGroup, remainingAfter, remainingFrom}
 use Rattle.group_order.specs.declared.order.Next.{Next}
 use Rattle.group_order.specs.declared.order.Next.the-variants.{Then, End}
 
@@ -114,31 +114,31 @@ successor-next k g xs ys h =
     first-end (y ∷ ys) = refl
 
 -- after the closing of an earlier frame
-closing-left : (k i : ℕ) → i < k → (k - (i + 1)) * (k + 3) + ((i + 1) + 2) + 1 ≤ (k - i) * (k + 3) + 1
-closing-left k i h =
+closing-remaining : (k i : ℕ) → i < k → (k - (i + 1)) * (k + 3) + ((i + 1) + 2) + 1 ≤ (k - i) * (k + 3) + 1
+closing-remaining k i h =
     let d = k - (i + 1) in
     let e : k - i ≡ suc d = omega arith in
     let m : suc d * (k + 3) ≡ (k + 3) + d * (k + 3) = omega arith in
     rw (e, m) (omega (arith, h))
 
 -- each step leaves fewer groups than before it
-successor-left : (k : ℕ) (g : Group) → leftFrom k (successor k g) ≤ leftAfter k g
-successor-left k (Wires zero) = omega arith
-successor-left k (Wires (suc i)) = rw (ne-eqb (suc i) 0 (λ q. omega arith)) (omega arith)
-successor-left k (Pair zero i) = omega arith
-successor-left k (Pair (suc j) i) = rw (ne-eqb (suc j) 0 (λ q. omega arith)) (omega arith)
-successor-left k (Closing i) = by-test (ltb i k) refl
+successor-remaining : (k : ℕ) (g : Group) → remainingFrom k (successor k g) ≤ remainingAfter k g
+successor-remaining k (Wires zero) = omega arith
+successor-remaining k (Wires (suc i)) = rw (ne-eqb (suc i) 0 (λ q. omega arith)) (omega arith)
+successor-remaining k (Pair zero i) = omega arith
+successor-remaining k (Pair (suc j) i) = rw (ne-eqb (suc j) 0 (λ q. omega arith)) (omega arith)
+successor-remaining k (Closing i) = by-test (ltb i k) refl
   where
-    by-test : (b : Bool) → ltb i k ≡ b → leftFrom k (cond b (Then (Wires (i + 1))) (Then Property)) ≤ leftAfter k (Closing i)
-    by-test true e = closing-left k i (ltb-true i k e)
+    by-test : (b : Bool) → ltb i k ≡ b → remainingFrom k (cond b (Then (Wires (i + 1))) (Then Property)) ≤ remainingAfter k (Closing i)
+    by-test true e = closing-remaining k i (ltb-true i k e)
     by-test false e = omega arith
-successor-left k Property = omega arith
+successor-remaining k Property = omega arith
 
 -- both, for a group known by its kind
 pub follows : (k : ℕ) (g g′ : Group) (r : Next) → g ≡ g′ → successor k g′ ≡ r
-    → ((xs ys : List Group) → groupOrder k ≡ xs ++ g ∷ ys → r ≡ firstGroup ys) × (leftFrom k r ≤ leftAfter k g)
+    → ((xs ys : List Group) → groupOrder k ≡ xs ++ g ∷ ys → r ≡ firstGroup ys) × (remainingFrom k r ≤ remainingAfter k g)
 follows k g g′ r e h =
-    (λ xs ys o. sym answer ∙ successor-next k g xs ys o, subst (λ (n : Next). leftFrom k n ≤ leftAfter k g) answer (successor-left k g))
+    (λ xs ys o. sym answer ∙ successor-next k g xs ys o, subst (λ (n : Next). remainingFrom k n ≤ remainingAfter k g) answer (successor-remaining k g))
   where
     answer : successor k g ≡ r
     answer = ap (successor k) e ∙ h

@@ -3,7 +3,7 @@ ghost use mathlib.Core.Path.{_≡_};
 ghost use Prim.Native.Nat.{_≤_};
 ghost use mathlib.Core.List.{List, _∷_, _++_};
 ghost use Rattle.model.specs.Groups.{groupOrder};
-ghost use Rattle.group_order.specs.Next.{firstGroup, leftAfter, leftFrom};
+ghost use Rattle.group_order.specs.Next.{firstGroup, remainingAfter, remainingFrom};
 use model::Group;
 
 // What comes next in the order of the whole.
@@ -22,7 +22,7 @@ pub fn first_group(depth: u32) -> Next
 // The group that follows `group` in the order of the whole at this depth.
 pub fn next_group(depth: u32, group: Group) -> Next
     ensures follows { λ r. ⌜ ((xs ys : List Group) → groupOrder depth ≡ xs ++ group ∷ ys → r ≡ firstGroup ys) ⌝ }
-    ensures ends { λ r. ⌜ leftFrom depth r ≤ leftAfter depth group ⌝ }
+    ensures ends { λ r. ⌜ remainingFrom depth r ≤ remainingAfter depth group ⌝ }
 {
     match group {
         Group::Wires(i) => if i == 0 {

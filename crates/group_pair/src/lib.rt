@@ -54,7 +54,7 @@ fn put_forwarded(out: &mut [i32], net: Netlist, port: Port, j: u32, i: u32) -> u
                 &mut out[at..],
                 selected,
                 reading,
-                Wire(first + (read + t)),
+                first.offset(read + t),
                 writing,
                 wd,
             );

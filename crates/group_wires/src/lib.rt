@@ -44,7 +44,7 @@ fn put_gates(out: &mut [i32], net: Netlist, gates: &UnpackedList, i: u32) -> usi
     while g < n {
         let left = Code(gates[(2 * g) as usize]);
         let right = Code(gates[(2 * g + 1) as usize]);
-        at = at + put_gate(&mut out[at..], b, Wire(first + g), left, right);
+        at = at + put_gate(&mut out[at..], b, first.offset(g), left, right);
         g = g + 1;
     }
     at

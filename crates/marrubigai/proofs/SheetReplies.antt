@@ -6,7 +6,7 @@ use Rattle.refusals.proofs.Table.{reply-passed}
 use Rattle.sheet_steps.specs.declared.SheetAnswer.{SheetAnswer}
 use Rattle.call_lists.specs.declared.Latch.{Latch}
 use Rattle.call_lists.specs.declared.Gate.{Gate}
-use Rattle.sheet_reader.specs.ReadCall.{readVerdict, readRecord, latchesLeft, gatesLeft, SheetDelivered}
+use Rattle.sheet_reader.specs.ReadCall.{readVerdict, readRecord, latchesAfter, gatesAfter, SheetDelivered}
 use Rattle.sheet_reader.proofs.ReadCall.{Reads}
 use Rattle.call_replies.specs.declared.SheetReply.{SheetReply}
 use Rattle.call_replies.specs.Replies.{sheetNumbers}
@@ -15,8 +15,8 @@ module _ (file : List ℕ) (latches : List Latch) (gates : List Gate) where
   abbrev pub Replies : SheetReply → List Latch → List Gate → Type 0
   Replies reply newLatches newGates =
       (reply ≡ sheetNumbers (readVerdict file latches gates) (readRecord file latches gates))
-      × ((newLatches ≡ latchesLeft file latches gates)
-      × ((newGates ≡ gatesLeft file latches gates)
+      × ((newLatches ≡ latchesAfter file latches gates)
+      × ((newGates ≡ gatesAfter file latches gates)
       × (reply .number ≡ 0 → SheetDelivered file (reply .net) newLatches newGates)))
 
   pub replies : (sheet : SheetAnswer) (newLatches : List Latch) (newGates : List Gate)

@@ -6,7 +6,7 @@ use mathlib.Core.List.{List}
 use Rattle.model.specs.Netlist.{Netlist}
 use Rattle.model.specs.Search.{anyBelow}
 use Rattle.netlist.specs.NetOf.{firstAt, secondAt}
-use Rattle.netlist.specs.Faults.{codeOutside, latchFault, gateFault}
+use Rattle.netlist.specs.Faults.{aboveLimit, latchFault, gateFault}
 use Rattle.netlist.specs.declared.Line.{Line}
 use Rattle.netlist.specs.declared.Line.the-variants.{Latch, Gate, Address, WriteData, Control}
 
@@ -20,9 +20,9 @@ anyGate first gates count = anyBelow count (λ g. gateFault (first + g) (firstAt
 -- of the codes that the record itself holds, those of lines A, D and C: whether any is outside its limit
 unfoldable pub anyInRecord : ℕ → Netlist → Bool
 anyInRecord last c =
-    anyBelow (c .m) (λ t. codeOutside last (c .address t))
-    || anyBelow (c .n) (λ t. codeOutside last (c .writeData t))
-    || (codeOutside last (c .WE) || codeOutside last (c .RE) || codeOutside last (c .P))
+    anyBelow (c .m) (λ t. aboveLimit last (c .address t))
+    || anyBelow (c .n) (λ t. aboveLimit last (c .writeData t))
+    || (aboveLimit last (c .WE) || aboveLimit last (c .RE) || aboveLimit last (c .P))
 
 -- whether any line after N and M has a fault
 unfoldable pub anyLine : Netlist → (Netlist → Line → Bool) → Bool

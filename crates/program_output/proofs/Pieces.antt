@@ -40,10 +40,10 @@ pub printed-nothing : (c : Netlist) (k : ℕ) (old : List ℕ) (next : Next) (fr
     → Printed c k old old 0 next from
 unfolding clauseText joined
 printed-nothing c k old next from h =
-    record { printed = []; left = from; in-order = refl; wrote = wrote-nothing old; next-left = h }
+    record { printed = []; remaining = from; in-order = refl; wrote = wrote-nothing old; next-remaining = h }
 
--- what is left begins with the group that is next
-record Left (g : Group) (gs : List Group) : Type 0 where
+-- what remains begins with the group that is next
+record Remaining (g : Group) (gs : List Group) : Type 0 where
   behind : List Group
   begins : gs ≡ g ∷ behind
 
@@ -55,16 +55,16 @@ isThen : Next → Type 0
 isThen (Then g) = Unit {0}
 isThen End = ⊥
 
-left-begins : (g : Group) (gs : List Group) → Then g ≡ firstGroup gs → Left g gs
+remaining-begins : (g : Group) (gs : List Group) → Then g ≡ firstGroup gs → Remaining g gs
 unfolding isThen groupOr
-left-begins g [] h = absurd (subst isThen h tt)
-left-begins g (x ∷ gs) h =
+remaining-begins g [] h = absurd (subst isThen h tt)
+remaining-begins g (x ∷ gs) h =
     record { behind = gs; begins = ap (λ (y : Group). y ∷ gs) (sym (ap (groupOr g) h)) }
 
 module _ {c : Netlist} {k : ℕ} {old mid : List ℕ} {bytes : ℕ} {due : Group} (before from : List Group)
     (order : groupOrder k ≡ before ++ from) (p : Printed c k old mid bytes (Then due) from) where
-  rest : Left due (p .left)
-  rest = left-begins due (p .left) (p .next-left)
+  rest : Remaining due (p .remaining)
+  rest = remaining-begins due (p .remaining) (p .next-remaining)
 
   whole : from ≡ p .printed ++ due ∷ rest .behind
   whole = p .in-order ∙ ap (λ (t : List Group). p .printed ++ t) (rest .begins)
@@ -87,12 +87,12 @@ module _ {c : Netlist} {k : ℕ} {old mid : List ℕ} {bytes : ℕ} {due : Group
   printed-next part n next w follows =
       record {
         printed = p .printed ++ due ∷ [];
-        left = rest .behind;
+        remaining = rest .behind;
         in-order = whole ∙ sym (append-assoc (p .printed) (due ∷ []) (rest .behind));
         wrote =
             subst (λ (t : List ℕ). Wrote t old (putMid bytes (length mid - bytes) mid part) (bytes + n)) (sym text)
             (wrote-then (clauseText (joined (numbersOf c k) (p .printed))) (clauseText (numbersOf c k due)) old mid part bytes n (p .wrote) w);
-        next-left = follows (orderHas-due .before) (orderHas-due .behind) (orderHas-due .order);
+        next-remaining = follows (orderHas-due .before) (orderHas-due .behind) (orderHas-due .order);
       }
     where
       text : clauseText (joined (numbersOf c k) (p .printed ++ due ∷ []))
@@ -115,5 +115,5 @@ orderHas-next c k group old new bytes End s p = tt
 
 -- and so does the first group
 pub orderHas-first : (k : ℕ) (next : Next) → next ≡ firstGroup (groupOrder k) → OrderHasNext k next
-orderHas-first k (Then g) h = let first = left-begins g (groupOrder k) h in record { before = []; behind = first .behind; order = first .begins }
+orderHas-first k (Then g) h = let first = remaining-begins g (groupOrder k) h in record { before = []; behind = first .behind; order = first .begins }
 orderHas-first k End h = tt

@@ -25,13 +25,13 @@ pub record OrderHas (k : ℕ) (group : Group) : Type 0 where
   pub order : groupOrder k ≡ before ++ group ∷ behind
 
 -- of the groups `due`, the first ones (`printed`) have their text at the start of the buffer, and `next` is the first of those that
--- are left. That there are fewer left than were due is `print_groups`' promise `ends`
+-- remain. That fewer remain than were due is `print_groups`' promise `ends`
 pub record Printed (c : Netlist) (k : ℕ) (old new : List ℕ) (bytes : ℕ) (next : Next) (due : List Group) : Type 0 where
   pub printed : List Group
-  pub left : List Group
-  pub in-order : due ≡ printed ++ left
+  pub remaining : List Group
+  pub in-order : due ≡ printed ++ remaining
   pub wrote : Wrote (clauseText (joined (numbersOf c k) printed)) old new bytes
-  pub next-left : next ≡ firstGroup left
+  pub next-remaining : next ≡ firstGroup remaining
 
 -- so it is of `group` and all behind it, wherever it stands in the order of the whole
 abbrev pub Continues : Netlist → ℕ → Group → List ℕ → List ℕ → ℕ → Next → Type 0

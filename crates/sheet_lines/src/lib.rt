@@ -49,7 +49,7 @@ const FILLED: [[u8; 3]; 7] = [
 ];
 
 // The letter decides which line it is.
-pub fn kind_of(letter: u8) -> Kind
+fn kind_of(letter: u8) -> Kind
     ensures { λ r. ⌜ r ≡ kindOf letter ⌝ }
 {
     match letter {

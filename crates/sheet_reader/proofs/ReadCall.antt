@@ -34,7 +34,7 @@ use Rattle.call_lists.specs.Lent.{netLent}
 use Rattle.call_lists.specs.RecordAt.{latchAt, gateAt}
 use Rattle.call_lists.specs.Delivered.{delivered}
 use Rattle.call_lists.proofs.Delivered.{delivered-none, length-delivered}
-use Rattle.sheet_reader.specs.ReadCall.{latchOf, gateOf, readVerdict, readRecord, latchesLeft, gatesLeft, SheetDelivered}
+use Rattle.sheet_reader.specs.ReadCall.{latchOf, gateOf, readVerdict, readRecord, latchesAfter, gatesAfter, SheetDelivered}
 use Rattle.sheet_reader.proofs.Lists.{getD-gather-alone, delivered-pairs}
 
 -- an accepted netlist, its record, and its latches and gates delivered into lists
@@ -99,18 +99,18 @@ sheet-delivered file accepted latches gates long-latches long-gates =
 
 module _ (file : List ℕ) (latches : List Latch) (gates : List Gate) where
   -- at a refusal the lent lists hold what they held
-  left-kept : {r : Refusal} {p : ℕ} → sheetVerdict file (length latches) (length gates) ≡ Refused r p
-      → (latches ≡ latchesLeft file latches gates) × (gates ≡ gatesLeft file latches gates)
-  unfolding readVerdict latchesLeft gatesLeft contentsAfter
-  left-kept e = (rw e, rw e)
+  lists-kept : {r : Refusal} {p : ℕ} → sheetVerdict file (length latches) (length gates) ≡ Refused r p
+      → (latches ≡ latchesAfter file latches gates) × (gates ≡ gatesAfter file latches gates)
+  unfolding readVerdict latchesAfter gatesAfter contentsAfter
+  lists-kept e = (rw e, rw e)
 
   -- what `read` promises, together
   abbrev pub Reads : SheetAnswer → List Latch → List Gate → Type 0
   Reads sheet newLatches newGates =
       (sheet .verdict ≡ readVerdict file latches gates)
       × ((sheet .net ≡ readRecord file latches gates)
-      × ((newLatches ≡ latchesLeft file latches gates)
-      × ((newGates ≡ gatesLeft file latches gates)
+      × ((newLatches ≡ latchesAfter file latches gates)
+      × ((newGates ≡ gatesAfter file latches gates)
       × (sheet .verdict ≡ Passed → SheetDelivered file (sheet .net) newLatches newGates))))
 
   module _ (sheet : SheetAnswer) (latchList gateList : List ℕ)
@@ -132,7 +132,7 @@ module _ (file : List ℕ) (latches : List Latch) (gates : List Gate) where
 
     pub reads : Reads sheet (delivered (sheet .net .latches) (latchAt latchList) latches)
         (delivered (sheet .net .gates) (gateAt gateList) gates)
-    unfolding readVerdict readRecord latchesLeft gatesLeft contentsAfter delivered recordBeside recordOf netOf
+    unfolding readVerdict readRecord latchesAfter gatesAfter contentsAfter delivered recordBeside recordOf netOf
     reads = by-verdict (sheetVerdict file (length latches) (length gates)) refl
       where
         by-verdict : (v : Verdict) → sheetVerdict file (length latches) (length gates) ≡ v
@@ -165,7 +165,7 @@ module _ (file : List ℕ) (latches : List Latch) (gates : List Gate) where
             rw net (delivered-none (latchAt latchList) latches) in
             let noGate : delivered (sheet .net .gates) (gateAt gateList) gates ≡ gates =
             rw net (delivered-none (gateAt gateList) gates) in
-            let kept = left-kept e in (
+            let kept = lists-kept e in (
               codes .verdict-is,
               (
                 codes .record-is,

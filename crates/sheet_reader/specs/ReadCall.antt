@@ -36,12 +36,12 @@ readVerdict file latches gates = sheetVerdict file (length latches) (length gate
 unfoldable pub readRecord : List ℕ → List Latch → List Gate → Netlist
 readRecord file latches gates = recordBeside (readVerdict file latches gates) (netIn file)
 
-unfoldable pub latchesLeft : List ℕ → List Latch → List Gate → List Latch
-latchesLeft file latches gates =
+unfoldable pub latchesAfter : List ℕ → List Latch → List Gate → List Latch
+latchesAfter file latches gates =
     contentsAfter (readVerdict file latches gates) (firstRecords (netIn file .latches) (latchOf (netIn file))) latches
 
-unfoldable pub gatesLeft : List ℕ → List Latch → List Gate → List Gate
-gatesLeft file latches gates =
+unfoldable pub gatesAfter : List ℕ → List Latch → List Gate → List Gate
+gatesAfter file latches gates =
     contentsAfter (readVerdict file latches gates) (firstRecords (netIn file .gates) (gateOf (netIn file))) gates
 
 -- What holds of the record and the lists that `read` leaves where it refuses nothing. RULES A1: "A sheet is accepted if it passes every

@@ -12,7 +12,7 @@ ghost use Rattle.sheet_parse.specs.Files.{lineCount};
 ghost use Rattle.sheet_parse.specs.Progress.{ReadTo};
 ghost use Rattle.sheet_tests.specs.Codes.{CodesRead};
 ghost use Rattle.sheet_reader.specs.NextLine.{atStart, nextNumber, nextLine};
-ghost use Rattle.sheet_reader.specs.ReadCall.{readVerdict, readRecord, latchesLeft, gatesLeft, SheetDelivered};
+ghost use Rattle.sheet_reader.specs.ReadCall.{readVerdict, readRecord, latchesAfter, gatesAfter, SheetDelivered};
 
 // A file, and how many of its lines are read.
 pub struct SheetReader<'a> {
@@ -85,8 +85,8 @@ impl<'a> SheetReader<'a> {
 pub fn read(file: &[u8], latches: &mut [Latch], gates: &mut [Gate]) -> SheetAnswer
     ensures verdict { λ r. ⌜ r .verdict ≡ readVerdict (now (file .entry)) (now (latches .entry)) (now (gates .entry)) ⌝ }
     ensures record { λ r. ⌜ r .net ≡ readRecord (now (file .entry)) (now (latches .entry)) (now (gates .entry)) ⌝ }
-    ensures latches { λ _. ⌜ now (latches .exit) ≡ latchesLeft (now (file .entry)) (now (latches .entry)) (now (gates .entry)) ⌝ }
-    ensures gates { λ _. ⌜ now (gates .exit) ≡ gatesLeft (now (file .entry)) (now (latches .entry)) (now (gates .entry)) ⌝ }
+    ensures latches { λ _. ⌜ now (latches .exit) ≡ latchesAfter (now (file .entry)) (now (latches .entry)) (now (gates .entry)) ⌝ }
+    ensures gates { λ _. ⌜ now (gates .exit) ≡ gatesAfter (now (file .entry)) (now (latches .entry)) (now (gates .entry)) ⌝ }
     ensures accepted { λ r. ⌜ (r .verdict ≡ Verdict.Passed → SheetDelivered (now (file .entry)) (r .net) (now (latches .exit)) (now (gates .exit))) ⌝ }
 {
     let mut latch_codes = sheet_tests::no_codes();

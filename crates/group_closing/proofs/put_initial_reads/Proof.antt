@@ -12,7 +12,7 @@ use Rattle.group_closing.proofs.put_initial_reads.Statement.{statement}
 use Rattle.group_closing.proofs.put_initial_reads.Tie as tie
 
 abbrev Inv-loop : tie.InvT-loop
-Inv-loop out₀ i noneSince reading first read word n at₀ t₀ out at t = Turns n 8 (initialBit (literalOf noneSince) reading first read word) out₀ out t at
+Inv-loop out₀ i noneSince reading first read word n at₀ t₀ out at t = Turns n 8 (initialBit (literalOf noneSince) reading (first .0) read word) out₀ out t at
 
 abbrev μ-loop : tie.MeasureT-loop
 μ-loop out₀ i noneSince reading first read word n at₀ t₀ out at t = n - t
@@ -41,30 +41,30 @@ part-put-initial-bit-start c = search needs
 part-put-initial-bit-end : tie.Need-part-put-initial-bit-end Inv-loop μ-loop
 part-put-initial-bit-end c = search needs
 
-add-t20 : tie.Need-add-t20 Inv-loop μ-loop
+add-offset : tie.Need-add-offset Inv-loop μ-loop
 unfolding netOf portOf
-add-t20 c = search needs
+add-offset c = search needs
 
-add-t21 : tie.Need-add-t21 Inv-loop μ-loop
+offset-requires : tie.Need-offset-requires Inv-loop μ-loop
 unfolding netOf portOf
-add-t21 c = search needs
+offset-requires c κs = search needs
 
 put-initial-bit-requires : tie.Need-put-initial-bit-requires Inv-loop μ-loop
 unfolding netOf portOf
 put-initial-bit-requires c κs =
-    let is = c .before .before .before .before .before .before .pre .0 in
-    let h = c .before .loop-test .taken in (
-      c .before .before .before .before .before .none-since .ensures .1,
-      rw (c .before .before .before .before .frame-base .ensures) (wire-has-number _ (is .fits .limits .sizes) _ _ (is .depth) (omega arith)),
+    let is = c .before .before .before .before .before .before .before .pre .0 in
+    let h = c .before .before .loop-test .taken in (
+      c .before .before .before .before .before .before .none-since .ensures .1,
+      rw (c .before .before .before .before .before .frame-base .ensures) (wire-has-number _ (is .fits .limits .sizes) _ _ (is .depth) (omega arith)),
       omega arith,
       omega arith,
-      turns-room (c .before .before .loop .inv) h,
+      rw (c .offset .ensures) (turns-room (c .before .before .before .loop .inv) h),
     )
 
 add-at : tie.Need-add-at Inv-loop μ-loop
 unfolding netOf portOf
 add-at c =
-    let count = turns-count (c .before .before .before .before .loop .inv) (c .before .before .before .loop-test .taken) (c .before .put-initial-bit .ensures .1) in
+    let count = turns-count (c .before .before .before .before .before .loop .inv) (c .before .before .before .before .loop-test .taken) (c .before .put-initial-bit .ensures .1) in
     search needs
 
 add-t : tie.Need-add-t Inv-loop μ-loop
@@ -76,7 +76,7 @@ loop-less c = search needs
 loop-again : tie.Need-loop-again Inv-loop μ-loop
 unfolding netOf portOf
 loop-again c =
-    turns-next (c .before .before .before .before .loop .inv) (c .before .before .before .loop-test .taken) (c .before .put-initial-bit .ensures)
+    turns-next (c .before .before .before .before .before .loop .inv) (c .before .before .before .before .loop-test .taken) (rw (c .before .before .offset .ensures) at (c .before .put-initial-bit .ensures))
 
 same-length : tie.Need-same-length Inv-loop μ-loop
 same-length c = search needs
@@ -100,8 +100,8 @@ put-initial-reads-spec =
     sub-put-initial-bit
     part-put-initial-bit-start
     part-put-initial-bit-end
-    add-t20
-    add-t21
+    add-offset
+    offset-requires
     put-initial-bit-requires
     add-at
     add-t

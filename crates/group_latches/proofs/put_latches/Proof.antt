@@ -12,7 +12,7 @@ use Rattle.group_latches.proofs.put_latches.Statement.{statement}
 use Rattle.group_latches.proofs.put_latches.Tie as tie
 
 abbrev Inv-loop : tie.InvT-loop
-Inv-loop out₀ latches i before b first n at₀ l₀ out at l = Turns n 6 (latchAt b first before latches) out₀ out l at
+Inv-loop out₀ latches i before b first n at₀ l₀ out at l = Turns n 6 (latchAt b (first .0) before latches) out₀ out l at
 
 abbrev μ-loop : tie.MeasureT-loop
 μ-loop out₀ latches i before b first n at₀ l₀ out at l = n - l
@@ -66,24 +66,24 @@ part-put-latch-start c = search needs
 part-put-latch-end : tie.Need-part-put-latch-end Inv-loop μ-loop
 part-put-latch-end c = search needs
 
-add-t14 : tie.Need-add-t14 Inv-loop μ-loop
+offset-requires : tie.Need-offset-requires Inv-loop μ-loop
 unfolding netOf
-add-t14 c = search needs
+offset-requires c κs = search needs
 
 put-latch-requires : tie.Need-put-latch-requires Inv-loop μ-loop
 unfolding netOf
 put-latch-requires c κs =
-    let sizes = sizes-lists (c .before .before .before .before .before .before .before .args .net) (c .before .before .before .before .before .before .before .args .latches .now) [] [] [] (c .before .before .before .before .before .before .before .pre .0 .limits .sizes) in
-    let codes = c .before .before .before .before .before .before .before .pre .0 .limits .codes in (
-      rw (c .before .before .before .before .before .frame-base2 .ensures) (wire-has-number _ sizes _ _ (omega arith) (omega arith)),
+    let sizes = sizes-lists (c .before .before .before .before .before .before .before .before .args .net) (c .before .before .before .before .before .before .before .before .args .latches .now) [] [] [] (c .before .before .before .before .before .before .before .before .pre .0 .limits .sizes) in
+    let codes = c .before .before .before .before .before .before .before .before .pre .0 .limits .codes in (
+      rw (c .before .before .before .before .before .before .frame-base2 .ensures) (wire-has-number _ sizes _ _ (omega arith) (omega arith)),
       omega arith,
-      rw (c .before .before .before .before .before .before .frame-base .ensures) (code-has-number _ sizes _ _ (omega arith) (codes .next-fits (c .before .before .before .loop .l) (c .before .before .loop-test .taken))),
-      turns-room (c .before .before .before .loop .inv) (c .before .before .loop-test .taken),
+      rw (c .before .before .before .before .before .before .before .frame-base .ensures) (code-has-number _ sizes _ _ (omega arith) (codes .next-fits (c .before .before .before .before .loop .l) (c .before .before .before .loop-test .taken))),
+      rw (c .offset .ensures) (turns-room (c .before .before .before .before .loop .inv) (c .before .before .before .loop-test .taken)),
     )
 
 add-at : tie.Need-add-at Inv-loop μ-loop
 add-at c =
-    let count = turns-count (c .before .before .before .before .before .loop .inv) (c .before .before .before .before .loop-test .taken) (c .before .put-latch .ensures .1) in
+    let count = turns-count (c .before .before .before .before .before .before .loop .inv) (c .before .before .before .before .before .loop-test .taken) (c .before .put-latch .ensures .1) in
     search needs
 
 add-l : tie.Need-add-l Inv-loop μ-loop
@@ -94,7 +94,7 @@ loop-less c = search needs
 
 loop-again : tie.Need-loop-again Inv-loop μ-loop
 loop-again c =
-    turns-next (c .before .before .before .before .before .loop .inv) (c .before .before .before .before .loop-test .taken) (c .before .put-latch .ensures)
+    turns-next (c .before .before .before .before .before .before .loop .inv) (c .before .before .before .before .before .loop-test .taken) (rw (c .before .before .offset .ensures) at (c .before .put-latch .ensures))
 
 same-length : tie.Need-same-length Inv-loop μ-loop
 same-length c = search needs
@@ -122,7 +122,7 @@ put-latches-spec =
     sub-put-latch
     part-put-latch-start
     part-put-latch-end
-    add-t14
+    offset-requires
     put-latch-requires
     add-at
     add-l

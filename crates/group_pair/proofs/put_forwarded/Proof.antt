@@ -12,7 +12,7 @@ use Rattle.group_pair.proofs.put_forwarded.Statement.{statement}
 use Rattle.group_pair.proofs.put_forwarded.Tie as tie
 
 abbrev Inv-loop : tie.InvT-loop
-Inv-loop out₀ j i net selected writing reading first read n at₀ t₀ out at t = Turns n 8 (forwardedBit (literalOf selected) reading first read writing net) out₀ out t at
+Inv-loop out₀ j i net selected writing reading first read n at₀ t₀ out at t = Turns n 8 (forwardedBit (literalOf selected) reading (first .0) read writing net) out₀ out t at
 
 abbrev μ-loop : tie.MeasureT-loop
 μ-loop out₀ j i net selected writing reading first read n at₀ t₀ out at t = n - t
@@ -56,31 +56,31 @@ part-put-forwarded-bit-start c = search needs
 part-put-forwarded-bit-end : tie.Need-part-put-forwarded-bit-end Inv-loop μ-loop
 part-put-forwarded-bit-end c = search needs
 
-add-t27 : tie.Need-add-t27 Inv-loop μ-loop
+add-offset : tie.Need-add-offset Inv-loop μ-loop
 unfolding netOf portOf
-add-t27 c = search needs
+add-offset c = search needs
 
-add-t28 : tie.Need-add-t28 Inv-loop μ-loop
+offset-requires : tie.Need-offset-requires Inv-loop μ-loop
 unfolding netOf portOf
-add-t28 c = search needs
+offset-requires c κs = search needs
 
 put-forwarded-bit-requires : tie.Need-put-forwarded-bit-requires Inv-loop μ-loop
 unfolding codeOf netOf portOf
 put-forwarded-bit-requires c κs =
-    let is = c .before .before .before .before .before .before .before .before .pre .0 in
-    let t = c .before .before .before .loop .t in
-    let h = c .before .before .loop-test .taken in (
-      c .before .before .before .before .before .before .before .selected .ensures .1,
-      rw (c .before .before .before .before .before .frame-base2 .ensures) (wire-has-number _ (is .fits .limits .sizes) _ _ (omega arith) (omega arith)),
+    let is = c .before .before .before .before .before .before .before .before .before .pre .0 in
+    let t = c .before .before .before .before .loop .t in
+    let h = c .before .before .before .loop-test .taken in (
+      c .before .before .before .before .before .before .before .before .selected .ensures .1,
+      rw (c .before .before .before .before .before .before .frame-base2 .ensures) (wire-has-number _ (is .fits .limits .sizes) _ _ (omega arith) (omega arith)),
       omega arith,
-      rw (c .before .before .before .before .before .before .frame-base .ensures) (code-has-number _ (is .fits .limits .sizes) _ _ (omega arith) (is .fits .limits .codes .data-fits t h)),
-      turns-room (c .before .before .before .loop .inv) h,
+      rw (c .before .before .before .before .before .before .before .frame-base .ensures) (code-has-number _ (is .fits .limits .sizes) _ _ (omega arith) (is .fits .limits .codes .data-fits t h)),
+      rw (c .offset .ensures) (turns-room (c .before .before .before .before .loop .inv) h),
     )
 
 add-at : tie.Need-add-at Inv-loop μ-loop
 unfolding codeOf netOf portOf
 add-at c =
-    let count = turns-count (c .before .before .before .before .before .loop .inv) (c .before .before .before .before .loop-test .taken) (c .before .put-forwarded-bit .ensures .1) in
+    let count = turns-count (c .before .before .before .before .before .before .loop .inv) (c .before .before .before .before .before .loop-test .taken) (c .before .put-forwarded-bit .ensures .1) in
     search needs
 
 add-t : tie.Need-add-t Inv-loop μ-loop
@@ -94,7 +94,7 @@ loop-less c = search needs
 loop-again : tie.Need-loop-again Inv-loop μ-loop
 unfolding codeOf netOf portOf
 loop-again c =
-    turns-next (c .before .before .before .before .before .loop .inv) (c .before .before .before .before .loop-test .taken) (c .before .put-forwarded-bit .ensures)
+    turns-next (c .before .before .before .before .before .before .loop .inv) (c .before .before .before .before .before .loop-test .taken) (rw (c .before .before .offset .ensures) at (c .before .put-forwarded-bit .ensures))
 
 same-length : tie.Need-same-length Inv-loop μ-loop
 same-length c = search needs
@@ -122,8 +122,8 @@ put-forwarded-spec =
     sub-put-forwarded-bit
     part-put-forwarded-bit-start
     part-put-forwarded-bit-end
-    add-t27
-    add-t28
+    add-offset
+    offset-requires
     put-forwarded-bit-requires
     add-at
     add-t

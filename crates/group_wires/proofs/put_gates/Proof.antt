@@ -12,7 +12,7 @@ use Rattle.group_wires.proofs.put_gates.Statement.{statement}
 use Rattle.group_wires.proofs.put_gates.Tie as tie
 
 abbrev Inv-loop : tie.InvT-loop
-Inv-loop out₀ gates i b first n at₀ g₀ out at g = Turns n 10 (gateAt b first gates) out₀ out g at
+Inv-loop out₀ gates i b first n at₀ g₀ out at g = Turns n 10 (gateAt b (first .0) gates) out₀ out g at
 
 abbrev μ-loop : tie.MeasureT-loop
 μ-loop out₀ gates i b first n at₀ g₀ out at g = n - g
@@ -75,25 +75,25 @@ part-put-gate-start c = search needs
 part-put-gate-end : tie.Need-part-put-gate-end Inv-loop μ-loop
 part-put-gate-end c = search needs
 
-add-t13 : tie.Need-add-t13 Inv-loop μ-loop
+offset-requires : tie.Need-offset-requires Inv-loop μ-loop
 unfolding netOf
-add-t13 c = search needs
+offset-requires c κs = search needs
 
 put-gate-requires : tie.Need-put-gate-requires Inv-loop μ-loop
 unfolding netOf
 put-gate-requires c κs =
-    let sizes = sizes-lists (c .before .before .before .before .before .before .before .args .net) [] (c .before .before .before .before .before .before .before .args .gates .now) [] [] (c .before .before .before .before .before .before .before .pre .0 .limits .sizes) in
-    let codes = c .before .before .before .before .before .before .before .pre .0 .limits .codes in (
-      rw (c .before .before .before .before .before .before .frame-base .ensures) (wire-has-number _ sizes _ _ (omega arith) (omega arith)),
+    let sizes = sizes-lists (c .before .before .before .before .before .before .before .before .args .net) [] (c .before .before .before .before .before .before .before .before .args .gates .now) [] [] (c .before .before .before .before .before .before .before .before .pre .0 .limits .sizes) in
+    let codes = c .before .before .before .before .before .before .before .before .pre .0 .limits .codes in (
+      rw (c .before .before .before .before .before .before .before .frame-base .ensures) (wire-has-number _ sizes _ _ (omega arith) (omega arith)),
       omega arith,
-      rw (c .before .before .before .before .before .before .frame-base .ensures) (code-has-number _ sizes _ _ (omega arith) (omega (arith, codes .left-fits (c .before .before .before .before .loop .g) (omega arith)))),
-      rw (c .before .before .before .before .before .before .frame-base .ensures) (code-has-number _ sizes _ _ (omega arith) (omega (arith, codes .right-fits (c .before .before .before .before .loop .g) (omega arith)))),
-      turns-room (c .before .before .before .before .loop .inv) (omega arith),
+      rw (c .before .before .before .before .before .before .before .frame-base .ensures) (code-has-number _ sizes _ _ (omega arith) (omega (arith, codes .left-fits (c .before .before .before .before .before .loop .g) (omega arith)))),
+      rw (c .before .before .before .before .before .before .before .frame-base .ensures) (code-has-number _ sizes _ _ (omega arith) (omega (arith, codes .right-fits (c .before .before .before .before .before .loop .g) (omega arith)))),
+      rw (c .offset .ensures) (turns-room (c .before .before .before .before .before .loop .inv) (omega arith)),
     )
 
 add-at : tie.Need-add-at Inv-loop μ-loop
 add-at c =
-    let count = turns-count (c .before .before .before .before .before .before .loop .inv) (omega arith) (c .before .put-gate .ensures .1) in
+    let count = turns-count (c .before .before .before .before .before .before .before .loop .inv) (omega arith) (c .before .put-gate .ensures .1) in
     search needs
 
 add-g : tie.Need-add-g Inv-loop μ-loop
@@ -104,7 +104,7 @@ loop-less c = search needs
 
 loop-again : tie.Need-loop-again Inv-loop μ-loop
 loop-again c =
-    turns-next (c .before .before .before .before .before .before .loop .inv) (omega arith) (c .before .put-gate .ensures)
+    turns-next (c .before .before .before .before .before .before .before .loop .inv) (omega arith) (rw (c .before .before .offset .ensures) at (c .before .put-gate .ensures))
 
 same-length : tie.Need-same-length Inv-loop μ-loop
 same-length c = search needs
@@ -135,7 +135,7 @@ put-gates-spec =
     sub-put-gate
     part-put-gate-start
     part-put-gate-end
-    add-t13
+    offset-requires
     put-gate-requires
     add-at
     add-g

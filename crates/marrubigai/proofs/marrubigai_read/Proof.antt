@@ -44,7 +44,7 @@ use Rattle.call_lists.specs.declared.Latch.{Latch}
 use Rattle.call_lists.specs.declared.Gate.{Gate}
 use Rattle.call_lists.proofs.Latch as La
 use Rattle.call_lists.proofs.Gate as Ga
-use Rattle.sheet_reader.specs.ReadCall.{readVerdict, readRecord, latchesLeft, gatesLeft, SheetDelivered}
+use Rattle.sheet_reader.specs.ReadCall.{readVerdict, readRecord, latchesAfter, gatesAfter, SheetDelivered}
 use Rattle.sheet_reader.proofs.ReadCall.{Reads}
 use Rattle.sheet_reader.proofs.Facts.{Facts, gathered, spread}
 use Rattle.sheet_reader.proofs.read as read
@@ -150,15 +150,15 @@ module _ {M : Type 1} (𝓤 : URA M) (H : Heap 𝓤) (A : Atoms 𝓤) (W : Given
     abbrev Promises : Answer → SProp 𝓤
     Promises o =
         Facts 𝓤 (o .0 .verdict ≡ readVerdict (now file) (now x) (now y))
-        ((o .0 .net ≡ readRecord (now file) (now x) (now y)) ∷ (o .1 .0 ≡ latchesLeft (now file) (now x) (now y))
-        ∷ (o .1 .1 ≡ gatesLeft (now file) (now x) (now y))
+        ((o .0 .net ≡ readRecord (now file) (now x) (now y)) ∷ (o .1 .0 ≡ latchesAfter (now file) (now x) (now y))
+        ∷ (o .1 .1 ≡ gatesAfter (now file) (now x) (now y))
         ∷ (o .0 .verdict ≡ Passed → SheetDelivered (now file) (o .0 .net) (o .1 .0) (o .1 .1)) ∷ [])
 
     says-all : (o : Answer) → ent 𝓤 (Promises o) (fact 𝓤 (Says o))
     says-all o =
         gathered 𝓤 (o .0 .verdict ≡ readVerdict (now file) (now x) (now y))
-        ((o .0 .net ≡ readRecord (now file) (now x) (now y)) ∷ (o .1 .0 ≡ latchesLeft (now file) (now x) (now y))
-        ∷ (o .1 .1 ≡ gatesLeft (now file) (now x) (now y))
+        ((o .0 .net ≡ readRecord (now file) (now x) (now y)) ∷ (o .1 .0 ≡ latchesAfter (now file) (now x) (now y))
+        ∷ (o .1 .1 ≡ gatesAfter (now file) (now x) (now y))
         ∷ (o .0 .verdict ≡ Passed → SheetDelivered (now file) (o .0 .net) (o .1 .0) (o .1 .1)) ∷ [])
 
     read-gives : (u : Val) → ent 𝓤 (Read 𝓤 H A mem run .post to-read u)
@@ -193,7 +193,7 @@ module _ {M : Type 1} (𝓤 : URA M) (H : Heap 𝓤) (A : Atoms 𝓤) (W : Given
         (tt, (o .1 .0, (o .1 .1, tt))) (tt, (latches-long, (gates-long, tt)))) $
         suffices ! _ (spread 𝓤 H A W (onExit 𝓤 H A export.ended stayed κs qs at v sent a (tt, (o .1 .0, (o .1 .1, tt))))
         (sent ≡ sheetNumbers (readVerdict (now file) (now x) (now y)) (readRecord (now file) (now x) (now y)))
-        ((o .1 .0 ≡ latchesLeft (now file) (now x) (now y)) ∷ (o .1 .1 ≡ gatesLeft (now file) (now x) (now y))
+        ((o .1 .0 ≡ latchesAfter (now file) (now x) (now y)) ∷ (o .1 .1 ≡ gatesAfter (now file) (now x) (now y))
         ∷ (sent .number ≡ 0 → SheetDelivered (now file) (sent .net) (o .1 .0) (o .1 .1)) ∷ [])) $
         says ! (replies (now file) (now x) (now y) (o .0) (o .1 .0) (o .1 .1) e) $
         move ! (3 ∷ []) $ frame ! $ nothing ! $ move ! (3 ∷ 0 ∷ []) $ fjoin ! $ move ! (2 ∷ 0 ∷ []) $ fjoin ! $

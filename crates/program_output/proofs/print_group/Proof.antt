@@ -1,4 +1,4 @@
--- `program_output::print_group` meets its contract: what the group's writer left in front of the numbers is the group.
+-- `program_output::print_group` meets its contract: what the group's writer put in front of the numbers is the group.
 use Prim.Native.Nat.{_≤_}
 use mathlib.Core.Path.{_≡_, sym}
 use native.Mathlib.Omega.{arith}

@@ -82,7 +82,7 @@ use Rattle.call_lists.proofs.deliver.deliver_gates.Symbol as gates-def
 use Rattle.call_lists.proofs.deliver.deliver_gates.Symbol.{name as #deliver-gates}
 use Rattle.call_lists.proofs.deliver.deliver_gates.Met as gates-thm
 use Rattle.sheet_reader.specs.NextLine.{atStart}
-use Rattle.sheet_reader.specs.ReadCall.{readVerdict, readRecord, latchesLeft, gatesLeft, SheetDelivered}
+use Rattle.sheet_reader.specs.ReadCall.{readVerdict, readRecord, latchesAfter, gatesAfter, SheetDelivered}
 use Rattle.sheet_reader.specs.declared.SheetReader.{SheetReader}
 use Rattle.sheet_reader.proofs.Facts.{spread}
 use Rattle.sheet_reader.proofs.ReadCall.{deliverable, reads}
@@ -322,8 +322,8 @@ module _ {M : Type 1} (𝓤 : URA M) (H : Heap 𝓤) (A : Atoms 𝓤) (W : Given
         (tt, (newLatches sheet xs, (newGates sheet ys, tt))) (tt, (latches-long, (gates-long, tt)))) $
         suffices ! _ (spread 𝓤 H A W (onExit 𝓤 H A read.ended stayed κs qs at (S′.lowered sheet) sheet a
         (tt, (newLatches sheet xs, (newGates sheet ys, tt)))) (sheet .verdict ≡ readVerdict (now file) (now x) (now y))
-        ((sheet .net ≡ readRecord (now file) (now x) (now y)) ∷ (newLatches sheet xs ≡ latchesLeft (now file) (now x) (now y))
-        ∷ (newGates sheet ys ≡ gatesLeft (now file) (now x) (now y))
+        ((sheet .net ≡ readRecord (now file) (now x) (now y)) ∷ (newLatches sheet xs ≡ latchesAfter (now file) (now x) (now y))
+        ∷ (newGates sheet ys ≡ gatesAfter (now file) (now x) (now y))
         ∷ (sheet .verdict ≡ Passed → SheetDelivered (now file) (sheet .net) (newLatches sheet xs) (newGates sheet ys)) ∷ [])) $
         says ! (reads (now file) (now x) (now y) sheet xs ys e) $
         nothing ! $ move ! (4 ∷ 0 ∷ []) $ join ! $ move ! (3 ∷ 0 ∷ []) $ join ! $ move ! (2 ∷ 0 ∷ []) $ join ! $ frame ! $
