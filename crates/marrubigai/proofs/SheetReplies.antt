@@ -24,4 +24,4 @@ module _ (file : List ℕ) (latches : List Latch) (gates : List Gate) where
       → Replies (sheetNumbers (sheet .verdict) (sheet .net)) newLatches newGates
   unfolding sheetNumbers
   replies sheet newLatches newGates e =
-      (rw (e .0, e .1 .0), (e .1 .1 .0, (e .1 .1 .1 .0, λ zero. e .1 .1 .1 .1 (reply-passed (sheet .verdict) zero))))
+      (rw (e .0, e .1 .0), (e .1 .1 .0, (e .1 .1 .1 .0, λ zero. e .1 .1 .1 .1 .0 (reply-passed (sheet .verdict) zero))))

@@ -11,10 +11,11 @@ use Rattle.refusals.specs.declared.Verdict.the-variants.{Passed, Refused}
 use Rattle.refusals.specs.Slices.{contentsAfter}
 use Rattle.refusals.proofs.Tests.{refused-not-passed}
 use Rattle.model.specs.Netlist as M
-use Rattle.model.specs.Acceptance.{Accepted}
+use Rattle.model.specs.Acceptance.{Accepted, PathTheorem}
 use Rattle.literals.specs.declared.Code.{Code}
 use Rattle.netlist.specs.NetOf.{codeOf, netOf}
 use Rattle.model.proofs.Claim.{encodes}
+use Rattle.model.proofs.Dependence.{paths}
 use Rattle.netlist_tests.specs.Record.{recordVerdict}
 use Rattle.netlist_tests.proofs.Acceptance.{passes-accepted}
 use Rattle.sheet_steps.specs.declared.SheetAnswer.{SheetAnswer}
@@ -110,7 +111,8 @@ module _ (file : List ℕ) (latches : List Latch) (gates : List Gate) where
       × ((sheet .net ≡ readRecord file latches gates)
       × ((newLatches ≡ latchesLeft file latches gates)
       × ((newGates ≡ gatesLeft file latches gates)
-      × (sheet .verdict ≡ Passed → SheetDelivered file (sheet .net) newLatches newGates))))
+      × ((sheet .verdict ≡ Passed → SheetDelivered file (sheet .net) newLatches newGates)
+      × PathTheorem))))
 
   module _ (sheet : SheetAnswer) (latchList gateList : List ℕ)
       (codes : CodesRead file (length latches) (length gates) sheet latchList gateList) where
@@ -152,8 +154,11 @@ module _ (file : List ℕ) (latches : List Latch) (gates : List Gate) where
                   rw e newLatches,
                   (
                     rw e newGates,
-                    λ q. rw (newLatches, newGates, net)
-                        (sheet-delivered file (parts .0) latches gates (parts .1) (parts .2)),
+                    (
+                      λ q. rw (newLatches, newGates, net)
+                          (sheet-delivered file (parts .0) latches gates (parts .1) (parts .2)),
+                      paths,
+                    ),
                   ),
                 ),
               ),
@@ -172,7 +177,7 @@ module _ (file : List ℕ) (latches : List Latch) (gates : List Gate) where
                   noLatch ∙ kept .0,
                   (
                     noGate ∙ kept .1,
-                    λ q. absurd (refused-not-passed (sym e ∙ (sym (codes .verdict-is) ∙ q))),
+                    (λ q. absurd (refused-not-passed (sym e ∙ (sym (codes .verdict-is) ∙ q))), paths),
                   ),
                 ),
               ),

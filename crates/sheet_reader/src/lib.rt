@@ -8,6 +8,7 @@ use refusals::Verdict;
 use sheet_steps::SheetAnswer;
 ghost use mathlib.Core.Path.{_≡_};
 ghost use Prim.Native.Nat.{_≤_};
+ghost use Rattle.model.specs.Acceptance.{PathTheorem};
 ghost use Rattle.sheet_parse.specs.Files.{lineCount};
 ghost use Rattle.sheet_parse.specs.Progress.{ReadTo};
 ghost use Rattle.sheet_tests.specs.Codes.{CodesRead};
@@ -88,6 +89,7 @@ pub fn read(file: &[u8], latches: &mut [Latch], gates: &mut [Gate]) -> SheetAnsw
     ensures latches { λ _. ⌜ now (latches .exit) ≡ latchesLeft (now (file .entry)) (now (latches .entry)) (now (gates .entry)) ⌝ }
     ensures gates { λ _. ⌜ now (gates .exit) ≡ gatesLeft (now (file .entry)) (now (latches .entry)) (now (gates .entry)) ⌝ }
     ensures accepted { λ r. ⌜ (r .verdict ≡ Verdict.Passed → SheetDelivered (now (file .entry)) (r .net) (now (latches .exit)) (now (gates .exit))) ⌝ }
+    ensures paths { λ _. ⌜ PathTheorem ⌝ }
 {
     let mut latch_codes = sheet_tests::no_codes();
     let mut gate_codes = sheet_tests::no_codes();

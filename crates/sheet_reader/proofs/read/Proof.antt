@@ -48,6 +48,7 @@ use denote.Triple.Walked.{says, Stays, stay-none-slice, gave-slice, onExit, walk
 use denote.Exit.{yes}
 use denote.Triple.Clauses.{Lasts, lasts}
 use Rattle.call_lists.proofs.Walk.{bare, _&_, cell, frees-all}
+use Rattle.model.specs.Acceptance.{PathTheorem}
 use Rattle.refusals.specs.declared.Verdict.the-variants.{Passed}
 use Rattle.netlist.specs.declared.Netlist.{Netlist}
 use Rattle.netlist.proofs.Netlist as N
@@ -324,7 +325,8 @@ module _ {M : Type 1} (𝓤 : URA M) (H : Heap 𝓤) (A : Atoms 𝓤) (W : Given
         (tt, (newLatches sheet xs, (newGates sheet ys, tt)))) (sheet .verdict ≡ readVerdict (now file) (now x) (now y))
         ((sheet .net ≡ readRecord (now file) (now x) (now y)) ∷ (newLatches sheet xs ≡ latchesLeft (now file) (now x) (now y))
         ∷ (newGates sheet ys ≡ gatesLeft (now file) (now x) (now y))
-        ∷ (sheet .verdict ≡ Passed → SheetDelivered (now file) (sheet .net) (newLatches sheet xs) (newGates sheet ys)) ∷ [])) $
+        ∷ (sheet .verdict ≡ Passed → SheetDelivered (now file) (sheet .net) (newLatches sheet xs) (newGates sheet ys))
+        ∷ PathTheorem ∷ [])) $
         says ! (reads (now file) (now x) (now y) sheet xs ys e) $
         nothing ! $ move ! (4 ∷ 0 ∷ []) $ join ! $ move ! (3 ∷ 0 ∷ []) $ join ! $ move ! (2 ∷ 0 ∷ []) $ join ! $ frame ! $
         nothing ! $ move ! (4 ∷ 0 ∷ []) $ fjoin ! $ move ! (3 ∷ 0 ∷ []) $ fjoin ! $ move ! (2 ∷ 0 ∷ []) $ fjoin ! $ frame ! $
