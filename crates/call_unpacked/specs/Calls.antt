@@ -1,6 +1,6 @@
 -- What the calls over a record answer and leave (document 01, "What is sent back", "Groups of clauses"). The right-hand sides of
 -- the public contracts, and the subject of the claim about them. Cited by the calls in `call_unpacked` and
--- `calls`, by calls/specs, by `call_replies` and by call_replies/specs. Assumes nothing.
+-- `calls`, by calls/specs, sheet_reader/specs/ReadCall, `call_replies` and call_replies/specs. Assumes nothing.
 use Prim.Native.Nat.{ℕ, _+_, _≤_}
 use mathlib.Core.Path.{_≡_}
 use mathlib.Core.Bool.{true, not}
@@ -86,21 +86,22 @@ unfoldable pub headingSent : Netlist → ℕ → ℕ → ℕ → HeadingReply
 headingSent c latchCount gateCount k =
     withHeading (headingVerdict c latchCount gateCount k) (base c (k + 1)) (length (clausesIn (formula c k)))
 
--- Demand 3, of the calls: "The clauses for depth k stand in the numbers that the group calls write, one call with room enough for
--- each group, joined in the order of the whole". Those numbers are the formula, and the formula encodes the runs
--- and is as document 01 says; "Depth k uses B(k + 1) variables, at most 675,841", so that refusal 10 is never met; and the netlist's
--- sheet has "L + A + m + n + 3 lines, 615 at most".
+-- Demand 3, of the calls over the netlist d, for the netlist c that is meant: d itself, or that of the sheet which d was read from
+-- (past the sizes the two may differ). "The clauses for depth k stand in the numbers that the group calls write, one call with room
+-- enough for each group, joined in the order of the whole". Those numbers are c's formula, and the formula encodes the runs and is as
+-- document 01 says; "Depth k uses B(k + 1) variables, at most 675,841", so that refusal 10 is never met; and c's sheet has
+-- "L + A + m + n + 3 lines, 615 at most".
 abbrev pub RoomEnough : Netlist → ℕ → (Group → List ℤ) → Type 0
 RoomEnough c k slice = (g : Group) → inDepth k g ≡ true → length (numbersOf c k g) ≤ length (slice g)
 
-pub record CallsEncode (c : Netlist) (latchCount gateCount k : ℕ) : Type 0 where
+pub record CallsEncode (c d : Netlist) (latchCount gateCount k : ℕ) : Type 0 where
   pub calls-formula : (slice : Group → List ℤ) → RoomEnough c k slice
       → joined
-      (λ g. take (groupSent c latchCount gateCount k g (length (slice g)) .count) (groupLeaves c latchCount gateCount k g (slice g)))
+      (λ g. take (groupSent d latchCount gateCount k g (length (slice g)) .count) (groupLeaves d latchCount gateCount k g (slice g)))
       (groupOrder k)
       ≡ formula c k
   pub formula-encodes : Encodes c k
   pub formula-stated : Stated c k
   pub variables-most : base c (k + 1) ≤ 675841
-  pub numbers-suffice : testNumbers c k ≡ Passed
+  pub numbers-suffice : testNumbers d k ≡ Passed
   pub lines-most : controlLine c ≤ mostLines

@@ -14,7 +14,6 @@ use Rattle.model.specs.Netlist as M
 use Rattle.model.specs.Acceptance.{Accepted, PathTheorem}
 use Rattle.literals.specs.declared.Code.{Code}
 use Rattle.netlist.specs.NetOf.{codeOf, netOf}
-use Rattle.model.proofs.Claim.{encodes}
 use Rattle.model.proofs.Dependence.{paths}
 use Rattle.netlist_tests.specs.Record.{recordVerdict}
 use Rattle.netlist_tests.proofs.Acceptance.{passes-accepted}
@@ -32,6 +31,7 @@ use Rattle.call_lists.specs.Lent.{netLent}
 use Rattle.call_lists.specs.RecordAt.{latchAt, gateAt}
 use Rattle.call_lists.specs.Delivered.{delivered}
 use Rattle.call_lists.proofs.Delivered.{delivered-none, length-delivered}
+use Rattle.call_unpacked.proofs.Calls.{calls-encode-for}
 use Rattle.sheet_reader.specs.ReadCall.{latchOf, gateOf, readVerdict, readRecord, latchesLeft, gatesLeft, SheetDelivered}
 use Rattle.sheet_reader.proofs.Lists.{getD-gather-alone, delivered-pairs}
 use Rattle.sheet_reader.proofs.Entries.{Agree, accepted-same}
@@ -82,7 +82,7 @@ module _ (c : M.Netlist) (accepted : Accepted c) (latches : List Latch) (gates :
         rw (length-delivered (gateOf c) gates (c .gates) long-gates) long-gates,
       )
 
--- so an accepted sheet's record and lists have its variables, its clauses and demand 3
+-- so an accepted sheet's record and lists have its variables, its clauses and its demand 3
 sheet-delivered : (file : List ℕ) → Accepted (netIn file) → (latches : List Latch) (gates : List Gate)
     → netIn file .latches ≤ length latches → netIn file .gates ≤ length gates
     → SheetDelivered file (recordOf (netIn file)) (delivered (netIn file .latches) (latchOf (netIn file)) latches)
@@ -94,7 +94,8 @@ sheet-delivered file accepted latches gates long-latches long-gates =
       not-refused = not-refused c accepted latches gates long-latches long-gates;
       variables-same = λ i. sym (base-same c _ same i);
       numbers-same = λ k g. sym (numbers-same c _ same k g);
-      sheet-encodes = encodes c accepted;
+      calls-encode = λ k most. calls-encode-for c _ _ _ k (not-refused c accepted latches gates long-latches long-gates) most accepted
+          (λ g. sym (numbers-same c _ same k g));
     }
 
 module _ (file : List ℕ) (latches : List Latch) (gates : List Gate) where
