@@ -9,6 +9,8 @@ use Rattle.refusals.specs.declared.Refusal.{Refusal}
 use Rattle.refusals.specs.declared.Verdict.{Verdict}
 use Rattle.refusals.specs.declared.Verdict.the-variants.{Passed, Refused}
 use Rattle.refusals.specs.Slices.{contentsAfter}
+use Rattle.refusals.specs.Refusal.{replyOf}
+use Rattle.refusals.proofs.Table.{reply-passed}
 use Rattle.refusals.proofs.Tests.{refused-not-passed}
 use Rattle.model.specs.Netlist as M
 use Rattle.model.specs.Acceptance.{Accepted, PathTheorem}
@@ -108,11 +110,11 @@ module _ (file : List ℕ) (latches : List Latch) (gates : List Gate) where
   -- what `read` promises, together
   abbrev pub Reads : SheetAnswer → List Latch → List Gate → Type 0
   Reads sheet newLatches newGates =
-      (sheet .verdict ≡ readVerdict file latches gates)
+      (replyOf (sheet .verdict) ≡ replyOf (readVerdict file latches gates))
       × ((sheet .net ≡ readRecord file latches gates)
       × ((newLatches ≡ latchesLeft file latches gates)
       × ((newGates ≡ gatesLeft file latches gates)
-      × ((sheet .verdict ≡ Passed → SheetDelivered file (sheet .net) newLatches newGates)
+      × ((replyOf (sheet .verdict) .number ≡ 0 → SheetDelivered file (sheet .net) newLatches newGates)
       × PathTheorem))))
 
   module _ (sheet : SheetAnswer) (latchList gateList : List ℕ)
@@ -148,7 +150,7 @@ module _ (file : List ℕ) (latches : List Latch) (gates : List Gate) where
             (latchOf (netIn file)) latches = rw (← held) in
             let newGates : delivered (sheet .net .gates) (gateAt gateList) gates ≡ delivered (netIn file .gates)
             (gateOf (netIn file)) gates = rw (← held) in (
-              codes .verdict-is,
+              ap replyOf (codes .verdict-is),
               (
                 codes .record-is,
                 (
@@ -171,14 +173,14 @@ module _ (file : List ℕ) (latches : List Latch) (gates : List Gate) where
             let noGate : delivered (sheet .net .gates) (gateAt gateList) gates ≡ gates =
             rw net (delivered-none (gateAt gateList) gates) in
             let kept = left-kept e in (
-              codes .verdict-is,
+              ap replyOf (codes .verdict-is),
               (
                 codes .record-is,
                 (
                   noLatch ∙ kept .0,
                   (
                     noGate ∙ kept .1,
-                    (λ q. absurd (refused-not-passed (sym e ∙ (sym (codes .verdict-is) ∙ q))), paths),
+                    (λ q. absurd (refused-not-passed (sym e ∙ (sym (codes .verdict-is) ∙ reply-passed (sheet .verdict) q))), paths),
                   ),
                 ),
               ),
