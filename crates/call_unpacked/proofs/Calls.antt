@@ -1,6 +1,6 @@
 -- Laws of specs/Calls.antt: which tests a call passes, and demand 3 of the calls. No contract cites this file.
 use Prim.Native.Nat.{ℕ, _+_, _≤_, _<_}
-use mathlib.Core.Path.{_≡_, ap}
+use mathlib.Core.Path.{_≡_, refl, _∙_, ap}
 use mathlib.Core.Bool.{true, false, not}
 use mathlib.Core.List.{List}
 use native.Mathlib.Omega.{arith}
@@ -50,7 +50,7 @@ variables-fit c k v ok d e h =
     let most : base c (k + 1) ≤ 675841 = base-most c (ok .limits .sizes) (k + 1) (omega arith) in
     omega arith
 
-module _ (c : Netlist) (latchCount gateCount k : ℕ) (record-passed : recordVerdict c latchCount gateCount ≡ Passed) (d : k ≤ 255) where
+module _ (c : Netlist) (latchCount gateCount k : ℕ) (record-passed : recordVerdict c latchCount gateCount ≡ Passed) (most : k ≤ 255) where
   accepted : Accepted c
   accepted = passes-accepted c latchCount gateCount .0 record-passed .0
 
@@ -59,8 +59,8 @@ module _ (c : Netlist) (latchCount gateCount k : ℕ) (record-passed : recordVer
       → groupVerdict c latchCount gateCount k g room ≡ Passed
   unfolding groupVerdict testGroup testDepth
   group-passes g room there enough =
-      passes record-passed (passes (refuseIf-passes (ltb 255 k) _ 0 .1 (le-ltb 255 k d))
-      (passes (refuseIf-passes (not (inDepth k g)) _ 0 .1 (ap not there)) (passes (numbers-suffice c k accepted d)
+      passes record-passed (passes (refuseIf-passes (ltb 255 k) _ 0 .1 (le-ltb 255 k most))
+      (passes (refuseIf-passes (not (inDepth k g)) _ 0 .1 (ap not there)) (passes (numbers-suffice c k accepted most)
       (room-enough (length (numbersOf c k g)) room enough))))
     where
       passes : {v w : Verdict} → v ≡ Passed → w ≡ Passed → (v then w) ≡ Passed
@@ -73,19 +73,28 @@ module _ (c : Netlist) (latchCount gateCount k : ℕ) (record-passed : recordVer
   group-numbers g old there enough =
       rw (group-passes g (length old) there enough) (take-append-seam (numbersOf c k g) (drop (length (numbersOf c k g)) old))
 
-  -- demand 3 of the calls
-  pub calls-encode : CallsEncode c latchCount gateCount k
-  unfolding formula
-  calls-encode =
-      record {
-        calls-formula = λ slice enough.
-            joined-same (all-weaken (λ g there. group-numbers g (slice g) there (enough g there)) (order-inDepth k));
-        formula-encodes = encodes c accepted k;
-        formula-stated = stated c accepted k;
-        variables-most = base-most c (accepted .limits .sizes) (k + 1) (omega arith);
-        numbers-suffice = numbers-suffice c k accepted d;
-        lines-most = omega (arith, accepted .limits .sizes .wires-fit, accepted .limits .sizes .m-most);
-      }
+-- demand 3 of the calls over d, for an accepted netlist c with the same numbers
+pub calls-encode-for : (c d : Netlist) (latchCount gateCount k : ℕ) → recordVerdict d latchCount gateCount ≡ Passed → k ≤ 255
+    → Accepted c → ((g : Group) → numbersOf d k g ≡ numbersOf c k g) → CallsEncode c d latchCount gateCount k
+unfolding formula
+calls-encode-for c d latchCount gateCount k passed most ok same =
+    record {
+      calls-formula = λ slice enough.
+          joined-same (all-weaken
+          (λ g there. group-numbers d latchCount gateCount k passed most g (slice g) there (rw (same g) (enough g there)) ∙ same g)
+          (order-inDepth k));
+      formula-encodes = encodes c ok k;
+      formula-stated = stated c ok k;
+      variables-most = base-most c (ok .limits .sizes) (k + 1) (omega arith);
+      numbers-suffice = numbers-suffice d k (accepted d latchCount gateCount k passed most) most;
+      lines-most = omega (arith, ok .limits .sizes .wires-fit, ok .limits .sizes .m-most);
+    }
+
+-- for the netlist itself
+pub calls-encode : (c : Netlist) (latchCount gateCount k : ℕ) → recordVerdict c latchCount gateCount ≡ Passed → k ≤ 255
+    → CallsEncode c c latchCount gateCount k
+calls-encode c latchCount gateCount k passed most =
+    calls-encode-for c c latchCount gateCount k passed most (accepted c latchCount gateCount k passed most) (λ g. refl)
 
 -- which test of a heading call decides
 module _ (c : Netlist) (latchCount gateCount k : ℕ) where

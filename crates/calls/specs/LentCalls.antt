@@ -30,4 +30,4 @@ numbersAfter net latches gates k g old = groupLeaves (netLent net latches gates)
 abbrev pub Claim : Netlist → List Latch → List Gate → ℕ → Type 0
 Claim net latches gates k =
     recordVerdict (netLent net latches gates) (length latches) (length gates) ≡ Passed → k ≤ mostDepth
-    → CallsEncode (netLent net latches gates) (length latches) (length gates) k
+    → CallsEncode (netLent net latches gates) (netLent net latches gates) (length latches) (length gates) k

@@ -8,6 +8,7 @@ use model::Group;
 use netlist::Netlist;
 ghost use mathlib.Core.Path.{_≡_};
 ghost use lib.ListN.{length};
+ghost use Rattle.model.specs.Acceptance.{PathTheorem};
 ghost use Rattle.calls.specs.Starred.{Starred};
 ghost use Rattle.call_unpacked.specs.Calls.{groupReply, headingReply};
 ghost use Rattle.calls.specs.LentCalls.{headingFor, groupFor, numbersAfter, Claim};
@@ -16,6 +17,7 @@ ghost use Rattle.calls.specs.LentCalls.{headingFor, groupFor, numbersAft
 pub fn heading(net: Netlist, latches: &[Latch], gates: &[Gate], depth: u32) -> HeadingAnswer
     ensures answer { λ r. ⌜ headingReply r ≡ headingFor net (now (latches .entry)) (now (gates .entry)) depth ⌝ }
     ensures claim { λ r. ⌜ Claim net (now (latches .entry)) (now (gates .entry)) depth ⌝ }
+    ensures paths { λ r. ⌜ PathTheorem ⌝ }
     ensures starred { λ r. ⌜ Starred ⌝ }
 {
     let mut latch_codes = [0; 1200];

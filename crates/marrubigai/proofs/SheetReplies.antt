@@ -2,7 +2,6 @@
 use Prim.Native.Nat.{ℕ}
 use mathlib.Core.Path.{_≡_}
 use mathlib.Core.List.{List}
-use Rattle.refusals.proofs.Table.{reply-passed}
 use Rattle.sheet_steps.specs.declared.SheetAnswer.{SheetAnswer}
 use Rattle.call_lists.specs.declared.Latch.{Latch}
 use Rattle.call_lists.specs.declared.Gate.{Gate}
@@ -24,4 +23,4 @@ module _ (file : List ℕ) (latches : List Latch) (gates : List Gate) where
       → Replies (sheetNumbers (sheet .verdict) (sheet .net)) newLatches newGates
   unfolding sheetNumbers
   replies sheet newLatches newGates e =
-      (rw (e .0, e .1 .0), (e .1 .1 .0, (e .1 .1 .1 .0, λ zero. e .1 .1 .1 .1 (reply-passed (sheet .verdict) zero))))
+      (rw (e .0, e .1 .0), (e .1 .1 .0, (e .1 .1 .1 .0, e .1 .1 .1 .1 .0)))

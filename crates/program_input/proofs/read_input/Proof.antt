@@ -7,8 +7,7 @@ use Rattle.refusals.specs.declared.Reply.{Reply}
 use Rattle.refusals.specs.declared.Verdict.the-variants.{Passed}
 use Rattle.refusals.proofs.Table.{reply-passed}
 use Rattle.sheet_lines.specs.Depth.{depthVerdict}
-use Rattle.sheet_lines.specs.declared.DepthLine.{DepthLine}
-use Rattle.sheet_lines.proofs.Depth.{depthLine-verdict, passed-long, passed-most}
+use Rattle.sheet_lines.proofs.Depth.{passed-long, passed-most}
 use Rattle.program_input.proofs.Replies.{depth-decides, sheet-decides, behind-depth}
 use Rattle.program_input.proofs.read_input.Statement.{statement}
 use Rattle.program_input.proofs.read_input.Tie as tie
@@ -21,9 +20,7 @@ reply-of-requires c κs = search needs
 
 -- what is sent back of the depth line
 sent : (c : tie.After-reply-of) → c .reply-of .result ≡ replyOf (depthVerdict (c .before .before .before .args .input .now))
-sent c =
-    let line = c .before .read-depth .ensures in
-    c .reply-of .ensures ∙ ap replyOf (ap (λ (l : DepthLine). l .verdict) line ∙ depthLine-verdict _)
+sent c = c .reply-of .ensures ∙ c .before .read-depth .ensures .0
 
 -- where that is number 0, the depth passed
 depth-passed : (c : tie.Then1) → depthVerdict (c .before .before .before .before .before .args .input .now) ≡ Passed
@@ -46,13 +43,13 @@ returns c =
     let decided = c .before .before .before .before in
     let input = decided .before .before .before .before .before .args .input .now in
     let passed = depth-passed decided in
-    let line = decided .before .before .before .read-depth .ensures in
+    let depth = decided .before .before .before .read-depth .ensures .1 in
     let read = rw (behind-depth input) at (c .read-sheet .ensures) in (
       read .0 ∙ ap replyOf (sym (sheet-decides input passed)),
       λ h.
           record {
-            depth-is = read .1 .0 ∙ ap (λ (l : DepthLine). l .depth) line;
-            depth-most = omega (arith, read .1 .0, ap (λ (l : DepthLine). l .depth) line, passed-most input passed);
+            depth-is = read .1 .0 ∙ depth;
+            depth-most = omega (arith, read .1 .0, depth, passed-most input passed);
             sheet = read .1 .1 h;
           },
     )

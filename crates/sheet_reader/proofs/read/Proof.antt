@@ -48,7 +48,8 @@ use denote.Triple.Walked.{says, Stays, stay-none-slice, gave-slice, onExit, walk
 use denote.Exit.{yes}
 use denote.Triple.Clauses.{Lasts, lasts}
 use Rattle.call_lists.proofs.Walk.{bare, _&_, cell, frees-all}
-use Rattle.refusals.specs.declared.Verdict.the-variants.{Passed}
+use Rattle.model.specs.Acceptance.{PathTheorem}
+use Rattle.refusals.specs.Refusal.{replyOf}
 use Rattle.netlist.specs.declared.Netlist.{Netlist}
 use Rattle.netlist.proofs.Netlist as N
 use Rattle.netlist.proofs.Netlist.Laws as N′
@@ -321,10 +322,11 @@ module _ {M : Type 1} (𝓤 : URA M) (H : Heap 𝓤) (A : Atoms 𝓤) (W : Given
         suffices ! _ (ends-at 𝓤 H A read.ended stayed (read.clauses 𝓤 H A mem run) W bound (S′.lowered sheet) sheet
         (tt, (newLatches sheet xs, (newGates sheet ys, tt))) (tt, (latches-long, (gates-long, tt)))) $
         suffices ! _ (spread 𝓤 H A W (onExit 𝓤 H A read.ended stayed κs qs at (S′.lowered sheet) sheet a
-        (tt, (newLatches sheet xs, (newGates sheet ys, tt)))) (sheet .verdict ≡ readVerdict (now file) (now x) (now y))
+        (tt, (newLatches sheet xs, (newGates sheet ys, tt)))) (replyOf (sheet .verdict) ≡ replyOf (readVerdict (now file) (now x) (now y)))
         ((sheet .net ≡ readRecord (now file) (now x) (now y)) ∷ (newLatches sheet xs ≡ latchesAfter (now file) (now x) (now y))
         ∷ (newGates sheet ys ≡ gatesAfter (now file) (now x) (now y))
-        ∷ (sheet .verdict ≡ Passed → SheetDelivered (now file) (sheet .net) (newLatches sheet xs) (newGates sheet ys)) ∷ [])) $
+        ∷ (replyOf (sheet .verdict) .number ≡ 0 → SheetDelivered (now file) (sheet .net) (newLatches sheet xs) (newGates sheet ys))
+        ∷ PathTheorem ∷ [])) $
         says ! (reads (now file) (now x) (now y) sheet xs ys e) $
         nothing ! $ move ! (4 ∷ 0 ∷ []) $ join ! $ move ! (3 ∷ 0 ∷ []) $ join ! $ move ! (2 ∷ 0 ∷ []) $ join ! $ frame ! $
         nothing ! $ move ! (4 ∷ 0 ∷ []) $ fjoin ! $ move ! (3 ∷ 0 ∷ []) $ fjoin ! $ move ! (2 ∷ 0 ∷ []) $ fjoin ! $ frame ! $
