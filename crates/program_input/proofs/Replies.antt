@@ -1,32 +1,30 @@
 -- Laws of specs/Input.antt: which test decides, and what an input that is not refused has shown. No contract cites this file.
 use Prim.Native.Nat.{ℕ, _-_}
-use mathlib.Core.Path.{_≡_, refl}
+use mathlib.Core.Path.{_≡_, sym, _∙_, ap, subst}
 use mathlib.Core.List.{List}
 use native.Mathlib.Omega.{arith}
 use lib.ListN.{length, take, drop, length-drop}
 use lib.Seq.{take-all}
-use Rattle.refusals.specs.Refusal.{replyOf}
 use Rattle.refusals.specs.Tests.{_then_}
+use Rattle.refusals.specs.declared.Refusal.{Refusal}
 use Rattle.refusals.specs.declared.Verdict.{Verdict}
 use Rattle.refusals.specs.declared.Verdict.the-variants.{Passed, Refused}
 use Rattle.refusals.proofs.Table.{reply-passed}
-use Rattle.refusals.proofs.Tests.{passed-then}
-use Rattle.netlist_tests.proofs.Acceptance.{passes-accepted}
-use Rattle.sheet_lines.specs.Depth.{depthVerdict}
-use Rattle.sheet_tests.specs.Codes.{CodesRead}
-use Rattle.sheet_steps.specs.declared.SheetAnswer.{SheetAnswer}
-use Rattle.program_input.specs.Input.{sheetIn, inputVerdict, SheetTaken}
-
--- a test that sends back a number has the last word
-refused-then : (v w : Verdict) → (replyOf v .number ≡ 0 → ⊥) → v then w ≡ v
-unfolding _then_
-refused-then Passed w n = absurd (n refl)
-refused-then (Refused r p) w n = refl
+use Rattle.refusals.proofs.Tests.{passed-then, then-passes}
+use Rattle.model.specs.Acceptance.{Accepted}
+use Rattle.netlist.specs.NetOf.{netOf}
+use Rattle.sheet_lines.specs.Depth.{depthVerdict, depthLine}
+use Rattle.sheet_lines.proofs.Depth.{passed-most}
+use Rattle.sheet_steps.specs.Steps.{Holds, ListsBeside}
+use Rattle.sheet_parse.specs.Files.{netIn}
+use Rattle.sheet_tests.proofs.Codes.{passed-sheet}
+use Rattle.program_input.specs.declared.Input.{Input}
+use Rattle.program_input.specs.Input.{sheetIn, inputVerdict, depthBeside, inputAnswer, InputTaken}
 
 -- the depth is refused
-pub depth-decides : (s : List ℕ) → (replyOf (depthVerdict s) .number ≡ 0 → ⊥) → inputVerdict s ≡ depthVerdict s
-unfolding inputVerdict
-depth-decides s n = refused-then (depthVerdict s) (sheetIn (drop 11 s)) n
+pub depth-decides : (s : List ℕ) {r : Refusal} {p : ℕ} → depthVerdict s ≡ Refused r p → inputVerdict s ≡ Refused r p
+unfolding inputVerdict _then_
+depth-decides s e = rw e
 
 -- or the sheet decides
 pub sheet-decides : (s : List ℕ) → depthVerdict s ≡ Passed → inputVerdict s ≡ sheetIn (drop 11 s)
@@ -37,9 +35,17 @@ sheet-decides s h = rw h (passed-then _)
 pub behind-depth : (s : List ℕ) → take (length s - 11) (drop 11 s) ≡ drop 11 s
 behind-depth s = take-all (length s - 11) (drop 11 s) (rw length-drop (omega arith))
 
--- a sheet that is read without a refusal
-pub sheet-taken : (file : List ℕ) (sheet : SheetAnswer) (latches gates : List ℕ) → CodesRead file 600 600 sheet latches gates
-    → replyOf (sheet .verdict) .number ≡ 0 → SheetTaken file (sheet .net) latches gates
-sheet-taken file sheet latches gates c h =
-    let passed = reply-passed (sheet .verdict) h in
-    record { net-is = c .holds passed .net-is; accepted = passes-accepted _ 600 600 .0 (c .accepted passed) .0 }
+-- an input that is not refused: its depth and its sheet have passed their tests
+pub input-taken : (s : List ℕ) (r : Input) (latches gates : List ℕ) → r ≡ inputAnswer s
+    → ListsBeside (inputVerdict s) (r .net) latches gates (netIn (drop 11 s)) → r .number ≡ 0 → InputTaken r latches gates
+unfolding inputAnswer depthBeside inputVerdict
+input-taken s r latches gates e lists none =
+    let passed : inputVerdict s ≡ Passed = reply-passed _ (sym (ap (λ (i : Input). i .number) e) ∙ none) in
+    let parts = then-passes (depthVerdict s) (sheetIn (drop 11 s)) .0 passed in
+    let held : Holds (r .net) latches gates (netIn (drop 11 s)) =
+    subst (λ (v : Verdict). ListsBeside v (r .net) latches gates (netIn (drop 11 s))) passed lists in
+    let depth : r .depth ≡ depthLine s .depth = ap (λ (i : Input). i .depth) e ∙ rw passed in
+    record {
+      accepted = rw (held .net-is) (passed-sheet (drop 11 s) 600 600 (parts .1) .0);
+      depth-most = omega (arith, depth, passed-most s (parts .0));
+    }

@@ -1,17 +1,18 @@
 -- What the program makes of its input (RULES P1, "a depth line of eleven bytes, .. then the sheet", and P4, "The depth is tested
--- first"). Cited by `read_sheet` and `read_input`.
+-- first"). Cited by the functions of `program_input`.
 use Prim.Native.Nat.{ℕ, _≤_}
-use mathlib.Core.Path.{_≡_}
 use mathlib.Core.List.{List}
 use lib.ListN.{drop}
 use Rattle.model.specs.Limits.{mostWires, mostDepth}
 use Rattle.model.specs.Acceptance.{Accepted}
+use Rattle.refusals.specs.Refusal.{replyOf}
 use Rattle.refusals.specs.Tests.{_then_}
 use Rattle.refusals.specs.declared.Verdict.{Verdict}
-use Rattle.refusals.specs.declared.Reply.{Reply}
+use Rattle.refusals.specs.declared.Verdict.the-variants.{Passed, Refused}
 use Rattle.netlist.specs.NetOf.{netOf}
 use Rattle.netlist.specs.declared.Netlist.{Netlist}
 use Rattle.sheet_lines.specs.Depth.{depthVerdict, depthLine}
+use Rattle.sheet_steps.specs.Records.{recordBeside}
 use Rattle.sheet_parse.specs.Files.{netIn}
 use Rattle.sheet_tests.specs.Sheet.{sheetVerdict}
 use Rattle.program_input.specs.declared.Input.{Input}
@@ -24,16 +25,25 @@ sheetIn file = sheetVerdict file mostWires mostWires
 unfoldable pub inputVerdict : List ℕ → Verdict
 inputVerdict s = depthVerdict s then sheetIn (drop 11 s)
 
-abbrev pub replyIn : Input → Reply
-replyIn r = record { number = r .number; place = r .place }
+-- the depth, 0 at a refusal
+abbrev pub depthBeside : Verdict → ℕ → ℕ
+depthBeside Passed k = k
+depthBeside (Refused r p) k = 0
 
--- a sheet that is taken: the record and the lists are what it says, and are an accepted netlist
-pub record SheetTaken (file : List ℕ) (net : Netlist) (latches gates : List ℕ) : Type 0 where
-  pub net-is : netOf net latches gates ≡ netIn file
-  pub accepted : Accepted (netOf net latches gates)
+-- a verdict's number and place, with the depth and a record beside them
+abbrev pub withDepthAndRecord : Verdict → ℕ → Netlist → Input
+withDepthAndRecord v k net =
+    record { number = replyOf v .number; place = replyOf v .place; depth = depthBeside v k; net = net }
 
--- an input that is taken: its depth, and the sheet behind it
-pub record InputTaken (s : List ℕ) (depth : ℕ) (net : Netlist) (latches gates : List ℕ) : Type 0 where
-  pub depth-is : depth ≡ depthLine s .depth
-  pub depth-most : depth ≤ mostDepth
-  pub sheet : SheetTaken (drop 11 s) net latches gates
+-- a sheet behind depth k
+unfoldable pub sheetInput : List ℕ → ℕ → Input
+sheetInput file k = withDepthAndRecord (sheetIn file) k (recordBeside (sheetIn file) (netIn file))
+
+-- an input: where anything is refused, the depth and the record are all zeros
+unfoldable pub inputAnswer : List ℕ → Input
+inputAnswer s = withDepthAndRecord (inputVerdict s) (depthLine s .depth) (recordBeside (inputVerdict s) (netIn (drop 11 s)))
+
+-- an input that is not refused: an accepted netlist, and a depth within its limit
+pub record InputTaken (r : Input) (latches gates : List ℕ) : Type 0 where
+  pub accepted : Accepted (netOf (r .net) latches gates)
+  pub depth-most : r .depth ≤ mostDepth

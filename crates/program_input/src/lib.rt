@@ -1,12 +1,16 @@
 // The program's input: a depth line and a sheet (RULES P1, P4 and P5).
 use netlist::Netlist;
 use netlist::UnpackedList;
+use refusals::Verdict;
 ghost use mathlib.Core.Path.{_≡_};
+ghost use lib.ListN.{drop};
+ghost use Rattle.sheet_steps.specs.Steps.{ListsBeside};
+ghost use Rattle.sheet_parse.specs.Files.{netIn};
 ghost use Rattle.sheet_tests.specs.Scratch.{noCodes};
-ghost use Rattle.refusals.specs.Refusal.{replyOf};
-ghost use Rattle.program_input.specs.Input.{sheetIn, inputVerdict, replyIn, SheetTaken, InputTaken};
+ghost use Rattle.program_input.specs.Input.{sheetIn, inputVerdict, depthBeside, withDepthAndRecord, sheetInput, inputAnswer, InputTaken};
 
-// What an input is read as: a refusal's number and place (both 0 where it is taken), the depth, and the sheet's record.
+// What an input is read as: a refusal's number and place (both 0 where it is taken), the depth, and the sheet's record. The depth and
+// the record are all zeros at a refusal.
 pub struct Input {
     pub number: u32,
     pub place: u32,
@@ -14,7 +18,30 @@ pub struct Input {
     pub net: Netlist,
 }
 
-// Reads the sheet behind an accepted depth line.
+// The depth beside a verdict: 0 at a refusal.
+fn depth_beside(verdict: Verdict, depth: u32) -> u32
+    ensures { λ r. ⌜ r ≡ depthBeside verdict depth ⌝ }
+{
+    match verdict {
+        Verdict::Passed => depth,
+        Verdict::Refused(_, _) => 0,
+    }
+}
+
+// A verdict as number and place, with the depth and a record beside them.
+fn answer(verdict: Verdict, depth: u32, net: Netlist) -> Input
+    ensures { λ r. ⌜ r ≡ withDepthAndRecord verdict depth net ⌝ }
+{
+    let reply = refusals::reply_of(verdict);
+    Input {
+        number: reply.number,
+        place: reply.place,
+        depth: depth_beside(verdict, depth),
+        net,
+    }
+}
+
+// Reads the sheet behind an accepted depth line. After a refusal the lists are scratch.
 fn read_sheet(
     file: &[u8],
     depth: u32,
@@ -22,38 +49,27 @@ fn read_sheet(
     gates: &mut UnpackedList,
 ) -> Input
     requires { ⌜ (now latches ≡ noCodes) × (now gates ≡ noCodes) ⌝ }
-    ensures reply { λ r. ⌜ replyIn r ≡ replyOf (sheetIn (now (file .entry))) ⌝ }
-    ensures depth { λ r. ⌜ r .depth ≡ depth ⌝ }
-    ensures taken { λ r. ⌜ (r .number ≡ 0 → SheetTaken (now (file .entry)) (r .net) (now (latches .exit)) (now (gates .exit))) ⌝ }
+    ensures answer { λ r. ⌜ r ≡ sheetInput (now (file .entry)) depth ⌝ }
+    ensures lists { λ r. ⌜ ListsBeside (sheetIn (now (file .entry))) (r .net) (now (latches .exit)) (now (gates .exit)) (netIn (now (file .entry))) ⌝ }
 {
     let sheet = sheet_tests::read_codes(file, 0, netlist::empty_net(), 600, 600, latches, gates);
     let verdict = sheet.verdict;
     let net = sheet.net;
-    let reply = refusals::reply_of(verdict);
-    Input {
-        number: reply.number,
-        place: reply.place,
-        depth,
-        net,
-    }
+    answer(verdict, depth, net)
 }
 
-// Reads an input: the depth is tested first. Where it is taken, the sheet's codes are in the lists.
+// Reads an input: the depth is tested first. Where it is taken, the sheet's codes are in the lists; after a refusal the lists are
+// scratch.
 pub fn read_input(input: &[u8], latches: &mut UnpackedList, gates: &mut UnpackedList) -> Input
     requires { ⌜ (now latches ≡ noCodes) × (now gates ≡ noCodes) ⌝ }
-    ensures reply { λ r. ⌜ replyIn r ≡ replyOf (inputVerdict (now (input .entry))) ⌝ }
-    ensures taken { λ r. ⌜ (r .number ≡ 0 → InputTaken (now (input .entry)) (r .depth) (r .net) (now (latches .exit)) (now (gates .exit))) ⌝ }
+    ensures answer { λ r. ⌜ r ≡ inputAnswer (now (input .entry)) ⌝ }
+    ensures lists { λ r. ⌜ ListsBeside (inputVerdict (now (input .entry))) (r .net) (now (latches .exit)) (now (gates .exit)) (netIn (drop 11 (now (input .entry)))) ⌝ }
+    ensures taken { λ r. ⌜ (r .number ≡ 0 → InputTaken r (now (latches .exit)) (now (gates .exit))) ⌝ }
 {
     let line = sheet_lines::read_depth(input);
     let verdict = line.verdict;
-    let reply = refusals::reply_of(verdict);
-    if reply.number == 0 {
-        return read_sheet(&input[11..], line.depth, latches, gates);
+    if let Verdict::Refused(_, _) = verdict {
+        return answer(verdict, 0, netlist::empty_net());
     }
-    Input {
-        number: reply.number,
-        place: reply.place,
-        depth: 0,
-        net: netlist::empty_net(),
-    }
+    read_sheet(&input[11..], line.depth, latches, gates)
 }

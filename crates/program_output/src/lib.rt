@@ -3,6 +3,7 @@ use group_order::order::Next;
 use model::Group;
 use netlist::Netlist;
 use netlist::UnpackedList;
+ghost use mathlib.Core.Path.{_≡_};
 ghost use Prim.Native.Nat.{_≤_};
 ghost use lib.ListN.{length};
 ghost use Rattle.model.specs.Acceptance.{Accepted};
@@ -44,8 +45,8 @@ pub fn print_header(
     print_counts(text, variables, clauses)
 }
 
-// Prints a group of an accepted netlist: its numbers, and from them its text. No group has more than 5,992 numbers, and no number
-// more than twelve bytes with the one behind it.
+// Prints a group of an accepted netlist: its numbers into scratch, and from them its text. No group has more than 5,992 numbers, and
+// no number more than twelve bytes with the one behind it.
 fn print_group(
     text: &mut [u8],
     numbers: &mut [i32],
@@ -59,12 +60,14 @@ fn print_group(
     requires { ⌜ Accepted (netOf net (now latches) (now gates)) × (depth ≤ 255) × OrderHas depth group
         × TableOrNone (now table) × (5992 ≤ length (now numbers)) × (71904 ≤ length (now text)) ⌝ }
     ensures { λ r. ⌜ Wrote (clauseText (numbersOf (netOf net (now (latches .entry)) (now (gates .entry))) depth group)) (now (text .entry)) (now (text .exit)) r × (r ≤ 71904) ⌝ }
+    ensures scratch { λ _. ⌜ length (now (numbers .exit)) ≡ length (now (numbers .entry)) ⌝ }
 {
     let count = groups::put_group(numbers, net, latches, gates, depth, group);
     dimacs::write_numbers(text, &numbers[..count], table)
 }
 
-// Prints groups from `group` on, in the order of the whole, until the next might not fit.
+// Prints groups from `group` on, in the order of the whole, until the next might not fit. `numbers` is scratch, as it is for each
+// group: nothing is said of what it holds.
 pub fn print_groups(
     text: &mut [u8],
     numbers: &mut [i32],
@@ -77,9 +80,10 @@ pub fn print_groups(
 ) -> Piece
     requires { ⌜ Accepted (netOf net (now latches) (now gates)) × (depth ≤ 255) × OrderHas depth group
         × TableOrNone (now table) × (5992 ≤ length (now numbers)) × (71904 ≤ length (now text)) ⌝ }
-    ensures text { λ r. ⌜ Continues (netOf net (now (latches .entry)) (now (gates .entry))) depth group (now (text .entry)) (now (text .exit)) (r .bytes) (r .next) ⌝ }
+    ensures text { λ r. ⌜ Continues (netOf net (now (latches .entry)) (now (gates .entry))) depth group (now (text .entry)) (now (text .exit)) r ⌝ }
     ensures ends { λ r. ⌜ remainingFrom depth (r .next) ≤ remainingAfter depth group ⌝ }
     ensures within { λ r. ⌜ r .bytes ≤ length (now (text .entry)) ⌝ }
+    ensures scratch { λ _. ⌜ length (now (numbers .exit)) ≡ length (now (numbers .entry)) ⌝ }
 {
     let last = text.len() - 71904;
     let mut bytes = 0;

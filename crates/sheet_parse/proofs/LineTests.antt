@@ -39,6 +39,7 @@ use Rattle.sheet_steps.specs.LineFaults.{faultsAt}
 use Rattle.sheet_steps.specs.Steps.{stepNet, stepVerdict, SizesKnown, Outcome}
 use Rattle.sheet_parse.specs.Progress.{netTo, ReadTo}
 use Rattle.sheet_steps.proofs.Places.{placeOf, place-lineAt}
+use Rattle.sheet_steps.proofs.Records.{outcome-same, outcome-passed}
 use Rattle.sheet_parse.proofs.Files.{stored-next, lineAt-in, controlLine-in, sizes-to, due-to, past-to, sizeFault-to, codeFault-to, netTo-all, WholeLines}
 
 -- within the last line and of the kind due, or else past it or unlike
@@ -149,12 +150,8 @@ pub outcome-next : (file : List ℕ) (p : ℕ) (r : Netlist) (latches gates : Li
     → Outcome sheet newLatches newGates (stepVerdict (netOf r latches gates) kind x y z (p + 1)) (stepNet (netOf r latches gates) x y z (p + 1))
     → Outcome sheet newLatches newGates (testLineIn (netIn file) file (p + 1)) (netTo file (p + 1))
 outcome-next file p r latches gates read kind x y z e sheet newLatches newGates o =
-    let q : Outcome sheet newLatches newGates (stepVerdict (netTo file p) kind x y z (p + 1)) (stepNet (netTo file p) x y z (p + 1)) = rw (read .holds .net-is) at o in
-    record {
-      verdict-is = q .verdict-is ∙ step-next file p kind x y z e;
-      holds = λ passed.
-          rw (stepNet-next file p kind x y z e (within-last (netIn file) file (p + 1) passed)) at (q .holds (step-next file p kind x y z e ∙ passed));
-    }
+    outcome-same (testLineIn (netIn file) file (p + 1)) (step-next file p kind x y z e)
+    (λ passed. stepNet-next file p kind x y z e (within-last (netIn file) file (p + 1) passed)) (rw (read .holds .net-is) at o)
 
 -- the tests of places in their order, one place more
 module _ (test : ℕ → Verdict) (p : ℕ) (h : inOrder test p ≡ Passed) where
@@ -171,7 +168,4 @@ module _ (test : ℕ → Verdict) (p : ℕ) (h : inOrder test p ≡ Passed) wher
 pub outcome-all : (file : List ℕ) (p : ℕ) (r : Netlist) (latches gates : List ℕ) → WholeLines file → p ≡ lineCount file → ReadTo file p r latches gates
     → Outcome (record { verdict = Passed; net = r }) latches gates (inOrder (testLineIn (netIn file) file) (lineCount file)) (netIn file)
 outcome-all file p r latches gates h e read =
-    record {
-      verdict-is = sym (rw (← e) (read .passed));
-      holds = λ passed. rw (e, netTo-all file (h .whole)) at (read .holds);
-    }
+    outcome-passed latches gates (netIn file) r (rw (e, netTo-all file (h .whole)) at (read .holds)) (rw (← e) (read .passed))

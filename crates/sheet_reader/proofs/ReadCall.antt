@@ -25,6 +25,7 @@ use Rattle.netlist_tests.proofs.Acceptance.{passes-accepted}
 use Rattle.sheet_steps.specs.declared.SheetAnswer.{SheetAnswer}
 use Rattle.netlist.specs.RecordOf.{codeEntry, recordOf}
 use Rattle.sheet_steps.specs.Records.{recordBeside}
+use Rattle.sheet_steps.proofs.Records.{verdict-is, record-is, holds}
 use Rattle.sheet_parse.specs.Files.{netIn}
 use Rattle.sheet_tests.specs.Sheet.{sheetVerdict}
 use Rattle.sheet_tests.specs.Codes.{CodesRead}
@@ -132,8 +133,8 @@ module _ (file : List ℕ) (latches : List Latch) (gates : List Gate) where
         by-verdict : (v : Verdict) → sheetVerdict file (length latches) (length gates) ≡ v → Deliverable
         by-verdict Passed e =
             let parts = passed-sheet file (length latches) (length gates) e in
-            rw (codes .record-is, e) ((parts .0 .limits .sizes .latches-fit, parts .1), (parts .0 .limits .sizes .gates-fit, parts .2))
-        by-verdict (Refused r p) e = rw (codes .record-is, e) ((omega arith, omega arith), (omega arith, omega arith))
+            rw (record-is codes, e) ((parts .0 .limits .sizes .latches-fit, parts .1), (parts .0 .limits .sizes .gates-fit, parts .2))
+        by-verdict (Refused r p) e = rw (record-is codes, e) ((omega arith, omega arith), (omega arith, omega arith))
 
     pub reads : Reads sheet (delivered (sheet .net .latches) (latchAt latchList) latches)
         (delivered (sheet .net .gates) (gateAt gateList) gates)
@@ -145,15 +146,15 @@ module _ (file : List ℕ) (latches : List Latch) (gates : List Gate) where
             (delivered (sheet .net .gates) (gateAt gateList) gates)
         by-verdict Passed e =
             let parts = passed-sheet file (length latches) (length gates) e in
-            let held = codes .holds (codes .verdict-is ∙ e) .net-is in
-            let net : sheet .net ≡ recordOf (netIn file) = codes .record-is ∙ rw e in
+            let held = holds codes e .net-is in
+            let net : sheet .net ≡ recordOf (netIn file) = record-is codes ∙ rw e in
             let newLatches : delivered (sheet .net .latches) (latchAt latchList) latches ≡ delivered (netIn file .latches)
             (latchOf (netIn file)) latches = rw (← held) in
             let newGates : delivered (sheet .net .gates) (gateAt gateList) gates ≡ delivered (netIn file .gates)
             (gateOf (netIn file)) gates = rw (← held) in (
-              ap replyOf (codes .verdict-is),
+              ap replyOf (verdict-is codes),
               (
-                codes .record-is,
+                record-is codes,
                 (
                   rw e newLatches,
                   (
@@ -168,20 +169,20 @@ module _ (file : List ℕ) (latches : List Latch) (gates : List Gate) where
               ),
             )
         by-verdict (Refused r p) e =
-            let net : sheet .net ≡ recordBeside (Refused r p) (netIn file) = codes .record-is ∙ rw e in
+            let net : sheet .net ≡ recordBeside (Refused r p) (netIn file) = record-is codes ∙ rw e in
             let noLatch : delivered (sheet .net .latches) (latchAt latchList) latches ≡ latches =
             rw net (delivered-none (latchAt latchList) latches) in
             let noGate : delivered (sheet .net .gates) (gateAt gateList) gates ≡ gates =
             rw net (delivered-none (gateAt gateList) gates) in
             let kept = lists-kept e in (
-              ap replyOf (codes .verdict-is),
+              ap replyOf (verdict-is codes),
               (
-                codes .record-is,
+                record-is codes,
                 (
                   noLatch ∙ kept .0,
                   (
                     noGate ∙ kept .1,
-                    (λ q. absurd (refused-not-passed (sym e ∙ (sym (codes .verdict-is) ∙ reply-passed (sheet .verdict) q))), paths),
+                    (λ q. absurd (refused-not-passed (sym e ∙ (sym (verdict-is codes) ∙ reply-passed (sheet .verdict) q))), paths),
                   ),
                 ),
               ),

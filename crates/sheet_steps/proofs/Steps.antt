@@ -10,11 +10,8 @@ use lib.Dec.{eqb, ltb}
 use lib.ListN.{length, getD, set}
 use lib.Seq.{getD-set-same, getD-set-other}
 use borrow.Author.Tests.{eq-eqb, ne-eqb}
-use Rattle.refusals.specs.declared.Refusal.{Refusal}
 use Rattle.refusals.specs.declared.Refusal.the-variants.{OutOfOrder}
-use Rattle.refusals.specs.declared.Verdict.{Verdict}
 use Rattle.refusals.specs.declared.Verdict.the-variants.{Refused}
-use Rattle.refusals.proofs.Tests.{refused-not-passed}
 use Rattle.literals.specs.declared.Code.{Code}
 use Rattle.model.specs.Netlist as M
 use Rattle.model.specs.Agree.{sizesOf, SameSizes}
@@ -27,8 +24,7 @@ use Rattle.netlist.proofs.PutNumbers.{length-putNumbers, firstAt-putNumbers, se
 use Rattle.netlist.specs.declared.Netlist.{Netlist}
 use Rattle.netlist.specs.declared.Line.the-variants.{Latch, Gate}
 use Rattle.sheet_steps.specs.Due.{kindDue}
-use Rattle.sheet_steps.specs.declared.SheetAnswer.{SheetAnswer}
-use Rattle.sheet_steps.specs.Steps.{stored, stepNet, stepVerdict, SizesKnown, FullLength, Holds, Outcome}
+use Rattle.sheet_steps.specs.Steps.{stored, stepNet, stepVerdict, SizesKnown, FullLength, Holds}
 use Rattle.sheet_steps.specs.LineFaults.{faultsAt}
 use Rattle.sheet_steps.proofs.Places.{codes-from-3, lineAt-known}
 use Rattle.refusals.specs.Tests.{_then_}
@@ -109,9 +105,3 @@ module _ (c : M.Netlist) (kind : Kind) (p : ℕ) where
     pub step-due : outOfOrder ≡ false → stepVerdict c kind x y z p ≡ faultsAt (stepNet c x y z p) (lineAt c p) p
     unfolding stepVerdict _then_
     step-due h = rw h
-
--- a refusal's record and lists need hold nothing
-pub outcome-refused : {sheet : SheetAnswer} {v : Verdict} {r : Refusal} {p : ℕ} (latches gates : List ℕ) (c : M.Netlist)
-    → sheet .verdict ≡ Refused r p → v ≡ Refused r p → Outcome sheet latches gates v c
-outcome-refused latches gates c told e =
-    record { verdict-is = told ∙ sym e; holds = λ passed. absurd (refused-not-passed (sym e ∙ passed)) }

@@ -1,5 +1,5 @@
--- The record returned beside a verdict (RULES T43, "a record that is returned beside them is all zeros"). Cited by `refused`,
--- sheet_tests/specs/Codes and sheet_reader/specs/ReadCall.
+-- What a sheet is answered with beside a verdict (RULES T43, "a record that is returned beside them is all zeros"). Cited by `refused`,
+-- sheet_steps/specs/Steps and sheet_reader/specs/ReadCall.
 use Prim.Native.Nat.{ℕ}
 use Rattle.model.specs.Netlist as M
 use Rattle.refusals.specs.declared.Refusal.{Refusal}
@@ -9,10 +9,14 @@ use Rattle.netlist.specs.RecordOf.{recordOf, noNetlist}
 use Rattle.netlist.specs.declared.Netlist.{Netlist}
 use Rattle.sheet_steps.specs.declared.SheetAnswer.{SheetAnswer}
 
--- the netlist's where nothing is refused
+-- the netlist's record where nothing is refused, all zeros where something is
 unfoldable pub recordBeside : Verdict → M.Netlist → Netlist
 recordBeside Passed c = recordOf c
 recordBeside (Refused r p) c = recordOf noNetlist
+
+-- a verdict with its record
+abbrev pub sheetAnswer : Verdict → M.Netlist → SheetAnswer
+sheetAnswer v c = record { verdict = v; net = recordBeside v c }
 
 -- a refusal with its record
 abbrev pub refusedAt : Refusal → ℕ → SheetAnswer

@@ -1,5 +1,5 @@
 -- What one line more does: its numbers put into the netlist read so far, and its tests there. Cited by the functions that take one
--- line more, sheet_parse/specs/Progress, sheet_tests/specs/Scratch and sheet_tests/specs/Codes.
+-- line more, by those that read a whole file, sheet_parse/specs/Progress and sheet_tests/specs/Scratch.
 use Prim.Native.Nat.{ℕ, _≤_}
 use mathlib.Core.Path.{_≡_}
 use mathlib.Core.Bool.{cond, not, _||_}
@@ -9,7 +9,7 @@ use lib.ListN.{length}
 use Rattle.refusals.specs.Tests.{refuseIf, _then_}
 use Rattle.refusals.specs.declared.Refusal.the-variants.{OutOfOrder}
 use Rattle.refusals.specs.declared.Verdict.{Verdict}
-use Rattle.refusals.specs.declared.Verdict.the-variants.{Passed}
+use Rattle.refusals.specs.declared.Verdict.the-variants.{Passed, Refused}
 use Rattle.literals.specs.declared.Code.{Code}
 use Rattle.model.specs.Netlist.{Netlist}
 use Rattle.model.specs.Acceptance.{SizesFit}
@@ -24,6 +24,7 @@ use Rattle.sheet_steps.specs.declared.SheetAnswer.{SheetAnswer}
 use Rattle.sheet_steps.specs.Due.{kindDue}
 use Rattle.sheet_steps.specs.LineIndex.{sameLine}
 use Rattle.sheet_steps.specs.LineFaults.{faultsAt}
+use Rattle.sheet_steps.specs.Records.{sheetAnswer}
 
 -- a number that stands in line `at`, where line `due` is read: the new one if it is that line, else the old one
 abbrev pub numberAfter : Line → Line → ℕ → ℕ → ℕ
@@ -78,10 +79,19 @@ stepVerdict c kind x y z p =
     refuseIf (ltb (controlLine c) p || not (eqb (rowOf kind) (rowOf (kindDue (lineAt c p))))) OutOfOrder p
     then faultsAt (stepNet c x y z p) (lineAt c p) p
 
--- a verdict v, and where it is Passed a record and lists that hold c
+-- lists that were lent to be used up: nothing is said of what they hold
+abbrev pub Scratch : List ℕ → List ℕ → Type 0
+Scratch latches gates = Unit {0}
+
+-- what the lists hold beside a verdict: with the record they stand for c; after a refusal they are scratch
+abbrev pub ListsBeside : Verdict → R.Netlist → List ℕ → List ℕ → Netlist → Type 0
+ListsBeside Passed r latches gates c = Holds r latches gates c
+ListsBeside (Refused w p) r latches gates c = Scratch latches gates
+
+-- the answer with verdict v and netlist c, and the lists beside it
 pub record Outcome (sheet : SheetAnswer) (latches gates : List ℕ) (v : Verdict) (c : Netlist) : Type 0 where
-  pub verdict-is : sheet .verdict ≡ v
-  pub holds : v ≡ Passed → Holds (sheet .net) latches gates c
+  pub answer-is : sheet ≡ sheetAnswer v c
+  pub lists-are : ListsBeside v (sheet .net) latches gates c
 
 -- from line 3 on the sizes are known to be within their limits
 abbrev pub SizesKnown : Netlist → ℕ → Type 0

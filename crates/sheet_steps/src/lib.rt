@@ -190,7 +190,8 @@ fn test_stored(
     Verdict::Passed
 }
 
-// A line that was read, taken for the line due: refusals 3, 4 and 5, and its numbers put into the record and the lists.
+// A line that was read, taken for the line due: refusals 3, 4 and 5, and its numbers put into the record and the lists. After a
+// refusal the lists are scratch: they may hold the refused line.
 pub fn take_line(
     net: Netlist,
     latches: &mut UnpackedList,
@@ -210,5 +211,8 @@ pub fn take_line(
     }
     let next = store(net, latches, gates, due, first, second, third);
     let verdict = test_stored(next, latches, gates, due, place);
+    if let Verdict::Refused(refusal, at) = verdict {
+        return refused(refusal, at);
+    }
     SheetAnswer { verdict, net: next }
 }

@@ -1,6 +1,6 @@
 -- What a reader returns and leaves in its own lists (specs/Codes.antt), by which of its tests refuses. Cited by the reader.
 use Prim.Native.Nat.{ℕ, _+_, _≤_}
-use mathlib.Core.Path.{_≡_, sym, _∙_, ap}
+use mathlib.Core.Path.{_≡_, _∙_, ap}
 use mathlib.Core.Bool.{Bool, true, false}
 use mathlib.Core.List.{List}
 use native.Mathlib.Omega.{arith}
@@ -10,7 +10,7 @@ use Rattle.refusals.specs.Tests.{refuseIf, _then_, inOrder}
 use Rattle.refusals.specs.declared.Refusal.{Refusal}
 use Rattle.refusals.specs.declared.Refusal.the-variants.{Ragged, OutOfOrder, MemoryLoop, NoRoom}
 use Rattle.refusals.specs.declared.Verdict.the-variants.{Passed, Refused}
-use Rattle.refusals.proofs.Tests.{refused-not-passed, refuseIf-passes, then-passes, passed-then}
+use Rattle.refusals.proofs.Tests.{refuseIf-passes, then-passes, passed-then}
 use Rattle.model.specs.Netlist as M
 use Rattle.model.specs.Acceptance.{Accepted}
 use Rattle.netlist.specs.NetOf.{netOf}
@@ -19,18 +19,17 @@ use Rattle.netlist.specs.Faults.{codeFault, loopFault}
 use Rattle.netlist.specs.declared.Netlist.{Netlist}
 use Rattle.netlist.proofs.Places.{every-place}
 use Rattle.netlist.proofs.Faults.{Without, codes-fit, no-loop}
-use Rattle.netlist_tests.specs.Record.{testLoops, listsShort}
+use Rattle.netlist_tests.specs.Record.{testLoops, listsShort, recordVerdict}
 use Rattle.netlist_tests.proofs.Record.{testLines-passes}
 use Rattle.netlist_tests.proofs.Acceptance.{lists-long, passes-accepted}
-use Rattle.netlist.specs.RecordOf.{recordOf}
-use Rattle.sheet_steps.specs.Records.{recordBeside, refusedAt}
-use Rattle.sheet_steps.specs.Steps.{FullLength, Holds}
+use Rattle.sheet_steps.specs.Steps.{Holds}
+use Rattle.sheet_steps.specs.declared.SheetAnswer.{SheetAnswer}
+use Rattle.sheet_steps.proofs.Records.{holds}
 use Rattle.sheet_parse.specs.Files.{lineCount, netIn}
 use Rattle.sheet_parse.specs.FileTests.{ragged, testLineIn}
 use Rattle.sheet_parse.proofs.LineTests.{line-passed, sizes-passed}
 use Rattle.sheet_tests.specs.Sheet.{endVerdict, fileVerdict, sheetVerdict}
 use Rattle.sheet_tests.specs.Codes.{CodesRead}
-use Rattle.sheet_tests.proofs.Lists.{gather-all}
 
 -- the file's netlist, where all tests of the file pass
 module _ (file : List ℕ) (passed : fileVerdict file ≡ Passed) where
@@ -70,25 +69,6 @@ module _ (file : List ℕ) (passed : fileVerdict file ≡ Passed) where
         noLoop = no-loop (netIn file) .0 (testLines-passes (netIn file) MemoryLoop loopFault .0 (end-passes .1));
       }
 
--- a record of full length is the record of the netlist that it stands for
-record-of : (r : Netlist) (latches gates : List ℕ) → FullLength (r .address) (r .«write_data») latches gates
-    → r ≡ recordOf (netOf r latches gates)
-unfolding recordOf netOf
-record-of r latches gates full =
-    λ i. record {
-      inputs = r .inputs;
-      latches = r .latches;
-      gates = r .gates;
-      m = r .m;
-      n = r .n;
-      «initial_word» = r .«initial_word»;
-      address = sym (gather-all (r .address) 12 (full .address-codes)) i;
-      «write_data» = sym (gather-all (r .«write_data») 32 (full .data-codes)) i;
-      we = r .we;
-      re = r .re;
-      p = r .p;
-    }
-
 -- the list sizes in a record
 pub sizes-held : (r : Netlist) (latches gates : List ℕ) {c : M.Netlist} → Holds r latches gates c
     → (r .latches ≡ c .latches) × (r .gates ≡ c .gates)
@@ -115,7 +95,7 @@ module _ (file : List ℕ) (latchRoom gateRoom : ℕ) where
   pub sheet-short : fileVerdict file ≡ Passed → short ≡ true → sheetVerdict file latchRoom gateRoom ≡ Refused NoRoom 0
   sheet-short e h = by-room e ∙ rw h
 
-  sheet-passed : fileVerdict file ≡ Passed → short ≡ false → sheetVerdict file latchRoom gateRoom ≡ Passed
+  pub sheet-passed : fileVerdict file ≡ Passed → short ≡ false → sheetVerdict file latchRoom gateRoom ≡ Passed
   sheet-passed e h = by-room e ∙ rw h
 
   -- what the verdict Passed says
@@ -127,28 +107,8 @@ module _ (file : List ℕ) (latchRoom gateRoom : ℕ) where
       let long = lists-long (netIn file) latchRoom gateRoom .0 (refuseIf-passes short NoRoom 0 .0 (parts .1)) in
       (accepted-in file (parts .0), long .0, long .1)
 
-  -- at a refusal: a record of zeros
-  pub codes-refused : {r : Refusal} {p : ℕ} → sheetVerdict file latchRoom gateRoom ≡ Refused r p → (latches gates : List ℕ)
-      → CodesRead file latchRoom gateRoom (refusedAt r p) latches gates
-  unfolding recordBeside
-  codes-refused e latches gates =
-      record {
-        verdict-is = sym e;
-        record-is = rw e;
-        holds = λ q. absurd (refused-not-passed q);
-        accepted = λ q. absurd (refused-not-passed q);
-      }
-
-  -- on success: the record and the lists that hold the file's netlist
-  pub codes-passed : (r : Netlist) (latches gates : List ℕ) → Holds r latches gates (netIn file) → fileVerdict file ≡ Passed
-      → short ≡ false
-      → CodesRead file latchRoom gateRoom (record { verdict = Passed; net = r }) latches gates
-  unfolding recordBeside
-  codes-passed r latches gates held e room =
-      let passed = sheet-passed e room in
-      record {
-        verdict-is = sym passed;
-        record-is = rw (passed, ← held .net-is) (record-of r latches gates (held .full));
-        holds = λ _. held;
-        accepted = λ _. rw (held .net-is) (passes-accepted (netIn file) latchRoom gateRoom .1 (passed-sheet passed));
-      }
+  -- and what it says of the record and the lists: no test of records refuses them
+  pub passed-record : {sheet : SheetAnswer} (latches gates : List ℕ) → CodesRead file latchRoom gateRoom sheet latches gates
+      → sheetVerdict file latchRoom gateRoom ≡ Passed → recordVerdict (netOf (sheet .net) latches gates) latchRoom gateRoom ≡ Passed
+  passed-record latches gates codes e =
+      rw (holds codes e .net-is) (passes-accepted (netIn file) latchRoom gateRoom .1 (passed-sheet e))

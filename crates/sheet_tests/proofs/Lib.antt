@@ -1,4 +1,3 @@
 pub mod Scratch
 pub mod Verdicts
-pub mod Lists
 pub mod Codes

@@ -38,7 +38,7 @@ fn test_end(net: Netlist, gates: &UnpackedList, count: u32) -> Verdict
 }
 
 // The tests of a file from `line` on, which is how many lines are read already, into `net` and the lists. Where it passes, its codes
-// are in the lists and the rest in the record.
+// are in the lists and the rest in the record; after a refusal the lists are scratch.
 fn test_file(
     file: &[u8],
     line: u32,
@@ -59,14 +59,15 @@ fn test_file(
     }
     let net = sheet.net;
     let count = (file.len() / 32) as u32;
-    SheetAnswer {
-        verdict: test_end(net, gates, count),
-        net,
+    let ended = test_end(net, gates, count);
+    if let Verdict::Refused(refusal, place) = ended {
+        return sheet_steps::refused(refusal, place);
     }
+    sheet
 }
 
 // Reads a sheet from `line` on, which is how many lines are read already, for lists that have room for so many records: its record,
-// and its codes into unpacked lists.
+// and its codes into unpacked lists, which are scratch after a refusal.
 pub fn read_codes(
     file: &[u8],
     line: u32,
@@ -81,15 +82,12 @@ pub fn read_codes(
 {
     let sheet = test_file(file, line, net, latches, gates);
     let tested = sheet.verdict;
-    if let Verdict::Refused(refusal, place) = tested {
-        return sheet_steps::refused(refusal, place);
+    if let Verdict::Refused(_, _) = tested {
+        return sheet;
     }
     let net = sheet.net;
     if (latch_room < net.latches as usize) | (gate_room < net.gates as usize) {
         return sheet_steps::refused(Refusal::NoRoom, 0);
     }
-    SheetAnswer {
-        verdict: Verdict::Passed,
-        net,
-    }
+    sheet
 }

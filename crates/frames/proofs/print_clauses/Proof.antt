@@ -1,7 +1,8 @@
 -- `frames::print_clauses` meets its contract. The loop's invariant: what comes next stands in the order of the whole. Each piece
 -- leaves fewer groups, so the loop ends.
 use Prim.Native.Nat.{_≤_}
-use mathlib.Core.Path.{_≡_, sym, _∙_}
+use mathlib.Core.Path.{_≡_, refl, sym, _∙_}
+use mathlib.Core.List.{[]}
 use native.Mathlib.Omega.{arith}
 use borrow.Author.Needs.{needs}
 use lib.ListN.{length}
@@ -32,7 +33,7 @@ first-group-requires c κs = search needs
 loop-holds : tie.Need-loop-holds Inv-loop μ-loop
 loop-holds c =
     let filled = c .before .before .fill-table in
-    (search needs, search needs, filled-table _ _ (search needs) (filled .ensures), orderHas-first _ _ (c .first-group .ensures))
+    (search needs, search needs, filled-table _ _ (search needs) (filled .ensures), orderHas-first _ [] _ _ refl (c .first-group .ensures))
 
 enum-known-next : tie.Need-enum-known-next Inv-loop μ-loop
 enum-known-next c = search needs
@@ -54,7 +55,7 @@ print-groups-requires c κs =
 
 -- the text is within its buffer
 within : (c : tie.After-print-groups Inv-loop μ-loop) → c .print-groups .result .bytes ≤ length (c .print-groups .last .0)
-within c = omega (arith, c .print-groups .ensures .1 .1, c .print-groups .kept .0)
+within c = omega (arith, c .print-groups .ensures .1 .1 .0, c .print-groups .kept .0)
 
 array-share-prefix-text : tie.Need-array-share-prefix-text Inv-loop μ-loop
 array-share-prefix-text c = within (c .before .before)
@@ -82,7 +83,7 @@ loop-again c =
       printed .kept .0 ∙ at .inv .0,
       printed .kept .1 .0 ∙ at .inv .1,
       at .inv .2,
-      orderHas-next _ _ _ _ _ _ _ has (printed .ensures .0),
+      orderHas-next _ _ _ _ _ _ has (printed .ensures .0),
     )
 
 enum-told : tie.Need-enum-told Inv-loop μ-loop

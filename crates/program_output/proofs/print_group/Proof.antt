@@ -54,7 +54,7 @@ returns : tie.Need-returns
 returns c =
     let p = c .before .before .before .before .before .before .before .before .before .before .pre in
     let w = rw (front (c .before .before .before .before .before .before)) at (c .before .before .write-numbers .ensures) in
-    (w, omega (arith, w .counted, text-most _ _ _ (p .0) (p .1) (p .2)))
+    ((w, omega (arith, w .counted, text-most _ _ _ (p .0) (p .1) (p .2))), search needs)
 
 pub print-group-spec : {M : Type 1} → statement M
 print-group-spec =

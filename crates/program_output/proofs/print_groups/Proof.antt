@@ -14,8 +14,7 @@ use Rattle.netlist.specs.NetOf.{netOf}
 use Rattle.group_order.specs.Next.{firstGroup, remainingFrom}
 use Rattle.group_order.specs.declared.order.Next.{Next}
 use Rattle.group_order.specs.declared.order.Next.the-variants.{Then}
-use Rattle.program_output.specs.Pieces.{Printed}
-use Rattle.program_output.proofs.Pieces.{printed-nothing, orderHas-due, printed-next}
+use Rattle.program_output.proofs.Pieces.{SoFar, nothing-yet, orderHas-due, one-more, all-full, all-end}
 use Rattle.program_output.proofs.print_groups.Statement.{statement}
 use Rattle.program_output.proofs.print_groups.Tie as tie
 
@@ -35,7 +34,7 @@ abbrev Inv-loop : tie.InvT-loop
 Inv-loop text₀ numbers₀ table net latches gates depth last bytes₀ next₀ text numbers bytes next =
     (bytes ≤ length text) × (length text ≡ length text₀) × (length numbers ≡ length numbers₀)
     × ((before from : List Group) → groupOrder depth ≡ before ++ from → next₀ ≡ firstGroup from
-    → Printed (netOf net latches gates) depth text₀ text bytes next from)
+    → SoFar (netOf net latches gates) depth text₀ text bytes next from)
     × Begun depth bytes next next₀
 
 abbrev μ-loop : tie.MeasureT-loop
@@ -45,7 +44,7 @@ sub-last : tie.Need-sub-last Inv-loop μ-loop
 sub-last c = search needs
 
 loop-holds : tie.Need-loop-holds Inv-loop μ-loop
-loop-holds c = (omega arith, refl, refl, λ before from o h. printed-nothing _ _ _ _ from h, inl (refl, refl))
+loop-holds c = (omega arith, refl, refl, λ before from o h. nothing-yet _ _ _ _ from h, inl (refl, refl))
 
 enum-known-next : tie.Need-enum-known-next Inv-loop μ-loop
 enum-known-next c = search needs
@@ -57,7 +56,7 @@ enum-told c = search needs
 so-far : (c : tie.After-known-told Inv-loop μ-loop) →
     let start = c .before .before .before .before .before .before .before in
     let at = c .before .before .before .before .loop in
-    Printed (netOf (start .args .net) (start .args .latches .now) (start .args .gates .now)) (start .args .depth)
+    SoFar (netOf (start .args .net) (start .args .latches .now) (start .args .gates .now)) (start .args .depth)
     (start .args .text .now) (at .text) (at .bytes) (Then (c .before .next .given .0 .0)) (start .args .group ∷ start .pre .2 .behind)
 so-far c =
     let start = c .before .before .before .before .before .before .before in
@@ -99,7 +98,7 @@ print-group-requires c κs =
 add-bytes : tie.Need-add-bytes Inv-loop μ-loop
 add-bytes c =
     let told = c .before .before .before .before .before .before in
-    omega (arith, room told, c .before .before .before .print-group .ensures .1)
+    omega (arith, room told, c .before .before .before .print-group .ensures .0 .1)
 
 next-group-requires : tie.Need-next-group-requires Inv-loop μ-loop
 next-group-requires c κs = search needs
@@ -116,12 +115,12 @@ loop-again c =
     let at = told .before .before .before .before .loop in
     let printed = c .before .before .before .before .print-group in
     let same = same-len-mid (at .bytes) (length (at .text) - at .bytes) (at .text) (printed .last .0) (printed .kept .0) in (
-      omega (arith, room told, printed .ensures .1, same),
+      omega (arith, room told, printed .ensures .0 .1, same),
       same ∙ at .inv .1,
       printed .kept .1 .0 ∙ at .inv .2,
       λ before from o h.
-          printed-next before from o (rw (told .before .next .given .1) at (at .inv .3 before from o h)) (printed .last .0) (printed .result)
-          (c .next-group .result) (printed .ensures .0) (c .next-group .ensures .0),
+          one-more before from o (rw (told .before .next .given .1) at (at .inv .3 before from o h)) (printed .last .0) (printed .result)
+          (c .next-group .result) (omega (arith, room told, at .inv .1)) (printed .ensures .0 .0) (c .next-group .ensures .0),
       inr (omega (
         arith,
         c .next-group .ensures .1,
@@ -138,11 +137,12 @@ same-length-2 c = search needs
 returns : tie.Need-returns Inv-loop μ-loop
 returns c =
     let start = c .before .before .before .before in
-    let at = c .before .loop in (
-      λ before behind o. at .inv .3 before (start .args .group ∷ behind) o refl,
+    let at = c .before .loop in
+    let full : length (start .args .text .now) < at .bytes + 71904 = omega (arith, start .pre .5) in (
+      λ before behind o. all-full (at .inv .3 before (start .args .group ∷ behind) o refl) full,
       (
         omega (arith, fewer (start .args .depth) (at .bytes) (at .next) (Then (start .args .group)) (at .inv .4) (omega arith)),
-        omega (arith, at .inv .0, at .inv .1),
+        (omega (arith, at .inv .0, at .inv .1), at .inv .2),
       ),
     )
 
@@ -155,9 +155,10 @@ same-length-4 c = search needs
 returns-2 : tie.Need-returns-2 Inv-loop μ-loop
 returns-2 c =
     let start = c .before .before .before .before .before .before in
-    let at = c .before .before .before .loop in (
-      λ before behind o. at .inv .3 before (start .args .group ∷ behind) o refl,
-      (rw (c .enum-told .given .1) (omega arith), omega (arith, at .inv .0, at .inv .1)),
+    let at = c .before .before .before .loop in
+    rw (c .enum-told .given .1) (
+      λ before behind o. all-end (rw (c .enum-told .given .1) at (at .inv .3 before (start .args .group ∷ behind) o refl)),
+      (omega arith, (omega (arith, at .inv .0, at .inv .1), at .inv .2)),
     )
 
 pub print-groups-spec : {M : Type 1} → statement M

@@ -8,7 +8,7 @@ use Rattle.sheet_parse.specs.Files.{lineCount, netIn}
 use Rattle.sheet_parse.specs.FileTests.{testLineIn}
 use Rattle.sheet_parse.specs.Progress.{ReadTo}
 use Rattle.sheet_parse.proofs.Files.{whole-lines}
-use Rattle.sheet_steps.proofs.Steps.{outcome-refused}
+use Rattle.sheet_steps.proofs.Records.{verdict-is, holds, outcome-kept}
 use Rattle.sheet_parse.proofs.LineTests.{next-passes, next-refuses, outcome-all}
 use Rattle.sheet_parse.proofs.read_lines.Statement.{statement}
 use Rattle.sheet_parse.proofs.read_lines.Tie as tie
@@ -40,7 +40,10 @@ returns c =
     let file = start .args .file .now in
     let at = c .before .before .before .before .before .before .loop in
     let told = c .enum-told .given in
-    outcome-refused _ _ (netIn file) (told .1) (next-refuses (testLineIn (netIn file) file) (at .done) (at .inv .1 .passed) (lineCount file) (omega (arith, c .before .before .before .before .before .loop-test .taken)) (sym (c .before .before .read-next .ensures .verdict-is) ∙ told .1))
+    let step = c .before .before .read-next .ensures in
+    outcome-kept _ _ (netIn file) step (told .1)
+    (next-refuses (testLineIn (netIn file) file) (at .done) (at .inv .1 .passed) (lineCount file)
+    (omega (arith, c .before .before .before .before .before .loop-test .taken)) (sym (verdict-is step) ∙ told .1))
 
 enum-told-2 : tie.Need-enum-told-2 Inv-loop μ-loop
 enum-told-2 c = search needs
@@ -60,8 +63,8 @@ loop-again c =
     let file = start .args .file .now in
     let p = c .before .before .before .before .before .before .before .loop .done in
     let step = c .before .before .before .read-next .ensures in
-    let passed : testLineIn (netIn file) file (p + 1) ≡ Passed = sym (step .verdict-is) ∙ c .before .enum-told2 .given .1 in
-    (omega (arith, c .before .before .before .before .before .before .loop-test .taken), record { passed = next-passes (testLineIn (netIn file) file) p (c .before .before .before .before .before .before .before .loop .inv .1 .passed) passed; holds = step .holds passed })
+    let passed : testLineIn (netIn file) file (p + 1) ≡ Passed = sym (verdict-is step) ∙ c .before .enum-told2 .given .1 in
+    (omega (arith, c .before .before .before .before .before .before .loop-test .taken), record { passed = next-passes (testLineIn (netIn file) file) p (c .before .before .before .before .before .before .before .loop .inv .1 .passed) passed; holds = holds step passed })
 
 returns-2 : tie.Need-returns-2 Inv-loop μ-loop
 returns-2 c =

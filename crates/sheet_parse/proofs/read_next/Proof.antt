@@ -1,9 +1,9 @@
 -- `sheet_parse::read_next` meets its contract: the line as it is printed, tested as far as the file is read, is tested as in the whole file.
 use Prim.Native.Nat.{_+_}
-use mathlib.Core.Path.{refl, sym, _∙_}
+use mathlib.Core.Path.{sym, _∙_}
 use Rattle.sheet_parse.specs.Files.{netIn}
 use Rattle.sheet_parse.specs.Progress.{netTo}
-use Rattle.sheet_steps.proofs.Steps.{outcome-refused}
+use Rattle.sheet_steps.proofs.Records.{outcome-refused}
 use Rattle.sheet_parse.proofs.LineTests.{test-misprint, sizesKnown-to, outcome-next}
 use borrow.Author.Needs.{needs}
 use Rattle.sheet_parse.proofs.read_next.Statement.{statement}
@@ -35,7 +35,7 @@ returns c =
     let start = c .before .before .before .before .before in
     let a = start .args in
     rw (c .refused .ensures)
-    (outcome-refused (a .latches .now) (a .gates .now) (netTo (a .file .now) (a .line + 1)) refl
+    (outcome-refused (a .latches .now) (a .gates .now) (netTo (a .file .now) (a .line + 1))
     (test-misprint (netIn (a .file .now)) (a .file .now) (a .line + 1) (sym (c .before .before .before .line-after .ensures) ∙ c .before .enum-told .given .1)))
 
 returns-2 : tie.Need-returns-2

@@ -1,13 +1,14 @@
--- `sheet_steps::take_line` meets its contract: each test is passed on where it refuses; the line that passes is put into the record and the lists, and tested there.
-use mathlib.Core.Path.{_≡_, refl, sym, _∙_}
+-- `sheet_steps::take_line` meets its contract: a test that refuses is passed on; the line due is put into the record and the lists, and tested there.
+use mathlib.Core.Path.{_≡_, sym, _∙_}
 use mathlib.Core.Bool.{not, _||_}
 use lib.Dec.{eqb}
 use Rattle.netlist.specs.NetOf.{netOf, alone}
 use Rattle.netlist.specs.Places.{lineAt}
 use Rattle.netlist.proofs.NetOf.{lineAt-lists}
-use Rattle.sheet_steps.specs.Steps.{stepNet, Holds}
+use Rattle.sheet_steps.specs.Steps.{stepNet, stepVerdict, Holds}
 use Rattle.sheet_steps.proofs.Places.{roomFor-due}
-use Rattle.sheet_steps.proofs.Steps.{sizesKnown-step, due-step, outOfOrder, step-refused, step-due, outcome-refused}
+use Rattle.sheet_steps.proofs.Steps.{sizesKnown-step, due-step, outOfOrder, step-refused, step-due}
+use Rattle.sheet_steps.proofs.Records.{outcome-refused, outcome-passed}
 use borrow.Author.Needs.{needs}
 use Rattle.sheet_steps.proofs.take_line.Statement.{statement}
 use Rattle.sheet_steps.proofs.take_line.Tie as tie
@@ -49,7 +50,7 @@ returns c =
     let a = c .before .before .before .before .before .before .args in
     let d = netOf (a .net) (a .latches .now) (a .gates .now) in
     rw (c .refused .ensures)
-    (outcome-refused (a .latches .now) (a .gates .now) (stepNet d (a .first) (a .second) (a .third) (a .place)) refl
+    (outcome-refused (a .latches .now) (a .gates .now) (stepNet d (a .first) (a .second) (a .third) (a .place))
     (step-refused d (a .kind) (a .place) (a .first) (a .second) (a .third) (sym (tested (c .before .before)) ∙ c .before .if1 .taken)))
 
 store-requires : tie.Need-store-requires
@@ -64,18 +65,36 @@ test-stored-requires c κs =
     let next = c .before .before .store .result in
     (sizesKnown-step (a .net) next (a .latches .now) (a .gates .now) _ _ (a .place) (a .first) (a .second) (a .third) (taken (c .before .before)) (start .pre .1), c .before .before .before .before .before .before .before .before .before .line-due .ensures ∙ due-step (a .net) next (a .latches .now) (a .gates .now) _ _ (a .place) (a .first) (a .second) (a .third) (taken (c .before .before)))
 
+-- the verdict on it, in the record with its lists
+judged : (c : tie.After-test-stored) →
+    let a = c .before .before .before .before .before .before .before .before .before .before .before .args in
+    c .test-stored .result ≡ stepVerdict (netOf (a .net) (a .latches .now) (a .gates .now)) (a .kind) (a .first) (a .second) (a .third) (a .place)
+judged c =
+    let a = c .before .before .before .before .before .before .before .before .before .before .before .args in
+    let d = netOf (a .net) (a .latches .now) (a .gates .now) in
+    c .test-stored .ensures
+    ∙ rw (taken (c .before .before .before) .net-is, due (c .before .before .before .before .before .before .before .before .before .before))
+    (sym (step-due d (a .kind) (a .place) (a .first) (a .second) (a .third) (sym (tested (c .before .before .before .before .before .before .before)) ∙ c .before .before .before .before .before .before .if1 .left)))
+
+enum-known-verdict : tie.Need-enum-known-verdict
+enum-known-verdict c = search needs
+
+refused-requires-2 : tie.Need-refused-requires-2
+refused-requires-2 c κs = search needs
+
 returns-2 : tie.Need-returns-2
 returns-2 c =
-    let start = c .before .before .before .before .before .before .before .before .before .before .before in
-    let a = start .args in
-    let d = netOf (a .net) (a .latches .now) (a .gates .now) in
-    record {
-      verdict-is =
-          c .test-stored .ensures
-          ∙ rw (taken (c .before .before .before) .net-is, due (c .before .before .before .before .before .before .before .before .before .before))
-          (sym (step-due d (a .kind) (a .place) (a .first) (a .second) (a .third) (sym (tested (c .before .before .before .before .before .before .before)) ∙ c .before .before .before .before .before .before .if1 .left)));
-      holds = λ e. taken (c .before .before .before);
-    }
+    let at = c .before .before .before .before in
+    rw (c .refused2 .ensures) (outcome-refused _ _ _ (sym (judged at) ∙ c .before .before .verdict .given .1))
+
+enum-told : tie.Need-enum-told
+enum-told c = search needs
+
+returns-3 : tie.Need-returns-3
+returns-3 c =
+    let at = c .before .before in
+    rw (c .enum-told .given .1)
+    (outcome-passed _ _ _ (at .before .before .before .store .result) (taken (at .before .before .before)) (sym (judged at) ∙ c .enum-told .given .1))
 
 pub take-line-spec : {M : Type 1} → statement M
 take-line-spec =
@@ -89,4 +108,8 @@ take-line-spec =
     returns
     store-requires
     test-stored-requires
-    returns-2)
+    enum-known-verdict
+    refused-requires-2
+    returns-2
+    enum-told
+    returns-3)
