@@ -1,5 +1,5 @@
 -- Laws of two numbers put at a record's place in an unpacked list (specs/NetOf.antt): its length, and its first and second numbers then.
--- Cited by the reader of sheets. Assumes nothing.
+-- Cited by the reader of sheets.
 use Prim.Native.Nat.{ℕ, _+_, _*_, _<_}
 use mathlib.Core.Path.{_≡_, _∙_, fun-ext}
 use mathlib.Core.Bool.{cond}

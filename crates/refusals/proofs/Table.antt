@@ -31,7 +31,7 @@ reply-passed Passed h = refl
 reply-passed (Refused r p) h = absurd (omega (arith, refusalNumber-some r))
 
 -- the refusal that has a number, and the verdict that sends back a number and a place
-refusalOf : ℕ → Refusal
+abbrev refusalOf : ℕ → Refusal
 refusalOf n =
     cond (eqb n 1) Ragged
     (cond (eqb n 2) Misprint
@@ -43,7 +43,7 @@ refusalOf n =
     (cond (eqb n 8) NoSuchGroup
     (cond (eqb n 9) NoRoom OutOfNumbers))))))))
 
-verdictOf : Reply → Verdict
+abbrev verdictOf : Reply → Verdict
 verdictOf r = cond (eqb (r .number) 0) Passed (Refused (refusalOf (r .number)) (r .place))
 
 verdictOf-reply : (v : Verdict) → verdictOf (replyOf v) ≡ v

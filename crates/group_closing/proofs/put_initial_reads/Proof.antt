@@ -58,7 +58,7 @@ put-initial-bit-requires c κs =
       rw (c .before .before .before .before .before .frame-base .ensures) (wire-has-number _ (is .fits .limits .sizes) _ _ (is .depth) (omega arith)),
       omega arith,
       omega arith,
-      rw (c .offset .ensures) (turns-room (c .before .before .before .loop .inv) h),
+      turns-room (c .before .before .before .loop .inv) h,
     )
 
 add-at : tie.Need-add-at Inv-loop μ-loop

@@ -78,7 +78,7 @@ put-latch-requires c κs =
       rw (c .before .before .before .before .before .before .frame-base2 .ensures) (wire-has-number _ sizes _ _ (omega arith) (omega arith)),
       omega arith,
       rw (c .before .before .before .before .before .before .before .frame-base .ensures) (code-has-number _ sizes _ _ (omega arith) (codes .next-fits (c .before .before .before .before .loop .l) (c .before .before .before .loop-test .taken))),
-      rw (c .offset .ensures) (turns-room (c .before .before .before .before .loop .inv) (c .before .before .before .loop-test .taken)),
+      turns-room (c .before .before .before .before .loop .inv) (c .before .before .before .loop-test .taken),
     )
 
 add-at : tie.Need-add-at Inv-loop μ-loop

@@ -71,7 +71,7 @@ put-reset-requires c κs =
     let sizes = sizes-lists (c .before .before .before .before .before .before .before .args .net) (c .before .before .before .before .before .before .before .args .latches .now) [] [] [] (c .before .before .before .before .before .before .before .pre .0 .limits .sizes) in (
       rw (c .before .before .before .before .before .before .frame-base .ensures) (wire-has-number _ sizes 0 _ (omega arith) (omega arith)),
       omega arith,
-      rw (c .offset .ensures) (turns-room (c .before .before .before .before .loop .inv) (c .before .before .before .loop-test .taken)),
+      turns-room (c .before .before .before .before .loop .inv) (c .before .before .before .loop-test .taken),
     )
 
 add-at : tie.Need-add-at Inv-loop μ-loop

@@ -74,7 +74,7 @@ put-forwarded-bit-requires c κs =
       rw (c .before .before .before .before .before .before .frame-base2 .ensures) (wire-has-number _ (is .fits .limits .sizes) _ _ (omega arith) (omega arith)),
       omega arith,
       rw (c .before .before .before .before .before .before .before .frame-base .ensures) (code-has-number _ (is .fits .limits .sizes) _ _ (omega arith) (is .fits .limits .codes .data-fits t h)),
-      rw (c .offset .ensures) (turns-room (c .before .before .before .before .loop .inv) h),
+      turns-room (c .before .before .before .before .loop .inv) h,
     )
 
 add-at : tie.Need-add-at Inv-loop μ-loop
@@ -86,7 +86,7 @@ add-at c =
 add-t : tie.Need-add-t Inv-loop μ-loop
 unfolding netOf
 add-t c =
-    omega (arith, c .before .before .before .before .loop-test .taken, c .before .before .before .before .before .before .before .before .before .before .pre .0 .fits .limits .sizes .n-most)
+    omega (arith, c .before .before .before .before .before .loop-test .taken, c .before .before .before .before .before .before .before .before .before .before .before .pre .0 .fits .limits .sizes .n-most)
 
 loop-less : tie.Need-loop-less Inv-loop μ-loop
 loop-less c = search needs

@@ -88,7 +88,7 @@ put-gate-requires c κs =
       omega arith,
       rw (c .before .before .before .before .before .before .before .frame-base .ensures) (code-has-number _ sizes _ _ (omega arith) (omega (arith, codes .left-fits (c .before .before .before .before .before .loop .g) (omega arith)))),
       rw (c .before .before .before .before .before .before .before .frame-base .ensures) (code-has-number _ sizes _ _ (omega arith) (omega (arith, codes .right-fits (c .before .before .before .before .before .loop .g) (omega arith)))),
-      rw (c .offset .ensures) (turns-room (c .before .before .before .before .before .loop .inv) (omega arith)),
+      turns-room (c .before .before .before .before .before .loop .inv) (omega arith),
     )
 
 add-at : tie.Need-add-at Inv-loop μ-loop

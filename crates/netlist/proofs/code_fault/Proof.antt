@@ -1,5 +1,4 @@
 -- `netlist::code_fault` meets its contract: each arm knows its line, whose number is below its size.
-use Prim.Native.Nat.{_+_}
 use mathlib.Core.Path.{_≡_, subst}
 use borrow.Author.Needs.{needs}
 use native.Mathlib.Omega.{arith}

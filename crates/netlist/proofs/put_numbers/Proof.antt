@@ -1,4 +1,4 @@
--- `netlist::put_numbers` meets its contract: two stores. Assumes nothing.
+-- `netlist::put_numbers` meets its contract: two stores.
 use mathlib.Core.Path.{refl}
 use borrow.Author.Needs.{needs}
 use Rattle.netlist.specs.NetOf.{putNumbers}
