@@ -24,6 +24,7 @@ block() { # what stands behind the opening fence
 check "the page shows the program" diff <(block c) "$source"
 rm -f target/search
 check "the page's line compiles it" bash -ec "$(block sh)"
+[ -x target/search ] || { echo "$passed passed, $failed failed"; exit 1; }
 check "it compiles without a warning" cc -std=c11 -pedantic -Wall -Wextra -Werror -O -Iinclude -c -o "$work/search.o" "$source"
 
 # each command of the page's transcript, with what it prints
@@ -37,7 +38,7 @@ done < "$work/asked"
 check "the page has a transcript" [ "$asked" -ge 2 ]
 
 # the script's first line, without the colon that the run stands behind, and its status
-by_script() { (FRAMES=$frames bash scripts/find.sh --least "$1" "$2"; echo $?) | sed -n '1s/:$//p; $p'; }
+by_script() { (FRAMES=$frames bash scripts/find.sh --least "$1" "$2"; echo $?) | sed -n '1{s/:$//;p}; $p'; }
 by_program() { target/search "$1" "$2"; echo $?; }
 agree() { [ "$(by_script "$1" "$2")" = "$(by_program "$1" "$2")" ] || diff <(by_script "$1" "$2") <(by_program "$1" "$2"); }
 for sheet in examples/*/*.sheet; do
@@ -65,7 +66,7 @@ ends "no arguments" 2 ""
 ends "a depth that is no number" 2 "" "$work/true.sheet" x
 ends "a depth that is no 32-bit number" 2 "" "$work/true.sheet" 4294967296
 ends "a missing sheet" 1 "" "$work/missing.sheet" 1
-ends "depth 256" 1 "" "$work/true.sheet" 256
+ends "depth 256" 1 "" "$work/chain.sheet" 256
 said "depth 256" "refused 7 at 0"
 line C 0 0 1 >> "$work/true.sheet"
 ends "a line too many" 1 "" "$work/true.sheet" 1

@@ -52,7 +52,6 @@ FIELD(marrubigai_line_reply, line, 20);
 
 #define TEXT(number) #number
 #define VERSION(major, minor) TEXT(major) "." TEXT(minor)
-_Static_assert(sizeof MARRUBIGAI_VERSION == sizeof VERSION(MARRUBIGAI_VERSION_MAJOR, MARRUBIGAI_VERSION_MINOR), "version");
 
 // no record is refused by it (docs/LIBRARY.md), so no call below answers it
 _Static_assert(MARRUBIGAI_OUT_OF_NUMBERS == 10, "out of numbers");
