@@ -1,5 +1,4 @@
 -- The groups that there are at a depth (`inDepth`) stand in the order of the whole, and no others do. No contract cites this file.
--- Assumes nothing.
 use Prim.Native.Nat.{ℕ, zero, suc, _+_, _<_}
 use mathlib.Core.Path.{_≡_, refl, sym, _∙_, ap, subst}
 use mathlib.Core.Bool.{true, false, true≢false}

@@ -1,5 +1,5 @@
 -- Laws of what a sheet is answered with (specs/Records.antt, and `Outcome` in specs/Steps.antt), by which test refuses. Cited by the
--- functions that read a sheet. Assumes nothing.
+-- functions that read a sheet.
 use Prim.Native.Nat.{ℕ, zero, suc, _≤_}
 use mathlib.Core.Path.{_≡_, refl, sym, _∙_, ap, subst}
 use mathlib.Core.List.{List}

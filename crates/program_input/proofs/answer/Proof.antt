@@ -1,4 +1,4 @@
--- `program_input::answer` meets its contract: it is the definition. Assumes nothing.
+-- `program_input::answer` meets its contract: it is the definition.
 use borrow.Author.Needs.{needs}
 use Rattle.program_input.proofs.answer.Statement.{statement}
 use Rattle.program_input.proofs.answer.Tie as tie
