@@ -16,6 +16,6 @@ N ?= 100000
 fuzz:
 	@bash tests/fuzz.sh $(N) $(SEED)
 
-# after `make test`: the public functions, the definitions that they promise, what is assumed, the wrong programs
+# after `make test`: the public functions, the definitions that they promise, what is assumed, wrong programs and definitions
 promises:
 	@mkdir -p target/test && rustc -O --edition 2021 -o target/test/promises tests/promises/main.rs && target/test/promises print .

@@ -89,7 +89,8 @@ marrubigai_count_reply marrubigai_write_group(marrubigai_netlist net, const marr
                                               uint32_t j, uint32_t i, int32_t *out, size_t room);
 
 /* the text of the program `frames`: DIMACS' problem line, numbers that a group call wrote with a clause a line, and a refusal, its
- * number and place in ten columns each. Each answers how many bytes it wrote; 9 where the buffer is shorter than the text. */
+ * number and place in ten columns each. Each answers how many bytes it wrote; 9 where the buffer is shorter than the text.
+ * put_clauses prints any number in decimal, INT32_MIN too, which is no clause number, and ends a line behind each 0. */
 marrubigai_count_reply marrubigai_put_header(uint8_t *out, size_t room, uint32_t variables, uint32_t clauses);
 marrubigai_count_reply marrubigai_put_clauses(uint8_t *out, size_t room, const int32_t *numbers, size_t count);
 marrubigai_count_reply marrubigai_put_refusal(uint8_t *out, size_t room, uint32_t number, uint32_t place);

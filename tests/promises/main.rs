@@ -1,6 +1,6 @@
 //! What is promised and what must be believed, read off the repository: the public functions with the definitions that their
-//! contracts cite, the files in which those definitions stand, the wrong programs that are refused, and the C functions whose
-//! contracts the check assumes. `print` prints it as docs/TRUST.md has it, `write` puts it there, and `check` holds the page to it.
+//! contracts cite, the files in which those definitions stand, the wrong programs and definitions that are refused, and the C
+//! functions whose contracts the check assumes. `print` prints it as docs/TRUST.md has it, `write` puts it there, and `check` holds the page to it.
 //! The last line of `check` is the total.
 //! Arguments: print, write or check; the repository's folder. The check's own output is read from target/log (after `rt ci` or `rt check`).
 
@@ -214,15 +214,57 @@ fn definitions_block<'a>(repository: &Repository, functions: impl Iterator<Item 
     text + &format!("\n{} files, {sum} lines, comments included.\n", reached.len())
 }
 
-/// The wrong programs that stand for a public function: edits with a line '# public: NAME'.
-fn edits_block(repository: &Repository, functions: &[Public]) -> (String, Vec<String>) {
+/// What an edit makes wrong.
+#[derive(Clone, Copy, PartialEq, Eq, PartialOrd, Ord)]
+enum Wrong {
+    Code,
+    Definition,
+    Promise,
+}
+
+/// What the replaced text is: a definition where it stands in specs/; in src/ a promise where it stands in a contract, and else code.
+/// None of an import, which only goes with what uses it.
+fn wrong_of(path: &str, line: &str) -> Option<Wrong> {
+    let line = line.trim_start();
+    if line.starts_with("use ") || line.starts_with("ghost use ") {
+        return None;
+    }
+    if path.starts_with("specs/") {
+        return Some(Wrong::Definition);
+    }
+    let is_contract = line.starts_with("ensures ") || line.starts_with("requires ");
+    Some(if is_contract { Wrong::Promise } else { Wrong::Code })
+}
+
+/// What a crate's edit makes wrong. Its lines 'file: PATH' and 'old: TEXT' say what is replaced.
+fn wrongs(repository: &Repository, of: &str, edit: &str) -> BTreeSet<Wrong> {
+    let mut found = BTreeSet::new();
+    let mut path = "";
+    let mut source = String::new();
+    for line in edit.lines() {
+        if let Some(file) = line.strip_prefix("file: ") {
+            path = file;
+            source = repository.read(&format!("crates/{of}/{file}"));
+        } else if let Some(old) = line.strip_prefix("old: ") {
+            let replaced = source.lines().filter(|line| line.contains(old));
+            found.extend(replaced.filter_map(|line| wrong_of(path, line)));
+        }
+    }
+    found
+}
+
+/// The edits that stand for a public function, with a line '# public: NAME': wrong programs, then wrong definitions and promises.
+/// Each is of one kind, and each function has two wrong programs.
+fn edits_blocks(repository: &Repository, functions: &[Public]) -> ([String; 2], Vec<String>) {
     let mut count: BTreeMap<String, usize> = BTreeMap::new();
+    let mut short = Vec::new();
     let mut crates: Vec<String> = fs::read_dir(repository.0.join("crates"))
         .expect("crates")
         .map(|entry| entry.expect("a crate").file_name().to_string_lossy().into_owned())
         .collect();
     crates.sort();
-    let mut text = String::from("| wrong program | of | edit |\n|---|---|---|\n");
+    let mut programs = String::from("| wrong program | of | edit |\n|---|---|---|\n");
+    let mut definitions = String::from("| wrong definition or promise | of | edit |\n|---|---|---|\n");
     for of in crates {
         for path in repository.files(&format!("crates/{of}/must-fail"), ".edit") {
             let edit = repository.read(&path);
@@ -231,14 +273,20 @@ fn edits_block(repository: &Repository, functions: &[Public]) -> (String, Vec<St
             if names.is_empty() {
                 continue;
             }
+            let wrong = wrongs(repository, &of, &edit);
+            if wrong.len() != 1 {
+                short.push(format!("{path} is not of one kind: code, definitions or promises"));
+            }
+            let is_code = wrong.contains(&Wrong::Code);
             for name in &names {
-                *count.entry(name.to_string()).or_default() += 1;
+                *count.entry(name.to_string()).or_default() += usize::from(is_code);
             }
             let file = Path::new(&path).file_stem().expect("a name").to_string_lossy().into_owned();
-            text += &format!("| {says} | `{}` | [{of}/{file}](../{path}) |\n", names.join("` `"));
+            let kind = if wrong.contains(&Wrong::Promise) { "promise: " } else { "definition: " };
+            let (text, kind) = if is_code { (&mut programs, "") } else { (&mut definitions, kind) };
+            *text += &format!("| {kind}{says} | `{}` | [{of}/{file}](../{path}) |\n", names.join("` `"));
         }
     }
-    let mut short = Vec::new();
     for it in functions {
         let edits = count.remove(&it.name).unwrap_or_default();
         if edits < 2 {
@@ -246,7 +294,7 @@ fn edits_block(repository: &Repository, functions: &[Public]) -> (String, Vec<St
         }
     }
     short.extend(count.into_keys().map(|name| format!("no public function {name}")));
-    (text, short)
+    ([programs, definitions], short)
 }
 
 /// What the check said that it assumes, of each crate: NAME.say is kept where the crate has not changed since, NAME.out is not.
@@ -278,12 +326,13 @@ fn main() {
     let repository = Repository(PathBuf::from(folder));
     let functions = repository.functions_of(&SHOWN, is_shown);
     let program = repository.functions_of(&PROGRAM, |_, _| true);
-    let (edits, short) = edits_block(&repository, &functions);
+    let ([programs, definitions], short) = edits_blocks(&repository, &functions);
     let blocks = [
         ("functions", functions_block(&functions)),
         ("definitions", definitions_block(&repository, functions.iter().chain(&program))),
         ("assumed", axioms_block(&repository)),
-        ("wrong programs", edits),
+        ("wrong programs", programs),
+        ("wrong definitions", definitions),
     ];
     if mode == "print" {
         for (name, text) in &blocks {

@@ -105,6 +105,17 @@ pub fn limits(library: &Library, tally: &mut Tally) {
     }
     let most = [i32::MIN; 20_000];
     library.clauses_agree(tally, &most);
+    // worked out by hand: numbers that make no clause
+    let others: [(&[i32], &[u8]); 5] = [
+        (&[0, 0], b"0\n0\n"),
+        (&[0, 7], b"0\n7 "),
+        (&[i32::MIN], b"-2147483648 "),
+        (&[5, i32::MIN, 0], b"5 -2147483648 0\n"),
+        (&[i32::MIN + 1, i32::MAX, 0], b"-2147483647 2147483647 0\n"),
+    ];
+    for (numbers, text) in others {
+        agrees(tally, &library.clauses, text, |room| put_clauses(numbers, room));
+    }
 }
 
 /// A number of any length.

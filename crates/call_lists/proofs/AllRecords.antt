@@ -48,7 +48,8 @@ use denote.Triple.Statement.{Triple}
 use denote.Triple.Walked.{says, Stays, stay-none-slice, stay-ref, walkOf, goes-none-slice, goes-ref, ends-at}
 use denote.Exit.{yes}
 use Rattle.call_lists.specs.Unpacked.{pairsOf}
-use Rattle.call_lists.specs.Unpacking.{putNumbers, spanOf}
+use Rattle.netlist.specs.NetOf.{putNumbers}
+use Rattle.call_lists.specs.Unpacking.{spanOf}
 use Rattle.model.specs.Wrote.{over}
 use Rattle.call_lists.proofs.Unpacked.{unpackedTo, unpackedTo-none, unpackedTo-next, unpackedTo-all, span-within}
 use Rattle.call_lists.proofs.OneRecord as one

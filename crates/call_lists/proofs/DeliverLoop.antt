@@ -199,15 +199,15 @@ module _ (D : Declared) (laws : LL.Laws D) (one : One (row′ D .mir)) (elem : T
         E = (tyUnit, l₀) ∷ (codesTy, l₁) ∷ (tyInt w32, l₂) ∷ (listTy, l₃) ∷ (word, l₄) ∷ (word, l₅) ∷ (tyBool, l₆) ∷ (elem, l₇)
             ∷ (word, l₈) ∷ (tyPtr, l₉) ∷ []
 
-        -- the records done, at most n; more of them is less left
+        -- the records done, at most n; more of them is fewer that remain
         abbrev Done : Type 0
         Done = (i : ℕ) × (i ≤ n)
 
-        abbrev left : Done → ℕ
-        left t = n - t .0
+        abbrev remaining : Done → ℕ
+        remaining t = n - t .0
 
         abbrev Less : Done → Done → Type 0
-        Less s t = left s < left t
+        Less s t = remaining s < remaining t
 
         -- the invariant: what stands in memory where i records are done
         abbrev Inv : Done → List (Item 𝓤)
@@ -306,7 +306,7 @@ module _ (D : Declared) (laws : LL.Laws D) (one : One (row′ D .mir)) (elem : T
         turns t = by-cases (decLt (t .0) n) (more t) (λ h. ends t (omega (arith, t .1)))
 
         delivers : Seq (Go {0}) W (Inv (0, omega arith)) (runs C Λ E (loop turn) Left)
-        delivers = loops ! 𝓣 Less (InvImage·wf left (Nat·lt-wfRel .wf)) Inv turns (0, omega arith)
+        delivers = loops ! 𝓣 Less (InvImage·wf remaining (Nat·lt-wfRel .wf)) Inv turns (0, omega arith)
 
       -- the MIR up to the loop
       walk : (𝓣 : Tables 𝓤 H) → Triple 𝓤 (𝓣 .C key) (MakesRecord 𝓤 H A)

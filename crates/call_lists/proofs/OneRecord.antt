@@ -42,10 +42,10 @@ use denote.Triple.Spec.{Meets, tripleOf}
 use denote.Triple.Statement.{Triple}
 use denote.Triple.Walked.{says, needs, Stays, stay-none, stay-none-slice, gave-ref, walkOf, goes-none, goes-none-slice, goes-gave-ref, ends-at}
 use denote.Exit.{yes}
-use Rattle.call_lists.specs.Unpacking.{putNumbers}
+use Rattle.netlist.specs.NetOf.{putNumbers}
+use Rattle.netlist.proofs.put_numbers as put
+use Rattle.netlist.proofs.put_numbers.Symbol.{name as #put}
 use Rattle.walks.proofs.Walk.{calls-told, _&_, cell, frees-all, meets-of}
-use Rattle.call_lists.proofs.unpack.put_numbers as put
-use Rattle.call_lists.proofs.unpack.put_numbers.Symbol.{name as #put}
 
 -- the unpacked codes, and their type in MIR
 abbrev pub Codes : RattleType

@@ -10,7 +10,8 @@ use lib.Dec.{ltb}
 use lib.ListN.{length, take, drop, getD, replicate}
 use lib.Seq.{drop-nil, take-all, take-length, length-take-le}
 use Rattle.call_lists.specs.Unpacked.{pairsOf}
-use Rattle.call_lists.specs.Unpacking.{putNumbers, bounded, spanOf}
+use Rattle.netlist.specs.NetOf.{putNumbers}
+use Rattle.call_lists.specs.Unpacking.{bounded, spanOf}
 use Rattle.model.specs.Wrote.{over}
 
 -- no more records are looked at than there are, and no more than 600

@@ -6,42 +6,34 @@ use netlist::UnpackedList;
 ghost use mathlib.Core.Path.{_≡_};
 ghost use Prim.Native.Nat.{_<_};
 ghost use lib.ListN.{length, getD};
+ghost use Rattle.netlist.specs.NetOf.{putNumbers};
 ghost use Rattle.call_lists.specs.Unpacked.{gateCodes, latchCodes};
-ghost use Rattle.call_lists.specs.Unpacking.{putNumbers, noGate, noLatch, spanOf};
+ghost use Rattle.call_lists.specs.Unpacking.{noGate, noLatch, spanOf};
 ghost use Rattle.model.specs.Wrote.{over};
 
-// Puts a record's two numbers at its place.
-pub fn put_numbers(codes: &mut UnpackedList, at: usize, first: u32, second: u32)
-    requires { ⌜ at < 600 ⌝ }
-    ensures { λ _. ⌜ now (codes .exit) ≡ putNumbers at first second (now (codes .entry)) ⌝ }
-{
-    codes[2 * at] = first;
-    codes[2 * at + 1] = second;
-}
-
 // How many records of a list of this length are looked at.
-pub fn span(count: usize) -> usize
+pub(crate) fn span(count: usize) -> usize
     ensures { λ r. ⌜ r ≡ spanOf count ⌝ }
 {
     if count < 600 { count } else { 600 }
 }
 
 // Reads gate g and hands its two codes on.
-pub fn unpack_gate(codes: &mut UnpackedList, gates: &[Gate], g: usize)
+fn unpack_gate(codes: &mut UnpackedList, gates: &[Gate], g: usize)
     requires { ⌜ (g < length (now gates)) × (g < 600) ⌝ }
     ensures { λ _. ⌜ now (codes .exit) ≡ putNumbers g (getD (now (gates .entry)) g noGate .left .0) (getD (now (gates .entry)) g noGate .right .0) (now (codes .entry)) ⌝ }
 {
     let gate = gates[g];
-    put_numbers(codes, g, gate.left.0, gate.right.0);
+    netlist::put_numbers(codes, g, gate.left.0, gate.right.0);
 }
 
 // Reads latch l and hands its next code and its reset on.
-pub fn unpack_latch(codes: &mut UnpackedList, latches: &[Latch], l: usize)
+fn unpack_latch(codes: &mut UnpackedList, latches: &[Latch], l: usize)
     requires { ⌜ (l < length (now latches)) × (l < 600) ⌝ }
     ensures { λ _. ⌜ now (codes .exit) ≡ putNumbers l (getD (now (latches .entry)) l noLatch .next .0) (getD (now (latches .entry)) l noLatch .reset) (now (codes .entry)) ⌝ }
 {
     let latch = latches[l];
-    put_numbers(codes, l, latch.next.0, latch.reset);
+    netlist::put_numbers(codes, l, latch.next.0, latch.reset);
 }
 
 // Unpacks a list of gates, into the first numbers of `codes`.

@@ -1,6 +1,6 @@
 -- Laws of specs/Calls.antt: which tests a call passes, and demand 3 of the calls. No contract cites this file.
 use Prim.Native.Nat.{ℕ, _+_, _≤_, _<_}
-use mathlib.Core.Path.{_≡_, ap}
+use mathlib.Core.Path.{_≡_, refl, _∙_, ap}
 use mathlib.Core.Bool.{true, false, not}
 use mathlib.Core.List.{List}
 use native.Mathlib.Omega.{arith}
@@ -14,6 +14,7 @@ use Rattle.model.specs.Acceptance.{Accepted}
 use Rattle.model.specs.Variables.{base}
 use Rattle.model.specs.Groups.{inDepth}
 use Rattle.model.specs.Numbers.{numbersOf, formula}
+use Rattle.model.specs.Counts.{numberCount}
 use Rattle.model.specs.declared.Group.{Group}
 use Rattle.model.proofs.Variables.{base-most}
 use Rattle.model.proofs.Gather.{all-weaken}
@@ -49,7 +50,7 @@ variables-fit c k v ok d e h =
     let most : base c (k + 1) ≤ 675841 = base-most c (ok .limits .sizes) (k + 1) (omega arith) in
     omega arith
 
-module _ (c : Netlist) (latchCount gateCount k : ℕ) (record-passed : recordVerdict c latchCount gateCount ≡ Passed) (d : k ≤ 255) where
+module _ (c : Netlist) (latchCount gateCount k : ℕ) (record-passed : recordVerdict c latchCount gateCount ≡ Passed) (most : k ≤ 255) where
   accepted : Accepted c
   accepted = passes-accepted c latchCount gateCount .0 record-passed .0
 
@@ -58,8 +59,8 @@ module _ (c : Netlist) (latchCount gateCount k : ℕ) (record-passed : recordVer
       → groupVerdict c latchCount gateCount k g room ≡ Passed
   unfolding groupVerdict testGroup testDepth
   group-passes g room there enough =
-      passes record-passed (passes (refuseIf-passes (ltb 255 k) _ 0 .1 (le-ltb 255 k d))
-      (passes (refuseIf-passes (not (inDepth k g)) _ 0 .1 (ap not there)) (passes (numbers-suffice c k accepted d)
+      passes record-passed (passes (refuseIf-passes (ltb 255 k) _ 0 .1 (le-ltb 255 k most))
+      (passes (refuseIf-passes (not (inDepth k g)) _ 0 .1 (ap not there)) (passes (numbers-suffice c k accepted most)
       (room-enough (length (numbersOf c k g)) room enough))))
     where
       passes : {v w : Verdict} → v ≡ Passed → w ≡ Passed → (v then w) ≡ Passed
@@ -72,19 +73,28 @@ module _ (c : Netlist) (latchCount gateCount k : ℕ) (record-passed : recordVer
   group-numbers g old there enough =
       rw (group-passes g (length old) there enough) (take-append-seam (numbersOf c k g) (drop (length (numbersOf c k g)) old))
 
-  -- demand 3 of the calls
-  pub calls-encode : CallsEncode c latchCount gateCount k
-  unfolding formula
-  calls-encode =
-      record {
-        calls-formula = λ slice enough.
-            joined-same (all-weaken (λ g there. group-numbers g (slice g) there (enough g there)) (order-inDepth k));
-        formula-encodes = encodes c accepted k;
-        formula-stated = stated c accepted k;
-        variables-most = base-most c (accepted .limits .sizes) (k + 1) (omega arith);
-        numbers-suffice = numbers-suffice c k accepted d;
-        lines-most = omega (arith, accepted .limits .sizes .wires-fit, accepted .limits .sizes .m-most);
-      }
+-- demand 3 of the calls over d, for an accepted netlist c with the same numbers
+pub calls-encode-for : (c d : Netlist) (latchCount gateCount k : ℕ) → recordVerdict d latchCount gateCount ≡ Passed → k ≤ 255
+    → Accepted c → ((g : Group) → numbersOf d k g ≡ numbersOf c k g) → CallsEncode c d latchCount gateCount k
+unfolding formula
+calls-encode-for c d latchCount gateCount k passed most ok same =
+    record {
+      calls-formula = λ slice enough.
+          joined-same (all-weaken
+          (λ g there. group-numbers d latchCount gateCount k passed most g (slice g) there (rw (same g) (enough g there)) ∙ same g)
+          (order-inDepth k));
+      formula-encodes = encodes c ok k;
+      formula-stated = stated c ok k;
+      variables-most = base-most c (ok .limits .sizes) (k + 1) (omega arith);
+      numbers-suffice = numbers-suffice d k (accepted d latchCount gateCount k passed most) most;
+      lines-most = omega (arith, ok .limits .sizes .wires-fit, ok .limits .sizes .m-most);
+    }
+
+-- for the netlist itself
+pub calls-encode : (c : Netlist) (latchCount gateCount k : ℕ) → recordVerdict c latchCount gateCount ≡ Passed → k ≤ 255
+    → CallsEncode c c latchCount gateCount k
+calls-encode c latchCount gateCount k passed most =
+    calls-encode-for c c latchCount gateCount k passed most (accepted c latchCount gateCount k passed most) (λ g. refl)
 
 -- which test of a heading call decides
 module _ (c : Netlist) (latchCount gateCount k : ℕ) where
@@ -146,15 +156,16 @@ module _ (c : Netlist) (latchCount gateCount k : ℕ) (g : Group) (room : ℕ) w
 
   -- what a group call that is not refused has shown
   pub group-shown : groupVerdict c latchCount gateCount k g room ≡ Passed
-      → Accepted c × (k ≤ 255) × (inDepth k g ≡ true) × (length (numbersOf c k g) ≤ room)
+      → Accepted c × (k ≤ 255) × (inDepth k g ≡ true) × (numberCount c k g ≤ room)
   unfolding groupVerdict testGroup
   group-shown h =
       let a = then-passes (recordVerdict c latchCount gateCount) _ .0 h in
       let b = then-passes (testDepth k) _ .0 (a .1) in
       let d = then-passes (refuseIf (not (inDepth k g)) NoSuchGroup 0) _ .0 (b .1) in
-      let e = then-passes (testNumbers c k) _ .0 (d .1) in (
-        passes-accepted c latchCount gateCount .0 (a .0) .0,
+      let e = then-passes (testNumbers c k) _ .0 (d .1) in
+      let ok = passes-accepted c latchCount gateCount .0 (a .0) .0 in (
+        ok,
         depth-passes k (b .0),
         not-false (inDepth k g) (refuseIf-passes (not (inDepth k g)) NoSuchGroup 0 .0 (d .0)),
-        room-shown (length (numbersOf c k g)) room (e .1),
+        rw (stated c ok k .numbers-counted g) at (room-shown (length (numbersOf c k g)) room (e .1)),
       )

@@ -1,6 +1,6 @@
 -- What the calls over a record answer and leave (RULES T40, T41, T43 and G21 to G23). The right-hand sides of
 -- the public contracts, and the subject of the claim about them. Cited by the calls in `call_unpacked` and
--- `calls`, by calls/specs, by `call_replies` and by call_replies/specs.
+-- `calls`, by calls/specs, sheet_reader/specs/ReadCall, `call_replies` and call_replies/specs.
 use Prim.Native.Nat.{ℕ, _+_, _≤_}
 use mathlib.Core.Path.{_≡_}
 use mathlib.Core.Bool.{true, not}
@@ -86,20 +86,21 @@ unfoldable pub headingSent : Netlist → ℕ → ℕ → ℕ → HeadingReply
 headingSent c latchCount gateCount k =
     withHeading (headingVerdict c latchCount gateCount k) (base c (k + 1)) (length (clausesIn (formula c k)))
 
--- Demand 3, of the calls (RULES A2, A8 and A9): each group is asked for once with room enough, and the numbers are joined in the order
--- of the whole. Those numbers are the formula, and the formula encodes the runs and is as `Stated` says; the variables are at
--- most 675,841 (RULES V6), so that refusal 10 is never met; and the netlist's sheet has at most 615 lines (RULES S6).
+-- Demand 3, of the calls over the netlist d, for the netlist c that is meant: d itself, or that of the sheet which d was read from
+-- (past the sizes the two may differ). RULES A2, A8 and A9: each group is asked for once with room enough, and the numbers are joined in
+-- the order of the whole. Those numbers are c's formula, and the formula encodes the runs and is as `Stated` says; the variables are at
+-- most 675,841 (RULES V6), so that refusal 10 is never met; and c's sheet has at most 615 lines (RULES S6).
 abbrev pub RoomEnough : Netlist → ℕ → (Group → List ℤ) → Type 0
 RoomEnough c k slice = (g : Group) → inDepth k g ≡ true → length (numbersOf c k g) ≤ length (slice g)
 
-pub record CallsEncode (c : Netlist) (latchCount gateCount k : ℕ) : Type 0 where
+pub record CallsEncode (c d : Netlist) (latchCount gateCount k : ℕ) : Type 0 where
   pub calls-formula : (slice : Group → List ℤ) → RoomEnough c k slice
       → joined
-      (λ g. take (groupSent c latchCount gateCount k g (length (slice g)) .count) (groupLeaves c latchCount gateCount k g (slice g)))
+      (λ g. take (groupSent d latchCount gateCount k g (length (slice g)) .count) (groupLeaves d latchCount gateCount k g (slice g)))
       (groupOrder k)
       ≡ formula c k
   pub formula-encodes : Encodes c k
   pub formula-stated : Stated c k
   pub variables-most : base c (k + 1) ≤ 675841
-  pub numbers-suffice : testNumbers c k ≡ Passed
+  pub numbers-suffice : testNumbers d k ≡ Passed
   pub lines-most : controlLine c ≤ mostLines

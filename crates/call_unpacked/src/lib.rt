@@ -6,7 +6,6 @@ use refusals::Refusal;
 use refusals::Verdict;
 ghost use mathlib.Core.Path.{_≡_};
 ghost use lib.ListN.{length};
-ghost use Rattle.model.specs.Groups.{inDepth};
 ghost use Rattle.netlist.specs.NetOf.{netOf};
 ghost use Rattle.call_unpacked.specs.Calls.{groupReply, groupVerdict, groupSent, groupLeaves, headingReply, headingSent};
 
@@ -56,18 +55,6 @@ pub fn heading(
     }
 }
 
-// Whether there is such a group at this depth.
-fn is_in_depth(depth: u32, group: Group) -> bool
-    ensures { λ r. ⌜ r ≡ inDepth depth group ⌝ }
-{
-    match group {
-        Group::Wires(i) => i <= depth,
-        Group::Pair(j, i) => (i <= depth) & (j < i),
-        Group::Closing(i) => i <= depth,
-        Group::Property => true,
-    }
-}
-
 // The tests of a group call with a slice of `room` numbers.
 fn test_group(
     net: Netlist,
@@ -88,7 +75,7 @@ fn test_group(
     if 255 < depth {
         return Verdict::Refused(Refusal::Depth, 0);
     }
-    if !is_in_depth(depth, group) {
+    if !group_order::order::is_in_depth(depth, group) {
         return Verdict::Refused(Refusal::NoSuchGroup, 0);
     }
     if 2147483647 < clause_variables::frame_base(net, depth + 1) {

@@ -17,13 +17,13 @@ use Rattle.decimal.specs.Digits.{digitsWithin, digits, field}
 use Rattle.decimal.specs.TextValue.{sameText, valueAfter, numberIn}
 use Rattle.sheet_fields.specs.Fields.{dropSpaces, filledWith, behindSpaces, fieldOf}
 use Rattle.sheet_lines.specs.Letters.{kindOf, isFilled}
-use Rattle.sheet_lines.specs.Lines.{fieldIn, allAsWanted, lineWith, lineOf, columnText, lineText}
+use Rattle.sheet_lines.specs.Lines.{fieldIn, allAsWanted, lineWith, lineOf}
 use Rattle.sheet_lines.specs.Depth.{depthField, fieldVerdict, depthVerdict}
 use Rattle.sheet_steps.specs.LineFaults.{faultsAt}
 use Rattle.sheet_parse.specs.Files.{lineIn, sizesIn, netOfLines, netIn}
 use Rattle.sheet_parse.specs.FileTests.{ragged, notDue, testLineIn}
 use Rattle.sheet_tests.specs.Sheet.{endVerdict, fileVerdict, sheetVerdict}
-use Rattle.calls.specs.Starred.{sheetWith, net, rows, Starred}
+use Rattle.calls.specs.Starred.{sheet, loopSheet, net, rows, Starred}
 
 pub starred : Starred
 unfolding odd bit sweep isRead eitherWire dependsOnRead neg gather gatherDown andClauses sameIfClauses bitClauses addressBitClauses unequalOf allBits
@@ -32,6 +32,6 @@ unfolding odd bit sweep isRead eitherWire dependsOnRead neg gather gatherDown an
     written numbersOf joined formula splitAfter clausesIn _then_ inOrder lineAt sizeFault codeFault loopFaultBy testLines
     recordVerdict testDepth testGroup testNumbers testRoom groupVerdict headingVerdict digitsWithin digits field sameText
     valueAfter numberIn dropSpaces filledWith behindSpaces fieldOf kindOf isFilled fieldIn allAsWanted lineWith lineOf
-    columnText lineText depthField fieldVerdict depthVerdict faultsAt lineIn sizesIn netOfLines netIn ragged notDue testLineIn endVerdict
-    fileVerdict sheetVerdict sheetWith net rows
+    depthField fieldVerdict depthVerdict faultsAt lineIn sizesIn netOfLines netIn ragged notDue testLineIn endVerdict
+    fileVerdict sheetVerdict sheet loopSheet net rows
 starred = refl

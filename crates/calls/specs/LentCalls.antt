@@ -19,15 +19,15 @@ use Rattle.call_unpacked.specs.Calls.{groupSent, groupLeaves, HeadingReply, hea
 abbrev pub headingFor : Netlist → List Latch → List Gate → ℕ → HeadingReply
 headingFor net latches gates k = headingSent (netLent net latches gates) (length latches) (length gates) k
 
--- for a slice of `room` numbers, and what is left in a slice that held `old`
+-- for a slice of `room` numbers, and the contents after of a slice that held `old`
 abbrev pub groupFor : Netlist → List Latch → List Gate → ℕ → Group → ℕ → CountReply
 groupFor net latches gates k g room = groupSent (netLent net latches gates) (length latches) (length gates) k g room
 
-abbrev pub numbersLeft : Netlist → List Latch → List Gate → ℕ → Group → List ℤ → List ℤ
-numbersLeft net latches gates k g old = groupLeaves (netLent net latches gates) (length latches) (length gates) k g old
+abbrev pub numbersAfter : Netlist → List Latch → List Gate → ℕ → Group → List ℤ → List ℤ
+numbersAfter net latches gates k g old = groupLeaves (netLent net latches gates) (length latches) (length gates) k g old
 
 -- demand 3, for every accepted record and every depth from 0 to 255
 abbrev pub Claim : Netlist → List Latch → List Gate → ℕ → Type 0
 Claim net latches gates k =
     recordVerdict (netLent net latches gates) (length latches) (length gates) ≡ Passed → k ≤ mostDepth
-    → CallsEncode (netLent net latches gates) (length latches) (length gates) k
+    → CallsEncode (netLent net latches gates) (netLent net latches gates) (length latches) (length gates) k

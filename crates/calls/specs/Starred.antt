@@ -3,7 +3,7 @@
 use Prim.Native.Nat.{ℕ}
 use mathlib.Core.Path.{_≡_}
 use mathlib.Core.List.{List, [], _∷_, _++_, map}
-use lib.ListN.{length}
+use lib.ListN.{length, set}
 use Rattle.model.specs.Netlist.{Netlist}
 use Rattle.model.specs.Variables.{base}
 use Rattle.model.specs.Numbers.{numbersOf, formula, clausesIn}
@@ -11,22 +11,27 @@ use Rattle.model.specs.declared.Group.the-variants.{Pair}
 use Rattle.refusals.specs.Refusal.{replyOf}
 use Rattle.refusals.specs.declared.Verdict.{Verdict}
 use Rattle.decimal.specs.Digits.{lineFeed, field}
-use Rattle.sheet_lines.specs.Lines.{lineText}
 use Rattle.sheet_lines.specs.Depth.{depthVerdict}
-use Rattle.sheet_lines.specs.declared.Kind.the-variants.{Sizes, Memory, Address, WriteData, Control}
 use Rattle.sheet_parse.specs.Files.{netIn}
 use Rattle.sheet_tests.specs.Sheet.{sheetVerdict}
 use Rattle.call_unpacked.specs.Calls.{groupVerdict, headingVerdict}
 
--- `N 1 0 0`, `M 1 1 0`, `A` with the address code given, `D 2`, `C 1 1 5`, each spread to 32 bytes; that of RULES P8 has address
--- code 0
-unfoldable pub sheetWith : ℕ → List ℕ
-sheetWith address =
-    lineText Sizes 1 0 0 ++ lineText Memory 1 1 0 ++ lineText Address address 0 0 ++ lineText WriteData 2 0 0 ++ lineText Control 1 1 5
+-- its bytes, a line here for each of its lines: `N 1 0 0`, `M 1 1 0`, `A 0`, `D 2`, `C 1 1 5`, each spread to 32 bytes (RULES P8)
+unfoldable pub sheet : List ℕ
+sheet =
+    78 ∷ 32 ∷ 32 ∷ 32 ∷ 32 ∷ 32 ∷ 32 ∷ 32 ∷ 32 ∷ 32 ∷ 49 ∷ 32 ∷ 32 ∷ 32 ∷ 32 ∷ 32 ∷ 32 ∷ 32 ∷ 32 ∷ 32 ∷ 48 ∷ 32 ∷ 32 ∷ 32 ∷ 32 ∷ 32 ∷ 32 ∷ 32 ∷ 32 ∷ 32 ∷ 48 ∷ 10
+    ∷ 77 ∷ 32 ∷ 32 ∷ 32 ∷ 32 ∷ 32 ∷ 32 ∷ 32 ∷ 32 ∷ 32 ∷ 49 ∷ 32 ∷ 32 ∷ 32 ∷ 32 ∷ 32 ∷ 32 ∷ 32 ∷ 32 ∷ 32 ∷ 49 ∷ 32 ∷ 32 ∷ 32 ∷ 32 ∷ 32 ∷ 32 ∷ 32 ∷ 32 ∷ 32 ∷ 48 ∷ 10
+    ∷ 65 ∷ 32 ∷ 32 ∷ 32 ∷ 32 ∷ 32 ∷ 32 ∷ 32 ∷ 32 ∷ 32 ∷ 48 ∷ 32 ∷ 32 ∷ 32 ∷ 32 ∷ 32 ∷ 32 ∷ 32 ∷ 32 ∷ 32 ∷ 32 ∷ 32 ∷ 32 ∷ 32 ∷ 32 ∷ 32 ∷ 32 ∷ 32 ∷ 32 ∷ 32 ∷ 32 ∷ 10
+    ∷ 68 ∷ 32 ∷ 32 ∷ 32 ∷ 32 ∷ 32 ∷ 32 ∷ 32 ∷ 32 ∷ 32 ∷ 50 ∷ 32 ∷ 32 ∷ 32 ∷ 32 ∷ 32 ∷ 32 ∷ 32 ∷ 32 ∷ 32 ∷ 32 ∷ 32 ∷ 32 ∷ 32 ∷ 32 ∷ 32 ∷ 32 ∷ 32 ∷ 32 ∷ 32 ∷ 32 ∷ 10
+    ∷ 67 ∷ 32 ∷ 32 ∷ 32 ∷ 32 ∷ 32 ∷ 32 ∷ 32 ∷ 32 ∷ 32 ∷ 49 ∷ 32 ∷ 32 ∷ 32 ∷ 32 ∷ 32 ∷ 32 ∷ 32 ∷ 32 ∷ 32 ∷ 49 ∷ 32 ∷ 32 ∷ 32 ∷ 32 ∷ 32 ∷ 32 ∷ 32 ∷ 32 ∷ 32 ∷ 53 ∷ 10 ∷ []
+
+-- the same with address code 4, the read bit's: byte 74, the last column of the A line's first field, is the digit 4
+unfoldable pub loopSheet : List ℕ
+loopSheet = set sheet 74 52
 
 -- the netlist that it is read as
 unfoldable pub net : Netlist
-net = netIn (sheetWith 0)
+net = netIn sheet
 
 -- the numbers that the definitions give, and those that the rules state
 pub record Row : Type 0 where
@@ -56,7 +61,7 @@ rows =
     -- RULES F6: depth 1 has 24 clauses
     ∷ row (length (clausesIn (formula net 1)) ∷ []) (24 ∷ [])
     -- RULES F7: address code 0 is taken, 4 gives 6 at line 3
-    ∷ row (sent (sheetVerdict (sheetWith 0) 0 0) ++ sent (sheetVerdict (sheetWith 4) 0 0)) (0 ∷ 0 ∷ 6 ∷ 3 ∷ [])
+    ∷ row (sent (sheetVerdict sheet 0 0) ++ sent (sheetVerdict loopSheet 0 0)) (0 ∷ 0 ∷ 6 ∷ 3 ∷ [])
     -- RULES F8: depth 255 is taken, 256 gives 7, in a call and on the depth line
     ∷ row (sent (headingVerdict net 0 0 255) ++ sent (headingVerdict net 0 0 256) ++ sent (depthVerdict (depthText 255)) ++ sent (depthVerdict (depthText 256)))
     (0 ∷ 0 ∷ 7 ∷ 0 ∷ 0 ∷ 0 ∷ 7 ∷ 0 ∷ [])

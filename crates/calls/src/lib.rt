@@ -8,14 +8,16 @@ use model::Group;
 use netlist::Netlist;
 ghost use mathlib.Core.Path.{_≡_};
 ghost use lib.ListN.{length};
+ghost use Rattle.model.specs.Acceptance.{PathTheorem};
 ghost use Rattle.calls.specs.Starred.{Starred};
 ghost use Rattle.call_unpacked.specs.Calls.{groupReply, headingReply};
-ghost use Rattle.calls.specs.LentCalls.{headingFor, groupFor, numbersLeft, Claim};
+ghost use Rattle.calls.specs.LentCalls.{headingFor, groupFor, numbersAfter, Claim};
 
 // The heading of a depth, RULES G23: "the variables that are numbered .. and the clauses that are really written".
 pub fn heading(net: Netlist, latches: &[Latch], gates: &[Gate], depth: u32) -> HeadingAnswer
     ensures answer { λ r. ⌜ headingReply r ≡ headingFor net (now (latches .entry)) (now (gates .entry)) depth ⌝ }
     ensures claim { λ r. ⌜ Claim net (now (latches .entry)) (now (gates .entry)) depth ⌝ }
+    ensures paths { λ r. ⌜ PathTheorem ⌝ }
     ensures starred { λ r. ⌜ Starred ⌝ }
 {
     let mut latch_codes = [0; 1200];
@@ -43,7 +45,7 @@ pub fn write_group(
     out: &mut [i32],
 ) -> GroupAnswer
     ensures answer { λ r. ⌜ groupReply r ≡ groupFor net (now (latches .entry)) (now (gates .entry)) depth group (length (now (out .entry))) ⌝ }
-    ensures borrowed { λ r. ⌜ now (out .exit) ≡ numbersLeft net (now (latches .entry)) (now (gates .entry)) depth group (now (out .entry)) ⌝ }
+    ensures borrowed { λ r. ⌜ now (out .exit) ≡ numbersAfter net (now (latches .entry)) (now (gates .entry)) depth group (now (out .entry)) ⌝ }
 {
     let mut latch_codes = [0; 1200];
     call_lists::unpack::unpack_latches(&mut latch_codes, latches);

@@ -14,10 +14,9 @@ ghost use Rattle.clause_tseitin.specs.BothClauses.{bothClauses};
 
 // Two clauses of two literals: (a b), (c d).
 fn put_two_binary(out: &mut [i32], a: Lit, b: Lit, c: Lit, d: Lit) -> usize
-    requires { ⌜ IsLit a × IsLit b × IsLit c × IsLit d
-        × (length (written ((literalOf a ∷ literalOf b ∷ []) ∷ (literalOf c ∷ literalOf d ∷ []) ∷ [])) ≤ length (now out)) ⌝ }
+    requires { ⌜ IsLit a × IsLit b × IsLit c × IsLit d × (6 ≤ length (now out)) ⌝ }
     ensures { λ r. ⌜ Wrote (written ((literalOf a ∷ literalOf b ∷ []) ∷ (literalOf c ∷ literalOf d ∷ []) ∷ []))
-        (now (out .entry)) (now (out .exit)) r ⌝ }
+        (now (out .entry)) (now (out .exit)) r × (r ≤ 6) ⌝ }
 {
     let i = put_binary(out, a, b);
     i + put_binary(&mut out[i..], c, d)
@@ -25,8 +24,9 @@ fn put_two_binary(out: &mut [i32], a: Lit, b: Lit, c: Lit, d: Lit) -> usize
 
 // The clauses of a gate g = a ∧ b.
 pub fn put_and(out: &mut [i32], g: Lit, a: Lit, b: Lit) -> usize
-    requires { ⌜ IsLit g × IsLit a × IsLit b × (length (written (andClauses (literalOf g) (literalOf a) (literalOf b))) ≤ length (now out)) ⌝ }
-    ensures { λ r. ⌜ Wrote (written (andClauses (literalOf g) (literalOf a) (literalOf b))) (now (out .entry)) (now (out .exit)) r ⌝ }
+    requires { ⌜ IsLit g × IsLit a × IsLit b × (10 ≤ length (now out)) ⌝ }
+    ensures { λ r. ⌜ Wrote (written (andClauses (literalOf g) (literalOf a) (literalOf b)))
+        (now (out .entry)) (now (out .exit)) r × (r ≤ 10) ⌝ }
 {
     let not_g = g.negated();
     let i = put_two_binary(out, not_g, a, not_g, b);
@@ -35,18 +35,17 @@ pub fn put_and(out: &mut [i32], g: Lit, a: Lit, b: Lit) -> usize
 
 // The clauses of q = d.
 pub fn put_same(out: &mut [i32], q: Lit, d: Lit) -> usize
-    requires { ⌜ IsLit q × IsLit d × (length (written (sameClauses (literalOf q) (literalOf d))) ≤ length (now out)) ⌝ }
-    ensures { λ r. ⌜ Wrote (written (sameClauses (literalOf q) (literalOf d))) (now (out .entry)) (now (out .exit)) r ⌝ }
+    requires { ⌜ IsLit q × IsLit d × (6 ≤ length (now out)) ⌝ }
+    ensures { λ r. ⌜ Wrote (written (sameClauses (literalOf q) (literalOf d))) (now (out .entry)) (now (out .exit)) r × (r ≤ 6) ⌝ }
 {
     put_two_binary(out, q.negated(), d, q, d.negated())
 }
 
 // Two clauses of three literals that begin alike: (p a b), (p c d).
 fn put_two_ternary(out: &mut [i32], p: Lit, a: Lit, b: Lit, c: Lit, d: Lit) -> usize
-    requires { ⌜ IsLit p × IsLit a × IsLit b × IsLit c × IsLit d
-        × (length (written (bothClauses (literalOf p) (literalOf a) (literalOf b) (literalOf c) (literalOf d))) ≤ length (now out)) ⌝ }
+    requires { ⌜ IsLit p × IsLit a × IsLit b × IsLit c × IsLit d × (8 ≤ length (now out)) ⌝ }
     ensures { λ r. ⌜ Wrote (written (bothClauses (literalOf p) (literalOf a) (literalOf b) (literalOf c) (literalOf d)))
-        (now (out .entry)) (now (out .exit)) r ⌝ }
+        (now (out .entry)) (now (out .exit)) r × (r ≤ 8) ⌝ }
 {
     let i = put_ternary(out, p, a, b);
     i + put_ternary(&mut out[i..], p, c, d)
@@ -54,8 +53,9 @@ fn put_two_ternary(out: &mut [i32], p: Lit, a: Lit, b: Lit, c: Lit, d: Lit) -> u
 
 // The clauses of a = b where p is true.
 pub fn put_same_if(out: &mut [i32], p: Lit, a: Lit, b: Lit) -> usize
-    requires { ⌜ IsLit p × IsLit a × IsLit b × (length (written (sameIfClauses (literalOf p) (literalOf a) (literalOf b))) ≤ length (now out)) ⌝ }
-    ensures { λ r. ⌜ Wrote (written (sameIfClauses (literalOf p) (literalOf a) (literalOf b))) (now (out .entry)) (now (out .exit)) r ⌝ }
+    requires { ⌜ IsLit p × IsLit a × IsLit b × (8 ≤ length (now out)) ⌝ }
+    ensures { λ r. ⌜ Wrote (written (sameIfClauses (literalOf p) (literalOf a) (literalOf b)))
+        (now (out .entry)) (now (out .exit)) r × (r ≤ 8) ⌝ }
 {
     put_two_ternary(out, p.negated(), a.negated(), b, a, b.negated())
 }
@@ -63,10 +63,9 @@ pub fn put_same_if(out: &mut [i32], p: Lit, a: Lit, b: Lit) -> usize
 // The clauses of one address bit, `x` of the writing frame and `y` of the reading one: `address_equal` where all bits are, `bit_equal`
 // where this one is.
 pub fn put_bit(out: &mut [i32], address_equal: Lit, bit_equal: Lit, x: Lit, y: Lit) -> usize
-    requires { ⌜ IsLit «address_equal» × IsLit «bit_equal» × IsLit x × IsLit y
-        × (length (written (bitClauses (literalOf «address_equal») (literalOf «bit_equal») (literalOf x) (literalOf y))) ≤ length (now out)) ⌝ }
+    requires { ⌜ IsLit «address_equal» × IsLit «bit_equal» × IsLit x × IsLit y × (16 ≤ length (now out)) ⌝ }
     ensures { λ r. ⌜ Wrote (written (bitClauses (literalOf «address_equal») (literalOf «bit_equal») (literalOf x) (literalOf y)))
-        (now (out .entry)) (now (out .exit)) r ⌝ }
+        (now (out .entry)) (now (out .exit)) r × (r ≤ 16) ⌝ }
 {
     let not_x = x.negated();
     let not_y = y.negated();

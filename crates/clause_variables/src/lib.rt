@@ -43,7 +43,7 @@ pub fn numbering(net: Netlist) -> Numbering
     ensures { λ r. ⌜ (r .wires ≡ lastWire (alone net)) × (r .stride ≡ stride (alone net)) ⌝ }
 {
     Numbering {
-        wires: netlist::last_wire(net),
+        wires: netlist::wire_count(net),
         stride: net.m + 4,
     }
 }

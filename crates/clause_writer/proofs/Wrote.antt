@@ -6,7 +6,7 @@ use lib.ListN.{length}
 use borrow.Rule.Slice.PartMut.{midOf, putMid}
 use Rattle.model.specs.Wrote.{Wrote}
 use Rattle.model.proofs.Wrote as W
-pub use Rattle.model.proofs.Wrote.{wrote-nothing, wrote-length, rest-within, rest-room}
+pub use Rattle.model.proofs.Wrote.{wrote-nothing, wrote-length, rest-room}
 
 module _ {A : Type 0} {xs old mid : List A} {r : ℕ} (w : Wrote xs old mid r) where
   -- a second writer is lent the rest

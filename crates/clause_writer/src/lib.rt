@@ -11,8 +11,8 @@ ghost use Rattle.model.specs.Wrote.{Wrote};
 
 // One literal of a clause.
 pub fn put_literal(out: &mut [i32], a: Lit) -> usize
-    requires { ⌜ IsLit a × (length (numberOf (literalOf a) ∷ []) ≤ length (now out)) ⌝ }
-    ensures { λ r. ⌜ Wrote (numberOf (literalOf a) ∷ []) (now (out .entry)) (now (out .exit)) r ⌝ }
+    requires { ⌜ IsLit a × (1 ≤ length (now out)) ⌝ }
+    ensures { λ r. ⌜ Wrote (numberOf (literalOf a) ∷ []) (now (out .entry)) (now (out .exit)) r × (r ≤ 1) ⌝ }
 {
     let x = a.0;
     out[0] = x;
@@ -21,8 +21,8 @@ pub fn put_literal(out: &mut [i32], a: Lit) -> usize
 
 // The end mark of a clause.
 pub fn put_end(out: &mut [i32]) -> usize
-    requires { ⌜ length (pos 0 ∷ []) ≤ length (now out) ⌝ }
-    ensures { λ r. ⌜ Wrote (pos 0 ∷ []) (now (out .entry)) (now (out .exit)) r ⌝ }
+    requires { ⌜ 1 ≤ length (now out) ⌝ }
+    ensures { λ r. ⌜ Wrote (pos 0 ∷ []) (now (out .entry)) (now (out .exit)) r × (r ≤ 1) ⌝ }
 {
     out[0] = 0;
     1
@@ -30,8 +30,8 @@ pub fn put_end(out: &mut [i32]) -> usize
 
 // A clause of one literal.
 pub fn put_unit(out: &mut [i32], a: Lit) -> usize
-    requires { ⌜ IsLit a × (length (written ((literalOf a ∷ []) ∷ [])) ≤ length (now out)) ⌝ }
-    ensures { λ r. ⌜ Wrote (written ((literalOf a ∷ []) ∷ [])) (now (out .entry)) (now (out .exit)) r ⌝ }
+    requires { ⌜ IsLit a × (2 ≤ length (now out)) ⌝ }
+    ensures { λ r. ⌜ Wrote (written ((literalOf a ∷ []) ∷ [])) (now (out .entry)) (now (out .exit)) r × (r ≤ 2) ⌝ }
 {
     let i = put_literal(out, a);
     i + put_end(&mut out[i..])
@@ -39,8 +39,8 @@ pub fn put_unit(out: &mut [i32], a: Lit) -> usize
 
 // A clause of two literals.
 pub fn put_binary(out: &mut [i32], a: Lit, b: Lit) -> usize
-    requires { ⌜ IsLit a × IsLit b × (length (written ((literalOf a ∷ literalOf b ∷ []) ∷ [])) ≤ length (now out)) ⌝ }
-    ensures { λ r. ⌜ Wrote (written ((literalOf a ∷ literalOf b ∷ []) ∷ [])) (now (out .entry)) (now (out .exit)) r ⌝ }
+    requires { ⌜ IsLit a × IsLit b × (3 ≤ length (now out)) ⌝ }
+    ensures { λ r. ⌜ Wrote (written ((literalOf a ∷ literalOf b ∷ []) ∷ [])) (now (out .entry)) (now (out .exit)) r × (r ≤ 3) ⌝ }
 {
     let i = put_literal(out, a);
     i + put_unit(&mut out[i..], b)
@@ -48,9 +48,9 @@ pub fn put_binary(out: &mut [i32], a: Lit, b: Lit) -> usize
 
 // A clause of three literals.
 pub fn put_ternary(out: &mut [i32], a: Lit, b: Lit, c: Lit) -> usize
-    requires { ⌜ IsLit a × IsLit b × IsLit c
-        × (length (written ((literalOf a ∷ literalOf b ∷ literalOf c ∷ []) ∷ [])) ≤ length (now out)) ⌝ }
-    ensures { λ r. ⌜ Wrote (written ((literalOf a ∷ literalOf b ∷ literalOf c ∷ []) ∷ [])) (now (out .entry)) (now (out .exit)) r ⌝ }
+    requires { ⌜ IsLit a × IsLit b × IsLit c × (4 ≤ length (now out)) ⌝ }
+    ensures { λ r. ⌜ Wrote (written ((literalOf a ∷ literalOf b ∷ literalOf c ∷ []) ∷ [])) (now (out .entry)) (now (out .exit)) r
+        × (r ≤ 4) ⌝ }
 {
     let i = put_literal(out, a);
     i + put_binary(&mut out[i..], b, c)

@@ -19,12 +19,12 @@ use Rattle.decimal.specs.declared.Number.the-variants.{Value, NotANumber
 use Rattle.decimal.proofs.Digits.{digits-single, digits-snoc, digits-behind, by-tenths, length-digits-some, length-digits-ten}
 
 -- the computed equality of texts
-sameText-refl : (s : List ℕ) → sameText s s ≡ true
+pub sameText-refl : (s : List ℕ) → sameText s s ≡ true
 unfolding sameText
 sameText-refl [] = refl
 sameText-refl (c ∷ s) = rw (eq-eqb c c refl, sameText-refl s)
 
-sameText-true : (s t : List ℕ) → sameText s t ≡ true → s ≡ t
+pub sameText-true : (s t : List ℕ) → sameText s t ≡ true → s ≡ t
 unfolding sameText
 sameText-true [] [] h = refl
 sameText-true [] (d ∷ t) h = absurd (false≢true h)

@@ -1,3 +1,4 @@
 -- Numbers as decimal text, in reading order. Nothing here imports a law or a proof.
 pub mod Digits
 pub mod TextValue
+pub mod SignedValue

@@ -4,6 +4,7 @@ ghost use Prim.Native.Nat.{_≤_};
 ghost use lib.ListN.{length, replicate};
 ghost use Rattle.decimal.specs.Digits.{digits, space, field};
 ghost use Rattle.decimal.specs.TextValue.{numberIn};
+ghost use Rattle.decimal.specs.SignedValue.{clauseNumberIn};
 ghost use Rattle.model.specs.Wrote.{Wrote};
 
 // What a text is read as. A number is at most 4,294,967,295.
@@ -44,6 +45,41 @@ pub fn read_number(text: &[u8]) -> Number
         return Number::NotANumber;
     }
     Number::Value(value as u32)
+}
+
+// What a word is read as where clause numbers stand. The 0 that ends a clause is one here.
+pub enum ClauseNumber {
+    Value(i32),
+    NotANumber,
+}
+
+// The clause number, or 0, that the whole text stands for: digits, or those of a number above 0 behind one minus.
+pub fn read_clause_number(text: &[u8]) -> ClauseNumber
+    ensures { λ r. ⌜ r ≡ clauseNumberIn (now (text .entry)) ⌝ }
+{
+    if text.len() == 0 {
+        return ClauseNumber::NotANumber;
+    }
+    if text[0] == b'-' {
+        let Number::Value(x) = read_number(&text[1..]) else {
+            return ClauseNumber::NotANumber;
+        };
+        if x == 0 {
+            return ClauseNumber::NotANumber;
+        }
+        if 2147483647 < x {
+            return ClauseNumber::NotANumber;
+        }
+        let z = x as i32;
+        return ClauseNumber::Value(-z);
+    }
+    let Number::Value(x) = read_number(text) else {
+        return ClauseNumber::NotANumber;
+    };
+    if 2147483647 < x {
+        return ClauseNumber::NotANumber;
+    }
+    ClauseNumber::Value(x as i32)
 }
 
 // How many digits a number has.

@@ -1,19 +1,22 @@
 -- Laws of specs/Text.antt: the texts' lengths, and the clauses' text number by number. No contract cites this file.
 use Prim.Native.Nat.{ℕ, zero, suc, _+_, _*_, _^_, _≤_, _<_}
 use mathlib.Core.Path.{_≡_, refl, sym, ap, _∙_}
+use mathlib.Core.Bool.{true}
 use mathlib.Core.List.{List, [], _∷_, _++_, append-assoc, append-nil}
 use native.Mathlib.Omega.{arith}
+use borrow.Author.Tests.{ltb-true}
+use lib.Dec.{ltb}
 use lib.IntN.{ℤ, pos, negsuc}
 use lib.ListN.{length, length-append, getD, take, drop, take-append-drop}
 use lib.Seq.{take-suc}
 use lib.Signed.{mag}
 use mir.Syntax.{w32}
 use mir.Val.{SFits, toZ, ofZ}
-use Rattle.decimal.proofs.Digits.{digits-single, length-digits-ten, length-field}
+use Rattle.decimal.proofs.Digits.{digits-single, digits-behind, length-digits-ten, length-field}
 use Rattle.decimal.proofs.Signed.{length-signedDigits, read-back}
-use Rattle.decimal.specs.Digits.{digit, space, lineFeed, digits, field, signedDigits}
+use Rattle.decimal.specs.Digits.{digit, space, minus, lineFeed, digits, field, signedDigits}
 use Rattle.model.proofs.Gather.{All, nothing, also}
-use Rattle.dimacs.specs.Text.{problem, refused, headerText, refusalText, behind, numberText, clauseText}
+use Rattle.dimacs.specs.Text.{problem, refused, headerText, refusalText, behind, numberText, clauseText, OtherNumbers}
 
 -- the header's length
 pub length-headerText : (variables clauses : ℕ) → length (headerText variables clauses) ≡ 8 + length (digits variables) + length (digits clauses)
@@ -91,3 +94,23 @@ unfolding clauseText
 length-clauseText nothing = omega arith
 length-clauseText (also {x = z} {xs = zs} f r) =
     rw (length-append (numberText z) (clauseText zs)) (omega (arith, length-numberText z f, length-clauseText r))
+
+-- one digit more, of numbers that are written out
+digits-more : (v d : ℕ) {ds : List ℕ} → ltb 0 v ≡ true → ltb d 10 ≡ true → digits v ≡ ds → digits (v * 10 + d) ≡ ds ++ digit d ∷ []
+digits-more v d some single e = digits-behind v d (ltb-true 0 v some) (ltb-true d 10 single) ∙ ap (λ (xs : List ℕ). xs ++ digit d ∷ []) e
+
+digits-least : digits 2147483648 ≡ 50 ∷ 49 ∷ 52 ∷ 55 ∷ 52 ∷ 56 ∷ 51 ∷ 54 ∷ 52 ∷ 56 ∷ []
+digits-least =
+    digits-more 214748364 8 refl refl (digits-more 21474836 4 refl refl (digits-more 2147483 6 refl refl
+    (digits-more 214748 3 refl refl (digits-more 21474 8 refl refl (digits-more 2147 4 refl refl
+    (digits-more 214 7 refl refl (digits-more 21 4 refl refl (digits-more 2 1 refl refl (digits-single 2 (omega arith))))))))))
+
+-- the text of numbers that make no clause
+pub other-numbers : OtherNumbers
+unfolding clauseText signedDigits
+other-numbers =
+    record {
+      end-alone = ap (λ (ds : List ℕ). (ds ++ lineFeed ∷ []) ++ []) (digits-single 0 (omega arith));
+      not-ended = ap (λ (ds : List ℕ). (ds ++ space ∷ []) ++ []) (digits-single 7 (omega arith));
+      least = ap (λ (ds : List ℕ). ((minus ∷ ds) ++ space ∷ []) ++ []) digits-least;
+    }

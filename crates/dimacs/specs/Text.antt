@@ -1,6 +1,7 @@
 -- The bytes that `frames` prints (RULES P2 and P3): header, clauses, refusal. A text is a list of
 -- bytes. Cited by every function that writes one.
 use Prim.Native.Nat.{ℕ, zero, suc}
+use mathlib.Core.Path.{_≡_}
 use mathlib.Core.List.{List, [], _∷_, _++_}
 use lib.IntN.{ℤ, pos, negsuc}
 use Rattle.decimal.specs.Digits.{space, lineFeed, digits, field, signedDigits}
@@ -27,10 +28,18 @@ behind (negsuc v) = space
 abbrev pub numberText : ℤ → List ℕ
 numberText z = signedDigits z ++ behind z ∷ []
 
--- RULES P2: "then one clause a line, with single spaces between its numbers"; numbers with end marks
+-- RULES P2: "then one clause a line, with single spaces between its numbers"; numbers with end marks. Every number has its text,
+-- whether it is a clause number or not
 unfoldable pub clauseText : List ℤ → List ℕ
 clauseText [] = []
 clauseText (z ∷ zs) = numberText z ++ clauseText zs
+
+-- Numbers that make no clause: an end mark behind no number is a line of its own, what stands behind the last end mark has no line
+-- feed, and −2,147,483,648, which is no clause number, is printed in decimal as any other is.
+pub record OtherNumbers : Type 0 where
+  pub end-alone : clauseText (pos 0 ∷ []) ≡ 48 ∷ lineFeed ∷ []
+  pub not-ended : clauseText (pos 7 ∷ []) ≡ 55 ∷ space ∷ []
+  pub least : clauseText (negsuc 2147483647 ∷ []) ≡ 45 ∷ 50 ∷ 49 ∷ 52 ∷ 55 ∷ 52 ∷ 56 ∷ 51 ∷ 54 ∷ 52 ∷ 56 ∷ space ∷ []
 
 -- RULES P3: "`refused`, the number and the place, each of these in ten columns .. nothing between .. and a line feed"
 unfoldable pub refusalText : ℕ → ℕ → List ℕ

@@ -5,7 +5,7 @@ ghost use lib.Dec.{leb};
 ghost use lib.ListN.{length};
 ghost use Rattle.model.specs.Wrote.{Wrote};
 ghost use Rattle.text_writer.specs.Table.{TableOrNone};
-ghost use Rattle.dimacs.specs.Text.{headerText, numberText, clauseText, refusalText};
+ghost use Rattle.dimacs.specs.Text.{headerText, numberText, clauseText, OtherNumbers, refusalText};
 ghost use Rattle.dimacs.specs.PrintCalls.{printReply, printSent, printLeaves};
 use decimal::digit_count;
 use decimal::put_field;
@@ -61,14 +61,14 @@ fn number_length(z: i32) -> usize
 fn clauses_fit(room: usize, numbers: &[i32]) -> bool
     ensures { λ r. ⌜ r ≡ leb (length (clauseText (now (numbers .entry)))) room ⌝ }
 {
-    let mut left = room;
+    let mut remaining = room;
     let mut i = 0;
     while i < numbers.len() {
         let need = number_length(numbers[i]);
-        if left < need {
+        if remaining < need {
             return false;
         }
-        left -= need;
+        remaining -= need;
         i += 1;
     }
     true
@@ -106,10 +106,12 @@ pub fn put_header(out: &mut [u8], variables: u32, clauses: u32) -> PrintAnswer
     PrintAnswer::Written(write_header(out, variables, clauses))
 }
 
-// Prints numbers with end marks, a clause a line. It fills no table: that takes longer than a group does without it.
+// Prints numbers with end marks, a clause a line. Any 32-bit number is printed in decimal, also the least, which is no clause number,
+// and 0 ends a line wherever it stands. It fills no table: that takes longer than a group does without it.
 pub fn put_clauses(out: &mut [u8], numbers: &[i32]) -> PrintAnswer
     ensures answer { λ r. ⌜ printReply r ≡ printSent (clauseText (now (numbers .entry))) (length (now (out .entry))) ⌝ }
     ensures borrowed { λ _. ⌜ now (out .exit) ≡ printLeaves (clauseText (now (numbers .entry))) (now (out .entry)) ⌝ }
+    ensures others { λ _. ⌜ OtherNumbers ⌝ }
 {
     if clauses_fit(out.len(), numbers) {
         return PrintAnswer::Written(write_numbers(out, numbers, b""));

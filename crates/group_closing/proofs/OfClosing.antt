@@ -6,7 +6,6 @@ use mathlib.Core.List.{List, [], _∷_, _++_, map}
 use native.Mathlib.Nat.{add-zero, add-assoc, zero-mul}
 use native.Mathlib.Omega.{arith}
 use lib.IntN.{ℤ}
-use lib.ListN.{length}
 use Rattle.model.specs.Bits.{bit}
 use Rattle.model.specs.Netlist.{Port, readWire}
 use Rattle.model.specs.Netlist as M
@@ -20,7 +19,7 @@ use Rattle.netlist.specs.NetOf.{netOf, alone}
 use Rattle.netlist.specs.declared.Netlist.{Netlist}
 use Rattle.clause_variables.specs.declared.Port as R
 use Rattle.clause_variables.specs.PortOf.{portOf}
-use Rattle.clause_writer.proofs.Turns.{written-gather, numbers-gather, gather-same, length-written}
+use Rattle.clause_writer.proofs.Turns.{written-gather, numbers-gather, gather-same}
 use Rattle.group_closing.specs.OfClosing.{ofClosing}
 
 -- the clauses of data bit t, from Z, the frame's base, the read wires before the port's and the port's before it, the start word
@@ -53,14 +52,8 @@ sources net port i n {q} {s} e es =
     ∙ gather-same n _ (sourceAt q s (net .m + 4))
     (λ j. rw (source-base (alone net) (portOf port) i e es j, add-assoc (pairBase (alone net) (portOf port) j i) (net .m) 4))
 
--- the parts of a closing's clauses, in their order, and their room
+-- the parts of a closing's clauses, in their order
 pub closing-parts : (n i : ℕ) (x : ClosingLiterals)
     → written (closingClauses n i x) ≡ written (gather n (initialReadClauses x)) ++ written (someSource i x ∷ [])
 unfolding closingClauses
 closing-parts n i x = written-append (gather n (initialReadClauses x)) (someSource i x ∷ [])
-
-pub closing-room : (n i : ℕ) (x : ClosingLiterals)
-    → length (written (closingClauses n i x))
-    ≡ length (written (gather n (initialReadClauses x))) + length (written (someSource i x ∷ []))
-unfolding closingClauses
-closing-room n i x = length-written (gather n (initialReadClauses x)) (someSource i x ∷ [])

@@ -4,7 +4,7 @@ use clause_variables::Port;
 use literals::Lit;
 use literals::Wire;
 use netlist::Netlist;
-ghost use Prim.Native.Nat.{_≤_, _<_};
+ghost use Prim.Native.Nat.{_+_, _*_, _≤_, _<_};
 ghost use mathlib.Core.List.{[], _∷_, map};
 ghost use lib.ListN.{length};
 ghost use Rattle.model.specs.Bits.{bit};
@@ -25,18 +25,18 @@ fn put_initial_bit(
     word: u32,
     t: u32,
 ) -> usize
-    requires { ⌜ IsLit «none_since» × HasNumber reading (rd .0) × (1 ≤ rd .0) × (t < 32)
-        × (length (written (sameIfClauses (literalOf «none_since») (wireAt reading (rd .0)) (known (bit word t)))) ≤ length (now out)) ⌝ }
+    requires { ⌜ IsLit «none_since» × HasNumber reading (rd .0) × (1 ≤ rd .0) × (t < 32) × (8 ≤ length (now out)) ⌝ }
     ensures { λ r. ⌜ Wrote (written (sameIfClauses (literalOf «none_since») (wireAt reading (rd .0)) (known (bit word t))))
-        (now (out .entry)) (now (out .exit)) r ⌝ }
+        (now (out .entry)) (now (out .exit)) r × (r ≤ 8) ⌝ }
 {
     clause_tseitin::put_same_if(out, none_since, rd.in_frame(reading), Lit::bit(word, t))
 }
 
 // The clauses of each data bit, in bit order.
 fn put_initial_reads(out: &mut [i32], net: Netlist, port: Port, i: u32) -> usize
-    requires { ⌜ ClosingFits net port i × (length (written (gather (net .n) (initialReadClauses (ofClosing net port i)))) ≤ length (now out)) ⌝ }
-    ensures { λ r. ⌜ Wrote (written (gather (net .n) (initialReadClauses (ofClosing net port i)))) (now (out .entry)) (now (out .exit)) r ⌝ }
+    requires { ⌜ ClosingFits net port i × (net .n * 8 ≤ length (now out)) ⌝ }
+    ensures { λ r. ⌜ Wrote (written (gather (net .n) (initialReadClauses (ofClosing net port i))))
+        (now (out .entry)) (now (out .exit)) r × (r ≤ net .n * 8) ⌝ }
 {
     let none_since = clause_variables::none_since(net, port, 0, i);
     let reading = clause_variables::frame_base(net, i);
@@ -52,7 +52,7 @@ fn put_initial_reads(out: &mut [i32], net: Netlist, port: Port, i: u32) -> usize
                 &mut out[at..],
                 none_since,
                 reading,
-                Wire(first + (read + t)),
+                first.offset(read + t),
                 word,
                 t,
             );
@@ -63,8 +63,9 @@ fn put_initial_reads(out: &mut [i32], net: Netlist, port: Port, i: u32) -> usize
 
 // S of each earlier frame, in ascending order.
 fn put_sources(out: &mut [i32], net: Netlist, port: Port, i: u32) -> usize
-    requires { ⌜ ClosingFits net port i × (length (map numberOf (gather i (selectedOf (ofClosing net port i)))) ≤ length (now out)) ⌝ }
-    ensures { λ r. ⌜ Wrote (map numberOf (gather i (selectedOf (ofClosing net port i)))) (now (out .entry)) (now (out .exit)) r ⌝ }
+    requires { ⌜ ClosingFits net port i × (i ≤ length (now out)) ⌝ }
+    ensures { λ r. ⌜ Wrote (map numberOf (gather i (selectedOf (ofClosing net port i))))
+        (now (out .entry)) (now (out .exit)) r × (r ≤ i) ⌝ }
 {
     let q = clause_variables::pair_base(net, port, 0, i);
     let numbering = clause_variables::numbering(net);
@@ -82,8 +83,9 @@ fn put_sources(out: &mut [i32], net: Netlist, port: Port, i: u32) -> usize
 
 // The sources, with the end mark.
 fn put_last_sources(out: &mut [i32], net: Netlist, port: Port, i: u32) -> usize
-    requires { ⌜ ClosingFits net port i × (length (written (gather i (selectedOf (ofClosing net port i)) ∷ [])) ≤ length (now out)) ⌝ }
-    ensures { λ r. ⌜ Wrote (written (gather i (selectedOf (ofClosing net port i)) ∷ [])) (now (out .entry)) (now (out .exit)) r ⌝ }
+    requires { ⌜ ClosingFits net port i × (i + 1 ≤ length (now out)) ⌝ }
+    ensures { λ r. ⌜ Wrote (written (gather i (selectedOf (ofClosing net port i)) ∷ []))
+        (now (out .entry)) (now (out .exit)) r × (r ≤ i + 1) ⌝ }
 {
     let a = put_sources(out, net, port, i);
     a + clause_writer::put_end(&mut out[a..])
@@ -91,8 +93,8 @@ fn put_last_sources(out: &mut [i32], net: Netlist, port: Port, i: u32) -> usize
 
 // The clause (¬RE Z S(0,i) .. S(i−1,i)).
 fn put_some_source(out: &mut [i32], net: Netlist, port: Port, i: u32) -> usize
-    requires { ⌜ ClosingFits net port i × (length (written (someSource i (ofClosing net port i) ∷ [])) ≤ length (now out)) ⌝ }
-    ensures { λ r. ⌜ Wrote (written (someSource i (ofClosing net port i) ∷ [])) (now (out .entry)) (now (out .exit)) r ⌝ }
+    requires { ⌜ ClosingFits net port i × (i + 3 ≤ length (now out)) ⌝ }
+    ensures { λ r. ⌜ Wrote (written (someSource i (ofClosing net port i) ∷ [])) (now (out .entry)) (now (out .exit)) r × (r ≤ i + 3) ⌝ }
 {
     let read_enable = port.re.in_frame(clause_variables::frame_base(net, i));
     let none_since = clause_variables::none_since(net, port, 0, i);
@@ -103,8 +105,9 @@ fn put_some_source(out: &mut [i32], net: Netlist, port: Port, i: u32) -> usize
 
 // All clauses of the closing.
 pub fn put_closing(out: &mut [i32], net: Netlist, port: Port, i: u32) -> usize
-    requires { ⌜ ClosingFits net port i × (length (written (closingClauses (net .n) i (ofClosing net port i))) ≤ length (now out)) ⌝ }
-    ensures { λ r. ⌜ Wrote (written (closingClauses (net .n) i (ofClosing net port i))) (now (out .entry)) (now (out .exit)) r ⌝ }
+    requires { ⌜ ClosingFits net port i × (8 * net .n + i + 3 ≤ length (now out)) ⌝ }
+    ensures { λ r. ⌜ Wrote (written (closingClauses (net .n) i (ofClosing net port i)))
+        (now (out .entry)) (now (out .exit)) r × (r ≤ 8 * net .n + i + 3) ⌝ }
 {
     let a = put_initial_reads(out, net, port, i);
     a + put_some_source(&mut out[a..], net, port, i)

@@ -46,8 +46,8 @@ unfolding stateClauses
 state-later c zero h = absurd (h refl)
 state-later c (suc i) h = rw sub-one
 
--- the clause (1), and the latches of frame 0, and their room
-pub state-first : (c : M.Netlist) {i : ℕ} → i ≡ 0
-    → written (stateClauses c i) ≡ written ((known true ∷ []) ∷ []) ++ written (gather (c .latches) (resetClauses c))
+-- the clause (1), and the latches of frame 0
+pub state-first : (c : M.Netlist)
+    → written (stateClauses c 0) ≡ written ((known true ∷ []) ∷ []) ++ written (gather (c .latches) (resetClauses c))
 unfolding stateClauses written numberOf
-state-first c e = rw e
+state-first c = refl

@@ -5,7 +5,7 @@ use literals::Lit;
 use literals::Wire;
 use netlist::Netlist;
 use netlist::UnpackedList;
-ghost use Prim.Native.Nat.{_+_, _/_, _≤_};
+ghost use Prim.Native.Nat.{_+_, _*_, _/_, _≤_};
 ghost use mathlib.Core.Bool.{cond};
 ghost use mathlib.Core.List.{[], _∷_};
 ghost use lib.Dec.{eqb};
@@ -22,10 +22,9 @@ ghost use Rattle.model.specs.Wrote.{Wrote};
 
 // A latch's own literal in frame 0, inverted if its reset is 0.
 fn put_reset(out: &mut [i32], b: u32, q: Wire, reset: u32) -> usize
-    requires { ⌜ HasNumber b (q .0) × (1 ≤ q .0)
-        × (length (written ((cond (eqb reset 1) (wireAt b (q .0)) (neg (wireAt b (q .0))) ∷ []) ∷ [])) ≤ length (now out)) ⌝ }
+    requires { ⌜ HasNumber b (q .0) × (1 ≤ q .0) × (2 ≤ length (now out)) ⌝ }
     ensures { λ r. ⌜ Wrote (written ((cond (eqb reset 1) (wireAt b (q .0)) (neg (wireAt b (q .0))) ∷ []) ∷ []))
-        (now (out .entry)) (now (out .exit)) r ⌝ }
+        (now (out .entry)) (now (out .exit)) r × (r ≤ 2) ⌝ }
 {
     let own = q.in_frame(b);
     if reset == 1 {
@@ -36,10 +35,9 @@ fn put_reset(out: &mut [i32], b: u32, q: Wire, reset: u32) -> usize
 
 // Each latch in frame 0.
 fn put_resets(out: &mut [i32], net: Netlist, latches: &UnpackedList) -> usize
-    requires { ⌜ FrameFits (netOf net (now latches) []) 0
-        × (length (written (gather (net .latches) (resetClauses (netOf net (now latches) [])))) ≤ length (now out)) ⌝ }
+    requires { ⌜ FrameFits (netOf net (now latches) []) 0 × (net .latches * 2 ≤ length (now out)) ⌝ }
     ensures { λ r. ⌜ Wrote (written (gather (net .latches) (resetClauses (netOf net (now (latches .entry)) []))))
-        (now (out .entry)) (now (out .exit)) r ⌝ }
+        (now (out .entry)) (now (out .exit)) r × (r ≤ net .latches * 2) ⌝ }
 {
     let b = clause_variables::frame_base(net, 0);
     let first = netlist::first_latch_wire(net);
@@ -48,7 +46,7 @@ fn put_resets(out: &mut [i32], net: Netlist, latches: &UnpackedList) -> usize
     let mut l: u32 = 0;
     while l < n {
         let reset = latches[(2 * l + 1) as usize];
-        at = at + put_reset(&mut out[at..], b, Wire(first + l), reset);
+        at = at + put_reset(&mut out[at..], b, first.offset(l), reset);
         l = l + 1;
     }
     at
@@ -56,19 +54,18 @@ fn put_resets(out: &mut [i32], net: Netlist, latches: &UnpackedList) -> usize
 
 // A latch `q` in a frame that starts after b is what its next code `d` was in the frame that starts after `before`.
 fn put_latch(out: &mut [i32], b: u32, q: Wire, before: u32, d: Code) -> usize
-    requires { ⌜ HasNumber b (q .0) × (1 ≤ q .0) × HasNumber before (d .0 / 2)
-        × (length (written (sameClauses (wireAt b (q .0)) (codeAt before (d .0)))) ≤ length (now out)) ⌝ }
-    ensures { λ r. ⌜ Wrote (written (sameClauses (wireAt b (q .0)) (codeAt before (d .0)))) (now (out .entry)) (now (out .exit)) r ⌝ }
+    requires { ⌜ HasNumber b (q .0) × (1 ≤ q .0) × HasNumber before (d .0 / 2) × (6 ≤ length (now out)) ⌝ }
+    ensures { λ r. ⌜ Wrote (written (sameClauses (wireAt b (q .0)) (codeAt before (d .0))))
+        (now (out .entry)) (now (out .exit)) r × (r ≤ 6) ⌝ }
 {
     clause_tseitin::put_same(out, q.in_frame(b), d.in_frame(before))
 }
 
 // Each latch in the frame after frame i.
 fn put_latches(out: &mut [i32], net: Netlist, latches: &UnpackedList, i: u32) -> usize
-    requires { ⌜ FrameFits (netOf net (now latches) []) (i + 1)
-        × (length (written (gather (net .latches) (latchClauses (netOf net (now latches) []) i))) ≤ length (now out)) ⌝ }
+    requires { ⌜ FrameFits (netOf net (now latches) []) (i + 1) × (net .latches * 6 ≤ length (now out)) ⌝ }
     ensures { λ r. ⌜ Wrote (written (gather (net .latches) (latchClauses (netOf net (now (latches .entry)) []) i)))
-        (now (out .entry)) (now (out .exit)) r ⌝ }
+        (now (out .entry)) (now (out .exit)) r × (r ≤ net .latches * 6) ⌝ }
 {
     let before = clause_variables::frame_base(net, i);
     let b = clause_variables::frame_base(net, i + 1);
@@ -78,21 +75,31 @@ fn put_latches(out: &mut [i32], net: Netlist, latches: &UnpackedList, i: u32) ->
     let mut l: u32 = 0;
     while l < n {
         let d = Code(latches[(2 * l) as usize]);
-        at = at + put_latch(&mut out[at..], b, Wire(first + l), before, d);
+        at = at + put_latch(&mut out[at..], b, first.offset(l), before, d);
         l = l + 1;
     }
     at
 }
 
+// The clause (1), and each latch in frame 0.
+fn put_initial_state(out: &mut [i32], net: Netlist, latches: &UnpackedList) -> usize
+    requires { ⌜ FrameFits (netOf net (now latches) []) 0 × (net .latches * 2 + 2 ≤ length (now out)) ⌝ }
+    ensures { λ r. ⌜ Wrote (written (stateClauses (netOf net (now (latches .entry)) []) 0)) (now (out .entry)) (now (out .exit)) r
+        × (r ≤ net .latches * 2 + 2) ⌝ }
+{
+    let a = clause_writer::put_unit(out, Lit::constant(true));
+    a + put_resets(&mut out[a..], net, latches)
+}
+
 // The latches of frame i; in frame 0 after the clause (1).
 pub fn put_state(out: &mut [i32], net: Netlist, latches: &UnpackedList, i: u32) -> usize
     requires { ⌜ FrameFits (netOf net (now latches) []) i
-        × (length (written (stateClauses (netOf net (now latches) []) i)) ≤ length (now out)) ⌝ }
-    ensures { λ r. ⌜ Wrote (written (stateClauses (netOf net (now (latches .entry)) []) i)) (now (out .entry)) (now (out .exit)) r ⌝ }
+        × (cond (eqb i 0) (net .latches * 2 + 2) (net .latches * 6) ≤ length (now out)) ⌝ }
+    ensures { λ r. ⌜ Wrote (written (stateClauses (netOf net (now (latches .entry)) []) i)) (now (out .entry)) (now (out .exit)) r
+        × (r ≤ cond (eqb i 0) (net .latches * 2 + 2) (net .latches * 6)) ⌝ }
 {
     if i == 0 {
-        let a = clause_writer::put_unit(out, Lit::constant(true));
-        return a + put_resets(&mut out[a..], net, latches);
+        return put_initial_state(out, net, latches);
     }
     put_latches(out, net, latches, i - 1)
 }

@@ -1,5 +1,5 @@
--- The first group in the order of the whole, what follows each group, and that fewer are left then. No contract cites this file.
-use Prim.Native.Nat.{ℕ, zero, suc, _+_, _-_, _*_, _≤_, _<_}
+-- The first group in the order of the whole, what follows each group, and that fewer remain then. No contract cites this file.
+use Prim.Native.Nat.{ℕ, zero, suc, zero-le, _+_, _-_, _*_, _≤_, _<_}
 use mathlib.Core.Path.{_≡_, refl, sym, _∙_, ap, subst}
 use mathlib.Core.Bool.{Bool, true, false, cond}
 use mathlib.Core.List.{List, [], _∷_, _++_, append-assoc}
@@ -9,10 +9,11 @@ use native.Mathlib.Omega.{arith}
 use lib.Dec.{eqb, ltb, leb}
 use borrow.Author.Tests.{le-leb, lt-leb, ne-eqb, ltb-true}
 use Rattle.model.specs.Gather.{gather, gatherDown}
-use Rattle.model.specs.Groups.{pairOf, frameGroups, groupOrder}
+use Rattle.model.specs.Groups.{pairOf, frameGroups, groupOrder, inDepth}
 use Rattle.model.specs.declared.Group.{Group}
 use Rattle.model.specs.declared.Group.the-variants.{Wires, Pair, Closing, Property}
-use Rattle.group_order.specs.Next.{firstGroup, leftAfter, leftFrom}
+use Rattle.group_order.proofs.InOrder.{in-order, not-in-order}
+use Rattle.group_order.specs.Next.{firstGroup, remainingAfter, remainingFrom}
 use Rattle.group_order.specs.declared.order.Next.{Next}
 use Rattle.group_order.specs.declared.order.Next.the-variants.{Then, End}
 
@@ -114,31 +115,46 @@ successor-next k g xs ys h =
     first-end (y ∷ ys) = refl
 
 -- after the closing of an earlier frame
-closing-left : (k i : ℕ) → i < k → (k - (i + 1)) * (k + 3) + ((i + 1) + 2) + 1 ≤ (k - i) * (k + 3) + 1
-closing-left k i h =
+closing-remaining : (k i : ℕ) → i < k → (k - (i + 1)) * (k + 3) + ((i + 1) + 2) + 1 ≤ (k - i) * (k + 3) + 1
+closing-remaining k i h =
     let d = k - (i + 1) in
     let e : k - i ≡ suc d = omega arith in
     let m : suc d * (k + 3) ≡ (k + 3) + d * (k + 3) = omega arith in
     rw (e, m) (omega (arith, h))
 
 -- each step leaves fewer groups than before it
-successor-left : (k : ℕ) (g : Group) → leftFrom k (successor k g) ≤ leftAfter k g
-successor-left k (Wires zero) = omega arith
-successor-left k (Wires (suc i)) = rw (ne-eqb (suc i) 0 (λ q. omega arith)) (omega arith)
-successor-left k (Pair zero i) = omega arith
-successor-left k (Pair (suc j) i) = rw (ne-eqb (suc j) 0 (λ q. omega arith)) (omega arith)
-successor-left k (Closing i) = by-test (ltb i k) refl
+successor-remaining : (k : ℕ) (g : Group) → remainingFrom k (successor k g) ≤ remainingAfter k g
+successor-remaining k (Wires zero) = omega arith
+successor-remaining k (Wires (suc i)) = rw (ne-eqb (suc i) 0 (λ q. omega arith)) (omega arith)
+successor-remaining k (Pair zero i) = omega arith
+successor-remaining k (Pair (suc j) i) = rw (ne-eqb (suc j) 0 (λ q. omega arith)) (omega arith)
+successor-remaining k (Closing i) = by-test (ltb i k) refl
   where
-    by-test : (b : Bool) → ltb i k ≡ b → leftFrom k (cond b (Then (Wires (i + 1))) (Then Property)) ≤ leftAfter k (Closing i)
-    by-test true e = closing-left k i (ltb-true i k e)
+    by-test : (b : Bool) → ltb i k ≡ b → remainingFrom k (cond b (Then (Wires (i + 1))) (Then Property)) ≤ remainingAfter k (Closing i)
+    by-test true e = closing-remaining k i (ltb-true i k e)
     by-test false e = omega arith
-successor-left k Property = omega arith
+successor-remaining k Property = omega arith
 
--- both, for a group known by its kind
-pub follows : (k : ℕ) (g g′ : Group) (r : Next) → g ≡ g′ → successor k g′ ≡ r
-    → ((xs ys : List Group) → groupOrder k ≡ xs ++ g ∷ ys → r ≡ firstGroup ys) × (leftFrom k r ≤ leftAfter k g)
-follows k g g′ r e h =
-    (λ xs ys o. sym answer ∙ successor-next k g xs ys o, subst (λ (n : Next). leftFrom k n ≤ leftAfter k g) answer (successor-left k g))
+-- what `next_group` promises
+abbrev Follows : ℕ → Group → Next → Type 0
+Follows k g r =
+    ((xs ys : List Group) → groupOrder k ≡ xs ++ g ∷ ys → r ≡ firstGroup ys)
+    × ((((xs ys : List Group) → groupOrder k ≡ xs ++ g ∷ ys → ⊥) → r ≡ End)
+    × (remainingFrom k r ≤ remainingAfter k g))
+
+-- for a group of the depth, known by its kind
+pub follows : (k : ℕ) (g g′ : Group) (r : Next) → inDepth k g ≡ true → g ≡ g′ → successor k g′ ≡ r → Follows k g r
+follows k g g′ r there e h = (
+  λ xs ys o. sym answer ∙ successor-next k g xs ys o,
+  (
+    λ absent. let at = in-order k g there in absurd (absent (at .0) (at .1) (at .2)),
+    subst (λ (n : Next). remainingFrom k n ≤ remainingAfter k g) answer (successor-remaining k g),
+  ),
+)
   where
     answer : successor k g ≡ r
     answer = ap (successor k) e ∙ h
+
+-- and for any other
+pub none-follows : (k : ℕ) (g : Group) → inDepth k g ≡ false → Follows k g End
+none-follows k g h = (λ xs ys o. absurd (not-in-order k g h xs ys o), (λ absent. refl, zero-le))

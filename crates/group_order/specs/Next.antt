@@ -12,13 +12,13 @@ firstGroup [] = End
 firstGroup (g ∷ gs) = Then g
 
 -- at most so many groups follow at depth k: k + 3 for each later frame, those of its own frame, and the property
-abbrev pub leftAfter : ℕ → Group → ℕ
-leftAfter k (Wires i) = (k - i) * (k + 3) + (i + 2)
-leftAfter k (Pair j i) = (k - i) * (k + 3) + (j + 2)
-leftAfter k (Closing i) = (k - i) * (k + 3) + 1
-leftAfter k Property = 0
+abbrev pub remainingAfter : ℕ → Group → ℕ
+remainingAfter k (Wires i) = (k - i) * (k + 3) + (i + 2)
+remainingAfter k (Pair j i) = (k - i) * (k + 3) + (j + 2)
+remainingAfter k (Closing i) = (k - i) * (k + 3) + 1
+remainingAfter k Property = 0
 
 -- the same of what comes next, itself included
-abbrev pub leftFrom : ℕ → Next → ℕ
-leftFrom k (Then g) = leftAfter k g + 1
-leftFrom k End = 0
+abbrev pub remainingFrom : ℕ → Next → ℕ
+remainingFrom k (Then g) = remainingAfter k g + 1
+remainingFrom k End = 0

@@ -1,18 +1,16 @@
 -- What the loop over the data bits writes, from the numbers and literals that it holds: bit by bit the model's clauses; and the
 -- parts of a pair's clauses. No contract cites this file.
-use Prim.Native.Nat.{ℕ, _+_, _*_}
+use Prim.Native.Nat.{ℕ, _+_}
 use mathlib.Core.Path.{_≡_}
 use mathlib.Core.List.{List, _++_, append-assoc}
 use native.Mathlib.Nat.{add-zero}
 use lib.IntN.{ℤ}
-use lib.ListN.{length, length-append}
 use Rattle.model.specs.Netlist.{readWire}
 use Rattle.model.specs.Gather.{gather}
 use Rattle.model.specs.Clauses.{Literal, sameIfClauses, PairLiterals, forwardedClauses, pairClauses}
 use Rattle.model.specs.Variables.{base, wireAt, codeAt, selected, readBit, pairLiterals}
 use Rattle.model.specs.Numbers.{written}
 use Rattle.model.proofs.Joined.{written-append}
-use Rattle.model.proofs.Lengths.{_⊕_, counts-gather, and-counts, sameIfClauses-counts}
 use Rattle.netlist.specs.NetOf.{codeOf, netOf, alone}
 use Rattle.netlist.specs.declared.Netlist.{Netlist}
 use Rattle.clause_variables.specs.declared.Port.{Port}
@@ -41,12 +39,3 @@ unfolding pairClauses comparisonClauses gatedDataClauses pairSelectClauses selec
 pair-parts m n x =
     let joined : pairClauses m n x ≡ comparisonClauses m x ++ gatedDataClauses n x = simp append-assoc in
     rw joined (written-append (comparisonClauses m x) (gatedDataClauses n x))
-
--- the gates and the data take the same room whatever their literals
-pub length-gatedDataClauses : (n : ℕ) (x : PairLiterals) → length (written (gatedDataClauses n x)) ≡ 30 + n * 8
-unfolding gatedDataClauses pairSelectClauses selectClauses forwardedClauses
-length-gatedDataClauses n x =
-    (and-counts _ _ _ ⊕ and-counts _ _ _ ⊕ and-counts _ _ _ ⊕ counts-gather n 2 8 (forwardedClauses x) (λ t. sameIfClauses-counts _ _ _)) .in-numbers
-
-pub pair-room : (m n : ℕ) (x : PairLiterals) → length (written (pairClauses m n x)) ≡ length (written (comparisonClauses m x)) + (30 + n * 8)
-pair-room m n x = rw (pair-parts m n x, length-append, length-gatedDataClauses n x)

@@ -5,7 +5,7 @@ use literals::Code;
 use literals::Lit;
 use literals::Wire;
 use netlist::Netlist;
-ghost use Prim.Native.Nat.{_/_, _≤_};
+ghost use Prim.Native.Nat.{_+_, _*_, _/_, _≤_};
 ghost use lib.ListN.{length};
 ghost use Rattle.model.specs.Gather.{gather};
 ghost use Rattle.model.specs.Clauses.{sameIfClauses, forwardedClauses, pairClauses};
@@ -26,17 +26,18 @@ fn put_forwarded_bit(
     wd: Code,
 ) -> usize
     requires { ⌜ IsLit selected × HasNumber reading (rd .0) × (1 ≤ rd .0) × HasNumber writing (wd .0 / 2)
-        × (length (written (sameIfClauses (literalOf selected) (wireAt reading (rd .0)) (codeAt writing (wd .0)))) ≤ length (now out)) ⌝ }
+        × (8 ≤ length (now out)) ⌝ }
     ensures { λ r. ⌜ Wrote (written (sameIfClauses (literalOf selected) (wireAt reading (rd .0)) (codeAt writing (wd .0))))
-        (now (out .entry)) (now (out .exit)) r ⌝ }
+        (now (out .entry)) (now (out .exit)) r × (r ≤ 8) ⌝ }
 {
     clause_tseitin::put_same_if(out, selected, rd.in_frame(reading), wd.in_frame(writing))
 }
 
 // The clauses of each data bit, in bit order.
 fn put_forwarded(out: &mut [i32], net: Netlist, port: Port, j: u32, i: u32) -> usize
-    requires { ⌜ PairFits net port j i × (length (written (gather (net .n) (forwardedClauses (ofPair net port j i)))) ≤ length (now out)) ⌝ }
-    ensures { λ r. ⌜ Wrote (written (gather (net .n) (forwardedClauses (ofPair net port j i)))) (now (out .entry)) (now (out .exit)) r ⌝ }
+    requires { ⌜ PairFits net port j i × (net .n * 8 ≤ length (now out)) ⌝ }
+    ensures { λ r. ⌜ Wrote (written (gather (net .n) (forwardedClauses (ofPair net port j i))))
+        (now (out .entry)) (now (out .exit)) r × (r ≤ net .n * 8) ⌝ }
 {
     let selected = clause_variables::selected(net, port, j, i);
     let writing = clause_variables::frame_base(net, j);
@@ -53,7 +54,7 @@ fn put_forwarded(out: &mut [i32], net: Netlist, port: Port, j: u32, i: u32) -> u
                 &mut out[at..],
                 selected,
                 reading,
-                Wire(first + (read + t)),
+                first.offset(read + t),
                 writing,
                 wd,
             );
@@ -64,8 +65,9 @@ fn put_forwarded(out: &mut [i32], net: Netlist, port: Port, j: u32, i: u32) -> u
 
 // The address comparison: its bits, and the clause of all of them.
 fn put_comparison(out: &mut [i32], net: Netlist, port: Port, j: u32, i: u32) -> usize
-    requires { ⌜ PairFits net port j i × (length (written (comparisonClauses (net .m) (ofPair net port j i))) ≤ length (now out)) ⌝ }
-    ensures { λ r. ⌜ Wrote (written (comparisonClauses (net .m) (ofPair net port j i))) (now (out .entry)) (now (out .exit)) r ⌝ }
+    requires { ⌜ PairFits net port j i × (17 * net .m + 2 ≤ length (now out)) ⌝ }
+    ensures { λ r. ⌜ Wrote (written (comparisonClauses (net .m) (ofPair net port j i)))
+        (now (out .entry)) (now (out .exit)) r × (r ≤ 17 * net .m + 2) ⌝ }
 {
     let a = group_pair_address::put_address_bits(out, net, port, j, i);
     a + group_pair_address::put_all_bits(&mut out[a..], net, port, j, i)
@@ -73,8 +75,9 @@ fn put_comparison(out: &mut [i32], net: Netlist, port: Port, j: u32, i: u32) -> 
 
 // The gates, and the data bits where S is true.
 fn put_gated_data(out: &mut [i32], net: Netlist, port: Port, j: u32, i: u32) -> usize
-    requires { ⌜ PairFits net port j i × (length (written (gatedDataClauses (net .n) (ofPair net port j i))) ≤ length (now out)) ⌝ }
-    ensures { λ r. ⌜ Wrote (written (gatedDataClauses (net .n) (ofPair net port j i))) (now (out .entry)) (now (out .exit)) r ⌝ }
+    requires { ⌜ PairFits net port j i × (8 * net .n + 30 ≤ length (now out)) ⌝ }
+    ensures { λ r. ⌜ Wrote (written (gatedDataClauses (net .n) (ofPair net port j i)))
+        (now (out .entry)) (now (out .exit)) r × (r ≤ 8 * net .n + 30) ⌝ }
 {
     let a = group_pair_select::put_select(out, net, port, j, i);
     a + put_forwarded(&mut out[a..], net, port, j, i)
@@ -82,8 +85,9 @@ fn put_gated_data(out: &mut [i32], net: Netlist, port: Port, j: u32, i: u32) -> 
 
 // All clauses of the pair.
 pub fn put_pair(out: &mut [i32], net: Netlist, port: Port, j: u32, i: u32) -> usize
-    requires { ⌜ PairFits net port j i × (length (written (pairClauses (net .m) (net .n) (ofPair net port j i))) ≤ length (now out)) ⌝ }
-    ensures { λ r. ⌜ Wrote (written (pairClauses (net .m) (net .n) (ofPair net port j i))) (now (out .entry)) (now (out .exit)) r ⌝ }
+    requires { ⌜ PairFits net port j i × (17 * net .m + 8 * net .n + 32 ≤ length (now out)) ⌝ }
+    ensures { λ r. ⌜ Wrote (written (pairClauses (net .m) (net .n) (ofPair net port j i)))
+        (now (out .entry)) (now (out .exit)) r × (r ≤ 17 * net .m + 8 * net .n + 32) ⌝ }
 {
     let a = put_comparison(out, net, port, j, i);
     a + put_gated_data(&mut out[a..], net, port, j, i)

@@ -4,7 +4,7 @@ use clause_variables::Port;
 use literals::Code;
 use literals::Lit;
 use netlist::Netlist;
-ghost use Prim.Native.Nat.{_+_, _/_, _≤_};
+ghost use Prim.Native.Nat.{_+_, _*_, _/_, _≤_};
 ghost use mathlib.Core.List.{[], _∷_, map};
 ghost use lib.ListN.{length};
 ghost use Rattle.model.specs.Gather.{gather};
@@ -25,11 +25,9 @@ fn put_address_bit(
     reading: u32,
     y: Code,
 ) -> usize
-    requires { ⌜ HasNumber q (2 + t) × HasNumber writing (x .0 / 2) × HasNumber reading (y .0 / 2)
-        × (length (written (bitClauses (plus (q + 1)) (plus (q + 2 + t)) (codeAt writing (x .0)) (codeAt reading (y .0))))
-        ≤ length (now out)) ⌝ }
+    requires { ⌜ HasNumber q (2 + t) × HasNumber writing (x .0 / 2) × HasNumber reading (y .0 / 2) × (16 ≤ length (now out)) ⌝ }
     ensures { λ r. ⌜ Wrote (written (bitClauses (plus (q + 1)) (plus (q + 2 + t)) (codeAt writing (x .0)) (codeAt reading (y .0))))
-        (now (out .entry)) (now (out .exit)) r ⌝ }
+        (now (out .entry)) (now (out .exit)) r × (r ≤ 16) ⌝ }
 {
     let address_equal = Lit::in_pair(q, 1);
     let bit_equal = Lit::in_pair(q, 2 + t);
@@ -44,8 +42,9 @@ fn put_address_bit(
 
 // The clauses of each address bit, in bit order.
 pub fn put_address_bits(out: &mut [i32], net: Netlist, port: Port, j: u32, i: u32) -> usize
-    requires { ⌜ PairFits net port j i × (length (written (gather (net .m) (addressBitClauses (ofPair net port j i)))) ≤ length (now out)) ⌝ }
-    ensures { λ r. ⌜ Wrote (written (gather (net .m) (addressBitClauses (ofPair net port j i)))) (now (out .entry)) (now (out .exit)) r ⌝ }
+    requires { ⌜ PairFits net port j i × (net .m * 16 ≤ length (now out)) ⌝ }
+    ensures { λ r. ⌜ Wrote (written (gather (net .m) (addressBitClauses (ofPair net port j i))))
+        (now (out .entry)) (now (out .exit)) r × (r ≤ net .m * 16) ⌝ }
 {
     let q = clause_variables::pair_base(net, port, j, i);
     let writing = clause_variables::frame_base(net, j);
@@ -64,8 +63,9 @@ pub fn put_address_bits(out: &mut [i32], net: Netlist, port: Port, j: u32, i: u3
 
 // ¬e of each address bit, in bit order.
 fn put_unequal_bits(out: &mut [i32], net: Netlist, port: Port, j: u32, i: u32) -> usize
-    requires { ⌜ PairFits net port j i × (length (map numberOf (gather (net .m) (unequalOf (ofPair net port j i)))) ≤ length (now out)) ⌝ }
-    ensures { λ r. ⌜ Wrote (map numberOf (gather (net .m) (unequalOf (ofPair net port j i)))) (now (out .entry)) (now (out .exit)) r ⌝ }
+    requires { ⌜ PairFits net port j i × (net .m ≤ length (now out)) ⌝ }
+    ensures { λ r. ⌜ Wrote (map numberOf (gather (net .m) (unequalOf (ofPair net port j i))))
+        (now (out .entry)) (now (out .exit)) r × (r ≤ net .m) ⌝ }
 {
     let q = clause_variables::pair_base(net, port, j, i);
     let m = net.m;
@@ -81,8 +81,9 @@ fn put_unequal_bits(out: &mut [i32], net: Netlist, port: Port, j: u32, i: u32) -
 
 // The clause (¬e of all address bits, E).
 pub fn put_all_bits(out: &mut [i32], net: Netlist, port: Port, j: u32, i: u32) -> usize
-    requires { ⌜ PairFits net port j i × (length (written (allBits (net .m) (ofPair net port j i) ∷ [])) ≤ length (now out)) ⌝ }
-    ensures { λ r. ⌜ Wrote (written (allBits (net .m) (ofPair net port j i) ∷ [])) (now (out .entry)) (now (out .exit)) r ⌝ }
+    requires { ⌜ PairFits net port j i × (net .m + 2 ≤ length (now out)) ⌝ }
+    ensures { λ r. ⌜ Wrote (written (allBits (net .m) (ofPair net port j i) ∷ []))
+        (now (out .entry)) (now (out .exit)) r × (r ≤ net .m + 2) ⌝ }
 {
     let address_equal = Lit::in_pair(clause_variables::pair_base(net, port, j, i), 1);
     let at = put_unequal_bits(out, net, port, j, i);

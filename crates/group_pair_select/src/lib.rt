@@ -14,11 +14,10 @@ ghost use Rattle.group_pair_select.specs.SelectClauses.{selectClauses, p
 
 // The gates PS = ¬s ∧ N, S = s ∧ N, from their literals: `valid` is s, `none_since` PS, `selected` S, `none_after` N.
 fn put_chain(out: &mut [i32], valid: Lit, none_since: Lit, selected: Lit, none_after: Lit) -> usize
-    requires { ⌜ IsLit valid × IsLit «none_since» × IsLit selected × IsLit «none_after»
-        × (length (written (andClauses (literalOf «none_since») (neg (literalOf valid)) (literalOf «none_after»)
-        ++ andClauses (literalOf selected) (literalOf valid) (literalOf «none_after»))) ≤ length (now out)) ⌝ }
+    requires { ⌜ IsLit valid × IsLit «none_since» × IsLit selected × IsLit «none_after» × (20 ≤ length (now out)) ⌝ }
     ensures { λ r. ⌜ Wrote (written (andClauses (literalOf «none_since») (neg (literalOf valid)) (literalOf «none_after»)
-        ++ andClauses (literalOf selected) (literalOf valid) (literalOf «none_after»))) (now (out .entry)) (now (out .exit)) r ⌝ }
+        ++ andClauses (literalOf selected) (literalOf valid) (literalOf «none_after»)))
+        (now (out .entry)) (now (out .exit)) r × (r ≤ 20) ⌝ }
 {
     let a = clause_tseitin::put_and(out, none_since, valid.negated(), none_after);
     a + clause_tseitin::put_and(&mut out[a..], selected, valid, none_after)
@@ -35,10 +34,9 @@ fn put_select_gates(
     none_after: Lit,
 ) -> usize
     requires { ⌜ IsLit valid × IsLit «address_equal» × IsLit «write_enable» × IsLit «none_since» × IsLit selected × IsLit «none_after»
-        × (length (written (selectClauses (literalOf valid) (literalOf «address_equal») (literalOf «write_enable»)
-        (literalOf «none_since») (literalOf selected) (literalOf «none_after»))) ≤ length (now out)) ⌝ }
+        × (30 ≤ length (now out)) ⌝ }
     ensures { λ r. ⌜ Wrote (written (selectClauses (literalOf valid) (literalOf «address_equal») (literalOf «write_enable»)
-        (literalOf «none_since») (literalOf selected) (literalOf «none_after»))) (now (out .entry)) (now (out .exit)) r ⌝ }
+        (literalOf «none_since») (literalOf selected) (literalOf «none_after»))) (now (out .entry)) (now (out .exit)) r × (r ≤ 30) ⌝ }
 {
     let a = clause_tseitin::put_and(out, valid, address_equal, write_enable);
     a + put_chain(&mut out[a..], valid, none_since, selected, none_after)
@@ -46,8 +44,8 @@ fn put_select_gates(
 
 // The gates of the pair: valid read, none since, exclusive valid read. WE is of the writing frame, N of the pair after it.
 pub fn put_select(out: &mut [i32], net: Netlist, port: Port, j: u32, i: u32) -> usize
-    requires { ⌜ PairFits net port j i × (length (written (pairSelectClauses (ofPair net port j i))) ≤ length (now out)) ⌝ }
-    ensures { λ r. ⌜ Wrote (written (pairSelectClauses (ofPair net port j i))) (now (out .entry)) (now (out .exit)) r ⌝ }
+    requires { ⌜ PairFits net port j i × (30 ≤ length (now out)) ⌝ }
+    ensures { λ r. ⌜ Wrote (written (pairSelectClauses (ofPair net port j i))) (now (out .entry)) (now (out .exit)) r × (r ≤ 30) ⌝ }
 {
     let q = clause_variables::pair_base(net, port, j, i);
     let address_equal = Lit::in_pair(q, 1);

@@ -13,8 +13,9 @@ ghost use Rattle.model.specs.Wrote.{Wrote};
 
 // ¬P of each frame from 0 to k.
 fn put_violations(out: &mut [i32], net: Netlist, k: u32) -> usize
-    requires { ⌜ FrameFits (alone net) k × (length (map numberOf (gather (k + 1) (violationOf (alone net)))) ≤ length (now out)) ⌝ }
-    ensures { λ r. ⌜ Wrote (map numberOf (gather (k + 1) (violationOf (alone net)))) (now (out .entry)) (now (out .exit)) r ⌝ }
+    requires { ⌜ FrameFits (alone net) k × (k + 1 ≤ length (now out)) ⌝ }
+    ensures { λ r. ⌜ Wrote (map numberOf (gather (k + 1) (violationOf (alone net))))
+        (now (out .entry)) (now (out .exit)) r × (r ≤ k + 1) ⌝ }
 {
     let numbering = clause_variables::numbering(net);
     let p = net.p;
@@ -30,8 +31,8 @@ fn put_violations(out: &mut [i32], net: Netlist, k: u32) -> usize
 
 // The clause, with its end mark.
 pub fn put_property(out: &mut [i32], net: Netlist, k: u32) -> usize
-    requires { ⌜ FrameFits (alone net) k × (length (numbersOf (alone net) k Property) ≤ length (now out)) ⌝ }
-    ensures { λ r. ⌜ Wrote (numbersOf (alone net) k Property) (now (out .entry)) (now (out .exit)) r ⌝ }
+    requires { ⌜ FrameFits (alone net) k × (k + 2 ≤ length (now out)) ⌝ }
+    ensures { λ r. ⌜ Wrote (numbersOf (alone net) k Property) (now (out .entry)) (now (out .exit)) r × (r ≤ k + 2) ⌝ }
 {
     let a = put_violations(out, net, k);
     a + clause_writer::put_end(&mut out[a..])

@@ -5,7 +5,7 @@ use mathlib.Core.Path.{_≡_, refl, _∙_, ap₂, ap}
 use mathlib.Core.List.{List, [], _∷_, _++_}
 use native.Mathlib.Nat.{add-zero}
 use lib.IntN.{ℤ}
-use lib.ListN.{length, getD, length-append}
+use lib.ListN.{getD}
 use Rattle.model.specs.Netlist.{gateWire}
 use Rattle.model.specs.Gather.{gather}
 use Rattle.model.specs.Clauses.{Clause, plus, andClauses}
@@ -42,7 +42,7 @@ gates-without-latches : (net : Netlist) (ls gs : List ℕ) (i g : ℕ)
 unfolding gateClauses base netOf
 gates-without-latches net ls gs i g = refl
 
--- the parts of a frame's wires, in their order, and their room
+-- the parts of a frame's wires, in their order
 pub wires-parts : (net : Netlist) (ls gs : List ℕ) (k i : ℕ)
     → numbersOf (netOf net ls gs) k (Wires i)
     ≡ written (stateClauses (netOf net ls []) i) ++ written (gather (net .gates) (gateClauses (netOf net [] gs) i))
@@ -51,9 +51,3 @@ wires-parts net ls gs k i =
     written-append (stateClauses (netOf net ls gs) i) (gather (net .gates) (gateClauses (netOf net ls gs) i))
     ∙ ap₂ (λ xs ys. written xs ++ written ys) (state-without-gates net ls gs i)
     (gather-same (net .gates) (gateClauses (netOf net ls gs) i) (gateClauses (netOf net [] gs) i) (gates-without-latches net ls gs i))
-
-pub wires-room : (net : Netlist) (ls gs : List ℕ) (k i : ℕ)
-    → length (numbersOf (netOf net ls gs) k (Wires i))
-    ≡ length (written (stateClauses (netOf net ls []) i))
-    + length (written (gather (net .gates) (gateClauses (netOf net [] gs) i)))
-wires-room net ls gs k i = rw (wires-parts net ls gs k i, length-append)

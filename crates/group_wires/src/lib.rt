@@ -4,8 +4,10 @@ use literals::Code;
 use literals::Wire;
 use netlist::Netlist;
 use netlist::UnpackedList;
-ghost use Prim.Native.Nat.{_/_, _≤_};
+ghost use Prim.Native.Nat.{_+_, _*_, _/_, _≤_};
+ghost use mathlib.Core.Bool.{cond};
 ghost use mathlib.Core.List.{[]};
+ghost use lib.Dec.{eqb};
 ghost use lib.ListN.{length};
 ghost use Rattle.model.specs.Gather.{gather};
 ghost use Rattle.model.specs.Clauses.{andClauses};
@@ -21,19 +23,18 @@ ghost use Rattle.model.specs.Wrote.{Wrote};
 // A gate in a frame that starts after b.
 fn put_gate(out: &mut [i32], b: u32, g: Wire, left: Code, right: Code) -> usize
     requires { ⌜ HasNumber b (g .0) × (1 ≤ g .0) × HasNumber b (left .0 / 2) × HasNumber b (right .0 / 2)
-        × (length (written (andClauses (wireAt b (g .0)) (codeAt b (left .0)) (codeAt b (right .0)))) ≤ length (now out)) ⌝ }
+        × (10 ≤ length (now out)) ⌝ }
     ensures { λ r. ⌜ Wrote (written (andClauses (wireAt b (g .0)) (codeAt b (left .0)) (codeAt b (right .0))))
-        (now (out .entry)) (now (out .exit)) r ⌝ }
+        (now (out .entry)) (now (out .exit)) r × (r ≤ 10) ⌝ }
 {
     clause_tseitin::put_and(out, g.in_frame(b), left.in_frame(b), right.in_frame(b))
 }
 
 // Each gate in frame i, in wire order.
 fn put_gates(out: &mut [i32], net: Netlist, gates: &UnpackedList, i: u32) -> usize
-    requires { ⌜ FrameFits (netOf net [] (now gates)) i
-        × (length (written (gather (net .gates) (gateClauses (netOf net [] (now gates)) i))) ≤ length (now out)) ⌝ }
+    requires { ⌜ FrameFits (netOf net [] (now gates)) i × (net .gates * 10 ≤ length (now out)) ⌝ }
     ensures { λ r. ⌜ Wrote (written (gather (net .gates) (gateClauses (netOf net [] (now (gates .entry))) i)))
-        (now (out .entry)) (now (out .exit)) r ⌝ }
+        (now (out .entry)) (now (out .exit)) r × (r ≤ net .gates * 10) ⌝ }
 {
     let b = clause_variables::frame_base(net, i);
     let first = netlist::first_gate_wire(net);
@@ -43,7 +44,7 @@ fn put_gates(out: &mut [i32], net: Netlist, gates: &UnpackedList, i: u32) -> usi
     while g < n {
         let left = Code(gates[(2 * g) as usize]);
         let right = Code(gates[(2 * g + 1) as usize]);
-        at = at + put_gate(&mut out[at..], b, Wire(first + g), left, right);
+        at = at + put_gate(&mut out[at..], b, first.offset(g), left, right);
         g = g + 1;
     }
     at
@@ -58,9 +59,9 @@ pub fn put_wires(
     i: u32,
 ) -> usize
     requires { ⌜ FrameFits (netOf net (now latches) (now gates)) i
-        × (length (numbersOf (netOf net (now latches) (now gates)) i (Wires i)) ≤ length (now out)) ⌝ }
+        × (cond (eqb i 0) (net .latches * 2 + 2) (net .latches * 6) + net .gates * 10 ≤ length (now out)) ⌝ }
     ensures { λ r. ⌜ Wrote (numbersOf (netOf net (now (latches .entry)) (now (gates .entry))) i (Wires i))
-        (now (out .entry)) (now (out .exit)) r ⌝ }
+        (now (out .entry)) (now (out .exit)) r × (r ≤ cond (eqb i 0) (net .latches * 2 + 2) (net .latches * 6) + net .gates * 10) ⌝ }
 {
     let a = group_latches::put_state(out, net, latches, i);
     a + put_gates(&mut out[a..], net, gates, i)

@@ -1,25 +1,24 @@
 -- What looks at no list is the same for a record with and without its lists: the numbers of pairs, closings and the property.
 -- No contract cites this file.
-use Prim.Native.Nat.{ℕ, _≤_, _<_}
+use Prim.Native.Nat.{ℕ, zero, suc, _+_, _*_, _≤_, _<_}
 use mathlib.Core.Path.{_≡_, refl, sym, _∙_, ap, subst}
 use mathlib.Core.List.{List}
 use native.Mathlib.Omega.{arith}
-use mathlib.Core.Bool.{true}
-use lib.Dec.{leb, ltb}
+use mathlib.Core.Bool.{true, cond}
+use lib.Dec.{eqb, leb, ltb}
 use lib.IntN.{ℤ}
-use lib.ListN.{length}
-use borrow.Author.Tests.{leb-true, ltb-true}
+use borrow.Author.Tests.{ne-eqb, leb-true, ltb-true}
 use Rattle.model.specs.Netlist as M
 use Rattle.model.specs.Acceptance.{Accepted}
-use Rattle.model.specs.Clauses.{PairLiterals, pairClauses, closingClauses}
+use Rattle.model.specs.Clauses.{pairClauses, closingClauses}
 use Rattle.model.specs.Variables.{base, pairBase, noneSince, selected, readBit, pairLiterals, closingLiterals}
 use Rattle.model.specs.Groups.{violationOf, clausesOf, inDepth}
 use Rattle.model.specs.Numbers.{written, numbersOf}
+use Rattle.model.specs.Counts.{numberCount}
 use Rattle.model.specs.Wrote.{Wrote}
 use Rattle.model.specs.declared.Group.{Group}
 use Rattle.model.specs.declared.Group.the-variants.{Wires, Pair, Closing, Property}
 use Rattle.model.proofs.Booleans.{and-true}
-use Rattle.model.proofs.Lengths.{pair-counts, pair-numbers, property-numbers}
 use Rattle.netlist.specs.NetOf.{netOf, alone}
 use Rattle.netlist.specs.declared.Netlist.{Netlist}
 use Rattle.clause_variables.specs.PortFits.{PortFits}
@@ -56,27 +55,33 @@ module _ (r : Netlist) (ls gs : List ℕ) where
   unfolding netOf numbersOf clausesOf violationOf base
   property-alone k = refl
 
-  -- a group known by its kind: every pair needs the same room, and the property at least that of a lower depth
-  module _ (k : ℕ) {g : Group} {room : ℕ} (l : length (numbersOf (netOf r ls gs) k g) ≤ room) where
-    pub pair-room : {j i : ℕ} → g ≡ Pair j i → (x : PairLiterals) → length (written (pairClauses (r .m) (r .n) x)) ≤ room
-    unfolding netOf
-    pair-room {j} {i} e x =
-        omega (arith, ap (λ h. length (numbersOf (netOf r ls gs) k h)) e, pair-numbers (netOf r ls gs) k j i, pair-counts (r .m) (r .n) x .in-numbers)
+  -- how many numbers a group has, known by its kind
+  module _ (k : ℕ) {g : Group} where
+    pub wires-count : (i : ℕ) → g ≡ Wires i
+        → numberCount (netOf r ls gs) k g ≡ cond (eqb i 0) (r .latches * 2 + 2) (r .latches * 6) + r .gates * 10
+    unfolding numberCount netOf
+    wires-count zero e = rw e (omega arith)
+    wires-count (suc i) e = rw (e, ne-eqb (suc i) 0 (λ h. omega arith)) (omega arith)
 
-    pub property-room : g ≡ Property → (d : ℕ) → d ≤ k → length (numbersOf (alone r) d Property) ≤ room
-    property-room e d h =
-        omega (arith, ap (λ h. length (numbersOf (netOf r ls gs) k h)) e, property-numbers (netOf r ls gs) k, property-numbers (alone r) d)
+    pub pair-count : {j i : ℕ} → g ≡ Pair j i → numberCount (netOf r ls gs) k g ≡ 17 * r .m + 8 * r .n + 32
+    unfolding numberCount netOf
+    pair-count e = rw e
+
+    pub closing-count : {i : ℕ} → g ≡ Closing i → numberCount (netOf r ls gs) k g ≡ 8 * r .n + i + 3
+    unfolding numberCount netOf
+    closing-count e = rw e
+
+    pub property-count : g ≡ Property → numberCount (netOf r ls gs) k g ≡ k + 2
+    unfolding numberCount
+    property-count e = rw e
 
 -- the wires of a frame, at any depth
 pub wires-depth : (c : M.Netlist) (k i : ℕ) → numbersOf c i (Wires i) ≡ numbersOf c k (Wires i)
 unfolding numbersOf clausesOf
 wires-depth c k i = refl
 
--- a group known by its kind: its room, what is written, and its frames
+-- a group known by its kind: what is written, and its frames
 module _ (c : M.Netlist) (k : ℕ) {g g′ : Group} (e : g ≡ g′) {zs : List ℤ} (h : zs ≡ numbersOf c k g′) where
-  pub room-by-kind : {n : ℕ} → length (numbersOf c k g) ≤ n → length zs ≤ n
-  room-by-kind {n} l = subst (λ (xs : List ℤ). length xs ≤ n) (ap (numbersOf c k) e ∙ sym h) l
-
   pub wrote-by-kind : {old new : List ℤ} {r : ℕ} → Wrote zs old new r → Wrote (numbersOf c k g) old new r
   wrote-by-kind {old} {new} {r} w = subst (λ (xs : List ℤ). Wrote xs old new r) (h ∙ ap (numbersOf c k) (sym e)) w
 

@@ -9,6 +9,7 @@ ghost use lib.ListN.{length};
 ghost use Rattle.model.specs.Acceptance.{Accepted};
 ghost use Rattle.model.specs.Groups.{inDepth};
 ghost use Rattle.model.specs.Numbers.{numbersOf};
+ghost use Rattle.model.specs.Counts.{numberCount};
 ghost use Rattle.model.specs.Wrote.{Wrote};
 ghost use Rattle.netlist.specs.NetOf.{netOf};
 
@@ -22,8 +23,9 @@ pub fn put_group(
     group: Group,
 ) -> usize
     requires { ⌜ Accepted (netOf net (now latches) (now gates)) × (depth ≤ 255) × (inDepth depth group ≡ true)
-        × (length (numbersOf (netOf net (now latches) (now gates)) depth group) ≤ length (now out)) ⌝ }
-    ensures { λ r. ⌜ Wrote (numbersOf (netOf net (now (latches .entry)) (now (gates .entry))) depth group) (now (out .entry)) (now (out .exit)) r ⌝ }
+        × (numberCount (netOf net (now latches) (now gates)) depth group ≤ length (now out)) ⌝ }
+    ensures { λ r. ⌜ Wrote (numbersOf (netOf net (now (latches .entry)) (now (gates .entry))) depth group) (now (out .entry)) (now (out .exit)) r
+        × (r ≤ numberCount (netOf net (now (latches .entry)) (now (gates .entry))) depth group) ⌝ }
 {
     match group {
         Group::Wires(i) => group_wires::put_wires(out, net, latches, gates, i),

@@ -1,7 +1,8 @@
 // Wire numbers, codes and clause numbers: three types, never accepted in each other's place (RULES W6 and N1).
-// Between them only a frame converts.
+// Between them only a frame converts. What compares or counts by the numbers inside stands here.
 ghost use mathlib.Core.Path.{_≡_};
-ghost use Prim.Native.Nat.{_+_, _*_, _/_, _≤_, _<_};
+ghost use Prim.Native.Nat.{_+_, _*_, _/_, _^_, _≤_, _<_};
+ghost use lib.Dec.{ltb};
 ghost use Rattle.model.specs.Bits.{bit};
 ghost use Rattle.model.specs.Clauses.{known, plus, neg};
 ghost use Rattle.model.specs.Variables.{baseOf, pairBaseOf, wireAt, codeAt};
@@ -33,6 +34,21 @@ impl Wire {
     {
         Lit::variable(b, self.0)
     }
+
+    // The wire `by` places behind this one.
+    pub fn offset(self, by: u32) -> Wire
+        requires { ⌜ self .0 + by < 2 ^ 32 ⌝ }
+        ensures { λ r. ⌜ r .0 ≡ self .0 + by ⌝ }
+    {
+        Wire(self.0 + by)
+    }
+
+    // The wire's place in a table of all wires, whose place 0 is the constants'.
+    pub fn index(self) -> usize
+        ensures { λ r. ⌜ r ≡ self .0 ⌝ }
+    {
+        self.0 as usize
+    }
 }
 
 impl Code {
@@ -49,6 +65,27 @@ impl Code {
             return even.negated();
         }
         even
+    }
+
+    // The place of the code's wire in a table of all wires, whose place 0 is the constants'.
+    pub fn wire_index(self) -> usize
+        ensures { λ r. ⌜ r ≡ self .0 / 2 ⌝ }
+    {
+        (self.0 / 2) as usize
+    }
+
+    // Whether the code is less than both codes of a wire.
+    pub fn is_below(self, wire: Wire) -> bool
+        ensures { λ r. ⌜ r ≡ ltb (self .0) (2 * wire .0) ⌝ }
+    {
+        self.0 / 2 < wire.0
+    }
+
+    // Whether the code is greater than both codes of a wire.
+    pub fn is_above(self, wire: Wire) -> bool
+        ensures { λ r. ⌜ r ≡ ltb (2 * wire .0 + 1) (self .0) ⌝ }
+    {
+        wire.0 < self.0 / 2
     }
 }
 

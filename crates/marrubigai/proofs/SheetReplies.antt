@@ -2,11 +2,10 @@
 use Prim.Native.Nat.{ℕ}
 use mathlib.Core.Path.{_≡_}
 use mathlib.Core.List.{List}
-use Rattle.refusals.proofs.Table.{reply-passed}
 use Rattle.sheet_steps.specs.declared.SheetAnswer.{SheetAnswer}
 use Rattle.call_lists.specs.declared.Latch.{Latch}
 use Rattle.call_lists.specs.declared.Gate.{Gate}
-use Rattle.sheet_reader.specs.ReadCall.{readVerdict, readRecord, latchesLeft, gatesLeft, SheetDelivered}
+use Rattle.sheet_reader.specs.ReadCall.{readVerdict, readRecord, latchesAfter, gatesAfter, SheetDelivered}
 use Rattle.sheet_reader.proofs.ReadCall.{Reads}
 use Rattle.call_replies.specs.declared.SheetReply.{SheetReply}
 use Rattle.call_replies.specs.Replies.{sheetNumbers}
@@ -15,8 +14,8 @@ module _ (file : List ℕ) (latches : List Latch) (gates : List Gate) where
   abbrev pub Replies : SheetReply → List Latch → List Gate → Type 0
   Replies reply newLatches newGates =
       (reply ≡ sheetNumbers (readVerdict file latches gates) (readRecord file latches gates))
-      × ((newLatches ≡ latchesLeft file latches gates)
-      × ((newGates ≡ gatesLeft file latches gates)
+      × ((newLatches ≡ latchesAfter file latches gates)
+      × ((newGates ≡ gatesAfter file latches gates)
       × (reply .number ≡ 0 → SheetDelivered file (reply .net) newLatches newGates)))
 
   pub replies : (sheet : SheetAnswer) (newLatches : List Latch) (newGates : List Gate)
@@ -24,4 +23,4 @@ module _ (file : List ℕ) (latches : List Latch) (gates : List Gate) where
       → Replies (sheetNumbers (sheet .verdict) (sheet .net)) newLatches newGates
   unfolding sheetNumbers
   replies sheet newLatches newGates e =
-      (rw (e .0, e .1 .0), (e .1 .1 .0, (e .1 .1 .1 .0, λ zero. e .1 .1 .1 .1 (reply-passed (sheet .verdict) zero))))
+      (rw (e .0, e .1 .0), (e .1 .1 .0, (e .1 .1 .1 .0, e .1 .1 .1 .1 .0)))

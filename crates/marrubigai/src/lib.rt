@@ -9,11 +9,11 @@ use netlist::Netlist;
 use sheet_parse::SheetReader;
 ghost use mathlib.Core.Path.{_≡_};
 ghost use lib.ListN.{length};
-ghost use Rattle.calls.specs.LentCalls.{headingFor, groupFor, numbersLeft};
+ghost use Rattle.calls.specs.LentCalls.{headingFor, groupFor, numbersAfter};
 ghost use Rattle.dimacs.specs.Text.{headerText, clauseText, refusalText};
 ghost use Rattle.dimacs.specs.PrintCalls.{printSent, printLeaves};
 ghost use Rattle.sheet_parse.specs.LineAnswers.{lineAnswer, linesRead};
-ghost use Rattle.sheet_reader.specs.ReadCall.{readVerdict, readRecord, latchesLeft, gatesLeft, SheetDelivered};
+ghost use Rattle.sheet_reader.specs.ReadCall.{readVerdict, readRecord, latchesAfter, gatesAfter, SheetDelivered};
 ghost use Rattle.call_replies.specs.Replies.{groupOf, countNumbers, headingNumbers, sheetNumbers, lineNumbers};
 
 // `calls::write_group`. The kind is 0 for the wires of frame i, 1 for the pair (j, i), 2 for the closing of frame i, 3 for the property.
@@ -29,7 +29,7 @@ pub extern "C" fn marrubigai_write_group(
     out: &mut [i32],
 ) -> CountReply
     ensures answer { λ r. ⌜ r ≡ countNumbers (groupFor net (now (latches .entry)) (now (gates .entry)) depth (groupOf kind j i) (length (now (out .entry)))) ⌝ }
-    ensures borrowed { λ r. ⌜ now (out .exit) ≡ numbersLeft net (now (latches .entry)) (now (gates .entry)) depth (groupOf kind j i) (now (out .entry)) ⌝ }
+    ensures borrowed { λ r. ⌜ now (out .exit) ≡ numbersAfter net (now (latches .entry)) (now (gates .entry)) depth (groupOf kind j i) (now (out .entry)) ⌝ }
 {
     call_replies::group_numbers(calls::write_group(
         net,
@@ -62,8 +62,8 @@ pub extern "C" fn marrubigai_read(
     gates: &mut [Gate],
 ) -> SheetReply
     ensures reply { λ r. ⌜ r ≡ sheetNumbers (readVerdict (now (file .entry)) (now (latches .entry)) (now (gates .entry))) (readRecord (now (file .entry)) (now (latches .entry)) (now (gates .entry))) ⌝ }
-    ensures latches { λ _. ⌜ now (latches .exit) ≡ latchesLeft (now (file .entry)) (now (latches .entry)) (now (gates .entry)) ⌝ }
-    ensures gates { λ _. ⌜ now (gates .exit) ≡ gatesLeft (now (file .entry)) (now (latches .entry)) (now (gates .entry)) ⌝ }
+    ensures latches { λ _. ⌜ now (latches .exit) ≡ latchesAfter (now (file .entry)) (now (latches .entry)) (now (gates .entry)) ⌝ }
+    ensures gates { λ _. ⌜ now (gates .exit) ≡ gatesAfter (now (file .entry)) (now (latches .entry)) (now (gates .entry)) ⌝ }
     ensures accepted { λ r. ⌜ (r .number ≡ 0 → SheetDelivered (now (file .entry)) (r .net) (now (latches .exit)) (now (gates .exit))) ⌝ }
 {
     call_replies::sheet_numbers(sheet_reader::read(file, latches, gates))

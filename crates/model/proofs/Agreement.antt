@@ -43,9 +43,9 @@ address-bits c p q u v e t b =
 unfoldable pub writes : Netlist → (ℕ → Values) → ℕ → ℕ → Bool
 writes c u x j = codeValue (u j) (c .WE) && eqb x (addressOf c (port c) (u j))
 
--- the writes to the word that frame i reads
-unfoldable pub hits : Netlist → (ℕ → Values) → ℕ → ℕ → Bool
-hits c u i = writes c u (addressOf c (port c) (u i))
+-- the writes to the word that frame i reads at a port
+unfoldable pub hits : Netlist → Port → (ℕ → Values) → ℕ → ℕ → Bool
+hits c p u i = writes c u (addressOf c p (u i))
 
 -- the word x before frame i, of frames with the values u
 abbrev pub wordBefore : Netlist → (ℕ → Values) → ℕ → ℕ → ℕ → ℕ

@@ -1,115 +1,45 @@
 -- From an assignment that makes all clauses true to the run that it feeds: frame by frame, the values assigned are the frame's.
 -- No contract cites this file.
 use Prim.Native.Nat.{ℕ, zero, suc, _+_, _<_, _≤_}
-use mathlib.Core.Path.{_≡_, refl, sym, _∙_, ap, ap₂}
-use mathlib.Core.Bool.{Bool, true, false, not, _&&_, and-comm}
+use mathlib.Core.Path.{_≡_, refl, sym, _∙_, ap}
+use mathlib.Core.Bool.{Bool, true, false}
 use native.Mathlib.Numerals.{add-one}
-use native.Mathlib.Nat.{le-refl, le-of-suc-le, lt-suc-self, not-suc-le-zero}
+use native.Mathlib.Nat.{le-refl, le-of-suc-le, lt-suc-self, not-suc-le-zero, zero-add}
 use native.Mathlib.Omega.{arith}
-use lib.Dec.{eqb}
-use borrow.Author.Tests.{eqb-true, eq-eqb}
 use Rattle.model.specs.Bits.{bit}
 use Rattle.model.specs.Netlist.{Netlist, port, inputWire, latchWire, readWire}
-use Rattle.model.specs.Circuit.{Values, codeValue, State, addressOf, readData, wordWritten, step, stateAt, run, initial}
+use Rattle.model.specs.Circuit.{Values, codeValue, State, addressOf, readData, step, stateAt, run, initial}
 use Rattle.model.specs.Acceptance.{Accepted}
-use Rattle.model.specs.Clauses.{PairLiterals}
-use Rattle.model.specs.Variables.{noneSince, readBit, pairLiterals, closingLiterals}
+use Rattle.model.specs.Variables.{closingLiterals}
 use Rattle.model.specs.Numbers.{Assignment}
 use Rattle.model.specs.Claim.{feedOf, Agrees, Breaks}
 use Rattle.model.proofs.Below.{all-below-suc}
-use Rattle.model.proofs.Booleans.{iff-eq}
-use Rattle.model.proofs.Bits.{fromBits-same}
 use Rattle.model.proofs.Circuit.{IsFrame, frame-unique}
-use Rattle.model.proofs.Truth.{value, AllHold, PairHolds, ClosingHolds}
-use Rattle.model.proofs.InFrame.{assigned, assigned-zero, assigned-wire, readBit-value, codeIn-value}
-use Rattle.model.proofs.Forwarding.{Chain, selected-read}
-use Rattle.model.proofs.Variables.{noneSince-last}
+use Rattle.model.proofs.Truth.{value, AllHold}
+use Rattle.model.proofs.InFrame.{assigned, assigned-zero, assigned-wire}
 use Rattle.model.proofs.Joined.{EachGroup}
-use Rattle.model.proofs.Agreement.{Same, address-bits, code-agrees, word-bit, writes, hits, wordBefore, memory-stepped, wordBefore-agrees}
+use Rattle.model.proofs.AssignedReads.{word-read}
+use Rattle.model.proofs.Agreement.{Same, code-agrees, wordBefore, memory-stepped, wordBefore-agrees}
 use Rattle.model.proofs.Groups.{wires-hold, state-first-holds, state-later-holds, gateClauses-holds, resetClauses-holds, latchClauses-holds, pair-holds, closing-holds, property-holds}
 
 module _ (c : Netlist) (a : Assignment) where
-  -- the frames as assigned, the address in a frame, and the literals of a pair
+  -- the frames as assigned, and the address in a frame
   abbrev u : ℕ → Values
   u = assigned c a
 
   abbrev at : ℕ → ℕ
   at i = addressOf c (port c) (u i)
 
-  abbrev literals : ℕ → ℕ → PairLiterals
-  literals = pairLiterals c (port c)
-
-  -- E is true exactly where the two addresses are equal
-  E-value : (j i : ℕ) → PairHolds a (c .m) (c .n) (literals j i) → value a (literals j i .E) ≡ eqb (at i) (at j)
-  unfolding pairLiterals addressOf
-  E-value j i h =
-      iff-eq _ _
-      (λ e. eq-eqb _ _ (fromBits-same (c .m) _ _ (λ t b. sym (Ai t) ∙ sym (h .address-bit t b .0 e) ∙ Aj t)))
-      (λ e. h .E-where-all-e (λ t b. h .address-bit t b .1
-      (Aj t ∙ sym (address-bits c (port c) (port c) (u i) (u j) (eqb-true _ _ e) t b) ∙ sym (Ai t))))
-    where
-      Aj : (t : ℕ) → value a (literals j i .Aj t) ≡ codeValue (u j) (c .address t)
-      Aj t = codeIn-value c a j (c .address t)
-
-      Ai : (t : ℕ) → value a (literals j i .Ai t) ≡ codeValue (u i) (c .address t)
-      Ai t = codeIn-value c a i (c .address t)
-
-  -- s is true exactly where frame j writes the word that frame i reads
-  s-value : (j i : ℕ) → PairHolds a (c .m) (c .n) (literals j i) → value a (literals j i .s) ≡ hits c u i j
-  unfolding hits writes pairLiterals
-  s-value j i h =
-      h .valid ∙ and-comm (value a (literals j i .E)) (value a (literals j i .WE))
-      ∙ ap₂ _&&_ (codeIn-value c a j (c .WE)) (E-value j i h)
-
   module _ (k : ℕ) (holds : EachGroup c k (AllHold a)) where
-    pair-at : (j i : ℕ) → j < i → i ≤ k → PairHolds a (c .m) (c .n) (literals j i)
-    pair-at j i b d = pair-holds c a k j i .0 (holds .pairs j i b d)
-
-    closing-at : (i : ℕ) → i ≤ k → ClosingHolds a (c .n) i (closingLiterals c (port c) i)
-    closing-at i d = closing-holds c a k i .0 (holds .closings i d)
-
-    -- N of pair (j, i) is `noneSince` of the next frame
-    N-value : (j i : ℕ) → value a (literals j i .N) ≡ value a (noneSince c (port c) (suc j) i)
-    unfolding pairLiterals
-    N-value j i = ap (λ (x : ℕ). value a (noneSince c (port c) x i)) (add-one j)
-
-    -- the literals `noneSince` of frame i are the chain of the writes to the word it reads
-    chain-at : (i : ℕ) → i ≤ k → Chain i (hits c u i) (λ j. value a (noneSince c (port c) j i))
-    unfolding pairLiterals
-    chain-at i d =
-        record {
-          link = λ j b. let h = pair-at j i b d in
-              h .none-since ∙ ap₂ (λ (x y : Bool). not x && y) (s-value j i h) (N-value j i);
-        }
-
-    -- S is true where frame j's write is the newest to the word that frame i reads
-    S-where-newest : (j i : ℕ) (b : j < i) (d : i ≤ k) → (hits c u i j && value a (noneSince c (port c) (suc j) i)) ≡ true
-        → value a (literals j i .S) ≡ true
-    S-where-newest j i b d h =
-        let p = pair-at j i b d in p .exclusive ∙ ap₂ _&&_ (s-value j i p) (N-value j i) ∙ h
-
     -- where RE is true, the read bits assigned are the word that the writes assigned leave
     read-at : (i : ℕ) → i ≤ k → codeValue (u i) (c .RE) ≡ true → (t : ℕ) → t < c .n
         → u i (readWire c t) ≡ bit (wordBefore c u (c .initialWord) (at i) i) t
-    unfolding closingLiterals pairLiterals value hits
-    read-at i d r t b = sym (readBit-value c a i t) ∙ reads i (le-refl i) RE t b
-      where
-        -- the read bits of frame i are the word w
-        Reads : ℕ → Type 0
-        Reads w = (t : ℕ) → t < c .n → value a (readBit c (port c) i t) ≡ bit w t
-
-        forwarded : (j : ℕ) → j < i → (hits c u i j && value a (noneSince c (port c) (suc j) i)) ≡ true → Reads (wordWritten c (u j))
-        forwarded j b h t l =
-            pair-at j i b d .data-where-S t l (S-where-newest j i b d h)
-            ∙ codeIn-value c a j (c .writeData t) ∙ sym (word-bit c (u j) t l)
-
-        RE : value a (noneSince c (port c) i i) ≡ true
-        RE = ap (value a) (noneSince-last c (port c) i) ∙ codeIn-value c a i (c .RE) ∙ r
-
-        reads : (j : ℕ) → j ≤ i → value a (noneSince c (port c) j i) ≡ true → Reads (wordBefore c u (c .initialWord) (at i) j)
-        reads =
-            selected-read i (hits c u i) (λ j. value a (noneSince c (port c) j i)) (chain-at i d) (c .initialWord)
-            (λ j. wordWritten c (u j)) Reads (λ z t b. closing-at i d .initial-where-Z t b z) forwarded
+    unfolding closingLiterals value
+    read-at i d r t b =
+        rw (zero-add t) at (
+        word-read c (port c) a i (λ j l. pair-holds c a k j i .0 (holds .pairs j i l d)) (c .initialWord)
+        (λ z t b. closing-holds c a k i .0 (holds .closings i d) .initial-where-Z t b z) r t b
+        )
 
     module _ (ok : Accepted c) where
       -- the run that the assignment feeds, and its states

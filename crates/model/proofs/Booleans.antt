@@ -1,6 +1,6 @@
 -- Laws of Booleans that the library has not. No contract cites this file.
 use mathlib.Core.Path.{_≡_, refl, sym, _∙_}
-use mathlib.Core.Bool.{Bool, true, false, not, _&&_, _||_, Bool·beq, true≢false, false≢true}
+use mathlib.Core.Bool.{Bool, true, false, cond, not, _&&_, _||_, Bool·beq, true≢false, false≢true}
 use mathlib.Core.Logic.{_⊎_, inl, inr, _↔_}
 
 -- a conjunction is true where both are
@@ -37,6 +37,11 @@ pub iff-eq : (x y : Bool) → (x ≡ true → y ≡ true) → (y ≡ true → x 
 iff-eq true y f g = sym (f refl)
 iff-eq false true f g = g refl
 iff-eq false false f g = refl
+
+-- choices by the same Boolean are equal where what is chosen is
+pub cond-same : {A : Type 0} (b : Bool) {x y z w : A} → (b ≡ true → x ≡ y) → (b ≡ false → z ≡ w) → cond b x z ≡ cond b y w
+cond-same true t f = t refl
+cond-same false t f = f refl
 
 -- the computed equality of Booleans
 pub beq-true : (x y : Bool) → (Bool·beq x y ≡ true) ↔ (x ≡ y)

@@ -1,5 +1,5 @@
--- `dependsOnRead` (specs/Circuit.antt) says whether there is a path by wiring through gates from a read bit to the wire.
--- No contract cites this file.
+-- `dependsOnRead` (specs/Circuit.antt) says whether there is a path by wiring through gates from a read bit to the wire: the theorem
+-- (`PathTheorem` of specs/Acceptance.antt). No contract cites this file.
 use Prim.Native.Nat.{ℕ, _/_, _<_}
 use mathlib.Core.Path.{_≡_, refl, sym, _∙_}
 use mathlib.Core.Bool.{Bool, true, false, _||_, true≢false, or-true}
@@ -9,11 +9,11 @@ use native.Mathlib.Omega.{arith}
 use borrow.Author.Tests.{le-leb, lt-leb, lt-ltb, le-ltb}
 use Rattle.model.specs.Netlist.{Netlist, readBits, inputWire, latchWire, readWire, gateWire, lastWire}
 use Rattle.model.specs.Circuit.{isRead, eitherWire, dependsOnRead, ReadPath, at-read, by-left, by-right}
-use Rattle.model.specs.Acceptance.{CodesFit}
+use Rattle.model.specs.Acceptance.{CodesFit, PathTheorem}
 use Rattle.model.proofs.Sweep.{ByWires, OfTwoWires, sweep-outside, sweep-solves, wire-induction}
 
 -- the sweep looks at a gate's two wires alone
-eitherWire-of-two : OfTwoWires eitherWire
+pub eitherWire-of-two : OfTwoWires eitherWire
 unfolding eitherWire
 eitherWire-of-two u v a b h k = rw (h, k)
 
@@ -56,7 +56,7 @@ independent-gate c q g h e = neither _ _ (sym (depends-gate c q g h) ∙ e)
     neither false b e = (refl, e)
 
 -- a wire that depends on a read bit has a path from one
-pub depends-path : (c : Netlist) → CodesFit c → (w : ℕ) → dependsOnRead c w ≡ true → ReadPath c w
+depends-path : (c : Netlist) → CodesFit c → (w : ℕ) → dependsOnRead c w ≡ true → ReadPath c w
 depends-path c q w e =
     by-cases (decLe w (lastWire c)) (λ h. wire-induction c Reached wires w h e) (λ h. independent w (depends-past c w (omega arith)) e)
   where
@@ -86,7 +86,10 @@ depends-path c q w e =
         }
 
 -- a wire with a path from a read bit depends on one
-pub path-depends : (c : Netlist) → CodesFit c → (w : ℕ) → ReadPath c w → dependsOnRead c w ≡ true
+path-depends : (c : Netlist) → CodesFit c → (w : ℕ) → ReadPath c w → dependsOnRead c w ≡ true
 path-depends c q w (at-read t h) = depends-read c t h
 path-depends c q w (by-left g h p) = depends-gate c q g h ∙ rw (path-depends c q (c .left g / 2) p)
 path-depends c q w (by-right g h p) = depends-gate c q g h ∙ rw (path-depends c q (c .right g / 2) p) (or-true (dependsOnRead c (c .left g / 2)))
+
+pub paths : PathTheorem
+paths c limits w = (depends-path c (limits .codes) w, path-depends c (limits .codes) w)

@@ -1,7 +1,7 @@
 -- Laws of gather and gatherDown (specs/Gather.antt): what adds up over joined lists, and what holds all over them.
 -- No contract cites this file.
 use Prim.Native.Nat.{ℕ, zero, suc, _+_, _*_, _<_}
-use mathlib.Core.Path.{_≡_, refl, sym, _∙_}
+use mathlib.Core.Path.{_≡_, refl, sym, _∙_, ap, ap₂}
 use mathlib.Core.List.{List, [], _∷_, _++_, map}
 use mathlib.Core.Logic.{_↔_, Iff·rfl, Iff·trans, Iff·and}
 use native.Mathlib.Nat.{suc-mul, zero-mul, not-suc-le-zero}
@@ -9,6 +9,15 @@ use native.Mathlib.Omega.{arith}
 use lib.ListN.{length, length-append, getD}
 use Rattle.model.specs.Gather.{gather, gatherDown}
 use Rattle.model.proofs.Below.{all-below-suc-iff}
+
+-- what is gathered needs to be the same below the number alone
+pub gather-same : {A : Type 0} (n : ℕ) (f h : ℕ → List A) → ((t : ℕ) → t < n → f t ≡ h t) → gather n f ≡ gather n h
+unfolding gather
+gather-same zero f h same = refl
+gather-same (suc n) f h same = ap₂ _++_ (gather-same n f h (λ t b. same t (omega arith))) (same n (omega arith))
+
+pub gathers-same : {A : Type 0} {n o : ℕ} {f h : ℕ → List A} → n ≡ o → ((t : ℕ) → t < n → f t ≡ h t) → gather n f ≡ gather o h
+gathers-same {n = n} {f = f} {h = h} e same = gather-same n f h same ∙ ap (λ x. gather x h) e
 
 -- a count of lists that adds up
 pub record Adds {A : Type 0} (count : List A → ℕ) : Type 0 where

@@ -3,12 +3,11 @@
 use Prim.Native.Nat.{ℕ, _+_, _/_, _<_, _≤_}
 use mathlib.Core.Path.{_≡_, refl, sym, _∙_, ap}
 use mathlib.Core.Bool.{Bool, true, false, cond}
-use native.Mathlib.Nat.{zero-add}
 use native.Mathlib.Omega.{arith}
 use lib.Dec.{eqb, ltb}
 use borrow.Author.Tests.{ltb-true, ltb-false, ne-eqb}
 use Rattle.model.specs.Bits.{odd}
-use Rattle.model.specs.Netlist.{Netlist, port, readWire}
+use Rattle.model.specs.Netlist.{Netlist, Port, readWire}
 use Rattle.model.specs.Circuit.{Values, codeValue}
 use Rattle.model.specs.Variables.{base, wireAt, codeAt, wireIn, codeIn, readBit}
 use Rattle.model.specs.Numbers.{Assignment}
@@ -31,9 +30,10 @@ unfolding wireAt value
 wireIn-value c a i w h = sym (assigned-wire c a i w h)
 
 -- a read bit's literal has the read bit's value
-pub readBit-value : (c : Netlist) (a : Assignment) (i t : ℕ) → value a (readBit c (port c) i t) ≡ assigned c a i (readWire c t)
+pub readBit-value : (c : Netlist) (p : Port) (a : Assignment) (i t : ℕ)
+    → value a (readBit c p i t) ≡ assigned c a i (readWire c (p .firstRead + t))
 unfolding readBit
-readBit-value c a i t = rw (zero-add t) (wireIn-value c a i (readWire c t) (omega arith))
+readBit-value c p a i t = wireIn-value c a i (readWire c (p .firstRead + t)) (omega arith)
 
 -- a code's literal, in whatever frame, has the code's value
 pub codeIn-value : (c : Netlist) (a : Assignment) (i x : ℕ) → value a (codeIn c i x) ≡ codeValue (assigned c a i) x

@@ -4,6 +4,7 @@ pub mod Bits
 pub mod Sweep
 pub mod Dependence
 pub mod Circuit
+pub mod Renumbering
 pub mod Memory
 pub mod Gather
 pub mod Joined
@@ -17,9 +18,15 @@ pub mod InFrame
 pub mod Groups
 pub mod Forwarding
 pub mod Agreement
+pub mod AssignedReads
 pub mod AssignmentToRun
+pub mod WitnessedReads
 pub mod Witness
 pub mod RunToAssignment
 pub mod Claim
 pub mod Stated
+pub mod Agree
+pub mod SameNumbers
+pub mod SameRuns
 pub mod Wrote
+pub mod Search

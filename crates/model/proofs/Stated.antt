@@ -19,7 +19,6 @@ use Rattle.model.specs.Claim.{Stated, StatedTheorem}
 use Rattle.model.specs.declared.Group.{Group}
 use Rattle.model.specs.declared.Group.the-variants.{Wires, Pair, Closing, Property}
 use Rattle.model.proofs.Booleans.{and-true}
-use Rattle.model.proofs.Dependence.{depends-path, path-depends}
 use Rattle.model.proofs.Memory.{address-below, word-below}
 use Rattle.model.proofs.Gather.{all-getD}
 use Rattle.model.proofs.Numbering.{numbered}
@@ -73,7 +72,6 @@ module _ {c : Netlist} (ok : Accepted c) (k : ℕ) where
         unsatisfiable→safe = unsatisfiable→safe (encodes c ok k);
         clauses-counted = clauses-in-group;
         numbers-counted = group-numbers c k;
-        depends-by-path = λ w. (depends-path c (ok .limits .codes) w, path-depends c (ok .limits .codes) w);
         addresses-within = λ f i. address-below c (port c) (run c (initial c) f i);
         words-within = word-below c ok;
       }

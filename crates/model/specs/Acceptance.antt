@@ -2,10 +2,11 @@
 -- theorem, by what writes clauses, and by the tests of records, which are proved to pass exactly these.
 use Prim.Native.Nat.{ℕ, _+_, _*_, _/_, _^_, _≤_, _<_}
 use mathlib.Core.Path.{_≡_}
-use mathlib.Core.Bool.{false}
+use mathlib.Core.Bool.{true, false}
+use mathlib.Core.Logic.{_↔_}
 use Rattle.model.specs.Limits.{mostWires, mostAddressBits, mostDataBits}
 use Rattle.model.specs.Netlist.{Netlist, Port, port, gateWire, lastWire}
-use Rattle.model.specs.Circuit.{dependsOnRead}
+use Rattle.model.specs.Circuit.{dependsOnRead, ReadPath}
 
 -- refusal 4 (RULES T4): a size outside its limit
 pub record SizesFit (c : Netlist) : Type 0 where
@@ -48,3 +49,8 @@ pub record NoLoop (c : Netlist) (p : Port) : Type 0 where
 pub record Accepted (c : Netlist) : Type 0 where
   pub limits : WithinLimits c
   pub noLoop : NoLoop c (port c)
+
+-- Dependence on a read bit is a path through gates: of every netlist within limits, so of those too that refusal 6 is about. Promised
+-- by `heading` and `read`; `paths` in proofs/Dependence.antt is of this type.
+abbrev pub PathTheorem : Type 0
+PathTheorem = (c : Netlist) → WithinLimits c → (w : ℕ) → (dependsOnRead c w ≡ true) ↔ ReadPath c w

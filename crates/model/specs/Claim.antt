@@ -11,11 +11,10 @@
 use Prim.Native.Nat.{ℕ, _+_, _^_, _≤_, _<_}
 use mathlib.Core.Path.{_≡_}
 use mathlib.Core.Bool.{true, false}
-use mathlib.Core.Logic.{_↔_}
 use lib.IntN.{natAbs, pos}
 use lib.ListN.{length, getD}
 use Rattle.model.specs.Netlist.{Netlist, port, inputWire, readWire, lastWire}
-use Rattle.model.specs.Circuit.{State, Feeds, codeValue, addressOf, stateAt, run, initial, dependsOnRead, ReadPath}
+use Rattle.model.specs.Circuit.{State, Feeds, codeValue, addressOf, stateAt, run, initial}
 use Rattle.model.specs.Acceptance.{Accepted}
 use Rattle.model.specs.Variables.{base, Numbered}
 use Rattle.model.specs.Groups.{inDepth}
@@ -50,8 +49,8 @@ EncodingTheorem = (c : Netlist) → Accepted c → (k : ℕ) → Encodes c k
 
 -- What else is said of the clauses of a depth. An assignment is of the variables from 1 to B(k + 1) (RULES A3): no other matters, each of
 -- them is numbered, and every number written is one of them or an end mark. Where no assignment satisfies the clauses, no run breaks
--- the property: this is what a designer relies on. A group has as many clauses and numbers as RULES G18 and G19 count. Dependence on a
--- read bit is a path through gates. A run's memory is 2^m words of n bits (RULES C1): no frame has another address, and no word is longer.
+-- the property: this is what a designer relies on. A group has as many clauses and numbers as RULES G18 and G19 count. A run's
+-- memory is 2^m words of n bits (RULES C1): no frame has another address, and no word is longer.
 pub record Stated (c : Netlist) (k : ℕ) : Type 0 where
   pub only-numbered : (a a′ : Assignment) → ((v : ℕ) → 1 ≤ v → v ≤ base c (k + 1) → a v ≡ a′ v) → Satisfies c k a → Satisfies c k a′
   pub all-numbered : (v : ℕ) → 1 ≤ v → v ≤ base c (k + 1) → Numbered c k v
@@ -59,7 +58,6 @@ pub record Stated (c : Netlist) (k : ℕ) : Type 0 where
   pub unsatisfiable→safe : ((a : Assignment) → Satisfies c k a → ⊥) → (f : Feeds) → Breaks c (initial c) k f → ⊥
   pub clauses-counted : (g : Group) → inDepth k g ≡ true → length (clausesIn (numbersOf c k g)) ≡ clauseCount c k g
   pub numbers-counted : (g : Group) → length (numbersOf c k g) ≡ numberCount c k g
-  pub depends-by-path : (w : ℕ) → (dependsOnRead c w ≡ true) ↔ ReadPath c w
   pub addresses-within : (f : Feeds) (i : ℕ) → addressOf c (port c) (run c (initial c) f i) < 2 ^ c .m
   pub words-within : (f : Feeds) (i x : ℕ) → stateAt c (initial c) f i .memory x < 2 ^ c .n
 

@@ -3,7 +3,9 @@ pub mod Limits
 pub mod Bits
 pub mod Netlist
 pub mod Circuit
+pub mod Network
 pub mod Acceptance
+pub mod Agree
 pub mod Gather
 pub mod Clauses
 pub mod Variables
@@ -12,3 +14,4 @@ pub mod Numbers
 pub mod Counts
 pub mod Claim
 pub mod Wrote
+pub mod Search

@@ -12,7 +12,7 @@ use lib.Pow.{pow-pos, pow-mono}
 use borrow.Author.Tests.{ltb-false, lt-ltb, le-ltb, leb-false, lt-leb, le-leb, eq-eqb, ne-eqb}
 use Rattle.model.specs.Netlist.{Netlist, port, gateWire, lastWire}
 use Rattle.model.specs.Acceptance.{SizesFit, CodesFit, NoLoop}
-use Rattle.netlist.specs.Faults.{outside, sizeFault, codeOutside, codeFault, loopFaultBy, loopFault}
+use Rattle.netlist.specs.Faults.{outside, sizeFault, codeFault, loopFaultBy, loopFault}
 use Rattle.netlist.specs.declared.Line.{Line}
 use Rattle.netlist.specs.declared.Line.the-variants.{Sizes, Memory, Latch, Gate, Control}
 use Rattle.netlist.proofs.Places.{EveryLine}
@@ -49,20 +49,16 @@ word-outside n x =
 pub word-inside : (n x : ℕ) → 32 ≤ n → x < 2 ^ 32 → outside 0 (2 ^ n - 1) x ≡ false
 word-inside n x h b = at-most (2 ^ n - 1) x .1 (omega (arith, pow-mono {i = 32} {j = n} h))
 
--- a code is outside its limit where its wire is
-pub code-outside : (last x : ℕ) → codeOutside last x ≡ ltb last (x / 2)
-code-outside last x =
-    outside-above (2 * last + 1) x
-    ∙ by-cases (decLt last (x / 2))
-    (λ h. rw (lt-ltb (2 * last + 1) x (omega arith), lt-ltb last (x / 2) h))
-    (λ h. rw (le-ltb (2 * last + 1) x (omega arith), le-ltb last (x / 2) (omega arith)))
+-- the two tests of an order are each other's opposite
+pub leb-not-ltb : (a b : ℕ) → leb a b ≡ not (ltb b a)
+leb-not-ltb a b =
+    by-cases (decLt b a)
+    (λ h. rw (lt-leb a b h, lt-ltb b a h))
+    (λ h. rw (le-leb a b (omega arith), le-ltb b a (omega arith)))
 
--- a gate operand is outside its limit where its wire is not before the gate's own
-pub operand-outside : (own x : ℕ) → leb (2 * own) x ≡ leb own (x / 2)
-operand-outside own x =
-    by-cases (decLt (x / 2) own)
-    (λ h. rw (lt-leb (2 * own) x (omega arith), lt-leb own (x / 2) h))
-    (λ h. rw (le-leb (2 * own) x (omega arith), le-leb own (x / 2) (omega arith)))
+-- a code is within its limit
+pub code-inside : (last x : ℕ) → (ltb (2 * last + 1) x ≡ false) ↔ (x ≤ 2 * last + 1)
+code-inside last x = (ltb-false (2 * last + 1) x, le-ltb (2 * last + 1) x)
 
 -- a line is without a fault
 abbrev pub Without : (Netlist → Line → Bool) → Netlist → Line → Type 0
@@ -116,7 +112,7 @@ module _ (c : Netlist) where
   -- a latch's numbers
   latch-inside : (l : ℕ) → Without codeFault c (Latch l) ↔ ((c .next l ≤ 2 * lastWire c + 1) × (c .reset l ≤ 1))
   unfolding codeFault
-  latch-inside l = neither (at-most (2 * lastWire c + 1) (c .next l)) (at-most 1 (c .reset l))
+  latch-inside l = neither (code-inside (lastWire c) (c .next l)) (at-most 1 (c .reset l))
 
   -- a gate's codes
   gate-inside : (g : ℕ) → Without codeFault c (Gate g) ↔ ((c .left g < 2 * gateWire c g) × (c .right g < 2 * gateWire c g))
@@ -129,14 +125,14 @@ module _ (c : Netlist) where
       ↔ (((c .WE ≤ 2 * lastWire c + 1) × (c .RE ≤ 2 * lastWire c + 1)) × (c .P ≤ 2 * lastWire c + 1))
   unfolding codeFault
   control-inside =
-      let code = at-most (2 * lastWire c + 1) in
+      let code = code-inside (lastWire c) in
       neither (neither (code (c .WE)) (code (c .RE))) (code (c .P))
 
   -- refusal 5
   pub codes-fit : EveryLine c (Without codeFault c) ↔ CodesFit c
   unfolding codeFault
   codes-fit =
-      let code = at-most (2 * lastWire c + 1) in (
+      let code = code-inside (lastWire c) in (
         λ q.
             record {
               next-fits = λ l h. latch-inside l .0 (q .of-latch l h) .0;

@@ -25,12 +25,12 @@ sizeFault c (WriteData t) = false
 sizeFault c Control = false
 
 -- RULES W12: "A code is at most 2V + 1", V the last wire
-abbrev pub codeOutside : ℕ → ℕ → Bool
-codeOutside last x = outside 0 (2 * last + 1) x
+abbrev pub aboveLimit : ℕ → ℕ → Bool
+aboveLimit last x = ltb (2 * last + 1) x
 
 -- a latch's next code (RULES W12) and its reset, 0 or 1 (RULES W15)
 abbrev pub latchFault : ℕ → ℕ → ℕ → Bool
-latchFault last next reset = codeOutside last next || outside 0 1 reset
+latchFault last next reset = aboveLimit last next || outside 0 1 reset
 
 -- RULES W13: "A gate's two codes are less than 2 × its own wire"
 abbrev pub gateFault : ℕ → ℕ → ℕ → Bool
@@ -42,9 +42,9 @@ codeFault c Sizes = false
 codeFault c Memory = false
 codeFault c (Latch l) = latchFault (lastWire c) (c .next l) (c .reset l)
 codeFault c (Gate g) = gateFault (gateWire c g) (c .left g) (c .right g)
-codeFault c (Address t) = codeOutside (lastWire c) (c .address t)
-codeFault c (WriteData t) = codeOutside (lastWire c) (c .writeData t)
-codeFault c Control = codeOutside (lastWire c) (c .WE) || codeOutside (lastWire c) (c .RE) || codeOutside (lastWire c) (c .P)
+codeFault c (Address t) = aboveLimit (lastWire c) (c .address t)
+codeFault c (WriteData t) = aboveLimit (lastWire c) (c .writeData t)
+codeFault c Control = aboveLimit (lastWire c) (c .WE) || aboveLimit (lastWire c) (c .RE) || aboveLimit (lastWire c) (c .P)
 
 -- RULES T6: "an address code or RE depends on a read bit", d saying which wires do
 unfoldable pub loopFaultBy : (ℕ → Bool) → Netlist → Line → Bool

@@ -1,7 +1,7 @@
 -- The model's netlist that a record and its unpacked lists stand for (RULES W14 to W17). Cited by every contract over a record.
 use Prim.Native.Nat.{ℕ, _+_, _*_}
 use mathlib.Core.List.{List, []}
-use lib.ListN.{getD}
+use lib.ListN.{getD, set}
 use Rattle.model.specs.Netlist as M
 use Rattle.literals.specs.declared.Code.{Code}
 use Rattle.netlist.specs.declared.Netlist.{Netlist}
@@ -16,6 +16,10 @@ firstAt list x = getD list (2 * x) 0
 
 abbrev pub secondAt : List ℕ → ℕ → ℕ
 secondAt list x = getD list (2 * x + 1) 0
+
+-- record x's two numbers put at its place
+unfoldable pub putNumbers : ℕ → ℕ → ℕ → List ℕ → List ℕ
+putNumbers x first second list = set (set list (2 * x) first) (2 * x + 1) second
 
 unfoldable pub netOf : Netlist → List ℕ → List ℕ → M.Netlist
 netOf r latches gates =

@@ -3,14 +3,15 @@
 // The lists are handed over unpacked: `latches[2 * l]` is latch l's next code and `latches[2 * l + 1]` its reset, `gates[2 * g]`
 // and `gates[2 * g + 1]` are gate g's two codes. What looks at no list speaks of the record `alone`.
 use literals::Code;
+use literals::Wire;
 ghost use mathlib.Core.Path.{_≡_};
-ghost use Prim.Native.Nat.{_+_, _-_, _^_};
+ghost use Prim.Native.Nat.{_+_, _-_, _^_, _<_};
 ghost use Rattle.model.specs.Netlist.{latchWire, readWire, gateWire, lastWire};
 ghost use Rattle.model.specs.Acceptance.{SizesFit};
-ghost use Rattle.netlist.specs.NetOf.{netOf, alone};
+ghost use Rattle.netlist.specs.NetOf.{netOf, alone, putNumbers};
 ghost use Rattle.netlist.specs.RecordOf.{recordOf, noNetlist};
 ghost use Rattle.netlist.specs.Places.{controlLine, lineAt, HasLine};
-ghost use Rattle.netlist.specs.Faults.{outside, sizeFault, codeOutside, latchFault, gateFault, codeFault};
+ghost use Rattle.netlist.specs.Faults.{outside, sizeFault, latchFault, gateFault, codeFault};
 
 // 600 latches or gates, unpacked: two numbers each.
 pub type UnpackedList = [u32; 1200];
@@ -61,6 +62,15 @@ pub fn empty_net() -> Netlist
     }
 }
 
+// Puts the two numbers of a latch or a gate at its place in a list.
+pub fn put_numbers(list: &mut UnpackedList, index: usize, first: u32, second: u32)
+    requires { ⌜ index < 600 ⌝ }
+    ensures { λ _. ⌜ now (list .exit) ≡ putNumbers index first second (now (list .entry)) ⌝ }
+{
+    list[2 * index] = first;
+    list[2 * index + 1] = second;
+}
+
 // Whether x is outside the limits `low` to `high`.
 fn is_outside(low: u32, high: u32, x: u32) -> bool
     ensures { λ r. ⌜ r ≡ outside low high x ⌝ }
@@ -99,36 +109,44 @@ pub fn memory_fault(net: Netlist) -> bool
         | is_last_wire_outside(net.inputs, net.latches, net.n, net.gates)
 }
 
-// V, the number of the last wire.
-pub fn last_wire(net: Netlist) -> u32
+// V, how many wires there are.
+pub fn wire_count(net: Netlist) -> u32
     requires { ⌜ SizesFit (alone net) ⌝ }
     ensures { λ r. ⌜ r ≡ lastWire (alone net) ⌝ }
 {
     net.inputs + net.latches + net.n + net.gates
 }
 
-// The wire of the first latch.
-pub fn first_latch_wire(net: Netlist) -> u32
+// The last wire: wires are numbered from 1.
+pub fn last_wire(net: Netlist) -> Wire
     requires { ⌜ SizesFit (alone net) ⌝ }
-    ensures { λ r. ⌜ r ≡ latchWire (alone net) 0 ⌝ }
+    ensures { λ r. ⌜ r .0 ≡ lastWire (alone net) ⌝ }
 {
-    1 + net.inputs
+    Wire(wire_count(net))
+}
+
+// The wire of the first latch.
+pub fn first_latch_wire(net: Netlist) -> Wire
+    requires { ⌜ SizesFit (alone net) ⌝ }
+    ensures { λ r. ⌜ r .0 ≡ latchWire (alone net) 0 ⌝ }
+{
+    Wire(1 + net.inputs)
 }
 
 // The wire of the first read bit.
-pub fn first_read_wire(net: Netlist) -> u32
+pub fn first_read_wire(net: Netlist) -> Wire
     requires { ⌜ SizesFit (alone net) ⌝ }
-    ensures { λ r. ⌜ r ≡ readWire (alone net) 0 ⌝ }
+    ensures { λ r. ⌜ r .0 ≡ readWire (alone net) 0 ⌝ }
 {
-    first_latch_wire(net) + net.latches
+    first_latch_wire(net).offset(net.latches)
 }
 
 // The wire of the first gate.
-pub fn first_gate_wire(net: Netlist) -> u32
+pub fn first_gate_wire(net: Netlist) -> Wire
     requires { ⌜ SizesFit (alone net) ⌝ }
-    ensures { λ r. ⌜ r ≡ gateWire (alone net) 0 ⌝ }
+    ensures { λ r. ⌜ r .0 ≡ gateWire (alone net) 0 ⌝ }
 {
-    first_read_wire(net) + net.n
+    first_read_wire(net).offset(net.n)
 }
 
 // The place of the last line.
@@ -168,25 +186,18 @@ pub fn line_at(net: Netlist, place: u32) -> Line
     Line::Control
 }
 
-// Whether a code is above 2V + 1, V the last wire.
-pub fn is_code_outside(last: u32, code: Code) -> bool
-    ensures { λ r. ⌜ r ≡ codeOutside last (code .0) ⌝ }
+// Refusal 5 at the line of a latch; the last wire is given.
+pub fn latch_fault(last: Wire, next: Code, reset: u32) -> bool
+    ensures { λ r. ⌜ r ≡ latchFault (last .0) (next .0) reset ⌝ }
 {
-    last < code.0 / 2
-}
-
-// Refusal 5 at the line of a latch.
-pub fn latch_fault(last: u32, next: Code, reset: u32) -> bool
-    ensures { λ r. ⌜ r ≡ latchFault last (next .0) reset ⌝ }
-{
-    is_code_outside(last, next) | is_outside(0, 1, reset)
+    next.is_above(last) | is_outside(0, 1, reset)
 }
 
 // Refusal 5 at the line of a gate, whose own wire is given.
-pub fn gate_fault(own: u32, left: Code, right: Code) -> bool
-    ensures { λ r. ⌜ r ≡ gateFault own (left .0) (right .0) ⌝ }
+pub fn gate_fault(own: Wire, left: Code, right: Code) -> bool
+    ensures { λ r. ⌜ r ≡ gateFault (own .0) (left .0) (right .0) ⌝ }
 {
-    (own <= left.0 / 2) | (own <= right.0 / 2)
+    !left.is_below(own) | !right.is_below(own)
 }
 
 // Refusal 5 at a line.
@@ -205,21 +216,19 @@ pub fn code_fault(net: Netlist, latches: &UnpackedList, gates: &UnpackedList, li
         Line::Gate(g) => {
             let at = 2 * (g as usize);
             gate_fault(
-                first_gate_wire(net) + g,
+                first_gate_wire(net).offset(g),
                 Code(gates[at]),
                 Code(gates[at + 1]),
             )
         }
         Line::Address(t) => {
             let at = t as usize;
-            is_code_outside(last, net.address[at])
+            net.address[at].is_above(last)
         }
         Line::WriteData(t) => {
             let at = t as usize;
-            is_code_outside(last, net.write_data[at])
+            net.write_data[at].is_above(last)
         }
-        Line::Control => is_code_outside(last, net.we)
-            | is_code_outside(last, net.re)
-            | is_code_outside(last, net.p),
+        Line::Control => net.we.is_above(last) | net.re.is_above(last) | net.p.is_above(last),
     }
 }

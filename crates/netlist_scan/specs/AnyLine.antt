@@ -1,18 +1,14 @@
 -- Whether any line of a netlist has a fault, list by list: what a pass over the lists finds that looks for no place. Cited by the
 -- functions of this crate and by `any_loop` of `netlist_tests`.
-use Prim.Native.Nat.{ℕ, zero, suc, _+_}
-use mathlib.Core.Bool.{Bool, false, _||_}
+use Prim.Native.Nat.{ℕ, _+_}
+use mathlib.Core.Bool.{Bool, _||_}
 use mathlib.Core.List.{List}
 use Rattle.model.specs.Netlist.{Netlist}
+use Rattle.model.specs.Search.{anyBelow}
 use Rattle.netlist.specs.NetOf.{firstAt, secondAt}
-use Rattle.netlist.specs.Faults.{codeOutside, latchFault, gateFault}
+use Rattle.netlist.specs.Faults.{aboveLimit, latchFault, gateFault}
 use Rattle.netlist.specs.declared.Line.{Line}
 use Rattle.netlist.specs.declared.Line.the-variants.{Latch, Gate, Address, WriteData, Control}
-
--- whether any number below n has a property
-unfoldable pub anyBelow : ℕ → (ℕ → Bool) → Bool
-anyBelow zero has = false
-anyBelow (suc n) has = anyBelow n has || has n
 
 -- of unpacked lists: whether any of the first latches, or gates, has a number outside its limit
 unfoldable pub anyLatch : ℕ → List ℕ → ℕ → Bool
@@ -24,9 +20,9 @@ anyGate first gates count = anyBelow count (λ g. gateFault (first + g) (firstAt
 -- of the codes that the record itself holds, those of lines A, D and C: whether any is outside its limit
 unfoldable pub anyInRecord : ℕ → Netlist → Bool
 anyInRecord last c =
-    anyBelow (c .m) (λ t. codeOutside last (c .address t))
-    || anyBelow (c .n) (λ t. codeOutside last (c .writeData t))
-    || (codeOutside last (c .WE) || codeOutside last (c .RE) || codeOutside last (c .P))
+    anyBelow (c .m) (λ t. aboveLimit last (c .address t))
+    || anyBelow (c .n) (λ t. aboveLimit last (c .writeData t))
+    || (aboveLimit last (c .WE) || aboveLimit last (c .RE) || aboveLimit last (c .P))
 
 -- whether any line after N and M has a fault
 unfoldable pub anyLine : Netlist → (Netlist → Line → Bool) → Bool

@@ -1,6 +1,7 @@
 // Whether any line of a record has a code, gate operand or reset outside its limit (refusal 5). Every call tests its record, and
 // nearly all pass: each loop runs to its end and looks for no place, so that the compiler can take several codes at a time.
 use literals::Code;
+use literals::Wire;
 use netlist::Netlist;
 use netlist::UnpackedList;
 ghost use mathlib.Core.Path.{_≡_};
@@ -11,9 +12,9 @@ ghost use Rattle.netlist.specs.Faults.{codeFault};
 ghost use Rattle.netlist_scan.specs.AnyLine.{anyLatch, anyGate, anyInRecord, anyLine};
 
 // Whether any latch's next code or reset is outside its limit.
-fn any_latch(last: u32, latches: &UnpackedList, count: u32) -> bool
+fn any_latch(last: Wire, latches: &UnpackedList, count: u32) -> bool
     requires { ⌜ count ≤ 600 ⌝ }
-    ensures { λ r. ⌜ r ≡ anyLatch last (now (latches .entry)) count ⌝ }
+    ensures { λ r. ⌜ r ≡ anyLatch (last .0) (now (latches .entry)) count ⌝ }
 {
     let mut any = false;
     let mut l = 0;
@@ -27,9 +28,9 @@ fn any_latch(last: u32, latches: &UnpackedList, count: u32) -> bool
 
 // Whether any gate's operand is outside its limit; the first gate's wire is given. A gate's own wire is counted beside its number:
 // as a sum with the number it would be compiled to 64 bits, and compared one gate at a time.
-fn any_gate(first: u32, gates: &UnpackedList, count: u32) -> bool
-    requires { ⌜ (first ≤ 601) × (count ≤ 600) ⌝ }
-    ensures { λ r. ⌜ r ≡ anyGate first (now (gates .entry)) count ⌝ }
+fn any_gate(first: Wire, gates: &UnpackedList, count: u32) -> bool
+    requires { ⌜ (first .0 ≤ 601) × (count ≤ 600) ⌝ }
+    ensures { λ r. ⌜ r ≡ anyGate (first .0) (now (gates .entry)) count ⌝ }
 {
     let mut any = false;
     let mut own = first;
@@ -37,34 +38,31 @@ fn any_gate(first: u32, gates: &UnpackedList, count: u32) -> bool
     while g < count {
         let at = 2 * (g as usize);
         any = any | netlist::gate_fault(own, Code(gates[at]), Code(gates[at + 1]));
-        own += 1;
+        own = own.offset(1);
         g += 1;
     }
     any
 }
 
 // Whether any code that the record itself holds is outside its limit: those of lines A, D and C.
-fn any_in_record(net: Netlist, last: u32) -> bool
+fn any_in_record(net: Netlist, last: Wire) -> bool
     requires { ⌜ SizesFit (alone net) ⌝ }
-    ensures { λ r. ⌜ r ≡ anyInRecord last (alone net) ⌝ }
+    ensures { λ r. ⌜ r ≡ anyInRecord (last .0) (alone net) ⌝ }
 {
     let mut any = false;
     let mut t = 0;
     while t < net.m {
         let at = t as usize;
-        any = any | netlist::is_code_outside(last, net.address[at]);
+        any = any | net.address[at].is_above(last);
         t += 1;
     }
     t = 0;
     while t < net.n {
         let at = t as usize;
-        any = any | netlist::is_code_outside(last, net.write_data[at]);
+        any = any | net.write_data[at].is_above(last);
         t += 1;
     }
-    any
-        | (netlist::is_code_outside(last, net.we)
-            | netlist::is_code_outside(last, net.re)
-            | netlist::is_code_outside(last, net.p))
+    any | (net.we.is_above(last) | net.re.is_above(last) | net.p.is_above(last))
 }
 
 // Whether any line has refusal 5.

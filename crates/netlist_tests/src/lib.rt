@@ -1,4 +1,5 @@
 // The tests of a record with its lists (RULES T38, "is tested alike").
+use literals::Code;
 use netlist::Line;
 use netlist::Netlist;
 use netlist::UnpackedList;
@@ -62,8 +63,8 @@ fn read_bits(net: Netlist) -> [bool; 601]
     ensures { λ r. ⌜ Table (isRead (alone net)) r ⌝ }
 {
     let mut flags = [false; 601];
-    let last = netlist::first_gate_wire(net) as usize;
-    let mut w = netlist::first_read_wire(net) as usize;
+    let last = netlist::first_gate_wire(net).index();
+    let mut w = netlist::first_read_wire(net).index();
     while w < last {
         flags[w] = true;
         w += 1;
@@ -77,13 +78,13 @@ fn depends_on_read(net: Netlist, gates: &UnpackedList) -> [bool; 601]
     ensures { λ r. ⌜ Table (dependsOnRead (netOf net [] (now (gates .entry)))) r ⌝ }
 {
     let mut flags = read_bits(net);
-    let first = netlist::first_gate_wire(net);
+    let first = netlist::first_gate_wire(net).index();
     let mut g = 0;
     while g < net.gates {
         let at = 2 * (g as usize);
-        let left = (gates[at] / 2) as usize;
-        let right = (gates[at + 1] / 2) as usize;
-        let own = (first + g) as usize;
+        let left = Code(gates[at]).wire_index();
+        let right = Code(gates[at + 1]).wire_index();
+        let own = first + g as usize;
         flags[own] = flags[left] | flags[right];
         g += 1;
     }
@@ -102,12 +103,12 @@ fn loop_fault(net: Netlist, flags: &[bool; 601], line: Line) -> bool
         Line::Gate(_) => false,
         Line::Address(t) => {
             let at = t as usize;
-            let w = (net.address[at].0 / 2) as usize;
+            let w = net.address[at].wire_index();
             flags[w]
         }
         Line::WriteData(_) => false,
         Line::Control => {
-            let w = (net.re.0 / 2) as usize;
+            let w = net.re.wire_index();
             flags[w]
         }
     }
@@ -122,11 +123,11 @@ fn any_loop(net: Netlist, flags: &[bool; 601]) -> bool
     let mut t = 0;
     while t < net.m {
         let at = t as usize;
-        let w = (net.address[at].0 / 2) as usize;
+        let w = net.address[at].wire_index();
         any = any | flags[w];
         t += 1;
     }
-    let w = (net.re.0 / 2) as usize;
+    let w = net.re.wire_index();
     any | flags[w]
 }
 

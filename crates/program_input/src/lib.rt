@@ -9,8 +9,8 @@ ghost use Rattle.sheet_parse.specs.Files.{netIn};
 ghost use Rattle.sheet_parse.specs.Progress.{noCodes};
 ghost use Rattle.program_input.specs.Input.{sheetIn, inputVerdict, depthBeside, withDepthAndRecord, inputBeside, inputAnswer, InputTaken};
 
-// What an input is read as: a refusal's number and place (both 0 where it is taken), the depth, and the sheet's record. The depth
-// and the record are all zeros at a refusal.
+// What an input is read as: a refusal's number and place (both 0 where it is taken), the depth, and the sheet's record. The depth and
+// the record are all zeros at a refusal.
 pub struct Input {
     pub number: u32,
     pub place: u32,

@@ -43,24 +43,24 @@ abbrev pub textSize : Netlist → ℕ → Group → ℕ
 textSize c k g = length (clauseText (numbersOf c k g))
 
 -- Of the groups `due`, the first ones (`printed`) have their text at the start of the buffer, `next` is the first of those that are
--- left, and as many of them are still to be printed as go behind that text
+-- remaining, and as many of them are still to be printed as go behind that text
 pub record SoFar (c : Netlist) (k : ℕ) (old new : List ℕ) (bytes : ℕ) (next : Next) (due : List Group) : Type 0 where
   pub printed : List Group
-  pub left : List Group
-  pub in-order : due ≡ printed ++ left
+  pub remaining : List Group
+  pub in-order : due ≡ printed ++ remaining
   pub wrote : Wrote (clauseText (joined (numbersOf c k) printed)) old new bytes
-  pub next-left : next ≡ firstGroup left
-  pub counted : inPiece c k (length old) due ≡ length printed + fitting (textSize c k) (length old) bytes left
+  pub next-remaining : next ≡ firstGroup remaining
+  pub counted : inPiece c k (length old) due ≡ length printed + fitting (textSize c k) (length old) bytes remaining
 
 -- before the first group is printed
 pub nothing-yet : (c : Netlist) (k : ℕ) (old : List ℕ) (next : Next) (from : List Group) → next ≡ firstGroup from
     → SoFar c k old old 0 next from
 unfolding clauseText joined inPiece
 nothing-yet c k old next from h =
-    record { printed = []; left = from; in-order = refl; wrote = wrote-nothing old; next-left = h; counted = omega arith }
+    record { printed = []; remaining = from; in-order = refl; wrote = wrote-nothing old; next-remaining = h; counted = omega arith }
 
--- what is left begins with the group that is next
-record Left (g : Group) (gs : List Group) : Type 0 where
+-- what remains begins with the group that is next
+record Remaining (g : Group) (gs : List Group) : Type 0 where
   behind : List Group
   begins : gs ≡ g ∷ behind
 
@@ -72,16 +72,16 @@ isThen : Next → Type 0
 isThen (Then g) = Unit {0}
 isThen End = ⊥
 
-left-begins : (g : Group) (gs : List Group) → Then g ≡ firstGroup gs → Left g gs
+remaining-begins : (g : Group) (gs : List Group) → Then g ≡ firstGroup gs → Remaining g gs
 unfolding isThen groupOr
-left-begins g [] h = absurd (subst isThen h tt)
-left-begins g (x ∷ gs) h =
+remaining-begins g [] h = absurd (subst isThen h tt)
+remaining-begins g (x ∷ gs) h =
     record { behind = gs; begins = ap (λ (y : Group). y ∷ gs) (sym (ap (groupOr g) h)) }
 
-none-left : (gs : List Group) → End ≡ firstGroup gs → gs ≡ []
+none-remains : (gs : List Group) → End ≡ firstGroup gs → gs ≡ []
 unfolding isThen
-none-left [] h = refl
-none-left (g ∷ gs) h = absurd (subst isThen (sym h) tt)
+none-remains [] h = refl
+none-remains (g ∷ gs) h = absurd (subst isThen (sym h) tt)
 
 -- one more group where there is room, and none where there is not
 module _ (size : Group → ℕ) (room bytes : ℕ) where
@@ -97,8 +97,8 @@ module _ (size : Group → ℕ) (room bytes : ℕ) where
 
 module _ {c : Netlist} {k : ℕ} {old mid : List ℕ} {bytes : ℕ} {due : Group} (before from : List Group)
     (order : groupOrder k ≡ before ++ from) (p : SoFar c k old mid bytes (Then due) from) where
-  rest : Left due (p .left)
-  rest = left-begins due (p .left) (p .next-left)
+  rest : Remaining due (p .remaining)
+  rest = remaining-begins due (p .remaining) (p .next-remaining)
 
   whole : from ≡ p .printed ++ due ∷ rest .behind
   whole = p .in-order ∙ ap (λ (t : List Group). p .printed ++ t) (rest .begins)
@@ -121,14 +121,14 @@ module _ {c : Netlist} {k : ℕ} {old mid : List ℕ} {bytes : ℕ} {due : Group
   one-more part n next room w follows =
       record {
         printed = p .printed ++ due ∷ [];
-        left = rest .behind;
+        remaining = rest .behind;
         in-order = whole ∙ sym (append-assoc (p .printed) (due ∷ []) (rest .behind));
         wrote =
             subst (λ (t : List ℕ). Wrote t old (putMid bytes (length mid - bytes) mid part) (bytes + n)) (sym text)
             (wrote-then (clauseText (joined (numbersOf c k) (p .printed))) (clauseText (numbersOf c k due)) old mid part bytes n (p .wrote) w);
-        next-left = follows (orderHas-due .before) (orderHas-due .behind) (orderHas-due .order);
+        next-remaining = follows (orderHas-due .before) (orderHas-due .behind) (orderHas-due .order);
         counted =
-            let step : fitting (textSize c k) (length old) bytes (p .left) ≡ 1 + fitting (textSize c k) (length old) (bytes + n) (rest .behind) =
+            let step : fitting (textSize c k) (length old) bytes (p .remaining) ≡ 1 + fitting (textSize c k) (length old) (bytes + n) (rest .behind) =
             ap (fitting (textSize c k) (length old) bytes) (rest .begins)
             ∙ fitting-more (textSize c k) (length old) bytes n due (rest .behind) room (w .counted) in
             simp length-append (omega (arith, p .counted));
@@ -142,7 +142,7 @@ module _ {c : Netlist} {k : ℕ} {old mid : List ℕ} {bytes : ℕ} {due : Group
 
 -- the groups that are printed where none goes behind them: those of the piece
 module _ {c : Netlist} {k : ℕ} {old new : List ℕ} {bytes : ℕ} {next : Next} {due : List Group} (p : SoFar c k old new bytes next due)
-    (none : fitting (textSize c k) (length old) bytes (p .left) ≡ 0) where
+    (none : fitting (textSize c k) (length old) bytes (p .remaining) ≡ 0) where
   n : ℕ
   n = inPiece c k (length old) due
 
@@ -151,10 +151,10 @@ module _ {c : Netlist} {k : ℕ} {old new : List ℕ} {bytes : ℕ} {next : Next
   count = omega (arith, p .counted)
 
   first : take n due ≡ p .printed
-  first = ap (take n) (p .in-order) ∙ take-at (p .printed) (p .left) n count
+  first = ap (take n) (p .in-order) ∙ take-at (p .printed) (p .remaining) n count
 
-  last : drop n due ≡ p .left
-  last = ap (drop n) (p .in-order) ∙ drop-at (p .printed) (p .left) n count
+  last : drop n due ≡ p .remaining
+  last = ap (drop n) (p .in-order) ∙ drop-at (p .printed) (p .remaining) n count
 
   pub all-printed : Printed c k due old new (record { bytes = bytes; next = next })
   unfolding pieceOf pieceText n
@@ -163,22 +163,22 @@ module _ {c : Netlist} {k : ℕ} {old new : List ℕ} {bytes : ℕ} {next : Next
         piece-is =
             λ i. record {
               bytes = (p .wrote .counted ∙ ap (λ (gs : List Group). length (clauseText (joined (numbersOf c k) gs))) (sym first)) i;
-              next = (p .next-left ∙ ap firstGroup (sym last)) i;
+              next = (p .next-remaining ∙ ap firstGroup (sym last)) i;
             };
         text-is = p .wrote .leaves ∙ ap (λ (gs : List Group). over (clauseText (joined (numbersOf c k) gs)) old) (sym first);
       }
 
--- none goes there where less than 71,904 bytes are left
+-- none goes there where less than 71,904 bytes remain
 pub all-full : {c : Netlist} {k : ℕ} {old new : List ℕ} {bytes : ℕ} {next : Next} {due : List Group}
     → SoFar c k old new bytes next due → length old < bytes + 71904
     → Printed c k due old new (record { bytes = bytes; next = next })
-all-full {c} {k} {old} {new} {bytes} p h = all-printed p (fitting-full (textSize c k) (length old) bytes (p .left) h)
+all-full {c} {k} {old} {new} {bytes} p h = all-printed p (fitting-full (textSize c k) (length old) bytes (p .remaining) h)
 
--- or where no group is left
+-- or where no group remains
 pub all-end : {c : Netlist} {k : ℕ} {old new : List ℕ} {bytes : ℕ} {due : List Group}
     → SoFar c k old new bytes End due → Printed c k due old new (record { bytes = bytes; next = End })
 unfolding fitting
-all-end {c} {k} {old} {new} {bytes} p = all-printed p (ap (fitting (textSize c k) (length old) bytes) (none-left (p .left) (p .next-left)))
+all-end {c} {k} {old} {new} {bytes} p = all-printed p (ap (fitting (textSize c k) (length old) bytes) (none-remains (p .remaining) (p .next-remaining)))
 
 -- the order of the whole has the group that comes next, if there is one
 abbrev pub OrderHasNext : ℕ → Next → Type 0
@@ -188,7 +188,7 @@ OrderHasNext k End = Unit {0}
 -- groups that stand in the order of the whole, behind others: their first
 pub orderHas-first : (k : ℕ) (before gs : List Group) (next : Next) → groupOrder k ≡ before ++ gs → next ≡ firstGroup gs → OrderHasNext k next
 orderHas-first k before gs (Then g) o h =
-    let first = left-begins g gs h in
+    let first = remaining-begins g gs h in
     record { before = before; behind = first .behind; order = o ∙ ap (λ (t : List Group). before ++ t) (first .begins) }
 orderHas-first k before gs End o h = tt
 

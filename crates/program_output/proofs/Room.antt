@@ -9,6 +9,7 @@ use Rattle.model.specs.Netlist.{Netlist}
 use Rattle.model.specs.Acceptance.{Accepted}
 use Rattle.model.specs.Groups.{inDepth}
 use Rattle.model.specs.Numbers.{numbersOf}
+use Rattle.model.specs.Counts.{numberCount}
 use Rattle.model.specs.declared.Group.{Group}
 use Rattle.model.specs.declared.Group.the-variants.{Wires, Pair, Closing, Property}
 use Rattle.model.proofs.Gather.{All, all-at, all-weaken}
@@ -21,16 +22,16 @@ use Rattle.dimacs.specs.Text.{clauseText}
 use Rattle.dimacs.proofs.Text.{length-clauseText}
 use Rattle.program_output.specs.Pieces.{OrderHas}
 use Rattle.program_output.proofs.Pieces.{orderHas-inDepth}
-use Rattle.model.proofs.Lengths.{wires-numbers-first, wires-numbers-later, pair-numbers, closing-numbers, property-numbers}
+use Rattle.model.proofs.Stated.{stated}
 
 -- no group has more than 5,992 numbers: the most are the wires of frame 0 with gates alone
-pub numbers-most : (c : Netlist) (k : ℕ) (g : Group) → Accepted c → k ≤ 255 → inDepth k g ≡ true → length (numbersOf c k g) ≤ 5992
-unfolding inDepth
-numbers-most c k (Wires zero) a d h = rw (wires-numbers-first c k) (omega (arith, a .limits .sizes .wires-fit, a .limits .sizes .n-least))
-numbers-most c k (Wires (suc i)) a d h = rw (wires-numbers-later c k i) (omega (arith, a .limits .sizes .wires-fit, a .limits .sizes .n-least))
-numbers-most c k (Pair j i) a d h = rw (pair-numbers c k j i) (omega (arith, a .limits .sizes .m-most, a .limits .sizes .n-most))
-numbers-most c k (Closing i) a d h = rw (closing-numbers c k i) (omega (arith, a .limits .sizes .n-most, leb-true i k h))
-numbers-most c k Property a d h = rw (property-numbers c k) (omega (arith, d))
+pub numbers-most : (c : Netlist) (k : ℕ) (g : Group) → Accepted c → k ≤ 255 → inDepth k g ≡ true → numberCount c k g ≤ 5992
+unfolding inDepth numberCount
+numbers-most c k (Wires zero) a d h = omega (arith, a .limits .sizes .wires-fit, a .limits .sizes .n-least)
+numbers-most c k (Wires (suc i)) a d h = omega (arith, a .limits .sizes .wires-fit, a .limits .sizes .n-least)
+numbers-most c k (Pair j i) a d h = omega (arith, a .limits .sizes .m-most, a .limits .sizes .n-most)
+numbers-most c k (Closing i) a d h = omega (arith, a .limits .sizes .n-most, leb-true i k h)
+numbers-most c k Property a d h = omega (arith, d)
 
 -- no group's text has more than 71,904 bytes
 pub text-most : (c : Netlist) (k : ℕ) (g : Group) → Accepted c → k ≤ 255 → OrderHas k g → length (clauseText (numbersOf c k g)) ≤ 71904
@@ -42,5 +43,6 @@ text-most c k g a d s =
     omega (
       arith,
       length-clauseText (all-weaken (λ z h. fits z (omega (arith, h, base-most c (a .limits .sizes) (k + 1) (omega arith)))) numbers),
+      stated c a k .numbers-counted g,
       numbers-most c k g a d (orderHas-inDepth k g s),
     )

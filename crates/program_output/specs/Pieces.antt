@@ -36,7 +36,7 @@ fitting size room bytes (g ∷ due) = cond (leb (bytes + 71904) room) (1 + fitti
 unfoldable pub inPiece : Netlist → ℕ → ℕ → List Group → ℕ
 inPiece c k room due = fitting (λ g. length (clauseText (numbersOf c k g))) room 0 due
 
--- their text; and its length, with the first of the groups that are left
+-- their text; and its length, with the first of the groups that remain
 unfoldable pub pieceText : Netlist → ℕ → ℕ → List Group → List ℕ
 pieceText c k room due = clauseText (joined (numbersOf c k) (take (inPiece c k room due) due))
 

@@ -12,7 +12,7 @@ ghost use Rattle.model.specs.Wrote.{Wrote};
 ghost use Rattle.netlist.specs.NetOf.{netOf};
 ghost use Rattle.text_writer.specs.Table.{TableOrNone};
 ghost use Rattle.dimacs.specs.Text.{headerText, clauseText};
-ghost use Rattle.group_order.specs.Next.{leftAfter, leftFrom};
+ghost use Rattle.group_order.specs.Next.{remainingAfter, remainingFrom};
 ghost use Rattle.program_output.specs.Pieces.{formulaHeader, OrderHas, Continues};
 
 // The first `bytes` bytes of a buffer are text to be printed; the group after those printed.
@@ -81,7 +81,7 @@ pub fn print_groups(
     requires { ⌜ Accepted (netOf net (now latches) (now gates)) × (depth ≤ 255) × OrderHas depth group
         × TableOrNone (now table) × (5992 ≤ length (now numbers)) × (71904 ≤ length (now text)) ⌝ }
     ensures text { λ r. ⌜ Continues (netOf net (now (latches .entry)) (now (gates .entry))) depth group (now (text .entry)) (now (text .exit)) r ⌝ }
-    ensures ends { λ r. ⌜ leftFrom depth (r .next) ≤ leftAfter depth group ⌝ }
+    ensures ends { λ r. ⌜ remainingFrom depth (r .next) ≤ remainingAfter depth group ⌝ }
     ensures within { λ r. ⌜ r .bytes ≤ length (now (text .entry)) ⌝ }
     ensures scratch { λ _. ⌜ length (now (numbers .exit)) ≡ length (now (numbers .entry)) ⌝ }
 {

@@ -1,11 +1,15 @@
--- Laws of the table of refusals (specs/Refusal.antt): no refusal has the number 0. No contract cites this file.
-use Prim.Native.Nat.{_≤_}
-use mathlib.Core.Path.{_≡_, refl}
+-- Laws of the table of refusals (specs/Refusal.antt): no two have the same number, and none has the number 0. No contract cites this
+-- file.
+use Prim.Native.Nat.{ℕ, _≤_}
+use mathlib.Core.Path.{_≡_, refl, ap, sym, _∙_}
+use mathlib.Core.Bool.{cond}
 use native.Mathlib.Omega.{arith}
+use lib.Dec.{eqb}
 use Rattle.refusals.specs.Refusal.{refusalNumber, replyOf}
 use Rattle.refusals.specs.declared.Refusal.{Refusal}
 use Rattle.refusals.specs.declared.Verdict.{Verdict}
 use Rattle.refusals.specs.declared.Verdict.the-variants.{Passed, Refused}
+use Rattle.refusals.specs.declared.Reply.{Reply}
 use Rattle.refusals.specs.declared.Refusal.the-variants.{Ragged, Misprint, OutOfOrder, Size, CodeOutside, MemoryLoop, Depth, NoSuchGroup, NoRoom, OutOfNumbers}
 
 -- every word's number is at least 1
@@ -25,3 +29,36 @@ refusalNumber-some OutOfNumbers = omega arith
 pub reply-passed : (v : Verdict) → replyOf v .number ≡ 0 → v ≡ Passed
 reply-passed Passed h = refl
 reply-passed (Refused r p) h = absurd (omega (arith, refusalNumber-some r))
+
+-- the refusal that has a number, and the verdict that sends back a number and a place
+abbrev refusalOf : ℕ → Refusal
+refusalOf n =
+    cond (eqb n 1) Ragged
+    (cond (eqb n 2) Misprint
+    (cond (eqb n 3) OutOfOrder
+    (cond (eqb n 4) Size
+    (cond (eqb n 5) CodeOutside
+    (cond (eqb n 6) MemoryLoop
+    (cond (eqb n 7) Depth
+    (cond (eqb n 8) NoSuchGroup
+    (cond (eqb n 9) NoRoom OutOfNumbers))))))))
+
+abbrev verdictOf : Reply → Verdict
+verdictOf r = cond (eqb (r .number) 0) Passed (Refused (refusalOf (r .number)) (r .place))
+
+verdictOf-reply : (v : Verdict) → verdictOf (replyOf v) ≡ v
+verdictOf-reply Passed = refl
+verdictOf-reply (Refused Ragged p) = refl
+verdictOf-reply (Refused Misprint p) = refl
+verdictOf-reply (Refused OutOfOrder p) = refl
+verdictOf-reply (Refused Size p) = refl
+verdictOf-reply (Refused CodeOutside p) = refl
+verdictOf-reply (Refused MemoryLoop p) = refl
+verdictOf-reply (Refused Depth p) = refl
+verdictOf-reply (Refused NoSuchGroup p) = refl
+verdictOf-reply (Refused NoRoom p) = refl
+verdictOf-reply (Refused OutOfNumbers p) = refl
+
+-- so a verdict is known by what it sends back
+pub reply-tells : (v w : Verdict) → replyOf v ≡ replyOf w → v ≡ w
+reply-tells v w h = sym (verdictOf-reply v) ∙ ap verdictOf h ∙ verdictOf-reply w

@@ -3,10 +3,14 @@
 use Prim.Native.Nat.{ℕ, zero, suc, _≤_}
 use mathlib.Core.Path.{_≡_, refl, _∙_, ap}
 use mathlib.Core.Bool.{Bool, true, false, true≢false}
-use mathlib.Core.Logic.{_⊎_, inl, inr, _↔_}
+use mathlib.Core.Logic.{_⊎_, inl, inr, _↔_, by-cases}
 use native.Mathlib.Nat.{le-refl, le-suc-iff}
-use native.Mathlib.Decide.{le-ind}
+use native.Mathlib.Decide.{le-ind, decLt}
 use native.Mathlib.Omega.{arith}
+use lib.Dec.{ltb}
+use borrow.Author.Tests.{lt-ltb, le-ltb}
+use Rattle.model.specs.Search.{firstWhere, IsFirst}
+use Rattle.model.proofs.Search.{firstWhere-is}
 use Rattle.refusals.specs.Tests.{refuseIf, _then_, inOrder}
 use Rattle.refusals.specs.declared.Refusal.{Refusal}
 use Rattle.refusals.specs.declared.Verdict.{Verdict}
@@ -69,3 +73,24 @@ pub inOrder-same : {test other : ℕ → Verdict} → ((p : ℕ) → test p ≡ 
 unfolding inOrder
 inOrder-same same zero = refl
 inOrder-same same (suc n) = rw (inOrder-same same n, same (suc n))
+
+-- One test of each place: the refusal is at the first place where its condition holds. Places are counted from 1.
+module _ (f : ℕ → Bool) (r : Refusal) (n : ℕ) where
+  pub inOrder-first : {q : ℕ} → IsFirst (λ x. f (suc x)) n q → inOrder (λ p. refuseIf (f p) r p) n ≡ refuseIf (ltb q n) r (suc q)
+  inOrder-first {q} first =
+      by-cases (decLt q n)
+      (λ l. rw (lt-ltb q n l)
+      (inOrder-kept (λ p. refuseIf (f p) r p) (suc q) n l
+      (inOrder-suc (λ p. refuseIf (f p) r p) q (passes q (le-refl q)) ∙ ap (λ (b : Bool). refuseIf b r (suc q)) (first .holds-there l))))
+      (λ l. rw (le-ltb q n (omega arith)) (passes n (omega (arith, first .within))))
+    where
+      at : (p : ℕ) → 1 ≤ p → p ≤ q → f p ≡ false
+      at zero l b = absurd (omega arith)
+      at (suc p) l b = first .none-before p b
+
+      passes : (k : ℕ) → k ≤ q → inOrder (λ p. refuseIf (f p) r p) k ≡ Passed
+      passes k b = inOrder-passes (λ p. refuseIf (f p) r p) k .1 (λ p l m. refuseIf-passes (f p) r p .1 (at p l (omega arith)))
+
+  pub inOrder-firstWhere : inOrder (λ p. refuseIf (f p) r p) n
+      ≡ refuseIf (ltb (firstWhere (λ x. f (suc x)) n) n) r (suc (firstWhere (λ x. f (suc x)) n))
+  inOrder-firstWhere = inOrder-first (firstWhere-is (λ x. f (suc x)) n)

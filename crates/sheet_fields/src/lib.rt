@@ -10,7 +10,7 @@ pub enum Field {
 }
 
 // The part of a field behind its leading spaces.
-pub fn after_spaces(field: &[u8]) -> &[u8]
+fn after_spaces(field: &[u8]) -> &[u8]
     ensures { λ r. ⌜ now r ≡ dropSpaces (now (field .entry)) ⌝ }
 {
     let mut i = 0;

@@ -1,5 +1,5 @@
 -- A line of 32 bytes as it is read and as it is written (RULES S1 and T2). Cited by `read_line` and its parts,
--- sheet_lines/specs/Depth, sheet_parse/specs/Files and calls/specs/Starred.
+-- sheet_lines/specs/Depth and sheet_parse/specs/Files.
 use Prim.Native.Nat.{ℕ, _+_, _*_, _^_, _<_}
 use mathlib.Core.Path.{_≡_}
 use mathlib.Core.Bool.{Bool, true, false, not, cond, _&&_}

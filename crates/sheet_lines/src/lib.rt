@@ -1,9 +1,10 @@
 // Lines of 32 bytes: a letter, three fields of ten columns, a line feed (RULES S1); and the depth line (RULES P1).
 ghost use mathlib.Core.Path.{_≡_};
 ghost use Prim.Native.Nat.{_<_};
+ghost use Rattle.refusals.specs.Refusal.{replyOf};
 ghost use Rattle.sheet_lines.specs.Letters.{kindOf, rowOf, isFilled, FilledAsPrinted};
 ghost use Rattle.sheet_lines.specs.Lines.{asWanted, valueOf, lineWith, lineOf, ReadAsWritten};
-ghost use Rattle.sheet_lines.specs.Depth.{depthField, fieldVerdict, withDepth, depthLine};
+ghost use Rattle.sheet_lines.specs.Depth.{depthField, fieldVerdict, depthVerdict, withDepth, depthLine};
 use refusals::Refusal;
 use refusals::Verdict;
 use sheet_fields::Field;
@@ -49,7 +50,7 @@ const FILLED: [[u8; 3]; 7] = [
 ];
 
 // The letter decides which line it is.
-pub fn kind_of(letter: u8) -> Kind
+fn kind_of(letter: u8) -> Kind
     ensures { λ r. ⌜ r ≡ kindOf letter ⌝ }
 {
     match letter {
@@ -203,7 +204,8 @@ fn with_depth(verdict: Verdict, field: Field) -> DepthLine
 
 // What the first eleven bytes of the input are read as.
 pub fn read_depth(input: &[u8]) -> DepthLine
-    ensures { λ r. ⌜ r ≡ depthLine (now (input .entry)) ⌝ }
+    ensures reply { λ r. ⌜ replyOf (r .verdict) ≡ replyOf (depthVerdict (now (input .entry))) ⌝ }
+    ensures depth { λ r. ⌜ r .depth ≡ depthLine (now (input .entry)) .depth ⌝ }
 {
     let field = depth_field(input);
     with_depth(test_depth(field), field)

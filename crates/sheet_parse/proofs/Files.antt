@@ -11,6 +11,7 @@ use native.Mathlib.Omega.{arith}
 use lib.Dec.{eqb, ltb}
 use lib.ListN.{length, drop-of-length-le}
 use borrow.Author.Tests.{ltb-false, eqb-true, eqb-false, not-false, lt-ltb, le-ltb, le-leb, lt-leb}
+use Rattle.model.specs.Agree.{SameSizes}
 use Rattle.model.proofs.Booleans.{neither-true}
 use Rattle.netlist.specs.Places.{latchLine, gateLine, addressLine, dataLine, controlLine, lineAt}
 use Rattle.netlist.specs.Faults.{sizeFault, codeFault}
@@ -24,7 +25,7 @@ use Rattle.sheet_parse.specs.FileTests.{ragged}
 use Rattle.sheet_steps.specs.LineIndex.{lineIndex}
 use Rattle.sheet_steps.specs.Steps.{numberAfter, stored}
 use Rattle.sheet_parse.specs.Progress.{linesTo, netTo}
-use Rattle.sheet_steps.proofs.Places.{rowOfLine, sizeOfRow, placeOf, InRow, sameLine-here, sameLine-elsewhere, sameLine-none, SameSizes, lineAt-known, past-known}
+use Rattle.sheet_steps.proofs.Places.{rowOfLine, sizeOfRow, placeOf, InRow, sameLine-here, sameLine-elsewhere, sameLine-none, lineAt-known, past-known}
 
 module _ (file : List ℕ) where
   -- a line that is read, and one that is not yet

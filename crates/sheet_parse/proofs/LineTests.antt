@@ -19,6 +19,7 @@ use Rattle.refusals.specs.declared.Verdict.the-variants.{Passed, Refused}
 use Rattle.refusals.proofs.Tests.{refuseIf-passes, then-passes, inOrder-suc, inOrder-kept, inOrder-passes}
 use Rattle.model.specs.Netlist as M
 use Rattle.model.specs.Acceptance.{SizesFit}
+use Rattle.model.proofs.Agree.{sizesFit-same}
 use Rattle.model.proofs.Booleans.{neither-true}
 use Rattle.netlist.specs.NetOf.{netOf, alone}
 use Rattle.netlist.specs.Places.{controlLine, lineAt}
@@ -37,7 +38,7 @@ use Rattle.sheet_parse.specs.FileTests.{misprinted, isOf, notDue, testLi
 use Rattle.sheet_steps.specs.LineFaults.{faultsAt}
 use Rattle.sheet_steps.specs.Steps.{stepNet, stepVerdict, SizesKnown, Holds, Outcome}
 use Rattle.sheet_parse.specs.Progress.{netTo}
-use Rattle.sheet_steps.proofs.Places.{placeOf, place-lineAt, sizesFit-same}
+use Rattle.sheet_steps.proofs.Places.{placeOf, place-lineAt}
 use Rattle.sheet_steps.proofs.Records.{outcome-same}
 use Rattle.sheet_parse.proofs.Files.{stored-next, lineAt-in, controlLine-in, sizes-to, due-to, past-to, sizeFault-to, codeFault-to}
 

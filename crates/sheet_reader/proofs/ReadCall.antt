@@ -9,12 +9,17 @@ use Rattle.refusals.specs.declared.Refusal.{Refusal}
 use Rattle.refusals.specs.declared.Verdict.{Verdict}
 use Rattle.refusals.specs.declared.Verdict.the-variants.{Passed, Refused}
 use Rattle.refusals.specs.Slices.{contentsAfter}
+use Rattle.refusals.specs.Refusal.{replyOf}
+use Rattle.refusals.proofs.Table.{reply-passed}
 use Rattle.refusals.proofs.Tests.{refused-not-passed}
 use Rattle.model.specs.Netlist as M
-use Rattle.model.specs.Acceptance.{Accepted}
+use Rattle.model.specs.Acceptance.{Accepted, PathTheorem}
+use Rattle.model.specs.Agree.{Agree}
 use Rattle.literals.specs.declared.Code.{Code}
 use Rattle.netlist.specs.NetOf.{codeOf, netOf}
-use Rattle.model.proofs.Claim.{encodes}
+use Rattle.model.proofs.Dependence.{paths}
+use Rattle.model.proofs.Agree.{accepted-same}
+use Rattle.model.proofs.SameNumbers.{base-same, numbers-same}
 use Rattle.netlist_tests.specs.Record.{recordVerdict}
 use Rattle.netlist_tests.proofs.Acceptance.{passes-accepted}
 use Rattle.sheet_steps.specs.declared.SheetAnswer.{SheetAnswer}
@@ -32,10 +37,9 @@ use Rattle.call_lists.specs.Lent.{netLent}
 use Rattle.call_lists.specs.RecordAt.{latchAt, gateAt}
 use Rattle.call_lists.specs.Delivered.{delivered}
 use Rattle.call_lists.proofs.Delivered.{delivered-none, length-delivered}
-use Rattle.sheet_reader.specs.ReadCall.{latchOf, gateOf, readVerdict, readRecord, latchesLeft, gatesLeft, SheetDelivered}
+use Rattle.call_unpacked.proofs.Calls.{calls-encode-for}
+use Rattle.sheet_reader.specs.ReadCall.{latchOf, gateOf, readVerdict, readRecord, latchesAfter, gatesAfter, SheetDelivered}
 use Rattle.sheet_reader.proofs.Lists.{getD-gather-alone, delivered-pairs}
-use Rattle.sheet_reader.proofs.Entries.{Agree, accepted-same}
-use Rattle.sheet_reader.proofs.Groups.{base-same, numbers-same}
 
 -- an accepted netlist, its record, and its latches and gates delivered into lists
 module _ (c : M.Netlist) (accepted : Accepted c) (latches : List Latch) (gates : List Gate)
@@ -82,7 +86,7 @@ module _ (c : M.Netlist) (accepted : Accepted c) (latches : List Latch) (gates :
         rw (length-delivered (gateOf c) gates (c .gates) long-gates) long-gates,
       )
 
--- so an accepted sheet's record and lists have its variables, its clauses and demand 3
+-- so an accepted sheet's record and lists have its variables, its clauses and its demand 3
 sheet-delivered : (file : List ℕ) → Accepted (netIn file) → (latches : List Latch) (gates : List Gate)
     → netIn file .latches ≤ length latches → netIn file .gates ≤ length gates
     → SheetDelivered file (recordOf (netIn file)) (delivered (netIn file .latches) (latchOf (netIn file)) latches)
@@ -94,24 +98,26 @@ sheet-delivered file accepted latches gates long-latches long-gates =
       not-refused = not-refused c accepted latches gates long-latches long-gates;
       variables-same = λ i. sym (base-same c _ same i);
       numbers-same = λ k g. sym (numbers-same c _ same k g);
-      sheet-encodes = encodes c accepted;
+      calls-encode = λ k most. calls-encode-for c _ _ _ k (not-refused c accepted latches gates long-latches long-gates) most accepted
+          (λ g. sym (numbers-same c _ same k g));
     }
 
 module _ (file : List ℕ) (latches : List Latch) (gates : List Gate) where
   -- at a refusal the lent lists hold what they held
-  left-kept : {r : Refusal} {p : ℕ} → sheetVerdict file (length latches) (length gates) ≡ Refused r p
-      → (latches ≡ latchesLeft file latches gates) × (gates ≡ gatesLeft file latches gates)
-  unfolding readVerdict latchesLeft gatesLeft contentsAfter
-  left-kept e = (rw e, rw e)
+  lists-kept : {r : Refusal} {p : ℕ} → sheetVerdict file (length latches) (length gates) ≡ Refused r p
+      → (latches ≡ latchesAfter file latches gates) × (gates ≡ gatesAfter file latches gates)
+  unfolding readVerdict latchesAfter gatesAfter contentsAfter
+  lists-kept e = (rw e, rw e)
 
   -- what `read` promises, together
   abbrev pub Reads : SheetAnswer → List Latch → List Gate → Type 0
   Reads sheet newLatches newGates =
-      (sheet .verdict ≡ readVerdict file latches gates)
+      (replyOf (sheet .verdict) ≡ replyOf (readVerdict file latches gates))
       × ((sheet .net ≡ readRecord file latches gates)
-      × ((newLatches ≡ latchesLeft file latches gates)
-      × ((newGates ≡ gatesLeft file latches gates)
-      × (sheet .verdict ≡ Passed → SheetDelivered file (sheet .net) newLatches newGates))))
+      × ((newLatches ≡ latchesAfter file latches gates)
+      × ((newGates ≡ gatesAfter file latches gates)
+      × ((replyOf (sheet .verdict) .number ≡ 0 → SheetDelivered file (sheet .net) newLatches newGates)
+      × PathTheorem))))
 
   module _ (sheet : SheetAnswer) (latchList gateList : List ℕ)
       (codes : CodesRead file (length latches) (length gates) sheet latchList gateList) where
@@ -132,7 +138,7 @@ module _ (file : List ℕ) (latches : List Latch) (gates : List Gate) where
 
     pub reads : Reads sheet (delivered (sheet .net .latches) (latchAt latchList) latches)
         (delivered (sheet .net .gates) (gateAt gateList) gates)
-    unfolding readVerdict readRecord latchesLeft gatesLeft contentsAfter delivered recordBeside recordOf netOf
+    unfolding readVerdict readRecord latchesAfter gatesAfter contentsAfter delivered recordBeside recordOf netOf
     reads = by-verdict (sheetVerdict file (length latches) (length gates)) refl
       where
         by-verdict : (v : Verdict) → sheetVerdict file (length latches) (length gates) ≡ v
@@ -146,15 +152,18 @@ module _ (file : List ℕ) (latches : List Latch) (gates : List Gate) where
             (latchOf (netIn file)) latches = rw (← held) in
             let newGates : delivered (sheet .net .gates) (gateAt gateList) gates ≡ delivered (netIn file .gates)
             (gateOf (netIn file)) gates = rw (← held) in (
-              verdict-is codes,
+              ap replyOf (verdict-is codes),
               (
                 record-is codes,
                 (
                   rw e newLatches,
                   (
                     rw e newGates,
-                    λ q. rw (newLatches, newGates, net)
-                        (sheet-delivered file (parts .0) latches gates (parts .1) (parts .2)),
+                    (
+                      λ q. rw (newLatches, newGates, net)
+                          (sheet-delivered file (parts .0) latches gates (parts .1) (parts .2)),
+                      paths,
+                    ),
                   ),
                 ),
               ),
@@ -165,15 +174,15 @@ module _ (file : List ℕ) (latches : List Latch) (gates : List Gate) where
             rw net (delivered-none (latchAt latchList) latches) in
             let noGate : delivered (sheet .net .gates) (gateAt gateList) gates ≡ gates =
             rw net (delivered-none (gateAt gateList) gates) in
-            let kept = left-kept e in (
-              verdict-is codes,
+            let kept = lists-kept e in (
+              ap replyOf (verdict-is codes),
               (
                 record-is codes,
                 (
                   noLatch ∙ kept .0,
                   (
                     noGate ∙ kept .1,
-                    λ q. absurd (refused-not-passed (sym e ∙ (sym (verdict-is codes) ∙ q))),
+                    (λ q. absurd (refused-not-passed (sym e ∙ (sym (verdict-is codes) ∙ reply-passed (sheet .verdict) q))), paths),
                   ),
                 ),
               ),

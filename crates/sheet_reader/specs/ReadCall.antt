@@ -1,13 +1,13 @@
 -- What `read` returns and leaves in the lists that it is lent (RULES T45, "only the first L and the first A records of the lent
 -- lists change", and T43, "a record that is returned beside them is all zeros"). Cited by `read` and `marrubigai_read`.
-use Prim.Native.Nat.{ℕ}
+use Prim.Native.Nat.{ℕ, _≤_}
 use mathlib.Core.Path.{_≡_}
 use mathlib.Core.List.{List}
 use lib.ListN.{length}
+use Rattle.model.specs.Limits.{mostDepth}
 use Rattle.model.specs.Netlist as M
 use Rattle.model.specs.Variables.{base}
 use Rattle.model.specs.Numbers.{numbersOf}
-use Rattle.model.specs.Claim.{Encodes}
 use Rattle.model.specs.declared.Group.{Group}
 use Rattle.refusals.specs.Slices.{contentsAfter}
 use Rattle.refusals.specs.declared.Verdict.{Verdict}
@@ -21,6 +21,7 @@ use Rattle.call_lists.specs.declared.Latch.{Latch}
 use Rattle.call_lists.specs.declared.Gate.{Gate}
 use Rattle.call_lists.specs.Lent.{netLent}
 use Rattle.call_lists.specs.Delivered.{firstRecords}
+use Rattle.call_unpacked.specs.Calls.{CallsEncode}
 
 -- a latch and a gate of a netlist, as records
 abbrev pub latchOf : M.Netlist → ℕ → Latch
@@ -36,19 +37,20 @@ readVerdict file latches gates = sheetVerdict file (length latches) (length gate
 unfoldable pub readRecord : List ℕ → List Latch → List Gate → Netlist
 readRecord file latches gates = recordBeside (readVerdict file latches gates) (netIn file)
 
-unfoldable pub latchesLeft : List ℕ → List Latch → List Gate → List Latch
-latchesLeft file latches gates =
+unfoldable pub latchesAfter : List ℕ → List Latch → List Gate → List Latch
+latchesAfter file latches gates =
     contentsAfter (readVerdict file latches gates) (firstRecords (netIn file .latches) (latchOf (netIn file))) latches
 
-unfoldable pub gatesLeft : List ℕ → List Latch → List Gate → List Gate
-gatesLeft file latches gates =
+unfoldable pub gatesAfter : List ℕ → List Latch → List Gate → List Gate
+gatesAfter file latches gates =
     contentsAfter (readVerdict file latches gates) (firstRecords (netIn file .gates) (gateOf (netIn file))) gates
 
 -- What holds of the record and the lists that `read` leaves where it refuses nothing. RULES A1: "A sheet is accepted if it passes every
 -- test of sheets, and a record with its lists if it passes every test of records"; here both pass. Demands 2 and 3 hold of both: the
--- variables and every group's numbers are those of the sheet's netlist, and demand 3 holds of it.
+-- variables and every group's numbers are those of the sheet's netlist, and the numbers that the group calls over record and lists
+-- leave, joined, are the formula of the sheet's netlist, of which demand 3 holds.
 pub record SheetDelivered (file : List ℕ) (r : Netlist) (latches : List Latch) (gates : List Gate) : Type 0 where
   pub not-refused : recordVerdict (netLent r latches gates) (length latches) (length gates) ≡ Passed
   pub variables-same : (i : ℕ) → base (netLent r latches gates) i ≡ base (netIn file) i
   pub numbers-same : (k : ℕ) (g : Group) → numbersOf (netLent r latches gates) k g ≡ numbersOf (netIn file) k g
-  pub sheet-encodes : (k : ℕ) → Encodes (netIn file) k
+  pub calls-encode : (k : ℕ) → k ≤ mostDepth → CallsEncode (netIn file) (netLent r latches gates) (length latches) (length gates) k

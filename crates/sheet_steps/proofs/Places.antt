@@ -1,17 +1,18 @@
 -- Lines and their places: a line that a netlist has stands at one place, and the place says which line it is. Cited by the laws of
 -- reading line by line.
 use Prim.Native.Nat.{ℕ, _+_, _-_, _≤_, _<_}
-use mathlib.Core.Path.{_≡_, refl, sym, _∙_, ap}
+use mathlib.Core.Path.{_≡_, refl, sym, _∙_}
 use mathlib.Core.Bool.{true, false}
 use mathlib.Core.Logic.{by-cases}
-use mathlib.Core.List.{List, [], _∷_}
+use mathlib.Core.List.{[], _∷_}
 use native.Mathlib.Decide.{decLt}
 use native.Mathlib.Omega.{arith}
 use lib.Dec.{eqb, ltb}
 use lib.ListN.{getD}
 use borrow.Author.Tests.{eq-eqb, eqb-true, le-ltb}
 use Rattle.model.specs.Netlist.{Netlist}
-use Rattle.model.specs.Acceptance.{SizesFit}
+use Rattle.model.specs.Agree.{SameSizes}
+use Rattle.model.proofs.Agree.{same-at}
 use Rattle.model.proofs.Booleans.{and-true, not-true-false}
 use Rattle.netlist.specs.Places.{memoryLine, latchLine, gateLine, addressLine, dataLine, controlLine, lineAt, HasLine}
 use Rattle.netlist.specs.Faults.{sizeFault}
@@ -133,40 +134,14 @@ roomFor-due c p known =
     by-cases (decLt p (controlLine c)) (λ d. rw (at-data c p (p - dataLine c 0) (omega arith) (omega arith)) (omega arith)) λ d.
     rw (at-control c p (omega arith)) (omega arith)
 
--- two netlists with the same sizes
-abbrev pub sizesOf : Netlist → List ℕ
-sizesOf c = c .inputs ∷ c .latches ∷ c .gates ∷ c .m ∷ c .n ∷ c .initialWord ∷ []
-
-abbrev pub SameSizes : Netlist → Netlist → Type 0
-SameSizes c d = sizesOf c ≡ sizesOf d
-
+-- two netlists with the same sizes have the same lines
 module _ (c d : Netlist) (q : SameSizes c d) where
-  -- each size by itself
-  pub same-at : (i : ℕ) → getD (sizesOf c) i 0 ≡ getD (sizesOf d) i 0
-  same-at i = ap (λ (xs : List ℕ). getD xs i 0) q
-
-  -- have the same limits, kept or not
-  pub sizesFit-same : SizesFit c → SizesFit d
-  sizesFit-same h =
-      record {
-        inputs-fit = rw (← same-at 0) (h .inputs-fit);
-        latches-fit = rw (← same-at 1) (h .latches-fit);
-        gates-fit = rw (← same-at 2) (h .gates-fit);
-        m-least = rw (← same-at 3) (h .m-least);
-        m-most = rw (← same-at 3) (h .m-most);
-        n-least = rw (← same-at 4) (h .n-least);
-        n-most = rw (← same-at 4) (h .n-most);
-        word-fits = rw (← same-at 5, ← same-at 4) (h .word-fits);
-        wires-fit = rw (← same-at 0, ← same-at 1, ← same-at 2, ← same-at 4) (h .wires-fit);
-      }
-
-  -- and the same lines
   lineAt-same : (p : ℕ) → lineAt c p ≡ lineAt d p
   unfolding lineAt
-  lineAt-same p = rw (same-at 1, same-at 2, same-at 3, same-at 4)
+  lineAt-same p = rw (same-at c d q 1, same-at c d q 2, same-at c d q 3, same-at c d q 4)
 
   controlLine-same : controlLine c ≡ controlLine d
-  controlLine-same = rw (same-at 1, same-at 2, same-at 3, same-at 4)
+  controlLine-same = rw (same-at c d q 1, same-at c d q 2, same-at c d q 3, same-at c d q 4)
 
 -- where lines N and M are due, the sizes do not matter
 module _ (c d : Netlist) (p : ℕ) (same : 3 ≤ p → SameSizes c d) where

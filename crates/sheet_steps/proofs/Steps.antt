@@ -1,5 +1,5 @@
 -- Laws of reading line by line (specs/Steps.antt).
-use Prim.Native.Nat.{ℕ, _+_, _*_, _≤_, _<_}
+use Prim.Native.Nat.{ℕ, _≤_, _<_}
 use mathlib.Core.Path.{_≡_, refl, sym, _∙_, ap, fun-ext}
 use mathlib.Core.Bool.{Bool, true, false, not, cond, _||_}
 use mathlib.Core.Logic.{by-cases}
@@ -7,41 +7,27 @@ use mathlib.Core.List.{List}
 use native.Mathlib.Decide.{ℕ-discrete}
 use native.Mathlib.Omega.{arith}
 use lib.Dec.{eqb, ltb}
-use lib.ListN.{length, getD, set, length-set}
+use lib.ListN.{length, getD, set}
 use lib.Seq.{getD-set-same, getD-set-other}
 use borrow.Author.Tests.{eq-eqb, ne-eqb}
 use Rattle.refusals.specs.declared.Refusal.the-variants.{OutOfOrder}
 use Rattle.refusals.specs.declared.Verdict.the-variants.{Refused}
 use Rattle.literals.specs.declared.Code.{Code}
 use Rattle.model.specs.Netlist as M
+use Rattle.model.specs.Agree.{sizesOf, SameSizes}
+use Rattle.model.proofs.Agree.{sizesFit-same}
 use Rattle.netlist.specs.Places.{controlLine, lineAt}
 use Rattle.sheet_lines.specs.Letters.{rowOf}
 use Rattle.sheet_lines.specs.declared.Kind.{Kind}
-use Rattle.netlist.specs.NetOf.{codeOf, firstAt, secondAt, netOf, alone}
+use Rattle.netlist.specs.NetOf.{codeOf, netOf, alone, putNumbers}
+use Rattle.netlist.proofs.PutNumbers.{length-putNumbers, firstAt-putNumbers, secondAt-putNumbers}
 use Rattle.netlist.specs.declared.Netlist.{Netlist}
 use Rattle.netlist.specs.declared.Line.the-variants.{Latch, Gate}
 use Rattle.sheet_steps.specs.Due.{kindDue}
 use Rattle.sheet_steps.specs.Steps.{stored, stepNet, stepVerdict, SizesKnown, FullLength, Holds}
 use Rattle.sheet_steps.specs.LineFaults.{faultsAt}
-use Rattle.sheet_steps.proofs.Places.{codes-from-3, sizesOf, SameSizes, sizesFit-same, lineAt-known}
+use Rattle.sheet_steps.proofs.Places.{codes-from-3, lineAt-known}
 use Rattle.refusals.specs.Tests.{_then_}
-
--- the two codes of record i set, in a list of records unpacked: the first codes and the second codes then
-module _ (xs : List ℕ) (i x y : ℕ) (full : length xs ≡ 1200) (h : i < 600) where
-  first-set : firstAt (set (set xs (2 * i) x) (2 * i + 1) y) ≡ (λ j. cond (eqb i j) x (firstAt xs j))
-  first-set = fun-ext (λ j.
-      getD-set-other (set xs (2 * i) x) (2 * i + 1) (2 * j) y 0 (λ e. omega arith)
-      ∙ by-cases (ℕ-discrete i j)
-      (λ e. rw (eq-eqb i j e, ← e) (getD-set-same xs (2 * i) x 0 (omega arith)))
-      (λ e. rw (ne-eqb i j e) (getD-set-other xs (2 * i) (2 * j) x 0 (λ q. e (omega arith)))))
-
-  second-set : secondAt (set (set xs (2 * i) x) (2 * i + 1) y) ≡ (λ j. cond (eqb i j) y (secondAt xs j))
-  second-set = fun-ext (λ j.
-      by-cases (ℕ-discrete i j)
-      (λ e. rw (eq-eqb i j e, ← e) (getD-set-same (set xs (2 * i) x) (2 * i + 1) y 0 (omega (arith, length-set xs (2 * i) x))))
-      (λ e. rw (ne-eqb i j e)
-      (getD-set-other (set xs (2 * i) x) (2 * i + 1) (2 * j + 1) y 0 (λ q. e (omega arith))
-      ∙ getD-set-other xs (2 * i) (2 * j + 1) x 0 (λ q. omega arith))))
 
 -- one code of a record's array set
 pub code-set : (xs : List Code) (i x : ℕ) → i < length xs → codeOf (set xs i (record { 0 = x })) ≡ (λ j. cond (eqb i j) x (codeOf xs j))
@@ -57,7 +43,7 @@ code-set xs i x h = fun-ext at
 -- a line's numbers put into a record and lists of full length
 module _ (r : Netlist) (latches gates : List ℕ) (full : FullLength (r .address) (r .«write_data») latches gates) (x y z : ℕ) where
   -- those of a latch
-  pub holds-latch : (l : ℕ) → l < 600 → Holds r (set (set latches (2 * l) x) (2 * l + 1) y) gates (stored (netOf r latches gates) (Latch l) x y z)
+  pub holds-latch : (l : ℕ) → l < 600 → Holds r (putNumbers l x y latches) gates (stored (netOf r latches gates) (Latch l) x y z)
   unfolding netOf stored
   holds-latch l h =
       record {
@@ -65,14 +51,14 @@ module _ (r : Netlist) (latches gates : List ℕ) (full : FullLength (r .address
             record {
               address-codes = full .address-codes;
               data-codes = full .data-codes;
-              latch-codes = simp length-set (full .latch-codes);
+              latch-codes = rw length-putNumbers (full .latch-codes);
               gate-codes = full .gate-codes;
             };
-        net-is = simp (first-set latches l x y (full .latch-codes) h, second-set latches l x y (full .latch-codes) h);
+        net-is = simp (firstAt-putNumbers latches l x y (full .latch-codes) h, secondAt-putNumbers latches l x y (full .latch-codes) h);
       }
 
   -- of a gate
-  pub holds-gate : (g : ℕ) → g < 600 → Holds r latches (set (set gates (2 * g) x) (2 * g + 1) y) (stored (netOf r latches gates) (Gate g) x y z)
+  pub holds-gate : (g : ℕ) → g < 600 → Holds r latches (putNumbers g x y gates) (stored (netOf r latches gates) (Gate g) x y z)
   unfolding netOf stored
   holds-gate g h =
       record {
@@ -81,9 +67,9 @@ module _ (r : Netlist) (latches gates : List ℕ) (full : FullLength (r .address
               address-codes = full .address-codes;
               data-codes = full .data-codes;
               latch-codes = full .latch-codes;
-              gate-codes = simp length-set (full .gate-codes);
+              gate-codes = rw length-putNumbers (full .gate-codes);
             };
-        net-is = simp (first-set gates g x y (full .gate-codes) h, second-set gates g x y (full .gate-codes) h);
+        net-is = simp (firstAt-putNumbers gates g x y (full .gate-codes) h, secondAt-putNumbers gates g x y (full .gate-codes) h);
       }
 
 -- a line of codes leaves the sizes

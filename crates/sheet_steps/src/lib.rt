@@ -9,9 +9,8 @@ use refusals::Refusal;
 use refusals::Verdict;
 use sheet_lines::Kind;
 ghost use mathlib.Core.Path.{_≡_};
-ghost use Prim.Native.Nat.{_+_, _*_, _<_};
+ghost use Prim.Native.Nat.{_<_};
 ghost use lib.Dec.{ltb};
-ghost use lib.ListN.{set};
 ghost use Rattle.netlist.specs.NetOf.{netOf, alone};
 ghost use Rattle.netlist.specs.Places.{lineAt, controlLine};
 ghost use Rattle.sheet_lines.specs.Letters.{rowOf};
@@ -50,16 +49,6 @@ fn row_due(due: Line) -> usize
         Line::WriteData(_) => 5,
         Line::Control => 6,
     }
-}
-
-// Puts the two codes of a latch or a gate into a list.
-fn store_pair(list: &mut UnpackedList, index: u32, first: u32, second: u32)
-    requires { ⌜ index < 600 ⌝ }
-    ensures { λ _. ⌜ now (list .exit) ≡ set (set (now (list .entry)) (2 * index) first) (2 * index + 1) second ⌝ }
-{
-    let at = 2 * (index as usize);
-    list[at] = first;
-    list[at + 1] = second;
 }
 
 // Puts the sizes of line N into the record.
@@ -134,11 +123,11 @@ fn store(
         Line::Sizes => store_sizes(net, first, second, third),
         Line::Memory => store_memory(net, first, second, third),
         Line::Latch(l) => {
-            store_pair(latches, l, first, second);
+            netlist::put_numbers(latches, l as usize, first, second);
             net
         }
         Line::Gate(g) => {
-            store_pair(gates, g, first, second);
+            netlist::put_numbers(gates, g as usize, first, second);
             net
         }
         Line::Address(t) => store_address(net, t, first),

@@ -32,7 +32,7 @@ returns-2 : tie.Need-returns-2
 unfolding groupReply groupSent groupLeaves withCount contentsAfter
 returns-2 c =
     let v = sym (c .before .before .before .before .before .test-group .ensures) ∙ c .before .before .before .enum-told .given .1 in
-    let w = c .before .put-group .ensures in
+    let w = c .before .put-group .ensures .0 in
     (rw (v, w .counted), rw v (w .leaves))
 
 pub write-group-spec : {M : Type 1} → statement M

@@ -1,9 +1,8 @@
 -- `clause_tseitin::put_and` meets its contract: two clauses, then the third.
-use native.Mathlib.Omega.{arith}
 use borrow.Author.Needs.{needs}
 use Rattle.model.specs.Clauses.{andClauses}
 use Rattle.model.specs.Numbers.{written}
-use Rattle.clause_writer.proofs.Wrote.{rest-within, rest-room, wrote-then}
+use Rattle.clause_writer.proofs.Wrote.{wrote-then}
 use Rattle.clause_tseitin.proofs.put_and.Statement.{statement}
 use Rattle.clause_tseitin.proofs.put_and.Tie as tie
 
@@ -11,20 +10,16 @@ negated-requires : tie.Need-negated-requires
 negated-requires c κs = search needs
 
 put-two-binary-requires : tie.Need-put-two-binary-requires
-unfolding written andClauses
 put-two-binary-requires c κs = search needs
 
 mul-put-ternary : tie.Need-mul-put-ternary
-unfolding written andClauses
-mul-put-ternary c = let within = rest-within (c .before .put-two-binary .ensures) (omega arith) in search needs
+mul-put-ternary c = search needs
 
 sub-put-ternary : tie.Need-sub-put-ternary
-unfolding written andClauses
-sub-put-ternary c = rest-within (c .before .put-two-binary .ensures) (omega arith)
+sub-put-ternary c = search needs
 
 part-put-ternary-start : tie.Need-part-put-ternary-start
-unfolding written andClauses
-part-put-ternary-start c = let within = rest-within (c .before .put-two-binary .ensures) (omega arith) in search needs
+part-put-ternary-start c = search needs
 
 part-put-ternary-end : tie.Need-part-put-ternary-end
 part-put-ternary-end c = search needs
@@ -36,11 +31,9 @@ negated-requires-3 : tie.Need-negated-requires-3
 negated-requires-3 c κs = search needs
 
 put-ternary-requires : tie.Need-put-ternary-requires
-unfolding written andClauses
-put-ternary-requires c κs = (search needs, search needs, search needs, rest-room (c .before .before .before .before .put-two-binary .ensures) (omega arith))
+put-ternary-requires c κs = search needs
 
 add-result : tie.Need-add-result
-unfolding written andClauses
 add-result c = search needs
 
 same-length : tie.Need-same-length
@@ -48,9 +41,11 @@ same-length c = search needs
 
 returns : tie.Need-returns
 unfolding written andClauses
-returns c =
-    simp (c .before .before .before .before .before .before .before .before .negated .ensures .0, c .before .before .before .negated2 .ensures .0, c .before .before .negated3 .ensures .0)
-    at (wrote-then (c .before .before .before .before .before .before .put-two-binary .ensures) (c .before .put-ternary .ensures))
+returns c = (
+  simp (c .before .before .before .before .before .before .before .before .negated .ensures .0, c .before .before .before .negated2 .ensures .0, c .before .before .negated3 .ensures .0)
+      at (wrote-then (c .before .before .before .before .before .before .put-two-binary .ensures .0) (c .before .put-ternary .ensures .0)),
+  search needs,
+)
 
 pub put-and-spec : {M : Type 1} → statement M
 put-and-spec =

@@ -1,10 +1,9 @@
 -- `clause_tseitin::put_bit` meets its contract: twice two clauses that begin alike.
-use native.Mathlib.Omega.{arith}
 use borrow.Author.Needs.{needs}
 use Rattle.model.specs.Clauses.{bitClauses}
 use Rattle.model.specs.Numbers.{written}
 use Rattle.clause_tseitin.specs.BothClauses.{bothClauses}
-use Rattle.clause_writer.proofs.Wrote.{rest-within, rest-room, wrote-then}
+use Rattle.clause_writer.proofs.Wrote.{wrote-then}
 use Rattle.clause_tseitin.proofs.put_bit.Statement.{statement}
 use Rattle.clause_tseitin.proofs.put_bit.Tie as tie
 
@@ -18,30 +17,24 @@ negated-requires-3 : tie.Need-negated-requires-3
 negated-requires-3 c κs = search needs
 
 put-two-ternary-requires : tie.Need-put-two-ternary-requires
-unfolding written bitClauses bothClauses
 put-two-ternary-requires c κs = search needs
 
 mul-put-two-ternary : tie.Need-mul-put-two-ternary
-unfolding written bitClauses bothClauses
-mul-put-two-ternary c = let within = rest-within (c .before .put-two-ternary .ensures) (omega arith) in search needs
+mul-put-two-ternary c = search needs
 
 sub-put-two-ternary : tie.Need-sub-put-two-ternary
-unfolding written bitClauses bothClauses
-sub-put-two-ternary c = rest-within (c .before .put-two-ternary .ensures) (omega arith)
+sub-put-two-ternary c = search needs
 
 part-put-two-ternary-start : tie.Need-part-put-two-ternary-start
-unfolding written bitClauses bothClauses
-part-put-two-ternary-start c = let within = rest-within (c .before .put-two-ternary .ensures) (omega arith) in search needs
+part-put-two-ternary-start c = search needs
 
 part-put-two-ternary-end : tie.Need-part-put-two-ternary-end
 part-put-two-ternary-end c = search needs
 
 put-two-ternary-requires-2 : tie.Need-put-two-ternary-requires-2
-unfolding written bitClauses bothClauses
-put-two-ternary-requires-2 c κs = (search needs, search needs, search needs, search needs, search needs, rest-room (c .before .before .put-two-ternary .ensures) (omega arith))
+put-two-ternary-requires-2 c κs = search needs
 
 add-result : tie.Need-add-result
-unfolding written bitClauses bothClauses
 add-result c = search needs
 
 same-length : tie.Need-same-length
@@ -49,9 +42,11 @@ same-length c = search needs
 
 returns : tie.Need-returns
 unfolding written bitClauses bothClauses
-returns c =
-    simp (c .before .before .before .before .before .before .before .before .negated .ensures .0, c .before .before .before .before .before .before .before .negated2 .ensures .0, c .before .before .before .before .before .negated3 .ensures .0)
-    at (wrote-then (c .before .before .before .before .put-two-ternary .ensures) (c .before .put-two-ternary2 .ensures))
+returns c = (
+  simp (c .before .before .before .before .before .before .before .before .negated .ensures .0, c .before .before .before .before .before .before .before .negated2 .ensures .0, c .before .before .before .before .before .negated3 .ensures .0)
+      at (wrote-then (c .before .before .before .before .put-two-ternary .ensures .0) (c .before .put-two-ternary2 .ensures .0)),
+  search needs,
+)
 
 pub put-bit-spec : {M : Type 1} → statement M
 put-bit-spec =

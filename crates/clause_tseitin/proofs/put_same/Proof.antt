@@ -12,7 +12,6 @@ negated-requires-2 : tie.Need-negated-requires-2
 negated-requires-2 c κs = search needs
 
 put-two-binary-requires : tie.Need-put-two-binary-requires
-unfolding written sameClauses
 put-two-binary-requires c κs = search needs
 
 same-length : tie.Need-same-length

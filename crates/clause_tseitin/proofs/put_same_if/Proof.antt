@@ -16,7 +16,6 @@ negated-requires-3 : tie.Need-negated-requires-3
 negated-requires-3 c κs = search needs
 
 put-two-ternary-requires : tie.Need-put-two-ternary-requires
-unfolding written sameIfClauses bothClauses
 put-two-ternary-requires c κs = search needs
 
 same-length : tie.Need-same-length

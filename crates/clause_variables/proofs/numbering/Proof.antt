@@ -4,8 +4,8 @@ use Rattle.netlist.specs.NetOf.{netOf}
 use Rattle.clause_variables.proofs.numbering.Statement.{statement}
 use Rattle.clause_variables.proofs.numbering.Tie as tie
 
-last-wire-requires : tie.Need-last-wire-requires
-last-wire-requires c κs = search needs
+wire-count-requires : tie.Need-wire-count-requires
+wire-count-requires c κs = search needs
 
 add-t3 : tie.Need-add-t3
 unfolding netOf
@@ -16,4 +16,4 @@ unfolding netOf
 returns c = search needs
 
 pub numbering-spec : {M : Type 1} → statement M
-numbering-spec = tie.close (tie.spec last-wire-requires add-t3 returns)
+numbering-spec = tie.close (tie.spec wire-count-requires add-t3 returns)

@@ -1,34 +1,29 @@
 -- `clause_writer::put_binary` meets its contract: the first literal, then the others.
 use borrow.Author.Needs.{needs}
 use Rattle.model.specs.Numbers.{written}
-use Rattle.clause_writer.proofs.Wrote.{rest-within, rest-room, wrote-then}
+use Rattle.clause_writer.proofs.Wrote.{wrote-then}
 use Rattle.clause_writer.proofs.put_binary.Statement.{statement}
 use Rattle.clause_writer.proofs.put_binary.Tie as tie
 
 put-literal-requires : tie.Need-put-literal-requires
-unfolding written
 put-literal-requires c κs = search needs
 
 mul-put-unit : tie.Need-mul-put-unit
 mul-put-unit c = search needs
 
 sub-put-unit : tie.Need-sub-put-unit
-unfolding written
-sub-put-unit c = rest-within (c .before .put-literal .ensures) (search needs)
+sub-put-unit c = search needs
 
 part-put-unit-start : tie.Need-part-put-unit-start
-unfolding written
-part-put-unit-start c = let within = rest-within (c .before .put-literal .ensures) (search needs) in search needs
+part-put-unit-start c = search needs
 
 part-put-unit-end : tie.Need-part-put-unit-end
 part-put-unit-end c = search needs
 
 put-unit-requires : tie.Need-put-unit-requires
-unfolding written
-put-unit-requires c κs = (search needs, rest-room (c .before .before .put-literal .ensures) (search needs))
+put-unit-requires c κs = search needs
 
 add-result : tie.Need-add-result
-unfolding written
 add-result c = search needs
 
 same-length : tie.Need-same-length
@@ -36,7 +31,7 @@ same-length c = search needs
 
 returns : tie.Need-returns
 unfolding written
-returns c = wrote-then (c .before .before .before .before .put-literal .ensures) (c .before .put-unit .ensures)
+returns c = (wrote-then (c .before .before .before .before .put-literal .ensures .0) (c .before .put-unit .ensures .0), search needs)
 
 pub put-binary-spec : {M : Type 1} → statement M
 put-binary-spec =

@@ -12,7 +12,7 @@ same-length : tie.Need-same-length
 same-length c = search needs
 
 returns : tie.Need-returns
-returns c = wrote-one (pos 0) (c .args .out .now) (c .pre)
+returns c = (wrote-one (pos 0) (c .args .out .now) (c .pre), search needs)
 
 pub put-end-spec : {M : Type 1} → statement M
 put-end-spec = tie.close (tie.spec slice-set-of-out same-length returns)

@@ -17,7 +17,7 @@ returns : tie.Need-returns
 returns c =
     let a = c .before .args .a in
     rw (toZ-ofZ w32 (a .0) (fits (a .0) (c .before .pre .0 .bounded)), numberOf-literalOf a (c .before .pre .0))
-    (wrote-one (a .0) _ (c .before .pre .1))
+    (wrote-one (a .0) _ (c .before .pre .1), search needs)
 
 pub put-literal-spec : {M : Type 1} → statement M
 put-literal-spec = tie.close (tie.spec slice-set-from-x same-length returns)

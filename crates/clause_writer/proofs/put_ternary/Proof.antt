@@ -1,34 +1,29 @@
 -- `clause_writer::put_ternary` meets its contract: the first literal, then the others.
 use borrow.Author.Needs.{needs}
 use Rattle.model.specs.Numbers.{written}
-use Rattle.clause_writer.proofs.Wrote.{rest-within, rest-room, wrote-then}
+use Rattle.clause_writer.proofs.Wrote.{wrote-then}
 use Rattle.clause_writer.proofs.put_ternary.Statement.{statement}
 use Rattle.clause_writer.proofs.put_ternary.Tie as tie
 
 put-literal-requires : tie.Need-put-literal-requires
-unfolding written
 put-literal-requires c κs = search needs
 
 mul-put-binary : tie.Need-mul-put-binary
 mul-put-binary c = search needs
 
 sub-put-binary : tie.Need-sub-put-binary
-unfolding written
-sub-put-binary c = rest-within (c .before .put-literal .ensures) (search needs)
+sub-put-binary c = search needs
 
 part-put-binary-start : tie.Need-part-put-binary-start
-unfolding written
-part-put-binary-start c = let within = rest-within (c .before .put-literal .ensures) (search needs) in search needs
+part-put-binary-start c = search needs
 
 part-put-binary-end : tie.Need-part-put-binary-end
 part-put-binary-end c = search needs
 
 put-binary-requires : tie.Need-put-binary-requires
-unfolding written
-put-binary-requires c κs = (search needs, search needs, rest-room (c .before .before .put-literal .ensures) (search needs))
+put-binary-requires c κs = search needs
 
 add-result : tie.Need-add-result
-unfolding written
 add-result c = search needs
 
 same-length : tie.Need-same-length
@@ -36,7 +31,7 @@ same-length c = search needs
 
 returns : tie.Need-returns
 unfolding written
-returns c = wrote-then (c .before .before .before .before .put-literal .ensures) (c .before .put-binary .ensures)
+returns c = (wrote-then (c .before .before .before .before .put-literal .ensures .0) (c .before .put-binary .ensures .0), search needs)
 
 pub put-ternary-spec : {M : Type 1} → statement M
 put-ternary-spec =

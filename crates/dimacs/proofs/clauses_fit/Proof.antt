@@ -1,4 +1,4 @@
--- `dimacs::clauses_fit` meets its contract. The loop's invariant: what is left, and the text of the first i numbers, are the room.
+-- `dimacs::clauses_fit` meets its contract. The loop's invariant: what remains, and the text of the first i numbers, are the room.
 use Prim.Native.Nat.{ℕ, _+_, _-_, _≤_}
 use mathlib.Core.Path.{_≡_, ap, sym, _∙_}
 use mathlib.Core.List.{List}
@@ -16,11 +16,11 @@ use Rattle.dimacs.proofs.clauses_fit.Statement.{statement}
 use Rattle.dimacs.proofs.clauses_fit.Tie as tie
 
 abbrev Inv-loop : tie.InvT-loop
-Inv-loop room numbers left₀ i₀ left i =
-    (i ≤ length numbers) × (left + length (clauseText (take i numbers)) ≡ room)
+Inv-loop room numbers remaining₀ i₀ remaining i =
+    (i ≤ length numbers) × (remaining + length (clauseText (take i numbers)) ≡ room)
 
 abbrev μ-loop : tie.MeasureT-loop
-μ-loop room numbers left₀ i₀ left i = length numbers - i
+μ-loop room numbers remaining₀ i₀ remaining i = length numbers - i
 
 -- what the number at i needs
 need :

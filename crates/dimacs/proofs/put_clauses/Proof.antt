@@ -5,6 +5,7 @@ use borrow.Author.Needs.{needs}
 use borrow.Author.Tests.{leb-true, leb-false}
 use lib.ListN.{length}
 use Rattle.dimacs.specs.Text.{clauseText}
+use Rattle.dimacs.proofs.Text.{other-numbers}
 use Rattle.dimacs.proofs.PrintCalls.{written, not-written}
 use Rattle.dimacs.proofs.put_clauses.Statement.{statement}
 use Rattle.dimacs.proofs.put_clauses.Tie as tie
@@ -30,13 +31,15 @@ returns : tie.Need-returns
 returns c =
     let start = c .before .before .before .before .before .before .before .before in
     let done = c .before .before .write-numbers in
-    written (clauseText (start .args .numbers .now)) (start .args .out .now) (done .last .0) (done .result) (done .kept .0) (done .ensures)
+    let put = written (clauseText (start .args .numbers .now)) (start .args .out .now) (done .last .0) (done .result) (done .kept .0) (done .ensures) in
+    (put .0, (put .1, other-numbers))
 
 returns-2 : tie.Need-returns-2
 returns-2 c =
     let start = c .before .before .before in
-    not-written (clauseText (start .args .numbers .now)) (start .args .out .now)
-    (leb-false (length (clauseText (start .args .numbers .now))) (length (start .args .out .now)) (sym (c .before .clauses-fit .ensures) ∙ c .if1 .left))
+    let kept = not-written (clauseText (start .args .numbers .now)) (start .args .out .now)
+    (leb-false (length (clauseText (start .args .numbers .now))) (length (start .args .out .now)) (sym (c .before .clauses-fit .ensures) ∙ c .if1 .left)) in
+    (kept .0, (kept .1, other-numbers))
 
 pub put-clauses-spec : {M : Type 1} → statement M
 put-clauses-spec =

@@ -9,7 +9,7 @@ use lib.ListN.{length}
 use lib.Seq.{length-take-le}
 use Rattle.text_writer.specs.Table.{tableBelow}
 use Rattle.text_writer.proofs.Table.{filled-table}
-use Rattle.group_order.specs.Next.{leftFrom}
+use Rattle.group_order.specs.Next.{remainingFrom}
 use Rattle.program_output.proofs.Pieces.{OrderHasNext, orderHas-first, orderHas-next}
 use Rattle.frames.proofs.print_clauses.Statement.{statement}
 use Rattle.frames.proofs.print_clauses.Tie as tie
@@ -19,7 +19,7 @@ Inv-loop net latches gates depth text₀ numbers₀ table next₀ text numbers n
     (length text ≡ 131072) × (length numbers ≡ 5992) × (table ≡ tableBelow 10000) × OrderHasNext depth next
 
 abbrev μ-loop : tie.MeasureT-loop
-μ-loop net latches gates depth text₀ numbers₀ table next₀ text numbers next = leftFrom depth next
+μ-loop net latches gates depth text₀ numbers₀ table next₀ text numbers next = remainingFrom depth next
 
 slice-aggregate-fill-table : tie.Need-slice-aggregate-fill-table Inv-loop μ-loop
 slice-aggregate-fill-table c = search needs

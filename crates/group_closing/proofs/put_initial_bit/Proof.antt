@@ -1,7 +1,5 @@
 -- `group_closing::put_initial_bit` meets its contract.
 use borrow.Author.Needs.{needs}
-use Rattle.model.specs.Clauses.{sameIfClauses}
-use Rattle.model.specs.Numbers.{written}
 use Rattle.group_closing.proofs.put_initial_bit.Statement.{statement}
 use Rattle.group_closing.proofs.put_initial_bit.Tie as tie
 
@@ -12,7 +10,6 @@ bit-requires : tie.Need-bit-requires
 bit-requires c κs = search needs
 
 put-same-if-requires : tie.Need-put-same-if-requires
-unfolding written sameIfClauses
 put-same-if-requires c κs = search needs
 
 same-length : tie.Need-same-length

@@ -12,7 +12,7 @@ use Rattle.group_closing.proofs.put_initial_reads.Statement.{statement}
 use Rattle.group_closing.proofs.put_initial_reads.Tie as tie
 
 abbrev Inv-loop : tie.InvT-loop
-Inv-loop out₀ i noneSince reading first read word n at₀ t₀ out at t = Turns n (initialBit (literalOf noneSince) reading first read word) out₀ out t at
+Inv-loop out₀ i noneSince reading first read word n at₀ t₀ out at t = Turns n 8 (initialBit (literalOf noneSince) reading (first .0) read word) out₀ out t at
 
 abbrev μ-loop : tie.MeasureT-loop
 μ-loop out₀ i noneSince reading first read word n at₀ t₀ out at t = n - t
@@ -27,9 +27,7 @@ first-read-wire-requires : tie.Need-first-read-wire-requires Inv-loop μ-loop
 first-read-wire-requires c κs = c .before .before .pre .0 .fits .limits .sizes
 
 loop-holds : tie.Need-loop-holds Inv-loop μ-loop
-loop-holds c =
-    let a = c .before .before .before .args in
-    turns-start _ _ _ (rw (initial-bits (a .net) (a .port) (a .i) _ (c .before .before .none-since .ensures .0) (c .before .frame-base .ensures) (c .first-read-wire .ensures)) at (c .before .before .before .pre .1))
+loop-holds c = turns-start _ _ _ _ (c .before .before .before .pre .1)
 
 mul-put-initial-bit : tie.Need-mul-put-initial-bit Inv-loop μ-loop
 mul-put-initial-bit c = search needs
@@ -43,30 +41,30 @@ part-put-initial-bit-start c = search needs
 part-put-initial-bit-end : tie.Need-part-put-initial-bit-end Inv-loop μ-loop
 part-put-initial-bit-end c = search needs
 
-add-t20 : tie.Need-add-t20 Inv-loop μ-loop
+add-offset : tie.Need-add-offset Inv-loop μ-loop
 unfolding netOf portOf
-add-t20 c = search needs
+add-offset c = search needs
 
-add-t21 : tie.Need-add-t21 Inv-loop μ-loop
+offset-requires : tie.Need-offset-requires Inv-loop μ-loop
 unfolding netOf portOf
-add-t21 c = search needs
+offset-requires c κs = search needs
 
 put-initial-bit-requires : tie.Need-put-initial-bit-requires Inv-loop μ-loop
 unfolding netOf portOf
 put-initial-bit-requires c κs =
-    let is = c .before .before .before .before .before .before .pre .0 in
-    let h = c .before .loop-test .taken in (
-      c .before .before .before .before .before .none-since .ensures .1,
-      rw (c .before .before .before .before .frame-base .ensures) (wire-has-number _ (is .fits .limits .sizes) _ _ (is .depth) (omega arith)),
+    let is = c .before .before .before .before .before .before .before .pre .0 in
+    let h = c .before .before .loop-test .taken in (
+      c .before .before .before .before .before .before .none-since .ensures .1,
+      rw (c .before .before .before .before .before .frame-base .ensures) (wire-has-number _ (is .fits .limits .sizes) _ _ (is .depth) (omega arith)),
       omega arith,
       omega arith,
-      turns-room (c .before .before .loop .inv) h,
+      turns-room (c .before .before .before .loop .inv) h,
     )
 
 add-at : tie.Need-add-at Inv-loop μ-loop
 unfolding netOf portOf
 add-at c =
-    let count = turns-count (c .before .before .before .before .loop .inv) (c .before .before .before .loop-test .taken) (c .before .put-initial-bit .ensures .counted) in
+    let count = turns-count (c .before .before .before .before .before .loop .inv) (c .before .before .before .before .loop-test .taken) (c .before .put-initial-bit .ensures .1) in
     search needs
 
 add-t : tie.Need-add-t Inv-loop μ-loop
@@ -78,7 +76,7 @@ loop-less c = search needs
 loop-again : tie.Need-loop-again Inv-loop μ-loop
 unfolding netOf portOf
 loop-again c =
-    turns-next (c .before .before .before .before .loop .inv) (c .before .before .before .loop-test .taken) (c .before .put-initial-bit .ensures)
+    turns-next (c .before .before .before .before .before .loop .inv) (c .before .before .before .before .loop-test .taken) (rw (c .before .before .offset .ensures) at (c .before .put-initial-bit .ensures))
 
 same-length : tie.Need-same-length Inv-loop μ-loop
 same-length c = search needs
@@ -102,8 +100,8 @@ put-initial-reads-spec =
     sub-put-initial-bit
     part-put-initial-bit-start
     part-put-initial-bit-end
-    add-t20
-    add-t21
+    add-offset
+    offset-requires
     put-initial-bit-requires
     add-at
     add-t

@@ -6,7 +6,7 @@ use Rattle.model.specs.Variables.{closingLiterals}
 use Rattle.model.specs.Numbers.{written}
 use Rattle.clause_variables.specs.PortOf.{portOf}
 use Rattle.clause_variables.proofs.Room.{code-has-number}
-use Rattle.clause_writer.proofs.Wrote.{rest-within, rest-room, wrote-then}
+use Rattle.clause_writer.proofs.Wrote.{wrote-then}
 use Rattle.group_closing.proofs.put_some_source.Statement.{statement}
 use Rattle.group_closing.proofs.put_some_source.Tie as tie
 
@@ -23,62 +23,47 @@ none-since-requires : tie.Need-none-since-requires
 none-since-requires c κs = let is = c .before .before .pre .0 in (is .fits, omega arith, omega arith)
 
 negated-requires : tie.Need-negated-requires
-negated-requires c κs = c .before .before .in-frame .ensures .1
+negated-requires c κs = search needs
 
 put-literal-requires : tie.Need-put-literal-requires
-unfolding written someSource
-put-literal-requires c κs = (c .negated .ensures .1, omega arith)
+put-literal-requires c κs = search needs
 
 mul-put-literal : tie.Need-mul-put-literal
-unfolding written someSource
-mul-put-literal c = let within = rest-within (c .before .put-literal .ensures) (omega arith) in search needs
+mul-put-literal c = search needs
 
 sub-put-literal : tie.Need-sub-put-literal
-unfolding written someSource
-sub-put-literal c = rest-within (c .before .put-literal .ensures) (omega arith)
+sub-put-literal c = search needs
 
 part-put-literal-start : tie.Need-part-put-literal-start
-unfolding written someSource
-part-put-literal-start c = let within = rest-within (c .before .put-literal .ensures) (omega arith) in search needs
+part-put-literal-start c = search needs
 
 part-put-literal-end : tie.Need-part-put-literal-end
 part-put-literal-end c = search needs
 
 put-literal-requires-2 : tie.Need-put-literal-requires-2
-unfolding written someSource
-put-literal-requires-2 c κs =
-    (search needs, rest-room (c .before .before .put-literal .ensures) (omega arith))
+put-literal-requires-2 c κs = search needs
 
 add-b : tie.Need-add-b
-unfolding written someSource
-add-b c = omega arith
+add-b c = search needs
 
 mul-put-last-sources : tie.Need-mul-put-last-sources
-unfolding written someSource
-mul-put-last-sources c =
-    let within = rest-within (wrote-then (c .before .before .before .before .put-literal .ensures) (c .before .put-literal2 .ensures)) (omega arith) in search needs
+mul-put-last-sources c = search needs
 
 sub-put-last-sources : tie.Need-sub-put-last-sources
-unfolding written someSource
-sub-put-last-sources c =
-    rest-within (wrote-then (c .before .before .before .before .put-literal .ensures) (c .before .put-literal2 .ensures)) (omega arith)
+sub-put-last-sources c = search needs
 
 part-put-last-sources-start : tie.Need-part-put-last-sources-start
-unfolding written someSource
-part-put-last-sources-start c =
-    let within = rest-within (wrote-then (c .before .before .before .before .put-literal .ensures) (c .before .put-literal2 .ensures)) (omega arith) in search needs
+part-put-last-sources-start c = search needs
 
 part-put-last-sources-end : tie.Need-part-put-last-sources-end
 part-put-last-sources-end c = search needs
 
 put-last-sources-requires : tie.Need-put-last-sources-requires
-unfolding written someSource
 put-last-sources-requires c κs =
-    (c .before .before .before .before .before .before .before .before .before .before .before .pre .0, rest-room (wrote-then (c .before .before .before .before .before .put-literal .ensures) (c .before .before .put-literal2 .ensures)) (omega arith))
+    let p = c .before .before .before .before .before .before .before .before .before .before .before .pre in (p .0, search needs)
 
 add-result : tie.Need-add-result
-unfolding written someSource
-add-result c = omega arith
+add-result c = search needs
 
 same-length : tie.Need-same-length
 same-length c = search needs
@@ -87,9 +72,9 @@ returns : tie.Need-returns
 unfolding written someSource closingLiterals portOf
 returns c =
     let re = rw (c .before .before .before .before .before .before .before .before .before .before .before .before .frame-base .ensures) at (c .before .before .before .before .before .before .before .before .before .before .before .in-frame .ensures .0) in
-    let first = rw (c .before .before .before .before .before .before .before .before .negated .ensures .0, re) at (c .before .before .before .before .before .before .before .put-literal .ensures) in
-    let second = rw (c .before .before .before .before .before .before .before .before .before .before .none-since .ensures .0) at (c .before .before .before .before .put-literal2 .ensures) in
-    wrote-then (wrote-then first second) (c .before .put-last-sources .ensures)
+    let first = rw (c .before .before .before .before .before .before .before .before .negated .ensures .0, re) at (c .before .before .before .before .before .before .before .put-literal .ensures .0) in
+    let second = rw (c .before .before .before .before .before .before .before .before .before .before .none-since .ensures .0) at (c .before .before .before .before .put-literal2 .ensures .0) in
+    (wrote-then (wrote-then first second) (c .before .put-last-sources .ensures .0), search needs)
 
 pub put-some-source-spec : {M : Type 1} → statement M
 put-some-source-spec =

@@ -11,7 +11,7 @@ use Rattle.group_closing.proofs.put_sources.Statement.{statement}
 use Rattle.group_closing.proofs.put_sources.Tie as tie
 
 abbrev Inv-loop : tie.InvT-loop
-Inv-loop out₀ i q stride offset at₀ j₀ out at j = Turns i (sourceAt q stride offset) out₀ out j at
+Inv-loop out₀ i q stride offset at₀ j₀ out at j = Turns i 1 (sourceAt q stride offset) out₀ out j at
 
 abbrev μ-loop : tie.MeasureT-loop
 μ-loop out₀ i q stride offset at₀ j₀ out at j = i - j
@@ -27,10 +27,7 @@ unfolding netOf
 add-offset c = search needs
 
 loop-holds : tie.Need-loop-holds Inv-loop μ-loop
-unfolding netOf
-loop-holds c =
-    let a = c .before .before .before .args in
-    turns-start _ _ _ (rw (sources (a .net) (a .port) (a .i) (a .i) (c .before .before .pair-base .ensures) (c .before .numbering .ensures .1)) at (c .before .before .before .pre .1))
+loop-holds c = turns-start _ _ _ _ (omega arith)
 
 mul-in-pair : tie.Need-mul-in-pair Inv-loop μ-loop
 unfolding netOf
@@ -77,7 +74,7 @@ put-literal-requires c κs =
 
 add-at : tie.Need-add-at Inv-loop μ-loop
 add-at c =
-    let count = turns-count (c .before .before .before .before .before .loop .inv) (c .before .before .before .before .loop-test .taken) (c .before .put-literal .ensures .counted) in
+    let count = turns-count (c .before .before .before .before .before .loop .inv) (c .before .before .before .before .loop-test .taken) (c .before .put-literal .ensures .1) in
     search needs
 
 add-j : tie.Need-add-j Inv-loop μ-loop
@@ -97,7 +94,8 @@ returns : tie.Need-returns Inv-loop μ-loop
 unfolding netOf
 returns c =
     let a = c .before .before .before .before .before .args in
-    rw (sources (a .net) (a .port) (a .i) (a .i) (c .before .before .before .before .pair-base .ensures) (c .before .before .before .numbering .ensures .1)) (turns-end (c .before .loop .inv) (omega arith))
+    let all = turns-end (c .before .loop .inv) (omega arith) in
+    (rw (sources (a .net) (a .port) (a .i) (a .i) (c .before .before .before .before .pair-base .ensures) (c .before .before .before .numbering .ensures .1)) (all .0), omega arith)
 
 pub put-sources-spec : {M : Type 1} → statement M
 put-sources-spec =

@@ -1,7 +1,5 @@
 -- `group_latches::put_latch` meets its contract.
 use borrow.Author.Needs.{needs}
-use Rattle.model.specs.Clauses.{sameClauses}
-use Rattle.model.specs.Numbers.{written}
 use Rattle.group_latches.proofs.put_latch.Statement.{statement}
 use Rattle.group_latches.proofs.put_latch.Tie as tie
 
@@ -12,7 +10,6 @@ in-frame-requires-2 : tie.Need-in-frame-requires-2
 in-frame-requires-2 c κs = search needs
 
 put-same-requires : tie.Need-put-same-requires
-unfolding written sameClauses
 put-same-requires c κs = search needs
 
 same-length : tie.Need-same-length

@@ -1,7 +1,6 @@
 -- `group_latches::put_reset` meets its contract.
 use borrow.Author.Tests.{eq-eqb, ne-eqb}
 use borrow.Author.Needs.{needs}
-use Rattle.model.specs.Numbers.{written}
 use Rattle.group_latches.proofs.put_reset.Statement.{statement}
 use Rattle.group_latches.proofs.put_reset.Tie as tie
 
@@ -9,7 +8,6 @@ in-frame-requires : tie.Need-in-frame-requires
 in-frame-requires c κs = search needs
 
 put-unit-requires : tie.Need-put-unit-requires
-unfolding written
 put-unit-requires c κs = search needs
 
 same-length : tie.Need-same-length
@@ -23,7 +21,6 @@ negated-requires : tie.Need-negated-requires
 negated-requires c κs = search needs
 
 put-unit-requires-2 : tie.Need-put-unit-requires-2
-unfolding written
 put-unit-requires-2 c κs = search needs
 
 same-length-2 : tie.Need-same-length-2

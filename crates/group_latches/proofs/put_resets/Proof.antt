@@ -12,7 +12,7 @@ use Rattle.group_latches.proofs.put_resets.Statement.{statement}
 use Rattle.group_latches.proofs.put_resets.Tie as tie
 
 abbrev Inv-loop : tie.InvT-loop
-Inv-loop out₀ latches b first n at₀ l₀ out at l = Turns n (resetAt b first latches) out₀ out l at
+Inv-loop out₀ latches b first n at₀ l₀ out at l = Turns n 2 (resetAt b (first .0) latches) out₀ out l at
 
 abbrev μ-loop : tie.MeasureT-loop
 μ-loop out₀ latches b first n at₀ l₀ out at l = n - l
@@ -27,8 +27,7 @@ first-latch-wire-requires c κs =
     sizes-lists (c .before .args .net) (c .before .args .latches .now) [] [] [] (c .before .pre .0 .limits .sizes)
 
 loop-holds : tie.Need-loop-holds Inv-loop μ-loop
-loop-holds c =
-    turns-start _ _ _ (rw (resets (c .before .before .args .net) (c .before .before .args .latches .now) _ (c .before .frame-base .ensures) (c .first-latch-wire .ensures)) at (c .before .before .pre .1))
+loop-holds c = turns-start _ _ _ _ (c .before .before .pre .1)
 
 mul-reset : tie.Need-mul-reset Inv-loop μ-loop
 unfolding netOf
@@ -62,22 +61,22 @@ part-put-reset-start c = search needs
 part-put-reset-end : tie.Need-part-put-reset-end Inv-loop μ-loop
 part-put-reset-end c = search needs
 
-add-t11 : tie.Need-add-t11 Inv-loop μ-loop
+offset-requires : tie.Need-offset-requires Inv-loop μ-loop
 unfolding netOf
-add-t11 c = search needs
+offset-requires c κs = search needs
 
 put-reset-requires : tie.Need-put-reset-requires Inv-loop μ-loop
 unfolding netOf
 put-reset-requires c κs =
-    let sizes = sizes-lists (c .before .before .before .before .before .before .args .net) (c .before .before .before .before .before .before .args .latches .now) [] [] [] (c .before .before .before .before .before .before .pre .0 .limits .sizes) in (
-      rw (c .before .before .before .before .before .frame-base .ensures) (wire-has-number _ sizes 0 _ (omega arith) (omega arith)),
+    let sizes = sizes-lists (c .before .before .before .before .before .before .before .args .net) (c .before .before .before .before .before .before .before .args .latches .now) [] [] [] (c .before .before .before .before .before .before .before .pre .0 .limits .sizes) in (
+      rw (c .before .before .before .before .before .before .frame-base .ensures) (wire-has-number _ sizes 0 _ (omega arith) (omega arith)),
       omega arith,
-      turns-room (c .before .before .before .loop .inv) (c .before .before .loop-test .taken),
+      turns-room (c .before .before .before .before .loop .inv) (c .before .before .before .loop-test .taken),
     )
 
 add-at : tie.Need-add-at Inv-loop μ-loop
 add-at c =
-    let count = turns-count (c .before .before .before .before .before .loop .inv) (c .before .before .before .before .loop-test .taken) (c .before .put-reset .ensures .counted) in
+    let count = turns-count (c .before .before .before .before .before .before .loop .inv) (c .before .before .before .before .before .loop-test .taken) (c .before .put-reset .ensures .1) in
     search needs
 
 add-l : tie.Need-add-l Inv-loop μ-loop
@@ -88,7 +87,7 @@ loop-less c = search needs
 
 loop-again : tie.Need-loop-again Inv-loop μ-loop
 loop-again c =
-    turns-next (c .before .before .before .before .before .loop .inv) (c .before .before .before .before .loop-test .taken) (c .before .put-reset .ensures)
+    turns-next (c .before .before .before .before .before .before .loop .inv) (c .before .before .before .before .before .loop-test .taken) (rw (c .before .before .offset .ensures) at (c .before .put-reset .ensures))
 
 same-length : tie.Need-same-length Inv-loop μ-loop
 same-length c = search needs
@@ -115,7 +114,7 @@ put-resets-spec =
     sub-put-reset
     part-put-reset-start
     part-put-reset-end
-    add-t11
+    offset-requires
     put-reset-requires
     add-at
     add-l

@@ -1,22 +1,18 @@
 -- `group_pair::put_forwarded` meets its contract. The loop has written the bits passed.
 use Prim.Native.Nat.{_-_}
-use mathlib.Core.Path.{refl}
 use native.Mathlib.Omega.{arith}
 use borrow.Author.Needs.{needs}
-use Rattle.model.specs.Clauses.{sameIfClauses, forwardedClauses}
-use Rattle.model.specs.Numbers.{written}
 use Rattle.netlist.specs.NetOf.{codeOf, netOf}
 use Rattle.clause_variables.specs.PortOf.{portOf}
-use Rattle.clause_variables.specs.OfPair.{ofPair}
 use Rattle.clause_variables.proofs.Room.{wire-has-number, code-has-number}
 use Rattle.literals.specs.Lit.{literalOf}
-use Rattle.clause_writer.proofs.Turns.{Turns, written-gather, turns-start-as, turns-room, turns-count, turns-next, turns-end}
+use Rattle.clause_writer.proofs.Turns.{Turns, turns-start, turns-room, turns-count, turns-next, turns-end}
 use Rattle.group_pair.proofs.OfPair.{forwardedBit, forwarded-bits}
 use Rattle.group_pair.proofs.put_forwarded.Statement.{statement}
 use Rattle.group_pair.proofs.put_forwarded.Tie as tie
 
 abbrev Inv-loop : tie.InvT-loop
-Inv-loop out₀ j i net selected writing reading first read n at₀ t₀ out at t = Turns n (forwardedBit (literalOf selected) reading first read writing net) out₀ out t at
+Inv-loop out₀ j i net selected writing reading first read n at₀ t₀ out at t = Turns n 8 (forwardedBit (literalOf selected) reading (first .0) read writing net) out₀ out t at
 
 abbrev μ-loop : tie.MeasureT-loop
 μ-loop out₀ j i net selected writing reading first read n at₀ t₀ out at t = n - t
@@ -34,10 +30,7 @@ first-read-wire-requires : tie.Need-first-read-wire-requires Inv-loop μ-loop
 first-read-wire-requires c κs = c .before .before .before .pre .0 .fits .limits .sizes
 
 loop-holds : tie.Need-loop-holds Inv-loop μ-loop
-unfolding written forwardedClauses sameIfClauses
-loop-holds c =
-    let a = c .before .before .before .before .args in
-    turns-start-as _ _ (λ t. written (forwardedClauses (ofPair (a .t2) (a .port) (a .j) (a .i)) t)) _ (λ t. refl) (rw written-gather at (c .before .before .before .before .pre .1))
+loop-holds c = turns-start _ _ _ _ (c .before .before .before .before .pre .1)
 
 cast-wd : tie.Need-cast-wd Inv-loop μ-loop
 unfolding netOf portOf
@@ -63,35 +56,37 @@ part-put-forwarded-bit-start c = search needs
 part-put-forwarded-bit-end : tie.Need-part-put-forwarded-bit-end Inv-loop μ-loop
 part-put-forwarded-bit-end c = search needs
 
-add-t27 : tie.Need-add-t27 Inv-loop μ-loop
+add-offset : tie.Need-add-offset Inv-loop μ-loop
 unfolding netOf portOf
-add-t27 c = search needs
+add-offset c = search needs
 
-add-t28 : tie.Need-add-t28 Inv-loop μ-loop
+offset-requires : tie.Need-offset-requires Inv-loop μ-loop
 unfolding netOf portOf
-add-t28 c = search needs
+offset-requires c κs = search needs
 
 put-forwarded-bit-requires : tie.Need-put-forwarded-bit-requires Inv-loop μ-loop
 unfolding codeOf netOf portOf
 put-forwarded-bit-requires c κs =
-    let is = c .before .before .before .before .before .before .before .before .pre .0 in
-    let t = c .before .before .before .loop .t in
-    let h = c .before .before .loop-test .taken in (
-      c .before .before .before .before .before .before .before .selected .ensures .1,
-      rw (c .before .before .before .before .before .frame-base2 .ensures) (wire-has-number _ (is .fits .limits .sizes) _ _ (omega arith) (omega arith)),
+    let is = c .before .before .before .before .before .before .before .before .before .pre .0 in
+    let t = c .before .before .before .before .loop .t in
+    let h = c .before .before .before .loop-test .taken in (
+      c .before .before .before .before .before .before .before .before .selected .ensures .1,
+      rw (c .before .before .before .before .before .before .frame-base2 .ensures) (wire-has-number _ (is .fits .limits .sizes) _ _ (omega arith) (omega arith)),
       omega arith,
-      rw (c .before .before .before .before .before .before .frame-base .ensures) (code-has-number _ (is .fits .limits .sizes) _ _ (omega arith) (is .fits .limits .codes .data-fits t h)),
-      turns-room (c .before .before .before .loop .inv) h,
+      rw (c .before .before .before .before .before .before .before .frame-base .ensures) (code-has-number _ (is .fits .limits .sizes) _ _ (omega arith) (is .fits .limits .codes .data-fits t h)),
+      turns-room (c .before .before .before .before .loop .inv) h,
     )
 
 add-at : tie.Need-add-at Inv-loop μ-loop
 unfolding codeOf netOf portOf
 add-at c =
-    let count = turns-count (c .before .before .before .before .before .loop .inv) (c .before .before .before .before .loop-test .taken) (c .before .put-forwarded-bit .ensures .counted) in
+    let count = turns-count (c .before .before .before .before .before .before .loop .inv) (c .before .before .before .before .before .loop-test .taken) (c .before .put-forwarded-bit .ensures .1) in
     search needs
 
 add-t : tie.Need-add-t Inv-loop μ-loop
-add-t c = search needs
+unfolding netOf
+add-t c =
+    omega (arith, c .before .before .before .before .before .loop-test .taken, c .before .before .before .before .before .before .before .before .before .before .before .pre .0 .fits .limits .sizes .n-most)
 
 loop-less : tie.Need-loop-less Inv-loop μ-loop
 loop-less c = search needs
@@ -99,7 +94,7 @@ loop-less c = search needs
 loop-again : tie.Need-loop-again Inv-loop μ-loop
 unfolding codeOf netOf portOf
 loop-again c =
-    turns-next (c .before .before .before .before .before .loop .inv) (c .before .before .before .before .loop-test .taken) (c .before .put-forwarded-bit .ensures)
+    turns-next (c .before .before .before .before .before .before .loop .inv) (c .before .before .before .before .before .loop-test .taken) (rw (c .before .before .offset .ensures) at (c .before .put-forwarded-bit .ensures))
 
 same-length : tie.Need-same-length Inv-loop μ-loop
 same-length c = search needs
@@ -127,8 +122,8 @@ put-forwarded-spec =
     sub-put-forwarded-bit
     part-put-forwarded-bit-start
     part-put-forwarded-bit-end
-    add-t27
-    add-t28
+    add-offset
+    offset-requires
     put-forwarded-bit-requires
     add-at
     add-t

@@ -1,7 +1,5 @@
 -- `group_pair::put_forwarded_bit` meets its contract.
 use borrow.Author.Needs.{needs}
-use Rattle.model.specs.Clauses.{sameIfClauses}
-use Rattle.model.specs.Numbers.{written}
 use Rattle.group_pair.proofs.put_forwarded_bit.Statement.{statement}
 use Rattle.group_pair.proofs.put_forwarded_bit.Tie as tie
 
@@ -12,7 +10,6 @@ in-frame-requires-2 : tie.Need-in-frame-requires-2
 in-frame-requires-2 c κs = search needs
 
 put-same-if-requires : tie.Need-put-same-if-requires
-unfolding written sameIfClauses
 put-same-if-requires c κs = search needs
 
 same-length : tie.Need-same-length

@@ -2,8 +2,6 @@
 use mathlib.Core.Path.{sym}
 use native.Mathlib.Nat.{add-assoc}
 use borrow.Author.Needs.{needs}
-use Rattle.model.specs.Clauses.{bitClauses}
-use Rattle.model.specs.Numbers.{written}
 use Rattle.group_pair_address.proofs.put_address_bit.Statement.{statement}
 use Rattle.group_pair_address.proofs.put_address_bit.Tie as tie
 
@@ -23,7 +21,6 @@ in-frame-requires-2 : tie.Need-in-frame-requires-2
 in-frame-requires-2 c κs = search needs
 
 put-bit-requires : tie.Need-put-bit-requires
-unfolding written bitClauses
 put-bit-requires c κs = search needs
 
 same-length : tie.Need-same-length

@@ -1,21 +1,17 @@
 -- `group_pair_address::put_address_bits` meets its contract. The loop has written the bits passed.
 use Prim.Native.Nat.{_-_}
-use mathlib.Core.Path.{refl}
 use native.Mathlib.Omega.{arith}
 use borrow.Author.Needs.{needs}
-use Rattle.model.specs.Clauses.{bitClauses, addressBitClauses}
-use Rattle.model.specs.Numbers.{written}
 use Rattle.netlist.specs.NetOf.{codeOf, netOf}
 use Rattle.clause_variables.specs.PortOf.{portOf}
 use Rattle.clause_variables.proofs.Room.{code-has-number, pair-has-number}
-use Rattle.clause_variables.specs.OfPair.{ofPair}
-use Rattle.clause_writer.proofs.Turns.{Turns, written-gather, turns-start-as, turns-room, turns-count, turns-next, turns-end}
+use Rattle.clause_writer.proofs.Turns.{Turns, turns-start, turns-room, turns-count, turns-next, turns-end}
 use Rattle.group_pair_address.proofs.BitsOf.{addressBit, address-bits}
 use Rattle.group_pair_address.proofs.put_address_bits.Statement.{statement}
 use Rattle.group_pair_address.proofs.put_address_bits.Tie as tie
 
 abbrev Inv-loop : tie.InvT-loop
-Inv-loop out₀ j i net port q writing reading m at₀ t₀ out at t = Turns m (addressBit q writing reading net port) out₀ out t at
+Inv-loop out₀ j i net port q writing reading m at₀ t₀ out at t = Turns m 16 (addressBit q writing reading net port) out₀ out t at
 
 abbrev μ-loop : tie.MeasureT-loop
 μ-loop out₀ j i net port q writing reading m at₀ t₀ out at t = m - t
@@ -30,10 +26,7 @@ frame-base-requires-2 : tie.Need-frame-base-requires-2 Inv-loop μ-loop
 frame-base-requires-2 c κs = let is = c .before .before .pre .0 in (is .fits .limits .sizes, omega arith)
 
 loop-holds : tie.Need-loop-holds Inv-loop μ-loop
-unfolding written addressBitClauses bitClauses
-loop-holds c =
-    let a = c .before .before .before .args in
-    turns-start-as _ _ (λ t. written (addressBitClauses (ofPair (a .t2) (a .t3) (a .j) (a .i)) t)) _ (λ t. refl) (rw written-gather at (c .before .before .before .pre .1))
+loop-holds c = turns-start _ _ _ _ (c .before .before .before .pre .1)
 
 cast-x : tie.Need-cast-x Inv-loop μ-loop
 cast-x c = search needs
@@ -84,7 +77,7 @@ put-address-bit-requires c κs =
 add-at : tie.Need-add-at Inv-loop μ-loop
 unfolding codeOf netOf portOf
 add-at c =
-    let count = turns-count (c .before .before .before .before .before .before .loop .inv) (c .before .before .before .before .before .loop-test .taken) (c .before .put-address-bit .ensures .counted) in
+    let count = turns-count (c .before .before .before .before .before .before .loop .inv) (c .before .before .before .before .before .loop-test .taken) (c .before .put-address-bit .ensures .1) in
     search needs
 
 add-t : tie.Need-add-t Inv-loop μ-loop

@@ -10,7 +10,7 @@ use Rattle.group_pair_address.proofs.put_unequal_bits.Statement.{statem
 use Rattle.group_pair_address.proofs.put_unequal_bits.Tie as tie
 
 abbrev Inv-loop : tie.InvT-loop
-Inv-loop out₀ j i q m at₀ t₀ out at t = Turns m (unequalBit q) out₀ out t at
+Inv-loop out₀ j i q m at₀ t₀ out at t = Turns m 1 (unequalBit q) out₀ out t at
 
 abbrev μ-loop : tie.MeasureT-loop
 μ-loop out₀ j i q m at₀ t₀ out at t = m - t
@@ -19,8 +19,7 @@ pair-base-requires : tie.Need-pair-base-requires Inv-loop μ-loop
 pair-base-requires c κs = let is = c .pre .0 in (is .fits, omega arith, omega arith)
 
 loop-holds : tie.Need-loop-holds Inv-loop μ-loop
-loop-holds c =
-    turns-start _ _ _ (rw (unequal-bits (c .before .args .net) (c .before .args .port) (c .before .args .j) (c .before .args .i) _ _ (c .pair-base .ensures)) at (c .before .pre .1))
+loop-holds c = turns-start _ _ _ _ (omega arith)
 
 add-in-pair : tie.Need-add-in-pair Inv-loop μ-loop
 unfolding netOf
@@ -53,8 +52,7 @@ put-literal-requires c κs =
 
 add-at : tie.Need-add-at Inv-loop μ-loop
 add-at c =
-    let wrote = rw (c .before .before .negated .ensures .0, c .before .before .before .before .in-pair .ensures .0) at (c .before .put-literal .ensures) in
-    let count = turns-count (c .before .before .before .before .before .before .loop .inv) (c .before .before .before .before .before .loop-test .taken) (wrote .counted) in
+    let count = turns-count (c .before .before .before .before .before .before .loop .inv) (c .before .before .before .before .before .loop-test .taken) (c .before .put-literal .ensures .1) in
     search needs
 
 add-t : tie.Need-add-t Inv-loop μ-loop
@@ -72,7 +70,8 @@ same-length c = search needs
 
 returns : tie.Need-returns Inv-loop μ-loop
 returns c =
-    rw (unequal-bits (c .before .before .before .args .net) (c .before .before .before .args .port) (c .before .before .before .args .j) (c .before .before .before .args .i) _ _ (c .before .before .pair-base .ensures)) (turns-end (c .before .loop .inv) (omega arith))
+    let all = turns-end (c .before .loop .inv) (omega arith) in
+    (rw (unequal-bits (c .before .before .before .args .net) (c .before .before .before .args .port) (c .before .before .before .args .j) (c .before .before .before .args .i) _ _ (c .before .before .pair-base .ensures)) (all .0), omega arith)
 
 pub put-unequal-bits-spec : {M : Type 1} → statement M
 put-unequal-bits-spec =

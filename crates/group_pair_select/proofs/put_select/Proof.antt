@@ -2,14 +2,11 @@
 use mathlib.Core.Path.{_∙_}
 use native.Mathlib.Omega.{arith}
 use borrow.Author.Needs.{needs}
-use Rattle.model.specs.Clauses.{andClauses}
-use Rattle.model.specs.Numbers.{written}
 use Rattle.model.specs.Variables.{pairLiterals}
 use Rattle.netlist.specs.NetOf.{netOf, alone}
 use Rattle.clause_variables.specs.PortOf.{portOf}
 use Rattle.clause_variables.specs.OfPair.{ofPair}
 use Rattle.clause_variables.proofs.Room.{code-has-number, pair-has-number, behind-bits}
-use Rattle.group_pair_select.specs.SelectClauses.{pairSelectClauses, selectClauses}
 use Rattle.group_pair_select.proofs.PairGates.{pair-gates}
 use Rattle.group_pair_select.proofs.put_select.Statement.{statement}
 use Rattle.group_pair_select.proofs.put_select.Tie as tie
@@ -54,7 +51,6 @@ none-since-requires-2 : tie.Need-none-since-requires-2
 none-since-requires-2 c κs = let is = c .before .before .before .before .before .before .before .before .pre .0 in (is .fits, omega arith, omega arith)
 
 put-select-gates-requires : tie.Need-put-select-gates-requires
-unfolding written andClauses selectClauses pairSelectClauses
 put-select-gates-requires c κs = search needs
 
 same-length : tie.Need-same-length

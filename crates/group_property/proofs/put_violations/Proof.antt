@@ -1,21 +1,17 @@
 -- `group_property::put_violations` meets its contract. The loop has written the frames passed.
 use Prim.Native.Nat.{_+_, _-_}
-use mathlib.Core.Path.{refl}
-use mathlib.Core.List.{map}
 use native.Mathlib.Omega.{arith}
 use borrow.Author.Needs.{needs}
 use Rattle.model.specs.Variables.{base}
-use Rattle.model.specs.Groups.{violationOf}
-use Rattle.model.specs.Numbers.{numberOf}
-use Rattle.netlist.specs.NetOf.{netOf, alone}
+use Rattle.netlist.specs.NetOf.{netOf}
 use Rattle.clause_variables.proofs.Room.{code-has-number}
-use Rattle.clause_writer.proofs.Turns.{Turns, numbers-gather, turns-start-as, turns-room, turns-count, turns-next, turns-end}
+use Rattle.clause_writer.proofs.Turns.{Turns, turns-start, turns-room, turns-count, turns-next, turns-end}
 use Rattle.group_property.proofs.Violations.{violation, violations}
 use Rattle.group_property.proofs.put_violations.Statement.{statement}
 use Rattle.group_property.proofs.put_violations.Tie as tie
 
 abbrev Inv-loop : tie.InvT-loop
-Inv-loop out₀ k numbering p at₀ i₀ out at i = Turns (k + 1) (violation numbering p) out₀ out i at
+Inv-loop out₀ k numbering p at₀ i₀ out at i = Turns (k + 1) 1 (violation numbering p) out₀ out i at
 
 abbrev μ-loop : tie.MeasureT-loop
 μ-loop out₀ k numbering p at₀ i₀ out at i = k + 1 - i
@@ -24,10 +20,7 @@ numbering-requires : tie.Need-numbering-requires Inv-loop μ-loop
 numbering-requires c κs = c .pre .0 .limits .sizes
 
 loop-holds : tie.Need-loop-holds Inv-loop μ-loop
-unfolding violationOf
-loop-holds c =
-    let a = c .before .before .args in
-    turns-start-as _ _ (λ i. map numberOf (violationOf (alone (a .net)) i)) _ (λ i. refl) (rw numbers-gather at (c .before .before .pre .1))
+loop-holds c = turns-start _ _ _ _ (omega arith)
 
 add-loop : tie.Need-add-loop Inv-loop μ-loop
 add-loop c = search needs
@@ -63,7 +56,7 @@ put-literal-requires c κs =
 
 add-at : tie.Need-add-at Inv-loop μ-loop
 add-at c =
-    let count = turns-count (c .before .before .before .before .before .before .before .loop .inv) (c .before .before .before .before .before .before .loop-test .taken) (c .before .put-literal .ensures .counted) in
+    let count = turns-count (c .before .before .before .before .before .before .before .loop .inv) (c .before .before .before .before .before .before .loop-test .taken) (c .before .put-literal .ensures .1) in
     search needs
 
 add-i : tie.Need-add-i Inv-loop μ-loop
@@ -82,7 +75,8 @@ same-length c = search needs
 returns : tie.Need-returns Inv-loop μ-loop
 returns c =
     let a = c .before .before .before .before .args in
-    rw (violations (a .net) _ _ (c .before .before .before .numbering .ensures)) (turns-end (c .before .loop .inv) (omega arith))
+    let all = turns-end (c .before .loop .inv) (omega arith) in
+    (rw (violations (a .net) _ _ (c .before .before .before .numbering .ensures)) (all .0), omega arith)
 
 pub put-violations-spec : {M : Type 1} → statement M
 put-violations-spec =

@@ -1,7 +1,5 @@
 -- `group_wires::put_gate` meets its contract.
 use borrow.Author.Needs.{needs}
-use Rattle.model.specs.Clauses.{andClauses}
-use Rattle.model.specs.Numbers.{written}
 use Rattle.group_wires.proofs.put_gate.Statement.{statement}
 use Rattle.group_wires.proofs.put_gate.Tie as tie
 
@@ -15,7 +13,6 @@ in-frame-requires-3 : tie.Need-in-frame-requires-3
 in-frame-requires-3 c κs = search needs
 
 put-and-requires : tie.Need-put-and-requires
-unfolding written andClauses
 put-and-requires c κs = search needs
 
 same-length : tie.Need-same-length

@@ -1,22 +1,18 @@
 -- `group_wires::put_gates` meets its contract. The loop has written the gates passed.
 use Prim.Native.Nat.{_-_}
-use mathlib.Core.Path.{refl}
 use mathlib.Core.List.{[]}
 use native.Mathlib.Omega.{arith}
 use borrow.Author.Needs.{needs}
-use Rattle.model.specs.Clauses.{andClauses}
-use Rattle.model.specs.Groups.{gateClauses}
-use Rattle.model.specs.Numbers.{written}
 use Rattle.netlist.specs.NetOf.{netOf}
 use Rattle.netlist.proofs.NetOf.{sizes-lists}
 use Rattle.clause_variables.proofs.Room.{wire-has-number, code-has-number}
-use Rattle.clause_writer.proofs.Turns.{Turns, written-gather, turns-start-as, turns-room, turns-count, turns-next, turns-end}
+use Rattle.clause_writer.proofs.Turns.{Turns, turns-start, turns-room, turns-count, turns-next, turns-end}
 use Rattle.group_wires.proofs.WiresOf.{gateAt, all-gates}
 use Rattle.group_wires.proofs.put_gates.Statement.{statement}
 use Rattle.group_wires.proofs.put_gates.Tie as tie
 
 abbrev Inv-loop : tie.InvT-loop
-Inv-loop out₀ gates i b first n at₀ g₀ out at g = Turns n (gateAt b first gates) out₀ out g at
+Inv-loop out₀ gates i b first n at₀ g₀ out at g = Turns n 10 (gateAt b (first .0) gates) out₀ out g at
 
 abbrev μ-loop : tie.MeasureT-loop
 μ-loop out₀ gates i b first n at₀ g₀ out at g = n - g
@@ -29,10 +25,7 @@ first-gate-wire-requires : tie.Need-first-gate-wire-requires Inv-loop μ-loop
 first-gate-wire-requires c κs = sizes-lists (c .before .args .net) [] (c .before .args .gates .now) [] [] (c .before .pre .0 .limits .sizes)
 
 loop-holds : tie.Need-loop-holds Inv-loop μ-loop
-unfolding written gateClauses andClauses
-loop-holds c =
-    let a = c .before .before .args in
-    turns-start-as _ _ (λ g. written (gateClauses (netOf (a .net) [] (a .gates .now)) (a .i) g)) _ (λ g. refl) (rw written-gather at (c .before .before .pre .1))
+loop-holds c = turns-start _ _ _ _ (c .before .before .pre .1)
 
 mul-t13 : tie.Need-mul-t13 Inv-loop μ-loop
 unfolding netOf
@@ -82,25 +75,25 @@ part-put-gate-start c = search needs
 part-put-gate-end : tie.Need-part-put-gate-end Inv-loop μ-loop
 part-put-gate-end c = search needs
 
-add-t13 : tie.Need-add-t13 Inv-loop μ-loop
+offset-requires : tie.Need-offset-requires Inv-loop μ-loop
 unfolding netOf
-add-t13 c = search needs
+offset-requires c κs = search needs
 
 put-gate-requires : tie.Need-put-gate-requires Inv-loop μ-loop
 unfolding netOf
 put-gate-requires c κs =
-    let sizes = sizes-lists (c .before .before .before .before .before .before .before .args .net) [] (c .before .before .before .before .before .before .before .args .gates .now) [] [] (c .before .before .before .before .before .before .before .pre .0 .limits .sizes) in
-    let codes = c .before .before .before .before .before .before .before .pre .0 .limits .codes in (
-      rw (c .before .before .before .before .before .before .frame-base .ensures) (wire-has-number _ sizes _ _ (omega arith) (omega arith)),
+    let sizes = sizes-lists (c .before .before .before .before .before .before .before .before .args .net) [] (c .before .before .before .before .before .before .before .before .args .gates .now) [] [] (c .before .before .before .before .before .before .before .before .pre .0 .limits .sizes) in
+    let codes = c .before .before .before .before .before .before .before .before .pre .0 .limits .codes in (
+      rw (c .before .before .before .before .before .before .before .frame-base .ensures) (wire-has-number _ sizes _ _ (omega arith) (omega arith)),
       omega arith,
-      rw (c .before .before .before .before .before .before .frame-base .ensures) (code-has-number _ sizes _ _ (omega arith) (omega (arith, codes .left-fits (c .before .before .before .before .loop .g) (omega arith)))),
-      rw (c .before .before .before .before .before .before .frame-base .ensures) (code-has-number _ sizes _ _ (omega arith) (omega (arith, codes .right-fits (c .before .before .before .before .loop .g) (omega arith)))),
-      turns-room (c .before .before .before .before .loop .inv) (omega arith),
+      rw (c .before .before .before .before .before .before .before .frame-base .ensures) (code-has-number _ sizes _ _ (omega arith) (omega (arith, codes .left-fits (c .before .before .before .before .before .loop .g) (omega arith)))),
+      rw (c .before .before .before .before .before .before .before .frame-base .ensures) (code-has-number _ sizes _ _ (omega arith) (omega (arith, codes .right-fits (c .before .before .before .before .before .loop .g) (omega arith)))),
+      turns-room (c .before .before .before .before .before .loop .inv) (omega arith),
     )
 
 add-at : tie.Need-add-at Inv-loop μ-loop
 add-at c =
-    let count = turns-count (c .before .before .before .before .before .before .loop .inv) (omega arith) (c .before .put-gate .ensures .counted) in
+    let count = turns-count (c .before .before .before .before .before .before .before .loop .inv) (omega arith) (c .before .put-gate .ensures .1) in
     search needs
 
 add-g : tie.Need-add-g Inv-loop μ-loop
@@ -111,7 +104,7 @@ loop-less c = search needs
 
 loop-again : tie.Need-loop-again Inv-loop μ-loop
 loop-again c =
-    turns-next (c .before .before .before .before .before .before .loop .inv) (omega arith) (c .before .put-gate .ensures)
+    turns-next (c .before .before .before .before .before .before .before .loop .inv) (omega arith) (rw (c .before .before .offset .ensures) at (c .before .put-gate .ensures))
 
 same-length : tie.Need-same-length Inv-loop μ-loop
 same-length c = search needs
@@ -142,7 +135,7 @@ put-gates-spec =
     sub-put-gate
     part-put-gate-start
     part-put-gate-end
-    add-t13
+    offset-requires
     put-gate-requires
     add-at
     add-g

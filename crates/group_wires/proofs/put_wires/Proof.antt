@@ -1,40 +1,25 @@
 -- `group_wires::put_wires` meets its contract: the latches, then the gates.
-use native.Mathlib.Omega.{arith}
 use borrow.Author.Needs.{needs}
 use Rattle.netlist.proofs.NetOf.{limits-without-latches, limits-without-gates}
-use Rattle.clause_writer.proofs.Wrote.{rest-within, rest-room, wrote-then}
-use Rattle.group_wires.proofs.WiresOf.{wires-parts, wires-room}
+use Rattle.clause_writer.proofs.Wrote.{wrote-then}
+use Rattle.group_wires.proofs.WiresOf.{wires-parts}
 use Rattle.group_wires.proofs.put_wires.Statement.{statement}
 use Rattle.group_wires.proofs.put_wires.Tie as tie
 
 put-state-requires : tie.Need-put-state-requires
 put-state-requires c κs =
     let a = c .before .args in
-    let room = wires-room (a .net) (a .latches .now) (a .gates .now) (a .i) (a .i) in
     let is = c .before .pre .0 in
-    let ls = a .latches .now in
-    let gs = a .gates .now in
-    (record { limits = limits-without-gates (a .net) ls gs (is .limits); depth = is .depth }, omega arith)
+    (record { limits = limits-without-gates (a .net) (a .latches .now) (a .gates .now) (is .limits); depth = is .depth }, search needs)
 
 mul-put-gates : tie.Need-mul-put-gates
-mul-put-gates c =
-    let a = c .before .before .before .args in
-    let room = wires-room (a .net) (a .latches .now) (a .gates .now) (a .i) (a .i) in
-    let within = rest-within (c .before .put-state .ensures) (omega arith) in
-    search needs
+mul-put-gates c = search needs
 
 sub-put-gates : tie.Need-sub-put-gates
-sub-put-gates c =
-    let a = c .before .before .before .args in
-    let room = wires-room (a .net) (a .latches .now) (a .gates .now) (a .i) (a .i) in
-    rest-within (c .before .put-state .ensures) (omega arith)
+sub-put-gates c = search needs
 
 part-put-gates-start : tie.Need-part-put-gates-start
-part-put-gates-start c =
-    let a = c .before .before .before .args in
-    let room = wires-room (a .net) (a .latches .now) (a .gates .now) (a .i) (a .i) in
-    let within = rest-within (c .before .put-state .ensures) (omega arith) in
-    search needs
+part-put-gates-start c = search needs
 
 part-put-gates-end : tie.Need-part-put-gates-end
 part-put-gates-end c = search needs
@@ -42,17 +27,11 @@ part-put-gates-end c = search needs
 put-gates-requires : tie.Need-put-gates-requires
 put-gates-requires c κs =
     let a = c .before .before .before .before .args in
-    let room = wires-room (a .net) (a .latches .now) (a .gates .now) (a .i) (a .i) in
     let is = c .before .before .before .before .pre .0 in
-    let ls = a .latches .now in
-    let gs = a .gates .now in
-    (record { limits = limits-without-latches (a .net) ls gs (is .limits); depth = is .depth }, rest-room (c .before .before .put-state .ensures) (omega arith))
+    (record { limits = limits-without-latches (a .net) (a .latches .now) (a .gates .now) (is .limits); depth = is .depth }, search needs)
 
 add-result : tie.Need-add-result
-add-result c =
-    let a = c .before .before .before .before .before .before .args in
-    let room = wires-room (a .net) (a .latches .now) (a .gates .now) (a .i) (a .i) in
-    omega arith
+add-result c = search needs
 
 same-length : tie.Need-same-length
 same-length c = search needs
@@ -60,8 +39,7 @@ same-length c = search needs
 returns : tie.Need-returns
 returns c =
     let a = c .before .before .before .before .before .before .args in
-    rw (wires-parts (a .net) (a .latches .now) (a .gates .now) (a .i) (a .i))
-    (wrote-then (c .before .before .before .before .put-state .ensures) (c .before .put-gates .ensures))
+    (rw (wires-parts (a .net) (a .latches .now) (a .gates .now) (a .i) (a .i)) (wrote-then (c .before .before .before .before .put-state .ensures .0) (c .before .put-gates .ensures .0)), search needs)
 
 pub put-wires-spec : {M : Type 1} → statement M
 put-wires-spec =

@@ -1,7 +1,7 @@
 -- `groups::put_group` meets its contract: each arm writes the group of its kind.
 use mathlib.Core.Path.{refl}
 use native.Mathlib.Omega.{arith}
-use Rattle.groups.proofs.Alone.{fits-alone, pair-alone, closing-alone, property-alone, pair-room, property-room, wires-depth, room-by-kind, wrote-by-kind, wires-frame, pair-frames, closing-frame}
+use Rattle.groups.proofs.Alone.{fits-alone, pair-alone, closing-alone, property-alone, wires-count, pair-count, closing-count, property-count, wires-depth, wrote-by-kind, wires-frame, pair-frames, closing-frame}
 use borrow.Author.Needs.{needs}
 use Rattle.groups.proofs.put_group.Statement.{statement}
 use Rattle.groups.proofs.put_group.Tie as tie
@@ -14,7 +14,7 @@ put-wires-requires c κs =
     let p = c .before .before .before .before .pre in
     let e = c .before .before .group .given .1 in (
       record { limits = p .0 .limits; depth = omega (arith, wires-frame _ _ e (p .2), p .1) },
-      room-by-kind _ _ e (wires-depth _ _ _) (p .3),
+      rw (wires-count _ _ _ _ _ e) at (p .3),
     )
 
 enum-known-group-2 : tie.Need-enum-known-group-2
@@ -29,7 +29,7 @@ put-pair-requires c κs =
     let e = c .before .before .before .group2 .given .1 in
     let f = pair-frames _ _ _ e (p .2) in (
       record { fits = fits-alone _ _ _ (p .0) _ (c .port-of .ensures); earlier = omega arith; depth = omega arith },
-      pair-room _ _ _ _ (p .3) e _,
+      rw (pair-count _ _ _ _ e) at (p .3),
     )
 
 enum-known-group-3 : tie.Need-enum-known-group-3
@@ -43,7 +43,7 @@ put-closing-requires c κs =
     let p = c .before .before .before .before .before .pre in
     let e = c .before .before .before .group3 .given .1 in (
       record { fits = fits-alone _ _ _ (p .0) _ (c .port-of2 .ensures); depth = omega (arith, closing-frame _ _ e (p .2), p .1) },
-      room-by-kind _ _ e (closing-alone _ _ _ _ (c .port-of2 .ensures) _ _) (p .3),
+      rw (closing-count _ _ _ _ e) at (p .3),
     )
 
 enum-told : tie.Need-enum-told
@@ -52,38 +52,41 @@ enum-told c = search needs
 put-property-requires : tie.Need-put-property-requires
 put-property-requires c κs =
     let p = c .before .before .before .pre in
-    let f = fits-alone _ _ _ (p .0) _ refl in (
-      record { limits = f .limits; depth = omega arith },
-      property-room _ _ _ _ (p .3) (c .before .enum-told .given .1) _ (omega arith),
-    )
+    let f = fits-alone _ _ _ (p .0) _ refl in
+    let room = rw (property-count _ _ _ _ (c .before .enum-told .given .1)) at (p .3) in
+    (record { limits = f .limits; depth = omega arith }, omega arith)
 
 same-length : tie.Need-same-length
 same-length c = search needs
 
 returns : tie.Need-returns
 returns c =
-    wrote-by-kind _ _ (c .before .before .before .before .group .given .1) (wires-depth _ _ _) (c .before .put-wires .ensures)
+    let e = c .before .before .before .before .group .given .1 in
+    (wrote-by-kind _ _ e (wires-depth _ _ _) (c .before .put-wires .ensures .0), rw (wires-count _ _ _ _ _ e) (c .before .put-wires .ensures .1))
 
 same-length-2 : tie.Need-same-length-2
 same-length-2 c = search needs
 
 returns-2 : tie.Need-returns-2
 returns-2 c =
-    wrote-by-kind _ _ (c .before .before .before .before .before .group2 .given .1) (pair-alone _ _ _ _ (c .before .before .port-of .ensures) _ _ _) (c .before .put-pair .ensures)
+    let e = c .before .before .before .before .before .group2 .given .1 in
+    (wrote-by-kind _ _ e (pair-alone _ _ _ _ (c .before .before .port-of .ensures) _ _ _) (c .before .put-pair .ensures .0), rw (pair-count _ _ _ _ e) (c .before .put-pair .ensures .1))
 
 same-length-3 : tie.Need-same-length-3
 same-length-3 c = search needs
 
 returns-3 : tie.Need-returns-3
 returns-3 c =
-    wrote-by-kind _ _ (c .before .before .before .before .before .group3 .given .1) (closing-alone _ _ _ _ (c .before .before .port-of2 .ensures) _ _) (c .before .put-closing .ensures)
+    let e = c .before .before .before .before .before .group3 .given .1 in
+    (wrote-by-kind _ _ e (closing-alone _ _ _ _ (c .before .before .port-of2 .ensures) _ _) (c .before .put-closing .ensures .0), rw (closing-count _ _ _ _ e) (c .before .put-closing .ensures .1))
 
 same-length-4 : tie.Need-same-length-4
 same-length-4 c = search needs
 
 returns-4 : tie.Need-returns-4
 returns-4 c =
-    wrote-by-kind _ _ (c .before .before .before .enum-told .given .1) (property-alone _ _ _ _) (c .before .put-property .ensures)
+    let e = c .before .before .before .enum-told .given .1 in
+    (wrote-by-kind _ _ e (property-alone _ _ _ _) (c .before .put-property .ensures .0), rw (property-count _ _ _ _ e) (c .before .put-property .ensures .1))
 
 pub put-group-spec : {M : Type 1} → statement M
 put-group-spec =

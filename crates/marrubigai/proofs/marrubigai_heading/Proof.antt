@@ -43,6 +43,7 @@ use Rattle.call_lists.proofs.Latch as L
 use Rattle.call_lists.proofs.Gate as G
 use Rattle.walks.proofs.Walk.{calls-told, _&_, cell, frees-all, meets-of}
 use Rattle.call_unpacked.specs.Calls.{headingReply}
+use Rattle.model.specs.Acceptance.{PathTheorem}
 use Rattle.calls.specs.Starred.{Starred}
 use Rattle.call_unpacked.specs.declared.HeadingAnswer.{HeadingAnswer}
 use Rattle.call_unpacked.proofs.HeadingAnswer as Answer
@@ -101,7 +102,7 @@ module _ {M : Type 1} (𝓤 : URA M) (H : Heap 𝓤) (A : Atoms 𝓤) (W : Given
 
     -- what else `calls::heading` says, which is of no answer
     abbrev Claimed : SProp 𝓤
-    Claimed = sep 𝓤 (fact 𝓤 (Claim net (ls .now) (gs .now) k)) (fact 𝓤 Starred)
+    Claimed = sep 𝓤 (fact 𝓤 (Claim net (ls .now) (gs .now) k)) (sep 𝓤 (fact 𝓤 PathTheorem) (fact 𝓤 Starred))
 
     abbrev Post : Val → SProp 𝓤
     Post = walkOf 𝓤 H A f.ended stayed (f.clauses 𝓤 H A mem run) .post (((κ₀, (κ₁, tt)), (q₀, (q₁, tt)), tt, a, vals), tt)

@@ -36,7 +36,8 @@ use denote.Triple.Walked.{says, Stays, stay-none-slice, gave-slice, onExit, walk
 use denote.Exit.{yes}
 use denote.Triple.Clauses.{Lasts, lasts}
 use Rattle.walks.proofs.Walk.{_&_, cell, frees-all}
-use Rattle.refusals.specs.declared.Verdict.the-variants.{Passed}
+use Rattle.model.specs.Acceptance.{PathTheorem}
+use Rattle.refusals.specs.Refusal.{replyOf}
 use Rattle.sheet_steps.specs.declared.SheetAnswer.{SheetAnswer}
 use Rattle.sheet_steps.proofs.SheetAnswer as S
 use Rattle.sheet_steps.proofs.SheetAnswer.Laws as S′
@@ -44,7 +45,7 @@ use Rattle.call_lists.specs.declared.Latch.{Latch}
 use Rattle.call_lists.specs.declared.Gate.{Gate}
 use Rattle.call_lists.proofs.Latch as La
 use Rattle.call_lists.proofs.Gate as Ga
-use Rattle.sheet_reader.specs.ReadCall.{readVerdict, readRecord, latchesLeft, gatesLeft, SheetDelivered}
+use Rattle.sheet_reader.specs.ReadCall.{readVerdict, readRecord, latchesAfter, gatesAfter, SheetDelivered}
 use Rattle.sheet_reader.proofs.ReadCall.{Reads}
 use Rattle.sheet_reader.proofs.Facts.{Facts, gathered, spread}
 use Rattle.sheet_reader.proofs.read as read
@@ -149,17 +150,17 @@ module _ {M : Type 1} (𝓤 : URA M) (H : Heap 𝓤) (A : Atoms 𝓤) (W : Given
     -- its promises, side by side
     abbrev Promises : Answer → SProp 𝓤
     Promises o =
-        Facts 𝓤 (o .0 .verdict ≡ readVerdict (now file) (now x) (now y))
-        ((o .0 .net ≡ readRecord (now file) (now x) (now y)) ∷ (o .1 .0 ≡ latchesLeft (now file) (now x) (now y))
-        ∷ (o .1 .1 ≡ gatesLeft (now file) (now x) (now y))
-        ∷ (o .0 .verdict ≡ Passed → SheetDelivered (now file) (o .0 .net) (o .1 .0) (o .1 .1)) ∷ [])
+        Facts 𝓤 (replyOf (o .0 .verdict) ≡ replyOf (readVerdict (now file) (now x) (now y)))
+        ((o .0 .net ≡ readRecord (now file) (now x) (now y)) ∷ (o .1 .0 ≡ latchesAfter (now file) (now x) (now y))
+        ∷ (o .1 .1 ≡ gatesAfter (now file) (now x) (now y))
+        ∷ (replyOf (o .0 .verdict) .number ≡ 0 → SheetDelivered (now file) (o .0 .net) (o .1 .0) (o .1 .1)) ∷ PathTheorem ∷ [])
 
     says-all : (o : Answer) → ent 𝓤 (Promises o) (fact 𝓤 (Says o))
     says-all o =
-        gathered 𝓤 (o .0 .verdict ≡ readVerdict (now file) (now x) (now y))
-        ((o .0 .net ≡ readRecord (now file) (now x) (now y)) ∷ (o .1 .0 ≡ latchesLeft (now file) (now x) (now y))
-        ∷ (o .1 .1 ≡ gatesLeft (now file) (now x) (now y))
-        ∷ (o .0 .verdict ≡ Passed → SheetDelivered (now file) (o .0 .net) (o .1 .0) (o .1 .1)) ∷ [])
+        gathered 𝓤 (replyOf (o .0 .verdict) ≡ replyOf (readVerdict (now file) (now x) (now y)))
+        ((o .0 .net ≡ readRecord (now file) (now x) (now y)) ∷ (o .1 .0 ≡ latchesAfter (now file) (now x) (now y))
+        ∷ (o .1 .1 ≡ gatesAfter (now file) (now x) (now y))
+        ∷ (replyOf (o .0 .verdict) .number ≡ 0 → SheetDelivered (now file) (o .0 .net) (o .1 .0) (o .1 .1)) ∷ PathTheorem ∷ [])
 
     read-gives : (u : Val) → ent 𝓤 (Read 𝓤 H A mem run .post to-read u)
         (H .⇛ (ex 𝓤 (λ (o : Answer). guard 𝓤 (Says o ×
@@ -193,7 +194,7 @@ module _ {M : Type 1} (𝓤 : URA M) (H : Heap 𝓤) (A : Atoms 𝓤) (W : Given
         (tt, (o .1 .0, (o .1 .1, tt))) (tt, (latches-long, (gates-long, tt)))) $
         suffices ! _ (spread 𝓤 H A W (onExit 𝓤 H A export.ended stayed κs qs at v sent a (tt, (o .1 .0, (o .1 .1, tt))))
         (sent ≡ sheetNumbers (readVerdict (now file) (now x) (now y)) (readRecord (now file) (now x) (now y)))
-        ((o .1 .0 ≡ latchesLeft (now file) (now x) (now y)) ∷ (o .1 .1 ≡ gatesLeft (now file) (now x) (now y))
+        ((o .1 .0 ≡ latchesAfter (now file) (now x) (now y)) ∷ (o .1 .1 ≡ gatesAfter (now file) (now x) (now y))
         ∷ (sent .number ≡ 0 → SheetDelivered (now file) (sent .net) (o .1 .0) (o .1 .1)) ∷ [])) $
         says ! (replies (now file) (now x) (now y) (o .0) (o .1 .0) (o .1 .1) e) $
         move ! (3 ∷ []) $ frame ! $ nothing ! $ move ! (3 ∷ 0 ∷ []) $ fjoin ! $ move ! (2 ∷ 0 ∷ []) $ fjoin ! $

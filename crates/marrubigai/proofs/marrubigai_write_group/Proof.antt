@@ -51,7 +51,7 @@ use Rattle.call_unpacked.specs.Calls.{groupReply}
 use Rattle.call_unpacked.specs.declared.GroupAnswer.{GroupAnswer}
 use Rattle.call_unpacked.proofs.GroupAnswer as Answer
 use Rattle.call_unpacked.proofs.GroupAnswer.Laws as Answer′
-use Rattle.calls.specs.LentCalls.{groupFor, numbersLeft}
+use Rattle.calls.specs.LentCalls.{groupFor, numbersAfter}
 use Rattle.calls.proofs.write_group as inner
 use Rattle.calls.proofs.write_group.Symbol as inner-def
 use Rattle.calls.proofs.write_group.Symbol.{name as #inner}
@@ -152,7 +152,7 @@ module _ {M : Type 1} (𝓤 : URA M) (H : Heap 𝓤) (A : Atoms 𝓤) (W : Given
         (length (out .now))
 
     abbrev Leaves : List ℤ → Type 0
-    Leaves zs = zs ≡ numbersLeft net (ls .now) (gs .now) k g (out .now)
+    Leaves zs = zs ≡ numbersAfter net (ls .now) (gs .now) k g (out .now)
 
     abbrev Post : Val → SProp 𝓤
     Post = walkOf 𝓤 H A f.ended stayed (f.clauses 𝓤 H A mem run) .post

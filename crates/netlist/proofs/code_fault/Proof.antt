@@ -1,5 +1,4 @@
 -- `netlist::code_fault` meets its contract: each arm knows its line, whose number is below its size.
-use Prim.Native.Nat.{_+_}
 use mathlib.Core.Path.{_≡_, subst}
 use borrow.Author.Needs.{needs}
 use native.Mathlib.Omega.{arith}
@@ -58,15 +57,15 @@ mul-at-2 c = search needs
 first-gate-wire-requires : tie.Need-first-gate-wire-requires
 first-gate-wire-requires c κs = c .before .before .before .before .pre .0
 
-add-gate-fault : tie.Need-add-gate-fault
+offset-requires : tie.Need-offset-requires
 unfolding netOf
-add-gate-fault c = omega (arith, c .first-gate-wire .ensures, subst (HasLine (alone (c .before .before .before .before .before .args .t1))) (c .before .before .line2 .given .1) (c .before .before .before .before .before .pre .1), c .before .before .before .before .before .pre .0)
+offset-requires c κs = omega (arith, c .first-gate-wire .ensures, subst (HasLine (alone (c .before .before .before .before .before .args .t1))) (c .before .before .line2 .given .1) (c .before .before .before .before .before .pre .1), c .before .before .before .before .before .pre .0)
 
 mul-t27 : tie.Need-mul-t27
 mul-t27 c = search needs
 
 element-copy-out-t33 : tie.Need-element-copy-out-t33
-element-copy-out-t33 c = omega (arith, subst (HasLine (alone (c .before .before .before .before .before .args .t1))) (c .before .before .line2 .given .1) (c .before .before .before .before .before .pre .1), c .before .before .before .before .before .pre .0 .gates-fit)
+element-copy-out-t33 c = omega (arith, subst (HasLine (alone (c .before .before .before .before .before .before .args .t1))) (c .before .before .before .line2 .given .1) (c .before .before .before .before .before .before .pre .1), c .before .before .before .before .before .before .pre .0 .gates-fit)
 
 add-t35 : tie.Need-add-t35
 add-t35 c = search needs
@@ -75,7 +74,7 @@ mul-t36 : tie.Need-mul-t36
 mul-t36 c = search needs
 
 element-copy-out-t39 : tie.Need-element-copy-out-t39
-element-copy-out-t39 c = omega (arith, subst (HasLine (alone (c .before .before .before .before .before .before .args .t1))) (c .before .before .before .line2 .given .1) (c .before .before .before .before .before .before .pre .1), c .before .before .before .before .before .before .pre .0 .gates-fit)
+element-copy-out-t39 c = omega (arith, subst (HasLine (alone (c .before .before .before .before .before .before .before .args .t1))) (c .before .before .before .before .line2 .given .1) (c .before .before .before .before .before .before .before .pre .1), c .before .before .before .before .before .before .before .pre .0 .gates-fit)
 
 gate-fault-requires : tie.Need-gate-fault-requires
 gate-fault-requires c κs = tt
@@ -86,14 +85,14 @@ enum-known-line-3 c = c .match .keys5
 cast-at-3 : tie.Need-cast-at-3
 cast-at-3 c = search needs
 
-mul-is-code-outside : tie.Need-mul-is-code-outside
-mul-is-code-outside c = search needs
+mul-is-above : tie.Need-mul-is-above
+mul-is-above c = search needs
 
-element-copy-out-is-code-outside : tie.Need-element-copy-out-is-code-outside
-element-copy-out-is-code-outside c = omega (arith, subst (HasLine (alone (c .before .before .before .before .args .t1))) (c .before .line3 .given .1) (c .before .before .before .before .pre .1), c .before .before .before .before .pre .0 .m-most)
+element-copy-out-is-above : tie.Need-element-copy-out-is-above
+element-copy-out-is-above c = omega (arith, subst (HasLine (alone (c .before .before .before .before .args .t1))) (c .before .line3 .given .1) (c .before .before .before .before .pre .1), c .before .before .before .before .pre .0 .m-most)
 
-is-code-outside-requires : tie.Need-is-code-outside-requires
-is-code-outside-requires c κs = tt
+is-above-requires : tie.Need-is-above-requires
+is-above-requires c κs = tt
 
 enum-known-line-4 : tie.Need-enum-known-line-4
 enum-known-line-4 c = c .match .keys6
@@ -101,26 +100,26 @@ enum-known-line-4 c = c .match .keys6
 cast-at-4 : tie.Need-cast-at-4
 cast-at-4 c = search needs
 
-mul-is-code-outside-2 : tie.Need-mul-is-code-outside-2
-mul-is-code-outside-2 c = search needs
+mul-is-above-2 : tie.Need-mul-is-above-2
+mul-is-above-2 c = search needs
 
-element-copy-out-is-code-outside-2 : tie.Need-element-copy-out-is-code-outside-2
-element-copy-out-is-code-outside-2 c = omega (arith, subst (HasLine (alone (c .before .before .before .before .args .t1))) (c .before .line4 .given .1) (c .before .before .before .before .pre .1), c .before .before .before .before .pre .0 .n-most)
+element-copy-out-is-above-2 : tie.Need-element-copy-out-is-above-2
+element-copy-out-is-above-2 c = omega (arith, subst (HasLine (alone (c .before .before .before .before .args .t1))) (c .before .line4 .given .1) (c .before .before .before .before .pre .1), c .before .before .before .before .pre .0 .n-most)
 
-is-code-outside-requires-2 : tie.Need-is-code-outside-requires-2
-is-code-outside-requires-2 c κs = tt
+is-above-requires-2 : tie.Need-is-above-requires-2
+is-above-requires-2 c κs = tt
 
 enum-told-3 : tie.Need-enum-told-3
 enum-told-3 c = c .match .keys7
 
-is-code-outside-requires-3 : tie.Need-is-code-outside-requires-3
-is-code-outside-requires-3 c κs = tt
+is-above-requires-3 : tie.Need-is-above-requires-3
+is-above-requires-3 c κs = tt
 
-is-code-outside-requires-4 : tie.Need-is-code-outside-requires-4
-is-code-outside-requires-4 c κs = tt
+is-above-requires-4 : tie.Need-is-above-requires-4
+is-above-requires-4 c κs = tt
 
-is-code-outside-requires-5 : tie.Need-is-code-outside-requires-5
-is-code-outside-requires-5 c κs = tt
+is-above-requires-5 : tie.Need-is-above-requires-5
+is-above-requires-5 c κs = tt
 
 returns : tie.Need-returns
 unfolding codeFault
@@ -137,21 +136,22 @@ returns-3 c = rw (c .before .before .before .before .line .given .1, c .latch-fa
 returns-4 : tie.Need-returns-4
 unfolding netOf codeFault
 returns-4 c =
-    let g = c .before .before .before .before .before .line2 .given .0 .0 in
-    let own : c .before .before .before .first-gate-wire .result + g ≡ gateWire (alone (c .before .before .before .before .before .before .before .before .args .t1)) g = omega (arith, c .before .before .before .first-gate-wire .ensures) in
-    rw (c .before .before .before .before .before .line2 .given .1, c .gate-fault .ensures, own)
+    let d = c .before .before .before .before .before .before in
+    let g = d .line2 .given .0 .0 in
+    let own : c .before .before .before .offset .result .0 ≡ gateWire (alone (d .before .before .before .args .t1)) g = omega (arith, c .before .before .before .offset .ensures, c .before .before .before .before .first-gate-wire .ensures) in
+    rw (d .line2 .given .1, c .gate-fault .ensures, own)
 
 returns-5 : tie.Need-returns-5
 unfolding netOf codeFault codeOf
-returns-5 c = rw (c .before .before .before .line3 .given .1, c .is-code-outside .ensures, c .before .before .before .before .before .last-wire .ensures)
+returns-5 c = rw (c .before .before .before .line3 .given .1, c .is-above .ensures, c .before .before .before .before .before .last-wire .ensures)
 
 returns-6 : tie.Need-returns-6
 unfolding netOf codeFault codeOf
-returns-6 c = rw (c .before .before .before .line4 .given .1, c .is-code-outside2 .ensures, c .before .before .before .before .before .last-wire .ensures)
+returns-6 c = rw (c .before .before .before .line4 .given .1, c .is-above2 .ensures, c .before .before .before .before .before .last-wire .ensures)
 
 returns-7 : tie.Need-returns-7
 unfolding netOf codeFault
-returns-7 c = rw (c .before .before .before .before .before .before .enum-told3 .given .1, c .before .before .before .before .is-code-outside3 .ensures, c .before .before .is-code-outside4 .ensures, c .is-code-outside5 .ensures, c .before .before .before .before .before .before .before .before .last-wire .ensures)
+returns-7 c = rw (c .before .before .before .before .before .before .enum-told3 .given .1, c .before .before .before .before .is-above3 .ensures, c .before .before .is-above4 .ensures, c .is-above5 .ensures, c .before .before .before .before .before .before .before .before .last-wire .ensures)
 
 pub code-fault-spec : {M : Type 1} → statement M
 code-fault-spec =
@@ -173,7 +173,7 @@ code-fault-spec =
     cast-at-2
     mul-at-2
     first-gate-wire-requires
-    add-gate-fault
+    offset-requires
     mul-t27
     element-copy-out-t33
     add-t35
@@ -182,18 +182,18 @@ code-fault-spec =
     gate-fault-requires
     enum-known-line-3
     cast-at-3
-    mul-is-code-outside
-    element-copy-out-is-code-outside
-    is-code-outside-requires
+    mul-is-above
+    element-copy-out-is-above
+    is-above-requires
     enum-known-line-4
     cast-at-4
-    mul-is-code-outside-2
-    element-copy-out-is-code-outside-2
-    is-code-outside-requires-2
+    mul-is-above-2
+    element-copy-out-is-above-2
+    is-above-requires-2
     enum-told-3
-    is-code-outside-requires-3
-    is-code-outside-requires-4
-    is-code-outside-requires-5
+    is-above-requires-3
+    is-above-requires-4
+    is-above-requires-5
     returns
     returns-2
     returns-3

@@ -7,13 +7,13 @@ use Rattle.netlist.proofs.first_gate_wire.Tie as tie
 first-read-wire-requires : tie.Need-first-read-wire-requires
 first-read-wire-requires c κs = c .pre
 
-add-result : tie.Need-add-result
+offset-requires : tie.Need-offset-requires
 unfolding netOf
-add-result c = omega arith
+offset-requires c κs = omega arith
 
 returns : tie.Need-returns
 unfolding netOf
 returns c = omega arith
 
 pub first-gate-wire-spec : {M : Type 1} → statement M
-first-gate-wire-spec = tie.close (tie.spec first-read-wire-requires add-result returns)
+first-gate-wire-spec = tie.close (tie.spec first-read-wire-requires offset-requires returns)

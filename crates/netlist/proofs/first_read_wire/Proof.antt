@@ -7,13 +7,13 @@ use Rattle.netlist.proofs.first_read_wire.Tie as tie
 first-latch-wire-requires : tie.Need-first-latch-wire-requires
 first-latch-wire-requires c κs = c .pre
 
-add-result : tie.Need-add-result
+offset-requires : tie.Need-offset-requires
 unfolding netOf
-add-result c = omega arith
+offset-requires c κs = omega arith
 
 returns : tie.Need-returns
 unfolding netOf
 returns c = omega arith
 
 pub first-read-wire-spec : {M : Type 1} → statement M
-first-read-wire-spec = tie.close (tie.spec first-latch-wire-requires add-result returns)
+first-read-wire-spec = tie.close (tie.spec first-latch-wire-requires offset-requires returns)

@@ -30,7 +30,7 @@ returns : tie.Need-returns
 unfolding netOf codeFault anyLatch anyGate anyInRecord anyLine
 returns c =
     let net = c .before .before .before .before .before .args .net in
-    let own : (g : ℕ) → c .before .before .before .first-gate-wire .result + g ≡ gateWire (alone net) g = λ g. omega (arith, c .before .before .before .first-gate-wire .ensures) in
+    let own : (g : ℕ) → c .before .before .before .first-gate-wire .result .0 + g ≡ gateWire (alone net) g = λ g. omega (arith, c .before .before .before .first-gate-wire .ensures) in
     rw (c .before .before .any-latch .ensures, c .before .any-gate .ensures, c .any-in-record .ensures, c .before .before .before .before .last-wire .ensures)
     (simp own)
 

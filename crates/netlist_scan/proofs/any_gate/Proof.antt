@@ -5,15 +5,15 @@ use mathlib.Core.Path.{_≡_}
 use mathlib.Core.Bool.{false}
 use native.Mathlib.Omega.{arith}
 use Rattle.netlist_scan.specs.AnyLine.{anyGate}
-use Rattle.netlist_scan.proofs.AnyLine.{any-none, any-next}
+use Rattle.model.proofs.Search.{any-none, any-next}
 use Rattle.netlist_scan.proofs.any_gate.Statement.{statement}
 use Rattle.netlist_scan.proofs.any_gate.Tie as tie
 
 abbrev Inv-loop : tie.InvT-loop
-Inv-loop first gates count any₀ own₀ g₀ any own g = (g ≤ count) × (own ≡ first + g) × (any ≡ anyGate first gates g)
+Inv-loop gates count any₀ first g₀ any own g = (g ≤ count) × (own .0 ≡ first .0 + g) × (any ≡ anyGate (first .0) gates g)
 
 abbrev μ-loop : tie.MeasureT-loop
-μ-loop first gates count any₀ own₀ g₀ any own g = count - g
+μ-loop gates count any₀ first g₀ any own g = count - g
 
 loop-holds : tie.Need-loop-holds Inv-loop μ-loop
 unfolding anyGate
@@ -43,8 +43,8 @@ element-copy-out-t18 c = omega arith
 gate-fault-requires : tie.Need-gate-fault-requires Inv-loop μ-loop
 gate-fault-requires c κs = tt
 
-add-own : tie.Need-add-own Inv-loop μ-loop
-add-own c = omega arith
+offset-requires : tie.Need-offset-requires Inv-loop μ-loop
+offset-requires c κs = omega arith
 
 add-g : tie.Need-add-g Inv-loop μ-loop
 add-g c = omega arith
@@ -54,11 +54,10 @@ loop-less c = omega arith
 
 loop-again : tie.Need-loop-again Inv-loop μ-loop
 unfolding anyGate
-loop-again c = (
+loop-again c = let turn = c .before .before .before .before .before .loop in (
   omega arith,
   omega arith,
-  rw (c .before .before .before .before .loop .inv .2, c .gate-fault .ensures, c .before .before .before .before .loop .inv .1)
-      (any-next false _ (c .before .before .before .before .loop .g)),
+  rw (turn .inv .2, c .before .gate-fault .ensures, turn .inv .1) (any-next false _ (turn .g)),
 )
 
 returns : tie.Need-returns Inv-loop μ-loop
@@ -82,7 +81,7 @@ any-gate-spec =
     mul-t15
     element-copy-out-t18
     gate-fault-requires
-    add-own
+    offset-requires
     add-g
     loop-less
     loop-again

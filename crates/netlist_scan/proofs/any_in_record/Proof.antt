@@ -5,20 +5,21 @@ use mathlib.Core.Path.{_≡_}
 use mathlib.Core.Bool.{false, _||_}
 use native.Mathlib.Omega.{arith}
 use Rattle.netlist.specs.NetOf.{codeOf, netOf}
-use Rattle.netlist.specs.Faults.{codeOutside}
-use Rattle.netlist_scan.specs.AnyLine.{anyBelow, anyInRecord}
-use Rattle.netlist_scan.proofs.AnyLine.{any-none, any-next}
+use Rattle.netlist.specs.Faults.{aboveLimit}
+use Rattle.netlist_scan.specs.AnyLine.{anyInRecord}
+use Rattle.model.specs.Search.{anyBelow}
+use Rattle.model.proofs.Search.{any-none, any-next}
 use Rattle.netlist_scan.proofs.any_in_record.Statement.{statement}
 use Rattle.netlist_scan.proofs.any_in_record.Tie as tie
 
 abbrev Inv-loop : tie.InvT-loop
-Inv-loop last net any₀ t₀ any t = (t ≤ net .m) × (any ≡ anyBelow t (λ x. codeOutside last (codeOf (net .address) x)))
+Inv-loop last net any₀ t₀ any t = (t ≤ net .m) × (any ≡ anyBelow t (λ x. aboveLimit (last .0) (codeOf (net .address) x)))
 
 abbrev μ-loop : tie.MeasureT-loop
 μ-loop last net any₀ t₀ any t = net .m - t
 
 abbrev Inv-loop2 : tie.InvT-loop2
-Inv-loop2 last net any₀ t₀ any t = (t ≤ net .n) × (any ≡ (any₀ || anyBelow t (λ x. codeOutside last (codeOf (net .«write_data») x))))
+Inv-loop2 last net any₀ t₀ any t = (t ≤ net .n) × (any ≡ (any₀ || anyBelow t (λ x. aboveLimit (last .0) (codeOf (net .«write_data») x))))
 
 abbrev μ-loop2 : tie.MeasureT-loop2
 μ-loop2 last net any₀ t₀ any t = net .n - t
@@ -29,16 +30,16 @@ loop-holds c = (omega arith, any-none false _)
 cast-at : tie.Need-cast-at Inv-loop μ-loop Inv-loop2 μ-loop2
 cast-at c = omega arith
 
-mul-is-code-outside : tie.Need-mul-is-code-outside Inv-loop μ-loop Inv-loop2 μ-loop2
-mul-is-code-outside c = omega arith
+mul-is-above : tie.Need-mul-is-above Inv-loop μ-loop Inv-loop2 μ-loop2
+mul-is-above c = omega arith
 
-element-copy-out-is-code-outside :
-    tie.Need-element-copy-out-is-code-outside Inv-loop μ-loop Inv-loop2 μ-loop2
+element-copy-out-is-above :
+    tie.Need-element-copy-out-is-above Inv-loop μ-loop Inv-loop2 μ-loop2
 unfolding netOf
-element-copy-out-is-code-outside c = omega arith
+element-copy-out-is-above c = omega arith
 
-is-code-outside-requires : tie.Need-is-code-outside-requires Inv-loop μ-loop Inv-loop2 μ-loop2
-is-code-outside-requires c κs = tt
+is-above-requires : tie.Need-is-above-requires Inv-loop μ-loop Inv-loop2 μ-loop2
+is-above-requires c κs = tt
 
 add-t : tie.Need-add-t Inv-loop μ-loop Inv-loop2 μ-loop2
 add-t c = omega arith
@@ -50,7 +51,7 @@ loop-again : tie.Need-loop-again Inv-loop μ-loop Inv-loop2 μ-loop2
 unfolding codeOf
 loop-again c = (
   omega arith,
-  rw (c .before .before .before .loop .inv .1, c .is-code-outside .ensures) (any-next false _ (c .before .before .before .loop .t)),
+  rw (c .before .before .before .loop .inv .1, c .is-above .ensures) (any-next false _ (c .before .before .before .loop .t)),
 )
 
 loop2-holds : tie.Need-loop2-holds Inv-loop μ-loop Inv-loop2 μ-loop2
@@ -59,16 +60,16 @@ loop2-holds c = (omega arith, any-none (c .before .loop .any) _)
 cast-at-2 : tie.Need-cast-at-2 Inv-loop μ-loop Inv-loop2 μ-loop2
 cast-at-2 c = omega arith
 
-mul-is-code-outside-2 : tie.Need-mul-is-code-outside-2 Inv-loop μ-loop Inv-loop2 μ-loop2
-mul-is-code-outside-2 c = omega arith
+mul-is-above-2 : tie.Need-mul-is-above-2 Inv-loop μ-loop Inv-loop2 μ-loop2
+mul-is-above-2 c = omega arith
 
-element-copy-out-is-code-outside-2 :
-    tie.Need-element-copy-out-is-code-outside-2 Inv-loop μ-loop Inv-loop2 μ-loop2
+element-copy-out-is-above-2 :
+    tie.Need-element-copy-out-is-above-2 Inv-loop μ-loop Inv-loop2 μ-loop2
 unfolding netOf
-element-copy-out-is-code-outside-2 c = omega arith
+element-copy-out-is-above-2 c = omega arith
 
-is-code-outside-requires-2 : tie.Need-is-code-outside-requires-2 Inv-loop μ-loop Inv-loop2 μ-loop2
-is-code-outside-requires-2 c κs = tt
+is-above-requires-2 : tie.Need-is-above-requires-2 Inv-loop μ-loop Inv-loop2 μ-loop2
+is-above-requires-2 c κs = tt
 
 add-t-2 : tie.Need-add-t-2 Inv-loop μ-loop Inv-loop2 μ-loop2
 add-t-2 c = omega arith
@@ -80,17 +81,17 @@ loop2-again : tie.Need-loop2-again Inv-loop μ-loop Inv-loop2 μ-loop2
 unfolding codeOf
 loop2-again c = (
   omega arith,
-  rw (c .before .before .before .loop2 .inv .1, c .is-code-outside2 .ensures) (any-next (c .before .before .before .before .before .loop .any) _ (c .before .before .before .loop2 .t)),
+  rw (c .before .before .before .loop2 .inv .1, c .is-above2 .ensures) (any-next (c .before .before .before .before .before .loop .any) _ (c .before .before .before .loop2 .t)),
 )
 
-is-code-outside-requires-3 : tie.Need-is-code-outside-requires-3 Inv-loop μ-loop Inv-loop2 μ-loop2
-is-code-outside-requires-3 c κs = tt
+is-above-requires-3 : tie.Need-is-above-requires-3 Inv-loop μ-loop Inv-loop2 μ-loop2
+is-above-requires-3 c κs = tt
 
-is-code-outside-requires-4 : tie.Need-is-code-outside-requires-4 Inv-loop μ-loop Inv-loop2 μ-loop2
-is-code-outside-requires-4 c κs = tt
+is-above-requires-4 : tie.Need-is-above-requires-4 Inv-loop μ-loop Inv-loop2 μ-loop2
+is-above-requires-4 c κs = tt
 
-is-code-outside-requires-5 : tie.Need-is-code-outside-requires-5 Inv-loop μ-loop Inv-loop2 μ-loop2
-is-code-outside-requires-5 c κs = tt
+is-above-requires-5 : tie.Need-is-above-requires-5 Inv-loop μ-loop Inv-loop2 μ-loop2
+is-above-requires-5 c κs = tt
 
 returns : tie.Need-returns Inv-loop μ-loop Inv-loop2 μ-loop2
 unfolding netOf anyInRecord
@@ -98,7 +99,7 @@ returns c =
     let a = c .before .before .before .before .before .before .before .before .before .before .args in
     let m-th : c .before .before .before .before .before .before .before .before .before .loop .t ≡ a .t1 .m = omega arith in
     let n-th : c .before .before .before .before .before .before .before .loop2 .t ≡ a .t1 .n = omega arith in
-    rw (c .before .before .before .before .is-code-outside3 .ensures, c .before .before .is-code-outside4 .ensures, c .is-code-outside5 .ensures, c .before .before .before .before .before .before .before .loop2 .inv .1, c .before .before .before .before .before .before .before .before .before .loop .inv .1, m-th, n-th)
+    rw (c .before .before .before .before .is-above3 .ensures, c .before .before .is-above4 .ensures, c .is-above5 .ensures, c .before .before .before .before .before .before .before .loop2 .inv .1, c .before .before .before .before .before .before .before .before .before .loop .inv .1, m-th, n-th)
 
 pub any-in-record-spec : {M : Type 1} → statement M
 any-in-record-spec =
@@ -110,21 +111,21 @@ any-in-record-spec =
     μ-loop2
     loop-holds
     cast-at
-    mul-is-code-outside
-    element-copy-out-is-code-outside
-    is-code-outside-requires
+    mul-is-above
+    element-copy-out-is-above
+    is-above-requires
     add-t
     loop-less
     loop-again
     loop2-holds
     cast-at-2
-    mul-is-code-outside-2
-    element-copy-out-is-code-outside-2
-    is-code-outside-requires-2
+    mul-is-above-2
+    element-copy-out-is-above-2
+    is-above-requires-2
     add-t-2
     loop2-less
     loop2-again
-    is-code-outside-requires-3
-    is-code-outside-requires-4
-    is-code-outside-requires-5
+    is-above-requires-3
+    is-above-requires-4
+    is-above-requires-5
     returns)

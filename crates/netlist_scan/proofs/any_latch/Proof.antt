@@ -4,12 +4,12 @@ use mathlib.Core.Path.{_≡_}
 use mathlib.Core.Bool.{false}
 use native.Mathlib.Omega.{arith}
 use Rattle.netlist_scan.specs.AnyLine.{anyLatch}
-use Rattle.netlist_scan.proofs.AnyLine.{any-none, any-next}
+use Rattle.model.proofs.Search.{any-none, any-next}
 use Rattle.netlist_scan.proofs.any_latch.Statement.{statement}
 use Rattle.netlist_scan.proofs.any_latch.Tie as tie
 
 abbrev Inv-loop : tie.InvT-loop
-Inv-loop last latches count any₀ l₀ any l = (l ≤ count) × (any ≡ anyLatch last latches l)
+Inv-loop last latches count any₀ l₀ any l = (l ≤ count) × (any ≡ anyLatch (last .0) latches l)
 
 abbrev μ-loop : tie.MeasureT-loop
 μ-loop last latches count any₀ l₀ any l = count - l

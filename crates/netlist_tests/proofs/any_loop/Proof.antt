@@ -6,8 +6,9 @@ use mathlib.Core.Bool.{false, or-false}
 use native.Mathlib.Omega.{arith}
 use Rattle.netlist.specs.NetOf.{codeOf, netOf}
 use Rattle.netlist.specs.Faults.{loopFaultBy}
-use Rattle.netlist_scan.specs.AnyLine.{anyBelow, anyLine}
-use Rattle.netlist_scan.proofs.AnyLine.{any-none, any-next, any-never}
+use Rattle.netlist_scan.specs.AnyLine.{anyLine}
+use Rattle.model.specs.Search.{anyBelow}
+use Rattle.model.proofs.Search.{any-none, any-next, any-never}
 use Rattle.netlist_tests.specs.Dependence.{entry}
 use Rattle.netlist_tests.proofs.any_loop.Statement.{statement}
 use Rattle.netlist_tests.proofs.any_loop.Tie as tie
@@ -24,20 +25,19 @@ loop-holds c = (omega arith, any-none false _)
 cast-at : tie.Need-cast-at Inv-loop μ-loop
 cast-at c = omega arith
 
-mul-w : tie.Need-mul-w Inv-loop μ-loop
-mul-w c = omega arith
+mul-wire-index : tie.Need-mul-wire-index Inv-loop μ-loop
+mul-wire-index c = omega arith
 
-element-copy-out-w : tie.Need-element-copy-out-w Inv-loop μ-loop
+element-copy-out-wire-index : tie.Need-element-copy-out-wire-index Inv-loop μ-loop
 unfolding netOf
-element-copy-out-w c = omega arith
+element-copy-out-wire-index c = omega arith
 
-cast-w : tie.Need-cast-w Inv-loop μ-loop
-unfolding netOf codeOf
-cast-w c = omega (arith, c .before .before .pre .codes .address-fits (c .before .loop .t) (c .loop-test .taken), c .before .before .pre .sizes)
+wire-index-requires : tie.Need-wire-index-requires Inv-loop μ-loop
+wire-index-requires c κs = tt
 
 element-copy-out-any : tie.Need-element-copy-out-any Inv-loop μ-loop
 unfolding netOf codeOf
-element-copy-out-any c = omega (arith, c .before .before .pre .codes .address-fits (c .before .loop .t) (c .loop-test .taken), c .before .before .pre .sizes)
+element-copy-out-any c = omega (arith, c .before .before .before .before .pre .codes .address-fits (c .before .before .before .loop .t) (c .before .before .loop-test .taken), c .before .before .before .before .pre .sizes)
 
 add-t : tie.Need-add-t Inv-loop μ-loop
 unfolding netOf
@@ -50,23 +50,22 @@ loop-again : tie.Need-loop-again Inv-loop μ-loop
 unfolding codeOf
 loop-again c = (
   omega arith,
-  rw (c .before .before .loop .inv .1) (any-next false _ (c .before .before .loop .t)),
+  rw (c .before .before .before .before .loop .inv .1, c .before .wire-index .ensures) (any-next false _ (c .before .before .before .before .loop .t)),
 )
 
-cast-w-2 : tie.Need-cast-w-2 Inv-loop μ-loop
-unfolding netOf
-cast-w-2 c = omega (arith, c .before .before .pre .codes .RE-fits, c .before .before .pre .sizes)
+wire-index-requires-2 : tie.Need-wire-index-requires-2 Inv-loop μ-loop
+wire-index-requires-2 c κs = tt
 
 element-copy-out-result : tie.Need-element-copy-out-result Inv-loop μ-loop
 unfolding netOf
-element-copy-out-result c = omega (arith, c .before .before .pre .codes .RE-fits, c .before .before .pre .sizes)
+element-copy-out-result c = omega (arith, c .before .before .before .before .pre .codes .RE-fits, c .before .before .before .before .pre .sizes)
 
 returns : tie.Need-returns Inv-loop μ-loop
 unfolding netOf loopFaultBy anyLine
 returns c =
-    let net = c .before .before .before .args .t1 in
-    let all : c .before .before .loop .t ≡ net .m = omega arith in
-    rw (c .before .before .loop .inv .1, all) (simp (any-never, or-false))
+    let net = c .before .before .before .before .before .args .t1 in
+    let all : c .before .before .before .before .loop .t ≡ net .m = omega arith in
+    rw (c .before .before .before .before .loop .inv .1, all, c .before .wire-index2 .ensures) (simp (any-never, or-false))
 
 pub any-loop-spec : {M : Type 1} → statement M
 any-loop-spec =
@@ -76,13 +75,13 @@ any-loop-spec =
     μ-loop
     loop-holds
     cast-at
-    mul-w
-    element-copy-out-w
-    cast-w
+    mul-wire-index
+    element-copy-out-wire-index
+    wire-index-requires
     element-copy-out-any
     add-t
     loop-less
     loop-again
-    cast-w-2
+    wire-index-requires-2
     element-copy-out-result
     returns)

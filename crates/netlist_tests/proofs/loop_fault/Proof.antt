@@ -26,29 +26,25 @@ enum-known-line c = c .match .keys5
 cast-at : tie.Need-cast-at
 cast-at c = search needs
 
-mul-w : tie.Need-mul-w
-mul-w c = search needs
+mul-wire-index : tie.Need-mul-wire-index
+mul-wire-index c = search needs
 
-element-copy-out-w : tie.Need-element-copy-out-w
+element-copy-out-wire-index : tie.Need-element-copy-out-wire-index
 unfolding netOf codeOf
-element-copy-out-w c =
+element-copy-out-wire-index c =
     let p = c .before .before .before .pre in
     let has = subst (HasLine (alone (c .before .before .before .args .t1))) (c .before .line .given .1) (p .1) in
     omega (arith, has, p .0 .codes .address-fits (c .before .line .given .0 .0) has, p .0 .sizes)
 
-cast-w : tie.Need-cast-w
-unfolding netOf codeOf
-cast-w c =
-    let p = c .before .before .before .pre in
-    let has = subst (HasLine (alone (c .before .before .before .args .t1))) (c .before .line .given .1) (p .1) in
-    omega (arith, has, p .0 .codes .address-fits (c .before .line .given .0 .0) has, p .0 .sizes)
+wire-index-requires : tie.Need-wire-index-requires
+wire-index-requires c κs = tt
 
 element-copy-out-result : tie.Need-element-copy-out-result
 unfolding netOf codeOf
 element-copy-out-result c =
-    let p = c .before .before .before .pre in
-    let has = subst (HasLine (alone (c .before .before .before .args .t1))) (c .before .line .given .1) (p .1) in
-    omega (arith, has, p .0 .codes .address-fits (c .before .line .given .0 .0) has, p .0 .sizes)
+    let p = c .before .before .before .before .before .pre in
+    let has = subst (HasLine (alone (c .before .before .before .before .before .args .t1))) (c .before .before .before .line .given .1) (p .1) in
+    omega (arith, has, p .0 .codes .address-fits (c .before .before .before .line .given .0 .0) has, p .0 .sizes)
 
 enum-told-5 : tie.Need-enum-told-5
 enum-told-5 c = c .match .keys6
@@ -56,12 +52,12 @@ enum-told-5 c = c .match .keys6
 enum-told-6 : tie.Need-enum-told-6
 enum-told-6 c = c .match .keys7
 
-cast-w-2 : tie.Need-cast-w-2
-cast-w-2 c = search needs
+wire-index-requires-2 : tie.Need-wire-index-requires-2
+wire-index-requires-2 c κs = tt
 
 element-copy-out-result-2 : tie.Need-element-copy-out-result-2
 unfolding netOf
-element-copy-out-result-2 c = omega (arith, c .before .before .pre .0 .codes .RE-fits, c .before .before .pre .0 .sizes)
+element-copy-out-result-2 c = omega (arith, c .before .before .before .before .pre .0 .codes .RE-fits, c .before .before .before .before .pre .0 .sizes)
 
 returns : tie.Need-returns
 unfolding loopFaultBy
@@ -81,7 +77,7 @@ returns-4 c = rw (c .enum-told4 .given .1)
 
 returns-5 : tie.Need-returns-5
 unfolding netOf codeOf loopFaultBy
-returns-5 c = rw (c .before .before .line .given .1)
+returns-5 c = rw (c .before .before .before .before .line .given .1, c .before .wire-index .ensures)
 
 returns-6 : tie.Need-returns-6
 unfolding loopFaultBy
@@ -89,7 +85,7 @@ returns-6 c = rw (c .enum-told5 .given .1)
 
 returns-7 : tie.Need-returns-7
 unfolding netOf loopFaultBy
-returns-7 c = rw (c .before .enum-told6 .given .1)
+returns-7 c = rw (c .before .before .before .enum-told6 .given .1, c .before .wire-index2 .ensures)
 
 pub loop-fault-spec : {M : Type 1} → statement M
 loop-fault-spec =
@@ -101,13 +97,13 @@ loop-fault-spec =
     enum-told-4
     enum-known-line
     cast-at
-    mul-w
-    element-copy-out-w
-    cast-w
+    mul-wire-index
+    element-copy-out-wire-index
+    wire-index-requires
     element-copy-out-result
     enum-told-5
     enum-told-6
-    cast-w-2
+    wire-index-requires-2
     element-copy-out-result-2
     returns
     returns-2

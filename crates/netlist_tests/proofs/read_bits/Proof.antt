@@ -17,16 +17,14 @@ abbrev μ-loop : tie.MeasureT-loop
 first-gate-wire-requires : tie.Need-first-gate-wire-requires Inv-loop μ-loop
 first-gate-wire-requires c κs = c .pre
 
-cast-last : tie.Need-cast-last Inv-loop μ-loop
-unfolding netOf
-cast-last c = omega arith
+index-requires : tie.Need-index-requires Inv-loop μ-loop
+index-requires c κs = tt
 
 first-read-wire-requires : tie.Need-first-read-wire-requires Inv-loop μ-loop
-first-read-wire-requires c κs = c .before .pre
+first-read-wire-requires c κs = c .before .before .pre
 
-cast-w : tie.Need-cast-w Inv-loop μ-loop
-unfolding netOf
-cast-w c = omega arith
+index-requires-2 : tie.Need-index-requires-2 Inv-loop μ-loop
+index-requires-2 c κs = tt
 
 loop-holds : tie.Need-loop-holds Inv-loop μ-loop
 unfolding netOf
@@ -57,7 +55,7 @@ loop-again c =
 returns : tie.Need-returns Inv-loop μ-loop
 unfolding netOf
 returns c =
-    let net = c .before .before .before .before .args .net in
+    let net = c .before .before .before .before .before .before .args .net in
     table-same (between-isRead (alone net) _ (c .before .loop .w) (omega arith) (omega arith))
     (c .before .loop .inv .2)
 
@@ -68,9 +66,9 @@ read-bits-spec =
     Inv-loop
     μ-loop
     first-gate-wire-requires
-    cast-last
+    index-requires
     first-read-wire-requires
-    cast-w
+    index-requires-2
     loop-holds
     array-write-flags
     add-w

@@ -3,9 +3,9 @@ use mathlib.Core.Path.{_≡_, sym, _∙_, ap}
 use native.Mathlib.Omega.{arith}
 use borrow.Author.Needs.{needs}
 use Rattle.refusals.specs.declared.Verdict.the-variants.{Passed}
+use Rattle.refusals.proofs.Table.{reply-tells}
 use Rattle.sheet_lines.specs.Depth.{depthVerdict}
-use Rattle.sheet_lines.specs.declared.DepthLine.{DepthLine}
-use Rattle.sheet_lines.proofs.Depth.{depthLine-verdict, passed-long}
+use Rattle.sheet_lines.proofs.Depth.{passed-long}
 use Rattle.sheet_steps.specs.Records.{recordBeside}
 use Rattle.program_input.specs.Input.{inputAnswer}
 use Rattle.program_input.proofs.Replies.{depth-decides, sheet-decides, behind-depth, input-taken}
@@ -17,7 +17,7 @@ read-depth-requires c κs = search needs
 
 -- the depth line's verdict
 told : (c : tie.After-read-depth) → c .read-depth .result .verdict ≡ depthVerdict (c .before .before .args .input .now)
-told c = ap (λ (l : DepthLine). l .verdict) (c .read-depth .ensures) ∙ depthLine-verdict _
+told c = reply-tells (c .read-depth .result .verdict) (depthVerdict (c .before .before .args .input .now)) (c .read-depth .ensures .0)
 
 -- it has passed
 depth-passed : (c : tie.After-enum-told2) → depthVerdict (c .before .before .before .before .args .input .now) ≡ Passed
@@ -64,7 +64,7 @@ returns-2 c =
     let line = passed .before .before in
     let s = line .before .before .args .input .now in
     let decided = sheet-decides s (depth-passed passed) in
-    let depth = ap (λ (l : DepthLine). l .depth) (line .read-depth .ensures) in
+    let depth = line .read-depth .ensures .1 in
     let read = rw (behind-depth s) at (c .read-sheet .ensures) in
     let is : c .read-sheet .result ≡ inputAnswer s = read .0 ∙ rw (decided, depth) in
     (is, (rw decided (read .1), input-taken s _ _ _ is (rw decided (read .1))))

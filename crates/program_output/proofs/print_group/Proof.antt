@@ -1,4 +1,4 @@
--- `program_output::print_group` meets its contract: what the group's writer left in front of the numbers is the group.
+-- `program_output::print_group` meets its contract: what the group's writer put in front of the numbers is the group.
 use Prim.Native.Nat.{_≤_}
 use mathlib.Core.Path.{_≡_, sym}
 use native.Mathlib.Omega.{arith}
@@ -25,8 +25,8 @@ within : (c : tie.After-put-group) → c .put-group .result ≤ length (c .put-g
 within c =
     let p = c .before .before .before .before .pre in
     let w = c .put-group .ensures in
-    let there = orderHas-inDepth _ _ (p .2) in
-    omega (arith, w .counted, numbers-most _ _ _ (p .0) (p .1) there, p .4, wrote-length w (omega (arith, numbers-most _ _ _ (p .0) (p .1) there, p .4)))
+    let most = numbers-most _ _ _ (p .0) (p .1) (orderHas-inDepth _ _ (p .2)) in
+    omega (arith, w .1, p .4, wrote-length (w .0) (omega (arith, w .0 .counted, w .1, p .4)))
 
 slice-reshare-prefix-write-numbers : tie.Need-slice-reshare-prefix-write-numbers
 slice-reshare-prefix-write-numbers c = within (c .before .before)
@@ -37,7 +37,7 @@ slice-aggregate-write-numbers c = sym (length-take-le _ _ (within (c .before .be
 -- the numbers that are printed are the group's
 front : (c : tie.After-put-group) → let start = c .before .before .before .before in
     take (c .put-group .result) (c .put-group .last .0) ≡ numbersOf (netOf (start .args .net) (start .args .latches .now) (start .args .gates .now)) (start .args .depth) (start .args .group)
-front c = wrote-front (c .put-group .ensures)
+front c = wrote-front (c .put-group .ensures .0)
 
 write-numbers-requires : tie.Need-write-numbers-requires
 write-numbers-requires c κs =

@@ -1,5 +1,5 @@
 -- `program_output::print_groups` meets its contract. The loop's invariant: wherever the first group stands, what is printed is the text of
--- the groups from it on, `next` comes after them, and nothing is printed yet or fewer groups are left.
+-- the groups from it on, `next` comes after them, and nothing is printed yet or fewer groups remain.
 use Prim.Native.Nat.{ℕ, _+_, _-_, _≤_, _<_}
 use mathlib.Core.Path.{_≡_, refl, _∙_, ap}
 use mathlib.Core.List.{List, _∷_, _++_}
@@ -11,22 +11,22 @@ use lib.ListN.{length}
 use Rattle.model.specs.Groups.{groupOrder}
 use Rattle.model.specs.declared.Group.{Group}
 use Rattle.netlist.specs.NetOf.{netOf}
-use Rattle.group_order.specs.Next.{firstGroup, leftFrom}
+use Rattle.group_order.specs.Next.{firstGroup, remainingFrom}
 use Rattle.group_order.specs.declared.order.Next.{Next}
 use Rattle.group_order.specs.declared.order.Next.the-variants.{Then}
 use Rattle.program_output.proofs.Pieces.{SoFar, nothing-yet, orderHas-due, one-more, all-full, all-end}
 use Rattle.program_output.proofs.print_groups.Statement.{statement}
 use Rattle.program_output.proofs.print_groups.Tie as tie
 
--- nothing is printed yet, or fewer groups are left
+-- nothing is printed yet, or fewer groups remain
 abbrev Begun : ℕ → ℕ → Next → Next → Type 0
-Begun k bytes next next₀ = ((bytes ≡ 0) × (next ≡ next₀)) ⊎ (leftFrom k next < leftFrom k next₀)
+Begun k bytes next next₀ = ((bytes ≡ 0) × (next ≡ next₀)) ⊎ (remainingFrom k next < remainingFrom k next₀)
 
-not-more : (k bytes : ℕ) (next next₀ : Next) → Begun k bytes next next₀ → leftFrom k next ≤ leftFrom k next₀
-not-more k bytes next next₀ (inl e) = let same : leftFrom k next ≡ leftFrom k next₀ = ap (leftFrom k) (e .1) in omega arith
+not-more : (k bytes : ℕ) (next next₀ : Next) → Begun k bytes next next₀ → remainingFrom k next ≤ remainingFrom k next₀
+not-more k bytes next next₀ (inl e) = let same : remainingFrom k next ≡ remainingFrom k next₀ = ap (remainingFrom k) (e .1) in omega arith
 not-more k bytes next next₀ (inr l) = omega (arith, l)
 
-fewer : (k bytes : ℕ) (next next₀ : Next) → Begun k bytes next next₀ → 0 < bytes → leftFrom k next < leftFrom k next₀
+fewer : (k bytes : ℕ) (next next₀ : Next) → Begun k bytes next next₀ → 0 < bytes → remainingFrom k next < remainingFrom k next₀
 fewer k bytes next next₀ (inl e) h = absurd (omega (arith, e .0, h))
 fewer k bytes next next₀ (inr l) h = l
 
@@ -38,7 +38,7 @@ Inv-loop text₀ numbers₀ table net latches gates depth last bytes₀ next₀ 
     × Begun depth bytes next next₀
 
 abbrev μ-loop : tie.MeasureT-loop
-μ-loop text₀ numbers₀ table net latches gates depth last bytes₀ next₀ text numbers bytes next = leftFrom depth next
+μ-loop text₀ numbers₀ table net latches gates depth last bytes₀ next₀ text numbers bytes next = remainingFrom depth next
 
 sub-last : tie.Need-sub-last Inv-loop μ-loop
 sub-last c = search needs
@@ -64,7 +64,7 @@ so-far c =
     rw (c .before .next .given .1) at
     (c .before .before .before .before .loop .inv .3 (has .before) (start .args .group ∷ has .behind) (has .order) refl)
 
--- the room that is left
+-- the room that remains
 room : (c : tie.After-known-told Inv-loop μ-loop) →
     let at = c .before .before .before .before .loop in at .bytes + 71904 ≤ length (at .text)
 room c =

@@ -46,7 +46,8 @@ use denote.Triple.Walked.{says, Stays, stay-none-slice, gave-slice, onExit, walk
 use denote.Exit.{yes}
 use denote.Triple.Clauses.{Lasts, lasts}
 use Rattle.walks.proofs.Walk.{bare, _&_, cell, frees-all}
-use Rattle.refusals.specs.declared.Verdict.the-variants.{Passed}
+use Rattle.model.specs.Acceptance.{PathTheorem}
+use Rattle.refusals.specs.Refusal.{replyOf}
 use Rattle.sheet_steps.specs.declared.SheetAnswer.{SheetAnswer}
 use Rattle.sheet_steps.proofs.SheetAnswer as S
 use Rattle.sheet_steps.proofs.SheetAnswer.Laws as S′
@@ -70,7 +71,7 @@ use Rattle.call_lists.proofs.deliver.deliver_latches.Met as latches-thm
 use Rattle.call_lists.proofs.deliver.deliver_gates.Symbol as gates-def
 use Rattle.call_lists.proofs.deliver.deliver_gates.Symbol.{name as #deliver-gates}
 use Rattle.call_lists.proofs.deliver.deliver_gates.Met as gates-thm
-use Rattle.sheet_reader.specs.ReadCall.{readVerdict, readRecord, latchesLeft, gatesLeft, SheetDelivered}
+use Rattle.sheet_reader.specs.ReadCall.{readVerdict, readRecord, latchesAfter, gatesAfter, SheetDelivered}
 use Rattle.sheet_reader.proofs.Facts.{spread}
 use Rattle.sheet_reader.proofs.ReadCall.{deliverable, reads}
 use Rattle.sheet_reader.proofs.LocalCodes.{Codes, codesTy, typed-codes, stored, freed}
@@ -250,10 +251,11 @@ module _ {M : Type 1} (𝓤 : URA M) (H : Heap 𝓤) (A : Atoms 𝓤) (W : Given
         suffices ! _ (ends-at 𝓤 H A read.ended stayed (read.clauses 𝓤 H A mem run) W bound (S′.lowered sheet) sheet
         (tt, (newLatches sheet xs, (newGates sheet ys, tt))) (tt, (latches-long, (gates-long, tt)))) $
         suffices ! _ (spread 𝓤 H A W (onExit 𝓤 H A read.ended stayed κs qs at (S′.lowered sheet) sheet a
-        (tt, (newLatches sheet xs, (newGates sheet ys, tt)))) (sheet .verdict ≡ readVerdict (now file) (now x) (now y))
-        ((sheet .net ≡ readRecord (now file) (now x) (now y)) ∷ (newLatches sheet xs ≡ latchesLeft (now file) (now x) (now y))
-        ∷ (newGates sheet ys ≡ gatesLeft (now file) (now x) (now y))
-        ∷ (sheet .verdict ≡ Passed → SheetDelivered (now file) (sheet .net) (newLatches sheet xs) (newGates sheet ys)) ∷ [])) $
+        (tt, (newLatches sheet xs, (newGates sheet ys, tt)))) (replyOf (sheet .verdict) ≡ replyOf (readVerdict (now file) (now x) (now y)))
+        ((sheet .net ≡ readRecord (now file) (now x) (now y)) ∷ (newLatches sheet xs ≡ latchesAfter (now file) (now x) (now y))
+        ∷ (newGates sheet ys ≡ gatesAfter (now file) (now x) (now y))
+        ∷ (replyOf (sheet .verdict) .number ≡ 0 → SheetDelivered (now file) (sheet .net) (newLatches sheet xs) (newGates sheet ys))
+        ∷ PathTheorem ∷ [])) $
         says ! (reads (now file) (now x) (now y) sheet xs ys e) $
         nothing ! $ move ! (4 ∷ 0 ∷ []) $ join ! $ move ! (3 ∷ 0 ∷ []) $ join ! $ move ! (2 ∷ 0 ∷ []) $ join ! $ frame ! $
         nothing ! $ move ! (4 ∷ 0 ∷ []) $ fjoin ! $ move ! (3 ∷ 0 ∷ []) $ fjoin ! $ move ! (2 ∷ 0 ∷ []) $ fjoin ! $ frame ! $

@@ -28,14 +28,20 @@ store-memory-requires c κs = search needs
 enum-known-due : tie.Need-enum-known-due
 enum-known-due c = search needs
 
-store-pair-requires : tie.Need-store-pair-requires
-store-pair-requires c κs = within (c .before .before .due .given .1) (c .before .before .before .before .pre .1)
+cast-put-numbers : tie.Need-cast-put-numbers
+cast-put-numbers c = search needs
+
+put-numbers-requires : tie.Need-put-numbers-requires
+put-numbers-requires c κs = within (c .before .before .due .given .1) (c .before .before .before .before .pre .1)
 
 enum-known-due-2 : tie.Need-enum-known-due-2
 enum-known-due-2 c = search needs
 
-store-pair-requires-2 : tie.Need-store-pair-requires-2
-store-pair-requires-2 c κs = within (c .before .before .due2 .given .1) (c .before .before .before .before .pre .1)
+cast-put-numbers-2 : tie.Need-cast-put-numbers-2
+cast-put-numbers-2 c = search needs
+
+put-numbers-requires-2 : tie.Need-put-numbers-requires-2
+put-numbers-requires-2 c κs = within (c .before .before .due2 .given .1) (c .before .before .before .before .pre .1)
 
 enum-known-due-3 : tie.Need-enum-known-due-3
 enum-known-due-3 c = search needs
@@ -70,7 +76,7 @@ returns-3 c =
     let start = c .before .before .before .before .before in
     let a = start .args in
     let due = c .before .before .before .due in
-    rw (due .given .1, c .store-pair .ensures)
+    rw (due .given .1, c .put-numbers .ensures)
     (holds-latch (a .net) (a .latches .now) (a .gates .now) (start .pre .0) (a .first) (a .second) (a .third) (due .given .0 .0) (within (due .given .1) (start .pre .1)))
 
 returns-4 : tie.Need-returns-4
@@ -78,7 +84,7 @@ returns-4 c =
     let start = c .before .before .before .before .before in
     let a = start .args in
     let due = c .before .before .before .due2 in
-    rw (due .given .1, c .store-pair2 .ensures)
+    rw (due .given .1, c .put-numbers2 .ensures)
     (holds-gate (a .net) (a .latches .now) (a .gates .now) (start .pre .0) (a .first) (a .second) (a .third) (due .given .0 .0) (within (due .given .1) (start .pre .1)))
 
 returns-5 : tie.Need-returns-5
@@ -107,9 +113,11 @@ store-spec =
     enum-told-2
     store-memory-requires
     enum-known-due
-    store-pair-requires
+    cast-put-numbers
+    put-numbers-requires
     enum-known-due-2
-    store-pair-requires-2
+    cast-put-numbers-2
+    put-numbers-requires-2
     enum-known-due-3
     store-address-requires
     enum-known-due-4

@@ -6,10 +6,10 @@ use Rattle.call_lists.proofs.Latch as L
 use Rattle.call_lists.proofs.Latch.Laws as L′
 use Rattle.call_lists.proofs.OneRecord as one
 use Rattle.call_lists.proofs.Records.{latchPair}
-use Rattle.call_lists.proofs.unpack.put_numbers as put
-use Rattle.call_lists.proofs.unpack.put_numbers.Symbol as put-def
-use Rattle.call_lists.proofs.unpack.put_numbers.Symbol.{name as #put}
-use Rattle.call_lists.proofs.unpack.put_numbers.Met as put-thm
+use Rattle.netlist.proofs.put_numbers as put
+use Rattle.netlist.proofs.put_numbers.Symbol as put-def
+use Rattle.netlist.proofs.put_numbers.Symbol.{name as #put}
+use Rattle.netlist.proofs.put_numbers.Met as put-thm
 use Rattle.call_lists.proofs.unpack.unpack_latch.Key.{name as #unpack-latch}
 use Rattle.call_lists.proofs.unpack.unpack_latch as f
 use Rattle.call_lists.proofs.unpack.unpack_latch.Statement as stated
@@ -23,4 +23,4 @@ unpack-latch-spec 𝓤 H 𝓜 𝓖 𝓡 =
     (one.meets L.the-type L′.the-laws latchPair 𝓤 H (𝓖 .A) (givenOf 𝓤 H 𝓜 𝓖) (𝓜 .mem) (𝓡 .run)
     (tablesOf 𝓤 H 𝓜 (tables 𝓤 H 𝓜 𝓡 code.env))
     (cited 𝓤 H (tripleOf 𝓤 H (𝓖 .A) put.signature (put.spec 𝓤 H (𝓖 .A) (𝓜 .mem) (𝓡 .run))) 𝓜 𝓡 code.env #put put-def.routine
-    code.calls-call-lists·unpack·put-numbers (put-thm.met 𝓤 H 𝓜 𝓖 𝓡)))
+    code.calls-netlist·put-numbers (put-thm.met 𝓤 H 𝓜 𝓖 𝓡)))

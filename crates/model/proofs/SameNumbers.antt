@@ -1,27 +1,18 @@
--- Two netlists that agree below their sizes have the same variables and the same clauses, group by group: no entry past a size is
--- asked for. Cited where a record and its lists have something past the sizes.
+-- Netlists that agree below their sizes (specs/Agree.antt) have the same variables and the same clauses, group by group: no entry
+-- past a size is asked for. No contract cites this file.
 use Prim.Native.Nat.{ℕ, zero, suc, _+_, _<_}
-use mathlib.Core.Path.{_≡_, refl, _∙_, ap, ap₂}
+use mathlib.Core.Path.{_≡_, ap, ap₂}
 use mathlib.Core.List.{List, [], _∷_, _++_}
-use native.Mathlib.Omega.{arith}
 use Rattle.model.specs.Netlist.{Netlist, port}
-use Rattle.model.specs.Gather.{gather}
 use Rattle.model.specs.Clauses.{Clause, Literal, PairLiterals, ClosingLiterals, addressBitClauses, unequalOf, allBits, forwardedClauses, pairClauses, initialReadClauses, selectedOf, someSource, closingClauses, plus, neg, andClauses}
 use Rattle.model.specs.Variables.{base, pairBase, noneSince, selected, readBit, pairLiterals, closingLiterals}
 use Rattle.model.specs.Groups.{gateClauses, resetClauses, latchClauses, stateClauses, violationOf, clausesOf}
 use Rattle.model.specs.Numbers.{written, numbersOf}
 use Rattle.model.specs.declared.Group.{Group}
 use Rattle.model.specs.declared.Group.the-variants.{Wires, Pair, Closing, Property}
-use Rattle.sheet_reader.proofs.Entries.{Agree, inputs-same, latches-same, gates-same, m-same, n-same, word-same, lastWire-same}
-
--- what is gathered needs to be the same below the number alone
-gather-same : {A : Type 0} (n : ℕ) (f h : ℕ → List A) → ((t : ℕ) → t < n → f t ≡ h t) → gather n f ≡ gather n h
-unfolding gather
-gather-same zero f h same = refl
-gather-same (suc n) f h same = ap₂ _++_ (gather-same n f h (λ t b. same t (omega arith))) (same n (omega arith))
-
-gathers-same : {A : Type 0} {n o : ℕ} {f h : ℕ → List A} → n ≡ o → ((t : ℕ) → t < n → f t ≡ h t) → gather n f ≡ gather o h
-gathers-same {n = n} {f = f} {h = h} e same = gather-same n f h same ∙ ap (λ x. gather x h) e
+use Rattle.model.specs.Agree.{Agree}
+use Rattle.model.proofs.Gather.{gather-same, gathers-same}
+use Rattle.model.proofs.Agree.{inputs-same, latches-same, gates-same, m-same, n-same, word-same, lastWire-same}
 
 module _ (c d : Netlist) (q : Agree c d) where
   pub base-same : (i : ℕ) → base c i ≡ base d i

@@ -1,28 +1,41 @@
--- Two netlists that agree below their sizes are accepted alike (the model's Acceptance): "entries past the sizes are ignored".
--- Cited where a record and its lists have something past the sizes.
+-- Netlists that agree below their sizes (specs/Agree.antt) have the same limits, the same wires and the same wires that depend on a
+-- read bit: they are accepted alike. No contract cites this file.
 use Prim.Native.Nat.{ℕ, zero, suc, _/_, _≤_, _<_}
-use mathlib.Core.Path.{_≡_, sym, _∙_}
-use mathlib.Core.Bool.{false}
+use mathlib.Core.Path.{_≡_, sym, _∙_, ap}
+use mathlib.Core.Bool.{Bool, false}
+use mathlib.Core.List.{List}
 use native.Mathlib.Nat.{le-refl}
 use native.Mathlib.Omega.{arith}
+use lib.ListN.{getD}
 use Rattle.model.specs.Netlist.{Netlist, gateWire, lastWire}
-use Rattle.model.specs.Circuit.{sweep, isRead, eitherWire, dependsOnRead}
-use Rattle.model.specs.Acceptance.{CodesFit, Accepted}
-use Rattle.sheet_steps.proofs.Places.{SameSizes, same-at, sizesFit-same}
+use Rattle.model.specs.Circuit.{Values, sweep, isRead, dependsOnRead}
+use Rattle.model.specs.Acceptance.{SizesFit, CodesFit, Accepted}
+use Rattle.model.specs.Agree.{sizesOf, SameSizes, Agree}
+use Rattle.model.proofs.Sweep.{OfTwoWires}
+use Rattle.model.proofs.Dependence.{eitherWire-of-two}
 
--- the same sizes, and the same entries below them
-pub record Agree (c d : Netlist) : Type 0 where
-  pub sizes-same : SameSizes c d
-  pub next-same : (l : ℕ) → l < c .latches → c .next l ≡ d .next l
-  pub reset-same : (l : ℕ) → l < c .latches → c .reset l ≡ d .reset l
-  pub left-same : (g : ℕ) → g < c .gates → c .left g ≡ d .left g
-  pub right-same : (g : ℕ) → g < c .gates → c .right g ≡ d .right g
-  pub address-same : (t : ℕ) → t < c .m → c .address t ≡ d .address t
-  pub data-same : (t : ℕ) → t < c .n → c .writeData t ≡ d .writeData t
-  pub WE-same : c .WE ≡ d .WE
-  pub RE-same : c .RE ≡ d .RE
-  pub P-same : c .P ≡ d .P
+-- netlists with the same sizes
+module _ (c d : Netlist) (q : SameSizes c d) where
+  -- each size by itself
+  pub same-at : (i : ℕ) → getD (sizesOf c) i 0 ≡ getD (sizesOf d) i 0
+  same-at i = ap (λ (xs : List ℕ). getD xs i 0) q
 
+  -- have the same limits, kept or not
+  pub sizesFit-same : SizesFit c → SizesFit d
+  sizesFit-same h =
+      record {
+        inputs-fit = rw (← same-at 0) (h .inputs-fit);
+        latches-fit = rw (← same-at 1) (h .latches-fit);
+        gates-fit = rw (← same-at 2) (h .gates-fit);
+        m-least = rw (← same-at 3) (h .m-least);
+        m-most = rw (← same-at 3) (h .m-most);
+        n-least = rw (← same-at 4) (h .n-least);
+        n-most = rw (← same-at 4) (h .n-most);
+        word-fits = rw (← same-at 5, ← same-at 4) (h .word-fits);
+        wires-fit = rw (← same-at 0, ← same-at 1, ← same-at 2, ← same-at 4) (h .wires-fit);
+      }
+
+-- and the same entries
 module _ (c d : Netlist) (q : Agree c d) where
   pub inputs-same : c .inputs ≡ d .inputs
   inputs-same = same-at c d (q .sizes-same) 0
@@ -53,23 +66,25 @@ module _ (c d : Netlist) (q : Agree c d) where
   unfolding isRead
   isRead-same w = rw (inputs-same, latches-same, n-same)
 
-  -- the same wires depend on a read bit
-  sweep-same : (g w : ℕ) → g ≤ c .gates → sweep eitherWire c (isRead c) g w ≡ sweep eitherWire d (isRead d) g w
-  unfolding sweep eitherWire
-  sweep-same zero w h = isRead-same w
-  sweep-same (suc g) w h =
+  -- a sweep over the same values
+  pub sweep-same : {op : Values → ℕ → ℕ → Bool} → OfTwoWires op → {u v : Values} → ((w : ℕ) → u w ≡ v w)
+      → (g w : ℕ) → g ≤ c .gates → sweep op c u g w ≡ sweep op d v g w
+  unfolding sweep
+  sweep-same two same zero w h = same w
+  sweep-same {op} two {u} {v} same (suc g) w h =
       rw (
         q .left-same g (omega arith),
         q .right-same g (omega arith),
         gateWire-same g,
-        sweep-same g w (omega arith),
-        sweep-same g (d .left g / 2) (omega arith),
-        sweep-same g (d .right g / 2) (omega arith),
+        sweep-same two same g w (omega arith),
+        two (sweep op c u g) (sweep op d v g) (d .left g) (d .right g) (sweep-same two same g (d .left g / 2) (omega arith))
+            (sweep-same two same g (d .right g / 2) (omega arith)),
       )
 
+  -- the same wires depend on a read bit
   depends-same : (w : ℕ) → dependsOnRead c w ≡ dependsOnRead d w
   unfolding dependsOnRead
-  depends-same w = sweep-same (c .gates) w (le-refl _) ∙ rw gates-same
+  depends-same w = sweep-same eitherWire-of-two isRead-same (c .gates) w (le-refl _) ∙ rw gates-same
 
   free : {x y : ℕ} → x ≡ y → dependsOnRead c (x / 2) ≡ false → dependsOnRead d (y / 2) ≡ false
   free {x} {y} e h = sym (depends-same (y / 2)) ∙ rw (← e) h

@@ -1,8 +1,8 @@
--- `netlist::last_wire` meets its contract: the sizes are within their limits, so the sum fits.
+-- `netlist::wire_count` meets its contract: the sizes are within their limits, so the sum fits.
 use native.Mathlib.Omega.{arith}
 use Rattle.netlist.specs.NetOf.{netOf}
-use Rattle.netlist.proofs.last_wire.Statement.{statement}
-use Rattle.netlist.proofs.last_wire.Tie as tie
+use Rattle.netlist.proofs.wire_count.Statement.{statement}
+use Rattle.netlist.proofs.wire_count.Tie as tie
 
 add-result : tie.Need-add-result
 unfolding netOf
@@ -20,5 +20,5 @@ returns : tie.Need-returns
 unfolding netOf
 returns c = omega arith
 
-pub last-wire-spec : {M : Type 1} → statement M
-last-wire-spec = tie.close (tie.spec add-result add-result-2 add-result-3 returns)
+pub wire-count-spec : {M : Type 1} → statement M
+wire-count-spec = tie.close (tie.spec add-result add-result-2 add-result-3 returns)

@@ -1,0 +1,33 @@
+-- Netlists that agree below their sizes: entries past the sizes are ignored (RULES T39). Such netlists are accepted alike and have the
+-- same numbers and the same runs (proofs/Agree.antt, SameNumbers, SameRuns). Cited where a netlist stands in lists that have something
+-- past the sizes.
+use Prim.Native.Nat.{ℕ, _<_}
+use mathlib.Core.Path.{_≡_}
+use mathlib.Core.List.{List, [], _∷_}
+use Rattle.model.specs.Netlist.{Netlist}
+use Rattle.model.specs.Circuit.{State}
+
+-- two netlists with the same sizes
+abbrev pub sizesOf : Netlist → List ℕ
+sizesOf c = c .inputs ∷ c .latches ∷ c .gates ∷ c .m ∷ c .n ∷ c .initialWord ∷ []
+
+abbrev pub SameSizes : Netlist → Netlist → Type 0
+SameSizes c d = sizesOf c ≡ sizesOf d
+
+-- the same sizes, and the same entries below them
+pub record Agree (c d : Netlist) : Type 0 where
+  pub sizes-same : SameSizes c d
+  pub next-same : (l : ℕ) → l < c .latches → c .next l ≡ d .next l
+  pub reset-same : (l : ℕ) → l < c .latches → c .reset l ≡ d .reset l
+  pub left-same : (g : ℕ) → g < c .gates → c .left g ≡ d .left g
+  pub right-same : (g : ℕ) → g < c .gates → c .right g ≡ d .right g
+  pub address-same : (t : ℕ) → t < c .m → c .address t ≡ d .address t
+  pub data-same : (t : ℕ) → t < c .n → c .writeData t ≡ d .writeData t
+  pub WE-same : c .WE ≡ d .WE
+  pub RE-same : c .RE ≡ d .RE
+  pub P-same : c .P ≡ d .P
+
+-- two states of a netlist that agree on its latches and on every word
+pub record SameState (c : Netlist) (s r : State) : Type 0 where
+  pub latch-same : (l : ℕ) → l < c .latches → s .latch l ≡ r .latch l
+  pub memory-same : (x : ℕ) → s .memory x ≡ r .memory x

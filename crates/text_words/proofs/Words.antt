@@ -1,0 +1,113 @@
+-- Laws of specs/Words.antt: parts of a text in pieces, parts found from the left, parts joined. No contract cites this file.
+use Prim.Native.Nat.{ℕ, suc}
+use mathlib.Core.Path.{_≡_, refl, sym, _∙_, ap, ap₂}
+use mathlib.Core.Bool.{Bool, true, false, cond}
+use mathlib.Core.List.{List, [], _∷_, _++_, append-assoc, append-nil}
+use native.Mathlib.Omega.{arith}
+use lib.Dec.{eqb}
+use borrow.Author.Tests.{eq-eqb, eqb-true, ne-eqb}
+use Rattle.decimal.specs.Digits.{space}
+use Rattle.text_words.specs.Words.{partsAfter, restAfter, wordsOf, ended, Without}
+
+module _ (e : ℕ) where
+  -- A text in two pieces: the parts that end in the first, then those that end in the second.
+  pub parts-append : (begun s t : List ℕ) → partsAfter e begun (s ++ t) ≡ partsAfter e begun s ++ partsAfter e (restAfter e begun s) t
+  unfolding partsAfter restAfter
+  parts-append begun [] t = refl
+  parts-append begun (x ∷ s) t = by-byte (eqb x e) (parts-append [] s t) (parts-append (begun ++ x ∷ []) s t)
+    where
+      by-byte : (b : Bool) → partsAfter e [] (s ++ t) ≡ partsAfter e [] s ++ partsAfter e (restAfter e [] s) t
+          → partsAfter e (begun ++ x ∷ []) (s ++ t) ≡ partsAfter e (begun ++ x ∷ []) s ++ partsAfter e (restAfter e (begun ++ x ∷ []) s) t
+          → cond b (begun ∷ partsAfter e [] (s ++ t)) (partsAfter e (begun ++ x ∷ []) (s ++ t))
+          ≡ cond b (begun ∷ partsAfter e [] s) (partsAfter e (begun ++ x ∷ []) s)
+          ++ partsAfter e (cond b (restAfter e [] s) (restAfter e (begun ++ x ∷ []) s)) t
+      by-byte true p q = ap (λ (xs : List (List ℕ)). begun ∷ xs) p
+      by-byte false p q = q
+
+  pub rest-append : (begun s t : List ℕ) → restAfter e begun (s ++ t) ≡ restAfter e (restAfter e begun s) t
+  unfolding restAfter
+  rest-append begun [] t = refl
+  rest-append begun (x ∷ s) t = by-byte (eqb x e) (rest-append [] s t) (rest-append (begun ++ x ∷ []) s t)
+    where
+      by-byte : (b : Bool) → restAfter e [] (s ++ t) ≡ restAfter e (restAfter e [] s) t
+          → restAfter e (begun ++ x ∷ []) (s ++ t) ≡ restAfter e (restAfter e (begun ++ x ∷ []) s) t
+          → cond b (restAfter e [] (s ++ t)) (restAfter e (begun ++ x ∷ []) (s ++ t))
+          ≡ restAfter e (cond b (restAfter e [] s) (restAfter e (begun ++ x ∷ []) s)) t
+      by-byte true p q = p
+      by-byte false p q = q
+
+  -- a text without e ends no part
+  without-head : (x : ℕ) (s : List ℕ) → Without e (x ∷ s) → eqb x e ≡ false
+  without-head x s w = ne-eqb x e (λ h. w 0 (omega arith) h)
+
+  without-tail : (x : ℕ) (s : List ℕ) → Without e (x ∷ s) → Without e s
+  without-tail x s w i l h = w (suc i) (omega arith) h
+
+  pub parts-none : (begun s : List ℕ) → Without e s → partsAfter e begun s ≡ []
+  unfolding partsAfter
+  parts-none begun [] w = refl
+  parts-none begun (x ∷ s) w = rw (without-head x s w) (parts-none (begun ++ x ∷ []) s (without-tail x s w))
+
+  pub rest-all : (begun s : List ℕ) → Without e s → restAfter e begun s ≡ begun ++ s
+  unfolding restAfter
+  rest-all begun [] w = sym (append-nil begun)
+  rest-all begun (x ∷ s) w =
+      rw (without-head x s w) (rest-all (begun ++ x ∷ []) s (without-tail x s w) ∙ append-assoc begun (x ∷ []) s)
+
+  -- the first part is what stands before the first e
+  pub parts-first : (s t : List ℕ) → Without e s → partsAfter e [] (s ++ e ∷ t) ≡ s ∷ partsAfter e [] t
+  unfolding partsAfter
+  parts-first s t w =
+      parts-append [] s (e ∷ t) ∙ rw (parts-none [] s w, rest-all [] s w, eq-eqb e e refl)
+
+  -- Parts without e, joined, are the parts of what they are joined to; and nothing is behind them.
+  pub data EachWithout : List (List ℕ) → Type 0 where
+    nothing : EachWithout []
+    also : {x : List ℕ} {xs : List (List ℕ)} → Without e x → EachWithout xs → EachWithout (x ∷ xs)
+
+  pub parts-ended : (xs : List (List ℕ)) (t : List ℕ) → EachWithout xs → partsAfter e [] (ended e xs ++ t) ≡ xs ++ partsAfter e [] t
+  unfolding ended
+  parts-ended [] t nothing = refl
+  parts-ended (x ∷ xs) t (also w ws) =
+      ap (partsAfter e []) (append-assoc x (e ∷ ended e xs) t) ∙ parts-first x (ended e xs ++ t) w
+      ∙ ap (λ (ys : List (List ℕ)). x ∷ ys) (parts-ended xs t ws)
+
+  ended-append : (xs ys : List (List ℕ)) → ended e (xs ++ ys) ≡ ended e xs ++ ended e ys
+  unfolding ended
+  ended-append [] ys = refl
+  ended-append (x ∷ xs) ys =
+      ap (λ (t : List ℕ). x ++ e ∷ t) (ended-append xs ys) ∙ sym (append-assoc x (e ∷ ended e xs) (ended e ys))
+
+  -- A text is its parts, joined, and the rest: nothing is lost.
+  pub ended-parts : (begun s : List ℕ) → ended e (partsAfter e begun s) ++ restAfter e begun s ≡ begun ++ s
+  unfolding ended partsAfter restAfter
+  ended-parts begun [] = sym (append-nil begun)
+  ended-parts begun (x ∷ s) = by-byte (eqb x e) refl (ended-parts [] s) (ended-parts (begun ++ x ∷ []) s)
+    where
+      by-byte : (b : Bool) → eqb x e ≡ b → ended e (partsAfter e [] s) ++ restAfter e [] s ≡ s
+          → ended e (partsAfter e (begun ++ x ∷ []) s) ++ restAfter e (begun ++ x ∷ []) s ≡ (begun ++ x ∷ []) ++ s
+          → ended e (cond b (begun ∷ partsAfter e [] s) (partsAfter e (begun ++ x ∷ []) s))
+          ++ cond b (restAfter e [] s) (restAfter e (begun ++ x ∷ []) s) ≡ begun ++ x ∷ s
+      by-byte true h p q =
+          append-assoc begun (e ∷ ended e (partsAfter e [] s)) (restAfter e [] s)
+          ∙ ap₂ (λ (y : ℕ) (ys : List ℕ). begun ++ y ∷ ys) (sym (eqb-true x e h)) p
+      by-byte false h p q = q ∙ append-assoc begun (x ∷ []) s
+
+-- the first word of a line is what stands before its first space; a line without a space is one word
+pub words-first : (s t : List ℕ) → Without space s → wordsOf (s ++ space ∷ t) ≡ s ∷ wordsOf t
+unfolding wordsOf restAfter
+words-first s t w =
+    ap₂ (λ (xs : List (List ℕ)) (r : List ℕ). xs ++ r ∷ []) (parts-first space s t w)
+    (rest-append space [] s (space ∷ t))
+
+pub words-last : (s : List ℕ) → Without space s → wordsOf s ≡ s ∷ []
+unfolding wordsOf
+words-last s w = rw (parts-none space [] s w, rest-all space [] s w)
+
+-- a line is its words joined, each with a space behind it but the last
+pub words-joined : (s : List ℕ) → ended space (wordsOf s) ≡ s ++ space ∷ []
+unfolding wordsOf ended
+words-joined s =
+    ended-append space (partsAfter space [] s) (restAfter space [] s ∷ [])
+    ∙ sym (append-assoc (ended space (partsAfter space [] s)) (restAfter space [] s) (space ∷ []))
+    ∙ ap (λ (x : List ℕ). x ++ space ∷ []) (ended-parts space [] s)

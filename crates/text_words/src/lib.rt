@@ -1,0 +1,1 @@
+// Lines and words of a text: definitions and their laws, for whatever reads a text of lines. Nothing to run.
