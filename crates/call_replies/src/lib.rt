@@ -109,7 +109,7 @@ pub fn heading_numbers(answer: HeadingAnswer) -> HeadingReply
     }
 }
 
-// What is sent back of a sheet: number (0 where it is not refused), place, and the record, all zeros at a refusal.
+// What is sent back of a sheet: number (0 where it is not refused), place, and the record.
 #[repr(C)]
 pub struct SheetReply {
     pub number: u32,
@@ -117,7 +117,7 @@ pub struct SheetReply {
     pub net: Netlist,
 }
 
-// A sheet's.
+// A sheet's. The record is passed on: at a refusal `read` answers one that is all zeros.
 pub fn sheet_numbers(sheet: SheetAnswer) -> SheetReply
     ensures { λ r. ⌜ r ≡ sheetNumbers (sheet .verdict) (sheet .net) ⌝ }
 {

@@ -28,7 +28,7 @@ fn depth_beside(verdict: Verdict, depth: u32) -> u32
     }
 }
 
-// A verdict as number and place, with the depth and a record beside them.
+// A verdict as number and place, with the depth beside them, 0 at a refusal, and a record, which is passed on.
 fn answer(verdict: Verdict, depth: u32, net: Netlist) -> Input
     ensures { λ r. ⌜ r ≡ withDepthAndRecord verdict depth net ⌝ }
 {
