@@ -63,7 +63,7 @@ impl<'a> Reader<'a> {
 
     /// A line of literals, none above 2M + 1.
     fn literals<const COUNT: usize>(&mut self) -> Option<[u32; COUNT]> {
-        let numbers = read_numbers(self.next_line()?)?;
+        let numbers: [u32; COUNT] = read_numbers(self.next_line()?)?;
         let limit = 2 * u64::from(self.largest_variable) + 1;
         let within = |number: &u32| u64::from(*number) <= limit;
         numbers.iter().all(within).then_some(numbers)
@@ -71,7 +71,7 @@ impl<'a> Reader<'a> {
 
     /// A line of literals of which the first defines its variable.
     fn definition<const COUNT: usize>(&mut self) -> Option<[u32; COUNT]> {
-        let literals = self.literals()?;
+        let literals: [u32; COUNT] = self.literals()?;
         let defined = literals[0];
         let positive = defined > 1 && defined % 2 == 0;
         (positive && self.defined_variables.insert(defined / 2)).then_some(literals)

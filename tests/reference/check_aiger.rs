@@ -47,7 +47,7 @@ const BARE: &str = "aag 2 2 0 5 0/2/4/0/2/1/1/5/";
 
 /// Whole texts with m = n = 1 and start word 0.
 #[rustfmt::skip]
-const TEXTS: [(&str, Expected); 80] = [
+const TEXTS: [(&str, Expected); 81] = [
     (BARE, Ok(FULL_RUN)),
     // Variables get their wires in the order of the text, the read bits behind the latches.
     ("aag 2 2 0 5 0/4/2/0/4/1/1/3/", Ok(FULL_RUN)),
@@ -76,6 +76,7 @@ const TEXTS: [(&str, Expected); 80] = [
     ("aag 4294967295 2 0 5 0/2/4/0/2/1/1/5/", Ok(FULL_RUN)),
     ("aag 2147483647 2 0 5 0/2/4294967294/0/2/1/1/4294967295/", Ok(FULL_RUN)),
     ("aag 2147483648 2 0 5 0/2/4294967294/0/2/1/1/4294967295/", Ok(FULL_RUN)),
+    ("aag 2147483649 2 0 5 0/2/4/0/2/1/1/5/", Ok(FULL_RUN)),
     ("aag 4294967295 2 0 5 0/2/4294967294/0/2/1/1/4294967295/", Ok(FULL_RUN)),
     ("aag 2147483646 2 0 5 0/2/4294967294/0/2/1/1/4294967295/", Err((11, 3))),
     ("aag 2147483646 2 0 5 0/2/4294967292/0/2/1/1/4294967294/", Err((11, 8))),
@@ -193,9 +194,9 @@ const HEADERS: [&str; 42] = [
     "aag 2 2 0 5 0 0 0 0 0",
 ];
 
-/// A text with every kind of line, m = n = 2 and start word 2. Inputs are lines 2 to 4, the latch 5,
-/// the address 6 and 7, write data 8 and 9, WE 10, RE 11, P 12, the gate 13. Variables 2 and 3 are
-/// the read bits and variable 6 is not defined.
+/// A text with every kind of line, m = n = 2 and start word 2. Inputs are lines 2 to 4, the latch
+/// is 5, the address 6 and 7, write data 8 and 9, WE 10, RE 11, P 12, the gate 13. Variables 2 and
+/// 3 are the read bits and variable 6 is not defined.
 const RICH_TEXT: &str = "aag 6 3 1 7 1/2/4/6/8 10/8/3/10/6/11/9/7/10 2 5/";
 
 /// Its sheet. Wires: input 1, latch 2, read bits 3 and 4, gate 5.
@@ -203,8 +204,8 @@ const RICH_SHEET: &str = "N 1 1 1/M 2 2 2/L 10 0/G 2 7/A 4/A 3/D 10/D 8/C 11 5 9
 
 const RICH_MEMORY: [u32; 3] = [2, 2, 2];
 
-/// A line of `RICH_TEXT`, what stands there instead, and the line of the sheet that becomes another,
-/// or the verdict.
+/// A line of `RICH_TEXT`, what stands there instead, and the line of the sheet that becomes
+/// another, or the verdict.
 type LineRow = (usize, &'static str, Result<(usize, &'static str), Verdict>);
 
 #[rustfmt::skip]
@@ -348,7 +349,7 @@ const MEMORIES: [(&str, [u32; 3], Expected); 25] = [
     (BARE, [1, 1, 1], Ok("N 1 0 0/M 1 1 1/A 0/D 2/C 1 1 5")),
     (BARE, [1, 1, 2], Err((4, 2))),
     (BARE, [1, 1, u32::MAX], Err((4, 2))),
-    // The last n inputs are the read bits: with n = 1 variable 1 is an input, with n = 2 a read bit.
+    // The last n inputs are the read bits: variable 1 is one with n = 2, not with n = 1.
     ("aag 2 2 0 6 0/2/4/2/2/2/1/1/5/", [2, 1, 0], Ok("N 1 0 0/M 2 1 0/A 2/A 2/D 2/C 1 1 5")),
     ("aag 2 2 0 6 0/2/4/2/2/2/1/1/5/", [1, 2, 0], Err((6, 3))),
     ("aag 2 2 0 6 0/2/4/2/4/2/1/4/5/", [2, 1, 0], Err((6, 4))),
@@ -596,9 +597,9 @@ struct Faulty {
 /// A fault and its verdict.
 type FaultRow = (&'static str, fn(&mut Faulty), Verdict);
 
-/// Inputs are lines 2 to 4, latches 5 and 6, address 7 and 8, write data 9 and 10, WE, RE and P 11 to
-/// 13, gates 14 and 15; variables 8 and 9 are not defined. In the sheet the address has lines 7 and 8
-/// and WE, RE and P line 11.
+/// Inputs are lines 2 to 4, latches 5 and 6, address 7 and 8, write data 9 and 10, WE, RE and P 11
+/// to 13, gates 14 and 15; variables 8 and 9 are not defined. In the sheet the address has lines 7
+/// and 8, and WE, RE and P have line 11.
 const FAULTY: &str = "aag 9 3 2 7 2/2/4/6/8 14/10 3/8/3/12/6/13/9/7/12 2 5/14 12 10/";
 
 /// In the order of the tests: the first of several faults gives the verdict.
@@ -771,8 +772,8 @@ fn wrong_answer(random: &mut Random, call: &Call) -> Option<&'static str> {
     parts.then_some("values")
 }
 
-/// Random accepted texts in every numbering: the netlist that was written, its values, the room that
-/// it needs, whatever follows the text, and the last line feed.
+/// Random accepted texts in every numbering: the netlist that was written, its values, whatever
+/// follows the text, and the last line feed. The room lent is just enough.
 pub fn random_texts(tally: &mut Tally) {
     let mut random = Random::new(10);
     let mut shapes = [0; SHAPES.len()];
@@ -808,7 +809,7 @@ pub fn random_texts(tally: &mut Tally) {
     }
 }
 
-/// Wrong netlists part from their text: a comparison of values that never finds anything is no test.
+/// Wrong netlists part from their text: the comparison of values can fail.
 pub fn values_part(tally: &mut Tally) {
     let mut random = Random::new(11);
     let mut found = 0;
