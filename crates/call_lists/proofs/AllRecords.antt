@@ -54,7 +54,7 @@ use Rattle.model.specs.Wrote.{over}
 use Rattle.call_lists.proofs.Unpacked.{unpackedTo, unpackedTo-none, unpackedTo-next, unpackedTo-all, span-within}
 use Rattle.call_lists.proofs.OneRecord as one
 use Rattle.call_lists.proofs.OneRecord.{Codes, codes-ty}
-use Rattle.walks.proofs.Walk.{bare, calls-told, _&_, cell, frees-all, array-length, meets-of}
+use Rattle.hand_proofs.proofs.Walk.{bare, calls-told, _&_, cell, frees-all, array-length, meets-of}
 use Rattle.call_lists.proofs.unpack.span as span
 use Rattle.call_lists.proofs.unpack.span.Symbol.{name as #span}
 

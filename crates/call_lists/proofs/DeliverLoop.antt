@@ -54,7 +54,7 @@ use denote.Triple.Spec.{Meets}
 use denote.Triple.Clauses.{Clauses, Ended, ensured, lasts, closing}
 use denote.Triple.Walked.{says, needs, Stays, stay-slice, stay-none, stay-none-ref, walkOf, Walks, ends-at, walked, goes-slice, goes-none, goes-none-ref, walk-meets}
 use Rattle.call_lists.specs.Delivered.{delivered}
-use Rattle.walks.proofs.Walk.{bare, _&_, cell, frees-all}
+use Rattle.hand_proofs.proofs.Walk.{bare, _&_, cell, frees-all}
 use Rattle.call_lists.proofs.DeliverContract as promise
 use Rattle.call_lists.proofs.Delivered.{delivered-none, length-delivered, delivered-next}
 

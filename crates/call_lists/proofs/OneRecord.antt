@@ -45,7 +45,7 @@ use denote.Exit.{yes}
 use Rattle.netlist.specs.NetOf.{putNumbers}
 use Rattle.netlist.proofs.put_numbers as put
 use Rattle.netlist.proofs.put_numbers.Symbol.{name as #put}
-use Rattle.walks.proofs.Walk.{calls-told, _&_, cell, frees-all, meets-of}
+use Rattle.hand_proofs.proofs.Walk.{calls-told, _&_, cell, frees-all, meets-of}
 
 -- the unpacked codes, and their type in MIR
 abbrev pub Codes : RattleType

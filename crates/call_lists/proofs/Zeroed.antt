@@ -42,7 +42,7 @@ use Rattle.model.specs.Wrote.{over}
 use Rattle.call_lists.proofs.OneRecord as one
 use Rattle.call_lists.proofs.OneRecord.{Codes, codes-ty}
 use Rattle.call_lists.proofs.AllRecords as all
-use Rattle.walks.proofs.Walk.{calls-told}
+use Rattle.hand_proofs.proofs.Walk.{calls-told}
 
 unfoldable pub zeros : List ℕ
 zeros = replicate 1200 0

@@ -1,6 +1,6 @@
 -- From a run that breaks the property to the assignment that makes all clauses true: the witness of its frames.
 -- No contract cites this file.
-use Prim.Native.Nat.{ℕ, zero, suc, _-_, _*_, _<_, _≤_}
+use Prim.Native.Nat.{ℕ, zero, suc, _*_, _<_, _≤_}
 use mathlib.Core.Path.{_≡_, refl, sym, _∙_, ap, ap₂}
 use mathlib.Core.Bool.{Bool, true, cond, _&&_}
 use native.Mathlib.Numerals.{add-one}

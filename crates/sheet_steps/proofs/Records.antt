@@ -16,7 +16,7 @@ use Rattle.netlist.specs.NetOf.{codeOf, netOf}
 use Rattle.netlist.specs.RecordOf.{codeEntry, recordOf}
 use Rattle.netlist.specs.declared.Netlist.{Netlist}
 use Rattle.sheet_steps.specs.declared.SheetAnswer.{SheetAnswer}
-use Rattle.sheet_steps.specs.Records.{recordBeside, sheetAnswer, refusedAt}
+use Rattle.sheet_steps.specs.Records.{recordBeside, refusedAt}
 use Rattle.sheet_steps.specs.Lists.{FullLength, Holds, ListsBeside}
 use Rattle.sheet_steps.specs.Steps.{Outcome}
 

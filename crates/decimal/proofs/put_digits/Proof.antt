@@ -1,6 +1,6 @@
 -- `decimal::put_digits` meets its contract. The loop's invariant: the i digits of `rest` that are still to be written, with what
 -- stands behind them, are the digits of x before what stood behind them at first.
-use Prim.Native.Nat.{ℕ, suc, _+_, _-_, _≤_}
+use Prim.Native.Nat.{ℕ, suc, _-_, _≤_}
 use mathlib.Core.Path.{_≡_, refl, sym, ap, _∙_}
 use mathlib.Core.List.{List, _++_}
 use native.Mathlib.Omega.{arith}

@@ -41,7 +41,7 @@ use Rattle.call_lists.specs.declared.Latch.{Latch}
 use Rattle.call_lists.specs.declared.Gate.{Gate}
 use Rattle.call_lists.proofs.Latch as L
 use Rattle.call_lists.proofs.Gate as G
-use Rattle.walks.proofs.Walk.{calls-told, _&_, cell, frees-all, meets-of}
+use Rattle.hand_proofs.proofs.Walk.{calls-told, _&_, cell, frees-all, meets-of}
 use Rattle.call_unpacked.specs.Calls.{headingReply}
 use Rattle.model.specs.Acceptance.{PathTheorem}
 use Rattle.calls.specs.Starred.{Starred}

@@ -46,7 +46,7 @@ use Rattle.call_lists.specs.declared.Latch.{Latch}
 use Rattle.call_lists.specs.declared.Gate.{Gate}
 use Rattle.call_lists.proofs.Latch as L
 use Rattle.call_lists.proofs.Gate as G
-use Rattle.walks.proofs.Walk.{both, calls-told, _&_, cell, frees-all, meets-of}
+use Rattle.hand_proofs.proofs.Walk.{both, calls-told, _&_, cell, frees-all, meets-of}
 use Rattle.call_unpacked.specs.Calls.{groupReply}
 use Rattle.call_unpacked.specs.declared.GroupAnswer.{GroupAnswer}
 use Rattle.call_unpacked.proofs.GroupAnswer as Answer

@@ -49,7 +49,7 @@ use denote.Triple.Statement.{Contract, Triple}
 use denote.Triple.Table.{entered, cited}
 use denote.Triple.Walked.{says, needs, Stays, stay-dropped, stay-ref, walkOf, goes-dropped, goes-ref, ends-at}
 use denote.Exit.{yes}
-use Rattle.walks.proofs.Walk.{bare, calls-told, _&_, cell, frees-all, meets-of}
+use Rattle.hand_proofs.proofs.Walk.{bare, calls-told, _&_, cell, frees-all, meets-of}
 use Rattle.netlist.specs.NetOf.{netOf, alone}
 use Rattle.sheet_steps.specs.Steps.{Outcome, SizesKnown}
 use Rattle.sheet_steps.specs.Lists.{FullLength}

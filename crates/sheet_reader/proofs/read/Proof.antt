@@ -45,7 +45,7 @@ use denote.Triple.Table.{entered, cited}
 use denote.Triple.Walked.{says, Stays, stay-none-slice, gave-slice, onExit, walkOf, goes-none-slice, goes-gave-slice, Walks, ends-at, walked, walk-meets}
 use denote.Exit.{yes}
 use denote.Triple.Clauses.{Lasts, lasts}
-use Rattle.walks.proofs.Walk.{bare, _&_, cell, frees-all}
+use Rattle.hand_proofs.proofs.Walk.{bare, _&_, cell, frees-all}
 use Rattle.model.specs.Acceptance.{PathTheorem}
 use Rattle.refusals.specs.Refusal.{replyOf}
 use Rattle.sheet_steps.specs.declared.SheetAnswer.{SheetAnswer}
