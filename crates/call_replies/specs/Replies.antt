@@ -5,13 +5,12 @@ use mathlib.Core.Bool.{cond}
 use lib.Dec.{eqb}
 use Rattle.model.specs.declared.Group.{Group}
 use Rattle.model.specs.declared.Group.the-variants.{Wires, Pair, Closing, Property}
-use Rattle.refusals.specs.Refusal.{refusalNumber, replyOf}
+use Rattle.refusals.specs.Refusal.{replyOf}
 use Rattle.refusals.specs.Slices as Slices
 use Rattle.refusals.specs.declared.Verdict.{Verdict}
 use Rattle.netlist.specs.declared.Netlist.{Netlist}
-use Rattle.sheet_lines.specs.Letters.{letterOf}
+use Rattle.sheet_parse.specs.LineAnswers.{lineSent}
 use Rattle.sheet_parse.specs.declared.LineAnswer.{LineAnswer}
-use Rattle.sheet_parse.specs.declared.LineAnswer.the-variants.{Line, Refused, NoLine}
 use Rattle.call_unpacked.specs.Calls as Calls
 use Rattle.call_replies.specs.declared.CountReply.{CountReply}
 use Rattle.call_replies.specs.declared.HeadingReply.{HeadingReply}
@@ -38,7 +37,14 @@ withoutFields number place line =
     record { number = number; place = place; letter = 0; first = 0; second = 0; third = 0; line = line }
 
 unfoldable pub lineNumbers : LineAnswer → ℕ → LineReply
-lineNumbers (Line kind first second third) line =
-    record { number = 0; place = 0; letter = letterOf kind; first = first; second = second; third = third; line = line }
-lineNumbers (Refused refusal place) line = withoutFields (refusalNumber refusal) place line
-lineNumbers NoLine line = withoutFields 0 0 line
+lineNumbers answer line =
+    let sent = lineSent answer in
+    record {
+      number = sent .number;
+      place = sent .place;
+      letter = sent .letter;
+      first = sent .first;
+      second = sent .second;
+      third = sent .third;
+      line = line;
+    }

@@ -6,7 +6,9 @@ use mathlib.Core.List.{List}
 use lib.Dec.{leb, ltb}
 use lib.ListN.{length}
 use Rattle.model.specs.Limits.{lineBytes, mostLines}
+use Rattle.refusals.specs.Refusal.{refusalNumber}
 use Rattle.refusals.specs.declared.Refusal.the-variants as Refusal
+use Rattle.sheet_lines.specs.Letters.{letterOf}
 use Rattle.sheet_lines.specs.declared.ParsedLine.{ParsedLine}
 use Rattle.sheet_lines.specs.declared.ParsedLine.the-variants.{Misprint, Read}
 use Rattle.sheet_parse.specs.declared.LineAnswer.{LineAnswer}
@@ -26,6 +28,22 @@ answerOf (Read kind first second third) place = Line kind first second third
 -- the answer, and how many lines are read with it: one more, be it misprinted or not, and no more where there is none
 unfoldable pub lineAnswer : List ℕ → ℕ → LineAnswer
 lineAnswer file line = cond (hasLine file line) (answerOf (lineIn file (line + 1)) (line + 1)) NoLine
+
+-- an answer in the rules' numbers: a refusal's number and place, the line's letter and its numbers; all else is 0
+pub record LineSent : Type 0 where
+  pub number : ℕ
+  pub place : ℕ
+  pub letter : ℕ
+  pub first : ℕ
+  pub second : ℕ
+  pub third : ℕ
+
+unfoldable pub lineSent : LineAnswer → LineSent
+lineSent (Line kind first second third) =
+    record { number = 0; place = 0; letter = letterOf kind; first = first; second = second; third = third }
+lineSent (Refused refusal place) =
+    record { number = refusalNumber refusal; place = place; letter = 0; first = 0; second = 0; third = 0 }
+lineSent NoLine = record { number = 0; place = 0; letter = 0; first = 0; second = 0; third = 0 }
 
 unfoldable pub linesRead : List ℕ → ℕ → ℕ
 linesRead file line = cond (hasLine file line) (line + 1) line

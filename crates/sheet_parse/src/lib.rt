@@ -14,7 +14,7 @@ ghost use Rattle.netlist.specs.NetOf.{netOf, alone};
 ghost use Rattle.sheet_steps.specs.Steps.{Outcome, SizesKnown};
 ghost use Rattle.sheet_steps.specs.Lists.{FullLength};
 ghost use Rattle.sheet_parse.specs.Files.{lineCount, lineIn, netIn};
-ghost use Rattle.sheet_parse.specs.LineAnswers.{hasLine, lineAfter};
+ghost use Rattle.sheet_parse.specs.LineAnswers.{hasLine, lineAnswer, lineSent, lineAfter};
 ghost use Rattle.sheet_parse.specs.NextLine.{nextLine};
 ghost use Rattle.sheet_parse.specs.FileTests.{ragged, testLineIn};
 ghost use Rattle.sheet_parse.specs.Progress.{noCodes, noProgress, progressWith, answerVerdict, answerNet, moreAfter};
@@ -112,7 +112,7 @@ pub struct NextLine<'a> {
 impl<'a> SheetReader<'a> {
     // The next line, and the reader behind it: moved on where there is a line, be it misprinted or not, and else unmoved.
     pub fn next_line(self) -> NextLine<'a>
-        ensures { λ r. ⌜ r ≡ nextLine (self .entry) ⌝ }
+        ensures { λ r. ⌜ (r ≡ nextLine (self .entry)) × (lineSent (r .line) ≡ lineSent (lineAnswer (now (self .entry .file)) (self .entry .line))) ⌝ }
     {
         let after = line_after(self.file, self.line);
         NextLine {

@@ -40,7 +40,7 @@ use denote.Triple.Table.{entered, cited}
 use denote.Triple.Walked.{says, Stays, stay-dropped, walkOf, goes-dropped, ends-at}
 use denote.Exit.{yes}
 use Rattle.hand_proofs.proofs.Walk.{calls-told, _&_, cell, frees-all, meets-of}
-use Rattle.sheet_parse.specs.LineAnswers.{lineAnswer, linesRead}
+use Rattle.sheet_parse.specs.LineAnswers.{lineAnswer, lineSent, linesRead}
 use Rattle.sheet_parse.specs.declared.LineAnswer.{LineAnswer}
 use Rattle.sheet_parse.proofs.LineAnswer as K
 use Rattle.sheet_parse.proofs.LineAnswer.Laws as K′
@@ -145,8 +145,8 @@ module _ {M : Type 1} (𝓤 : URA M) (H : Heap 𝓤) (A : Atoms 𝓤) (W : Given
           nothing ! $ move ! (1 ∷ 0 ∷ []) $ fjoin ! $ move ! (15 ∷ 0 ∷ []) $ join ! $
           calls-told ! fm next.ended (next.clauses 𝓤 H A mem run) known-next ((κ, tt), (q, tt), tt, (r, tt), (mach ∷ [], tt)) tt
           (id⊢ 𝓤 (emp 𝓤)) (and-then ! (load ! (from ! (stop !)) (look ! 5 refl)) (no-more !)) (λ w x ws.
-          heard ! (x ≡ nextLine r) (λ e. move ! (1 ∷ []) $
-          rewrite ! 0 (λ (y : NextLine). ‵ (N.the-row α .own y (w ∷ []))) e refl $
+          heard ! ((x ≡ nextLine r) × (lineSent (x .line) ≡ lineSent (lineAnswer (now (r .file)) (r .line)))) (λ e. move ! (1 ∷ []) $
+          rewrite ! 0 (λ (y : NextLine). ‵ (N.the-row α .own y (w ∷ []))) (e .0) refl $
           -- [what the answer owns; …; the token; _6; …]
           peeks ! (N.the-row α) (Is (N.the-row α)) (shows 𝓤 H A (N.the-row α)) (nextLine r) (w ∷ []) (λ is-next.
           land ! (from ! (stop !)) (init ! 9 refl (LL.lawful (N.the-type β) (N′.the-laws β) 𝓤 H A W .typed (nextLine r)

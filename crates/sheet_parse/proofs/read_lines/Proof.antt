@@ -57,7 +57,7 @@ use Rattle.sheet_steps.proofs.SheetAnswer as S
 use Rattle.sheet_steps.proofs.SheetAnswer.Laws as S′
 use Rattle.sheet_parse.specs.Files.{lineCount}
 use Rattle.sheet_parse.specs.FileTests.{ragged}
-use Rattle.sheet_parse.specs.LineAnswers.{lineAnswer, linesRead}
+use Rattle.sheet_parse.specs.LineAnswers.{lineAnswer, lineSent, linesRead}
 use Rattle.sheet_parse.specs.NextLine.{nextLine}
 use Rattle.sheet_parse.specs.Progress.{noCodes, noProgress, answerVerdict, answerNet, moreAfter}
 use Rattle.sheet_parse.specs.declared.LineAnswer.{LineAnswer}
@@ -257,8 +257,8 @@ module _ {M : Type 1} (𝓤 : URA M) (H : Heap 𝓤) (A : Atoms 𝓤) (W : Given
         calls-told ! (fmOf 𝓤 H (W .laws) 𝓣) next.ended (next.clauses 𝓤 H A mem run) known-next
         ((κ₀, tt), (q₀, tt), tt, (reader p, tt), (T′.lowered (reader p) ∷ [], tt)) tt (id⊢ 𝓤 (emp 𝓤))
         (and-then ! (load ! (from ! (stop !)) (look ! 14 refl)) (no-more !)) (λ w y ws.
-        heard ! (y ≡ nextLine (reader p)) (λ is. move ! (1 ∷ []) $
-        rewrite ! 0 (λ (z : NextLine). ‵ (N.the-row α .own z (w ∷ []))) is refl $
+        heard ! ((y ≡ nextLine (reader p)) × (lineSent (y .line) ≡ lineSent (lineAnswer (now file) p))) (λ told. move ! (1 ∷ []) $
+        rewrite ! 0 (λ (z : NextLine). ‵ (N.the-row α .own z (w ∷ []))) (told .0) refl $
         -- [the answer; …; the file's token; latches; its token; gates; its token; the progress; _12; …]
         peeks ! (N.the-row α) (Is (N.the-row α)) (shows 𝓤 H A (N.the-row α)) (nextLine (reader p)) (w ∷ []) (λ is-next.
         land ! (from ! (stop !)) (init ! 20 refl (LL.lawful (N.the-type β) (N′.the-laws β) 𝓤 H A W .typed (nextLine (reader p))

@@ -129,7 +129,7 @@ module _ {M : Type 1} (𝓤 : URA M) (H : Heap 𝓤) (A : Atoms 𝓤) (W : Given
   exits fits =
       qed W (‵ (K.the-row .own line (lineVal ∷ [])) ∷ (‵ (flft κ q) ⊛ ‵ ftrue) ∷ ‵ Own ∷ []) ∵
       suffices ! _ (ends-at 𝓤 H A next.ended stayed (next.clauses 𝓤 H A mem run) W
-      (((κ, tt), (q, tt), tt, (r, tt), (mach ∷ [], tt)), tt) result (nextLine r) (tt, tt) (tt, tt)) $ says ! refl $
+      (((κ, tt), (q, tt), tt, (r, tt), (mach ∷ [], tt)), tt) result (nextLine r) (tt, tt) (tt, tt)) $ says ! (refl, refl) $
       move ! (1 ∷ []) $ frame ! $ nothing ! $ move ! (2 ∷ []) $ use1 W (‵ Own ⊛ ‵ Own) twice $ split ! $ move ! (0 ∷ 2 ∷ []) $
       fjoin ! $ frame ! $
       -- [what the reader owns; what the line owns]
