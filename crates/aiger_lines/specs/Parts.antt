@@ -6,7 +6,7 @@ use mathlib.Core.List.{List, [], _∷_}
 use lib.Dec.{eqb, ltb}
 use lib.ListN.{length, getD}
 use Rattle.decimal.specs.TextValue.{sameText}
-use Rattle.aiger_lines.specs.Words.{numbersOf, wordsAt}
+use Rattle.aiger_lines.specs.Numbers.{numbersOf, wordsAt}
 use Rattle.aiger_lines.specs.declared.Counts.{Counts}
 use Rattle.aiger_lines.specs.declared.Part.{Part}
 use Rattle.aiger_lines.specs.declared.Part.the-variants.{Header, Input, Latch, Output, Gate}

@@ -5,7 +5,7 @@ use mathlib.Core.Bool.{true, false, cond}
 use mathlib.Core.List.{List, [], _∷_, _++_}
 use lib.Dec.{eqb, ltb}
 use lib.ListN.{length, drop, replicate}
-use Rattle.aiger_lines.specs.Words.{linesIn}
+use Rattle.text_words.specs.Words.{linesOf}
 use Rattle.aiger_lines.specs.Parts.{lineNumbers, countsIn, linesDue, malformedAt}
 use Rattle.aiger_lines.specs.declared.Counts.{Counts}
 use Rattle.aiger_lines.specs.declared.Numbers.{Numbers}
@@ -25,7 +25,7 @@ firstFive xs =
 -- what follows the first p lines begins at byte `at`
 pub record Behind (s : List ℕ) (p at : ℕ) : Type 0 where
   pub within : at ≤ length s
-  pub rest : drop p (linesIn s) ≡ linesIn (drop at s)
+  pub rest : drop p (linesOf s) ≡ linesOf (drop at s)
 
 -- line p + 1 was read
 pub record NextLine (s : List ℕ) (p : ℕ) (numbers : Numbers) (next : ℕ) : Type 0 where

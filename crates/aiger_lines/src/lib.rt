@@ -1,12 +1,7 @@
 // The lines of an ASCII AIGER text: what each is by the header's counts, and its numbers.
-use decimal::Number;
 ghost use mathlib.Core.Path.{_≡_};
-ghost use mathlib.Core.List.{[]};
-ghost use Prim.Native.Nat.{_+_, _-_, _≤_};
-ghost use lib.ListN.{length, take, drop};
-ghost use Rattle.decimal.specs.Digits.{space, lineFeed};
-ghost use Rattle.aiger_lines.specs.Words.{wordsIn, numbersOf};
-ghost use Rattle.aiger_lines.specs.Parts.{partAt, width, malformed};
+ghost use Prim.Native.Nat.{_+_, _≤_};
+ghost use lib.ListN.{length, drop};
 ghost use Rattle.aiger_lines.specs.Steps.{spanTo};
 
 // The header's counts: the largest variable (the report's M), inputs, latches, outputs, gates.
