@@ -8,7 +8,7 @@ use native.Mathlib.Decide.{decLt}
 use native.Mathlib.Numerals.{add-one}
 use native.Mathlib.Omega.{arith}
 use borrow.Author.Tests.{lt-ltb, le-ltb}
-use lib.ListN.{length, getD, take, drop, set, replicate, length-append, length-replicate, length-set, take-append-drop, List·getD-append, List·getD-eq-default, getD-replicate}
+use lib.ListN.{length, getD, take, drop, set, replicate, length-append, length-replicate, take-append-drop, List·getD-append, List·getD-eq-default}
 use lib.Seq.{getD-take, length-take-le, take-suc-set, drop-set-lt, drop-drop, take-at, getD-append-add}
 use Rattle.decimal.specs.TextValue.{numberIn}
 use Rattle.decimal.specs.declared.Number.the-variants.{Value, NotANumber}

@@ -1,32 +1,28 @@
 -- Laws of reading line by line (specs/Steps.antt): the line that is read next, and what the lines up to the last sound one give. No
 -- contract cites this file.
-use Prim.Native.Nat.{ℕ, zero, suc, _+_, _-_, _*_, _%_, _≤_, _<_}
+use Prim.Native.Nat.{ℕ, suc, _+_, _-_, _≤_, _<_}
 use mathlib.Core.Path.{_≡_, refl, sym, ap, _∙_}
-use mathlib.Core.Bool.{Bool, true, false, cond, not, _&&_, _||_, true≢false, false≢true}
+use mathlib.Core.Bool.{Bool, true, false, cond}
 use mathlib.Core.List.{List, [], _∷_}
 use mathlib.Core.Logic.{by-cases}
 use native.Mathlib.Decide.{decLt}
 use native.Mathlib.Numerals.{add-one}
 use native.Mathlib.Omega.{arith}
-use borrow.Author.Tests.{eq-eqb, ne-eqb, eqb-true, eqb-false, ltb-false, le-ltb, lt-ltb, not-true, not-false}
-use lib.Dec.{eqb, ltb}
+use borrow.Author.Tests.{ne-eqb}
 use lib.ListN.{length, getD, take, drop, drop-of-length-le}
-use lib.Seq.{drop-cons, drop-drop, drop-nil, getD-drop}
+use lib.Seq.{drop-drop, getD-drop}
 use Rattle.model.specs.Search.{IsFirst}
-use Rattle.model.proofs.Booleans.{neither-true, and-true}
 use Rattle.decimal.specs.Digits.{lineFeed, space}
 use Rattle.decimal.specs.TextValue.{sameText}
-use Rattle.decimal.specs.declared.Number.the-variants.{NotANumber}
 use Rattle.decimal.proofs.TextValue.{numberIn-empty}
 use Rattle.text_words.specs.Words.{linesOf, wordsOf, restAfter, partsAfter}
-use Rattle.text_words.proofs.Words.{words-last}
 use Rattle.aiger_lines.specs.Numbers.{numbersOf, allNumbers, values, wordsAt}
-use Rattle.aiger_lines.specs.Parts.{aag, headerNumbers, lineNumbers, countsIn, countsOf, partAt, linesDue, width, hasLiterals, defines, literalLimit, anyAbove, notDefinable, malformed, malformedAt}
-use Rattle.aiger_lines.specs.Steps.{spanTo, firstFive, numbersIn, Holds, Behind, NextLine, HeaderRead, SoundTo}
+use Rattle.aiger_lines.specs.Parts.{aag, headerNumbers, lineNumbers, countsIn, countsOf, partAt, linesDue, width, malformed, malformedAt}
+use Rattle.aiger_lines.specs.Steps.{spanTo, firstFive, numbersIn, Holds, Behind, NextLine, SoundTo}
 use Rattle.aiger_lines.specs.declared.Counts.{Counts}
 use Rattle.aiger_lines.specs.declared.Numbers.{Numbers}
 use Rattle.aiger_lines.specs.declared.Part.{Part}
-use Rattle.aiger_lines.specs.declared.Part.the-variants.{Header, Input, Latch, Output, Gate}
+use Rattle.aiger_lines.specs.declared.Part.the-variants.{Header}
 use Rattle.aiger_lines.proofs.FirstFive.{five-holds}
 use Rattle.aiger_lines.proofs.Parts.{malformed-five, well-five, counts-first-five}
 use Rattle.aiger_lines.proofs.Steps.{found-within, parts-next, parts-over, words-next, words-over}

@@ -1,8 +1,8 @@
 -- Laws of specs/Written.antt: the words of a line of numbers are their digits, and a line is its words joined. No contract cites
 -- this file.
-use Prim.Native.Nat.{ℕ, zero, suc, _+_, _-_, _^_, _≤_, _<_}
+use Prim.Native.Nat.{ℕ, zero, suc, _-_, _^_, _<_}
 use mathlib.Core.Path.{_≡_, refl, sym, ap, ap₂, _∙_}
-use mathlib.Core.Bool.{Bool, true, false, cond, _&&_, true≢false, false≢true}
+use mathlib.Core.Bool.{Bool, true, false, cond, false≢true}
 use mathlib.Core.List.{List, [], _∷_, _++_, map, append-assoc}
 use native.Mathlib.Omega.{arith}
 use lib.Dec.{eqb, leb}
@@ -15,7 +15,7 @@ use Rattle.decimal.specs.TextValue.{numberIn, sameText}
 use Rattle.decimal.specs.declared.Number.{Number}
 use Rattle.decimal.specs.declared.Number.the-variants.{Value, NotANumber}
 use Rattle.decimal.proofs.TextValue.{isDigit, allDigits, allDigits-digits, sameText-refl, sameText-true, numberIn-digits, digits-numberIn}
-use Rattle.text_words.specs.Words.{linesOf, wordsOf, restAfter, ended, Without}
+use Rattle.text_words.specs.Words.{linesOf, wordsOf, ended, Without}
 use Rattle.text_words.proofs.Words.{parts-first, ended-parts, words-first, words-last, words-joined}
 use Rattle.aiger_lines.specs.Numbers.{isNumber, valueOf, allNumbers, values, numbersOf, wordsAt}
 use Rattle.aiger_lines.specs.Parts.{aag, headerNumbers, lineNumbers}

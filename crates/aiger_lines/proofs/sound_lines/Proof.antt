@@ -1,5 +1,5 @@
 -- `aiger_lines::sound_lines` meets its contract. The loop's invariant is `SoundSoFar`.
-use Prim.Native.Nat.{_-_, _+_}
+use Prim.Native.Nat.{_-_}
 use mathlib.Core.Path.{_≡_, sym, ap, _∙_}
 use native.Mathlib.Omega.{arith}
 use borrow.Author.Needs.{needs}
