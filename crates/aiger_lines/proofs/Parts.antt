@@ -124,7 +124,9 @@ module _ (h : Counts) (part : Part) (xs : List ℕ) (well : malformed h part xs 
       × ((defines part && notDefinable (getD xs 0 0)) ≡ false)
   unfolding malformed
   tests =
-      let a = neither-true (not (eqb (length xs) (width part)) || (hasLiterals part && anyAbove (literalLimit h) xs)) (defines part && notDefinable (getD xs 0 0)) .0 well in
+      let a =
+      neither-true (not (eqb (length xs) (width part)) || (hasLiterals part && anyAbove (literalLimit h) xs))
+      (defines part && notDefinable (getD xs 0 0)) .0 well in
       let b = neither-true (not (eqb (length xs) (width part))) (hasLiterals part && anyAbove (literalLimit h) xs) .0 (a .0) in
       (b .0, b .1, a .1)
 
