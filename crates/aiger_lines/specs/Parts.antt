@@ -1,0 +1,107 @@
+-- Which line of an ASCII AIGER text has which part, by the header's counts, and when a line is well-formed (the AIGER
+-- report of 2007). Cited by the functions of this crate and by all that is said of such a text.
+use Prim.Native.Nat.{ℕ, _+_, _*_, _%_}
+use mathlib.Core.Bool.{Bool, true, false, cond, not, _&&_, _||_}
+use mathlib.Core.List.{List, [], _∷_}
+use lib.Dec.{eqb, ltb}
+use lib.ListN.{length, getD}
+use Rattle.decimal.specs.TextValue.{sameText}
+use Rattle.aiger_lines.specs.Numbers.{numbersOf, wordsAt}
+use Rattle.aiger_lines.specs.declared.Counts.{Counts}
+use Rattle.aiger_lines.specs.declared.Part.{Part}
+use Rattle.aiger_lines.specs.declared.Part.the-variants.{Header, Input, Latch, Output, Gate}
+
+-- the bytes of `aag`
+abbrev pub aag : List ℕ
+aag = 97 ∷ 97 ∷ 103 ∷ []
+
+-- the numbers behind `aag`
+abbrev pub headerNumbers : List (List ℕ) → List ℕ
+headerNumbers [] = []
+headerNumbers (w ∷ ws) = cond (sameText w aag) (numbersOf ws) []
+
+-- the numbers on line p: none where the text has no such line, or where a word is no number
+unfoldable pub lineNumbers : List ℕ → ℕ → List ℕ
+lineNumbers s p = cond (eqb p 1) (headerNumbers (wordsAt s p)) (numbersOf (wordsAt s p))
+
+-- the header's counts, M I L O A; all 0 where line 1 is no header
+abbrev pub countsFrom : List ℕ → Counts
+countsFrom xs =
+    record { largest = getD xs 0 0; inputs = getD xs 1 0; latches = getD xs 2 0; outputs = getD xs 3 0; gates = getD xs 4 0 }
+
+unfoldable pub countsOf : List ℕ → Counts
+countsOf xs = countsFrom (cond (eqb (length xs) 5) xs [])
+
+unfoldable pub countsIn : List ℕ → Counts
+countsIn s = countsOf (lineNumbers s 1)
+
+-- the places of the lines: the header, inputs, latches, outputs, gates
+abbrev pub inputLine : Counts → ℕ → ℕ
+inputLine h x = 2 + x
+
+abbrev pub latchLine : Counts → ℕ → ℕ
+latchLine h l = 2 + h .inputs + l
+
+abbrev pub outputLine : Counts → ℕ → ℕ
+outputLine h o = 2 + h .inputs + h .latches + o
+
+abbrev pub gateLine : Counts → ℕ → ℕ
+gateLine h g = 2 + h .inputs + h .latches + h .outputs + g
+
+-- how many lines there are
+abbrev pub linesDue : Counts → ℕ
+linesDue h = 1 + h .inputs + h .latches + h .outputs + h .gates
+
+-- what the line at a place is
+unfoldable pub partAt : Counts → ℕ → Part
+partAt h p =
+    cond (ltb p (inputLine h 0)) Header
+    (cond (ltb p (latchLine h 0)) Input
+    (cond (ltb p (outputLine h 0)) Latch
+    (cond (ltb p (gateLine h 0)) Output Gate)))
+
+-- how many numbers it has
+abbrev pub width : Part → ℕ
+width Header = 5
+width Input = 1
+width Latch = 2
+width Output = 1
+width Gate = 3
+
+-- whether its numbers are literals, and the first of them is one that it defines
+abbrev pub hasLiterals : Part → Bool
+hasLiterals Header = false
+hasLiterals Input = true
+hasLiterals Latch = true
+hasLiterals Output = true
+hasLiterals Gate = true
+
+abbrev pub defines : Part → Bool
+defines Header = false
+defines Input = true
+defines Latch = true
+defines Output = false
+defines Gate = true
+
+-- the largest literal
+abbrev pub literalLimit : Counts → ℕ
+literalLimit h = 2 * h .largest + 1
+
+unfoldable pub anyAbove : ℕ → List ℕ → Bool
+anyAbove limit [] = false
+anyAbove limit (x ∷ xs) = ltb limit x || anyAbove limit xs
+
+-- a literal that may not be defined: an odd one, or one below 2
+abbrev pub notDefinable : ℕ → Bool
+notDefinable x = ltb x 2 || eqb (x % 2) 1
+
+-- a line of a part with these numbers is not well-formed: too few or too many of them, a literal above 2M + 1, or a defined one
+-- that is odd or below 2
+unfoldable pub malformed : Counts → Part → List ℕ → Bool
+malformed h part xs =
+    not (eqb (length xs) (width part))
+    || (hasLiterals part && anyAbove (literalLimit h) xs)
+    || (defines part && notDefinable (getD xs 0 0))
+
+unfoldable pub malformedAt : List ℕ → ℕ → Bool
+malformedAt s p = malformed (countsIn s) (partAt (countsIn s) p) (lineNumbers s p)
