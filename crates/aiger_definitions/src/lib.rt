@@ -1,0 +1,1 @@
+// What the lines of an ASCII AIGER text define and use.
