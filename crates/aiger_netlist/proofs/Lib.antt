@@ -3,4 +3,5 @@ pub mod Defined
 pub mod Codes
 pub mod Values
 pub mod Verdict
+pub mod Imported
 pub mod WireTable
