@@ -80,7 +80,7 @@ module _ (s : List ℕ) (ok : WellDefined s) (m n word : ℕ) (fits : FitsInterf
         data-fits = λ t b. rw (lt-ltb t n b) (code-fits (outputAt s (m + t)) (output-known s ok (m + t) (omega arith)));
         WE-fits = code-fits (outputAt s (m + n)) (output-known s ok (m + n) (omega arith));
         RE-fits = code-fits (outputAt s (m + n + 1)) (output-known s ok (m + n + 1) (omega arith));
-        P-fits = code-fits (outputAt s (m + n + 2)) (output-known s ok (m + n + 2) (omega arith));
+        P-fits = omega (arith, code-fits (outputAt s (m + n + 2)) (output-known s ok (m + n + 2) (omega arith)));
       }
 
   -- 5 is never met

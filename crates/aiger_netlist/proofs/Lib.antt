@@ -4,4 +4,3 @@ pub mod Codes
 pub mod Values
 pub mod Verdict
 pub mod Imported
-pub mod WireTable

@@ -4,4 +4,3 @@ pub mod TextNetlist
 pub mod ImportVerdict
 pub mod TextValues
 pub mod Imported
-pub mod WireTable
