@@ -2,10 +2,10 @@
 -- this file.
 use Prim.Native.Nat.{ℕ, _+_, _-_, _≤_, _<_, min}
 use mathlib.Core.Path.{_≡_, refl, sym, subst, _∙_}
-use mathlib.Core.Bool.{Bool, true, false, cond, _&&_, _||_, Bool·beq, true≢false, false≢true}
+use mathlib.Core.Bool.{Bool, true, false, cond, _&&_, _||_, Bool·beq, false≢true}
 use mathlib.Core.Logic.{_⊎_, inl, inr, by-cases, ⊎-elim}
 use mathlib.Core.List.{List}
-use native.Mathlib.Decide.{ℕ-discrete, decLt, decLe}
+use native.Mathlib.Decide.{decLt, decLe}
 use native.Mathlib.Nat.{le-refl, min-le-left, min-le-right, min-eq-left, min-eq-right}
 use native.Mathlib.Omega.{arith}
 use lib.Dec.{eqb, ltb}
@@ -119,6 +119,19 @@ judged-none {fault} none =
 -- the smaller of two is one of them
 min-which : (a b : ℕ) → (min a b ≡ a) ⊎ (min a b ≡ b)
 min-which a b = by-cases (decLe a b) (λ l. inl (min-eq-left l)) (λ l. inr (min-eq-right {n = b} {m = a} (omega arith)))
+
+pub min-above : {a b c : ℕ} → a < b → a < c → a < min b c
+min-above {a} {b} {c} l k = ⊎-elim (λ (e : min b c ≡ b). omega arith) (λ (e : min b c ≡ c). omega arith) (min-which b c)
+
+-- no block yet
+pub judged-start : (fault : ℕ → ℕ → Bool) (n base : ℕ) → Judged fault n base n n base
+judged-start fault n base =
+    record { within = le-refl n; none = λ x v l k from to. absurd (omega arith); there = λ l. absurd (omega arith) }
+
+-- fewer variables
+pub judged-to : {fault : ℕ → ℕ → Bool} {n base line first next : ℕ} (end : ℕ) → end ≤ next → Judged fault n base line first next
+    → Judged fault n base line first end
+judged-to end h j = record { within = j .within; none = λ x v l k from to. j .none x v l k from (omega arith); there = j .there }
 
 -- blocks from `base` to `mid` and on to `next`
 pub judged-on : {fault : ℕ → ℕ → Bool} {n base mid next a b : ℕ} → base ≤ mid → Judged fault n base n a mid → Judged fault n mid n b next

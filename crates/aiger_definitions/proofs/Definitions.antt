@@ -1,11 +1,11 @@
 -- From faults by variable to lines (specs/Definitions.antt): the first line that defines a variable again, and the first with an
 -- undefined literal. No contract cites this file.
-use Prim.Native.Nat.{ℕ, zero, suc, _+_, _/_, _^_, _≤_, _<_}
+use Prim.Native.Nat.{ℕ, suc, _+_, _/_, _≤_, _<_}
 use mathlib.Core.Path.{_≡_, refl, sym, ap, _∙_}
-use mathlib.Core.Bool.{Bool, true, false, cond, not, _&&_, _||_, Bool·beq, true≢false, or-self, or-false}
-use mathlib.Core.Logic.{_⊎_, inl, inr, _↔_, by-cases, ⊎-elim}
+use mathlib.Core.Bool.{Bool, true, false, not, _&&_, _||_, Bool·beq, true≢false, or-self, or-false}
+use mathlib.Core.Logic.{_⊎_, inl, inr, by-cases, ⊎-elim}
 use mathlib.Core.List.{List}
-use native.Mathlib.Decide.{ℕ-discrete, decLt}
+use native.Mathlib.Decide.{decLt}
 use native.Mathlib.Numerals.{add-one}
 use native.Mathlib.Omega.{arith}
 use lib.Dec.{eqb, ltb}
@@ -16,10 +16,8 @@ use Rattle.model.proofs.Booleans.{and-true, or-true, not-true-false}
 use Rattle.aiger_lines.specs.Parts.{lineNumbers, countsIn, linesDue, partAt}
 use Rattle.aiger_lines.specs.declared.Part.{Part}
 use Rattle.aiger_lines.specs.declared.Part.the-variants.{Header, Input, Latch, Output, Gate}
-use Rattle.aiger_definitions.specs.Definitions.{numberAt, definedAt, definesAgain, isUndefined, undefinedIn, undefinedAt}
+use Rattle.aiger_definitions.specs.Definitions.{definedAt, definesAgain, isUndefined, undefinedIn, undefinedAt}
 use Rattle.aiger_definitions.specs.Blocks.{variablesOf, variablesAt, usesOf, reach, faultIn, faultOf, Judged}
-use Rattle.aiger_definitions.specs.declared.Variables.{Variables}
-use Rattle.aiger_definitions.specs.declared.Fault.{Fault}
 use Rattle.aiger_definitions.specs.declared.Fault.the-variants.{Repeated, Undefined}
 use Rattle.aiger_definitions.specs.declared.Look.{Look}
 use Rattle.aiger_definitions.specs.declared.Look.the-variants.{Repeats, Operands, Others}

@@ -1,4 +1,5 @@
 pub mod Marks
 pub mod Blocks
 pub mod LineVariables
+pub mod Passes
 pub mod Definitions

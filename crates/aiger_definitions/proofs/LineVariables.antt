@@ -1,13 +1,13 @@
 -- Laws of the variables on a line (specs/Blocks.antt): as they are read, how large they are, and which fault they make. No contract
 -- cites this file.
-use Prim.Native.Nat.{ℕ, zero, suc, _+_, _-_, _*_, _/_, _^_, _≤_, _<_}
-use mathlib.Core.Path.{_≡_, refl, sym, ap, _∙_}
-use mathlib.Core.Bool.{Bool, true, false, cond, not, _&&_, _||_, Bool·beq, true≢false}
+use Prim.Native.Nat.{ℕ, zero, suc, _+_, _-_, _/_, _^_, _≤_, _<_}
+use mathlib.Core.Path.{_≡_, refl}
+use mathlib.Core.Bool.{Bool, true, false, cond}
 use mathlib.Core.Logic.{by-cases}
 use mathlib.Core.List.{List, [], _∷_, _++_}
 use native.Mathlib.Decide.{decLt}
 use native.Mathlib.Omega.{arith}
-use lib.Dec.{eqb, ltb}
+use lib.Dec.{eqb}
 use lib.ListN.{length, getD, replicate, length-append, length-replicate}
 use borrow.Author.Tests.{eqb-true, ne-eqb, le-ltb, lt-ltb, not-false}
 use Rattle.decimal.specs.TextValue.{sameText, numberIn}
@@ -22,7 +22,7 @@ use Rattle.aiger_lines.specs.Steps.{firstFive}
 use Rattle.aiger_lines.specs.declared.Part.{Part}
 use Rattle.aiger_lines.specs.declared.Part.the-variants.{Header, Input, Latch, Output, Gate}
 use Rattle.aiger_definitions.specs.Definitions.{definedAt}
-use Rattle.aiger_definitions.specs.Blocks.{variablesOf, variablesAt, usesOf, reach, faultIn}
+use Rattle.aiger_definitions.specs.Blocks.{variablesOf, variablesAt, usesOf, faultIn}
 use Rattle.aiger_definitions.specs.declared.Variables.{Variables}
 use Rattle.aiger_definitions.specs.declared.Look.{Look}
 use Rattle.aiger_definitions.specs.declared.Look.the-variants.{Repeats, Operands, Others}

@@ -1,6 +1,6 @@
 -- Laws of the table of marks and of the block that it serves (specs/Blocks.antt). No contract cites this file.
 use Prim.Native.Nat.{ℕ, _+_, _-_, _≤_, _<_}
-use mathlib.Core.Path.{_≡_, refl, sym, ap, _∙_}
+use mathlib.Core.Path.{_≡_, refl, sym, _∙_}
 use mathlib.Core.Bool.{Bool, true, false, cond, _&&_, _||_, Bool·beq, or-false, or-true, true≢false}
 use mathlib.Core.Logic.{by-cases}
 use mathlib.Core.List.{List}
@@ -11,7 +11,7 @@ use native.Mathlib.Omega.{arith}
 use lib.Dec.{eqb, leb, ltb}
 use lib.ListN.{length, getD, set, length-set}
 use lib.Seq.{getD-set-same, getD-set-other}
-use borrow.Author.Tests.{eq-eqb, ne-eqb, eqb-true, le-leb, lt-leb, lt-ltb, leb-true, ltb-true}
+use borrow.Author.Tests.{eq-eqb, ne-eqb, le-leb, lt-leb, lt-ltb, leb-true, ltb-true}
 use Rattle.model.specs.Search.{anyBelow, seen}
 use Rattle.model.proofs.Booleans.{and-true}
 use Rattle.aiger_definitions.specs.Blocks.{Marks, marked, isFound, nearest}

@@ -211,3 +211,155 @@ fn smaller(a: u64, b: u64) -> u64
     }
     b
 }
+
+// Reads the line behind the first `line` lines, a well-formed one.
+fn next_variables(text: &[u8], counts: Counts, line: u64, at: usize) -> VariableLine
+    requires { ⌜ (1 ≤ line) × (line < 18446744073709551615) × (counts ≡ countsIn (now text)) × Behind (now text) line at × (malformedAt (now text) (line + 1) ≡ false) ⌝ }
+    ensures { λ r. ⌜ VariablesRead (now (text .entry)) line (r .variables) (r .next) ⌝ }
+{
+    let read = aiger_lines::next_line(text, line, at);
+    let numbers = read.numbers;
+    VariableLine {
+        variables: variables_of(aiger_lines::part_at(counts, line + 1), numbers),
+        next: read.next,
+    }
+}
+
+// Looks at the lines for one block of variables, each before its own definition is marked.
+fn pass(
+    text: &[u8],
+    header: HeaderLine,
+    lines: u64,
+    base: u64,
+    marks: &mut [bool],
+    look: Look,
+) -> Found
+    requires { ⌜ HeaderRead (now text) (header .counts) (header .next) × SoundLines (now text) lines
+        × (1 ≤ base) × (base < 4294967296) × (0 < length (now marks)) × Marks (definedAt (now text)) (reach look lines 1) base (now marks) ⌝ }
+    ensures judged { λ r. ⌜ Judged (faultIn look (now (text .entry)) lines) lines base lines (r .first) (r .next) × (base < r .next) ⌝ }
+    ensures all_marked { λ _. ⌜ Marks (definedAt (now (text .entry))) (lines + 1) base (now (marks .exit))
+        × (length (now (marks .exit)) ≡ length (now (marks .entry))) ⌝ }
+{
+    let counts = header.counts;
+    let mut at = header.next;
+    let mut found = Found {
+        first: lines,
+        next: 4294967296,
+    };
+    let mut line = 1;
+    while line < lines {
+        let read = next_variables(text, counts, line, at);
+        let variables = read.variables;
+        found = look_at(marks, base, line, uses_of(look, variables), found);
+        mark(marks, base, variables.defined);
+        at = read.next;
+        line += 1;
+    }
+    found
+}
+
+// The repeats in one block.
+fn repeat_in_block(
+    text: &[u8],
+    header: HeaderLine,
+    lines: u64,
+    base: u64,
+    marks: &mut [bool],
+) -> Found
+    requires { ⌜ HeaderRead (now text) (header .counts) (header .next) × SoundLines (now text) lines
+        × (1 ≤ base) × (base < 4294967296) × (0 < length (now marks)) ⌝ }
+    ensures judged { λ r. ⌜ Judged (faultOf Fault.Repeated (now (text .entry)) lines) lines base lines (r .first) (r .next) × (base < r .next) ⌝ }
+    ensures size { λ _. ⌜ length (now (marks .exit)) ≡ length (now (marks .entry)) ⌝ }
+{
+    clear(marks);
+    pass(text, header, lines, base, marks, Look::Repeats)
+}
+
+// The undefined variables in one block: the second pass finds all definitions marked.
+fn undefined_in_block(
+    text: &[u8],
+    header: HeaderLine,
+    lines: u64,
+    base: u64,
+    marks: &mut [bool],
+) -> Found
+    requires { ⌜ HeaderRead (now text) (header .counts) (header .next) × SoundLines (now text) lines
+        × (1 ≤ base) × (base < 4294967296) × (0 < length (now marks)) ⌝ }
+    ensures judged { λ r. ⌜ Judged (faultOf Fault.Undefined (now (text .entry)) lines) lines base lines (r .first) (r .next) × (base < r .next) ⌝ }
+    ensures size { λ _. ⌜ length (now (marks .exit)) ≡ length (now (marks .entry)) ⌝ }
+{
+    clear(marks);
+    let operands = pass(text, header, lines, base, marks, Look::Operands);
+    let others = pass(text, header, lines, base, marks, Look::Others);
+    Found {
+        first: smaller(operands.first, others.first),
+        next: smaller(operands.next, others.next),
+    }
+}
+
+// The faults in one block.
+fn fault_in_block(
+    text: &[u8],
+    header: HeaderLine,
+    lines: u64,
+    base: u64,
+    marks: &mut [bool],
+    fault: Fault,
+) -> Found
+    requires { ⌜ HeaderRead (now text) (header .counts) (header .next) × SoundLines (now text) lines
+        × (1 ≤ base) × (base < 4294967296) × (0 < length (now marks)) ⌝ }
+    ensures judged { λ r. ⌜ Judged (faultOf fault (now (text .entry)) lines) lines base lines (r .first) (r .next) × (base < r .next) ⌝ }
+    ensures size { λ _. ⌜ length (now (marks .exit)) ≡ length (now (marks .entry)) ⌝ }
+{
+    match fault {
+        Fault::Repeated => repeat_in_block(text, header, lines, base, marks),
+        Fault::Undefined => undefined_in_block(text, header, lines, base, marks),
+    }
+}
+
+// A table of 262,144 marks.
+fn no_marks() -> [bool; 262144]
+    ensures { λ r. ⌜ length r ≡ 262144 ⌝ }
+{
+    [false; 262144]
+}
+
+// The first fault in any variable.
+fn first_fault(text: &[u8], header: HeaderLine, lines: u64, fault: Fault) -> u64
+    requires { ⌜ HeaderRead (now text) (header .counts) (header .next) × SoundLines (now text) lines ⌝ }
+    ensures { λ r. ⌜ Judged (faultOf fault (now (text .entry)) lines) lines 1 lines r 4294967296 ⌝ }
+{
+    let mut marks = no_marks();
+    let mut first = lines;
+    let mut base = 1;
+    while base < 4294967296 {
+        let found = fault_in_block(text, header, lines, base, &mut marks, fault);
+        first = smaller(first, found.first);
+        base = found.next;
+    }
+    first
+}
+
+// How many of the well-formed lines stand before the first that defines a variable again.
+pub fn first_repeat(text: &[u8], header: HeaderLine, sound: u64) -> u64
+    requires { ⌜ HeaderRead (now text) (header .counts) (header .next) × SoundTo (now text) sound ⌝ }
+    ensures { λ r. ⌜ IsFirst (λ x. definesAgain (now (text .entry)) (suc x)) sound r ⌝ }
+{
+    if sound == 0 {
+        return 0;
+    }
+    first_fault(text, header, sound, Fault::Repeated)
+}
+
+// How many lines of a well-formed text stand before the first with an undefined literal.
+pub fn first_undefined(text: &[u8], header: HeaderLine) -> u64
+    requires { ⌜ HeaderRead (now text) (header .counts) (header .next) × SoundTo (now text) (linesDue (header .counts)) ⌝ }
+    ensures { λ r. ⌜ IsFirst (λ x. undefinedAt (now (text .entry)) (suc x)) (linesDue (countsIn (now (text .entry)))) r ⌝ }
+{
+    first_fault(
+        text,
+        header,
+        aiger_lines::lines_due(header.counts),
+        Fault::Undefined,
+    )
+}

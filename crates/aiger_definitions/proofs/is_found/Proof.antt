@@ -1,6 +1,5 @@
 -- `aiger_definitions::is_found` meets its contract.
 use borrow.Author.Tests.{lt-leb, le-leb, le-ltb, lt-ltb}
-use native.Mathlib.Omega.{arith}
 use Rattle.aiger_definitions.specs.Blocks.{isFound}
 use borrow.Author.Needs.{needs}
 use Rattle.aiger_definitions.proofs.is_found.Statement.{statement}

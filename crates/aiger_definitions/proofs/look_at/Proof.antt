@@ -1,7 +1,5 @@
 -- `aiger_definitions::look_at` meets its contract.
-use mathlib.Core.Path.{refl}
 use borrow.Author.Tests.{le-ltb, lt-ltb}
-use native.Mathlib.Omega.{arith}
 use Rattle.aiger_definitions.specs.Blocks.{lookedAt}
 use borrow.Author.Needs.{needs}
 use Rattle.aiger_definitions.proofs.look_at.Statement.{statement}

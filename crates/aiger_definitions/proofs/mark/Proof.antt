@@ -1,6 +1,5 @@
 -- `aiger_definitions::mark` meets its contract.
 use mathlib.Core.Path.{sym}
-use native.Mathlib.Omega.{arith}
 use borrow.Author.Tests.{lt-leb, le-leb}
 use lib.Seq.{set-out}
 use Rattle.aiger_definitions.specs.Blocks.{marked}

@@ -1,6 +1,5 @@
 -- `aiger_definitions::nearer` meets its contract.
 use borrow.Author.Tests.{lt-leb, le-leb, le-ltb, lt-ltb}
-use native.Mathlib.Omega.{arith}
 use Rattle.aiger_definitions.specs.Blocks.{nearest}
 use Rattle.aiger_definitions.proofs.nearer.Statement.{statement}
 use Rattle.aiger_definitions.proofs.nearer.Tie as tie
