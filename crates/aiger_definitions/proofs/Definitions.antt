@@ -148,7 +148,7 @@ module _ (s : List ℕ) (x : ℕ) where
       by Input = refl
       by Latch = or-self (hits ever (getD xs 1 0 / 2)) ∙ undefined-hits Others (getD xs 1 0) refl
       by Output = or-self (hits ever (getD xs 0 0 / 2)) ∙ undefined-hits Others (getD xs 0 0) refl
-      by Gate = rw (or-false, undefined-hits Operands (getD xs 1 0) refl, undefined-hits Operands (getD xs 2 0) refl)
+      by Gate = rw (or-false (hits before (getD xs 1 0 / 2) || hits before (getD xs 2 0 / 2)), undefined-hits Operands (getD xs 1 0) refl, undefined-hits Operands (getD xs 2 0) refl)
 
 -- so the first fault is the first line of each kind
 pub again-first : (s : List ℕ) (n r : ℕ) → Judged (faultOf Repeated s n) n 1 n r 4294967296 → IsFirst (λ x. definesAgain s (suc x)) n r

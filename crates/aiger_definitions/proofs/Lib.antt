@@ -3,3 +3,4 @@ pub mod Blocks
 pub mod LineVariables
 pub mod Passes
 pub mod Definitions
+pub mod Places
