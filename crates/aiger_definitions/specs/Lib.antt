@@ -1,2 +1,3 @@
--- What the lines of an ASCII AIGER text define and use. Nothing here imports a law or a proof.
+-- What an ASCII AIGER text defines and uses where, in reading order. Nothing here imports a law or a proof.
 pub mod Definitions
+pub mod Blocks

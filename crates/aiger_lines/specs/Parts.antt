@@ -29,8 +29,11 @@ abbrev pub countsFrom : List ℕ → Counts
 countsFrom xs =
     record { largest = getD xs 0 0; inputs = getD xs 1 0; latches = getD xs 2 0; outputs = getD xs 3 0; gates = getD xs 4 0 }
 
+unfoldable pub countsOf : List ℕ → Counts
+countsOf xs = countsFrom (cond (eqb (length xs) 5) xs [])
+
 unfoldable pub countsIn : List ℕ → Counts
-countsIn s = countsFrom (cond (eqb (length (lineNumbers s 1)) 5) (lineNumbers s 1) [])
+countsIn s = countsOf (lineNumbers s 1)
 
 -- the places of the lines: the header, inputs, latches, outputs, gates
 abbrev pub inputLine : Counts → ℕ → ℕ
@@ -80,6 +83,10 @@ defines Latch = true
 defines Output = false
 defines Gate = true
 
+-- the largest literal
+abbrev pub literalLimit : Counts → ℕ
+literalLimit h = 2 * h .largest + 1
+
 unfoldable pub anyAbove : ℕ → List ℕ → Bool
 anyAbove limit [] = false
 anyAbove limit (x ∷ xs) = ltb limit x || anyAbove limit xs
@@ -93,7 +100,7 @@ notDefinable x = ltb x 2 || eqb (x % 2) 1
 unfoldable pub malformed : Counts → Part → List ℕ → Bool
 malformed h part xs =
     not (eqb (length xs) (width part))
-    || (hasLiterals part && anyAbove (2 * h .largest + 1) xs)
+    || (hasLiterals part && anyAbove (literalLimit h) xs)
     || (defines part && notDefinable (getD xs 0 0))
 
 unfoldable pub malformedAt : List ℕ → ℕ → Bool

@@ -1,10 +1,10 @@
 -- How a text is read line by line. Cited by the functions that do so, and by no public contract.
-use Prim.Native.Nat.{ℕ, _+_, _-_, _≤_, _<_}
+use Prim.Native.Nat.{ℕ, suc, _+_, _-_, _≤_, _<_}
 use mathlib.Core.Path.{_≡_}
 use mathlib.Core.Bool.{true, false, cond}
 use mathlib.Core.List.{List, [], _∷_, _++_}
 use lib.Dec.{eqb, ltb}
-use lib.ListN.{length, drop, replicate}
+use lib.ListN.{length, take, drop, replicate}
 use Rattle.text_words.specs.Words.{linesOf}
 use Rattle.aiger_lines.specs.Parts.{lineNumbers, countsIn, linesDue, malformedAt}
 use Rattle.aiger_lines.specs.declared.Counts.{Counts}
@@ -13,7 +13,7 @@ use Rattle.aiger_lines.specs.declared.Numbers.{Numbers}
 -- how many bytes stand before the first byte b, all of them where there is none
 unfoldable pub spanTo : ℕ → List ℕ → ℕ
 spanTo b [] = 0
-spanTo b (x ∷ s) = cond (eqb x b) 0 (1 + spanTo b s)
+spanTo b (x ∷ s) = cond (eqb x b) 0 (suc (spanTo b s))
 
 -- up to five numbers in an array, 0 behind the last; more are none
 unfoldable pub firstFive : List ℕ → Numbers
@@ -21,6 +21,15 @@ firstFive xs =
     cond (ltb 5 (length xs))
     (record { count = 0; values = replicate 5 0 })
     (record { count = length xs; values = xs ++ replicate (5 - length xs) 0 })
+
+-- the numbers in such an array
+unfoldable pub numbersIn : Numbers → List ℕ
+numbersIn xs = take (xs .count) (xs .values)
+
+-- an array of five, of which `count` are numbers
+pub record Holds (xs : Numbers) : Type 0 where
+  pub most : xs .count ≤ 5
+  pub length-is : length (xs .values) ≡ 5
 
 -- what follows the first p lines begins at byte `at`
 pub record Behind (s : List ℕ) (p at : ℕ) : Type 0 where

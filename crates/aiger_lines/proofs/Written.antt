@@ -1,0 +1,154 @@
+-- Laws of specs/Written.antt: the words of a line of numbers are their digits, and a line is its words joined. No contract cites
+-- this file.
+use Prim.Native.Nat.{ℕ, zero, suc, _+_, _-_, _^_, _≤_, _<_}
+use mathlib.Core.Path.{_≡_, refl, sym, ap, ap₂, _∙_}
+use mathlib.Core.Bool.{Bool, true, false, cond, _&&_, true≢false, false≢true}
+use mathlib.Core.List.{List, [], _∷_, _++_, map, append-assoc}
+use native.Mathlib.Omega.{arith}
+use lib.Dec.{eqb, leb}
+use lib.ListN.{length, getD, take, length-append}
+use lib.Seq.{take-at}
+use borrow.Author.Tests.{leb-true}
+use Rattle.model.proofs.Booleans.{and-true}
+use Rattle.decimal.specs.Digits.{digits, space, lineFeed}
+use Rattle.decimal.specs.TextValue.{numberIn, sameText}
+use Rattle.decimal.specs.declared.Number.{Number}
+use Rattle.decimal.specs.declared.Number.the-variants.{Value, NotANumber}
+use Rattle.decimal.proofs.TextValue.{isDigit, allDigits, allDigits-digits, sameText-refl, sameText-true, numberIn-digits, digits-numberIn}
+use Rattle.text_words.specs.Words.{linesOf, wordsOf, restAfter, ended, Without}
+use Rattle.text_words.proofs.Words.{parts-first, ended-parts, words-first, words-last, words-joined}
+use Rattle.aiger_lines.specs.Numbers.{isNumber, valueOf, allNumbers, values, numbersOf, wordsAt}
+use Rattle.aiger_lines.specs.Parts.{aag, headerNumbers, lineNumbers}
+use Rattle.aiger_lines.specs.Written.{numbersText, lineText, ReadAsWritten}
+
+-- digits have no space among them
+without-space : (s : List ℕ) → allDigits s ≡ true → Without space s
+unfolding allDigits isDigit
+without-space [] d i l h = omega arith
+without-space (c ∷ s) d zero l h =
+    let first = and-true (isDigit c) (allDigits s) .0 d .0 in
+    omega (arith, leb-true 48 c (and-true (leb 48 c) (leb c 57) .0 first .0))
+without-space (c ∷ s) d (suc i) l h = without-space s (and-true (isDigit c) (allDigits s) .0 d .1) i (omega arith) h
+
+digits-without : (x : ℕ) → Without space (digits x)
+digits-without x = without-space (digits x) (allDigits-digits x)
+
+-- the words of a text of numbers are their digits
+words-text : (x : ℕ) (xs : List ℕ) → wordsOf (numbersText (x ∷ xs)) ≡ map digits (x ∷ xs)
+unfolding numbersText
+words-text x [] = words-last (digits x) (digits-without x)
+words-text x (y ∷ xs) =
+    words-first (digits x) (numbersText (y ∷ xs)) (digits-without x) ∙ ap (λ (ws : List (List ℕ)). digits x ∷ ws) (words-text y xs)
+
+joined-text : (x : ℕ) (xs : List ℕ) → ended space (map digits (x ∷ xs)) ≡ numbersText (x ∷ xs) ++ space ∷ []
+unfolding numbersText ended
+joined-text x [] = refl
+joined-text x (y ∷ xs) =
+    ap (λ (t : List ℕ). digits x ++ space ∷ t) (joined-text y xs)
+    ∙ sym (append-assoc (digits x) (space ∷ numbersText (y ∷ xs)) (space ∷ []))
+
+-- what they are read as
+numbers-digits : (xs : List ℕ) → ((i : ℕ) → getD xs i 0 < 2 ^ 32) → (allNumbers (map digits xs) ≡ true) × (values (map digits xs) ≡ xs)
+unfolding allNumbers values
+numbers-digits [] h = (refl, refl)
+numbers-digits (x ∷ xs) h =
+    let e : numberIn (digits x) ≡ Value x = numberIn-digits x (h 0) in
+    let later = numbers-digits xs (λ i. h (suc i)) in
+    (rw (e, later .0), rw (e, later .1))
+
+-- words that are numbers are the digits of their values
+digits-numbers : (ws : List (List ℕ)) → allNumbers ws ≡ true → map digits (values ws) ≡ ws
+unfolding allNumbers values
+digits-numbers [] h = refl
+digits-numbers (w ∷ ws) h =
+    let both = and-true (isNumber (numberIn w)) (allNumbers ws) .0 h in
+    ap₂ (λ (x : List ℕ) (xs : List (List ℕ)). x ∷ xs) (of-number (numberIn w) refl (both .0)) (digits-numbers ws (both .1))
+  where
+    of-number : (r : Number) → numberIn w ≡ r → isNumber r ≡ true → digits (valueOf r) ≡ w
+    of-number (Value x) e h = sym (digits-numberIn w x e .0)
+    of-number NotANumber e h = absurd (false≢true h)
+
+-- where there are any numbers, all words are
+all-of-some : (ws : List (List ℕ)) → 0 < length (numbersOf ws) → (allNumbers ws ≡ true) × (numbersOf ws ≡ values ws)
+unfolding numbersOf
+all-of-some ws = by-test (allNumbers ws)
+  where
+    by-test : (b : Bool) → 0 < length (cond b (values ws) []) → (b ≡ true) × (cond b (values ws) [] ≡ values ws)
+    by-test true l = (refl, refl)
+    by-test false l = absurd (omega arith)
+
+snoc-same : (a b : List ℕ) (c : ℕ) → a ++ c ∷ [] ≡ b ++ c ∷ [] → a ≡ b
+snoc-same a b c h =
+    let l : length a ≡ length b = omega (arith, length-append a (c ∷ []), length-append b (c ∷ []), ap length h) in
+    sym (take-at a (c ∷ []) (length a) refl) ∙ ap (take (length a)) h ∙ take-at b (c ∷ []) (length a) (sym l)
+
+-- words that are numbers, joined, are the text of the numbers
+joined-numbers : (ws : List (List ℕ)) → 0 < length (numbersOf ws) → ended space ws ≡ numbersText (numbersOf ws) ++ space ∷ []
+joined-numbers ws l =
+    let all = all-of-some ws l in
+    of-list (numbersOf ws) l (ap (map digits) (all .1) ∙ digits-numbers ws (all .0))
+  where
+    of-list : (xs : List ℕ) → 0 < length xs → map digits xs ≡ ws → ended space ws ≡ numbersText xs ++ space ∷ []
+    of-list [] l e = absurd (omega arith)
+    of-list (x ∷ xs) l e = ap (ended space) (sym e) ∙ joined-text x xs
+
+-- a line and its numbers are one
+numbers-line : (s : List ℕ) → 0 < length (numbersOf (wordsOf s)) → s ≡ numbersText (numbersOf (wordsOf s))
+numbers-line s l =
+    snoc-same s (numbersText (numbersOf (wordsOf s))) space (sym (words-joined s) ∙ joined-numbers (wordsOf s) l)
+
+line-numbers : (xs : List ℕ) → 0 < length xs → ((i : ℕ) → getD xs i 0 < 2 ^ 32) → numbersOf (wordsOf (numbersText xs)) ≡ xs
+unfolding numbersOf
+line-numbers [] l h = absurd (omega arith)
+line-numbers (x ∷ xs) l h =
+    let read = numbers-digits (x ∷ xs) h in
+    rw (words-text x xs, read .0) (read .1)
+
+-- so are line 1 and the header's
+aag-without : Without space aag
+aag-without zero l h = omega arith
+aag-without (suc zero) l h = omega arith
+aag-without (suc (suc zero)) l h = omega arith
+aag-without (suc (suc (suc i))) l h = omega arith
+
+of-words :
+    (s : List ℕ) (ws : List (List ℕ)) → ended space ws ≡ s ++ space ∷ [] → 0 < length (headerNumbers ws) →
+    s ≡ aag ++ space ∷ numbersText (headerNumbers ws)
+unfolding ended
+of-words s [] e l = absurd (omega arith)
+of-words s (w ∷ ws) e l = by-word (sameText w aag) refl l
+  where
+    by-word : (b : Bool) → sameText w aag ≡ b → 0 < length (cond b (numbersOf ws) []) → s ≡ aag ++ space ∷ numbersText (cond b (numbersOf ws) [])
+    by-word true q l =
+        snoc-same s (aag ++ space ∷ numbersText (numbersOf ws)) space
+        (sym e ∙ ap (λ (v : List ℕ). v ++ space ∷ ended space ws) (sameText-true w aag q)
+        ∙ ap (λ (t : List ℕ). aag ++ space ∷ t) (joined-numbers ws l)
+        ∙ sym (append-assoc aag (space ∷ numbersText (numbersOf ws)) (space ∷ [])))
+    by-word false q l = absurd (omega arith)
+
+header-line : (s : List ℕ) → 0 < length (headerNumbers (wordsOf s)) → s ≡ aag ++ space ∷ numbersText (headerNumbers (wordsOf s))
+header-line s = of-words s (wordsOf s) (words-joined s)
+
+line-header : (xs : List ℕ) → 0 < length xs → ((i : ℕ) → getD xs i 0 < 2 ^ 32) → headerNumbers (wordsOf (aag ++ space ∷ numbersText xs)) ≡ xs
+line-header xs l h = ap headerNumbers (words-first aag (numbersText xs) aag-without) ∙ rw (sameText-refl aag) (line-numbers xs l h)
+
+pub read-as-written : ReadAsWritten
+unfolding lineText lineNumbers wordsAt
+read-as-written = record {
+  lines→text = λ s. sym (ended-parts lineFeed [] s);
+  text→lines = λ x s w. parts-first lineFeed x s w;
+  numbers→text = λ s p. by-place (eqb p 1) (getD (linesOf s) (p - 1) []);
+  text→numbers = λ s p xs l h e. rw e (back (eqb p 1) xs l h);
+}
+  where
+    by-place : (b : Bool) (line : List ℕ) → 0 < length (cond b (headerNumbers (wordsOf line)) (numbersOf (wordsOf line)))
+        → line ≡ cond b (aag ++ space ∷ numbersText (cond b (headerNumbers (wordsOf line)) (numbersOf (wordsOf line))))
+        (numbersText (cond b (headerNumbers (wordsOf line)) (numbersOf (wordsOf line))))
+    by-place true line l = header-line line l
+    by-place false line l = numbers-line line l
+
+    back : (b : Bool) (xs : List ℕ) → 0 < length xs → ((i : ℕ) → getD xs i 0 < 2 ^ 32)
+        → cond b (headerNumbers (wordsOf (cond b (aag ++ space ∷ numbersText xs) (numbersText xs))))
+        (numbersOf (wordsOf (cond b (aag ++ space ∷ numbersText xs) (numbersText xs)))) ≡ xs
+    back true xs l h = line-header xs l h
+    back false xs l h = line-numbers xs l h
