@@ -4,7 +4,7 @@ use mathlib.Core.Path.{_≡_}
 use mathlib.Core.Bool.{Bool, false, not}
 use mathlib.Core.List.{List}
 use lib.Dec.{eqb, ltb}
-use borrow.Author.Tests.{ltb-false, eqb-true}
+use borrow.Author.Tests.{ltb-false, eqb-true, not-false}
 use Rattle.model.specs.Netlist.{Netlist}
 use Rattle.model.specs.Acceptance.{Accepted}
 use Rattle.model.proofs.Booleans.{neither-true}
@@ -22,7 +22,7 @@ use Rattle.aiger_lines.specs.Parts.{countsIn, linesDue, malformedAt}
 use Rattle.aiger_definitions.specs.Definitions.{definesAgain, undefinedAt}
 use Rattle.aiger_netlist.specs.TextNetlist.{aagNet}
 use Rattle.aiger_netlist.specs.ImportVerdict.{placeOf, firstLine, notAiger, wrongInterface, textVerdict, importVerdict}
-use Rattle.aiger_netlist.proofs.Defined.{WellDefined, not-false}
+use Rattle.aiger_netlist.proofs.Defined.{WellDefined}
 use Rattle.aiger_netlist.proofs.Codes.{FitsInterface, text-codes-fit}
 
 -- no line due has a fault that was tested
