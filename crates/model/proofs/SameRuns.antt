@@ -43,13 +43,13 @@ module _ (c d : Netlist) (q : Agree c d) where
         cond-same (ltb w (gateWire c 0))
         (λ h. reads (w - readWire c 0) (omega (arith, ltb-true w (gateWire c 0) h, ltb-false w (readWire c 0) r))) (λ h. refl))
 
-    evaluate-same : (w : ℕ) → evaluate c input latch read w ≡ evaluate d input other back w
+    pub evaluate-same : (w : ℕ) → evaluate c input latch read w ≡ evaluate d input other back w
     unfolding evaluate
     evaluate-same w = sweep-same c d q conjunction-of-two sources-same (c .gates) w (le-refl _) ∙ rw (gates-same c d q)
 
   -- from the same values: every code, the address, the word written
   module _ {u v : Values} (same : (w : ℕ) → u w ≡ v w) where
-    code-value-same : {x y : ℕ} → x ≡ y → codeValue u x ≡ codeValue v y
+    pub code-value-same : {x y : ℕ} → x ≡ y → codeValue u x ≡ codeValue v y
     code-value-same {x} {y} e = code-same u v x (same (x / 2)) ∙ ap (codeValue v) e
 
     addressOf-same : addressOf c (port c) u ≡ addressOf d (port d) v

@@ -1,7 +1,10 @@
 -- The record of a netlist, whose lists stand beside it (`netOf` goes the other way), and the record that is all zeros (RULES T43,
--- "a record that is returned beside them is all zeros"). Cited by `empty_net`, sheet_steps/specs/Records and sheet_parse/specs/Files.
+-- "a record that is returned beside them is all zeros"). Cited by `empty_net`, sheet_steps/specs/Records,
+-- sheet_parse/specs/Files and aiger_netlist/specs/TextNetlist.
 use Prim.Native.Nat.{ℕ}
+use mathlib.Core.Bool.{cond}
 use mathlib.Core.List.{List, [], _∷_}
+use lib.Dec.{ltb}
 use Rattle.model.specs.Limits.{mostAddressBits, mostDataBits}
 use Rattle.model.specs.Netlist as M
 use Rattle.model.specs.Gather.{gather}
@@ -27,6 +30,10 @@ recordOf c =
       re = record { 0 = c .RE };
       p = record { 0 = c .P };
     }
+
+-- below a size what f says, and 0 past it. RULES T45: "the entries of the returned record past its sizes are 0"
+abbrev pub upTo : ℕ → (ℕ → ℕ) → ℕ → ℕ
+upTo size f x = cond (ltb x size) (f x) 0
 
 -- sizes with no codes
 abbrev pub withoutCodes : ℕ → ℕ → ℕ → ℕ → ℕ → ℕ → M.Netlist

@@ -10,7 +10,7 @@ use Rattle.refusals.specs.declared.Refusal.{Refusal}
 use Rattle.refusals.specs.declared.Verdict.{Verdict}
 use Rattle.refusals.specs.declared.Verdict.the-variants.{Passed, Refused}
 use Rattle.refusals.specs.declared.Reply.{Reply}
-use Rattle.refusals.specs.declared.Refusal.the-variants.{Ragged, Misprint, OutOfOrder, Size, CodeOutside, MemoryLoop, Depth, NoSuchGroup, NoRoom, OutOfNumbers}
+use Rattle.refusals.specs.declared.Refusal.the-variants.{Ragged, Misprint, OutOfOrder, Size, CodeOutside, MemoryLoop, Depth, NoSuchGroup, NoRoom, OutOfNumbers, NotAiger, Interface, Undefined}
 
 -- every word's number is at least 1
 pub refusalNumber-some : (r : Refusal) → 1 ≤ refusalNumber r
@@ -24,6 +24,9 @@ refusalNumber-some Depth = omega arith
 refusalNumber-some NoSuchGroup = omega arith
 refusalNumber-some NoRoom = omega arith
 refusalNumber-some OutOfNumbers = omega arith
+refusalNumber-some NotAiger = omega arith
+refusalNumber-some Interface = omega arith
+refusalNumber-some Undefined = omega arith
 
 -- so number 0 is sent back where no test refuses
 pub reply-passed : (v : Verdict) → replyOf v .number ≡ 0 → v ≡ Passed
@@ -41,7 +44,10 @@ refusalOf n =
     (cond (eqb n 6) MemoryLoop
     (cond (eqb n 7) Depth
     (cond (eqb n 8) NoSuchGroup
-    (cond (eqb n 9) NoRoom OutOfNumbers))))))))
+    (cond (eqb n 9) NoRoom
+    (cond (eqb n 10) OutOfNumbers
+    (cond (eqb n 11) NotAiger
+    (cond (eqb n 12) Interface Undefined)))))))))))
 
 abbrev verdictOf : Reply → Verdict
 verdictOf r = cond (eqb (r .number) 0) Passed (Refused (refusalOf (r .number)) (r .place))
@@ -58,6 +64,9 @@ verdictOf-reply (Refused Depth p) = refl
 verdictOf-reply (Refused NoSuchGroup p) = refl
 verdictOf-reply (Refused NoRoom p) = refl
 verdictOf-reply (Refused OutOfNumbers p) = refl
+verdictOf-reply (Refused NotAiger p) = refl
+verdictOf-reply (Refused Interface p) = refl
+verdictOf-reply (Refused Undefined p) = refl
 
 -- so a verdict is known by what it sends back
 pub reply-tells : (v w : Verdict) → replyOf v ≡ replyOf w → v ≡ w

@@ -1,4 +1,4 @@
-// The numbered errors (RULES T1 to T10), and what a chain of tests answers.
+// The numbered errors (RULES T1 to T13), and what a chain of tests answers.
 ghost use mathlib.Core.Path.{_≡_};
 ghost use Rattle.refusals.specs.Refusal.{refusalNumber, replyOf};
 
@@ -14,6 +14,9 @@ pub enum Refusal {
     NoSuchGroup,
     NoRoom,
     OutOfNumbers,
+    NotAiger,
+    Interface,
+    Undefined,
 }
 
 // What a chain of tests answers: none refuses, or the first that does, with its place (0: none).
@@ -43,6 +46,9 @@ pub fn number(refusal: Refusal) -> u32
         Refusal::NoSuchGroup => 8,
         Refusal::NoRoom => 9,
         Refusal::OutOfNumbers => 10,
+        Refusal::NotAiger => 11,
+        Refusal::Interface => 12,
+        Refusal::Undefined => 13,
     }
 }
 

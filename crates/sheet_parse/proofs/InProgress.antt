@@ -16,14 +16,14 @@ use Rattle.model.specs.Acceptance.{SizesFit}
 use Rattle.literals.specs.declared.Code.{Code}
 use Rattle.netlist.specs.NetOf.{codeOf, netOf, alone}
 use Rattle.netlist.specs.Places.{controlLine, latchLine, gateLine, addressLine, dataLine}
-use Rattle.netlist.specs.RecordOf.{recordOf, noNetlist}
+use Rattle.netlist.specs.RecordOf.{recordOf, noNetlist, upTo}
 use Rattle.netlist.specs.declared.Netlist.{Netlist}
 use Rattle.sheet_lines.specs.declared.ParsedLine.{ParsedLine}
 use Rattle.sheet_lines.specs.declared.ParsedLine.the-variants.{Misprint, Read}
 use Rattle.sheet_steps.specs.Records.{recordBeside}
 use Rattle.sheet_steps.specs.Steps.{Outcome, SizesKnown}
 use Rattle.sheet_steps.proofs.Records.{verdict-is, holds, outcome-kept, outcome-same}
-use Rattle.sheet_parse.specs.Files.{lineCount, lineIn, firstNumber, secondNumber, thirdNumber, sizesIn, netOfLines, netIn, upTo}
+use Rattle.sheet_parse.specs.Files.{lineCount, lineIn, firstNumber, secondNumber, thirdNumber, sizesIn, netOfLines, netIn}
 use Rattle.sheet_parse.specs.FileTests.{testLineIn}
 use Rattle.sheet_parse.specs.LineAnswers.{hasLine, linesRead, lineAfter}
 use Rattle.sheet_parse.specs.Progress.{linesTo, netTo, noCodes, noProgress, passes, answerVerdict, answerNet, moreAfter}

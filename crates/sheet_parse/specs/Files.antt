@@ -2,14 +2,12 @@
 -- everything else stands. Cited by the functions that read a file, by the other specs here and those of sheet_tests, sheet_reader and
 -- program_input, and by calls/specs/Starred.
 use Prim.Native.Nat.{ℕ, _-_, _*_, _/_}
-use mathlib.Core.Bool.{cond}
 use mathlib.Core.List.{List}
-use lib.Dec.{ltb}
 use lib.ListN.{length, take, drop}
 use Rattle.model.specs.Limits.{lineBytes}
 use Rattle.model.specs.Netlist.{Netlist}
 use Rattle.netlist.specs.Places.{sizesLine, memoryLine, latchLine, gateLine, addressLine, dataLine, controlLine}
-use Rattle.netlist.specs.RecordOf.{withoutCodes}
+use Rattle.netlist.specs.RecordOf.{withoutCodes, upTo}
 use Rattle.sheet_lines.specs.Lines.{lineOf}
 use Rattle.sheet_lines.specs.declared.ParsedLine.{ParsedLine}
 use Rattle.sheet_lines.specs.declared.ParsedLine.the-variants.{Misprint, Read}
@@ -39,10 +37,6 @@ unfoldable pub sizesIn : List ℕ → Netlist
 sizesIn file =
     withoutCodes (firstNumber (lineIn file sizesLine)) (secondNumber (lineIn file sizesLine)) (thirdNumber (lineIn file sizesLine))
     (firstNumber (lineIn file memoryLine)) (secondNumber (lineIn file memoryLine)) (thirdNumber (lineIn file memoryLine))
-
--- below a size what the lines say, and 0 past it. RULES T45: "the entries of the returned record past its sizes are 0"
-abbrev pub upTo : ℕ → (ℕ → ℕ) → ℕ → ℕ
-upTo size f x = cond (ltb x size) (f x) 0
 
 -- the netlist whose numbers stand in the given lines, at the places that the sizes s have
 unfoldable pub netOfLines : Netlist → (ℕ → ParsedLine) → Netlist

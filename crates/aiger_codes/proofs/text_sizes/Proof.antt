@@ -1,0 +1,17 @@
+-- `aiger_codes::text_sizes` meets its contract: no code is 0 twelve and thirty-two times.
+use mathlib.Core.Path.{refl}
+use borrow.Author.Needs.{needs}
+use Rattle.model.specs.Gather.{gather}
+use Rattle.netlist.specs.RecordOf.{recordOf}
+use Rattle.aiger_codes.proofs.text_sizes.Statement.{statement}
+use Rattle.aiger_codes.proofs.text_sizes.Tie as tie
+
+sub-t6 : tie.Need-sub-t6
+sub-t6 c = search needs
+
+returns : tie.Need-returns
+unfolding recordOf gather
+returns c = refl
+
+pub text-sizes-spec : {M : Type 1} → statement M
+text-sizes-spec = tie.close (tie.spec sub-t6 returns)

@@ -1,0 +1,88 @@
+-- Where a text passes 11 to 13, every code of its netlist is within its limits, so that 5 is never met (specs/TextNetlist.antt;
+-- RULES T5 and T47). No contract cites this file.
+use Prim.Native.Nat.{ℕ, _+_, _-_, _*_, _/_, _%_, _≤_, _<_}
+use mathlib.Core.Path.{_≡_, refl, _∙_, ap}
+use mathlib.Core.List.{List}
+use mathlib.Core.Logic.{by-cases}
+use native.Mathlib.Decide.{decLt}
+use native.Mathlib.Omega.{arith}
+use borrow.Author.Tests.{lt-ltb}
+use Rattle.model.specs.Netlist.{Netlist, gateWire, lastWire}
+use Rattle.model.specs.Network.{renamed}
+use Rattle.model.specs.Acceptance.{IsCode, CodesFit}
+use Rattle.refusals.specs.declared.Refusal.the-variants.{CodeOutside}
+use Rattle.refusals.specs.declared.Verdict.the-variants.{Passed}
+use Rattle.netlist.specs.Faults.{codeFault}
+use Rattle.netlist.proofs.Faults.{codes-fit}
+use Rattle.netlist_tests.specs.Record.{testLines}
+use Rattle.netlist_tests.proofs.Record.{testLines-passes}
+use Rattle.aiger_lines.specs.Parts.{countsIn, linesDue, inputLine, latchLine, gateLine}
+use Rattle.aiger_lines.specs.declared.Counts.{Counts}
+use Rattle.aiger_definitions.specs.Definitions.{numberAt, definedAt}
+use Rattle.aiger_netlist.specs.TextNetlist.{textSizes, wireOf, wireIn, codeFrom, netOfCodes, aagNet}
+use Rattle.aiger_netlist.specs.TextValues.{nextAt, outputAt}
+use Rattle.aiger_netlist.proofs.Lines.{Defining, by-input, by-latch, by-gate, wire-input, wire-read, wire-latch, wire-gate}
+use Rattle.aiger_netlist.proofs.Defined.{WellDefined, Known, constant, line, wire-defined, next-known, output-known, left-known, right-known}
+
+-- the text has n read bits among its inputs, and an output for each code that the memory and the property need
+pub record FitsInterface (h : Counts) (m n : ℕ) : Type 0 where
+  pub inputs-enough : n ≤ h .inputs
+  pub outputs-due : h .outputs ≡ m + n + 3
+
+-- the constant keeps its number
+pub wire-zero : (s : List ℕ) (c : Netlist) → wireIn s c 0 ≡ 0
+unfolding wireIn
+wire-zero s c = refl
+
+module _ (s : List ℕ) (ok : WellDefined s) (m n word : ℕ) (fits : FitsInterface (countsIn s) m n) where
+  abbrev h : Counts
+  h = countsIn s
+
+  abbrev sizes : Netlist
+  sizes = textSizes (countsIn s) m n word
+
+  -- what a line before gate g's defines has a wire below the gate's
+  wire-below : (g : ℕ) {q : ℕ} → q < gateLine (countsIn s) g → Defining (countsIn s) q → wireOf (countsIn s) sizes q < gateWire sizes g
+  wire-below g before (by-input x b e) =
+      by-cases (decLt x (countsIn s .inputs - n))
+      (λ l. rw (e, wire-input (countsIn s) sizes (omega arith) x l) (omega arith))
+      (λ l. rw (e, wire-read (countsIn s) sizes (omega arith) x (omega arith) b) (omega (arith, fits .inputs-enough)))
+  wire-below g before (by-latch l b e) = rw (e, wire-latch (countsIn s) sizes (omega arith) l b) (omega arith)
+  wire-below g before (by-gate e b k) = rw (k, wire-gate (countsIn s) sizes (omega arith) e) (omega arith)
+
+  -- so a code whose variable is known before gate g has a code below twice its wire
+  code-below : (p g x : ℕ) → p ≤ gateLine (countsIn s) g → Known s p (x / 2) → codeFrom s sizes x < 2 * gateWire sizes g
+  unfolding renamed
+  code-below p g x b k = let w = below k in omega (arith, w)
+    where
+      below : Known s p (x / 2) → wireIn s sizes (x / 2) < gateWire sizes g
+      below (constant e) = rw (e, wire-zero s sizes) (omega arith)
+      below (line q l d e) = rw (e, wire-defined s ok sizes d) (wire-below g (omega arith) d)
+
+  -- and every code is one of the netlist's
+  code-fits : (x : ℕ) → Known s (linesDue (countsIn s) + 1) (x / 2) → codeFrom s sizes x ≤ 2 * lastWire sizes + 1
+  code-fits x k = let w = code-below (linesDue (countsIn s) + 1) (countsIn s .gates) x (omega arith) k in omega (arith, w)
+
+  pub text-codes-fit : CodesFit (aagNet s m n word)
+  unfolding netOfCodes
+  text-codes-fit =
+      let due = fits .outputs-due in
+      record {
+        next-fits = λ l b. rw (lt-ltb l (countsIn s .latches) b) (code-fits (nextAt s l) (next-known s ok l b));
+        reset-fits = λ l b. omega arith;
+        left-fits = λ g b.
+            rw (lt-ltb g (countsIn s .gates) b)
+            (code-below (gateLine (countsIn s) g) g (numberAt s (gateLine (countsIn s) g) 1) (omega arith) (left-known s ok g b));
+        right-fits = λ g b.
+            rw (lt-ltb g (countsIn s .gates) b)
+            (code-below (gateLine (countsIn s) g) g (numberAt s (gateLine (countsIn s) g) 2) (omega arith) (right-known s ok g b));
+        address-fits = λ t b. rw (lt-ltb t m b) (code-fits (outputAt s t) (output-known s ok t (omega arith)));
+        data-fits = λ t b. rw (lt-ltb t n b) (code-fits (outputAt s (m + t)) (output-known s ok (m + t) (omega arith)));
+        WE-fits = code-fits (outputAt s (m + n)) (output-known s ok (m + n) (omega arith));
+        RE-fits = code-fits (outputAt s (m + n + 1)) (output-known s ok (m + n + 1) (omega arith));
+        P-fits = omega (arith, code-fits (outputAt s (m + n + 2)) (output-known s ok (m + n + 2) (omega arith)));
+      }
+
+  -- 5 is never met
+  pub no-code-fault : testLines (aagNet s m n word) CodeOutside codeFault ≡ Passed
+  no-code-fault = testLines-passes (aagNet s m n word) CodeOutside codeFault .1 (codes-fit (aagNet s m n word) .1 text-codes-fit)

@@ -1,0 +1,47 @@
+-- Which texts `import` refuses, and where (RULES T11 to T13, and T47: 11, 12, 13, then 4, 6 and 9). That 5 is met by no text which passes
+-- 11 to 13 is the law `no-code-fault` in proofs/Codes.antt. Cited by `import_codes` and specs/Imported.
+use Prim.Native.Nat.{ℕ, _+_, _-_, _^_, min}
+use mathlib.Core.Bool.{Bool, not, _||_}
+use mathlib.Core.List.{List}
+use lib.Dec.{eqb, ltb}
+use Rattle.model.specs.Netlist.{Netlist}
+use Rattle.refusals.specs.Tests.{refuseIf, _then_, inOrder}
+use Rattle.refusals.specs.declared.Refusal.{Refusal}
+use Rattle.refusals.specs.declared.Refusal.the-variants.{Size, NoRoom, NotAiger, Interface, Undefined}
+use Rattle.refusals.specs.declared.Verdict.{Verdict}
+use Rattle.netlist.specs.Faults.{sizeFault}
+use Rattle.netlist_tests.specs.Record.{testLines, testLoops, listsShort}
+use Rattle.aiger_lines.specs.Parts.{countsIn, linesDue, malformedAt}
+use Rattle.aiger_lines.specs.declared.Counts.{Counts}
+use Rattle.aiger_definitions.specs.Definitions.{definesAgain, undefinedAt}
+use Rattle.aiger_netlist.specs.TextNetlist.{aagNet}
+
+-- a line's place, as far as 32 bits go
+abbrev pub placeOf : ℕ → ℕ
+placeOf p = min p (2 ^ 32 - 1)
+
+-- the first line due that has a fault
+abbrev pub firstLine : List ℕ → (List ℕ → ℕ → Bool) → Refusal → Verdict
+firstLine s fault r = inOrder (λ p. refuseIf (fault s p) r (placeOf p)) (linesDue (countsIn s))
+
+-- RULES T11: the line is not well-formed, or defines a variable again
+abbrev pub notAiger : List ℕ → ℕ → Bool
+notAiger s p = malformedAt s p || definesAgain s p
+
+-- RULES T12: fewer inputs than read bits, or not as many outputs as address, write data, WE, RE and P
+abbrev pub wrongInterface : Counts → ℕ → ℕ → Bool
+wrongInterface h m n = ltb (h .inputs) n || not (eqb (h .outputs) (m + n + 3))
+
+-- the tests of the text by itself, and those of the netlist that it describes, with lists of so many latches and gates
+unfoldable pub textVerdict : List ℕ → ℕ → ℕ → Verdict
+textVerdict s m n =
+    firstLine s notAiger NotAiger
+    then refuseIf (wrongInterface (countsIn s) m n) Interface 0
+    then firstLine s undefinedAt Undefined
+
+unfoldable pub importVerdict : List ℕ → ℕ → ℕ → ℕ → ℕ → ℕ → Verdict
+importVerdict s m n word latchRoom gateRoom =
+    textVerdict s m n
+    then testLines (aagNet s m n word) Size sizeFault
+    then testLoops (aagNet s m n word)
+    then refuseIf (listsShort (aagNet s m n word) latchRoom gateRoom) NoRoom 0

@@ -1,0 +1,29 @@
+-- What holds of a netlist d that is delivered for an ASCII AIGER text, where nothing is refused. No test of records refuses it; it is
+-- the text's netlist, below the sizes; whatever values inputs and latches have, there are values of the text's variables, and
+-- everything has in d the value that it has in the text; demands 2 and 3 hold of it for the text's netlist, as they do of a sheet
+-- that was read. The lists of d have latchCount and gateCount records. Cited by `import`.
+use Prim.Native.Nat.{ℕ, _≤_}
+use mathlib.Core.Path.{_≡_}
+use mathlib.Core.Bool.{Bool}
+use mathlib.Core.List.{List}
+use Rattle.model.specs.Limits.{mostDepth}
+use Rattle.model.specs.Netlist.{Netlist}
+use Rattle.model.specs.Circuit.{Values}
+use Rattle.model.specs.Agree.{Agree}
+use Rattle.model.specs.Variables.{base}
+use Rattle.model.specs.Numbers.{numbersOf}
+use Rattle.model.specs.declared.Group.{Group}
+use Rattle.refusals.specs.declared.Verdict.the-variants.{Passed}
+use Rattle.netlist_tests.specs.Record.{recordVerdict}
+use Rattle.call_unpacked.specs.Calls.{CallsEncode}
+use Rattle.aiger_netlist.specs.TextNetlist.{aagNet}
+use Rattle.aiger_netlist.specs.TextValues.{TextValues, valuesOf, SameValues}
+
+pub record Imported (s : List ℕ) (m n word : ℕ) (d : Netlist) (latchCount gateCount : ℕ) : Type 0 where
+  pub not-refused : recordVerdict d latchCount gateCount ≡ Passed
+  pub agrees : Agree (aagNet s m n word) d
+  pub has-values : (input latch : ℕ → Bool) → (v : Values) × TextValues s input latch v
+  pub same-values : (input latch : ℕ → Bool) (v : Values) → TextValues s input latch v → SameValues s d (valuesOf d input latch) v
+  pub variables-same : (i : ℕ) → base d i ≡ base (aagNet s m n word) i
+  pub numbers-same : (k : ℕ) (g : Group) → numbersOf d k g ≡ numbersOf (aagNet s m n word) k g
+  pub calls-encode : (k : ℕ) → k ≤ mostDepth → CallsEncode (aagNet s m n word) d latchCount gateCount k

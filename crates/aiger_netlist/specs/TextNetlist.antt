@@ -1,0 +1,63 @@
+-- The netlist that an ASCII AIGER text describes (RULES I6 to I8). The caller gives m, n and the start word; the text's last n inputs are
+-- the read bits, its outputs are address, write data, WE, RE and P, and each latch starts at 0. Variables become wires in the order of
+-- their lines. Cited by `import_codes`, specs/ImportVerdict and specs/Imported.
+use Prim.Native.Nat.{ℕ, _+_, _-_}
+use mathlib.Core.Bool.{cond}
+use mathlib.Core.List.{List}
+use lib.Dec.{eqb, ltb}
+use Rattle.model.specs.Search.{firstWhere}
+use Rattle.model.specs.Netlist.{Netlist, inputWire, latchWire, readWire, gateWire}
+use Rattle.model.specs.Network.{renamed}
+use Rattle.netlist.specs.RecordOf.{withoutCodes, upTo}
+use Rattle.aiger_lines.specs.Parts.{countsIn, linesDue, inputLine, latchLine, outputLine, gateLine}
+use Rattle.aiger_lines.specs.declared.Counts.{Counts}
+use Rattle.aiger_definitions.specs.Definitions.{numberAt, definedAt}
+
+-- the sizes: the inputs that are not read bits, the latches and the gates of the header; with no codes
+abbrev pub textSizes : Counts → ℕ → ℕ → ℕ → Netlist
+textSizes h m n word = withoutCodes (h .inputs - n) (h .latches) (h .gates) m n word
+
+-- the wire of what line p defines, in a netlist of the sizes c: an input, a read bit, a latch or a gate
+unfoldable pub wireOf : Counts → Netlist → ℕ → ℕ
+wireOf h c p =
+    cond (ltb p (inputLine h (c .inputs))) (inputWire c (p - inputLine h 0))
+    (cond (ltb p (latchLine h 0)) (readWire c (p - inputLine h (c .inputs)))
+    (cond (ltb p (outputLine h 0)) (latchWire c (p - latchLine h 0)) (gateWire c (p - gateLine h 0))))
+
+-- the line, of those due, that defines the variable v
+unfoldable pub definingLine : List ℕ → ℕ → ℕ
+definingLine s v = firstWhere (λ p. eqb (definedAt s p) v) (linesDue (countsIn s) + 1)
+
+-- the wire of the variable v; the constant stays 0
+unfoldable pub wireIn : List ℕ → Netlist → ℕ → ℕ
+wireIn s c v = cond (eqb v 0) 0 (wireOf (countsIn s) c (definingLine s v))
+
+-- a code of the text as a code of the netlist
+abbrev pub codeFrom : List ℕ → Netlist → ℕ → ℕ
+codeFrom s c x = renamed (wireIn s c) x
+
+-- the netlist of the sizes c, where `code p i` is the code for number i of line p. Outputs: m address codes, n write-data codes, WE, RE, P
+unfoldable pub netOfCodes : Counts → Netlist → (ℕ → ℕ → ℕ) → Netlist
+netOfCodes h c code =
+    record {
+      inputs = c .inputs;
+      latches = c .latches;
+      gates = c .gates;
+      m = c .m;
+      n = c .n;
+      initialWord = c .initialWord;
+      next = upTo (c .latches) (λ l. code (latchLine h l) 1);
+      reset = λ l. 0;
+      left = upTo (c .gates) (λ g. code (gateLine h g) 1);
+      right = upTo (c .gates) (λ g. code (gateLine h g) 2);
+      address = upTo (c .m) (λ t. code (outputLine h t) 0);
+      writeData = upTo (c .n) (λ t. code (outputLine h (c .m + t)) 0);
+      WE = code (outputLine h (c .m + c .n)) 0;
+      RE = code (outputLine h (c .m + c .n + 1)) 0;
+      P = code (outputLine h (c .m + c .n + 2)) 0;
+    }
+
+abbrev pub aagNet : List ℕ → ℕ → ℕ → ℕ → Netlist
+aagNet s m n word =
+    let c = textSizes (countsIn s) m n word in
+    netOfCodes (countsIn s) c (λ p i. codeFrom s c (numberAt s p i))

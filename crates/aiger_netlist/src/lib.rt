@@ -1,0 +1,1 @@
+// The netlist that an ASCII AIGER text describes.
