@@ -57,9 +57,6 @@ FIELD(marrubigai_line_reply, line, 24);
 // no record is refused by it (docs/LIBRARY.md), so no call below answers it
 _Static_assert(MARRUBIGAI_OUT_OF_NUMBERS == 10, "out of numbers");
 
-// `import` alone answers them
-_Static_assert(MARRUBIGAI_NOT_AIGER == 11 && MARRUBIGAI_INTERFACE == 12 && MARRUBIGAI_UNDEFINED == 13, "refusals of a text");
-
 static int passed, failed;
 
 static void check(const char *what, int holds) {
