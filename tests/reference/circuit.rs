@@ -65,18 +65,22 @@ impl<'a> Circuit<'a> {
         values
     }
 
-    /// All wires for given inputs and read bits, gates in wire order.
     fn evaluate(&self, inputs: &[bool], read_word: u32) -> Values {
-        let mut values = vec![false];
-        values.extend_from_slice(inputs);
-        values.extend_from_slice(&self.latches);
-        values.extend((0..self.netlist.data_width).map(|bit| (read_word >> bit) & 1 == 1));
-        for gate in &self.netlist.gates[..self.netlist.gate_count as usize] {
-            let output = value(&values, gate.left) && value(&values, gate.right);
-            values.push(output);
-        }
-        values
+        evaluate(self.netlist, inputs, &self.latches, read_word)
     }
+}
+
+/// All wires for given inputs, latches and read bits, gates in wire order.
+pub fn evaluate(netlist: &Netlist, inputs: &[bool], latches: &[bool], read_word: u32) -> Values {
+    let mut values = vec![false];
+    values.extend_from_slice(inputs);
+    values.extend_from_slice(latches);
+    values.extend((0..netlist.data_width).map(|bit| (read_word >> bit) & 1 == 1));
+    for gate in &netlist.gates[..netlist.gate_count as usize] {
+        let output = value(&values, gate.left) && value(&values, gate.right);
+        values.push(output);
+    }
+    values
 }
 
 /// A run through all frames that it is fed, also behind a frame that breaks the property.

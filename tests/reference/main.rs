@@ -1,7 +1,10 @@
-//! Self-test of a second implementation of docs/RULES.md: each family of checks prints one line,
-//! the last line is the total. Build: rustc -O --edition 2021 main.rs
+//! Self-test of a second implementation of docs/RULES.md and K1: each family of checks prints one
+//! line, the last line is the total. Build: rustc -O --edition 2021 main.rs
 
 mod agreement;
+mod aiger;
+mod aiger_values;
+mod check_aiger;
 mod check_examples;
 mod check_random;
 mod check_refusals;
@@ -9,6 +12,7 @@ mod circuit;
 mod formula;
 mod netlist;
 mod random;
+mod random_aiger;
 mod refusal;
 mod sheet;
 mod solver;
@@ -18,7 +22,7 @@ use tally::{Report, Tally};
 
 type Family = (&'static str, fn(&mut Tally));
 
-const FAMILIES: [Family; 20] = [
+const FAMILIES: [Family; 26] = [
     ("full runs, byte for byte", check_examples::full_runs),
     ("a run of the chip, by hand", check_examples::memory_run),
     ("starred facts", check_examples::starred_facts),
@@ -42,6 +46,12 @@ const FAMILIES: [Family; 20] = [
     ("demand 3, all assignments", check_random::demand_3),
     ("demand 3, single feeds", check_random::single_feeds),
     ("faults are caught", check_random::faults),
+    ("texts of K1, by hand", check_aiger::by_hand),
+    ("texts of K1, sets of faults", check_aiger::several_faults),
+    ("texts of K1, random", check_aiger::random_texts),
+    ("texts of K1, wrong values", check_aiger::values_part),
+    ("texts of K1, faults", check_aiger::predicted_faults),
+    ("texts of K1, damaged", check_aiger::damaged_texts),
 ];
 
 fn main() {

@@ -1,4 +1,4 @@
-//! Refusals: a number (RULES T1 to T10) and a place.
+//! Refusals: a number (RULES T1 to T10; 11 to 13: K1) and a place.
 
 pub const RAGGED: u32 = 1;
 pub const MISPRINT: u32 = 2;
@@ -10,6 +10,9 @@ pub const DEPTH: u32 = 7;
 pub const NO_SUCH_GROUP: u32 = 8;
 pub const NO_ROOM: u32 = 9;
 pub const OUT_OF_NUMBERS: u32 = 10;
+pub const NOT_WELL_FORMED: u32 = 11;
+pub const WRONG_COUNTS: u32 = 12;
+pub const UNDEFINED: u32 = 13;
 
 #[derive(Clone, Copy, Debug, PartialEq, Eq)]
 pub struct Refusal {

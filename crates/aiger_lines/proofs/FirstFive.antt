@@ -8,8 +8,8 @@ use native.Mathlib.Decide.{decLt}
 use native.Mathlib.Numerals.{add-one}
 use native.Mathlib.Omega.{arith}
 use borrow.Author.Tests.{lt-ltb, le-ltb}
-use lib.ListN.{length, getD, take, drop, set, replicate, length-append, length-replicate, length-set, take-append-drop, List·getD-append, List·getD-eq-default, getD-replicate}
-use lib.Seq.{getD-take, length-take-le, take-suc-set, drop-set-lt, drop-drop, take-at, getD-append-add}
+use lib.ListN.{length, getD, take, drop, set, replicate, length-append, length-replicate, take-append-drop}
+use lib.Seq.{getD-take, length-take-le, take-suc-set, drop-set-lt, drop-drop, take-at}
 use Rattle.decimal.specs.TextValue.{numberIn}
 use Rattle.decimal.specs.declared.Number.the-variants.{Value, NotANumber}
 use Rattle.aiger_lines.specs.Numbers.{allNumbers, values, numbersOf}
@@ -93,19 +93,15 @@ pub in-at : (xs : Numbers) (i : ℕ) → i < xs .count → getD (numbersIn xs) i
 unfolding numbersIn
 in-at xs i l = getD-take (xs .count) (xs .values) i 0 l
 
-zeros : (n j : ℕ) → _≡_ {A = ℕ} (getD (replicate n 0) j 0) 0
-zeros zero j = refl
+zeros : (n i : ℕ) → _≡_ {A = ℕ} (getD (replicate n 0) i 0) 0
+zeros zero i = refl
 zeros (suc n) zero = refl
-zeros (suc n) (suc j) = zeros n j
+zeros (suc n) (suc i) = zeros n i
+
+padded : (xs : List ℕ) (n i : ℕ) → getD (xs ++ replicate n 0) i 0 ≡ getD xs i 0
+padded [] n i = zeros n i
+padded (x ∷ xs) n zero = refl
+padded (x ∷ xs) n (suc i) = padded xs n i
 
 pub five-value : (xs : List ℕ) (i : ℕ) → length xs ≤ 5 → getD (firstFive xs .values) i 0 ≡ getD xs i 0
-five-value xs i l =
-    by-cases (decLt i (length xs)) (λ b. rw (five-few xs l) (List·getD-append xs (replicate (5 - length xs) 0) 0 i b))
-    (λ b. rw (five-few xs l) (behind (omega arith)))
-  where
-    behind : length xs ≤ i → getD (xs ++ replicate (5 - length xs) 0) i 0 ≡ getD xs i 0
-    behind b =
-        let place : i ≡ length xs + (i - length xs) = omega arith in
-        ap (λ (j : ℕ). getD (xs ++ replicate (5 - length xs) 0) j 0) place
-        ∙ getD-append-add xs (replicate (5 - length xs) 0) (i - length xs) 0 ∙ zeros (5 - length xs) (i - length xs)
-        ∙ sym (List·getD-eq-default xs 0 b)
+five-value xs i l = rw (five-few xs l) (padded xs (5 - length xs) i)

@@ -1,32 +1,28 @@
 -- Laws of reading line by line (specs/Steps.antt): the line that is read next, and what the lines up to the last sound one give. No
 -- contract cites this file.
-use Prim.Native.Nat.{ℕ, zero, suc, _+_, _-_, _*_, _%_, _≤_, _<_}
+use Prim.Native.Nat.{ℕ, suc, _+_, _-_, _≤_, _<_}
 use mathlib.Core.Path.{_≡_, refl, sym, ap, _∙_}
-use mathlib.Core.Bool.{Bool, true, false, cond, not, _&&_, _||_, true≢false, false≢true}
+use mathlib.Core.Bool.{Bool, true, false, cond}
 use mathlib.Core.List.{List, [], _∷_}
 use mathlib.Core.Logic.{by-cases}
 use native.Mathlib.Decide.{decLt}
 use native.Mathlib.Numerals.{add-one}
 use native.Mathlib.Omega.{arith}
-use borrow.Author.Tests.{eq-eqb, ne-eqb, eqb-true, eqb-false, ltb-false, le-ltb, lt-ltb, not-true, not-false}
-use lib.Dec.{eqb, ltb}
+use borrow.Author.Tests.{ne-eqb}
 use lib.ListN.{length, getD, take, drop, drop-of-length-le}
-use lib.Seq.{drop-cons, drop-drop, drop-nil, getD-drop}
+use lib.Seq.{drop-drop, getD-drop}
 use Rattle.model.specs.Search.{IsFirst}
-use Rattle.model.proofs.Booleans.{neither-true, and-true}
 use Rattle.decimal.specs.Digits.{lineFeed, space}
 use Rattle.decimal.specs.TextValue.{sameText}
-use Rattle.decimal.specs.declared.Number.the-variants.{NotANumber}
 use Rattle.decimal.proofs.TextValue.{numberIn-empty}
 use Rattle.text_words.specs.Words.{linesOf, wordsOf, restAfter, partsAfter}
-use Rattle.text_words.proofs.Words.{words-last}
 use Rattle.aiger_lines.specs.Numbers.{numbersOf, allNumbers, values, wordsAt}
-use Rattle.aiger_lines.specs.Parts.{aag, headerNumbers, lineNumbers, countsIn, countsOf, partAt, linesDue, width, hasLiterals, defines, literalLimit, anyAbove, notDefinable, malformed, malformedAt}
-use Rattle.aiger_lines.specs.Steps.{spanTo, firstFive, numbersIn, Holds, Behind, NextLine, HeaderRead, SoundTo}
+use Rattle.aiger_lines.specs.Parts.{aag, headerNumbers, lineNumbers, countsIn, countsOf, partAt, linesDue, width, malformed, malformedAt}
+use Rattle.aiger_lines.specs.Steps.{spanTo, firstFive, numbersIn, Holds, Behind, NextLine, SoundTo}
 use Rattle.aiger_lines.specs.declared.Counts.{Counts}
 use Rattle.aiger_lines.specs.declared.Numbers.{Numbers}
 use Rattle.aiger_lines.specs.declared.Part.{Part}
-use Rattle.aiger_lines.specs.declared.Part.the-variants.{Header, Input, Latch, Output, Gate}
+use Rattle.aiger_lines.specs.declared.Part.the-variants.{Header}
 use Rattle.aiger_lines.proofs.FirstFive.{five-holds}
 use Rattle.aiger_lines.proofs.Parts.{malformed-five, well-five, counts-first-five}
 use Rattle.aiger_lines.proofs.Steps.{found-within, parts-next, parts-over, words-next, words-over}
@@ -62,7 +58,8 @@ module _ (s : List ℕ) (p at end : ℕ) (behind : Behind s p at) (found : end �
 
   pub line-found : end < length s → (getD (linesOf s) p [] ≡ take (end - at) (drop at s)) × Behind s (p + 1) (end + 1)
   line-found l =
-      let here = line-here (partsAfter lineFeed [] (drop (end + 1) s)) (take (end - at) (drop at s)) (parts-next lineFeed s at end (behind .within) found l) in
+      let parts = parts-next lineFeed s at end (behind .within) found l in
+      let here = line-here (partsAfter lineFeed [] (drop (end + 1) s)) (take (end - at) (drop at s)) parts in
       (here .0, record { within = omega arith; rest = here .1 })
 
   pub line-missing : length s ≤ end → (getD (linesOf s) p [] ≡ []) × Behind s (p + 1) end
@@ -81,7 +78,9 @@ pub behind-none : (s : List ℕ) → Behind s 0 0
 behind-none s = record { within = omega arith; rest = refl }
 
 -- the numbers of line p + 1 are those of its words
-pub numbers-line : (s : List ℕ) (p : ℕ) → 1 ≤ p → (line : List ℕ) → getD (linesOf s) p [] ≡ line → lineNumbers s (p + 1) ≡ numbersOf (wordsOf line)
+pub numbers-line :
+    (s : List ℕ) (p : ℕ) → 1 ≤ p → (line : List ℕ) → getD (linesOf s) p [] ≡ line →
+    lineNumbers s (p + 1) ≡ numbersOf (wordsOf line)
 unfolding lineNumbers wordsAt
 numbers-line s p l line e =
     let place : p + 1 - 1 ≡ p = omega arith in
@@ -94,6 +93,9 @@ pub header-numbers : (s : List ℕ) (line : List ℕ) → getD (linesOf s) 0 [] 
 unfolding lineNumbers wordsAt
 header-numbers s line e = rw e
 
+pub header-missing : (s : List ℕ) → getD (linesOf s) 0 [] ≡ [] → lineNumbers s 1 ≡ []
+header-missing s e = header-numbers s [] e ∙ header-empty
+
 -- The header's word is looked for: a space is found at `end`, or there is none.
 module _ (line : List ℕ) (end : ℕ) (found : end ≡ 0 + spanTo space (drop 0 line)) where
   header-word : end < length line → wordsOf line ≡ take end line ∷ wordsOf (drop (end + 1) line)
@@ -101,7 +103,8 @@ module _ (line : List ℕ) (end : ℕ) (found : end ≡ 0 + spanTo space (drop 0
       let whole : end - 0 ≡ end = omega arith in
       rw whole at (words-next line 0 end (omega arith) found l)
 
-  pub header-read : end < length line → sameText (take end line) aag ≡ true → headerNumbers (wordsOf line) ≡ numbersOf (wordsOf (drop (end + 1) line))
+  pub header-read : end < length line → sameText (take end line) aag ≡ true
+      → headerNumbers (wordsOf line) ≡ numbersOf (wordsOf (drop (end + 1) line))
   header-read l e = ap headerNumbers (header-word l) ∙ rw e
 
   pub header-other : end < length line → sameText (take end line) aag ≡ false → headerNumbers (wordsOf line) ≡ []
@@ -115,12 +118,10 @@ module _ (line : List ℕ) (end : ℕ) (found : end ≡ 0 + spanTo space (drop 0
       cond-none true = refl
       cond-none false = refl
 
-pub header-missing : (s : List ℕ) → getD (linesOf s) 0 [] ≡ [] → lineNumbers s 1 ≡ []
-header-missing s e = header-numbers s [] e ∙ header-empty
-
 -- Line p + 1 was looked for and read.
 module _ (s : List ℕ) (p at end : ℕ) (behind : Behind s p at) (found : end ≡ at + spanTo lineFeed (drop at s)) (numbers : Numbers) where
-  pub next-found : 1 ≤ p → end < length s → numbers ≡ firstFive (numbersOf (wordsOf (take (end - at) (drop at s)))) → NextLine s p numbers (end + 1)
+  pub next-found : 1 ≤ p → end < length s → numbers ≡ firstFive (numbersOf (wordsOf (take (end - at) (drop at s))))
+      → NextLine s p numbers (end + 1)
   next-found l b e =
       let line = line-found s p at end behind found b in
       record { numbers-are = e ∙ ap firstFive (sym (numbers-line s p l (take (end - at) (drop at s)) (line .0))); behind = line .1 }
@@ -214,7 +215,8 @@ module _ (s : List ℕ) where
   }
 
   module _ (line at : ℕ) (so-far : SoundSoFar s line at) where
-    pub sound-next : (next : ℕ) → line < linesDue (countsIn s) → Behind s (line + 1) next → malformedAt s (line + 1) ≡ false → SoundSoFar s (line + 1) next
+    pub sound-next : (next : ℕ) → line < linesDue (countsIn s) → Behind s (line + 1) next → malformedAt s (line + 1) ≡ false
+        → SoundSoFar s (line + 1) next
     sound-next next l behind h = record {
       some = omega arith;
       within = omega arith;

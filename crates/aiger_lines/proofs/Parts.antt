@@ -1,7 +1,7 @@
 -- Laws of specs/Parts.antt: the header's word and counts, and what a well-formed line has. No contract cites this file.
-use Prim.Native.Nat.{ℕ, zero, suc, _+_, _-_, _*_, _%_, _≤_, _<_}
+use Prim.Native.Nat.{ℕ, zero, suc, _+_, _%_, _≤_, _<_}
 use mathlib.Core.Path.{_≡_, refl, sym, ap, _∙_}
-use mathlib.Core.Bool.{Bool, true, false, cond, not, _&&_, _||_}
+use mathlib.Core.Bool.{Bool, true, false, not, _&&_, _||_}
 use mathlib.Core.List.{List, [], _∷_}
 use mathlib.Core.Logic.{by-cases}
 use native.Mathlib.Decide.{decLt}
@@ -124,7 +124,9 @@ module _ (h : Counts) (part : Part) (xs : List ℕ) (well : malformed h part xs 
       × ((defines part && notDefinable (getD xs 0 0)) ≡ false)
   unfolding malformed
   tests =
-      let a = neither-true (not (eqb (length xs) (width part)) || (hasLiterals part && anyAbove (literalLimit h) xs)) (defines part && notDefinable (getD xs 0 0)) .0 well in
+      let a =
+      neither-true (not (eqb (length xs) (width part)) || (hasLiterals part && anyAbove (literalLimit h) xs))
+      (defines part && notDefinable (getD xs 0 0)) .0 well in
       let b = neither-true (not (eqb (length xs) (width part))) (hasLiterals part && anyAbove (literalLimit h) xs) .0 (a .0) in
       (b .0, b .1, a .1)
 

@@ -1,6 +1,6 @@
 -- The words of a line read one by one into the array of five numbers: what holds before each word, and what follows from how the word
 -- is read. No contract cites this file.
-use Prim.Native.Nat.{ℕ, suc, _+_, _-_, _≤_, _<_}
+use Prim.Native.Nat.{ℕ, _+_, _-_, _≤_, _<_}
 use mathlib.Core.Path.{_≡_, refl, sym, ap, _∙_}
 use mathlib.Core.List.{List, [], _∷_, _++_}
 use mathlib.Core.Logic.{by-cases}
@@ -14,8 +14,7 @@ use Rattle.decimal.specs.declared.Number.the-variants.{Value, NotANumber}
 use Rattle.text_words.specs.Words.{wordsOf}
 use Rattle.aiger_lines.specs.Numbers.{numbersOf}
 use Rattle.aiger_lines.specs.Steps.{spanTo, firstFive}
-use Rattle.aiger_lines.specs.declared.Numbers.{Numbers}
-use Rattle.aiger_lines.proofs.Steps.{found-within, words-next, words-over}
+use Rattle.aiger_lines.proofs.Steps.{words-next, words-over}
 use Rattle.aiger_lines.proofs.FirstFive.{gathered, gathered-all, gathered-end, gathered-next, gathered-other, gathered-many, fill-zeros, fill-taken, filled}
 
 -- the first `count` values are the numbers of the words before byte `at`, where the next word begins

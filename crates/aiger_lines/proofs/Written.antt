@@ -1,8 +1,8 @@
 -- Laws of specs/Written.antt: the words of a line of numbers are their digits, and a line is its words joined. No contract cites
 -- this file.
-use Prim.Native.Nat.{ℕ, zero, suc, _+_, _-_, _^_, _≤_, _<_}
+use Prim.Native.Nat.{ℕ, zero, suc, _-_, _^_, _<_}
 use mathlib.Core.Path.{_≡_, refl, sym, ap, ap₂, _∙_}
-use mathlib.Core.Bool.{Bool, true, false, cond, _&&_, true≢false, false≢true}
+use mathlib.Core.Bool.{Bool, true, false, cond, false≢true}
 use mathlib.Core.List.{List, [], _∷_, _++_, map, append-assoc}
 use native.Mathlib.Omega.{arith}
 use lib.Dec.{eqb, leb}
@@ -15,8 +15,8 @@ use Rattle.decimal.specs.TextValue.{numberIn, sameText}
 use Rattle.decimal.specs.declared.Number.{Number}
 use Rattle.decimal.specs.declared.Number.the-variants.{Value, NotANumber}
 use Rattle.decimal.proofs.TextValue.{isDigit, allDigits, allDigits-digits, sameText-refl, sameText-true, numberIn-digits, digits-numberIn}
-use Rattle.text_words.specs.Words.{linesOf, wordsOf, restAfter, ended, Without}
-use Rattle.text_words.proofs.Words.{parts-first, ended-parts, words-first, words-last, words-joined}
+use Rattle.text_words.specs.Words.{linesOf, wordsOf, ended, Without}
+use Rattle.text_words.proofs.Words.{parts-first, parts-none, words-first, words-last, words-joined}
 use Rattle.aiger_lines.specs.Numbers.{isNumber, valueOf, allNumbers, values, numbersOf, wordsAt}
 use Rattle.aiger_lines.specs.Parts.{aag, headerNumbers, lineNumbers}
 use Rattle.aiger_lines.specs.Written.{numbersText, lineText, ReadAsWritten}
@@ -132,12 +132,44 @@ header-line s = of-words s (wordsOf s) (words-joined s)
 line-header : (xs : List ℕ) → 0 < length xs → ((i : ℕ) → getD xs i 0 < 2 ^ 32) → headerNumbers (wordsOf (aag ++ space ∷ numbersText xs)) ≡ xs
 line-header xs l h = ap headerNumbers (words-first aag (numbersText xs) aag-without) ∙ rw (sameText-refl aag) (line-numbers xs l h)
 
+-- a number on a line fits 32 bits
+value-fits : (w : List ℕ) (r : Number) → numberIn w ≡ r → valueOf r < 2 ^ 32
+value-fits w (Value x) e = digits-numberIn w x e .1
+value-fits w NotANumber e = omega arith
+
+values-fit : (ws : List (List ℕ)) (i : ℕ) → getD (values ws) i 0 < 2 ^ 32
+unfolding values
+values-fit [] i = omega arith
+values-fit (w ∷ ws) zero = value-fits w (numberIn w) refl
+values-fit (w ∷ ws) (suc i) = values-fit ws i
+
+chosen-fit : (b : Bool) (xs : List ℕ) (i : ℕ) → getD xs i 0 < 2 ^ 32 → getD (cond b xs []) i 0 < 2 ^ 32
+chosen-fit true xs i h = h
+chosen-fit false xs i h = omega arith
+
+numbersOf-fit : (ws : List (List ℕ)) (i : ℕ) → getD (numbersOf ws) i 0 < 2 ^ 32
+unfolding numbersOf
+numbersOf-fit ws i = chosen-fit (allNumbers ws) (values ws) i (values-fit ws i)
+
+headerNumbers-fit : (ws : List (List ℕ)) (i : ℕ) → getD (headerNumbers ws) i 0 < 2 ^ 32
+headerNumbers-fit [] i = omega arith
+headerNumbers-fit (w ∷ ws) i = chosen-fit (sameText w aag) (numbersOf ws) i (numbersOf-fit ws i)
+
+pub lineNumbers-fit : (s : List ℕ) (p i : ℕ) → getD (lineNumbers s p) i 0 < 2 ^ 32
+unfolding lineNumbers
+lineNumbers-fit s p i = by-place (eqb p 1)
+  where
+    by-place : (b : Bool) → getD (cond b (headerNumbers (wordsAt s p)) (numbersOf (wordsAt s p))) i 0 < 2 ^ 32
+    by-place true = headerNumbers-fit (wordsAt s p) i
+    by-place false = numbersOf-fit (wordsAt s p) i
+
 pub read-as-written : ReadAsWritten
 unfolding lineText lineNumbers wordsAt
 read-as-written = record {
-  lines→text = λ s. sym (ended-parts lineFeed [] s);
   text→lines = λ x s w. parts-first lineFeed x s w;
+  text→no-line = λ x w. parts-none lineFeed [] x w;
   numbers→text = λ s p. by-place (eqb p 1) (getD (linesOf s) (p - 1) []);
+  numbers-fit = lineNumbers-fit;
   text→numbers = λ s p xs l h e. rw e (back (eqb p 1) xs l h);
 }
   where

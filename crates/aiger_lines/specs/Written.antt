@@ -7,7 +7,7 @@ use mathlib.Core.List.{List, [], _∷_, _++_}
 use lib.Dec.{eqb}
 use lib.ListN.{length, getD}
 use Rattle.decimal.specs.Digits.{digits, space, lineFeed}
-use Rattle.text_words.specs.Words.{linesOf, restAfter, ended, Without}
+use Rattle.text_words.specs.Words.{linesOf, Without}
 use Rattle.aiger_lines.specs.Parts.{aag, lineNumbers}
 
 -- the digits of the numbers, with single spaces between
@@ -20,11 +20,12 @@ numbersText (x ∷ y ∷ xs) = digits x ++ space ∷ numbersText (y ∷ xs)
 unfoldable pub lineText : ℕ → List ℕ → List ℕ
 lineText p xs = cond (eqb p 1) (aag ++ space ∷ numbersText xs) (numbersText xs)
 
--- a text's lines, and a line's numbers, are what is written there. A line of the text is line p, the first being 1; one that the
--- text does not have is empty
+-- a text's lines are what line feeds end, and a line's numbers are what is written there and fit 32 bits. The first line is 1; one
+-- that the text does not have is as an empty one
 pub record ReadAsWritten : Type 0 where
-  pub lines→text : (s : List ℕ) → s ≡ ended lineFeed (linesOf s) ++ restAfter lineFeed [] s
   pub text→lines : (x s : List ℕ) → Without lineFeed x → linesOf (x ++ lineFeed ∷ s) ≡ x ∷ linesOf s
+  pub text→no-line : (x : List ℕ) → Without lineFeed x → linesOf x ≡ []
   pub numbers→text : (s : List ℕ) (p : ℕ) → 0 < length (lineNumbers s p) → getD (linesOf s) (p - 1) [] ≡ lineText p (lineNumbers s p)
+  pub numbers-fit : (s : List ℕ) (p i : ℕ) → getD (lineNumbers s p) i 0 < 2 ^ 32
   pub text→numbers : (s : List ℕ) (p : ℕ) (xs : List ℕ) → 0 < length xs → ((i : ℕ) → getD xs i 0 < 2 ^ 32)
       → getD (linesOf s) (p - 1) [] ≡ lineText p xs → lineNumbers s p ≡ xs

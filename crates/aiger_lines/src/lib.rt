@@ -4,7 +4,7 @@ ghost use mathlib.Core.Path.{_≡_};
 ghost use mathlib.Core.Bool.{_&&_};
 ghost use mathlib.Core.List.{[]};
 ghost use Prim.Native.Nat.{_+_, _≤_};
-ghost use lib.ListN.{length, getD, drop};
+ghost use lib.ListN.{length, drop};
 ghost use Rattle.decimal.specs.TextValue.{sameText};
 ghost use Rattle.text_words.specs.Words.{wordsOf};
 ghost use Rattle.aiger_lines.specs.Numbers.{numbersOf};
@@ -133,16 +133,16 @@ fn header_numbers(line: &[u8]) -> Numbers
 fn first_line(text: &[u8]) -> NumberLine
     ensures { λ r. ⌜ NextLine (now (text .entry)) 0 (r .numbers) (r .next) ⌝ }
 {
-    let end = find(text, 0, b'\n');
-    if end < text.len() {
+    let length = find(text, 0, b'\n');
+    if length < text.len() {
         return NumberLine {
-            numbers: header_numbers(&text[..end]),
-            next: end + 1,
+            numbers: header_numbers(&text[..length]),
+            next: length + 1,
         };
     }
     NumberLine {
         numbers: no_numbers(),
-        next: end,
+        next: length,
     }
 }
 

@@ -1,7 +1,7 @@
 -- A loop that writes one list a turn, each into the rest of the slice: its invariant, and the laws that start it, carry it on
 -- and end it. No contract cites this file.
 use Prim.Native.Nat.{ℕ, zero, suc, _+_, _-_, _*_, _≤_, _<_}
-use mathlib.Core.Path.{_≡_, refl, ap₂}
+use mathlib.Core.Path.{_≡_, refl}
 use mathlib.Core.List.{List, [], _∷_, _++_, map, append-assoc, append-nil}
 use native.Mathlib.Nat.{le-antisymm, mul-le-mul-right}
 use native.Mathlib.Numerals.{add-one}
@@ -40,12 +40,6 @@ written-clause xs ys = rw (map-append xs ys) (simp append-assoc)
 pub written-ended : (xs : List Literal) → written (xs ∷ []) ≡ map numberOf xs ++ pos 0 ∷ []
 unfolding written
 written-ended xs = append-nil (map numberOf xs ++ pos 0 ∷ [])
-
--- lists that are the same one by one are the same gathered
-pub gather-same : {A : Type 0} (n : ℕ) (f g : ℕ → List A) → ((t : ℕ) → f t ≡ g t) → gather n f ≡ gather n g
-unfolding gather
-gather-same zero f g h = refl
-gather-same (suc n) f g h = ap₂ _++_ (gather-same n f g h) (h n)
 
 -- after t turns of n, of at most s numbers each: the first t lists are written, and all of them have room
 pub record Turns (n s : ℕ) (f : ℕ → List ℤ) (old new : List ℤ) (t at : ℕ) : Type 0 where

@@ -19,7 +19,8 @@ use Rattle.netlist.specs.NetOf.{netOf, alone}
 use Rattle.netlist.specs.declared.Netlist.{Netlist}
 use Rattle.clause_variables.specs.declared.Port as R
 use Rattle.clause_variables.specs.PortOf.{portOf}
-use Rattle.clause_writer.proofs.Turns.{written-gather, numbers-gather, gather-same}
+use Rattle.model.proofs.Gather.{gather-same}
+use Rattle.clause_writer.proofs.Turns.{written-gather, numbers-gather}
 use Rattle.group_closing.specs.OfClosing.{ofClosing}
 
 -- the clauses of data bit t, from Z, the frame's base, the read wires before the port's and the port's before it, the start word
@@ -50,7 +51,7 @@ unfolding selectedOf closingLiterals selected netOf
 sources net port i n {q} {s} e es =
     numbers-gather n (selectedOf (ofClosing net port i))
     ∙ gather-same n _ (sourceAt q s (net .m + 4))
-    (λ j. rw (source-base (alone net) (portOf port) i e es j, add-assoc (pairBase (alone net) (portOf port) j i) (net .m) 4))
+    (λ j b. rw (source-base (alone net) (portOf port) i e es j, add-assoc (pairBase (alone net) (portOf port) j i) (net .m) 4))
 
 -- the parts of a closing's clauses, in their order
 pub closing-parts : (n i : ℕ) (x : ClosingLiterals)

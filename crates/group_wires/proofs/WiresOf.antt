@@ -16,7 +16,8 @@ use Rattle.model.specs.declared.Group.the-variants.{Wires}
 use Rattle.model.proofs.Joined.{written-append}
 use Rattle.netlist.specs.NetOf.{netOf, alone}
 use Rattle.netlist.specs.declared.Netlist.{Netlist}
-use Rattle.clause_writer.proofs.Turns.{written-gather, gather-same}
+use Rattle.model.proofs.Gather.{gather-same}
+use Rattle.clause_writer.proofs.Turns.{written-gather}
 
 -- gate g
 abbrev pub gateAt : ℕ → ℕ → List ℕ → ℕ → List ℤ
@@ -32,9 +33,9 @@ state-without-gates : (net : Netlist) (ls gs : List ℕ) (i : ℕ) → stateClau
 unfolding stateClauses resetClauses latchClauses base netOf
 state-without-gates net ls gs zero =
     ap (λ (xs : List Clause). (plus 1 ∷ []) ∷ xs)
-    (gather-same (net .latches) (resetClauses (netOf net ls gs)) (resetClauses (netOf net ls [])) (λ l. refl))
+    (gather-same (net .latches) (resetClauses (netOf net ls gs)) (resetClauses (netOf net ls [])) (λ l b. refl))
 state-without-gates net ls gs (suc i) =
-    gather-same (net .latches) (latchClauses (netOf net ls gs) i) (latchClauses (netOf net ls []) i) (λ l. refl)
+    gather-same (net .latches) (latchClauses (netOf net ls gs) i) (latchClauses (netOf net ls []) i) (λ l b. refl)
 
 -- nor gates at the latches
 gates-without-latches : (net : Netlist) (ls gs : List ℕ) (i g : ℕ)
@@ -50,4 +51,4 @@ unfolding numbersOf clausesOf netOf
 wires-parts net ls gs k i =
     written-append (stateClauses (netOf net ls gs) i) (gather (net .gates) (gateClauses (netOf net ls gs) i))
     ∙ ap₂ (λ xs ys. written xs ++ written ys) (state-without-gates net ls gs i)
-    (gather-same (net .gates) (gateClauses (netOf net ls gs) i) (gateClauses (netOf net [] gs) i) (gates-without-latches net ls gs i))
+    (gather-same (net .gates) (gateClauses (netOf net ls gs) i) (gateClauses (netOf net [] gs) i) (λ g b. gates-without-latches net ls gs i g))

@@ -36,7 +36,8 @@ use Rattle.sheet_parse.specs.Files.{lineIn, sizesIn, netIn}
 use Rattle.sheet_steps.specs.Due.{kindDue}
 use Rattle.sheet_parse.specs.FileTests.{misprinted, isOf, notDue, testLineIn}
 use Rattle.sheet_steps.specs.LineFaults.{faultsAt}
-use Rattle.sheet_steps.specs.Steps.{stepNet, stepVerdict, SizesKnown, Holds, Outcome}
+use Rattle.sheet_steps.specs.Steps.{stepNet, stepVerdict, SizesKnown, Outcome}
+use Rattle.sheet_steps.specs.Lists.{Holds}
 use Rattle.sheet_parse.specs.Progress.{netTo}
 use Rattle.sheet_steps.proofs.Places.{placeOf, place-lineAt}
 use Rattle.sheet_steps.proofs.Records.{outcome-same}

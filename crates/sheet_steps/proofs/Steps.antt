@@ -24,7 +24,8 @@ use Rattle.netlist.proofs.PutNumbers.{length-putNumbers, firstAt-putNumbers, se
 use Rattle.netlist.specs.declared.Netlist.{Netlist}
 use Rattle.netlist.specs.declared.Line.the-variants.{Latch, Gate}
 use Rattle.sheet_steps.specs.Due.{kindDue}
-use Rattle.sheet_steps.specs.Steps.{stored, stepNet, stepVerdict, SizesKnown, FullLength, Holds}
+use Rattle.sheet_steps.specs.Steps.{stored, stepNet, stepVerdict, SizesKnown}
+use Rattle.sheet_steps.specs.Lists.{FullLength, Holds}
 use Rattle.sheet_steps.specs.LineFaults.{faultsAt}
 use Rattle.sheet_steps.proofs.Places.{codes-from-3, lineAt-known}
 use Rattle.refusals.specs.Tests.{_then_}

@@ -22,8 +22,7 @@ use Rattle.sheet_steps.specs.Due.{kindDue}
 use Rattle.sheet_steps.specs.LineIndex.{sameLine}
 use Rattle.sheet_steps.specs.LineFaults.{faultsAt}
 use Rattle.sheet_steps.specs.Records.{sheetAnswer}
-use Rattle.sheet_steps.specs.Lists.{ListsBeside}
-pub use Rattle.sheet_steps.specs.Lists.{FullLength, Holds}
+use Rattle.sheet_steps.specs.Lists.{FullLength, Holds, ListsBeside}
 
 -- a number that stands in line `at`, where line `due` is read: the new one if it is that line, else the old one
 abbrev pub numberAfter : Line → Line → ℕ → ℕ → ℕ

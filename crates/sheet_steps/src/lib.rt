@@ -18,7 +18,8 @@ ghost use Rattle.sheet_steps.specs.Due.{kindDue};
 ghost use Rattle.sheet_steps.specs.LineIndex.{lineIndex, roomFor};
 ghost use Rattle.sheet_steps.specs.LineFaults.{faultsAt};
 ghost use Rattle.sheet_steps.specs.Records.{refusedAt};
-ghost use Rattle.sheet_steps.specs.Steps.{stored, FullLength, Holds, StoredIn, Outcome, SizesKnown, stepNet, stepVerdict};
+ghost use Rattle.sheet_steps.specs.Steps.{stored, StoredIn, Outcome, SizesKnown, stepNet, stepVerdict};
+ghost use Rattle.sheet_steps.specs.Lists.{FullLength, Holds};
 
 // What a sheet is read as: the verdict of its tests, and the record, all zeros at a refusal.
 pub struct SheetAnswer {

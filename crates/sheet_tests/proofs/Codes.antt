@@ -22,7 +22,7 @@ use Rattle.netlist.proofs.Faults.{Without, codes-fit, no-loop}
 use Rattle.netlist_tests.specs.Record.{testLoops, listsShort, recordVerdict}
 use Rattle.netlist_tests.proofs.Record.{testLines-passes}
 use Rattle.netlist_tests.proofs.Acceptance.{lists-long, passes-accepted}
-use Rattle.sheet_steps.specs.Steps.{Holds}
+use Rattle.sheet_steps.specs.Lists.{Holds}
 use Rattle.sheet_steps.specs.declared.SheetAnswer.{SheetAnswer}
 use Rattle.sheet_steps.proofs.Records.{holds}
 use Rattle.sheet_parse.specs.Files.{lineCount, netIn}

@@ -32,8 +32,10 @@ cast-if1 c = search needs
 returns : tie.Need-returns Inv-loop μ-loop
 returns c =
     let start = c .before .before .before .before in
+    let numbers = start .args .t2 in
+    let count = in-length numbers (start .pre) in
     let at = c .before .before .before .loop in
-    sym (above-here (start .args .limit) (numbersIn (start .args .t2)) (at .i) (omega (arith, in-length (start .args .t2) (start .pre))) (omega (arith, in-at (start .args .t2) (at .i) (omega arith))))
+    sym (above-here (start .args .limit) (numbersIn numbers) (at .i) (omega (arith, count)) (omega (arith, in-at numbers (at .i) (omega arith))))
     ∙ at .inv .1
 
 add-i : tie.Need-add-i Inv-loop μ-loop
@@ -45,17 +47,21 @@ loop-less c = search needs
 loop-again : tie.Need-loop-again Inv-loop μ-loop
 loop-again c =
     let start = c .before .before .before .before in
+    let numbers = start .args .t2 in
+    let count = in-length numbers (start .pre) in
     let at = c .before .before .before .loop in (
       omega arith,
-      sym (above-later (start .args .limit) (numbersIn (start .args .t2)) (at .i) (omega (arith, in-length (start .args .t2) (start .pre))) (omega (arith, in-at (start .args .t2) (at .i) (omega arith))))
+      sym (above-later (start .args .limit) (numbersIn numbers) (at .i) (omega (arith, count)) (omega (arith, in-at numbers (at .i) (omega arith))))
           ∙ at .inv .1,
     )
 
 returns-2 : tie.Need-returns-2 Inv-loop μ-loop
 returns-2 c =
     let start = c .before .before in
+    let numbers = start .args .t2 in
+    let count = in-length numbers (start .pre) in
     let at = c .before .loop in
-    sym (above-none (start .args .limit) (numbersIn (start .args .t2)) (at .i) (omega (arith, in-length (start .args .t2) (start .pre))))
+    sym (above-none (start .args .limit) (numbersIn numbers) (at .i) (omega (arith, count)))
     ∙ at .inv .1
 
 pub any-above-spec : {M : Type 1} → statement M

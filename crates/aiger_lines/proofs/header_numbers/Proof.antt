@@ -42,7 +42,8 @@ returns c =
     let line = c .before .before .before .before .before .before .before .before .args .line .now in
     let end = c .before .before .before .before .before .before .find in
     c .read-numbers .ensures .0
-    ∙ ap (λ (t : List ℕ). firstFive (numbersOf (wordsOf t))) (take-all (length line - (end .result + 1)) (drop (end .result + 1) line) (rw length-drop (omega arith)))
+    ∙ ap (λ (t : List ℕ). firstFive (numbersOf (wordsOf t)))
+    (take-all (length line - (end .result + 1)) (drop (end .result + 1) line) (rw length-drop (omega arith)))
     ∙ ap firstFive
     (sym (header-read line (end .result) (end .ensures) (omega arith) (sym (c .before .before .before .is-aag .ensures) ∙ c .before .before .if2 .taken)))
 

@@ -1,6 +1,5 @@
 -- `aiger_lines::is_aag` meets its contract.
 use mathlib.Core.Path.{sym}
-use native.Mathlib.Omega.{arith}
 use borrow.Author.Needs.{needs}
 use Rattle.aiger_lines.proofs.Parts.{aag-third, aag-byte, aag-length}
 use Rattle.aiger_lines.proofs.is_aag.Statement.{statement}

@@ -1,5 +1,4 @@
 -- `aiger_lines::next_line` meets its contract: a line feed is found, or there is none.
-use mathlib.Core.Path.{sym}
 use native.Mathlib.Omega.{arith}
 use borrow.Author.Needs.{needs}
 use Rattle.aiger_lines.proofs.Lines.{next-found, next-missing}

@@ -34,25 +34,42 @@ returns-2 : tie.Need-returns-2
 unfolding partAt
 returns-2 c =
     let x = c .before .before .before .before .before .args in
-    rw (le-ltb (x .place) (inputLine (x .counts) 0) (omega arith), lt-ltb (x .place) (latchLine (x .counts) 0) (omega arith))
+    rw (
+      le-ltb (x .place) (inputLine (x .counts) 0) (omega arith),
+      lt-ltb (x .place) (latchLine (x .counts) 0) (omega arith),
+    )
 
 returns-3 : tie.Need-returns-3
 unfolding partAt
 returns-3 c =
     let x = c .before .before .before .before .before .before .args in
-    rw (le-ltb (x .place) (inputLine (x .counts) 0) (omega arith), le-ltb (x .place) (latchLine (x .counts) 0) (omega arith), lt-ltb (x .place) (outputLine (x .counts) 0) (omega arith))
+    rw (
+      le-ltb (x .place) (inputLine (x .counts) 0) (omega arith),
+      le-ltb (x .place) (latchLine (x .counts) 0) (omega arith),
+      lt-ltb (x .place) (outputLine (x .counts) 0) (omega arith),
+    )
 
 returns-4 : tie.Need-returns-4
 unfolding partAt
 returns-4 c =
     let x = c .before .before .before .before .before .before .before .args in
-    rw (le-ltb (x .place) (inputLine (x .counts) 0) (omega arith), le-ltb (x .place) (latchLine (x .counts) 0) (omega arith), le-ltb (x .place) (outputLine (x .counts) 0) (omega arith), lt-ltb (x .place) (gateLine (x .counts) 0) (omega arith))
+    rw (
+      le-ltb (x .place) (inputLine (x .counts) 0) (omega arith),
+      le-ltb (x .place) (latchLine (x .counts) 0) (omega arith),
+      le-ltb (x .place) (outputLine (x .counts) 0) (omega arith),
+      lt-ltb (x .place) (gateLine (x .counts) 0) (omega arith),
+    )
 
 returns-5 : tie.Need-returns-5
 unfolding partAt
 returns-5 c =
     let x = c .before .before .before .before .before .before .before .args in
-    rw (le-ltb (x .place) (inputLine (x .counts) 0) (omega arith), le-ltb (x .place) (latchLine (x .counts) 0) (omega arith), le-ltb (x .place) (outputLine (x .counts) 0) (omega arith), le-ltb (x .place) (gateLine (x .counts) 0) (omega arith))
+    rw (
+      le-ltb (x .place) (inputLine (x .counts) 0) (omega arith),
+      le-ltb (x .place) (latchLine (x .counts) 0) (omega arith),
+      le-ltb (x .place) (outputLine (x .counts) 0) (omega arith),
+      le-ltb (x .place) (gateLine (x .counts) 0) (omega arith),
+    )
 
 pub part-at-spec : {M : Type 1} → statement M
 part-at-spec =

@@ -60,8 +60,9 @@ returns : tie.Need-returns Inv-loop μ-loop
 returns c =
     let line = c .before .before .before .before .before .before .before .before .args .line .now in
     let at = c .before .before .before .before .before .before .loop in
-    let end = c .before .before .before .before .before .find in (
-      c .no-numbers .ensures ∙ stops line (at .values) (at .count) (at .at) (end .result) (at .inv) (end .ensures) (sym (c .before .before .before .read-number .ensures) ∙ c .before .enum-told .given .1),
+    let end = c .before .before .before .before .before .find in
+    let read = sym (c .before .before .before .read-number .ensures) ∙ c .before .enum-told .given .1 in (
+      c .no-numbers .ensures ∙ stops line (at .values) (at .count) (at .at) (end .result) (at .inv) (end .ensures) read,
       read-as-written,
     )
 
@@ -88,8 +89,10 @@ returns-3 : tie.Need-returns-3 Inv-loop μ-loop
 returns-3 c =
     let line = c .before .before .before .before .before .before .before .before .before .before .args .line .now in
     let at = c .before .before .before .before .before .before .before .before .loop in
-    let end = c .before .before .before .before .before .before .before .find in (
-      ends line (at .values) (at .count) (at .at) (end .result) (at .inv) (end .ensures) (c .before .before .before .x .given .0 .0) (sym (c .before .before .before .before .before .read-number .ensures) ∙ c .before .before .before .x .given .1) (omega arith) (omega arith),
+    let end = c .before .before .before .before .before .before .before .find in
+    let x = c .before .before .before .x in
+    let read = sym (c .before .before .before .before .before .read-number .ensures) ∙ x .given .1 in (
+      ends line (at .values) (at .count) (at .at) (end .result) (at .inv) (end .ensures) (x .given .0 .0) read (omega arith) (omega arith),
       read-as-written,
     )
 
@@ -108,7 +111,9 @@ loop-again c =
     let line = c .before .before .before .before .before .before .before .before .before .before .args .line .now in
     let at = c .before .before .before .before .before .before .before .before .loop in
     let end = c .before .before .before .before .before .before .before .find in
-    goes-on line (at .values) (at .count) (at .at) (end .result) (at .inv) (end .ensures) (c .before .before .before .x .given .0 .0) (sym (c .before .before .before .before .before .read-number .ensures) ∙ c .before .before .before .x .given .1) (omega arith) (omega arith)
+    let x = c .before .before .before .x in
+    let read = sym (c .before .before .before .before .before .read-number .ensures) ∙ x .given .1 in
+    goes-on line (at .values) (at .count) (at .at) (end .result) (at .inv) (end .ensures) (x .given .0 .0) read (omega arith) (omega arith)
 
 pub read-numbers-spec : {M : Type 1} → statement M
 read-numbers-spec =

@@ -1,5 +1,5 @@
 -- `aiger_lines::sound_lines` meets its contract. The loop's invariant is `SoundSoFar`.
-use Prim.Native.Nat.{_-_, _+_}
+use Prim.Native.Nat.{_-_}
 use mathlib.Core.Path.{_≡_, sym, ap, _∙_}
 use native.Mathlib.Omega.{arith}
 use borrow.Author.Needs.{needs}
@@ -64,7 +64,10 @@ returns-2 c =
     let text = start .args .text .now in
     let at = c .before .before .before .before .before .loop in
     let read = c .before .before .before .next-line in
-    let test = line-malformed text (start .args .header .counts) (start .pre .counts-are) (at .line) (read .result .numbers) (read .result .next) (read .ensures) (c .before .before .part-at .result) (c .before .before .part-at .ensures) in
+    let part = c .before .before .part-at in
+    let test =
+    line-malformed text (start .args .header .counts) (start .pre .counts-are) (at .line) (read .result .numbers) (read .result .next) (read .ensures)
+    (part .result) (part .ensures) in
     sound-stops text (at .line) (at .at) (at .inv) (test ∙ sym (c .before .is-malformed2 .ensures) ∙ c .if2 .taken)
 
 add-line : tie.Need-add-line Inv-loop μ-loop
@@ -79,7 +82,10 @@ loop-again c =
     let text = start .args .text .now in
     let at = c .before .before .before .before .before .loop in
     let read = c .before .before .before .next-line in
-    let test = line-malformed text (start .args .header .counts) (start .pre .counts-are) (at .line) (read .result .numbers) (read .result .next) (read .ensures) (c .before .before .part-at .result) (c .before .before .part-at .ensures) in
+    let part = c .before .before .part-at in
+    let test =
+    line-malformed text (start .args .header .counts) (start .pre .counts-are) (at .line) (read .result .numbers) (read .result .next) (read .ensures)
+    (part .result) (part .ensures) in
     let due : (c .before .before .before .before .before .before .lines-due .result) ≡ linesDue (start .args .header .counts) = c .before .before .before .before .before .before .lines-due .ensures in
     sound-next text (at .line) (at .at) (at .inv) (read .result .next) (omega (arith, ap linesDue (start .pre .counts-are))) (read .ensures .behind)
     (test ∙ sym (c .before .is-malformed2 .ensures) ∙ c .if2 .left)

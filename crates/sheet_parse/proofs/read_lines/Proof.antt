@@ -51,7 +51,8 @@ use denote.Triple.Walked.{says, needs, Stays, stay-dropped, stay-ref, walkOf, go
 use denote.Exit.{yes}
 use Rattle.walks.proofs.Walk.{bare, calls-told, _&_, cell, frees-all, meets-of}
 use Rattle.netlist.specs.NetOf.{netOf, alone}
-use Rattle.sheet_steps.specs.Steps.{FullLength, Outcome, SizesKnown}
+use Rattle.sheet_steps.specs.Steps.{Outcome, SizesKnown}
+use Rattle.sheet_steps.specs.Lists.{FullLength}
 use Rattle.sheet_steps.proofs.SheetAnswer as S
 use Rattle.sheet_steps.proofs.SheetAnswer.Laws as S′
 use Rattle.sheet_parse.specs.Files.{lineCount}

@@ -5,7 +5,8 @@ use lib.Dec.{eqb}
 use Rattle.netlist.specs.NetOf.{netOf, alone}
 use Rattle.netlist.specs.Places.{lineAt}
 use Rattle.netlist.proofs.NetOf.{lineAt-lists}
-use Rattle.sheet_steps.specs.Steps.{stepNet, stepVerdict, Holds}
+use Rattle.sheet_steps.specs.Steps.{stepNet, stepVerdict}
+use Rattle.sheet_steps.specs.Lists.{Holds}
 use Rattle.sheet_steps.proofs.Places.{roomFor-due}
 use Rattle.sheet_steps.proofs.Steps.{sizesKnown-step, due-step, outOfOrder, step-refused, step-due}
 use Rattle.sheet_steps.proofs.Records.{outcome-refused, outcome-passed}

@@ -3,7 +3,7 @@ use mathlib.Core.Path.{_≡_, refl, sym, _∙_}
 use mathlib.Core.Bool.{_||_}
 use lib.Dec.{ltb}
 use Rattle.refusals.specs.declared.Verdict.the-variants.{Passed}
-use Rattle.sheet_steps.specs.Steps.{Holds}
+use Rattle.sheet_steps.specs.Lists.{Holds}
 use Rattle.sheet_steps.proofs.Records.{verdict-is, holds, outcome-refused, outcome-kept, outcome-same}
 use Rattle.sheet_parse.specs.Files.{netIn}
 use Rattle.sheet_tests.specs.Sheet.{fileVerdict, sheetVerdict}
