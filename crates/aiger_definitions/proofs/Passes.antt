@@ -8,8 +8,10 @@ use lib.Dec.{eqb}
 use lib.ListN.{length, getD}
 use Rattle.model.specs.Search.{seen}
 use Rattle.model.proofs.Search.{seen-at}
+use Rattle.aiger_lines.specs.Steps.{HeaderRead}
+use Rattle.aiger_lines.specs.declared.HeaderLine.{HeaderLine}
 use Rattle.aiger_definitions.specs.Definitions.{definedAt}
-use Rattle.aiger_definitions.specs.Blocks.{variablesAt, usesOf, reach, faultIn, Marks, marked, nearest, lookedAt, Judged}
+use Rattle.aiger_definitions.specs.Blocks.{variablesAt, usesOf, reach, faultIn, Marks, marked, nearest, lookedAt, Judged, SoundLines, Ready}
 use Rattle.aiger_definitions.specs.declared.Found.{Found}
 use Rattle.aiger_definitions.specs.declared.Uses.{Uses}
 use Rattle.aiger_definitions.specs.declared.Look.{Look}
@@ -74,6 +76,14 @@ pub all-marked : {look : Look} {s : List ℕ} {lines base : ℕ} {marks : List B
 all-marked {look} {s} {lines} p = rw (reach-all look lines) at (p .marks-are)
 
 -- a table without marks is that of the header
-pub marks-cleared : (s : List ℕ) (base : ℕ) {marks : List Bool} → 1 ≤ base → ((x : ℕ) → x < length marks → getD marks x false ≡ false)
+marks-cleared : (s : List ℕ) (base : ℕ) {marks : List Bool} → 1 ≤ base → ((x : ℕ) → x < length marks → getD marks x false ≡ false)
     → Marks (definedAt s) 2 base marks
 marks-cleared s base b none = marks-none none (λ v l. nothing-defined s v (omega arith))
+
+-- so a block is looked at with a cleared table
+pub cleared-ready : (s : List ℕ) (header : HeaderLine) (lines base : ℕ) (old marks : List Bool) → Ready s header lines base old
+    → length marks ≡ length old → ((x : ℕ) → x < length old → getD marks x false ≡ false)
+    → HeaderRead s (header .counts) (header .next) × SoundLines s lines × (1 ≤ base) × (base < 4294967296) × (0 < length marks)
+    × Marks (definedAt s) 2 base marks
+cleared-ready s header lines base old marks r size none =
+    (r .0, r .1, r .2, r .3, omega (arith, r .4), marks-cleared s base (r .2) (λ x l. none x (omega arith)))

@@ -9,7 +9,8 @@ use lib.Dec.{eqb, ltb, leb}
 use lib.ListN.{length, getD, set}
 use Rattle.model.specs.Search.{seen}
 use Rattle.aiger_lines.specs.Parts.{lineNumbers, countsIn, partAt, malformedAt}
-use Rattle.aiger_lines.specs.Steps.{Behind}
+use Rattle.aiger_lines.specs.Steps.{Behind, HeaderRead}
+use Rattle.aiger_lines.specs.declared.HeaderLine.{HeaderLine}
 use Rattle.aiger_lines.specs.declared.Part.{Part}
 use Rattle.aiger_lines.specs.declared.Part.the-variants.{Header, Input, Latch, Output, Gate}
 use Rattle.aiger_definitions.specs.Definitions.{definedAt}
@@ -86,7 +87,11 @@ nearest base size next v = cond (leb base v && (leb size (v - base) && ltb v nex
 unfoldable pub lookedAt : List Bool → ℕ → ℕ → Uses → Found → Found
 lookedAt marks base line u found =
     record {
-      first = cond ((isFound marks base (u .first) (u .marked) || isFound marks base (u .second) (u .marked)) && ltb line (found .first)) line (found .first);
+      first =
+          cond
+          ((isFound marks base (u .first) (u .marked) || isFound marks base (u .second) (u .marked)) && ltb line (found .first))
+          line
+          (found .first);
       next = nearest base (length marks) (nearest base (length marks) (found .next) (u .first)) (u .second);
     }
 
@@ -95,3 +100,12 @@ pub record Judged (fault : ℕ → ℕ → Bool) (n base line first next : ℕ) 
   pub within : first ≤ n
   pub none : (x v : ℕ) → x < line → x < first → base ≤ v → v < next → fault x v ≡ false
   pub there : first < n → (v : ℕ) × (first < line) × (base ≤ v) × (fault first v ≡ true)
+
+-- what a pass over all lines for one block finds; the next block lies behind it
+abbrev pub JudgedBlock : (ℕ → ℕ → Bool) → ℕ → ℕ → Found → Type 0
+JudgedBlock fault n base found = Judged fault n base n (found .first) (found .next) × (base < found .next)
+
+-- what a block is looked at with: the header, well-formed lines, a block of variables from 1 on, a table of its marks
+abbrev pub Ready : List ℕ → HeaderLine → ℕ → ℕ → List Bool → Type 0
+Ready s header lines base marks =
+    HeaderRead s (header .counts) (header .next) × SoundLines s lines × (1 ≤ base) × (base < 4294967296) × (0 < length marks)

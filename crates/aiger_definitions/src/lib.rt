@@ -13,7 +13,7 @@ ghost use Rattle.model.specs.Search.{IsFirst};
 ghost use Rattle.aiger_lines.specs.Parts.{countsIn, linesDue, malformedAt};
 ghost use Rattle.aiger_lines.specs.Steps.{Behind, HeaderRead, SoundTo};
 ghost use Rattle.aiger_definitions.specs.Definitions.{definedAt, definesAgain, undefinedAt};
-ghost use Rattle.aiger_definitions.specs.Blocks.{variablesOf, VariablesRead, SoundLines, usesOf, reach, faultIn, faultOf, Marks, marked, isFound, nearest, lookedAt, Judged};
+ghost use Rattle.aiger_definitions.specs.Blocks.{variablesOf, VariablesRead, SoundLines, usesOf, reach, faultIn, faultOf, Marks, marked, isFound, nearest, lookedAt, Judged, JudgedBlock, Ready};
 
 // The variables on a line: the one that it defines, a gate's operands, and the one that any line may define; 0 where there is none.
 struct Variables {
@@ -63,6 +63,7 @@ fn variable(literal: u32) -> u64
     (literal / 2) as u64
 }
 
+// The variables on a line of a part with these numbers.
 fn variables_of(part: Part, numbers: Numbers) -> Variables
     requires { ⌜ length (numbers .values) ≡ 5 ⌝ }
     ensures { λ r. ⌜ r ≡ variablesOf part (numbers .values) ⌝ }
@@ -104,6 +105,7 @@ fn variables_of(part: Part, numbers: Numbers) -> Variables
     }
 }
 
+// What a pass looks at in a line.
 fn uses_of(look: Look, line: Variables) -> Uses
     ensures { λ r. ⌜ r ≡ usesOf look line ⌝ }
 {
@@ -203,6 +205,7 @@ fn look_at(marks: &[bool], base: u64, line: u64, uses: Uses, found: Found) -> Fo
     }
 }
 
+// The smaller of two numbers.
 fn smaller(a: u64, b: u64) -> u64
     ensures { λ r. ⌜ r ≡ min a b ⌝ }
 {
@@ -214,7 +217,8 @@ fn smaller(a: u64, b: u64) -> u64
 
 // Reads the line behind the first `line` lines, a well-formed one.
 fn next_variables(text: &[u8], counts: Counts, line: u64, at: usize) -> VariableLine
-    requires { ⌜ (1 ≤ line) × (line < 18446744073709551615) × (counts ≡ countsIn (now text)) × Behind (now text) line at × (malformedAt (now text) (line + 1) ≡ false) ⌝ }
+    requires { ⌜ (1 ≤ line) × (line < 18446744073709551615) × (counts ≡ countsIn (now text)) × Behind (now text) line at
+        × (malformedAt (now text) (line + 1) ≡ false) ⌝ }
     ensures { λ r. ⌜ VariablesRead (now (text .entry)) line (r .variables) (r .next) ⌝ }
 {
     let read = aiger_lines::next_line(text, line, at);
@@ -236,7 +240,7 @@ fn pass(
 ) -> Found
     requires { ⌜ HeaderRead (now text) (header .counts) (header .next) × SoundLines (now text) lines
         × (1 ≤ base) × (base < 4294967296) × (0 < length (now marks)) × Marks (definedAt (now text)) (reach look lines 1) base (now marks) ⌝ }
-    ensures judged { λ r. ⌜ Judged (faultIn look (now (text .entry)) lines) lines base lines (r .first) (r .next) × (base < r .next) ⌝ }
+    ensures judged { λ r. ⌜ JudgedBlock (faultIn look (now (text .entry)) lines) lines base r ⌝ }
     ensures all_marked { λ _. ⌜ Marks (definedAt (now (text .entry))) (lines + 1) base (now (marks .exit))
         × (length (now (marks .exit)) ≡ length (now (marks .entry))) ⌝ }
 {
@@ -266,9 +270,8 @@ fn repeat_in_block(
     base: u64,
     marks: &mut [bool],
 ) -> Found
-    requires { ⌜ HeaderRead (now text) (header .counts) (header .next) × SoundLines (now text) lines
-        × (1 ≤ base) × (base < 4294967296) × (0 < length (now marks)) ⌝ }
-    ensures judged { λ r. ⌜ Judged (faultOf Fault.Repeated (now (text .entry)) lines) lines base lines (r .first) (r .next) × (base < r .next) ⌝ }
+    requires { ⌜ Ready (now text) header lines base (now marks) ⌝ }
+    ensures judged { λ r. ⌜ JudgedBlock (faultOf Fault.Repeated (now (text .entry)) lines) lines base r ⌝ }
     ensures size { λ _. ⌜ length (now (marks .exit)) ≡ length (now (marks .entry)) ⌝ }
 {
     clear(marks);
@@ -283,9 +286,8 @@ fn undefined_in_block(
     base: u64,
     marks: &mut [bool],
 ) -> Found
-    requires { ⌜ HeaderRead (now text) (header .counts) (header .next) × SoundLines (now text) lines
-        × (1 ≤ base) × (base < 4294967296) × (0 < length (now marks)) ⌝ }
-    ensures judged { λ r. ⌜ Judged (faultOf Fault.Undefined (now (text .entry)) lines) lines base lines (r .first) (r .next) × (base < r .next) ⌝ }
+    requires { ⌜ Ready (now text) header lines base (now marks) ⌝ }
+    ensures judged { λ r. ⌜ JudgedBlock (faultOf Fault.Undefined (now (text .entry)) lines) lines base r ⌝ }
     ensures size { λ _. ⌜ length (now (marks .exit)) ≡ length (now (marks .entry)) ⌝ }
 {
     clear(marks);
@@ -306,9 +308,8 @@ fn fault_in_block(
     marks: &mut [bool],
     fault: Fault,
 ) -> Found
-    requires { ⌜ HeaderRead (now text) (header .counts) (header .next) × SoundLines (now text) lines
-        × (1 ≤ base) × (base < 4294967296) × (0 < length (now marks)) ⌝ }
-    ensures judged { λ r. ⌜ Judged (faultOf fault (now (text .entry)) lines) lines base lines (r .first) (r .next) × (base < r .next) ⌝ }
+    requires { ⌜ Ready (now text) header lines base (now marks) ⌝ }
+    ensures judged { λ r. ⌜ JudgedBlock (faultOf fault (now (text .entry)) lines) lines base r ⌝ }
     ensures size { λ _. ⌜ length (now (marks .exit)) ≡ length (now (marks .entry)) ⌝ }
 {
     match fault {

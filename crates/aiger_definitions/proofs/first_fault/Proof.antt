@@ -30,7 +30,7 @@ fault-in-block-requires : tie.Need-fault-in-block-requires Inv-loop μ-loop
 fault-in-block-requires c κs =
     let start = c .before .before .before .before .before in
     let at = c .before .before .loop in
-    (start .pre .0, start .pre .1, at .inv .0, c .before .loop-test .taken, omega (arith, at .inv .2))
+    (start .pre .0, start .pre .1, at .inv .0, omega arith, omega (arith, at .inv .2))
 
 smaller-requires : tie.Need-smaller-requires Inv-loop μ-loop
 smaller-requires c κs = tt
