@@ -10,14 +10,17 @@ use lib.Dec.{eqb, ltb, leb}
 use lib.ListN.{length, getD, set, length-set}
 use lib.Seq.{getD-set-same, getD-set-other}
 use borrow.Author.Tests.{lt-ltb, le-ltb, lt-leb, le-leb, eq-eqb, ne-eqb}
+use Rattle.model.specs.Network.{renamed}
 use Rattle.netlist.specs.NetOf.{firstAt, secondAt, putNumbers}
 use Rattle.netlist.specs.RecordOf.{upTo}
 use Rattle.netlist.proofs.PutNumbers.{length-putNumbers, firstAt-putNumbers, secondAt-putNumbers}
 use Rattle.aiger_lines.specs.Parts.{lineNumbers}
 use Rattle.aiger_lines.specs.Steps.{firstFive}
 use Rattle.aiger_lines.specs.declared.Numbers.{Numbers}
-use Rattle.aiger_lines.proofs.FirstFive.{five-value}
-use Rattle.aiger_codes.specs.Filling.{firstsBehind, entryOf, putFrom, Filled, ListFilled}
+use Rattle.aiger_lines.proofs.FirstFive.{five-value, five-holds}
+use Rattle.aiger_definitions.specs.Definitions.{numberAt}
+use Rattle.aiger_codes.specs.WireTable.{wireFound}
+use Rattle.aiger_codes.specs.Filling.{firstsBehind, entryOf, putFrom, Filled, codesBehind, NoCodes, ListFilled}
 
 module _ (first : ℕ) (f old : ℕ → ℕ) where
   -- inside, and outside
@@ -66,6 +69,10 @@ module _ (first : ℕ) (f old : ℕ → ℕ) where
             (λ q.
             getD-set-other table (first + count) w x 0 q ∙ filled .has w l ∙ sym (put-other count w q))
 
+-- the array of a line's numbers has five
+pub five-long : {numbers : Numbers} (xs : List ℕ) → numbers ≡ firstFive xs → length (numbers .values) ≡ 5
+five-long xs e = ap (λ (n : Numbers). length (n .values)) e ∙ five-holds xs .length-is
+
 -- the table before any line, and with the first number of one line more
 module _ (s : List ℕ) (line first : ℕ) (old table : List ℕ) where
   pub firsts-none : length table ≡ 648 → old ≡ table → Filled 648 (putFrom first 0 (firstsBehind s line) (entryOf old)) table
@@ -103,3 +110,27 @@ module _ (f g : ℕ → ℕ) where
             ap (λ (h : ℕ → ℕ). h z) (secondAt-putNumbers list count x y (filled .full) b)
             ∙ rw (filled .seconds z, k) (upTo-next g count z);
       }
+
+  pub list-none : (list : List ℕ) → NoCodes list → ListFilled 0 f g list
+  list-none list empty =
+      record {
+        full = empty .full;
+        firsts = λ x. empty .none (2 * x) ∙ rw (le-ltb x 0 (omega arith));
+        seconds = λ x. empty .none (2 * x + 1) ∙ rw (le-ltb x 0 (omega arith));
+      }
+
+-- the codes of one line more
+module _ (s : List ℕ) (line : ℕ) (table list : List ℕ) where
+  pub codes-next : (x : ℕ) (numbers : Numbers) (left right : ℕ) → numbers ≡ firstFive (lineNumbers s (line + x + 1))
+      → length (lineNumbers s (line + x + 1)) ≤ 5 → x < 600
+      → left ≡ renamed (wireFound table) (getD (numbers .values) 1 0) → right ≡ renamed (wireFound table) (getD (numbers .values) 2 0)
+      → ListFilled x (codesBehind s line table 1) (codesBehind s line table 2) list
+      → ListFilled (x + 1) (codesBehind s line table 1) (codesBehind s line table 2) (putNumbers x left right list)
+  unfolding codesBehind
+  codes-next x numbers left right e few b l r filled =
+      list-next (codesBehind s line table 1) (codesBehind s line table 2) x left right list b (l ∙ at 1) (r ∙ at 2) filled
+    where
+      at : (i : ℕ) → renamed (wireFound table) (getD (numbers .values) i 0) ≡ renamed (wireFound table) (numberAt s (line + x + 1) i)
+      at i =
+          ap (λ (xs : Numbers). renamed (wireFound table) (getD (xs .values) i 0)) e
+          ∙ ap (renamed (wireFound table)) (five-value (lineNumbers s (line + x + 1)) i few)

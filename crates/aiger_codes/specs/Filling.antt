@@ -5,11 +5,13 @@ use mathlib.Core.Bool.{cond, _&&_}
 use mathlib.Core.List.{List}
 use lib.Dec.{ltb, leb}
 use lib.ListN.{length, getD}
+use Rattle.model.specs.Network.{renamed}
 use Rattle.netlist.specs.NetOf.{firstAt, secondAt}
 use Rattle.netlist.specs.RecordOf.{upTo}
 use Rattle.aiger_lines.specs.Parts.{lineNumbers}
 use Rattle.aiger_lines.specs.Steps.{Behind}
 use Rattle.aiger_definitions.specs.Definitions.{numberAt}
+use Rattle.aiger_codes.specs.WireTable.{wireFound}
 
 -- `count` lines behind the first `line`, of which the first begins at byte `at`; none has more than five numbers
 pub record LinesAhead (s : List ℕ) (line at count : ℕ) : Type 0 where
@@ -33,6 +35,15 @@ putFrom first count f old w = cond (leb first w && ltb w (first + count)) (f (w 
 pub record Filled (size : ℕ) (f : ℕ → ℕ) (table : List ℕ) : Type 0 where
   pub full : length table ≡ size
   pub has : (w : ℕ) → w < size → getD table w 0 ≡ f w
+
+-- number i of the line that stands x lines behind the first `line`, as a code by a table
+unfoldable pub codesBehind : List ℕ → ℕ → List ℕ → ℕ → ℕ → ℕ
+codesBehind s line table i x = renamed (wireFound table) (numberAt s (line + x + 1) i)
+
+-- an unpacked list that holds no codes yet
+pub record NoCodes (list : List ℕ) : Type 0 where
+  pub full : length list ≡ 1200
+  pub none : (x : ℕ) → getD list x 0 ≡ 0
 
 -- an unpacked list whose first `count` records are f and g, and the others 0
 pub record ListFilled (count : ℕ) (f g : ℕ → ℕ) (list : List ℕ) : Type 0 where

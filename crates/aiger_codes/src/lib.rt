@@ -2,6 +2,7 @@
 use aiger_lines::Counts;
 use literals::Code;
 use netlist::Netlist;
+use netlist::UnpackedList;
 ghost use mathlib.Core.Path.{_≡_};
 ghost use Prim.Native.Nat.{_+_, _≤_};
 ghost use lib.ListN.{length};
@@ -10,7 +11,7 @@ ghost use Rattle.netlist.specs.RecordOf.{recordOf};
 ghost use Rattle.aiger_netlist.specs.TextNetlist.{textSizes};
 ghost use Rattle.aiger_lines.specs.Steps.{Behind};
 ghost use Rattle.aiger_codes.specs.WireTable.{wireFound};
-ghost use Rattle.aiger_codes.specs.Filling.{LinesAhead, firstsBehind, entryOf, putFrom, Filled};
+ghost use Rattle.aiger_codes.specs.Filling.{LinesAhead, firstsBehind, entryOf, putFrom, Filled, codesBehind, NoCodes, ListFilled};
 
 // The first wire at which a table has a variable; 601 where it has it at none.
 fn wire_of(table: &[u32; 648], variable: u32) -> u32
@@ -81,4 +82,30 @@ pub fn put_firsts(
         x += 1;
     }
     next
+}
+
+// Puts the second and the third numbers of `count` lines, as codes by a table, into a list that holds no codes yet. A latch has no
+// third number: 0, its reset.
+pub fn put_codes(
+    text: &[u8],
+    line: u64,
+    at: usize,
+    count: u32,
+    table: &[u32; 648],
+    list: &mut UnpackedList,
+)
+    requires { ⌜ LinesAhead (now text) line at count × (count ≤ 600) × NoCodes (now list) ⌝ }
+    ensures { λ _. ⌜ ListFilled count (codesBehind (now (text .entry)) line (now (table .entry)) 1) (codesBehind (now (text .entry)) line (now (table .entry)) 2) (now (list .exit)) ⌝ }
+{
+    let mut next = at;
+    let mut x: u32 = 0;
+    while x < count {
+        let read = aiger_lines::next_line(text, line + x as u64, next);
+        let numbers = read.numbers;
+        let left = code_of(table, numbers.values[1]);
+        let right = code_of(table, numbers.values[2]);
+        netlist::put_numbers(list, x as usize, left, right);
+        next = read.next;
+        x += 1;
+    }
 }

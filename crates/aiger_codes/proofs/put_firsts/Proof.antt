@@ -1,14 +1,10 @@
 -- `aiger_codes::put_firsts` meets its contract. The loop's invariant: x lines are read, and their first numbers are in the table.
 use Prim.Native.Nat.{ℕ, _+_, _-_, _≤_}
-use mathlib.Core.Path.{_≡_, refl, sym, _∙_, ap, subst}
+use mathlib.Core.Path.{_≡_, refl, sym, subst}
 use native.Mathlib.Omega.{arith}
-use lib.ListN.{length, getD, length-set}
 use Rattle.aiger_lines.specs.Steps.{Behind}
-use Rattle.aiger_lines.specs.declared.Numbers.{Numbers}
-use Rattle.aiger_lines.specs.Parts.{lineNumbers}
-use Rattle.aiger_lines.proofs.FirstFive.{five-holds}
 use Rattle.aiger_codes.specs.Filling.{firstsBehind, entryOf, putFrom, Filled}
-use Rattle.aiger_codes.proofs.Filling.{firsts-none, firsts-next}
+use Rattle.aiger_codes.proofs.Filling.{five-long, firsts-none, firsts-next}
 use Rattle.aiger_codes.proofs.put_firsts.Statement.{statement}
 use Rattle.aiger_codes.proofs.put_firsts.Tie as tie
 
@@ -55,13 +51,8 @@ add-w c = omega arith
 
 -- src/lib.rt:74:20
 element-copy-out-table : tie.Need-element-copy-out-table Inv-loop μ-loop
-element-copy-out-table c =
-    let read = c .before .next-line in
-    let five : length (read .result .numbers .values) ≡ 5 =
-    ap (λ (xs : Numbers). length (xs .values)) (read .ensures .numbers-are) ∙ five-holds _ .length-is in
-    omega (arith, five)
+element-copy-out-table c = omega (arith, five-long _ (c .before .next-line .ensures .numbers-are))
 
--- src/lib.rt:74:9
 mul-table : tie.Need-mul-table Inv-loop μ-loop
 mul-table c = omega arith
 
