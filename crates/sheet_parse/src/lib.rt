@@ -4,6 +4,7 @@ use netlist::UnpackedList;
 use refusals::Refusal;
 use refusals::Verdict;
 use sheet_lines::Kind;
+use sheet_lines::ParsedLine;
 use sheet_steps::SheetAnswer;
 ghost use mathlib.Core.Path.{_≡_};
 ghost use Prim.Native.Nat.{_+_, _*_, _≤_};
@@ -12,7 +13,7 @@ ghost use Rattle.netlist.specs.NetOf.{netOf, alone};
 ghost use Rattle.sheet_steps.specs.Steps.{Outcome, SizesKnown};
 ghost use Rattle.sheet_steps.specs.Lists.{FullLength};
 ghost use Rattle.sheet_parse.specs.Files.{lineIn};
-ghost use Rattle.sheet_parse.specs.LineAnswers.{hasLine, lineAnswer, lineSent, lineAfter};
+ghost use Rattle.sheet_parse.specs.LineAnswers.{hasLine, answerOf, lineAnswer, lineSent, noLineAfter, lineAfter};
 ghost use Rattle.sheet_parse.specs.NextLine.{nextLine};
 ghost use Rattle.sheet_parse.specs.FileTests.{ragged};
 ghost use Rattle.sheet_parse.specs.Progress.{noProgress, progressWith, answerVerdict, answerNet, moreAfter};
@@ -44,7 +45,7 @@ pub fn is_ragged(file: &[u8]) -> bool
 }
 
 // The line behind the first `line` lines, as it is read.
-fn parse_line(file: &[u8], line: u32) -> sheet_lines::ParsedLine
+fn parse_line(file: &[u8], line: u32) -> ParsedLine
     requires { ⌜ 32 * line + 32 ≤ length (now file) ⌝ }
     ensures { λ r. ⌜ r ≡ lineIn (now (file .entry)) (line + 1) ⌝ }
 {
@@ -62,36 +63,47 @@ fn has_line(file: &[u8], line: u32) -> bool
     (line < 615) & (end <= file.len())
 }
 
+// Where there is no line, none is read.
+fn no_line(line: u32) -> LineAfter
+    ensures { λ r. ⌜ r ≡ noLineAfter line ⌝ }
+{
+    LineAfter {
+        line: LineAnswer::NoLine,
+        lines_read: line,
+    }
+}
+
+// A line at a place as an answer: a misprinted one is refused.
+fn answer_of(line: ParsedLine, place: u32) -> LineAnswer
+    ensures { λ r. ⌜ r ≡ answerOf line place ⌝ }
+{
+    match line {
+        ParsedLine::Misprint => LineAnswer::Refused(Refusal::Misprint, place),
+        ParsedLine::Read {
+            kind,
+            first,
+            second,
+            third,
+        } => LineAnswer::Line {
+            kind,
+            first,
+            second,
+            third,
+        },
+    }
+}
+
 // What is answered of the line behind the first `line` lines. A misprinted line is read too: the next answer is of the line behind it.
 fn line_after(file: &[u8], line: u32) -> LineAfter
     ensures { λ r. ⌜ r ≡ lineAfter (now (file .entry)) line ⌝ }
 {
     if !has_line(file, line) {
-        return LineAfter {
-            line: LineAnswer::NoLine,
-            lines_read: line,
-        };
+        return no_line(line);
     }
     let place = line + 1;
-    match parse_line(file, line) {
-        sheet_lines::ParsedLine::Misprint => LineAfter {
-            line: LineAnswer::Refused(Refusal::Misprint, place),
-            lines_read: place,
-        },
-        sheet_lines::ParsedLine::Read {
-            kind,
-            first,
-            second,
-            third,
-        } => LineAfter {
-            line: LineAnswer::Line {
-                kind,
-                first,
-                second,
-                third,
-            },
-            lines_read: place,
-        },
+    LineAfter {
+        line: answer_of(parse_line(file, line), place),
+        lines_read: place,
     }
 }
 
