@@ -33,26 +33,26 @@ kept-other l ls e = rw e
 -- of all; no number.
 module _ (w : List ℕ) (ws : List (List ℕ)) (ls : List (List ℕ)) where
   -- what the words behind the first, with the lines ahead, make
-  abbrev others : Answer
+  abbrev pub others : Answer
   others = claimed (allNumbers ws && allValueLines ls) (values ws ++ allValues ls)
 
-  abbrev all : Answer
+  abbrev pub all : Answer
   all = claimed (allNumbers (w ∷ ws) && allValueLines ls) (values (w ∷ ws) ++ allValues ls)
 
-  word-number : (z : ℤ) → clauseNumberIn w ≡ Value z → isZero z ≡ false → all ≡ behind (z ∷ []) others
+  pub word-number : (z : ℤ) → clauseNumberIn w ≡ Value z → isZero z ≡ false → all ≡ behind (z ∷ []) others
   unfolding allNumbers values
   word-number z e n = rw e (claimed-next (allNumbers ws && allValueLines ls) z (values ws ++ allValues ls) n)
 
-  word-early : (z : ℤ) → clauseNumberIn w ≡ Value z → isZero z ≡ true → isEmpty (values ws ++ allValues ls) ≡ false → all ≡ malformed
+  pub word-early : (z : ℤ) → clauseNumberIn w ≡ Value z → isZero z ≡ true → isEmpty (values ws ++ allValues ls) ≡ false → all ≡ malformed
   unfolding allNumbers values
   word-early z e n some = rw e (claimed-early (allNumbers ws && allValueLines ls) z (values ws ++ allValues ls) n some)
 
-  word-none : clauseNumberIn w ≡ NotANumber → all ≡ malformed
+  pub word-none : clauseNumberIn w ≡ NotANumber → all ≡ malformed
   unfolding allNumbers values
   word-none e = rw e (claimed-no (valueOf NotANumber ∷ (values ws ++ allValues ls)))
 
 -- a value line, by its words
-value-line : (l : List ℕ) (ws : List (List ℕ)) (ls : List (List ℕ)) → isMarked l ≡ true → wordsOf (drop 2 l) ≡ ws
+pub value-line : (l : List ℕ) (ws : List (List ℕ)) (ls : List (List ℕ)) → isMarked l ≡ true → wordsOf (drop 2 l) ≡ ws
     → valuesAnswer (l ∷ ls) ≡ claimed (allNumbers ws && allValueLines ls) (values ws ++ allValues ls)
 unfolding valuesAnswer allValueLines allValues isValueLine lineValues
 value-line l ws ls m e = rw (m, e)
@@ -96,7 +96,7 @@ status-read l ls = by-text (sameText l satisfiableLine) (sameText l unsatisfiabl
     by-text false false = refl
 
 -- what was read of a number, and of a line
-same-signs : (table : List ℕ) → MarkedAll [] table table
+pub same-signs : (table : List ℕ) → MarkedAll [] table table
 same-signs table ys s = subst (λ (zs : List ℤ). SignsOf zs table) (sym (append-nil ys)) s
 
 pub number-none : {number : ClauseNumber} {table : List ℕ} → number ≡ NotANumber → NumberRead number Malformed table table
