@@ -92,16 +92,18 @@ module _ {seen signs : List ℕ} (scan : Scan) (b : Behind seen scan signs) wher
     closed : (p : Progress) → scan .position .progress ≡ p → answerIn seen ≡ behind (b .numbers) (answerFrom p [])
     closed p e = whole ∙ ap (behind (b .numbers)) (unfold answerAhead partsAfter restAfter kept in rw (z, e))
 
+    -- more lines are due, or it is malformed already
+    end-nothing : (p : Progress) → scan .position .progress ≡ p → answerFrom p [] ≡ malformed → AnswerRead seen signs (kindOf malformed)
+    end-nothing p e m = without malformed (closed p e ∙ ap (behind (b .numbers)) m ∙ unfold behind in refl) none
+
     pub end-no-status : scan .position .progress ≡ NoStatus → AnswerRead seen signs (kindOf malformed)
-    end-no-status e = without malformed (closed NoStatus e ∙ unfold answerFrom answerOf behind in refl) none
+    end-no-status e = end-nothing NoStatus e (unfold answerFrom answerOf in refl)
 
     pub end-values : scan .position .progress ≡ Values → AnswerRead seen signs (kindOf malformed)
-    end-values e =
-        without malformed
-        (closed Values e ∙ unfold answerFrom valuesAnswer allValueLines allValues claimed onlyLastZero behind in refl) none
+    end-values e = end-nothing Values e (unfold answerFrom valuesAnswer allValueLines allValues claimed onlyLastZero in refl)
 
     pub end-malformed : scan .position .progress ≡ Malformed → AnswerRead seen signs (kindOf malformed)
-    end-malformed e = without malformed (closed Malformed e ∙ unfold answerFrom behind in refl) none
+    end-malformed e = end-nothing Malformed e (unfold answerFrom in refl)
 
     pub end-unsatisfiable : scan .position .progress ≡ Unsatisfiable → AnswerRead seen signs (kindOf unsatisfiable)
     end-unsatisfiable e = without unsatisfiable (closed Unsatisfiable e ∙ unfold answerFrom nothingMore behind in refl) none-either

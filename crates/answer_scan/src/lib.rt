@@ -149,10 +149,10 @@ pub fn scan_end(scan: Scan) -> AnswerKind
     }
     let progress = position.progress;
     match progress {
-        Progress::NoStatus => AnswerKind::Malformed,
-        Progress::Values => AnswerKind::Malformed,
         Progress::Complete => AnswerKind::Satisfiable,
         Progress::Unsatisfiable => AnswerKind::Unsatisfiable,
+        Progress::NoStatus => AnswerKind::Malformed,
+        Progress::Values => AnswerKind::Malformed,
         Progress::Malformed => AnswerKind::Malformed,
     }
 }

@@ -24,16 +24,16 @@ enum-told-5 : tie.Need-enum-told-5
 enum-told-5 c = search needs
 
 returns-2 : tie.Need-returns-2
-returns-2 c = λ seen signs b. end-no-status (c .before .before .before .before .before .args .scan) b (omega arith) (c .enum-told .given .1)
+returns-2 c = λ seen signs b. end-satisfiable (c .before .before .before .before .before .args .scan) b (omega arith) (c .enum-told .given .1)
 
 returns-3 : tie.Need-returns-3
-returns-3 c = λ seen signs b. end-values (c .before .before .before .before .before .args .scan) b (omega arith) (c .enum-told2 .given .1)
+returns-3 c = λ seen signs b. end-unsatisfiable (c .before .before .before .before .before .args .scan) b (omega arith) (c .enum-told2 .given .1)
 
 returns-4 : tie.Need-returns-4
-returns-4 c = λ seen signs b. end-satisfiable (c .before .before .before .before .before .args .scan) b (omega arith) (c .enum-told3 .given .1)
+returns-4 c = λ seen signs b. end-no-status (c .before .before .before .before .before .args .scan) b (omega arith) (c .enum-told3 .given .1)
 
 returns-5 : tie.Need-returns-5
-returns-5 c = λ seen signs b. end-unsatisfiable (c .before .before .before .before .before .args .scan) b (omega arith) (c .enum-told4 .given .1)
+returns-5 c = λ seen signs b. end-values (c .before .before .before .before .before .args .scan) b (omega arith) (c .enum-told4 .given .1)
 
 returns-6 : tie.Need-returns-6
 returns-6 c = λ seen signs b. end-malformed (c .before .before .before .before .before .args .scan) b (omega arith) (c .enum-told5 .given .1)
