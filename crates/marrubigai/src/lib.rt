@@ -6,12 +6,9 @@ use call_replies::HeadingReply;
 use call_replies::LineReply;
 use call_replies::SheetReply;
 use netlist::Netlist;
-use replay_call::ReplayReply;
 use sheet_parse::SheetReader;
 ghost use mathlib.Core.Path.{_≡_};
 ghost use lib.ListN.{length};
-ghost use Rattle.call_lists.specs.Lent.{netLent};
-ghost use Rattle.replay_call.specs.Replay.{replayNumbers, memoryAfter, traceAfter};
 ghost use Rattle.calls.specs.LentCalls.{headingFor, groupFor, numbersAfter};
 ghost use Rattle.dimacs.specs.Text.{headerText, clauseText, refusalText};
 ghost use Rattle.dimacs.specs.PrintCalls.{printSent, printLeaves};
@@ -106,36 +103,4 @@ pub extern "C" fn marrubigai_put_refusal(out: &mut [u8], number: u32, place: u32
     ensures borrowed { λ _. ⌜ now (out .exit) ≡ printLeaves (refusalText number place) (now (out .entry)) ⌝ }
 {
     call_replies::print_numbers(dimacs::put_refusal(out, number, place))
-}
-
-// `replay_call::replay`, over lent lists.
-#[no_mangle]
-pub extern "C" fn marrubigai_replay(
-    net: Netlist,
-    latches: &[Latch],
-    gates: &[Gate],
-    depth: u32,
-    answer: &[u8],
-    memory: &mut [u32],
-    trace: &mut [u8],
-) -> ReplayReply
-    ensures answer { λ r. ⌜ r ≡ replayNumbers (netLent net (now (latches .entry)) (now (gates .entry))) (length (now (latches .entry))) (length (now (gates .entry))) depth (now (answer .entry)) (length (now (memory .entry))) (length (now (trace .entry))) ⌝ }
-    ensures memory { λ _. ⌜ now (memory .exit) ≡ memoryAfter (netLent net (now (latches .entry)) (now (gates .entry))) (length (now (latches .entry))) (length (now (gates .entry))) depth (now (answer .entry)) (now (memory .entry)) (length (now (trace .entry))) ⌝ }
-    ensures trace { λ _. ⌜ now (trace .exit) ≡ traceAfter (netLent net (now (latches .entry)) (now (gates .entry))) (length (now (latches .entry))) (length (now (gates .entry))) depth (now (answer .entry)) (length (now (memory .entry))) (now (trace .entry)) ⌝ }
-{
-    let mut latch_codes = [0; 1200];
-    call_lists::unpack::unpack_latches(&mut latch_codes, latches);
-    let mut gate_codes = [0; 1200];
-    call_lists::unpack::unpack_gates(&mut gate_codes, gates);
-    replay_call::replay(
-        net,
-        &latch_codes,
-        latches.len(),
-        &gate_codes,
-        gates.len(),
-        depth,
-        answer,
-        memory,
-        trace,
-    )
 }
