@@ -1,4 +1,5 @@
 pub mod Lists
+pub mod Delivery
 pub mod ReadCall
 pub mod Facts
 pub mod LocalCodes

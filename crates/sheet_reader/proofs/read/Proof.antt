@@ -61,7 +61,6 @@ use Rattle.call_lists.specs.declared.Latch.{Latch}
 use Rattle.call_lists.specs.declared.Gate.{Gate}
 use Rattle.call_lists.specs.RecordAt.{latchAt, gateAt}
 use Rattle.call_lists.specs.Delivered.{delivered}
-use Rattle.call_lists.proofs.Delivered.{length-delivered}
 use Rattle.call_lists.proofs.DeliverContract as promise
 use Rattle.call_lists.proofs.Latch as La
 use Rattle.call_lists.proofs.Gate as Ga
@@ -73,7 +72,8 @@ use Rattle.call_lists.proofs.deliver.deliver_gates.Symbol.{name as #deliver-gat
 use Rattle.call_lists.proofs.deliver.deliver_gates.Met as gates-thm
 use Rattle.sheet_reader.specs.ReadCall.{readVerdict, readRecord, latchesAfter, gatesAfter, SheetDelivered}
 use Rattle.sheet_reader.proofs.Facts.{spread}
-use Rattle.sheet_reader.proofs.ReadCall.{deliverable, reads}
+use Rattle.sheet_reader.proofs.Delivery.{deliverable, latches-length, gates-length}
+use Rattle.sheet_reader.proofs.ReadCall.{sheet-fits, reads}
 use Rattle.sheet_reader.proofs.LocalCodes.{Codes, codesTy, typed-codes, stored, freed}
 use Rattle.sheet_reader.proofs.DeliverCall as call
 use Rattle.sheet_tests.proofs.read_codes as codes
@@ -241,10 +241,9 @@ module _ {M : Type 1} (𝓤 : URA M) (H : Heap 𝓤) (A : Atoms 𝓤) (W : Given
         ∷ ‵ (flft (κs .1 .1 .0) (qs .1 .1 .0)) ∷ ‵ File ∷ ‵ (finally La.the-row (x .name) (newLatches sheet xs))
         ∷ ‵ (finally Ga.the-row (y .name) (newGates sheet ys)) ∷ [])) (Post (S′.lowered sheet))
     exits sheet xs ys e =
-        let ok = deliverable (now file) (now x) (now y) sheet xs ys e in
-        let latches-long : length (newLatches sheet xs) ≡ m =
-        length-delivered (latchAt xs) (now x) (sheet .net .latches) (ok .0 .1) in
-        let gates-long : length (newGates sheet ys) ≡ n = length-delivered (gateAt ys) (now y) (sheet .net .gates) (ok .1 .1) in
+        let fits = sheet-fits (now file) (now x) (now y) in
+        let latches-long : length (newLatches sheet xs) ≡ m = latches-length (now x) (now y) fits sheet xs ys e in
+        let gates-long : length (newGates sheet ys) ≡ n = gates-length (now x) (now y) fits sheet xs ys e in
         qed W (‵ (S.the-row .own sheet (S′.lowered sheet ∷ [])) ∷ ‵ (flft κ q) ∷ ‵ (flft (κs .1 .0) (qs .1 .0))
         ∷ ‵ (flft (κs .1 .1 .0) (qs .1 .1 .0)) ∷ ‵ File ∷ ‵ (finally La.the-row (x .name) (newLatches sheet xs))
         ∷ ‵ (finally Ga.the-row (y .name) (newGates sheet ys)) ∷ []) ∵
@@ -340,7 +339,7 @@ module _ {M : Type 1} (𝓤 : URA M) (H : Heap 𝓤) (A : Atoms 𝓤) (W : Given
           peeks ! S.the-row (Is S.the-row) (shows 𝓤 H A S.the-row) (o .0) (u ∷ []) (λ sheet-is.
           let typed = LL.lawful S.the-type S′.the-laws 𝓤 H A W .typed (o .0) (u ∷ []) sheet-is .0 in
           let low : u ≡ S′.lowered (o .0) = ap only (S′.lowers .val-is (o .0) (u ∷ []) sheet-is) in
-          let ok = deliverable (now file) (now x) (now y) (o .0) (o .1 .0) (o .1 .1) e in
+          let ok = deliverable (now x) (now y) (sheet-fits (now file) (now x) (now y)) (o .0) (o .1 .0) (o .1 .1) e in
           -- [the sheet; latches' last; gates' last; β's token; α's; the file's; β's loan; α's loan; file; the latches' token; the
           -- gates'; latches; gates; _18; …]
           land ! (from ! (stop !)) (init ! 37 refl typed) $
