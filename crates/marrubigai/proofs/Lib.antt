@@ -1,1 +1,2 @@
 pub mod SheetReplies
+pub mod TextReplies
