@@ -106,8 +106,8 @@ pub fn import_codes(
 {
     let header = aiger_lines::read_header(text);
     let tested = aiger_tests::test_text(text, header, m, n);
-    if let Verdict::Refused(refusal, place) = tested {
-        return sheet_steps::refused(refusal, place);
+    if let Verdict::Refused(refusal, line) = tested {
+        return sheet_steps::refused(refusal, line);
     }
     let sizes = aiger_codes::text_sizes(header.counts, m, n, word);
     let sized = netlist_tests::test_sizes(sizes);

@@ -3,4 +3,5 @@ pub mod Delivery
 pub mod ReadCall
 pub mod Facts
 pub mod LocalCodes
+pub mod NoneCall
 pub mod DeliverCall

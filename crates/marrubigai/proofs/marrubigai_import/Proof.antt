@@ -51,7 +51,6 @@ use Rattle.sheet_steps.proofs.SheetAnswer as S
 use Rattle.sheet_steps.proofs.SheetAnswer.Laws as S′
 use Rattle.sheet_parse.specs.Progress.{noCodes}
 use Rattle.sheet_steps.specs.Steps.{Outcome}
-use Rattle.sheet_tests.proofs.no_codes as none
 use Rattle.sheet_tests.proofs.no_codes.Symbol as none-def
 use Rattle.sheet_tests.proofs.no_codes.Symbol.{name as #no-codes}
 use Rattle.sheet_tests.proofs.no_codes.Met as none-thm
@@ -75,6 +74,7 @@ use Rattle.sheet_reader.proofs.Facts.{spread}
 use Rattle.sheet_reader.proofs.Delivery.{deliverable, latches-length, gates-length}
 use Rattle.marrubigai.proofs.TextReplies.{text-fits, answers}
 use Rattle.sheet_reader.proofs.LocalCodes.{Codes, codesTy, typed-codes, stored, freed}
+use Rattle.sheet_reader.proofs.NoneCall as none
 use Rattle.sheet_reader.proofs.DeliverCall as call
 use Rattle.aiger_import.proofs.import_codes as codes
 use Rattle.aiger_import.proofs.import_codes.Symbol as codes-def
@@ -84,7 +84,7 @@ use Rattle.call_replies.specs.Replies.{sheetNumbers}
 use Rattle.call_replies.specs.declared.SheetReply.{SheetReply}
 use Rattle.call_replies.proofs.SheetReply as R
 use Rattle.call_replies.proofs.SheetReply.Laws as R′
-use Rattle.call_replies.proofs.sheet_numbers as numbers
+use Rattle.marrubigai.proofs.NumbersCall as numbers
 use Rattle.call_replies.proofs.sheet_numbers.Symbol as numbers-def
 use Rattle.call_replies.proofs.sheet_numbers.Symbol.{name as #sheet-numbers}
 use Rattle.call_replies.proofs.sheet_numbers.Met as numbers-thm
@@ -115,14 +115,8 @@ sheetTy = spell pieces.table (pointee (S.the-row .written))
 
 -- ---- the contracts of the functions that are called
 module _ {M : Type 1} (𝓤 : URA M) (H : Heap 𝓤) (A : Atoms 𝓤) (mem : Memory → SProp 𝓤) (run : Routine → Fun 𝓤) where
-  abbrev None : Contract 𝓤
-  None = tripleOf 𝓤 H A none.signature (none.spec 𝓤 H A mem run)
-
   abbrev ImportCodes : Contract 𝓤
   ImportCodes = tripleOf 𝓤 H A codes.signature (codes.spec 𝓤 H A mem run)
-
-  abbrev Numbers : Contract 𝓤
-  Numbers = tripleOf 𝓤 H A numbers.signature (numbers.spec 𝓤 H A mem run)
 
   abbrev DeliverLatches : Contract 𝓤
   DeliverLatches = promise.Delivers La.the-type tt latchAt 𝓤 H A
@@ -132,45 +126,6 @@ module _ {M : Type 1} (𝓤 : URA M) (H : Heap 𝓤) (A : Atoms 𝓤) (mem : Mem
 
 module _ {M : Type 1} (𝓤 : URA M) (H : Heap 𝓤) (A : Atoms 𝓤) (W : Given 𝓤 H A) (mem : Memory → SProp 𝓤)
     (run : Routine → Fun 𝓤) where
-  -- ---- `no_codes`: it asks nothing
-  abbrev to-none : None 𝓤 H A mem run .Ghost
-  to-none = ((tt, tt, tt, tt, tt), tt)
-
-  none-goes : ent 𝓤 (emp 𝓤) (None 𝓤 H A mem run .pre to-none)
-  none-goes = qed W [] ∵ nothing ! $ nothing ! $ join ! $ nothing ! $ move ! (1 ∷ 0 ∷ []) $ done !
-
-  none-gives : (v : Val) → ent 𝓤 (None 𝓤 H A mem run .post to-none v) (H .⇛ (sem 𝓤 H A (Codes .own noCodes (v ∷ []))))
-  none-gives v =
-      qed W (raw (None 𝓤 H A mem run .post to-none v) ∷ []) ∵ updating ! $
-      use1 W (later (some (λ (xs : List ℕ). (‵ ftrue ⊛ ‵ (Codes .own xs (v ∷ [])))
-      ⊛ some (λ (ws : Lasts none.ended tt tt). ‵ (lasts none.ended tt tt ws) ⊛ raw (fact 𝓤 (xs ≡ noCodes)))))) (id⊢ 𝓤 _) $
-      await ! tt $ pick ! (λ xs.
-      split ! $ move ! (1 ∷ []) $ pick ! (λ ws. split ! $ move ! (1 ∷ []) $ heard ! (xs ≡ noCodes) (λ e. drop ! $ split ! $
-      drop ! $ rewrite ! 0 (λ (ys : List ℕ). ‵ (Codes .own ys (v ∷ []))) e refl $ at-once ! $ done !)))
-
-  -- ---- `sheet_numbers`, of a sheet whose machine value is u
-  module _ (sheet : SheetAnswer) (u : Val) where
-    abbrev reply : SheetReply
-    reply = sheetNumbers (sheet .verdict) (sheet .net)
-
-    abbrev to-numbers : Numbers 𝓤 H A mem run .Ghost
-    to-numbers = ((tt, tt, tt, (sheet, tt), (u ∷ [], tt)), tt)
-
-    numbers-goes : ent 𝓤 (sem 𝓤 H A (S.the-row .own sheet (u ∷ []))) (Numbers 𝓤 H A mem run .pre to-numbers)
-    numbers-goes =
-        qed W (‵ (S.the-row .own sheet (u ∷ [])) ∷ []) ∵ nothing ! $ move ! (1 ∷ 0 ∷ []) $ fjoin ! $ nothing ! $
-        join ! $ nothing ! $ move ! (1 ∷ 0 ∷ []) $ done !
-
-    numbers-gives : (v : Val) → ent 𝓤 (Numbers 𝓤 H A mem run .post to-numbers v)
-        (H .⇛ (sem 𝓤 H A (R.the-row .own reply (v ∷ []))))
-    numbers-gives v =
-        qed W (raw (Numbers 𝓤 H A mem run .post to-numbers v) ∷ []) ∵ updating ! $
-        use1 W (later (some (λ (r : SheetReply). (‵ ftrue ⊛ ‵ (R.the-row .own r (v ∷ [])))
-        ⊛ some (λ (ws : Lasts numbers.ended tt (sheet, tt)). ‵ (lasts numbers.ended tt (sheet, tt) ws)
-        ⊛ raw (fact 𝓤 (r ≡ reply)))))) (id⊢ 𝓤 _) $ await ! tt $ pick ! (λ r.
-        split ! $ move ! (1 ∷ []) $ pick ! (λ ws. split ! $ move ! (1 ∷ []) $ heard ! (r ≡ reply) (λ e. drop ! $ split ! $
-        drop ! $ rewrite ! 0 (λ (s : SheetReply). ‵ (R.the-row .own s (v ∷ []))) e refl $ at-once ! $ done !)))
-
   module _ (κs : Lfts 3) (qs : Shares 3) (text : RefT (List ℕ)) (m n word : ℕ) (x : RefT (List Latch)) (y : RefT (List Gate)) where
     abbrev κ : Lft
     κ = κs .0
@@ -318,9 +273,9 @@ module _ {M : Type 1} (𝓤 : URA M) (H : Heap 𝓤) (A : Atoms 𝓤) (W : Given
         nothing ! $ move ! (4 ∷ 0 ∷ []) $ fjoin ! $ move ! (3 ∷ 0 ∷ []) $ fjoin ! $
         nothing ! $ fjoin ! $ nothing ! $ fjoin ! $ nothing ! $ fjoin ! $ move ! (2 ∷ 0 ∷ []) $ fjoin ! $ frame ! $ done !
 
-    module _ (C : Calls 𝓤 H) (Λ : Loops 𝓤 H) (fm : FmC 𝓤 H (W .laws) C) (known-none : Triple 𝓤 (C #no-codes) (None 𝓤 H A mem run))
+    module _ (C : Calls 𝓤 H) (Λ : Loops 𝓤 H) (fm : FmC 𝓤 H (W .laws) C) (known-none : Triple 𝓤 (C #no-codes) (none.None 𝓤 H A mem run))
         (known-codes : Triple 𝓤 (C #import-codes) (ImportCodes 𝓤 H A mem run))
-        (known-numbers : Triple 𝓤 (C #sheet-numbers) (Numbers 𝓤 H A mem run))
+        (known-numbers : Triple 𝓤 (C #sheet-numbers) (numbers.Numbers 𝓤 H A mem run))
         (known-latches : Triple 𝓤 (C #deliver-latches) (DeliverLatches 𝓤 H A mem run))
         (known-gates : Triple 𝓤 (C #deliver-gates) (DeliverGates 𝓤 H A mem run)) where
       walk : Is (ShrSlice (named 0) κ u8) text (slice-vals text) → m < 2 ^ 32 → n < 2 ^ 32 → word < 2 ^ 32 → Room La.the-row latchRoom
@@ -349,17 +304,17 @@ module _ {M : Type 1} (𝓤 : URA M) (H : Heap 𝓤) (A : Atoms 𝓤) (W : Given
           move ! (3 ∷ []) $ split ! $ move ! (1 ∷ []) $ split ! $ move ! (1 ∷ []) $ split ! $ move ! (1 ∷ []) $ drop ! $
           move ! (2 ∷ 1 ∷ 0 ∷ 5 ∷ 4 ∷ 3 ∷ []) $
           -- [the text's token; the latches'; the gates'; text; latches; gates; _4; _5; _18; …]
-          use0 W (raw (None 𝓤 H A mem run .pre to-none)) none-goes $
-          calls-at ! fm (None 𝓤 H A mem run) known-none to-none (no-more !)
-          (λ u₄. use1 W (later (‵ (Codes .own noCodes (u₄ ∷ [])))) (none-gives u₄) $ await ! tt $
+          use0 W (raw (none.None 𝓤 H A mem run .pre (none.to 𝓤 H A mem run))) (none.goes 𝓤 H A mem run W) $
+          calls-at ! fm (none.None 𝓤 H A mem run) known-none (none.to 𝓤 H A mem run) (no-more !)
+          (λ u₄. use1 W (later (‵ (Codes .own noCodes (u₄ ∷ [])))) (none.gives 𝓤 H A mem run W u₄) $ await ! tt $
           peeks ! Codes (Is Codes) (shows 𝓤 H A Codes) noCodes (u₄ ∷ []) (λ is₄.
           land ! (from ! (stop !)) (init ! 31 refl (typed-codes 𝓤 H A W noCodes l₇ u₄ is₄ .0)) $
           assigns ! (of-opd ! (load ! (from ! (stop !)) (look ! 31 refl))) (from ! (stop !))
           (init ! 7 refl (typed-codes 𝓤 H A W noCodes l₇ u₄ is₄ .0)) $ forget ! 31 refl $
           move ! (7 ∷ 0 ∷ []) $ use2 W (‵ (partAt Codes fullShare noCodes l₇ 0)) (stored 𝓤 H A W noCodes l₇ u₄) $
-          use0 W (raw (None 𝓤 H A mem run .pre to-none)) none-goes $
-          calls-at ! fm (None 𝓤 H A mem run) known-none to-none (no-more !)
-          (λ u₅. use1 W (later (‵ (Codes .own noCodes (u₅ ∷ [])))) (none-gives u₅) $ await ! tt $
+          use0 W (raw (none.None 𝓤 H A mem run .pre (none.to 𝓤 H A mem run))) (none.goes 𝓤 H A mem run W) $
+          calls-at ! fm (none.None 𝓤 H A mem run) known-none (none.to 𝓤 H A mem run) (no-more !)
+          (λ u₅. use1 W (later (‵ (Codes .own noCodes (u₅ ∷ [])))) (none.gives 𝓤 H A mem run W u₅) $ await ! tt $
           peeks ! Codes (Is Codes) (shows 𝓤 H A Codes) noCodes (u₅ ∷ []) (λ is₅.
           land ! (from ! (stop !)) (init ! 31 refl (typed-codes 𝓤 H A W noCodes l₈ u₅ is₅ .0)) $
           assigns ! (of-opd ! (load ! (from ! (stop !)) (look ! 31 refl))) (from ! (stop !))
@@ -485,10 +440,10 @@ module _ {M : Type 1} (𝓤 : URA M) (H : Heap 𝓤) (A : Atoms 𝓤) (W : Given
           -- [_5; the gates' token; gates' last; _4; the latches' token; latches' last; the sheet; the text's token; file; _18; …]
           -- [the sheet; _8; the gates' token; gates' last; _7; the latches' token; latches' last; the text's token; text; _21; …]
           move ! (6 ∷ []) $
-          use1 W (raw (Numbers 𝓤 H A mem run .pre (to-numbers (o .0) (S′.lowered (o .0))))) (numbers-goes (o .0) (S′.lowered (o .0))) $
-          calls-at ! fm (Numbers 𝓤 H A mem run) known-numbers (to-numbers (o .0) (S′.lowered (o .0)))
+          use1 W (raw (numbers.Numbers 𝓤 H A mem run .pre (numbers.to 𝓤 H A mem run (o .0) (S′.lowered (o .0))))) (numbers.goes 𝓤 H A mem run (o .0) (S′.lowered (o .0)) W) $
+          calls-at ! fm (numbers.Numbers 𝓤 H A mem run) known-numbers (numbers.to 𝓤 H A mem run (o .0) (S′.lowered (o .0)))
           (and-then ! (load ! (from ! (stop !)) (look ! 33 refl)) (no-more !)) (λ w.
-          use1 W (later (‵ (R.the-row .own (sheetNumbers (o .0 .verdict) (o .0 .net)) (w ∷ [])))) (numbers-gives (o .0) (S′.lowered (o .0)) w) $
+          use1 W (later (‵ (R.the-row .own (sheetNumbers (o .0 .verdict) (o .0 .net)) (w ∷ [])))) (numbers.gives 𝓤 H A mem run (o .0) (S′.lowered (o .0)) W w) $
           await ! tt $
           peeks ! R.the-row (Is R.the-row) (shows 𝓤 H A R.the-row) (sheetNumbers (o .0 .verdict) (o .0 .net)) (w ∷ []) (λ reply-is.
           land ! (from ! (stop !)) (init ! 49 refl (LL.lawful R.the-type R′.the-laws 𝓤 H A W .typed
@@ -506,9 +461,9 @@ module _ {M : Type 1} (𝓤 : URA M) (H : Heap 𝓤) (A : Atoms 𝓤) (W : Given
 
 module _ {M : Type 1} (𝓤 : URA M) (H : Heap 𝓤) (A : Atoms 𝓤) (W : Given 𝓤 H A) (mem : Memory → SProp 𝓤) (run : Routine → Fun 𝓤)
     (𝓣 : Tables 𝓤 H)
-    (known-none : Triple 𝓤 (𝓣 .C #no-codes) (None 𝓤 H A mem run))
+    (known-none : Triple 𝓤 (𝓣 .C #no-codes) (none.None 𝓤 H A mem run))
     (known-codes : Triple 𝓤 (𝓣 .C #import-codes) (ImportCodes 𝓤 H A mem run))
-    (known-numbers : Triple 𝓤 (𝓣 .C #sheet-numbers) (Numbers 𝓤 H A mem run))
+    (known-numbers : Triple 𝓤 (𝓣 .C #sheet-numbers) (numbers.Numbers 𝓤 H A mem run))
     (known-latches : Triple 𝓤 (𝓣 .C #deliver-latches) (DeliverLatches 𝓤 H A mem run))
     (known-gates : Triple 𝓤 (𝓣 .C #deliver-gates) (DeliverGates 𝓤 H A mem run)) where
   imports-meets : Meets 𝓤 H A export.signature (WpFn 𝓤 H (𝓣 .C) (𝓣 .Λ) code.function) (export.spec 𝓤 H A mem run)
@@ -555,11 +510,11 @@ marrubigai-import-spec 𝓤 H 𝓜 𝓖 𝓡 =
     entered 𝓤 H (tripleOf 𝓤 H (𝓖 .A) export.signature (export.spec 𝓤 H (𝓖 .A) (𝓜 .mem) (𝓡 .run)))
     (tables 𝓤 H 𝓜 𝓡 code.env .C) (tables 𝓤 H 𝓜 𝓡 code.env .Λ) #export code.function (code.unfolded 𝓤 H 𝓜 𝓡)
     (imports-meets 𝓤 H (𝓖 .A) (givenOf 𝓤 H 𝓜 𝓖) (𝓜 .mem) (𝓡 .run) (tablesOf 𝓤 H 𝓜 (tables 𝓤 H 𝓜 𝓡 code.env))
-    (cited 𝓤 H (None 𝓤 H (𝓖 .A) (𝓜 .mem) (𝓡 .run)) 𝓜 𝓡 code.env #no-codes none-def.routine code.calls-sheet-tests·no-codes
+    (cited 𝓤 H (none.None 𝓤 H (𝓖 .A) (𝓜 .mem) (𝓡 .run)) 𝓜 𝓡 code.env #no-codes none-def.routine code.calls-sheet-tests·no-codes
     (none-thm.met 𝓤 H 𝓜 𝓖 𝓡))
     (cited 𝓤 H (ImportCodes 𝓤 H (𝓖 .A) (𝓜 .mem) (𝓡 .run)) 𝓜 𝓡 code.env #import-codes codes-def.routine
     code.calls-aiger-import·import-codes (codes-thm.met 𝓤 H 𝓜 𝓖 𝓡))
-    (cited 𝓤 H (Numbers 𝓤 H (𝓖 .A) (𝓜 .mem) (𝓡 .run)) 𝓜 𝓡 code.env #sheet-numbers numbers-def.routine
+    (cited 𝓤 H (numbers.Numbers 𝓤 H (𝓖 .A) (𝓜 .mem) (𝓡 .run)) 𝓜 𝓡 code.env #sheet-numbers numbers-def.routine
     code.calls-call-replies·sheet-numbers (numbers-thm.met 𝓤 H 𝓜 𝓖 𝓡))
     (cited 𝓤 H (DeliverLatches 𝓤 H (𝓖 .A) (𝓜 .mem) (𝓡 .run)) 𝓜 𝓡 code.env #deliver-latches latches-def.routine
     code.calls-call-lists·deliver·deliver-latches (latches-thm.met 𝓤 H 𝓜 𝓖 𝓡))
