@@ -15,8 +15,8 @@
 /* the version of this interface: the first number goes up where a program that was written for the version before has to be changed, the
  * second where something is added; while the first is 0, the second goes up for both */
 #define MARRUBIGAI_VERSION_MAJOR 0
-#define MARRUBIGAI_VERSION_MINOR 1
-#define MARRUBIGAI_VERSION "0.1"
+#define MARRUBIGAI_VERSION_MINOR 2
+#define MARRUBIGAI_VERSION "0.2"
 
 #ifdef __cplusplus
 extern "C" {
@@ -53,7 +53,10 @@ enum marrubigai_refusal {
   MARRUBIGAI_DEPTH = 7,
   MARRUBIGAI_NO_SUCH_GROUP = 8,
   MARRUBIGAI_NO_ROOM = 9,
-  MARRUBIGAI_OUT_OF_NUMBERS = 10
+  MARRUBIGAI_OUT_OF_NUMBERS = 10,
+  MARRUBIGAI_NOT_AIGER = 11,
+  MARRUBIGAI_INTERFACE = 12,
+  MARRUBIGAI_UNDEFINED = 13
 };
 
 /* the kinds of group */
@@ -71,6 +74,13 @@ enum marrubigai_room {
 /* reads a sheet: its record, and its latches and gates into the first elements of the lists */
 marrubigai_sheet_reply marrubigai_read(const uint8_t *file, size_t bytes, marrubigai_latch *latches, size_t latch_room,
                                        marrubigai_gate *gates, size_t gate_room);
+
+/* imports a netlist in ASCII AIGER, for a memory of m address bits and n data bits whose words all start as `word`: the last n inputs of the
+ * text are the read bits, in order from bit 0; its outputs are the m address bits, the n write-data bits, write enable, read enable and
+ * the property, m + n + 3 in all. Record and lists as where a sheet is read; every latch has reset 0. No order or name of inputs is
+ * tested beyond their number: docs/LIBRARY.md says what to look at in a text that a tool has written. */
+marrubigai_sheet_reply marrubigai_import(const uint8_t *text, size_t bytes, uint32_t m, uint32_t n, uint32_t word, marrubigai_latch *latches,
+                                         size_t latch_room, marrubigai_gate *gates, size_t gate_room);
 
 /* the line behind the first `line` lines of a sheet: its letter, its fields (0 where one is empty), and how many lines are read with
  * it, one more. Where it is misprinted, 2 with its place, line + 1, and it is read too. Where there is none (missing, cut short, or

@@ -17,7 +17,12 @@ crates/sheet_steps/src/lib.rt next.address[at].0 = first
 crates/sheet_steps/src/lib.rt next.write_data[at].0 = first
 crates/sheet_steps/src/lib.rt next.we.0 = first
 crates/sheet_steps/src/lib.rt next.re.0 = second
-crates/sheet_steps/src/lib.rt next.p.0 = third'
+crates/sheet_steps/src/lib.rt next.p.0 = third
+crates/aiger_codes/src/lib.rt next.address[at].0 = code_of(table, table[601 + at])
+crates/aiger_codes/src/lib.rt next.write_data[at].0 = code_of(table, table[first + at])
+crates/aiger_codes/src/lib.rt next.we.0 = we
+crates/aiger_codes/src/lib.rt next.re.0 = re
+crates/aiger_codes/src/lib.rt next.p.0 = p'
 
 # One check for each place that a rule looks at: a signature, a type's name before a parenthesis, a field 0, a name given anew.
 apart() { # files

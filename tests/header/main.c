@@ -160,6 +160,61 @@ static void reading(void) {
         answers_sheet(read_text(DISTINCT, bytes - 32, ROOM, ROOM), MARRUBIGAI_OUT_OF_ORDER, 15, &nothing) && lists_hold(0, 0, 0, 0));
 }
 
+// An ASCII AIGER text with its variables in no order: input 5, read bits 2 and 6, latch 1, gates 3 and 4. They become wires 1, 3 and 4,
+// 2, 5 and 6. What stands behind its 14 lines is skipped.
+static const char TEXT_OF_A_CHIP[] =
+    "aag 6 3 1 7 2\n"
+    "10\n" "4\n" "12\n"
+    "2 9\n"
+    "2\n" "11\n" "6\n" "0\n" "8\n" "1\n" "13\n"
+    "6 11 2\n" "8 7 4\n"
+    "i0 a name, and no line feed at the end";
+
+static const marrubigai_netlist IMPORTED_NET = {
+    .inputs = 1, .latches = 1, .gates = 2, .m = 2, .n = 2, .initial_word = 3,
+    .address = {4, 3}, .write_data = {10, 0}, .we = 12, .re = 1, .p = 9};
+static const marrubigai_latch IMPORTED_LATCHES[] = {{.next = 13, .reset = 0}};
+static const marrubigai_gate IMPORTED_GATES[] = {{.left = 3, .right = 4}, {.left = 11, .right = 6}};
+
+static marrubigai_sheet_reply import_text(const char *text, size_t bytes, uint32_t m, uint32_t word, size_t latch_room, size_t gate_room) {
+  fill_lists();
+  return marrubigai_import((const uint8_t *)text, bytes, m, 2, word, latches, latch_room, gates, gate_room);
+}
+
+// the text with the byte at a place replaced, for m = 2 and the start word 3
+static marrubigai_sheet_reply import_damaged(const char *line, size_t at, char byte) {
+  char damaged[sizeof TEXT_OF_A_CHIP];
+  memcpy(damaged, TEXT_OF_A_CHIP, sizeof damaged);
+  damaged[(size_t)(strstr(TEXT_OF_A_CHIP, line) - TEXT_OF_A_CHIP) + at] = byte;
+  return import_text(damaged, sizeof damaged - 1, 2, 3, ROOM, ROOM);
+}
+
+static void importing(void) {
+  static const marrubigai_netlist nothing = {0};
+  const size_t bytes = sizeof TEXT_OF_A_CHIP - 1;
+  check("a text is imported, in the order of its lines",
+        answers_sheet(import_text(TEXT_OF_A_CHIP, bytes, 2, 3, ROOM, ROOM), MARRUBIGAI_PASSED, 0, &IMPORTED_NET) &&
+            lists_hold(IMPORTED_LATCHES, 1, IMPORTED_GATES, 2));
+  check("lists of exactly the sizes",
+        answers_sheet(import_text(TEXT_OF_A_CHIP, bytes, 2, 3, 1, 2), MARRUBIGAI_PASSED, 0, &IMPORTED_NET));
+  check("an empty text gives 11 at line 1",
+        answers_sheet(import_text(TEXT_OF_A_CHIP, 0, 2, 3, ROOM, ROOM), MARRUBIGAI_NOT_AIGER, 1, &nothing) && lists_hold(0, 0, 0, 0));
+  check("an odd literal of an input gives 11 at its line",
+        answers_sheet(import_damaged("\n4\n", 1, '5'), MARRUBIGAI_NOT_AIGER, 3, &nothing) && lists_hold(0, 0, 0, 0));
+  check("variable 5 as a latch, defined again, gives 11 at the latch's line",
+        answers_sheet(import_text("aag 5 1 1 0 0\n10\n10 0\n", 24, 2, 3, ROOM, ROOM), MARRUBIGAI_NOT_AIGER, 3, &nothing));
+  check("three address bits give 12, place 0",
+        answers_sheet(import_text(TEXT_OF_A_CHIP, bytes, 3, 3, ROOM, ROOM), MARRUBIGAI_INTERFACE, 0, &nothing) && lists_hold(0, 0, 0, 0));
+  check("an operand that a later gate defines gives 13 at its line",
+        answers_sheet(import_damaged("\n6 11 2\n", 6, '8'), MARRUBIGAI_UNDEFINED, 13, &nothing) && lists_hold(0, 0, 0, 0));
+  check("start word 4 of two bits gives 4 at line 2 of a sheet",
+        answers_sheet(import_text(TEXT_OF_A_CHIP, bytes, 2, 4, ROOM, ROOM), MARRUBIGAI_SIZE, 2, &nothing) && lists_hold(0, 0, 0, 0));
+  check("a read bit as the first address bit gives 6 at line 6 of a sheet",
+        answers_sheet(import_damaged("\n2\n", 1, '4'), MARRUBIGAI_MEMORY_LOOP, 6, &nothing) && lists_hold(0, 0, 0, 0));
+  check("a gate list too short gives 9, place 0",
+        answers_sheet(import_text(TEXT_OF_A_CHIP, bytes, 2, 3, ROOM, 1), MARRUBIGAI_NO_ROOM, 0, &nothing) && lists_hold(0, 0, 0, 0));
+}
+
 static int answers_line_of(const char *text, size_t bytes, uint32_t line, marrubigai_line_reply expected) {
   marrubigai_line_reply reply = marrubigai_next_line((const uint8_t *)text, bytes, line);
   return reply.number == expected.number && reply.place == expected.place && reply.letter == expected.letter &&
@@ -346,6 +401,7 @@ int main(void) {
   check("the version's text has its numbers",
         strcmp(MARRUBIGAI_VERSION, VERSION(MARRUBIGAI_VERSION_MAJOR, MARRUBIGAI_VERSION_MINOR)) == 0);
   reading();
+  importing();
   lines();
   headings();
   groups();

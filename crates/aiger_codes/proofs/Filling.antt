@@ -88,16 +88,17 @@ module _ (s : List ℕ) (line first : ℕ) (old table : List ℕ) where
       filled-next first (firstsBehind s line) (entryOf old) 648 table x (getD (numbers .values) 0 0) b
       (ap (λ (xs : Numbers). getD (xs .values) 0 0) e ∙ five-value (lineNumbers s (line + x + 1)) 0 few) filled
 
+-- one number more of those below a size
+pub upTo-next : (h : ℕ → ℕ) (count x : ℕ) → cond (eqb count x) (h count) (upTo count h x) ≡ upTo (count + 1) h x
+upTo-next h count x =
+    by-cases (ℕ-discrete count x)
+    (λ e. rw (eq-eqb count x e, lt-ltb x (count + 1) (omega arith), e)) λ e.
+    by-cases (decLt x count)
+    (λ l. rw (ne-eqb count x e, lt-ltb x count l, lt-ltb x (count + 1) (omega arith)))
+    (λ l. rw (ne-eqb count x e, le-ltb x count (omega arith), le-ltb x (count + 1) (omega arith)))
+
 -- one record more of an unpacked list
 module _ (f g : ℕ → ℕ) where
-  upTo-next : (h : ℕ → ℕ) (count x : ℕ) → cond (eqb count x) (h count) (upTo count h x) ≡ upTo (count + 1) h x
-  upTo-next h count x =
-      by-cases (ℕ-discrete count x)
-      (λ e. rw (eq-eqb count x e, lt-ltb x (count + 1) (omega arith), e)) λ e.
-      by-cases (decLt x count)
-      (λ l. rw (ne-eqb count x e, lt-ltb x count l, lt-ltb x (count + 1) (omega arith)))
-      (λ l. rw (ne-eqb count x e, le-ltb x count (omega arith), le-ltb x (count + 1) (omega arith)))
-
   pub list-next : (count x y : ℕ) (list : List ℕ) → count < 600 → x ≡ f count → y ≡ g count → ListFilled count f g list
       → ListFilled (count + 1) f g (putNumbers count x y list)
   list-next count x y list b e k filled =

@@ -12,6 +12,7 @@ ghost use Rattle.aiger_netlist.specs.TextNetlist.{textSizes};
 ghost use Rattle.aiger_lines.specs.Steps.{Behind};
 ghost use Rattle.aiger_codes.specs.WireTable.{wireFound};
 ghost use Rattle.aiger_codes.specs.Filling.{LinesAhead, firstsBehind, entryOf, putFrom, Filled, codesBehind, NoCodes, ListFilled};
+ghost use Rattle.aiger_codes.specs.Outputs.{outputCode, Coded, withControl, AddressPut, DataPut, OutputsPut};
 
 // The first wire at which a table has a variable; 601 where it has it at none.
 fn wire_of(table: &[u32; 648], variable: u32) -> u32
@@ -108,4 +109,61 @@ pub fn put_codes(
         next = read.next;
         x += 1;
     }
+}
+
+// Puts the first m outputs of a table into a record that has no address codes yet.
+fn put_address(net: Netlist, table: &[u32; 648]) -> Netlist
+    requires { ⌜ (net .m ≤ 12) × Coded 12 0 (λ o. 0) (net .address) ⌝ }
+    ensures { λ r. ⌜ AddressPut net (now (table .entry)) r ⌝ }
+{
+    let mut next = net;
+    let mut t: u32 = 0;
+    while t < net.m {
+        let at = t as usize;
+        next.address[at].0 = code_of(table, table[601 + at]);
+        t += 1;
+    }
+    next
+}
+
+// Puts the n outputs behind them into a record that has no write-data codes yet.
+fn put_data(net: Netlist, table: &[u32; 648]) -> Netlist
+    requires { ⌜ (net .m ≤ 12) × (net .n ≤ 32) × Coded 32 0 (λ o. 0) (net .«write_data») ⌝ }
+    ensures { λ r. ⌜ DataPut net (now (table .entry)) r ⌝ }
+{
+    let first = 601 + net.m as usize;
+    let mut next = net;
+    let mut t: u32 = 0;
+    while t < net.n {
+        let at = t as usize;
+        next.write_data[at].0 = code_of(table, table[first + at]);
+        t += 1;
+    }
+    next
+}
+
+// Puts the last three outputs into a record: WE, RE and P.
+fn put_control(net: Netlist, table: &[u32; 648]) -> Netlist
+    requires { ⌜ (net .m ≤ 12) × (net .n ≤ 32) ⌝ }
+    ensures { λ r. ⌜ r ≡ withControl net (outputCode (now (table .entry)) (net .m + net .n)) (outputCode (now (table .entry)) (net .m + net .n + 1)) (outputCode (now (table .entry)) (net .m + net .n + 2)) ⌝ }
+{
+    let first = 601 + net.m as usize + net.n as usize;
+    let we = code_of(table, table[first]);
+    let re = code_of(table, table[first + 1]);
+    let p = code_of(table, table[first + 2]);
+    let mut next = net;
+    next.we.0 = we;
+    next.re.0 = re;
+    next.p.0 = p;
+    next
+}
+
+// Puts all outputs of a table into a record that has no codes yet.
+pub fn put_outputs(net: Netlist, table: &[u32; 648]) -> Netlist
+    requires { ⌜ (net .m ≤ 12) × (net .n ≤ 32) × Coded 12 0 (λ o. 0) (net .address) × Coded 32 0 (λ o. 0) (net .«write_data») ⌝ }
+    ensures { λ r. ⌜ OutputsPut net (now (table .entry)) r ⌝ }
+{
+    let addressed = put_address(net, table);
+    let with_data = put_data(addressed, table);
+    put_control(with_data, table)
 }

@@ -1,4 +1,5 @@
--- What is promised of a netlist that agrees with that of a text which nothing refuses (specs/Imported.antt). Cited by `import`.
+-- What is promised of a netlist that agrees with that of a text which nothing refuses (specs/Imported.antt). Cited by the export that imports a
+-- text.
 use Prim.Native.Nat.{ℕ, _+_, _<_}
 use mathlib.Core.Path.{_≡_, refl, sym, _∙_, ap}
 use mathlib.Core.Bool.{Bool}

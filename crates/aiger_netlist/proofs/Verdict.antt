@@ -1,4 +1,4 @@
--- What it says of a text that none of the tests of `import` refuses (specs/ImportVerdict.antt). No contract cites this file.
+-- What it says of a text that none of the tests of an import refuses (specs/ImportVerdict.antt). No contract cites this file.
 use Prim.Native.Nat.{ℕ, _+_, _≤_}
 use mathlib.Core.Path.{_≡_}
 use mathlib.Core.Bool.{Bool, false, not}

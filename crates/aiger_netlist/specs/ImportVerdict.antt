@@ -1,5 +1,6 @@
--- Which texts `import` refuses, and where (RULES T11 to T13, and T47: 11, 12, 13, then 4, 6 and 9). That 5 is met by no text which passes
--- 11 to 13 is the law `no-code-fault` in proofs/Codes.antt. Cited by `import_codes` and specs/Imported.
+-- Which texts an import refuses, and where (RULES T11 to T13, and T47: 11, 12, 13, then 4, 6 and 9). That 5 is met by no text which passes
+-- 11 to 13 is the law `no-code-fault` in proofs/Codes.antt. Cited by `import_codes`,
+-- aiger_import/specs/ImportCall and specs/Imported.
 use Prim.Native.Nat.{ℕ, _+_, _-_, _^_, min}
 use mathlib.Core.Bool.{Bool, not, _||_}
 use mathlib.Core.List.{List}
@@ -16,7 +17,7 @@ use Rattle.aiger_lines.specs.declared.Counts.{Counts}
 use Rattle.aiger_definitions.specs.Definitions.{definesAgain, undefinedAt}
 use Rattle.aiger_netlist.specs.TextNetlist.{aagNet}
 
--- a line's place, as far as 32 bits go
+-- a line's place, as far as 32 bits go (RULES T48)
 abbrev pub placeOf : ℕ → ℕ
 placeOf p = min p (2 ^ 32 - 1)
 

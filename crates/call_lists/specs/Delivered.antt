@@ -1,5 +1,5 @@
 -- Records delivered into the front of a lent list (RULES T45, "only the first L and the first A records of the lent lists
--- change"). Cited by the functions that deliver and by sheet_reader/specs/ReadCall.
+-- change"). Cited by the functions that deliver and by specs/ListsBeside.
 use Prim.Native.Nat.{ℕ}
 use mathlib.Core.List.{List, [], _∷_}
 use Rattle.model.specs.Gather.{gather}

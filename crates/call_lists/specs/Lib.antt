@@ -2,5 +2,6 @@
 pub mod Unpacked
 pub mod Lent
 pub mod Delivered
+pub mod ListsBeside
 pub mod Unpacking
 pub mod RecordAt

@@ -1,1 +1,3 @@
 pub mod SheetReplies
+pub mod TextReplies
+pub mod NumbersCall

@@ -14,6 +14,7 @@ ghost use Rattle.dimacs.specs.Text.{headerText, clauseText, refusalText};
 ghost use Rattle.dimacs.specs.PrintCalls.{printSent, printLeaves};
 ghost use Rattle.sheet_parse.specs.LineAnswers.{lineAnswer, linesRead};
 ghost use Rattle.sheet_reader.specs.ReadCall.{readVerdict, readRecord, latchesAfter, gatesAfter, SheetDelivered};
+ghost use Rattle.aiger_import.specs.ImportCall.{importVerdictFor, importRecord, importLatches, importGates, TextDelivered};
 ghost use Rattle.call_replies.specs.Replies.{groupOf, countNumbers, headingNumbers, sheetNumbers, lineNumbers};
 
 // `calls::write_group`. The kind is 0 for the wires of frame i, 1 for the pair (j, i), 2 for the closing of frame i, 3 for the property.
@@ -67,6 +68,40 @@ pub extern "C" fn marrubigai_read(
     ensures accepted { λ r. ⌜ (r .number ≡ 0 → SheetDelivered (now (file .entry)) (r .net) (now (latches .exit)) (now (gates .exit))) ⌝ }
 {
     call_replies::sheet_numbers(sheet_reader::read(file, latches, gates))
+}
+
+// Imports an ASCII AIGER text for a memory of m address bits, n data bits and this start word: its record, and its latches and gates into
+// the lent lists. Nothing lent is written before the last test has passed: a refusal's record is all zeros, so nothing of it is
+// delivered.
+#[no_mangle]
+pub extern "C" fn marrubigai_import(
+    text: &[u8],
+    m: u32,
+    n: u32,
+    word: u32,
+    latches: &mut [Latch],
+    gates: &mut [Gate],
+) -> SheetReply
+    ensures reply { λ r. ⌜ r ≡ sheetNumbers (importVerdictFor (now (text .entry)) m n word (now (latches .entry)) (now (gates .entry))) (importRecord (now (text .entry)) m n word (now (latches .entry)) (now (gates .entry))) ⌝ }
+    ensures latches { λ _. ⌜ now (latches .exit) ≡ importLatches (now (text .entry)) m n word (now (latches .entry)) (now (gates .entry)) ⌝ }
+    ensures gates { λ _. ⌜ now (gates .exit) ≡ importGates (now (text .entry)) m n word (now (latches .entry)) (now (gates .entry)) ⌝ }
+    ensures accepted { λ r. ⌜ (r .number ≡ 0 → TextDelivered (now (text .entry)) m n word (r .net) (now (latches .exit)) (now (gates .exit))) ⌝ }
+{
+    let mut latch_codes = sheet_tests::no_codes();
+    let mut gate_codes = sheet_tests::no_codes();
+    let sheet = aiger_import::import_codes(
+        text,
+        m,
+        n,
+        word,
+        latches.len(),
+        gates.len(),
+        &mut latch_codes,
+        &mut gate_codes,
+    );
+    call_lists::deliver::deliver_latches(&latch_codes, sheet.net.latches, latches);
+    call_lists::deliver::deliver_gates(&gate_codes, sheet.net.gates, gates);
+    call_replies::sheet_numbers(sheet)
 }
 
 // `SheetReader::next_line`, of the reader that has read so many lines of the file.

@@ -1,6 +1,6 @@
 -- The tests of a record with its lists, in their order (RULES T38 and T39). That they pass exactly the accepted netlists is
--- the law `passes-accepted` in proofs/Acceptance.antt. Cited by the tests of this crate, by the calls over a record and by
--- the reading of a sheet.
+-- the law `passes-accepted` in proofs/Acceptance.antt. Cited by the tests of this crate, by the calls over a record by
+-- the reading of a sheet and by the import of a text.
 use Prim.Native.Nat.{ℕ}
 use mathlib.Core.Bool.{Bool, _||_}
 use lib.Dec.{ltb}

@@ -17,7 +17,7 @@ ghost use Rattle.netlist_tests.specs.Record.{testLines, testLoops, recor
 ghost use Rattle.netlist_tests.specs.Dependence.{Table, entry};
 
 // Tests the numbers of lines N and M (refusal 4).
-fn test_sizes(net: Netlist) -> Verdict
+pub fn test_sizes(net: Netlist) -> Verdict
     ensures { λ r. ⌜ r ≡ testLines (alone net) Refusal.Size sizeFault ⌝ }
 {
     if netlist::sizes_fault(net) {

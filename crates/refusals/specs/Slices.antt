@@ -1,6 +1,6 @@
 -- What a call that writes into a lent slice or list sends back and leaves there, by its verdict (RULES T43 to T45).
 -- Cited by the calls that write numbers (call_unpacked/specs/Calls), text (dimacs/specs/PrintCalls) and records
--- (sheet_reader/specs/ReadCall), and by call_replies/specs.
+-- (call_lists/specs/ListsBeside), and by call_replies/specs.
 use Prim.Native.Nat.{ℕ}
 use mathlib.Core.List.{List}
 use lib.Dec.{ltb}

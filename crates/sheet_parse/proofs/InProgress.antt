@@ -40,11 +40,11 @@ getD-one zero j d = refl
 getD-one (suc n) zero d = refl
 getD-one (suc n) (suc j) d = getD-one n j d
 
-no-code : (j : ℕ) → getD noCodes j 0 ≡ 0
+pub no-code : (j : ℕ) → getD noCodes j 0 ≡ 0
 unfolding noCodes
 no-code j = getD-one 1200 j 0
 
-no-code-of : {xs : List Code} (n t : ℕ) → xs ≡ replicate n (record { 0 = 0 }) → codeOf xs t ≡ 0
+pub no-code-of : {xs : List Code} (n t : ℕ) → xs ≡ replicate n (record { 0 = 0 }) → codeOf xs t ≡ 0
 unfolding codeOf
 no-code-of n t e = rw e (ap (λ (k : Code). k .0) (getD-one {A = Code} n t (record { 0 = 0 })))
 

@@ -5,11 +5,9 @@ use mathlib.Core.Path.{_≡_}
 use mathlib.Core.List.{List}
 use lib.ListN.{length}
 use Rattle.model.specs.Limits.{mostDepth}
-use Rattle.model.specs.Netlist as M
 use Rattle.model.specs.Variables.{base}
 use Rattle.model.specs.Numbers.{numbersOf}
 use Rattle.model.specs.declared.Group.{Group}
-use Rattle.refusals.specs.Slices.{contentsAfter}
 use Rattle.refusals.specs.declared.Verdict.{Verdict}
 use Rattle.refusals.specs.declared.Verdict.the-variants.{Passed}
 use Rattle.netlist.specs.declared.Netlist.{Netlist}
@@ -20,15 +18,8 @@ use Rattle.sheet_steps.specs.Records.{recordBeside}
 use Rattle.call_lists.specs.declared.Latch.{Latch}
 use Rattle.call_lists.specs.declared.Gate.{Gate}
 use Rattle.call_lists.specs.Lent.{netLent}
-use Rattle.call_lists.specs.Delivered.{firstRecords}
+use Rattle.call_lists.specs.ListsBeside.{latchesBeside, gatesBeside}
 use Rattle.call_unpacked.specs.Calls.{CallsEncode}
-
--- a latch and a gate of a netlist, as records
-abbrev pub latchOf : M.Netlist → ℕ → Latch
-latchOf c l = record { next = record { 0 = c .next l }; reset = c .reset l }
-
-abbrev pub gateOf : M.Netlist → ℕ → Gate
-gateOf c g = record { left = record { 0 = c .left g }; right = record { 0 = c .right g } }
 
 -- the verdict, the record and both lists, for lent lists `latches` and `gates`
 unfoldable pub readVerdict : List ℕ → List Latch → List Gate → Verdict
@@ -38,12 +29,10 @@ unfoldable pub readRecord : List ℕ → List Latch → List Gate → Netlist
 readRecord file latches gates = recordBeside (readVerdict file latches gates) (netIn file)
 
 unfoldable pub latchesAfter : List ℕ → List Latch → List Gate → List Latch
-latchesAfter file latches gates =
-    contentsAfter (readVerdict file latches gates) (firstRecords (netIn file .latches) (latchOf (netIn file))) latches
+latchesAfter file latches gates = latchesBeside (readVerdict file latches gates) (netIn file) latches
 
 unfoldable pub gatesAfter : List ℕ → List Latch → List Gate → List Gate
-gatesAfter file latches gates =
-    contentsAfter (readVerdict file latches gates) (firstRecords (netIn file .gates) (gateOf (netIn file))) gates
+gatesAfter file latches gates = gatesBeside (readVerdict file latches gates) (netIn file) gates
 
 -- What holds of the record and the lists that `read` leaves where it refuses nothing. RULES A1: "A sheet is accepted if it passes every
 -- test of sheets, and a record with its lists if it passes every test of records"; here both pass. Demands 2 and 3 hold of both: the

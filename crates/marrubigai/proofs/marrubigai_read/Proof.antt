@@ -57,7 +57,7 @@ use Rattle.call_replies.specs.declared.SheetReply.{SheetReply}
 use Rattle.marrubigai.proofs.SheetReplies.{replies}
 use Rattle.call_replies.proofs.SheetReply as R
 use Rattle.call_replies.proofs.SheetReply.Laws as R′
-use Rattle.call_replies.proofs.sheet_numbers as numbers
+use Rattle.marrubigai.proofs.NumbersCall as numbers
 use Rattle.call_replies.proofs.sheet_numbers.Symbol as numbers-def
 use Rattle.call_replies.proofs.sheet_numbers.Symbol.{name as #sheet-numbers}
 use Rattle.call_replies.proofs.sheet_numbers.Met as numbers-thm
@@ -77,34 +77,8 @@ module _ {M : Type 1} (𝓤 : URA M) (H : Heap 𝓤) (A : Atoms 𝓤) (mem : Mem
   abbrev Read : Contract 𝓤
   Read = tripleOf 𝓤 H A read.signature (read.spec 𝓤 H A mem run)
 
-  abbrev Numbers : Contract 𝓤
-  Numbers = tripleOf 𝓤 H A numbers.signature (numbers.spec 𝓤 H A mem run)
-
 module _ {M : Type 1} (𝓤 : URA M) (H : Heap 𝓤) (A : Atoms 𝓤) (W : Given 𝓤 H A) (mem : Memory → SProp 𝓤)
     (run : Routine → Fun 𝓤) where
-  -- ---- `sheet_numbers`, of a sheet whose machine value is u
-  module _ (sheet : SheetAnswer) (u : Val) where
-    abbrev reply : SheetReply
-    reply = sheetNumbers (sheet .verdict) (sheet .net)
-
-    abbrev to-numbers : Numbers 𝓤 H A mem run .Ghost
-    to-numbers = ((tt, tt, tt, (sheet, tt), (u ∷ [], tt)), tt)
-
-    numbers-goes : ent 𝓤 (sem 𝓤 H A (S.the-row .own sheet (u ∷ []))) (Numbers 𝓤 H A mem run .pre to-numbers)
-    numbers-goes =
-        qed W (‵ (S.the-row .own sheet (u ∷ [])) ∷ []) ∵ nothing ! $ move ! (1 ∷ 0 ∷ []) $ fjoin ! $ nothing ! $
-        join ! $ nothing ! $ move ! (1 ∷ 0 ∷ []) $ done !
-
-    numbers-gives : (v : Val) → ent 𝓤 (Numbers 𝓤 H A mem run .post to-numbers v)
-        (H .⇛ (sem 𝓤 H A (R.the-row .own reply (v ∷ []))))
-    numbers-gives v =
-        qed W (raw (Numbers 𝓤 H A mem run .post to-numbers v) ∷ []) ∵ updating ! $
-        use1 W (later (some (λ (r : SheetReply). (‵ ftrue ⊛ ‵ (R.the-row .own r (v ∷ [])))
-        ⊛ some (λ (ws : Lasts numbers.ended tt (sheet, tt)). ‵ (lasts numbers.ended tt (sheet, tt) ws)
-        ⊛ raw (fact 𝓤 (r ≡ reply)))))) (id⊢ 𝓤 _) $ await ! tt $ pick ! (λ r.
-        split ! $ move ! (1 ∷ []) $ pick ! (λ ws. split ! $ move ! (1 ∷ []) $ heard ! (r ≡ reply) (λ e. drop ! $ split ! $
-        drop ! $ rewrite ! 0 (λ (s : SheetReply). ‵ (R.the-row .own s (v ∷ []))) e refl $ at-once ! $ done !)))
-
   module _ (κs : Lfts 3) (qs : Shares 3) (file : RefT (List ℕ)) (x : RefT (List Latch)) (y : RefT (List Gate)) where
     abbrev a : Args export.signature κs
     a = (file, (x, (y, tt)))
@@ -201,7 +175,7 @@ module _ {M : Type 1} (𝓤 : URA M) (H : Heap 𝓤) (A : Atoms 𝓤) (W : Given
         move ! (2 ∷ 0 ∷ []) $ fjoin ! $ frame ! $ done !
 
     module _ (C : Calls 𝓤 H) (Λ : Loops 𝓤 H) (fm : FmC 𝓤 H (W .laws) C) (known-read : Triple 𝓤 (C #read) (Read 𝓤 H A mem run))
-        (known-numbers : Triple 𝓤 (C #sheet-numbers) (Numbers 𝓤 H A mem run)) where
+        (known-numbers : Triple 𝓤 (C #sheet-numbers) (numbers.Numbers 𝓤 H A mem run)) where
       walk : Is (ShrSlice (named 0) (κs .0) u8) file (slice-vals file) → Room La.the-row (length (now x))
           → Room Ga.the-row (length (now y))
           → ent 𝓤 (onEntry 𝓤 H A export.signature κs qs a at)
@@ -240,10 +214,10 @@ module _ {M : Type 1} (𝓤 : URA M) (H : Heap 𝓤) (A : Atoms 𝓤) (W : Given
           -- [the sheet; latches' last; gates' last; the tokens; file; _8; …]
           land ! (from ! (stop !)) (init ! 13 refl (LL.lawful S.the-type S′.the-laws 𝓤 H A W .typed (o .0) (u ∷ []) sheet-is .0))
           $
-          use1 W (raw (Numbers 𝓤 H A mem run .pre (to-numbers (o .0) u))) (numbers-goes (o .0) u) $
-          calls-at ! fm (Numbers 𝓤 H A mem run) known-numbers (to-numbers (o .0) u)
+          use1 W (raw (numbers.Numbers 𝓤 H A mem run .pre (numbers.to 𝓤 H A mem run (o .0) u))) (numbers.goes 𝓤 H A mem run (o .0) u W) $
+          calls-at ! fm (numbers.Numbers 𝓤 H A mem run) known-numbers (numbers.to 𝓤 H A mem run (o .0) u)
           (and-then ! (load ! (from ! (stop !)) (look ! 13 refl)) (no-more !)) (λ v.
-          use1 W (later (‵ (R.the-row .own (sheetNumbers (o .0 .verdict) (o .0 .net)) (v ∷ [])))) (numbers-gives (o .0) u v) $
+          use1 W (later (‵ (R.the-row .own (sheetNumbers (o .0 .verdict) (o .0 .net)) (v ∷ [])))) (numbers.gives 𝓤 H A mem run (o .0) u W v) $
           await ! tt $
           peeks ! R.the-row (Is R.the-row) (shows 𝓤 H A R.the-row) (sheetNumbers (o .0 .verdict) (o .0 .net)) (v ∷ [])
           (λ reply-is.
@@ -257,7 +231,7 @@ module _ {M : Type 1} (𝓤 : URA M) (H : Heap 𝓤) (A : Atoms 𝓤) (W : Given
 module _ {M : Type 1} (𝓤 : URA M) (H : Heap 𝓤) (A : Atoms 𝓤) (W : Given 𝓤 H A) (mem : Memory → SProp 𝓤) (run : Routine → Fun 𝓤)
     (𝓣 : Tables 𝓤 H)
     (known-read : Triple 𝓤 (𝓣 .C #read) (Read 𝓤 H A mem run))
-    (known-numbers : Triple 𝓤 (𝓣 .C #sheet-numbers) (Numbers 𝓤 H A mem run)) where
+    (known-numbers : Triple 𝓤 (𝓣 .C #sheet-numbers) (numbers.Numbers 𝓤 H A mem run)) where
   passes : Walks 𝓤 H A export.ended stayed (WpFn 𝓤 H (𝓣 .C) (𝓣 .Λ) code.function) (export.clauses 𝓤 H A mem run)
   passes =
       walked 𝓤 H A export.ended stayed (export.clauses 𝓤 H A mem run) (WpFn 𝓤 H (𝓣 .C) (𝓣 .Λ) code.function)
@@ -289,5 +263,5 @@ marrubigai-read-spec 𝓤 H 𝓜 𝓖 𝓡 =
     (passes-meets 𝓤 H (𝓖 .A) (givenOf 𝓤 H 𝓜 𝓖) (𝓜 .mem) (𝓡 .run) (tablesOf 𝓤 H 𝓜 (tables 𝓤 H 𝓜 𝓡 code.env))
     (cited 𝓤 H (Read 𝓤 H (𝓖 .A) (𝓜 .mem) (𝓡 .run)) 𝓜 𝓡 code.env #read read-def.routine code.calls-sheet-reader·read
     (read-thm.met 𝓤 H 𝓜 𝓖 𝓡))
-    (cited 𝓤 H (Numbers 𝓤 H (𝓖 .A) (𝓜 .mem) (𝓡 .run)) 𝓜 𝓡 code.env #sheet-numbers numbers-def.routine
+    (cited 𝓤 H (numbers.Numbers 𝓤 H (𝓖 .A) (𝓜 .mem) (𝓡 .run)) 𝓜 𝓡 code.env #sheet-numbers numbers-def.routine
     code.calls-call-replies·sheet-numbers (numbers-thm.met 𝓤 H 𝓜 𝓖 𝓡)))

@@ -53,7 +53,6 @@ use Rattle.sheet_steps.proofs.SheetAnswer as S
 use Rattle.sheet_steps.proofs.SheetAnswer.Laws as S′
 use Rattle.sheet_parse.specs.Progress.{noCodes}
 use Rattle.sheet_tests.specs.Codes.{CodesRead}
-use Rattle.sheet_tests.proofs.no_codes as none
 use Rattle.sheet_tests.proofs.no_codes.Symbol as none-def
 use Rattle.sheet_tests.proofs.no_codes.Symbol.{name as #no-codes}
 use Rattle.sheet_tests.proofs.no_codes.Met as none-thm
@@ -61,7 +60,6 @@ use Rattle.call_lists.specs.declared.Latch.{Latch}
 use Rattle.call_lists.specs.declared.Gate.{Gate}
 use Rattle.call_lists.specs.RecordAt.{latchAt, gateAt}
 use Rattle.call_lists.specs.Delivered.{delivered}
-use Rattle.call_lists.proofs.Delivered.{length-delivered}
 use Rattle.call_lists.proofs.DeliverContract as promise
 use Rattle.call_lists.proofs.Latch as La
 use Rattle.call_lists.proofs.Gate as Ga
@@ -73,8 +71,10 @@ use Rattle.call_lists.proofs.deliver.deliver_gates.Symbol.{name as #deliver-gat
 use Rattle.call_lists.proofs.deliver.deliver_gates.Met as gates-thm
 use Rattle.sheet_reader.specs.ReadCall.{readVerdict, readRecord, latchesAfter, gatesAfter, SheetDelivered}
 use Rattle.sheet_reader.proofs.Facts.{spread}
-use Rattle.sheet_reader.proofs.ReadCall.{deliverable, reads}
+use Rattle.sheet_reader.proofs.Delivery.{deliverable, latches-length, gates-length}
+use Rattle.sheet_reader.proofs.ReadCall.{sheet-fits, reads}
 use Rattle.sheet_reader.proofs.LocalCodes.{Codes, codesTy, typed-codes, stored, freed}
+use Rattle.sheet_reader.proofs.NoneCall as none
 use Rattle.sheet_reader.proofs.DeliverCall as call
 use Rattle.sheet_tests.proofs.read_codes as codes
 use Rattle.sheet_tests.proofs.read_codes.Symbol as codes-def
@@ -98,9 +98,6 @@ sheetTy = spell pieces.table (pointee (S.the-row .written))
 
 -- ---- the contracts of the functions that are called
 module _ {M : Type 1} (𝓤 : URA M) (H : Heap 𝓤) (A : Atoms 𝓤) (mem : Memory → SProp 𝓤) (run : Routine → Fun 𝓤) where
-  abbrev None : Contract 𝓤
-  None = tripleOf 𝓤 H A none.signature (none.spec 𝓤 H A mem run)
-
   abbrev ReadCodes : Contract 𝓤
   ReadCodes = tripleOf 𝓤 H A codes.signature (codes.spec 𝓤 H A mem run)
 
@@ -112,22 +109,6 @@ module _ {M : Type 1} (𝓤 : URA M) (H : Heap 𝓤) (A : Atoms 𝓤) (mem : Mem
 
 module _ {M : Type 1} (𝓤 : URA M) (H : Heap 𝓤) (A : Atoms 𝓤) (W : Given 𝓤 H A) (mem : Memory → SProp 𝓤)
     (run : Routine → Fun 𝓤) where
-  -- ---- `no_codes`: it asks nothing
-  abbrev to-none : None 𝓤 H A mem run .Ghost
-  to-none = ((tt, tt, tt, tt, tt), tt)
-
-  none-goes : ent 𝓤 (emp 𝓤) (None 𝓤 H A mem run .pre to-none)
-  none-goes = qed W [] ∵ nothing ! $ nothing ! $ join ! $ nothing ! $ move ! (1 ∷ 0 ∷ []) $ done !
-
-  none-gives : (v : Val) → ent 𝓤 (None 𝓤 H A mem run .post to-none v) (H .⇛ (sem 𝓤 H A (Codes .own noCodes (v ∷ []))))
-  none-gives v =
-      qed W (raw (None 𝓤 H A mem run .post to-none v) ∷ []) ∵ updating ! $
-      use1 W (later (some (λ (xs : List ℕ). (‵ ftrue ⊛ ‵ (Codes .own xs (v ∷ [])))
-      ⊛ some (λ (ws : Lasts none.ended tt tt). ‵ (lasts none.ended tt tt ws) ⊛ raw (fact 𝓤 (xs ≡ noCodes)))))) (id⊢ 𝓤 _) $
-      await ! tt $ pick ! (λ xs.
-      split ! $ move ! (1 ∷ []) $ pick ! (λ ws. split ! $ move ! (1 ∷ []) $ heard ! (xs ≡ noCodes) (λ e. drop ! $ split ! $
-      drop ! $ rewrite ! 0 (λ (ys : List ℕ). ‵ (Codes .own ys (v ∷ []))) e refl $ at-once ! $ done !)))
-
   module _ (κs : Lfts 3) (qs : Shares 3) (file : RefT (List ℕ)) (x : RefT (List Latch)) (y : RefT (List Gate)) where
     abbrev κ : Lft
     κ = κs .0
@@ -241,10 +222,9 @@ module _ {M : Type 1} (𝓤 : URA M) (H : Heap 𝓤) (A : Atoms 𝓤) (W : Given
         ∷ ‵ (flft (κs .1 .1 .0) (qs .1 .1 .0)) ∷ ‵ File ∷ ‵ (finally La.the-row (x .name) (newLatches sheet xs))
         ∷ ‵ (finally Ga.the-row (y .name) (newGates sheet ys)) ∷ [])) (Post (S′.lowered sheet))
     exits sheet xs ys e =
-        let ok = deliverable (now file) (now x) (now y) sheet xs ys e in
-        let latches-long : length (newLatches sheet xs) ≡ m =
-        length-delivered (latchAt xs) (now x) (sheet .net .latches) (ok .0 .1) in
-        let gates-long : length (newGates sheet ys) ≡ n = length-delivered (gateAt ys) (now y) (sheet .net .gates) (ok .1 .1) in
+        let fits = sheet-fits (now file) (now x) (now y) in
+        let latches-long : length (newLatches sheet xs) ≡ m = latches-length (now x) (now y) fits sheet xs ys e in
+        let gates-long : length (newGates sheet ys) ≡ n = gates-length (now x) (now y) fits sheet xs ys e in
         qed W (‵ (S.the-row .own sheet (S′.lowered sheet ∷ [])) ∷ ‵ (flft κ q) ∷ ‵ (flft (κs .1 .0) (qs .1 .0))
         ∷ ‵ (flft (κs .1 .1 .0) (qs .1 .1 .0)) ∷ ‵ File ∷ ‵ (finally La.the-row (x .name) (newLatches sheet xs))
         ∷ ‵ (finally Ga.the-row (y .name) (newGates sheet ys)) ∷ []) ∵
@@ -261,7 +241,7 @@ module _ {M : Type 1} (𝓤 : URA M) (H : Heap 𝓤) (A : Atoms 𝓤) (W : Given
         nothing ! $ move ! (4 ∷ 0 ∷ []) $ fjoin ! $ move ! (3 ∷ 0 ∷ []) $ fjoin ! $ move ! (2 ∷ 0 ∷ []) $ fjoin ! $ frame ! $
         done !
 
-    module _ (C : Calls 𝓤 H) (Λ : Loops 𝓤 H) (fm : FmC 𝓤 H (W .laws) C) (known-none : Triple 𝓤 (C #no-codes) (None 𝓤 H A mem run))
+    module _ (C : Calls 𝓤 H) (Λ : Loops 𝓤 H) (fm : FmC 𝓤 H (W .laws) C) (known-none : Triple 𝓤 (C #no-codes) (none.None 𝓤 H A mem run))
         (known-codes : Triple 𝓤 (C #read-codes) (ReadCodes 𝓤 H A mem run))
         (known-latches : Triple 𝓤 (C #deliver-latches) (DeliverLatches 𝓤 H A mem run))
         (known-gates : Triple 𝓤 (C #deliver-gates) (DeliverGates 𝓤 H A mem run)) where
@@ -289,17 +269,17 @@ module _ {M : Type 1} (𝓤 : URA M) (H : Heap 𝓤) (A : Atoms 𝓤) (W : Given
           move ! (3 ∷ []) $ split ! $ move ! (1 ∷ []) $ split ! $ move ! (1 ∷ []) $ split ! $ move ! (1 ∷ []) $ drop ! $
           move ! (2 ∷ 1 ∷ 0 ∷ 5 ∷ 4 ∷ 3 ∷ []) $
           -- [the file's token; the latches'; the gates'; file; latches; gates; _4; _5; _18; …]
-          use0 W (raw (None 𝓤 H A mem run .pre to-none)) none-goes $
-          calls-at ! fm (None 𝓤 H A mem run) known-none to-none (no-more !)
-          (λ u₄. use1 W (later (‵ (Codes .own noCodes (u₄ ∷ [])))) (none-gives u₄) $ await ! tt $
+          use0 W (raw (none.None 𝓤 H A mem run .pre (none.to 𝓤 H A mem run))) (none.goes 𝓤 H A mem run W) $
+          calls-at ! fm (none.None 𝓤 H A mem run) known-none (none.to 𝓤 H A mem run) (no-more !)
+          (λ u₄. use1 W (later (‵ (Codes .own noCodes (u₄ ∷ [])))) (none.gives 𝓤 H A mem run W u₄) $ await ! tt $
           peeks ! Codes (Is Codes) (shows 𝓤 H A Codes) noCodes (u₄ ∷ []) (λ is₄.
           land ! (from ! (stop !)) (init ! 31 refl (typed-codes 𝓤 H A W noCodes l₄ u₄ is₄ .0)) $
           assigns ! (of-opd ! (load ! (from ! (stop !)) (look ! 31 refl))) (from ! (stop !))
           (init ! 7 refl (typed-codes 𝓤 H A W noCodes l₄ u₄ is₄ .0)) $ forget ! 31 refl $
           move ! (7 ∷ 0 ∷ []) $ use2 W (‵ (partAt Codes fullShare noCodes l₄ 0)) (stored 𝓤 H A W noCodes l₄ u₄) $
-          use0 W (raw (None 𝓤 H A mem run .pre to-none)) none-goes $
-          calls-at ! fm (None 𝓤 H A mem run) known-none to-none (no-more !)
-          (λ u₅. use1 W (later (‵ (Codes .own noCodes (u₅ ∷ [])))) (none-gives u₅) $ await ! tt $
+          use0 W (raw (none.None 𝓤 H A mem run .pre (none.to 𝓤 H A mem run))) (none.goes 𝓤 H A mem run W) $
+          calls-at ! fm (none.None 𝓤 H A mem run) known-none (none.to 𝓤 H A mem run) (no-more !)
+          (λ u₅. use1 W (later (‵ (Codes .own noCodes (u₅ ∷ [])))) (none.gives 𝓤 H A mem run W u₅) $ await ! tt $
           peeks ! Codes (Is Codes) (shows 𝓤 H A Codes) noCodes (u₅ ∷ []) (λ is₅.
           land ! (from ! (stop !)) (init ! 31 refl (typed-codes 𝓤 H A W noCodes l₅ u₅ is₅ .0)) $
           assigns ! (of-opd ! (load ! (from ! (stop !)) (look ! 31 refl))) (from ! (stop !))
@@ -340,7 +320,7 @@ module _ {M : Type 1} (𝓤 : URA M) (H : Heap 𝓤) (A : Atoms 𝓤) (W : Given
           peeks ! S.the-row (Is S.the-row) (shows 𝓤 H A S.the-row) (o .0) (u ∷ []) (λ sheet-is.
           let typed = LL.lawful S.the-type S′.the-laws 𝓤 H A W .typed (o .0) (u ∷ []) sheet-is .0 in
           let low : u ≡ S′.lowered (o .0) = ap only (S′.lowers .val-is (o .0) (u ∷ []) sheet-is) in
-          let ok = deliverable (now file) (now x) (now y) (o .0) (o .1 .0) (o .1 .1) e in
+          let ok = deliverable (now x) (now y) (sheet-fits (now file) (now x) (now y)) (o .0) (o .1 .0) (o .1 .1) e in
           -- [the sheet; latches' last; gates' last; β's token; α's; the file's; β's loan; α's loan; file; the latches' token; the
           -- gates'; latches; gates; _18; …]
           land ! (from ! (stop !)) (init ! 37 refl typed) $
@@ -435,7 +415,7 @@ module _ {M : Type 1} (𝓤 : URA M) (H : Heap 𝓤) (A : Atoms 𝓤) (W : Given
 
 module _ {M : Type 1} (𝓤 : URA M) (H : Heap 𝓤) (A : Atoms 𝓤) (W : Given 𝓤 H A) (mem : Memory → SProp 𝓤) (run : Routine → Fun 𝓤)
     (𝓣 : Tables 𝓤 H)
-    (known-none : Triple 𝓤 (𝓣 .C #no-codes) (None 𝓤 H A mem run))
+    (known-none : Triple 𝓤 (𝓣 .C #no-codes) (none.None 𝓤 H A mem run))
     (known-codes : Triple 𝓤 (𝓣 .C #read-codes) (ReadCodes 𝓤 H A mem run))
     (known-latches : Triple 𝓤 (𝓣 .C #deliver-latches) (DeliverLatches 𝓤 H A mem run))
     (known-gates : Triple 𝓤 (𝓣 .C #deliver-gates) (DeliverGates 𝓤 H A mem run)) where
@@ -469,7 +449,7 @@ read-spec 𝓤 H 𝓜 𝓖 𝓡 =
     entered 𝓤 H (tripleOf 𝓤 H (𝓖 .A) read.signature (read.spec 𝓤 H (𝓖 .A) (𝓜 .mem) (𝓡 .run)))
     (tables 𝓤 H 𝓜 𝓡 code.env .C) (tables 𝓤 H 𝓜 𝓡 code.env .Λ) #read code.function (code.unfolded 𝓤 H 𝓜 𝓡)
     (reads-meets 𝓤 H (𝓖 .A) (givenOf 𝓤 H 𝓜 𝓖) (𝓜 .mem) (𝓡 .run) (tablesOf 𝓤 H 𝓜 (tables 𝓤 H 𝓜 𝓡 code.env))
-    (cited 𝓤 H (None 𝓤 H (𝓖 .A) (𝓜 .mem) (𝓡 .run)) 𝓜 𝓡 code.env #no-codes none-def.routine code.calls-sheet-tests·no-codes
+    (cited 𝓤 H (none.None 𝓤 H (𝓖 .A) (𝓜 .mem) (𝓡 .run)) 𝓜 𝓡 code.env #no-codes none-def.routine code.calls-sheet-tests·no-codes
     (none-thm.met 𝓤 H 𝓜 𝓖 𝓡))
     (cited 𝓤 H (ReadCodes 𝓤 H (𝓖 .A) (𝓜 .mem) (𝓡 .run)) 𝓜 𝓡 code.env #read-codes codes-def.routine
     code.calls-sheet-tests·read-codes (codes-thm.met 𝓤 H 𝓜 𝓖 𝓡))

@@ -1,0 +1,4 @@
+pub mod Sized
+pub mod Table
+pub mod Net
+pub mod Tested

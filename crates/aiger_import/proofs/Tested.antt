@@ -1,0 +1,119 @@
+-- What is known of a text behind each of its tests, and the verdict on it by which test refuses (ImportVerdict in aiger_netlist). Cited by
+-- `import_codes`.
+use Prim.Native.Nat.{ℕ}
+use mathlib.Core.Path.{_≡_, refl, sym, _∙_, ap, subst}
+use mathlib.Core.Bool.{Bool, true, false, _||_}
+use mathlib.Core.List.{List, []}
+use lib.Dec.{ltb}
+use Rattle.model.specs.Netlist as M
+use Rattle.model.specs.Acceptance.{SizesFit, WithinLimits}
+use Rattle.model.proofs.Agree.{sizesFit-same}
+use Rattle.refusals.specs.Tests.{_then_}
+use Rattle.refusals.specs.declared.Refusal.{Refusal}
+use Rattle.refusals.specs.declared.Refusal.the-variants.{Size, NoRoom}
+use Rattle.refusals.specs.declared.Verdict.{Verdict}
+use Rattle.refusals.specs.declared.Verdict.the-variants.{Passed, Refused}
+use Rattle.netlist.specs.NetOf.{netOf, alone}
+use Rattle.netlist.specs.RecordOf.{recordOf}
+use Rattle.netlist.specs.Places.{lineAt}
+use Rattle.netlist.specs.Faults.{sizeFault}
+use Rattle.netlist.specs.declared.Line.{Line}
+use Rattle.netlist.specs.declared.Line.the-variants.{Sizes, Memory, Latch, Gate, Address, WriteData, Control}
+use Rattle.netlist.specs.declared.Netlist.{Netlist}
+use Rattle.netlist.proofs.NetOf.{limits-without-latches}
+use Rattle.netlist.proofs.Faults.{sizes-fit}
+use Rattle.netlist_tests.specs.Record.{testLines, testLoops, listsShort}
+use Rattle.netlist_tests.proofs.Record.{testLines-same, testLines-passes}
+use Rattle.netlist_tests.proofs.Lists.{test-loops-latches}
+use Rattle.sheet_steps.specs.Lists.{Holds}
+use Rattle.sheet_tests.proofs.Codes.{sizes-held}
+use Rattle.aiger_lines.specs.Parts.{countsIn}
+use Rattle.aiger_lines.specs.declared.Counts.{Counts}
+use Rattle.aiger_netlist.specs.TextNetlist.{textSizes, netOfCodes, aagNet}
+use Rattle.aiger_netlist.specs.ImportVerdict.{textVerdict, importVerdict}
+use Rattle.aiger_netlist.proofs.Codes.{text-codes-fit}
+use Rattle.aiger_netlist.proofs.Verdict.{well-defined, fits-interface}
+use Rattle.aiger_import.specs.Tables.{Ready}
+
+module _ (s : List ℕ) (m n word : ℕ) where
+  -- sizes are tested alike, whatever the codes
+  sizes-alone : testLines (alone (recordOf (textSizes (countsIn s) m n word))) Size sizeFault ≡ testLines (aagNet s m n word) Size sizeFault
+  unfolding netOf recordOf netOfCodes lineAt sizeFault
+  sizes-alone = testLines-same (alone (recordOf (textSizes (countsIn s) m n word))) (aagNet s m n word) Size sizeFault same (λ p. refl) refl
+    where
+      same : (x : Line) → sizeFault (alone (recordOf (textSizes (countsIn s) m n word))) x ≡ sizeFault (aagNet s m n word) x
+      same Sizes = refl
+      same Memory = refl
+      same (Latch l) = refl
+      same (Gate g) = refl
+      same (Address t) = refl
+      same (WriteData t) = refl
+      same Control = refl
+
+  module _ (h : Counts) (counts-are : h ≡ countsIn s) (r : Netlist) (sizes-are : r ≡ recordOf (textSizes h m n word)) where
+    of-text : r ≡ recordOf (textSizes (countsIn s) m n word)
+    of-text = sizes-are ∙ ap (λ (k : Counts). recordOf (textSizes k m n word)) counts-are
+
+    pub sizes-tested : {v : Verdict} → v ≡ testLines (alone r) Size sizeFault → testLines (aagNet s m n word) Size sizeFault ≡ v
+    sizes-tested e = sym sizes-alone ∙ ap (λ (x : Netlist). testLines (alone x) Size sizeFault) (sym of-text) ∙ sym e
+
+    module _ (passed : textVerdict s m n ≡ Passed) (sized : testLines (aagNet s m n word) Size sizeFault ≡ Passed) where
+      fit : SizesFit (aagNet s m n word)
+      fit = sizes-fit (aagNet s m n word) .0 (testLines-passes (aagNet s m n word) Size sizeFault .0 sized)
+
+      pub ready : Ready s r
+      unfolding recordOf netOfCodes
+      ready =
+          rw of-text (record {
+            text-passes = passed;
+            sizes-are = refl;
+            sizes-fit = sizesFit-same (aagNet s m n word) (textSizes (countsIn s) m n word) refl fit;
+          })
+
+      module _ (net : Netlist) (latches gates : List ℕ) (filled : Holds net latches gates (aagNet s (r .m) (r .n) (r .«initial_word»))) where
+        pub held : Holds net latches gates (aagNet s m n word)
+        unfolding recordOf
+        held = subst (λ (x : Netlist). Holds net latches gates (aagNet s (x .m) (x .n) (x .«initial_word»))) of-text filled
+
+        pub limits : WithinLimits (netOf net [] gates)
+        limits =
+            limits-without-latches net latches gates
+            (rw (held .net-is) (record {
+              sizes = fit;
+              codes = text-codes-fit s (well-defined s m n passed) m n word (fits-interface s m n passed);
+            }))
+
+        pub loops-tested : {v : Verdict} → v ≡ testLoops (netOf net [] gates) → testLoops (aagNet s m n word) ≡ v
+        loops-tested e = sym (e ∙ test-loops-latches net latches gates ∙ ap testLoops (held .net-is))
+
+        pub short-held : (latchRoom gateRoom : ℕ)
+            → (ltb latchRoom (net .latches) || ltb gateRoom (net .gates)) ≡ listsShort (aagNet s m n word) latchRoom gateRoom
+        short-held latchRoom gateRoom = let same = sizes-held net latches gates held in rw (same .0, same .1)
+
+  -- the verdict, by the first test that refuses
+  module _ (latchRoom gateRoom : ℕ) where
+    module _ {r : Refusal} {p : ℕ} where
+      pub text-refused : textVerdict s m n ≡ Refused r p → importVerdict s m n word latchRoom gateRoom ≡ Refused r p
+      unfolding importVerdict _then_
+      text-refused e = rw e
+
+      pub sizes-refused : textVerdict s m n ≡ Passed → testLines (aagNet s m n word) Size sizeFault ≡ Refused r p
+          → importVerdict s m n word latchRoom gateRoom ≡ Refused r p
+      unfolding importVerdict _then_
+      sizes-refused e f = rw (e, f)
+
+      pub loops-refused : textVerdict s m n ≡ Passed → testLines (aagNet s m n word) Size sizeFault ≡ Passed
+          → testLoops (aagNet s m n word) ≡ Refused r p → importVerdict s m n word latchRoom gateRoom ≡ Refused r p
+      unfolding importVerdict _then_
+      loops-refused e f g = rw (e, f, g)
+
+    module _ (e : textVerdict s m n ≡ Passed) (f : testLines (aagNet s m n word) Size sizeFault ≡ Passed)
+        (g : testLoops (aagNet s m n word) ≡ Passed) where
+      pub room-refused : listsShort (aagNet s m n word) latchRoom gateRoom ≡ true
+          → importVerdict s m n word latchRoom gateRoom ≡ Refused NoRoom 0
+      unfolding importVerdict _then_
+      room-refused k = rw (e, f, g, k)
+
+      pub all-passed : listsShort (aagNet s m n word) latchRoom gateRoom ≡ false → importVerdict s m n word latchRoom gateRoom ≡ Passed
+      unfolding importVerdict _then_
+      all-passed k = rw (e, f, g, k)
