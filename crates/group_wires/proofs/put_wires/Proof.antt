@@ -10,7 +10,7 @@ put-state-requires : tie.Need-put-state-requires
 put-state-requires c κs =
     let a = c .before .args in
     let is = c .before .pre .0 in
-    (record { limits = limits-without-gates (a .net) (a .latches .now) (a .gates .now) (is .limits); depth = is .depth }, search needs)
+    (record { limits = limits-without-gates (a .net) (a .latches .now) (a .gates .now) (is .limits); depth = search needs }, search needs)
 
 mul-put-gates : tie.Need-mul-put-gates
 mul-put-gates c = search needs
@@ -28,7 +28,7 @@ put-gates-requires : tie.Need-put-gates-requires
 put-gates-requires c κs =
     let a = c .before .before .before .before .args in
     let is = c .before .before .before .before .pre .0 in
-    (record { limits = limits-without-latches (a .net) (a .latches .now) (a .gates .now) (is .limits); depth = is .depth }, search needs)
+    (record { limits = limits-without-latches (a .net) (a .latches .now) (a .gates .now) (is .limits); depth = search needs }, search needs)
 
 add-result : tie.Need-add-result
 add-result c = search needs
