@@ -16,22 +16,10 @@ use Rattle.decimal.specs.declared.Number.{Number}
 use Rattle.decimal.specs.declared.Number.the-variants.{Value, NotANumber}
 use Rattle.decimal.proofs.TextValue.{isDigit, allDigits, allDigits-digits, sameText-refl, sameText-true, numberIn-digits, digits-numberIn}
 use Rattle.text_words.specs.Words.{linesOf, wordsOf, ended, Without}
-use Rattle.text_words.proofs.Words.{parts-first, parts-none, words-first, words-last, words-joined}
+use Rattle.text_words.proofs.Words.{parts-first, parts-none, words-first, words-last, words-joined, snoc-same, digits-without}
 use Rattle.aiger_lines.specs.Numbers.{isNumber, valueOf, allNumbers, values, numbersOf, wordsAt}
 use Rattle.aiger_lines.specs.Parts.{aag, headerNumbers, lineNumbers}
 use Rattle.aiger_lines.specs.Written.{numbersText, lineText, ReadAsWritten}
-
--- digits have no space among them
-without-space : (s : List ℕ) → allDigits s ≡ true → Without space s
-unfolding allDigits isDigit
-without-space [] d i l h = omega arith
-without-space (c ∷ s) d zero l h =
-    let first = and-true (isDigit c) (allDigits s) .0 d .0 in
-    omega (arith, leb-true 48 c (and-true (leb 48 c) (leb c 57) .0 first .0))
-without-space (c ∷ s) d (suc i) l h = without-space s (and-true (isDigit c) (allDigits s) .0 d .1) i (omega arith) h
-
-digits-without : (x : ℕ) → Without space (digits x)
-digits-without x = without-space (digits x) (allDigits-digits x)
 
 -- the words of a text of numbers are their digits
 words-text : (x : ℕ) (xs : List ℕ) → wordsOf (numbersText (x ∷ xs)) ≡ map digits (x ∷ xs)
@@ -76,11 +64,6 @@ all-of-some ws = by-test (allNumbers ws)
     by-test : (b : Bool) → 0 < length (cond b (values ws) []) → (b ≡ true) × (cond b (values ws) [] ≡ values ws)
     by-test true l = (refl, refl)
     by-test false l = absurd (omega arith)
-
-snoc-same : (a b : List ℕ) (c : ℕ) → a ++ c ∷ [] ≡ b ++ c ∷ [] → a ≡ b
-snoc-same a b c h =
-    let l : length a ≡ length b = omega (arith, length-append a (c ∷ []), length-append b (c ∷ []), ap length h) in
-    sym (take-at a (c ∷ []) (length a) refl) ∙ ap (take (length a)) h ∙ take-at b (c ∷ []) (length a) (sym l)
 
 -- words that are numbers, joined, are the text of the numbers
 joined-numbers : (ws : List (List ℕ)) → 0 < length (numbersOf ws) → ended space ws ≡ numbersText (numbersOf ws) ++ space ∷ []

@@ -2,3 +2,4 @@
 pub mod Texts
 pub mod Values
 pub mod Lines
+pub mod Written

@@ -1,3 +1,4 @@
 -- A solver's answer, in reading order. Nothing here imports a law or a proof.
 pub mod Answer
+pub mod Written
 pub mod Progress

@@ -7,6 +7,7 @@ ghost use mathlib.Core.Path.{_≡_};
 ghost use mathlib.Core.Bool.{true};
 ghost use mathlib.Core.List.{[], _∷_};
 ghost use Rattle.answer_lines.specs.Answer.{isMarked};
+ghost use Rattle.answer_lines.specs.Written.{AnswerAsWritten};
 ghost use Rattle.answer_lines.specs.Progress.{OneNumber};
 ghost use Rattle.answer_scan.specs.Scan.{lineBegun, isValues, Holds, Passed, Taken, NumberEnded, Addable, Starts, Reads, Ends};
 
@@ -141,7 +142,8 @@ pub fn scan_bytes(scan: Scan, signs: &mut SignTable, piece: &[u8]) -> Scan
 // What the answer says, behind its last piece.
 pub fn scan_end(scan: Scan) -> AnswerKind
     requires { ⌜ Holds (scan .position) (scan .line) ⌝ }
-    ensures { λ r. ⌜ Ends scan r ⌝ }
+    ensures answer { λ r. ⌜ Ends scan r ⌝ }
+    ensures written { λ _. ⌜ AnswerAsWritten ⌝ }
 {
     let position = scan.position;
     if 0 < position.count {

@@ -1,13 +1,17 @@
 -- Laws of specs/Words.antt: parts of a text in pieces, parts found from the left, parts joined. No contract cites this file.
-use Prim.Native.Nat.{ℕ, suc}
+use Prim.Native.Nat.{ℕ, zero, suc}
 use mathlib.Core.Path.{_≡_, refl, sym, _∙_, ap, ap₂}
 use mathlib.Core.Bool.{Bool, true, false, cond}
 use mathlib.Core.List.{List, [], _∷_, _++_, append-assoc, append-nil}
 use native.Mathlib.Omega.{arith}
-use lib.Dec.{eqb}
-use borrow.Author.Tests.{eq-eqb, eqb-true, ne-eqb}
-use Rattle.decimal.specs.Digits.{space}
-use Rattle.text_words.specs.Words.{partsAfter, restAfter, wordsOf, ended, Without}
+use lib.Dec.{eqb, leb}
+use lib.ListN.{length, take, length-append}
+use lib.Seq.{take-at}
+use borrow.Author.Tests.{eq-eqb, eqb-true, ne-eqb, leb-true}
+use Rattle.model.proofs.Booleans.{and-true}
+use Rattle.decimal.specs.Digits.{digits, space}
+use Rattle.decimal.proofs.TextValue.{isDigit, allDigits, allDigits-digits}
+use Rattle.text_words.specs.Words.{partsAfter, restAfter, wordsOf, spaced, ended, Without}
 
 module _ (e : ℕ) where
   -- A text in two pieces: the parts that end in the first, then those that end in the second.
@@ -111,3 +115,42 @@ words-joined s =
     ended-append space (partsAfter space [] s) (restAfter space [] s ∷ [])
     ∙ sym (append-assoc (ended space (partsAfter space [] s)) (restAfter space [] s) (space ∷ []))
     ∙ ap (λ (x : List ℕ). x ++ space ∷ []) (ended-parts space [] s)
+
+-- texts are the same where they are with one byte more
+pub snoc-same : (a b : List ℕ) (c : ℕ) → a ++ c ∷ [] ≡ b ++ c ∷ [] → a ≡ b
+snoc-same a b c h =
+    let l : length a ≡ length b = omega (arith, length-append a (c ∷ []), length-append b (c ∷ []), ap length h) in
+    sym (take-at a (c ∷ []) (length a) refl) ∙ ap (take (length a)) h ∙ take-at b (c ∷ []) (length a) (sym l)
+
+-- a line is its words with single spaces between, and words without a space are those of their line
+ended-spaced : (w : List ℕ) (ws : List (List ℕ)) → ended space (w ∷ ws) ≡ spaced (w ∷ ws) ++ space ∷ []
+unfolding ended spaced
+ended-spaced w [] = refl
+ended-spaced w (x ∷ ws) =
+    ap (λ (t : List ℕ). w ++ space ∷ t) (ended-spaced x ws) ∙ sym (append-assoc w (space ∷ spaced (x ∷ ws)) (space ∷ []))
+
+pub spaced-words : (s : List ℕ) → spaced (wordsOf s) ≡ s
+unfolding wordsOf
+spaced-words s =
+    snoc-same (spaced (wordsOf s)) s space (sym (any-words (partsAfter space [] s) (restAfter space [] s)) ∙ words-joined s)
+  where
+    any-words : (ws : List (List ℕ)) (w : List ℕ) → ended space (ws ++ w ∷ []) ≡ spaced (ws ++ w ∷ []) ++ space ∷ []
+    any-words [] w = ended-spaced w []
+    any-words (x ∷ ws) w = ended-spaced x (ws ++ w ∷ [])
+
+pub words-spaced : (w : List ℕ) (ws : List (List ℕ)) → EachWithout space (w ∷ ws) → wordsOf (spaced (w ∷ ws)) ≡ w ∷ ws
+unfolding spaced
+words-spaced w [] (also n nothing) = words-last w n
+words-spaced w (x ∷ ws) (also n m) = words-first w (spaced (x ∷ ws)) n ∙ ap (λ (xs : List (List ℕ)). w ∷ xs) (words-spaced x ws m)
+
+-- digits have no space among them
+without-space : (s : List ℕ) → allDigits s ≡ true → Without space s
+unfolding allDigits isDigit
+without-space [] d i l h = omega arith
+without-space (c ∷ s) d zero l h =
+    let first = and-true (isDigit c) (allDigits s) .0 d .0 in
+    omega (arith, leb-true 48 c (and-true (leb 48 c) (leb c 57) .0 first .0))
+without-space (c ∷ s) d (suc i) l h = without-space s (and-true (isDigit c) (allDigits s) .0 d .1) i (omega arith) h
+
+pub digits-without : (x : ℕ) → Without space (digits x)
+digits-without x = without-space (digits x) (allDigits-digits x)

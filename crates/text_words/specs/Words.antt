@@ -27,6 +27,12 @@ linesOf s = partsAfter lineFeed [] s
 unfoldable pub wordsOf : List ℕ → List (List ℕ)
 wordsOf s = partsAfter space [] s ++ restAfter space [] s ∷ []
 
+-- words as a line: with single spaces between them
+unfoldable pub spaced : List (List ℕ) → List ℕ
+spaced [] = []
+spaced (w ∷ []) = w
+spaced (w ∷ x ∷ ws) = w ++ space ∷ spaced (x ∷ ws)
+
 -- parts joined, each with the byte e behind it
 unfoldable pub ended : ℕ → List (List ℕ) → List ℕ
 ended e [] = []
