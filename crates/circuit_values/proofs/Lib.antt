@@ -1,1 +1,2 @@
 pub mod WireTable
+pub mod Bits

@@ -6,7 +6,7 @@ use mathlib.Core.List.{List}
 use mathlib.Core.Logic.{by-cases}
 use native.Mathlib.Decide.{decLt}
 use native.Mathlib.Omega.{arith}
-use lib.ListN.{getD, set, length-set}
+use lib.ListN.{length, getD, set, length-set}
 use lib.Seq.{getD-set-same, getD-set-other}
 use Rattle.model.specs.Netlist.{Netlist, gateWire}
 use Rattle.model.specs.Circuit.{Values, codeValue}
@@ -25,7 +25,12 @@ below-next {b} {v} {table} q l x e = record { size = length-set table b x ∙ q 
         (λ m. getD-set-other table b w x false (λ k. omega arith) ∙ q .has w m)
         (λ m. let here : w ≡ b = omega arith in rw here (getD-set-same table b x false (omega (arith, q .size)) ∙ e))
 
--- a table has fewer wires too, and the same of equal values
+-- wire 0 alone
+pub below-start : {v : Values} (table : List Bool) → length table ≡ 601 → v 0 ≡ false → HasBelow 1 v (set table 0 false)
+below-start {v} table size e =
+    below-next {b = 0} {v = v} {table = table} (record { size = size; has = λ w h. absurd (omega arith) }) (omega arith) false (sym e)
+
+-- a table has fewer wires too
 pub below-fewer : {b d : ℕ} {v : Values} {table : List Bool} → d ≤ b → HasBelow b v table → HasBelow d v table
 below-fewer l q = record { size = q .size; has = λ w h. q .has w (omega arith) }
 

@@ -7,7 +7,8 @@ use netlist::UnpackedList;
 ghost use mathlib.Core.Path.{_≡_};
 ghost use Prim.Native.Nat.{ℕ, _+_, _/_, _^_, _≤_, _<_};
 ghost use mathlib.Core.List.{[]};
-ghost use mathlib.Core.Bool.{false};
+ghost use mathlib.Core.Bool.{false, cond};
+ghost use lib.ListN.{length};
 ghost use Rattle.model.specs.Bits.{bit};
 ghost use Rattle.model.specs.Netlist.{port, gateWire, lastWire};
 ghost use Rattle.model.specs.Circuit.{Values, codeValue, addressOf, wordWritten, evaluate};
@@ -76,4 +77,67 @@ fn put_gates(values: &mut WireValues, net: Netlist, gates: &UnpackedList)
         values[own] = left & right;
         g += 1;
     }
+}
+
+// All wires in wire order, from inputs, latches and the word whose bits are the read bits.
+pub fn evaluate(
+    values: &mut WireValues,
+    net: Netlist,
+    gates: &UnpackedList,
+    inputs: &SourceValues,
+    latches: &SourceValues,
+    word: u32,
+)
+    requires { ⌜ WithinLimits (netOf net [] (now gates)) × (length (now values) ≡ 601) ⌝ }
+    ensures { λ _. ⌜ HasBelow (lastWire (alone net) + 1)
+        (evaluate (netOf net [] (now (gates .entry))) (entry (now (inputs .entry))) (entry (now (latches .entry))) (bit word)) (now (values .exit)) ⌝ }
+{
+    values[0] = false;
+    let latch = netlist::first_latch_wire(net).index();
+    let read = netlist::first_read_wire(net).index();
+    put_sources(values, 1, inputs, net.inputs as usize);
+    put_sources(values, latch, latches, net.latches as usize);
+    put_bits(values, read, word, net.n);
+    put_gates(values, net, gates);
+}
+
+// A number of t bits, with bit t put before them.
+fn with_bit(number: u32, t: u32, value: bool) -> u32
+    requires { ⌜ (t < 32) × (number < 2 ^ t) ⌝ }
+    ensures { λ r. ⌜ r ≡ number + cond value (2 ^ t) 0 ⌝ }
+{
+    if value {
+        return number + (1 << t);
+    }
+    number
+}
+
+// The address, by a table of the wires.
+pub fn address_of(values: &WireValues, net: Netlist) -> u32
+    requires { ⌜ WithinLimits (alone net) ⌝ }
+    ensures { λ r. ⌜ r ≡ addressOf (alone net) (port (alone net)) (entry (now (values .entry))) ⌝ }
+{
+    let mut number = 0;
+    let mut t: u32 = 0;
+    while t < net.m {
+        let at = t as usize;
+        number = with_bit(number, t, code_value(values, net.address[at]));
+        t += 1;
+    }
+    number
+}
+
+// The word that is written where WE is true, by a table of the wires.
+pub fn word_written(values: &WireValues, net: Netlist) -> u32
+    requires { ⌜ WithinLimits (alone net) ⌝ }
+    ensures { λ r. ⌜ r ≡ wordWritten (alone net) (entry (now (values .entry))) ⌝ }
+{
+    let mut number = 0;
+    let mut t: u32 = 0;
+    while t < net.n {
+        let at = t as usize;
+        number = with_bit(number, t, code_value(values, net.write_data[at]));
+        t += 1;
+    }
+    number
 }
