@@ -8,14 +8,14 @@ use netlist::UnpackedList;
 ghost use mathlib.Core.Path.{_≡_};
 ghost use Prim.Native.Nat.{ℕ, _+_, _^_, _≤_, _<_};
 ghost use mathlib.Core.List.{[]};
-ghost use lib.ListN.{length, drop};
+ghost use lib.ListN.{length};
 ghost use Rattle.model.specs.Bits.{bit};
 ghost use Rattle.model.specs.Netlist.{lastWire};
-ghost use Rattle.model.specs.Circuit.{codeValue, State, Feed, readData, frame, step};
+ghost use Rattle.model.specs.Circuit.{codeValue, State, Feed, readData, frame};
 ghost use Rattle.model.specs.Acceptance.{WithinLimits};
 ghost use Rattle.netlist.specs.NetOf.{netOf, alone};
 ghost use Rattle.circuit_values.specs.WireTable.{entry, HasBelow};
-ghost use Rattle.circuit_step.specs.Held.{stateIn, feedIn, Holds, Fed, written};
+ghost use Rattle.circuit_step.specs.Held.{stateIn, feedIn, Holds, Fed, written, StepFits, Stepped};
 
 // The word of the read bits: the memory's at the address where RE is true, and the idle word where it is not.
 fn read_word(values: &WireValues, net: Netlist, memory: &[u32], idle: u32) -> u32
@@ -70,4 +70,25 @@ fn put_latches(values: &WireValues, net: Netlist, latches: &UnpackedList, state:
         state[l] = circuit_values::code_value(values, Code(latches[2 * l]));
         l += 1;
     }
+}
+
+// Steps one frame: its values, then its write and all latches at once, both from these values. Lent latches and memory that hold a state of
+// the model before hold the next one after; the memory behind the 2^m words stays.
+pub fn step_frame(
+    values: &mut WireValues,
+    state: &mut SourceValues,
+    memory: &mut [u32],
+    net: Netlist,
+    latches: &UnpackedList,
+    gates: &UnpackedList,
+    inputs: &SourceValues,
+    idle: u32,
+)
+    requires { ⌜ StepFits (netOf net (now latches) (now gates)) (now values) (now state) (now memory) ⌝ }
+    ensures { λ _. ⌜ Stepped (netOf net (now (latches .entry)) (now (gates .entry))) (now (inputs .entry)) idle (now (state .entry)) (now (memory .entry))
+        (now (values .exit)) (now (state .exit)) (now (memory .exit)) ⌝ }
+{
+    put_frame(values, net, gates, inputs, idle, state, memory);
+    write_memory(values, net, memory);
+    put_latches(values, net, latches, state);
 }

@@ -1,58 +1,80 @@
+-- `circuit_step::put_latches` meets its contract. The loop's invariant: the first l latches are stepped.
+use Prim.Native.Nat.{ℕ, _-_, _≤_, _<_}
+use mathlib.Core.Path.{_≡_, _∙_}
+use native.Mathlib.Omega.{arith}
+use lib.ListN.{length, length-set}
+use Rattle.model.specs.Circuit.{codeValue}
+use Rattle.netlist.specs.NetOf.{firstAt, netOf}
+use Rattle.circuit_values.specs.WireTable.{entry}
+use Rattle.circuit_step.proofs.Held.{set-next}
 use Rattle.circuit_step.proofs.put_latches.Statement.{statement}
 use Rattle.circuit_step.proofs.put_latches.Tie as tie
-use Rattle.circuit_step.proofs.put_latches.Reads as reads
-use Rattle.circuit_step.proofs.put_latches.Lts as lts
-use Rattle.circuit_values.proofs.code_value.Reads as code-value-reads
 
 abbrev Inv-loop : tie.InvT-loop
-Inv-loop values net latches state₀ l₀ state l = ?
+Inv-loop values net latches state₀ l₀ state l =
+    (l ≤ net .latches) × (length state ≡ 600) × ((x : ℕ) → x < l → entry state x ≡ codeValue (entry values) (firstAt latches x))
 
 abbrev μ-loop : tie.MeasureT-loop
-μ-loop values net latches state₀ l₀ state l = ?
+μ-loop values net latches state₀ l₀ state l = net .latches - l
 
--- src/lib.rt:69:5
 loop-holds : tie.Need-loop-holds Inv-loop μ-loop
-loop-holds c = ?
+loop-holds c =
+    (omega arith, c .pre .1, λ x h. absurd (omega arith))
 
--- src/lib.rt:69:15
 cast-if1 : tie.Need-cast-if1 Inv-loop μ-loop
-cast-if1 c = ?
+unfolding netOf
+cast-if1 c =
+    omega (arith, c .before .before .pre .0 .sizes)
 
--- src/lib.rt:70:68
 mul-t6 : tie.Need-mul-t6 Inv-loop μ-loop
-mul-t6 c = ?
+unfolding netOf
+mul-t6 c =
+    omega (arith, c .before .before .before .pre .0 .sizes)
 
--- src/lib.rt:70:60
 mul-t8 : tie.Need-mul-t8 Inv-loop μ-loop
-mul-t8 c = ?
+unfolding netOf
+mul-t8 c =
+    omega (arith, c .before .before .before .pre .0 .sizes)
 
--- src/lib.rt:70:60
 element-copy-out-t11 : tie.Need-element-copy-out-t11 Inv-loop μ-loop
-element-copy-out-t11 c = ?
+unfolding netOf
+element-copy-out-t11 c =
+    omega (arith, c .before .before .before .pre .0 .sizes)
 
--- src/lib.rt:70:20
 code-value-requires : tie.Need-code-value-requires Inv-loop μ-loop
-code-value-requires c κs = ?
+unfolding netOf
+code-value-requires c κs =
+    omega (arith, c .before .before .before .before .pre .0 .sizes, c .before .before .before .before .pre .0 .codes .next-fits (c .before .before .before .loop .l) (c .before .if1 .taken))
 
--- src/lib.rt:70:9
 element-write-state : tie.Need-element-write-state Inv-loop μ-loop
-element-write-state c = ?
+unfolding netOf
+element-write-state c =
+    omega (arith, c .before .before .before .before .before .pre .0 .sizes)
 
--- src/lib.rt:71:9
 add-l : tie.Need-add-l Inv-loop μ-loop
-add-l c = ?
+unfolding netOf
+add-l c =
+    omega (arith, c .before .before .before .before .before .pre .0 .sizes)
 
--- src/lib.rt:69:5
 loop-less : tie.Need-loop-less Inv-loop μ-loop
-loop-less c = ?
+unfolding netOf
+loop-less c =
+    omega (arith, c .before .before .before .before .before .pre .0 .sizes)
 
--- src/lib.rt:69:5
 loop-again : tie.Need-loop-again Inv-loop μ-loop
-loop-again c = ?
+unfolding netOf
+loop-again c =
+    let turn = c .before .before .before .before in (
+      omega arith,
+      simp length-set (turn .loop .inv .1),
+      set-next (turn .loop .state) (omega (arith, c .before .before .before .before .before .pre .0 .sizes)) (turn .loop .inv .1) (turn .loop .inv .2) (c .code-value .ensures),
+    )
 
--- src/lib.rt:63:1
 returns : tie.Need-returns Inv-loop μ-loop
-returns c = ?
+unfolding netOf
+returns c =
+    let all : c .before .before .loop .l ≡ c .before .before .before .args .net .latches = omega arith in
+    (c .before .before .loop .inv .1, λ l h. c .before .before .loop .inv .2 l (omega arith))
 
 pub put-latches-spec : {M : Type 1} → statement M
 put-latches-spec =

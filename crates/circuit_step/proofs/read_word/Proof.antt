@@ -1,38 +1,44 @@
+-- `circuit_step::read_word` meets its contract.
+use mathlib.Core.Path.{sym, _∙_}
+use native.Mathlib.Omega.{arith}
+use Rattle.model.specs.Netlist.{port}
+use Rattle.model.specs.Circuit.{readData}
+use Rattle.model.proofs.Memory.{address-below}
+use Rattle.netlist.specs.NetOf.{netOf, alone}
+use Rattle.circuit_values.specs.WireTable.{entry}
 use borrow.Author.Needs.{needs}
 use Rattle.circuit_step.proofs.read_word.Statement.{statement}
 use Rattle.circuit_step.proofs.read_word.Tie as tie
-use Rattle.circuit_step.proofs.read_word.Reads as reads
-use Rattle.circuit_step.proofs.read_word.Lts as lts
-use Rattle.circuit_values.proofs.address_of.Reads as address-of-reads
-use Rattle.circuit_values.proofs.code_value.Reads as code-value-reads
 
--- src/lib.rt:25:8
 code-value-requires : tie.Need-code-value-requires
-code-value-requires c κs = ?
+unfolding netOf
+code-value-requires c κs =
+    omega (arith, c .before .pre .0 .sizes, c .before .pre .0 .codes .RE-fits)
 
--- src/lib.rt:26:13
 address-of-requires : tie.Need-address-of-requires
 address-of-requires c κs = search needs
 
--- src/lib.rt:27:23
 cast-result : tie.Need-cast-result
 cast-result c = search needs
 
--- src/lib.rt:27:16
 mul-result : tie.Need-mul-result
 mul-result c = search needs
 
--- src/lib.rt:27:16
 shared-slice-read-result : tie.Need-shared-slice-read-result
-shared-slice-read-result c = ?
+unfolding netOf
+shared-slice-read-result c =
+    let a = c .before .before .before .before .before .args in
+    omega (arith, c .before .before .before .before .before .pre .1, c .before .address-of .ensures, address-below (alone (a .net)) (port (alone (a .net))) (entry (a .values .now)))
 
--- src/lib.rt:27:9
 returns : tie.Need-returns
-returns c = ?
+unfolding netOf readData
+returns c =
+    λ t. rw (sym (c .before .before .before .code-value .ensures) ∙ c .before .before .if1 .taken, c .before .address-of .ensures)
 
--- src/lib.rt:21:1
 returns-2 : tie.Need-returns-2
-returns-2 c = ?
+unfolding netOf readData
+returns-2 c =
+    λ t. rw (sym (c .before .code-value .ensures) ∙ c .if1 .left)
 
 pub read-word-spec : {M : Type 1} → statement M
 read-word-spec =

@@ -1,47 +1,50 @@
+-- `circuit_step::write_memory` meets its contract.
+use mathlib.Core.Path.{sym, _∙_}
+use native.Mathlib.Omega.{arith}
+use Rattle.model.specs.Netlist.{port}
+use Rattle.model.proofs.Memory.{address-below}
+use Rattle.netlist.specs.NetOf.{netOf, alone}
+use Rattle.circuit_values.specs.WireTable.{entry}
+use Rattle.circuit_step.specs.Held.{written}
 use borrow.Author.Needs.{needs}
 use Rattle.circuit_step.proofs.write_memory.Statement.{statement}
 use Rattle.circuit_step.proofs.write_memory.Tie as tie
-use Rattle.circuit_step.proofs.write_memory.Reads as reads
-use Rattle.circuit_step.proofs.write_memory.Lts as lts
-use Rattle.circuit_values.proofs.address_of.Reads as address-of-reads
-use Rattle.circuit_values.proofs.code_value.Reads as code-value-reads
-use Rattle.circuit_values.proofs.word_written.Reads as word-written-reads
 
--- src/lib.rt:56:8
 code-value-requires : tie.Need-code-value-requires
-code-value-requires c κs = ?
+unfolding netOf
+code-value-requires c κs =
+    omega (arith, c .before .pre .0 .sizes, c .before .pre .0 .codes .WE-fits)
 
--- src/lib.rt:57:13
 address-of-requires : tie.Need-address-of-requires
 address-of-requires c κs = search needs
 
--- src/lib.rt:58:36
 word-written-requires : tie.Need-word-written-requires
 word-written-requires c κs = search needs
 
--- src/lib.rt:58:16
 cast-memory : tie.Need-cast-memory
 cast-memory c = search needs
 
--- src/lib.rt:58:9
 mul-memory : tie.Need-mul-memory
 mul-memory c = search needs
 
--- src/lib.rt:58:9
 slice-write-memory : tie.Need-slice-write-memory
-slice-write-memory c = ?
+unfolding netOf
+slice-write-memory c =
+    let a = c .before .before .before .before .before .args in
+    omega (arith, c .before .before .before .before .before .pre .1, c .before .address-of .ensures, address-below (alone (a .net)) (port (alone (a .net))) (entry (a .values .now)))
 
--- src/lib.rt:52:1
 same-length : tie.Need-same-length
 same-length c = search needs
 
--- src/lib.rt:52:1
 returns : tie.Need-returns
-returns c = ?
+unfolding netOf written
+returns c =
+    rw (sym (c .before .before .before .code-value .ensures) ∙ c .before .before .if1 .taken, c .before .address-of .ensures, c .word-written .ensures)
 
--- src/lib.rt:52:1
 returns-2 : tie.Need-returns-2
-returns-2 c = ?
+unfolding netOf written
+returns-2 c =
+    rw (sym (c .before .code-value .ensures) ∙ c .if1 .left)
 
 pub write-memory-spec : {M : Type 1} → statement M
 write-memory-spec =
