@@ -102,7 +102,7 @@ pub fn evaluate(
 }
 
 // A number of t bits, with bit t put before them.
-fn with_bit(number: u32, t: u32, value: bool) -> u32
+pub fn with_bit(number: u32, t: u32, value: bool) -> u32
     requires { ⌜ (t < 32) × (number < 2 ^ t) ⌝ }
     ensures { λ r. ⌜ r ≡ number + cond value (2 ^ t) 0 ⌝ }
 {
