@@ -1,0 +1,3 @@
+-- A solver's answer, in reading order. Nothing here imports a law or a proof.
+pub mod Answer
+pub mod Progress

@@ -1,0 +1,2 @@
+-- An answer that is read in pieces. Nothing here imports a law or a proof.
+pub mod Scan
