@@ -1,75 +1,88 @@
+-- `replay_call::replay` meets its contract: the tests, then the answer by its kind.
+use mathlib.Core.Path.{sym, _∙_}
+use mathlib.Core.List.{[]}
+use native.Mathlib.Omega.{arith}
+use Rattle.netlist.specs.NetOf.{netOf}
+use Rattle.netlist.proofs.NetOf.{sizes-lists}
+use Rattle.replay_call.specs.ReplayCall.{replayReply, replaySent, replayAnswer, replayMemory, replayTrace, unlessRefused, afterTests, traceAfter, outcome, wordsLeft}
+use Rattle.replay_call.proofs.ReplayCall.{tests-shown}
 use borrow.Author.Needs.{needs}
 use Rattle.replay_call.proofs.replay.Statement.{statement}
 use Rattle.replay_call.proofs.replay.Tie as tie
-use Rattle.replay_call.proofs.replay.Reads as reads
-use Rattle.replay_call.proofs.replay.Lts as lts
-use Rattle.replay_call.proofs.replay_values.Reads as replay-values-reads
-use Rattle.replay_call.proofs.test_replay.Reads as test-replay-reads
-use Rattle.replay_run.proofs.fill_words.Reads as fill-words-reads
-use Rattle.replay_run.proofs.word_count.Reads as word-count-reads
 
--- src/lib.rt:120:47
 test-replay-requires : tie.Need-test-replay-requires
 test-replay-requires c κs = search needs
 
--- src/lib.rt:120:29
 enum-known-refusal : tie.Need-enum-known-refusal
 enum-known-refusal c = search needs
 
--- src/lib.rt:130:9
 returns : tie.Need-returns
-returns c = ?
+unfolding replayReply replaySent replayAnswer replayMemory replayTrace unlessRefused afterTests traceAfter outcome wordsLeft
+returns c =
+    let v = sym (c .before .before .before .test-replay .ensures) ∙ c .before .refusal .given .1 in (rw v, (rw v, rw v))
 
 enum-told : tie.Need-enum-told
 enum-told c = search needs
 
--- src/lib.rt:134:36
 enum-told-2 : tie.Need-enum-told-2
 enum-told-2 c = search needs
 
--- src/lib.rt:134:44
 word-count-requires : tie.Need-word-count-requires
-word-count-requires c κs = ?
+word-count-requires c κs =
+    let start = c .before .before .before .before .before .before .before .before in
+    let a = start .args in
+    let v = sym (c .before .before .before .before .before .test-replay .ensures) ∙ c .before .before .before .enum-told .given .1 in
+    sizes-lists (a .net) (a .latches .now) (a .gates .now) [] [] (tests-shown (netOf (a .net) (a .latches .now) (a .gates .now)) (a .latch-count) (a .gate-count) (a .depth) (a .memory .now) (a .trace .now) v .limits .sizes)
 
--- src/lib.rt:134:13
 fill-words-requires : tie.Need-fill-words-requires
-fill-words-requires c κs = ?
+unfolding netOf
+fill-words-requires c κs =
+    let start = c .before .before .before .before .before .before .before .before .before in
+    let a = start .args in
+    let v = sym (c .before .before .before .before .before .before .test-replay .ensures) ∙ c .before .before .before .before .enum-told .given .1 in
+    omega (arith, tests-shown (netOf (a .net) (a .latches .now) (a .gates .now)) (a .latch-count) (a .gate-count) (a .depth) (a .memory .now) (a .trace .now) v .memory-size, c .word-count .ensures)
 
--- src/lib.rt:135:13
 same-length : tie.Need-same-length
 same-length c = search needs
 
--- src/lib.rt:135:13
 returns-2 : tie.Need-returns-2
-returns-2 c = ?
+unfolding netOf replayReply replaySent replayAnswer replayMemory replayTrace unlessRefused afterTests traceAfter outcome wordsLeft
+returns-2 c =
+    let v = sym (c .before .before .before .before .before .before .before .before .before .test-replay .ensures) ∙ c .before .before .before .before .before .before .before .enum-told .given .1 in
+    let kind = c .before .before .before .before .before .enum-told2 .given .1 in (rw (v, kind), (rw (v, kind, c .before .before .fill-words .ensures, c .before .before .before .word-count .ensures), rw (v, kind)))
 
--- src/lib.rt:138:13
 enum-told-3 : tie.Need-enum-told-3
 enum-told-3 c = search needs
 
--- src/lib.rt:138:13
 returns-3 : tie.Need-returns-3
-returns-3 c = ?
+unfolding replayReply replaySent replayAnswer replayMemory replayTrace unlessRefused afterTests traceAfter outcome wordsLeft
+returns-3 c =
+    let v = sym (c .before .before .before .before .test-replay .ensures) ∙ c .before .before .enum-told .given .1 in
+    let kind = c .enum-told3 .given .1 in (rw (v, kind), (rw (v, kind), rw (v, kind)))
 
--- src/lib.rt:141:69
 enum-told-4 : tie.Need-enum-told-4
 enum-told-4 c = search needs
 
--- src/lib.rt:141:13
 replay-values-requires : tie.Need-replay-values-requires
-replay-values-requires c κs = ?
+replay-values-requires c κs =
+    let start = c .before .before .before .before .before .before .before .before .before in
+    let a = start .args in
+    let v = sym (c .before .before .before .before .before .before .test-replay .ensures) ∙ c .before .before .before .before .enum-told .given .1 in
+    tests-shown (netOf (a .net) (a .latches .now) (a .gates .now)) (a .latch-count) (a .gate-count) (a .depth) (a .memory .now) (a .trace .now) v
 
--- src/lib.rt:141:13
 same-length-2 : tie.Need-same-length-2
 same-length-2 c = search needs
 
--- src/lib.rt:141:13
 same-length-3 : tie.Need-same-length-3
 same-length-3 c = search needs
 
--- src/lib.rt:141:13
 returns-4 : tie.Need-returns-4
-returns-4 c = ?
+unfolding replayReply replaySent replayAnswer replayMemory replayTrace unlessRefused afterTests traceAfter outcome wordsLeft
+returns-4 c =
+    let v = sym (c .before .before .before .before .before .before .before .before .before .before .before .test-replay .ensures) ∙ c .before .before .before .before .before .before .before .before .before .enum-told .given .1 in
+    let kind = c .before .before .before .before .before .before .before .enum-told4 .given .1 in
+    let ran = c .before .before .before .before .replay-values .ensures in
+    (rw (v, kind, ran .answers), (rw (v, kind) (ran .memory-left), rw (v, kind) (ran .trace-left ∙ rw (ran .answers))))
 
 pub replay-spec : {M : Type 1} → statement M
 replay-spec =

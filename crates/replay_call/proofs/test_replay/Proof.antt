@@ -1,50 +1,66 @@
+-- `replay_call::test_replay` meets its contract: each answer is that of the first test that refuses.
+use mathlib.Core.Path.{_≡_, sym, _∙_}
+use mathlib.Core.List.{[]}
+use native.Mathlib.Omega.{arith}
+use Rattle.refusals.specs.declared.Verdict.the-variants.{Passed}
+use Rattle.netlist.specs.NetOf.{netOf}
+use Rattle.netlist.proofs.NetOf.{sizes-lists}
+use Rattle.netlist_tests.specs.Record.{recordVerdict}
+use Rattle.netlist_tests.proofs.Acceptance.{passes-accepted}
+use Rattle.replay_call.proofs.ReplayCall.{tests-record, tests-depth, tests-memory, tests-trace, tests-passed}
 use borrow.Author.Needs.{needs}
 use Rattle.replay_call.proofs.test_replay.Statement.{statement}
 use Rattle.replay_call.proofs.test_replay.Tie as tie
-use Rattle.replay_call.proofs.test_replay.Reads as reads
-use Rattle.replay_call.proofs.test_replay.Lts as lts
-use Rattle.netlist_tests.proofs.test_record.Reads as test-record-reads
-use Rattle.replay_call.proofs.trace_length.Reads as trace-length-reads
-use Rattle.replay_run.proofs.word_count.Reads as word-count-reads
 
--- src/lib.rt:46:9
+-- the record has passed its tests
+passed : (c : tie.After-enum-told2)
+    → recordVerdict (netOf (c .before .before .before .args .net) (c .before .before .before .args .latches .now) (c .before .before .before .args .gates .now)) (c .before .before .before .args .latch-count) (c .before .before .before .args .gate-count) ≡ Passed
+passed c = sym (c .before .before .test-record .ensures) ∙ c .enum-told2 .given .1
+
 test-record-requires : tie.Need-test-record-requires
 test-record-requires c κs = search needs
 
--- src/lib.rt:48:9
 enum-told : tie.Need-enum-told
 enum-told c = search needs
 
--- src/lib.rt:48:9
 returns : tie.Need-returns
-returns c = ?
+returns c =
+    let refused = c .enum-told .given .1 in
+    refused ∙ sym (tests-record _ _ _ _ _ _ (sym (c .before .before .test-record .ensures) ∙ refused))
 
 enum-told-2 : tie.Need-enum-told-2
 enum-told-2 c = search needs
 
--- src/lib.rt:51:9
 returns-2 : tie.Need-returns-2
-returns-2 c = ?
+returns-2 c =
+    sym (tests-depth _ _ _ _ _ _ (passed (c .before)) (c .if1 .taken))
 
--- src/lib.rt:53:16
 word-count-requires : tie.Need-word-count-requires
-word-count-requires c κs = ?
+word-count-requires c κs =
+    let start = c .before .before .before .before in
+    let a = start .args in
+    sizes-lists (a .net) (a .latches .now) (a .gates .now) [] [] (passes-accepted _ _ _ .0 (passed (c .before)) .0 .limits .sizes)
 
--- src/lib.rt:54:9
 returns-3 : tie.Need-returns-3
-returns-3 c = ?
+unfolding netOf
+returns-3 c =
+    sym (tests-memory _ _ _ _ _ _ (passed (c .before .before .before)) (c .before .before .if1 .left) (omega (arith, c .if2 .taken, c .before .word-count .ensures)))
 
--- src/lib.rt:56:15
 trace-length-requires : tie.Need-trace-length-requires
-trace-length-requires c κs = ?
+trace-length-requires c κs =
+    let start = c .before .before .before .before .before .before in
+    let a = start .args in
+    (sizes-lists (a .net) (a .latches .now) (a .gates .now) [] [] (passes-accepted _ _ _ .0 (passed (c .before .before .before)) .0 .limits .sizes), c .before .before .if1 .left)
 
--- src/lib.rt:57:9
 returns-4 : tie.Need-returns-4
-returns-4 c = ?
+unfolding netOf
+returns-4 c =
+    sym (tests-trace _ _ _ _ _ _ (passed (c .before .before .before .before .before)) (c .before .before .before .before .if1 .left) (omega (arith, c .before .before .if2 .left, c .before .before .before .word-count .ensures)) (omega (arith, c .if3 .taken, c .before .trace-length .ensures)))
 
--- src/lib.rt:34:1
 returns-5 : tie.Need-returns-5
-returns-5 c = ?
+unfolding netOf
+returns-5 c =
+    sym (tests-passed _ _ _ _ _ _ (passed (c .before .before .before .before .before)) (c .before .before .before .before .if1 .left) (omega (arith, c .before .before .if2 .left, c .before .before .before .word-count .ensures)) (omega (arith, c .if3 .left, c .before .trace-length .ensures)))
 
 pub test-replay-spec : {M : Type 1} → statement M
 test-replay-spec =

@@ -1,33 +1,33 @@
+-- `replay_call::trace_length` meets its contract.
+use native.Mathlib.Omega.{arith}
+use Rattle.netlist.specs.NetOf.{netOf}
+use Rattle.replay_call.proofs.ReplayCall.{trace-small}
 use borrow.Author.Needs.{needs}
 use Rattle.replay_call.proofs.trace_length.Statement.{statement}
 use Rattle.replay_call.proofs.trace_length.Tie as tie
-use Rattle.replay_call.proofs.trace_length.Reads as reads
-use Rattle.replay_call.proofs.trace_length.Lts as lts
-use Rattle.netlist.proofs.wire_count.Reads as wire-count-reads
 
--- src/lib.rt:30:6
 add-result : tie.Need-add-result
 add-result c = search needs
 
--- src/lib.rt:30:29
 wire-count-requires : tie.Need-wire-count-requires
 wire-count-requires c κs = search needs
 
--- src/lib.rt:30:29
 cast-result : tie.Need-cast-result
 cast-result c = search needs
 
--- src/lib.rt:30:29
 add-result-2 : tie.Need-add-result-2
 add-result-2 c = search needs
 
--- src/lib.rt:30:5
 mul-result : tie.Need-mul-result
-mul-result c = ?
+unfolding netOf
+mul-result c =
+    let a = c .before .args in
+    record { fits = omega (arith, c .wire-count .ensures, trace-small (a .depth) (c .wire-count .result) (c .before .pre .1) (omega (arith, c .wire-count .ensures, c .before .pre .0))) }
 
--- src/lib.rt:26:1
 returns : tie.Need-returns
-returns c = ?
+unfolding netOf
+returns c =
+    rw (c .wire-count .ensures)
 
 pub trace-length-spec : {M : Type 1} → statement M
 trace-length-spec =
