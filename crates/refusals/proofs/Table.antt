@@ -10,7 +10,7 @@ use Rattle.refusals.specs.declared.Refusal.{Refusal}
 use Rattle.refusals.specs.declared.Verdict.{Verdict}
 use Rattle.refusals.specs.declared.Verdict.the-variants.{Passed, Refused}
 use Rattle.refusals.specs.declared.Reply.{Reply}
-use Rattle.refusals.specs.declared.Refusal.the-variants.{Ragged, Misprint, OutOfOrder, Size, CodeOutside, MemoryLoop, Depth, NoSuchGroup, NoRoom, OutOfNumbers, NotAiger, Interface, Undefined}
+use Rattle.refusals.specs.declared.Refusal.the-variants.{Ragged, Misprint, OutOfOrder, Size, CodeOutside, MemoryLoop, Depth, NoSuchGroup, NoRoom, OutOfNumbers, NotAiger, Interface, Undefined, NoAnswer, NoViolation}
 
 -- every word's number is at least 1
 pub refusalNumber-some : (r : Refusal) → 1 ≤ refusalNumber r
@@ -27,6 +27,8 @@ refusalNumber-some OutOfNumbers = omega arith
 refusalNumber-some NotAiger = omega arith
 refusalNumber-some Interface = omega arith
 refusalNumber-some Undefined = omega arith
+refusalNumber-some NoAnswer = omega arith
+refusalNumber-some NoViolation = omega arith
 
 -- so number 0 is sent back where no test refuses
 pub reply-passed : (v : Verdict) → replyOf v .number ≡ 0 → v ≡ Passed
@@ -47,7 +49,9 @@ refusalOf n =
     (cond (eqb n 9) NoRoom
     (cond (eqb n 10) OutOfNumbers
     (cond (eqb n 11) NotAiger
-    (cond (eqb n 12) Interface Undefined)))))))))))
+    (cond (eqb n 12) Interface
+    (cond (eqb n 13) Undefined
+    (cond (eqb n 14) NoAnswer NoViolation)))))))))))))
 
 abbrev verdictOf : Reply → Verdict
 verdictOf r = cond (eqb (r .number) 0) Passed (Refused (refusalOf (r .number)) (r .place))
@@ -67,6 +71,8 @@ verdictOf-reply (Refused OutOfNumbers p) = refl
 verdictOf-reply (Refused NotAiger p) = refl
 verdictOf-reply (Refused Interface p) = refl
 verdictOf-reply (Refused Undefined p) = refl
+verdictOf-reply (Refused NoAnswer p) = refl
+verdictOf-reply (Refused NoViolation p) = refl
 
 -- so a verdict is known by what it sends back
 pub reply-tells : (v w : Verdict) → replyOf v ≡ replyOf w → v ≡ w

@@ -1,4 +1,4 @@
-// The numbered errors (RULES T1 to T13), and what a chain of tests answers.
+// The numbered errors (RULES T1 to T15), and what a chain of tests answers.
 ghost use mathlib.Core.Path.{_≡_};
 ghost use Rattle.refusals.specs.Refusal.{refusalNumber, replyOf};
 
@@ -17,6 +17,8 @@ pub enum Refusal {
     NotAiger,
     Interface,
     Undefined,
+    NoAnswer,
+    NoViolation,
 }
 
 // What a chain of tests answers: none refuses, or the first that does, with its place (0: none).
@@ -49,6 +51,8 @@ pub fn number(refusal: Refusal) -> u32
         Refusal::NotAiger => 11,
         Refusal::Interface => 12,
         Refusal::Undefined => 13,
+        Refusal::NoAnswer => 14,
+        Refusal::NoViolation => 15,
     }
 }
 

@@ -1,0 +1,184 @@
+-- Laws of specs/Held.antt: tables that hold a state and a feed have its frame evaluated in them, and its step after that. No contract cites
+-- this file.
+use Prim.Native.Nat.{ℕ, zero, suc, _+_, _*_, _/_, _^_, _≤_, _<_}
+use mathlib.Core.Path.{_≡_, refl, sym, _∙_, ap}
+use mathlib.Core.Bool.{Bool, true, false, cond, _&&_}
+use mathlib.Core.List.{List, []}
+use mathlib.Core.Logic.{by-cases}
+use native.Mathlib.Decide.{ℕ-discrete}
+use native.Mathlib.Nat.{zero-div}
+use native.Mathlib.Omega.{arith}
+use lib.Dec.{eqb}
+use lib.ListN.{length, getD, set, drop, length-set}
+use lib.Seq.{getD-set-same, getD-set-other, drop-set-lt}
+use borrow.Author.Tests.{eq-eqb, ne-eqb}
+use Rattle.model.specs.Bits.{odd, bit}
+use Rattle.model.specs.Netlist.{Netlist, port, readBits, lastWire}
+use Rattle.model.specs.Circuit.{Values, codeValue, sources, sweep, conjunction, evaluate, State, Feed, addressOf, readData, firstPass, frame, wordWritten, step}
+use Rattle.model.specs.Acceptance.{CodesFit, WithinLimits, IsCode}
+use Rattle.model.proofs.Bits.{fromBits-same}
+use Rattle.model.proofs.Memory.{address-below}
+use Rattle.model.proofs.Circuit.{evaluate-solves, solutions-agree, code-same, address-same, readData-same}
+use Rattle.netlist.specs.NetOf.{netOf}
+use Rattle.netlist.specs.declared.Netlist as Record
+use Rattle.circuit_values.specs.WireTable.{entry, HasBelow}
+use Rattle.circuit_values.proofs.WireTable.{code-below}
+use Rattle.circuit_step.specs.Held.{stateIn, feedIn, Holds, Fed, written}
+
+-- a table of equal values
+pub below-same : {b : ℕ} {u v : Values} {table : List Bool} → HasBelow b u table → ((w : ℕ) → w < b → u w ≡ v w) → HasBelow b v table
+below-same q same = record { size = q .size; has = λ w h. q .has w h ∙ same w h }
+
+-- what is evaluated needs inputs, latches and read bits below the sizes alone
+pub evaluate-alike : {c : Netlist} → CodesFit c → {input latch read input′ latch′ read′ : ℕ → Bool}
+    → ((x : ℕ) → x < c .inputs → input x ≡ input′ x) → ((l : ℕ) → l < c .latches → latch l ≡ latch′ l)
+    → ((t : ℕ) → t < readBits c → read t ≡ read′ t) → (w : ℕ) → w ≤ lastWire c → evaluate c input latch read w ≡ evaluate c input′ latch′ read′ w
+evaluate-alike {c} q {input} {latch} {read} {input′} {latch′} {read′} inputs latches reads w h =
+    let p = evaluate-solves c input latch read q in
+    solutions-agree q (λ x. Unit {0}) (λ g l k. (tt, tt)) {input = input′} {latch = latch′} {read = read} {other = read′} (λ t l k. reads t l)
+    (record {
+      at-zero = p .at-zero;
+      at-input = λ x l. p .at-input x l ∙ inputs x l;
+      at-latch = λ x l. p .at-latch x l ∙ latches x l;
+      at-read = p .at-read;
+      at-gate = p .at-gate;
+    })
+    (evaluate-solves c input′ latch′ read′ q) w h tt
+
+-- a table has the value of every code
+pub code-in : (c : Netlist) {v : Values} {table : List Bool} → HasBelow (lastWire c + 1) v table → (x : ℕ) → IsCode c x
+    → codeValue (entry table) x ≡ codeValue v x
+code-in c q x h = code-below q x (omega arith)
+
+-- the address and the word written too
+module _ {c : Netlist} (limits : WithinLimits c) {v : Values} {table : List Bool} (q : HasBelow (lastWire c + 1) v table) where
+  pub address-in : addressOf c (port c) (entry table) ≡ addressOf c (port c) v
+  address-in = address-same c (port c) (entry table) v (λ t h. code-in c q (c .address t) (limits .codes .address-fits t h))
+
+  pub word-in : wordWritten c (entry table) ≡ wordWritten c v
+  unfolding wordWritten
+  word-in = fromBits-same (c .n) _ _ (λ t h. code-in c q (c .writeData t) (limits .codes .data-fits t h))
+
+-- 0 has no bit
+pub bit-zero : (t : ℕ) → bit 0 t ≡ false
+unfolding bit odd
+bit-zero t = rw zero-div
+
+module _ {c : Netlist} (limits : WithinLimits c) {s : State} {f : Feed} {latches inputs : List Bool} {memory : List ℕ} {idle : ℕ}
+    (held : Holds c s latches memory) (fed : Fed c f inputs idle) where
+  -- the first pass
+  first-alike : (w : ℕ) → w ≤ lastWire c → evaluate c (entry inputs) (entry latches) (bit 0) w ≡ firstPass c s f w
+  unfolding firstPass
+  first-alike = evaluate-alike (limits .codes) (fed .input-fed) (held .latch-held) (λ t h. bit-zero t)
+
+  -- what is read by its table
+  module _ {table : List Bool} (q : HasBelow (lastWire c + 1) (evaluate c (entry inputs) (entry latches) (bit 0)) table) where
+    first-in : HasBelow (lastWire c + 1) (firstPass c s f) table
+    first-in = below-same q (λ w h. first-alike w (omega arith))
+
+    read-alike : (t : ℕ) → t < readBits c → readData c (stateIn [] memory) (feedIn [] idle) (entry table) t ≡ readData c s f (firstPass c s f) t
+    unfolding readData
+    read-alike t h =
+        rw (
+          code-in c first-in (c .RE) (limits .codes .RE-fits),
+          address-in limits first-in,
+          held .memory-held (addressOf c (port c) (firstPass c s f)) (address-below c (port c) (firstPass c s f)),
+          fed .idle-fed t h,
+        )
+
+    -- the second pass
+    pub frame-alike : (word : ℕ) → ((t : ℕ) → bit word t ≡ readData c (stateIn [] memory) (feedIn [] idle) (entry table) t)
+        → (w : ℕ) → w ≤ lastWire c → evaluate c (entry inputs) (entry latches) (bit word) w ≡ frame c s f w
+    unfolding frame
+    frame-alike word e = evaluate-alike (limits .codes) (fed .input-fed) (held .latch-held) (λ t h. e t ∙ read-alike t h)
+
+-- the memory behind the 2^m words stays
+pub behind-written : (c : Netlist) (v : Values) (memory : List ℕ) → drop (2 ^ c .m) (written c v memory) ≡ drop (2 ^ c .m) memory
+unfolding written
+behind-written c v memory = either (codeValue v (c .WE))
+  where
+    either : (b : Bool) → drop (2 ^ c .m) (cond b (set memory (addressOf c (port c) v) (wordWritten c v)) memory) ≡ drop (2 ^ c .m) memory
+    either true = drop-set-lt (2 ^ c .m) memory (addressOf c (port c) v) (wordWritten c v) (address-below c (port c) v)
+    either false = refl
+
+pub length-written : (c : Netlist) (v : Values) (memory : List ℕ) → length (written c v memory) ≡ length memory
+unfolding written
+length-written c v memory = either (codeValue v (c .WE))
+  where
+    either : (b : Bool) → length (cond b (set memory (addressOf c (port c) v) (wordWritten c v)) memory) ≡ length memory
+    either true = length-set memory (addressOf c (port c) v) (wordWritten c v)
+    either false = refl
+
+-- after the write and the step of the latches, the next state is held
+pub step-holds : {c : Netlist} → WithinLimits c → {s : State} {v : Values} {table : List Bool} → HasBelow (lastWire c + 1) v table
+    → {latches next : List Bool} {memory : List ℕ} → Holds c s latches memory → length next ≡ 600
+    → ((l : ℕ) → l < c .latches → entry next l ≡ codeValue (entry table) (c .next l))
+    → Holds c (step c s v) next (written c (entry table) memory)
+unfolding step written
+step-holds {c} limits {s} {v} {table} q {latches} {next} {memory} held size each =
+    record {
+      latch-size = size;
+      latch-held = λ l h. each l h ∙ code-in c q (c .next l) (limits .codes .next-fits l h);
+      memory-size = omega (arith, held .memory-size, length-written c (entry table) memory);
+      memory-held = λ x h.
+          rw (code-in c q (c .WE) (limits .codes .WE-fits), address-in limits q, word-in limits q) (at x h (codeValue v (c .WE)));
+    }
+  where
+    at : (x : ℕ) → x < 2 ^ c .m → (b : Bool)
+        → getD (cond b (set memory (addressOf c (port c) v) (wordWritten c v)) memory) x 0
+        ≡ cond (b && eqb x (addressOf c (port c) v)) (wordWritten c v) (s .memory x)
+    at x h false = held .memory-held x h
+    at x h true =
+        by-cases (ℕ-discrete x (addressOf c (port c) v))
+        (λ e. rw (eq-eqb x _ e, e) (getD-set-same memory (addressOf c (port c) v) (wordWritten c v) 0 (omega (arith, held .memory-size, address-below c (port c) v))))
+        (λ e. rw (ne-eqb x _ e) (getD-set-other memory (addressOf c (port c) v) x (wordWritten c v) 0 e ∙ held .memory-held x h))
+
+-- the lists of a record have no part in what is held and fed, and the latches none in a frame
+module _ (r : Record.Netlist) (latches gates latches′ gates′ : List ℕ) where
+  pub holds-lists : {s : State} {table : List Bool} {memory : List ℕ} → Holds (netOf r latches gates) s table memory → Holds (netOf r latches′ gates′) s table memory
+  unfolding netOf
+  holds-lists q = record { latch-size = q .latch-size; latch-held = q .latch-held; memory-size = q .memory-size; memory-held = q .memory-held }
+
+  pub fed-lists : {f : Feed} {inputs : List Bool} {idle : ℕ} → Fed (netOf r latches gates) f inputs idle → Fed (netOf r latches′ gates′) f inputs idle
+  unfolding netOf
+  fed-lists q = record { input-fed = q .input-fed; idle-fed = q .idle-fed }
+
+-- a table with its first l entries, and one more
+pub set-next : {f : ℕ → Bool} {l : ℕ} (table : List Bool) {b : Bool} → l < 600 → length table ≡ 600 → ((x : ℕ) → x < l → entry table x ≡ f x)
+    → b ≡ f l → (x : ℕ) → x < l + 1 → entry (set table l b) x ≡ f x
+set-next {f} {l} table {b} h size before e x k =
+    by-cases (ℕ-discrete x l)
+    (λ at. rw at (getD-set-same table l b false (omega arith) ∙ e))
+    (λ at. getD-set-other table l x b false at ∙ before x (omega arith))
+
+module _ (r : Record.Netlist) (latches gates : List ℕ) where
+  sweep-lists : (v : Values) (g w : ℕ) → sweep conjunction (netOf r [] gates) v g w ≡ sweep conjunction (netOf r latches gates) v g w
+  unfolding netOf sweep conjunction codeValue
+  sweep-lists v zero w = refl
+  sweep-lists v (suc g) w = rw (sweep-lists v g w, sweep-lists v g (getD gates (2 * g) 0 / 2), sweep-lists v g (getD gates (2 * g + 1) 0 / 2))
+
+  evaluate-lists : (input latch read : ℕ → Bool) (w : ℕ) → evaluate (netOf r [] gates) input latch read w ≡ evaluate (netOf r latches gates) input latch read w
+  unfolding netOf evaluate sources
+  evaluate-lists input latch read w = sweep-lists (sources (netOf r latches gates) input latch read) (r .gates) w
+
+  first-lists : (s : State) (f : Feed) (w : ℕ) → firstPass (netOf r [] gates) s f w ≡ firstPass (netOf r latches gates) s f w
+  unfolding firstPass
+  first-lists s f = evaluate-lists (f .input) (s .latch) (λ t. false)
+
+  read-lists : (s : State) (f : Feed) (t : ℕ)
+      → readData (netOf r [] gates) s f (firstPass (netOf r [] gates) s f) t ≡ readData (netOf r latches gates) s f (firstPass (netOf r latches gates) s f) t
+  unfolding netOf readData addressOf
+  read-lists s f =
+      let c = netOf r latches gates in
+      let same : (x : ℕ) → codeValue (firstPass (netOf r [] gates) s f) x ≡ codeValue (firstPass c s f) x
+      = λ x. code-same (firstPass (netOf r [] gates) s f) (firstPass c s f) x (first-lists s f (x / 2))
+      in
+      readData-same c s f (firstPass (netOf r [] gates) s f) (firstPass c s f)
+      (address-same c (port c) (firstPass (netOf r [] gates) s f) (firstPass c s f) (λ t h. same (c .address t))) (same (c .RE))
+
+  pub frame-lists : WithinLimits (netOf r latches gates) → (s : State) (f : Feed) (w : ℕ) → w ≤ lastWire (netOf r latches gates)
+      → frame (netOf r [] gates) s f w ≡ frame (netOf r latches gates) s f w
+  unfolding frame
+  frame-lists limits s f w h =
+      evaluate-lists (f .input) (s .latch) (readData (netOf r [] gates) s f (firstPass (netOf r [] gates) s f)) w
+      ∙ evaluate-alike (limits .codes) (λ x l. refl) (λ l b. refl) (λ t b. read-lists s f t) w h

@@ -1,0 +1,35 @@
+-- `circuit_step::put_frame` meets its contract: two passes are the model's frame.
+use mathlib.Core.List.{[]}
+use native.Mathlib.Omega.{arith}
+use Rattle.model.specs.Circuit.{addressOf, readData}
+use Rattle.netlist.specs.NetOf.{netOf}
+use Rattle.netlist.proofs.NetOf.{limits-alone}
+use Rattle.circuit_step.proofs.Held.{below-same, frame-alike, holds-lists, fed-lists}
+use borrow.Author.Needs.{needs}
+use Rattle.circuit_step.proofs.put_frame.Statement.{statement}
+use Rattle.circuit_step.proofs.put_frame.Tie as tie
+
+evaluate-requires : tie.Need-evaluate-requires
+evaluate-requires c κs = search needs
+
+read-word-requires : tie.Need-read-word-requires
+read-word-requires c κs =
+    (limits-alone _ _ _ (c .before .before .before .before .pre .0), c .before .before .before .before .pre .2)
+
+evaluate-requires-2 : tie.Need-evaluate-requires-2
+evaluate-requires-2 c κs = search needs
+
+returns : tie.Need-returns
+unfolding netOf readData addressOf
+returns c =
+    λ s f held fed.
+    let start = c .before .before .before .before .before .before .before in
+    let a = start .args in
+    let d = netOf (a .net) [] (a .gates .now) in
+    below-same (c .evaluate2 .ensures) (λ w h.
+    frame-alike (start .pre .0) (holds-lists (a .net) [] [] [] (a .gates .now) held) (fed-lists (a .net) [] [] [] (a .gates .now) fed) (c .before .before .before .before .evaluate .ensures)
+    (c .before .before .read-word .result) (c .before .before .read-word .ensures) w (omega arith))
+
+pub put-frame-spec : {M : Type 1} → statement M
+put-frame-spec =
+    tie.close (tie.spec evaluate-requires read-word-requires evaluate-requires-2 returns)

@@ -1,0 +1,94 @@
+// One frame of the circuit with its whole memory: the values of its wires, and the state that the next frame begins in (RULES C4 to C7, C12 to
+// C15). Latches and memory are lent; what holds of them is said of every state of the model that they hold.
+use circuit_values::SourceValues;
+use circuit_values::WireValues;
+use literals::Code;
+use netlist::Netlist;
+use netlist::UnpackedList;
+ghost use mathlib.Core.Path.{_≡_};
+ghost use Prim.Native.Nat.{ℕ, _+_, _^_, _≤_, _<_};
+ghost use mathlib.Core.List.{[]};
+ghost use lib.ListN.{length};
+ghost use Rattle.model.specs.Bits.{bit};
+ghost use Rattle.model.specs.Netlist.{lastWire};
+ghost use Rattle.model.specs.Circuit.{codeValue, State, Feed, readData, frame};
+ghost use Rattle.model.specs.Acceptance.{WithinLimits};
+ghost use Rattle.netlist.specs.NetOf.{netOf, alone};
+ghost use Rattle.circuit_values.specs.WireTable.{entry, HasBelow};
+ghost use Rattle.circuit_step.specs.Held.{stateIn, feedIn, Holds, Fed, written, StepFits, Stepped};
+
+// The word of the read bits: the memory's at the address where RE is true, and the idle word where it is not.
+fn read_word(values: &WireValues, net: Netlist, memory: &[u32], idle: u32) -> u32
+    requires { ⌜ WithinLimits (alone net) × (2 ^ net .m ≤ length (now memory)) ⌝ }
+    ensures { λ r. ⌜ ((t : ℕ) → bit r t ≡ readData (alone net) (stateIn [] (now (memory .entry))) (feedIn [] idle) (entry (now (values .entry))) t) ⌝ }
+{
+    if circuit_values::code_value(values, net.re) {
+        let address = circuit_values::address_of(values, net);
+        return memory[address as usize];
+    }
+    idle
+}
+
+// The values of a frame, by two passes: the first with every read bit 0, which settles address and RE, the second with the word that is read.
+fn put_frame(
+    values: &mut WireValues,
+    net: Netlist,
+    gates: &UnpackedList,
+    inputs: &SourceValues,
+    idle: u32,
+    state: &SourceValues,
+    memory: &[u32],
+)
+    requires { ⌜ WithinLimits (netOf net [] (now gates)) × (length (now values) ≡ 601) × (2 ^ net .m ≤ length (now memory)) ⌝ }
+    ensures { λ _. ⌜ ((s : State) (f : Feed) → Holds (alone net) s (now (state .entry)) (now (memory .entry)) → Fed (alone net) f (now (inputs .entry)) idle
+        → HasBelow (lastWire (alone net) + 1) (frame (netOf net [] (now (gates .entry))) s f) (now (values .exit))) ⌝ }
+{
+    circuit_values::evaluate(values, net, gates, inputs, state, 0);
+    let word = read_word(values, net, memory, idle);
+    circuit_values::evaluate(values, net, gates, inputs, state, word);
+}
+
+// Writes the word at the address where WE is true.
+fn write_memory(values: &WireValues, net: Netlist, memory: &mut [u32])
+    requires { ⌜ WithinLimits (alone net) × (2 ^ net .m ≤ length (now memory)) ⌝ }
+    ensures { λ _. ⌜ now (memory .exit) ≡ written (alone net) (entry (now (values .entry))) (now (memory .entry)) ⌝ }
+{
+    if circuit_values::code_value(values, net.we) {
+        let address = circuit_values::address_of(values, net);
+        memory[address as usize] = circuit_values::word_written(values, net);
+    }
+}
+
+// All latches take the values of their next codes.
+fn put_latches(values: &WireValues, net: Netlist, latches: &UnpackedList, state: &mut SourceValues)
+    requires { ⌜ WithinLimits (netOf net (now latches) []) × (length (now state) ≡ 600) ⌝ }
+    ensures { λ _. ⌜ (length (now (state .exit)) ≡ 600) × ((l : ℕ) → l < net .latches
+        → entry (now (state .exit)) l ≡ codeValue (entry (now (values .entry))) (netOf net (now (latches .entry)) [] .next l)) ⌝ }
+{
+    let mut l: usize = 0;
+    while l < net.latches as usize {
+        state[l] = circuit_values::code_value(values, Code(latches[2 * l]));
+        l += 1;
+    }
+}
+
+// Steps one frame: its values, then its write and all latches at once, both from these values. Lent latches and memory that hold a state of
+// the model before hold the next one after; the memory behind the 2^m words stays.
+pub fn step_frame(
+    values: &mut WireValues,
+    state: &mut SourceValues,
+    memory: &mut [u32],
+    net: Netlist,
+    latches: &UnpackedList,
+    gates: &UnpackedList,
+    inputs: &SourceValues,
+    idle: u32,
+)
+    requires { ⌜ StepFits (netOf net (now latches) (now gates)) (now values) (now state) (now memory) ⌝ }
+    ensures { λ _. ⌜ Stepped (netOf net (now (latches .entry)) (now (gates .entry))) (now (inputs .entry)) idle (now (state .entry)) (now (memory .entry))
+        (now (values .exit)) (now (state .exit)) (now (memory .exit)) ⌝ }
+{
+    put_frame(values, net, gates, inputs, idle, state, memory);
+    write_memory(values, net, memory);
+    put_latches(values, net, latches, state);
+}

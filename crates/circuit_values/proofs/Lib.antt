@@ -1,0 +1,2 @@
+pub mod WireTable
+pub mod Bits

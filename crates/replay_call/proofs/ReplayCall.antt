@@ -1,0 +1,123 @@
+-- Laws of specs/ReplayCall.antt: which tests a replay passes, and what a run has shown where they pass. No contract cites this file.
+use Prim.Native.Nat.{ℕ, _+_, _*_, _^_, _≤_, _<_}
+use mathlib.Core.Path.{_≡_, refl, sym, _∙_, ap}
+use mathlib.Core.Bool.{true, false}
+use mathlib.Core.List.{List, _++_}
+use native.Mathlib.Nat.{mul-le-mul-right}
+use native.Mathlib.Omega.{arith}
+use lib.ListN.{length, take, drop}
+use lib.Seq.{take-append-seam}
+use borrow.Author.Tests.{le-ltb, lt-ltb}
+use Rattle.model.specs.Wrote.{over, Wrote}
+use Rattle.model.specs.Netlist.{Netlist, lastWire}
+use Rattle.refusals.specs.Tests.{refuseIf, _then_}
+use Rattle.refusals.specs.Slices.{testRoom}
+use Rattle.refusals.specs.declared.Refusal.{Refusal}
+use Rattle.refusals.specs.declared.Refusal.the-variants.{Depth, NoRoom, NoAnswer, NoViolation}
+use Rattle.refusals.specs.declared.Verdict.the-variants.{Passed, Refused}
+use Rattle.refusals.proofs.Tests.{then-passes}
+use Rattle.refusals.proofs.Slices.{room-enough, room-short, room-shown}
+use Rattle.netlist_tests.specs.Record.{recordVerdict}
+use Rattle.netlist_tests.proofs.Acceptance.{passes-accepted}
+use Rattle.call_unpacked.specs.Calls.{testDepth}
+use Rattle.call_unpacked.proofs.Calls.{depth-passes}
+use Rattle.call_lists.specs.Delivered.{delivered}
+use Rattle.replay_frame.specs.Replay.{Said, replayedState, firstViolation, traceText}
+use Rattle.replay_run.specs.Runs.{traceLength, RunFits}
+use Rattle.replay_run.proofs.Runs.{delivered-again}
+use Rattle.replay_run.proofs.Through.{length-lines}
+use Rattle.replay_call.specs.ReplayCall.{replayTests, fedFault, runVerdict, unlessRefused, outcome, wordsLeft, traceAfter, ReplaysValues}
+use Rattle.replay_call.specs.declared.ReplayAnswer.the-variants as answers
+
+-- the longest trace
+pub trace-small : (k w : ℕ) → k ≤ 255 → w ≤ 600 → (k + 1) * (w + 1) ≤ 153856
+trace-small k w d h = omega (arith, mul-le-mul-right {m = k + 1} {n = 256} (w + 1) (omega arith))
+
+module _ (c : Netlist) (latchCount gateCount k words room : ℕ) where
+  -- 4, 3, 5 and 6
+  pub tests-record : {r : Refusal} {p : ℕ} → recordVerdict c latchCount gateCount ≡ Refused r p
+      → replayTests c latchCount gateCount k words room ≡ Refused r p
+  unfolding replayTests _then_
+  tests-record h = rw h
+
+  module _ (record-passed : recordVerdict c latchCount gateCount ≡ Passed) where
+    -- 7
+    pub tests-depth : 255 < k → replayTests c latchCount gateCount k words room ≡ Refused Depth 0
+    unfolding replayTests _then_ testDepth
+    tests-depth d = rw (record-passed, lt-ltb 255 k d)
+
+    -- 9, of the memory and of the trace
+    pub tests-memory : k ≤ 255 → words < 2 ^ c .m → replayTests c latchCount gateCount k words room ≡ Refused NoRoom 0
+    unfolding replayTests _then_ testDepth
+    tests-memory d l = rw (record-passed, le-ltb 255 k d, room-short (2 ^ c .m) words l)
+
+    pub tests-trace : k ≤ 255 → 2 ^ c .m ≤ words → room < traceLength c k → replayTests c latchCount gateCount k words room ≡ Refused NoRoom 0
+    unfolding replayTests _then_ testDepth
+    tests-trace d h l = rw (record-passed, le-ltb 255 k d, room-enough (2 ^ c .m) words h, room-short (traceLength c k) room l)
+
+    -- none
+    pub tests-passed : k ≤ 255 → 2 ^ c .m ≤ words → traceLength c k ≤ room → replayTests c latchCount gateCount k words room ≡ Passed
+    unfolding replayTests _then_ testDepth
+    tests-passed d h l = rw (record-passed, le-ltb 255 k d, room-enough (2 ^ c .m) words h) (room-enough (traceLength c k) room l)
+
+-- what a replay that is not refused before has shown
+pub tests-shown : (c : Netlist) (latchCount gateCount k : ℕ) (memory trace : List ℕ)
+    → replayTests c latchCount gateCount k (length memory) (length trace) ≡ Passed → RunFits c k memory trace
+unfolding replayTests
+tests-shown c latchCount gateCount k memory trace h =
+    let a = then-passes (recordVerdict c latchCount gateCount) _ .0 h in
+    let b = then-passes (testDepth k) _ .0 (a .1) in
+    let d = then-passes (testRoom (2 ^ c .m) (length memory)) _ .0 (b .1) in
+    record {
+      limits = passes-accepted c latchCount gateCount .0 (a .0) .0 .limits;
+      depth = depth-passes k (b .0);
+      memory-size = room-shown (2 ^ c .m) (length memory) (d .0);
+      trace-size = room-shown (traceLength c k) (length trace) (d .1);
+    }
+
+module _ (c : Netlist) (y : Said) (k : ℕ) (memory trace : List ℕ) where
+  -- 14: zeros in the place of the run's words
+  pub values-unclear : 2 ^ c .m ≤ length memory → fedFault c y k ≡ true
+      → ReplaysValues c y k memory trace (delivered (2 ^ c .m) (λ _. 0) (delivered (2 ^ c .m) (replayedState c y (k + 1) .memory) memory)) trace (answers.Refused NoAnswer 0)
+  unfolding outcome runVerdict unlessRefused _then_ wordsLeft traceAfter
+  values-unclear size e =
+      record {
+        answers = rw e;
+        memory-left = rw e (delivered-again (λ _. 0) (replayedState c y (k + 1) .memory) (2 ^ c .m) memory size);
+        trace-left = refl;
+      }
+
+  -- 15: the run's words
+  pub values-safe : fedFault c y k ≡ false → k < firstViolation c y k
+      → ReplaysValues c y k memory trace (delivered (2 ^ c .m) (replayedState c y (k + 1) .memory) memory) trace (answers.Refused NoViolation 0)
+  unfolding outcome runVerdict unlessRefused _then_ wordsLeft traceAfter
+  values-safe e l =
+      record {
+        answers = rw (e, lt-ltb k (firstViolation c y k) l);
+        memory-left = rw e;
+        trace-left = refl;
+      }
+
+  -- neither: the run's words and lines
+  pub values-broken : fedFault c y k ≡ false → firstViolation c y k ≤ k → {trace′ : List ℕ} → trace′ ≡ over (traceText c y k) trace
+      → ReplaysValues c y k memory trace (delivered (2 ^ c .m) (replayedState c y (k + 1) .memory) memory) trace′ (answers.Broken (firstViolation c y k))
+  unfolding outcome runVerdict unlessRefused _then_ wordsLeft traceAfter
+  values-broken e l lines =
+      record {
+        answers = rw (e, le-ltb k (firstViolation c y k) l);
+        memory-left = rw e;
+        trace-left = lines;
+      }
+
+-- the lines in front of the buffer that they were written to
+pub lines-front : (c : Netlist) (y : Said) (k : ℕ) (buffer : List ℕ) → take (traceLength c k) (over (traceText c y k) buffer) ≡ traceText c y k
+unfolding traceText
+lines-front c y k buffer =
+    rw (← length-lines c y (k + 1)) (take-append-seam (traceText c y k) (drop (length (traceText c y k)) buffer))
+
+-- and behind them in the trace
+pub lines-written : (c : Netlist) (y : Said) (k : ℕ) (buffer trace trace′ : List ℕ) {n r : ℕ} → n ≡ traceLength c k
+    → Wrote (take n (over (traceText c y k) buffer)) trace trace′ r → trace′ ≡ over (traceText c y k) trace
+lines-written c y k buffer trace trace′ {n} e w =
+    let front : take n (over (traceText c y k) buffer) ≡ traceText c y k = rw e (lines-front c y k buffer) in
+    w .leaves ∙ rw front

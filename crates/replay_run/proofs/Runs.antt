@@ -1,0 +1,131 @@
+-- Laws of specs/Runs.antt: what a frame shows and writes by its table, and what a run has left frame by frame. No contract cites this file.
+use Prim.Native.Nat.{ℕ, zero, suc, _+_, _*_, _^_, _≤_, _<_}
+use mathlib.Core.Path.{_≡_, refl, sym, _∙_, ap, ap₂}
+use mathlib.Core.Bool.{Bool, true, false, cond, not, _&&_, _||_}
+use mathlib.Core.List.{List, [], _∷_, _++_}
+use mathlib.Core.Logic.{by-cases}
+use native.Mathlib.Decide.{ℕ-discrete}
+use native.Mathlib.Numerals.{add-one}
+use native.Mathlib.Omega.{arith}
+use lib.Dec.{eqb}
+use lib.ListN.{length, getD, take, drop, take-append-drop}
+use lib.Seq.{take-suc, drop-append-seam, getD-set-same, getD-set-other}
+use borrow.Author.Tests.{eq-eqb, ne-eqb}
+use Rattle.model.specs.Gather.{gather}
+use Rattle.model.specs.Search.{anyBelow, firstWhere, IsFirst}
+use Rattle.model.specs.Wrote.{over, Wrote}
+use Rattle.model.specs.Netlist.{Netlist, port, lastWire}
+use Rattle.model.specs.Circuit.{codeValue, initial}
+use Rattle.model.specs.Acceptance.{WithinLimits}
+use Rattle.model.proofs.Gather.{length-gather}
+use Rattle.model.proofs.Search.{firstWhere-is, first-unique}
+use Rattle.call_lists.specs.Delivered.{delivered}
+use Rattle.call_lists.proofs.Delivered.{length-delivered, delivered-next}
+use Rattle.circuit_values.specs.WireTable.{entry, HasBelow}
+use Rattle.circuit_step.specs.Held.{Holds}
+use Rattle.circuit_step.proofs.Held.{code-in}
+use Rattle.replay_frame.specs.Replay.{Said, replayed, fedUnclear, feedFault, violates, lineOf}
+use Rattle.replay_frame.specs.Frames.{FrameJudged}
+use Rattle.replay_frame.specs.declared.FrameVerdict.{FrameVerdict}
+use Rattle.replay_frame.proofs.Replay.{length-line, line-same}
+use Rattle.replay_run.specs.Runs.{nextFirst, Shown}
+
+-- one place more
+pub first-next : (f : ℕ → Bool) (i : ℕ) → nextFirst (firstWhere f i) i (f i) ≡ firstWhere f (i + 1)
+unfolding nextFirst
+first-next f i = first-unique (looked (f i) refl) (firstWhere-is f (i + 1))
+  where
+    before : IsFirst f i (firstWhere f i)
+    before = firstWhere-is f i
+
+    looked : (b : Bool) → f i ≡ b → IsFirst f (i + 1) (nextFirst (firstWhere f i) i b)
+    looked true e =
+        record {
+          within = omega (arith, before .within);
+          none-before = before .none-before;
+          holds-there = λ h.
+              by-cases (ℕ-discrete (firstWhere f i) i) (λ q. rw q e) (λ q. before .holds-there (omega (arith, before .within)));
+        }
+    looked false e =
+        by-cases (ℕ-discrete (firstWhere f i) i)
+        (λ q. rw (eq-eqb (firstWhere f i) i q)
+        (record {
+          within = omega arith;
+          none-before = λ x h. by-cases (ℕ-discrete x i) (λ at. rw at e) (λ at. before .none-before x (omega arith));
+          holds-there = λ h. absurd (omega arith);
+        }))
+        (λ q. rw (ne-eqb (firstWhere f i) i q)
+        (record { within = omega (arith, before .within); none-before = before .none-before; holds-there = λ h. before .holds-there (omega (arith, before .within)) }))
+
+-- by the table of frame i's values
+module _ {c : Netlist} (limits : WithinLimits c) (y : Said) (i : ℕ) {table : List Bool} (q : HasBelow (lastWire c + 1) (replayed c y i) table) where
+  -- what it shows
+  pub shown-by : {r : FrameVerdict} → FrameJudged c (y .unclear) i (entry table) r → Shown c y i r
+  unfolding feedFault fedUnclear violates
+  shown-by j =
+      record {
+        fault-is = j .fault-is ∙ rw (code-in c q (c .RE) (limits .codes .RE-fits));
+        broken-is = j .broken-is ∙ rw (code-in c q (c .P) (limits .codes .P-fits));
+      }
+
+  -- its line
+  pub line-by : {old new : List ℕ} {r : ℕ} → Wrote (lineOf c (entry table)) old new r → Wrote (lineOf c (replayed c y i)) old new (lastWire c + 1)
+  line-by {old} w =
+      record {
+        counted = sym (length-line c (replayed c y i));
+        leaves = w .leaves ∙ ap (λ xs. over xs old) (line-same c (q .has));
+      }
+
+-- n words in front, and what was behind them
+module _ (f : ℕ → ℕ) where
+  front : (n : ℕ) (new : List ℕ) → n ≤ length new → ((x : ℕ) → x < n → getD new x 0 ≡ f x) → take n new ≡ gather n (λ t. f t ∷ [])
+  unfolding gather
+  front zero new h each = refl
+  front (suc n) new h each =
+      take-suc new n 0 (omega arith) ∙ ap₂ (λ (xs : List ℕ) (x : ℕ). xs ++ x ∷ []) (front n new (omega arith) (λ x b. each x (omega arith))) (each n (omega arith))
+
+  length-front : (n : ℕ) → length (gather n (λ t. f t ∷ [])) ≡ n
+  length-front n = omega (arith, length-gather n 1 (λ t. f t ∷ []) (λ t h. refl))
+
+  pub delivered-by : (n : ℕ) (old new : List ℕ) → n ≤ length new → ((x : ℕ) → x < n → getD new x 0 ≡ f x) → drop n new ≡ drop n old
+      → new ≡ delivered n f old
+  unfolding delivered
+  delivered-by n old new h each behind =
+      sym (take-append-drop n new) ∙ ap₂ _++_ (front n new h each) (behind ∙ ap (λ k. drop k old) (sym (length-front n)))
+
+  pub behind-delivered : (n : ℕ) (old : List ℕ) → drop n (delivered n f old) ≡ drop n old
+  unfolding delivered
+  behind-delivered n old =
+      ap (λ k. drop k (gather n (λ t. f t ∷ []) ++ drop (length (gather n (λ t. f t ∷ []))) old)) (sym (length-front n))
+      ∙ drop-append-seam (gather n (λ t. f t ∷ [])) (drop (length (gather n (λ t. f t ∷ []))) old)
+      ∙ ap (λ k. drop k old) (length-front n)
+
+  pub delivered-at : (n : ℕ) (old : List ℕ) → n ≤ length old → (x : ℕ) → x < n → getD (delivered n f old) x 0 ≡ f x
+  delivered-at zero old l x h = absurd (omega arith)
+  delivered-at (suc n) old l x h =
+      let size : length (delivered n f old) ≡ length old = length-delivered f old n (omega arith) in
+      rw (← delivered-next f old n (omega arith))
+      (by-cases (ℕ-discrete x n)
+      (λ e. rw e (getD-set-same (delivered n f old) n (f n) 0 (omega arith)))
+      (λ e. getD-set-other (delivered n f old) n x (f n) 0 e ∙ delivered-at n old (omega arith) x (omega arith)))
+
+-- a memory that is delivered anew
+pub delivered-again : (f g : ℕ → ℕ) (n : ℕ) (old : List ℕ) → n ≤ length old → delivered n f (delivered n g old) ≡ delivered n f old
+delivered-again f g n old h =
+    let size : length (delivered n g old) ≡ length old = length-delivered g old n h in
+    let size′ : length (delivered n f (delivered n g old)) ≡ length (delivered n g old) = length-delivered f (delivered n g old) n (omega arith) in
+    delivered-by f n old (delivered n f (delivered n g old)) (omega arith) (delivered-at f n (delivered n g old) (omega arith))
+    (behind-delivered f n (delivered n g old) ∙ behind-delivered g n old)
+
+-- the initial state is held: every word the initial word, every latch at its reset
+pub initial-held : (c : Netlist) (latches : List Bool) (old : List ℕ) → 2 ^ c .m ≤ length old → length latches ≡ 600
+    → ((l : ℕ) → l < c .latches → entry latches l ≡ eqb (c .reset l) 1)
+    → Holds c (initial c) latches (delivered (2 ^ c .m) (λ _. c .initialWord) old)
+unfolding initial
+initial-held c latches old h size each =
+    record {
+      latch-size = size;
+      latch-held = each;
+      memory-size = omega (arith, length-delivered (λ _. c .initialWord) old (2 ^ c .m) h);
+      memory-held = delivered-at (λ _. c .initialWord) (2 ^ c .m) old h;
+    }

@@ -1,0 +1,119 @@
+-- What a run (`run`) has left before frame i: the invariant of its loop. No contract cites this file.
+use Prim.Native.Nat.{ℕ, zero, _+_, _-_, _*_, _^_, _≤_}
+use mathlib.Core.Path.{_≡_, refl, sym, _∙_, ap, ap₂}
+use mathlib.Core.Bool.{Bool, false, _||_}
+use mathlib.Core.List.{List, [], _∷_, _++_}
+use native.Mathlib.Nat.{mul-le-mul-right, suc-mul}
+use native.Mathlib.Numerals.{add-one}
+use native.Mathlib.Omega.{arith}
+use lib.ListN.{length, drop}
+use borrow.Rule.Slice.PartMut.{midOf, putMid}
+use Rattle.model.specs.Gather.{gather}
+use Rattle.model.specs.Search.{anyBelow, firstFrom, firstWhere}
+use Rattle.model.specs.Wrote.{Wrote}
+use Rattle.model.specs.Netlist.{Netlist, lastWire}
+use Rattle.model.specs.Circuit.{stateAt, initial}
+use Rattle.model.proofs.Gather.{length-gather}
+use Rattle.model.proofs.Search.{any-none, any-next}
+use Rattle.model.proofs.Wrote.{wrote-nothing, wrote-then}
+use Rattle.netlist.specs.NetOf.{netOf}
+use Rattle.netlist.specs.declared.Netlist as Record
+use Rattle.call_lists.specs.Delivered.{delivered}
+use Rattle.circuit_step.specs.Held.{Holds}
+use Rattle.replay_frame.specs.Replay.{Said, replayed, replayedState, feedFault, violates, firstViolation, lineOf, traceText}
+use Rattle.replay_frame.specs.Frames.{FrameFits, FrameDone}
+use Rattle.replay_frame.specs.declared.FrameVerdict.{FrameVerdict}
+use Rattle.replay_frame.proofs.Replay.{length-line}
+use Rattle.replay_run.specs.Runs.{nextFirst, Shown, traceLength, RunFits, RunDone}
+use Rattle.replay_run.specs.declared.RunVerdict.{RunVerdict}
+use Rattle.replay_run.proofs.Runs.{first-next, delivered-by}
+
+-- the lines of the first i frames
+abbrev pub linesTo : Netlist → Said → ℕ → List ℕ
+linesTo c y i = gather i (λ j. lineOf c (replayed c y j))
+
+pub length-lines : (c : Netlist) (y : Said) (i : ℕ) → length (linesTo c y i) ≡ i * (lastWire c + 1)
+length-lines c y i = length-gather i (lastWire c + 1) (λ j. lineOf c (replayed c y j)) (λ j h. length-line c (replayed c y j))
+
+pub record Through (c : Netlist) (y : Said) (k : ℕ) (old oldTrace memory trace : List ℕ) (values inputs state : List Bool)
+    (fault : Bool) (first at i : ℕ) : Type 0 where
+  pub within : i ≤ k + 1
+  pub values-size : length values ≡ 601
+  pub inputs-size : length inputs ≡ 600
+  pub begins : Holds c (replayedState c y i) state memory
+  pub behind : drop (2 ^ c .m) memory ≡ drop (2 ^ c .m) old
+  pub memory-length : length memory ≡ length old
+  pub trace-length : length trace ≡ length oldTrace
+  pub lines : Wrote (linesTo c y i) oldTrace trace at
+  pub fault-found : fault ≡ anyBelow i (feedFault c y)
+  pub first-found : first ≡ firstWhere (violates c y) i
+
+-- before frame 0
+pub through-none : (r : Record.Netlist) (latches gates : List ℕ) (y : Said) (k : ℕ) (old trace : List ℕ) {values inputs state : List Bool}
+    → length values ≡ 601 → length inputs ≡ 600 → Holds (netOf r latches []) (initial (netOf r latches [])) state old
+    → Through (netOf r latches gates) y k old trace old trace values inputs state false 0 0 0
+unfolding netOf initial stateAt gather anyBelow firstWhere firstFrom
+through-none r latches gates y k old trace v n held =
+    record {
+      within = omega arith;
+      values-size = v;
+      inputs-size = n;
+      begins = record { latch-size = held .latch-size; latch-held = held .latch-held; memory-size = held .memory-size; memory-held = held .memory-held };
+      behind = refl;
+      memory-length = refl;
+      trace-length = refl;
+      lines = wrote-nothing trace;
+      fault-found = refl;
+      first-found = refl;
+    }
+
+module _ {c : Netlist} {y : Said} {k : ℕ} {old oldTrace memory trace : List ℕ} {values inputs state : List Bool} {fault : Bool} {first at i : ℕ}
+    (t : Through c y k old oldTrace memory trace values inputs state fault first at i) where
+  -- where the lines end, and that there is room for one more
+  pub lines-end : at ≡ i * (lastWire c + 1)
+  lines-end = t .lines .counted ∙ length-lines c y i
+
+  pub lines-room : i ≤ k → traceLength c k ≤ length oldTrace → at + (lastWire c + 1) ≤ length trace
+  lines-room h fits =
+      omega (arith, lines-end, suc-mul i (lastWire c + 1), mul-le-mul-right {m = i + 1} {n = k + 1} (lastWire c + 1) (omega arith), add-one i, t .trace-length)
+
+  pub lines-small : i ≤ k → k ≤ 255 → lastWire c ≤ 600 → at + (lastWire c + 1) ≤ 153856
+  lines-small h d w =
+      omega (arith, lines-end, suc-mul i (lastWire c + 1), mul-le-mul-right {m = i + 1} {n = 256} (lastWire c + 1) (omega arith), add-one i)
+
+  -- one frame on
+  pub through-next : i ≤ k → {memory′ part : List ℕ} {values′ inputs′ state′ : List Bool} {r : FrameVerdict} {first′ line : ℕ}
+      → FrameDone c y i memory values′ inputs′ state′ memory′ → length memory′ ≡ length memory
+      → Wrote (lineOf c (replayed c y i)) (midOf at (length trace - at) trace) part (lastWire c + 1)
+      → length (putMid at (length trace - at) trace part) ≡ length trace
+      → Shown c y i r → first′ ≡ nextFirst first i (r .broken) → line ≡ lastWire c + 1
+      → Through c y k old oldTrace memory′ (putMid at (length trace - at) trace part) values′ inputs′ state′ (fault || r .fault) first′ (at + line) (i + 1)
+  unfolding gather
+  through-next h {memory′} {part} {r = r} done same line kept shown e width =
+      record {
+        within = omega arith;
+        values-size = done .values-are .size;
+        inputs-size = done .inputs-size;
+        begins = done .next-begins;
+        behind = done .behind ∙ t .behind;
+        memory-length = same ∙ t .memory-length;
+        trace-length = kept ∙ t .trace-length;
+        lines = rw (add-one, width) (wrote-then (linesTo c y i) (lineOf c (replayed c y i)) oldTrace trace part at (lastWire c + 1) (t .lines) line);
+        fault-found = ap₂ _||_ (t .fault-found) (shown .fault-is) ∙ any-next false (feedFault c y) i;
+        first-found = e ∙ ap₂ (λ x b. nextFirst x i b) (t .first-found) (shown .broken-is) ∙ first-next (violates c y) i;
+      }
+
+  -- behind frame k
+  pub through-all : i ≡ k + 1 → (start : List ℕ) → drop (2 ^ c .m) old ≡ drop (2 ^ c .m) start
+      → RunDone c y k start oldTrace memory trace (record { fault = fault; first = first })
+  unfolding traceText firstViolation
+  through-all all start behind =
+      record {
+        memory-is = delivered-by (replayedState c y (k + 1) .memory) (2 ^ c .m) start memory (held .memory-size) (held .memory-held) (t .behind ∙ behind);
+        trace-is = (rw all at (t .lines)) .leaves;
+        fault-is = t .fault-found ∙ rw all;
+        first-is = t .first-found ∙ rw all;
+      }
+    where
+      held : Holds c (replayedState c y (k + 1)) state memory
+      held = rw all at (t .begins)
