@@ -24,6 +24,7 @@ use Rattle.answer_lines.specs.declared.AnswerKind.the-variants.{Malformed, Unsa
 use Rattle.replay_frame.specs.Replay.{Said, replayedState, feedFault, firstViolation, traceText}
 use Rattle.replay_run.specs.Runs.{traceLength}
 use Rattle.replay_call.specs.declared.ReplayAnswer.{ReplayAnswer}
+use Rattle.replay_call.specs.declared.ReplayReply.{ReplayReply}
 use Rattle.replay_call.specs.declared.ReplayAnswer.the-variants.{Broken, ClaimedUnsatisfiable, Refused}
 
 -- RULES T49: "the record with its lists, then 7, then 9 for the memory, then 9 for the trace". It is of a memory of `words` words and a trace of
@@ -55,17 +56,12 @@ unfoldable pub replayAnswer : Netlist → ℕ → ℕ → ℕ → AnswerKind →
 replayAnswer c latchCount gateCount k kind y words room =
     unlessRefused (replayTests c latchCount gateCount k words room) (outcome c k kind y)
 
--- an answer in numbers (RULES N9): the refusal's number and place, both 0 where nothing is refused; 1 where the property is broken, and the frame
-pub record ReplayReply : Type 0 where
-  pub number : ℕ
-  pub place : ℕ
-  pub violated : ℕ
-  pub frame : ℕ
-
+-- an answer in numbers (RULES N9): the refusal's number and place, both 0 where nothing is refused; 1 where the answer claims to be
+-- unsatisfiable; and the first frame that breaks the property
 unfoldable pub replayReply : ReplayAnswer → ReplayReply
-replayReply (Broken i) = record { number = 0; place = 0; violated = 1; frame = i }
-replayReply ClaimedUnsatisfiable = record { number = 0; place = 0; violated = 0; frame = 0 }
-replayReply (Refused r p) = record { number = refusalNumber r; place = p; violated = 0; frame = 0 }
+replayReply (Broken i) = record { number = 0; place = 0; claimed = 0; first = i }
+replayReply ClaimedUnsatisfiable = record { number = 0; place = 0; claimed = 1; first = 0 }
+replayReply (Refused r p) = record { number = refusalNumber r; place = p; claimed = 0; first = 0 }
 
 unfoldable pub replaySent : Netlist → ℕ → ℕ → ℕ → AnswerKind → Said → ℕ → ℕ → ReplayReply
 replaySent c latchCount gateCount k kind y words room = replayReply (replayAnswer c latchCount gateCount k kind y words room)

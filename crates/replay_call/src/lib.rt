@@ -22,6 +22,42 @@ pub enum ReplayAnswer {
     Refused(Refusal, u32),
 }
 
+// The same in numbers: number and place of a refusal, both 0 where nothing is refused; 1 where the answer claims that there is none; and
+// the first frame that breaks the property.
+#[repr(C)]
+pub struct ReplayReply {
+    pub number: u32,
+    pub place: u32,
+    pub claimed: u32,
+    pub first: u32,
+}
+
+// An answer in numbers.
+pub fn reply_of(answer: ReplayAnswer) -> ReplayReply
+    ensures { λ r. ⌜ r ≡ replayReply answer ⌝ }
+{
+    match answer {
+        ReplayAnswer::Broken(first) => ReplayReply {
+            number: 0,
+            place: 0,
+            claimed: 0,
+            first,
+        },
+        ReplayAnswer::ClaimedUnsatisfiable => ReplayReply {
+            number: 0,
+            place: 0,
+            claimed: 1,
+            first: 0,
+        },
+        ReplayAnswer::Refused(refusal, place) => ReplayReply {
+            number: refusals::number(refusal),
+            place,
+            claimed: 0,
+            first: 0,
+        },
+    }
+}
+
 // How many bytes the lines of frames 0 to k have.
 fn trace_length(net: Netlist, depth: u32) -> usize
     requires { ⌜ SizesFit (alone net) × (depth ≤ 255) ⌝ }
