@@ -6,15 +6,18 @@ use call_replies::HeadingReply;
 use call_replies::LineReply;
 use call_replies::SheetReply;
 use netlist::Netlist;
+use replay_call::ReplayReply;
 use sheet_parse::SheetReader;
 ghost use mathlib.Core.Path.{_≡_};
 ghost use lib.ListN.{length};
+ghost use Rattle.call_lists.specs.Lent.{netLent};
 ghost use Rattle.calls.specs.LentCalls.{headingFor, groupFor, numbersAfter};
 ghost use Rattle.dimacs.specs.Text.{headerText, clauseText, refusalText};
 ghost use Rattle.dimacs.specs.PrintCalls.{printSent, printLeaves};
 ghost use Rattle.sheet_parse.specs.LineAnswers.{lineAnswer, linesRead};
 ghost use Rattle.sheet_reader.specs.ReadCall.{readVerdict, readRecord, latchesAfter, gatesAfter, SheetDelivered};
 ghost use Rattle.aiger_import.specs.ImportCall.{importVerdictFor, importRecord, importLatches, importGates, TextDelivered};
+ghost use Rattle.replay_answer.specs.ReplayAnswer.{replayFor, memoryFor, traceFor};
 ghost use Rattle.call_replies.specs.Replies.{groupOf, countNumbers, headingNumbers, sheetNumbers, lineNumbers};
 
 // `calls::write_group`. The kind is 0 for the wires of frame i, 1 for the pair (j, i), 2 for the closing of frame i, 3 for the property.
@@ -138,4 +141,36 @@ pub extern "C" fn marrubigai_put_refusal(out: &mut [u8], number: u32, place: u32
     ensures borrowed { λ _. ⌜ now (out .exit) ≡ printLeaves (refusalText number place) (now (out .entry)) ⌝ }
 {
     call_replies::print_numbers(dimacs::put_refusal(out, number, place))
+}
+
+// `replay_answer::replay`, of lent lists.
+#[no_mangle]
+pub extern "C" fn marrubigai_replay(
+    net: Netlist,
+    latches: &[Latch],
+    gates: &[Gate],
+    depth: u32,
+    answer: &[u8],
+    memory: &mut [u32],
+    trace: &mut [u8],
+) -> ReplayReply
+    ensures answer { λ r. ⌜ r ≡ replayFor (netLent net (now (latches .entry)) (now (gates .entry))) (length (now (latches .entry))) (length (now (gates .entry))) depth (now (answer .entry)) (length (now (memory .entry))) (length (now (trace .entry))) ⌝ }
+    ensures memory { λ _. ⌜ now (memory .exit) ≡ memoryFor (netLent net (now (latches .entry)) (now (gates .entry))) (length (now (latches .entry))) (length (now (gates .entry))) depth (now (answer .entry)) (now (memory .entry)) (length (now (trace .entry))) ⌝ }
+    ensures trace { λ _. ⌜ now (trace .exit) ≡ traceFor (netLent net (now (latches .entry)) (now (gates .entry))) (length (now (latches .entry))) (length (now (gates .entry))) depth (now (answer .entry)) (length (now (memory .entry))) (now (trace .entry)) ⌝ }
+{
+    let mut latch_codes = [0; 1200];
+    call_lists::unpack::unpack_latches(&mut latch_codes, latches);
+    let mut gate_codes = [0; 1200];
+    call_lists::unpack::unpack_gates(&mut gate_codes, gates);
+    replay_answer::replay(
+        net,
+        &latch_codes,
+        latches.len(),
+        &gate_codes,
+        gates.len(),
+        depth,
+        answer,
+        memory,
+        trace,
+    )
 }
