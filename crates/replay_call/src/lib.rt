@@ -59,7 +59,7 @@ pub fn reply_of(answer: ReplayAnswer) -> ReplayReply
 }
 
 // How many bytes the lines of frames 0 to k have.
-fn trace_length(net: Netlist, depth: u32) -> usize
+pub fn trace_length(net: Netlist, depth: u32) -> usize
     requires { ⌜ SizesFit (alone net) × (depth ≤ 255) ⌝ }
     ensures { λ r. ⌜ r ≡ traceLength (alone net) depth ⌝ }
 {

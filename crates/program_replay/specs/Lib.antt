@@ -1,0 +1,2 @@
+-- What `replay` prints. Nothing here imports a law or a proof.
+pub mod Printed
