@@ -26,8 +26,7 @@ same-length-2 c = search needs
 returns : tie.Need-returns
 returns c =
     let read = c .before .before .before .before .before .before .before .before .before .read-answer .ensures in
-    let told = c .before .before .before .before .before .replay .ensures in
-    (
+    let told = c .before .before .before .before .before .replay .ensures in (
       c .reply-of .ensures ∙ told .0 ∙ replay-is _ _ _ _ read _ _,
       (told .1 .0 ∙ memory-is _ _ _ _ read _ _, told .1 .1 ∙ trace-is _ _ _ _ read _ _),
     )

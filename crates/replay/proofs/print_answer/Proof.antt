@@ -1,0 +1,40 @@
+-- `replay::print_answer` meets its contract: an input without a refusal is an accepted netlist.
+use borrow.Author.Needs.{needs}
+use Rattle.replay.proofs.print_answer.Statement.{statement}
+use Rattle.replay.proofs.print_answer.Tie as tie
+
+no-codes-requires : tie.Need-no-codes-requires
+no-codes-requires c κs = search needs
+
+no-codes-requires-2 : tie.Need-no-codes-requires-2
+no-codes-requires-2 c κs = search needs
+
+read-input-requires : tie.Need-read-input-requires
+read-input-requires c κs = search needs
+
+print-first-requires : tie.Need-print-first-requires
+print-first-requires c κs = search needs
+
+replay-file-requires : tie.Need-replay-file-requires
+replay-file-requires c κs =
+    let decided = c .before .before in
+    let taken = decided .before .before .read-input .ensures .1 .1 (decided .if1 .left) in
+    (taken .accepted, taken .depth-most)
+
+returns : tie.Need-returns
+returns c = search needs
+
+returns-2 : tie.Need-returns-2
+returns-2 c = search needs
+
+pub print-answer-spec : {M : Type 1} → statement M
+print-answer-spec =
+    tie.close
+    (tie.spec
+    no-codes-requires
+    no-codes-requires-2
+    read-input-requires
+    print-first-requires
+    replay-file-requires
+    returns
+    returns-2)
