@@ -5,7 +5,7 @@ use Rattle.clause_variables.proofs.frame_base.Statement.{statement}
 use Rattle.clause_variables.proofs.frame_base.Tie as tie
 
 numbering-requires : tie.Need-numbering-requires
-numbering-requires c κs = search needs
+numbering-requires c κs = c .pre .0
 
 base-requires : tie.Need-base-requires
 base-requires c κs = search needs

@@ -5,16 +5,18 @@ use borrow.Author.Needs.{needs}
 use Rattle.model.proofs.Variables.{noneSince-last, noneSince-earlier}
 use Rattle.netlist.specs.NetOf.{netOf, alone}
 use Rattle.clause_variables.specs.PortOf.{portOf}
-use Rattle.clause_variables.proofs.Room.{pair-has-number, numbered, behind-bits}
+use Rattle.clause_variables.proofs.Room.{code-has-number, pair-has-number, behind-bits}
 use Rattle.clause_variables.proofs.none_since.Statement.{statement}
 use Rattle.clause_variables.proofs.none_since.Tie as tie
 
 frame-base-requires : tie.Need-frame-base-requires
-frame-base-requires c κs = search needs
+frame-base-requires c κs = let p = c .before .pre in (p .0 .limits .sizes, omega arith)
 
 in-frame-requires : tie.Need-in-frame-requires
 unfolding portOf
-in-frame-requires c κs = search (needs, numbered)
+in-frame-requires c κs =
+    let fits = c .before .before .pre .0 in
+    rw (c .frame-base .ensures) (code-has-number _ (fits .limits .sizes) _ _ (omega arith) (fits .port-RE-fits))
 
 returns : tie.Need-returns
 unfolding portOf
@@ -24,7 +26,7 @@ returns c =
     (rw (c .before .frame-base .ensures) at (c .in-frame .ensures))
 
 pair-base-requires : tie.Need-pair-base-requires
-pair-base-requires c κs = search needs
+pair-base-requires c κs = c .before .pre
 
 add-in-pair : tie.Need-add-in-pair
 unfolding netOf

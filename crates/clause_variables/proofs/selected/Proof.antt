@@ -1,15 +1,16 @@
 -- `clause_variables::selected` meets its contract.
 use mathlib.Core.Path.{_∙_}
+use native.Mathlib.Omega.{arith}
 use borrow.Author.Needs.{needs}
 use Rattle.model.specs.Variables.{selected}
 use Rattle.netlist.specs.NetOf.{netOf, alone}
 use Rattle.clause_variables.specs.PortOf.{portOf}
-use Rattle.clause_variables.proofs.Room.{numbered, behind-bits}
+use Rattle.clause_variables.proofs.Room.{pair-has-number, behind-bits}
 use Rattle.clause_variables.proofs.selected.Statement.{statement}
 use Rattle.clause_variables.proofs.selected.Tie as tie
 
 pair-base-requires : tie.Need-pair-base-requires
-pair-base-requires c κs = search needs
+pair-base-requires c κs = let p = c .pre in (p .0, omega arith, p .2)
 
 add-in-pair : tie.Need-add-in-pair
 unfolding netOf
@@ -17,7 +18,9 @@ add-in-pair c = search needs
 
 in-pair-requires : tie.Need-in-pair-requires
 unfolding netOf
-in-pair-requires c κs = (search (needs, numbered), search needs)
+in-pair-requires c κs =
+    let p = c .before .before .pre in
+    (rw (c .before .pair-base .ensures) (pair-has-number _ _ (p .0) _ _ _ (p .1) (p .2) (omega arith)), omega arith)
 
 returns : tie.Need-returns
 unfolding selected netOf

@@ -18,16 +18,16 @@ abbrev μ-loop : tie.MeasureT-loop
 μ-loop out₀ j i net selected writing reading first read n at₀ t₀ out at t = n - t
 
 selected-requires : tie.Need-selected-requires Inv-loop μ-loop
-selected-requires c κs = search needs
+selected-requires c κs = let is = c .pre .0 in (is .fits, omega arith, omega arith)
 
 frame-base-requires : tie.Need-frame-base-requires Inv-loop μ-loop
-frame-base-requires c κs = search needs
+frame-base-requires c κs = let is = c .before .pre .0 in (is .fits .limits .sizes, omega arith)
 
 frame-base-requires-2 : tie.Need-frame-base-requires-2 Inv-loop μ-loop
-frame-base-requires-2 c κs = search needs
+frame-base-requires-2 c κs = let is = c .before .before .pre .0 in (is .fits .limits .sizes, omega arith)
 
 first-read-wire-requires : tie.Need-first-read-wire-requires Inv-loop μ-loop
-first-read-wire-requires c κs = search needs
+first-read-wire-requires c κs = c .before .before .before .pre .0 .fits .limits .sizes
 
 loop-holds : tie.Need-loop-holds Inv-loop μ-loop
 loop-holds c = turns-start _ _ _ _ (c .before .before .before .before .pre .1)

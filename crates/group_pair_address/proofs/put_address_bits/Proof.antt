@@ -17,13 +17,13 @@ abbrev μ-loop : tie.MeasureT-loop
 μ-loop out₀ j i net port q writing reading m at₀ t₀ out at t = m - t
 
 pair-base-requires : tie.Need-pair-base-requires Inv-loop μ-loop
-pair-base-requires c κs = search needs
+pair-base-requires c κs = let is = c .pre .0 in (is .fits, omega arith, omega arith)
 
 frame-base-requires : tie.Need-frame-base-requires Inv-loop μ-loop
-frame-base-requires c κs = search needs
+frame-base-requires c κs = let is = c .before .pre .0 in (is .fits .limits .sizes, omega arith)
 
 frame-base-requires-2 : tie.Need-frame-base-requires-2 Inv-loop μ-loop
-frame-base-requires-2 c κs = search needs
+frame-base-requires-2 c κs = let is = c .before .before .pre .0 in (is .fits .limits .sizes, omega arith)
 
 loop-holds : tie.Need-loop-holds Inv-loop μ-loop
 loop-holds c = turns-start _ _ _ _ (c .before .before .before .pre .1)

@@ -16,7 +16,7 @@ abbrev μ-loop : tie.MeasureT-loop
 μ-loop out₀ j i q m at₀ t₀ out at t = m - t
 
 pair-base-requires : tie.Need-pair-base-requires Inv-loop μ-loop
-pair-base-requires c κs = search needs
+pair-base-requires c κs = let is = c .pre .0 in (is .fits, omega arith, omega arith)
 
 loop-holds : tie.Need-loop-holds Inv-loop μ-loop
 loop-holds c = turns-start _ _ _ _ (omega arith)

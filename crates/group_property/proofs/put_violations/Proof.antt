@@ -17,7 +17,7 @@ abbrev μ-loop : tie.MeasureT-loop
 μ-loop out₀ k numbering p at₀ i₀ out at i = k + 1 - i
 
 numbering-requires : tie.Need-numbering-requires Inv-loop μ-loop
-numbering-requires c κs = search needs
+numbering-requires c κs = c .pre .0 .limits .sizes
 
 loop-holds : tie.Need-loop-holds Inv-loop μ-loop
 loop-holds c = turns-start _ _ _ _ (omega arith)
@@ -48,7 +48,7 @@ part-put-literal-end : tie.Need-part-put-literal-end Inv-loop μ-loop
 part-put-literal-end c = search needs
 
 negated-requires : tie.Need-negated-requires Inv-loop μ-loop
-negated-requires c κs = search needs
+negated-requires c κs = c .before .in-frame .ensures .1
 
 put-literal-requires : tie.Need-put-literal-requires Inv-loop μ-loop
 put-literal-requires c κs =
