@@ -1,1 +1,2 @@
 pub mod ReplayCall
+pub mod Settled
