@@ -1,14 +1,17 @@
 #!/usr/bin/env bash
 # Measures `frames` on the largest kind of sheet (I = 60, L = 100, A = 408, m = 12, n = 32) at depths 15, 63 and 255, beside a C
 # generator of the same text that is optimised by hand and one that prints through fprintf; and, of the library, every group of depth
-# 255 through the exported call, which tests its record each time. Every figure is the best of several repetitions, all programs and
+# 255 through the exported call, which tests its record each time, and the import of ASCII AIGER texts (bench/text.rs). Every figure is the best of several repetitions, all programs and
 # depths in turn, input from a file, output to /dev/null; the time is the process's processor time (user and system), so that other
-# work on the machine matters little. It says which of our own targets (1.3 times, 4 times, 4 MiB, 20%) are reached, and fails only
+# work on the machine matters little. It says which of our own targets (1.3 times, 4 times, 4 MiB, 20%, 50 ms) are reached, and fails only
 # where a program fails or the texts differ.
-# Argument: repetitions (100; a tenth as many of the slow generator); the program is target/bin/frames unless FRAMES names another.
+# Arguments: repetitions (100; a tenth as many of the slow generator and of the imports), and `worst` for the worst import known as well, which
+# takes a minute; the program is target/bin/frames unless FRAMES names another.
 set -euo pipefail
 cd "$(dirname "$0")/.."
 repetitions=${1:-100}
+worst=${2:-}
+[ -z "$worst" ] || [ "$worst" = worst ] || { echo "arguments: repetitions, worst" >&2; exit 2; }
 frames=${FRAMES:-target/bin/frames}
 for command in cc rustc awk cmp "$frames"; do
   command -v "$command" >/dev/null 2>&1 || { echo "$command is missing" >&2; exit 1; }
@@ -23,6 +26,8 @@ compile -o "$work/measure" bench/measure.c
 rustc -O --edition 2021 -o "$work/sheet" bench/sheet.rs
 [ -f target/staticlib/libmarrubigai.a ] || rt staticlib marrubigai > "$work/staticlib.out" || { cat "$work/staticlib.out" >&2; exit 1; }
 compile -o "$work/library" bench/library.c -L target/staticlib -lmarrubigai
+compile -o "$work/import" bench/import.c -L target/staticlib -lmarrubigai
+rustc -O --edition 2021 -o "$work/text" bench/text.rs
 "$work/sheet" > "$work/sheet.txt"
 
 # Depth 0 is the start of the process, the reading of the sheet and next to no text. The longest run comes first: the one behind it
@@ -80,3 +85,26 @@ awk -v depths="${depths[*]}" -v bytes="${bytes[*]}" '
     printf "         with the time of depth 0: frames %+.0f%%, the optimised generator %+.0f%%\n", change(time, 0, 0), change(optimised, 0, 0)
     say(library <= time[255], "depth 255, all groups through the library, at most the time of frames", sprintf("%.2f (%.2f ms)", library / time[255], library / 1000))
   }' "$work/fast.out" "$work/slow.out"
+
+# Imports: each text with the number and place that it is refused with, 0 0 where it is accepted.
+imports=("tools 4 1" "undefined 13 56811" "inputs 4 1" "repeat 11 90001" "largest 0 0" "scattered 0 0")
+[ -z "$worst" ] || imports+=("worst 4 1")
+jobs=()
+for import in "${imports[@]}"; do
+  read -r name verdict <<< "$import"
+  "$work/text" "$name" > "$work/text.$name"
+  # the worst is measured by its only run
+  [ "$name" = worst ] || [ "$("$work/import" < "$work/text.$name")" = "$verdict" ] || { echo "the import of $name is not $verdict" >&2; exit 1; }
+  [ "$name" = worst ] || jobs+=("$work/text.$name" "$work/import")
+done
+"$work/measure" $(((repetitions + 9) / 10)) "${jobs[@]}" > "$work/imports.out"
+[ -z "$worst" ] || "$work/measure" 1 "$work/text.worst" "$work/import" >> "$work/imports.out"
+printf '%s\n' "${imports[@]}" | while read -r name verdict; do echo "$name $(wc -c < "$work/text.$name") $verdict"; done |
+  paste -d ' ' - "$work/imports.out" | awk '
+  BEGIN { print "import of a text    bytes  number, place: ms" }
+  { printf "%-14s %10d %7d %6d %8.2f\n", $1, $2, $3, $4, $5 / 1000; time[$1] = $5 }
+  END {
+    slowest = "tools"
+    for (name in time) if (name ~ /^(undefined|inputs|repeat)$/ && time[name] > time[slowest]) slowest = name
+    printf "%-8s a text as tools write it, to 1 MB, judged in under 50 ms: %.2f ms (%s)\n", time[slowest] < 50000 ? "reached" : "missed", time[slowest] / 1000, slowest
+  }'

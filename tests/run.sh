@@ -38,6 +38,8 @@ need cc gcc
 need g++ g++
 need valgrind valgrind
 need /usr/include/ccadical.h libcadical-dev
+need yosys yosys
+need berkeley-abc berkeley-abc
 
 logs=target/test
 echo "== layout: rt fmt --check"
@@ -85,6 +87,8 @@ if rt staticlib marrubigai > "$logs/staticlib.out" 2>&1; then
   fi
   run "the header for C against the library" header bash tests/header.sh
   run "a search depth by depth with the library and CaDiCaL's" search bash tests/search.sh target/bin/frames
+  compile verilog tests/verilog/main.rs -L target/staticlib -l static=marrubigai &&
+    run "from Verilog to an imported netlist, with yosys and abc" verilog timeout 600 bash tests/verilog.sh target/bin/frames "$logs/verilog"
 else
   cat "$logs/staticlib.out"
   fail "rt staticlib marrubigai"

@@ -257,14 +257,13 @@ fn wrongs(repository: &Repository, of: &str, edit: &str) -> BTreeSet<Wrong> {
 /// those of the functions named, each of which is refused at a fact of its own.
 fn stands_for<'a>(edit: &str, line: &'a str) -> Result<(&'a str, usize), String> {
     let (name, by) = match line.split_once(" by ") {
-        Some((name, by)) => (name, by.split(", ").collect()),
+        Some((name, by)) => (name, by.split(", ").collect::<BTreeSet<&str>>()),
         None => return Ok((line, 1)),
     };
     let refused: BTreeSet<&str> = edit
         .lines()
         .filter_map(|line| Some(line.strip_prefix("# refused at: ")?.rsplit_once('/')?.0))
         .collect();
-    let by: BTreeSet<&str> = by;
     match by.iter().find(|function| !refused.contains(*function)) {
         Some(function) => Err(format!("{name}: no fact at which {function} is refused")),
         None => Ok((name, by.len())),

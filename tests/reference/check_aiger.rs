@@ -22,7 +22,7 @@ pub type TextRow = (String, Call, Result<Netlist, Verdict>);
 type Expected = Result<&'static str, Verdict>;
 
 /// Bytes in which `/` stands for a line feed.
-fn bytes_of(short: &str) -> Vec<u8> {
+pub fn bytes_of(short: &str) -> Vec<u8> {
     short.replace('/', "\n").into_bytes()
 }
 
@@ -421,8 +421,8 @@ const SIZES: [([u32; 3], [u32; 3], Verdict); 36] = [
     ([5000, 5000, 5000], [1, 1, 0], (4, 1)),
 ];
 
-/// A text of given counts in which every code is 0, with variables as tools number them.
-fn plain_text(counts: [u32; 3], outputs: u32) -> String {
+/// A text of given counts in which every code is 0, with variables as tools number them; `/` for line feeds.
+pub fn plain_text(counts: [u32; 3], outputs: u32) -> String {
     let [inputs, latches, gates] = counts;
     let all = inputs + latches + gates;
     let mut text = format!("aag {all} {inputs} {latches} {outputs} {gates}/");
@@ -884,6 +884,33 @@ pub fn predicted_faults(tally: &mut Tally) {
     }
 }
 
+/// Accepted calls with small texts that have every kind of line between them.
+pub fn small_calls() -> Vec<Call> {
+    let texts = [
+        (BARE, SMALL),
+        (RICH_TEXT, RICH_MEMORY),
+        (FAULTY, RICH_MEMORY),
+        ("aag 5 2 2 5 1/2/4/6 8/8 11/6/10/11/9/10/10 5 0/", SMALL),
+        ("aag 4 2 0 5 2/2/4/2/6/8/1/9/8 4 2/6 2 9/c", SMALL),
+    ];
+    let call = |(short, memory)| Call {
+        text: bytes_of(short),
+        memory,
+        rooms: ROOMY,
+    };
+    texts.map(call).to_vec()
+}
+
+/// The call with its text damaged at every byte and in every line.
+pub fn every_damage(call: &Call) -> Vec<Call> {
+    let texts = [every_byte(&call.text), every_line(&call.text)].concat();
+    let damaged = |text| Call {
+        text,
+        ..call.clone()
+    };
+    texts.into_iter().map(damaged).collect()
+}
+
 /// Small texts damaged at every byte and in every line, and random ones with one fault or two.
 pub fn damaged_texts(tally: &mut Tally) {
     let mut random = Random::new(13);
@@ -895,22 +922,9 @@ pub fn damaged_texts(tally: &mut Tally) {
             format!(" {wrong:?} {} {:?}", call.text.escape_ascii(), call.memory)
         });
     };
-    let small = [
-        (BARE, SMALL),
-        (RICH_TEXT, RICH_MEMORY),
-        (FAULTY, RICH_MEMORY),
-        ("aag 5 2 2 5 1/2/4/6 8/8 11/6/10/11/9/10/10 5 0/", SMALL),
-        ("aag 4 2 0 5 2/2/4/2/6/8/1/9/8 4 2/6 2 9/c", SMALL),
-    ];
-    for (short, memory) in small {
-        let text = bytes_of(short);
-        for damaged in [every_byte(&text), every_line(&text)].concat() {
-            let call = Call {
-                text: damaged,
-                memory,
-                rooms: ROOMY,
-            };
-            examine(tally, short, &call);
+    for small in small_calls() {
+        for call in every_damage(&small) {
+            examine(tally, "small", &call);
         }
     }
     let mut others = Random::new(14);

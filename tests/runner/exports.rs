@@ -109,6 +109,18 @@ extern "C" {
         gate_room: usize,
     ) -> SheetReply;
 
+    fn marrubigai_import(
+        text: *const u8,
+        length: usize,
+        m: u32,
+        n: u32,
+        word: u32,
+        latches: *mut LatchRecord,
+        latch_room: usize,
+        gates: *mut GateRecord,
+        gate_room: usize,
+    ) -> SheetReply;
+
     fn marrubigai_next_line(file: *const u8, length: usize, line: u32) -> LineReply;
 
     fn marrubigai_put_header(out: *mut u8, room: usize, variables: u32, clauses: u32)
@@ -289,8 +301,11 @@ impl Lists {
     }
 }
 
-/// Reads a sheet into lists of these lengths: the netlist whose lists are the records written.
-pub fn read(file: &[u8], latch_room: usize, gate_room: usize) -> Answer<Netlist> {
+/// A call that delivers a netlist into lists of these lengths: the netlist whose lists are the records written.
+fn delivered(
+    [latch_room, gate_room]: [usize; 2],
+    call: impl FnOnce(&mut [LatchRecord], &mut [GateRecord]) -> SheetReply,
+) -> Answer<Netlist> {
     let odd = |index: usize| u32::MAX - index as u32;
     let fill_latch = |index: usize| LatchRecord {
         next: Code(odd(index)),
@@ -302,19 +317,7 @@ pub fn read(file: &[u8], latch_room: usize, gate_room: usize) -> Answer<Netlist>
     };
     let mut latches = Lent::new(latch_room, fill_latch);
     let mut gates = Lent::new(gate_room, fill_gate);
-    let (latch_slice, gate_slice) = (latches.slice(), gates.slice());
-    // SAFETY: each pointer and length are those of a live slice, and only the two lists are written to.
-    let reply = unsafe {
-        marrubigai_read(
-            file.as_ptr(),
-            file.len(),
-            latch_slice.as_mut_ptr(),
-            latch_slice.len(),
-            gate_slice.as_mut_ptr(),
-            gate_slice.len(),
-        )
-    };
-    let SheetReply { number, place, net } = reply;
+    let SheetReply { number, place, net } = call(latches.slice(), gates.slice());
     let latches = latches
         .written(net.latches as usize, fill_latch)
         .ok_or("latches behind the size, or no room for it")?;
@@ -323,6 +326,39 @@ pub fn read(file: &[u8], latch_room: usize, gate_room: usize) -> Answer<Netlist>
         .ok_or("gates behind the size, or no room for it")?;
     answer(number, place, net == Record::default(), || {
         Ok(netlist_of(net, &latches, &gates))
+    })
+}
+
+/// Reads a sheet into lists of these lengths.
+pub fn read(file: &[u8], latch_room: usize, gate_room: usize) -> Answer<Netlist> {
+    // SAFETY: each pointer and length are those of a live slice, and only the two lists are written to.
+    delivered([latch_room, gate_room], |latches, gates| unsafe {
+        marrubigai_read(
+            file.as_ptr(),
+            file.len(),
+            latches.as_mut_ptr(),
+            latches.len(),
+            gates.as_mut_ptr(),
+            gates.len(),
+        )
+    })
+}
+
+/// Imports a text for m, n and start word into lists of these lengths.
+pub fn import(text: &[u8], [m, n, word]: [u32; 3], rooms: [usize; 2]) -> Answer<Netlist> {
+    // SAFETY: each pointer and length are those of a live slice, and only the two lists are written to.
+    delivered(rooms, |latches, gates| unsafe {
+        marrubigai_import(
+            text.as_ptr(),
+            text.len(),
+            m,
+            n,
+            word,
+            latches.as_mut_ptr(),
+            latches.len(),
+            gates.as_mut_ptr(),
+            gates.len(),
+        )
     })
 }
 

@@ -1,9 +1,10 @@
 //! Hostile calls of the exported functions, each compared with the second implementation.
 
-use super::mutate::{netlist, sheet, LIMITS};
+use super::mutate::{change_bytes, netlist, sheet, LIMITS};
 use super::prints;
 use super::reference::netlist::{Gate, Latch, Netlist};
 use super::reference::random::{damaged_record, Random};
+use super::reference::random_aiger::{damaged_call, draft_of, Call, Numbering};
 use super::reference::Tally;
 use super::Library;
 
@@ -90,10 +91,53 @@ fn room(random: &mut Random) -> usize {
     random.pick(&[some, some, some, 0, 1, 600, 6_000])
 }
 
+/// An import with hostile bytes, m, n, start word or lists, or several of these, or none.
+fn import_call(random: &mut Random) -> Call {
+    let mut call = if random.percent(20) {
+        damaged_call(random)
+    } else {
+        let mut netlist = netlist(random);
+        for latch in &mut netlist.latches {
+            latch.reset = 0;
+        }
+        let numbering = random.pick(&[Numbering::InOrder, Numbering::Shuffled]);
+        draft_of(random, &netlist, numbering).call()
+    };
+    match random.below(8) {
+        0 => call.memory[random.index(3)] = random.pick(&LIMITS),
+        1 => call.memory[random.index(3)] = random.below(4),
+        2 => call.rooms[random.index(2)] = room(random),
+        3 => change_header(random, &mut call.text),
+        4 => {
+            call.text = (0..random.below(40))
+                .map(|_| random.below(256) as u8)
+                .collect()
+        }
+        5 | 6 => change_bytes(random, &mut call.text),
+        _ => {}
+    }
+    call
+}
+
+/// One number of the first line replaced, where there is one.
+fn change_header(random: &mut Random, text: &mut Vec<u8>) {
+    let end = text
+        .iter()
+        .position(|byte| *byte == b'\n')
+        .unwrap_or(text.len());
+    let mut words: Vec<Vec<u8>> = text[..end]
+        .split(|byte| *byte == b' ')
+        .map(<[u8]>::to_vec)
+        .collect();
+    let at = random.index(words.len());
+    words[at] = random.pick(&LIMITS).to_string().into_bytes();
+    drop(text.splice(..end, words.join(&b' ')));
+}
+
 pub fn calls(library: &Library, tally: &mut Tally, seed: u64, count: usize) {
     let mut random = Random::new(seed);
     for _ in 0..count {
-        match random.below(10) {
+        match random.below(12) {
             0 => {
                 let file = sheet(&mut random);
                 let line = small_or_limit(&mut random);
@@ -115,6 +159,10 @@ pub fn calls(library: &Library, tally: &mut Tally, seed: u64, count: usize) {
                     small_or_limit(&mut random),
                 );
                 library.group_agrees(tally, &netlist, depth, of, room(&mut random));
+            }
+            9 | 10 => {
+                let call = import_call(&mut random);
+                library.import_agrees(tally, "hostile", &call);
             }
             _ => {
                 let netlist = record(&mut random);

@@ -6,6 +6,7 @@
 mod calls;
 mod exports;
 mod fuzz_exports;
+mod imports;
 mod mutate;
 mod prints;
 mod reads;
@@ -18,7 +19,7 @@ use reference::tally::{Report, Tally};
 
 /// How often a function answered each refusal number; entry 0 counts successes.
 #[derive(Default)]
-pub struct Counts([usize; 11]);
+pub struct Counts([usize; 14]);
 
 impl Counts {
     fn add<T>(counts: &RefCell<Counts>, answer: &Answer<T>) {
@@ -36,6 +37,7 @@ impl Counts {
 pub struct Library {
     reads: RefCell<Counts>,
     lines: RefCell<Counts>,
+    imports: RefCell<Counts>,
     calls: RefCell<Counts>,
     headings: RefCell<Counts>,
     headers: RefCell<Counts>,
@@ -45,7 +47,7 @@ pub struct Library {
 
 type Family = (&'static str, fn(&Library, &mut Tally));
 
-const FAMILIES: [Family; 14] = [
+const FAMILIES: [Family; 22] = [
     ("facts of the full run", calls::stated),
     ("table of group calls", calls::table_of_calls),
     ("table of records", calls::table_of_records),
@@ -56,6 +58,14 @@ const FAMILIES: [Family; 14] = [
     ("rooms of lists", reads::rooms),
     ("damaged sheets", reads::damaged),
     ("lines of sheets", reads::lines),
+    ("tables of imports", imports::tables),
+    ("imports, sets of faults", imports::fault_sets),
+    ("imports, predicted faults", imports::predicted_faults),
+    ("imports, rooms of lists", imports::rooms),
+    ("imports, m, n and start word", imports::memories),
+    ("imports, counts far beyond the text", imports::counts),
+    ("imports, damaged texts", imports::damaged),
+    ("imports, ends of texts", imports::ends),
     ("texts at their limits", prints::limits),
     ("random texts", prints::random),
     ("joined texts", prints::joined),
@@ -66,9 +76,10 @@ const FAMILIES: [Family; 14] = [
 
 /// Each function, and the numbers that the tests must have made it answer: all that it has. 10 has none.
 fn every_number(library: &Library, tally: &mut Tally) {
-    let rows: [(&str, &RefCell<Counts>, &[usize]); 7] = [
+    let rows: [(&str, &RefCell<Counts>, &[usize]); 8] = [
         ("read", &library.reads, &[1, 2, 3, 4, 5, 6, 9]),
         ("next_line", &library.lines, &[2]),
+        ("import", &library.imports, &[4, 6, 9, 11, 12, 13]),
         ("write_group", &library.calls, &[3, 4, 5, 6, 7, 8, 9]),
         ("heading", &library.headings, &[3, 4, 5, 6, 7]),
         ("put_header", &library.headers, &[9]),
@@ -128,6 +139,9 @@ fn main() {
             });
             report.family("tables of sheets", |tally| reads::tables(&library, tally));
             report.family("lines of sheets", |tally| reads::lines(&library, tally));
+            report.family("imports, ends of texts", |tally| {
+                imports::ends(&library, tally)
+            });
             report.family("texts at their limits", |tally| {
                 prints::limits(&library, tally)
             });

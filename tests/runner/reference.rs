@@ -4,6 +4,12 @@
 
 #[path = "../reference/agreement.rs"]
 pub mod agreement;
+#[path = "../reference/aiger.rs"]
+pub mod aiger;
+#[path = "../reference/aiger_values.rs"]
+pub mod aiger_values;
+#[path = "../reference/check_aiger.rs"]
+pub mod check_aiger;
 #[path = "../reference/check_examples.rs"]
 pub mod check_examples;
 #[path = "../reference/check_refusals.rs"]
@@ -16,6 +22,8 @@ pub mod formula;
 pub mod netlist;
 #[path = "../reference/random.rs"]
 pub mod random;
+#[path = "../reference/random_aiger.rs"]
+pub mod random_aiger;
 #[path = "../reference/refusal.rs"]
 pub mod refusal;
 #[path = "../reference/sheet.rs"]

@@ -10,13 +10,13 @@ use Rattle.model.specs.Acceptance.{SizesFit, WithinLimits}
 use Rattle.model.proofs.Agree.{sizesFit-same}
 use Rattle.refusals.specs.Tests.{_then_}
 use Rattle.refusals.specs.declared.Refusal.{Refusal}
-use Rattle.refusals.specs.declared.Refusal.the-variants.{Size, NoRoom}
+use Rattle.refusals.specs.declared.Refusal.the-variants.{Size, CodeOutside, NoRoom}
 use Rattle.refusals.specs.declared.Verdict.{Verdict}
 use Rattle.refusals.specs.declared.Verdict.the-variants.{Passed, Refused}
 use Rattle.netlist.specs.NetOf.{netOf, alone}
 use Rattle.netlist.specs.RecordOf.{recordOf}
 use Rattle.netlist.specs.Places.{lineAt}
-use Rattle.netlist.specs.Faults.{sizeFault}
+use Rattle.netlist.specs.Faults.{sizeFault, codeFault}
 use Rattle.netlist.specs.declared.Line.{Line}
 use Rattle.netlist.specs.declared.Line.the-variants.{Sizes, Memory, Latch, Gate, Address, WriteData, Control}
 use Rattle.netlist.specs.declared.Netlist.{Netlist}
@@ -31,7 +31,7 @@ use Rattle.aiger_lines.specs.Parts.{countsIn}
 use Rattle.aiger_lines.specs.declared.Counts.{Counts}
 use Rattle.aiger_netlist.specs.TextNetlist.{textSizes, netOfCodes, aagNet}
 use Rattle.aiger_netlist.specs.ImportVerdict.{textVerdict, importVerdict}
-use Rattle.aiger_netlist.proofs.Codes.{text-codes-fit}
+use Rattle.aiger_netlist.proofs.Codes.{text-codes-fit, no-code-fault}
 use Rattle.aiger_netlist.proofs.Verdict.{well-defined, fits-interface}
 use Rattle.aiger_import.specs.Tables.{Ready}
 
@@ -90,6 +90,10 @@ module _ (s : List ℕ) (m n word : ℕ) where
             → (ltb latchRoom (net .latches) || ltb gateRoom (net .gates)) ≡ listsShort (aagNet s m n word) latchRoom gateRoom
         short-held latchRoom gateRoom = let same = sizes-held net latches gates held in rw (same .0, same .1)
 
+  -- 5 is met by no text that has passed its own tests
+  no-five : textVerdict s m n ≡ Passed → testLines (aagNet s m n word) CodeOutside codeFault ≡ Passed
+  no-five e = no-code-fault s (well-defined s m n e) m n word (fits-interface s m n e)
+
   -- the verdict, by the first test that refuses
   module _ (latchRoom gateRoom : ℕ) where
     module _ {r : Refusal} {p : ℕ} where
@@ -105,15 +109,15 @@ module _ (s : List ℕ) (m n word : ℕ) where
       pub loops-refused : textVerdict s m n ≡ Passed → testLines (aagNet s m n word) Size sizeFault ≡ Passed
           → testLoops (aagNet s m n word) ≡ Refused r p → importVerdict s m n word latchRoom gateRoom ≡ Refused r p
       unfolding importVerdict _then_
-      loops-refused e f g = rw (e, f, g)
+      loops-refused e f g = rw (e, f, no-five e, g)
 
     module _ (e : textVerdict s m n ≡ Passed) (f : testLines (aagNet s m n word) Size sizeFault ≡ Passed)
         (g : testLoops (aagNet s m n word) ≡ Passed) where
       pub room-refused : listsShort (aagNet s m n word) latchRoom gateRoom ≡ true
           → importVerdict s m n word latchRoom gateRoom ≡ Refused NoRoom 0
       unfolding importVerdict _then_
-      room-refused k = rw (e, f, g, k)
+      room-refused k = rw (e, f, no-five e, g, k)
 
       pub all-passed : listsShort (aagNet s m n word) latchRoom gateRoom ≡ false → importVerdict s m n word latchRoom gateRoom ≡ Passed
       unfolding importVerdict _then_
-      all-passed k = rw (e, f, g, k)
+      all-passed k = rw (e, f, no-five e, g, k)

@@ -1,5 +1,5 @@
 -- Lines of numbers as they are written: by these nobody has to believe how a text is split into lines, words and numbers. Cited by
--- `read_numbers`.
+-- `read_numbers` and `marrubigai_import`.
 use Prim.Native.Nat.{ℕ, _-_, _^_, _<_}
 use mathlib.Core.Path.{_≡_}
 use mathlib.Core.Bool.{cond}

@@ -10,11 +10,11 @@ use Rattle.model.specs.Acceptance.{Accepted}
 use Rattle.model.proofs.Booleans.{neither-true}
 use Rattle.refusals.specs.Tests.{refuseIf, _then_}
 use Rattle.refusals.specs.declared.Refusal.{Refusal}
-use Rattle.refusals.specs.declared.Refusal.the-variants.{Size, MemoryLoop, NoRoom, NotAiger, Interface, Undefined}
+use Rattle.refusals.specs.declared.Refusal.the-variants.{Size, CodeOutside, MemoryLoop, NoRoom, NotAiger, Interface, Undefined}
 use Rattle.refusals.specs.declared.Verdict.the-variants.{Passed}
 use Rattle.refusals.proofs.Tests.{refuseIf-passes, then-passes, inOrder-passes}
-use Rattle.netlist.specs.Faults.{sizeFault, loopFault}
-use Rattle.netlist.proofs.Faults.{sizes-fit, no-loop}
+use Rattle.netlist.specs.Faults.{sizeFault, codeFault, loopFault}
+use Rattle.netlist.proofs.Faults.{sizes-fit, codes-fit, no-loop}
 use Rattle.netlist_tests.specs.Record.{testLines, testLoops, listsShort}
 use Rattle.netlist_tests.proofs.Record.{testLines-passes}
 use Rattle.netlist_tests.proofs.Acceptance.{lists-long}
@@ -23,7 +23,7 @@ use Rattle.aiger_definitions.specs.Definitions.{definesAgain, undefinedAt}
 use Rattle.aiger_netlist.specs.TextNetlist.{aagNet}
 use Rattle.aiger_netlist.specs.ImportVerdict.{placeOf, firstLine, notAiger, wrongInterface, textVerdict, importVerdict}
 use Rattle.aiger_netlist.proofs.Defined.{WellDefined}
-use Rattle.aiger_netlist.proofs.Codes.{FitsInterface, text-codes-fit}
+use Rattle.aiger_netlist.proofs.Codes.{FitsInterface}
 
 -- no line due has a fault that was tested
 no-line : (s : List ℕ) (fault : List ℕ → ℕ → Bool) (r : Refusal) → firstLine s fault r ≡ Passed
@@ -74,9 +74,11 @@ unfolding importVerdict
 import-passed s m n word latchRoom gateRoom e =
     let c = aagNet s m n word in
     let short = refuseIf (listsShort c latchRoom gateRoom) NoRoom 0 in
-    let all = then-passes (textVerdict s m n) (testLines c Size sizeFault then testLoops c then short) .0 e in
-    let net = then-passes (testLines c Size sizeFault) (testLoops c then short) .0 (all .1) in
-    let last = then-passes (testLoops c) short .0 (net .1) in
+    let fault = testLines c CodeOutside codeFault in
+    let all = then-passes (textVerdict s m n) (testLines c Size sizeFault then fault then testLoops c then short) .0 e in
+    let net = then-passes (testLines c Size sizeFault) (fault then testLoops c then short) .0 (all .1) in
+    let codes = then-passes fault (testLoops c then short) .0 (net .1) in
+    let last = then-passes (testLoops c) short .0 (codes .1) in
     let long = lists-long c latchRoom gateRoom .0 (refuseIf-passes (listsShort c latchRoom gateRoom) NoRoom 0 .0 (last .1)) in
     record {
       text = all .0;
@@ -85,7 +87,7 @@ import-passed s m n word latchRoom gateRoom e =
             limits =
                 record {
                   sizes = sizes-fit c .0 (testLines-passes c Size sizeFault .0 (net .0));
-                  codes = text-codes-fit s (well-defined s m n (all .0)) m n word (fits-interface s m n (all .0));
+                  codes = codes-fit c .0 (testLines-passes c CodeOutside codeFault .0 (codes .0));
                 };
             noLoop = no-loop c .0 (testLines-passes c MemoryLoop loopFault .0 (last .0));
           };

@@ -1,5 +1,5 @@
--- Which texts an import refuses, and where (RULES T11 to T13, and T47: 11, 12, 13, then 4, 6 and 9). That 5 is met by no text which passes
--- 11 to 13 is the law `no-code-fault` in proofs/Codes.antt. Cited by `import_codes`,
+-- Which texts an import refuses, and where (RULES T11 to T13, and T47: 11, 12, 13, then 4, 5, 6 and 9). No text that passes 13 meets 5, so no
+-- function tests it: the law `no-code-fault` in proofs/Codes.antt. Cited by `import_codes`,
 -- aiger_import/specs/ImportCall and specs/Imported.
 use Prim.Native.Nat.{ℕ, _+_, _-_, _^_, min}
 use mathlib.Core.Bool.{Bool, not, _||_}
@@ -8,9 +8,9 @@ use lib.Dec.{eqb, ltb}
 use Rattle.model.specs.Netlist.{Netlist}
 use Rattle.refusals.specs.Tests.{refuseIf, _then_, inOrder}
 use Rattle.refusals.specs.declared.Refusal.{Refusal}
-use Rattle.refusals.specs.declared.Refusal.the-variants.{Size, NoRoom, NotAiger, Interface, Undefined}
+use Rattle.refusals.specs.declared.Refusal.the-variants.{Size, CodeOutside, NoRoom, NotAiger, Interface, Undefined}
 use Rattle.refusals.specs.declared.Verdict.{Verdict}
-use Rattle.netlist.specs.Faults.{sizeFault}
+use Rattle.netlist.specs.Faults.{sizeFault, codeFault}
 use Rattle.netlist_tests.specs.Record.{testLines, testLoops, listsShort}
 use Rattle.aiger_lines.specs.Parts.{countsIn, linesDue, malformedAt}
 use Rattle.aiger_lines.specs.declared.Counts.{Counts}
@@ -44,5 +44,6 @@ unfoldable pub importVerdict : List ℕ → ℕ → ℕ → ℕ → ℕ → ℕ 
 importVerdict s m n word latchRoom gateRoom =
     textVerdict s m n
     then testLines (aagNet s m n word) Size sizeFault
+    then testLines (aagNet s m n word) CodeOutside codeFault
     then testLoops (aagNet s m n word)
     then refuseIf (listsShort (aagNet s m n word) latchRoom gateRoom) NoRoom 0

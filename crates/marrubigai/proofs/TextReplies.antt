@@ -14,6 +14,8 @@ use Rattle.call_lists.specs.declared.Gate.{Gate}
 use Rattle.sheet_reader.proofs.Delivery.{Fits, newLatches, newGates, agrees, latches-are, gates-are, latches-length, gates-length}
 use Rattle.call_replies.specs.declared.SheetReply.{SheetReply}
 use Rattle.call_replies.specs.Replies.{sheetNumbers}
+use Rattle.aiger_lines.specs.Written.{ReadAsWritten}
+use Rattle.aiger_lines.proofs.Written.{read-as-written}
 use Rattle.aiger_netlist.specs.TextNetlist.{aagNet}
 use Rattle.aiger_netlist.specs.ImportVerdict.{importVerdict}
 use Rattle.aiger_netlist.proofs.Verdict.{import-passed}
@@ -35,7 +37,8 @@ module _ (s : List ℕ) (m n word : ℕ) (latches : List Latch) (gates : List Ga
       (reply ≡ sheetNumbers (importVerdictFor s m n word latches gates) (importRecord s m n word latches gates))
       × ((newLatches ≡ importLatches s m n word latches gates)
       × ((newGates ≡ importGates s m n word latches gates)
-      × (reply .number ≡ 0 → TextDelivered s m n word (reply .net) newLatches newGates)))
+      × ((reply .number ≡ 0 → TextDelivered s m n word (reply .net) newLatches newGates)
+      × ReadAsWritten)))
 
   module _ (sheet : SheetAnswer) (latchList gateList : List ℕ)
       (outcome : Outcome sheet latchList gateList (importVerdict s m n word (length latches) (length gates)) (aagNet s m n word)) where
@@ -56,7 +59,7 @@ module _ (s : List ℕ) (m n word : ℕ) (latches : List Latch) (gates : List Ga
         latches-are latches gates text-fits sheet latchList gateList outcome,
         (
           gates-are latches gates text-fits sheet latchList gateList outcome,
-          λ q. delivered (sym (verdict-is outcome) ∙ reply-passed (sheet .verdict) q),
+          (λ q. delivered (sym (verdict-is outcome) ∙ reply-passed (sheet .verdict) q), read-as-written),
         ),
       ),
     )

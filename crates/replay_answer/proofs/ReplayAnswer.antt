@@ -1,39 +1,23 @@
 -- What a table of signs says is what the text's answer says, and where the answer is not satisfiable nothing that is said counts. No
 -- contract cites this file.
 use Prim.Native.Nat.{ℕ}
-use mathlib.Core.Path.{_≡_, refl, sym, ap}
-use mathlib.Core.Bool.{Bool, true, false, cond}
+use mathlib.Core.Path.{_≡_, refl}
 use mathlib.Core.List.{List}
-use borrow.Author.Tests.{ltb-true}
-use lib.Dec.{ltb}
 use lib.IntN.{ℤ}
 use lib.ListN.{length}
-use Rattle.model.specs.Bits.{odd}
 use Rattle.model.specs.Netlist.{Netlist}
 use Rattle.refusals.specs.declared.Verdict.{Verdict}
 use Rattle.refusals.specs.declared.Verdict.the-variants.{Passed, Refused}
-use Rattle.answer_signs.specs.Signs.{SignsOf, tableSize, trueIn, unclearIn, assignmentOf, unclear}
-use Rattle.answer_signs.proofs.Signs.{table-tells}
 use Rattle.answer_lines.specs.Answer.{Answer, malformed, unsatisfiable, satisfiable, answerIn, kindOf}
 use Rattle.answer_lines.specs.declared.AnswerKind.{AnswerKind}
+use Rattle.answer_lines.specs.declared.AnswerKind.the-variants.{Satisfiable}
 use Rattle.answer_scan.specs.Scan.{AnswerRead}
 use Rattle.replay_frame.specs.Replay.{Said, saidIn, traceText}
 use Rattle.replay_call.specs.ReplayCall.{replayAnswer, replaySent, replayMemory, replayTrace, replayTests, unlessRefused, outcome, wordsLeft, traceAfter}
 use Rattle.replay_call.specs.declared.ReplayAnswer.{ReplayAnswer}
-use Rattle.replay_answer.specs.ReplayAnswer.{saidBy, saidOf, replayFor, memoryFor, traceFor}
-
--- a table of the numbers' signs says what they say
-said-same : (ys : List ℤ) (table : List ℕ) → SignsOf ys table → saidIn table ≡ saidBy ys
-unfolding saidBy trueIn unclearIn odd
-said-same ys table s = λ i. record { value = λ v. value-same v (ltb v tableSize) refl i; unclear = λ v. unclear-same v (ltb v tableSize) refl i }
-  where
-    value-same : (v : ℕ) (b : Bool) → ltb v tableSize ≡ b → trueIn table v ≡ cond b (assignmentOf ys v) false
-    value-same v true e = table-tells .true-is ys table s v (ltb-true v tableSize e)
-    value-same v false e = rw e
-
-    unclear-same : (v : ℕ) (b : Bool) → ltb v tableSize ≡ b → unclearIn table v ≡ cond b (unclear ys v) true
-    unclear-same v true e = table-tells .unclear-is ys table s v (ltb-true v tableSize e)
-    unclear-same v false e = rw e
+use Rattle.replay_call.specs.Settled.{saidBy, ReplayAlike}
+use Rattle.replay_call.proofs.TableSuffices.{table-suffices}
+use Rattle.replay_answer.specs.ReplayAnswer.{saidOf, replayFor, memoryFor, traceFor}
 
 -- an answer that has no frame leaves the trace, whatever the lines would be
 trace-same : (v : Verdict) (a : ReplayAnswer) (lines lines′ old : List ℕ) → traceAfter a lines old ≡ traceAfter a lines′ old
@@ -43,34 +27,38 @@ trace-same Passed a lines lines′ old h = h
 trace-same (Refused r p) a lines lines′ old h = refl
 
 module _ (c : Netlist) (latchCount gateCount k : ℕ) where
+  -- where the answer is satisfiable, what is said is replayed as what its numbers say
+  abbrev AnswersAlike : Answer → Said → Type 0
+  AnswersAlike a y = (ys : List ℤ) → a ≡ satisfiable ys → ReplayAlike c latchCount gateCount k Satisfiable y (saidBy ys)
+
   -- only a satisfiable answer's numbers count
-  sent-same : (a : Answer) (y : Said) → ((ys : List ℤ) → a ≡ satisfiable ys → y ≡ saidBy ys) → (words room : ℕ)
+  sent-same : (a : Answer) (y : Said) → AnswersAlike a y → (words room : ℕ)
       → replaySent c latchCount gateCount k (kindOf a) y words room
       ≡ replaySent c latchCount gateCount k (kindOf a) (saidOf a) words room
   unfolding replaySent replayAnswer outcome saidOf
   sent-same malformed y h words room = refl
   sent-same unsatisfiable y h words room = refl
-  sent-same (satisfiable ys) y h words room = ap (λ z. replaySent c latchCount gateCount k (kindOf (satisfiable ys)) z words room) (h ys refl)
+  sent-same (satisfiable ys) y h words room = h ys refl .same-sent words room
 
-  memory-same : (a : Answer) (y : Said) → ((ys : List ℤ) → a ≡ satisfiable ys → y ≡ saidBy ys) → (old : List ℕ) (room : ℕ)
+  memory-same : (a : Answer) (y : Said) → AnswersAlike a y → (old : List ℕ) (room : ℕ)
       → replayMemory c latchCount gateCount k (kindOf a) y old room
       ≡ replayMemory c latchCount gateCount k (kindOf a) (saidOf a) old room
   unfolding replayMemory wordsLeft saidOf
   memory-same malformed y h old room = refl
   memory-same unsatisfiable y h old room = refl
-  memory-same (satisfiable ys) y h old room = ap (λ z. replayMemory c latchCount gateCount k (kindOf (satisfiable ys)) z old room) (h ys refl)
+  memory-same (satisfiable ys) y h old room = h ys refl .same-memory old room
 
-  traces-same : (a : Answer) (y : Said) → ((ys : List ℤ) → a ≡ satisfiable ys → y ≡ saidBy ys) → (words : ℕ) (old : List ℕ)
+  traces-same : (a : Answer) (y : Said) → AnswersAlike a y → (words : ℕ) (old : List ℕ)
       → replayTrace c latchCount gateCount k (kindOf a) y words old
       ≡ replayTrace c latchCount gateCount k (kindOf a) (saidOf a) words old
   unfolding replayTrace replayAnswer outcome traceAfter saidOf
   traces-same malformed y h words old = trace-same (replayTests c latchCount gateCount k words (length old)) _ _ _ old refl
   traces-same unsatisfiable y h words old = trace-same (replayTests c latchCount gateCount k words (length old)) _ _ _ old refl
-  traces-same (satisfiable ys) y h words old = ap (λ z. replayTrace c latchCount gateCount k (kindOf (satisfiable ys)) z words old) (h ys refl)
+  traces-same (satisfiable ys) y h words old = h ys refl .same-trace words old
 
   module _ {s table : List ℕ} {kind : AnswerKind} (read : AnswerRead s table kind) where
-    said-is : (ys : List ℤ) → answerIn s ≡ satisfiable ys → saidIn table ≡ saidBy ys
-    said-is ys e = said-same ys table (read .signs-are ys e)
+    said-is : AnswersAlike (answerIn s) (saidIn table)
+    said-is ys e = table-suffices c latchCount gateCount k Satisfiable ys table (read .signs-are ys e)
 
     -- what is answered and left by the kind and the table is what is answered and left by the text
     pub replay-is : (words room : ℕ)

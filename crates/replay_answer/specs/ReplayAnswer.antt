@@ -1,23 +1,15 @@
 -- What a replay answers to the text of a solver's answer, and what it leaves in the lent memory and trace: replay_call/specs/ReplayCall, of the
 -- text's answer (RULES Q1 to Q7) and of what it says of each variable. Cited by `marrubigai_replay`.
 use Prim.Native.Nat.{ℕ}
-use mathlib.Core.Bool.{true, false, cond}
 use mathlib.Core.List.{List, []}
-use lib.Dec.{ltb}
-use lib.IntN.{ℤ}
 use Rattle.model.specs.Netlist.{Netlist}
-use Rattle.answer_signs.specs.Signs.{assignmentOf, unclear, tableSize}
 use Rattle.answer_lines.specs.Answer.{Answer, malformed, unsatisfiable, satisfiable, answerIn, kindOf}
 use Rattle.replay_frame.specs.Replay.{Said}
 use Rattle.replay_call.specs.ReplayCall.{replaySent, replayMemory, replayTrace}
+use Rattle.replay_call.specs.Settled.{saidBy}
 use Rattle.replay_call.specs.declared.ReplayReply.{ReplayReply}
 
--- what the numbers ys say of each variable that a depth can have (RULES Q5, Q6 and V6); past those all are missing
-unfoldable pub saidBy : List ℤ → Said
-saidBy ys =
-    record { value = λ v. cond (ltb v tableSize) (assignmentOf ys v) false; unclear = λ v. cond (ltb v tableSize) (unclear ys v) true }
-
--- only a satisfiable answer has numbers
+-- what an answer says of each variable (RULES Q5 and Q6): only a satisfiable one has numbers
 unfoldable pub saidOf : Answer → Said
 saidOf malformed = saidBy []
 saidOf unsatisfiable = saidBy []

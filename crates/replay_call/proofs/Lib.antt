@@ -1,1 +1,3 @@
 pub mod ReplayCall
+pub mod Settled
+pub mod TableSuffices

@@ -28,7 +28,7 @@ returns c =
     let read = c .before .before .before .before .before .before .before .before .before .read-answer .ensures in
     let told = c .before .before .before .before .before .replay .ensures in (
       c .reply-of .ensures ∙ told .0 ∙ replay-is _ _ _ _ read _ _,
-      (told .1 .0 ∙ memory-is _ _ _ _ read _ _, told .1 .1 ∙ trace-is _ _ _ _ read _ _),
+      (told .1 .0 ∙ memory-is _ _ _ _ read _ _, told .1 .1 .0 ∙ trace-is _ _ _ _ read _ _),
     )
 
 pub replay-spec : {M : Type 1} → statement M

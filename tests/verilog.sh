@@ -1,0 +1,208 @@
+#!/usr/bin/env bash
+# From Verilog to a netlist: scripts/verilog_to_aag.sh with the real yosys, what the library imports of its text, and abc's proof that this is
+# the circuit of the binary AIGER of the same yosys run (latches cut; inputs, outputs and latches matched by their order). The same comparison
+# must fail where two read bits are exchanged. Then everything that must stop the script, each with its message.
+# Arguments: the program `frames`, and the program of tests/verilog.
+set -u
+frames=$(readlink -f "$1")
+importer=$(readlink -f "$2")
+cd "$(dirname "$0")/.." || exit 2
+passed=0
+failed=0
+check() { # what, command ..
+  local name=$1
+  shift
+  if "$@"; then passed=$((passed + 1)); else failed=$((failed + 1)); echo "FAILED: $name"; fi
+}
+same() { [ "$1" = "$2" ] || { diff <(printf '%s\n' "$1") <(printf '%s\n' "$2"); return 1; } }
+
+work=$(mktemp -d)
+trap 'rm -rf "$work"' EXIT
+
+# What abc says of two files, of which one may be BLIF and one AIGER: equal, different, or something else that it said.
+compared() { # file, file
+  local said
+  said=$(cd "$work" && berkeley-abc -q "cec -n $1 $2" 2>&1)
+  case $said in
+    *"Networks are equivalent"*) echo equal ;;
+    *"Networks are NOT EQUIVALENT"*) echo different ;;
+    *) echo "$said" ;;
+  esac
+}
+
+# The script makes a text and a binary file (NAME.aag, NAME.aig); the import of the text is the circuit of the binary file.
+translated() { # name, m, n, further arguments of the script ..
+  local name=$1 m=$2 n=$3
+  shift 3
+  bash scripts/verilog_to_aag.sh --aig "$work/$name.aig" "$@" > "$work/$name.aag" 2> "$work/err"
+  check "$name: status" same 0 "$?"
+  check "$name: nothing is said" same "" "$(cat "$work/err")"
+  check "$name: imported" same "0 0" "$("$importer" verdict "$work/$name.aag" "$m" "$n" 0)"
+  "$importer" blif "$work/$name.aag" "$m" "$n" 0 > "$work/$name.blif"
+  check "$name: the circuit of the binary file" same equal "$(compared "$name.blif" "$name.aig")"
+}
+
+# The text with two of its lines exchanged.
+exchanged() { # text, line, line
+  awk -v one="$2" -v other="$3" '
+    { line[NR] = $0 }
+    END { for (at = 1; at <= NR; at++) print line[at == one ? other : at == other ? one : at] }' "$1"
+}
+
+counter=examples/fifth-revision/carton_counter.v
+translated repaired 3 8 carton_counter 3 8 "$counter"
+translated faulty 3 8 -D FAULTY carton_counter 3 8 "$counter"
+
+# Two read bits exchanged: input 7 is read_data[0], in line 9.
+for other in 10 16; do
+  exchanged "$work/repaired.aag" 9 "$other" > "$work/exchanged.aag"
+  check "exchanged: imported" same "0 0" "$("$importer" verdict "$work/exchanged.aag" 3 8 0)"
+  "$importer" blif "$work/exchanged.aag" 3 8 0 > "$work/exchanged.blif"
+  check "read bits of lines 9 and $other exchanged" same different "$(compared exchanged.blif repaired.aig)"
+done
+check "the repair is another circuit" same different "$(compared faulty.blif repaired.aig)"
+
+# The chips of the sheets are these: the Verilog has the clock in front. And the formula of the imported netlist has the same answers.
+for chip in faulty repaired; do
+  "$importer" sheet-blif "examples/fifth-revision/$chip.sheet" 1 > "$work/sheet.blif"
+  check "$chip: the Verilog and the sheet" same equal "$(compared sheet.blif "$chip.aig")"
+  "$importer" sheet "$work/$chip.aag" 3 8 0 > "$work/$chip.sheet"
+done
+answer() { FRAMES=$frames bash scripts/find.sh "$work/$1.sheet" "$2" > "$work/found" 2>&1; echo $?; }
+check "faulty: no run in one frame" same 20 "$(answer faulty 0)"
+check "faulty: a run in two frames" same 10 "$(answer faulty 1)"
+check "repaired: no run" same 20 "$(answer repaired 6)"
+
+# A small chip, in which one thing is changed at a time. A bit of its write data is wired straight to an input.
+chip() { # what sed changes
+  sed "$1" <<'verilog'
+module chip (
+    input clock,
+    input [1:0] x,
+    input y,
+    input [1:0] read_data,
+    output address,
+    output [1:0] write_data,
+    output write_enable,
+    output read_enable,
+    output property_holds
+);
+  reg [1:0] sum = 0;
+  reg high = 0;
+  always @(posedge clock) begin
+    sum <= sum + x;
+    high <= sum[1] ^ read_data[0];
+  end
+  assign address = x[0] ^ x[1];
+  assign write_data = {x[0] & sum[1], y};
+  assign write_enable = 1;
+  assign read_enable = sum[0];
+  assign property_holds = !high | (read_data != 2'b11);
+endmodule
+verilog
+}
+chip '' > "$work/chip.v"
+translated wires 1 2 chip 1 2 "$work/chip.v"
+check "wires: the names of the inputs" same "clock x[0] x[1] y read_data[0] read_data[1]" \
+  "$(sed -n 's/^i[0-9]* //p' "$work/wires.aag" | tr '\n' ' ' | sed 's/ $//')"
+chip 's/posedge clock)/posedge clock or posedge y) if (y) sum <= 0; else/' > "$work/reset.v"
+translated reset 1 2 chip 1 2 "$work/reset.v"
+chip '' > "$work/-a b.v"
+translated odd-name 1 2 -- chip 1 2 "$work/-a b.v"
+
+# What yosys writes by itself: an input that is wired to an output stands behind the read bits, and the import takes that; a register that
+# does not start as 0 has a third number, and that is 11.
+plain() { # name, Verilog
+  yosys -Q -T -q -p "prep -flatten -top chip; dffunmap; simplemap; aigmap; write_aiger -ascii -symbols $work/$1.aag" "$2"
+  awk -v top=chip -v m=1 -v n=2 -f scripts/aag_ports.awk "$work/$1.aag"
+}
+check "plain: noticed" same "chip: input 4 of 6 is read_data[1], and read_data[0] is due" "$(plain plain "$work/chip.v")"
+check "plain: imported as it is" same "0 0" "$("$importer" verdict "$work/plain.aag" 1 2 0)"
+"$importer" blif "$work/plain.aag" 1 2 0 > "$work/plain.blif"
+check "plain: another circuit" same different "$(compared plain.blif wires.aig)"
+third() { # name, initial value, what is said of it
+  chip "s/high = 0/high$2/; s/, y}/, !y}/" > "$work/$1.v"
+  check "$1: noticed" same "chip: register high $3; every register must start as 0" "$(plain "$1" "$work/$1.v")"
+  check "$1: 11 at the last latch" same "11 10" "$("$importer" verdict "$work/$1.aag" 1 2 0)"
+}
+third unset "" "has no initial value"
+third one " = 1" "starts as 1"
+
+# The script ends with this status, says this in a line of its own, and leaves nothing.
+stops() { # what, status, message, arguments ..
+  local what=$1 status=$2 message=$3
+  shift 3
+  rm -f "$work/stopped.aig"
+  bash scripts/verilog_to_aag.sh --aig "$work/stopped.aig" "$@" > "$work/out" 2> "$work/err"
+  check "$what: status" same "$status" "$?"
+  check "$what: said" grep -qxF -- "$message" <(sed 's/has [0-9]\{4\} wires/has thousands of wires/' "$work/err")
+  check "$what: nothing is printed" [ ! -s "$work/out" ]
+  check "$what: no binary file" [ ! -e "$work/stopped.aig" ]
+}
+changed() { # what, message, what sed changes
+  chip "$3" > "$work/changed.v"
+  stops "$1" 1 "$2" chip 1 2 "$work/changed.v"
+}
+changed "read data first" "chip: input 4 of 6 is x[1], and read_data[0] is due" \
+  '/input \[1:0\] read_data/d; s/input clock,/input [1:0] read_data, input clock,/'
+changed "an input behind the read data" "chip: input 4 of 6 is read_data[1], and read_data[0] is due" \
+  '/input y/d; s/\(input \[1:0\] read_data,\)/\1 input y,/'
+changed "outputs exchanged" "chip: output 3 is read_enable, and write_enable is due" \
+  '/output write_enable/d; s/output read_enable,/output read_enable, output write_enable,/'
+changed "no read enable" "chip: it has 5 outputs, and 1 + 2 + 3 are due" '/read_enable/d'
+changed "another port's name" "chip: output 0 is place, and address is due" 's/address/place/'
+changed "a register without initial value" "chip: register high has no initial value; every register must start as 0" 's/high = 0/high/'
+changed "a register that starts as 1" "chip: register high starts as 1; every register must start as 0" 's/high = 0/high = 1/'
+edges="chip: its registers take more than one edge: the rising edge of clock, the"
+frame="a frame is one step of all of them"
+changed "both edges" "$edges falling edge of clock; $frame" 's/high <= .*/end always @(negedge clock) begin high <= sum[1];/'
+changed "two clocks" "$edges rising edge of y; $frame" 's/high <= .*/end always @(posedge y) begin high <= sum[1];/'
+changed "a gated clock" "chip: its registers' clock gated is no input of its own, so they do not take every step" \
+  's/posedge clock/posedge gated/; s/reg high/wire gated = clock \& y; reg high/'
+data="chip: its clock clock is read as data too; within a frame it has no value"
+changed "the clock in a gate" "$data" 's/read_enable = /read_enable = clock ^ /'
+changed "the clock in a register" "$data" 's/high <= /high <= clock; if (y) high <= /'
+changed "the clock as an output" "$data" 's/read_enable = .*/read_enable = clock;/'
+changed "a wire without a driver" "chip: input 6 has no name: a wire without a driver, or a text without symbols" \
+  's/reg high/wire open; reg high/; s/read_enable = /read_enable = open \& /'
+changed "an undefined value" "chip: yosys makes no netlist of it" "s/read_enable = .*/read_enable = y ? 1 : 1'bx;/"
+changed "a memory left" "chip: yosys makes no netlist of it" \
+  's/reg high/reg [1:0] left [0:3]; always @(posedge clock) left[x] <= sum; reg high/; s/read_enable = .*/read_enable = left[sum][0];/'
+changed "a product" "chip: it has thousands of wires (inputs, registers, gates), and 600 is the most" \
+  's/reg high/reg [31:0] product = 0; always @(posedge clock) product <= product * product + x; reg high/; s/= !high/= !high \& product != 55/'
+changed "no Verilog" "chip: yosys makes no netlist of it" 's/endmodule//'
+chip 's/^endmodule/always @* assert (x != 3); endmodule/' > "$work/assert.sv"
+stops "an assertion" 1 "chip: it has assertions or assumptions; say them by property_holds" chip 1 2 "$work/assert.sv"
+stops "more data bits" 1 "chip: input 3 of 6 is y, and read_data[0] is due" chip 1 3 "$work/chip.v"
+stops "fewer data bits" 1 "chip: input 5 of 6 is read_data[1], and read_data is due" chip 1 1 "$work/chip.v"
+stops "more address bits" 1 "chip: it has 6 outputs, and 2 + 2 + 3 are due" chip 2 2 "$work/chip.v"
+stops "another module" 1 "chop: yosys makes no netlist of it" chop 1 2 "$work/chip.v"
+stops "no file" 1 "$work/none.v: there is no such file that can be read" chip 1 2 "$work/chip.v" "$work/none.v"
+stops "a folder" 1 "$work: there is no such file that can be read" chip 1 2 "$work"
+stops "no arguments" 2 "a module, M, N and a file are wanted"
+stops "no file named" 2 "a module, M, N and a file are wanted" chip 1 2
+stops "no address bits" 2 "'0' is no number of address bits: 1 to 12" chip 0 2 "$work/chip.v"
+stops "too many address bits" 2 "'13' is no number of address bits: 1 to 12" chip 13 2 "$work/chip.v"
+stops "no data bits" 2 "'0' is no number of data bits: 1 to 32" chip 1 0 "$work/chip.v"
+stops "too many data bits" 2 "'33' is no number of data bits: 1 to 32" chip 1 33 "$work/chip.v"
+stops "no module's name" 2 "'chip; shell' is no name of a module" 'chip; shell' 1 2 "$work/chip.v"
+stops "no option" 2 "'--binary' is no option" --binary "$work/x" chip 1 2 "$work/chip.v"
+mkdir "$work/without"
+for tool in bash dirname; do ln -s "$(command -v "$tool")" "$work/without/$tool"; done
+check "no yosys" same "yosys is missing: Debian has a package yosys" "$(PATH=$work/without bash scripts/verilog_to_aag.sh chip 1 2 "$work/chip.v" 2>&1)"
+check "a binary file that cannot be written" same "$work/none/x: it could not be written" \
+  "$(bash scripts/verilog_to_aag.sh --aig "$work/none/x" chip 1 2 "$work/chip.v" 2>&1 | tail -n 1)"
+
+# The page's commands, with Debian's yosys: another version may find another number of gates.
+if yosys -V | grep -q '^Yosys 0\.23 '; then
+  mkdir -p target
+  awk -v commands="$work/commands" -v shown="$work/shown" '
+    /^```/ { plain = !inside && $0 == "```"; inside = !inside; next }
+    plain && /^\$ / { print substr($0, 3) > commands; next }
+    plain { print > shown }' docs/VERILOG.md
+  check "the page has commands" [ "$(wc -l < "$work/commands")" -eq 3 ]
+  check "the page's commands" diff "$work/shown" <(bash "$work/commands" 2>&1)
+fi
+
+echo "$passed passed, $failed failed"
+[ "$failed" -eq 0 ]
