@@ -1,6 +1,6 @@
 /* The library for C: `rt staticlib marrubigai` writes target/staticlib/libmarrubigai.a. docs/LIBRARY.md has the link line, the conditions and
  * places of refusals, and a program that searches depth by depth; the contracts stand in crates/marrubigai/src. Every function takes any
- * numbers, tests them first, and after a refusal has changed nothing that it was lent.
+ * numbers, tests them first, and after a refusal has changed nothing that it was lent, but for the memory of marrubigai_replay.
  *
  * A slice is a pointer and how many elements it has. Nothing can test these two, so they are the caller's to get right:
  *   - The pointer is that of an array of at least so many elements, which nothing else writes to during the call.
@@ -15,8 +15,8 @@
 /* the version of this interface: the first number goes up where a program that was written for the version before has to be changed, the
  * second where something is added; while the first is 0, the second goes up for both */
 #define MARRUBIGAI_VERSION_MAJOR 0
-#define MARRUBIGAI_VERSION_MINOR 2
-#define MARRUBIGAI_VERSION "0.2"
+#define MARRUBIGAI_VERSION_MINOR 3
+#define MARRUBIGAI_VERSION "0.3"
 
 #ifdef __cplusplus
 extern "C" {
@@ -40,6 +40,7 @@ typedef struct { uint32_t number, place; size_t count; } marrubigai_count_reply;
 typedef struct { uint32_t number, place, variables, clauses; } marrubigai_heading_reply;
 typedef struct { uint32_t number, place; marrubigai_netlist net; } marrubigai_sheet_reply;
 typedef struct { uint32_t number, place; uint8_t letter; uint32_t first, second, third, line; } marrubigai_line_reply;
+typedef struct { uint32_t number, place, claimed, first; } marrubigai_replay_reply; /* claimed: 1 where the answer claims to be unsatisfiable */
 
 /* a refusal's number */
 enum marrubigai_refusal {
@@ -56,7 +57,9 @@ enum marrubigai_refusal {
   MARRUBIGAI_OUT_OF_NUMBERS = 10,
   MARRUBIGAI_NOT_AIGER = 11,
   MARRUBIGAI_INTERFACE = 12,
-  MARRUBIGAI_UNDEFINED = 13
+  MARRUBIGAI_UNDEFINED = 13,
+  MARRUBIGAI_NO_ANSWER = 14,
+  MARRUBIGAI_NO_VIOLATION = 15
 };
 
 /* the kinds of group */
@@ -68,7 +71,9 @@ enum marrubigai_room {
   MARRUBIGAI_LIST_ROOM = 600,     /* latches or gates */
   MARRUBIGAI_GROUP_ROOM = 5992,   /* numbers of a group */
   MARRUBIGAI_LINE_BYTES = 28,     /* a header, or a refusal */
-  MARRUBIGAI_NUMBER_BYTES = 12    /* clauses as text: for each number */
+  MARRUBIGAI_NUMBER_BYTES = 12,   /* clauses as text: for each number */
+  MARRUBIGAI_MEMORY_WORDS = 4096, /* words of a memory */
+  MARRUBIGAI_TRACE_BYTES = 153856 /* the lines of a run */
 };
 
 /* reads a sheet: its record, and its latches and gates into the first elements of the lists */
@@ -97,6 +102,17 @@ marrubigai_heading_reply marrubigai_heading(marrubigai_netlist net, const marrub
 marrubigai_count_reply marrubigai_write_group(marrubigai_netlist net, const marrubigai_latch *latches, size_t latch_count,
                                               const marrubigai_gate *gates, size_t gate_count, uint32_t depth, uint32_t kind,
                                               uint32_t j, uint32_t i, int32_t *out, size_t room);
+
+/* runs a solver's answer, in the SAT Competition's output form, through the frames 0 to depth. Only the inputs are taken from it, and the read
+ * bits of frames that do not read; the chip is stepped with its whole memory, the first 2^m words lent, whatever they hold. `first` is then the
+ * first frame that breaks the property, and the trace holds for each frame a line of V digits 0 or 1, wire 1 first: (depth + 1)(V + 1) bytes.
+ * Where the answer is `s UNSATISFIABLE`, claimed is 1 and nothing was written. 14 where it is malformed, or gives something that the run is fed no
+ * value or both; 15 where the run breaks nothing; 9 where memory or trace are shorter than their need, tested before the answer counts. After 14 the
+ * first 2^m words are 0; after 15, and where a frame is answered, they are the chip's after frame `depth`; after any other refusal they are as they
+ * were. It needs some 1 MiB of stack, which a thread may not have. */
+marrubigai_replay_reply marrubigai_replay(marrubigai_netlist net, const marrubigai_latch *latches, size_t latch_count,
+                                          const marrubigai_gate *gates, size_t gate_count, uint32_t depth, const uint8_t *answer,
+                                          size_t bytes, uint32_t *memory, size_t words, uint8_t *trace, size_t trace_room);
 
 /* the text of the program `frames`: DIMACS' problem line, numbers that a group call wrote with a clause a line, and a refusal, its
  * number and place in ten columns each. Each answers how many bytes it wrote; 9 where the buffer is shorter than the text.

@@ -50,6 +50,11 @@ FIELD(marrubigai_line_reply, first, 12);
 FIELD(marrubigai_line_reply, second, 16);
 FIELD(marrubigai_line_reply, third, 20);
 FIELD(marrubigai_line_reply, line, 24);
+SIZE(marrubigai_replay_reply, 16);
+FIELD(marrubigai_replay_reply, number, 0);
+FIELD(marrubigai_replay_reply, place, 4);
+FIELD(marrubigai_replay_reply, claimed, 8);
+FIELD(marrubigai_replay_reply, first, 12);
 
 #define TEXT(number) #number
 #define VERSION(major, minor) TEXT(major) "." TEXT(minor)
@@ -344,6 +349,54 @@ static void groups(void) {
           MOST, MARRUBIGAI_CODE, 15);
 }
 
+// The full run's chip at depth 1: the input is variable 2 in frame 0 and 4 in frame 1, and every frame reads. Memory and trace are one word and one
+// byte longer than their need.
+enum { WORDS = 2, LINES = 2 * 3, UNTOUCHED = 0x5a };
+static uint32_t memory[WORDS + 1];
+static uint8_t trace[LINES + 1];
+
+static marrubigai_replay_reply replay_text(uint32_t depth, const char *answer, size_t words, size_t trace_room) {
+  for (size_t x = 0; x < COUNT(memory); x++) memory[x] = UNTOUCHED;
+  memset(trace, UNTOUCHED, sizeof trace);
+  return marrubigai_replay(CHIP, latches, 0, gates, 0, depth, (const uint8_t *)answer, strlen(answer), memory, words, trace, trace_room);
+}
+
+static int answers_replay(marrubigai_replay_reply reply, uint32_t number, uint32_t claimed, uint32_t first) {
+  return reply.number == number && reply.place == 0 && reply.claimed == claimed && reply.first == first;
+}
+
+static int memory_holds(uint32_t first, uint32_t second) { return memory[0] == first && memory[1] == second && memory[2] == UNTOUCHED; }
+
+static int trace_untouched(void) {
+  for (size_t t = 0; t < COUNT(trace); t++)
+    if (trace[t] != UNTOUCHED) return 0;
+  return 1;
+}
+
+static int untouched(void) { return memory_holds(UNTOUCHED, UNTOUCHED) && trace_untouched(); }
+
+static void replays(void) {
+  // the answer lies about the bits read (variables 3 and 5), which do not count; the input of frame 1 is what is written last
+  check("frame 1 reads what frame 0 wrote, and breaks the property",
+        answers_replay(replay_text(1, "c\ns SATISFIABLE\nv 2 3\nv -4 -5 0\n", COUNT(memory), COUNT(trace)), MARRUBIGAI_PASSED, 0, 1) &&
+            memory_holds(0, 0) && memcmp(trace, "10\n01\n", LINES) == 0 && trace[LINES] == UNTOUCHED);
+  check("a memory and a trace of exactly their need",
+        answers_replay(replay_text(1, "s SATISFIABLE\nv 2 4 0\n", WORDS, LINES), MARRUBIGAI_PASSED, 0, 1) && memory_holds(1, 0) &&
+            memcmp(trace, "10\n11\n", LINES) == 0);
+  check("a claim", answers_replay(replay_text(1, "s UNSATISFIABLE\n", WORDS, LINES), MARRUBIGAI_PASSED, 1, 0) && untouched());
+  check("an answer without its last line feed gives 14, and zeros",
+        answers_replay(replay_text(1, "s UNSATISFIABLE", WORDS, LINES), MARRUBIGAI_NO_ANSWER, 0, 0) && memory_holds(0, 0) && trace_untouched());
+  check("no value for the input of frame 1 gives 14, and zeros",
+        answers_replay(replay_text(1, "s SATISFIABLE\nv 2 0\n", WORDS, LINES), MARRUBIGAI_NO_ANSWER, 0, 0) && memory_holds(0, 0) &&
+            trace_untouched());
+  check("a run that breaks nothing gives 15, and the chip's words",
+        answers_replay(replay_text(1, "s SATISFIABLE\nv -2 4 0\n", WORDS, LINES), MARRUBIGAI_NO_VIOLATION, 0, 0) && memory_holds(1, 0) &&
+            trace_untouched());
+  check("a memory of one word gives 9", answers_replay(replay_text(1, "", WORDS - 1, LINES), MARRUBIGAI_NO_ROOM, 0, 0) && untouched());
+  check("a trace of five bytes gives 9", answers_replay(replay_text(1, "", WORDS, LINES - 1), MARRUBIGAI_NO_ROOM, 0, 0) && untouched());
+  check("depth 256 gives 7", answers_replay(replay_text(256, "", WORDS, LINES), MARRUBIGAI_DEPTH, 0, 0) && untouched());
+}
+
 enum { MOST_BYTES = 40, UNPRINTED = 0xa5 };
 static uint8_t text[MOST_BYTES];
 
@@ -393,6 +446,17 @@ static void rooms(void) {
   check("a longer one is", marrubigai_read(sheet, sizeof sheet, latches, 0, gates, 0).number == MARRUBIGAI_RAGGED);
   check("the longest header", marrubigai_put_header(text, MARRUBIGAI_LINE_BYTES, UINT32_MAX, UINT32_MAX).count == MARRUBIGAI_LINE_BYTES);
   check("a refusal", marrubigai_put_refusal(text, MARRUBIGAI_LINE_BYTES, UINT32_MAX, UINT32_MAX).count == MARRUBIGAI_LINE_BYTES);
+  static uint32_t words[MARRUBIGAI_MEMORY_WORDS];
+  static uint8_t longest_trace[MARRUBIGAI_TRACE_BYTES];
+  const marrubigai_netlist widest = {.gates = 599, .m = 12, .n = 1};
+  static const uint8_t claim[] = "s UNSATISFIABLE\n";
+  check("the largest memory and the longest trace",
+        marrubigai_replay(widest, latches, 0, most_gates, 599, 255, claim, sizeof claim - 1, words, MARRUBIGAI_MEMORY_WORDS,
+                          longest_trace, MARRUBIGAI_TRACE_BYTES).claimed == 1);
+  check("no word less", marrubigai_replay(widest, latches, 0, most_gates, 599, 255, claim, sizeof claim - 1, words, MARRUBIGAI_MEMORY_WORDS - 1,
+                                          longest_trace, MARRUBIGAI_TRACE_BYTES).number == MARRUBIGAI_NO_ROOM);
+  check("no byte less", marrubigai_replay(widest, latches, 0, most_gates, 599, 255, claim, sizeof claim - 1, words, MARRUBIGAI_MEMORY_WORDS,
+                                          longest_trace, MARRUBIGAI_TRACE_BYTES - 1).number == MARRUBIGAI_NO_ROOM);
   static const int32_t longest[] = {INT32_MIN};
   check("the longest number", marrubigai_put_clauses(text, MARRUBIGAI_NUMBER_BYTES, longest, 1).count == MARRUBIGAI_NUMBER_BYTES);
 }
@@ -405,6 +469,7 @@ int main(void) {
   lines();
   headings();
   groups();
+  replays();
   printing();
   rooms();
   printf("%d passed, %d failed\n", passed, failed);

@@ -1,4 +1,4 @@
--- What `replay` prints on its first line (RULES P11 to P13), by what the replay answers in numbers. Cited by the functions of this crate.
+-- What `replay` prints on its first line (RULES P3, P13 and P14), by what the replay answers in numbers. Cited by the functions of this crate.
 use Prim.Native.Nat.{ℕ}
 use mathlib.Core.Bool.{Bool, cond, _&&_}
 use mathlib.Core.List.{List, [], _∷_, _++_}

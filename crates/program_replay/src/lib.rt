@@ -1,4 +1,4 @@
-// What `replay` prints (RULES P11 to P13): the first line, and how much of the trace behind it.
+// What `replay` prints (RULES P3 and P13 to P15): the first line, and how much of the trace behind it.
 use netlist::Netlist;
 use replay_call::ReplayReply;
 ghost use mathlib.Core.Path.{_≡_};

@@ -1,4 +1,4 @@
-// The program `replay` (RULES P11 to P16): a depth line and a sheet on standard input, a solver's answer in the file `answer`; on standard
+// The program `replay` (RULES P11 to P15): a depth line and a sheet on standard input, a solver's answer in the file `answer`; on standard
 // output the first frame that breaks the property with the run's lines, or the answer's claim, or one refusal. What is read and what is printed
 // is in the crates below; here are only input and output.
 use answer_lines::AnswerKind;
