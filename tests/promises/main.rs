@@ -28,8 +28,8 @@ fn is_shown(of: &str, it: &Public) -> bool {
     }
 }
 
-/// The crates whose functions the program is put together from; what they promise must be believed too.
-const PROGRAM: [&str; 2] = ["program_input", "program_output"];
+/// The crates whose functions the programs are put together from; what they promise must be believed too.
+const PROGRAM: [&str; 3] = ["program_input", "program_output", "program_replay"];
 
 struct Repository(PathBuf);
 
