@@ -3,7 +3,8 @@
 # - no function takes one of the three types and answers another, but `in_frame` of crate `literals`;
 # - outside `literals` none is made, but a code of a list that is read, the code 0, and in `netlist` the wires that a count gives;
 #   inside, each is made by its own methods alone;
-# - outside `literals` no number is taken out of one or put into one, but where numbers are stored (the lines under `allowed`);
+# - outside `literals` no number is taken out of one or put into one, but where numbers are stored, where a code's value is read off a table of
+#   wires, and where a wire's variable is looked up among signs (the lines under `allowed`);
 # - where a table's index is taken of a wire, no wire is made;
 # - none has another name.
 # So no number goes from one type into another, by way of a local or not. Then each of some wrong functions is refused by these rules.
@@ -11,6 +12,8 @@ set -u
 cd "$(dirname "$0")/.." || exit 2
 allowed='
 crates/clause_writer/src/lib.rt let x = a.0
+crates/circuit_values/src/lib.rt let x = code.0
+crates/replay_frame/src/lib.rt let read = netlist::first_read_wire(net).0
 crates/call_lists/src/unpack.rt netlist::put_numbers(codes, g, gate.left.0, gate.right.0)
 crates/call_lists/src/unpack.rt netlist::put_numbers(codes, l, latch.next.0, latch.reset)
 crates/sheet_steps/src/lib.rt next.address[at].0 = first
