@@ -84,14 +84,14 @@ if rt staticlib marrubigai > "$logs/staticlib.out" 2>&1; then
       timeout 600 valgrind --quiet --error-exitcode=99 "$logs/library" sample
   fi
   run "the header for C against the library" header bash tests/header.sh
-  run "a search depth by depth with the library and CaDiCaL's" search bash tests/search.sh target/bin/frames
+  run "a search depth by depth with the library and CaDiCaL's" search bash tests/search.sh target/bin/frames target/bin/replay
 else
   cat "$logs/staticlib.out"
   fail "rt staticlib marrubigai"
 fi
 
-run "the script that looks for a run and shows it" find bash tests/find.sh target/bin/frames
-run "the examples' sheets, and what the pages show of them" examples bash tests/examples.sh target/bin/frames
+run "the script that looks for a run and shows it" find bash tests/find.sh target/bin/frames target/bin/replay
+run "the examples' sheets, and what the pages show of them" examples bash tests/examples.sh target/bin/frames target/bin/replay
 compile solvers tests/solvers/main.rs &&
   run "the formula of frames, with public solvers" solvers "$logs/solvers" target/bin/frames "$logs/scratch" examples
 compile rules tests/rules/main.rs && run "citations and quotes stand in docs/RULES.md" rules "$logs/rules" .
