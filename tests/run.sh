@@ -37,6 +37,7 @@ need minisat minisat
 need cc gcc
 need g++ g++
 need valgrind valgrind
+need vcd2fst gtkwave
 need /usr/include/ccadical.h libcadical-dev
 
 logs=target/test
@@ -91,6 +92,8 @@ else
 fi
 
 run "the script that looks for a run and shows it" find bash tests/find.sh target/bin/frames target/bin/replay
+compile waveform tests/waveform/main.rs &&
+  run "the waveform of a run, by GTKWave's converters" waveform "$logs/waveform" target/bin/frames target/bin/replay "$logs/scratch"
 run "the examples' sheets, and what the pages show of them" examples bash tests/examples.sh target/bin/frames target/bin/replay
 compile solvers tests/solvers/main.rs &&
   run "the formula of frames, with public solvers" solvers "$logs/solvers" target/bin/frames "$logs/scratch" examples
