@@ -22,7 +22,7 @@ pub type TextRow = (String, Call, Result<Netlist, Verdict>);
 type Expected = Result<&'static str, Verdict>;
 
 /// Bytes in which `/` stands for a line feed.
-fn bytes_of(short: &str) -> Vec<u8> {
+pub fn bytes_of(short: &str) -> Vec<u8> {
     short.replace('/', "\n").into_bytes()
 }
 

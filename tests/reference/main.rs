@@ -1,10 +1,13 @@
-//! Self-test of a second implementation of docs/RULES.md and K1: each family of checks prints one
+//! Self-test of a second implementation of docs/RULES.md, K1 and K2: each family of checks prints one
 //! line, the last line is the total. Build: rustc -O --edition 2021 main.rs
 
 mod agreement;
 mod aiger;
 mod aiger_values;
+mod answer;
+mod answer_calls;
 mod check_aiger;
+mod check_answers;
 mod check_examples;
 mod check_random;
 mod check_refusals;
@@ -22,7 +25,7 @@ use tally::{Report, Tally};
 
 type Family = (&'static str, fn(&mut Tally));
 
-const FAMILIES: [Family; 26] = [
+const FAMILIES: [Family; 29] = [
     ("full runs, byte for byte", check_examples::full_runs),
     ("a run of the chip, by hand", check_examples::memory_run),
     ("starred facts", check_examples::starred_facts),
@@ -52,6 +55,9 @@ const FAMILIES: [Family; 26] = [
     ("texts of K1, wrong values", check_aiger::values_part),
     ("texts of K1, faults", check_aiger::predicted_faults),
     ("texts of K1, damaged", check_aiger::damaged_texts),
+    ("answers of K2, by hand", check_answers::forms),
+    ("replays of K2, by hand", check_answers::replays),
+    ("calls of K2, sets of faults", check_answers::fault_sets),
 ];
 
 fn main() {
