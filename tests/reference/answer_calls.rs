@@ -1,8 +1,9 @@
 //! Calls of K2 with what is lent, and the outcomes that they must have by what is known of them.
 
-use super::answer::{replay_call, trace_size, Claim};
+use super::answer::{replay_call, trace_size, trace_text, Claim};
+use super::circuit::{value, word, Run};
 use super::netlist::Netlist;
-use super::refusal::Refusal;
+use super::refusal::{Refusal, BAD_ANSWER, NOTHING_BREAKS};
 use super::sheet::{write_depth, write_sheet};
 
 /// A call of `replay_call`. The program gets the depth and the netlist as standard input.
@@ -77,4 +78,43 @@ impl Call {
             trace: self.trace.clone(),
         }
     }
+
+    /// The outcome of a malformed answer or one that feeds no run, once all before has passed.
+    pub fn bad_answer(&self) -> Outcome {
+        let words = 1 << self.netlist.address_width;
+        let mut outcome = self.untouched(refused(BAD_ANSWER, 0));
+        outcome.memory[..words].fill(0);
+        outcome
+    }
+
+    /// The outcome of a well-formed answer that feeds this run, once all before has passed.
+    pub fn of_run(&self, run: &Run) -> Outcome {
+        let mut outcome = self.untouched(refused(NOTHING_BREAKS, 0));
+        let words = words_behind(&self.netlist, run);
+        outcome.memory[..words.len()].copy_from_slice(&words);
+        if let Some(frame) = run.first_break {
+            let digits = trace_text(&run.frames);
+            outcome.trace[..digits.len()].copy_from_slice(&digits);
+            outcome.result = Ok(Claim::Breaks(frame as u32));
+        }
+        outcome
+    }
+}
+
+fn refused(number: u32, place: u32) -> Result<Claim, Refusal> {
+    Err(Refusal { number, place })
+}
+
+/// The words behind the last frame, from the start word and the writes that the wires show.
+fn words_behind(netlist: &Netlist, run: &Run) -> Vec<u32> {
+    let of_address = |address: u32| {
+        let writes = |values: &&Vec<bool>| {
+            value(values, netlist.write_enable) && word(values, netlist.address_codes()) == address
+        };
+        let newest = run.frames.iter().rev().find(writes);
+        newest.map_or(netlist.start_word, |values| {
+            word(values, netlist.write_data_codes())
+        })
+    };
+    (0..1 << netlist.address_width).map(of_address).collect()
 }

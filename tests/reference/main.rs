@@ -10,12 +10,14 @@ mod check_aiger;
 mod check_answers;
 mod check_examples;
 mod check_random;
+mod check_random_answers;
 mod check_refusals;
 mod circuit;
 mod formula;
 mod netlist;
 mod random;
 mod random_aiger;
+mod random_answers;
 mod refusal;
 mod sheet;
 mod solver;
@@ -25,7 +27,7 @@ use tally::{Report, Tally};
 
 type Family = (&'static str, fn(&mut Tally));
 
-const FAMILIES: [Family; 29] = [
+const FAMILIES: [Family; 35] = [
     ("full runs, byte for byte", check_examples::full_runs),
     ("a run of the chip, by hand", check_examples::memory_run),
     ("starred facts", check_examples::starred_facts),
@@ -58,6 +60,27 @@ const FAMILIES: [Family; 29] = [
     ("answers of K2, by hand", check_answers::forms),
     ("replays of K2, by hand", check_answers::replays),
     ("calls of K2, sets of faults", check_answers::fault_sets),
+    ("the largest run of K2", check_random_answers::largest_chip),
+    (
+        "answers of K2, random",
+        check_random_answers::random_answers,
+    ),
+    (
+        "answers of K2, faults",
+        check_random_answers::predicted_faults,
+    ),
+    (
+        "answers of K2, two faults",
+        check_random_answers::two_faults,
+    ),
+    (
+        "answers of K2, damaged",
+        check_random_answers::damaged_answers,
+    ),
+    (
+        "answers of K2, all assignments",
+        check_random_answers::assignments,
+    ),
 ];
 
 fn main() {
