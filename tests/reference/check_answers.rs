@@ -2,8 +2,7 @@
 
 use super::answer::{read_answer, replay, trace_size, Answer, Claim};
 use super::answer_calls::{marks, Call, Outcome};
-use super::check_aiger::bytes_of;
-use super::check_examples::{accepted, input, FULL_RUN};
+use super::check_examples::{accepted, bytes_of, input, FULL_RUN};
 use super::check_refusals::{input_rows, ACCEPTED};
 use super::formula::refusal_text;
 use super::netlist::{Netlist, MAX_DEPTH};
