@@ -74,7 +74,7 @@ run "wires, codes and clause numbers are kept apart" types bash tests/types.sh
 run "the table of layers is that of the imports" layers bash tests/layers.sh
 compile reference tests/reference/main.rs && run "the second implementation's own tests" reference "$logs/reference"
 compile runner tests/runner/main.rs &&
-  run "the program against the second implementation" runner timeout 900 "$logs/runner" target/bin/frames docs/FORMAT.md
+  run "the programs against the second implementation" runner timeout 900 "$logs/runner" target/bin/frames target/bin/replay docs/FORMAT.md
 
 echo "== the static library: rt staticlib marrubigai"
 if rt staticlib marrubigai > "$logs/staticlib.out" 2>&1; then

@@ -1,9 +1,11 @@
 //! Hostile calls of the exported functions, each compared with the second implementation.
 
-use super::mutate::{netlist, sheet, LIMITS};
+use super::mutate::{change_bytes, netlist, sheet, LIMITS};
 use super::prints;
+use super::reference::answer_calls::{marks, Call};
 use super::reference::netlist::{Gate, Latch, Netlist};
 use super::reference::random::{damaged_record, Random};
+use super::reference::random_answers::{random_draft, written, written_unsatisfiable, CALL_FAULTS};
 use super::reference::Tally;
 use super::Library;
 
@@ -90,10 +92,41 @@ fn room(random: &mut Random) -> usize {
     random.pick(&[some, some, some, 0, 1, 600, 6_000])
 }
 
+/// A replay of a sound call or of one with faults in any part of it, or of parts that have nothing to do with each other.
+fn replay_call(random: &mut Random) -> Call {
+    let draft = random_draft(random);
+    let mut answer = if random.percent(85) {
+        written(random, &draft.numbers)
+    } else {
+        written_unsatisfiable(random)
+    };
+    if random.percent(40) {
+        change_bytes(random, &mut answer);
+    }
+    if random.percent(20) {
+        let (memory, trace) = marks(room(random), room(random));
+        return Call {
+            netlist: record(random),
+            depth: small_or_limit(random),
+            answer,
+            memory,
+            trace,
+        };
+    }
+    let mut call = draft.call(random, answer);
+    // in the tests' order from the last on: each relies on what those before it damage
+    for (_, fault) in CALL_FAULTS.iter().rev() {
+        if random.percent(7) {
+            fault(random, &mut call);
+        }
+    }
+    call
+}
+
 pub fn calls(library: &Library, tally: &mut Tally, seed: u64, count: usize) {
     let mut random = Random::new(seed);
     for _ in 0..count {
-        match random.below(10) {
+        match random.below(11) {
             0 => {
                 let file = sheet(&mut random);
                 let line = small_or_limit(&mut random);
@@ -115,6 +148,10 @@ pub fn calls(library: &Library, tally: &mut Tally, seed: u64, count: usize) {
                     small_or_limit(&mut random),
                 );
                 library.group_agrees(tally, &netlist, depth, of, room(&mut random));
+            }
+            9 => {
+                let call = replay_call(&mut random);
+                library.replay_agrees(tally, "hostile replay", &call);
             }
             _ => {
                 let netlist = record(&mut random);

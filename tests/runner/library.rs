@@ -10,6 +10,7 @@ mod mutate;
 mod prints;
 mod reads;
 mod reference;
+mod replay_calls;
 
 use std::cell::RefCell;
 
@@ -18,7 +19,7 @@ use reference::tally::{Report, Tally};
 
 /// How often a function answered each refusal number; entry 0 counts successes.
 #[derive(Default)]
-pub struct Counts([usize; 11]);
+pub struct Counts([usize; 16]);
 
 impl Counts {
     fn add<T>(counts: &RefCell<Counts>, answer: &Answer<T>) {
@@ -41,11 +42,14 @@ pub struct Library {
     headers: RefCell<Counts>,
     clauses: RefCell<Counts>,
     refusals: RefCell<Counts>,
+    replays: RefCell<Counts>,
+    /// Of the replays, those that say what the solver claimed.
+    claims: RefCell<Counts>,
 }
 
 type Family = (&'static str, fn(&Library, &mut Tally));
 
-const FAMILIES: [Family; 14] = [
+const FAMILIES: [Family; 21] = [
     ("facts of the full run", calls::stated),
     ("table of group calls", calls::table_of_calls),
     ("table of records", calls::table_of_records),
@@ -59,6 +63,13 @@ const FAMILIES: [Family; 14] = [
     ("texts at their limits", prints::limits),
     ("random texts", prints::random),
     ("joined texts", prints::joined),
+    ("replays by hand", replay_calls::by_hand),
+    ("replays with sets of faults", replay_calls::fault_sets),
+    ("replays of random answers", replay_calls::random_answers),
+    ("replays of faulty answers", replay_calls::faults),
+    ("replays of damaged answers", replay_calls::damaged),
+    ("rooms and lists of replays", replay_calls::rooms),
+    ("the largest replay", replay_calls::largest),
     ("hostile calls", |library, tally| {
         fuzz_exports::calls(library, tally, 701, 200_000)
     }),
@@ -66,7 +77,7 @@ const FAMILIES: [Family; 14] = [
 
 /// Each function, and the numbers that the tests must have made it answer: all that it has. 10 has none.
 fn every_number(library: &Library, tally: &mut Tally) {
-    let rows: [(&str, &RefCell<Counts>, &[usize]); 7] = [
+    let rows: [(&str, &RefCell<Counts>, &[usize]); 9] = [
         ("read", &library.reads, &[1, 2, 3, 4, 5, 6, 9]),
         ("next_line", &library.lines, &[2]),
         ("write_group", &library.calls, &[3, 4, 5, 6, 7, 8, 9]),
@@ -74,6 +85,8 @@ fn every_number(library: &Library, tally: &mut Tally) {
         ("put_header", &library.headers, &[9]),
         ("put_clauses", &library.clauses, &[9]),
         ("put_refusal", &library.refusals, &[9]),
+        ("replay", &library.replays, &[3, 4, 5, 6, 7, 9, 14, 15]),
+        ("replay, claimed unsatisfiable", &library.claims, &[]),
     ];
     let mut remarks = Vec::new();
     for (name, counts, numbers) in rows {
@@ -130,6 +143,9 @@ fn main() {
             report.family("lines of sheets", |tally| reads::lines(&library, tally));
             report.family("texts at their limits", |tally| {
                 prints::limits(&library, tally)
+            });
+            report.family("replays by hand", |tally| {
+                replay_calls::by_hand(&library, tally)
             });
             report.family("hostile calls", |tally| {
                 fuzz_exports::calls(&library, tally, 703, 1_000)

@@ -4,6 +4,14 @@
 
 #[path = "../reference/agreement.rs"]
 pub mod agreement;
+#[path = "../reference/aiger.rs"]
+pub mod aiger;
+#[path = "../reference/answer.rs"]
+pub mod answer;
+#[path = "../reference/answer_calls.rs"]
+pub mod answer_calls;
+#[path = "../reference/check_answers.rs"]
+pub mod check_answers;
 #[path = "../reference/check_examples.rs"]
 pub mod check_examples;
 #[path = "../reference/check_refusals.rs"]
@@ -16,6 +24,10 @@ pub mod formula;
 pub mod netlist;
 #[path = "../reference/random.rs"]
 pub mod random;
+#[path = "../reference/random_aiger.rs"]
+pub mod random_aiger;
+#[path = "../reference/random_answers.rs"]
+pub mod random_answers;
 #[path = "../reference/refusal.rs"]
 pub mod refusal;
 #[path = "../reference/sheet.rs"]
