@@ -1,10 +1,10 @@
 #!/usr/bin/env bash
 # Measures `frames` on the largest kind of sheet (I = 60, L = 100, A = 408, m = 12, n = 32) at depths 15, 63 and 255, beside a C
 # generator of the same text that is optimised by hand and one that prints through fprintf; and, of the library, every group of depth
-# 255 through the exported call, which tests its record each time. Every figure is the best of several repetitions, all programs and
-# depths in turn, input from a file, output to /dev/null; the time is the process's processor time (user and system), so that other
-# work on the machine matters little. It says which of our own targets (1.3 times, 4 times, 4 MiB, 20%) are reached, and fails only
-# where a program fails or the texts differ.
+# 255 through the exported call, which tests its record each time; then `replay` (bench/replay.sh). Every figure is the best of several
+# repetitions, all programs and depths in turn, input from a file, output to /dev/null; the time is the process's processor time (user and
+# system), so that other work on the machine matters little. It says which of our own targets (1.3 times, 4 times, 4 MiB, 20%) are
+# reached, and fails only where a program fails or the texts differ.
 # Argument: repetitions (100; a tenth as many of the slow generator); the program is target/bin/frames unless FRAMES names another.
 set -euo pipefail
 cd "$(dirname "$0")/.."
@@ -80,3 +80,5 @@ awk -v depths="${depths[*]}" -v bytes="${bytes[*]}" '
     printf "         with the time of depth 0: frames %+.0f%%, the optimised generator %+.0f%%\n", change(time, 0, 0), change(optimised, 0, 0)
     say(library <= time[255], "depth 255, all groups through the library, at most the time of frames", sprintf("%.2f (%.2f ms)", library / time[255], library / 1000))
   }' "$work/fast.out" "$work/slow.out"
+
+bash bench/replay.sh "$repetitions"
