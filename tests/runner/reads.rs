@@ -28,9 +28,9 @@ impl Library {
 /// What is answered of the line behind the first `line` lines, and how many are read then.
 fn line_behind(file: &[u8], line: u32) -> (Result<Option<Line>, Refusal>, u32) {
     let start = line as usize * LINE_BYTES;
-    let bytes = match file.get(start..start + LINE_BYTES).filter(|_| line < 615) {
-        Some(bytes) => bytes,
-        None => return (Ok(None), line),
+    let bytes = match file.get(start..start + LINE_BYTES) {
+        Some(bytes) if line < 615 => bytes,
+        _ => return (Ok(None), line),
     };
     let misprint = Refusal {
         number: MISPRINT,
