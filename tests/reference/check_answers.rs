@@ -1,6 +1,6 @@
 //! Answers of K2 and calls with them, with their outcomes written down by hand.
 
-use super::answer::{read_answer, replay, trace_size, Answer, Claim};
+use super::answer::{read_answer, replay, Answer, Claim};
 use super::answer_calls::{marks, Call, Outcome};
 use super::check_examples::{accepted, bytes_of, input, FULL_RUN};
 use super::check_refusals::{input_rows, ACCEPTED};
@@ -531,20 +531,7 @@ pub fn replays(tally: &mut Tally) {
             let name = (sheet, depth, numbers, more);
             tally.equal(name, outcome.memory, [words, behind].concat());
             let printed = replay(&call.input(), &call.answer);
-            tally.equal(name, printed, printed_of(&call, &call.outcome()));
-        }
-    }
-}
-
-/// What the program prints where a call has this outcome.
-pub fn printed_of(call: &Call, outcome: &Outcome) -> Vec<u8> {
-    match outcome.result {
-        Err(refusal) => refusal_text(refusal),
-        Ok(Claim::Unsatisfiable) => b"claimed unsatisfiable\n".to_vec(),
-        Ok(Claim::Breaks(frame)) => {
-            let digits = trace_size(&call.netlist, call.depth);
-            let first_line = format!("{frame}\n").into_bytes();
-            [&first_line, &outcome.trace[..digits]].concat()
+            tally.equal(name, printed, call.outcome().printed());
         }
     }
 }

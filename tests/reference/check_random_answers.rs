@@ -6,7 +6,7 @@ use std::collections::HashSet;
 use super::agreement::{agrees, all_feeds, feed_literals, feeds_of_model};
 use super::answer::{read_answer, replay, replay_call, trace_size, Answer, Claim};
 use super::answer_calls::{Call, Outcome};
-use super::check_answers::{printed_of, satisfiable, scan, BARE, IDLE, LATCHED};
+use super::check_answers::{satisfiable, scan, BARE, IDLE, LATCHED};
 use super::check_examples::{accepted, bytes_of, of_sizes, FULL_RUN};
 use super::circuit::Run;
 use super::formula::{Fault, Formula};
@@ -14,8 +14,8 @@ use super::netlist::{Netlist, MAX_DEPTH};
 use super::random::{random_feeds, tiny_netlist, Random};
 use super::random_aiger::{every_byte, every_line};
 use super::random_answers::{
-    random_draft, written, written_unsatisfiable, Draft, CALL_FAULTS, FEED_FAULTS, TEXT_FAULTS,
-    UNSEEN,
+    answer_case, call_case, random_draft, written, written_unsatisfiable, Draft, CALL_FAULTS,
+    FEED_FAULTS, TEXT_FAULTS, UNSEEN,
 };
 use super::refusal::NOTHING_BREAKS;
 use super::solver::Solver;
@@ -57,7 +57,7 @@ pub fn random_answers(tally: &mut Tally) {
         tally.check((round, "outcome"), call.outcome() == expected);
         tally.check(
             (round, "printed"),
-            replay(&call.input(), &call.answer) == printed_of(&call, &expected),
+            replay(&call.input(), &call.answer) == expected.printed(),
         );
         let numbers = Answer::Satisfiable(draft.numbers.clone());
         tally.check((round, "scanned"), scan(&call.answer) == Some(numbers));
@@ -72,12 +72,11 @@ pub fn random_answers(tally: &mut Tally) {
         idle += usize::from(needed > inputs);
         reading += usize::from(needed < all);
     }
-    for round in 0..100 {
-        let draft = random_draft(&mut random);
-        let answer = written_unsatisfiable(&mut random);
-        let call = draft.call(&mut random, answer);
-        let expected = call.untouched(Ok(Claim::Unsatisfiable));
-        tally.check((round, "unsatisfiable"), call.outcome() == expected);
+    for round in 0..1000 {
+        let (name, call, expected) = answer_case(&mut random);
+        tally.check((round, name), call.outcome() == expected);
+        let printed = replay(&call.input(), &call.answer);
+        tally.check((round, name, "printed"), printed == expected.printed());
     }
     for count in [first, later, nothing, idle, reading] {
         tally.check(("occurrences", count), count >= 100);
@@ -169,6 +168,10 @@ pub fn predicted_faults(tally: &mut Tally) {
 /// Two faults at once: the one that is tested first decides, and with it what the memory holds.
 pub fn two_faults(tally: &mut Tally) {
     let mut random = Random::new(23);
+    for round in 0..500 {
+        let (name, call, expected) = call_case(&mut random);
+        tally.check((round, name), call.outcome() == expected);
+    }
     for _ in 0..5 {
         for (index, (name, fault)) in CALL_FAULTS.iter().enumerate() {
             for (other_name, other) in &CALL_FAULTS[index + 1..] {
