@@ -8,7 +8,7 @@ use super::answer::{read_answer, replay, replay_call, trace_size, Answer, Claim}
 use super::answer_calls::{Call, Outcome};
 use super::check_answers::{satisfiable, scan, BARE, IDLE, LATCHED};
 use super::check_examples::{accepted, bytes_of, of_sizes, FULL_RUN};
-use super::circuit::Run;
+use super::circuit::{value, Run, Values};
 use super::formula::{Fault, Formula};
 use super::netlist::{Netlist, MAX_DEPTH};
 use super::random::{random_feeds, tiny_netlist, Random};
@@ -66,11 +66,9 @@ pub fn random_answers(tally: &mut Tally) {
             Some(_) => later += 1,
             None => nothing += 1,
         }
-        let needed = feed_literals(&draft.netlist, &draft.run).len() as u32;
-        let inputs = draft.netlist.inputs * (draft.depth + 1);
-        let all = (draft.netlist.inputs + draft.netlist.data_width) * (draft.depth + 1);
-        idle += usize::from(needed > inputs);
-        reading += usize::from(needed < all);
+        let reads = |values: &Values| value(values, draft.netlist.read_enable);
+        idle += usize::from(!draft.run.frames.iter().all(reads));
+        reading += usize::from(draft.run.frames.iter().any(reads));
     }
     for round in 0..1000 {
         let (name, call, expected) = answer_case(&mut random);
