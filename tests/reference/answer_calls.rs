@@ -110,7 +110,9 @@ impl Call {
         let mut outcome = self.untouched(refused(NOTHING_BREAKS, 0));
         let words = words_behind(&self.netlist, run);
         outcome.memory[..words.len()].copy_from_slice(&words);
-        if let Some(frame) = run.first_break {
+        let property = |values: &&Vec<bool>| value(values, self.netlist.property);
+        let frame = run.frames.iter().take_while(property).count();
+        if frame < run.frames.len() {
             let digits = trace_text(&run.frames);
             outcome.trace[..digits.len()].copy_from_slice(&digits);
             outcome.result = Ok(Claim::Breaks(frame as u32));

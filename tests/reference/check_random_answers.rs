@@ -3,7 +3,7 @@
 
 use std::collections::HashSet;
 
-use super::agreement::{agrees, all_feeds, feed_literals, feeds_of_model};
+use super::agreement::{agrees, all_feeds, feed_literals, feeds_of_model, variable};
 use super::answer::{read_answer, replay, replay_call, trace_size, Answer, Claim};
 use super::answer_calls::{Call, Outcome};
 use super::check_answers::{satisfiable, scan, BARE, IDLE, LATCHED};
@@ -370,10 +370,11 @@ pub fn assignments(tally: &mut Tally) {
             let answer = written(&mut random, &numbers);
             let call = Call::new(&netlist, depth, answer, [0, 0]);
             let run = Run::new(&netlist, &feeds_of_model(&netlist, depth, model));
-            let replays = agrees(&netlist, model, &run)
-                && run.first_break.is_some()
-                && call.outcome() == call.of_run(&run);
-            tally.check((round, "an assignment"), replays);
+            let outcome = call.outcome();
+            let fits = outcome == call.of_run(&run) && agrees(&netlist, model, &run);
+            tally.check((round, "an assignment's run"), fits);
+            let printed = assigned_text(&netlist, depth, model);
+            tally.check((round, "an assignment"), outcome.printed() == printed);
         }
         let breaks = Runs::new(netlist.clone(), depth)
             .runs
@@ -391,6 +392,27 @@ pub fn assignments(tally: &mut Tally) {
     tally.remark = format!(
         " ({satisfiable} satisfiable, {unsatisfiable} unsatisfiable, {models} assignments)"
     );
+}
+
+/// What is to be printed for an assignment that makes all clauses true, by its variables alone.
+fn assigned_text(netlist: &Netlist, depth: u32, model: &[bool]) -> Vec<u8> {
+    let code_value = |frame: usize, code: u32| match code {
+        0 | 1 => code == 1,
+        _ => model[variable(netlist, frame, code as usize / 2)] == (code % 2 == 0),
+    };
+    let broken = (0..=depth as usize).find(|frame| !code_value(*frame, netlist.property));
+    let mut text = broken.map_or(String::new(), |frame| format!("{frame}\n"));
+    for frame in 0..=depth as usize {
+        for wire in 1..=netlist.wire_count() {
+            text.push(if code_value(frame, 2 * wire) {
+                '1'
+            } else {
+                '0'
+            });
+        }
+        text.push('\n');
+    }
+    text.into_bytes()
 }
 
 /// Whether an answer of these numbers replays to a break; it must replay.
