@@ -2,6 +2,7 @@
 
 use super::answer::{replay_call, trace_size, trace_text, Claim};
 use super::circuit::{value, word, Run};
+use super::formula::refusal_text;
 use super::netlist::Netlist;
 use super::refusal::{Refusal, BAD_ANSWER, NOTHING_BREAKS};
 use super::sheet::{write_depth, write_sheet};
@@ -23,6 +24,22 @@ pub struct Outcome {
     pub result: Result<Claim, Refusal>,
     pub memory: Vec<u32>,
     pub trace: Vec<u8>,
+}
+
+impl Outcome {
+    /// What the program prints in this case. The marks behind the trace's lines have no line feed.
+    pub fn printed(&self) -> Vec<u8> {
+        match self.result {
+            Err(refusal) => refusal_text(refusal),
+            Ok(Claim::Unsatisfiable) => b"claimed unsatisfiable\n".to_vec(),
+            Ok(Claim::Breaks(frame)) => {
+                let first_line = format!("{frame}\n").into_bytes();
+                let end = self.trace.iter().rposition(|byte| *byte == b'\n');
+                let digits = &self.trace[..end.map_or(0, |at| at + 1)];
+                [&first_line, digits].concat()
+            }
+        }
+    }
 }
 
 /// What lent memory and trace hold before a call of `Call::new`, different at each place.
@@ -48,6 +65,7 @@ impl Call {
         }
     }
 
+    /// What this implementation does.
     pub fn outcome(&self) -> Outcome {
         let (mut memory, mut trace) = (self.memory.clone(), self.trace.clone());
         let result = replay_call(
@@ -92,7 +110,9 @@ impl Call {
         let mut outcome = self.untouched(refused(NOTHING_BREAKS, 0));
         let words = words_behind(&self.netlist, run);
         outcome.memory[..words.len()].copy_from_slice(&words);
-        if let Some(frame) = run.first_break {
+        let property = |values: &&Vec<bool>| value(values, self.netlist.property);
+        let frame = run.frames.iter().take_while(property).count();
+        if frame < run.frames.len() {
             let digits = trace_text(&run.frames);
             outcome.trace[..digits.len()].copy_from_slice(&digits);
             outcome.result = Ok(Claim::Breaks(frame as u32));

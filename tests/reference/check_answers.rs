@@ -1,6 +1,6 @@
 //! Answers of K2 and calls with them, with their outcomes written down by hand.
 
-use super::answer::{read_answer, replay, trace_size, Answer, Claim};
+use super::answer::{read_answer, replay, Answer, Claim};
 use super::answer_calls::{marks, Call, Outcome};
 use super::check_examples::{accepted, bytes_of, input, FULL_RUN};
 use super::check_refusals::{input_rows, ACCEPTED};
@@ -456,8 +456,8 @@ fn refused(number: u32, place: u32) -> Vec<u8> {
     refusal_text(Refusal { number, place })
 }
 
-/// The table's rows, an answer of each kind for every input of `frames` that has a verdict, and the
-/// longest run.
+/// The table's rows, an answer of each kind for every input of `frames` that has a verdict, the
+/// longest run, and long answers.
 pub fn replay_rows() -> Vec<ReplayRow> {
     let mut rows = Vec::new();
     for (depth, sheet, numbers, expected) in REPLAYS {
@@ -497,7 +497,41 @@ pub fn replay_rows() -> Vec<ReplayRow> {
     let long = ["0\n", &"0\n".repeat(256)].concat().into_bytes();
     let name = "256 frames".to_string();
     rows.push((name, input(MAX_DEPTH, BARE), satisfiable("0"), long));
+    rows.extend(long_rows());
     rows
+}
+
+/// Answers far longer than a formula's: no length is too long.
+fn long_rows() -> Vec<ReplayRow> {
+    let comment = format!("c{}/", " v 0".repeat(100_000));
+    let comments = "c/".repeat(100_000);
+    let numbers = " 2 -4 2147483647".repeat(50_000);
+    let lines = "v 2 -4 -2147483647/".repeat(50_000);
+    [
+        (
+            "a long comment",
+            format!("{comment}s SATISFIABLE/v 2 -4 0/"),
+        ),
+        (
+            "many comments",
+            format!("{comments}s SATISFIABLE/v 2 -4 0/{comments}"),
+        ),
+        (
+            "a long line",
+            format!("s SATISFIABLE/v{numbers} 0/{comment}"),
+        ),
+        ("many lines", format!("s SATISFIABLE/{lines}v 0/")),
+    ]
+    .map(|(name, short)| {
+        let printed = bytes_of("1/10/01/");
+        (
+            name.to_string(),
+            input(1, FULL_RUN),
+            bytes_of(&short),
+            printed,
+        )
+    })
+    .to_vec()
 }
 
 /// By the table's rows too, what the library leaves in the memory: the words are known by hand.
@@ -531,20 +565,7 @@ pub fn replays(tally: &mut Tally) {
             let name = (sheet, depth, numbers, more);
             tally.equal(name, outcome.memory, [words, behind].concat());
             let printed = replay(&call.input(), &call.answer);
-            tally.equal(name, printed, printed_of(&call, &call.outcome()));
-        }
-    }
-}
-
-/// What the program prints where a call has this outcome.
-pub fn printed_of(call: &Call, outcome: &Outcome) -> Vec<u8> {
-    match outcome.result {
-        Err(refusal) => refusal_text(refusal),
-        Ok(Claim::Unsatisfiable) => b"claimed unsatisfiable\n".to_vec(),
-        Ok(Claim::Breaks(frame)) => {
-            let digits = trace_size(&call.netlist, call.depth);
-            let first_line = format!("{frame}\n").into_bytes();
-            [&first_line, &outcome.trace[..digits]].concat()
+            tally.equal(name, printed, call.outcome().printed());
         }
     }
 }

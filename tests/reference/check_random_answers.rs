@@ -3,19 +3,19 @@
 
 use std::collections::HashSet;
 
-use super::agreement::{agrees, all_feeds, feed_literals, feeds_of_model};
+use super::agreement::{agrees, all_feeds, feed_literals, feeds_of_model, variable};
 use super::answer::{read_answer, replay, replay_call, trace_size, Answer, Claim};
 use super::answer_calls::{Call, Outcome};
-use super::check_answers::{printed_of, satisfiable, scan, BARE, IDLE, LATCHED};
+use super::check_answers::{satisfiable, scan, BARE, IDLE, LATCHED};
 use super::check_examples::{accepted, bytes_of, of_sizes, FULL_RUN};
-use super::circuit::Run;
+use super::circuit::{value, Run, Values};
 use super::formula::{Fault, Formula};
 use super::netlist::{Netlist, MAX_DEPTH};
 use super::random::{random_feeds, tiny_netlist, Random};
 use super::random_aiger::{every_byte, every_line};
 use super::random_answers::{
-    random_draft, written, written_unsatisfiable, Draft, CALL_FAULTS, FEED_FAULTS, TEXT_FAULTS,
-    UNSEEN,
+    answer_case, call_case, random_draft, written, written_unsatisfiable, Draft, CALL_FAULTS,
+    FEED_FAULTS, TEXT_FAULTS, UNSEEN,
 };
 use super::refusal::NOTHING_BREAKS;
 use super::solver::Solver;
@@ -57,7 +57,7 @@ pub fn random_answers(tally: &mut Tally) {
         tally.check((round, "outcome"), call.outcome() == expected);
         tally.check(
             (round, "printed"),
-            replay(&call.input(), &call.answer) == printed_of(&call, &expected),
+            replay(&call.input(), &call.answer) == expected.printed(),
         );
         let numbers = Answer::Satisfiable(draft.numbers.clone());
         tally.check((round, "scanned"), scan(&call.answer) == Some(numbers));
@@ -66,18 +66,15 @@ pub fn random_answers(tally: &mut Tally) {
             Some(_) => later += 1,
             None => nothing += 1,
         }
-        let needed = feed_literals(&draft.netlist, &draft.run).len() as u32;
-        let inputs = draft.netlist.inputs * (draft.depth + 1);
-        let all = (draft.netlist.inputs + draft.netlist.data_width) * (draft.depth + 1);
-        idle += usize::from(needed > inputs);
-        reading += usize::from(needed < all);
+        let reads = |values: &Values| value(values, draft.netlist.read_enable);
+        idle += usize::from(!draft.run.frames.iter().all(reads));
+        reading += usize::from(draft.run.frames.iter().any(reads));
     }
-    for round in 0..100 {
-        let draft = random_draft(&mut random);
-        let answer = written_unsatisfiable(&mut random);
-        let call = draft.call(&mut random, answer);
-        let expected = call.untouched(Ok(Claim::Unsatisfiable));
-        tally.check((round, "unsatisfiable"), call.outcome() == expected);
+    for round in 0..1000 {
+        let (name, call, expected) = answer_case(&mut random);
+        tally.check((round, name), call.outcome() == expected);
+        let printed = replay(&call.input(), &call.answer);
+        tally.check((round, name, "printed"), printed == expected.printed());
     }
     for count in [first, later, nothing, idle, reading] {
         tally.check(("occurrences", count), count >= 100);
@@ -169,6 +166,10 @@ pub fn predicted_faults(tally: &mut Tally) {
 /// Two faults at once: the one that is tested first decides, and with it what the memory holds.
 pub fn two_faults(tally: &mut Tally) {
     let mut random = Random::new(23);
+    for round in 0..500 {
+        let (name, call, expected) = call_case(&mut random);
+        tally.check((round, name), call.outcome() == expected);
+    }
     for _ in 0..5 {
         for (index, (name, fault)) in CALL_FAULTS.iter().enumerate() {
             for (other_name, other) in &CALL_FAULTS[index + 1..] {
@@ -369,10 +370,11 @@ pub fn assignments(tally: &mut Tally) {
             let answer = written(&mut random, &numbers);
             let call = Call::new(&netlist, depth, answer, [0, 0]);
             let run = Run::new(&netlist, &feeds_of_model(&netlist, depth, model));
-            let replays = agrees(&netlist, model, &run)
-                && run.first_break.is_some()
-                && call.outcome() == call.of_run(&run);
-            tally.check((round, "an assignment"), replays);
+            let outcome = call.outcome();
+            let fits = outcome == call.of_run(&run) && agrees(&netlist, model, &run);
+            tally.check((round, "an assignment's run"), fits);
+            let printed = assigned_text(&netlist, depth, model);
+            tally.check((round, "an assignment"), outcome.printed() == printed);
         }
         let breaks = Runs::new(netlist.clone(), depth)
             .runs
@@ -390,6 +392,27 @@ pub fn assignments(tally: &mut Tally) {
     tally.remark = format!(
         " ({satisfiable} satisfiable, {unsatisfiable} unsatisfiable, {models} assignments)"
     );
+}
+
+/// What is to be printed for an assignment that makes all clauses true, by its variables alone.
+fn assigned_text(netlist: &Netlist, depth: u32, model: &[bool]) -> Vec<u8> {
+    let code_value = |frame: usize, code: u32| match code {
+        0 | 1 => code == 1,
+        _ => model[variable(netlist, frame, code as usize / 2)] == (code % 2 == 0),
+    };
+    let broken = (0..=depth as usize).find(|frame| !code_value(*frame, netlist.property));
+    let mut text = broken.map_or(String::new(), |frame| format!("{frame}\n"));
+    for frame in 0..=depth as usize {
+        for wire in 1..=netlist.wire_count() {
+            text.push(if code_value(frame, 2 * wire) {
+                '1'
+            } else {
+                '0'
+            });
+        }
+        text.push('\n');
+    }
+    text.into_bytes()
 }
 
 /// Whether an answer of these numbers replays to a break; it must replay.

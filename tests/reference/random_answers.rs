@@ -4,11 +4,11 @@
 //! A `Draft` is a run of a chip and the numbers of an answer that feeds it. `UNSEEN` are changes of
 //! the numbers that no outcome shows, `FEED_FAULTS` take away what the run needs. `written` lays
 //! the numbers out as an answer, `TEXT_FAULTS` make that malformed, `CALL_FAULTS` damage the rest
-//! of the call.
+//! of the call. `answer_case` and `call_case` draw from all of these.
 
 use super::agreement::{feed_literals, variable};
-use super::answer::trace_size;
-use super::answer_calls::Call;
+use super::answer::{trace_size, Claim};
+use super::answer_calls::{Call, Outcome};
 use super::circuit::Run;
 use super::formula::frame_base;
 use super::netlist::Netlist;
@@ -715,4 +715,59 @@ pub const CALL_FAULTS: [CallFault; 7] = [
 
 fn fault(number: u32, place: u32) -> Option<Refusal> {
     Some(Refusal { number, place })
+}
+
+/// What it is, a call with any answer that the program may find, and what it must do.
+pub fn answer_case(random: &mut Random) -> (&'static str, Call, Outcome) {
+    let mut draft = random_draft(random);
+    let kind = random.below(100);
+    let mut name = "a run";
+    let mut feeds = true;
+    if kind < 20 {
+        let (fault_name, fault) = random.pick(&FEED_FAULTS);
+        if fault(random, &mut draft) {
+            name = fault_name;
+            feeds = false;
+        }
+    }
+    let mut answer = written(random, &draft.numbers);
+    let claims_none = kind >= 90;
+    if claims_none {
+        answer = written_unsatisfiable(random);
+        name = "unsatisfiable";
+    }
+    if (20..50).contains(&kind) || kind >= 95 {
+        let (fault_name, fault) = random.pick(&TEXT_FAULTS);
+        if fault(random, &mut answer) {
+            let call = draft.call(random, answer);
+            let outcome = call.bad_answer();
+            return (fault_name, call, outcome);
+        }
+    }
+    let call = draft.call(random, answer);
+    let outcome = match (claims_none, feeds) {
+        (true, _) => call.untouched(Ok(Claim::Unsatisfiable)),
+        (false, true) => call.of_run(&draft.run),
+        (false, false) => call.bad_answer(),
+    };
+    (name, call, outcome)
+}
+
+/// The same with one fault, or two, of the call beside its answer.
+pub fn call_case(random: &mut Random) -> (&'static str, Call, Outcome) {
+    let (mut name, mut call, mut outcome) = answer_case(random);
+    let mut kinds = [
+        random.index(CALL_FAULTS.len()),
+        random.index(CALL_FAULTS.len()),
+    ];
+    kinds.sort_unstable();
+    let count = if kinds[0] == kinds[1] { 1 } else { 2 };
+    for kind in kinds[..count].iter().rev() {
+        let (fault_name, fault) = CALL_FAULTS[*kind];
+        if let Some(refusal) = fault(random, &mut call) {
+            name = fault_name;
+            outcome = call.untouched(Err(refusal));
+        }
+    }
+    (name, call, outcome)
 }
