@@ -49,7 +49,7 @@ pub struct Library {
 
 type Family = (&'static str, fn(&Library, &mut Tally));
 
-const FAMILIES: [Family; 21] = [
+const FAMILIES: [Family; 20] = [
     ("facts of the full run", calls::stated),
     ("table of group calls", calls::table_of_calls),
     ("table of records", calls::table_of_records),
@@ -66,7 +66,6 @@ const FAMILIES: [Family; 21] = [
     ("replays by hand", replay_calls::by_hand),
     ("replays with sets of faults", replay_calls::fault_sets),
     ("replays of random answers", replay_calls::random_answers),
-    ("replays of faulty answers", replay_calls::faults),
     ("replays of damaged answers", replay_calls::damaged),
     ("rooms and lists of replays", replay_calls::rooms),
     ("the largest replay", replay_calls::largest),

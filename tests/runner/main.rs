@@ -55,12 +55,11 @@ const FAMILIES: [Family; 17] = [
     }),
 ];
 
-const REPLAY_FAMILIES: [ReplayFamily; 15] = [
+const REPLAY_FAMILIES: [ReplayFamily; 14] = [
     ("answers and runs, by hand", replays::by_hand),
     ("forms of answers, by hand", replays::forms),
     ("solvers that are wrong, by hand", replays::liars),
-    ("random answers", replays::random_answers),
-    ("changes and faults of answers", replays::faults),
+    ("random answers, sound and faulty", replays::random_answers),
     ("answers damaged at every byte", replays::damaged),
     ("the largest chip at depth 255", replays::largest),
     ("answers of CaDiCaL and MiniSat", replays::solvers),

@@ -1,5 +1,7 @@
 //! Replays through the static library: what is answered, and what the lent memory and trace hold afterwards.
 
+use std::collections::BTreeMap;
+
 use super::calls::differ;
 use super::exports::replay;
 use super::reference::answer::{trace_size, Claim};
@@ -11,7 +13,7 @@ use super::reference::netlist::{Gate, Latch, MAX_DEPTH};
 use super::reference::random::{random_feeds, Random};
 use super::reference::random_aiger::{every_byte, every_line};
 use super::reference::random_answers::{
-    random_draft, written, written_unsatisfiable, Draft, CALL_FAULTS, FEED_FAULTS, TEXT_FAULTS,
+    answer_case, call_case, random_draft, written, Draft, CALL_FAULTS, FEED_FAULTS, TEXT_FAULTS,
     UNSEEN,
 };
 use super::reference::refusal::*;
@@ -173,75 +175,25 @@ pub fn fault_sets(library: &Library, tally: &mut Tally) {
     }
 }
 
-/// Answers of every shape that feed a known run, and answers that claim that there is none.
+/// Answers of every shape, sound or with one fault, in sound calls and in calls that have a fault or two of their own.
 pub fn random_answers(library: &Library, tally: &mut Tally) {
     let mut random = Random::new(1101);
-    for round in 0..2_500 {
-        let draft = random_draft(&mut random);
-        let answer = written(&mut random, &draft.numbers);
-        let call = draft.call(&mut random, answer);
-        let expected = call.of_run(&draft.run);
-        library.replay_gives(tally, &format!("random answer {round}"), &call, &expected);
-        if round % 20 == 0 {
-            let answer = written_unsatisfiable(&mut random);
-            let call = draft.call(&mut random, answer);
-            let expected = call.untouched(Ok(Claim::Unsatisfiable));
-            library.replay_gives(tally, &format!("claim {round}"), &call, &expected);
-        }
+    let mut counts: BTreeMap<&str, usize> = BTreeMap::new();
+    for round in 0..4_500 {
+        let case = if round % 3 == 0 {
+            call_case
+        } else {
+            answer_case
+        };
+        let (name, call, expected) = case(&mut random);
+        *counts.entry(name).or_default() += 1;
+        library.replay_gives(tally, &format!("{name}, round {round}"), &call, &expected);
     }
-}
-
-/// Each change that must not show, and each fault that must, alone and behind a fault of the rest of the call.
-pub fn faults(library: &Library, tally: &mut Tally) {
-    let mut random = Random::new(1102);
-    for (name, change) in UNSEEN {
-        for _ in 0..40 {
-            let mut draft = random_draft(&mut random);
-            change(&mut random, &mut draft);
-            let answer = written(&mut random, &draft.numbers);
-            let call = draft.call(&mut random, answer);
-            library.replay_gives(tally, name, &call, &call.of_run(&draft.run));
-        }
-    }
-    for (name, fault) in FEED_FAULTS {
-        for _ in 0..100 {
-            let mut draft = random_draft(&mut random);
-            if fault(&mut random, &mut draft) {
-                let answer = written(&mut random, &draft.numbers);
-                let call = draft.call(&mut random, answer);
-                library.replay_gives(tally, name, &call, &call.bad_answer());
-            }
-        }
-    }
-    for (name, fault) in TEXT_FAULTS {
-        for _ in 0..60 {
-            let draft = random_draft(&mut random);
-            let mut answer = written(&mut random, &draft.numbers);
-            if fault(&mut random, &mut answer) {
-                let call = draft.call(&mut random, answer);
-                library.replay_gives(tally, name, &call, &call.bad_answer());
-            }
-        }
-    }
-    for (index, (name, fault)) in CALL_FAULTS.iter().enumerate() {
-        let later = CALL_FAULTS[index + 1..].iter().map(Some);
-        for other in later.chain([None]) {
-            for _ in 0..20 {
-                let draft = random_draft(&mut random);
-                let mut answer = written(&mut random, &draft.numbers);
-                if random.percent(50) {
-                    random.pick(&TEXT_FAULTS).1(&mut random, &mut answer);
-                }
-                let mut call = draft.call(&mut random, answer);
-                // the later one first: it relies on what the earlier damages
-                other.map(|(_, other)| other(&mut random, &mut call));
-                if let Some(refusal) = fault(&mut random, &mut call) {
-                    let name = format!("{name} before {:?}", other.map(|it| it.0));
-                    library.replay_gives(tally, &name, &call, &call.untouched(Err(refusal)));
-                }
-            }
-        }
-    }
+    let kinds = 2 + FEED_FAULTS.len() + TEXT_FAULTS.len() + CALL_FAULTS.len();
+    tally.check(
+        ("each kind comes", &counts),
+        counts.len() == kinds && counts.values().all(|count| *count > 5),
+    );
 }
 
 /// Answers damaged at every byte and in every line, as the second implementation judges them.

@@ -1,5 +1,6 @@
 //! The program `replay` with the file `answer` in its folder: answers by hand, random ones, faulty and damaged ones, and what solvers say.
 
+use std::collections::BTreeMap;
 use std::fs;
 use std::path::{Path, PathBuf};
 use std::process::Command;
@@ -8,7 +9,7 @@ use super::process::{shown, Program};
 use super::reference::agreement::{agrees, feeds_of_model};
 use super::reference::answer::{replay, Answer};
 use super::reference::answer_calls::Call;
-use super::reference::check_answers::{form_rows, printed_of, replay_rows, satisfiable, BARE};
+use super::reference::check_answers::{form_rows, replay_rows, satisfiable, BARE};
 use super::reference::check_examples::{accepted, input, of_sizes, FULL_RUN};
 use super::reference::check_refusals::{
     field_and_letter_rows, length_rows, short_sheet_rows, ACCEPTED,
@@ -19,7 +20,7 @@ use super::reference::netlist::{Netlist, MAX_DEPTH};
 use super::reference::random::{random_feeds, tiny_netlist, Random};
 use super::reference::random_aiger::{every_byte, every_line};
 use super::reference::random_answers::{
-    random_draft, written, written_unsatisfiable, Draft, FEED_FAULTS, TEXT_FAULTS, UNSEEN,
+    answer_case, written, Draft, FEED_FAULTS, TEXT_FAULTS, UNSEEN,
 };
 use super::reference::refusal::{Refusal, BAD_ANSWER, NOTHING_BREAKS};
 use super::reference::sheet::{read_sheet, write_depth};
@@ -111,67 +112,26 @@ pub fn forms(replay: &Replay, tally: &mut Tally) {
     }
 }
 
-/// Answers of every shape that feed a known run: with wires that are not the run's, repeated, in any order, beside comments.
+/// Answers of every shape that feed a known run, with wires that are not the run's, repeated, in any order, beside comments; answers with
+/// one fault; and claims that there is none.
 pub fn random_answers(replay: &Replay, tally: &mut Tally) {
     let mut random = Random::new(1001);
-    let [mut breaks, mut nothing] = [0; 2];
-    for round in 0..900 {
-        let draft = random_draft(&mut random);
-        let answer = written(&mut random, &draft.numbers);
-        let call = draft.call(&mut random, answer);
-        let expected = printed_of(&call, &call.of_run(&draft.run));
-        replay.call(tally, &format!("random answer {round}"), &call, &expected);
-        match draft.run.first_break {
-            Some(_) => breaks += 1,
-            None => nothing += 1,
-        }
+    let mut counts: BTreeMap<&str, usize> = BTreeMap::new();
+    for round in 0..1_800 {
+        let (name, call, outcome) = answer_case(&mut random);
+        *counts.entry(name).or_default() += 1;
+        replay.call(
+            tally,
+            &format!("{name}, round {round}"),
+            &call,
+            &outcome.printed(),
+        );
     }
-    for round in 0..30 {
-        let draft = random_draft(&mut random);
-        let answer = written_unsatisfiable(&mut random);
-        let call = draft.call(&mut random, answer);
-        replay.call(tally, &format!("no answer {round}"), &call, CLAIMED_TEXT);
-    }
+    let kinds = 2 + FEED_FAULTS.len() + TEXT_FAULTS.len();
     tally.check(
-        ("runs of both kinds", breaks, nothing),
-        breaks.min(nothing) > 100,
+        ("each kind comes", &counts),
+        counts.len() == kinds && counts.values().all(|count| *count > 5),
     );
-    tally.remark = format!(" ({breaks} runs break the property, {nothing} do not)");
-}
-
-/// Each change of an answer that must not show, and each fault that must.
-pub fn faults(replay: &Replay, tally: &mut Tally) {
-    let mut random = Random::new(1002);
-    for (name, change) in UNSEEN {
-        for _ in 0..12 {
-            let mut draft = random_draft(&mut random);
-            change(&mut random, &mut draft);
-            let answer = written(&mut random, &draft.numbers);
-            let call = draft.call(&mut random, answer);
-            let expected = printed_of(&call, &call.of_run(&draft.run));
-            replay.call(tally, name, &call, &expected);
-        }
-    }
-    for (name, fault) in FEED_FAULTS {
-        for _ in 0..40 {
-            let mut draft = random_draft(&mut random);
-            if fault(&mut random, &mut draft) {
-                let answer = written(&mut random, &draft.numbers);
-                let call = draft.call(&mut random, answer);
-                replay.call(tally, name, &call, &refused(BAD_ANSWER));
-            }
-        }
-    }
-    for (name, fault) in TEXT_FAULTS {
-        for _ in 0..20 {
-            let draft = random_draft(&mut random);
-            let mut answer = written(&mut random, &draft.numbers);
-            if fault(&mut random, &mut answer) {
-                let call = draft.call(&mut random, answer);
-                replay.call(tally, name, &call, &refused(BAD_ANSWER));
-            }
-        }
-    }
 }
 
 /// One answer damaged at every byte and in every line.
@@ -201,7 +161,7 @@ pub fn largest(replay: &Replay, tally: &mut Tally) {
     all_others(&mut random, &mut draft);
     let answer = written(&mut random, &draft.numbers);
     let call = draft.call(&mut random, answer);
-    let expected = printed_of(&call, &call.of_run(&draft.run));
+    let expected = call.of_run(&draft.run).printed();
     tally.check(("a run of", expected.len()), expected.len() > 256 * 601);
     replay.call(tally, "the largest chip", &call, &expected);
     tally.remark = format!(" (an answer of {} bytes)", call.answer.len());
@@ -280,7 +240,7 @@ pub fn solvers(replay: &Replay, tally: &mut Tally) {
                 let run = Run::new(netlist, &feeds_of_model(netlist, *depth, &model));
                 tally.check((&name, "wires"), agrees(netlist, &model, &run));
                 tally.check((&name, "a violation"), run.first_break.is_some());
-                printed_of(&call, &call.of_run(&run))
+                call.of_run(&run).printed()
             } else {
                 CLAIMED_TEXT.to_vec()
             };
