@@ -55,8 +55,9 @@ const FAMILIES: [Family; 17] = [
     }),
 ];
 
-const REPLAY_FAMILIES: [ReplayFamily; 14] = [
+const REPLAY_FAMILIES: [ReplayFamily; 15] = [
     ("answers and runs, by hand", replays::by_hand),
+    ("first frames, by hand", replays::first_frames),
     ("forms of answers, by hand", replays::forms),
     ("solvers that are wrong, by hand", replays::liars),
     ("random answers, sound and faulty", replays::random_answers),

@@ -15,7 +15,7 @@ use super::reference::check_refusals::{
     field_and_letter_rows, length_rows, short_sheet_rows, ACCEPTED,
 };
 use super::reference::circuit::Run;
-use super::reference::formula::refusal_text;
+use super::reference::formula::{frame_base, refusal_text};
 use super::reference::netlist::{Netlist, MAX_DEPTH};
 use super::reference::random::{random_feeds, tiny_netlist, Random};
 use super::reference::random_aiger::{every_byte, every_line};
@@ -96,6 +96,30 @@ pub fn by_hand(replay: &Replay, tally: &mut Tally) {
         };
         let bytes = [write_depth(1), sheet].concat();
         replay.prints(tally, &name, &bytes, b"s UNSATISFIABLE\n", &expected);
+    }
+}
+
+/// A property that breaks exactly where the input is false, which is in one frame, whatever its number of digits.
+pub fn first_frames(replay: &Replay, tally: &mut Tally) {
+    let sheet = "N 1 0 0/M 1 1 0/A 0/D 0/C 0 1 2";
+    let netlist = accepted(sheet);
+    for first in [0, 1, 9, 10, 99, 100, 199, 254, MAX_DEPTH] {
+        let input_of = |frame: u32| frame_base(&netlist, frame) + 1;
+        let numbers = (0..=MAX_DEPTH).map(|frame| match frame {
+            frame if frame == first => format!("-{} ", input_of(frame)),
+            frame => format!("{} ", input_of(frame)),
+        });
+        let answer = satisfiable(&(numbers.collect::<String>() + "0"));
+        let lines = (0..=MAX_DEPTH).map(|frame| if frame == first { "00\n" } else { "10\n" });
+        let expected = format!("{first}\n{}", lines.collect::<String>());
+        let name = format!("first in frame {first}");
+        replay.prints(
+            tally,
+            &name,
+            &input(MAX_DEPTH, sheet),
+            &answer,
+            expected.as_bytes(),
+        );
     }
 }
 
