@@ -1,10 +1,10 @@
 #!/usr/bin/env bash
 # Measures `frames` on the largest kind of sheet (I = 60, L = 100, A = 408, m = 12, n = 32) at depths 15, 63 and 255, beside a C
 # generator of the same text that is optimised by hand and one that prints through fprintf; and, of the library, every group of depth
-# 255 through the exported call, which tests its record each time, and the import of ASCII AIGER texts (bench/text.rs). Every figure is the best of several repetitions, all programs and
-# depths in turn, input from a file, output to /dev/null; the time is the process's processor time (user and system), so that other
-# work on the machine matters little. It says which of our own targets (1.3 times, 4 times, 4 MiB, 20%, 50 ms) are reached, and fails only
-# where a program fails or the texts differ.
+# 255 through the exported call, which tests its record each time, the import of ASCII AIGER texts (bench/text.rs), and `replay`
+# (bench/replay.sh). Every figure is the best of several repetitions, all programs and depths in turn, input from a file, output to
+# /dev/null; the time is the process's processor time (user and system), so that other work on the machine matters little. It says which
+# of our own targets (1.3 times, 4 times, 4 MiB, 20%, 50 ms) are reached, and fails only where a program fails or the texts differ.
 # Arguments: repetitions (100; a tenth as many of the slow generator and of the imports), and `worst` for the worst import known as well, which
 # takes a minute; the program is target/bin/frames unless FRAMES names another.
 set -euo pipefail
@@ -108,3 +108,4 @@ printf '%s\n' "${imports[@]}" | while read -r name verdict; do echo "$name $(wc 
     for (name in time) if (name ~ /^(undefined|inputs|repeat)$/ && time[name] > time[slowest]) slowest = name
     printf "%-8s a text as tools write it, to 1 MB, judged in under 50 ms: %.2f ms (%s)\n", time[slowest] < 50000 ? "reached" : "missed", time[slowest] / 1000, slowest
   }'
+bash bench/replay.sh "$repetitions"

@@ -1,5 +1,6 @@
 #!/usr/bin/env bash
-# Proves every crate from nothing, builds `frames`, and lets a SAT solver find a fault in two chips with what `frames` writes.
+# Proves every crate from nothing, builds the programs, and lets a SAT solver find a fault in two chips with what `frames` writes. The runs
+# that are shown are stepped by `replay`.
 set -u
 cd "$(dirname "$0")/.." || exit 2
 . scripts/install.sh
@@ -20,7 +21,9 @@ echo "$(rt version); CaDiCaL $(cadical --version)"
 step "2 of 4: every crate is proved from nothing (rt prove; some minutes, a line for each crate)"
 begin=$SECONDS
 rt prove || stop "something is not proved"
-[ -x target/bin/frames ] || rt check frames || stop "the program was not built"
+for program in frames replay; do
+  [ -x "target/bin/$program" ] || rt check "$program" || stop "$program was not built"
+done
 echo "$((SECONDS - begin)) seconds"
 bash scripts/proved.sh || stop "the README does not say what is proved"
 
@@ -29,6 +32,7 @@ echo "Every frame writes the input to address 0 and reads address 0 (one bit, st
 cat examples/echo/chip.sheet
 echo "The formula of depth 1 (frames 0 and 1) as 'frames' prints it:"
 { printf '%10d\n' 1; cat examples/echo/chip.sheet; } | target/bin/frames
+echo "A solver looks for an assignment. 'replay' takes only inputs and idle read bits from it and steps the chip with its whole memory:"
 find_run echo/chip 0
 find_run echo/chip 1
 

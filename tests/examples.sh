@@ -1,9 +1,11 @@
 #!/usr/bin/env bash
 # The examples: each committed sheet, and the names of its wires, is what the builder writes; the script that looks for a run
 # finds one or none as it should; the README's formula is the program's, and what the pages show of the script is what it prints.
-# Argument: the program `frames`.
+# Arguments: the programs `frames` and `replay`.
 set -u
-frames=$(readlink -f "$1")
+FRAMES=$(readlink -f "$1")
+REPLAY=$(readlink -f "$2")
+export FRAMES REPLAY
 cd "$(dirname "$0")/.." || exit 2
 passed=0
 failed=0
@@ -24,10 +26,10 @@ for file in $(files "$work/built"); do check "$file is as built" cmp "examples/$
 
 verdict() { # sheet, depth, status, words that the first line must end in
   local said
-  said=$(FRAMES=$frames bash scripts/find.sh "examples/$1.sheet" "$2"; echo $?)
+  said=$(bash scripts/find.sh "examples/$1.sheet" "$2"; echo $?)
   [ "${said##*$'\n'}" = "$3" ] && [ "${said%%$'\n'*}" = "examples/$1.sheet: $4" ] || { echo "$said"; return 1; }
 }
-found() { check "$1 at depth $2" verdict "$1" "$2" 10 "the property is broken in one of the frames 0 to $2:"; }
+found() { check "$1 at depth $2" verdict "$1" "$2" 10 "a run breaks the property, first in frame $2:"; }
 nothing() { check "$1 at depth $2" verdict "$1" "$2" 20 "no run breaks the property in frames 0 to $2"; }
 nothing echo/chip 0
 found echo/chip 1
@@ -48,20 +50,20 @@ awk -v work="$work" '
 asked=0
 while read -r page arguments; do
   asked=$((asked + 1))
-  FRAMES=$frames bash scripts/find.sh $arguments | $shown > "$work/found"
+  bash scripts/find.sh $arguments | $shown > "$work/found"
   check "$page: scripts/find.sh $arguments" diff <($shown "$work/page.$asked") "$work/found"
 done < "$work/asked"
 check "the pages have transcripts" [ "$asked" -ge 8 ]
 
 # The README's formula is what the program prints.
 sed -n '/^\$ .*target\/bin\/frames$/,/^```$/p' README.md | sed '1d;$d' > "$work/formula"
-{ printf '%10d\n' 1; cat examples/echo/chip.sheet; } | "$frames" > "$work/printed"
+{ printf '%10d\n' 1; cat examples/echo/chip.sheet; } | "$FRAMES" > "$work/printed"
 check "the README's formula" diff "$work/formula" "$work/printed"
 
-# What the demo says is proved is the README's section: its four points, and nothing behind them.
+# What the demo says is proved is the README's section: its five points, and nothing behind them.
 bash scripts/proved.sh > "$work/proved"
 check "what is proved is told" [ $? -eq 0 ]
-check "in four points" [ "$(grep -cE '^[1-4]\. [A-Z]' "$work/proved")" -eq 4 ]
+check "in five points" [ "$(grep -cE '^[1-5]\. [A-Z]' "$work/proved")" -eq 5 ]
 check "of one section" [ "$(grep -c '^#' "$work/proved")" -eq 0 ]
 
 echo "$passed passed, $failed failed"

@@ -1,9 +1,11 @@
 #!/usr/bin/env bash
-# The script that looks for a run (scripts/find.sh) and the one that shows it (scripts/trace.awk): whatever the sheet is called, each
-# exit status, each refusal with its word, its line and its hint, the earliest frame, idle read bits, and everything that can be missing.
-# Argument: the program `frames`.
+# The script that looks for a run (scripts/find.sh) and those that show it (scripts/run.awk, trace.awk): whatever the sheet is called, each
+# exit status, each refusal with its word, its line and its hint, the earliest frame, idle read bits, answers that are not the chip's, and
+# everything that can be missing. tests/waveform.sh has the waveform's values.
+# Arguments: the programs `frames` and `replay`.
 set -u
 frames=$(readlink -f "$1")
+replay=$(readlink -f "$2")
 cd "$(dirname "$0")/.." || exit 2
 here=$PWD
 passed=0
@@ -19,7 +21,10 @@ trap 'rm -rf "$work"' EXIT
 mkdir "$work/sheets"
 
 # Runs the script in the folder of the sheets.
-find_run() { (cd "$work/sheets" && FRAMES=${program:-$frames} timeout 60 bash "$here/scripts/find.sh" "$@") > "$work/out" 2> "$work/err"; }
+find_run() {
+  (cd "$work/sheets" && FRAMES=${program:-$frames} REPLAY=${stepper:-$replay} timeout 60 bash "$here/scripts/find.sh" "$@") \
+    > "$work/out" 2> "$work/err"
+}
 
 # The script ends with this status and prints this. What is said on standard error begins with the last of the four, each being a line
 # or more; at 1 and 2 nothing is printed.
@@ -47,23 +52,28 @@ shown='frame  input  read  memory
     0      1     0  reads 0 at 0 (start word), writes 1 at 0
     1      0     1  reads 1 at 0 (written in frame 0), writes 0 at 0  <- property broken'
 
+found="a run breaks the property, first in frame 1"
+
 for name in chip a=b 'depth=7' 'file=sheet' 'a b' ' ' -x -f -- --least 'back\slash\n' '\' '*' '$x' "quote'" 'ü'; do
   if [ "$name" != chip ]; then
     cp "$work/sheets/chip.sheet" "$work/sheets/$name.sheet"
     cp "$work/sheets/chip.names" "$work/sheets/$name.names"
   fi
-  ends "a sheet named $name.sheet" 10 "$name.sheet: the property is broken in one of the frames 0 to 1:
+  ends "a sheet named $name.sheet" 10 "$name.sheet: $found:
 $shown" "" "$name.sheet" 1
 done
 cp "$work/sheets/chip.sheet" "$work/sheets/--least"
 ends "a sheet named --least" 20 "--least: no run breaks the property in frames 0 to 0" "" -- --least 0
 mkdir "$work/a=b"
-(cd "$work" && TMPDIR="a=b" FRAMES=$frames bash "$here/scripts/find.sh" sheets/chip.sheet 1) > "$work/out"
-check "a relative folder for temporary files named a=b" same "sheets/chip.sheet: the property is broken in one of the frames 0 to 1:
+(cd "$work" && TMPDIR="a=b" FRAMES=$frames REPLAY=$replay bash "$here/scripts/find.sh" sheets/chip.sheet 1) > "$work/out"
+check "a relative folder for temporary files named a=b" same "sheets/chip.sheet: $found:
 $shown" "$(cat "$work/out")"
 check "it is left empty" rmdir "$work/a=b"
-(cd "$work" && FRAMES=$frames bash "$here/scripts/find.sh" <(cat sheets/chip.sheet) 1) > "$work/out"
+(cd "$work" && FRAMES=$frames REPLAY=$replay bash "$here/scripts/find.sh" <(cat sheets/chip.sheet) 1) > "$work/out"
 check "a sheet that is a pipe" same "frame  memory" "$(sed -n 2p "$work/out")"
+cp "$frames" "$replay" "$work/sheets"
+program=./frames stepper=./replay ends "programs by relative names" 10 "chip.sheet: $found:
+$shown" "" chip.sheet 1
 
 ends "the earliest frame" 10 "chip.sheet: the property is broken in frame 1 at the earliest:
 $shown" "" --least chip.sheet 4
@@ -84,12 +94,16 @@ wrong() { # what, first line, arguments ..
   local what=$1 said=$2
   shift 2
   ends "$what" 2 "" "$said
-usage: scripts/find.sh [--least] SHEET DEPTH" "$@"
+usage: scripts/find.sh [--least] [--vcd FILE] SHEET DEPTH" "$@"
 }
 wrong "no arguments" "a sheet and a depth are wanted"
 wrong "no depth" "a sheet and a depth are wanted" chip.sheet
 wrong "an argument too many" "a sheet and a depth are wanted" chip.sheet 1 2
 wrong "an option that is none" "a sheet and a depth are wanted" --most chip.sheet 1
+wrong "no file for the waveform" "a file for the waveform is wanted" --vcd
+wrong "an empty name for the waveform" "a file for the waveform is wanted" --vcd '' chip.sheet 1
+wrong "the sheet as the waveform" "the waveform would be written over chip.sheet" --vcd chip.sheet chip.sheet 1
+wrong "the names as the waveform" "the waveform would be written over ./chip.names" --vcd ./chip.names chip.sheet 1
 for depth in x '' -1 +1 01 1x ' 1' '1 ' 1.0 0x1 '1
 2' 1000000000 99999999999; do
   wrong "depth '$depth'" "'$depth' is no depth: a number from 0 to 255" chip.sheet "$depth"
@@ -144,6 +158,10 @@ ends "a missing sheet" 1 "" "missing.sheet: there is no such file" missing.sheet
 ends "a folder for a sheet" 1 "" ".: there is no such file" . 1
 program=$work/missing ends "no program" 1 "" "$work/missing is missing" chip.sheet 1
 program=true ends "a program that prints nothing" 1 "" "true printed neither" chip.sheet 1
+stepper=$work/missing ends "no program replay" 1 "" "$work/missing is missing" chip.sheet 1
+for option in '' --least; do
+  stepper=true ends "a program replay that prints nothing" 1 "" "$(type -P true) printed neither" $option chip.sheet 1
+done
 mkdir "$work/bin"
 for command in bash timeout dirname cat mktemp rm grep sed head tail tr wc awk; do ln -s "$(command -v $command)" "$work/bin/$command"; done
 PATH=$work/bin ends "no solver" 1 "" "the solver cadical is missing" chip.sheet 1
@@ -152,19 +170,45 @@ for status in 0 1 30; do
   chmod +x "$work/bin/cadical"
   PATH=$work/bin:$PATH ends "a solver that ends with $status" 1 "" "the solver gave no answer" chip.sheet 1
 done
-printf '#!/bin/bash\necho s SATISFIABLE\nexit 10\n' > "$work/bin/cadical"
-PATH=$work/bin:$PATH ends "a solver that names no values" 1 "" "trace.awk: the answer has no values" chip.sheet 1
+
+# What a solver says is not believed. The chip's input is variable 2 in frame 0 and 5 in frame 1; 3, 4, 6 and 7 are the bit read and the gate.
+solver() { # exit status, lines of the answer ..
+  printf '#!/bin/bash\nprintf "%%s\\n"'
+  printf ' %q' "${@:2}"
+  printf '\nexit %d\n' "$1"
+}
+answered() { # what, lines of the answer, status, printed, said, arguments ..
+  solver 10 "$2" > "$work/bin/cadical"
+  PATH=$work/bin:$PATH ends "$1" "${@:3}"
+}
+no_answer="chip.sheet: refused 14 (no answer)
+$(hint 14)"
+answered "a solver that names no values" 's SATISFIABLE' 1 "" "$no_answer" chip.sheet 1
+answered "a solver that leaves an input out" $'s SATISFIABLE\nv 2 0' 1 "" "$no_answer" chip.sheet 1
+answered "a solver whose answer is empty" '' 1 "" "$no_answer" --least chip.sheet 1
+answered "a solver whose run breaks nothing" $'s SATISFIABLE\nv -2 -5 -3 4 6 7 0' 1 "" "chip.sheet: refused 15 (no violation)
+$(hint 15)" chip.sheet 1
+answered "a solver that says one thing and ends as for another" 's UNSATISFIABLE' 1 "" \
+  "chip.sheet: the solver ended as for a satisfiable formula, but its answer says unsatisfiable" chip.sheet 1
+answered "a solver whose wires are not the chip's" $'c wrong\ns SATISFIABLE\nv 2 3 4\nv -5 -6 -7 0' 10 "chip.sheet: $found:
+$shown" "" chip.sheet 1
+printf '#!/bin/bash\n[ -e asked ] || { touch asked; exit 20; }\necho "s SATISFIABLE
+v -2 -4 0"\nexit 10\n' > "$work/bin/cadical"
+{ line N 1 0 0; line M 1 1 0; line A 0; line D 2; line C 1 1 2; } > "$work/sheets/early.sheet"
+PATH=$work/bin:$PATH ends "a solver that misses an earlier run" 1 "" \
+  "early.sheet: the solver found no run to frame 0, but there is one that breaks the property in frame 0" --least early.sheet 1
+
 cp "$work/sheets/chip.sheet" "$work/sheets/named.sheet"
 for codes in '' ' x' ' 2 -4' ' 8' ' 2,4'; do
   printf 'read 4\nword%s\n' "$codes" > "$work/sheets/named.names"
-  ends "a name for '$codes'" 1 "" "trace.awk: what the name word stands for is no codes of this sheet:${codes:+ }" named.sheet 1
+  ends "a name for '$codes'" 1 "" "run.awk: what the name word stands for is no codes of this sheet:${codes:+ }" named.sheet 1
 done
 
 # Where read enable, the input, is false, the bit read is free. The memory is never written, so the property, a 0 is read, is broken
 # only there.
 { line N 1 0 0; line M 1 1 0; line A 0; line D 0; line C 0 2 5; } > "$work/sheets/idle.sheet"
 printf 'input 2\nread 4\nnot-read 5\nboth 2 4\nreversed 4 2\n' > "$work/sheets/idle.names"
-ends "idle read bits" 10 "idle.sheet: the property is broken in one of the frames 0 to 0:
+ends "idle read bits" 10 "idle.sheet: a run breaks the property, first in frame 0:
 frame  input  read  not-read  both  reversed  memory
     0      0     -         -     -         -  idle  <- property broken" "" idle.sheet 0
 
@@ -176,32 +220,63 @@ frame  input  read  not-read  both  reversed  memory
   line C 0 1 3
 } > "$work/sheets/wide.sheet"
 printf 'read%s\n' "$(for wire in $(seq 32); do printf ' %d' $((2 * wire)); done)" > "$work/sheets/wide.names"
-ends "a word of 32 bits" 10 "wide.sheet: the property is broken in one of the frames 0 to 0:
+ends "a word of 32 bits" 10 "wide.sheet: a run breaks the property, first in frame 0:
 frame  read  memory
     0  4294967295  reads 4294967295 at 0 (start word)  <- property broken" "" wide.sheet 0
 
-# The answer alone, by hand from the numbers of the variables: frame 0 reads and writes, frame 1 writes, frame 2 reads what frame 1 wrote.
-# Inputs are wires 1 to 3: write enable, read enable, data; wire 4 is the bit read. B is 1, 5, 14.
+# The waveform's file: written where a run is shown and nowhere else.
+waveform() { # what, status, arguments ..
+  printf 'old\n' > "$work/sheets/run.vcd"
+  find_run "${@:3}"
+  check "$1: status" same "$2" $?
+  check "$1: the waveform" same "$([ "$2" = 10 ] && echo '$comment' || echo old)" "$(head -c 8 "$work/sheets/run.vcd" | tr -d '\n')"
+}
+waveform "a waveform" 10 --vcd run.vcd chip.sheet 1
+check "a waveform: the run is shown too" same "chip.sheet: $found:
+$shown" "$(cat "$work/out")"
+waveform "the waveform of the earliest run" 10 --least --vcd run.vcd chip.sheet 3
+check "the waveform of the earliest run: it ends with frame 1" same "#2" "$(tail -n 1 "$work/sheets/run.vcd")"
+waveform "the options in the other order" 10 --vcd run.vcd --least -- chip.sheet 3
+waveform "no waveform without a run" 20 --vcd run.vcd chip.sheet 0
+waveform "no waveform of a refused depth" 1 --vcd run.vcd chip.sheet 256
+ends "a waveform that cannot be written" 1 "" "" --vcd missing/run.vcd chip.sheet 1
+check "a waveform that cannot be written: said" grep -qx "missing/run.vcd: it could not be written" "$work/err"
+
+# The run alone, by hand: frame 0 reads and writes, frame 1 writes, frame 2 reads what frame 1 wrote. Inputs are wires 1 to 3: write enable,
+# read enable, data; wire 4 is the bit read.
 { line N 3 0 0; line M 1 1 0; line A 0; line D 6; line C 2 4 9; } > "$work/sheet"
 printf 'data 6\nread 8\n' > "$work/names"
-printf 's SATISFIABLE\nv 1 2 3 -4 -5 6\nv -7 8 -9 -15 16\nv -17 18 0\n' > "$work/answer"
-trace() { (cd "$work" && awk -f "$here/scripts/trace.awk" depth=2 file=names names file=sheet "$1" file=answer "$2"); }
-trace sheet answer > "$work/out"
-check "an answer by hand" same "frame  data  read  memory
+printf '2\n1100\n1010\n0101\n' > "$work/run"
+trace() { (cd "$work" && awk -f "$here/scripts/run.awk" -f "$here/scripts/trace.awk" depth="${3-2}" file=names names file=sheet "$1" file=run "$2"); }
+trace sheet run > "$work/out"
+check "a run by hand" same "frame  data  read  memory
     0     0     0  reads 0 at 0 (start word), writes 0 at 0
     1     1     -  writes 1 at 0
     2     0     1  reads 1 at 0 (written in frame 1)  <- property broken" "$(cat "$work/out")"
-grep -v '^C' "$work/sheet" > "$work/no-property"
-head -n 1 "$work/answer" > "$work/no-values"
-check_fails() { # what, message, sheet, answer
-  trace "$3" "$4" > "$work/out" 2> "$work/err"
+check_fails() { # what, message, sheet, run, depth
+  trace "${@:3}" > "$work/out" 2> "$work/err"
   check "$1: status" same 1 $?
   check "$1: nothing is printed" same "" "$(cat "$work/out")"
-  check "$1: message" same "trace.awk: $2" "$(cat "$work/err")"
+  check "$1: message" same "run.awk: $2" "$(cat "$work/err")"
 }
-check_fails "no C line" "the sheet has no C line" no-property answer
-check_fails "no sheet" "the sheet has no C line" /dev/null answer
-check_fails "no values" "the answer has no values" sheet no-values
+grep -v '^C' "$work/sheet" > "$work/no-property"
+check_fails "no C line" "the sheet has no C line" no-property run
+check_fails "no sheet" "the sheet has no C line" /dev/null run
+not_this() { # what, printed in place of the run, depth
+  printf "$2" > "$work/not-this"
+  check_fails "$1" "this is no run of the sheet to frame ${3-2}" sheet not-this ${3-}
+}
+not_this "no run" ""
+not_this "no frames" '2\n'
+not_this "a frame too few" '1\n1100\n1011\n'
+not_this "a frame too many" '2\n1100\n1010\n0101\n' 1
+not_this "a wire too few" '2\n1100\n101\n0101\n'
+not_this "a wire too many" '2\n1100\n1010\n01011\n'
+not_this "a digit that is none" '2\n1100\n1020\n0101\n'
+not_this "a first frame that is not broken" '1\n1100\n1010\n0101\n'
+not_this "a first frame that is not the first" '2\n1100\n1011\n0101\n'
+not_this "a first frame behind the last" '3\n1100\n1010\n0101\n'
+not_this "a first frame that is no number" 'x\n1100\n1010\n0101\n'
 
 echo "$passed passed, $failed failed"
 [ "$failed" -eq 0 ]

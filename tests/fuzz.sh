@@ -1,15 +1,15 @@
 #!/usr/bin/env bash
-# N hostile inputs through the program, and ten times as many calls of the library, which need no process each; every outcome is
+# N hostile inputs through each program, and ten times as many calls of the library, which need no process each; every outcome is
 # compared with the second implementation. The seed is printed, so that a failure can be had again: make fuzz N=100000 SEED=7
 set -eu
 cd "$(dirname "$0")/.."
 count=${1:?how many inputs}
 seed=${2:-$(date +%s)}
 echo "seed $seed"
-rt check frames marrubigai > /dev/null
+rt check frames replay marrubigai > /dev/null
 rt staticlib marrubigai > /dev/null
 mkdir -p target/test
 rustc -O --edition 2021 -o target/test/runner tests/runner/main.rs
 rustc -O --edition 2021 -o target/test/library -L target/staticlib -l static=marrubigai tests/runner/library.rs
-target/test/runner target/bin/frames fuzz "$count" "$seed"
+target/test/runner target/bin/frames target/bin/replay fuzz "$count" "$seed"
 target/test/library fuzz $((10 * count)) "$seed"

@@ -37,6 +37,7 @@ need minisat minisat
 need cc gcc
 need g++ g++
 need valgrind valgrind
+need vcd2fst gtkwave
 need /usr/include/ccadical.h libcadical-dev
 need yosys yosys
 need berkeley-abc berkeley-abc
@@ -75,7 +76,7 @@ run "wires, codes and clause numbers are kept apart" types bash tests/types.sh
 run "the table of layers is that of the imports" layers bash tests/layers.sh
 compile reference tests/reference/main.rs && run "the second implementation's own tests" reference "$logs/reference"
 compile runner tests/runner/main.rs &&
-  run "the program against the second implementation" runner timeout 900 "$logs/runner" target/bin/frames docs/FORMAT.md
+  run "the programs against the second implementation" runner timeout 900 "$logs/runner" target/bin/frames target/bin/replay docs/FORMAT.md
 
 echo "== the static library: rt staticlib marrubigai"
 if rt staticlib marrubigai > "$logs/staticlib.out" 2>&1; then
@@ -86,7 +87,7 @@ if rt staticlib marrubigai > "$logs/staticlib.out" 2>&1; then
       timeout 600 valgrind --quiet --error-exitcode=99 "$logs/library" sample
   fi
   run "the header for C against the library" header bash tests/header.sh
-  run "a search depth by depth with the library and CaDiCaL's" search bash tests/search.sh target/bin/frames
+  run "a search depth by depth with the library and CaDiCaL's" search bash tests/search.sh target/bin/frames target/bin/replay
   compile verilog tests/verilog/main.rs -L target/staticlib -l static=marrubigai &&
     run "from Verilog to an imported netlist, with yosys and abc" verilog timeout 600 bash tests/verilog.sh target/bin/frames "$logs/verilog"
 else
@@ -94,8 +95,10 @@ else
   fail "rt staticlib marrubigai"
 fi
 
-run "the script that looks for a run and shows it" find bash tests/find.sh target/bin/frames
-run "the examples' sheets, and what the pages show of them" examples bash tests/examples.sh target/bin/frames
+run "the script that looks for a run and shows it" find bash tests/find.sh target/bin/frames target/bin/replay
+compile waveform tests/waveform/main.rs &&
+  run "the waveform of a run, by GTKWave's converters" waveform "$logs/waveform" target/bin/frames target/bin/replay "$logs/scratch"
+run "the examples' sheets, and what the pages show of them" examples bash tests/examples.sh target/bin/frames target/bin/replay
 compile solvers tests/solvers/main.rs &&
   run "the formula of frames, with public solvers" solvers "$logs/solvers" target/bin/frames "$logs/scratch" examples
 compile rules tests/rules/main.rs && run "citations and quotes stand in docs/RULES.md" rules "$logs/rules" .

@@ -1,9 +1,11 @@
 #!/usr/bin/env bash
 # The C program of docs/LIBRARY.md: the page shows the file, the page's line compiles it, its transcripts are what it prints, and it
 # finds the same earliest frame as the script, which asks the program `frames` and a solver anew at each depth.
-# Argument: the program `frames`. After `rt staticlib marrubigai`; needs libcadical-dev.
+# Arguments: the programs `frames` and `replay`. After `rt staticlib marrubigai`; needs libcadical-dev.
 set -u
-frames=$(readlink -f "$1")
+FRAMES=$(readlink -f "$1")
+REPLAY=$(readlink -f "$2")
+export FRAMES REPLAY
 cd "$(dirname "$0")/.." || exit 2
 page=docs/LIBRARY.md
 source=examples/search/search.c
@@ -38,7 +40,7 @@ done < "$work/asked"
 check "the page has a transcript" [ "$asked" -ge 2 ]
 
 # the script's first line, without the colon that the run stands behind, and its status
-by_script() { (FRAMES=$frames bash scripts/find.sh --least "$1" "$2"; echo $?) | sed -n '1{s/:$//;p}; $p'; }
+by_script() { (bash scripts/find.sh --least "$1" "$2"; echo $?) | sed -n '1{s/:$//;p}; $p'; }
 by_program() { target/search "$1" "$2"; echo $?; }
 agree() { [ "$(by_script "$1" "$2")" = "$(by_program "$1" "$2")" ] || diff <(by_script "$1" "$2") <(by_program "$1" "$2"); }
 for sheet in examples/*/*.sheet; do

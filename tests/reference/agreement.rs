@@ -54,7 +54,7 @@ pub fn agrees(netlist: &Netlist, model: &[bool], run: &Run) -> bool {
 }
 
 /// Every feed of frames 0 to depth. There are 2^((depth + 1) (I + n)), so only for tiny sizes.
-fn all_feeds(netlist: &Netlist, depth: u32) -> impl Iterator<Item = Vec<Feed>> {
+pub fn all_feeds(netlist: &Netlist, depth: u32) -> impl Iterator<Item = Vec<Feed>> {
     let (inputs, width) = (netlist.inputs, netlist.data_width);
     let of_frame = move |bits: u64| Feed {
         inputs: (0..inputs).map(|bit| (bits >> bit) & 1 == 1).collect(),
@@ -128,7 +128,7 @@ pub fn propagation_follows_run(netlist: &Netlist, feeds: &[Feed]) -> bool {
 }
 
 /// The literals that fix a feed: all inputs, and the read bits of frames in which RE is false.
-fn feed_literals(netlist: &Netlist, run: &Run) -> Vec<i32> {
+pub fn feed_literals(netlist: &Netlist, run: &Run) -> Vec<i32> {
     let mut literals = Vec::new();
     for (frame, values) in run.frames.iter().enumerate() {
         let inputs = 1..netlist.first_latch() as usize;

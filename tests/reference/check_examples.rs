@@ -112,6 +112,11 @@ pub fn input(depth: u32, short: &str) -> Vec<u8> {
     [write_depth(depth), expand(short)].concat()
 }
 
+/// Bytes in which `/` stands for a line feed.
+pub fn bytes_of(short: &str) -> Vec<u8> {
+    short.replace('/', "\n").into_bytes()
+}
+
 /// The netlist of an accepted short form.
 pub fn accepted(short: &str) -> Netlist {
     read_sheet(&expand(short), 600, 600).expect("an accepted sheet")

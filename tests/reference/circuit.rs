@@ -43,6 +43,11 @@ impl<'a> Circuit<'a> {
         }
     }
 
+    /// Whether the next frame, fed these inputs, takes the idle word. RE depends on no read bit.
+    pub fn takes_idle_word(&self, inputs: &[bool]) -> bool {
+        !value(&self.evaluate(inputs, 0), self.netlist.read_enable)
+    }
+
     /// One frame: its values, after which the state is that before the next frame.
     pub fn step(&mut self, feed: &Feed) -> Values {
         // The first pass settles address and RE, which depend on no read bit.
@@ -84,10 +89,13 @@ pub fn evaluate(netlist: &Netlist, inputs: &[bool], latches: &[bool], read_word:
 }
 
 /// A run through all frames that it is fed, also behind a frame that breaks the property.
+#[derive(Clone, Debug)]
 pub struct Run {
     pub frames: Vec<Values>,
     /// The first frame in which P is false.
     pub first_break: Option<usize>,
+    /// The 2^m words behind the last frame.
+    pub words: Vec<u32>,
 }
 
 impl Run {
@@ -100,6 +108,7 @@ impl Run {
         Run {
             frames,
             first_break,
+            words: circuit.words,
         }
     }
 

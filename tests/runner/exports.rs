@@ -1,6 +1,8 @@
 //! The exported functions of the static library, under their C names, and safe calls of them. A slice is
 //! a pointer and a length. Every slice that is lent for writing stands between guards that must stay.
 
+use super::reference::answer::Claim;
+use super::reference::answer_calls::{Call, Outcome};
 use super::reference::formula::Group;
 use super::reference::netlist::{Gate, Latch, Netlist};
 use super::reference::refusal::Refusal;
@@ -58,6 +60,15 @@ struct HeadingReply {
 
 #[repr(C)]
 #[derive(Clone, Copy, Debug, PartialEq, Eq)]
+struct ReplayReply {
+    number: u32,
+    place: u32,
+    claimed: u32,
+    first: u32,
+}
+
+#[repr(C)]
+#[derive(Clone, Copy, Debug, PartialEq, Eq)]
 struct SheetReply {
     number: u32,
     place: u32,
@@ -99,6 +110,21 @@ extern "C" {
         gate_count: usize,
         depth: u32,
     ) -> HeadingReply;
+
+    fn marrubigai_replay(
+        net: Record,
+        latches: *const LatchRecord,
+        latch_count: usize,
+        gates: *const GateRecord,
+        gate_count: usize,
+        depth: u32,
+        answer: *const u8,
+        answer_bytes: usize,
+        memory: *mut u32,
+        words: usize,
+        trace: *mut u8,
+        trace_room: usize,
+    ) -> ReplayReply;
 
     fn marrubigai_read(
         file: *const u8,
@@ -299,6 +325,60 @@ impl Lists {
         let heading = (reply.variables, reply.clauses);
         answer(reply.number, reply.place, heading == (0, 0), || Ok(heading))
     }
+}
+
+/// Contents that are lent, with guards before and behind them that no call may write to.
+fn guarded<T: Copy>(contents: &[T], guard: T) -> Vec<T> {
+    let guards = vec![guard; GUARDS];
+    [&guards, contents, &guards].concat()
+}
+
+/// What stands between the guards, where they are as they were.
+fn unguarded<T: Copy + PartialEq>(all: &[T], guard: T) -> Result<Vec<T>, &'static str> {
+    let (before, rest) = all.split_at(GUARDS);
+    let (contents, behind) = rest.split_at(rest.len() - GUARDS);
+    if before.iter().chain(behind).all(|entry| *entry == guard) {
+        Ok(contents.to_vec())
+    } else {
+        Err("something outside of what is lent")
+    }
+}
+
+/// A call that runs an answer: what it answers, and what the memory and the trace hold then.
+pub fn replay(call: &Call) -> Result<Outcome, &'static str> {
+    const WORD: u32 = 0x5a5a_5a5a;
+    const BYTE: u8 = 0x5a;
+    let lists = Lists::new(&call.netlist);
+    let mut memory = guarded(&call.memory, WORD);
+    let mut trace = guarded(&call.trace, BYTE);
+    // SAFETY: each pointer and length are those of a live slice, and only memory and trace are written to.
+    let reply = unsafe {
+        marrubigai_replay(
+            lists.record,
+            lists.latches.as_ptr(),
+            lists.latches.len(),
+            lists.gates.as_ptr(),
+            lists.gates.len(),
+            call.depth,
+            call.answer.as_ptr(),
+            call.answer.len(),
+            memory[GUARDS..].as_mut_ptr(),
+            call.memory.len(),
+            trace[GUARDS..].as_mut_ptr(),
+            call.trace.len(),
+        )
+    };
+    let said = (reply.claimed, reply.first);
+    let claim = || match said {
+        (0, first) => Ok(Claim::Breaks(first)),
+        (1, 0) => Ok(Claim::Unsatisfiable),
+        _ => Err("no claim"),
+    };
+    Ok(Outcome {
+        result: answer(reply.number, reply.place, said == (0, 0), claim)?,
+        memory: unguarded(&memory, WORD)?,
+        trace: unguarded(&trace, BYTE)?,
+    })
 }
 
 /// A call that delivers a netlist into lists of these lengths: the netlist whose lists are the records written.

@@ -15,7 +15,6 @@ use std::time::{Duration, Instant};
 use super::process::{collect, shown, start, whole, Program, Ran};
 use super::reference::check_examples::{input, FULL_RUN, RICH};
 use super::reference::check_refusals::largest_sheet;
-use super::reference::formula::frames;
 use super::reference::netlist::MAX_DEPTH;
 use super::reference::sheet::write_depth;
 use super::reference::Tally;
@@ -30,8 +29,8 @@ fn long_input() -> Vec<u8> {
     input(60, RICH)
 }
 
-fn in_pieces(program: &Path, bytes: &[u8], size: usize, pause: bool) -> Ran {
-    let mut child = start(&mut Command::new(program));
+fn in_pieces(program: &Program, bytes: &[u8], size: usize, pause: bool) -> Ran {
+    let mut child = start(&mut program.command());
     let mut stdin = child.stdin.take().expect("piped");
     for piece in bytes.chunks(size) {
         // A program that has seen enough may have ended.
@@ -64,20 +63,10 @@ pub fn pieces(program: &Program, tally: &mut Tally) {
         ("pieces of 997, too long", &too_long, 997, true),
     ];
     for (name, bytes, size, pause) in rows {
-        let ran = in_pieces(program.path(), bytes, size, pause);
-        tally.check_with(
-            name,
-            ran.ended_well() && ran.output == frames(bytes),
-            || said(&ran),
-        );
+        let ran = in_pieces(program, bytes, size, pause);
+        let holds = ran.ended_well() && ran.output == program.expected(bytes);
+        tally.check_with(name, holds, || said(&ran));
     }
-}
-
-/// The program under a shell that prepares its streams. `$0` is the program.
-fn under_shell(program: &Program, script: &str) -> Command {
-    let mut command = Command::new("sh");
-    command.arg("-c").arg(script).arg(program.path());
-    command
 }
 
 /// A standard input that cannot be read further has ended: what came until then is judged.
@@ -88,8 +77,8 @@ pub fn unreadable_input(program: &Program, tally: &mut Tally) {
         ("empty", "exec \"$0\" </dev/null"),
     ];
     for (name, script) in rows {
-        let ran = collect(start(&mut under_shell(program, script)));
-        judged(tally, name, &ran, b"");
+        let ran = collect(start(&mut program.under_shell(script)));
+        judged(program, tally, name, &ran, b"");
     }
     let whole = input(1, FULL_RUN);
     for length in [0, 7, 11, 100, whole.len()] {
@@ -101,7 +90,8 @@ pub fn unreadable_input(program: &Program, tally: &mut Tally) {
         writer
             .write_all(&whole[..length])
             .expect("writing the input");
-        let child = Command::new(program.path())
+        let child = program
+            .command()
             .stdin(Stdio::from(OwnedFd::from(reader)))
             .stdout(Stdio::piped())
             .stderr(Stdio::piped())
@@ -109,6 +99,7 @@ pub fn unreadable_input(program: &Program, tally: &mut Tally) {
             .expect("the program");
         let ran = collect(child);
         judged(
+            program,
             tally,
             &format!("fails after {length} bytes"),
             &ran,
@@ -117,8 +108,8 @@ pub fn unreadable_input(program: &Program, tally: &mut Tally) {
     }
 }
 
-fn judged(tally: &mut Tally, name: &str, ran: &Ran, bytes: &[u8]) {
-    let holds = ran.status.success() && ran.output == frames(bytes);
+fn judged(program: &Program, tally: &mut Tally, name: &str, ran: &Ran, bytes: &[u8]) {
+    let holds = ran.status.success() && ran.output == program.expected(bytes);
     tally.check_with(name, holds, || said(ran));
 }
 
@@ -213,8 +204,13 @@ pub fn no_output(program: &Program, tally: &mut Tally) {
         ("closed output", "exec \"$0\" >&-"),
     ] {
         for bytes in [input(1, FULL_RUN), long_input(), b"?".to_vec()] {
-            let child = begin(&mut under_shell(program, script), Stdio::null(), &bytes);
-            expect_failure(tally, name, stopped(child, Vec::new()), &frames(&bytes));
+            let child = begin(&mut program.under_shell(script), Stdio::null(), &bytes);
+            expect_failure(
+                tally,
+                name,
+                stopped(child, Vec::new()),
+                &program.expected(&bytes),
+            );
         }
     }
 }
@@ -223,7 +219,7 @@ pub fn no_output(program: &Program, tally: &mut Tally) {
 /// as it ends every filter; where the caller ignores the signal the program gets the error.
 pub fn closed_pipe(program: &Program, tally: &mut Tally) {
     let bytes = long_input();
-    let expected = frames(&bytes);
+    let expected = program.expected(&bytes);
     for (taken, ignored) in [0, 1, 5, 4_096, 100_000]
         .into_iter()
         .flat_map(|taken| [(taken, false), (taken, true)])
@@ -233,7 +229,7 @@ pub fn closed_pipe(program: &Program, tally: &mut Tally) {
         } else {
             "exec \"$0\""
         };
-        let mut child = begin(&mut under_shell(program, script), Stdio::piped(), &bytes);
+        let mut child = begin(&mut program.under_shell(script), Stdio::piped(), &bytes);
         let mut pipe = child.stdout.take().expect("piped");
         let mut output = vec![0; taken];
         pipe.read_exact(&mut output).expect("the formula is longer");
@@ -262,11 +258,7 @@ pub fn file_limit(program: &Program, tally: &mut Tally, folder: &Path) {
     for blocks in [1, 16, 128] {
         let file = File::create(&path).expect("a file for the output");
         let script = format!("ulimit -f {blocks}; trap '' XFSZ; exec \"$0\"");
-        let child = begin(
-            &mut under_shell(program, &script),
-            Stdio::from(file),
-            &bytes,
-        );
+        let child = begin(&mut program.under_shell(&script), Stdio::from(file), &bytes);
         let ran = stopped(child, Vec::new()).map(|ran| Ran {
             output: fs::read(&path).expect("the output"),
             ..ran
@@ -279,7 +271,7 @@ pub fn file_limit(program: &Program, tally: &mut Tally, folder: &Path) {
             tally,
             &format!("file limit of {blocks} blocks"),
             ran,
-            &frames(&bytes),
+            &program.expected(&bytes),
         );
     }
     fs::remove_file(&path).expect("removing the output");
@@ -291,7 +283,7 @@ pub fn file_limit(program: &Program, tally: &mut Tally, folder: &Path) {
 /// A program that goes on may have come to its end before there is room, so this is done several times.
 pub fn passing_failure(program: &Program, tally: &mut Tally) {
     let bytes = input(MAX_DEPTH, RICH);
-    let expected = frames(&bytes);
+    let expected = program.expected(&bytes);
     for _ in 0..8 {
         let (mut child, mut reader) = without_waiting(program, &bytes);
         let mut message = vec![0; 1];
@@ -310,7 +302,7 @@ pub fn passing_failure(program: &Program, tally: &mut Tally) {
 /// The same with a reader that is only too slow: the text is whole, or it ends at the first failure.
 pub fn repeated_failure(program: &Program, tally: &mut Tally) {
     let bytes = input(MAX_DEPTH, RICH);
-    let expected = frames(&bytes);
+    let expected = program.expected(&bytes);
     let (child, mut reader) = without_waiting(program, &bytes);
     let mut output = Vec::new();
     let mut piece = [0; 500];
@@ -335,7 +327,7 @@ fn without_waiting(program: &Program, bytes: &[u8]) -> (Child, UnixStream) {
     writer
         .set_nonblocking(true)
         .expect("a socket that does not wait");
-    let mut command = Command::new(program.path());
+    let mut command = program.command();
     // The command holds the writer's end too: the output ends only once it is dropped here.
     let child = begin(&mut command, Stdio::from(OwnedFd::from(writer)), bytes);
     (child, reader)
@@ -344,7 +336,7 @@ fn without_waiting(program: &Program, bytes: &[u8]) -> (Child, UnixStream) {
 /// A reader that takes its time: the program waits and nothing is lost.
 pub fn slow_reader(program: &Program, tally: &mut Tally) {
     let bytes = long_input();
-    let mut child = begin(&mut Command::new(program.path()), Stdio::piped(), &bytes);
+    let mut child = begin(&mut program.command(), Stdio::piped(), &bytes);
     let mut pipe = child.stdout.take().expect("piped");
     let mut output = Vec::new();
     let mut piece = [0; 30_001];
@@ -358,7 +350,7 @@ pub fn slow_reader(program: &Program, tally: &mut Tally) {
     }
     let ran = stopped(child, output);
     let holds = ran.as_ref().map_or(false, |ran| {
-        ran.ended_well() && ran.output == frames(&bytes)
+        ran.ended_well() && ran.output == program.expected(&bytes)
     });
     tally.check("slow reader", holds);
 }

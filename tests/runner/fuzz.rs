@@ -1,10 +1,12 @@
-//! Hostile inputs through the program, each compared with the second implementation.
+//! Hostile inputs through the programs, each compared with the second implementation.
 
 use super::mutate::{change_bytes, sheet};
 use super::process::Program;
 use super::reference::random::Random;
-use super::reference::sheet::{read_depth, read_sheet, FIELD_BYTES};
+use super::reference::random_answers::{random_draft, written, written_unsatisfiable};
+use super::reference::sheet::{read_depth, read_sheet, write_depth, write_sheet, FIELD_BYTES};
 use super::reference::Tally;
+use super::replays::Replay;
 
 /// The deepest formula that is asked for here: larger ones are compared elsewhere.
 const DEEPEST: u32 = 40;
@@ -71,4 +73,32 @@ pub fn inputs(program: &Program, tally: &mut Tally, seed: u64, count: usize) {
         .map(|(now, then)| (now - then).to_string())
         .collect();
     tally.remark = format!(" (formulas and numbers 1 to 7: {})", new.join(", "));
+}
+
+/// An input of `replay` and an answer: one of them or both hostile.
+pub fn input_and_answer(random: &mut Random) -> (Vec<u8>, Vec<u8>) {
+    let draft = random_draft(random);
+    let mut answer = if random.percent(90) {
+        written(random, &draft.numbers)
+    } else {
+        written_unsatisfiable(random)
+    };
+    if random.percent(60) {
+        change_bytes(random, &mut answer);
+    }
+    let bytes = if random.percent(80) {
+        [write_depth(draft.depth), write_sheet(&draft.netlist)].concat()
+    } else {
+        input(random)
+    };
+    (bytes, answer)
+}
+
+pub fn answers(replay: &Replay, tally: &mut Tally, seed: u64, count: usize) {
+    let mut random = Random::new(seed);
+    for round in 0..count {
+        let (bytes, answer) = input_and_answer(&mut random);
+        let name = format!("seed {seed} answer {round}");
+        replay.agrees(tally, &name, &bytes, &answer);
+    }
 }

@@ -2,9 +2,11 @@
 
 use super::mutate::{change_bytes, netlist, sheet, LIMITS};
 use super::prints;
+use super::reference::answer_calls::{marks, Call as ReplayCall};
 use super::reference::netlist::{Gate, Latch, Netlist};
 use super::reference::random::{damaged_record, Random};
-use super::reference::random_aiger::{damaged_call, draft_of, Call, Numbering};
+use super::reference::random_aiger::{damaged_call, draft_of, Call as ImportCall, Numbering};
+use super::reference::random_answers::{random_draft, written, written_unsatisfiable, CALL_FAULTS};
 use super::reference::Tally;
 use super::Library;
 
@@ -92,7 +94,7 @@ fn room(random: &mut Random) -> usize {
 }
 
 /// An import with hostile bytes, m, n, start word or lists, or several of these, or none.
-fn import_call(random: &mut Random) -> Call {
+fn import_call(random: &mut Random) -> ImportCall {
     let mut call = if random.percent(20) {
         damaged_call(random)
     } else {
@@ -119,6 +121,37 @@ fn import_call(random: &mut Random) -> Call {
     call
 }
 
+/// A replay of a sound call or of one with faults in any part of it, or of parts that have nothing to do with each other.
+fn replay_call(random: &mut Random) -> ReplayCall {
+    let draft = random_draft(random);
+    let mut answer = if random.percent(85) {
+        written(random, &draft.numbers)
+    } else {
+        written_unsatisfiable(random)
+    };
+    if random.percent(40) {
+        change_bytes(random, &mut answer);
+    }
+    if random.percent(20) {
+        let (memory, trace) = marks(room(random), room(random));
+        return ReplayCall {
+            netlist: record(random),
+            depth: small_or_limit(random),
+            answer,
+            memory,
+            trace,
+        };
+    }
+    let mut call = draft.call(random, answer);
+    // in the tests' order from the last on: each relies on what those before it damage
+    for (_, fault) in CALL_FAULTS.iter().rev() {
+        if random.percent(7) {
+            fault(random, &mut call);
+        }
+    }
+    call
+}
+
 /// One number of the first line replaced, where there is one.
 fn change_header(random: &mut Random, text: &mut Vec<u8>) {
     let end = text
@@ -137,7 +170,7 @@ fn change_header(random: &mut Random, text: &mut Vec<u8>) {
 pub fn calls(library: &Library, tally: &mut Tally, seed: u64, count: usize) {
     let mut random = Random::new(seed);
     for _ in 0..count {
-        match random.below(12) {
+        match random.below(13) {
             0 => {
                 let file = sheet(&mut random);
                 let line = small_or_limit(&mut random);
@@ -163,6 +196,10 @@ pub fn calls(library: &Library, tally: &mut Tally, seed: u64, count: usize) {
             9 | 10 => {
                 let call = import_call(&mut random);
                 library.import_agrees(tally, "hostile", &call);
+            }
+            11 => {
+                let call = replay_call(&mut random);
+                library.replay_agrees(tally, "hostile replay", &call);
             }
             _ => {
                 let netlist = record(&mut random);

@@ -11,6 +11,7 @@ mod mutate;
 mod prints;
 mod reads;
 mod reference;
+mod replay_calls;
 
 use std::cell::RefCell;
 
@@ -19,7 +20,7 @@ use reference::tally::{Report, Tally};
 
 /// How often a function answered each refusal number; entry 0 counts successes.
 #[derive(Default)]
-pub struct Counts([usize; 14]);
+pub struct Counts([usize; 16]);
 
 impl Counts {
     fn add<T>(counts: &RefCell<Counts>, answer: &Answer<T>) {
@@ -43,11 +44,14 @@ pub struct Library {
     headers: RefCell<Counts>,
     clauses: RefCell<Counts>,
     refusals: RefCell<Counts>,
+    replays: RefCell<Counts>,
+    /// Of the replays, those that say what the solver claimed.
+    claims: RefCell<Counts>,
 }
 
 type Family = (&'static str, fn(&Library, &mut Tally));
 
-const FAMILIES: [Family; 22] = [
+const FAMILIES: [Family; 28] = [
     ("facts of the full run", calls::stated),
     ("table of group calls", calls::table_of_calls),
     ("table of records", calls::table_of_records),
@@ -69,6 +73,12 @@ const FAMILIES: [Family; 22] = [
     ("texts at their limits", prints::limits),
     ("random texts", prints::random),
     ("joined texts", prints::joined),
+    ("replays by hand", replay_calls::by_hand),
+    ("replays with sets of faults", replay_calls::fault_sets),
+    ("replays of random answers", replay_calls::random_answers),
+    ("replays of damaged answers", replay_calls::damaged),
+    ("rooms and lists of replays", replay_calls::rooms),
+    ("the largest replay", replay_calls::largest),
     ("hostile calls", |library, tally| {
         fuzz_exports::calls(library, tally, 701, 200_000)
     }),
@@ -76,7 +86,7 @@ const FAMILIES: [Family; 22] = [
 
 /// Each function, and the numbers that the tests must have made it answer: all that it has. 10 has none.
 fn every_number(library: &Library, tally: &mut Tally) {
-    let rows: [(&str, &RefCell<Counts>, &[usize]); 8] = [
+    let rows: [(&str, &RefCell<Counts>, &[usize]); 10] = [
         ("read", &library.reads, &[1, 2, 3, 4, 5, 6, 9]),
         ("next_line", &library.lines, &[2]),
         ("import", &library.imports, &[4, 6, 9, 11, 12, 13]),
@@ -85,6 +95,8 @@ fn every_number(library: &Library, tally: &mut Tally) {
         ("put_header", &library.headers, &[9]),
         ("put_clauses", &library.clauses, &[9]),
         ("put_refusal", &library.refusals, &[9]),
+        ("replay", &library.replays, &[3, 4, 5, 6, 7, 9, 14, 15]),
+        ("replay, claimed unsatisfiable", &library.claims, &[]),
     ];
     let mut remarks = Vec::new();
     for (name, counts, numbers) in rows {
@@ -144,6 +156,9 @@ fn main() {
             });
             report.family("texts at their limits", |tally| {
                 prints::limits(&library, tally)
+            });
+            report.family("replays by hand", |tally| {
+                replay_calls::by_hand(&library, tally)
             });
             report.family("hostile calls", |tally| {
                 fuzz_exports::calls(&library, tally, 703, 1_000)

@@ -1,9 +1,10 @@
-//! Tests of the program `frames` against the second implementation, with fixed seeds.
-//! `main FRAMES PAGE` runs all of them, and the examples of the page; `main FRAMES fuzz COUNT [SEED]` runs
-//! as many hostile inputs as asked for. The last line is `N passed, M failed`.
+//! Tests of the programs `frames` and `replay` against the second implementation, with fixed seeds.
+//! `main FRAMES REPLAY PAGE` runs all of them, and the examples of the page; `main FRAMES REPLAY fuzz COUNT [SEED]`
+//! runs as many hostile inputs as asked for. The last line is `N passed, M failed`. Started in the repository's folder.
 //! Build: rustc -O --edition 2021 main.rs
 
 mod accepted;
+mod answer_files;
 mod damaged;
 mod faults;
 mod fuzz;
@@ -12,14 +13,19 @@ mod mutate;
 mod page;
 mod process;
 mod reference;
+mod replays;
 mod two_faults;
 
+use std::fs;
 use std::path::{Path, PathBuf};
 
-use process::Program;
+use process::{Program, CLAIMED};
+use reference::formula::frames;
 use reference::tally::{Report, Tally};
+use replays::Replay;
 
 type Family = (&'static str, fn(&Program, &mut Tally));
+type ReplayFamily = (&'static str, fn(&Replay, &mut Tally));
 
 const FAMILIES: [Family; 17] = [
     ("full runs, by hand", accepted::full_runs),
@@ -49,46 +55,92 @@ const FAMILIES: [Family; 17] = [
     }),
 ];
 
-/// The runner must have made the program print every refusal that it has, and no other number.
-fn every_number(program: &Program, tally: &mut Tally) {
+const REPLAY_FAMILIES: [ReplayFamily; 15] = [
+    ("answers and runs, by hand", replays::by_hand),
+    ("first frames, by hand", replays::first_frames),
+    ("forms of answers, by hand", replays::forms),
+    ("solvers that are wrong, by hand", replays::liars),
+    ("random answers, sound and faulty", replays::random_answers),
+    ("answers damaged at every byte", replays::damaged),
+    ("the largest chip at depth 255", replays::largest),
+    ("answers of CaDiCaL and MiniSat", replays::solvers),
+    ("answers that cannot be read", answer_files::unreadable),
+    ("answers in pieces", answer_files::pieces),
+    ("long answers", answer_files::long),
+    ("lengths of inputs, depth lines", |replay, tally| {
+        fs::write(replay.file(), "s UNSATISFIABLE\n").expect("the answer");
+        damaged::lengths(&replay.program, tally);
+        damaged::depth_lines(&replay.program, tally);
+    }),
+    ("streams", |replay, tally| {
+        fs::write(replay.file(), "s UNSATISFIABLE\n").expect("the answer");
+        faults::pieces(&replay.program, tally);
+        faults::unreadable_input(&replay.program, tally);
+        faults::no_output(&replay.program, tally);
+    }),
+    ("hostile inputs and answers", |replay, tally| {
+        fuzz::answers(replay, tally, 303, 4_000)
+    }),
+    ("a sample under valgrind", |replay, tally| {
+        memory::answers(replay, tally, 12)
+    }),
+];
+
+/// The runner must have made a program print everything that it has, and nothing else.
+fn every_number(program: &Program, tally: &mut Tally, due: &[usize]) {
     let counts = program.counts();
     for (number, count) in counts.iter().enumerate() {
         tally.check(
-            ("refusal", number, "printed", count),
-            (*count > 0) == (number <= 7),
+            ("outcome", number, "printed", count),
+            (*count > 0) == due.contains(&number),
         );
     }
-    let shown: Vec<String> = (1..=7)
-        .map(|number| format!("{number}: {}", counts[number]))
+    let shown: Vec<String> = due
+        .iter()
+        .map(|number| format!("{number}: {}", counts[*number]))
         .collect();
-    tally.remark = format!(" ({}; formulas: {})", shown.join(", "), counts[0]);
+    tally.remark = format!(" ({})", shown.join(", "));
 }
 
-fn all(program: &Program, page: &Path) -> Report {
+/// What a program may print: 0 stands for a formula or a run.
+const OF_FRAMES: [usize; 8] = [0, 1, 2, 3, 4, 5, 6, 7];
+const OF_REPLAY: [usize; 11] = [0, 1, 2, 3, 4, 5, 6, 7, 14, 15, CLAIMED];
+
+fn all(program: &Program, replay: &Replay, page: &Path) -> Report {
     let mut report = Report::default();
     for (name, family) in FAMILIES {
         report.family(name, |tally| family(program, tally));
     }
-    let folder = std::env::temp_dir().join(format!("frames-{}", std::process::id()));
-    std::fs::create_dir(&folder).expect("a folder for outputs");
+    let folder = replay.program.folder();
     report.family("output file at its limit", |tally| {
-        faults::file_limit(program, tally, &folder)
+        faults::file_limit(program, tally, folder)
     });
     report.family("examples of the page", |tally| {
-        page::examples(program, tally, page, &folder)
+        page::examples(program, tally, page, folder)
     });
-    std::fs::remove_dir_all(&folder).expect("removing the folder");
-    report.family("refusal numbers", |tally| every_number(program, tally));
+    report.family("refusal numbers", |tally| {
+        every_number(program, tally, &OF_FRAMES)
+    });
+    for (name, family) in REPLAY_FAMILIES {
+        report.family(&format!("replay: {name}"), |tally| family(replay, tally));
+    }
+    report.family("replay: refusal numbers", |tally| {
+        every_number(&replay.program, tally, &OF_REPLAY)
+    });
     report
 }
 
 fn main() {
     let words: Vec<String> = std::env::args().skip(1).collect();
     let words: Vec<&str> = words.iter().map(String::as_str).collect();
-    let report = match words[..] {
-        [path, page] => all(&Program::new(absolute(path)), Path::new(page)),
-        [path, "fuzz", count, ref seed @ ..] if seed.len() <= 1 => {
-            let program = Program::new(absolute(path));
+    let (paths, rest) = words.split_at(words.len().min(2));
+    let folder = std::env::temp_dir().join(format!("runner-{}", std::process::id()));
+    fs::create_dir(&folder).expect("a folder for answers and outputs");
+    let program = Program::new(absolute(paths[0]), Path::new("."), frames);
+    let replay = Replay::new(absolute(paths[1]), absolute(paths[0]), &folder);
+    let report = match rest {
+        [page] => all(&program, &replay, Path::new(page)),
+        ["fuzz", count, seed @ ..] if seed.len() <= 1 => {
             let seed = seed
                 .first()
                 .map_or(302, |seed| seed.parse().expect("a seed"));
@@ -97,14 +149,18 @@ fn main() {
             report.family("hostile inputs", |tally| {
                 fuzz::inputs(&program, tally, seed, count)
             });
+            report.family("replay: hostile inputs and answers", |tally| {
+                fuzz::answers(&replay, tally, seed, count)
+            });
             report
         }
-        _ => panic!("usage: FRAMES PAGE, or FRAMES fuzz COUNT [SEED]"),
+        _ => panic!("usage: FRAMES REPLAY PAGE, or FRAMES REPLAY fuzz COUNT [SEED]"),
     };
+    fs::remove_dir_all(&folder).expect("removing the folder");
     report.finish()
 }
 
-/// The program is also started from other folders.
+/// The programs are also started from other folders.
 fn absolute(path: &str) -> PathBuf {
-    std::fs::canonicalize(path).unwrap_or_else(|error| panic!("{path}: {error}"))
+    fs::canonicalize(path).unwrap_or_else(|error| panic!("{path}: {error}"))
 }

@@ -1,4 +1,6 @@
-//! A sample of all kinds of inputs under valgrind: no use of memory that the program does not have.
+//! A sample of all kinds of inputs under valgrind: no use of memory that a program does not have.
+
+use std::fs;
 
 use super::fuzz;
 use super::process::Program;
@@ -7,6 +9,10 @@ use super::reference::check_refusals::largest_sheet;
 use super::reference::random::Random;
 use super::reference::sheet::write_depth;
 use super::reference::Tally;
+use super::replays::Replay;
+
+/// Whatever valgrind finds it says on standard error, and the status tells too.
+const VALGRIND: [&str; 3] = ["valgrind", "--quiet", "--error-exitcode=99"];
 
 pub fn sample(program: &Program, tally: &mut Tally, count: usize) {
     let mut random = Random::new(401);
@@ -20,9 +26,19 @@ pub fn sample(program: &Program, tally: &mut Tally, count: usize) {
     while inputs.len() < count {
         inputs.push(fuzz::input(&mut random));
     }
-    // Whatever valgrind finds it says on standard error, and the status tells too.
-    let program = program.under(&["valgrind", "--quiet", "--error-exitcode=99"]);
+    let program = program.under(&VALGRIND);
     for (round, bytes) in inputs.iter().enumerate() {
         program.agrees(tally, &format!("input {round}"), bytes);
+    }
+}
+
+/// The same of `replay`, with answers.
+pub fn answers(replay: &Replay, tally: &mut Tally, count: usize) {
+    let mut random = Random::new(402);
+    let program = replay.program.under(&VALGRIND);
+    for round in 0..count {
+        let (bytes, answer) = fuzz::input_and_answer(&mut random);
+        fs::write(replay.file(), answer).expect("a folder that can be written to");
+        program.agrees(tally, &format!("answer {round}"), &bytes);
     }
 }

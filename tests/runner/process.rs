@@ -1,12 +1,12 @@
-//! The program `frames` as a process: bytes in, bytes out, compared with the second implementation.
+//! A program as a process: bytes in, bytes out, compared with the second implementation.
 
 use std::cell::RefCell;
 use std::io::{ErrorKind, Read, Write};
-use std::path::PathBuf;
+use std::path::{Path, PathBuf};
 use std::process::{Child, ChildStdin, Command, ExitStatus, Stdio};
+use std::rc::Rc;
 use std::thread;
 
-use super::reference::formula::frames;
 use super::reference::Tally;
 
 /// What a pipe holds before a write to it waits (Linux). A longer input needs a thread of its own.
@@ -28,18 +28,32 @@ impl Ran {
     }
 }
 
+/// How often each refusal number was printed; entry 0 counts formulas and runs.
+pub type Counts = [usize; CLAIMED + 2];
+/// The entry for `claimed unsatisfiable`, behind those of all refusals; the next is for anything else.
+pub const CLAIMED: usize = 16;
+
 pub struct Program {
     path: PathBuf,
+    /// The folder that the program is started in.
+    folder: PathBuf,
+    /// What the second implementation prints for an input.
+    expected: Rc<dyn Fn(&[u8]) -> Vec<u8>>,
     /// What the program is run under; often nothing.
     under: Vec<&'static str>,
-    /// How often each refusal number was printed; entry 0 counts the formulas.
-    counts: RefCell<[usize; 11]>,
+    counts: RefCell<Counts>,
 }
 
 impl Program {
-    pub fn new(path: PathBuf) -> Program {
+    pub fn new(
+        path: PathBuf,
+        folder: &Path,
+        expected: impl Fn(&[u8]) -> Vec<u8> + 'static,
+    ) -> Program {
         Program {
             path,
+            folder: folder.to_path_buf(),
+            expected: Rc::new(expected),
             under: Vec::new(),
             counts: RefCell::default(),
         }
@@ -48,8 +62,11 @@ impl Program {
     /// The same program run under another, with its arguments.
     pub fn under(&self, words: &[&'static str]) -> Program {
         Program {
+            path: self.path.clone(),
+            folder: self.folder.clone(),
+            expected: self.expected.clone(),
             under: words.to_vec(),
-            ..Program::new(self.path.clone())
+            counts: RefCell::default(),
         }
     }
 
@@ -57,20 +74,44 @@ impl Program {
         &self.path
     }
 
-    pub fn counts(&self) -> [usize; 11] {
+    pub fn folder(&self) -> &PathBuf {
+        &self.folder
+    }
+
+    pub fn counts(&self) -> Counts {
         *self.counts.borrow()
     }
 
-    fn spawn(&self) -> Child {
-        match self.under.split_first() {
-            None => start(&mut Command::new(&self.path)),
-            Some((word, words)) => start(Command::new(word).args(words).arg(&self.path)),
-        }
+    /// What the second implementation prints for an input.
+    pub fn expected(&self, input: &[u8]) -> Vec<u8> {
+        (self.expected)(input)
+    }
+
+    /// The program in its folder.
+    pub fn command(&self) -> Command {
+        let mut command = match self.under.split_first() {
+            None => Command::new(&self.path),
+            Some((word, words)) => {
+                let mut command = Command::new(word);
+                command.args(words).arg(&self.path);
+                command
+            }
+        };
+        command.current_dir(&self.folder);
+        command
+    }
+
+    /// The program in its folder, under a shell that prepares its streams. `$0` is the program.
+    pub fn under_shell(&self, script: &str) -> Command {
+        let mut command = Command::new("sh");
+        command.arg("-c").arg(script).arg(&self.path);
+        command.current_dir(&self.folder);
+        command
     }
 
     /// Runs the program on an input; `meanwhile` is worked out while it runs.
     fn run_beside<T>(&self, input: &[u8], meanwhile: impl FnOnce() -> T) -> (Ran, T) {
-        let mut child = self.spawn();
+        let mut child = start(&mut self.command());
         let stdin = child.stdin.take().expect("a piped standard input");
         let (ran, value) = if input.len() <= PIPE_BYTES {
             feed(stdin, input);
@@ -91,16 +132,13 @@ impl Program {
     }
 
     fn count(&self, output: &[u8]) {
-        let number = refusal_number(output);
-        if let Some(count) = self.counts.borrow_mut().get_mut(number) {
-            *count += 1;
-        }
+        self.counts.borrow_mut()[outcome(output)] += 1;
     }
 
     /// One check: the program prints for this input what the second implementation prints. Answers
     /// what it printed.
     pub fn agrees(&self, tally: &mut Tally, name: &str, input: &[u8]) -> Vec<u8> {
-        let (ran, expected) = self.run_beside(input, || frames(input));
+        let (ran, expected) = self.run_beside(input, || self.expected(input));
         let holds = ran.ended_well() && ran.output == expected;
         tally.check_with(name, holds, || difference(input, &ran, &expected));
         ran.output
@@ -148,17 +186,21 @@ pub fn collect(mut child: Child) -> Ran {
     }
 }
 
-/// The number in a refusal's text, 0 for a formula, and 10 (which no test expects) for anything else.
-fn refusal_number(output: &[u8]) -> usize {
-    if output.starts_with(b"p cnf ") {
+/// The entry of the counts that a text belongs to.
+fn outcome(output: &[u8]) -> usize {
+    if output.starts_with(b"p cnf ") || output.first().map_or(false, u8::is_ascii_digit) {
         return 0;
+    }
+    if output == b"claimed unsatisfiable\n" {
+        return CLAIMED;
     }
     let field = output
         .strip_prefix(b"refused")
         .and_then(|fields| fields.get(..10));
     let text = field.and_then(|field| std::str::from_utf8(field).ok());
     text.and_then(|text| text.trim_start().parse().ok())
-        .unwrap_or(10)
+        .filter(|number| *number < CLAIMED)
+        .unwrap_or(CLAIMED + 1)
 }
 
 /// The first line in which two texts differ, and the input.

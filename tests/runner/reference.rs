@@ -10,6 +10,12 @@ pub mod aiger;
 pub mod aiger_values;
 #[path = "../reference/check_aiger.rs"]
 pub mod check_aiger;
+#[path = "../reference/answer.rs"]
+pub mod answer;
+#[path = "../reference/answer_calls.rs"]
+pub mod answer_calls;
+#[path = "../reference/check_answers.rs"]
+pub mod check_answers;
 #[path = "../reference/check_examples.rs"]
 pub mod check_examples;
 #[path = "../reference/check_refusals.rs"]
@@ -24,6 +30,8 @@ pub mod netlist;
 pub mod random;
 #[path = "../reference/random_aiger.rs"]
 pub mod random_aiger;
+#[path = "../reference/random_answers.rs"]
+pub mod random_answers;
 #[path = "../reference/refusal.rs"]
 pub mod refusal;
 #[path = "../reference/sheet.rs"]

@@ -1,0 +1,287 @@
+//! Replays through the static library: what is answered, and what the lent memory and trace hold afterwards.
+
+use std::collections::BTreeMap;
+
+use super::calls::differ;
+use super::exports::replay;
+use super::reference::answer::{trace_size, Claim};
+use super::reference::answer_calls::{marks, Call, Outcome};
+use super::reference::check_answers::{fault_set_rows, satisfiable, IDLE};
+use super::reference::check_examples::{accepted, of_sizes, FULL_RUN};
+use super::reference::circuit::Run;
+use super::reference::netlist::{Gate, Latch, MAX_DEPTH};
+use super::reference::random::{random_feeds, Random};
+use super::reference::random_aiger::{every_byte, every_line};
+use super::reference::random_answers::{
+    answer_case, call_case, random_draft, written, Draft, CALL_FAULTS, FEED_FAULTS, TEXT_FAULTS,
+    UNSEEN,
+};
+use super::reference::refusal::*;
+use super::reference::Tally;
+use super::{Counts, Library};
+
+type Verdict = Result<Claim, Refusal>;
+
+fn refused(number: u32) -> Verdict {
+    Err(Refusal { number, place: 0 })
+}
+
+impl Library {
+    /// A replay, counted.
+    fn replay(&self, call: &Call) -> Result<Outcome, &'static str> {
+        let found = replay(call);
+        if let Ok(outcome) = &found {
+            let counts = match outcome.result {
+                Ok(Claim::Unsatisfiable) => &self.claims,
+                _ => &self.replays,
+            };
+            Counts::add(counts, &Ok(outcome.result));
+        }
+        found
+    }
+
+    /// One check: a replay answers this, and leaves this in the memory and the trace.
+    fn replay_gives(&self, tally: &mut Tally, name: &str, call: &Call, expected: &Outcome) {
+        let found = self.replay(call);
+        tally.check_with(name, found.as_ref() == Ok(expected), || {
+            let about = (
+                &call.netlist,
+                call.depth,
+                call.answer.escape_ascii().to_string(),
+            );
+            differ(about, &found, &Ok(expected.clone()))
+        });
+    }
+
+    /// One check: what the second implementation says of the call.
+    pub fn replay_agrees(&self, tally: &mut Tally, name: &str, call: &Call) {
+        self.replay_gives(tally, name, call, &call.outcome());
+    }
+
+    /// Two checks: what follows from how the call was made, and what the second implementation says of it.
+    fn replay_is(&self, tally: &mut Tally, name: &str, call: &Call, expected: &Outcome) {
+        self.replay_gives(tally, name, call, expected);
+        tally.check(
+            (name, "the second implementation"),
+            call.outcome() == *expected,
+        );
+    }
+}
+
+/// Depth, numbers of the answer, what is answered, and what the memory's two words are then, of the full run's sheet: the input is
+/// variable 2, 4 and 11 in frames 0, 1 and 2, and it is written to address 0, which is read in the next frame.
+const ROWS: [(u32, &str, Verdict, [u32; 2]); 9] = [
+    (1, "2 4 0", Ok(Claim::Breaks(1)), [1, 0]),
+    (1, "2 -4 0", Ok(Claim::Breaks(1)), [0, 0]),
+    (2, "2 -4 11 0", Ok(Claim::Breaks(1)), [1, 0]),
+    (2, "-2 4 -11 0", Ok(Claim::Breaks(2)), [0, 0]),
+    (
+        1,
+        "-2 4 0",
+        Err(Refusal {
+            number: NOTHING_BREAKS,
+            place: 0,
+        }),
+        [1, 0],
+    ),
+    (
+        0,
+        "2 0",
+        Err(Refusal {
+            number: NOTHING_BREAKS,
+            place: 0,
+        }),
+        [1, 0],
+    ),
+    (
+        1,
+        "2 0",
+        Err(Refusal {
+            number: BAD_ANSWER,
+            place: 0,
+        }),
+        [0, 0],
+    ),
+    (
+        1,
+        "2 4 -4 0",
+        Err(Refusal {
+            number: BAD_ANSWER,
+            place: 0,
+        }),
+        [0, 0],
+    ),
+    (
+        1,
+        "2 4 0 0",
+        Err(Refusal {
+            number: BAD_ANSWER,
+            place: 0,
+        }),
+        [0, 0],
+    ),
+];
+
+/// The rows above, with a memory and a trace that are longer than they need to be or just as long, and with either too short.
+pub fn by_hand(library: &Library, tally: &mut Tally) {
+    let netlist = accepted(FULL_RUN);
+    for (depth, numbers, said, words) in ROWS {
+        for more in [[0, 0], [1, 0], [0, 1], [4_094, 1_000]] {
+            let call = Call::new(&netlist, depth, satisfiable(numbers), more);
+            let found = library.replay(&call).map(|it| (it.result, it.memory));
+            let memory = [&words, &call.memory[2..]].concat();
+            tally.equal((depth, numbers, more), found, Ok((said, memory)));
+            library.replay_agrees(tally, numbers, &call);
+        }
+        // 9 comes before all that the answer could cause, and leaves everything as it was
+        for answer in [
+            satisfiable(numbers),
+            b"s UNSATISFIABLE\n".to_vec(),
+            Vec::new(),
+        ] {
+            let sound = Call::new(&netlist, depth, answer, [0, 0]);
+            for (words, bytes) in [(1, 1_000), (0, 0), (2, sound.trace.len() - 1), (5, 0)] {
+                let (memory, trace) = marks(words, bytes);
+                let call = Call {
+                    memory,
+                    trace,
+                    ..sound.clone()
+                };
+                let expected = call.untouched(refused(NO_ROOM));
+                library.replay_is(tally, "no room", &call, &expected);
+            }
+        }
+    }
+    let call = Call::new(&netlist, 1, satisfiable("2 -4 0"), [0, 3]);
+    let trace = [b"10\n01\n", &call.trace[6..]].concat();
+    tally.equal(
+        "the trace",
+        library.replay(&call).map(|it| it.trace),
+        Ok(trace),
+    );
+    let call = Call::new(&netlist, 1, b"s UNSATISFIABLE\n".to_vec(), [3, 3]);
+    library.replay_is(
+        tally,
+        "claimed",
+        &call,
+        &call.untouched(Ok(Claim::Unsatisfiable)),
+    );
+}
+
+/// Each record with each depth, length of memory, length of trace and answer of the table.
+pub fn fault_sets(library: &Library, tally: &mut Tally) {
+    for (name, call, expected) in fault_set_rows() {
+        library.replay_gives(tally, &name, &call, &expected);
+    }
+}
+
+/// Answers of every shape, sound or with one fault, in sound calls and in calls that have a fault or two of their own.
+pub fn random_answers(library: &Library, tally: &mut Tally) {
+    let mut random = Random::new(1101);
+    let mut counts: BTreeMap<&str, usize> = BTreeMap::new();
+    for round in 0..4_500 {
+        let case = if round % 3 == 0 {
+            call_case
+        } else {
+            answer_case
+        };
+        let (name, call, expected) = case(&mut random);
+        *counts.entry(name).or_default() += 1;
+        library.replay_gives(tally, &format!("{name}, round {round}"), &call, &expected);
+    }
+    let kinds = 2 + FEED_FAULTS.len() + TEXT_FAULTS.len() + CALL_FAULTS.len();
+    tally.check(
+        ("each kind comes", &counts),
+        counts.len() == kinds && counts.values().all(|count| *count > 5),
+    );
+}
+
+/// Answers damaged at every byte and in every line, as the second implementation judges them.
+pub fn damaged(library: &Library, tally: &mut Tally) {
+    let rows: [(u32, &str, &[u8]); 4] = [
+        (1, FULL_RUN, b"c a\ns SATISFIABLE\nv 2 -4 0\n"),
+        (
+            1,
+            FULL_RUN,
+            b"s SATISFIABLE\nv 1 -2\nv -3 4\nc\nv -5 0\nc\n",
+        ),
+        (2, IDLE, b"s SATISFIABLE\nv 2 -5\nv 6 -7\nv 13 -14 15 0\n"),
+        (1, FULL_RUN, b"c\ns UNSATISFIABLE\nc\n"),
+    ];
+    for (depth, sheet, text) in rows {
+        for answer in [every_byte(text), every_line(text)].concat() {
+            let call = Call::new(&accepted(sheet), depth, answer, [1, 1]);
+            library.replay_agrees(tally, "damaged answer", &call);
+        }
+    }
+}
+
+/// Memory and trace of lengths around their needs, and lists that are longer than the record says.
+pub fn rooms(library: &Library, tally: &mut Tally) {
+    let mut random = Random::new(1103);
+    for _ in 0..150 {
+        let draft = random_draft(&mut random);
+        let answer = written(&mut random, &draft.numbers);
+        let sound = Call::new(&draft.netlist, draft.depth, answer, [0, 0]);
+        let words = sound.memory.len();
+        let bytes = trace_size(&draft.netlist, draft.depth);
+        for words in [0, 1, words - 1, words, words + 1, words + 5_000] {
+            for bytes in [0, bytes - 1, bytes, bytes + 1, bytes + 5_000] {
+                let (memory, trace) = marks(words, bytes);
+                let call = Call {
+                    memory,
+                    trace,
+                    ..sound.clone()
+                };
+                let enough = words >= sound.memory.len() && bytes >= sound.trace.len();
+                let expected = if enough {
+                    call.of_run(&draft.run)
+                } else {
+                    call.untouched(refused(NO_ROOM))
+                };
+                library.replay_gives(tally, "room", &call, &expected);
+            }
+        }
+        let mut longer = sound.clone();
+        for _ in 0..random.between(1, 700) {
+            longer.netlist.latches.push(Latch {
+                next: u32::MAX,
+                reset: 2,
+            });
+            longer.netlist.gates.push(Gate {
+                left: u32::MAX,
+                right: u32::MAX,
+            });
+        }
+        longer.netlist.address[sound.netlist.address_width as usize..].fill(u32::MAX);
+        longer.netlist.write_data[sound.netlist.data_width as usize..].fill(u32::MAX);
+        library.replay_gives(tally, "longer lists", &longer, &sound.of_run(&draft.run));
+    }
+}
+
+/// 600 wires, 4,096 words, 256 frames, and a value for each variable.
+pub fn largest(library: &Library, tally: &mut Tally) {
+    let mut netlist = of_sizes([12, 0, 556], [12, 32]);
+    netlist.start_word = u32::MAX;
+    netlist.write_enable = 1;
+    for (bit, code) in netlist.address.iter_mut().enumerate() {
+        *code = 2 * (bit as u32 + 1);
+    }
+    let mut random = Random::new(1104);
+    let feeds = random_feeds(&mut random, &netlist, MAX_DEPTH);
+    let mut draft = Draft::new(&netlist, MAX_DEPTH, Run::new(&netlist, &feeds));
+    let (_, all_others) = UNSEEN[0];
+    all_others(&mut random, &mut draft);
+    let answer = written(&mut random, &draft.numbers);
+    for (property, said) in [(2, None), (1, Some(refused(NOTHING_BREAKS)))] {
+        netlist.property = property;
+        let call = Call::new(&netlist, MAX_DEPTH, answer.clone(), [3, 3]);
+        let run = Run::new(&netlist, &feeds);
+        let expected = call.of_run(&run);
+        tally.check(
+            "a run or 15",
+            said.map_or(expected.result.is_ok(), |said| expected.result == said),
+        );
+        library.replay_is(tally, "the largest chip", &call, &expected);
+    }
+}

@@ -1,0 +1,120 @@
+//! Sheets with the names of their words, and the signals that their waveforms should have.
+
+use std::fs;
+
+use super::reference::circuit::value;
+use super::reference::random::{wide_netlist, Random};
+use super::reference::sheet::{read_sheet, write_sheet};
+use super::vcd::{add, Signals};
+
+#[derive(Clone)]
+pub struct Case {
+    pub name: String,
+    pub sheet: Vec<u8>,
+    /// A line for each word: a name, and codes from the lowest bit on; nothing where no word is named.
+    pub names: String,
+    pub depth: u32,
+}
+
+impl Case {
+    /// The signals of the run that `replay` printed.
+    pub fn signals(&self, printed: &[u8]) -> Signals {
+        let netlist = read_sheet(&self.sheet, 600, 600).expect("a sheet that is accepted");
+        let printed = std::str::from_utf8(printed).expect("digits");
+        // wire 0 is the constant
+        let frames = printed.lines().skip(1).map(|line| {
+            format!("0{line}")
+                .bytes()
+                .map(|digit| digit == b'1')
+                .collect()
+        });
+        let frames: Vec<Vec<bool>> = frames.collect();
+        assert_eq!(frames.len(), self.depth as usize + 1, "{}", self.name);
+        let mut signals = Signals::new();
+        let mut signal = |name: &str, codes: &[u32]| {
+            let bits = |frame: &Vec<bool>| {
+                codes
+                    .iter()
+                    .rev()
+                    .map(|code| if value(frame, *code) { '1' } else { '0' })
+                    .collect()
+            };
+            add(
+                &mut signals,
+                format!("circuit {name}"),
+                codes.len(),
+                frames.iter().map(bits).collect(),
+            );
+        };
+        signal("property", &[netlist.property]);
+        signal("memory address", netlist.address_codes());
+        signal("memory read_data", &netlist.read_data_codes());
+        signal("memory write_data", netlist.write_data_codes());
+        signal("memory RE", &[netlist.read_enable]);
+        signal("memory WE", &[netlist.write_enable]);
+        for line in self.names.lines() {
+            let mut words = line.split_whitespace();
+            let name = words.next().expect("a name");
+            let codes: Vec<u32> = words.map(|word| word.parse().expect("a code")).collect();
+            let shown = if name.starts_with(&['$', '['][..]) {
+                format!("_{name}")
+            } else {
+                name.to_string()
+            };
+            signal(&format!("words {shown}"), &codes);
+        }
+        if self.names.is_empty() {
+            for wire in 1..=netlist.wire_count() {
+                signal(&format!("wires wire{wire}"), &[2 * wire]);
+            }
+        }
+        signals
+    }
+}
+
+fn example(name: &str, depth: u32) -> Case {
+    let file = |ending| format!("examples/{name}.{ending}");
+    Case {
+        name: format!("{name} at depth {depth}"),
+        sheet: fs::read(file("sheet")).expect("a sheet"),
+        names: fs::read_to_string(file("names")).expect("its names"),
+        depth,
+    }
+}
+
+/// Each example that has a run to show, with its names and without.
+pub fn examples() -> Vec<Case> {
+    let named = [
+        example("echo/chip", 1),
+        example("echo/chip", 100),
+        example("fourth-revision/faulty", 3),
+        example("fourth-revision/faulty", 7),
+        example("fifth-revision/faulty", 1),
+    ];
+    let bare = named.iter().map(|case| Case {
+        names: String::new(),
+        ..case.clone()
+    });
+    bare.chain(named.iter().cloned()).collect()
+}
+
+/// Names that a reader of waveforms could take for something else, two that are the same, a word of 70 bits.
+pub fn odd_names() -> Case {
+    let wide = " 2 5".repeat(35);
+    Case {
+        names: format!("$end 2\n[7:0] 2 4\na.b 3\nheld-size 2 4 5\ngröße 4\n\\esc 5\nb101 0\n#1 1\nsame 2\nsame 4\nwide{wide}\n"),
+        ..example("echo/chip", 3)
+    }
+}
+
+/// Sheets of all shapes, without names. Some have no run that breaks their property.
+pub fn random_cases() -> Vec<Case> {
+    let mut random = Random::new(901);
+    let case = |round| Case {
+        name: format!("random sheet {round}"),
+        sheet: write_sheet(&wide_netlist(&mut random)),
+        names: String::new(),
+        depth: random.below(5),
+    };
+    (0..60).map(case).collect()
+}
