@@ -251,7 +251,7 @@ module _ (c : Netlist) (k : ℕ) where
   frames-clauses : (i : ℕ)
       → count (gather (suc i) frameGroups)
       ≡ (1 + c .latches + 3 * c .gates) + i * (2 * c .latches + 3 * c .gates) + i * (i + 1) / 2 * (4 * c .m + 2 * c .n + 10)
-      + (2 * c .n + 1) + i * (4 * c .n + 1)
+      + (2 * c .n + 1 + i * (4 * c .n + 1))
   unfolding gather
   frames-clauses zero = rw (frame-clauses 0, wires-clauses-first c k, closing-clauses-first c k) (omega arith)
   frames-clauses (suc i) =
@@ -263,7 +263,7 @@ module _ (c : Netlist) (k : ℕ) where
   pub formula-clauses :
       length (joinedClauses (clausesOf c k) (groupOrder k))
       ≡ (1 + c .latches + 3 * c .gates) + k * (2 * c .latches + 3 * c .gates) + k * (k + 1) / 2 * (4 * c .m + 2 * c .n + 10)
-      + (2 * c .n + 1) + k * (4 * c .n + 1) + 1
+      + (2 * c .n + 1 + k * (4 * c .n + 1)) + 1
   unfolding groupOrder count
   formula-clauses =
       count-adds .of-both (gather (k + 1) frameGroups) (Property ∷ [])
