@@ -1,4 +1,4 @@
--- The starred facts about the sheet of the full run (RULES F1 to F10, P8), as rows of one table: of the sheet's bytes, and of the netlist
+-- The starred facts about the sheet of the full run (RULES F1 to F10, F12, P8), as rows of one table: of the sheet's bytes, and of the netlist
 -- that they are read as. Nine rows, one claim, `Starred`. Cited by the contract of `heading`.
 use Prim.Native.Nat.{ℕ}
 use mathlib.Core.Path.{_≡_}

@@ -87,7 +87,14 @@ fn put_held_reads(out: &mut [i32], net: Netlist, port: Port, i: u32) -> usize
     let mut at: usize = 0;
     let mut t: u32 = 0;
     while t < n {
-        at = at + put_held_bit(&mut out[at..], idle, reading, before, first.offset(read + t));
+        at = at
+            + put_held_bit(
+                &mut out[at..],
+                idle,
+                reading,
+                before,
+                first.offset(read + t),
+            );
         t = t + 1;
     }
     at

@@ -1,6 +1,6 @@
 -- Every literal of every group of depth k is a constant or a variable from 1 to B(k + 1): so every number written for depth k
 -- is within B(k + 1) of 0, and 0 only as an end mark. No contract cites this file.
-use Prim.Native.Nat.{ℕ, zero, suc, _+_, _-_, _*_, _/_, _≤_, _<_}
+use Prim.Native.Nat.{ℕ, zero, suc, _+_, _*_, _/_, _≤_, _<_}
 use mathlib.Core.Path.{_≡_, refl}
 use mathlib.Core.Bool.{Bool, true, false, cond}
 use mathlib.Core.List.{List, [], _∷_}
@@ -232,7 +232,7 @@ module _ {c : Netlist} (accepted : Accepted c) (k : ℕ) where
         S = λ j l. selected-within c k j i l h;
         RD = λ t b. readBit-within c k i t h b;
         W = λ t b. tt;
-        before = λ t b. readBit-within c k (i - 1) t (omega arith) b;
+        before = λ t b. readBit-within c k _ t (omega arith) b;
       })
 
   -- the property

@@ -51,7 +51,7 @@ returns-2 c =
 returns-3 : tie.Need-returns-3
 unfolding netOf
 returns-3 c =
-    length-by-kind _ _ _ _ _ (c .before .before .group2 .given .1) 
+    length-by-kind _ _ _ _ _ (c .before .before .group2 .given .1)
     (closing-length-is _ _ _ _ (c .closing-length .ensures .0) (c .closing-length .ensures .1))
 
 returns-4 : tie.Need-returns-4
