@@ -1,6 +1,6 @@
 # Shows a run frame by frame: the named words, what the memory does, and which frame wrote the word that is read. With run.awk, whose
-# head says how it is called. A named word with a code of a read bit, inverted or not, is shown as - in a frame that does not read: what
-# stands there is no word of the memory.
+# head says how it is called. A named word with a code of a read bit, inverted or not, is shown as - in frame 0 where that does not read:
+# what stands there is no word of the memory. A later frame that does not read holds the word of the frame before.
 
 function word(codes, frame,   parts, t, sum) { # of codes parted by spaces
   for (t = split(codes, parts, " "); t >= 1; t--) sum = 2 * sum + value(parts[t], frame)
@@ -8,7 +8,7 @@ function word(codes, frame,   parts, t, sum) { # of codes parted by spaces
 }
 
 function is_idle(codes, frame,   parts, t, wire) { # has a read bit that is free
-  if (value(re, frame)) return 0
+  if (frame > 0 || value(re, frame)) return 0
   for (t = split(codes, parts, " "); t >= 1; t--) {
     wire = int(parts[t] / 2)
     if (wire >= first_read && wire < first_read + n) return 1

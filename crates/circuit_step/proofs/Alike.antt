@@ -1,10 +1,11 @@
--- Runs that are fed alike: inputs, and idle words where RE is false. They go through the same states and values. No contract cites this file.
+-- Runs that are fed alike: the inputs, and the idle word where RE is false in frame 0. They go through the same states and values. No contract
+-- cites this file.
 use Prim.Native.Nat.{ℕ, zero, suc, _/_, _^_, _≤_, _<_}
 use mathlib.Core.Path.{_≡_, refl, sym, _∙_}
 use mathlib.Core.Bool.{Bool, true, false, cond}
 use native.Mathlib.Omega.{arith}
 use Rattle.model.specs.Bits.{bit}
-use Rattle.model.specs.Netlist.{Netlist, port, lastWire}
+use Rattle.model.specs.Netlist.{Netlist, port, readBits, readWire, lastWire}
 use Rattle.model.specs.Circuit.{Values, codeValue, State, Feed, Feeds, addressOf, evaluate, readData, firstPass, frame, wordWritten, step, stateAt, run, initial}
 use Rattle.model.specs.Acceptance.{Accepted, IsCode}
 use Rattle.model.proofs.Bits.{fromBits-same}
@@ -12,15 +13,18 @@ use Rattle.model.proofs.Memory.{address-below}
 use Rattle.model.proofs.Circuit.{code-same, address-same, evaluate-solves, independent-agree}
 use Rattle.circuit_step.proofs.Held.{evaluate-alike}
 
--- two states with the same latches and the same 2^m words
-pub record StatesAlike (c : Netlist) (s r : State) : Type 0 where
-  pub latch-alike : (l : ℕ) → l < c .latches → s .latch l ≡ r .latch l
-  pub memory-alike : (x : ℕ) → x < 2 ^ c .m → s .memory x ≡ r .memory x
+-- two feeds with the same inputs
+abbrev pub InputsAlike : Netlist → Feed → Feed → Type 0
+InputsAlike c f g = (x : ℕ) → x < c .inputs → f .input x ≡ g .input x
 
--- two feeds of a frame from the state s with the same inputs, and the same idle word where RE is false
-pub record FedAlike (c : Netlist) (s : State) (f g : Feed) : Type 0 where
-  pub input-alike : (x : ℕ) → x < c .inputs → f .input x ≡ g .input x
-  pub idle-alike : codeValue (frame c s f) (c .RE) ≡ false → (t : ℕ) → t < c .n → f .idle t ≡ g .idle t
+abbrev pub LatchesAlike : Netlist → State → State → Type 0
+LatchesAlike c s r = (l : ℕ) → l < c .latches → s .latch l ≡ r .latch l
+
+-- two states with the same latches and the same 2^m words, and with the same word held where RE is false in the frame that is fed f
+pub record StatesAlike (c : Netlist) (f : Feed) (s r : State) : Type 0 where
+  pub latch-alike : LatchesAlike c s r
+  pub memory-alike : (x : ℕ) → x < 2 ^ c .m → s .memory x ≡ r .memory x
+  pub held-alike : codeValue (frame c s f) (c .RE) ≡ false → (t : ℕ) → t < readBits c → s .held t ≡ r .held t
 
 module _ {c : Netlist} (ok : Accepted c) where
   -- the value of a code by equal values
@@ -33,61 +37,63 @@ module _ {c : Netlist} (ok : Accepted c) where
   RE-settled s f =
       code-same (firstPass c s f) (frame c s f) (c .RE)
       (independent-agree (ok .limits .codes) (evaluate-solves c (f .input) (s .latch) (λ t. false) (ok .limits .codes))
-      (evaluate-solves c (f .input) (s .latch) (readData c s f (firstPass c s f)) (ok .limits .codes)) (c .RE / 2)
+      (evaluate-solves c (f .input) (s .latch) (readData c s (firstPass c s f)) (ok .limits .codes)) (c .RE / 2)
       (omega (arith, ok .limits .codes .RE-fits)) (ok .noLoop .RE-free))
 
-  module _ {s r : State} (f g : Feed) (states : StatesAlike c s r) (inputs : (x : ℕ) → x < c .inputs → f .input x ≡ g .input x) where
+  module _ (s r : State) (f g : Feed) (latches : LatchesAlike c s r) (inputs : InputsAlike c f g) where
     first-alike : (w : ℕ) → w ≤ lastWire c → firstPass c s f w ≡ firstPass c r g w
     unfolding firstPass
-    first-alike = evaluate-alike (ok .limits .codes) inputs (states .latch-alike) (λ t h. refl)
+    first-alike = evaluate-alike (ok .limits .codes) inputs latches (λ t h. refl)
 
-    -- so RE is the same, whatever the idle words are
+    -- so RE is the same, whatever the words held are
     pub RE-alike : codeValue (frame c s f) (c .RE) ≡ codeValue (frame c r g) (c .RE)
     RE-alike = sym (RE-settled s f) ∙ code-alike first-alike (c .RE) (ok .limits .codes .RE-fits) ∙ RE-settled r g
 
-  module _ {s r : State} {f g : Feed} (states : StatesAlike c s r) (fed : FedAlike c s f g) where
+  module _ {s r : State} {f g : Feed} (states : StatesAlike c f s r) (inputs : InputsAlike c f g) where
     first-same : (w : ℕ) → w ≤ lastWire c → firstPass c s f w ≡ firstPass c r g w
-    first-same = first-alike f g states (fed .input-alike)
+    first-same = first-alike s r f g (states .latch-alike) inputs
 
-    read-same : (t : ℕ) → t < c .n → readData c s f (firstPass c s f) t ≡ readData c r g (firstPass c r g) t
+    read-same : (t : ℕ) → t < readBits c → readData c s (firstPass c s f) t ≡ readData c r (firstPass c r g) t
     unfolding readData
     read-same t h =
         rw (← code-alike first-same (c .RE) (ok .limits .codes .RE-fits), ← address)
-        (chosen (codeValue (firstPass c s f) (c .RE)) (λ e. fed .idle-alike (sym (RE-settled s f) ∙ e) t h))
+        (chosen (codeValue (firstPass c s f) (c .RE)) (λ e. states .held-alike (sym (RE-settled s f) ∙ e) t h))
       where
         address : addressOf c (port c) (firstPass c s f) ≡ addressOf c (port c) (firstPass c r g)
         address = address-same c (port c) (firstPass c s f) (firstPass c r g) (λ x b. code-alike first-same (c .address x) (ok .limits .codes .address-fits x b))
 
-        chosen : (b : Bool) → (b ≡ false → f .idle t ≡ g .idle t)
-            → cond b (bit (s .memory (addressOf c (port c) (firstPass c s f))) t) (f .idle t)
-            ≡ cond b (bit (r .memory (addressOf c (port c) (firstPass c s f))) t) (g .idle t)
+        chosen : (b : Bool) → (b ≡ false → s .held t ≡ r .held t)
+            → cond b (bit (s .memory (addressOf c (port c) (firstPass c s f))) t) (s .held t)
+            ≡ cond b (bit (r .memory (addressOf c (port c) (firstPass c s f))) t) (r .held t)
         chosen true e = rw (states .memory-alike (addressOf c (port c) (firstPass c s f)) (address-below c (port c) (firstPass c s f)))
         chosen false e = e refl
 
     -- every wire has the same value
     pub frame-same : (w : ℕ) → w ≤ lastWire c → frame c s f w ≡ frame c r g w
     unfolding frame
-    frame-same = evaluate-alike (ok .limits .codes) (fed .input-alike) (states .latch-alike) read-same
+    frame-same = evaluate-alike (ok .limits .codes) inputs (states .latch-alike) read-same
 
-    -- and the next states are alike
-    pub step-same : StatesAlike c (step c s (frame c s f)) (step c r (frame c r g))
+    -- and the next states are alike, whatever is fed next
+    pub step-same : (next : Feed) → StatesAlike c next (step c s (frame c s f)) (step c r (frame c r g))
     unfolding step wordWritten
-    step-same =
+    step-same next =
         record {
           latch-alike = λ l h. code-alike frame-same (c .next l) (ok .limits .codes .next-fits l h);
           memory-alike = λ x h.
               rw (code-alike frame-same (c .WE) (ok .limits .codes .WE-fits), address-same c (port c) (frame c s f) (frame c r g) (λ t b. code-alike frame-same (c .address t) (ok .limits .codes .address-fits t b)), fromBits-same (c .n) (λ t. codeValue (frame c s f) (c .writeData t)) (λ t. codeValue (frame c r g) (c .writeData t)) (λ t b. code-alike frame-same (c .writeData t) (ok .limits .codes .data-fits t b)), states .memory-alike x h);
+          held-alike = λ e t h. frame-same (readWire c t) (omega arith);
         }
 
-  -- runs that are fed alike in every frame before i
-  module _ (f g : Feeds) where
-    pub states-same : (i : ℕ) → ((j : ℕ) → j < i → FedAlike c (stateAt c (initial c) f j) (f j) (g j))
-        → StatesAlike c (stateAt c (initial c) f i) (stateAt c (initial c) g i)
-    unfolding stateAt
-    states-same zero fed = record { latch-alike = λ l h. refl; memory-alike = λ x h. refl }
-    states-same (suc i) fed = step-same (states-same i (λ j h. fed j (omega arith))) (fed i (omega arith))
+  -- runs whose idle words are the same where RE is false in frame 0, and whose inputs are in every frame before i
+  module _ (f g : Feeds) {idle idle′ : ℕ → Bool}
+      (idles : codeValue (run c (initial c idle) f 0) (c .RE) ≡ false → (t : ℕ) → t < readBits c → idle t ≡ idle′ t) where
+    pub states-same : (i : ℕ) → ((j : ℕ) → j < i → InputsAlike c (f j) (g j))
+        → StatesAlike c (f i) (stateAt c (initial c idle) f i) (stateAt c (initial c idle′) g i)
+    unfolding run stateAt initial
+    states-same zero inputs = record { latch-alike = λ l h. refl; memory-alike = λ x h. refl; held-alike = idles }
+    states-same (suc i) inputs = step-same (states-same i (λ j h. inputs j (omega arith))) (inputs i (omega arith)) (f (suc i))
 
-    pub run-same : (i : ℕ) → ((j : ℕ) → j ≤ i → FedAlike c (stateAt c (initial c) f j) (f j) (g j))
-        → (w : ℕ) → w ≤ lastWire c → run c (initial c) f i w ≡ run c (initial c) g i w
+    pub run-same : (i : ℕ) → ((j : ℕ) → j ≤ i → InputsAlike c (f j) (g j))
+        → (w : ℕ) → w ≤ lastWire c → run c (initial c idle) f i w ≡ run c (initial c idle′) g i w
     unfolding run
-    run-same i fed = frame-same (states-same i (λ j h. fed j (omega arith))) (fed i (omega arith))
+    run-same i inputs = frame-same (states-same i (λ j h. inputs j (omega arith))) (inputs i (omega arith))

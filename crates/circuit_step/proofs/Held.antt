@@ -13,7 +13,7 @@ use lib.ListN.{length, getD, set, drop, length-set}
 use lib.Seq.{getD-set-same, getD-set-other, drop-set-lt}
 use borrow.Author.Tests.{eq-eqb, ne-eqb}
 use Rattle.model.specs.Bits.{odd, bit}
-use Rattle.model.specs.Netlist.{Netlist, port, readBits, lastWire}
+use Rattle.model.specs.Netlist.{Netlist, port, readBits, readWire, lastWire}
 use Rattle.model.specs.Circuit.{Values, codeValue, sources, sweep, conjunction, evaluate, State, Feed, addressOf, readData, firstPass, frame, wordWritten, step}
 use Rattle.model.specs.Acceptance.{CodesFit, WithinLimits, IsCode}
 use Rattle.model.proofs.Bits.{fromBits-same}
@@ -23,7 +23,7 @@ use Rattle.netlist.specs.NetOf.{netOf}
 use Rattle.netlist.specs.declared.Netlist as Record
 use Rattle.circuit_values.specs.WireTable.{entry, HasBelow}
 use Rattle.circuit_values.proofs.WireTable.{code-below}
-use Rattle.circuit_step.specs.Held.{stateIn, feedIn, Holds, Fed, written}
+use Rattle.circuit_step.specs.Held.{stateIn, Holds, Fed, written}
 
 -- a table of equal values
 pub below-same : {b : ℕ} {u v : Values} {table : List Bool} → HasBelow b u table → ((w : ℕ) → w < b → u w ≡ v w) → HasBelow b v table
@@ -59,13 +59,19 @@ module _ {c : Netlist} (limits : WithinLimits c) {v : Values} {table : List Bool
   unfolding wordWritten
   word-in = fromBits-same (c .n) _ _ (λ t h. code-in c q (c .writeData t) (limits .codes .data-fits t h))
 
+-- the read bits in a table of all wires
+pub reads-in : {c : Netlist} → CodesFit c → (input latch : ℕ → Bool) (word : ℕ) {table : List Bool}
+    → HasBelow (lastWire c + 1) (evaluate c input latch (bit word)) table → (t : ℕ) → t < readBits c → bit word t ≡ entry table (readWire c t)
+reads-in {c} q input latch word has t h =
+    sym (has .has (readWire c t) (omega arith) ∙ evaluate-solves c input latch (bit word) q .at-read t h)
+
 -- 0 has no bit
 pub bit-zero : (t : ℕ) → bit 0 t ≡ false
 unfolding bit odd
 bit-zero t = rw zero-div
 
-module _ {c : Netlist} (limits : WithinLimits c) {s : State} {f : Feed} {latches inputs : List Bool} {memory : List ℕ} {idle : ℕ}
-    (held : Holds c s latches memory) (fed : Fed c f inputs idle) where
+module _ {c : Netlist} (limits : WithinLimits c) {s : State} {f : Feed} {latches inputs : List Bool} {memory : List ℕ} {word : ℕ}
+    (held : Holds c s latches memory word) (fed : Fed c f inputs) where
   -- the first pass
   first-alike : (w : ℕ) → w ≤ lastWire c → evaluate c (entry inputs) (entry latches) (bit 0) w ≡ firstPass c s f w
   unfolding firstPass
@@ -76,21 +82,21 @@ module _ {c : Netlist} (limits : WithinLimits c) {s : State} {f : Feed} {latches
     first-in : HasBelow (lastWire c + 1) (firstPass c s f) table
     first-in = below-same q (λ w h. first-alike w (omega arith))
 
-    read-alike : (t : ℕ) → t < readBits c → readData c (stateIn [] memory) (feedIn [] idle) (entry table) t ≡ readData c s f (firstPass c s f) t
+    read-alike : (t : ℕ) → t < readBits c → readData c (stateIn [] memory word) (entry table) t ≡ readData c s (firstPass c s f) t
     unfolding readData
     read-alike t h =
         rw (
           code-in c first-in (c .RE) (limits .codes .RE-fits),
           address-in limits first-in,
           held .memory-held (addressOf c (port c) (firstPass c s f)) (address-below c (port c) (firstPass c s f)),
-          fed .idle-fed t h,
+          held .word-held t h,
         )
 
     -- the second pass
-    pub frame-alike : (word : ℕ) → ((t : ℕ) → bit word t ≡ readData c (stateIn [] memory) (feedIn [] idle) (entry table) t)
-        → (w : ℕ) → w ≤ lastWire c → evaluate c (entry inputs) (entry latches) (bit word) w ≡ frame c s f w
+    pub frame-alike : (read : ℕ) → ((t : ℕ) → bit read t ≡ readData c (stateIn [] memory word) (entry table) t)
+        → (w : ℕ) → w ≤ lastWire c → evaluate c (entry inputs) (entry latches) (bit read) w ≡ frame c s f w
     unfolding frame
-    frame-alike word e = evaluate-alike (limits .codes) (fed .input-fed) (held .latch-held) (λ t h. e t ∙ read-alike t h)
+    frame-alike read e = evaluate-alike (limits .codes) (fed .input-fed) (held .latch-held) (λ t h. e t ∙ read-alike t h)
 
 -- the memory behind the 2^m words stays
 pub behind-written : (c : Netlist) (v : Values) (memory : List ℕ) → drop (2 ^ c .m) (written c v memory) ≡ drop (2 ^ c .m) memory
@@ -109,19 +115,21 @@ length-written c v memory = either (codeValue v (c .WE))
     either true = length-set memory (addressOf c (port c) v) (wordWritten c v)
     either false = refl
 
--- after the write and the step of the latches, the next state is held
+-- after the write and the step of the latches, the next state is held, with the word that was read
 pub step-holds : {c : Netlist} → WithinLimits c → {s : State} {v : Values} {table : List Bool} → HasBelow (lastWire c + 1) v table
-    → {latches next : List Bool} {memory : List ℕ} → Holds c s latches memory → length next ≡ 600
+    → {latches next : List Bool} {memory : List ℕ} {word read : ℕ} → Holds c s latches memory word → length next ≡ 600
     → ((l : ℕ) → l < c .latches → entry next l ≡ codeValue (entry table) (c .next l))
-    → Holds c (step c s v) next (written c (entry table) memory)
+    → ((t : ℕ) → t < readBits c → bit read t ≡ entry table (readWire c t))
+    → Holds c (step c s v) next (written c (entry table) memory) read
 unfolding step written
-step-holds {c} limits {s} {v} {table} q {latches} {next} {memory} held size each =
+step-holds {c} limits {s} {v} {table} q {latches} {next} {memory} held size each reads =
     record {
       latch-size = size;
       latch-held = λ l h. each l h ∙ code-in c q (c .next l) (limits .codes .next-fits l h);
       memory-size = omega (arith, held .memory-size, length-written c (entry table) memory);
       memory-held = λ x h.
           rw (code-in c q (c .WE) (limits .codes .WE-fits), address-in limits q, word-in limits q) (at x h (codeValue v (c .WE)));
+      word-held = λ t h. reads t h ∙ q .has (readWire c t) (omega arith);
     }
   where
     at : (x : ℕ) → x < 2 ^ c .m → (b : Bool)
@@ -135,13 +143,14 @@ step-holds {c} limits {s} {v} {table} q {latches} {next} {memory} held size each
 
 -- the lists of a record have no part in what is held and fed, and the latches none in a frame
 module _ (r : Record.Netlist) (latches gates latches′ gates′ : List ℕ) where
-  pub holds-lists : {s : State} {table : List Bool} {memory : List ℕ} → Holds (netOf r latches gates) s table memory → Holds (netOf r latches′ gates′) s table memory
+  pub holds-lists : {s : State} {table : List Bool} {memory : List ℕ} {word : ℕ} → Holds (netOf r latches gates) s table memory word
+      → Holds (netOf r latches′ gates′) s table memory word
   unfolding netOf
-  holds-lists q = record { latch-size = q .latch-size; latch-held = q .latch-held; memory-size = q .memory-size; memory-held = q .memory-held }
+  holds-lists q = record { latch-size = q .latch-size; latch-held = q .latch-held; memory-size = q .memory-size; memory-held = q .memory-held; word-held = q .word-held }
 
-  pub fed-lists : {f : Feed} {inputs : List Bool} {idle : ℕ} → Fed (netOf r latches gates) f inputs idle → Fed (netOf r latches′ gates′) f inputs idle
+  pub fed-lists : {f : Feed} {inputs : List Bool} → Fed (netOf r latches gates) f inputs → Fed (netOf r latches′ gates′) f inputs
   unfolding netOf
-  fed-lists q = record { input-fed = q .input-fed; idle-fed = q .idle-fed }
+  fed-lists q = record { input-fed = q .input-fed }
 
 -- a table with its first l entries, and one more
 pub set-next : {f : ℕ → Bool} {l : ℕ} (table : List Bool) {b : Bool} → l < 600 → length table ≡ 600 → ((x : ℕ) → x < l → entry table x ≡ f x)
@@ -166,19 +175,19 @@ module _ (r : Record.Netlist) (latches gates : List ℕ) where
   first-lists s f = evaluate-lists (f .input) (s .latch) (λ t. false)
 
   read-lists : (s : State) (f : Feed) (t : ℕ)
-      → readData (netOf r [] gates) s f (firstPass (netOf r [] gates) s f) t ≡ readData (netOf r latches gates) s f (firstPass (netOf r latches gates) s f) t
+      → readData (netOf r [] gates) s (firstPass (netOf r [] gates) s f) t ≡ readData (netOf r latches gates) s (firstPass (netOf r latches gates) s f) t
   unfolding netOf readData addressOf
   read-lists s f =
       let c = netOf r latches gates in
       let same : (x : ℕ) → codeValue (firstPass (netOf r [] gates) s f) x ≡ codeValue (firstPass c s f) x
       = λ x. code-same (firstPass (netOf r [] gates) s f) (firstPass c s f) x (first-lists s f (x / 2))
       in
-      readData-same c s f (firstPass (netOf r [] gates) s f) (firstPass c s f)
+      readData-same c s (firstPass (netOf r [] gates) s f) (firstPass c s f)
       (address-same c (port c) (firstPass (netOf r [] gates) s f) (firstPass c s f) (λ t h. same (c .address t))) (same (c .RE))
 
   pub frame-lists : WithinLimits (netOf r latches gates) → (s : State) (f : Feed) (w : ℕ) → w ≤ lastWire (netOf r latches gates)
       → frame (netOf r [] gates) s f w ≡ frame (netOf r latches gates) s f w
   unfolding frame
   frame-lists limits s f w h =
-      evaluate-lists (f .input) (s .latch) (readData (netOf r [] gates) s f (firstPass (netOf r [] gates) s f)) w
+      evaluate-lists (f .input) (s .latch) (readData (netOf r [] gates) s (firstPass (netOf r [] gates) s f)) w
       ∙ evaluate-alike (limits .codes) (λ x l. refl) (λ l b. refl) (λ t b. read-lists s f t) w h

@@ -1,5 +1,5 @@
--- A state and a feed of the model in what is lent: the latches in a table, the memory in a slice, the inputs in a table, the idle word as a
--- number (RULES C10 and C11). Cited by the functions that step a frame and by those that run through the frames.
+-- A state and a feed of the model in what is lent: the latches in a table, the memory in a slice, the word held as a number, the inputs in a
+-- table (RULES C19 and C20). Cited by the functions that step a frame and by those that run through the frames.
 use Prim.Native.Nat.{ℕ, _+_, _^_, _≤_, _<_}
 use mathlib.Core.Path.{_≡_}
 use mathlib.Core.Bool.{Bool, cond}
@@ -7,29 +7,26 @@ use mathlib.Core.List.{List}
 use lib.ListN.{length, getD, set, drop}
 use Rattle.model.specs.Limits.{mostWires}
 use Rattle.model.specs.Bits.{bit}
-use Rattle.model.specs.Netlist.{Netlist, port, lastWire}
+use Rattle.model.specs.Netlist.{Netlist, port, readBits, lastWire}
 use Rattle.model.specs.Circuit.{Values, codeValue, State, Feed, addressOf, frame, wordWritten, step}
 use Rattle.model.specs.Acceptance.{WithinLimits}
 use Rattle.circuit_values.specs.WireTable.{entry, HasBelow}
 
--- the state that the lent latches and memory hold, and the feed of the lent inputs and the idle word
-abbrev pub stateIn : List Bool → List ℕ → State
-stateIn latches memory = record { latch = entry latches; memory = λ x. getD memory x 0 }
+-- the state that the lent latches and memory hold with the word held
+abbrev pub stateIn : List Bool → List ℕ → ℕ → State
+stateIn latches memory held = record { latch = entry latches; memory = λ x. getD memory x 0; held = bit held }
 
-abbrev pub feedIn : List Bool → ℕ → Feed
-feedIn inputs idle = record { input = entry inputs; idle = bit idle }
-
--- they hold the state s: on its latches and its 2^m words; what is behind these is not the circuit's
-pub record Holds (c : Netlist) (s : State) (latches : List Bool) (memory : List ℕ) : Type 0 where
+-- they hold the state s: on its latches, its 2^m words and the n bits of the word held; what is behind these is not the circuit's
+pub record Holds (c : Netlist) (s : State) (latches : List Bool) (memory : List ℕ) (held : ℕ) : Type 0 where
   pub latch-size : length latches ≡ mostWires
   pub latch-held : (l : ℕ) → l < c .latches → entry latches l ≡ s .latch l
   pub memory-size : 2 ^ c .m ≤ length memory
   pub memory-held : (x : ℕ) → x < 2 ^ c .m → getD memory x 0 ≡ s .memory x
+  pub word-held : (t : ℕ) → t < readBits c → bit held t ≡ s .held t
 
--- they are the feed f: in its inputs and the n bits of the idle word
-pub record Fed (c : Netlist) (f : Feed) (inputs : List Bool) (idle : ℕ) : Type 0 where
+-- the lent inputs are the feed f
+pub record Fed (c : Netlist) (f : Feed) (inputs : List Bool) : Type 0 where
   pub input-fed : (x : ℕ) → x < c .inputs → entry inputs x ≡ f .input x
-  pub idle-fed : (t : ℕ) → t < c .n → bit idle t ≡ f .idle t
 
 -- the memory after a frame with the values v (RULES C7)
 unfoldable pub written : Netlist → Values → List ℕ → List ℕ
@@ -42,10 +39,10 @@ pub record StepFits (c : Netlist) (values latches : List Bool) (memory : List �
   pub latch-size : length latches ≡ mostWires
   pub memory-size : 2 ^ c .m ≤ length memory
 
--- what a step leaves there: of whatever state was held and whatever was fed, the frame's values and the next state (RULES C14 and C15). The
+-- what a step leaves there: of whatever state was held and whatever was fed, the frame's values and the next state (RULES C22 and C15). The
 -- memory behind the 2^m words is as it was
-pub record Stepped (c : Netlist) (inputs : List Bool) (idle : ℕ) (latches : List Bool) (memory : List ℕ)
-    (values′ latches′ : List Bool) (memory′ : List ℕ) : Type 0 where
-  pub frame-values : (s : State) (f : Feed) → Holds c s latches memory → Fed c f inputs idle → HasBelow (lastWire c + 1) (frame c s f) values′
-  pub next-held : (s : State) (f : Feed) → Holds c s latches memory → Fed c f inputs idle → Holds c (step c s (frame c s f)) latches′ memory′
+pub record Stepped (c : Netlist) (inputs latches : List Bool) (memory : List ℕ) (held : ℕ)
+    (values′ latches′ : List Bool) (memory′ : List ℕ) (held′ : ℕ) : Type 0 where
+  pub frame-values : (s : State) (f : Feed) → Holds c s latches memory held → Fed c f inputs → HasBelow (lastWire c + 1) (frame c s f) values′
+  pub next-held : (s : State) (f : Feed) → Holds c s latches memory held → Fed c f inputs → Holds c (step c s (frame c s f)) latches′ memory′ held′
   pub behind : drop (2 ^ c .m) memory′ ≡ drop (2 ^ c .m) memory

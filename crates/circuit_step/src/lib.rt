@@ -1,5 +1,6 @@
-// One frame of the circuit with its whole memory: the values of its wires, and the state that the next frame begins in (RULES C4 to C7, C12 to
-// C15). Latches and memory are lent; what holds of them is said of every state of the model that they hold.
+// One frame of the circuit with its whole memory: the values of its wires, and the state that the next frame begins in (RULES C4, C6, C7,
+// C12, C15, C17, C21 and C22). Latches and memory are lent, the word held is a number; what holds of them is said of every state of the model
+// that they hold.
 use circuit_values::SourceValues;
 use circuit_values::WireValues;
 use literals::Code;
@@ -10,42 +11,45 @@ ghost use Prim.Native.Nat.{ℕ, _+_, _^_, _≤_, _<_};
 ghost use mathlib.Core.List.{[]};
 ghost use lib.ListN.{length};
 ghost use Rattle.model.specs.Bits.{bit};
-ghost use Rattle.model.specs.Netlist.{lastWire};
+ghost use Rattle.model.specs.Netlist.{readWire, lastWire};
 ghost use Rattle.model.specs.Circuit.{codeValue, State, Feed, readData, frame};
 ghost use Rattle.model.specs.Acceptance.{WithinLimits};
 ghost use Rattle.netlist.specs.NetOf.{netOf, alone};
 ghost use Rattle.circuit_values.specs.WireTable.{entry, HasBelow};
-ghost use Rattle.circuit_step.specs.Held.{stateIn, feedIn, Holds, Fed, written, StepFits, Stepped};
+ghost use Rattle.circuit_step.specs.Held.{stateIn, Holds, Fed, written, StepFits, Stepped};
 
-// The word of the read bits: the memory's at the address where RE is true, and the idle word where it is not.
-fn read_word(values: &WireValues, net: Netlist, memory: &[u32], idle: u32) -> u32
+// The word of the read bits: the memory's at the address where RE is true, and the word held where it is not.
+fn read_word(values: &WireValues, net: Netlist, memory: &[u32], held: u32) -> u32
     requires { ⌜ WithinLimits (alone net) × (2 ^ net .m ≤ length (now memory)) ⌝ }
-    ensures { λ r. ⌜ ((t : ℕ) → bit r t ≡ readData (alone net) (stateIn [] (now (memory .entry))) (feedIn [] idle) (entry (now (values .entry))) t) ⌝ }
+    ensures { λ r. ⌜ ((t : ℕ) → bit r t ≡ readData (alone net) (stateIn [] (now (memory .entry)) held) (entry (now (values .entry))) t) ⌝ }
 {
     if circuit_values::code_value(values, net.re) {
         let address = circuit_values::address_of(values, net);
         return memory[address as usize];
     }
-    idle
+    held
 }
 
 // The values of a frame, by two passes: the first with every read bit 0, which settles address and RE, the second with the word that is read.
+// Answers this word: its bits are the read bits.
 fn put_frame(
     values: &mut WireValues,
     net: Netlist,
     gates: &UnpackedList,
     inputs: &SourceValues,
-    idle: u32,
     state: &SourceValues,
     memory: &[u32],
-)
+    held: u32,
+) -> u32
     requires { ⌜ WithinLimits (netOf net [] (now gates)) × (length (now values) ≡ 601) × (2 ^ net .m ≤ length (now memory)) ⌝ }
-    ensures { λ _. ⌜ ((s : State) (f : Feed) → Holds (alone net) s (now (state .entry)) (now (memory .entry)) → Fed (alone net) f (now (inputs .entry)) idle
+    ensures values { λ _. ⌜ ((s : State) (f : Feed) → Holds (alone net) s (now (state .entry)) (now (memory .entry)) held → Fed (alone net) f (now (inputs .entry))
         → HasBelow (lastWire (alone net) + 1) (frame (netOf net [] (now (gates .entry))) s f) (now (values .exit))) ⌝ }
+    ensures word { λ r. ⌜ ((t : ℕ) → t < net .n → bit r t ≡ entry (now (values .exit)) (readWire (alone net) t)) ⌝ }
 {
     circuit_values::evaluate(values, net, gates, inputs, state, 0);
-    let word = read_word(values, net, memory, idle);
+    let word = read_word(values, net, memory, held);
     circuit_values::evaluate(values, net, gates, inputs, state, word);
+    word
 }
 
 // Writes the word at the address where WE is true.
@@ -72,8 +76,9 @@ fn put_latches(values: &WireValues, net: Netlist, latches: &UnpackedList, state:
     }
 }
 
-// Steps one frame: its values, then its write and all latches at once, both from these values. Lent latches and memory that hold a state of
-// the model before hold the next one after; the memory behind the 2^m words stays.
+// Steps one frame: its values, then its write and all latches at once, both from these values; the word of its read bits is answered, and is
+// the next one held. Lent latches and memory that hold a state of the model before hold the next one after; the memory behind the 2^m
+// words stays.
 pub fn step_frame(
     values: &mut WireValues,
     state: &mut SourceValues,
@@ -82,13 +87,14 @@ pub fn step_frame(
     latches: &UnpackedList,
     gates: &UnpackedList,
     inputs: &SourceValues,
-    idle: u32,
-)
+    held: u32,
+) -> u32
     requires { ⌜ StepFits (netOf net (now latches) (now gates)) (now values) (now state) (now memory) ⌝ }
-    ensures { λ _. ⌜ Stepped (netOf net (now (latches .entry)) (now (gates .entry))) (now (inputs .entry)) idle (now (state .entry)) (now (memory .entry))
-        (now (values .exit)) (now (state .exit)) (now (memory .exit)) ⌝ }
+    ensures { λ r. ⌜ Stepped (netOf net (now (latches .entry)) (now (gates .entry))) (now (inputs .entry)) (now (state .entry)) (now (memory .entry)) held
+        (now (values .exit)) (now (state .exit)) (now (memory .exit)) r ⌝ }
 {
-    put_frame(values, net, gates, inputs, idle, state, memory);
+    let word = put_frame(values, net, gates, inputs, state, memory, held);
     write_memory(values, net, memory);
     put_latches(values, net, latches, state);
+    word
 }

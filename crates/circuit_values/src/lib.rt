@@ -1,4 +1,4 @@
-// The values of a frame's wires, in a table that is filled in wire order (RULES W1, C12 and C13).
+// The values of a frame's wires, in a table that is filled in wire order (RULES W1, C12 and C21).
 //
 // Inputs, latches and read bits are given; the gates are worked out from them. Wire 0 is the constants': always false.
 use literals::Code;

@@ -1,6 +1,6 @@
--- From an assignment that makes all clauses true to the run that it feeds: frame by frame, the values assigned are the frame's.
--- No contract cites this file.
-use Prim.Native.Nat.{ℕ, zero, suc, _+_, _<_, _≤_}
+-- From an assignment that makes all clauses true to every run that is fed as it is: frame by frame, the values assigned are the
+-- frame's. No contract cites this file.
+use Prim.Native.Nat.{ℕ, zero, suc, _+_, _-_, _<_, _≤_}
 use mathlib.Core.Path.{_≡_, refl, sym, _∙_, ap}
 use mathlib.Core.Bool.{Bool, true, false}
 use native.Mathlib.Numerals.{add-one}
@@ -8,19 +8,29 @@ use native.Mathlib.Nat.{le-refl, le-of-suc-le, lt-suc-self, not-suc-le-zero, zer
 use native.Mathlib.Omega.{arith}
 use Rattle.model.specs.Bits.{bit}
 use Rattle.model.specs.Netlist.{Netlist, port, inputWire, latchWire, readWire}
-use Rattle.model.specs.Circuit.{Values, codeValue, State, addressOf, readData, step, stateAt, run, initial}
+use Rattle.model.specs.Circuit.{Values, codeValue, State, Feeds, addressOf, readData, step, stateAt, run, initial}
 use Rattle.model.specs.Acceptance.{Accepted}
-use Rattle.model.specs.Variables.{closingLiterals}
+use Rattle.model.specs.Variables.{base, readBit, closingLiterals}
 use Rattle.model.specs.Numbers.{Assignment}
-use Rattle.model.specs.Claim.{feedOf, Agrees, Breaks}
+use Rattle.model.specs.Claim.{feedOf, idleOf, Agrees, Breaks}
 use Rattle.model.proofs.Below.{all-below-suc}
 use Rattle.model.proofs.Circuit.{IsFrame, frame-unique}
 use Rattle.model.proofs.Truth.{value, AllHold}
-use Rattle.model.proofs.InFrame.{assigned, assigned-zero, assigned-wire}
+use Rattle.model.proofs.InFrame.{assigned, assigned-zero, assigned-wire, readBit-value, codeIn-value}
 use Rattle.model.proofs.Joined.{EachGroup}
 use Rattle.model.proofs.AssignedReads.{word-read}
 use Rattle.model.proofs.Agreement.{Same, code-agrees, wordBefore, memory-stepped, wordBefore-agrees}
 use Rattle.model.proofs.Groups.{wires-hold, state-first-holds, state-later-holds, gateClauses-holds, resetClauses-holds, latchClauses-holds, pair-holds, closing-holds, property-holds}
+
+-- a run is fed as the assignment has it up to frame k: in each frame its inputs, and in frame 0, where RE is false there, its read bits
+pub record FedAs (c : Netlist) (k : ℕ) (a : Assignment) (idle : ℕ → Bool) (f : Feeds) : Type 0 where
+  pub inputs-same : (i : ℕ) → i ≤ k → (x : ℕ) → x < c .inputs → a (base c i + inputWire c x) ≡ f i .input x
+  pub idle-same : codeValue (assigned c a 0) (c .RE) ≡ false → (t : ℕ) → t < c .n → a (base c 0 + readWire c t) ≡ idle t
+
+-- as is the run that it feeds itself
+pub fed-by-itself : (c : Netlist) (k : ℕ) (a : Assignment) → FedAs c k a (idleOf c a) (feedOf c a)
+unfolding idleOf feedOf
+fed-by-itself c k a = record { inputs-same = λ i d x b. refl; idle-same = λ r t b. refl }
 
 module _ (c : Netlist) (a : Assignment) where
   -- the frames as assigned, and the address in a frame
@@ -41,13 +51,25 @@ module _ (c : Netlist) (a : Assignment) where
         (λ z t b. closing-holds c a k i .0 (holds .closings i d) .initial-where-Z t b z) r t b
         )
 
-    module _ (ok : Accepted c) where
-      -- the run that the assignment feeds, and its states
+    -- where RE is false, the read bits assigned to a later frame are those of the frame before
+    held-at : (i : ℕ) → suc i ≤ k → codeValue (u (suc i)) (c .RE) ≡ false → (t : ℕ) → t < c .n
+        → u (suc i) (readWire c t) ≡ u i (readWire c t)
+    unfolding closingLiterals
+    held-at i d r t b =
+        let last : suc i - 1 ≡ i = omega arith in
+        let held = closing-holds c a k (suc i) .0 (holds .closings (suc i) d) .held-where-idle (omega arith) t b in
+        rw (zero-add t) at (
+        sym (readBit-value c (port c) a (suc i) t) ∙ held (codeIn-value c a (suc i) (c .RE) ∙ r)
+        ∙ ap (λ (j : ℕ). value a (readBit c (port c) j t)) last ∙ readBit-value c (port c) a i t
+        )
+
+    module _ (ok : Accepted c) {idle : ℕ → Bool} {f : Feeds} (fed : FedAs c k a idle f) where
+      -- a run that is fed as the assignment has it, and its states
       abbrev driven : ℕ → Values
-      driven = run c (initial c) (feedOf c a)
+      driven = run c (initial c idle) f
 
       abbrev state : ℕ → State
-      state = stateAt c (initial c) (feedOf c a)
+      state = stateAt c (initial c idle) f
 
       -- the frames below i agree
       abbrev Before : ℕ → Type 0
@@ -70,24 +92,30 @@ module _ (c : Netlist) (a : Assignment) where
       unfolding initial
       word-at i before x =
           wordBefore-agrees c (ok .limits .codes) u driven (c .initialWord) x i before
-          ∙ sym (memory-stepped c (initial c) (feedOf c a) x i)
+          ∙ sym (memory-stepped c (initial c idle) f x i)
+
+      -- so are the read bits of a frame that does not read
+      idle-at : (i : ℕ) → i ≤ k → Before i → codeValue (u i) (c .RE) ≡ false → (t : ℕ) → t < c .n → u i (readWire c t) ≡ state i .held t
+      unfolding stateAt initial step run
+      idle-at zero d before r t b = assigned-wire c a 0 (readWire c t) (omega arith) ∙ fed .idle-same r t b
+      idle-at (suc i) d before r t b = held-at i d r t b ∙ before i (lt-suc-self i) (readWire c t) (omega arith)
 
       -- so is the whole frame
-      frame-at : (i : ℕ) → i ≤ k → Before i → IsFrame c (state i) (feedOf c a i) (u i)
-      unfolding readData feedOf
+      frame-at : (i : ℕ) → i ≤ k → Before i → IsFrame c (state i) (f i) (u i)
+      unfolding readData
       frame-at i d before =
           record {
             at-zero = assigned-zero c a i;
-            at-input = λ x b. assigned-wire c a i (inputWire c x) (omega arith);
+            at-input = λ x b. assigned-wire c a i (inputWire c x) (omega arith) ∙ fed .inputs-same i d x b;
             at-latch = latch-at i d before;
             at-read = λ t b. reads t b (codeValue (u i) (c .RE)) refl;
             at-gate = λ g b. gateClauses-holds c a i g .0 (wires-hold c a k i .0 (holds .wires i d) .1 g b);
           }
         where
           reads : (t : ℕ) → t < c .n → (r : Bool) → codeValue (u i) (c .RE) ≡ r
-              → u i (readWire c t) ≡ readData c (state i) (feedOf c a i) (u i) t
+              → u i (readWire c t) ≡ readData c (state i) (u i) t
           reads t b true e = rw e (read-at i d e t b ∙ ap (λ (w : ℕ). bit w t) (word-at i before (at i)))
-          reads t b false e = rw e (assigned-wire c a i (readWire c t) (omega arith))
+          reads t b false e = rw e (idle-at i d before e t b)
 
       agree-below : (n : ℕ) → n ≤ k + 1 → Before n
       unfolding run
@@ -95,16 +123,16 @@ module _ (c : Netlist) (a : Assignment) where
       agree-below (suc n) d =
           let before = agree-below n (le-of-suc-le d) in
           all-below-suc (λ i. Same c (u i) (driven i)) n before
-          (frame-unique ok (state n) (feedOf c a n) (u n) (frame-at n (omega arith) before))
+          (frame-unique ok (state n) (f n) (u n) (frame-at n (omega arith) before))
 
       agree : (i : ℕ) → i < k + 1 → Same c (u i) (driven i)
       agree = agree-below (k + 1) (le-refl (k + 1))
 
-      pub assignment-agrees : Agrees c (initial c) k a (feedOf c a)
+      pub assignment-agrees : Agrees c (initial c idle) k a f
       unfolding Agrees
       assignment-agrees i d w l b = sym (assigned-wire c a i w l) ∙ agree i (omega arith) w b
 
-      pub assignment-breaks : Breaks c (initial c) k (feedOf c a)
+      pub assignment-breaks : Breaks c (initial c idle) k f
       unfolding Breaks
       assignment-breaks =
           let p = property-holds c a k .0 (holds .property) in

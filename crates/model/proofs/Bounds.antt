@@ -10,7 +10,7 @@ use lib.Dec.{eqb, ltb}
 use lib.IntN.{natAbs}
 use Rattle.model.specs.Bits.{odd}
 use Rattle.model.specs.Netlist.{Netlist, port, gateWire, lastWire}
-use Rattle.model.specs.Clauses.{Literal, known, plus, minus, Clause, neg, andClauses, sameClauses, sameIfClauses, bitClauses, PairLiterals, addressBitClauses, unequalOf, allBits, forwardedClauses, pairClauses, ClosingLiterals, initialReadClauses, selectedOf, someSource, closingClauses}
+use Rattle.model.specs.Clauses.{Literal, known, plus, minus, Clause, neg, andClauses, sameClauses, sameIfClauses, bitClauses, PairLiterals, addressBitClauses, unequalOf, allBits, forwardedClauses, pairClauses, ClosingLiterals, initialReadClauses, heldClauses, heldReads, selectedOf, someSource, closingClauses}
 use Rattle.model.specs.Variables.{stride, base, pairBase, wireAt, codeAt, wireIn, codeIn, noneSince, selected, readBit, pairLiterals, closingLiterals}
 use Rattle.model.specs.Acceptance.{Accepted, IsCode}
 use Rattle.model.specs.Groups.{gateClauses, resetClauses, latchClauses, stateClauses, violationOf, clausesOf, pairOf, frameGroups, groupOrder}
@@ -52,6 +52,7 @@ record ClosingAll (P : Literal → Type 0) (n i : ℕ) (x : ClosingLiterals) : T
   S : (j : ℕ) → j < i → P (x .S j)
   RD : (t : ℕ) → t < n → P (x .RD t)
   W : (t : ℕ) → t < n → P (x .W t)
+  before : (t : ℕ) → t < n → P (x .before t)
 
 -- a property of literals that negation keeps is one of whole clauses, once their literals have it
 module _ {P : Literal → Type 0} (keeps : (l : Literal) → P l → P (neg l)) where
@@ -86,11 +87,17 @@ module _ {P : Literal → Type 0} (keeps : (l : Literal) → P l → P (neg l)) 
   pair-all m n x a =
       search (_⧺_, just, also, all-gather, bit-all, and-all, sameIfClauses-all, keeps, a .E, a .e, a .s, a .PS, a .S, a .N, a .WE, a .Aj, a .WD, a .Ai, a .RD) depth 20
 
+  -- of a closing's clauses of the word held
+  held-all : (n i : ℕ) (x : ClosingLiterals) → ClosingAll P n i x → AllLits P (heldReads n i x)
+  unfolding heldReads heldClauses
+  held-all n zero x a = nothing
+  held-all n (suc i) x a = search (all-gather, sameIfClauses-all, keeps, a .RE, a .RD, a .before) depth 12
+
   -- of a closing's clauses
   closing-all : (n i : ℕ) (x : ClosingLiterals) → ClosingAll P n i x → AllLits P (closingClauses n i x)
   unfolding closingClauses initialReadClauses someSource selectedOf
   closing-all n i x a =
-      search (_⧺_, just, also, all-gather, sameIfClauses-all, keeps, a .Z, a .RE, a .S, a .RD, a .W) depth 20
+      search (_⧺_, just, also, all-gather, sameIfClauses-all, held-all, keeps, a, a .Z, a .RE, a .S, a .RD, a .W) depth 20
 
 -- what each group's clauses have, all groups' clauses joined have
 pub joined-all : {Q : Clause → Type 0} (f : Group → List Clause) (gs : List Group)
@@ -225,6 +232,7 @@ module _ {c : Netlist} (accepted : Accepted c) (k : ℕ) where
         S = λ j l. selected-within c k j i l h;
         RD = λ t b. readBit-within c k i t h b;
         W = λ t b. tt;
+        before = λ t b. readBit-within c k _ t (omega arith) b;
       })
 
   -- the property

@@ -109,24 +109,24 @@ unfolding addressOf
 address-same c p u v h = fromBits-same (c .m) (λ t. codeValue u (p .address t)) (λ t. codeValue v (p .address t)) h
 
 -- what is read follows from the address and RE
-pub readData-same : (c : Netlist) (s : State) (f : Feed) (u v : Values) → addressOf c (port c) u ≡ addressOf c (port c) v
-    → codeValue u (port c .RE) ≡ codeValue v (port c .RE) → (t : ℕ) → readData c s f u t ≡ readData c s f v t
+pub readData-same : (c : Netlist) (s : State) (u v : Values) → addressOf c (port c) u ≡ addressOf c (port c) v
+    → codeValue u (port c .RE) ≡ codeValue v (port c .RE) → (t : ℕ) → readData c s u t ≡ readData c s v t
 unfolding readData
-readData-same c s f u v a e t = rw (a, e)
+readData-same c s u v a e t = rw (a, e)
 
 -- a frame as equations, without the two passes
 pub record IsFrame (c : Netlist) (s : State) (f : Feed) (v : Values) : Type 0 where
   pub at-zero : v 0 ≡ false
   pub at-input : (x : ℕ) → x < c .inputs → v (inputWire c x) ≡ f .input x
   pub at-latch : (l : ℕ) → l < c .latches → v (latchWire c l) ≡ s .latch l
-  pub at-read : (t : ℕ) → t < readBits c → v (readWire c t) ≡ readData c s f v t
+  pub at-read : (t : ℕ) → t < readBits c → v (readWire c t) ≡ readData c s v t
   pub at-gate : (g : ℕ) → g < c .gates → v (gateWire c g) ≡ (codeValue v (c .left g) && codeValue v (c .right g))
 
 -- what is read is settled before any read bit is
 read-settled : {c : Netlist} → Accepted c → (s : State) (f : Feed) → {read other : ℕ → Bool} {u v : Values}
-    → Solves c (f .input) (s .latch) read u → Solves c (f .input) (s .latch) other v → (t : ℕ) → readData c s f u t ≡ readData c s f v t
+    → Solves c (f .input) (s .latch) read u → Solves c (f .input) (s .latch) other v → (t : ℕ) → readData c s u t ≡ readData c s v t
 read-settled {c} h s f {u} {v} p q =
-    readData-same c s f u v
+    readData-same c s u v
     (address-same c (port c) u v (λ t l. settled (c .address t) (h .limits .codes .address-fits t l) (h .noLoop .address-free t l)))
     (settled (c .RE) (h .limits .codes .RE-fits) (h .noLoop .RE-free))
   where
@@ -140,9 +140,9 @@ firstPass-solves {c} q s f = evaluate-solves c (f .input) (s .latch) (λ t. fals
 
 -- the second pass is a solution with what the first pass reads
 frame-solves : {c : Netlist} → CodesFit c → (s : State) (f : Feed)
-    → Solves c (f .input) (s .latch) (readData c s f (firstPass c s f)) (frame c s f)
+    → Solves c (f .input) (s .latch) (readData c s (firstPass c s f)) (frame c s f)
 unfolding frame
-frame-solves {c} q s f = evaluate-solves c (f .input) (s .latch) (readData c s f (firstPass c s f)) q
+frame-solves {c} q s f = evaluate-solves c (f .input) (s .latch) (readData c s (firstPass c s f)) q
 
 -- the two passes solve a frame's equations
 pub frame-is : {c : Netlist} → Accepted c → (s : State) (f : Feed) → IsFrame c s f (frame c s f)
@@ -155,7 +155,7 @@ frame-is {c} h s f =
       at-gate = q .at-gate;
     }
   where
-    q : Solves c (f .input) (s .latch) (readData c s f (firstPass c s f)) (frame c s f)
+    q : Solves c (f .input) (s .latch) (readData c s (firstPass c s f)) (frame c s f)
     q = frame-solves (h .limits .codes) s f
 
 -- every solution of a frame's equations has the values of the two passes
@@ -165,5 +165,5 @@ frame-unique {c} h s f v q w b =
     solutions-agree (h .limits .codes) (λ x. Unit {0}) (λ g l k. (tt, tt))
     (λ t l k. read-settled h s f p (firstPass-solves (h .limits .codes) s f) t) p (frame-solves (h .limits .codes) s f) w b tt
   where
-    p : Solves c (f .input) (s .latch) (readData c s f v) v
+    p : Solves c (f .input) (s .latch) (readData c s v) v
     p = record { at-zero = q .at-zero; at-input = q .at-input; at-latch = q .at-latch; at-read = q .at-read; at-gate = q .at-gate }

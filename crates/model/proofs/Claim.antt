@@ -1,7 +1,7 @@
 -- Demand 3, proved: every accepted netlist is encoded, at every depth; and what a designer relies on.
 use Prim.Native.Nat.{ℕ, zero-le, _+_, _≤_}
 use mathlib.Core.Path.{_≡_, sym, _∙_, ap}
-use mathlib.Core.Bool.{true, false, _||_, or-false}
+use mathlib.Core.Bool.{Bool, true, false, _||_, or-false}
 use mathlib.Core.List.{List, map}
 use mathlib.Core.Logic.{_↔_, Iff·trans}
 use lib.ListN.{length, length-map}
@@ -20,7 +20,7 @@ use Rattle.model.proofs.Joined.{joinedClauses, formula-written, EachGro
 use Rattle.model.proofs.Bounds.{formula-within}
 use Rattle.model.proofs.Truth.{value, someOf, everyOf, everyOf-splits, everyOf-same, AllHold, allHold-splits}
 use Rattle.model.proofs.Numbers.{clausesIn-written, numberValue, allTrue-numbers, number-value, number-same}
-use Rattle.model.proofs.AssignmentToRun.{assignment-agrees, assignment-breaks}
+use Rattle.model.proofs.AssignmentToRun.{fed-by-itself, assignment-agrees, assignment-breaks}
 use Rattle.model.proofs.Witness.{witness, witness-one}
 use Rattle.model.proofs.RunToAssignment.{run-groups, run-agrees}
 
@@ -60,10 +60,12 @@ module _ {c : Netlist} (ok : Accepted c) (k : ℕ) where
       record {
         assignment→run = λ a h.
             let groups = satisfies-groups a (satisfies-one a h) .0 h in
-            (assignment-agrees c a k groups ok, assignment-breaks c a k groups ok);
-        run→assignment = λ f h.
-            let groups = run-groups c ok f k h in
-            (witness c k (run c (initial c) f), satisfies-groups (witness c k (run c (initial c) f)) (witness-one c k (run c (initial c) f)) .1 groups, run-agrees c ok f k);
+            let fed = fed-by-itself c k a in
+            (assignment-agrees c a k groups ok fed, assignment-breaks c a k groups ok fed);
+        run→assignment = λ idle f h.
+            let groups = run-groups c ok idle f k h in
+            let u = run c (initial c idle) f in
+            (witness c k u, satisfies-groups (witness c k u) (witness-one c k u) .1 groups, run-agrees c ok idle f k);
       }
 
   -- only variables 1 to B(k + 1) matter
@@ -87,5 +89,5 @@ encodes c ok k = encodes-depth ok k
 
 -- What a designer relies on: where no assignment satisfies the clauses of depth k, no run breaks the property up to frame k.
 pub unsatisfiable→safe : {c : Netlist} {k : ℕ} → Encodes c k → ((a : Assignment) → Satisfies c k a → ⊥)
-    → (f : Feeds) → Breaks c (initial c) k f → ⊥
-unsatisfiable→safe e none f h = let found = e .run→assignment f h in none (found .0) (found .1)
+    → (idle : ℕ → Bool) (f : Feeds) → Breaks c (initial c idle) k f → ⊥
+unsatisfiable→safe e none idle f h = let found = e .run→assignment idle f h in none (found .0) (found .1)

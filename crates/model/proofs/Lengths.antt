@@ -1,4 +1,4 @@
--- How many clauses and numbers each group has (RULES G18 and G19), and how many
+-- How many clauses and numbers each group has (RULES G26 and G27), and how many
 -- clauses a depth has. No contract cites this file.
 use Prim.Native.Nat.{ℕ, zero, suc, _+_, _*_, _/_}
 use mathlib.Core.Path.{_≡_, refl, _∙_}
@@ -9,7 +9,7 @@ use native.Mathlib.Omega.{arith}
 use lib.ListN.{length, length-append, length-map}
 use Rattle.model.specs.Netlist.{Netlist}
 use Rattle.model.specs.Gather.{gather, gatherDown}
-use Rattle.model.specs.Clauses.{Literal, Clause, andClauses, sameClauses, sameIfClauses, bitClauses, PairLiterals, addressBitClauses, unequalOf, allBits, forwardedClauses, pairClauses, ClosingLiterals, initialReadClauses, selectedOf, someSource, closingClauses}
+use Rattle.model.specs.Clauses.{Literal, Clause, andClauses, sameClauses, sameIfClauses, bitClauses, PairLiterals, addressBitClauses, unequalOf, allBits, forwardedClauses, pairClauses, ClosingLiterals, initialReadClauses, heldClauses, heldReads, selectedOf, someSource, closingClauses}
 use Rattle.model.specs.Groups.{gateClauses, resetClauses, latchClauses, stateClauses, violationOf, clausesOf, pairOf, frameGroups, groupOrder}
 use Rattle.model.specs.Numbers.{written, numbersOf}
 use Rattle.model.specs.declared.Group.{Group}
@@ -93,14 +93,33 @@ someSource-length : (i : ℕ) (x : ClosingLiterals) → length (someSource i x) 
 unfolding someSource selectedOf
 someSource-length i x = rw (length-gather i 1 (selectedOf x) (λ t h. refl)) (omega arith)
 
--- of a closing
-pub closing-counts : (n i : ℕ) (x : ClosingLiterals) → Counts (closingClauses n i x) (2 * n + 1) (8 * n + i + 3)
+-- of no clause
+counts-none : Counts [] 0 0
+unfolding written
+counts-none = record { in-clauses = refl; in-numbers = refl }
+
+-- of a closing's clauses of the word held
+held-counts : (n i : ℕ) (x : ClosingLiterals) → Counts (heldReads n (suc i) x) (n * 2) (n * 8)
+unfolding heldReads heldClauses
+held-counts n i x = counts-gather n 2 8 (heldClauses x) (λ t. sameIfClauses-counts _ _ _)
+
+-- of a closing, by what its clauses of the word held have
+closing-counts : (n i : ℕ) (x : ClosingLiterals) {a b : ℕ} → Counts (heldReads n i x) a b
+    → Counts (closingClauses n i x) (2 * n + 1 + a) (8 * n + i + 3 + b)
 unfolding closingClauses initialReadClauses
-closing-counts n i x =
+closing-counts n i x held =
     counts-as
-    (counts-gather n 2 8 (initialReadClauses x) (λ t. sameIfClauses-counts _ _ _) ⊕ counts-one (someSource i x))
+    (counts-gather n 2 8 (initialReadClauses x) (λ t. sameIfClauses-counts _ _ _) ⊕ held ⊕ counts-one (someSource i x))
     (omega arith)
     (omega (arith, someSource-length i x))
+
+-- of the closing of frame 0, and of a later one
+pub closing-counts-first : (n : ℕ) (x : ClosingLiterals) → Counts (closingClauses n 0 x) (2 * n + 1) (8 * n + 3)
+unfolding heldReads
+closing-counts-first n x = counts-as (closing-counts n 0 x counts-none) (omega arith) (omega arith)
+
+pub closing-counts-later : (n i : ℕ) (x : ClosingLiterals) → Counts (closingClauses n (suc i) x) (4 * n + 1) (16 * n + suc i + 3)
+closing-counts-later n i x = counts-as (closing-counts n (suc i) x (held-counts n i x)) (omega arith) (omega arith)
 
 -- of a frame's gates
 gates-counts : (c : Netlist) (i : ℕ) → Counts (gather (c .gates) (gateClauses c i)) (c .gates * 3) (c .gates * 10)
@@ -147,10 +166,15 @@ module _ (c : Netlist) (k : ℕ) where
   unfolding clausesOf
   pair-clauses j i = pair-counts (c .m) (c .n) _ .in-clauses
 
-  -- the closing of a frame
-  pub closing-clauses : (i : ℕ) → length (clausesOf c k (Closing i)) ≡ 2 * c .n + 1
+  -- the closing of frame 0
+  pub closing-clauses-first : length (clausesOf c k (Closing 0)) ≡ 2 * c .n + 1
   unfolding clausesOf
-  closing-clauses i = closing-counts (c .n) i _ .in-clauses
+  closing-clauses-first = closing-counts-first (c .n) _ .in-clauses
+
+  -- the closing of a later frame
+  pub closing-clauses-later : (i : ℕ) → length (clausesOf c k (Closing (suc i))) ≡ 4 * c .n + 1
+  unfolding clausesOf
+  closing-clauses-later i = closing-counts-later (c .n) i _ .in-clauses
 
   -- the property
   pub property-clauses : length (clausesOf c k Property) ≡ 1
@@ -171,10 +195,15 @@ module _ (c : Netlist) (k : ℕ) where
   unfolding numbersOf clausesOf
   pair-numbers j i = pair-counts (c .m) (c .n) _ .in-numbers
 
-  -- the closing of frame i
-  pub closing-numbers : (i : ℕ) → length (numbersOf c k (Closing i)) ≡ 8 * c .n + i + 3
+  -- the closing of frame 0
+  pub closing-numbers-first : length (numbersOf c k (Closing 0)) ≡ 8 * c .n + 3
   unfolding numbersOf clausesOf
-  closing-numbers i = closing-counts (c .n) i _ .in-numbers
+  closing-numbers-first = closing-counts-first (c .n) _ .in-numbers
+
+  -- the closing of a later frame
+  pub closing-numbers-later : (i : ℕ) → length (numbersOf c k (Closing (suc i))) ≡ 16 * c .n + suc i + 3
+  unfolding numbersOf clausesOf
+  closing-numbers-later i = closing-counts-later (c .n) i _ .in-numbers
 
   -- the property
   pub property-numbers : length (numbersOf c k Property) ≡ k + 2
@@ -209,31 +238,32 @@ module _ (c : Netlist) (k : ℕ) where
 
   -- of frame i: its wires, its pairs, its closing
   frame-clauses : (i : ℕ)
-      → count (frameGroups i) ≡ length (clausesOf c k (Wires i)) + i * (4 * c .m + 2 * c .n + 10) + (2 * c .n + 1)
+      → count (frameGroups i)
+      ≡ length (clausesOf c k (Wires i)) + i * (4 * c .m + 2 * c .n + 10) + length (clausesOf c k (Closing i))
   unfolding frameGroups
   frame-clauses i =
       let pairs = gatherDown i (pairOf i) in
       let first = count-adds .of-both (Wires i ∷ []) (pairs ++ Closing i ∷ []) in
       let rest = count-adds .of-both pairs (Closing i ∷ []) in
-      omega (arith, count-one (Wires i), pairs-clauses i, count-one (Closing i), closing-clauses c k i)
+      omega (arith, count-one (Wires i), pairs-clauses i, count-one (Closing i))
 
   -- of frames 0 to i
   frames-clauses : (i : ℕ)
       → count (gather (suc i) frameGroups)
       ≡ (1 + c .latches + 3 * c .gates) + i * (2 * c .latches + 3 * c .gates) + i * (i + 1) / 2 * (4 * c .m + 2 * c .n + 10)
-      + (i + 1) * (2 * c .n + 1)
+      + (2 * c .n + 1 + i * (4 * c .n + 1))
   unfolding gather
-  frames-clauses zero = rw (frame-clauses 0, wires-clauses-first c k) (omega arith)
+  frames-clauses zero = rw (frame-clauses 0, wires-clauses-first c k, closing-clauses-first c k) (omega arith)
   frames-clauses (suc i) =
       let both = count-adds .of-both (gather (suc i) frameGroups) (frameGroups (suc i)) in
-      rw (both, frames-clauses i, frame-clauses (suc i), wires-clauses-later c k i, pairs-suc i)
+      rw (both, frames-clauses i, frame-clauses (suc i), wires-clauses-later c k i, closing-clauses-later c k i, pairs-suc i)
       (simp (add-mul, suc-mul) (omega arith))
 
   -- of all groups, as the heading of the DIMACS text has it
   pub formula-clauses :
       length (joinedClauses (clausesOf c k) (groupOrder k))
       ≡ (1 + c .latches + 3 * c .gates) + k * (2 * c .latches + 3 * c .gates) + k * (k + 1) / 2 * (4 * c .m + 2 * c .n + 10)
-      + (k + 1) * (2 * c .n + 1) + 1
+      + (2 * c .n + 1 + k * (4 * c .n + 1)) + 1
   unfolding groupOrder count
   formula-clauses =
       count-adds .of-both (gather (k + 1) frameGroups) (Property ∷ [])

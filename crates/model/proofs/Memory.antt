@@ -37,6 +37,6 @@ stateAt-fits c s h f zero = h
 stateAt-fits c s h f (suc i) = step-fits c (stateAt c s f i) (frame c (stateAt c s f i) (f i)) (stateAt-fits c s h f i)
 
 -- in a run from the start, every word is below 2^n
-pub word-below : (c : Netlist) → Accepted c → (f : Feeds) (i x : ℕ) → stateAt c (initial c) f i .memory x < 2 ^ c .n
+pub word-below : (c : Netlist) → Accepted c → (idle : ℕ → Bool) (f : Feeds) (i x : ℕ) → stateAt c (initial c idle) f i .memory x < 2 ^ c .n
 unfolding initial
-word-below c h f i x = stateAt-fits c (initial c) (λ y. h .limits .sizes .word-fits) f i x
+word-below c h idle f i x = stateAt-fits c (initial c idle) (λ y. h .limits .sizes .word-fits) f i x

@@ -1,16 +1,16 @@
 -- From a run that breaks the property to the assignment that makes all clauses true: the witness of its frames.
 -- No contract cites this file.
-use Prim.Native.Nat.{ℕ, zero, suc, _*_, _<_, _≤_}
+use Prim.Native.Nat.{ℕ, zero, suc, _-_, _*_, _<_, _≤_}
 use mathlib.Core.Path.{_≡_, refl, sym, _∙_, ap, ap₂}
-use mathlib.Core.Bool.{Bool, true, cond, _&&_}
+use mathlib.Core.Bool.{Bool, true, false, cond, _&&_}
 use native.Mathlib.Numerals.{add-one}
-use native.Mathlib.Nat.{le-of-suc-le, le-trans, zero-add}
+use native.Mathlib.Nat.{le-of-suc-le, le-trans, not-suc-le-zero, zero-add}
 use native.Mathlib.Omega.{arith}
 use Rattle.model.specs.Bits.{bit}
 use Rattle.model.specs.Netlist.{Netlist, port, latchWire, readWire, gateWire}
-use Rattle.model.specs.Circuit.{Values, codeValue, Feeds, addressOf, readData, wordWritten, step, stateAt, run, initial}
+use Rattle.model.specs.Circuit.{Values, codeValue, State, Feeds, addressOf, readData, wordWritten, step, stateAt, run, initial}
 use Rattle.model.specs.Acceptance.{Accepted, IsCode}
-use Rattle.model.specs.Variables.{codeIn, closingLiterals}
+use Rattle.model.specs.Variables.{codeIn, readBit, closingLiterals}
 use Rattle.model.specs.Groups.{clausesOf}
 use Rattle.model.specs.declared.Group.the-variants.{Wires}
 use Rattle.model.specs.Numbers.{Assignment}
@@ -25,18 +25,21 @@ use Rattle.model.proofs.WitnessedReads.{HasRead, pair-witnessed, closin
 use Rattle.model.proofs.Witness.{witness, witness-one, witness-wire, witness-values}
 use Rattle.model.proofs.Groups.{wires-hold, state-first-holds, state-later-holds, gateClauses-holds, resetClauses-holds, latchClauses-holds, pair-holds, closing-holds, property-holds}
 
-module _ (c : Netlist) (ok : Accepted c) (f : Feeds) (k : ℕ) where
+module _ (c : Netlist) (ok : Accepted c) (idle : ℕ → Bool) (f : Feeds) (k : ℕ) where
   -- the run's frames, and their witness
   abbrev u : ℕ → Values
-  u = run c (initial c) f
+  u = run c (initial c idle) f
+
+  abbrev state : ℕ → State
+  state = stateAt c (initial c idle) f
 
   abbrev a : Assignment
   a = witness c k u
 
   -- each frame meets its equations
-  frame-at : (i : ℕ) → IsFrame c (stateAt c (initial c) f i) (f i) (u i)
+  frame-at : (i : ℕ) → IsFrame c (stateAt c (initial c idle) f i) (f i) (u i)
   unfolding run
-  frame-at i = frame-is ok (stateAt c (initial c) f i) (f i)
+  frame-at i = frame-is ok (stateAt c (initial c idle) f i) (f i)
 
   -- the witness agrees with the run
   same : (i : ℕ) → i ≤ k → Same c (assigned c a i) (u i)
@@ -46,6 +49,10 @@ module _ (c : Netlist) (ok : Accepted c) (f : Feeds) (k : ℕ) where
   -- a code's literal has the code's value in the run
   code-value : (i : ℕ) → i ≤ k → (x : ℕ) → IsCode c x → value a (codeIn c i x) ≡ codeValue (u i) x
   code-value i d x fits = codeIn-value c a i x ∙ code-agrees c (assigned c a i) (u i) (same i d) x fits
+
+  -- so has a read bit's literal
+  bit-value : (i : ℕ) → i ≤ k → (t : ℕ) → t < c .n → value a (readBit c (port c) i t) ≡ u i (readWire c t)
+  bit-value i d t b = readBit-value c (port c) a i t ∙ rw (zero-add t) (same i d (readWire c t) (omega arith))
 
   -- the clauses of a frame's gates and latches hold, as the frame's equations do
   gate-holds : (i : ℕ) → i ≤ k → (g : ℕ) → g < c .gates
@@ -83,8 +90,24 @@ module _ (c : Netlist) (ok : Accepted c) (f : Feeds) (k : ℕ) where
       → u i (readWire c t) ≡ bit (stepped (c .initialWord) (hits c (port c) u i) (λ j. wordWritten c (u j)) i) t
   unfolding readData initial hits
   read-bit i r t b =
-      frame-at i .at-read t b ∙ ap (λ (x : Bool). cond x (bit (stateAt c (initial c) f i .memory (addressOf c (port c) (u i))) t) (f i .idle t)) r
-      ∙ ap (λ (w : ℕ). bit w t) (memory-stepped c (initial c) f (addressOf c (port c) (u i)) i)
+      frame-at i .at-read t b
+      ∙ ap (λ (x : Bool). cond x (bit (state i .memory (addressOf c (port c) (u i))) t) (state i .held t)) r
+      ∙ ap (λ (w : ℕ). bit w t) (memory-stepped c (initial c idle) f (addressOf c (port c) (u i)) i)
+
+  -- where a later frame does not, its read bits are those of the frame before
+  held-bit : (i : ℕ) → codeValue (u (suc i)) (c .RE) ≡ false → (t : ℕ) → t < c .n → u (suc i) (readWire c t) ≡ u i (readWire c t)
+  unfolding readData stateAt step run
+  held-bit i r t b =
+      frame-at (suc i) .at-read t b
+      ∙ ap (λ (x : Bool). cond x (bit (state (suc i) .memory (addressOf c (port c) (u (suc i)))) t) (state (suc i) .held t)) r
+
+  held-at : (i : ℕ) → i ≤ k → 0 < i → codeValue (u i) (c .RE) ≡ false → (t : ℕ) → t < c .n
+      → value a (readBit c (port c) i t) ≡ value a (closingLiterals c (port c) i .before t)
+  unfolding closingLiterals
+  held-at zero d l r t b = absurd (not-suc-le-zero l)
+  held-at (suc i) d l r t b =
+      let last : suc i - 1 ≡ i = omega arith in
+      rw last (bit-value (suc i) d t b ∙ held-bit i r t b ∙ sym (bit-value i (le-of-suc-le d) t b))
 
   -- the witness has frame i's read
   read-at : (i : ℕ) → i ≤ k → HasRead c (port c) u a i (c .initialWord)
@@ -94,11 +117,12 @@ module _ (c : Netlist) (ok : Accepted c) (f : Feeds) (k : ℕ) where
         RE-code = ok .limits .codes .RE-fits;
         codes = λ j b. code-value j (le-trans b d);
         pairs = λ j b. witness-values c k u j i b d;
-        word = λ r t b. readBit-value c (port c) a i t ∙ rw (zero-add t) (same i d (readWire c t) (omega arith) ∙ read-bit i r t b);
+        word = λ r t b. bit-value i d t b ∙ read-bit i r t b;
+        held = held-at i d;
       }
 
   -- so does every group, where the run breaks the property
-  pub run-groups : Breaks c (initial c) k f → EachGroup c k (AllHold a)
+  pub run-groups : Breaks c (initial c idle) k f → EachGroup c k (AllHold a)
   unfolding Breaks closingLiterals value
   run-groups h =
       record {
@@ -109,6 +133,6 @@ module _ (c : Netlist) (ok : Accepted c) (f : Feeds) (k : ℕ) where
       }
 
   -- and the witness agrees with the run
-  pub run-agrees : Agrees c (initial c) k a f
+  pub run-agrees : Agrees c (initial c idle) k a f
   unfolding Agrees
   run-agrees i d w lo hi = witness-wire c k u i w d lo hi

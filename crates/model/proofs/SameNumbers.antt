@@ -1,10 +1,10 @@
 -- Netlists that agree below their sizes (specs/Agree.antt) have the same variables and the same clauses, group by group: no entry
 -- past a size is asked for. No contract cites this file.
-use Prim.Native.Nat.{ℕ, zero, suc, _+_, _<_}
-use mathlib.Core.Path.{_≡_, ap, ap₂}
+use Prim.Native.Nat.{ℕ, zero, suc, _+_, _-_, _<_}
+use mathlib.Core.Path.{_≡_, refl, ap, ap₂}
 use mathlib.Core.List.{List, [], _∷_, _++_}
 use Rattle.model.specs.Netlist.{Netlist, port}
-use Rattle.model.specs.Clauses.{Clause, Literal, PairLiterals, ClosingLiterals, addressBitClauses, unequalOf, allBits, forwardedClauses, pairClauses, initialReadClauses, selectedOf, someSource, closingClauses, plus, neg, andClauses}
+use Rattle.model.specs.Clauses.{Clause, Literal, PairLiterals, ClosingLiterals, addressBitClauses, unequalOf, allBits, forwardedClauses, pairClauses, initialReadClauses, heldClauses, heldReads, selectedOf, someSource, closingClauses, plus, neg, andClauses}
 use Rattle.model.specs.Variables.{base, pairBase, noneSince, selected, readBit, pairLiterals, closingLiterals}
 use Rattle.model.specs.Groups.{gateClauses, resetClauses, latchClauses, stateClauses, violationOf, clausesOf}
 use Rattle.model.specs.Numbers.{written, numbersOf}
@@ -111,6 +111,10 @@ module _ (c d : Netlist) (q : Agree c d) where
     unfolding initialReadClauses closingLiterals
     initial-same t b = rw (none-same 0 i, readBit-same i t, word-same c d q)
 
+    held-bit-same : (t : ℕ) → t < c .n → heldClauses u t ≡ heldClauses v t
+    unfolding heldClauses closingLiterals
+    held-bit-same t b = rw (readBit-same i t, readBit-same (i - 1) t, base-same i, q .RE-same)
+
     source-same : (j : ℕ) → j < i → selectedOf u j ≡ selectedOf v j
     unfolding selectedOf closingLiterals
     source-same j b = rw (selected-same j i)
@@ -121,9 +125,15 @@ module _ (c d : Netlist) (q : Agree c d) where
         ap₂ (λ (r : Literal) (zs : Clause). neg r ∷ zs) (rw (base-same i, q .RE-same))
         (ap₂ (λ (z : Literal) (ss : Clause). z ∷ ss) (none-same 0 i) (gather-same i (selectedOf u) (selectedOf v) source-same))
 
-    closing-same : closingClauses (c .n) i u ≡ closingClauses (d .n) i v
-    unfolding closingClauses
-    closing-same = ap₂ (λ (a : List Clause) (s : Clause). a ++ s ∷ []) (gathers-same (n-same c d q) initial-same) some-same
+  held-same : (i : ℕ) → heldReads (c .n) i (closingLiterals c (port c) i) ≡ heldReads (d .n) i (closingLiterals d (port d) i)
+  unfolding heldReads
+  held-same zero = refl
+  held-same (suc i) = gathers-same (n-same c d q) (held-bit-same (suc i))
+
+  closing-same : (i : ℕ) → closingClauses (c .n) i (closingLiterals c (port c) i) ≡ closingClauses (d .n) i (closingLiterals d (port d) i)
+  unfolding closingClauses
+  closing-same i =
+      ap₂ (λ (a : List Clause) (s : Clause). a ++ s ∷ []) (ap₂ _++_ (gathers-same (n-same c d q) (initial-same i)) (held-same i)) (some-same i)
 
   violated-same : (i : ℕ) → violationOf c i ≡ violationOf d i
   unfolding violationOf

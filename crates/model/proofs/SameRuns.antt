@@ -21,13 +21,14 @@ use Rattle.model.proofs.SameNumbers.{base-same}
 
 -- a state agrees with itself
 pub same-state : (c : Netlist) (s : State) → SameState c s s
-same-state c s = record { latch-same = λ l b. refl; memory-same = λ x. refl }
+same-state c s = record { latch-same = λ l b. refl; memory-same = λ x. refl; held-same = λ t b. refl }
 
 module _ (c d : Netlist) (q : Agree c d) where
   -- so do the two initial states
-  pub initial-same : SameState c (initial c) (initial d)
+  pub initial-same : (idle : ℕ → Bool) → SameState c (initial c idle) (initial d idle)
   unfolding initial
-  initial-same = record { latch-same = λ l b. rw (q .reset-same l b); memory-same = λ x. word-same c d q }
+  initial-same idle =
+      record { latch-same = λ l b. rw (q .reset-same l b); memory-same = λ x. word-same c d q; held-same = λ t b. refl }
 
   -- from the same inputs, latches and read bits every wire has the same value
   module _ (input : ℕ → Bool) {latch other read back : ℕ → Bool} (latches : (l : ℕ) → l < c .latches → latch l ≡ other l)
@@ -61,9 +62,10 @@ module _ (c d : Netlist) (q : Agree c d) where
     word-written-same = fromBits-same (c .n) _ _ (λ t b. code-value-same (q .data-same t b)) ∙ rw (n-same c d q)
 
     module _ {s r : State} (states : SameState c s r) where
-      read-same : (f : Feed) (t : ℕ) → readData c s f u t ≡ readData d r f v t
+      read-same : (t : ℕ) → t < readBits c → readData c s u t ≡ readData d r v t
       unfolding readData
-      read-same f t = rw (code-value-same (q .RE-same), addressOf-same, states .memory-same (addressOf d (port d) v))
+      read-same t b =
+          rw (code-value-same (q .RE-same), addressOf-same, states .memory-same (addressOf d (port d) v), states .held-same t b)
 
       step-same : SameState c (step c s u) (step d r v)
       unfolding step
@@ -71,6 +73,7 @@ module _ (c d : Netlist) (q : Agree c d) where
           record {
             latch-same = λ l b. code-value-same (q .next-same l b);
             memory-same = λ x. rw (code-value-same (q .WE-same), addressOf-same, word-written-same, states .memory-same x);
+            held-same = λ t b. same (readWire c t) ∙ rw (inputs-same c d q, latches-same c d q);
           }
 
   -- from states that agree, fed alike
@@ -81,7 +84,7 @@ module _ (c d : Netlist) (q : Agree c d) where
 
     frame-same : (w : ℕ) → frame c s f w ≡ frame d r f w
     unfolding frame
-    frame-same = evaluate-same (f .input) (states .latch-same) (λ t b. read-same first-same states f t)
+    frame-same = evaluate-same (f .input) (states .latch-same) (read-same first-same states)
 
   module _ {s r : State} (states : SameState c s r) (f : Feeds) where
     pub stateAt-same : (i : ℕ) → SameState c (stateAt c s f i) (stateAt d r f i)

@@ -22,18 +22,19 @@ use Rattle.model.proofs.Booleans.{and-true}
 use Rattle.model.proofs.Memory.{address-below, word-below}
 use Rattle.model.proofs.Gather.{all-getD}
 use Rattle.model.proofs.Numbering.{numbered}
-use Rattle.model.proofs.Lengths.{wires-clauses-first, wires-clauses-later, pair-clauses, closing-clauses, property-clauses, wires-numbers-first, wires-numbers-later, pair-numbers, closing-numbers, property-numbers}
+use Rattle.model.proofs.Lengths.{wires-clauses-first, wires-clauses-later, pair-clauses, closing-clauses-first, closing-clauses-later, property-clauses, wires-numbers-first, wires-numbers-later, pair-numbers, closing-numbers-first, closing-numbers-later, property-numbers}
 use Rattle.model.proofs.Bounds.{AllLits, Within, wires-within, pairs-within, closing-within, property-within, formula-numbers-within}
 use Rattle.model.proofs.Numbers.{clausesIn-written}
 use Rattle.model.proofs.Claim.{encodes, satisfies-same, unsatisfiable→safe}
 
--- the numbers of a group, as RULES G19 counts them
+-- the numbers of a group, as RULES G27 counts them
 group-numbers : (c : Netlist) (k : ℕ) (g : Group) → length (numbersOf c k g) ≡ numberCount c k g
 unfolding numberCount
 group-numbers c k (Wires zero) = wires-numbers-first c k
 group-numbers c k (Wires (suc i)) = wires-numbers-later c k i
 group-numbers c k (Pair j i) = pair-numbers c k j i
-group-numbers c k (Closing i) = closing-numbers c k i
+group-numbers c k (Closing zero) = closing-numbers-first c k
+group-numbers c k (Closing (suc i)) = closing-numbers-later c k i
 group-numbers c k Property = property-numbers c k
 
 -- its clauses
@@ -42,7 +43,8 @@ unfolding clauseCount
 group-clauses c k (Wires zero) = wires-clauses-first c k
 group-clauses c k (Wires (suc i)) = wires-clauses-later c k i
 group-clauses c k (Pair j i) = pair-clauses c k j i
-group-clauses c k (Closing i) = closing-clauses c k i
+group-clauses c k (Closing zero) = closing-clauses-first c k
+group-clauses c k (Closing (suc i)) = closing-clauses-later c k i
 group-clauses c k Property = property-clauses c k
 
 module _ {c : Netlist} (ok : Accepted c) (k : ℕ) where
@@ -72,7 +74,7 @@ module _ {c : Netlist} (ok : Accepted c) (k : ℕ) where
         unsatisfiable→safe = unsatisfiable→safe (encodes c ok k);
         clauses-counted = clauses-in-group;
         numbers-counted = group-numbers c k;
-        addresses-within = λ f i. address-below c (port c) (run c (initial c) f i);
+        addresses-within = λ idle f i. address-below c (port c) (run c (initial c idle) f i);
         words-within = word-below c ok;
       }
 

@@ -6,8 +6,9 @@ use mathlib.Core.Bool.{Bool, true, false, not, _&&_, _||_, Bool·beq, true≢fal
 use mathlib.Core.List.{List, [], _∷_, _++_}
 use mathlib.Core.Logic.{_⊎_, inl, inr, _↔_, Iff·trans, Iff·and, ⊎-elim, ⊎-map}
 use native.Mathlib.Nat.{not-suc-le-zero, lt-suc-self, le-step}
+use native.Mathlib.Omega.{arith}
 use Rattle.model.specs.Gather.{gather}
-use Rattle.model.specs.Clauses.{Literal, known, plus, minus, Clause, neg, andClauses, sameClauses, sameIfClauses, bitClauses, PairLiterals, addressBitClauses, unequalOf, allBits, forwardedClauses, pairClauses, ClosingLiterals, initialReadClauses, selectedOf, someSource, closingClauses}
+use Rattle.model.specs.Clauses.{Literal, known, plus, minus, Clause, neg, andClauses, sameClauses, sameIfClauses, bitClauses, PairLiterals, addressBitClauses, unequalOf, allBits, forwardedClauses, pairClauses, ClosingLiterals, initialReadClauses, heldClauses, heldReads, selectedOf, someSource, closingClauses}
 use Rattle.model.specs.Numbers.{Assignment}
 use borrow.Author.Tests.{not-true, not-false}
 use Rattle.model.proofs.Below.{below-suc}
@@ -242,12 +243,31 @@ pairClauses-holds a m n x =
 -- The closing's clauses hold exactly where all of this does.
 pub record ClosingHolds (a : Assignment) (n i : ℕ) (x : ClosingLiterals) : Type 0 where
   pub initial-where-Z : (t : ℕ) → t < n → value a (x .Z) ≡ true → value a (x .RD t) ≡ value a (x .W t)
+  pub held-where-idle : 0 < i → (t : ℕ) → t < n → value a (x .RE) ≡ false → value a (x .RD t) ≡ value a (x .before t)
   pub source-where-RE : value a (x .RE) ≡ true → (value a (x .Z) ≡ true) ⊎ ((j : ℕ) × (j < i) × (value a (x .S j) ≡ true))
 
 pub initialReadClauses-holds : (a : Assignment) (x : ClosingLiterals) (t : ℕ)
     → AllHold a (initialReadClauses x t) ↔ (value a (x .Z) ≡ true → value a (x .RD t) ≡ value a (x .W t))
 unfolding initialReadClauses
 initialReadClauses-holds a x t = Iff·trans (sameIfClauses-holds a _ _ _) (λ h e. let q = h e in (cc), λ h e. let q = h e in (cc))
+
+-- (RE ¬RDi RDi−1), (RE RDi ¬RDi−1): where RE is false, the word of the frame before
+pub heldClauses-holds : (a : Assignment) (x : ClosingLiterals) (t : ℕ)
+    → AllHold a (heldClauses x t) ↔ (value a (x .RE) ≡ false → value a (x .RD t) ≡ value a (x .before t))
+unfolding heldClauses
+heldClauses-holds a x t =
+    Iff·trans (sameIfClauses-holds a _ _ _)
+    (λ h e. h (value-neg a (x .RE) ∙ ap not e), λ h e. h (not-true (value a (x .RE)) (sym (value-neg a (x .RE)) ∙ e)))
+
+pub heldReads-holds : (a : Assignment) (n i : ℕ) (x : ClosingLiterals)
+    → AllHold a (heldReads n i x)
+    ↔ (0 < i → (t : ℕ) → t < n → value a (x .RE) ≡ false → value a (x .RD t) ≡ value a (x .before t))
+unfolding heldReads
+heldReads-holds a n zero x = (λ h l. absurd (not-suc-le-zero l), λ h. allHold-none a .1 tt)
+heldReads-holds a n (suc i) x = (
+  λ h l t b. heldClauses-holds a x t .0 (allHold-gather a n (heldClauses x) .0 h t b),
+  λ h. allHold-gather a n (heldClauses x) .1 (λ t b. heldClauses-holds a x t .1 (h (omega arith) t b)),
+)
 
 pub selectedOf-holds : (a : Assignment) (x : ClosingLiterals) (j : ℕ) → anyTrue a (selectedOf x j) ≡ value a (x .S j)
 unfolding selectedOf
@@ -282,5 +302,5 @@ pub closingClauses-holds : (a : Assignment) (n i : ℕ) (x : ClosingLiterals)
     → AllHold a (closingClauses n i x) ↔ ClosingHolds a n i x
 unfolding closingClauses
 closingClauses-holds a n i x =
-    simp (allHold-append a, allHold-cons a, allHold-none a, allHold-gather a, initialReadClauses-holds a, someSource-holds a)
+    simp (allHold-append a, allHold-cons a, allHold-none a, allHold-gather a, initialReadClauses-holds a, heldReads-holds a, someSource-holds a)
     (λ h. search, λ h. search)

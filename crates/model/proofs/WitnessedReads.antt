@@ -3,7 +3,7 @@
 -- of frame i hold. No contract cites this file.
 use Prim.Native.Nat.{ℕ, suc, zero-le, _-_, _<_, _≤_}
 use mathlib.Core.Path.{_≡_, sym, _∙_, ap, ap₂}
-use mathlib.Core.Bool.{Bool, true, cond, not, _&&_, and-comm, Bool·beq}
+use mathlib.Core.Bool.{Bool, true, false, cond, not, _&&_, and-comm, Bool·beq}
 use mathlib.Core.Logic.{⊎-elim, ⊎-map}
 use native.Mathlib.Numerals.{add-one}
 use native.Mathlib.Nat.{le-refl, le-of-lt, eq-or-lt-of-le}
@@ -44,6 +44,8 @@ pub record HasRead (c : Netlist) (p : Port) (u : ℕ → Values) (a : Assignment
   pub pairs : (j : ℕ) → j < i → PairValues c p u a j i
   pub word : codeValue (u i) (p .RE) ≡ true → (t : ℕ) → t < c .n
       → value a (readBit c p i t) ≡ bit (stepped start (hits c p u i) (λ j. wordWritten c (u j)) i) t
+  pub held : 0 < i → codeValue (u i) (p .RE) ≡ false → (t : ℕ) → t < c .n
+      → value a (readBit c p i t) ≡ value a (closingLiterals c p i .before t)
 
 module _ {c : Netlist} (fit : CodesFit c) {p : Port} {u : ℕ → Values} {a : Assignment} {i start : ℕ} (has : HasRead c p u a i start) where
   -- the writes to the word read, and RE, make a chain
@@ -114,6 +116,7 @@ module _ {c : Netlist} (fit : CodesFit c) {p : Port} {u : ℕ → Values} {a : A
   closing-witnessed first =
       record {
         initial-where-Z = λ t b h. read-since 0 zero-le (sym (noneSince-value 0 zero-le) ∙ h) t b ∙ first t b;
+        held-where-idle = λ l t b h. has .held l (sym (has .codes i (le-refl i) (p .RE) (has .RE-code)) ∙ h) t b;
         source-where-RE = λ h.
             ⊎-map (λ z. noneSince-value 0 zero-le ∙ z) (λ x. (x .0, x .1, has .pairs (x .0) (x .1) .S-is ∙ x .2))
             (source-exists i (hits c p u i) (nones c p u i) chain-at start (λ j. wordWritten c (u j)) i (le-refl i)

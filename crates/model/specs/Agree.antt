@@ -4,7 +4,7 @@
 use Prim.Native.Nat.{ℕ, _<_}
 use mathlib.Core.Path.{_≡_}
 use mathlib.Core.List.{List, [], _∷_}
-use Rattle.model.specs.Netlist.{Netlist}
+use Rattle.model.specs.Netlist.{Netlist, readBits}
 use Rattle.model.specs.Circuit.{State}
 
 -- two netlists with the same sizes
@@ -27,7 +27,8 @@ pub record Agree (c d : Netlist) : Type 0 where
   pub RE-same : c .RE ≡ d .RE
   pub P-same : c .P ≡ d .P
 
--- two states of a netlist that agree on its latches and on every word
+-- two states of a netlist that agree on its latches, on every word and on the read bits held
 pub record SameState (c : Netlist) (s r : State) : Type 0 where
   pub latch-same : (l : ℕ) → l < c .latches → s .latch l ≡ r .latch l
   pub memory-same : (x : ℕ) → s .memory x ≡ r .memory x
+  pub held-same : (t : ℕ) → t < readBits c → s .held t ≡ r .held t

@@ -1,4 +1,4 @@
--- The sequential circuit with its whole memory, and its runs through time frames (RULES C1 to C16). Cited by the claim,
+-- The sequential circuit with its whole memory, and its runs through time frames (RULES C1 to C22). Cited by the claim,
 -- and for dependence on a read bit by the tests of records.
 use Prim.Native.Nat.{ℕ, zero, suc, _-_, _/_, _<_}
 use mathlib.Core.Path.{_≡_}
@@ -61,15 +61,15 @@ pub data ReadPath (c : Netlist) : ℕ → Type 0 where
   by-left : (g : ℕ) → g < c .gates → ReadPath c (c .left g / 2) → ReadPath c (gateWire c g)
   by-right : (g : ℕ) → g < c .gates → ReadPath c (c .right g / 2) → ReadPath c (gateWire c g)
 
--- what a run carries from frame to frame: the latches and the 2^m words (RULES C11)
+-- what a run carries from frame to frame: the latches, the 2^m words, and the read bits of the frame before (RULES C20)
 pub record State : Type 0 where
   pub latch : ℕ → Bool
   pub memory : ℕ → ℕ
+  pub held : ℕ → Bool
 
--- what a run is fed in a frame: the inputs, and the bits of the customer's "idle word", the read bits where RE is false (RULES C10)
+-- what a run is fed in a frame (RULES C19). The customer's "idle word", frame 0's alone, is `held` of the initial state
 pub record Feed : Type 0 where
   pub input : ℕ → Bool
-  pub idle : ℕ → Bool
 
 -- what a run is fed, frame by frame
 abbrev pub Feeds : Type 0
@@ -79,27 +79,28 @@ Feeds = ℕ → Feed
 unfoldable pub addressOf : Netlist → Port → Values → ℕ
 addressOf c p v = fromBits (c .m) (λ t. codeValue v (p .address t))
 
--- the read bits that follow from the memory before this frame's write, and from the address and RE in the values v (RULES C4 and C5)
-unfoldable pub readData : Netlist → State → Feed → Values → ℕ → Bool
-readData c s f v t = cond (codeValue v (port c .RE)) (bit (s .memory (addressOf c (port c) v)) t) (f .idle t)
+-- the read bits that follow from the state before this frame's write, and from the address and RE in the values v (RULES C4, C17, C18)
+unfoldable pub readData : Netlist → State → Values → ℕ → Bool
+readData c s v t = cond (codeValue v (port c .RE)) (bit (s .memory (addressOf c (port c) v)) t) (s .held t)
 
--- One frame. First pass: every read bit 0, which settles address and RE. Second pass: all gates afresh, with the read bits. RULES C12 and C13.
+-- One frame. First pass: every read bit 0, which settles address and RE. Second pass: all gates afresh, with the read bits. RULES C12 and C21.
 unfoldable pub firstPass : Netlist → State → Feed → Values
 firstPass c s f = evaluate c (f .input) (s .latch) (λ t. false)
 
 unfoldable pub frame : Netlist → State → Feed → Values
-frame c s f = evaluate c (f .input) (s .latch) (readData c s f (firstPass c s f))
+frame c s f = evaluate c (f .input) (s .latch) (readData c s (firstPass c s f))
 
 -- the word written in a frame
 unfoldable pub wordWritten : Netlist → Values → ℕ
 wordWritten c v = fromBits (c .n) (λ t. codeValue v (c .writeData t))
 
--- after a frame: the write, and all latches at once, both from this frame's values (RULES C7 and C14)
+-- after a frame: the write, all latches at once, and the read bits to be held, all from this frame's values (RULES C7 and C22)
 unfoldable pub step : Netlist → State → Values → State
 step c s v =
     record {
       latch = λ l. codeValue v (c .next l);
       memory = λ x. cond (codeValue v (c .WE) && eqb x (addressOf c (port c) v)) (wordWritten c v) (s .memory x);
+      held = λ t. v (readWire c t);
     }
 
 -- the state in which frame i begins, and the values in frame i, of the run from state s (RULES C15)
@@ -110,6 +111,6 @@ stateAt c s f (suc i) = step c (stateAt c s f i) (frame c (stateAt c s f i) (f i
 unfoldable pub run : Netlist → State → Feeds → ℕ → Values
 run c s f i = frame c (stateAt c s f i) (f i)
 
--- the state at the start: latches at their reset, each word the initial word (RULES C1 and C2)
-unfoldable pub initial : Netlist → State
-initial c = record { latch = λ l. eqb (c .reset l) 1; memory = λ x. c .initialWord }
+-- the state at the start: latches at their reset, each word the initial word, and the idle word of frame 0 (RULES C1, C2 and C18)
+unfoldable pub initial : Netlist → (ℕ → Bool) → State
+initial c idle = record { latch = λ l. eqb (c .reset l) 1; memory = λ x. c .initialWord; held = idle }

@@ -1,16 +1,16 @@
--- Demand 3, the correctness of the encoding in both directions (`Encodes`), and the theorem (`EncodingTheorem`). RULES A2 to A11.
+-- Demand 3, the correctness of the encoding in both directions (`Encodes`), and the theorem (`EncodingTheorem`). RULES A2 to A12.
 --
 -- `Satisfies c k a`: the assignment a makes every clause true that stands in the numbers written for depth k.
--- First direction: whatever assignment does so, its inputs and idle read bits, fed frame by frame to the circuit with its whole
--- memory from its initial state, drive every wire of every frame 0 to k as assigned, and break the property in one of them.
--- Second direction: for every run from that state, whatever it is fed, that breaks the property in some frame 0 to k, there is an
--- assignment that does so and agrees with the run on every wire of every frame 0 to k.
+-- First direction: whatever assignment does so, its inputs, fed frame by frame to the circuit with its whole memory from its initial
+-- state with frame 0's read bits as idle word, drive every wire of every frame 0 to k as assigned, and break the property in one.
+-- Second direction: for every run, whatever its idle word and whatever it is fed, that breaks the property in some frame 0 to k, there
+-- is an assignment that does so and agrees with the run on every wire of every frame 0 to k.
 -- Without the first a solver's answer could be no run of the chip; without the second a fault could go unfound.
 -- The theorem says so of every accepted netlist and every depth; its proof is `encodes` in proofs/Claim.antt. Cited by the contracts of
 -- `heading` and `read`.
 use Prim.Native.Nat.{ℕ, _+_, _^_, _≤_, _<_}
 use mathlib.Core.Path.{_≡_}
-use mathlib.Core.Bool.{true, false}
+use mathlib.Core.Bool.{Bool, true, false}
 use lib.IntN.{natAbs, pos}
 use lib.ListN.{length, getD}
 use Rattle.model.specs.Netlist.{Netlist, port, inputWire, readWire, lastWire}
@@ -25,9 +25,12 @@ use Rattle.model.specs.declared.Group.{Group}
 unfoldable pub Satisfies : Netlist → ℕ → Assignment → Type 0
 Satisfies c k a = allTrue a (clausesIn (formula c k)) ≡ true
 
--- what an assignment feeds in frame i: its input variables and, as idle word, its read-bit variables (RULES A5)
+-- what an assignment feeds in frame i, its input variables; and its idle word, frame 0's read-bit variables (RULES A12)
 unfoldable pub feedOf : Netlist → Assignment → Feeds
-feedOf c a i = record { input = λ x. a (base c i + inputWire c x); idle = λ t. a (base c i + readWire c t) }
+feedOf c a i = record { input = λ x. a (base c i + inputWire c x) }
+
+unfoldable pub idleOf : Netlist → Assignment → ℕ → Bool
+idleOf c a t = a (base c 0 + readWire c t)
 
 -- the assignment and the run from state s agree on every wire of every frame from 0 to k (RULES A6)
 unfoldable pub Agrees : Netlist → State → ℕ → Assignment → Feeds → Type 0
@@ -40,8 +43,10 @@ Breaks c s k f = (i : ℕ) × (i ≤ k) × (codeValue (run c s f i) (c .P) ≡ f
 
 -- demand 3 (RULES A8 and A9)
 pub record Encodes (c : Netlist) (k : ℕ) : Type 0 where
-  pub assignment→run : (a : Assignment) → Satisfies c k a → Agrees c (initial c) k a (feedOf c a) × Breaks c (initial c) k (feedOf c a)
-  pub run→assignment : (f : Feeds) → Breaks c (initial c) k f → (a : Assignment) × Satisfies c k a × Agrees c (initial c) k a f
+  pub assignment→run : (a : Assignment) → Satisfies c k a
+      → Agrees c (initial c (idleOf c a)) k a (feedOf c a) × Breaks c (initial c (idleOf c a)) k (feedOf c a)
+  pub run→assignment : (idle : ℕ → Bool) (f : Feeds) → Breaks c (initial c idle) k f
+      → (a : Assignment) × Satisfies c k a × Agrees c (initial c idle) k a f
 
 -- The theorem: `encodes` in proofs/Claim.antt is of this type.
 abbrev pub EncodingTheorem : Type 0
@@ -49,17 +54,17 @@ EncodingTheorem = (c : Netlist) → Accepted c → (k : ℕ) → Encodes c k
 
 -- What else is said of the clauses of a depth. An assignment is of the variables from 1 to B(k + 1) (RULES A3): no other matters, each of
 -- them is numbered, and every number written is one of them or an end mark. Where no assignment satisfies the clauses, no run breaks
--- the property: this is what a designer relies on. A group has as many clauses and numbers as RULES G18 and G19 count. A run's
+-- the property: this is what a designer relies on. A group has as many clauses and numbers as RULES G26 and G27 count. A run's
 -- memory is 2^m words of n bits (RULES C1): no frame has another address, and no word is longer.
 pub record Stated (c : Netlist) (k : ℕ) : Type 0 where
   pub only-numbered : (a a′ : Assignment) → ((v : ℕ) → 1 ≤ v → v ≤ base c (k + 1) → a v ≡ a′ v) → Satisfies c k a → Satisfies c k a′
   pub all-numbered : (v : ℕ) → 1 ≤ v → v ≤ base c (k + 1) → Numbered c k v
   pub numbers-within : (x : ℕ) → natAbs (getD (formula c k) x (pos 0)) ≤ base c (k + 1)
-  pub unsatisfiable→safe : ((a : Assignment) → Satisfies c k a → ⊥) → (f : Feeds) → Breaks c (initial c) k f → ⊥
+  pub unsatisfiable→safe : ((a : Assignment) → Satisfies c k a → ⊥) → (idle : ℕ → Bool) (f : Feeds) → Breaks c (initial c idle) k f → ⊥
   pub clauses-counted : (g : Group) → inDepth k g ≡ true → length (clausesIn (numbersOf c k g)) ≡ clauseCount c k g
   pub numbers-counted : (g : Group) → length (numbersOf c k g) ≡ numberCount c k g
-  pub addresses-within : (f : Feeds) (i : ℕ) → addressOf c (port c) (run c (initial c) f i) < 2 ^ c .m
-  pub words-within : (f : Feeds) (i x : ℕ) → stateAt c (initial c) f i .memory x < 2 ^ c .n
+  pub addresses-within : (idle : ℕ → Bool) (f : Feeds) (i : ℕ) → addressOf c (port c) (run c (initial c idle) f i) < 2 ^ c .m
+  pub words-within : (idle : ℕ → Bool) (f : Feeds) (i x : ℕ) → stateAt c (initial c idle) f i .memory x < 2 ^ c .n
 
 -- likewise: `stated` in proofs/Stated.antt
 abbrev pub StatedTheorem : Type 0

@@ -1,7 +1,7 @@
 -- Clauses over literals, and the clauses of a gate, a pair and a closing: nothing here knows a variable's number.
--- RULES G1 to G13; Ganai et al. 2004, section 4.1 and equations (3) and (4). Cited by `Groups` and by what
+-- RULES G1 to G13 and G25; Ganai et al. 2004, section 4.1 and equations (3) and (4). Cited by `Groups` and by what
 -- writes clauses.
-use Prim.Native.Nat.{ℕ}
+use Prim.Native.Nat.{ℕ, zero, suc}
 use mathlib.Core.Bool.{Bool, not}
 use mathlib.Core.List.{List, [], _∷_, _++_}
 use Rattle.model.specs.Gather.{gather}
@@ -29,7 +29,7 @@ andClauses g a b = (neg g ∷ a ∷ []) ∷ (neg g ∷ b ∷ []) ∷ (g ∷ neg 
 unfoldable pub sameClauses : Literal → Literal → List Clause
 sameClauses q d = (neg q ∷ d ∷ []) ∷ (q ∷ neg d ∷ []) ∷ []
 
--- where p is true, a = b (RULES G10 and G12)
+-- where p is true, a = b (RULES G10, G12 and G25)
 unfoldable pub sameIfClauses : Literal → Literal → Literal → List Clause
 sameIfClauses p a b = (neg p ∷ neg a ∷ b ∷ []) ∷ (neg p ∷ a ∷ neg b ∷ []) ∷ []
 
@@ -78,19 +78,30 @@ pairClauses m n x =
     gather m (addressBitClauses x) ++ allBits m x ∷ [] ++ andClauses (x .s) (x .E) (x .WE) ++ andClauses (x .PS) (neg (x .s)) (x .N)
     ++ andClauses (x .S) (x .s) (x .N) ++ gather n (forwardedClauses x)
 
--- The literals of the customer's "closing" of frame i (RULES G11): the paper's j = -1, a read of a word that no earlier frame wrote.
+-- The literals of the customer's "closing" of frame i (RULES G11): the paper's j = -1, a read of a word that no earlier frame wrote;
+-- and what the read bits are where nothing is read.
 pub record ClosingLiterals : Type 0 where
   -- PS of pair (0, i), or RE where i = 0
   pub Z : Literal
   pub RE : Literal
   -- S of pair (j, i)
   pub S : ℕ → Literal
-  -- read data, and the initial word's bits
+  -- read data, the initial word's bits, and, where i is not 0, the read data of frame i - 1
   pub RD : ℕ → Literal
   pub W : ℕ → Literal
+  pub before : ℕ → Literal
 
 unfoldable pub initialReadClauses : ClosingLiterals → ℕ → List Clause
 initialReadClauses x t = sameIfClauses (x .Z) (x .RD t) (x .W t)
+
+-- (RE ¬RDi RDi−1), (RE RDi ¬RDi−1): where RE is false, the word of the frame before is held (RULES G25)
+unfoldable pub heldClauses : ClosingLiterals → ℕ → List Clause
+heldClauses x t = sameIfClauses (neg (x .RE)) (x .RD t) (x .before t)
+
+-- of every data bit; frame 0 has none before it
+unfoldable pub heldReads : ℕ → ℕ → ClosingLiterals → List Clause
+heldReads n zero x = []
+heldReads n (suc i) x = gather n (heldClauses x)
 
 -- S of pair (j, i)
 unfoldable pub selectedOf : ClosingLiterals → ℕ → List Literal
@@ -100,5 +111,6 @@ selectedOf x j = x .S j ∷ []
 unfoldable pub someSource : ℕ → ClosingLiterals → Clause
 someSource i x = neg (x .RE) ∷ x .Z ∷ gather i (selectedOf x)
 
+-- RULES G12, G25 and G13, in their order
 unfoldable pub closingClauses : ℕ → ℕ → ClosingLiterals → List Clause
-closingClauses n i x = gather n (initialReadClauses x) ++ someSource i x ∷ []
+closingClauses n i x = gather n (initialReadClauses x) ++ heldReads n i x ++ someSource i x ∷ []

@@ -1,4 +1,4 @@
--- How many clauses and numbers a group has (RULES G18 and G19, line for line). Cited by the
+-- How many clauses and numbers a group has (RULES G26 and G27, line for line). Cited by the
 -- claim.
 use Prim.Native.Nat.{ℕ, zero, suc, _+_, _*_}
 use Rattle.model.specs.Netlist.{Netlist}
@@ -9,12 +9,14 @@ unfoldable pub clauseCount : Netlist → ℕ → Group → ℕ
 clauseCount c k (Wires zero) = 1 + c .latches + 3 * c .gates
 clauseCount c k (Wires (suc i)) = 2 * c .latches + 3 * c .gates
 clauseCount c k (Pair j i) = 4 * c .m + 2 * c .n + 10
-clauseCount c k (Closing i) = 2 * c .n + 1
+clauseCount c k (Closing zero) = 2 * c .n + 1
+clauseCount c k (Closing (suc i)) = 4 * c .n + 1
 clauseCount c k Property = 1
 
 unfoldable pub numberCount : Netlist → ℕ → Group → ℕ
 numberCount c k (Wires zero) = 2 + 2 * c .latches + 10 * c .gates
 numberCount c k (Wires (suc i)) = 6 * c .latches + 10 * c .gates
 numberCount c k (Pair j i) = 17 * c .m + 8 * c .n + 32
-numberCount c k (Closing i) = 8 * c .n + i + 3
+numberCount c k (Closing zero) = 8 * c .n + 3
+numberCount c k (Closing (suc i)) = 16 * c .n + suc i + 3
 numberCount c k Property = k + 2

@@ -74,6 +74,7 @@ closingLiterals c p i =
       S = λ j. selected c p j i;
       RD = readBit c p i;
       W = λ t. known (bit (c .initialWord) t);
+      before = readBit c p (i - 1);
     }
 
 -- what a variable of depth k stands for: the constant, a wire of a frame, or one of a pair (RULES V6)

@@ -4,7 +4,8 @@ use native.Mathlib.Omega.{arith}
 use Rattle.model.specs.Circuit.{addressOf, readData}
 use Rattle.netlist.specs.NetOf.{netOf}
 use Rattle.netlist.proofs.NetOf.{limits-alone}
-use Rattle.circuit_step.proofs.Held.{below-same, frame-alike, holds-lists, fed-lists}
+use Rattle.circuit_values.specs.WireTable.{entry}
+use Rattle.circuit_step.proofs.Held.{below-same, frame-alike, reads-in, holds-lists, fed-lists}
 use borrow.Author.Needs.{needs}
 use Rattle.circuit_step.proofs.put_frame.Statement.{statement}
 use Rattle.circuit_step.proofs.put_frame.Tie as tie
@@ -22,13 +23,13 @@ evaluate-requires-2 c κs = search needs
 returns : tie.Need-returns
 unfolding netOf readData addressOf
 returns c =
-    λ s f held fed.
     let start = c .before .before .before .before .before .before .before in
-    let a = start .args in
-    let d = netOf (a .net) [] (a .gates .now) in
-    below-same (c .evaluate2 .ensures) (λ w h.
-    frame-alike (start .pre .0) (holds-lists (a .net) [] [] [] (a .gates .now) held) (fed-lists (a .net) [] [] [] (a .gates .now) fed) (c .before .before .before .before .evaluate .ensures)
-    (c .before .before .read-word .result) (c .before .before .read-word .ensures) w (omega arith))
+    let a = start .args in (
+      λ s f held fed. below-same (c .evaluate2 .ensures) (λ w h.
+          frame-alike (start .pre .0) (holds-lists (a .net) [] [] [] (a .gates .now) held) (fed-lists (a .net) [] [] [] (a .gates .now) fed) (c .before .before .before .before .evaluate .ensures)
+          (c .before .before .read-word .result) (c .before .before .read-word .ensures) w (omega arith)),
+      reads-in (start .pre .0 .codes) (entry (a .inputs .now)) (entry (a .state .now)) (c .before .before .read-word .result) (c .evaluate2 .ensures),
+    )
 
 pub put-frame-spec : {M : Type 1} → statement M
 put-frame-spec =

@@ -40,13 +40,13 @@ returns c =
     let start = c .before .before .before .before .before .before .before .before .before .before .before .before .before in
     let a = start .args in
     let d = netOf (a .net) (a .latches .now) (a .gates .now) in
-    let table : (s : State) (f : Feed) → Holds d s (a .state .now) (a .memory .now) → Fed d f (a .inputs .now) (a .idle) → HasBelow (lastWire d + 1) (frame d s f) (_)
-    = λ s f held fed. below-same (c .before .before .before .before .before .before .before .before .put-frame .ensures s f (holds-lists (a .net) (a .latches .now) (a .gates .now) [] [] held) (fed-lists (a .net) (a .latches .now) (a .gates .now) [] [] fed))
+    let table : (s : State) (f : Feed) → Holds d s (a .state .now) (a .memory .now) (a .held) → Fed d f (a .inputs .now) → HasBelow (lastWire d + 1) (frame d s f) (_)
+    = λ s f held fed. below-same (c .before .before .before .before .before .before .before .before .put-frame .ensures .0 s f (holds-lists (a .net) (a .latches .now) (a .gates .now) [] [] held) (fed-lists (a .net) (a .latches .now) (a .gates .now) [] [] fed))
     (λ w h. frame-lists (a .net) (a .latches .now) (a .gates .now) (start .pre .limits) s f w (omega arith)) in
     rw (writes .write-memory .ensures)
     (record {
       frame-values = table;
-      next-held = λ s f held fed. step-holds (start .pre .limits) (table s f held fed) held (c .put-latches .ensures .0) (c .put-latches .ensures .1);
+      next-held = λ s f held fed. step-holds (start .pre .limits) (table s f held fed) held (c .put-latches .ensures .0) (c .put-latches .ensures .1) (c .before .before .before .before .before .before .before .before .put-frame .ensures .1);
       behind = behind-written d _ (a .memory .now);
     })
 
