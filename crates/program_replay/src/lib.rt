@@ -1,15 +1,54 @@
 // What `replay` prints (RULES P3 and P13 to P15): the first line, and how much of the trace behind it.
+use answer_lines::AnswerKind;
+use answer_signs::SignTable;
 use netlist::Netlist;
+use netlist::UnpackedList;
 use replay_call::ReplayReply;
 ghost use mathlib.Core.Path.{_≡_};
 ghost use mathlib.Core.Bool.{cond};
-ghost use Prim.Native.Nat.{_≤_};
+ghost use mathlib.Core.List.{List};
+ghost use Prim.Native.Nat.{ℕ, _≤_};
 ghost use lib.ListN.{length};
 ghost use Rattle.model.specs.Wrote.{Wrote};
 ghost use Rattle.model.specs.Acceptance.{SizesFit};
-ghost use Rattle.netlist.specs.NetOf.{alone};
+ghost use Rattle.netlist.specs.NetOf.{netOf, alone};
+ghost use Rattle.answer_scan.specs.Scan.{AnswerRead};
 ghost use Rattle.replay_run.specs.Runs.{traceLength};
+ghost use Rattle.replay_answer.specs.ReplayAnswer.{replayFor, memoryFor, traceFor};
 ghost use Rattle.program_replay.specs.Printed.{isBroken, answerText};
+
+// Replays an answer that was read, on lists of 600 records: what is answered and left in the trace is what the exported call answers and leaves,
+// of the text that was read.
+pub fn replay_read(
+    net: Netlist,
+    latches: &UnpackedList,
+    gates: &UnpackedList,
+    depth: u32,
+    kind: AnswerKind,
+    signs: &SignTable,
+    memory: &mut [u32],
+    trace: &mut [u8],
+) -> ReplayReply
+    ensures answer { λ r. ⌜ ((text : List ℕ) → AnswerRead text (now (signs .entry)) kind
+        → r ≡ replayFor (netOf net (now (latches .entry)) (now (gates .entry))) 600 600 depth text (length (now (memory .entry))) (length (now (trace .entry)))) ⌝ }
+    ensures memory { λ _. ⌜ ((text : List ℕ) → AnswerRead text (now (signs .entry)) kind
+        → now (memory .exit) ≡ memoryFor (netOf net (now (latches .entry)) (now (gates .entry))) 600 600 depth text (now (memory .entry)) (length (now (trace .entry)))) ⌝ }
+    ensures trace { λ _. ⌜ ((text : List ℕ) → AnswerRead text (now (signs .entry)) kind
+        → now (trace .exit) ≡ traceFor (netOf net (now (latches .entry)) (now (gates .entry))) 600 600 depth text (length (now (memory .entry))) (now (trace .entry))) ⌝ }
+{
+    replay_call::reply_of(replay_call::replay(
+        net,
+        latches,
+        600,
+        gates,
+        600,
+        depth,
+        kind,
+        signs,
+        memory,
+        trace,
+    ))
+}
 
 // Whether a frame that breaks the property was found.
 fn is_broken(reply: ReplayReply) -> bool

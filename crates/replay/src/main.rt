@@ -1,6 +1,6 @@
-// The program `replay` (RULES P11 to P15): a depth line and a sheet on standard input, a solver's answer in the file `answer`; on standard
-// output the first frame that breaks the property with the run's lines, or the answer's claim, or one refusal. What is read and what is printed
-// is in the crates below; here are only input and output.
+// The program `replay` (RULES P11 to P15): a depth line and a sheet on standard input and a solver's answer in the file `answer`; on standard
+// output the first frame that breaks the property and the lines of the run, or the answer's claim, or one refusal. What is read and what is
+// printed is in the crates below; here are only input and output.
 use answer_lines::AnswerKind;
 use answer_scan::Scan;
 use answer_signs::SignTable;
@@ -33,8 +33,9 @@ fn print_first(reply: ReplayReply) -> bool {
     write_text(&text[..bytes])
 }
 
-// Reads all of an open file, piece by piece, into a table of no signs: the scan is behind the text that was read. A piece that is not full is the last: the
-// file ends there, or a read has failed. A loop has to end, and nothing says that a file does, so the pieces are counted: no file has so many.
+// Reads all of an open file, piece by piece, into a table of no signs: the scan is behind the text that was read. A piece that is not full is
+// the last: the file ends there, or a read has failed. A loop has to end, and nothing says that a file does, so the pieces are counted: no
+// file has so many.
 fn scan_file(file: i32, signs: &mut SignTable) -> Scan
     requires { ⌜ SignsOf [] (now signs) ⌝ }
     ensures holds { λ r. ⌜ Holds (r .position) (r .line) ⌝ }
@@ -93,18 +94,16 @@ fn print_replay(
 {
     let mut memory = no_words();
     let mut trace = no_lines();
-    let reply = replay_call::reply_of(replay_call::replay(
+    let reply = program_replay::replay_read(
         net,
         latches,
-        600,
         gates,
-        600,
         depth,
         kind,
         signs,
         &mut memory,
         &mut trace,
-    ));
+    );
     let bytes = program_replay::trace_bytes(reply, net, depth);
     if print_first(reply) {
         write_text(&trace[..bytes]);

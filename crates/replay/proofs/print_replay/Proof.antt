@@ -13,21 +13,18 @@ no-words-requires c κs = search needs
 no-lines-requires : tie.Need-no-lines-requires
 no-lines-requires c κs = search needs
 
-slice-aggregate-replay : tie.Need-slice-aggregate-replay
-slice-aggregate-replay c = search needs
+slice-aggregate-replay-read : tie.Need-slice-aggregate-replay-read
+slice-aggregate-replay-read c = search needs
 
-slice-aggregate-replay-2 : tie.Need-slice-aggregate-replay-2
-slice-aggregate-replay-2 c = search needs
+slice-aggregate-replay-read-2 : tie.Need-slice-aggregate-replay-read-2
+slice-aggregate-replay-read-2 c = search needs
 
-replay-requires : tie.Need-replay-requires
-replay-requires c κs = search needs
-
-reply-of-requires : tie.Need-reply-of-requires
-reply-of-requires c κs = search needs
+replay-read-requires : tie.Need-replay-read-requires
+replay-read-requires c κs = search needs
 
 trace-bytes-requires : tie.Need-trace-bytes-requires
 trace-bytes-requires c κs =
-    let start = c .before .before .before .before .before .before .before .before in
+    let start = c .before .before .before .before .before .before .before in
     let a = start .args in
     (sizes-lists (a .net) (a .latches .now) (a .gates .now) [] [] (start .pre .0 .limits .sizes), start .pre .1)
 
@@ -55,10 +52,9 @@ print-replay-spec =
     (tie.spec
     no-words-requires
     no-lines-requires
-    slice-aggregate-replay
-    slice-aggregate-replay-2
-    replay-requires
-    reply-of-requires
+    slice-aggregate-replay-read
+    slice-aggregate-replay-read-2
+    replay-read-requires
     trace-bytes-requires
     print-first-requires
     array-share-prefix-trace
