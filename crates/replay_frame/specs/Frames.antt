@@ -13,19 +13,19 @@ use Rattle.circuit_step.specs.Held.{Holds}
 use Rattle.replay_frame.specs.Replay.{Said, replayed, replayedState, fedUnclear}
 use Rattle.replay_frame.specs.declared.FrameVerdict.{FrameVerdict}
 
--- what a frame asks: latches and memory hold the state in which it begins
-pub record FrameFits (c : Netlist) (y : Said) (i : ℕ) (values inputs latches : List Bool) (memory : List ℕ) : Type 0 where
+-- what a frame asks: latches, memory and the word held are the state in which it begins
+pub record FrameFits (c : Netlist) (y : Said) (i : ℕ) (values inputs latches : List Bool) (memory : List ℕ) (held : ℕ) : Type 0 where
   pub limits : WithinLimits c
   pub depth : i ≤ mostDepth
   pub values-size : length values ≡ mostWires + 1
   pub inputs-size : length inputs ≡ mostWires
-  pub begins : Holds c (replayedState c y i) latches memory
+  pub begins : Holds c (replayedState c y i) latches memory held
 
 -- what it leaves: its values, and the state in which the next one begins; the memory behind the 2^m words as it was
-pub record FrameDone (c : Netlist) (y : Said) (i : ℕ) (old : List ℕ) (values inputs latches : List Bool) (memory : List ℕ) : Type 0 where
+pub record FrameDone (c : Netlist) (y : Said) (i : ℕ) (old : List ℕ) (values inputs latches : List Bool) (memory : List ℕ) (held : ℕ) : Type 0 where
   pub values-are : HasBelow (lastWire c + 1) (replayed c y i) values
   pub inputs-size : length inputs ≡ mostWires
-  pub next-begins : Holds c (replayedState c y (i + 1)) latches memory
+  pub next-begins : Holds c (replayedState c y (i + 1)) latches memory held
   pub behind : drop (2 ^ c .m) memory ≡ drop (2 ^ c .m) old
 
 -- what frame i with the values v shows

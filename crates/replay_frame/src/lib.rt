@@ -1,4 +1,5 @@
-// One frame of a replay: the circuit is fed what an answer says of the frame's inputs and of its idle word, and stepped (RULES Y2 and Y3).
+// One frame of a replay: the circuit is fed what an answer says of the frame's inputs, in frame 0 also of the idle word, and stepped (RULES Y9 and
+// Y10).
 use answer_signs::SignTable;
 use circuit_values::SourceValues;
 use circuit_values::WireValues;
@@ -7,11 +8,12 @@ use netlist::UnpackedList;
 ghost use mathlib.Core.Path.{_≡_};
 ghost use Prim.Native.Nat.{ℕ, _+_, _≤_, _<_};
 ghost use lib.ListN.{length};
-ghost use Rattle.model.specs.Bits.{fromBits};
+ghost use Rattle.model.specs.Bits.{bit, fromBits};
 ghost use Rattle.model.specs.Search.{anyBelow};
 ghost use Rattle.model.specs.Wrote.{Wrote};
 ghost use Rattle.model.specs.Netlist.{lastWire};
 ghost use Rattle.model.specs.Acceptance.{SizesFit, WithinLimits};
+ghost use Rattle.model.specs.Claim.{idleOf};
 ghost use Rattle.netlist.specs.NetOf.{netOf, alone};
 ghost use Rattle.circuit_values.specs.WireTable.{entry};
 ghost use Rattle.answer_signs.specs.Signs.{trueIn, unclearIn};
@@ -90,7 +92,17 @@ pub fn put_line(out: &mut [u8], values: &WireValues, net: Netlist) -> usize
     wires + 1
 }
 
-// Steps frame i, fed what the signs say of its inputs and of its idle word.
+// The idle word, which is held before frame 0: what the signs say of the read bits of frame 0.
+pub fn idle_word(net: Netlist, signs: &SignTable) -> u32
+    requires { ⌜ SizesFit (alone net) ⌝ }
+    ensures { λ r. ⌜ ((t : ℕ) → t < net .n → bit r t ≡ idleOf (alone net) (trueIn (now (signs .entry))) t) ⌝ }
+{
+    let base = clause_variables::frame_base(net, 0);
+    let read = netlist::first_read_wire(net).0;
+    word_of(signs, base + read, net.n)
+}
+
+// Steps frame i with the word held before it, fed what the signs say of its inputs. Answers the word held behind it.
 pub fn step_fed(
     values: &mut WireValues,
     inputs: &mut SourceValues,
@@ -101,16 +113,15 @@ pub fn step_fed(
     gates: &UnpackedList,
     signs: &SignTable,
     i: u32,
-)
-    requires { ⌜ FrameFits (netOf net (now latches) (now gates)) (saidIn (now signs)) i (now values) (now inputs) (now state) (now memory) ⌝ }
-    ensures { λ _. ⌜ FrameDone (netOf net (now (latches .entry)) (now (gates .entry))) (saidIn (now (signs .entry))) i (now (memory .entry))
-        (now (values .exit)) (now (inputs .exit)) (now (state .exit)) (now (memory .exit)) ⌝ }
+    held: u32,
+) -> u32
+    requires { ⌜ FrameFits (netOf net (now latches) (now gates)) (saidIn (now signs)) i (now values) (now inputs) (now state) (now memory) held ⌝ }
+    ensures { λ r. ⌜ FrameDone (netOf net (now (latches .entry)) (now (gates .entry))) (saidIn (now (signs .entry))) i (now (memory .entry))
+        (now (values .exit)) (now (inputs .exit)) (now (state .exit)) (now (memory .exit)) r ⌝ }
 {
     let base = clause_variables::frame_base(net, i);
-    let read = netlist::first_read_wire(net).0;
     put_values(inputs, signs, base + 1, net.inputs);
-    let idle = word_of(signs, base + read, net.n);
-    circuit_step::step_frame(values, state, memory, net, latches, gates, inputs, idle);
+    circuit_step::step_frame(values, state, memory, net, latches, gates, inputs, held)
 }
 
 // What frame i shows, by the table of its values.
@@ -125,7 +136,7 @@ pub fn judge_frame(values: &WireValues, net: Netlist, signs: &SignTable, i: u32)
     let reads = circuit_values::code_value(values, net.re);
     let holds = circuit_values::code_value(values, net.p);
     FrameVerdict {
-        fault: input_fault | (!reads & idle_fault),
+        fault: input_fault | ((i == 0) & (!reads & idle_fault)),
         broken: !holds,
     }
 }

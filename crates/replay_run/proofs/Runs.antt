@@ -11,10 +11,11 @@ use lib.Dec.{eqb}
 use lib.ListN.{length, getD, take, drop, take-append-drop}
 use lib.Seq.{take-suc, drop-append-seam, getD-set-same, getD-set-other}
 use borrow.Author.Tests.{eq-eqb, ne-eqb}
+use Rattle.model.specs.Bits.{bit}
 use Rattle.model.specs.Gather.{gather}
 use Rattle.model.specs.Search.{anyBelow, firstWhere, IsFirst}
 use Rattle.model.specs.Wrote.{over, Wrote}
-use Rattle.model.specs.Netlist.{Netlist, port, lastWire}
+use Rattle.model.specs.Netlist.{Netlist, port, readBits, lastWire}
 use Rattle.model.specs.Circuit.{codeValue, initial}
 use Rattle.model.specs.Acceptance.{WithinLimits}
 use Rattle.model.proofs.Gather.{length-gather}
@@ -117,15 +118,16 @@ delivered-again f g n old h =
     delivered-by f n old (delivered n f (delivered n g old)) (omega arith) (delivered-at f n (delivered n g old) (omega arith))
     (behind-delivered f n (delivered n g old) ∙ behind-delivered g n old)
 
--- the initial state is held: every word the initial word, every latch at its reset
+-- the initial state is held: every word the initial word, every latch at its reset, and the idle word
 pub initial-held : (c : Netlist) (latches : List Bool) (old : List ℕ) → 2 ^ c .m ≤ length old → length latches ≡ 600
-    → ((l : ℕ) → l < c .latches → entry latches l ≡ eqb (c .reset l) 1)
-    → Holds c (initial c) latches (delivered (2 ^ c .m) (λ _. c .initialWord) old)
+    → ((l : ℕ) → l < c .latches → entry latches l ≡ eqb (c .reset l) 1) → {idle : ℕ → Bool} {word : ℕ} → ((t : ℕ) → t < readBits c → bit word t ≡ idle t)
+    → Holds c (initial c idle) latches (delivered (2 ^ c .m) (λ _. c .initialWord) old) word
 unfolding initial
-initial-held c latches old h size each =
+initial-held c latches old h size each said =
     record {
       latch-size = size;
       latch-held = each;
       memory-size = omega (arith, length-delivered (λ _. c .initialWord) old (2 ^ c .m) h);
       memory-held = delivered-at (λ _. c .initialWord) (2 ^ c .m) old h;
+      word-held = said;
     }

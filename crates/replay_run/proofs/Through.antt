@@ -13,10 +13,12 @@ use Rattle.model.specs.Search.{anyBelow, firstFrom, firstWhere}
 use Rattle.model.specs.Wrote.{Wrote}
 use Rattle.model.specs.Netlist.{Netlist, lastWire}
 use Rattle.model.specs.Circuit.{stateAt, initial}
+use Rattle.model.specs.Variables.{base}
 use Rattle.model.proofs.Gather.{length-gather}
 use Rattle.model.proofs.Search.{any-none, any-next}
 use Rattle.model.proofs.Wrote.{wrote-nothing, wrote-then}
-use Rattle.netlist.specs.NetOf.{netOf}
+use Rattle.model.specs.Claim.{idleOf}
+use Rattle.netlist.specs.NetOf.{netOf, alone}
 use Rattle.netlist.specs.declared.Netlist as Record
 use Rattle.call_lists.specs.Delivered.{delivered}
 use Rattle.circuit_step.specs.Held.{Holds}
@@ -36,11 +38,11 @@ pub length-lines : (c : Netlist) (y : Said) (i : ℕ) → length (linesTo c y i)
 length-lines c y i = length-gather i (lastWire c + 1) (λ j. lineOf c (replayed c y j)) (λ j h. length-line c (replayed c y j))
 
 pub record Through (c : Netlist) (y : Said) (k : ℕ) (old oldTrace memory trace : List ℕ) (values inputs state : List Bool)
-    (fault : Bool) (first at i : ℕ) : Type 0 where
+    (held : ℕ) (fault : Bool) (first at i : ℕ) : Type 0 where
   pub within : i ≤ k + 1
   pub values-size : length values ≡ 601
   pub inputs-size : length inputs ≡ 600
-  pub begins : Holds c (replayedState c y i) state memory
+  pub begins : Holds c (replayedState c y i) state memory held
   pub behind : drop (2 ^ c .m) memory ≡ drop (2 ^ c .m) old
   pub memory-length : length memory ≡ length old
   pub trace-length : length trace ≡ length oldTrace
@@ -49,16 +51,16 @@ pub record Through (c : Netlist) (y : Said) (k : ℕ) (old oldTrace memory trace
   pub first-found : first ≡ firstWhere (violates c y) i
 
 -- before frame 0
-pub through-none : (r : Record.Netlist) (latches gates : List ℕ) (y : Said) (k : ℕ) (old trace : List ℕ) {values inputs state : List Bool}
-    → length values ≡ 601 → length inputs ≡ 600 → Holds (netOf r latches []) (initial (netOf r latches [])) state old
-    → Through (netOf r latches gates) y k old trace old trace values inputs state false 0 0 0
-unfolding netOf initial stateAt gather anyBelow firstWhere firstFrom
+pub through-none : (r : Record.Netlist) (latches gates : List ℕ) (y : Said) (k : ℕ) (old trace : List ℕ) {values inputs state : List Bool} {word : ℕ}
+    → length values ≡ 601 → length inputs ≡ 600 → Holds (netOf r latches []) (initial (netOf r latches []) (idleOf (alone r) (y .value))) state old word
+    → Through (netOf r latches gates) y k old trace old trace values inputs state word false 0 0 0
+unfolding netOf initial idleOf base stateAt gather anyBelow firstWhere firstFrom
 through-none r latches gates y k old trace v n held =
     record {
       within = omega arith;
       values-size = v;
       inputs-size = n;
-      begins = record { latch-size = held .latch-size; latch-held = held .latch-held; memory-size = held .memory-size; memory-held = held .memory-held };
+      begins = record { latch-size = held .latch-size; latch-held = held .latch-held; memory-size = held .memory-size; memory-held = held .memory-held; word-held = held .word-held };
       behind = refl;
       memory-length = refl;
       trace-length = refl;
@@ -67,8 +69,8 @@ through-none r latches gates y k old trace v n held =
       first-found = refl;
     }
 
-module _ {c : Netlist} {y : Said} {k : ℕ} {old oldTrace memory trace : List ℕ} {values inputs state : List Bool} {fault : Bool} {first at i : ℕ}
-    (t : Through c y k old oldTrace memory trace values inputs state fault first at i) where
+module _ {c : Netlist} {y : Said} {k : ℕ} {old oldTrace memory trace : List ℕ} {values inputs state : List Bool} {held : ℕ} {fault : Bool} {first at i : ℕ}
+    (t : Through c y k old oldTrace memory trace values inputs state held fault first at i) where
   -- where the lines end, and that there is room for one more
   pub lines-end : at ≡ i * (lastWire c + 1)
   lines-end = t .lines .counted ∙ length-lines c y i
@@ -82,12 +84,12 @@ module _ {c : Netlist} {y : Said} {k : ℕ} {old oldTrace memory trace : List �
       omega (arith, lines-end, suc-mul i (lastWire c + 1), mul-le-mul-right {m = i + 1} {n = 256} (lastWire c + 1) (omega arith), add-one i)
 
   -- one frame on
-  pub through-next : i ≤ k → {memory′ part : List ℕ} {values′ inputs′ state′ : List Bool} {r : FrameVerdict} {first′ line : ℕ}
-      → FrameDone c y i memory values′ inputs′ state′ memory′ → length memory′ ≡ length memory
+  pub through-next : i ≤ k → {memory′ part : List ℕ} {values′ inputs′ state′ : List Bool} {r : FrameVerdict} {held′ first′ line : ℕ}
+      → FrameDone c y i memory values′ inputs′ state′ memory′ held′ → length memory′ ≡ length memory
       → Wrote (lineOf c (replayed c y i)) (midOf at (length trace - at) trace) part (lastWire c + 1)
       → length (putMid at (length trace - at) trace part) ≡ length trace
       → Shown c y i r → first′ ≡ nextFirst first i (r .broken) → line ≡ lastWire c + 1
-      → Through c y k old oldTrace memory′ (putMid at (length trace - at) trace part) values′ inputs′ state′ (fault || r .fault) first′ (at + line) (i + 1)
+      → Through c y k old oldTrace memory′ (putMid at (length trace - at) trace part) values′ inputs′ state′ held′ (fault || r .fault) first′ (at + line) (i + 1)
   unfolding gather
   through-next h {memory′} {part} {r = r} done same line kept shown e width =
       record {
@@ -109,11 +111,11 @@ module _ {c : Netlist} {y : Said} {k : ℕ} {old oldTrace memory trace : List �
   unfolding traceText firstViolation
   through-all all start behind =
       record {
-        memory-is = delivered-by (replayedState c y (k + 1) .memory) (2 ^ c .m) start memory (held .memory-size) (held .memory-held) (t .behind ∙ behind);
+        memory-is = delivered-by (replayedState c y (k + 1) .memory) (2 ^ c .m) start memory (ended .memory-size) (ended .memory-held) (t .behind ∙ behind);
         trace-is = (rw all at (t .lines)) .leaves;
         fault-is = t .fault-found ∙ rw all;
         first-is = t .first-found ∙ rw all;
       }
     where
-      held : Holds c (replayedState c y (k + 1)) state memory
-      held = rw all at (t .begins)
+      ended : Holds c (replayedState c y (k + 1)) state memory held
+      ended = rw all at (t .begins)

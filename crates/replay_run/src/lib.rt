@@ -1,4 +1,4 @@
-// The replay of an answer through all frames of a depth, from the initial state (RULES Y2 to Y5).
+// The replay of an answer through all frames of a depth, from the initial state (RULES Y4, Y5, Y9 and Y10).
 use answer_signs::SignTable;
 use circuit_values::SourceValues;
 use circuit_values::WireValues;
@@ -14,8 +14,10 @@ ghost use Rattle.model.specs.Wrote.{Wrote};
 ghost use Rattle.model.specs.Netlist.{lastWire};
 ghost use Rattle.model.specs.Circuit.{initial};
 ghost use Rattle.model.specs.Acceptance.{SizesFit, WithinLimits};
+ghost use Rattle.model.specs.Claim.{idleOf};
 ghost use Rattle.netlist.specs.NetOf.{netOf, alone};
 ghost use Rattle.call_lists.specs.Delivered.{delivered};
+ghost use Rattle.answer_signs.specs.Signs.{trueIn};
 ghost use Rattle.circuit_values.specs.WireTable.{entry};
 ghost use Rattle.circuit_step.specs.Held.{Holds};
 ghost use Rattle.replay_frame.specs.Replay.{saidIn, replayed, lineOf, traceText};
@@ -26,6 +28,12 @@ ghost use Rattle.replay_run.specs.Runs.{nextFirst, Shown, RunFits, RunDo
 pub struct RunVerdict {
     pub fault: bool,
     pub first: u32,
+}
+
+// One frame of a run: what it shows, and the word held behind it.
+pub struct FrameRun {
+    pub shown: FrameVerdict,
+    pub held: u32,
 }
 
 // A table of wires to be filled.
@@ -75,14 +83,22 @@ fn put_resets(state: &mut SourceValues, net: Netlist, latches: &UnpackedList)
     }
 }
 
-// Puts latches and memory into the state in which frame 0 begins.
-fn put_initial(state: &mut SourceValues, memory: &mut [u32], net: Netlist, latches: &UnpackedList)
+// Puts latches and memory into the state in which frame 0 begins, and answers the word held there, the idle word.
+fn put_initial(
+    state: &mut SourceValues,
+    memory: &mut [u32],
+    net: Netlist,
+    latches: &UnpackedList,
+    signs: &SignTable,
+) -> u32
     requires { ⌜ SizesFit (alone net) × (length (now state) ≡ 600) × (2 ^ net .m ≤ length (now memory)) ⌝ }
-    ensures held { λ _. ⌜ Holds (netOf net (now (latches .entry)) []) (initial (netOf net (now (latches .entry)) [])) (now (state .exit)) (now (memory .exit)) ⌝ }
+    ensures held { λ r. ⌜ Holds (netOf net (now (latches .entry)) []) (initial (netOf net (now (latches .entry)) []) (idleOf (alone net) (trueIn (now (signs .entry)))))
+        (now (state .exit)) (now (memory .exit)) r ⌝ }
     ensures behind { λ _. ⌜ drop (2 ^ net .m) (now (memory .exit)) ≡ drop (2 ^ net .m) (now (memory .entry)) ⌝ }
 {
     fill_words(memory, word_count(net), net.initial_word);
     put_resets(state, net, latches);
+    replay_frame::idle_word(net, signs)
 }
 
 // The first frame that breaks the property, with frame i looked at too: i where none did before, else as it was.
@@ -111,18 +127,31 @@ fn run_frame(
     gates: &UnpackedList,
     signs: &SignTable,
     i: u32,
-) -> FrameVerdict
-    requires { ⌜ FrameFits (netOf net (now latches) (now gates)) (saidIn (now signs)) i (now values) (now inputs) (now state) (now memory)
+    held: u32,
+) -> FrameRun
+    requires { ⌜ FrameFits (netOf net (now latches) (now gates)) (saidIn (now signs)) i (now values) (now inputs) (now state) (now memory) held
         × (lastWire (alone net) + 1 ≤ length (now out)) ⌝ }
-    ensures done { λ _. ⌜ FrameDone (netOf net (now (latches .entry)) (now (gates .entry))) (saidIn (now (signs .entry))) i (now (memory .entry))
-        (now (values .exit)) (now (inputs .exit)) (now (state .exit)) (now (memory .exit)) ⌝ }
+    ensures done { λ r. ⌜ FrameDone (netOf net (now (latches .entry)) (now (gates .entry))) (saidIn (now (signs .entry))) i (now (memory .entry))
+        (now (values .exit)) (now (inputs .exit)) (now (state .exit)) (now (memory .exit)) (r .held) ⌝ }
     ensures line { λ _. ⌜ Wrote (lineOf (netOf net (now (latches .entry)) (now (gates .entry))) (replayed (netOf net (now (latches .entry)) (now (gates .entry))) (saidIn (now (signs .entry))) i))
         (now (out .entry)) (now (out .exit)) (lastWire (alone net) + 1) ⌝ }
-    ensures judged { λ r. ⌜ Shown (netOf net (now (latches .entry)) (now (gates .entry))) (saidIn (now (signs .entry))) i r ⌝ }
+    ensures judged { λ r. ⌜ Shown (netOf net (now (latches .entry)) (now (gates .entry))) (saidIn (now (signs .entry))) i (r .shown) ⌝ }
 {
-    replay_frame::step_fed(values, inputs, state, memory, net, latches, gates, signs, i);
+    let next = replay_frame::step_fed(
+        values,
+        inputs,
+        state,
+        memory,
+        net,
+        latches,
+        gates,
+        signs,
+        i,
+        held,
+    );
     let _ = replay_frame::put_line(out, values, net);
-    replay_frame::judge_frame(values, net, signs, i)
+    let shown = replay_frame::judge_frame(values, net, signs, i);
+    FrameRun { shown, held: next }
 }
 
 // Runs through the frames 0 to k from the initial state: a line for each in the trace, and in the memory the words that frame k leaves.
@@ -142,14 +171,14 @@ pub fn run(
     let mut values = no_values();
     let mut inputs = no_sources();
     let mut state = no_sources();
-    put_initial(&mut state, memory, net, latches);
+    let mut held = put_initial(&mut state, memory, net, latches, signs);
     let line = netlist::wire_count(net) as usize + 1;
     let mut fault = false;
     let mut first: u32 = 0;
     let mut at: usize = 0;
     let mut i: u32 = 0;
     while i <= depth {
-        let shown = run_frame(
+        let ran = run_frame(
             &mut values,
             &mut inputs,
             &mut state,
@@ -160,9 +189,11 @@ pub fn run(
             gates,
             signs,
             i,
+            held,
         );
-        fault = fault | shown.fault;
-        first = next_first(first, i, shown.broken);
+        held = ran.held;
+        fault = fault | ran.shown.fault;
+        first = next_first(first, i, ran.shown.broken);
         at += line;
         i += 1;
     }

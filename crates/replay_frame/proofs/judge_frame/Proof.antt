@@ -3,6 +3,7 @@ use Prim.Native.Nat.{ℕ, _+_}
 use mathlib.Core.Path.{_≡_, _∙_, ap, ap₂}
 use mathlib.Core.Bool.{Bool, not, _&&_, _||_}
 use native.Mathlib.Omega.{arith}
+use lib.Dec.{eqb}
 use Rattle.model.specs.Netlist.{inputWire, readWire}
 use Rattle.model.specs.Variables.{base}
 use Rattle.model.proofs.Variables.{base-most}
@@ -61,9 +62,9 @@ returns c =
       fault-is =
           ap₂ _||_
           (c .before .before .before .any-unclear .ensures ∙ any-same (d .inputs) (λ x h. let e : b .result + 1 + x ≡ base d (a .i) + inputWire d x = omega (arith, b .ensures) in ap unclear e))
-          (ap₂ _&&_ (ap not (c .before .code-value .ensures))
+          (ap (λ idle. eqb (a .i) 0 && idle) (ap₂ _&&_ (ap not (c .before .code-value .ensures))
           (c .before .before .any-unclear2 .ensures ∙ any-same (d .n) (λ t h.
-          let e : b .result + c .before .before .before .before .first-read-wire .result .0 + t ≡ base d (a .i) + readWire d t = omega (arith, b .ensures, c .before .before .before .before .first-read-wire .ensures) in ap unclear e)));
+          let e : b .result + c .before .before .before .before .first-read-wire .result .0 + t ≡ base d (a .i) + readWire d t = omega (arith, b .ensures, c .before .before .before .before .first-read-wire .ensures) in ap unclear e))));
       broken-is = ap not (c .code-value2 .ensures);
     }
 

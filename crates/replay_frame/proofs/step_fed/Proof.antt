@@ -4,12 +4,10 @@ use mathlib.Core.Path.{_≡_, _∙_, ap}
 use mathlib.Core.List.{[]}
 use native.Mathlib.Numerals.{add-one}
 use native.Mathlib.Omega.{arith}
-use Rattle.model.specs.Bits.{bit}
-use Rattle.model.specs.Netlist.{inputWire, readWire}
+use Rattle.model.specs.Netlist.{inputWire}
 use Rattle.model.specs.Circuit.{stateAt, run}
 use Rattle.model.specs.Variables.{base}
 use Rattle.model.specs.Claim.{feedOf}
-use Rattle.model.proofs.Bits.{bit-fromBits}
 use Rattle.model.proofs.Variables.{base-most}
 use Rattle.netlist.specs.NetOf.{netOf, alone}
 use Rattle.netlist.proofs.NetOf.{sizes-lists}
@@ -25,39 +23,19 @@ frame-base-requires c κs =
     let a = start .args in
     (sizes-lists (a .net) (a .latches .now) (a .gates .now) [] [] (start .pre .limits .sizes), omega (arith, start .pre .depth))
 
-first-read-wire-requires : tie.Need-first-read-wire-requires
-first-read-wire-requires c κs =
-    let start = c .before .before in
-    let a = start .args in
-    sizes-lists (a .net) (a .latches .now) (a .gates .now) [] [] (start .pre .limits .sizes)
-
 add-put-values : tie.Need-add-put-values
 unfolding netOf
 add-put-values c =
-    let start = c .before .before .before .before in
+    let start = c .before .before .before in
     let a = start .args in
-    omega (arith, base-most (alone (a .net)) (sizes-lists (a .net) (a .latches .now) (a .gates .now) [] [] (start .pre .limits .sizes)) (a .i) (omega (arith, start .pre .depth)), c .before .before .frame-base .ensures, start .pre .limits .sizes)
+    omega (arith, base-most (alone (a .net)) (sizes-lists (a .net) (a .latches .now) (a .gates .now) [] [] (start .pre .limits .sizes)) (a .i) (omega (arith, start .pre .depth)), c .before .frame-base .ensures, start .pre .limits .sizes)
 
 put-values-requires : tie.Need-put-values-requires
 unfolding netOf
 put-values-requires c κs =
-    let start = c .before .before .before .before in
+    let start = c .before .before .before in
     let a = start .args in
-    (start .pre .inputs-size, omega (arith, start .pre .limits .sizes), omega (arith, base-most (alone (a .net)) (sizes-lists (a .net) (a .latches .now) (a .gates .now) [] [] (start .pre .limits .sizes)) (a .i) (omega (arith, start .pre .depth)), c .before .before .frame-base .ensures, start .pre .limits .sizes))
-
-add-word-of : tie.Need-add-word-of
-unfolding netOf
-add-word-of c =
-    let start = c .before .before .before .before .before in
-    let a = start .args in
-    omega (arith, c .before .before .first-read-wire .ensures, base-most (alone (a .net)) (sizes-lists (a .net) (a .latches .now) (a .gates .now) [] [] (start .pre .limits .sizes)) (a .i) (omega (arith, start .pre .depth)), c .before .before .before .frame-base .ensures, start .pre .limits .sizes)
-
-word-of-requires : tie.Need-word-of-requires
-unfolding netOf
-word-of-requires c κs =
-    let start = c .before .before .before .before .before in
-    let a = start .args in
-    (omega (arith, start .pre .limits .sizes), omega (arith, c .before .before .first-read-wire .ensures, base-most (alone (a .net)) (sizes-lists (a .net) (a .latches .now) (a .gates .now) [] [] (start .pre .limits .sizes)) (a .i) (omega (arith, start .pre .depth)), c .before .before .before .frame-base .ensures, start .pre .limits .sizes))
+    (start .pre .inputs-size, omega (arith, start .pre .limits .sizes), omega (arith, base-most (alone (a .net)) (sizes-lists (a .net) (a .latches .now) (a .gates .now) [] [] (start .pre .limits .sizes)) (a .i) (omega (arith, start .pre .depth)), c .before .frame-base .ensures, start .pre .limits .sizes))
 
 step-frame-requires : tie.Need-step-frame-requires
 step-frame-requires c κs = search needs
@@ -68,25 +46,22 @@ same-length c = search needs
 returns : tie.Need-returns
 unfolding netOf base feedOf run stateAt
 returns c =
-    let start = c .before .before .before .before .before .before .before .before .before .before .before .before .before in
+    let start = c .before .before .before .before .before .before .before .before .before .before .before in
     let a = start .args in
     let d = netOf (a .net) (a .latches .now) (a .gates .now) in
     let y = saidIn (a .signs .now) in
-    let b = c .before .before .before .before .before .before .before .before .before .before .before .frame-base in
-    let read = c .before .before .before .before .before .before .before .before .before .before .first-read-wire in
+    let b = c .before .before .before .before .before .before .before .before .before .frame-base in
+    let inputs = c .before .before .before .before .before .before .before .put-values .ensures in
     let stepped = c .before .before .step-frame .ensures in
-    let word = c .before .before .before .before .before .before .before .word-of in
-    let fed : Fed d (feedOf d (y .value) (a .i)) _ (word .result)
+    let fed : Fed d (feedOf d (y .value) (a .i)) _
     =
     record {
-      input-fed = λ x h. let e : b .result + 1 + x ≡ base d (a .i) + inputWire d x = omega (arith, b .ensures) in c .before .before .before .before .before .before .before .before .put-values .ensures .1 x h ∙ ap (y .value) e;
-      idle-fed = λ t h. let e : b .result + read .result .0 + t ≡ base d (a .i) + readWire d t = omega (arith, b .ensures, read .ensures) in
-          ap (λ x. bit x t) (word .ensures) ∙ bit-fromBits (a .net .n) (λ x. y .value (b .result + read .result .0 + x)) t h ∙ ap (y .value) e;
+      input-fed = λ x h. let e : b .result + 1 + x ≡ base d (a .i) + inputWire d x = omega (arith, b .ensures) in inputs .1 x h ∙ ap (y .value) e;
     }
     in
     record {
       values-are = stepped .frame-values (replayedState d y (a .i)) (feedOf d (y .value) (a .i)) (start .pre .begins) fed;
-      inputs-size = c .before .before .before .before .before .before .before .before .put-values .ensures .0;
+      inputs-size = inputs .0;
       next-begins = rw add-one (stepped .next-held (replayedState d y (a .i)) (feedOf d (y .value) (a .i)) (start .pre .begins) fed);
       behind = stepped .behind;
     }
@@ -96,11 +71,8 @@ step-fed-spec =
     tie.close
     (tie.spec
     frame-base-requires
-    first-read-wire-requires
     add-put-values
     put-values-requires
-    add-word-of
-    word-of-requires
     step-frame-requires
     same-length
     returns)

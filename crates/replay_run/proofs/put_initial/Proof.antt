@@ -1,6 +1,8 @@
 -- `replay_run::put_initial` meets its contract.
 use Prim.Native.Nat.{_^_}
 use mathlib.Core.List.{[]}
+use Rattle.model.specs.Variables.{base}
+use Rattle.model.specs.Claim.{idleOf}
 use Rattle.netlist.specs.NetOf.{netOf}
 use Rattle.replay_run.proofs.Runs.{initial-held, behind-delivered}
 use borrow.Author.Needs.{needs}
@@ -16,21 +18,24 @@ fill-words-requires c κs = search needs
 put-resets-requires : tie.Need-put-resets-requires
 put-resets-requires c κs = search needs
 
+idle-word-requires : tie.Need-idle-word-requires
+idle-word-requires c κs = search needs
+
 same-length : tie.Need-same-length
 same-length c = search needs
 
 returns : tie.Need-returns
-unfolding netOf
+unfolding netOf idleOf base
 returns c =
-    let start = c .before .before .before .before .before .before .before .before in
+    let start = c .before .before .before .before .before .before .before .before .before in
     let a = start .args in
     let d = netOf (a .net) (a .latches .now) [] in
-    rw (c .before .before .before .before .fill-words .ensures, c .before .before .before .before .before .word-count .ensures) (
-      initial-held d _ (a .memory .now) (start .pre .2) (c .put-resets .ensures .0) (c .put-resets .ensures .1),
+    rw (c .before .before .before .before .before .fill-words .ensures, c .before .before .before .before .before .before .word-count .ensures) (
+      initial-held d _ (a .memory .now) (start .pre .2) (c .before .put-resets .ensures .0) (c .before .put-resets .ensures .1) (c .idle-word .ensures),
       behind-delivered (λ _. d .initialWord) (2 ^ d .m) (a .memory .now),
     )
 
 pub put-initial-spec : {M : Type 1} → statement M
 put-initial-spec =
     tie.close
-    (tie.spec word-count-requires fill-words-requires put-resets-requires same-length returns)
+    (tie.spec word-count-requires fill-words-requires put-resets-requires idle-word-requires same-length returns)

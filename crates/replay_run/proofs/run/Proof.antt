@@ -14,11 +14,11 @@ use Rattle.replay_run.proofs.run.Statement.{statement}
 use Rattle.replay_run.proofs.run.Tie as tie
 
 abbrev Inv-loop : tie.InvT-loop
-Inv-loop memory₀ trace₀ net latches gates signs depth values₀ inputs₀ state₀ line fault₀ first₀ at₀ i₀ memory trace values inputs state fault first at i =
-    Through (netOf net latches gates) (saidIn signs) depth memory₀ trace₀ memory trace values inputs state fault first at i
+Inv-loop memory₀ trace₀ net latches gates signs depth values₀ inputs₀ state₀ held₀ line fault₀ first₀ at₀ i₀ memory trace values inputs state held fault first at i =
+    Through (netOf net latches gates) (saidIn signs) depth memory₀ trace₀ memory trace values inputs state held fault first at i
 
 abbrev μ-loop : tie.MeasureT-loop
-μ-loop memory₀ trace₀ net latches gates signs depth values₀ inputs₀ state₀ line fault₀ first₀ at₀ i₀ memory trace values inputs state fault first at i =
+μ-loop memory₀ trace₀ net latches gates signs depth values₀ inputs₀ state₀ held₀ line fault₀ first₀ at₀ i₀ memory trace values inputs state held fault first at i =
     depth + 1 - i
 
 no-values-requires : tie.Need-no-values-requires Inv-loop μ-loop
