@@ -300,7 +300,7 @@ static void refuses(const char *what, lent of, uint32_t kind, uint32_t j, uint32
 }
 
 static void groups(void) {
-  // the full run (RULES P11), group by group
+  // the full run (RULES P16), group by group
   const lent chip = {&CHIP, latches, gates, 1};
   static const int32_t wires_0[] = {1, 0};
   static const int32_t closing_0[] = {-1, -3, -1, 0, -1, 3, 1, 0, -1, 1, 0};
