@@ -1,8 +1,8 @@
--- `literals::Lit::bit` meets its contract.
-use borrow.Author.Needs.{needs}
+-- `literals::Term::bit` meets its contract.
 use Rattle.model.specs.Bits.{odd, bit}
-use Rattle.literals.proofs.Lit.bit.Statement.{statement}
-use Rattle.literals.proofs.Lit.bit.Tie as tie
+use borrow.Author.Needs.{needs}
+use Rattle.literals.proofs.Term.bit.Statement.{statement}
+use Rattle.literals.proofs.Term.bit.Tie as tie
 
 shr-constant : tie.Need-shr-constant
 shr-constant c = search needs
