@@ -117,6 +117,7 @@ static Out closing_group(Out out, int i) {
   int base = frame_base(i), re = literal(read_enable, base);
   int untouched = i == 0 ? re : pair_base(base, 0) + m + 3;
   for (int t = 0; t < n; t++) out = equal_if(out, untouched, base + first_read + t, start_word >> t & 1 ? 1 : -1);
+  for (int t = 0; t < n && i > 0; t++) out = equal_if(out, -re, base + first_read + t, frame_base(i - 1) + first_read + t);
   out = put(put(out, -re), untouched);
   for (int j = 0; j < i; j++) out = put(out, pair_base(base, j) + m + 4);
   return end(out);
@@ -130,7 +131,7 @@ static Out property_group(Out out) {
 int main(void) {
   read_input();
   int frames = depth + 1;
-  int clauses = 1 + latches + 2 * latches * depth + 3 * gates * frames + (2 * n + 1) * frames +
+  int clauses = 1 + latches + 2 * latches * depth + 3 * gates * frames + (2 * n + 1) * frames + 2 * n * depth +
                 (4 * m + 2 * n + 10) * (depth * frames / 2) + 1;
   Out out = open_output();
   out = header(out, frame_base(frames), clauses);

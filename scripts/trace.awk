@@ -2,7 +2,8 @@
 # It shows what the solver says; it does not run the chip. Called as
 #   awk -f trace.awk depth=K file=names NAMES file=sheet SHEET file=answer ANSWER
 # A line of NAMES is a name and its codes, the lowest bit first; ANSWER is in the SAT Competition's form. A named word with a code of a
-# read bit, inverted or not, is shown as - in a frame that does not read: what stands there is no word of the memory.
+# read bit, inverted or not, is shown as - in frame 0 where that does not read: what stands there is no word of the memory. A later frame
+# that does not read holds the word of the frame before.
 # It fails, and prints nothing, where the sheet had no C line, the answer no values, or a name something that is no code of the sheet.
 
 function base(frame) { return 1 + frame * V + (m + 4) * frame * (frame - 1) / 2 } # B(i), RULES V2
@@ -19,7 +20,7 @@ function word(codes, frame,   parts, t, sum) { # of codes parted by spaces
 }
 
 function is_idle(codes, frame,   parts, t, wire) { # has a read bit that is free
-  if (value(re, frame)) return 0
+  if (frame > 0 || value(re, frame)) return 0
   for (t = split(codes, parts, " "); t >= 1; t--) {
     wire = int(parts[t] / 2)
     if (wire >= first_read && wire < first_read + n) return 1

@@ -160,13 +160,21 @@ for codes in '' ' x' ' 2 -4' ' 8' ' 2,4'; do
   ends "a name for '$codes'" 1 "" "trace.awk: what the name word stands for is no codes of this sheet:${codes:+ }" named.sheet 1
 done
 
-# Where read enable, the input, is false, the bit read is free. The memory is never written, so the property, a 0 is read, is broken
-# only there.
+# Where read enable, the input, is false in frame 0, the bit read is free. The memory is never written, so the property, a 0 is read, is
+# broken only there.
 { line N 1 0 0; line M 1 1 0; line A 0; line D 0; line C 0 2 5; } > "$work/sheets/idle.sheet"
 printf 'input 2\nread 4\nnot-read 5\nboth 2 4\nreversed 4 2\n' > "$work/sheets/idle.names"
 ends "idle read bits" 10 "idle.sheet: the property is broken in one of the frames 0 to 0:
 frame  input  read  not-read  both  reversed  memory
     0      0     -         -     -         -  idle  <- property broken" "" idle.sheet 0
+
+# Read enable is the inverted latch, which is 0 in frame 0 alone: frame 0 reads the start word 1, and frame 1 holds it.
+{ line N 0 1 0; line M 1 1 1; line L 1 0; line A 0; line D 0; line C 0 3 3; } > "$work/sheets/held.sheet"
+printf 'read 4\nnot-read 5\n' > "$work/sheets/held.names"
+ends "a word that is held" 10 "held.sheet: the property is broken in one of the frames 0 to 1:
+frame  read  not-read  memory
+    0     1         0  reads 1 at 0 (start word)
+    1     1         0  idle  <- property broken" "" held.sheet 1
 
 # A word of 32 bits, all of them 1: its field fills its columns, so that no space stands before it. No input, no latch, no gate; wires 1
 # to 32 are the read bits, and the property is that bit 0 reads 0.
@@ -189,7 +197,7 @@ trace() { (cd "$work" && awk -f "$here/scripts/trace.awk" depth=2 file=names nam
 trace sheet answer > "$work/out"
 check "an answer by hand" same "frame  data  read  memory
     0     0     0  reads 0 at 0 (start word), writes 0 at 0
-    1     1     -  writes 1 at 0
+    1     1     0  writes 1 at 0
     2     0     1  reads 1 at 0 (written in frame 1)  <- property broken" "$(cat "$work/out")"
 grep -v '^C' "$work/sheet" > "$work/no-property"
 head -n 1 "$work/answer" > "$work/no-values"

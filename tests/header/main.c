@@ -192,11 +192,11 @@ static int answers_heading(marrubigai_heading_reply reply, uint32_t number, uint
 }
 
 static void headings(void) {
-  check("depth 1 of the full run: 10 variables, 24 clauses",
-        answers_heading(marrubigai_heading(CHIP, latches, 0, gates, 0, 1), MARRUBIGAI_PASSED, 0, 10, 24));
+  check("depth 1 of the full run: 10 variables, 26 clauses",
+        answers_heading(marrubigai_heading(CHIP, latches, 0, gates, 0, 1), MARRUBIGAI_PASSED, 0, 10, 26));
   // B(3) = 1 + 3 x 11 + 8 x 3; wires 6 and 2 x 7, pairs 3 x 36, closings 3 x 11, property 1
-  check("depth 2 of the other: 58 variables, 162 clauses",
-        answers_heading(marrubigai_heading(DISTINCT_NET, DISTINCT_LATCHES, 2, DISTINCT_GATES, 1, 2), MARRUBIGAI_PASSED, 0, 58, 162));
+  check("depth 2 of the other: 58 variables, 182 clauses",
+        answers_heading(marrubigai_heading(DISTINCT_NET, DISTINCT_LATCHES, 2, DISTINCT_GATES, 1, 2), MARRUBIGAI_PASSED, 0, 58, 182));
   check("depth 256 gives 7, place 0", answers_heading(marrubigai_heading(CHIP, latches, 0, gates, 0, 256), MARRUBIGAI_DEPTH, 0, 0, 0));
   check("a latch list shorter than its size gives 3, place 0",
         answers_heading(marrubigai_heading(DISTINCT_NET, DISTINCT_LATCHES, 1, DISTINCT_GATES, 1, 2), MARRUBIGAI_OUT_OF_ORDER, 0, 0, 0));
@@ -209,7 +209,7 @@ static void headings(void) {
         answers_heading(marrubigai_heading(loop, latches, 0, gates, 0, 1), MARRUBIGAI_MEMORY_LOOP, 3, 0, 0));
 }
 
-enum { MOST = 64, UNWRITTEN = INT32_MIN };
+enum { MOST = 96, UNWRITTEN = INT32_MIN };
 static int32_t out[MOST];
 
 typedef struct {
@@ -240,7 +240,7 @@ static void refuses(const char *what, lent of, uint32_t kind, uint32_t j, uint32
 }
 
 static void groups(void) {
-  // the full run (RULES P9), group by group
+  // the full run (RULES P11), group by group
   const lent chip = {&CHIP, latches, gates, 1};
   static const int32_t wires_0[] = {1, 0};
   static const int32_t closing_0[] = {-1, -3, -1, 0, -1, 3, 1, 0, -1, 1, 0};
@@ -250,7 +250,7 @@ static void groups(void) {
       -9, -8, 0, -9, 1, 0, 9, 8, -1, 0,
       -10, 8, 0, -10, 1, 0, 10, -8, -1, 0,
       -10, -5, 2, 0, -10, 5, -2, 0};
-  static const int32_t closing_1[] = {-9, -5, -1, 0, -9, 5, 1, 0, -1, 9, 10, 0};
+  static const int32_t closing_1[] = {-9, -5, -1, 0, -9, 5, 1, 0, 1, -5, 3, 0, 1, 5, -3, 0, -1, 9, 10, 0};
   static const int32_t property[] = {3, 5, 0};
   writes("wires of frame 0", chip, MARRUBIGAI_WIRES, 0, 0, wires_0, COUNT(wires_0));
   writes("closing of frame 0", chip, MARRUBIGAI_CLOSING, 0, 0, closing_0, COUNT(closing_0));
@@ -278,10 +278,17 @@ static void groups(void) {
   static const int32_t first_closing[] = {
       6, -7, -1, 0, 6, 7, 1, 0, 6, -8, 1, 0, 6, 8, -1, 0, 6, -9, 1, 0, 6, 9, -1, 0,
       6, -10, -1, 0, 6, 10, 1, 0, 6, -11, -1, 0, 6, 11, 1, 0, 6, -6, 0};
+  // PS and S of pair (0, 1) are 30 and 31; RE is an inverted latch, and where it is false the word of frame 0 is held
+  static const int32_t second_closing[] = {
+      -30, -18, -1, 0, -30, 18, 1, 0, -30, -19, 1, 0, -30, 19, -1, 0, -30, -20, 1, 0, -30, 20, -1, 0,
+      -30, -21, -1, 0, -30, 21, 1, 0, -30, -22, -1, 0, -30, 22, 1, 0,
+      -17, -18, 7, 0, -17, 18, -7, 0, -17, -19, 8, 0, -17, 19, -8, 0, -17, -20, 9, 0, -17, 20, -9, 0,
+      -17, -21, 10, 0, -17, 21, -10, 0, -17, -22, 11, 0, -17, 22, -11, 0, 17, 30, 31, 0};
   static const int32_t other_property[] = {7, 18, 37, 0};
   writes("latches by their resets, and a gate", other, MARRUBIGAI_WIRES, 0, 0, first_wires, COUNT(first_wires));
   writes("latches by their next codes, and a gate", other, MARRUBIGAI_WIRES, 0, 1, second_wires, COUNT(second_wires));
   writes("the start word", other, MARRUBIGAI_CLOSING, 0, 0, first_closing, COUNT(first_closing));
+  writes("the start word, and the word held", other, MARRUBIGAI_CLOSING, 0, 1, second_closing, COUNT(second_closing));
   writes("the property of three frames", other, MARRUBIGAI_PROPERTY, 0, 0, other_property, COUNT(other_property));
   marrubigai_netlist outside = DISTINCT_NET;
   outside.p = 24;

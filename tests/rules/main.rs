@@ -1,5 +1,5 @@
 //! Holds citations and quotes to docs/RULES.md: each paragraph of the page has one label and no label stands twice; every citation
-//! names a label; a phrase in quotes directly behind a label stands in that paragraph, pieces in order around `..`; in the comments
+//! names a rule that is not given up; a phrase in quotes directly behind a label stands in that paragraph, pieces in order around `..`; in the comments
 //! of definitions and code every other quote has its source named; and no file but those that may names the customer's paper.
 //! Argument: the repository's folder. The last line is the total.
 
@@ -22,6 +22,9 @@ const MAY_NAME_PAPER: [&str; 2] = ["docs/DECISIONS.md", "docs/LANDINGS.md"];
 const SOURCES: [&str; 3] = ["Ganai et al.", "AIGER", "DIMACS"];
 /// A word that the customer coined; it has to stand on the page.
 const COINED: [&str; 2] = ["the customer's", "The customer's"];
+
+/// What stands behind the label of a rule that is given up, before the labels of those that hold instead.
+const GIVEN_UP: &str = ".** Given up for ";
 
 type Paragraphs = BTreeMap<String, String>;
 
@@ -154,13 +157,18 @@ fn paragraphs(page: &str, tally: &mut Tally) -> Paragraphs {
             text.push_str(line);
         }
     }
-    for text in found.values() {
+    for (own, text) in &found {
         let words = text.split(|c: char| !c.is_alphanumeric()).filter_map(label_at);
-        for (cited, _) in words {
-            tally.check(found.contains_key(cited), || format!("{PAGE}: {cited} is no label: {text}"));
+        for (cited, _) in words.filter(|(cited, _)| cited != own) {
+            tally.check(is_rule(&found, cited), || format!("{PAGE}: {cited} is no rule: {text}"));
         }
     }
     found
+}
+
+/// Whether the page has a rule under this label, one that is not given up.
+fn is_rule(rules: &Paragraphs, label: &str) -> bool {
+    rules.get(label).map_or(false, |text| !text.contains(GIVEN_UP))
 }
 
 /// A citation: where it stands, and its labels, each with the quotes directly behind it and where they begin.
@@ -201,7 +209,7 @@ fn cited(path: &str, joined: &Joined, rules: &Paragraphs, tally: &mut Tally) {
         tally.check(!citation.labels.is_empty(), || format!("{place}: a citation without a label"));
         for (label, quotes) in citation.labels {
             let paragraph = rules.get(label);
-            tally.check(paragraph.is_some(), || format!("{place}: {label} is no label of {PAGE}"));
+            tally.check(is_rule(rules, label), || format!("{place}: {label} is no rule of {PAGE}"));
             for (_, quote) in quotes {
                 let holds = paragraph.map_or(false, |paragraph| stands_in(quote, paragraph));
                 tally.check(holds, || format!("{place}: {label} does not say \"{quote}\""));

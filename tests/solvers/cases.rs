@@ -47,15 +47,15 @@ fn small_netlist(random: &mut Random) -> Netlist {
 }
 
 /// All runs to frame `depth`, where none is fed more than `most` free bits: I input bits in each frame,
-/// and n idle bits in each frame in which RE is false. There are then at most 2^most.
+/// and n idle bits in frame 0 where RE is false there. There are then at most 2^most.
 pub fn all_runs(netlist: &Netlist, depth: u32, most: u32) -> Option<Vec<Run>> {
     let mut prefixes = vec![(Circuit::new(netlist), Vec::new(), 0)];
-    for _ in 0..=depth {
+    for frame in 0..=depth {
         let mut longer = Vec::new();
         for (circuit, feeds, bits) in &prefixes {
             for inputs in 0..1 << netlist.inputs {
                 let reads = step(netlist, circuit, inputs, 0).reads;
-                let idle_bits = if reads { 0 } else { netlist.data_width };
+                let idle_bits = if frame > 0 || reads { 0 } else { netlist.data_width };
                 let bits = bits + netlist.inputs + idle_bits;
                 if bits > most {
                     return None;

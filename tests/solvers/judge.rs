@@ -131,8 +131,8 @@ fn sample_runs(netlist: &Netlist, depth: u32) -> Vec<Run> {
         .collect()
 }
 
-/// A run's inputs and read bits as literals. Where RE is true the read bits follow from the rest, and an
-/// assignment with others is not to be taken for the run's.
+/// A run's inputs and read bits as literals. But in frame 0 where RE is false there the read bits follow
+/// from the rest, and an assignment with others is not to be taken for the run's.
 fn projection(netlist: &Netlist, run: &Run) -> Vec<i32> {
     let inputs = 1..netlist.first_latch() as usize;
     let read_bits = netlist.first_read_bit() as usize..netlist.first_gate() as usize;

@@ -11,7 +11,7 @@ use super::reference::formula::Fault;
 use super::reference::netlist::Netlist;
 use super::reference::sheet::read_sheet;
 use super::reference::tally::Tally;
-use super::wrong::wrong_text;
+use super::wrong::{wrong_text, Mistake};
 
 enum Fact {
     /// In a frame a named word has this value.
@@ -77,7 +77,7 @@ pub fn stories(tally: &mut Tally, programs: &Programs, examples: &Path) {
     }
     for (name, depth, fault, found) in MISLED {
         let example = Example::read(&examples.join(name));
-        for answer in programs.solve(&wrong_text(&example.netlist, depth, fault)) {
+        for answer in programs.solve(&wrong_text(&example.netlist, depth, Mistake::Of(fault))) {
             tally.equal((name, depth, fault), answer.is_satisfiable(), found);
         }
     }

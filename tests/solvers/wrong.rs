@@ -1,23 +1,40 @@
-//! The five wrong generators of RULES M1 to M5: the test that the program passes must catch each of them.
+//! The wrong generators of RULES M1 to M5 and M9 to M11: the test that the program passes must catch each of them.
 
 use super::cases::{small_cases, Case};
 use super::judge::{judge, Faults};
 use super::programs::Programs;
-use super::reference::formula::{Fault, Formula};
+use super::reference::agreement::variable;
+use super::reference::formula::{Fault, Formula, Group};
 use super::reference::netlist::Netlist;
 use super::reference::tally::Tally;
 
 /// Random sheets for each wrong generator.
 const SHEETS: usize = 200;
 
+/// A wrong generator: one of the second implementation's, or the right one but for its closings.
+#[derive(Clone, Copy, Debug, PartialEq, Eq)]
+pub enum Mistake {
+    Of(Fault),
+    /// The clauses of the word held are left out.
+    HeldWordLost,
+    /// Frame 0 holds the word 0 where RE is false.
+    HeldInFrameZero,
+    /// The word of two frames before is held.
+    HeldTwoFramesBefore,
+}
+use Mistake::{HeldInFrameZero, HeldTwoFramesBefore, HeldWordLost, Of};
+
 /// Each wrong generator, and what is to be found wrong with its texts: nothing else may be.
 #[rustfmt::skip]
-const WRONG: [(Fault, Faults); 5] = [
-    (Fault::OwnFrameWrite, Faults { assignment_to_run: true, run_to_assignment: true, ..NONE }),
-    (Fault::OldestWrite, Faults { assignment_to_run: true, run_to_assignment: true, ..NONE }),
-    (Fault::ReaderWriteEnable, Faults { assignment_to_run: true, run_to_assignment: true, ..NONE }),
-    (Fault::IdleReadsZero, Faults { run_to_assignment: true, ..NONE }),
-    (Fault::EqualitySettled, Faults { bit_equality: true, ..NONE }),
+const WRONG: [(Mistake, Faults); 8] = [
+    (Of(Fault::OwnFrameWrite), Faults { assignment_to_run: true, run_to_assignment: true, ..NONE }),
+    (Of(Fault::OldestWrite), Faults { assignment_to_run: true, run_to_assignment: true, ..NONE }),
+    (Of(Fault::ReaderWriteEnable), Faults { assignment_to_run: true, run_to_assignment: true, ..NONE }),
+    (Of(Fault::IdleReadsZero), Faults { run_to_assignment: true, ..NONE }),
+    (Of(Fault::EqualitySettled), Faults { bit_equality: true, ..NONE }),
+    (HeldWordLost, Faults { assignment_to_run: true, ..NONE }),
+    (HeldInFrameZero, Faults { run_to_assignment: true, ..NONE }),
+    (HeldTwoFramesBefore, Faults { assignment_to_run: true, run_to_assignment: true, ..NONE }),
 ];
 const NONE: Faults = Faults {
     file: false,
@@ -29,10 +46,10 @@ const NONE: Faults = Faults {
 pub fn wrong_generators(tally: &mut Tally, programs: &Programs) {
     let cases = small_cases(2, SHEETS);
     let mut remarks = Vec::new();
-    for (fault, expected) in WRONG {
+    for (mistake, expected) in WRONG {
         let (mut found, mut caught) = (NONE, 0);
         for Case { netlist, depth } in &cases {
-            let text = wrong_text(netlist, *depth, fault);
+            let text = wrong_text(netlist, *depth, mistake);
             let faults = judge(programs, netlist, *depth, &text).faults;
             caught += usize::from(faults != NONE);
             found.file |= faults.file;
@@ -40,16 +57,26 @@ pub fn wrong_generators(tally: &mut Tally, programs: &Programs) {
             found.run_to_assignment |= faults.run_to_assignment;
             found.bit_equality |= faults.bit_equality;
         }
-        tally.equal(fault, found, expected);
-        remarks.push(format!("{fault:?} {caught}"));
+        tally.equal(mistake, found, expected);
+        remarks.push(format!("{mistake:?} {caught}"));
     }
     tally.remark = format!(" (caught, of {SHEETS} sheets: {})", remarks.join(", "));
 }
 
 /// A wrong generator's text. Its header is right for what it writes, so no solver refuses the file.
-pub fn wrong_text(netlist: &Netlist, depth: u32, fault: Fault) -> Vec<u8> {
+pub fn wrong_text(netlist: &Netlist, depth: u32, mistake: Mistake) -> Vec<u8> {
+    let fault = match mistake {
+        Of(fault) => fault,
+        _ => Fault::None,
+    };
     let formula = Formula::new(netlist, depth, fault);
-    let numbers = formula.numbers();
+    let groups = formula.groups().into_iter();
+    let numbers: Vec<i32> = groups
+        .flat_map(|group| match group {
+            Group::Closing(frame) => closing(netlist, frame, &formula.group(group), mistake),
+            _ => formula.group(group),
+        })
+        .collect();
     let clauses = numbers.iter().filter(|number| **number == 0).count();
     let mut text = format!("p cnf {} {clauses}\n", formula.variable_count());
     for number in numbers {
@@ -57,4 +84,32 @@ pub fn wrong_text(netlist: &Netlist, depth: u32, fault: Fault) -> Vec<u8> {
         text += if number == 0 { "\n" } else { " " };
     }
     text.into_bytes()
+}
+
+/// The closing of a frame with the mistake. It has 2n clauses of the start word, in a later frame 2n of the
+/// word held, each with its literal of the frame before at the end, and (¬RE Z S ..).
+fn closing(netlist: &Netlist, frame: u32, numbers: &[i32], mistake: Mistake) -> Vec<i32> {
+    let bits = netlist.data_width as usize;
+    let (frame, first_read_bit) = (frame as usize, netlist.first_read_bit() as usize);
+    let ended = numbers.split_inclusive(|number| *number == 0);
+    let mut clauses: Vec<Vec<i32>> = ended.map(<[i32]>::to_vec).collect();
+    match mistake {
+        HeldWordLost if frame > 0 => {
+            clauses.drain(2 * bits..4 * bits);
+        }
+        HeldInFrameZero if frame == 0 => {
+            let read_enable = -clauses[2 * bits][0];
+            let zero = |bit| vec![read_enable, -(variable(netlist, 0, first_read_bit + bit) as i32), 0];
+            let held: Vec<Vec<i32>> = (0..bits).map(zero).collect();
+            clauses.splice(2 * bits..2 * bits, held);
+        }
+        HeldTwoFramesBefore if frame > 1 => {
+            let back = variable(netlist, frame - 1, 0) - variable(netlist, frame - 2, 0);
+            for clause in &mut clauses[2 * bits..4 * bits] {
+                clause[2] -= clause[2].signum() * back as i32;
+            }
+        }
+        _ => {}
+    }
+    clauses.concat()
 }

@@ -3,7 +3,7 @@ use mathlib.Core.Path.{refl}
 use Rattle.model.specs.Bits.{odd, bit}
 use Rattle.model.specs.Circuit.{sweep, isRead, eitherWire, dependsOnRead}
 use Rattle.model.specs.Gather.{gather, gatherDown}
-use Rattle.model.specs.Clauses.{neg, andClauses, sameIfClauses, bitClauses, addressBitClauses, unequalOf, allBits, forwardedClauses, pairClauses, initialReadClauses, selectedOf, someSource, closingClauses}
+use Rattle.model.specs.Clauses.{neg, andClauses, sameIfClauses, bitClauses, addressBitClauses, unequalOf, allBits, forwardedClauses, pairClauses, initialReadClauses, heldClauses, heldReads, selectedOf, someSource, closingClauses}
 use Rattle.model.specs.Variables.{baseOf, base, pairBaseOf, pairBase, wireAt, codeAt, noneSince, selected, readBit, pairLiterals, closingLiterals}
 use Rattle.model.specs.Groups.{stateClauses, violationOf, clausesOf, pairOf, frameGroups, groupOrder, inDepth}
 use Rattle.model.specs.Numbers.{numberOf, written, numbersOf, joined, formula, splitAfter, clausesIn}
@@ -27,7 +27,7 @@ use Rattle.calls.specs.Starred.{sheet, loopSheet, net, rows, Starred}
 
 pub starred : Starred
 unfolding odd bit sweep isRead eitherWire dependsOnRead neg gather gatherDown andClauses sameIfClauses bitClauses addressBitClauses unequalOf allBits
-    forwardedClauses pairClauses initialReadClauses selectedOf someSource closingClauses baseOf base pairBaseOf pairBase wireAt codeAt noneSince
+    forwardedClauses pairClauses initialReadClauses heldClauses heldReads selectedOf someSource closingClauses baseOf base pairBaseOf pairBase wireAt codeAt noneSince
     selected readBit pairLiterals closingLiterals stateClauses violationOf clausesOf pairOf frameGroups groupOrder inDepth numberOf
     written numbersOf joined formula splitAfter clausesIn _then_ inOrder lineAt sizeFault codeFault loopFaultBy testLines
     recordVerdict testDepth testGroup testNumbers testRoom groupVerdict headingVerdict digitsWithin digits field sameText

@@ -1,4 +1,4 @@
--- The starred facts about the sheet of the full run (RULES F1 to F10, P8), as rows of one table: of the sheet's bytes, and of the netlist
+-- The starred facts about the sheet of the full run (RULES F1 to F10, F12, P8), as rows of one table: of the sheet's bytes, and of the netlist
 -- that they are read as. Nine rows, one claim, `Starred`. Cited by the contract of `heading`.
 use Prim.Native.Nat.{ℕ}
 use mathlib.Core.Path.{_≡_}
@@ -58,8 +58,8 @@ rows =
     -- RULES F4 and F5: the pair has 16 clauses and 57 numbers
     ∷ row (length (clausesIn (numbersOf net 1 (Pair 0 1))) ∷ []) (16 ∷ [])
     ∷ row (length (numbersOf net 1 (Pair 0 1)) ∷ []) (57 ∷ [])
-    -- RULES F6: depth 1 has 24 clauses
-    ∷ row (length (clausesIn (formula net 1)) ∷ []) (24 ∷ [])
+    -- RULES F12: depth 1 has 26 clauses
+    ∷ row (length (clausesIn (formula net 1)) ∷ []) (26 ∷ [])
     -- RULES F7: address code 0 is taken, 4 gives 6 at line 3
     ∷ row (sent (sheetVerdict sheet 0 0) ++ sent (sheetVerdict loopSheet 0 0)) (0 ∷ 0 ∷ 6 ∷ 3 ∷ [])
     -- RULES F8: depth 255 is taken, 256 gives 7, in a call and on the depth line

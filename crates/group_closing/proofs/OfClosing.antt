@@ -1,7 +1,7 @@
 -- What the loops of a closing write, from the numbers and literals that they hold: one by one the model's clauses and
 -- literals. No contract cites this file.
-use Prim.Native.Nat.{ℕ, _+_, _*_}
-use mathlib.Core.Path.{_≡_, _∙_}
+use Prim.Native.Nat.{ℕ, zero, suc, _+_, _-_, _*_}
+use mathlib.Core.Path.{_≡_, refl, _∙_, ap}
 use mathlib.Core.List.{List, [], _∷_, _++_, map}
 use native.Mathlib.Nat.{add-zero, add-assoc, zero-mul}
 use native.Mathlib.Omega.{arith}
@@ -10,8 +10,8 @@ use Rattle.model.specs.Bits.{bit}
 use Rattle.model.specs.Netlist.{Port, readWire}
 use Rattle.model.specs.Netlist as M
 use Rattle.model.specs.Gather.{gather}
-use Rattle.model.specs.Clauses.{Literal, known, plus, sameIfClauses, ClosingLiterals, initialReadClauses, selectedOf, someSource, closingClauses}
-use Rattle.model.specs.Variables.{stride, base, pairBase, wireAt, noneSince, selected, readBit, closingLiterals}
+use Rattle.model.specs.Clauses.{Literal, known, plus, neg, sameIfClauses, ClosingLiterals, initialReadClauses, heldClauses, heldReads, selectedOf, someSource, closingClauses}
+use Rattle.model.specs.Variables.{stride, base, pairBase, wireAt, codeAt, noneSince, selected, readBit, closingLiterals}
 use Rattle.model.specs.Numbers.{numberOf, written}
 use Rattle.model.proofs.Variables.{pairBase-base}
 use Rattle.model.proofs.Joined.{written-append}
@@ -34,6 +34,29 @@ pub initial-bits : (net : Netlist) (port : R.Port) (i n : ℕ) {reading first : 
 unfolding initialReadClauses closingLiterals readBit netOf portOf
 initial-bits net port i n ez er ef = rw (written-gather n (initialReadClauses (ofClosing net port i)), ez, er, ef, add-zero)
 
+-- the clauses of data bit t where RE is false, from ¬RE, the bases of the frame and of the one before, the read wires before the port's
+-- and the port's before it
+abbrev pub heldBit : Literal → ℕ → ℕ → ℕ → ℕ → ℕ → List ℤ
+heldBit idle reading before first read t =
+    written (sameIfClauses idle (wireAt reading (first + (read + t))) (wireAt before (first + (read + t))))
+
+pub held-bits : (net : Netlist) (port : R.Port) (i n : ℕ) {reading before first : ℕ} {idle : Literal}
+    → idle ≡ neg (codeAt reading (portOf port .RE)) → reading ≡ base (alone net) i → before ≡ base (alone net) (i - 1)
+    → first ≡ readWire (alone net) 0
+    → written (gather n (heldClauses (ofClosing net port i))) ≡ gather n (heldBit idle reading before first (port .«first_read»))
+unfolding heldClauses closingLiterals readBit netOf portOf
+held-bits net port i n ei er eb ef = rw (written-gather n (heldClauses (ofClosing net port i)), ei, er, eb, ef, add-zero)
+
+-- frame 0 holds nothing, a later frame each data bit
+pub held-first : (n : ℕ) (x : ClosingLiterals) → written (heldReads n 0 x) ≡ []
+unfolding heldReads written
+held-first n x = refl
+
+pub held-later : (n i : ℕ) (x : ClosingLiterals) → (i ≡ 0 → ⊥) → heldReads n i x ≡ gather n (heldClauses x)
+unfolding heldReads
+held-later n zero x h = absurd (h refl)
+held-later n (suc i) x h = refl
+
 -- where the variables of pair (j, i) start, from those of pair (0, i)
 pub source-base : (c : M.Netlist) (p : Port) (i : ℕ) {q s : ℕ} → q ≡ pairBase c p 0 i → s ≡ stride c → (j : ℕ)
     → q + j * s ≡ pairBase c p j i
@@ -55,6 +78,9 @@ sources net port i n {q} {s} e es =
 
 -- the parts of a closing's clauses, in their order
 pub closing-parts : (n i : ℕ) (x : ClosingLiterals)
-    → written (closingClauses n i x) ≡ written (gather n (initialReadClauses x)) ++ written (someSource i x ∷ [])
+    → written (closingClauses n i x)
+    ≡ written (gather n (initialReadClauses x)) ++ written (heldReads n i x) ++ written (someSource i x ∷ [])
 unfolding closingClauses
-closing-parts n i x = written-append (gather n (initialReadClauses x)) (someSource i x ∷ [])
+closing-parts n i x =
+    written-append (gather n (initialReadClauses x) ++ heldReads n i x) (someSource i x ∷ [])
+    ∙ ap (λ (zs : List ℤ). zs ++ written (someSource i x ∷ [])) (written-append (gather n (initialReadClauses x)) (heldReads n i x))

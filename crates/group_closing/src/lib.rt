@@ -1,15 +1,17 @@
-// The clauses of the closing of frame i at a port (RULES G11 to G13): a read of a word that no earlier
-// frame wrote is the start word, and a read has some source.
+// The clauses of the closing of frame i at a port (RULES G11 to G13 and G25): a read of a word that no earlier
+// frame wrote is the start word, the word of the frame before is held where nothing is read, and a read has some source.
 use clause_variables::Port;
 use literals::Lit;
 use literals::Wire;
 use netlist::Netlist;
 ghost use Prim.Native.Nat.{_+_, _*_, _≤_, _<_};
+ghost use mathlib.Core.Bool.{cond};
 ghost use mathlib.Core.List.{[], _∷_, map};
+ghost use lib.Dec.{eqb};
 ghost use lib.ListN.{length};
 ghost use Rattle.model.specs.Bits.{bit};
 ghost use Rattle.model.specs.Gather.{gather};
-ghost use Rattle.model.specs.Clauses.{known, sameIfClauses, initialReadClauses, selectedOf, someSource, closingClauses};
+ghost use Rattle.model.specs.Clauses.{known, sameIfClauses, initialReadClauses, heldClauses, heldReads, selectedOf, someSource, closingClauses};
 ghost use Rattle.model.specs.Variables.{wireAt};
 ghost use Rattle.model.specs.Numbers.{numberOf, written};
 ghost use Rattle.literals.specs.Lit.{literalOf, IsLit, HasNumber};
@@ -61,6 +63,55 @@ fn put_initial_reads(out: &mut [i32], net: Netlist, port: Port, i: u32) -> usize
     at
 }
 
+// The two clauses of data bit `rd`: where RE is false, it is as in the frame before.
+fn put_held_bit(out: &mut [i32], idle: Lit, reading: u32, before: u32, rd: Wire) -> usize
+    requires { ⌜ IsLit idle × HasNumber reading (rd .0) × HasNumber before (rd .0) × (1 ≤ rd .0) × (8 ≤ length (now out)) ⌝ }
+    ensures { λ r. ⌜ Wrote (written (sameIfClauses (literalOf idle) (wireAt reading (rd .0)) (wireAt before (rd .0))))
+        (now (out .entry)) (now (out .exit)) r × (r ≤ 8) ⌝ }
+{
+    clause_tseitin::put_same_if(out, idle, rd.in_frame(reading), rd.in_frame(before))
+}
+
+// The clauses of each data bit of a frame above 0, in bit order.
+fn put_held_reads(out: &mut [i32], net: Netlist, port: Port, i: u32) -> usize
+    requires { ⌜ ClosingFits net port i × (1 ≤ i) × (net .n * 8 ≤ length (now out)) ⌝ }
+    ensures { λ r. ⌜ Wrote (written (gather (net .n) (heldClauses (ofClosing net port i))))
+        (now (out .entry)) (now (out .exit)) r × (r ≤ net .n * 8) ⌝ }
+{
+    let reading = clause_variables::frame_base(net, i);
+    let before = clause_variables::frame_base(net, i - 1);
+    let idle = port.re.in_frame(reading).negated();
+    let first = netlist::first_read_wire(net);
+    let read = port.first_read;
+    let n = net.n;
+    let mut at: usize = 0;
+    let mut t: u32 = 0;
+    while t < n {
+        at = at
+            + put_held_bit(
+                &mut out[at..],
+                idle,
+                reading,
+                before,
+                first.offset(read + t),
+            );
+        t = t + 1;
+    }
+    at
+}
+
+// The clauses of the word held: frame 0 has none.
+fn put_held(out: &mut [i32], net: Netlist, port: Port, i: u32) -> usize
+    requires { ⌜ ClosingFits net port i × (cond (eqb i 0) 0 (net .n * 8) ≤ length (now out)) ⌝ }
+    ensures { λ r. ⌜ Wrote (written (heldReads (net .n) i (ofClosing net port i))) (now (out .entry)) (now (out .exit)) r
+        × (r ≤ cond (eqb i 0) 0 (net .n * 8)) ⌝ }
+{
+    if i == 0 {
+        return 0;
+    }
+    put_held_reads(out, net, port, i)
+}
+
 // S of each earlier frame, in ascending order.
 fn put_sources(out: &mut [i32], net: Netlist, port: Port, i: u32) -> usize
     requires { ⌜ ClosingFits net port i × (i ≤ length (now out)) ⌝ }
@@ -105,10 +156,11 @@ fn put_some_source(out: &mut [i32], net: Netlist, port: Port, i: u32) -> usize
 
 // All clauses of the closing.
 pub fn put_closing(out: &mut [i32], net: Netlist, port: Port, i: u32) -> usize
-    requires { ⌜ ClosingFits net port i × (8 * net .n + i + 3 ≤ length (now out)) ⌝ }
+    requires { ⌜ ClosingFits net port i × (net .n * 8 + cond (eqb i 0) 0 (net .n * 8) + i + 3 ≤ length (now out)) ⌝ }
     ensures { λ r. ⌜ Wrote (written (closingClauses (net .n) i (ofClosing net port i)))
-        (now (out .entry)) (now (out .exit)) r × (r ≤ 8 * net .n + i + 3) ⌝ }
+        (now (out .entry)) (now (out .exit)) r × (r ≤ net .n * 8 + cond (eqb i 0) 0 (net .n * 8) + i + 3) ⌝ }
 {
     let a = put_initial_reads(out, net, port, i);
-    a + put_some_source(&mut out[a..], net, port, i)
+    let b = a + put_held(&mut out[a..], net, port, i);
+    b + put_some_source(&mut out[b..], net, port, i)
 }

@@ -12,7 +12,7 @@ use model::Group;
 use netlist::Netlist;
 use netlist::UnpackedList;
 
-// RULES G19, "Numbers with their end marks": of the wires of a frame, of a pair, and of the closing of a frame.
+// RULES G27, "Numbers with their end marks": of the wires of a frame, of a pair, and of the closing of a frame.
 fn wires_length(latches: u32, gates: u32, frame: u32) -> u32
     requires { ⌜ (latches ≤ 600) × (gates ≤ 600) ⌝ }
     ensures first { λ r. ⌜ (frame ≡ 0 → r ≡ 2 + 2 * latches + 10 * gates) ⌝ }
@@ -33,9 +33,13 @@ fn pair_length(m: u32, n: u32) -> u32
 
 fn closing_length(n: u32, frame: u32) -> u32
     requires { ⌜ (n ≤ 32) × (frame ≤ 255) ⌝ }
-    ensures { λ r. ⌜ r ≡ 8 * n + frame + 3 ⌝ }
+    ensures first { λ r. ⌜ (frame ≡ 0 → r ≡ 8 * n + 3) ⌝ }
+    ensures later { λ r. ⌜ (1 ≤ frame → r ≡ 16 * n + frame + 3) ⌝ }
 {
-    8 * n + frame + 3
+    if frame == 0 {
+        return 8 * n + 3;
+    }
+    16 * n + frame + 3
 }
 
 // The numbers of a group, end marks included.
@@ -68,11 +72,12 @@ fn product(a: u32, b: u32) -> u32
 // The clauses of a depth by the sizes: wires, pairs, closings, property.
 fn count(latches: u32, gates: u32, m: u32, n: u32, depth: u32) -> u32
     requires { ⌜ (latches ≤ 600) × (gates ≤ 600) × (m ≤ 12) × (n ≤ 32) × (depth ≤ 255) ⌝ }
-    ensures { λ r. ⌜ r ≡ (1 + latches + 3 * gates) + depth * (2 * latches + 3 * gates) + depth * (depth + 1) / 2 * (4 * m + 2 * n + 10) + (depth + 1) * (2 * n + 1) + 1 ⌝ }
+    ensures { λ r. ⌜ r ≡ (1 + latches + 3 * gates) + depth * (2 * latches + 3 * gates) + depth * (depth + 1) / 2 * (4 * m + 2 * n + 10) + (2 * n + 1 + depth * (4 * n + 1)) + 1 ⌝ }
 {
     let wires = 1 + latches + 3 * gates + product(depth, 2 * latches + 3 * gates);
     let pairs = product(product(depth, depth + 1) / 2, 4 * m + 2 * n + 10);
-    wires + pairs + product(depth + 1, 2 * n + 1) + 1
+    let closings = 2 * n + 1 + product(depth, 4 * n + 1);
+    wires + pairs + closings + 1
 }
 
 // The clauses of all groups of a depth.

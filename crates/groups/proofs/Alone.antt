@@ -67,9 +67,11 @@ module _ (r : Netlist) (ls gs : List ℕ) where
     unfolding numberCount netOf
     pair-count e = rw e
 
-    pub closing-count : {i : ℕ} → g ≡ Closing i → numberCount (netOf r ls gs) k g ≡ 8 * r .n + i + 3
+    pub closing-count : (i : ℕ) → g ≡ Closing i
+        → numberCount (netOf r ls gs) k g ≡ r .n * 8 + cond (eqb i 0) 0 (r .n * 8) + i + 3
     unfolding numberCount netOf
-    closing-count e = rw e
+    closing-count zero e = rw e (omega arith)
+    closing-count (suc i) e = rw (e, ne-eqb (suc i) 0 (λ h. omega arith)) (omega arith)
 
     pub property-count : g ≡ Property → numberCount (netOf r ls gs) k g ≡ k + 2
     unfolding numberCount

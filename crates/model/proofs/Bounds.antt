@@ -270,7 +270,7 @@ module _ {c : Netlist} (accepted : Accepted c) (k : ℕ) where
         S = λ j l. selected-within c k j i l h;
         RD = λ t b. readBit-within c k i t h b;
         W = λ t b. tt;
-        before = λ t b. readBit-within c k (i - 1) t (omega arith) b;
+        before = λ t b. readBit-within c k _ t (omega arith) b;
       })
 
   -- the property

@@ -102,7 +102,8 @@ module _ (c : Netlist) (ok : Accepted c) (idle : ℕ → Bool) (f : Feeds) (k : 
       ∙ ap (λ (x : Bool). cond x (bit (state (suc i) .memory (addressOf c (port c) (u (suc i)))) t) (state (suc i) .held t)) r
 
   held-at : (i : ℕ) → i ≤ k → 0 < i → codeValue (u i) (c .RE) ≡ false → (t : ℕ) → t < c .n
-      → value a (readBit c (port c) i t) ≡ value a (readBit c (port c) (i - 1) t)
+      → value a (readBit c (port c) i t) ≡ value a (closingLiterals c (port c) i .before t)
+  unfolding closingLiterals
   held-at zero d l r t b = absurd (not-suc-le-zero l)
   held-at (suc i) d l r t b =
       let last : suc i - 1 ≡ i = omega arith in

@@ -44,7 +44,8 @@ pub record HasRead (c : Netlist) (p : Port) (u : ℕ → Values) (a : Assignment
   pub pairs : (j : ℕ) → j < i → PairValues c p u a j i
   pub word : codeValue (u i) (p .RE) ≡ true → (t : ℕ) → t < c .n
       → value a (readBit c p i t) ≡ bit (stepped start (hits c p u i) (λ j. wordWritten c (u j)) i) t
-  pub held : 0 < i → codeValue (u i) (p .RE) ≡ false → (t : ℕ) → t < c .n → value a (readBit c p i t) ≡ value a (readBit c p (i - 1) t)
+  pub held : 0 < i → codeValue (u i) (p .RE) ≡ false → (t : ℕ) → t < c .n
+      → value a (readBit c p i t) ≡ value a (closingLiterals c p i .before t)
 
 module _ {c : Netlist} (fit : CodesFit c) {p : Port} {u : ℕ → Values} {a : Assignment} {i start : ℕ} (has : HasRead c p u a i start) where
   -- the writes to the word read, and RE, make a chain

@@ -79,7 +79,7 @@ Feeds = ℕ → Feed
 unfoldable pub addressOf : Netlist → Port → Values → ℕ
 addressOf c p v = fromBits (c .m) (λ t. codeValue v (p .address t))
 
--- the read bits that follow from the state before this frame's write, and from the address and RE in the values v (RULES C4 and C17)
+-- the read bits that follow from the state before this frame's write, and from the address and RE in the values v (RULES C4, C17, C18)
 unfoldable pub readData : Netlist → State → Values → ℕ → Bool
 readData c s v t = cond (codeValue v (port c .RE)) (bit (s .memory (addressOf c (port c) v)) t) (s .held t)
 

@@ -1,4 +1,4 @@
--- Demand 3, the correctness of the encoding in both directions (`Encodes`), and the theorem (`EncodingTheorem`). RULES A2 to A14.
+-- Demand 3, the correctness of the encoding in both directions (`Encodes`), and the theorem (`EncodingTheorem`). RULES A2 to A12.
 --
 -- `Satisfies c k a`: the assignment a makes every clause true that stands in the numbers written for depth k.
 -- First direction: whatever assignment does so, its inputs, fed frame by frame to the circuit with its whole memory from its initial
@@ -43,7 +43,7 @@ Agrees c s k a f = (i : ℕ) → i ≤ k → (w : ℕ) → 1 ≤ w → w ≤ las
 unfoldable pub Breaks : Netlist → State → ℕ → Feeds → Type 0
 Breaks c s k f = (i : ℕ) × (i ≤ k) × (codeValue (run c s f i) (c .P) ≡ false)
 
--- demand 3 (RULES A13 and A14)
+-- demand 3 (RULES A8 and A9)
 pub record Encodes (c : Netlist) (k : ℕ) : Type 0 where
   pub assignment→run : (a : Assignment) → Satisfies c k a
       → Agrees c (initial c (idleOf c a)) k a (feedOf c a) × Breaks c (initial c (idleOf c a)) k (feedOf c a)

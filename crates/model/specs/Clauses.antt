@@ -86,7 +86,7 @@ pub record ClosingLiterals : Type 0 where
   pub RE : Literal
   -- S of pair (j, i)
   pub S : ℕ → Literal
-  -- read data, the initial word's bits, and the read data of frame i - 1
+  -- read data, the initial word's bits, and, where i is not 0, the read data of frame i - 1
   pub RD : ℕ → Literal
   pub W : ℕ → Literal
   pub before : ℕ → Literal

@@ -30,7 +30,8 @@ unfolding inDepth numberCount
 numbers-most c k (Wires zero) a d h = omega (arith, a .limits .sizes .wires-fit, a .limits .sizes .n-least)
 numbers-most c k (Wires (suc i)) a d h = omega (arith, a .limits .sizes .wires-fit, a .limits .sizes .n-least)
 numbers-most c k (Pair j i) a d h = omega (arith, a .limits .sizes .m-most, a .limits .sizes .n-most)
-numbers-most c k (Closing i) a d h = omega (arith, a .limits .sizes .n-most, leb-true i k h)
+numbers-most c k (Closing zero) a d h = omega (arith, a .limits .sizes .n-most)
+numbers-most c k (Closing (suc i)) a d h = omega (arith, a .limits .sizes .n-most, leb-true (suc i) k h)
 numbers-most c k Property a d h = omega (arith, d)
 
 -- no group's text has more than 71,904 bytes

@@ -43,7 +43,7 @@ put-closing-requires c κs =
     let p = c .before .before .before .before .before .pre in
     let e = c .before .before .before .group3 .given .1 in (
       record { fits = fits-alone _ _ _ (p .0) _ (c .port-of2 .ensures); depth = omega (arith, closing-frame _ _ e (p .2), p .1) },
-      rw (closing-count _ _ _ _ e) at (p .3),
+      rw (closing-count _ _ _ _ _ e) at (p .3),
     )
 
 enum-told : tie.Need-enum-told
@@ -78,7 +78,7 @@ same-length-3 c = search needs
 returns-3 : tie.Need-returns-3
 returns-3 c =
     let e = c .before .before .before .before .before .group3 .given .1 in
-    (wrote-by-kind _ _ e (closing-alone _ _ _ _ (c .before .before .port-of2 .ensures) _ _) (c .before .put-closing .ensures .0), rw (closing-count _ _ _ _ e) (c .before .put-closing .ensures .1))
+    (wrote-by-kind _ _ e (closing-alone _ _ _ _ (c .before .before .port-of2 .ensures) _ _) (c .before .put-closing .ensures .0), rw (closing-count _ _ _ _ _ e) (c .before .put-closing .ensures .1))
 
 same-length-4 : tie.Need-same-length-4
 same-length-4 c = search needs

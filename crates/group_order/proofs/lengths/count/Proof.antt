@@ -54,20 +54,26 @@ product-requires-3 c κs =
     let most : k + 1 ≤ 256 = omega (arith, c .before .before .pre .4) in
     omega (arith, mul-le-mul (c .before .before .pre .4) most, c .product2 .ensures .0)
 
-add-result : tie.Need-add-result
-add-result c = search needs
+mul-closings : tie.Need-mul-closings
+mul-closings c = search needs
 
-add-product-5 : tie.Need-add-product-5
-add-product-5 c = search needs
+add-closings : tie.Need-add-closings
+add-closings c = search needs
 
 mul-product-5 : tie.Need-mul-product-5
 mul-product-5 c = search needs
 
-add-product-6 : tie.Need-add-product-6
-add-product-6 c = search needs
+add-product-5 : tie.Need-add-product-5
+add-product-5 c = search needs
 
 product-requires-4 : tie.Need-product-requires-4
 product-requires-4 c κs = search needs
+
+add-closings-2 : tie.Need-add-closings-2
+add-closings-2 c = search needs
+
+add-result : tie.Need-add-result
+add-result c = search needs
 
 add-result-2 : tie.Need-add-result-2
 add-result-2 c = search needs
@@ -103,11 +109,13 @@ count-spec =
     add-product-3
     add-product-4
     product-requires-3
-    add-result
-    add-product-5
+    mul-closings
+    add-closings
     mul-product-5
-    add-product-6
+    add-product-5
     product-requires-4
+    add-closings-2
+    add-result
     add-result-2
     add-result-3
     returns)

@@ -2,8 +2,8 @@
 use mathlib.Core.Path.{sym, _∙_}
 use native.Mathlib.Omega.{arith}
 use Rattle.netlist.specs.NetOf.{netOf}
-use Rattle.model.proofs.Lengths.{pair-numbers, closing-numbers, property-numbers}
-use Rattle.group_order.proofs.GroupLength.{wires-length-is, length-by-kind, closing-in-depth}
+use Rattle.model.proofs.Lengths.{pair-numbers, property-numbers}
+use Rattle.group_order.proofs.GroupLength.{wires-length-is, closing-length-is, length-by-kind, closing-in-depth}
 use borrow.Author.Needs.{needs}
 use Rattle.group_order.proofs.lengths.group_length.Statement.{statement}
 use Rattle.group_order.proofs.lengths.group_length.Tie as tie
@@ -51,7 +51,8 @@ returns-2 c =
 returns-3 : tie.Need-returns-3
 unfolding netOf
 returns-3 c =
-    length-by-kind _ _ _ _ _ (c .before .before .group2 .given .1) (c .closing-length .ensures ∙ sym (closing-numbers _ _ _))
+    length-by-kind _ _ _ _ _ (c .before .before .group2 .given .1)
+    (closing-length-is _ _ _ _ (c .closing-length .ensures .0) (c .closing-length .ensures .1))
 
 returns-4 : tie.Need-returns-4
 unfolding netOf
