@@ -253,7 +253,25 @@ fn wrongs(repository: &Repository, of: &str, edit: &str) -> BTreeSet<Wrong> {
     found
 }
 
-/// The edits that stand for a public function, with a line '# public: NAME': wrong programs, then wrong definitions and promises.
+/// The wrong versions of an edit that stand for a public function, by a line '# public: NAME' or '# public: NAME by FUNCTION, ..': one, or
+/// those of the functions named, each of which is refused at a fact of its own.
+fn stands_for<'a>(edit: &str, line: &'a str) -> Result<(&'a str, usize), String> {
+    let (name, by) = match line.split_once(" by ") {
+        Some((name, by)) => (name, by.split(", ").collect()),
+        None => return Ok((line, 1)),
+    };
+    let refused: BTreeSet<&str> = edit
+        .lines()
+        .filter_map(|line| Some(line.strip_prefix("# refused at: ")?.rsplit_once('/')?.0))
+        .collect();
+    let by: BTreeSet<&str> = by;
+    match by.iter().find(|function| !refused.contains(*function)) {
+        Some(function) => Err(format!("{name}: no fact at which {function} is refused")),
+        None => Ok((name, by.len())),
+    }
+}
+
+/// The edits that stand for a public function: wrong programs, then wrong definitions and promises.
 /// Each is of one kind, and each function has two wrong programs.
 fn edits_blocks(repository: &Repository, functions: &[Public]) -> ([String; 2], Vec<String>) {
     let mut count: BTreeMap<String, usize> = BTreeMap::new();
@@ -269,7 +287,18 @@ fn edits_blocks(repository: &Repository, functions: &[Public]) -> ([String; 2], 
         for path in repository.files(&format!("crates/{of}/must-fail"), ".edit") {
             let edit = repository.read(&path);
             let says = edit.lines().next().unwrap_or("").trim_start_matches("# ");
-            let names: Vec<&str> = edit.lines().filter_map(|line| line.strip_prefix("# public: ")).collect();
+            let public = edit.lines().filter_map(|line| line.strip_prefix("# public: "));
+            let mut names = Vec::new();
+            let mut wrong_versions = Vec::new();
+            for line in public {
+                match stands_for(&edit, line) {
+                    Ok((name, many)) => {
+                        names.push(name);
+                        wrong_versions.push(many);
+                    }
+                    Err(why) => short.push(format!("{path}: {why}")),
+                }
+            }
             if names.is_empty() {
                 continue;
             }
@@ -278,8 +307,8 @@ fn edits_blocks(repository: &Repository, functions: &[Public]) -> ([String; 2], 
                 short.push(format!("{path} is not of one kind: code, definitions or promises"));
             }
             let is_code = wrong.contains(&Wrong::Code);
-            for name in &names {
-                *count.entry(name.to_string()).or_default() += usize::from(is_code);
+            for (name, many) in names.iter().zip(wrong_versions) {
+                *count.entry(name.to_string()).or_default() += if is_code { many } else { 0 };
             }
             let file = Path::new(&path).file_stem().expect("a name").to_string_lossy().into_owned();
             let kind = if wrong.contains(&Wrong::Promise) { "promise: " } else { "definition: " };
@@ -288,9 +317,9 @@ fn edits_blocks(repository: &Repository, functions: &[Public]) -> ([String; 2], 
         }
     }
     for it in functions {
-        let edits = count.remove(&it.name).unwrap_or_default();
-        if edits < 2 {
-            short.push(format!("{} has {edits} wrong programs", it.name));
+        let programs = count.remove(&it.name).unwrap_or_default();
+        if programs < 2 {
+            short.push(format!("{} has {programs} wrong programs", it.name));
         }
     }
     short.extend(count.into_keys().map(|name| format!("no public function {name}")));

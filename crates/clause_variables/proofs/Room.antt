@@ -1,7 +1,7 @@
 -- Every variable of frames 0 to 255 of a netlist within its limits has a clause number. No contract cites this file.
 use Prim.Native.Nat.{ℕ, suc, _+_, _/_, _≤_, _<_}
 use mathlib.Core.Path.{_≡_}
-use native.Mathlib.Nat.{add-assoc}
+use native.Mathlib.Nat.{add-assoc, le-of-lt, lt-of-lt-of-le}
 use native.Mathlib.Omega.{arith}
 use Rattle.model.specs.Netlist.{Netlist, Port, lastWire}
 use Rattle.model.specs.Clauses.{plus}
@@ -36,3 +36,16 @@ pair-has-number c p h j i v l d b =
 pub behind-bits : (c : Netlist) (p : Port) (j i q o : ℕ) → q ≡ pairBase c p j i
     → plus (q + (c .m + o)) ≡ plus (pairBase c p j i + c .m + o)
 behind-bits c p j i q o e = rw (e, add-assoc)
+
+-- the same of the number that a call has answered, as `search` looks for them: of a pair the variables E and e, and those behind the e's
+pub code-numbered : (c : Netlist) (i b x : ℕ) → b ≡ base c i → SizesFit c → IsCode c x → i ≤ 255 → HasNumber b (x / 2)
+code-numbered c i b x e h l d = rw e (code-has-number c h i x d l)
+
+pub pair-numbered : (c : Netlist) (p : Port) (j i q v : ℕ) → q ≡ pairBase c p j i → PortFits c p → j < i → i ≤ 255 → v ≤ 4 → HasNumber q v
+pair-numbered c p j i q v e h l d b = rw e (pair-has-number c p h j i v l d (omega arith))
+
+pub behind-numbered : (c : Netlist) (p : Port) (j i q m o : ℕ) → q ≡ pairBase c p j i → c .m ≡ m → PortFits c p → j < i → i ≤ 255 → o ≤ 4
+    → HasNumber q (m + o)
+behind-numbered c p j i q m o e k h l d b = rw e (pair-has-number c p h j i (m + o) l d (omega arith))
+
+pub ruleset numbered = (code-numbered, pair-numbered, behind-numbered, le-of-lt, lt-of-lt-of-le)

@@ -1,11 +1,12 @@
 -- What the loop over the gates writes, from the base and the list that it holds: one by one the model's clauses; and the parts
 -- of a frame's wires. No contract cites this file.
-use Prim.Native.Nat.{ℕ, zero, suc, _+_, _*_}
+use Prim.Native.Nat.{ℕ, zero, suc, _+_, _*_, _≤_}
 use mathlib.Core.Path.{_≡_, refl, _∙_, ap₂, ap}
 use mathlib.Core.List.{List, [], _∷_, _++_}
 use native.Mathlib.Nat.{add-zero}
 use lib.IntN.{ℤ}
 use lib.ListN.{getD}
+use Rattle.model.specs.Limits.{mostDepth}
 use Rattle.model.specs.Netlist.{gateWire}
 use Rattle.model.specs.Gather.{gather}
 use Rattle.model.specs.Clauses.{Clause, plus, andClauses}
@@ -17,6 +18,8 @@ use Rattle.model.proofs.Joined.{written-append}
 use Rattle.netlist.specs.NetOf.{netOf, alone}
 use Rattle.netlist.specs.declared.Netlist.{Netlist}
 use Rattle.model.proofs.Gather.{gather-same}
+use Rattle.netlist.proofs.NetOf.{limits-without-gates, limits-without-latches}
+use Rattle.clause_variables.specs.FrameFits.{FrameFits}
 use Rattle.clause_writer.proofs.Turns.{written-gather}
 
 -- gate g
@@ -42,6 +45,13 @@ gates-without-latches : (net : Netlist) (ls gs : List ℕ) (i g : ℕ)
     → gateClauses (netOf net ls gs) i g ≡ gateClauses (netOf net [] gs) i g
 unfolding gateClauses base netOf
 gates-without-latches net ls gs i g = refl
+
+-- what is asked of the whole is had of each part, in any frame
+pub frame-without-gates : (net : Netlist) (ls gs : List ℕ) (k i : ℕ) → FrameFits (netOf net ls gs) k → i ≤ mostDepth → FrameFits (netOf net ls []) i
+frame-without-gates net ls gs k i fits d = record { limits = limits-without-gates net ls gs (fits .limits); depth = d }
+
+pub frame-without-latches : (net : Netlist) (ls gs : List ℕ) (k i : ℕ) → FrameFits (netOf net ls gs) k → i ≤ mostDepth → FrameFits (netOf net [] gs) i
+frame-without-latches net ls gs k i fits d = record { limits = limits-without-latches net ls gs (fits .limits); depth = d }
 
 -- the parts of a frame's wires, in their order
 pub wires-parts : (net : Netlist) (ls gs : List ℕ) (k i : ℕ)

@@ -15,7 +15,7 @@ use Rattle.sheet_lines.specs.declared.Kind.{Kind}
 use Rattle.sheet_lines.specs.declared.ParsedLine.the-variants.{Misprint, Read}
 use Rattle.sheet_parse.specs.declared.LineAnswer.the-variants.{Line, Refused, NoLine}
 use Rattle.sheet_parse.specs.Files.{lineCount, lineIn}
-use Rattle.sheet_parse.specs.LineAnswers.{hasLine, lineAnswer, linesRead, lineAfter}
+use Rattle.sheet_parse.specs.LineAnswers.{hasLine, answerOf, lineAnswer, linesRead, noLineAfter, lineAfter}
 use Rattle.sheet_parse.proofs.Files.{WholeLines}
 
 module _ (file : List ℕ) (line : ℕ) where
@@ -38,9 +38,14 @@ module _ (file : List ℕ) (line : ℕ) where
       (λ more. omega arith)
 
   -- the answers
-  pub after-none : hasLine file line ≡ false → lineAfter file line ≡ record { line = NoLine; «lines_read» = line }
+  pub after-none : hasLine file line ≡ false → lineAfter file line ≡ noLineAfter line
   unfolding lineAnswer linesRead
   after-none h = rw h
+
+  pub after-there : hasLine file line ≡ true
+      → lineAfter file line ≡ record { line = answerOf (lineIn file (line + 1)) (line + 1); «lines_read» = line + 1 }
+  unfolding lineAnswer linesRead
+  after-there h = rw h
 
   pub after-misprint : hasLine file line ≡ true → lineIn file (line + 1) ≡ Misprint
       → lineAfter file line ≡ record { line = Refused Refusal.Misprint (line + 1); «lines_read» = line + 1 }

@@ -1,5 +1,5 @@
 -- The tests of a file and of its lines, in their order (RULES T33): the line due at a place from the sizes alone, and
--- the faults of a line in their order. Cited by `is_ragged`, `read_lines` and sheet_tests/specs/Sheet.
+-- the faults of a line in their order. Cited by `is_ragged`, sheet_loop and sheet_tests/specs/Sheet.
 use Prim.Native.Nat.{ℕ, _%_}
 use mathlib.Core.Bool.{Bool, true, false, not, _&&_, _||_}
 use mathlib.Core.List.{List}

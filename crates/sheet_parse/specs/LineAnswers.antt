@@ -1,5 +1,5 @@
 -- What is answered of the lines of a file one by one (RULES L2): the line behind those that are read, a refusal of it with its place, or
--- that there is none. Cited by `has_line`, `line_after`, sheet_parse/specs/NextLine and `marrubigai_next_line`.
+-- that there is none. Cited by `line_after` and its parts, sheet_parse/specs/NextLine and `marrubigai_next_line`.
 use Prim.Native.Nat.{ℕ, _+_, _*_}
 use mathlib.Core.Bool.{Bool, cond, _&&_}
 use mathlib.Core.List.{List}
@@ -47,6 +47,9 @@ lineSent NoLine = record { number = 0; place = 0; letter = 0; first = 0; second 
 
 unfoldable pub linesRead : List ℕ → ℕ → ℕ
 linesRead file line = cond (hasLine file line) (line + 1) line
+
+abbrev pub noLineAfter : ℕ → LineAfter
+noLineAfter line = record { line = NoLine; «lines_read» = line }
 
 abbrev pub lineAfter : List ℕ → ℕ → LineAfter
 lineAfter file line = record { line = lineAnswer file line; «lines_read» = linesRead file line }

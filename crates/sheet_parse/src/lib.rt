@@ -1,23 +1,22 @@
-// The sheet reader, which carries the file and its own line number (RULES S10 and L2), and a file read line by line into the record and
-// the lists (RULES S5 to S7 and T33).
+// The sheet reader, which carries the file and its own line number (RULES S10 and L2), and what one answer of it more does to the record
+// and the lists (RULES S5 to S7 and T33). The loop over its answers is crate `sheet_loop`.
 use netlist::UnpackedList;
 use refusals::Refusal;
 use refusals::Verdict;
 use sheet_lines::Kind;
+use sheet_lines::ParsedLine;
 use sheet_steps::SheetAnswer;
 ghost use mathlib.Core.Path.{_≡_};
-ghost use mathlib.Core.Bool.{false};
 ghost use Prim.Native.Nat.{_+_, _*_, _≤_};
 ghost use lib.ListN.{length};
-ghost use Rattle.refusals.specs.Tests.{inOrder};
 ghost use Rattle.netlist.specs.NetOf.{netOf, alone};
 ghost use Rattle.sheet_steps.specs.Steps.{Outcome, SizesKnown};
 ghost use Rattle.sheet_steps.specs.Lists.{FullLength};
-ghost use Rattle.sheet_parse.specs.Files.{lineCount, lineIn, netIn};
-ghost use Rattle.sheet_parse.specs.LineAnswers.{hasLine, lineAnswer, lineSent, lineAfter};
+ghost use Rattle.sheet_parse.specs.Files.{lineIn};
+ghost use Rattle.sheet_parse.specs.LineAnswers.{hasLine, answerOf, lineAnswer, lineSent, noLineAfter, lineAfter};
 ghost use Rattle.sheet_parse.specs.NextLine.{nextLine};
-ghost use Rattle.sheet_parse.specs.FileTests.{ragged, testLineIn};
-ghost use Rattle.sheet_parse.specs.Progress.{noCodes, noProgress, progressWith, answerVerdict, answerNet, moreAfter};
+ghost use Rattle.sheet_parse.specs.FileTests.{ragged};
+ghost use Rattle.sheet_parse.specs.Progress.{noProgress, progressWith, answerVerdict, answerNet, moreAfter};
 
 // What is answered of a line: its kind and three numbers, 0 where a field is empty; a refusal with its place; or that there is none.
 pub enum LineAnswer {
@@ -46,7 +45,7 @@ pub fn is_ragged(file: &[u8]) -> bool
 }
 
 // The line behind the first `line` lines, as it is read.
-fn parse_line(file: &[u8], line: u32) -> sheet_lines::ParsedLine
+fn parse_line(file: &[u8], line: u32) -> ParsedLine
     requires { ⌜ 32 * line + 32 ≤ length (now file) ⌝ }
     ensures { λ r. ⌜ r ≡ lineIn (now (file .entry)) (line + 1) ⌝ }
 {
@@ -64,36 +63,47 @@ fn has_line(file: &[u8], line: u32) -> bool
     (line < 615) & (end <= file.len())
 }
 
+// Where there is no line, none is read.
+fn no_line(line: u32) -> LineAfter
+    ensures { λ r. ⌜ r ≡ noLineAfter line ⌝ }
+{
+    LineAfter {
+        line: LineAnswer::NoLine,
+        lines_read: line,
+    }
+}
+
+// A line at a place as an answer: a misprinted one is refused.
+fn answer_of(line: ParsedLine, place: u32) -> LineAnswer
+    ensures { λ r. ⌜ r ≡ answerOf line place ⌝ }
+{
+    match line {
+        ParsedLine::Misprint => LineAnswer::Refused(Refusal::Misprint, place),
+        ParsedLine::Read {
+            kind,
+            first,
+            second,
+            third,
+        } => LineAnswer::Line {
+            kind,
+            first,
+            second,
+            third,
+        },
+    }
+}
+
 // What is answered of the line behind the first `line` lines. A misprinted line is read too: the next answer is of the line behind it.
 fn line_after(file: &[u8], line: u32) -> LineAfter
     ensures { λ r. ⌜ r ≡ lineAfter (now (file .entry)) line ⌝ }
 {
     if !has_line(file, line) {
-        return LineAfter {
-            line: LineAnswer::NoLine,
-            lines_read: line,
-        };
+        return no_line(line);
     }
     let place = line + 1;
-    match parse_line(file, line) {
-        sheet_lines::ParsedLine::Misprint => LineAfter {
-            line: LineAnswer::Refused(Refusal::Misprint, place),
-            lines_read: place,
-        },
-        sheet_lines::ParsedLine::Read {
-            kind,
-            first,
-            second,
-            third,
-        } => LineAfter {
-            line: LineAnswer::Line {
-                kind,
-                first,
-                second,
-                third,
-            },
-            lines_read: place,
-        },
+    LineAfter {
+        line: answer_of(parse_line(file, line), place),
+        lines_read: place,
     }
 }
 
@@ -126,13 +136,13 @@ impl<'a> SheetReader<'a> {
 }
 
 // How far a sheet is read: whether there may be one line more, and what the lines so far are answered with.
-struct Progress {
-    more: bool,
-    sheet: SheetAnswer,
+pub struct Progress {
+    pub more: bool,
+    pub sheet: SheetAnswer,
 }
 
 // Before the first line.
-fn no_progress() -> Progress
+pub fn no_progress() -> Progress
     ensures { λ r. ⌜ r ≡ noProgress ⌝ }
 {
     Progress {
@@ -158,7 +168,7 @@ fn progress_with(sheet: SheetAnswer) -> Progress
 
 // One answer more: refusal 2, or 3 to 5 with the line's numbers put into the record and the lists, or the end of the file. After a
 // refusal the lists are scratch.
-fn take_answer(
+pub fn take_answer(
     progress: Progress,
     latches: &mut UnpackedList,
     gates: &mut UnpackedList,
@@ -195,19 +205,4 @@ fn take_answer(
             },
         },
     }
-}
-
-// Reads the lines of a file by a reader that moves on line by line: refusals 2 to 5. After a refusal the lists are scratch.
-pub fn read_lines(file: &[u8], latches: &mut UnpackedList, gates: &mut UnpackedList) -> SheetAnswer
-    requires { ⌜ (ragged (now file) ≡ false) × (now latches ≡ noCodes) × (now gates ≡ noCodes) ⌝ }
-    ensures { λ r. ⌜ Outcome r (now (latches .exit)) (now (gates .exit)) (inOrder (testLineIn (netIn (now (file .entry))) (now (file .entry))) (lineCount (now (file .entry)))) (netIn (now (file .entry))) ⌝ }
-{
-    let mut reader = SheetReader { file, line: 0 };
-    let mut progress = no_progress();
-    while progress.more {
-        let next = reader.next_line();
-        progress = take_answer(progress, latches, gates, next.line, next.reader.line);
-        reader = next.reader;
-    }
-    progress.sheet
 }

@@ -46,7 +46,7 @@ fn test_file(file: &[u8], latches: &mut UnpackedList, gates: &mut UnpackedList) 
     if sheet_parse::is_ragged(file) {
         return sheet_steps::refused(Refusal::Ragged, 0);
     }
-    let sheet = sheet_parse::read_lines(file, latches, gates);
+    let sheet = sheet_loop::read_lines(file, latches, gates);
     let read = sheet.verdict;
     if let Verdict::Refused(_, _) = read {
         return sheet;

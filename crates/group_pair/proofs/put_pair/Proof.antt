@@ -1,5 +1,4 @@
 -- `group_pair::put_pair` meets its contract: its two parts, one after the other.
-use native.Mathlib.Omega.{arith}
 use borrow.Author.Needs.{needs}
 use Rattle.clause_writer.proofs.Wrote.{wrote-then}
 use Rattle.group_pair.proofs.OfPair.{pair-parts}
@@ -22,9 +21,7 @@ part-put-gated-data-end : tie.Need-part-put-gated-data-end
 part-put-gated-data-end c = search needs
 
 put-gated-data-requires : tie.Need-put-gated-data-requires
-put-gated-data-requires c κs =
-    let is = c .before .before .before .before .pre .0 in
-    (record { fits = is .fits; earlier = omega arith; depth = omega arith }, search needs)
+put-gated-data-requires c κs = (record { fits = search needs; earlier = search needs; depth = search needs }, search needs)
 
 add-result : tie.Need-add-result
 add-result c = search needs

@@ -1,21 +1,18 @@
 -- `group_pair_address::put_all_bits` meets its contract: the literals of the bits, then the last with the end mark.
-use native.Mathlib.Omega.{arith}
 use borrow.Author.Needs.{needs}
 use Rattle.model.specs.Clauses.{allBits}
 use Rattle.model.specs.Variables.{pairLiterals}
-use Rattle.clause_variables.proofs.Room.{pair-has-number}
+use Rattle.clause_variables.proofs.Room.{numbered}
 use Rattle.clause_writer.proofs.Wrote.{wrote-then}
 use Rattle.clause_writer.proofs.Turns.{written-clause}
 use Rattle.group_pair_address.proofs.put_all_bits.Statement.{statement}
 use Rattle.group_pair_address.proofs.put_all_bits.Tie as tie
 
 pair-base-requires : tie.Need-pair-base-requires
-pair-base-requires c κs = let is = c .pre .0 in (is .fits, omega arith, omega arith)
+pair-base-requires c κs = search needs
 
 in-pair-requires : tie.Need-in-pair-requires
-in-pair-requires c κs =
-    let is = c .before .pre .0 in
-    (rw (c .pair-base .ensures) (pair-has-number _ _ (is .fits) _ _ _ (is .earlier) (is .depth) (omega arith)), omega arith)
+in-pair-requires c κs = search (needs, numbered)
 
 put-unequal-bits-requires : tie.Need-put-unequal-bits-requires
 put-unequal-bits-requires c κs = search needs

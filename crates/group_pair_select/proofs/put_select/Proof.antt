@@ -1,23 +1,20 @@
 -- `group_pair_select::put_select` meets its contract.
 use mathlib.Core.Path.{_∙_}
-use native.Mathlib.Omega.{arith}
 use borrow.Author.Needs.{needs}
 use Rattle.model.specs.Variables.{pairLiterals}
 use Rattle.netlist.specs.NetOf.{netOf, alone}
 use Rattle.clause_variables.specs.PortOf.{portOf}
 use Rattle.clause_variables.specs.OfPair.{ofPair}
-use Rattle.clause_variables.proofs.Room.{code-has-number, pair-has-number, behind-bits}
+use Rattle.clause_variables.proofs.Room.{numbered, behind-bits}
 use Rattle.group_pair_select.proofs.PairGates.{pair-gates}
 use Rattle.group_pair_select.proofs.put_select.Statement.{statement}
 use Rattle.group_pair_select.proofs.put_select.Tie as tie
 
 pair-base-requires : tie.Need-pair-base-requires
-pair-base-requires c κs = let is = c .pre .0 in (is .fits, omega arith, omega arith)
+pair-base-requires c κs = search needs
 
 in-pair-requires : tie.Need-in-pair-requires
-in-pair-requires c κs =
-    let is = c .before .pre .0 in
-    (rw (c .pair-base .ensures) (pair-has-number _ _ (is .fits) _ _ _ (is .earlier) (is .depth) (omega arith)), omega arith)
+in-pair-requires c κs = search (needs, numbered)
 
 add-in-pair : tie.Need-add-in-pair
 unfolding netOf
@@ -25,30 +22,26 @@ add-in-pair c = search needs
 
 in-pair-requires-2 : tie.Need-in-pair-requires-2
 unfolding netOf
-in-pair-requires-2 c κs =
-    let is = c .before .before .before .pre .0 in
-    (rw (c .before .before .pair-base .ensures) (pair-has-number _ _ (is .fits) _ _ _ (is .earlier) (is .depth) (omega arith)), omega arith)
+in-pair-requires-2 c κs = (search (needs, numbered), search needs)
 
 frame-base-requires : tie.Need-frame-base-requires
 frame-base-requires c κs = search needs
 
 in-frame-requires : tie.Need-in-frame-requires
 unfolding netOf
-in-frame-requires c κs =
-    let is = c .before .before .before .before .before .pre .0 in
-    rw (c .frame-base .ensures) (code-has-number _ (is .fits .limits .sizes) _ _ (omega arith) (is .fits .limits .codes .WE-fits))
+in-frame-requires c κs = search (needs, numbered)
 
 none-since-requires : tie.Need-none-since-requires
-none-since-requires c κs = let is = c .before .before .before .before .before .before .pre .0 in (is .fits, omega arith, omega arith)
+none-since-requires c κs = search needs
 
 selected-requires : tie.Need-selected-requires
-selected-requires c κs = let is = c .before .before .before .before .before .before .before .pre .0 in (is .fits, omega arith, omega arith)
+selected-requires c κs = search needs
 
 add-none-since : tie.Need-add-none-since
 add-none-since c = search needs
 
 none-since-requires-2 : tie.Need-none-since-requires-2
-none-since-requires-2 c κs = let is = c .before .before .before .before .before .before .before .before .pre .0 in (is .fits, omega arith, omega arith)
+none-since-requires-2 c κs = search needs
 
 put-select-gates-requires : tie.Need-put-select-gates-requires
 put-select-gates-requires c κs = search needs

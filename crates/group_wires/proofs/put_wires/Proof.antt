@@ -1,16 +1,12 @@
 -- `group_wires::put_wires` meets its contract: the latches, then the gates.
 use borrow.Author.Needs.{needs}
-use Rattle.netlist.proofs.NetOf.{limits-without-latches, limits-without-gates}
 use Rattle.clause_writer.proofs.Wrote.{wrote-then}
-use Rattle.group_wires.proofs.WiresOf.{wires-parts}
+use Rattle.group_wires.proofs.WiresOf.{frame-without-gates, frame-without-latches, wires-parts}
 use Rattle.group_wires.proofs.put_wires.Statement.{statement}
 use Rattle.group_wires.proofs.put_wires.Tie as tie
 
 put-state-requires : tie.Need-put-state-requires
-put-state-requires c κs =
-    let a = c .before .args in
-    let is = c .before .pre .0 in
-    (record { limits = limits-without-gates (a .net) (a .latches .now) (a .gates .now) (is .limits); depth = is .depth }, search needs)
+put-state-requires c κs = search (needs, frame-without-gates)
 
 mul-put-gates : tie.Need-mul-put-gates
 mul-put-gates c = search needs
@@ -25,10 +21,7 @@ part-put-gates-end : tie.Need-part-put-gates-end
 part-put-gates-end c = search needs
 
 put-gates-requires : tie.Need-put-gates-requires
-put-gates-requires c κs =
-    let a = c .before .before .before .before .args in
-    let is = c .before .before .before .before .pre .0 in
-    (record { limits = limits-without-latches (a .net) (a .latches .now) (a .gates .now) (is .limits); depth = is .depth }, search needs)
+put-gates-requires c κs = search (needs, frame-without-latches)
 
 add-result : tie.Need-add-result
 add-result c = search needs

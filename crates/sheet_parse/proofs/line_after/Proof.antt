@@ -1,11 +1,11 @@
--- `sheet_parse::line_after` meets its contract: there is no line, or it is misprinted, or it is read.
+-- `sheet_parse::line_after` meets its contract: there is no line, or there is one.
 use mathlib.Core.Path.{_≡_, sym, _∙_}
 use mathlib.Core.Bool.{true}
 use native.Mathlib.Omega.{arith}
 use borrow.Author.Needs.{needs}
 use borrow.Author.Tests.{not-true, not-false}
 use Rattle.sheet_parse.specs.LineAnswers.{hasLine}
-use Rattle.sheet_parse.proofs.LineAnswers.{line-there, after-none, after-misprint, after-read}
+use Rattle.sheet_parse.proofs.LineAnswers.{line-there, after-none, after-there}
 use Rattle.sheet_parse.proofs.line_after.Statement.{statement}
 use Rattle.sheet_parse.proofs.line_after.Tie as tie
 
@@ -16,10 +16,13 @@ there c = sym (c .before .has-line .ensures) ∙ not-false _ (c .if1 .left)
 has-line-requires : tie.Need-has-line-requires
 has-line-requires c κs = search needs
 
+no-line-requires : tie.Need-no-line-requires
+no-line-requires c κs = search needs
+
 returns : tie.Need-returns
 returns c =
-    let a = c .before .before .before .args in
-    sym (after-none (a .file .now) (a .line) (sym (c .before .has-line .ensures) ∙ not-true _ (c .if1 .taken)))
+    let a = c .before .before .before .before .args in
+    c .no-line .ensures ∙ sym (after-none (a .file .now) (a .line) (sym (c .before .before .has-line .ensures) ∙ not-true _ (c .before .if1 .taken)))
 
 add-place : tie.Need-add-place
 add-place c =
@@ -31,36 +34,20 @@ parse-line-requires c κs =
     let a = c .before .before .before .args in
     line-there (a .file .now) (a .line) (there c) .1
 
-enum-told : tie.Need-enum-told
-enum-told c = search needs
-
-enum-known-kind : tie.Need-enum-known-kind
-enum-known-kind c = search needs
+answer-of-requires : tie.Need-answer-of-requires
+answer-of-requires c κs = search needs
 
 returns-2 : tie.Need-returns-2
-returns-2 c =
-    let a = c .before .before .before .before .before .before .args in
-    sym
-    (after-misprint (a .file .now) (a .line) (there (c .before .before .before))
-    (sym (c .before .before .parse-line .ensures) ∙ c .enum-told .given .1))
-
-returns-3 : tie.Need-returns-3
-returns-3 c =
-    let a = c .before .before .before .before .before .before .before .args in
-    let read = c .before .kind .given in
-    sym
-    (after-read (a .file .now) (a .line) (there (c .before .before .before .before)) (read .0 .0) (read .0 .1 .0) (read .0 .1 .1 .0)
-    (read .0 .1 .1 .1 .0) (sym (c .before .before .before .parse-line .ensures) ∙ read .1))
+returns-2 c = rw (c .answer-of .ensures, c .before .parse-line .ensures, after-there _ _ (there (c .before .before)))
 
 pub line-after-spec : {M : Type 1} → statement M
 line-after-spec =
     tie.close
     (tie.spec
     has-line-requires
+    no-line-requires
     returns
     add-place
     parse-line-requires
-    enum-told
-    enum-known-kind
-    returns-2
-    returns-3)
+    answer-of-requires
+    returns-2)

@@ -1,4 +1,4 @@
--- `sheet_parse::read_lines` meets its contract: a walk of its MIR, by hand. A reader is made of the file, and in every turn of the loop
+-- `sheet_loop::read_lines` meets its contract: a walk of its MIR, by hand. A reader is made of the file, and in every turn of the loop
 -- `next_line` takes it and `take_answer` its answer, with both lists lent on for a lifetime of the turn. The loop keeps the state of
 -- `InProgress`; in each turn one answer less is left.
 use Prim.Native.Nat.{ℕ, _≤_, _<_}
@@ -55,44 +55,44 @@ use Rattle.sheet_steps.specs.Steps.{Outcome, SizesKnown}
 use Rattle.sheet_steps.specs.Lists.{FullLength}
 use Rattle.sheet_steps.proofs.SheetAnswer as S
 use Rattle.sheet_steps.proofs.SheetAnswer.Laws as S′
 use Rattle.sheet_parse.specs.Files.{lineCount}
 use Rattle.sheet_parse.specs.FileTests.{ragged}
 use Rattle.sheet_parse.specs.LineAnswers.{lineAnswer, lineSent, linesRead}
 use Rattle.sheet_parse.specs.NextLine.{nextLine}
 use Rattle.sheet_parse.specs.Progress.{noCodes, noProgress, answerVerdict, answerNet, moreAfter}
 use Rattle.sheet_parse.specs.declared.LineAnswer.{LineAnswer}
 use Rattle.sheet_parse.specs.declared.SheetReader.{SheetReader}
 use Rattle.sheet_parse.specs.declared.NextLine.{NextLine}
 use Rattle.sheet_parse.specs.declared.Progress.{Progress}
 use Rattle.sheet_parse.proofs.Files.{WholeLines, whole-lines}
 use Rattle.netlist.specs.declared.Netlist.{Netlist}
 use Rattle.sheet_parse.proofs.LineTests.{ReadTo}
 use Rattle.sheet_parse.proofs.InProgress.{InProgress, answersLeft, one-less, starts, sizes-next, goes-on}
 use Rattle.sheet_parse.proofs.LineAnswer as K
 use Rattle.sheet_parse.proofs.LineAnswer.Laws as K′
 use Rattle.sheet_parse.proofs.SheetReader as T
 use Rattle.sheet_parse.proofs.SheetReader.Laws as T′
 use Rattle.sheet_parse.proofs.NextLine as N
 use Rattle.sheet_parse.proofs.NextLine.Laws as N′
 use Rattle.sheet_parse.proofs.Progress as G
 use Rattle.sheet_parse.proofs.Progress.Laws as G′
 use Rattle.sheet_parse.proofs.SheetReader.next_line as next
 use Rattle.sheet_parse.proofs.SheetReader.next_line.Symbol as next-def
 use Rattle.sheet_parse.proofs.SheetReader.next_line.Symbol.{name as #next}
 use Rattle.sheet_parse.proofs.SheetReader.next_line.Met as next-thm
 use Rattle.sheet_parse.proofs.no_progress as none
 use Rattle.sheet_parse.proofs.no_progress.Symbol as none-def
 use Rattle.sheet_parse.proofs.no_progress.Symbol.{name as #none}
 use Rattle.sheet_parse.proofs.no_progress.Met as none-thm
 use Rattle.sheet_parse.proofs.take_answer as take
 use Rattle.sheet_parse.proofs.take_answer.Symbol as take-def
 use Rattle.sheet_parse.proofs.take_answer.Symbol.{name as #take}
 use Rattle.sheet_parse.proofs.take_answer.Met as take-thm
-use Rattle.sheet_parse.proofs.read_lines.Key.{name as #read-lines}
-use Rattle.sheet_parse.proofs.read_lines as f
-use Rattle.sheet_parse.proofs.read_lines.Statement as stated
-use Rattle.sheet_parse.proofs.read_lines.Code as code
-use Rattle.sheet_parse.proofs.read_lines.Code.Mir as pieces
+use Rattle.sheet_loop.proofs.read_lines.Key.{name as #read-lines}
+use Rattle.sheet_loop.proofs.read_lines as f
+use Rattle.sheet_loop.proofs.read_lines.Statement as stated
+use Rattle.sheet_loop.proofs.read_lines.Code as code
+use Rattle.sheet_loop.proofs.read_lines.Code.Mir as pieces
 
 -- an unpacked list, and the types of the locals
 abbrev Codes : RattleType
