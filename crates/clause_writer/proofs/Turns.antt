@@ -2,6 +2,7 @@
 -- and end it. No contract cites this file.
 use Prim.Native.Nat.{ℕ, zero, suc, _+_, _-_, _*_, _≤_, _<_}
 use mathlib.Core.Path.{_≡_, refl}
+use mathlib.Core.Bool.{Bool, true, false, _||_}
 use mathlib.Core.List.{List, [], _∷_, _++_, append-assoc}
 use native.Mathlib.Nat.{le-antisymm, mul-le-mul-right}
 use native.Mathlib.Numerals.{add-one}
@@ -11,8 +12,9 @@ use lib.ListN.{length}
 use borrow.Rule.Slice.PartMut.{midOf, putMid}
 use Rattle.model.specs.Gather.{gather}
 use Rattle.model.specs.Clauses.{Literal, Clause}
-use Rattle.model.specs.Numbers.{keptOf, kept, written}
+use Rattle.model.specs.Numbers.{keptOf, kept, hasTrue, written}
 use Rattle.model.proofs.Joined.{written-append}
+use Rattle.model.proofs.Classes.{hasTrue-append}
 use Rattle.model.specs.Wrote.{Wrote}
 use Rattle.clause_writer.proofs.Wrote.{wrote-nothing, wrote-length, rest-room, wrote-then}
 
@@ -32,6 +34,22 @@ pub kept-gather : (n : ℕ) (f : ℕ → List Literal) → kept (gather n f) ≡
 unfolding gather kept
 kept-gather zero f = refl
 kept-gather (suc n) f = rw (kept-append (gather n f) (f n), kept-gather n f)
+
+-- gathered literals of which each turn has a true one, or none has
+or-same : (v : Bool) → (v || v) ≡ v
+or-same true = refl
+or-same false = refl
+
+pub hasTrue-gather : (n : ℕ) (f : ℕ → List Literal) (v : Bool) → ((t : ℕ) → hasTrue (f t) ≡ v) → hasTrue (gather (suc n) f) ≡ v
+unfolding gather
+hasTrue-gather zero f v each = each 0
+hasTrue-gather (suc n) f v each =
+    rw (hasTrue-append (gather (suc n) f) (f (suc n)), hasTrue-gather n f v each, each (suc n)) (or-same v)
+
+pub none-gather : (n : ℕ) (f : ℕ → List Literal) → ((t : ℕ) → hasTrue (f t) ≡ false) → hasTrue (gather n f) ≡ false
+unfolding gather hasTrue
+none-gather zero f each = refl
+none-gather (suc n) f each = hasTrue-gather n f false each
 
 -- after t turns of n, of at most s numbers each: the first t lists are written, and all of them have room
 pub record Turns (n s : ℕ) (f : ℕ → List ℤ) (old new : List ℤ) (t at : ℕ) : Type 0 where

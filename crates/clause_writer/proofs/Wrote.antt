@@ -1,11 +1,11 @@
 -- The laws of `Wrote` (model) as writers of clauses use them: one writer behind another with the lists left to be found.
 -- No contract cites this file.
 use Prim.Native.Nat.{ℕ, zero, suc, _+_, _-_, _≤_}
-use mathlib.Core.Path.{_≡_, sym, _∙_, ap}
+use mathlib.Core.Path.{_≡_, refl, sym, _∙_, ap}
 use mathlib.Core.Bool.{Bool, true, false, _||_, or-false, or-assoc}
 use mathlib.Core.List.{List, [], _∷_, _++_, append-nil, append-assoc}
 use native.Mathlib.Omega.{arith}
-use lib.IntN.{ℤ}
+use lib.IntN.{ℤ, pos}
 use lib.ListN.{length}
 use borrow.Rule.Slice.PartMut.{midOf, putMid}
 use Rattle.model.specs.Clauses.{Literal, Clause}
@@ -28,6 +28,12 @@ pub clause-ended : (x : Clause) {old mid part : List ℤ} {r s : ℕ} → hasTru
 unfolding written writtenClause
 clause-ended x none w v =
     rw (none, append-nil (kept x ++ endOf (length (kept x))), sym (w .counted)) (wrote-then w v)
+
+-- the end of a clause that is not left empty is the end mark alone
+pub end-begun : (n : ℕ) → (n ≡ 0 → ⊥) → endOf n ≡ pos 0 ∷ []
+unfolding endOf
+end-begun zero h = absurd (h refl)
+end-begun (suc n) h = refl
 
 -- with its end it has at most one number more than literals, where it has any
 pub end-most : {begun most s : ℕ} {old new : List ℤ} → Wrote (endOf begun) old new s → begun ≤ most → 1 ≤ most → begun + s ≤ most + 1
@@ -63,6 +69,15 @@ kept-two a b = ap (λ zs. keptOf a ++ zs) (append-nil (keptOf b))
 pub kept-three : (a b c : Literal) → kept (a ∷ b ∷ c ∷ []) ≡ (keptOf a ++ keptOf b) ++ keptOf c
 unfolding kept
 kept-three a b c = ap (λ zs. keptOf a ++ (keptOf b ++ zs)) (append-nil (keptOf c)) ∙ sym (append-assoc (keptOf a) (keptOf b) (keptOf c))
+
+-- of a clause that begins with two literals
+pub kept-behind : (a b : Literal) (x : Clause) → kept (a ∷ b ∷ x) ≡ keptOf a ++ keptOf b ++ kept x
+unfolding kept
+kept-behind a b x = sym (append-assoc (keptOf a) (keptOf b) (kept x))
+
+pub hasTrue-behind : (a b : Literal) (x : Clause) → hasTrue (a ∷ b ∷ x) ≡ (isTrue a || isTrue b || hasTrue x)
+unfolding hasTrue
+hasTrue-behind a b x = sym (or-assoc (isTrue a) (isTrue b) (hasTrue x))
 
 -- one with a true literal is left out
 pub clause-left-out : (x : Clause) (old : List ℤ) → hasTrue x ≡ true → Wrote (written (x ∷ [])) old old 0

@@ -6,16 +6,26 @@ use literals::Term;
 ghost use mathlib.Core.List.{[], _∷_};
 ghost use Prim.Native.Nat.{_+_, _≤_};
 ghost use lib.ListN.{length};
+ghost use lib.IntN.{pos, negsuc};
 ghost use Rattle.model.specs.Numbers.{keptOf, endOf, written};
 ghost use Rattle.literals.specs.Lit.{literalAt, literalOf, IsLit, IsTerm};
 ghost use Rattle.model.specs.Wrote.{Wrote};
 
-// One number.
-fn put_one(out: &mut [i32], x: i32) -> usize
+// The end mark of a clause.
+fn put_mark(out: &mut [i32]) -> usize
     requires { ⌜ 1 ≤ length (now out) ⌝ }
-    ensures { λ r. ⌜ Wrote (x ∷ []) (now (out .entry)) (now (out .exit)) r × (r ≤ 1) ⌝ }
+    ensures { λ r. ⌜ Wrote (pos 0 ∷ []) (now (out .entry)) (now (out .exit)) r × (r ≤ 1) ⌝ }
 {
-    out[0] = x;
+    out[0] = 0;
+    1
+}
+
+// The single number of a clause left empty.
+fn put_minus_one(out: &mut [i32]) -> usize
+    requires { ⌜ 1 ≤ length (now out) ⌝ }
+    ensures { λ r. ⌜ Wrote (negsuc 0 ∷ []) (now (out .entry)) (now (out .exit)) r × (r ≤ 1) ⌝ }
+{
+    out[0] = -1;
     1
 }
 
@@ -25,7 +35,8 @@ pub fn put_number(out: &mut [i32], a: Lit) -> usize
     ensures { λ r. ⌜ Wrote (keptOf (literalAt (a .0))) (now (out .entry)) (now (out .exit)) r × (r ≤ 1) ⌝ }
 {
     let x = a.0;
-    put_one(out, x)
+    out[0] = x;
+    1
 }
 
 // One literal of a clause; nothing of a constant.
@@ -46,10 +57,10 @@ pub fn put_end(out: &mut [i32], begun: usize) -> usize
     ensures { λ r. ⌜ Wrote (endOf begun) (now (out .entry)) (now (out .exit)) r × (r ≤ 2) ⌝ }
 {
     if begun == 0 {
-        let i = put_one(out, -1);
-        return i + put_one(&mut out[i..], 0);
+        let i = put_minus_one(out);
+        return i + put_mark(&mut out[i..]);
     }
-    put_one(out, 0)
+    put_mark(out)
 }
 
 // A clause of one literal.

@@ -1,7 +1,7 @@
 // The clauses of the closing of frame i at a port (RULES G11 to G13 and G25): a read of a word that no earlier
 // frame wrote is the start word, the word of the frame before is held where nothing is read, and a read has some source.
 use clause_variables::Port;
-use literals::Lit;
+use literals::Term;
 use literals::Wire;
 use netlist::Netlist;
 ghost use Prim.Native.Nat.{_+_, _*_, _≤_, _<_};
@@ -14,24 +14,24 @@ ghost use Rattle.model.specs.Gather.{gather};
 ghost use Rattle.model.specs.Clauses.{known, sameIfClauses, initialReadClauses, heldClauses, heldReads, selectedOf, someSource, closingClauses};
 ghost use Rattle.model.specs.Variables.{wireAt};
 ghost use Rattle.model.specs.Numbers.{numberOf, written};
-ghost use Rattle.literals.specs.Lit.{literalOf, IsLit, HasNumber};
+ghost use Rattle.literals.specs.Lit.{literalOf, IsTerm, HasNumber};
 ghost use Rattle.model.specs.Wrote.{Wrote};
 ghost use Rattle.group_closing.specs.OfClosing.{ofClosing, ClosingFits};
 
 // The two clauses of data bit t: where Z is true, the read bit `rd` is the start bit.
 fn put_initial_bit(
     out: &mut [i32],
-    none_since: Lit,
+    none_since: Term,
     reading: u32,
     rd: Wire,
     word: u32,
     t: u32,
 ) -> usize
-    requires { ⌜ IsLit «none_since» × HasNumber reading (rd .0) × (1 ≤ rd .0) × (t < 32) × (8 ≤ length (now out)) ⌝ }
+    requires { ⌜ IsTerm «none_since» × HasNumber reading (rd .0) × (1 ≤ rd .0) × (t < 32) × (8 ≤ length (now out)) ⌝ }
     ensures { λ r. ⌜ Wrote (written (sameIfClauses (literalOf «none_since») (wireAt reading (rd .0)) (known (bit word t))))
         (now (out .entry)) (now (out .exit)) r × (r ≤ 8) ⌝ }
 {
-    clause_tseitin::put_same_if(out, none_since, rd.in_frame(reading), Lit::bit(word, t))
+    clause_tseitin::put_same_if(out, none_since, rd.in_frame(reading), Term::bit(word, t))
 }
 
 // The clauses of each data bit, in bit order.
@@ -64,8 +64,8 @@ fn put_initial_reads(out: &mut [i32], net: Netlist, port: Port, i: u32) -> usize
 }
 
 // The two clauses of data bit `rd`: where RE is false, it is as in the frame before.
-fn put_held_bit(out: &mut [i32], idle: Lit, reading: u32, before: u32, rd: Wire) -> usize
-    requires { ⌜ IsLit idle × HasNumber reading (rd .0) × HasNumber before (rd .0) × (1 ≤ rd .0) × (8 ≤ length (now out)) ⌝ }
+fn put_held_bit(out: &mut [i32], idle: Term, reading: u32, before: u32, rd: Wire) -> usize
+    requires { ⌜ IsTerm idle × HasNumber reading (rd .0) × HasNumber before (rd .0) × (1 ≤ rd .0) × (8 ≤ length (now out)) ⌝ }
     ensures { λ r. ⌜ Wrote (written (sameIfClauses (literalOf idle) (wireAt reading (rd .0)) (wireAt before (rd .0))))
         (now (out .entry)) (now (out .exit)) r × (r ≤ 8) ⌝ }
 {
@@ -125,7 +125,7 @@ fn put_sources(out: &mut [i32], net: Netlist, port: Port, i: u32) -> usize
     let mut at: usize = 0;
     let mut j: u32 = 0;
     while j < i {
-        let selected = Lit::in_pair(q + j * stride, offset);
+        let selected = Term::in_pair(q + j * stride, offset);
         at = at + clause_writer::put_literal(&mut out[at..], selected);
         j = j + 1;
     }

@@ -35,12 +35,12 @@ pub struct Numbering {
 
 impl Wire {
     // The wire in a frame whose variables start after `b`.
-    pub fn in_frame(self, b: u32) -> Lit
+    pub fn in_frame(self, b: u32) -> Term
         requires { ⌜ HasNumber b (self .0) × (1 ≤ self .0) ⌝ }
-        ensures literal { λ r. ⌜ literalAt (r .0) ≡ wireAt b (self .0) ⌝ }
-        ensures number { λ r. ⌜ IsLit r ⌝ }
+        ensures literal { λ r. ⌜ literalOf r ≡ wireAt b (self .0) ⌝ }
+        ensures number { λ r. ⌜ IsTerm r ⌝ }
     {
-        Lit::variable(b, self.0)
+        Term::Number(Lit::variable(b, self.0))
     }
 
     // The wire `by` places behind this one.
@@ -118,13 +118,12 @@ impl Lit {
         Lit((b + w) as i32)
     }
 
-    // A variable of a pair whose variables start after `q`.
-    pub fn in_pair(q: u32, offset: u32) -> Lit
-        requires { ⌜ HasNumber q offset × (1 ≤ offset) ⌝ }
-        ensures literal { λ r. ⌜ literalAt (r .0) ≡ plus (q + offset) ⌝ }
+    // Number 1.
+    fn first() -> Lit
+        ensures literal { λ r. ⌜ literalAt (r .0) ≡ plus 1 ⌝ }
         ensures number { λ r. ⌜ IsLit r ⌝ }
     {
-        Lit::variable(q, offset)
+        Lit(1)
     }
 
     // ¬ of the rules: the sign turns (RULES W5).
@@ -148,6 +147,23 @@ impl Term {
             return Term::True;
         }
         Term::False
+    }
+
+    // Variable 1, which the first clause makes true (RULES V1).
+    pub fn first() -> Term
+        ensures literal { λ r. ⌜ literalOf r ≡ plus 1 ⌝ }
+        ensures number { λ r. ⌜ IsTerm r ⌝ }
+    {
+        Term::Number(Lit::first())
+    }
+
+    // A variable of a pair whose variables start after `q`.
+    pub fn in_pair(q: u32, offset: u32) -> Term
+        requires { ⌜ HasNumber q offset × (1 ≤ offset) ⌝ }
+        ensures literal { λ r. ⌜ literalOf r ≡ plus (q + offset) ⌝ }
+        ensures number { λ r. ⌜ IsTerm r ⌝ }
+    {
+        Term::Number(Lit::variable(q, offset))
     }
 
     // Bit t of a word, as a constant.

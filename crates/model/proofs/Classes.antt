@@ -61,7 +61,7 @@ hasTrue-erase (known b ∷ x) = ap (λ (t : Bool). b || t) (hasTrue-erase x)
 hasTrue-erase (plus v ∷ x) = hasTrue-erase x
 hasTrue-erase (minus v ∷ x) = hasTrue-erase x
 
-hasTrue-append : (x y : Clause) → hasTrue (x ++ y) ≡ (hasTrue x || hasTrue y)
+pub hasTrue-append : (x y : Clause) → hasTrue (x ++ y) ≡ (hasTrue x || hasTrue y)
 unfolding hasTrue
 hasTrue-append [] y = refl
 hasTrue-append (l ∷ x) y = ap (λ (t : Bool). isTrue l || t) (hasTrue-append x y) ∙ sym (or-assoc (isTrue l) (hasTrue x) (hasTrue y))

@@ -1,5 +1,8 @@
 -- `clause_writer::put_ternary` meets its contract: left out where a literal is true, else its literals and the end.
-use Rattle.clause_writer.proofs.Wrote.{clause-ended, clause-left-out}
+use mathlib.Core.List.{[], _∷_}
+use native.Mathlib.Omega.{arith}
+use Rattle.literals.specs.Lit.{literalOf}
+use Rattle.clause_writer.proofs.Wrote.{wrote-then, clause-ended, clause-left-out, end-most, hasTrue-three, kept-three}
 use borrow.Author.Needs.{needs}
 use Rattle.clause_writer.proofs.put_ternary.Statement.{statement}
 use Rattle.clause_writer.proofs.put_ternary.Tie as tie
@@ -14,7 +17,8 @@ is-true-requires-3 : tie.Need-is-true-requires-3
 is-true-requires-3 c κs = search needs
 
 returns : tie.Need-returns
-returns c = (clause-left-out _ _ ?, search needs)
+returns c =
+    (clause-left-out _ _ (rw (hasTrue-three _ _ _) (rw (c .before .before .before .is-true .ensures, c .before .before .is-true2 .ensures, c .before .is-true3 .ensures) at (c .if1 .taken))), search needs)
 
 put-literal-requires : tie.Need-put-literal-requires
 put-literal-requires c κs = search needs
@@ -77,7 +81,20 @@ same-length : tie.Need-same-length
 same-length c = search needs
 
 returns-2 : tie.Need-returns-2
-returns-2 c = ?
+returns-2 c =
+    let a = literalOf (c .before .before .before .before .before .before .before .before .before .before .before .before .before .before .before .before .args .a) in
+    let b = literalOf (c .before .before .before .before .before .before .before .before .before .before .before .before .before .before .before .before .args .b) in
+    let d = literalOf (c .before .before .before .before .before .before .before .before .before .before .before .before .before .before .before .before .args .c) in
+    let first = c .before .before .before .before .before .before .before .before .before .before .put-literal .ensures in
+    let second = c .before .before .before .before .before .before .before .put-literal2 .ensures in
+    let third = c .before .before .before .before .put-literal3 .ensures in
+    let end = c .before .put-end .ensures .0 in
+    (
+      clause-ended (a ∷ b ∷ d ∷ [])
+          (rw (hasTrue-three a b d) (rw (c .before .before .before .before .before .before .before .before .before .before .before .before .before .before .before .is-true .ensures, c .before .before .before .before .before .before .before .before .before .before .before .before .before .before .is-true2 .ensures, c .before .before .before .before .before .before .before .before .before .before .before .before .before .is-true3 .ensures) at (c .before .before .before .before .before .before .before .before .before .before .before .before .if1 .left)))
+          (rw (kept-three a b d) (wrote-then (wrote-then (first .0) (second .0)) (third .0))) end,
+      end-most {most = 3} end (omega (arith, first .1, second .1, third .1)) (omega arith),
+    )
 
 pub put-ternary-spec : {M : Type 1} → statement M
 put-ternary-spec =
