@@ -47,7 +47,7 @@ part-put-sources-end : tie.Need-part-put-sources-end
 part-put-sources-end c = search needs
 
 put-sources-requires : tie.Need-put-sources-requires
-put-sources-requires c κs = search needs
+put-sources-requires c κs = (c .before .before .before .before .before .before .before .pre .0, search needs)
 
 add-d : tie.Need-add-d
 add-d c = search needs
@@ -77,7 +77,7 @@ returns : tie.Need-returns
 returns c =
     let a = c .before .before .before .before .before .before .before .before .before .before .before .before .args in
     let idle = literalOf (a .idle) in
-    let none = literalOf (a .«none_since») in
+    let none = literalOf (a .none-since) in
     let sources = gather (a .i) (selectedOf (ofClosing (a .net) (a .port) (a .i))) in
     let first = c .before .before .before .before .before .before .before .before .before .before .put-literal .ensures in
     let second = c .before .before .before .before .before .before .before .put-literal2 .ensures in
