@@ -1,14 +1,17 @@
 -- Clauses counted by their end marks, the most numbers of a group, and the clauses of a depth from those of one group of each class. No
 -- contract cites this file.
-use Prim.Native.Nat.{ℕ, zero, suc, _+_, _-_, _*_, _/_, _≤_, _<_}
+use Prim.Native.Nat.{ℕ, zero, suc, _+_, _-_, _*_, _/_, _^_, _≤_, _<_}
 use mathlib.Core.Path.{_≡_, refl, sym, ap, _∙_}
 use mathlib.Core.Bool.{true}
 use mathlib.Core.List.{List, [], _∷_, _++_}
+use native.Mathlib.Nat.{mul-le-mul, suc-mul, mul-suc}
+use native.Mathlib.Numerals.{add-one}
 use native.Mathlib.Omega.{arith}
-use borrow.Author.Tests.{leb-true, ltb-true, and-true}
+use borrow.Author.Tests.{leb-true}
 use lib.IntN.{ℤ, pos, negsuc}
 use lib.ListN.{length, getD, take, drop}
 use lib.Seq.{take-suc, take-append-seam}
+use lib.Signed.{mag}
 use mir.Syntax.{w32}
 use mir.Val.{SFits, toZ, ofZ}
 use mir.ValLaws.{toZ-ofZ}
@@ -53,6 +56,10 @@ split-append b (pos zero ∷ zs) ys = omega (arith, split-append [] zs ys)
 split-append b (pos (suc v) ∷ zs) ys = split-append (b ++ pos (suc v) ∷ []) zs ys
 split-append b (negsuc v ∷ zs) ys = split-append (b ++ negsuc v ∷ []) zs ys
 
+-- a number of a slice as a machine reads it
+pub element-is : (zs : List ℤ) (i : ℕ) → mag (getD zs i (pos 0)) < 2 ^ 31 → toZ w32 (ofZ w32 (getD zs i (pos 0))) ≡ getD zs i (pos 0)
+element-is zs i h = toZ-ofZ w32 (getD zs i (pos 0)) (record { sfits = h })
+
 -- one number more
 pub ends-next : (zs : List ℤ) (i : ℕ) → i < length zs
     → length (clausesIn (take (suc i) zs)) ≡ length (clausesIn (take i zs)) + length (clausesIn (getD zs i (pos 0) ∷ []))
@@ -72,6 +79,17 @@ numbers-most c k (Pair j i) a d h = omega (arith, a .limits .sizes .m-most, a .l
 numbers-most c k (Closing zero) a d h = omega (arith, a .limits .sizes .n-most)
 numbers-most c k (Closing (suc i)) a d h = omega (arith, a .limits .sizes .n-most, leb-true (suc i) k h)
 numbers-most c k Property a d h = omega (arith, d)
+
+-- pairs of frames, and products of bounds
+pub pairs-most : (k : ℕ) → k ≤ 255 → k * (k + 1) ≤ 65280
+pairs-most k h =
+    let next : k + 1 ≤ 256 = omega arith in
+    let both : k * (k + 1) ≤ 255 * 256 = mul-le-mul h next in
+    both
+
+pub pairs-least : (k : ℕ) → k ≤ k * (k + 1) / 2
+pairs-least zero = omega arith
+pairs-least (suc k) = let p = pairs-least k in simp (add-one, suc-mul, mul-suc) (omega arith)
 
 -- the clauses of a group that are written, as the model counts them
 module _ {c : Netlist} (ok : Accepted c) (k : ℕ) where

@@ -1,50 +1,72 @@
+-- `group_counts::count_ends` meets its contract. The loop has counted the end marks passed.
+use Prim.Native.Nat.{_-_, _≤_}
+use mathlib.Core.Path.{_≡_, refl, _∙_, ap}
+use mathlib.Core.List.{List, [], _∷_}
+use native.Mathlib.Numerals.{add-one}
+use native.Mathlib.Omega.{arith}
+use borrow.Author.Needs.{needs}
+use lib.IntN.{ℤ, pos}
+use lib.ListN.{length, getD, take}
+use lib.Seq.{take-all}
+use Rattle.model.specs.Numbers.{splitAfter, clausesIn}
+use Rattle.group_counts.proofs.Counted.{element-is, ends-next}
 use Rattle.group_counts.proofs.count_ends.Statement.{statement}
 use Rattle.group_counts.proofs.count_ends.Tie as tie
-use Rattle.group_counts.proofs.count_ends.Reads as reads
-use Rattle.group_counts.proofs.count_ends.Lts as lts
-use Rattle.group_counts.proofs.count_end.Reads as count-end-reads
 
 abbrev Inv-loop : tie.InvT-loop
-Inv-loop numbers ends₀ i₀ ends i = ?
+Inv-loop numbers ends₀ i₀ ends i =
+    (i ≤ length numbers) × (ends ≡ length (clausesIn (take i numbers))) × (ends ≤ i)
 
 abbrev μ-loop : tie.MeasureT-loop
-μ-loop numbers ends₀ i₀ ends i = ?
+μ-loop numbers ends₀ i₀ ends i = length numbers - i
 
--- src/lib.rt:33:5
+-- what the number at i ends
+more :
+    (c : tie.After-count-end Inv-loop μ-loop) →
+    let at = c .before .before .before .loop in
+    c .count-end .result ≡ length (clausesIn (getD (c .before .before .before .before .args .numbers .now) (at .i) (pos 0) ∷ []))
+more c =
+    let at = c .before .before .before .loop in
+    let numbers : List ℤ = c .before .before .before .before .args .numbers .now in
+    c .count-end .ensures .0 ∙ ap (λ (z : ℤ). length (clausesIn (z ∷ []))) (element-is numbers (at .i) (c .before .count-end-arg .given))
+
 loop-holds : tie.Need-loop-holds Inv-loop μ-loop
-loop-holds c = ?
+unfolding clausesIn splitAfter
+loop-holds c = (omega arith, refl, omega arith)
 
--- src/lib.rt:34:33
 mul-count-end : tie.Need-mul-count-end Inv-loop μ-loop
-mul-count-end c = ?
+mul-count-end c = search needs
 
--- src/lib.rt:34:33
 shared-slice-copy-out-count-end : tie.Need-shared-slice-copy-out-count-end Inv-loop μ-loop
-shared-slice-copy-out-count-end c = ?
+shared-slice-copy-out-count-end c = omega arith
 
--- src/lib.rt:34:23
 count-end-requires : tie.Need-count-end-requires Inv-loop μ-loop
-count-end-requires c κs = ?
+count-end-requires c κs = search needs
 
--- src/lib.rt:34:16
 add-ends : tie.Need-add-ends Inv-loop μ-loop
-add-ends c = ?
+add-ends c = omega (arith, c .before .before .before .loop .inv .2, c .count-end .ensures .1)
 
--- src/lib.rt:35:9
 add-i : tie.Need-add-i Inv-loop μ-loop
-add-i c = ?
+add-i c = omega arith
 
--- src/lib.rt:33:5
 loop-less : tie.Need-loop-less Inv-loop μ-loop
-loop-less c = ?
+loop-less c = omega arith
 
--- src/lib.rt:33:5
 loop-again : tie.Need-loop-again Inv-loop μ-loop
-loop-again c = ?
+loop-again c =
+    let at = c .before .before .before .loop in
+    let numbers : List ℤ = c .before .before .before .before .args .numbers .now in
+    (
+      omega arith,
+      rw (add-one, ends-next numbers (at .i) (omega arith)) (omega (arith, more c, at .inv .1)),
+      omega (arith, at .inv .2, c .count-end .ensures .1),
+    )
 
--- src/lib.rt:28:1
 returns : tie.Need-returns Inv-loop μ-loop
-returns c = ?
+returns c =
+    let at = c .before .loop in
+    let numbers : List ℤ = c .before .before .args .numbers .now in
+    (at .inv .1 ∙ ap (λ (zs : List ℤ). length (clausesIn zs)) (take-all (at .i) numbers (omega arith)), omega (arith, at .inv .0, at .inv .2))
 
 pub count-ends-spec : {M : Type 1} → statement M
 count-ends-spec =
