@@ -158,9 +158,8 @@ module _ (c : Netlist) (latchCount gateCount k : ℕ) (g : Group) (room : ℕ) w
 
 -- where only the room is still to be tested
 pub group-allowed : (c : Netlist) (latchCount gateCount k : ℕ) (g : Group)
-    → ((room : ℕ) → groupVerdict c latchCount gateCount k g room ≡ (Passed then testRoom (length (numbersOf c k g)) room))
+    → ((room : ℕ) → groupVerdict c latchCount gateCount k g room ≡ testRoom (length (numbersOf c k g)) room)
     → Accepted c × (k ≤ 255) × (inDepth k g ≡ true)
-unfolding _then_
 group-allowed c latchCount gateCount k g v =
     let need = length (numbersOf c k g) in
     group-shown c latchCount gateCount k g need (v need ∙ room-enough need need (omega arith))

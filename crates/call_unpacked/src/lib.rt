@@ -70,8 +70,8 @@ fn test_group(
     depth: u32,
     group: Group,
 ) -> Verdict
-    ensures { λ r. ⌜ (room : ℕ) → groupVerdict (netOf net (now (latches .entry)) (now (gates .entry))) «latch_count» «gate_count» depth group room
-        ≡ (r then testRoom (length (numbersOf (netOf net (now (latches .entry)) (now (gates .entry))) depth group)) room) ⌝ }
+    ensures { λ r. ⌜ ((room : ℕ) → groupVerdict (netOf net (now (latches .entry)) (now (gates .entry))) «latch_count» «gate_count» depth group room
+        ≡ (r then testRoom (length (numbersOf (netOf net (now (latches .entry)) (now (gates .entry))) depth group)) room)) ⌝ }
 {
     let record = netlist_tests::test_record(net, latches, latch_count, gates, gate_count);
     if let Verdict::Refused(_, _) = record {
