@@ -1,4 +1,4 @@
--- The starred facts about the sheet of the full run (RULES F1 to F10, F12, P8), as rows of one table: of the sheet's bytes, and of the netlist
+-- The starred facts about the sheet of the full run (RULES F1 to F3, F7 to F10, F13 to F15, P8), as rows of one table: of the sheet's bytes, and of the netlist
 -- that they are read as. Nine rows, one claim, `Starred`. Cited by the contract of `heading`.
 use Prim.Native.Nat.{ℕ}
 use mathlib.Core.Path.{_≡_}
@@ -55,7 +55,7 @@ rows =
     row (base net 0 ∷ []) (1 ∷ [])
     ∷ row (base net 1 ∷ []) (3 ∷ [])
     ∷ row (base net 2 ∷ []) (10 ∷ [])
-    -- RULES F13 and F14: the pair has 10 clauses and 31 numbers; a slice of 31 takes it, 30 gives 9
+    -- RULES F13 and F14: the pair has 10 clauses and 31 numbers: a slice of 31 takes it, 30 gives 9
     ∷ row (length (clausesIn (numbersOf net 1 (Pair 0 1))) ∷ []) (10 ∷ [])
     ∷ row (length (numbersOf net 1 (Pair 0 1)) ∷ sent (groupVerdict net 0 0 1 (Pair 0 1) 31) ++ sent (groupVerdict net 0 0 1 (Pair 0 1) 30))
     (31 ∷ 0 ∷ 0 ∷ 9 ∷ 0 ∷ [])

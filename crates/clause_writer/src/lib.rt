@@ -30,7 +30,7 @@ fn put_minus_one(out: &mut [i32]) -> usize
 }
 
 // One literal of a clause, a variable's.
-pub fn put_number(out: &mut [i32], a: Lit) -> usize
+fn put_number(out: &mut [i32], a: Lit) -> usize
     requires { ⌜ IsLit a × (1 ≤ length (now out)) ⌝ }
     ensures { λ r. ⌜ Wrote (keptOf (literalAt (a .0))) (now (out .entry)) (now (out .exit)) r × (r ≤ 1) ⌝ }
 {

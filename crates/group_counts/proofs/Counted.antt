@@ -4,8 +4,7 @@ use Prim.Native.Nat.{ℕ, zero, suc, _+_, _-_, _*_, _/_, _^_, _≤_, _<_}
 use mathlib.Core.Path.{_≡_, refl, sym, ap, _∙_}
 use mathlib.Core.Bool.{true}
 use mathlib.Core.List.{List, [], _∷_, _++_}
-use native.Mathlib.Nat.{mul-le-mul, suc-mul, mul-suc}
-use native.Mathlib.Numerals.{add-one}
+use native.Mathlib.Nat.{mul-le-mul}
 use native.Mathlib.Omega.{arith}
 use borrow.Author.Tests.{leb-true}
 use lib.IntN.{ℤ, pos, negsuc}
@@ -80,16 +79,12 @@ numbers-most c k (Closing zero) a d h = omega (arith, a .limits .sizes .n-most)
 numbers-most c k (Closing (suc i)) a d h = omega (arith, a .limits .sizes .n-most, leb-true (suc i) k h)
 numbers-most c k Property a d h = omega (arith, d)
 
--- pairs of frames, and products of bounds
+-- pairs of frames
 pub pairs-most : (k : ℕ) → k ≤ 255 → k * (k + 1) ≤ 65280
 pairs-most k h =
     let next : k + 1 ≤ 256 = omega arith in
     let both : k * (k + 1) ≤ 255 * 256 = mul-le-mul h next in
     both
-
-pub pairs-least : (k : ℕ) → k ≤ k * (k + 1) / 2
-pairs-least zero = omega arith
-pairs-least (suc k) = let p = pairs-least k in simp (add-one, suc-mul, mul-suc) (omega arith)
 
 -- the clauses of a group that are written, as the model counts them
 module _ {c : Netlist} (ok : Accepted c) (k : ℕ) where
@@ -119,7 +114,17 @@ pub counted : {c : Netlist} → Accepted c → (k first later other property : �
     → first + k * later + (k * (k + 1) / 2 - k) * other + property ≡ length (clausesIn (formula c k))
 unfolding clausesOf
 counted {c} ok k first later other property ef el eo ep =
-    rw (ef, el, eo, ep, wires-shown ok 255 0 (omega arith), closing-shown ok 255 0 (omega arith), wires-shown ok 255 1 (omega arith),
-      pair-shown ok 255 0 1 (omega arith) (omega arith), closing-shown ok 255 1 (omega arith), pair-shown ok 255 0 2 (omega arith) (omega arith),
-      property-shown ok k)
+    rw (
+      ef,
+      el,
+      eo,
+      ep,
+      wires-shown ok 255 0 (omega arith),
+      closing-shown ok 255 0 (omega arith),
+      wires-shown ok 255 1 (omega arith),
+      pair-shown ok 255 0 1 (omega arith) (omega arith),
+      closing-shown ok 255 1 (omega arith),
+      pair-shown ok 255 0 2 (omega arith) (omega arith),
+      property-shown ok k,
+    )
     (sym (formula-count ok k))

@@ -56,7 +56,12 @@ fn count_group(
 }
 
 // Those of frame 0.
-fn count_first(numbers: &mut [i32], net: Netlist, latches: &UnpackedList, gates: &UnpackedList) -> u32
+fn count_first(
+    numbers: &mut [i32],
+    net: Netlist,
+    latches: &UnpackedList,
+    gates: &UnpackedList,
+) -> u32
     requires { ⌜ Accepted (netOf net (now latches) (now gates)) × (5992 ≤ length (now numbers)) ⌝ }
     ensures { λ r. ⌜ (r ≡ length (clausesIn (numbersOf (netOf net (now (latches .entry)) (now (gates .entry))) 255 (Wires 0)))
         + length (clausesIn (numbersOf (netOf net (now (latches .entry)) (now (gates .entry))) 255 (Closing 0)))) × (r ≤ 11984) ⌝ }
@@ -67,7 +72,12 @@ fn count_first(numbers: &mut [i32], net: Netlist, latches: &UnpackedList, gates:
 }
 
 // Those of a later frame, with the pair of it and the frame before.
-fn count_later(numbers: &mut [i32], net: Netlist, latches: &UnpackedList, gates: &UnpackedList) -> u32
+fn count_later(
+    numbers: &mut [i32],
+    net: Netlist,
+    latches: &UnpackedList,
+    gates: &UnpackedList,
+) -> u32
     requires { ⌜ Accepted (netOf net (now latches) (now gates)) × (5992 ≤ length (now numbers)) ⌝ }
     ensures { λ r. ⌜ (r ≡ length (clausesIn (numbersOf (netOf net (now (latches .entry)) (now (gates .entry))) 255 (Wires 1)))
         + length (clausesIn (numbersOf (netOf net (now (latches .entry)) (now (gates .entry))) 255 (Pair 0 1)))

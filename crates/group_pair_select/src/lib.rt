@@ -13,7 +13,13 @@ ghost use Rattle.model.specs.Wrote.{Wrote};
 ghost use Rattle.group_pair_select.specs.SelectClauses.{selectClauses, pairSelectClauses};
 
 // The gates PS = ¬s ∧ N, S = s ∧ N, from their literals: `valid` is s, `none_since` PS, `selected` S, `none_after` N.
-fn put_chain(out: &mut [i32], valid: Term, none_since: Term, selected: Term, none_after: Term) -> usize
+fn put_chain(
+    out: &mut [i32],
+    valid: Term,
+    none_since: Term,
+    selected: Term,
+    none_after: Term,
+) -> usize
     requires { ⌜ IsTerm valid × IsTerm «none_since» × IsTerm selected × IsTerm «none_after» × (20 ≤ length (now out)) ⌝ }
     ensures { λ r. ⌜ Wrote (written (andClauses (literalOf «none_since») (neg (literalOf valid)) (literalOf «none_after»)
         ++ andClauses (literalOf selected) (literalOf valid) (literalOf «none_after»)))

@@ -149,7 +149,7 @@ impl Term {
         Term::False
     }
 
-    // Variable 1, which the first clause makes true (RULES V1).
+    // Variable 1, which the first clause makes true (RULES V7).
     pub fn first() -> Term
         ensures literal { λ r. ⌜ literalOf r ≡ plus 1 ⌝ }
         ensures number { λ r. ⌜ IsTerm r ⌝ }

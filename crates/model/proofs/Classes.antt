@@ -325,7 +325,7 @@ others i = i * (i + 1) / 2 - i
 pairs-suc : (i : ℕ) → suc i * (suc i + 1) / 2 ≡ i * (i + 1) / 2 + suc i
 pairs-suc i = simp (add-one, suc-mul, mul-suc) (omega arith)
 
-pairs-least : (i : ℕ) → i ≤ i * (i + 1) / 2
+pub pairs-least : (i : ℕ) → i ≤ i * (i + 1) / 2
 pairs-least zero = omega arith
 pairs-least (suc i) = omega (arith, pairs-suc i)
 

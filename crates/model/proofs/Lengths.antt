@@ -1,4 +1,4 @@
--- How many clauses each group has, and how many numbers it is written in at most (RULES G26 and G27). No contract cites this file.
+-- How many clauses each group has, and how many numbers it is written in at most (RULES G30 and G31). No contract cites this file.
 use Prim.Native.Nat.{ℕ, suc, zero-le, _+_, _*_, _≤_}
 use mathlib.Core.Path.{_≡_, refl, _∙_, ap}
 use mathlib.Core.Bool.{Bool, true, false, cond}

@@ -31,7 +31,7 @@ use Rattle.model.proofs.Bounds.{AllLits, Within, all-within-one, wires-
 use Rattle.model.proofs.Numbers.{shown, shown-length, shown-one, shown-constants, clausesIn-written}
 use Rattle.model.proofs.Claim.{clausesIn-formula, encodes, satisfies-same, unsatisfiable→safe}
 
--- the numbers of a group, at most as many as RULES G27 counts
+-- the numbers of a group, at most as many as RULES G31 counts
 group-numbers : (c : Netlist) (k : ℕ) (g : Group) → length (numbersOf c k g) ≤ numberCount c k g
 unfolding numberCount
 group-numbers c k (Wires zero) = wires-numbers-first c k

@@ -60,7 +60,7 @@ NoConstant zs = (zs ≡ negsuc 0 ∷ []) ⊎ ((y : ℕ) → y < length zs → 2 
 
 -- What else is said of the clauses of a depth. An assignment is of the variables from 1 to B(k + 1) (RULES A3): no other matters, each of
 -- them is numbered, and every number written is one of them or an end mark. Where no assignment satisfies the clauses, no run breaks
--- the property: this is what a designer relies on. A group has as many clauses and numbers as RULES G26 and G27 count. A run's
+-- the property: this is what a designer relies on. A group has at most as many clauses and numbers as RULES G30 and G31 count. A run's
 -- memory is 2^m words of n bits (RULES C1): no frame has another address, and no word is longer.
 pub record Stated (c : Netlist) (k : ℕ) : Type 0 where
   pub only-numbered : (a a′ : Assignment) → ((v : ℕ) → 1 ≤ v → v ≤ base c (k + 1) → a v ≡ a′ v) → Satisfies c k a → Satisfies c k a′

@@ -46,8 +46,7 @@ loop-again c =
     let start = c .before .before .before in
     let at = c .before .before .loop in
     let numbers : List ℤ = start .args .numbers .now in
-    let old : List ℤ = start .args .out .now in
-    (
+    let old : List ℤ = start .args .out .now in (
       omega arith,
       simp length-set (omega arith),
       rw (element-is numbers (at .i) (c .out .given), add-one, at .inv .2) (copy-next numbers old (at .i) (omega arith) (omega arith)),

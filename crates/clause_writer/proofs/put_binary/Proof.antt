@@ -65,8 +65,7 @@ returns-2 c =
     let b = literalOf (c .before .before .before .before .before .before .before .before .before .before .before .before .args .b) in
     let first = c .before .before .before .before .before .before .before .put-literal .ensures in
     let second = c .before .before .before .before .put-literal2 .ensures in
-    let end = c .before .put-end .ensures .0 in
-    (
+    let end = c .before .put-end .ensures .0 in (
       clause-ended (a ∷ b ∷ [])
           (rw (hasTrue-two a b) (rw (c .before .before .before .before .before .before .before .before .before .before .before .is-true .ensures, c .before .before .before .before .before .before .before .before .before .before .is-true2 .ensures) at (c .before .before .before .before .before .before .before .before .before .if1 .left)))
           (rw (kept-two a b) (wrote-then (first .0) (second .0))) end,

@@ -88,8 +88,7 @@ returns-2 c =
     let first = c .before .before .before .before .before .before .before .before .before .before .put-literal .ensures in
     let second = c .before .before .before .before .before .before .before .put-literal2 .ensures in
     let third = c .before .before .before .before .put-literal3 .ensures in
-    let end = c .before .put-end .ensures .0 in
-    (
+    let end = c .before .put-end .ensures .0 in (
       clause-ended (a ∷ b ∷ d ∷ [])
           (rw (hasTrue-three a b d) (rw (c .before .before .before .before .before .before .before .before .before .before .before .before .before .before .before .is-true .ensures, c .before .before .before .before .before .before .before .before .before .before .before .before .before .before .is-true2 .ensures, c .before .before .before .before .before .before .before .before .before .before .before .before .before .is-true3 .ensures) at (c .before .before .before .before .before .before .before .before .before .before .before .before .if1 .left)))
           (rw (kept-three a b d) (wrote-then (wrote-then (first .0) (second .0)) (third .0))) end,

@@ -42,8 +42,7 @@ returns-2 : tie.Need-returns-2
 returns-2 c =
     let a = c .before .before .before .before .before .before .before .before .args .a in
     let first = c .before .before .before .before .put-literal .ensures in
-    let end = c .before .put-end .ensures .0 in
-    (
+    let end = c .before .put-end .ensures .0 in (
       clause-ended (literalOf a ∷ [])
           (hasTrue-one (literalOf a) ∙ sym (c .before .before .before .before .before .before .before .is-true .ensures) ∙ c .before .before .before .before .before .before .if1 .left)
           (rw (kept-one (literalOf a)) (first .0)) end,

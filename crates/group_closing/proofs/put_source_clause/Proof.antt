@@ -82,8 +82,7 @@ returns c =
     let first = c .before .before .before .before .before .before .before .before .before .before .put-literal .ensures in
     let second = c .before .before .before .before .before .before .before .put-literal2 .ensures in
     let third = c .before .before .before .before .put-sources .ensures in
-    let end = c .before .put-end .ensures .0 in
-    (
+    let end = c .before .put-end .ensures .0 in (
       clause-ended (idle ∷ none ∷ sources)
           (hasTrue-behind idle none sources ∙ rw (c .before .before .before .before .before .before .before .before .before .before .before .before .pre .3, sources-none (a .net) (a .port) (a .i)))
           (rw (kept-behind idle none sources) (wrote-then (wrote-then (first .0) (second .0)) (third .0))) end,

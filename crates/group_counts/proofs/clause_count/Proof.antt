@@ -1,7 +1,8 @@
 -- `group_counts::clause_count` meets its contract: one group of each class is counted.
 use native.Mathlib.Omega.{arith}
 use Rattle.model.specs.Groups.{inDepth}
-use Rattle.group_counts.proofs.Counted.{pairs-most, pairs-least, counted}
+use Rattle.model.proofs.Classes.{pairs-least}
+use Rattle.group_counts.proofs.Counted.{pairs-most, counted}
 use borrow.Author.Needs.{needs}
 use Rattle.group_counts.proofs.clause_count.Statement.{statement}
 use Rattle.group_counts.proofs.clause_count.Tie as tie

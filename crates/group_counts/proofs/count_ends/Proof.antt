@@ -55,8 +55,7 @@ loop-less c = omega arith
 loop-again : tie.Need-loop-again Inv-loop μ-loop
 loop-again c =
     let at = c .before .before .before .loop in
-    let numbers : List ℤ = c .before .before .before .before .args .numbers .now in
-    (
+    let numbers : List ℤ = c .before .before .before .before .args .numbers .now in (
       omega arith,
       rw (add-one, ends-next numbers (at .i) (omega arith)) (omega (arith, more c, at .inv .1)),
       omega (arith, at .inv .2, c .count-end .ensures .1),

@@ -64,8 +64,7 @@ returns c =
     let unequal = c .before .before .before .before .before .before .before .put-unequal-bits .ensures in
     let last = c .before .before .before .before .put-literal .ensures in
     let equal = rw (c .before .before .before .before .before .before .before .before .before .in-pair .ensures .0, c .before .before .before .before .before .before .before .before .before .before .pair-base .ensures) at (last .0) in
-    let end = c .before .put-end .ensures .0 in
-    (
+    let end = c .before .put-end .ensures .0 in (
       clause-ended _ (all-bits-none (a .net) (a .port) (a .j) (a .i) (a .net .m)) (rw all-bits-kept (wrote-then (unequal .0) equal)) end,
       omega (arith, end-most {most = a .net .m + 1} end (omega (arith, unequal .1, last .1)) (omega arith)),
     )

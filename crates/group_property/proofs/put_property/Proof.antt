@@ -63,8 +63,7 @@ returns-2 c =
     let a = c .before .before .before .before .before .before .before .before .before .before .before .args in
     let tested = rw (c .before .before .before .before .before .before .before .is-true .ensures, c .before .before .before .before .before .before .before .before .negated .ensures .0, c .before .before .before .before .before .before .before .before .before .in-frame .ensures .0) at (c .before .before .before .before .before .before .if1 .left) in
     let all = c .before .before .before .before .put-violations .ensures in
-    let end = c .before .put-end .ensures .0 in
-    (
+    let end = c .before .put-end .ensures .0 in (
       clause-ended _ (violations-true (a .net) (a .k) _ tested) (all .0) end,
       omega (arith, end-most {most = a .k + 1} end (all .1) (omega arith)),
     )
