@@ -54,14 +54,21 @@ static void read_input(void) {
 static int frame_base(int i) { return 1 + i * wires + (m + 4) * (i * (i - 1) / 2); }
 static int pair_base(int base, int j) { return base + wires + j * (m + 4); }
 
+// Here a constant is 1, true, or -1, false: no clause but the first is about variable 1 (RULES V7 and G29).
+enum { TRUE = 1, FALSE = -1 };
+
 static inline int literal(int code, int base) {
-  int positive = code < 2 ? -1 : base + (code >> 1);
+  int positive = code < 2 ? FALSE : base + (code >> 1);
   return code & 1 ? -positive : positive;
 }
 
-static inline Out clause1(Out out, int a) { return end(put(out, a)); }
-static inline Out clause2(Out out, int a, int b) { return end(put(put(out, a), b)); }
-static inline Out clause3(Out out, int a, int b, int c) { return end(put(put(put(out, a), b), c)); }
+// RULES G28 and G29. The first literal of a clause of one or two, and one of every clause of three, is a variable but where `empty` says so.
+static inline Out keep(Out out, int a) { return a == FALSE ? out : put(out, a); }
+static inline Out clause2(Out out, int a, int b) { return b == TRUE ? out : end(keep(put(out, a), b)); }
+static inline Out clause3(Out out, int a, int b, int c) {
+  return a == TRUE || b == TRUE || c == TRUE ? out : end(keep(keep(keep(out, a), b), c));
+}
+static inline Out empty(Out out) { return end(put(out, FALSE)); }
 
 static inline Out and_gate(Out out, int g, int a, int b) {
   out = clause2(out, -g, a);
@@ -76,11 +83,11 @@ static inline Out equal_if(Out out, int condition, int a, int b) {
 
 static Out wires_group(Out out, int i) {
   int base = frame_base(i);
-  if (i == 0) out = clause1(out, 1);
+  if (i == 0) out = end(put(out, 1));
   for (int q = 0; q < latches; q++) {
     int own = base + first_latch + q;
     if (i == 0) {
-      out = clause1(out, latch[q].reset ? own : -own);
+      out = end(put(out, latch[q].reset ? own : -own));
     } else {
       int next = literal(latch[q].next, frame_base(i - 1));
       out = clause2(out, -own, next);
@@ -104,7 +111,7 @@ static Out pair_group(Out out, int j, int i) {
     out = clause3(out, e, -aj, -ai);
   }
   for (int t = 0; t < m; t++) out = put(out, -(base + 2 + t));
-  out = clause1(out, all_equal);
+  out = end(put(out, all_equal));
   int newer = j == i - 1 ? literal(read_enable, reader) : pair_base(reader, j + 1) + m + 3;
   out = and_gate(out, valid, all_equal, literal(write_enable, writer));
   out = and_gate(out, none_since, -valid, newer);
@@ -116,23 +123,59 @@ static Out pair_group(Out out, int j, int i) {
 static Out closing_group(Out out, int i) {
   int base = frame_base(i), re = literal(read_enable, base);
   int untouched = i == 0 ? re : pair_base(base, 0) + m + 3;
-  for (int t = 0; t < n; t++) out = equal_if(out, untouched, base + first_read + t, start_word >> t & 1 ? 1 : -1);
+  for (int t = 0; t < n; t++) out = equal_if(out, untouched, base + first_read + t, start_word >> t & 1 ? TRUE : FALSE);
   for (int t = 0; t < n && i > 0; t++) out = equal_if(out, -re, base + first_read + t, frame_base(i - 1) + first_read + t);
-  out = put(put(out, -re), untouched);
+  if (re == FALSE || untouched == TRUE) return out;
+  if (re == TRUE && untouched == FALSE && i == 0) return empty(out);
+  out = keep(keep(out, -re), untouched);
   for (int j = 0; j < i; j++) out = put(out, pair_base(base, j) + m + 4);
   return end(out);
 }
 
 static Out property_group(Out out) {
+  if (property == 0) return out;
+  if (property == 1) return empty(out);
   for (int i = 0; i <= depth; i++) out = put(out, -literal(property, frame_base(i)));
   return end(out);
+}
+
+// How many clauses are written: of a gate, of an equality, of the pairs and the closings. Any variable stands for all, 2.
+enum { VARIABLE = 2 };
+
+static int kind(int code) { return code < 2 ? literal(code, 0) : VARIABLE; }
+static int written(int a, int b, int c) { return a != TRUE && b != TRUE && c != TRUE; }
+static int and_clauses(int a, int b) { return (a != TRUE) + (b != TRUE) + written(FALSE, -a, -b); }
+static int equal_clauses(int condition, int b) { return written(-condition, FALSE, b) + written(-condition, FALSE, -b); }
+
+static int pair_clauses(int newer) {
+  int count = 1 + and_clauses(VARIABLE, kind(write_enable)) + 2 * and_clauses(VARIABLE, newer);
+  for (int t = 0; t < m; t++) {
+    int a = kind(address[t]);
+    count += a == VARIABLE ? 4 : 1;
+  }
+  for (int t = 0; t < n; t++) count += equal_clauses(VARIABLE, kind(write_data[t]));
+  return count;
+}
+
+static int closing_clauses(int untouched, int later) {
+  int re = kind(read_enable), count = written(-re, untouched, FALSE);
+  for (int t = 0; t < n; t++)
+    count += equal_clauses(untouched, start_word >> t & 1 ? TRUE : FALSE) + (later ? equal_clauses(-re, VARIABLE) : 0);
+  return count;
+}
+
+static int all_clauses(void) {
+  int re = kind(read_enable), gate_clauses = 0, latch_clauses = 0;
+  for (int g = 0; g < gates; g++) gate_clauses += and_clauses(kind(gate[g].left), kind(gate[g].right));
+  for (int q = 0; q < latches; q++) latch_clauses += kind(latch[q].next) == VARIABLE ? 2 : 1;
+  return 1 + latches + depth * latch_clauses + (depth + 1) * gate_clauses + depth * pair_clauses(re) +
+         depth * (depth - 1) / 2 * pair_clauses(VARIABLE) + closing_clauses(re, 0) + depth * closing_clauses(VARIABLE, 1) + (property != 0);
 }
 
 int main(void) {
   read_input();
   int frames = depth + 1;
-  int clauses = 1 + latches + 2 * latches * depth + 3 * gates * frames + (2 * n + 1) * frames + 2 * n * depth +
-                (4 * m + 2 * n + 10) * (depth * frames / 2) + 1;
+  int clauses = all_clauses();
   Out out = open_output();
   out = header(out, frame_base(frames), clauses);
   for (int i = 0; i <= depth; i++) {

@@ -46,6 +46,12 @@ for depth in "${depths[@]}"; do
   fast+=("$input" "$frames" "$input" "$work/optimised")
   slow+=("$input" "$work/formatted")
 done
+# a sheet in which half of the codes are constants: clauses are left out, and literals
+{ printf '%10d\n' 63; "$work/sheet" constants; } > "$work/input.constants"
+for other in optimised formatted; do
+  "$work/$other" < "$work/input.constants" | cmp - <("$frames" < "$work/input.constants") ||
+    { echo "frames and $other differ where codes are constants" >&2; exit 1; }
+done
 input=$work/input.255
 [ "$("$work/library" < "$input")" -eq "$("$frames" < "$input" | tail -n +2 | wc -w)" ] ||
   { echo "the library writes other numbers than frames prints" >&2; exit 1; }

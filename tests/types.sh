@@ -1,6 +1,7 @@
 #!/usr/bin/env bash
 # Wire numbers, codes and clause numbers are never accepted in each other's place. What is held to that, in code without its contracts:
-# - no function takes one of the three types and answers another, but `in_frame` of crate `literals`;
+# - no function takes one of the three types, or a term, and answers another, but `in_frame` of crate `literals`, which answers a term;
+# - outside `literals` no term is made of a clause number, and none taken apart but where the number is written;
 # - outside `literals` none is made, but a code of a list that is read, the code 0, and in `netlist` the wires that a count gives;
 #   inside, each is made by its own methods alone;
 # - outside `literals` no number is taken out of one or put into one, but where numbers are stored, where a code's value is read off a table of
@@ -47,7 +48,7 @@ apart() { # files
         if (names(head, "self")) head = head " " owner(done)
         done = done head answer
         for (t in types) for (u in types) if (t != u && names(head, t) && names(answer, u))
-          verdict(inside && name == "in_frame" && u == "Lit", "fn " name " takes " t " and answers " u)
+          verdict(inside && name == "in_frame" && u == "Term", "fn " name " takes " t " and answers " u)
         passed++
       }
     }
@@ -65,6 +66,13 @@ apart() { # files
           type "(" argument ")")
       }
     }
+    function terms(   rest) {
+      rest = code
+      while (match(rest, /Number\(/)) {
+        rest = substr(rest, RSTART + RLENGTH)
+        verdict(inside || file == "crates/clause_writer/src/lib.rt" && rest ~ /^l\) => put_number\(out, l\)/, "a term of a clause number")
+      }
+    }
     function fields(   statements, n, k, line) {
       n = split(code, statements, /[;{}]/)
       for (k = 1; k <= n; k++) if ((statements[k] " ") ~ /\.0[^0-9]/) {
@@ -76,11 +84,11 @@ apart() { # files
       if (file == "") return
       gsub(/ +/, " ", code); gsub(/\( /, "(", code); gsub(/,? \)/, ")", code)
       inside = file ~ /^crates\/literals\//
-      signatures(); constructors(); fields()
+      signatures(); constructors(); terms(); fields()
       verdict(inside || !(code ~ /index\(\)/ && code ~ /\.offset\(/), "a table of wires, and wires made")
       verdict(code !~ /(Wire|Code|Lit) (as |\{ ?0)/ && code !~ /= (literals::)?(Wire|Code|Lit) ?;/, "one of the types by another name")
     }
-    BEGIN { types["Wire"]; types["Code"]; types["Lit"] }
+    BEGIN { types["Wire"]; types["Code"]; types["Lit"]; types["Term"] }
     FNR == 1 { finish(); file = FILENAME; code = " "; contract = 0 }
     /^ *ghost / { next }
     {
@@ -132,6 +140,10 @@ fn f(w: Wire) -> bool { let mut codes = [0; 1]; codes[0] = w.0; is_above(Code(co
 fn f(x: u32) -> Code { Code(x) }
 fn f(x: i32) -> Lit { Lit(x) }
 fn f(w: Wire) -> u32 { let Wire(x) = w; x }
+fn f(t: Term) -> Wire { first().offset(1) }
+fn f(w: Wire) -> Term { w.index(); Term::True }
+fn f(t: Term) -> bool { match t { Term::Number(_) => true, Term::True => false, Term::False => false } }
+fn f(l: Lit) -> bool { let t = Term::Number(l); t.is_true() }
 fn f(x: u32) -> Wire { Wire { 0: x } }
 use literals::Wire as W;
 type W = literals::Wire;

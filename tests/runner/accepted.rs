@@ -8,7 +8,7 @@ use super::reference::random::{fill, wide_netlist, Random, SHAPES};
 use super::reference::sheet::{write_depth, write_sheet};
 use super::reference::Tally;
 
-/// The full run (RULES P16), and the runs that were worked out by hand: no second implementation.
+/// The full run (RULES P17), and the runs that were worked out by hand: no second implementation.
 pub fn full_runs(program: &Program, tally: &mut Tally) {
     for (depth, short, text) in full_run_rows() {
         let bytes = input(depth, short);

@@ -86,7 +86,7 @@ pub fn differ<T: std::fmt::Debug>(about: impl std::fmt::Debug, found: T, expecte
     )
 }
 
-/// The facts about the sheet of the full run (RULES F4 to F11): the pair takes 57 numbers and not 56, and the starred refusals.
+/// The facts about the sheet of the full run (RULES F7 to F15): the pair takes 31 numbers and not 30, and the starred refusals.
 pub fn stated(library: &Library, tally: &mut Tally) {
     let lists = Lists::new(&accepted(FULL_RUN));
     let pair = parameters(Group::Pair(0, 1));
@@ -96,22 +96,22 @@ pub fn stated(library: &Library, tally: &mut Tally) {
             .map(|it| it.map(|numbers| numbers.len()))
     };
     tally.equal(
-        "a slice of 57 takes the pair",
-        count(1, pair, 57),
-        Ok(Ok(57)),
+        "a slice of 31 takes the pair",
+        count(1, pair, 31),
+        Ok(Ok(31)),
     );
-    tally.equal("56 gives 9", count(1, pair, 56), Ok(refusal((NO_ROOM, 0))));
+    tally.equal("30 gives 9", count(1, pair, 30), Ok(refusal((NO_ROOM, 0))));
     tally.equal(
         "pair (1, 1) gives 8",
-        count(1, parameters(Group::Pair(1, 1)), 57),
+        count(1, parameters(Group::Pair(1, 1)), 31),
         Ok(refusal((NO_SUCH_GROUP, 0))),
     );
-    tally.equal("depth 255 is taken", count(255, pair, 57), Ok(Ok(57)));
-    tally.equal("256 gives 7", count(256, pair, 57), Ok(refusal((DEPTH, 0))));
+    tally.equal("depth 255 is taken", count(255, pair, 31), Ok(Ok(31)));
+    tally.equal("256 gives 7", count(256, pair, 31), Ok(refusal((DEPTH, 0))));
     tally.equal(
-        "depth 1: 10 variables, 26 clauses",
+        "depth 1: 10 variables, 15 clauses",
         lists.heading(1),
-        Ok(Ok((10, 26))),
+        Ok(Ok((10, 15))),
     );
     let looped = Lists::new(&Netlist {
         address: [4; 12],

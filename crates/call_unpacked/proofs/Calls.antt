@@ -14,7 +14,6 @@ use Rattle.model.specs.Acceptance.{Accepted}
 use Rattle.model.specs.Variables.{base}
 use Rattle.model.specs.Groups.{inDepth}
 use Rattle.model.specs.Numbers.{numbersOf, formula}
-use Rattle.model.specs.Counts.{numberCount}
 use Rattle.model.specs.declared.Group.{Group}
 use Rattle.model.proofs.Variables.{base-most}
 use Rattle.model.proofs.Gather.{all-weaken}
@@ -23,12 +22,12 @@ use Rattle.model.proofs.Claim.{encodes}
 use Rattle.model.proofs.Stated.{stated}
 use Rattle.refusals.specs.Tests.{refuseIf, _then_}
 use Rattle.refusals.specs.declared.Refusal.{Refusal}
-use Rattle.refusals.specs.declared.Refusal.the-variants.{Depth, NoSuchGroup, NoRoom}
+use Rattle.refusals.specs.declared.Refusal.the-variants.{Depth, NoSuchGroup}
 use Rattle.refusals.specs.declared.Verdict.{Verdict}
 use Rattle.refusals.specs.declared.Verdict.the-variants.{Passed, Refused}
-use Rattle.refusals.specs.Slices.{withCount, contentsAfter}
+use Rattle.refusals.specs.Slices.{testRoom, withCount, contentsAfter}
 use Rattle.refusals.proofs.Tests.{refuseIf-passes, then-passes}
-use Rattle.refusals.proofs.Slices.{room-enough, room-short, room-shown}
+use Rattle.refusals.proofs.Slices.{room-enough}
 use Rattle.netlist_tests.specs.Record.{recordVerdict}
 use Rattle.netlist_tests.proofs.Acceptance.{passes-accepted}
 use Rattle.call_unpacked.specs.Calls.{testDepth, testGroup, testNumbers, groupVerdict, headingVerdict, groupSent, groupLeaves, CallsEncode}
@@ -136,36 +135,31 @@ module _ (c : Netlist) (latchCount gateCount k : ℕ) (g : Group) (room : ℕ) w
     unfolding groupVerdict _then_ testDepth testGroup
     group-absent d h = rw (record-passed, le-ltb 255 k d, h)
 
-    -- 9: 10 is never met
-    pub group-no-room : k ≤ 255 → inDepth k g ≡ true → room < length (numbersOf c k g)
-        → groupVerdict c latchCount gateCount k g room ≡ Refused NoRoom 0
+    -- that of the room: 10 is never met
+    pub group-room : k ≤ 255 → inDepth k g ≡ true
+        → groupVerdict c latchCount gateCount k g room ≡ testRoom (length (numbersOf c k g)) room
     unfolding groupVerdict _then_ testDepth testGroup
-    group-no-room d h l =
-        rw (
-          record-passed,
-          le-ltb 255 k d,
-          h,
-          numbers-suffice c k (passes-accepted c latchCount gateCount .0 record-passed .0) d,
-          room-short (length (numbersOf c k g)) room l,
-        )
-
-    -- none
-    pub group-passed : k ≤ 255 → inDepth k g ≡ true → length (numbersOf c k g) ≤ room
-        → groupVerdict c latchCount gateCount k g room ≡ Passed
-    group-passed d = group-passes c latchCount gateCount k record-passed d g room
+    group-room d h =
+        rw (record-passed, le-ltb 255 k d, h, numbers-suffice c k (passes-accepted c latchCount gateCount .0 record-passed .0) d)
 
   -- what a group call that is not refused has shown
   pub group-shown : groupVerdict c latchCount gateCount k g room ≡ Passed
-      → Accepted c × (k ≤ 255) × (inDepth k g ≡ true) × (numberCount c k g ≤ room)
+      → Accepted c × (k ≤ 255) × (inDepth k g ≡ true)
   unfolding groupVerdict testGroup
   group-shown h =
       let a = then-passes (recordVerdict c latchCount gateCount) _ .0 h in
       let b = then-passes (testDepth k) _ .0 (a .1) in
       let d = then-passes (refuseIf (not (inDepth k g)) NoSuchGroup 0) _ .0 (b .1) in
-      let e = then-passes (testNumbers c k) _ .0 (d .1) in
       let ok = passes-accepted c latchCount gateCount .0 (a .0) .0 in (
         ok,
         depth-passes k (b .0),
         not-false (inDepth k g) (refuseIf-passes (not (inDepth k g)) NoSuchGroup 0 .0 (d .0)),
-        rw (stated c ok k .numbers-counted g) at (room-shown (length (numbersOf c k g)) room (e .1)),
       )
+
+-- where only the room is still to be tested
+pub group-allowed : (c : Netlist) (latchCount gateCount k : ℕ) (g : Group)
+    → ((room : ℕ) → groupVerdict c latchCount gateCount k g room ≡ testRoom (length (numbersOf c k g)) room)
+    → Accepted c × (k ≤ 255) × (inDepth k g ≡ true)
+group-allowed c latchCount gateCount k g v =
+    let need = length (numbersOf c k g) in
+    group-shown c latchCount gateCount k g need (v need ∙ room-enough need need (omega arith))

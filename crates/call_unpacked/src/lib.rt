@@ -5,7 +5,12 @@ use netlist::UnpackedList;
 use refusals::Refusal;
 use refusals::Verdict;
 ghost use mathlib.Core.Path.{_≡_};
+ghost use Prim.Native.Nat.{ℕ, _≤_};
 ghost use lib.ListN.{length};
+ghost use Rattle.model.specs.Numbers.{numbersOf};
+ghost use Rattle.model.specs.Wrote.{Wrote};
+ghost use Rattle.refusals.specs.Tests.{_then_};
+ghost use Rattle.refusals.specs.Slices.{testRoom};
 ghost use Rattle.netlist.specs.NetOf.{netOf};
 ghost use Rattle.call_unpacked.specs.Calls.{groupReply, groupVerdict, groupSent, groupLeaves, headingReply, headingSent};
 
@@ -51,11 +56,11 @@ pub fn heading(
     }
     HeadingAnswer::Heading {
         variables,
-        clauses: group_order::lengths::clause_count(net, latches, gates, depth),
+        clauses: group_counts::clause_count(net, latches, gates, depth),
     }
 }
 
-// The tests of a group call with a slice of `room` numbers.
+// The tests of a group call but that of the room, which is known when the group is written.
 fn test_group(
     net: Netlist,
     latches: &UnpackedList,
@@ -64,9 +69,9 @@ fn test_group(
     gate_count: usize,
     depth: u32,
     group: Group,
-    room: usize,
 ) -> Verdict
-    ensures { λ r. ⌜ r ≡ groupVerdict (netOf net (now (latches .entry)) (now (gates .entry))) «latch_count» «gate_count» depth group room ⌝ }
+    ensures { λ r. ⌜ ((room : ℕ) → groupVerdict (netOf net (now (latches .entry)) (now (gates .entry))) «latch_count» «gate_count» depth group room
+        ≡ (r then testRoom (length (numbersOf (netOf net (now (latches .entry)) (now (gates .entry))) depth group)) room)) ⌝ }
 {
     let record = netlist_tests::test_record(net, latches, latch_count, gates, gate_count);
     if let Verdict::Refused(_, _) = record {
@@ -81,15 +86,24 @@ fn test_group(
     if 2147483647 < clause_variables::frame_base(net, depth + 1) {
         return Verdict::Refused(Refusal::OutOfNumbers, 0);
     }
-    let need = group_order::lengths::group_length(net, latches, gates, depth, group);
-    if room < need as usize {
-        return Verdict::Refused(Refusal::NoRoom, 0);
-    }
     Verdict::Passed
 }
 
+// Copies numbers to the start of a slice that has room for them.
+fn copy_numbers(out: &mut [i32], numbers: &[i32]) -> usize
+    requires { ⌜ length (now numbers) ≤ length (now out) ⌝ }
+    ensures { λ r. ⌜ Wrote (now (numbers .entry)) (now (out .entry)) (now (out .exit)) r ⌝ }
+{
+    let mut i = 0;
+    while i < numbers.len() {
+        out[i] = numbers[i];
+        i += 1;
+    }
+    i
+}
+
 // Writes one group's clauses at the start of a slice, in the order of RULES G3 to G14, and answers how many numbers that is; or refuses and
-// writes nothing.
+// writes nothing. The group is written aside first: how many numbers it has shows when it is written.
 pub fn write_group(
     net: Netlist,
     latches: &UnpackedList,
@@ -103,7 +117,6 @@ pub fn write_group(
     ensures answer { λ r. ⌜ groupReply r ≡ groupSent (netOf net (now (latches .entry)) (now (gates .entry))) «latch_count» «gate_count» depth group (length (now (out .entry))) ⌝ }
     ensures borrowed { λ r. ⌜ now (out .exit) ≡ groupLeaves (netOf net (now (latches .entry)) (now (gates .entry))) «latch_count» «gate_count» depth group (now (out .entry)) ⌝ }
 {
-    let room = out.len();
     if let Verdict::Refused(refusal, place) = test_group(
         net,
         latches,
@@ -112,9 +125,13 @@ pub fn write_group(
         gate_count,
         depth,
         group,
-        room,
     ) {
         return GroupAnswer::Refused(refusal, place);
     }
-    GroupAnswer::Written(groups::put_group(out, net, latches, gates, depth, group))
+    let mut numbers = [0; 5992];
+    let count = groups::put_group(&mut numbers, net, latches, gates, depth, group);
+    if out.len() < count {
+        return GroupAnswer::Refused(Refusal::NoRoom, 0);
+    }
+    GroupAnswer::Written(copy_numbers(out, &numbers[..count]))
 }

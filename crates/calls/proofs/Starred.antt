@@ -6,7 +6,7 @@ use Rattle.model.specs.Gather.{gather, gatherDown}
 use Rattle.model.specs.Clauses.{neg, andClauses, sameIfClauses, bitClauses, addressBitClauses, unequalOf, allBits, forwardedClauses, pairClauses, initialReadClauses, heldClauses, heldReads, selectedOf, someSource, closingClauses}
 use Rattle.model.specs.Variables.{baseOf, base, pairBaseOf, pairBase, wireAt, codeAt, noneSince, selected, readBit, pairLiterals, closingLiterals}
 use Rattle.model.specs.Groups.{stateClauses, violationOf, clausesOf, pairOf, frameGroups, groupOrder, inDepth}
-use Rattle.model.specs.Numbers.{numberOf, written, numbersOf, joined, formula, splitAfter, clausesIn}
+use Rattle.model.specs.Numbers.{keptOf, kept, isTrue, hasTrue, endOf, writtenClause, written, numbersOf, joined, formula, splitAfter, clausesIn}
 use Rattle.refusals.specs.Tests.{_then_, inOrder}
 use Rattle.netlist.specs.Places.{lineAt}
 use Rattle.netlist.specs.Faults.{sizeFault, codeFault, loopFaultBy}
@@ -28,8 +28,8 @@ use Rattle.calls.specs.Starred.{sheet, loopSheet, net, rows, Starred}
 pub starred : Starred
 unfolding odd bit sweep isRead eitherWire dependsOnRead neg gather gatherDown andClauses sameIfClauses bitClauses addressBitClauses unequalOf allBits
     forwardedClauses pairClauses initialReadClauses heldClauses heldReads selectedOf someSource closingClauses baseOf base pairBaseOf pairBase wireAt codeAt noneSince
-    selected readBit pairLiterals closingLiterals stateClauses violationOf clausesOf pairOf frameGroups groupOrder inDepth numberOf
-    written numbersOf joined formula splitAfter clausesIn _then_ inOrder lineAt sizeFault codeFault loopFaultBy testLines
+    selected readBit pairLiterals closingLiterals stateClauses violationOf clausesOf pairOf frameGroups groupOrder inDepth keptOf
+    kept isTrue hasTrue endOf writtenClause written numbersOf joined formula splitAfter clausesIn _then_ inOrder lineAt sizeFault codeFault loopFaultBy testLines
     recordVerdict testDepth testGroup testNumbers testRoom groupVerdict headingVerdict digitsWithin digits field sameText
     valueAfter numberIn dropSpaces filledWith behindSpaces fieldOf kindOf isFilled fieldIn allAsWanted lineWith lineOf
     depthField fieldVerdict depthVerdict faultsAt lineIn sizesIn netOfLines netIn ragged notDue testLineIn endVerdict

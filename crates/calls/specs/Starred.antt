@@ -1,4 +1,4 @@
--- The starred facts about the sheet of the full run (RULES F1 to F10, F12, P8), as rows of one table: of the sheet's bytes, and of the netlist
+-- The starred facts about the sheet of the full run (RULES F1 to F3, F7 to F10, F13 to F15, P8), as rows of one table: of the sheet's bytes, and of the netlist
 -- that they are read as. Nine rows, one claim, `Starred`. Cited by the contract of `heading`.
 use Prim.Native.Nat.{ℕ}
 use mathlib.Core.Path.{_≡_}
@@ -55,18 +55,19 @@ rows =
     row (base net 0 ∷ []) (1 ∷ [])
     ∷ row (base net 1 ∷ []) (3 ∷ [])
     ∷ row (base net 2 ∷ []) (10 ∷ [])
-    -- RULES F4 and F5: the pair has 16 clauses and 57 numbers
-    ∷ row (length (clausesIn (numbersOf net 1 (Pair 0 1))) ∷ []) (16 ∷ [])
-    ∷ row (length (numbersOf net 1 (Pair 0 1)) ∷ []) (57 ∷ [])
-    -- RULES F12: depth 1 has 26 clauses
-    ∷ row (length (clausesIn (formula net 1)) ∷ []) (26 ∷ [])
+    -- RULES F13 and F14: the pair has 10 clauses and 31 numbers: a slice of 31 takes it, 30 gives 9
+    ∷ row (length (clausesIn (numbersOf net 1 (Pair 0 1))) ∷ []) (10 ∷ [])
+    ∷ row (length (numbersOf net 1 (Pair 0 1)) ∷ sent (groupVerdict net 0 0 1 (Pair 0 1) 31) ++ sent (groupVerdict net 0 0 1 (Pair 0 1) 30))
+    (31 ∷ 0 ∷ 0 ∷ 9 ∷ 0 ∷ [])
+    -- RULES F15: depth 1 has 15 clauses
+    ∷ row (length (clausesIn (formula net 1)) ∷ []) (15 ∷ [])
     -- RULES F7: address code 0 is taken, 4 gives 6 at line 3
     ∷ row (sent (sheetVerdict sheet 0 0) ++ sent (sheetVerdict loopSheet 0 0)) (0 ∷ 0 ∷ 6 ∷ 3 ∷ [])
     -- RULES F8: depth 255 is taken, 256 gives 7, in a call and on the depth line
     ∷ row (sent (headingVerdict net 0 0 255) ++ sent (headingVerdict net 0 0 256) ++ sent (depthVerdict (depthText 255)) ++ sent (depthVerdict (depthText 256)))
     (0 ∷ 0 ∷ 7 ∷ 0 ∷ 0 ∷ 0 ∷ 7 ∷ 0 ∷ [])
     -- RULES F9: pair (1, 1) gives 8
-    ∷ row (sent (groupVerdict net 0 0 1 (Pair 1 1) 57)) (8 ∷ 0 ∷ [])
+    ∷ row (sent (groupVerdict net 0 0 1 (Pair 1 1) 31)) (8 ∷ 0 ∷ [])
     ∷ []
 
 -- the single claim: in every row what is found is what the rules state (RULES F10)

@@ -2,19 +2,19 @@
 // what it is lent and answers how many numbers that was.
 use clause_writer::put_binary;
 use clause_writer::put_ternary;
-use literals::Lit;
+use literals::Term;
 ghost use mathlib.Core.List.{[], _∷_};
 ghost use Prim.Native.Nat.{_≤_};
 ghost use lib.ListN.{length};
 ghost use Rattle.model.specs.Clauses.{andClauses, sameClauses, sameIfClauses, bitClauses};
 ghost use Rattle.model.specs.Numbers.{written};
-ghost use Rattle.literals.specs.Lit.{literalOf, IsLit};
+ghost use Rattle.literals.specs.Lit.{literalOf, IsTerm};
 ghost use Rattle.model.specs.Wrote.{Wrote};
 ghost use Rattle.clause_tseitin.specs.BothClauses.{bothClauses};
 
 // Two clauses of two literals: (a b), (c d).
-fn put_two_binary(out: &mut [i32], a: Lit, b: Lit, c: Lit, d: Lit) -> usize
-    requires { ⌜ IsLit a × IsLit b × IsLit c × IsLit d × (6 ≤ length (now out)) ⌝ }
+fn put_two_binary(out: &mut [i32], a: Term, b: Term, c: Term, d: Term) -> usize
+    requires { ⌜ IsTerm a × IsTerm b × IsTerm c × IsTerm d × (6 ≤ length (now out)) ⌝ }
     ensures { λ r. ⌜ Wrote (written ((literalOf a ∷ literalOf b ∷ []) ∷ (literalOf c ∷ literalOf d ∷ []) ∷ []))
         (now (out .entry)) (now (out .exit)) r × (r ≤ 6) ⌝ }
 {
@@ -23,8 +23,8 @@ fn put_two_binary(out: &mut [i32], a: Lit, b: Lit, c: Lit, d: Lit) -> usize
 }
 
 // The clauses of a gate g = a ∧ b.
-pub fn put_and(out: &mut [i32], g: Lit, a: Lit, b: Lit) -> usize
-    requires { ⌜ IsLit g × IsLit a × IsLit b × (10 ≤ length (now out)) ⌝ }
+pub fn put_and(out: &mut [i32], g: Term, a: Term, b: Term) -> usize
+    requires { ⌜ IsTerm g × IsTerm a × IsTerm b × (10 ≤ length (now out)) ⌝ }
     ensures { λ r. ⌜ Wrote (written (andClauses (literalOf g) (literalOf a) (literalOf b)))
         (now (out .entry)) (now (out .exit)) r × (r ≤ 10) ⌝ }
 {
@@ -34,16 +34,16 @@ pub fn put_and(out: &mut [i32], g: Lit, a: Lit, b: Lit) -> usize
 }
 
 // The clauses of q = d.
-pub fn put_same(out: &mut [i32], q: Lit, d: Lit) -> usize
-    requires { ⌜ IsLit q × IsLit d × (6 ≤ length (now out)) ⌝ }
+pub fn put_same(out: &mut [i32], q: Term, d: Term) -> usize
+    requires { ⌜ IsTerm q × IsTerm d × (6 ≤ length (now out)) ⌝ }
     ensures { λ r. ⌜ Wrote (written (sameClauses (literalOf q) (literalOf d))) (now (out .entry)) (now (out .exit)) r × (r ≤ 6) ⌝ }
 {
     put_two_binary(out, q.negated(), d, q, d.negated())
 }
 
 // Two clauses of three literals that begin alike: (p a b), (p c d).
-fn put_two_ternary(out: &mut [i32], p: Lit, a: Lit, b: Lit, c: Lit, d: Lit) -> usize
-    requires { ⌜ IsLit p × IsLit a × IsLit b × IsLit c × IsLit d × (8 ≤ length (now out)) ⌝ }
+fn put_two_ternary(out: &mut [i32], p: Term, a: Term, b: Term, c: Term, d: Term) -> usize
+    requires { ⌜ IsTerm p × IsTerm a × IsTerm b × IsTerm c × IsTerm d × (8 ≤ length (now out)) ⌝ }
     ensures { λ r. ⌜ Wrote (written (bothClauses (literalOf p) (literalOf a) (literalOf b) (literalOf c) (literalOf d)))
         (now (out .entry)) (now (out .exit)) r × (r ≤ 8) ⌝ }
 {
@@ -52,8 +52,8 @@ fn put_two_ternary(out: &mut [i32], p: Lit, a: Lit, b: Lit, c: Lit, d: Lit) -> u
 }
 
 // The clauses of a = b where p is true.
-pub fn put_same_if(out: &mut [i32], p: Lit, a: Lit, b: Lit) -> usize
-    requires { ⌜ IsLit p × IsLit a × IsLit b × (8 ≤ length (now out)) ⌝ }
+pub fn put_same_if(out: &mut [i32], p: Term, a: Term, b: Term) -> usize
+    requires { ⌜ IsTerm p × IsTerm a × IsTerm b × (8 ≤ length (now out)) ⌝ }
     ensures { λ r. ⌜ Wrote (written (sameIfClauses (literalOf p) (literalOf a) (literalOf b)))
         (now (out .entry)) (now (out .exit)) r × (r ≤ 8) ⌝ }
 {
@@ -62,8 +62,8 @@ pub fn put_same_if(out: &mut [i32], p: Lit, a: Lit, b: Lit) -> usize
 
 // The clauses of one address bit, `x` of the writing frame and `y` of the reading one: `address_equal` where all bits are, `bit_equal`
 // where this one is.
-pub fn put_bit(out: &mut [i32], address_equal: Lit, bit_equal: Lit, x: Lit, y: Lit) -> usize
-    requires { ⌜ IsLit «address_equal» × IsLit «bit_equal» × IsLit x × IsLit y × (16 ≤ length (now out)) ⌝ }
+pub fn put_bit(out: &mut [i32], address_equal: Term, bit_equal: Term, x: Term, y: Term) -> usize
+    requires { ⌜ IsTerm «address_equal» × IsTerm «bit_equal» × IsTerm x × IsTerm y × (16 ≤ length (now out)) ⌝ }
     ensures { λ r. ⌜ Wrote (written (bitClauses (literalOf «address_equal») (literalOf «bit_equal») (literalOf x) (literalOf y)))
         (now (out .entry)) (now (out .exit)) r × (r ≤ 16) ⌝ }
 {

@@ -1,15 +1,15 @@
 // The numbers of the variables of a record's frames and pairs, and the literals that two frames have in common: the port of the
 // memory, B(i), Q, N and Z, S (RULES V2 to V5, G9, G11).
 use literals::Code;
-use literals::Lit;
 use literals::Numbering;
+use literals::Term;
 use netlist::Netlist;
 ghost use mathlib.Core.Path.{_≡_};
 ghost use Prim.Native.Nat.{_≤_, _<_};
 ghost use Rattle.model.specs.Netlist.{port, lastWire};
 ghost use Rattle.model.specs.Variables.{stride, base, pairBase, noneSince, selected};
 ghost use Rattle.model.specs.Acceptance.{SizesFit};
-ghost use Rattle.literals.specs.Lit.{literalOf, IsLit};
+ghost use Rattle.literals.specs.Lit.{literalOf, IsTerm};
 ghost use Rattle.netlist.specs.NetOf.{alone};
 ghost use Rattle.clause_variables.specs.PortOf.{portOf};
 ghost use Rattle.clause_variables.specs.PortFits.{PortFits};
@@ -65,22 +65,22 @@ pub fn pair_base(net: Netlist, port: Port, j: u32, i: u32) -> u32
 }
 
 // PS of pair (j, i), or RE of frame i where j = i: N of pair (j − 1, i), and Z where j = 0.
-pub fn none_since(net: Netlist, port: Port, j: u32, i: u32) -> Lit
+pub fn none_since(net: Netlist, port: Port, j: u32, i: u32) -> Term
     requires { ⌜ PortFits (alone net) (portOf port) × (j ≤ i) × (i ≤ 255) ⌝ }
     ensures literal { λ r. ⌜ literalOf r ≡ noneSince (alone net) (portOf port) j i ⌝ }
-    ensures number { λ r. ⌜ IsLit r ⌝ }
+    ensures number { λ r. ⌜ IsTerm r ⌝ }
 {
     if j == i {
         return port.re.in_frame(frame_base(net, i));
     }
-    Lit::in_pair(pair_base(net, port, j, i), net.m + 3)
+    Term::in_pair(pair_base(net, port, j, i), net.m + 3)
 }
 
 // S of pair (j, i).
-pub fn selected(net: Netlist, port: Port, j: u32, i: u32) -> Lit
+pub fn selected(net: Netlist, port: Port, j: u32, i: u32) -> Term
     requires { ⌜ PortFits (alone net) (portOf port) × (j < i) × (i ≤ 255) ⌝ }
     ensures literal { λ r. ⌜ literalOf r ≡ selected (alone net) (portOf port) j i ⌝ }
-    ensures number { λ r. ⌜ IsLit r ⌝ }
+    ensures number { λ r. ⌜ IsTerm r ⌝ }
 {
-    Lit::in_pair(pair_base(net, port, j, i), net.m + 4)
+    Term::in_pair(pair_base(net, port, j, i), net.m + 4)
 }

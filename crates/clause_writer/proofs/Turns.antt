@@ -2,17 +2,19 @@
 -- and end it. No contract cites this file.
 use Prim.Native.Nat.{ℕ, zero, suc, _+_, _-_, _*_, _≤_, _<_}
 use mathlib.Core.Path.{_≡_, refl}
-use mathlib.Core.List.{List, [], _∷_, _++_, map, append-assoc, append-nil}
+use mathlib.Core.Bool.{Bool, true, false, _||_}
+use mathlib.Core.List.{List, [], _∷_, _++_, append-assoc}
 use native.Mathlib.Nat.{le-antisymm, mul-le-mul-right}
 use native.Mathlib.Numerals.{add-one}
 use native.Mathlib.Omega.{arith}
-use lib.IntN.{ℤ, pos}
+use lib.IntN.{ℤ}
 use lib.ListN.{length}
 use borrow.Rule.Slice.PartMut.{midOf, putMid}
 use Rattle.model.specs.Gather.{gather}
 use Rattle.model.specs.Clauses.{Literal, Clause}
-use Rattle.model.specs.Numbers.{numberOf, written}
+use Rattle.model.specs.Numbers.{keptOf, kept, hasTrue, written}
 use Rattle.model.proofs.Joined.{written-append}
+use Rattle.model.proofs.Classes.{hasTrue-append}
 use Rattle.model.specs.Wrote.{Wrote}
 use Rattle.clause_writer.proofs.Wrote.{wrote-nothing, wrote-length, rest-room, wrote-then}
 
@@ -22,24 +24,32 @@ unfolding gather written
 written-gather zero f = refl
 written-gather (suc n) f = rw (written-append (gather n f) (f n), written-gather n f)
 
--- and so are the numbers of gathered literals
-map-append : (xs ys : List Literal) → map numberOf (xs ++ ys) ≡ map numberOf xs ++ map numberOf ys
-map-append [] ys = refl
-map-append (x ∷ xs) ys = rw (map-append xs ys)
+-- what is kept of joined and gathered literals is kept one after the other
+pub kept-append : (xs ys : List Literal) → kept (xs ++ ys) ≡ kept xs ++ kept ys
+unfolding kept
+kept-append [] ys = refl
+kept-append (x ∷ xs) ys = rw (kept-append xs ys, append-assoc (keptOf x))
 
-pub numbers-gather : (n : ℕ) (f : ℕ → List Literal) → map numberOf (gather n f) ≡ gather n (λ t. map numberOf (f t))
+pub kept-gather : (n : ℕ) (f : ℕ → List Literal) → kept (gather n f) ≡ gather n (λ t. kept (f t))
+unfolding gather kept
+kept-gather zero f = refl
+kept-gather (suc n) f = rw (kept-append (gather n f) (f n), kept-gather n f)
+
+-- gathered literals of which each turn has a true one, or none has
+or-same : (v : Bool) → (v || v) ≡ v
+or-same true = refl
+or-same false = refl
+
+pub hasTrue-gather : (n : ℕ) (f : ℕ → List Literal) (v : Bool) → ((t : ℕ) → hasTrue (f t) ≡ v) → hasTrue (gather (suc n) f) ≡ v
 unfolding gather
-numbers-gather zero f = refl
-numbers-gather (suc n) f = rw (map-append (gather n f) (f n), numbers-gather n f)
+hasTrue-gather zero f v each = each 0
+hasTrue-gather (suc n) f v each =
+    rw (hasTrue-append (gather (suc n) f) (f (suc n)), hasTrue-gather n f v each, each (suc n)) (or-same v)
 
--- a clause is written literal by literal, the end mark with the last
-pub written-clause : (xs ys : List Literal) → written ((xs ++ ys) ∷ []) ≡ map numberOf xs ++ written (ys ∷ [])
-unfolding written
-written-clause xs ys = rw (map-append xs ys) (simp append-assoc)
-
-pub written-ended : (xs : List Literal) → written (xs ∷ []) ≡ map numberOf xs ++ pos 0 ∷ []
-unfolding written
-written-ended xs = append-nil (map numberOf xs ++ pos 0 ∷ [])
+pub none-gather : (n : ℕ) (f : ℕ → List Literal) → ((t : ℕ) → hasTrue (f t) ≡ false) → hasTrue (gather n f) ≡ false
+unfolding gather hasTrue
+none-gather zero f each = refl
+none-gather (suc n) f each = hasTrue-gather n f false each
 
 -- after t turns of n, of at most s numbers each: the first t lists are written, and all of them have room
 pub record Turns (n s : ℕ) (f : ℕ → List ℤ) (old new : List ℤ) (t at : ℕ) : Type 0 where

@@ -1,10 +1,17 @@
 -- The laws of `Wrote` (model) as writers of clauses use them: one writer behind another with the lists left to be found.
 -- No contract cites this file.
-use Prim.Native.Nat.{ℕ, _+_, _-_}
-use mathlib.Core.List.{List, _++_}
+use Prim.Native.Nat.{ℕ, zero, suc, _+_, _-_, _≤_}
+use mathlib.Core.Path.{_≡_, refl, sym, _∙_, ap}
+use mathlib.Core.Bool.{Bool, true, false, _||_, or-false, or-assoc}
+use mathlib.Core.List.{List, [], _∷_, _++_, append-nil, append-assoc}
+use native.Mathlib.Omega.{arith}
+use lib.IntN.{ℤ, pos}
 use lib.ListN.{length}
 use borrow.Rule.Slice.PartMut.{midOf, putMid}
+use Rattle.model.specs.Clauses.{Literal, Clause}
+use Rattle.model.specs.Numbers.{keptOf, kept, isTrue, hasTrue, endOf, writtenClause, written}
 use Rattle.model.specs.Wrote.{Wrote}
+use Rattle.model.proofs.Joined.{written-append}
 use Rattle.model.proofs.Wrote as W
 pub use Rattle.model.proofs.Wrote.{wrote-nothing, wrote-length, rest-room}
 
@@ -13,3 +20,72 @@ module _ {A : Type 0} {xs old mid : List A} {r : ℕ} (w : Wrote xs old mid r) w
   pub wrote-then : {ys part : List A} {s : ℕ} → Wrote ys (midOf r (length mid - r) mid) part s
       → Wrote (xs ++ ys) old (putMid r (length mid - r) mid part) (r + s)
   wrote-then {ys} {part} {s} v = W.wrote-then xs ys old mid part r s w v
+
+-- a clause without a true literal: what is kept of its literals, and its end
+pub clause-ended : (x : Clause) {old mid part : List ℤ} {r s : ℕ} → hasTrue x ≡ false → Wrote (kept x) old mid r
+    → Wrote (endOf r) (midOf r (length mid - r) mid) part s
+    → Wrote (written (x ∷ [])) old (putMid r (length mid - r) mid part) (r + s)
+unfolding written writtenClause
+clause-ended x none w v =
+    rw (none, append-nil (kept x ++ endOf (length (kept x))), sym (w .counted)) (wrote-then w v)
+
+-- the end of a clause that is not left empty is the end mark alone
+pub end-begun : (n : ℕ) → (n ≡ 0 → ⊥) → endOf n ≡ pos 0 ∷ []
+unfolding endOf
+end-begun zero h = absurd (h refl)
+end-begun (suc n) h = refl
+
+-- with its end it has at most one number more than literals, where it has any
+pub end-most : {begun most s : ℕ} {old new : List ℤ} → Wrote (endOf begun) old new s → begun ≤ most → 1 ≤ most → begun + s ≤ most + 1
+unfolding endOf
+end-most {begun} {most} {s} w h l = go begun (w .counted) h
+  where
+    go : (n : ℕ) → s ≡ length (endOf n) → n ≤ most → n + s ≤ most + 1
+    go zero e h = omega arith
+    go (suc n) e h = omega arith
+
+-- whether a clause of one, two or three literals has a true one, as it is tested
+pub hasTrue-one : (a : Literal) → hasTrue (a ∷ []) ≡ isTrue a
+unfolding hasTrue
+hasTrue-one a = or-false (isTrue a)
+
+pub hasTrue-two : (a b : Literal) → hasTrue (a ∷ b ∷ []) ≡ (isTrue a || isTrue b)
+unfolding hasTrue
+hasTrue-two a b = ap (λ (t : Bool). isTrue a || t) (or-false (isTrue b))
+
+pub hasTrue-three : (a b c : Literal) → hasTrue (a ∷ b ∷ c ∷ []) ≡ ((isTrue a || isTrue b) || isTrue c)
+unfolding hasTrue
+hasTrue-three a b c = ap (λ (t : Bool). isTrue a || (isTrue b || t)) (or-false (isTrue c)) ∙ sym (or-assoc (isTrue a) (isTrue b) (isTrue c))
+
+-- what is kept of a clause of one, two or three literals
+pub kept-one : (a : Literal) → kept (a ∷ []) ≡ keptOf a
+unfolding kept
+kept-one a = append-nil (keptOf a)
+
+pub kept-two : (a b : Literal) → kept (a ∷ b ∷ []) ≡ keptOf a ++ keptOf b
+unfolding kept
+kept-two a b = ap (λ zs. keptOf a ++ zs) (append-nil (keptOf b))
+
+pub kept-three : (a b c : Literal) → kept (a ∷ b ∷ c ∷ []) ≡ (keptOf a ++ keptOf b) ++ keptOf c
+unfolding kept
+kept-three a b c = ap (λ zs. keptOf a ++ (keptOf b ++ zs)) (append-nil (keptOf c)) ∙ sym (append-assoc (keptOf a) (keptOf b) (keptOf c))
+
+-- of a clause that begins with two literals
+pub kept-behind : (a b : Literal) (x : Clause) → kept (a ∷ b ∷ x) ≡ keptOf a ++ keptOf b ++ kept x
+unfolding kept
+kept-behind a b x = sym (append-assoc (keptOf a) (keptOf b) (kept x))
+
+pub hasTrue-behind : (a b : Literal) (x : Clause) → hasTrue (a ∷ b ∷ x) ≡ (isTrue a || isTrue b || hasTrue x)
+unfolding hasTrue
+hasTrue-behind a b x = sym (or-assoc (isTrue a) (isTrue b) (hasTrue x))
+
+-- one with a true literal is left out
+pub clause-left-out : (x : Clause) (old : List ℤ) → hasTrue x ≡ true → Wrote (written (x ∷ [])) old old 0
+unfolding written writtenClause
+clause-left-out x old has = rw has (wrote-nothing old)
+
+-- clauses, and clauses behind them
+pub wrote-clauses : (xs ys : List Clause) {old mid part : List ℤ} {r s : ℕ} → Wrote (written xs) old mid r
+    → Wrote (written ys) (midOf r (length mid - r) mid) part s
+    → Wrote (written (xs ++ ys)) old (putMid r (length mid - r) mid part) (r + s)
+wrote-clauses xs ys w v = rw (written-append xs ys) (wrote-then w v)

@@ -1,26 +1,18 @@
 // Clauses as numbers in a borrowed slice (RULES G20, "written at the start of what is left of the slice, behind
-// the numbers already written"). Each function writes from the start of what it is lent and answers how many numbers that was.
+// the numbers already written"). Each function writes from the start of what it is lent and answers how many numbers that was. Here
+// alone constants are dropped (RULES G28 and G29): a clause with a true literal is not written, and of the others no false one.
 use literals::Lit;
+use literals::Term;
 ghost use mathlib.Core.List.{[], _∷_};
-ghost use Prim.Native.Nat.{_≤_};
+ghost use Prim.Native.Nat.{_+_, _≤_};
 ghost use lib.ListN.{length};
-ghost use lib.IntN.{pos};
-ghost use Rattle.model.specs.Numbers.{numberOf, written};
-ghost use Rattle.literals.specs.Lit.{literalOf, IsLit};
+ghost use lib.IntN.{pos, negsuc};
+ghost use Rattle.model.specs.Numbers.{keptOf, endOf, written};
+ghost use Rattle.literals.specs.Lit.{literalAt, literalOf, IsLit, IsTerm};
 ghost use Rattle.model.specs.Wrote.{Wrote};
 
-// One literal of a clause.
-pub fn put_literal(out: &mut [i32], a: Lit) -> usize
-    requires { ⌜ IsLit a × (1 ≤ length (now out)) ⌝ }
-    ensures { λ r. ⌜ Wrote (numberOf (literalOf a) ∷ []) (now (out .entry)) (now (out .exit)) r × (r ≤ 1) ⌝ }
-{
-    let x = a.0;
-    out[0] = x;
-    1
-}
-
 // The end mark of a clause.
-pub fn put_end(out: &mut [i32]) -> usize
+fn put_mark(out: &mut [i32]) -> usize
     requires { ⌜ 1 ≤ length (now out) ⌝ }
     ensures { λ r. ⌜ Wrote (pos 0 ∷ []) (now (out .entry)) (now (out .exit)) r × (r ≤ 1) ⌝ }
 {
@@ -28,30 +20,85 @@ pub fn put_end(out: &mut [i32]) -> usize
     1
 }
 
+// The single number of a clause left empty.
+fn put_minus_one(out: &mut [i32]) -> usize
+    requires { ⌜ 1 ≤ length (now out) ⌝ }
+    ensures { λ r. ⌜ Wrote (negsuc 0 ∷ []) (now (out .entry)) (now (out .exit)) r × (r ≤ 1) ⌝ }
+{
+    out[0] = -1;
+    1
+}
+
+// One literal of a clause, a variable's.
+fn put_number(out: &mut [i32], a: Lit) -> usize
+    requires { ⌜ IsLit a × (1 ≤ length (now out)) ⌝ }
+    ensures { λ r. ⌜ Wrote (keptOf (literalAt (a .0))) (now (out .entry)) (now (out .exit)) r × (r ≤ 1) ⌝ }
+{
+    let x = a.0;
+    out[0] = x;
+    1
+}
+
+// One literal of a clause; nothing of a constant.
+pub fn put_literal(out: &mut [i32], a: Term) -> usize
+    requires { ⌜ IsTerm a × (1 ≤ length (now out)) ⌝ }
+    ensures { λ r. ⌜ Wrote (keptOf (literalOf a)) (now (out .entry)) (now (out .exit)) r × (r ≤ 1) ⌝ }
+{
+    match a {
+        Term::True => 0,
+        Term::False => 0,
+        Term::Number(l) => put_number(out, l),
+    }
+}
+
+// The end of a clause of which `begun` numbers are written.
+pub fn put_end(out: &mut [i32], begun: usize) -> usize
+    requires { ⌜ (1 ≤ length (now out)) × (2 ≤ begun + length (now out)) ⌝ }
+    ensures { λ r. ⌜ Wrote (endOf begun) (now (out .entry)) (now (out .exit)) r × (r ≤ 2) ⌝ }
+{
+    if begun == 0 {
+        let i = put_minus_one(out);
+        return i + put_mark(&mut out[i..]);
+    }
+    put_mark(out)
+}
+
 // A clause of one literal.
-pub fn put_unit(out: &mut [i32], a: Lit) -> usize
-    requires { ⌜ IsLit a × (2 ≤ length (now out)) ⌝ }
+pub fn put_unit(out: &mut [i32], a: Term) -> usize
+    requires { ⌜ IsTerm a × (2 ≤ length (now out)) ⌝ }
     ensures { λ r. ⌜ Wrote (written ((literalOf a ∷ []) ∷ [])) (now (out .entry)) (now (out .exit)) r × (r ≤ 2) ⌝ }
 {
+    if a.is_true() {
+        return 0;
+    }
     let i = put_literal(out, a);
-    i + put_end(&mut out[i..])
+    i + put_end(&mut out[i..], i)
 }
 
 // A clause of two literals.
-pub fn put_binary(out: &mut [i32], a: Lit, b: Lit) -> usize
-    requires { ⌜ IsLit a × IsLit b × (3 ≤ length (now out)) ⌝ }
+pub fn put_binary(out: &mut [i32], a: Term, b: Term) -> usize
+    requires { ⌜ IsTerm a × IsTerm b × (3 ≤ length (now out)) ⌝ }
     ensures { λ r. ⌜ Wrote (written ((literalOf a ∷ literalOf b ∷ []) ∷ [])) (now (out .entry)) (now (out .exit)) r × (r ≤ 3) ⌝ }
 {
+    if a.is_true() | b.is_true() {
+        return 0;
+    }
     let i = put_literal(out, a);
-    i + put_unit(&mut out[i..], b)
+    let j = i + put_literal(&mut out[i..], b);
+    j + put_end(&mut out[j..], j)
 }
 
 // A clause of three literals.
-pub fn put_ternary(out: &mut [i32], a: Lit, b: Lit, c: Lit) -> usize
-    requires { ⌜ IsLit a × IsLit b × IsLit c × (4 ≤ length (now out)) ⌝ }
+pub fn put_ternary(out: &mut [i32], a: Term, b: Term, c: Term) -> usize
+    requires { ⌜ IsTerm a × IsTerm b × IsTerm c × (4 ≤ length (now out)) ⌝ }
     ensures { λ r. ⌜ Wrote (written ((literalOf a ∷ literalOf b ∷ literalOf c ∷ []) ∷ [])) (now (out .entry)) (now (out .exit)) r
         × (r ≤ 4) ⌝ }
 {
+    if a.is_true() | b.is_true() | c.is_true() {
+        return 0;
+    }
     let i = put_literal(out, a);
-    i + put_binary(&mut out[i..], b, c)
+    let j = i + put_literal(&mut out[i..], b);
+    let k = j + put_literal(&mut out[j..], c);
+    k + put_end(&mut out[k..], k)
 }

@@ -2,7 +2,8 @@
 -- literals. No contract cites this file.
 use Prim.Native.Nat.{ℕ, zero, suc, _+_, _-_, _*_}
 use mathlib.Core.Path.{_≡_, refl, _∙_, ap}
-use mathlib.Core.List.{List, [], _∷_, _++_, map}
+use mathlib.Core.Bool.{false}
+use mathlib.Core.List.{List, [], _∷_, _++_}
 use native.Mathlib.Nat.{add-zero, add-assoc, zero-mul}
 use native.Mathlib.Omega.{arith}
 use lib.IntN.{ℤ}
@@ -12,7 +13,7 @@ use Rattle.model.specs.Netlist as M
 use Rattle.model.specs.Gather.{gather}
 use Rattle.model.specs.Clauses.{Literal, known, plus, neg, sameIfClauses, ClosingLiterals, initialReadClauses, heldClauses, heldReads, selectedOf, someSource, closingClauses}
 use Rattle.model.specs.Variables.{stride, base, pairBase, wireAt, codeAt, noneSince, selected, readBit, closingLiterals}
-use Rattle.model.specs.Numbers.{numberOf, written}
+use Rattle.model.specs.Numbers.{keptOf, kept, isTrue, hasTrue, written}
 use Rattle.model.proofs.Variables.{pairBase-base}
 use Rattle.model.proofs.Joined.{written-append}
 use Rattle.netlist.specs.NetOf.{netOf, alone}
@@ -20,7 +21,8 @@ use Rattle.netlist.specs.declared.Netlist.{Netlist}
 use Rattle.clause_variables.specs.declared.Port as R
 use Rattle.clause_variables.specs.PortOf.{portOf}
 use Rattle.model.proofs.Gather.{gather-same}
-use Rattle.clause_writer.proofs.Turns.{written-gather, numbers-gather}
+use Rattle.clause_writer.proofs.Wrote.{kept-one}
+use Rattle.clause_writer.proofs.Turns.{written-gather, kept-gather, none-gather}
 use Rattle.group_closing.specs.OfClosing.{ofClosing}
 
 -- the clauses of data bit t, from Z, the frame's base, the read wires before the port's and the port's before it, the start word
@@ -65,16 +67,21 @@ source-base c p i e es j =
 
 -- S of pair (j, i), from where the pairs start and how far apart they are
 abbrev pub sourceAt : ℕ → ℕ → ℕ → ℕ → List ℤ
-sourceAt q s offset j = numberOf (plus (q + j * s + offset)) ∷ []
+sourceAt q s offset j = keptOf (plus (q + j * s + offset))
 
 pub sources : (net : Netlist) (port : R.Port) (i n : ℕ) {q s : ℕ}
     → q ≡ pairBase (alone net) (portOf port) 0 i → s ≡ stride (alone net)
-    → map numberOf (gather n (selectedOf (ofClosing net port i))) ≡ gather n (sourceAt q s (net .m + 4))
+    → kept (gather n (selectedOf (ofClosing net port i))) ≡ gather n (sourceAt q s (net .m + 4))
 unfolding selectedOf closingLiterals selected netOf
 sources net port i n {q} {s} e es =
-    numbers-gather n (selectedOf (ofClosing net port i))
+    kept-gather n (selectedOf (ofClosing net port i))
     ∙ gather-same n _ (sourceAt q s (net .m + 4))
-    (λ j b. rw (source-base (alone net) (portOf port) i e es j, add-assoc (pairBase (alone net) (portOf port) j i) (net .m) 4))
+    (λ j b. rw (source-base (alone net) (portOf port) i e es j, add-assoc (pairBase (alone net) (portOf port) j i) (net .m) 4, kept-one))
+
+-- none of them is a constant
+pub sources-none : (net : Netlist) (port : R.Port) (i : ℕ) → hasTrue (gather i (selectedOf (ofClosing net port i))) ≡ false
+unfolding selectedOf closingLiterals selected isTrue hasTrue
+sources-none net port i = none-gather i (selectedOf (ofClosing net port i)) (λ j. refl)
 
 -- the parts of a closing's clauses, in their order
 pub closing-parts : (n i : ℕ) (x : ClosingLiterals)

@@ -1,37 +1,38 @@
 // The clauses of the closing of frame i at a port (RULES G11 to G13 and G25): a read of a word that no earlier
 // frame wrote is the start word, the word of the frame before is held where nothing is read, and a read has some source.
 use clause_variables::Port;
-use literals::Lit;
+use literals::Term;
 use literals::Wire;
 use netlist::Netlist;
 ghost use Prim.Native.Nat.{_+_, _*_, _≤_, _<_};
-ghost use mathlib.Core.Bool.{cond};
-ghost use mathlib.Core.List.{[], _∷_, map};
+ghost use mathlib.Core.Path.{_≡_};
+ghost use mathlib.Core.Bool.{false, cond, _||_};
+ghost use mathlib.Core.List.{[], _∷_};
 ghost use lib.Dec.{eqb};
 ghost use lib.ListN.{length};
 ghost use Rattle.model.specs.Bits.{bit};
 ghost use Rattle.model.specs.Gather.{gather};
 ghost use Rattle.model.specs.Clauses.{known, sameIfClauses, initialReadClauses, heldClauses, heldReads, selectedOf, someSource, closingClauses};
 ghost use Rattle.model.specs.Variables.{wireAt};
-ghost use Rattle.model.specs.Numbers.{numberOf, written};
-ghost use Rattle.literals.specs.Lit.{literalOf, IsLit, HasNumber};
+ghost use Rattle.model.specs.Numbers.{isTrue, kept, written};
+ghost use Rattle.literals.specs.Lit.{literalOf, IsTerm, HasNumber};
 ghost use Rattle.model.specs.Wrote.{Wrote};
 ghost use Rattle.group_closing.specs.OfClosing.{ofClosing, ClosingFits};
 
 // The two clauses of data bit t: where Z is true, the read bit `rd` is the start bit.
 fn put_initial_bit(
     out: &mut [i32],
-    none_since: Lit,
+    none_since: Term,
     reading: u32,
     rd: Wire,
     word: u32,
     t: u32,
 ) -> usize
-    requires { ⌜ IsLit «none_since» × HasNumber reading (rd .0) × (1 ≤ rd .0) × (t < 32) × (8 ≤ length (now out)) ⌝ }
+    requires { ⌜ IsTerm «none_since» × HasNumber reading (rd .0) × (1 ≤ rd .0) × (t < 32) × (8 ≤ length (now out)) ⌝ }
     ensures { λ r. ⌜ Wrote (written (sameIfClauses (literalOf «none_since») (wireAt reading (rd .0)) (known (bit word t))))
         (now (out .entry)) (now (out .exit)) r × (r ≤ 8) ⌝ }
 {
-    clause_tseitin::put_same_if(out, none_since, rd.in_frame(reading), Lit::bit(word, t))
+    clause_tseitin::put_same_if(out, none_since, rd.in_frame(reading), Term::bit(word, t))
 }
 
 // The clauses of each data bit, in bit order.
@@ -64,8 +65,8 @@ fn put_initial_reads(out: &mut [i32], net: Netlist, port: Port, i: u32) -> usize
 }
 
 // The two clauses of data bit `rd`: where RE is false, it is as in the frame before.
-fn put_held_bit(out: &mut [i32], idle: Lit, reading: u32, before: u32, rd: Wire) -> usize
-    requires { ⌜ IsLit idle × HasNumber reading (rd .0) × HasNumber before (rd .0) × (1 ≤ rd .0) × (8 ≤ length (now out)) ⌝ }
+fn put_held_bit(out: &mut [i32], idle: Term, reading: u32, before: u32, rd: Wire) -> usize
+    requires { ⌜ IsTerm idle × HasNumber reading (rd .0) × HasNumber before (rd .0) × (1 ≤ rd .0) × (8 ≤ length (now out)) ⌝ }
     ensures { λ r. ⌜ Wrote (written (sameIfClauses (literalOf idle) (wireAt reading (rd .0)) (wireAt before (rd .0))))
         (now (out .entry)) (now (out .exit)) r × (r ≤ 8) ⌝ }
 {
@@ -115,7 +116,7 @@ fn put_held(out: &mut [i32], net: Netlist, port: Port, i: u32) -> usize
 // S of each earlier frame, in ascending order.
 fn put_sources(out: &mut [i32], net: Netlist, port: Port, i: u32) -> usize
     requires { ⌜ ClosingFits net port i × (i ≤ length (now out)) ⌝ }
-    ensures { λ r. ⌜ Wrote (map numberOf (gather i (selectedOf (ofClosing net port i))))
+    ensures { λ r. ⌜ Wrote (kept (gather i (selectedOf (ofClosing net port i))))
         (now (out .entry)) (now (out .exit)) r × (r ≤ i) ⌝ }
 {
     let q = clause_variables::pair_base(net, port, 0, i);
@@ -125,21 +126,31 @@ fn put_sources(out: &mut [i32], net: Netlist, port: Port, i: u32) -> usize
     let mut at: usize = 0;
     let mut j: u32 = 0;
     while j < i {
-        let selected = Lit::in_pair(q + j * stride, offset);
+        let selected = Term::in_pair(q + j * stride, offset);
         at = at + clause_writer::put_literal(&mut out[at..], selected);
         j = j + 1;
     }
     at
 }
 
-// The sources, with the end mark.
-fn put_last_sources(out: &mut [i32], net: Netlist, port: Port, i: u32) -> usize
-    requires { ⌜ ClosingFits net port i × (i + 1 ≤ length (now out)) ⌝ }
-    ensures { λ r. ⌜ Wrote (written (gather i (selectedOf (ofClosing net port i)) ∷ []))
-        (now (out .entry)) (now (out .exit)) r × (r ≤ i + 1) ⌝ }
+// The clause of two literals that are not true, ¬RE and Z, and S of each earlier frame.
+fn put_source_clause(
+    out: &mut [i32],
+    net: Netlist,
+    port: Port,
+    i: u32,
+    idle: Term,
+    none_since: Term,
+) -> usize
+    requires { ⌜ ClosingFits net port i × IsTerm idle × IsTerm «none_since»
+        × ((isTrue (literalOf idle) || isTrue (literalOf «none_since»)) ≡ false) × (i + 3 ≤ length (now out)) ⌝ }
+    ensures { λ r. ⌜ Wrote (written ((literalOf idle ∷ literalOf «none_since» ∷ gather i (selectedOf (ofClosing net port i))) ∷ []))
+        (now (out .entry)) (now (out .exit)) r × (r ≤ i + 3) ⌝ }
 {
-    let a = put_sources(out, net, port, i);
-    a + clause_writer::put_end(&mut out[a..])
+    let a = clause_writer::put_literal(out, idle);
+    let b = a + clause_writer::put_literal(&mut out[a..], none_since);
+    let d = b + put_sources(&mut out[b..], net, port, i);
+    d + clause_writer::put_end(&mut out[d..], d)
 }
 
 // The clause (¬RE Z S(0,i) .. S(i−1,i)).
@@ -148,10 +159,12 @@ fn put_some_source(out: &mut [i32], net: Netlist, port: Port, i: u32) -> usize
     ensures { λ r. ⌜ Wrote (written (someSource i (ofClosing net port i) ∷ [])) (now (out .entry)) (now (out .exit)) r × (r ≤ i + 3) ⌝ }
 {
     let read_enable = port.re.in_frame(clause_variables::frame_base(net, i));
+    let idle = read_enable.negated();
     let none_since = clause_variables::none_since(net, port, 0, i);
-    let a = clause_writer::put_literal(out, read_enable.negated());
-    let b = a + clause_writer::put_literal(&mut out[a..], none_since);
-    b + put_last_sources(&mut out[b..], net, port, i)
+    if idle.is_true() | none_since.is_true() {
+        return 0;
+    }
+    put_source_clause(out, net, port, i, idle, none_since)
 }
 
 // All clauses of the closing.

@@ -2,7 +2,7 @@
 -- latches of frame 0 and of a later one. No contract cites this file.
 use Prim.Native.Nat.{ℕ, zero, suc, _+_, _-_, _*_}
 use mathlib.Core.Path.{_≡_, refl}
-use mathlib.Core.Bool.{true, cond}
+use mathlib.Core.Bool.{cond}
 use mathlib.Core.List.{List, [], _∷_, _++_}
 use native.Mathlib.Nat.{add-zero}
 use native.Mathlib.Numerals.{sub-one}
@@ -12,10 +12,11 @@ use lib.ListN.{getD}
 use Rattle.model.specs.Netlist as M
 use Rattle.model.specs.Netlist.{latchWire}
 use Rattle.model.specs.Gather.{gather}
-use Rattle.model.specs.Clauses.{known, neg, sameClauses}
+use Rattle.model.specs.Clauses.{plus, neg, sameClauses}
 use Rattle.model.specs.Variables.{base, wireAt, codeAt}
 use Rattle.model.specs.Groups.{resetClauses, latchClauses, stateClauses}
-use Rattle.model.specs.Numbers.{numberOf, written}
+use Rattle.model.specs.Numbers.{written}
+use Rattle.model.proofs.Joined.{written-append}
 use Rattle.netlist.specs.NetOf.{netOf, alone}
 use Rattle.netlist.specs.declared.Netlist.{Netlist}
 use Rattle.clause_writer.proofs.Turns.{written-gather}
@@ -48,6 +49,6 @@ state-later c (suc i) h = rw sub-one
 
 -- the clause (1), and the latches of frame 0
 pub state-first : (c : M.Netlist)
-    → written (stateClauses c 0) ≡ written ((known true ∷ []) ∷ []) ++ written (gather (c .latches) (resetClauses c))
-unfolding stateClauses written numberOf
-state-first c = refl
+    → written (stateClauses c 0) ≡ written ((plus 1 ∷ []) ∷ []) ++ written (gather (c .latches) (resetClauses c))
+unfolding stateClauses
+state-first c = written-append ((plus 1 ∷ []) ∷ []) (gather (c .latches) (resetClauses c))

@@ -1,7 +1,7 @@
 // The clauses of the latches of a frame (RULES G3 and G4): in frame 0 from their resets, later from the frame
 // before. The list is unpacked as the netlist's is.
 use literals::Code;
-use literals::Lit;
+use literals::Term;
 use literals::Wire;
 use netlist::Netlist;
 use netlist::UnpackedList;
@@ -87,7 +87,7 @@ fn put_initial_state(out: &mut [i32], net: Netlist, latches: &UnpackedList) -> u
     ensures { λ r. ⌜ Wrote (written (stateClauses (netOf net (now (latches .entry)) []) 0)) (now (out .entry)) (now (out .exit)) r
         × (r ≤ net .latches * 2 + 2) ⌝ }
 {
-    let a = clause_writer::put_unit(out, Lit::constant(true));
+    let a = clause_writer::put_unit(out, Term::first());
     a + put_resets(&mut out[a..], net, latches)
 }
 

@@ -1,3 +1,2 @@
 pub mod InOrder
 pub mod Successor
-pub mod GroupLength

@@ -2,7 +2,7 @@
 // comparison, the three gates, and the data bits.
 use clause_variables::Port;
 use literals::Code;
-use literals::Lit;
+use literals::Term;
 use literals::Wire;
 use netlist::Netlist;
 ghost use Prim.Native.Nat.{_+_, _*_, _/_, _≤_};
@@ -11,7 +11,7 @@ ghost use Rattle.model.specs.Gather.{gather};
 ghost use Rattle.model.specs.Clauses.{sameIfClauses, forwardedClauses, pairClauses};
 ghost use Rattle.model.specs.Variables.{wireAt, codeAt};
 ghost use Rattle.model.specs.Numbers.{written};
-ghost use Rattle.literals.specs.Lit.{literalOf, IsLit, HasNumber};
+ghost use Rattle.literals.specs.Lit.{literalOf, IsTerm, HasNumber};
 ghost use Rattle.clause_variables.specs.OfPair.{ofPair, PairFits};
 ghost use Rattle.model.specs.Wrote.{Wrote};
 ghost use Rattle.group_pair.specs.PairParts.{comparisonClauses, gatedDataClauses};
@@ -19,13 +19,13 @@ ghost use Rattle.group_pair.specs.PairParts.{comparisonClauses, gatedDat
 // The two clauses of data bit t: where S is true, the read bit `rd` is the code `wd` of the writing frame.
 fn put_forwarded_bit(
     out: &mut [i32],
-    selected: Lit,
+    selected: Term,
     reading: u32,
     rd: Wire,
     writing: u32,
     wd: Code,
 ) -> usize
-    requires { ⌜ IsLit selected × HasNumber reading (rd .0) × (1 ≤ rd .0) × HasNumber writing (wd .0 / 2)
+    requires { ⌜ IsTerm selected × HasNumber reading (rd .0) × (1 ≤ rd .0) × HasNumber writing (wd .0 / 2)
         × (8 ≤ length (now out)) ⌝ }
     ensures { λ r. ⌜ Wrote (written (sameIfClauses (literalOf selected) (wireAt reading (rd .0)) (codeAt writing (wd .0))))
         (now (out .entry)) (now (out .exit)) r × (r ≤ 8) ⌝ }

@@ -2,15 +2,15 @@
 // makes E true where all bits are equal.
 use clause_variables::Port;
 use literals::Code;
-use literals::Lit;
+use literals::Term;
 use netlist::Netlist;
 ghost use Prim.Native.Nat.{_+_, _*_, _/_, _≤_};
-ghost use mathlib.Core.List.{[], _∷_, map};
+ghost use mathlib.Core.List.{[], _∷_};
 ghost use lib.ListN.{length};
 ghost use Rattle.model.specs.Gather.{gather};
 ghost use Rattle.model.specs.Clauses.{plus, bitClauses, addressBitClauses, unequalOf, allBits};
 ghost use Rattle.model.specs.Variables.{codeAt};
-ghost use Rattle.model.specs.Numbers.{numberOf, written};
+ghost use Rattle.model.specs.Numbers.{kept, written};
 ghost use Rattle.literals.specs.Lit.{HasNumber};
 ghost use Rattle.clause_variables.specs.OfPair.{ofPair, PairFits};
 ghost use Rattle.model.specs.Wrote.{Wrote};
@@ -29,8 +29,8 @@ fn put_address_bit(
     ensures { λ r. ⌜ Wrote (written (bitClauses (plus (q + 1)) (plus (q + 2 + t)) (codeAt writing (x .0)) (codeAt reading (y .0))))
         (now (out .entry)) (now (out .exit)) r × (r ≤ 16) ⌝ }
 {
-    let address_equal = Lit::in_pair(q, 1);
-    let bit_equal = Lit::in_pair(q, 2 + t);
+    let address_equal = Term::in_pair(q, 1);
+    let bit_equal = Term::in_pair(q, 2 + t);
     clause_tseitin::put_bit(
         out,
         address_equal,
@@ -64,7 +64,7 @@ pub fn put_address_bits(out: &mut [i32], net: Netlist, port: Port, j: u32, i: u3
 // ¬e of each address bit, in bit order.
 fn put_unequal_bits(out: &mut [i32], net: Netlist, port: Port, j: u32, i: u32) -> usize
     requires { ⌜ PairFits net port j i × (net .m ≤ length (now out)) ⌝ }
-    ensures { λ r. ⌜ Wrote (map numberOf (gather (net .m) (unequalOf (ofPair net port j i))))
+    ensures { λ r. ⌜ Wrote (kept (gather (net .m) (unequalOf (ofPair net port j i))))
         (now (out .entry)) (now (out .exit)) r × (r ≤ net .m) ⌝ }
 {
     let q = clause_variables::pair_base(net, port, j, i);
@@ -72,7 +72,7 @@ fn put_unequal_bits(out: &mut [i32], net: Netlist, port: Port, j: u32, i: u32) -
     let mut at: usize = 0;
     let mut t: u32 = 0;
     while t < m {
-        let bit_equal = Lit::in_pair(q, 2 + t);
+        let bit_equal = Term::in_pair(q, 2 + t);
         at = at + clause_writer::put_literal(&mut out[at..], bit_equal.negated());
         t = t + 1;
     }
@@ -85,7 +85,8 @@ pub fn put_all_bits(out: &mut [i32], net: Netlist, port: Port, j: u32, i: u32) -
     ensures { λ r. ⌜ Wrote (written (allBits (net .m) (ofPair net port j i) ∷ []))
         (now (out .entry)) (now (out .exit)) r × (r ≤ net .m + 2) ⌝ }
 {
-    let address_equal = Lit::in_pair(clause_variables::pair_base(net, port, j, i), 1);
-    let at = put_unequal_bits(out, net, port, j, i);
-    at + clause_writer::put_unit(&mut out[at..], address_equal)
+    let address_equal = Term::in_pair(clause_variables::pair_base(net, port, j, i), 1);
+    let a = put_unequal_bits(out, net, port, j, i);
+    let b = a + clause_writer::put_literal(&mut out[a..], address_equal);
+    b + clause_writer::put_end(&mut out[b..], b)
 }

@@ -1,11 +1,10 @@
 // The clause of the property (RULES G14): P is false in some frame from 0 to k.
 use netlist::Netlist;
 ghost use Prim.Native.Nat.{_+_, _≤_};
-ghost use mathlib.Core.List.{map};
 ghost use lib.ListN.{length};
 ghost use Rattle.model.specs.Gather.{gather};
 ghost use Rattle.model.specs.Groups.{violationOf};
-ghost use Rattle.model.specs.Numbers.{numberOf, numbersOf};
+ghost use Rattle.model.specs.Numbers.{kept, numbersOf};
 ghost use Rattle.model.specs.declared.Group.the-variants.{Property};
 ghost use Rattle.netlist.specs.NetOf.{alone};
 ghost use Rattle.clause_variables.specs.FrameFits.{FrameFits};
@@ -14,7 +13,7 @@ ghost use Rattle.model.specs.Wrote.{Wrote};
 // ¬P of each frame from 0 to k.
 fn put_violations(out: &mut [i32], net: Netlist, k: u32) -> usize
     requires { ⌜ FrameFits (alone net) k × (k + 1 ≤ length (now out)) ⌝ }
-    ensures { λ r. ⌜ Wrote (map numberOf (gather (k + 1) (violationOf (alone net))))
+    ensures { λ r. ⌜ Wrote (kept (gather (k + 1) (violationOf (alone net))))
         (now (out .entry)) (now (out .exit)) r × (r ≤ k + 1) ⌝ }
 {
     let numbering = clause_variables::numbering(net);
@@ -29,11 +28,15 @@ fn put_violations(out: &mut [i32], net: Netlist, k: u32) -> usize
     at
 }
 
-// The clause, with its end mark.
+// The clause, with its end mark. P is a constant in every frame or in none.
 pub fn put_property(out: &mut [i32], net: Netlist, k: u32) -> usize
     requires { ⌜ FrameFits (alone net) k × (k + 2 ≤ length (now out)) ⌝ }
     ensures { λ r. ⌜ Wrote (numbersOf (alone net) k Property) (now (out .entry)) (now (out .exit)) r × (r ≤ k + 2) ⌝ }
 {
+    let property = net.p.in_frame(clause_variables::frame_base(net, 0));
+    if property.negated().is_true() {
+        return 0;
+    }
     let a = put_violations(out, net, k);
-    a + clause_writer::put_end(&mut out[a..])
+    a + clause_writer::put_end(&mut out[a..], a)
 }

@@ -1,12 +1,13 @@
 // Wire numbers, codes and clause numbers: three types, never accepted in each other's place (RULES W6 and N1).
-// Between them only a frame converts. What compares or counts by the numbers inside stands here.
+// Between them only a frame converts; a code in a frame may also be a constant. What compares or counts by the numbers inside stands here.
 ghost use mathlib.Core.Path.{_≡_};
 ghost use Prim.Native.Nat.{_+_, _*_, _/_, _^_, _≤_, _<_};
 ghost use lib.Dec.{ltb};
 ghost use Rattle.model.specs.Bits.{bit};
 ghost use Rattle.model.specs.Clauses.{known, plus, neg};
 ghost use Rattle.model.specs.Variables.{baseOf, pairBaseOf, wireAt, codeAt};
-ghost use Rattle.literals.specs.Lit.{literalOf, IsLit, HasNumber};
+ghost use Rattle.model.specs.Numbers.{isTrue};
+ghost use Rattle.literals.specs.Lit.{literalAt, literalOf, IsLit, IsTerm, HasNumber};
 ghost use Rattle.literals.specs.Numbering.{NumberingFits};
 
 // An AIG variable, numbered from 1.
@@ -19,6 +20,13 @@ pub struct Code(pub u32);
 // The customer's "clause number" (RULES W4): a DIMACS literal, not 0 and not the least i32.
 pub struct Lit(pub i32);
 
+// What a code is in a clause (RULES G28): a constant, or a literal of a variable.
+pub enum Term {
+    True,
+    False,
+    Number(Lit),
+}
+
 // What the numbering of variables depends on: V, and how many variables a pair of frames has.
 pub struct Numbering {
     pub wires: u32,
@@ -27,12 +35,12 @@ pub struct Numbering {
 
 impl Wire {
     // The wire in a frame whose variables start after `b`.
-    pub fn in_frame(self, b: u32) -> Lit
+    pub fn in_frame(self, b: u32) -> Term
         requires { ⌜ HasNumber b (self .0) × (1 ≤ self .0) ⌝ }
         ensures literal { λ r. ⌜ literalOf r ≡ wireAt b (self .0) ⌝ }
-        ensures number { λ r. ⌜ IsLit r ⌝ }
+        ensures number { λ r. ⌜ IsTerm r ⌝ }
     {
-        Lit::variable(b, self.0)
+        Term::Number(Lit::variable(b, self.0))
     }
 
     // The wire `by` places behind this one.
@@ -52,19 +60,17 @@ impl Wire {
 }
 
 impl Code {
-    // What the code is in a frame whose variables start after `b`: a constant, or a wire's variable, inverted or not. Constants are
-    // inverted like wires, so that a compiler needs no branch.
-    pub fn in_frame(self, b: u32) -> Lit
+    // What the code is in a frame whose variables start after `b`: true, false, or a wire's variable, inverted or not.
+    pub fn in_frame(self, b: u32) -> Term
         requires { ⌜ HasNumber b (self .0 / 2) ⌝ }
         ensures literal { λ r. ⌜ literalOf r ≡ codeAt b (self .0) ⌝ }
-        ensures number { λ r. ⌜ IsLit r ⌝ }
+        ensures number { λ r. ⌜ IsTerm r ⌝ }
     {
         let x = self.0;
-        let even = Lit::even(b, x);
-        if x % 2 == 1 {
-            return even.negated();
+        if x < 2 {
+            return Term::constant(x == 1);
         }
-        even
+        Term::Number(Lit::signed(b, x))
     }
 
     // The place of the code's wire in a table of all wires, whose place 0 is the constants'.
@@ -90,64 +96,107 @@ impl Code {
 }
 
 impl Lit {
-    // What a code is in a frame without its lowest bit, which inverts.
-    fn even(b: u32, x: u32) -> Lit
-        requires { ⌜ HasNumber b (x / 2) ⌝ }
-        ensures literal { λ r. ⌜ literalOf r ≡ codeAt b (x / 2 * 2) ⌝ }
+    // What a code of a wire is in a frame: its lowest bit inverts.
+    fn signed(b: u32, x: u32) -> Lit
+        requires { ⌜ HasNumber b (x / 2) × (2 ≤ x) ⌝ }
+        ensures literal { λ r. ⌜ literalAt (r .0) ≡ codeAt b x ⌝ }
         ensures number { λ r. ⌜ IsLit r ⌝ }
     {
-        if x < 2 {
-            return Lit::constant(false);
+        let wire = Lit::variable(b, x / 2);
+        if x % 2 == 1 {
+            return wire.negated();
         }
-        Lit::variable(b, x / 2)
+        wire
     }
 
     // Variable b + w.
     fn variable(b: u32, w: u32) -> Lit
         requires { ⌜ HasNumber b w × (1 ≤ w) ⌝ }
-        ensures literal { λ r. ⌜ literalOf r ≡ plus (b + w) ⌝ }
+        ensures literal { λ r. ⌜ literalAt (r .0) ≡ plus (b + w) ⌝ }
         ensures number { λ r. ⌜ IsLit r ⌝ }
     {
         Lit((b + w) as i32)
     }
 
-    // Variable 1 is true: its two signs are the constants.
-    pub fn constant(value: bool) -> Lit
-        ensures literal { λ r. ⌜ literalOf r ≡ known value ⌝ }
+    // Number 1.
+    fn first() -> Lit
+        ensures literal { λ r. ⌜ literalAt (r .0) ≡ plus 1 ⌝ }
         ensures number { λ r. ⌜ IsLit r ⌝ }
     {
-        if value {
-            return Lit(1);
-        }
-        Lit(-1)
-    }
-
-    // Bit t of a word, as a constant.
-    pub fn bit(word: u32, t: u32) -> Lit
-        requires { ⌜ t < 32 ⌝ }
-        ensures literal { λ r. ⌜ literalOf r ≡ known (bit word t) ⌝ }
-        ensures number { λ r. ⌜ IsLit r ⌝ }
-    {
-        Lit::constant((word >> t) % 2 == 1)
-    }
-
-    // A variable of a pair whose variables start after `q`.
-    pub fn in_pair(q: u32, offset: u32) -> Lit
-        requires { ⌜ HasNumber q offset × (1 ≤ offset) ⌝ }
-        ensures literal { λ r. ⌜ literalOf r ≡ plus (q + offset) ⌝ }
-        ensures number { λ r. ⌜ IsLit r ⌝ }
-    {
-        Lit::variable(q, offset)
+        Lit(1)
     }
 
     // ¬ of the rules: the sign turns (RULES W5).
     pub fn negated(self) -> Lit
         requires { ⌜ IsLit self ⌝ }
-        ensures literal { λ r. ⌜ literalOf r ≡ neg (literalOf self) ⌝ }
+        ensures literal { λ r. ⌜ literalAt (r .0) ≡ neg (literalAt (self .0)) ⌝ }
         ensures number { λ r. ⌜ IsLit r ⌝ }
     {
         let x = self.0;
         Lit(-x)
+    }
+}
+
+impl Term {
+    // A constant.
+    fn constant(value: bool) -> Term
+        ensures literal { λ r. ⌜ literalOf r ≡ known value ⌝ }
+        ensures number { λ r. ⌜ IsTerm r ⌝ }
+    {
+        if value {
+            return Term::True;
+        }
+        Term::False
+    }
+
+    // Variable 1, which the first clause makes true (RULES V7).
+    pub fn first() -> Term
+        ensures literal { λ r. ⌜ literalOf r ≡ plus 1 ⌝ }
+        ensures number { λ r. ⌜ IsTerm r ⌝ }
+    {
+        Term::Number(Lit::first())
+    }
+
+    // A variable of a pair whose variables start after `q`.
+    pub fn in_pair(q: u32, offset: u32) -> Term
+        requires { ⌜ HasNumber q offset × (1 ≤ offset) ⌝ }
+        ensures literal { λ r. ⌜ literalOf r ≡ plus (q + offset) ⌝ }
+        ensures number { λ r. ⌜ IsTerm r ⌝ }
+    {
+        Term::Number(Lit::variable(q, offset))
+    }
+
+    // Bit t of a word, as a constant.
+    pub fn bit(word: u32, t: u32) -> Term
+        requires { ⌜ t < 32 ⌝ }
+        ensures literal { λ r. ⌜ literalOf r ≡ known (bit word t) ⌝ }
+        ensures number { λ r. ⌜ IsTerm r ⌝ }
+    {
+        Term::constant((word >> t) % 2 == 1)
+    }
+
+    // ¬ of the rules.
+    pub fn negated(self) -> Term
+        requires { ⌜ IsTerm self ⌝ }
+        ensures literal { λ r. ⌜ literalOf r ≡ neg (literalOf self) ⌝ }
+        ensures number { λ r. ⌜ IsTerm r ⌝ }
+    {
+        match self {
+            Term::True => Term::False,
+            Term::False => Term::True,
+            Term::Number(l) => Term::Number(l.negated()),
+        }
+    }
+
+    // Whether it is the constant true.
+    pub fn is_true(self) -> bool
+        ensures { λ r. ⌜ r ≡ isTrue (literalOf self) ⌝ }
+    {
+        match self {
+            Term::True => true,
+            Term::False => false,
+            Term::Number(_) => false,
+        }
     }
 }
 

@@ -1,31 +1,34 @@
--- Every literal of every group of depth k is a constant or a variable from 1 to B(k + 1): so every number written for depth k
--- is within B(k + 1) of 0, and 0 only as an end mark. No contract cites this file.
-use Prim.Native.Nat.{ℕ, zero, suc, _+_, _*_, _/_, _≤_, _<_}
-use mathlib.Core.Path.{_≡_, refl}
+-- Every literal of every group of depth k is a constant or a variable from 2 to B(k + 1), but for the first clause, (1): so every
+-- number written for depth k is within B(k + 1) of 0, and 0 only as an end mark. No contract cites this file.
+use Prim.Native.Nat.{ℕ, zero, suc, zero-le, _+_, _-_, _*_, _/_, _≤_, _<_}
+use mathlib.Core.Path.{_≡_, refl, sym, ap, subst}
 use mathlib.Core.Bool.{Bool, true, false, cond}
-use mathlib.Core.List.{List, [], _∷_}
+use mathlib.Core.List.{List, [], _∷_, _++_}
+use native.Mathlib.Numerals.{add-one}
 use native.Mathlib.Omega.{arith}
-use borrow.Author.Tests.{eqb-false}
+use borrow.Author.Tests.{eqb-false, ltb-false}
 use lib.Dec.{eqb, ltb}
-use lib.IntN.{natAbs}
+use lib.IntN.{pos, natAbs}
+use lib.ListN.{length}
 use Rattle.model.specs.Bits.{odd}
+use Rattle.model.specs.Gather.{gather, gatherDown}
 use Rattle.model.specs.Netlist.{Netlist, port, gateWire, lastWire}
 use Rattle.model.specs.Clauses.{Literal, known, plus, minus, Clause, neg, andClauses, sameClauses, sameIfClauses, bitClauses, PairLiterals, addressBitClauses, unequalOf, allBits, forwardedClauses, pairClauses, ClosingLiterals, initialReadClauses, heldClauses, heldReads, selectedOf, someSource, closingClauses}
 use Rattle.model.specs.Variables.{stride, base, pairBase, wireAt, codeAt, wireIn, codeIn, noneSince, selected, readBit, pairLiterals, closingLiterals}
 use Rattle.model.specs.Acceptance.{Accepted, IsCode}
 use Rattle.model.specs.Groups.{gateClauses, resetClauses, latchClauses, stateClauses, violationOf, clausesOf, pairOf, frameGroups, groupOrder}
-use Rattle.model.specs.Numbers.{numberOf, written, formula}
+use Rattle.model.specs.Numbers.{keptOf, kept, hasTrue, endOf, writtenClause, written, formula}
 use Rattle.model.specs.declared.Group.{Group}
 use Rattle.model.specs.declared.Group.the-variants.{Wires, Pair, Closing, Property}
-use Rattle.model.proofs.Variables.{base-suc, base-least, base-monotone, pair-within}
-use Rattle.model.proofs.Gather.{All, nothing, also, just, _⧺_, all-gather, all-gatherDown, all-map}
-use Rattle.model.proofs.Joined.{joinedClauses, formula-written}
+use Rattle.model.proofs.Variables.{base-suc, base-least, base-monotone, pair-within, pairBase-least}
+use Rattle.model.proofs.Gather.{All, nothing, also, just, _⧺_, all-gather, all-gatherDown, all-weaken}
+use Rattle.model.proofs.Joined.{joinedClauses, joinedClauses-append, formula-written}
 
--- a constant, or a variable from 1 to b
-abbrev pub Within : ℕ → Literal → Type 0
-Within b (known x) = Unit {0}
-Within b (plus v) = (1 ≤ v) × (v ≤ b)
-Within b (minus v) = (1 ≤ v) × (v ≤ b)
+-- a constant, or a variable from a to b
+abbrev pub Within : ℕ → ℕ → Literal → Type 0
+Within a b (known x) = Unit {0}
+Within a b (plus v) = (a ≤ v) × (v ≤ b)
+Within a b (minus v) = (a ≤ v) × (v ≤ b)
 
 -- a property of every literal of every clause
 abbrev pub AllLits : (Literal → Type 0) → List Clause → Type 0
@@ -106,30 +109,51 @@ unfolding joinedClauses
 joined-all f [] nothing = nothing
 joined-all f (g ∷ gs) (also h r) = h ⧺ joined-all f gs r
 
+-- the clauses of frame 0's wires, and of a depth: the first is (1), and the others have variables from 2 on
+pub record FirstOne (b : ℕ) (xs : List Clause) : Type 0 where
+  pub rest : List Clause
+  pub is : xs ≡ (plus 1 ∷ []) ∷ rest
+  pub others : AllLits (Within 2 b) rest
+
+first-one-then : {b : ℕ} {xs ys : List Clause} → FirstOne b xs → AllLits (Within 2 b) ys → FirstOne b (xs ++ ys)
+first-one-then {ys = ys} f r = record { rest = f .rest ++ ys; is = ap (λ zs. zs ++ ys) (f .is); others = f .others ⧺ r }
+
 -- a property of whichever literal a test picks
 cond-has : (P : Literal → Type 0) {l r : Literal} (t : Bool) → (t ≡ true → P l) → (t ≡ false → P r) → P (cond t l r)
 cond-has P true p q = p refl
 cond-has P false p q = q refl
 
 -- negation keeps the variable
-pub within-neg : (b : ℕ) (l : Literal) → Within b l → Within b (neg l)
+pub within-neg : (a b : ℕ) (l : Literal) → Within a b l → Within a b (neg l)
 unfolding neg
-within-neg b (known x) h = tt
-within-neg b (plus v) h = h
-within-neg b (minus v) h = h
+within-neg a b (known x) h = tt
+within-neg a b (plus v) h = h
+within-neg a b (minus v) h = h
+
+-- from 2 on is from 1 on
+within-one : (b : ℕ) (l : Literal) → Within 2 b l → Within 1 b l
+within-one b (known x) h = tt
+within-one b (plus v) h = omega arith
+within-one b (minus v) h = omega arith
+
+pub all-within-one : {b : ℕ} {xs : List Clause} → AllLits (Within 2 b) xs → AllLits (Within 1 b) xs
+all-within-one {b} = all-weaken (λ x. all-weaken (within-one b))
+
+first-one-within : {b : ℕ} {xs : List Clause} → 1 ≤ b → FirstOne b xs → AllLits (Within 1 b) xs
+first-one-within {b} h f = rw (f .is) (also (just {x = plus 1} (omega arith, h)) (all-within-one (f .others)))
 
 -- the literals of frames 0 to k
 module _ (c : Netlist) (k : ℕ) where
   -- what depth k has numbers for
   abbrev pub Bounded : Literal → Type 0
-  Bounded = Within (base c (k + 1))
+  Bounded = Within 2 (base c (k + 1))
 
   -- a variable of frame i
-  variable-within : (i v : ℕ) → i ≤ k → (1 ≤ v) × (v ≤ base c (suc i)) → Bounded (plus v)
+  variable-within : (i v : ℕ) → i ≤ k → (2 ≤ v) × (v ≤ base c (suc i)) → Bounded (plus v)
   variable-within i v h r = omega (arith, base-monotone c {i = suc i} {j = k + 1} (omega arith))
 
   -- a wire
-  pub wire-within : (i w : ℕ) → i ≤ k → w ≤ lastWire c → Bounded (wireIn c i w)
+  pub wire-within : (i w : ℕ) → i ≤ k → (1 ≤ w) × (w ≤ lastWire c) → Bounded (wireIn c i w)
   unfolding wireAt
   wire-within i w h r = variable-within i (base c i + w) h (omega (arith, base-least c i, base-suc c i))
 
@@ -137,13 +161,16 @@ module _ (c : Netlist) (k : ℕ) where
   pub code-within : (i x : ℕ) → i ≤ k → IsCode c x → Bounded (codeIn c i x)
   unfolding codeAt wireAt
   code-within i x h r =
+      cond-has Bounded (ltb x 2) (λ e. tt)
+      (λ e.
+      let least : 2 ≤ x = ltb-false x 2 e in
       let wire : Bounded (plus (base c i + x / 2)) = wire-within i (x / 2) h (omega arith) in
-      cond-has Bounded (ltb x 2) (λ e. tt) (λ e. cond-has Bounded (odd x) (λ o. wire) (λ o. wire))
+      cond-has Bounded (odd x) (λ o. wire) (λ o. wire))
 
   -- a variable of pair (j, i)
   pub pair-variable-within : (j i v : ℕ) → j < i → i ≤ k
       → (pairBase c (port c) j i < v) × (v ≤ pairBase c (port c) j i + stride c) → Bounded (plus v)
-  pair-variable-within j i v l h r = variable-within i v h (omega (arith, pair-within c j i l))
+  pair-variable-within j i v l h r = variable-within i v h (omega (arith, pairBase-least c (port c) j i, pair-within c j i l))
 
   -- PS, or RE
   pub noneSince-within : (j i : ℕ) → j ≤ i → i ≤ k → IsCode c (c .RE) → Bounded (noneSince c (port c) j i)
@@ -170,7 +197,7 @@ module _ {c : Netlist} (accepted : Accepted c) (k : ℕ) where
   unfolding gateClauses
   gate-within i g h b =
       let operand : (x : ℕ) → x < 2 * gateWire c g → IsCode c x = λ x l. omega arith in
-      and-all (within-neg _)
+      and-all (within-neg _ _)
       (wire-within c k i _ h (omega arith))
       (code-within c k i _ h (operand _ (accepted .limits .codes .left-fits g b)))
       (code-within c k i _ h (operand _ (accepted .limits .codes .right-fits g b)))
@@ -179,34 +206,45 @@ module _ {c : Netlist} (accepted : Accepted c) (k : ℕ) where
   reset-within : (l : ℕ) → l < c .latches → AllLits (Bounded c k) (resetClauses c l)
   unfolding resetClauses
   reset-within l b =
-      just (just (either-all (within-neg _) (eqb (c .reset l) 1) (wire-within c k 0 _ (omega arith) (omega arith))))
+      just (just (either-all (within-neg _ _) (eqb (c .reset l) 1) (wire-within c k 0 _ (omega arith) (omega arith))))
 
   -- a latch's in a later frame
   latch-within : (i l : ℕ) → i < k → l < c .latches → AllLits (Bounded c k) (latchClauses c i l)
   unfolding latchClauses
   latch-within i l h b =
-      same-all (within-neg _)
+      same-all (within-neg _ _)
       (wire-within c k (i + 1) _ (omega arith) (omega arith))
       (code-within c k i _ (omega arith) (accepted .limits .codes .next-fits l b))
 
-  -- all latches'
-  state-within : (i : ℕ) → i ≤ k → AllLits (Bounded c k) (stateClauses c i)
-  unfolding stateClauses
-  state-within zero h =
-      just (just (variable-within c k 0 1 h (omega (arith, base-least c 1))))
-      ⧺ all-gather (c .latches) (resetClauses c) (λ l b. reset-within l b)
-  state-within (suc i) h = all-gather (c .latches) (latchClauses c i) (λ l b. latch-within i l h b)
+  -- the gates of a frame
+  gates-within : (i : ℕ) → i ≤ k → AllLits (Bounded c k) (gather (c .gates) (gateClauses c i))
+  gates-within i h = all-gather (c .gates) (gateClauses c i) (λ g b. gate-within i g h b)
+
+  -- the wires of frame 0: the first clause, then the others
+  wires-first : FirstOne (base c (k + 1)) (clausesOf c k (Wires 0))
+  unfolding clausesOf stateClauses
+  wires-first =
+      record {
+        rest = gather (c .latches) (resetClauses c) ++ gather (c .gates) (gateClauses c 0);
+        is = refl;
+        others = all-gather (c .latches) (resetClauses c) (λ l b. reset-within l b) ⧺ gates-within 0 (omega arith);
+      }
+
+  -- those of a later frame
+  wires-later : (i : ℕ) → i < k → AllLits (Bounded c k) (clausesOf c k (Wires (suc i)))
+  unfolding clausesOf stateClauses
+  wires-later i h = all-gather (c .latches) (latchClauses c i) (λ l b. latch-within i l h b) ⧺ gates-within (suc i) h
 
   -- the wires of frame i
-  pub wires-within : (i : ℕ) → i ≤ k → AllLits (Within (base c (k + 1))) (clausesOf c k (Wires i))
-  unfolding clausesOf
-  wires-within i h = state-within i h ⧺ all-gather (c .gates) (gateClauses c i) (λ g b. gate-within i g h b)
+  pub wires-within : (i : ℕ) → i ≤ k → AllLits (Within 1 (base c (k + 1))) (clausesOf c k (Wires i))
+  wires-within zero h = first-one-within (base-least c (k + 1)) wires-first
+  wires-within (suc i) h = all-within-one (wires-later i h)
 
   -- pair (j, i)
-  pub pairs-within : (j i : ℕ) → j < i → i ≤ k → AllLits (Within (base c (k + 1))) (clausesOf c k (Pair j i))
+  pub pairs-within : (j i : ℕ) → j < i → i ≤ k → AllLits (Within 2 (base c (k + 1))) (clausesOf c k (Pair j i))
   unfolding clausesOf pairLiterals
   pairs-within j i l h =
-      pair-all (within-neg _) (c .m) (c .n) _
+      pair-all (within-neg _ _) (c .m) (c .n) _
       (record {
         E = pair-variable-within c k j i _ l h (omega arith);
         e = λ t b. pair-variable-within c k j i _ l h (omega arith);
@@ -222,10 +260,10 @@ module _ {c : Netlist} (accepted : Accepted c) (k : ℕ) where
       })
 
   -- the closing of frame i
-  pub closing-within : (i : ℕ) → i ≤ k → AllLits (Within (base c (k + 1))) (clausesOf c k (Closing i))
+  pub closing-within : (i : ℕ) → i ≤ k → AllLits (Within 2 (base c (k + 1))) (clausesOf c k (Closing i))
   unfolding clausesOf closingLiterals
   closing-within i h =
-      closing-all (within-neg _) (c .n) i _
+      closing-all (within-neg _ _) (c .n) i _
       (record {
         Z = noneSince-within c k 0 i (omega arith) h (accepted .limits .codes .RE-fits);
         RE = code-within c k i _ h (accepted .limits .codes .RE-fits);
@@ -236,43 +274,69 @@ module _ {c : Netlist} (accepted : Accepted c) (k : ℕ) where
       })
 
   -- the property
-  pub property-within : AllLits (Within (base c (k + 1))) (clausesOf c k Property)
+  pub property-within : AllLits (Within 2 (base c (k + 1))) (clausesOf c k Property)
   unfolding clausesOf violationOf
   property-within =
       let property = accepted .limits .codes .P-fits in
-      just (all-gather (k + 1) (violationOf c) (λ i h. just (within-neg _ _ (code-within c k i _ (omega arith) property))))
+      just (all-gather (k + 1) (violationOf c) (λ i h. just (within-neg _ _ _ (code-within c k i _ (omega arith) property))))
 
-  -- the groups of frame i
-  frame-within : (i : ℕ) → i ≤ k → All (λ g. AllLits (Bounded c k) (clausesOf c k g)) (frameGroups i)
-  unfolding frameGroups pairOf
-  frame-within i h =
-      just (wires-within i h)
-      ⧺ (all-gatherDown i (pairOf i) (λ j l. just (pairs-within j i l h)) ⧺ just (closing-within i h))
+  -- the pairs and the closing of frame i
+  reads-within : (i : ℕ) → i ≤ k
+      → All (λ g. AllLits (Bounded c k) (clausesOf c k g)) (gatherDown i (pairOf i) ++ Closing i ∷ [])
+  unfolding pairOf
+  reads-within i h = all-gatherDown i (pairOf i) (λ j l. just (pairs-within j i l h)) ⧺ just (closing-within i h)
 
   -- each group
-  pub groups-within : All (λ g. AllLits (Within (base c (k + 1))) (clausesOf c k g)) (groupOrder k)
+  pub groups-within : All (λ g. AllLits (Within 1 (base c (k + 1))) (clausesOf c k g)) (groupOrder k)
+  unfolding groupOrder frameGroups
+  groups-within =
+      all-gather (k + 1) frameGroups (λ i h.
+      also (wires-within i (omega arith)) (all-weaken (λ g. all-within-one) (reads-within i (omega arith))))
+      ⧺ just (all-within-one property-within)
+
+  -- all together: the first clause, then the others
+  frames-first : (i : ℕ) → i ≤ k → FirstOne (base c (k + 1)) (joinedClauses (clausesOf c k) (gather (suc i) frameGroups))
+  unfolding gather frameGroups joinedClauses
+  frames-first zero h = first-one-then wires-first (joined-all (clausesOf c k) _ (reads-within 0 h))
+  frames-first (suc i) h =
+      rw (joinedClauses-append (clausesOf c k) (gather (suc i) frameGroups) (frameGroups (suc i)))
+      (first-one-then (frames-first i (omega arith))
+      (joined-all (clausesOf c k) (frameGroups (suc i)) (also (wires-later i h) (reads-within (suc i) h))))
+
+  pub formula-first : FirstOne (base c (k + 1)) (joinedClauses (clausesOf c k) (groupOrder k))
   unfolding groupOrder
-  groups-within = all-gather (k + 1) frameGroups (λ i h. frame-within i (omega arith)) ⧺ just property-within
+  formula-first =
+      let frames : FirstOne (base c (k + 1)) (joinedClauses (clausesOf c k) (gather (k + 1) frameGroups)) = subst (λ (n : ℕ). FirstOne (base c (k + 1)) (joinedClauses (clausesOf c k) (gather n frameGroups))) (sym (add-one k)) (frames-first k (omega arith)) in
+      rw (joinedClauses-append (clausesOf c k) (gather (k + 1) frameGroups) (Property ∷ []))
+      (first-one-then frames (joined-all (clausesOf c k) (Property ∷ []) (just property-within)))
 
-  -- all together
-  pub formula-within : AllLits (Within (base c (k + 1))) (joinedClauses (clausesOf c k) (groupOrder k))
-  formula-within = joined-all (clausesOf c k) _ groups-within
+  pub formula-within : AllLits (Within 1 (base c (k + 1))) (joinedClauses (clausesOf c k) (groupOrder k))
+  formula-within = first-one-within (base-least c (k + 1)) formula-first
 
--- a literal's number is within the bound, and no end mark
-pub numberOf-within : (b : ℕ) (l : Literal) → 1 ≤ b → Within b l → (natAbs (numberOf l) ≤ b) × (1 ≤ natAbs (numberOf l))
-unfolding numberOf
-numberOf-within b (known true) h w = (h, omega arith)
-numberOf-within b (known false) h w = (h, omega arith)
-numberOf-within b (plus v) h w = (w .1, w .0)
-numberOf-within b (minus zero) h w = omega arith
-numberOf-within b (minus (suc v)) h w = (w .1, w .0)
+-- the end of a clause is within any bound
+endOf-within : (b n : ℕ) → 1 ≤ b → All (λ z. natAbs z ≤ b) (endOf n)
+unfolding endOf
+endOf-within b zero h = also h (just {x = pos 0} zero-le)
+endOf-within b (suc n) h = just {x = pos 0} zero-le
+
+-- what is kept of a clause
+kept-most : (b : ℕ) (x : Clause) → All (Within 1 b) x → All (λ z. natAbs z ≤ b) (kept x)
+unfolding kept keptOf
+kept-most b [] nothing = nothing
+kept-most b (known t ∷ x) (also h r) = kept-most b x r
+kept-most b (plus v ∷ x) (also h r) = also (h .1) (kept-most b x r)
+kept-most b (minus zero ∷ x) (also h r) = also (h .1) (kept-most b x r)
+kept-most b (minus (suc v) ∷ x) (also h r) = also (h .1) (kept-most b x r)
 
 -- every number written is within the bound
-pub written-within : (b : ℕ) (xs : List Clause) → 1 ≤ b → AllLits (Within b) xs → All (λ z. natAbs z ≤ b) (written xs)
-unfolding written
+pub written-within : (b : ℕ) (xs : List Clause) → 1 ≤ b → AllLits (Within 1 b) xs → All (λ z. natAbs z ≤ b) (written xs)
+unfolding written writtenClause
 written-within b [] h nothing = nothing
-written-within b (x ∷ xs) h (also p q) =
-    all-map numberOf (λ l w. numberOf-within b l h w .0) p ⧺ just (omega arith) ⧺ written-within b xs h q
+written-within b (x ∷ xs) h (also p q) = go (hasTrue x) ⧺ written-within b xs h q
+  where
+    go : (t : Bool) → All (λ z. natAbs z ≤ b) (cond t [] (kept x ++ endOf (length (kept x))))
+    go true = nothing
+    go false = kept-most b x p ⧺ endOf-within b (length (kept x)) h
 
 -- every number written for depth k is within B(k + 1)
 pub formula-numbers-within : {c : Netlist} → Accepted c → (k : ℕ) → All (λ z. natAbs z ≤ base c (k + 1)) (formula c k)

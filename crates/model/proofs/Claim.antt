@@ -2,24 +2,23 @@
 use Prim.Native.Nat.{ℕ, zero-le, _+_, _≤_}
 use mathlib.Core.Path.{_≡_, sym, _∙_, ap}
 use mathlib.Core.Bool.{Bool, true, false, _||_, or-false}
-use mathlib.Core.List.{List, map}
+use mathlib.Core.List.{List}
 use mathlib.Core.Logic.{_↔_, Iff·trans}
-use lib.ListN.{length, length-map}
 use Rattle.model.specs.Netlist.{Netlist}
 use Rattle.model.specs.Circuit.{Feeds, run, initial}
 use Rattle.model.specs.Acceptance.{Accepted}
 use Rattle.model.specs.Clauses.{Clause}
 use Rattle.model.specs.Variables.{base}
 use Rattle.model.specs.Groups.{clausesOf, groupOrder, stateClauses}
-use Rattle.model.specs.Numbers.{Assignment, numberOf, formula, clausesIn, numberTrue, allTrue}
+use Rattle.model.specs.Numbers.{keptOf, kept, isTrue, hasTrue, Assignment, formula, clausesIn, numberTrue, clauseTrue, allTrue}
 use Rattle.model.specs.Claim.{Satisfies, Breaks, Encodes, EncodingTheorem}
 use Rattle.model.specs.declared.Group.the-variants.{Wires}
 use Rattle.model.proofs.Booleans.{eq-iff, and-true}
 use Rattle.model.proofs.Variables.{base-least}
 use Rattle.model.proofs.Joined.{joinedClauses, formula-written, EachGroup, each-group}
 use Rattle.model.proofs.Bounds.{formula-within}
-use Rattle.model.proofs.Truth.{value, someOf, everyOf, everyOf-splits, everyOf-same, AllHold, allHold-splits}
-use Rattle.model.proofs.Numbers.{clausesIn-written, numberValue, allTrue-numbers, number-value, number-same}
+use Rattle.model.proofs.Truth.{AllHold, allHold-splits}
+use Rattle.model.proofs.Numbers.{orMinusOne, shown, ShownTrue, shownTrue-splits, clausesIn-written, shown-true, shown-same}
 use Rattle.model.proofs.AssignmentToRun.{fed-by-itself, assignment-agrees, assignment-breaks}
 use Rattle.model.proofs.Witness.{witness, witness-one}
 use Rattle.model.proofs.RunToAssignment.{run-groups, run-agrees}
@@ -29,15 +28,14 @@ module _ {c : Netlist} (ok : Accepted c) (k : ℕ) where
   abbrev all : List Clause
   all = joinedClauses (clausesOf c k) (groupOrder k)
 
-  -- the clauses in the numbers of depth k are true as their literals' numbers are
-  satisfies-numbers : (a : Assignment) → allTrue a (clausesIn (formula c k)) ≡ everyOf (numberValue a) all
-  satisfies-numbers a =
-      ap (λ zs. allTrue a (clausesIn zs)) (formula-written c k)
-      ∙ ap (allTrue a) (clausesIn-written (base c (k + 1)) all (formula-within ok k))
-      ∙ allTrue-numbers a all
+  -- the clauses in the numbers of depth k are those that are written
+  pub clausesIn-formula : clausesIn (formula c k) ≡ shown all
+  clausesIn-formula =
+      ap clausesIn (formula-written c k)
+      ∙ clausesIn-written (base c (k + 1)) all (base-least c (k + 1)) (formula-within ok k)
 
-  first-clause : (a : Assignment) → everyOf (numberValue a) (clausesOf c k (Wires 0)) ≡ true → a 1 ≡ true
-  unfolding clausesOf stateClauses everyOf someOf numberValue numberTrue numberOf
+  first-clause : (a : Assignment) → ShownTrue a (clausesOf c k (Wires 0)) → a 1 ≡ true
+  unfolding ShownTrue shown hasTrue isTrue kept keptOf orMinusOne clausesOf stateClauses allTrue clauseTrue numberTrue
   first-clause a h = sym (or-false (a 1)) ∙ and-true (a 1 || false) _ .0 h .0
 
   -- where variable 1 is true, they are true where each group holds
@@ -45,14 +43,14 @@ module _ {c : Netlist} (ok : Accepted c) (k : ℕ) where
   unfolding Satisfies
   satisfies-groups a one =
       Iff·trans
-      (eq-iff (satisfies-numbers a ∙ everyOf-same (numberValue a) (value a) _ (number-value a one (base c (k + 1))) all (formula-within ok k)))
+      (eq-iff (ap (allTrue a) clausesIn-formula ∙ shown-true a one (base c (k + 1)) all (formula-within ok k)))
       (each-group c k (AllHold a) (allHold-splits a))
 
   -- the first clause makes variable 1 true
   satisfies-one : (a : Assignment) → Satisfies c k a → a 1 ≡ true
-  unfolding Satisfies
+  unfolding Satisfies ShownTrue
   satisfies-one a h =
-      first-clause a (each-group c k (λ xs. everyOf (numberValue a) xs ≡ true) (everyOf-splits (numberValue a)) .0 (sym (satisfies-numbers a) ∙ h) .wires 0 zero-le)
+      first-clause a (each-group c k (ShownTrue a) (shownTrue-splits a) .0 (sym (ap (allTrue a) clausesIn-formula) ∙ h) .wires 0 zero-le)
 
   -- demand 3, of this netlist and depth
   encodes-depth : Encodes c k
@@ -72,16 +70,9 @@ module _ {c : Netlist} (ok : Accepted c) (k : ℕ) where
   pub satisfies-same : (a a′ : Assignment) → ((v : ℕ) → 1 ≤ v → v ≤ base c (k + 1) → a v ≡ a′ v) → Satisfies c k a → Satisfies c k a′
   unfolding Satisfies
   satisfies-same a a′ same h =
-      satisfies-numbers a′
-      ∙ sym (everyOf-same (numberValue a) (numberValue a′) _ (number-same a a′ (base c (k + 1)) (base-least c (k + 1)) same) all (formula-within ok k))
-      ∙ sym (satisfies-numbers a) ∙ h
-
-  -- the clauses in the numbers of depth k, counted
-  pub clausesIn-formula : length (clausesIn (formula c k)) ≡ length all
-  clausesIn-formula =
-      ap (λ zs. length (clausesIn zs)) (formula-written c k)
-      ∙ ap length (clausesIn-written (base c (k + 1)) all (formula-within ok k))
-      ∙ length-map all (map numberOf)
+      ap (allTrue a′) clausesIn-formula
+      ∙ sym (shown-same a a′ (base c (k + 1)) (base-least c (k + 1)) same all (formula-within ok k))
+      ∙ sym (ap (allTrue a) clausesIn-formula) ∙ h
 
 -- demand 3
 pub encodes : EncodingTheorem

@@ -1,6 +1,6 @@
 -- Laws of gather and gatherDown (specs/Gather.antt): what adds up over joined lists, and what holds all over them.
 -- No contract cites this file.
-use Prim.Native.Nat.{ℕ, zero, suc, _+_, _*_, _<_}
+use Prim.Native.Nat.{ℕ, zero, suc, _+_, _*_, _≤_, _<_}
 use mathlib.Core.Path.{_≡_, refl, sym, _∙_, ap, ap₂}
 use mathlib.Core.List.{List, [], _∷_, _++_, map}
 use mathlib.Core.Logic.{_↔_, Iff·rfl, Iff·trans, Iff·and}
@@ -54,6 +54,14 @@ module _ {A : Type 0} {count : List A → ℕ} (adds : Adds count) where
   -- in either order
   pub gatherDown-count : (n d : ℕ) (f : ℕ → List A) → ((t : ℕ) → t < n → count (f t) ≡ d) → count (gatherDown n f) ≡ n * d
   gatherDown-count n d f each = gatherDown-total n f ∙ gather-count n d f each
+
+  -- n lists of at most a count each
+  pub gather-most : (n d : ℕ) (f : ℕ → List A) → ((t : ℕ) → t < n → count (f t) ≤ d) → count (gather n f) ≤ n * d
+  unfolding gather
+  gather-most zero d f each = omega (arith, adds .of-none, zero-mul d)
+  gather-most (suc n) d f each =
+      let before : count (gather n f) ≤ n * d = gather-most n d f (λ t h. each t (omega arith)) in
+      omega (arith, adds .of-both (gather n f) (f n), suc-mul n d, each n (omega arith))
 
 -- n lists of the same length
 pub length-gather : {A : Type 0} (n d : ℕ) (f : ℕ → List A)

@@ -3,17 +3,17 @@
 use Prim.Native.Nat.{ℕ, _+_, _<_, _≤_}
 use mathlib.Core.Path.{_≡_, refl, ap₂}
 use mathlib.Core.Bool.{true}
-use mathlib.Core.List.{List, [], _∷_, _++_, map, append-assoc, append-nil}
+use mathlib.Core.List.{List, [], _∷_, _++_, append-assoc, append-nil}
 use mathlib.Core.Logic.{_↔_, Iff·rfl, Iff·trans, Iff·and}
 use native.Mathlib.Omega.{arith}
 use lib.Dec.{leb, ltb}
-use lib.IntN.{ℤ, pos}
+use lib.IntN.{ℤ}
 use borrow.Author.Tests.{le-leb, lt-ltb}
 use Rattle.model.specs.Netlist.{Netlist}
 use Rattle.model.specs.Gather.{gather}
 use Rattle.model.specs.Clauses.{Clause}
 use Rattle.model.specs.Groups.{clausesOf, pairOf, frameGroups, groupOrder, inDepth}
-use Rattle.model.specs.Numbers.{numberOf, written, numbersOf, joined, formula}
+use Rattle.model.specs.Numbers.{writtenClause, written, numbersOf, joined, formula}
 use Rattle.model.specs.declared.Group.{Group}
 use Rattle.model.specs.declared.Group.the-variants.{Wires, Pair, Closing, Property}
 use Rattle.model.proofs.Booleans.{and-true}
@@ -23,7 +23,7 @@ use Rattle.model.proofs.Gather.{Splits, splits-gather, splits-gatherDow
 pub written-append : (xs ys : List Clause) → written (xs ++ ys) ≡ written xs ++ written ys
 unfolding written
 written-append [] ys = refl
-written-append (x ∷ xs) ys = rw (written-append xs ys, append-assoc (map numberOf x ++ pos 0 ∷ []))
+written-append (x ∷ xs) ys = rw (written-append xs ys, append-assoc (writtenClause x))
 
 -- the clauses of several groups, joined
 unfoldable pub joinedClauses : (Group → List Clause) → List Group → List Clause

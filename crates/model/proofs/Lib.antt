@@ -24,6 +24,7 @@ pub mod WitnessedReads
 pub mod Witness
 pub mod RunToAssignment
 pub mod Claim
+pub mod Classes
 pub mod Stated
 pub mod Agree
 pub mod SameNumbers

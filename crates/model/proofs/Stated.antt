@@ -1,21 +1,24 @@
 -- What else is said of the clauses of a depth (`Stated` of specs/Claim.antt), proved for every accepted netlist. No contract cites
 -- this file.
 use Prim.Native.Nat.{ℕ, zero, suc, zero-le, _+_, _≤_}
-use mathlib.Core.Path.{_≡_, _∙_, ap, subst}
+use mathlib.Core.Path.{_≡_, ap, subst}
 use mathlib.Core.Bool.{true}
-use mathlib.Core.List.{map}
+use mathlib.Core.List.{[]}
+use mathlib.Core.Logic.{inr}
+use native.Mathlib.Nat.{not-suc-le-zero}
 use native.Mathlib.Numerals.{add-one}
+use native.Mathlib.Omega.{arith}
 use borrow.Author.Tests.{leb-true, ltb-true}
 use lib.Dec.{leb, ltb}
-use lib.ListN.{length, length-map}
+use lib.ListN.{length, getD}
 use Rattle.model.specs.Netlist.{Netlist, port}
 use Rattle.model.specs.Circuit.{run, initial}
 use Rattle.model.specs.Acceptance.{Accepted}
 use Rattle.model.specs.Variables.{base}
 use Rattle.model.specs.Groups.{clausesOf, inDepth}
-use Rattle.model.specs.Numbers.{numberOf, numbersOf, clausesIn}
+use Rattle.model.specs.Numbers.{numbersOf, formula, clausesIn}
 use Rattle.model.specs.Counts.{clauseCount, numberCount}
-use Rattle.model.specs.Claim.{Stated, StatedTheorem}
+use Rattle.model.specs.Claim.{NoConstant, Stated, StatedTheorem}
 use Rattle.model.specs.declared.Group.{Group}
 use Rattle.model.specs.declared.Group.the-variants.{Wires, Pair, Closing, Property}
 use Rattle.model.proofs.Booleans.{and-true}
@@ -23,12 +26,13 @@ use Rattle.model.proofs.Memory.{address-below, word-below}
 use Rattle.model.proofs.Gather.{all-getD}
 use Rattle.model.proofs.Numbering.{numbered}
 use Rattle.model.proofs.Lengths.{wires-clauses-first, wires-clauses-later, pair-clauses, closing-clauses-first, closing-clauses-later, property-clauses, wires-numbers-first, wires-numbers-later, pair-numbers, closing-numbers-first, closing-numbers-later, property-numbers}
-use Rattle.model.proofs.Bounds.{AllLits, Within, wires-within, pairs-within, closing-within, property-within, formula-numbers-within}
-use Rattle.model.proofs.Numbers.{clausesIn-written}
-use Rattle.model.proofs.Claim.{encodes, satisfies-same, unsatisfiable→safe}
+use Rattle.model.proofs.Variables.{base-least}
+use Rattle.model.proofs.Bounds.{AllLits, Within, all-within-one, wires-within, pairs-within, closing-within, property-within, formula-first, formula-numbers-within}
+use Rattle.model.proofs.Numbers.{shown, shown-length, shown-one, shown-constants, clausesIn-written}
+use Rattle.model.proofs.Claim.{clausesIn-formula, encodes, satisfies-same, unsatisfiable→safe}
 
--- the numbers of a group, as RULES G27 counts them
-group-numbers : (c : Netlist) (k : ℕ) (g : Group) → length (numbersOf c k g) ≡ numberCount c k g
+-- the numbers of a group, at most as many as RULES G31 counts
+group-numbers : (c : Netlist) (k : ℕ) (g : Group) → length (numbersOf c k g) ≤ numberCount c k g
 unfolding numberCount
 group-numbers c k (Wires zero) = wires-numbers-first c k
 group-numbers c k (Wires (suc i)) = wires-numbers-later c k i
@@ -49,21 +53,29 @@ group-clauses c k Property = property-clauses c k
 
 module _ {c : Netlist} (ok : Accepted c) (k : ℕ) where
   -- no literal of a group that there is goes beyond the depth's variables
-  group-within : (g : Group) → inDepth k g ≡ true → AllLits (Within (base c (k + 1))) (clausesOf c k g)
+  group-within : (g : Group) → inDepth k g ≡ true → AllLits (Within 1 (base c (k + 1))) (clausesOf c k g)
   unfolding inDepth
   group-within (Wires i) h = wires-within ok k i (leb-true i k h)
   group-within (Pair j i) h =
       let both = and-true (leb i k) (ltb j i) .0 h in
-      pairs-within ok k j i (ltb-true j i (both .1)) (leb-true i k (both .0))
-  group-within (Closing i) h = closing-within ok k i (leb-true i k h)
-  group-within Property h = property-within ok k
+      all-within-one (pairs-within ok k j i (ltb-true j i (both .1)) (leb-true i k (both .0)))
+  group-within (Closing i) h = all-within-one (closing-within ok k i (leb-true i k h))
+  group-within Property h = all-within-one (property-within ok k)
 
-  -- so its numbers split into its clauses
-  clauses-in-group : (g : Group) → inDepth k g ≡ true → length (clausesIn (numbersOf c k g)) ≡ clauseCount c k g
+  -- so its numbers split into those of its clauses that are written
+  clauses-in-group : (g : Group) → inDepth k g ≡ true → length (clausesIn (numbersOf c k g)) ≤ clauseCount c k g
   unfolding numbersOf
   clauses-in-group g h =
-      ap length (clausesIn-written (base c (k + 1)) (clausesOf c k g) (group-within g h))
-      ∙ length-map (clausesOf c k g) (map numberOf) ∙ group-clauses c k g
+      rw (clausesIn-written (base c (k + 1)) (clausesOf c k g) (base-least c (k + 1)) (group-within g h))
+      (omega (arith, shown-length (clausesOf c k g), group-clauses c k g))
+
+  -- behind the first clause there is no constant
+  no-constant : (x : ℕ) → 1 ≤ x → NoConstant (getD (clausesIn (formula c k)) x [])
+  no-constant zero h = absurd (not-suc-le-zero h)
+  no-constant (suc x) h =
+      let first = formula-first ok k in
+      rw (clausesIn-formula ok k, ap shown (first .is), shown-one (first .rest))
+      (all-getD (shown-constants (base c (k + 1)) (first .rest) (first .others)) (inr (λ y l. absurd (not-suc-le-zero l))) x)
 
   stated-depth : Stated c k
   stated-depth =
@@ -74,6 +86,7 @@ module _ {c : Netlist} (ok : Accepted c) (k : ℕ) where
         unsatisfiable→safe = unsatisfiable→safe (encodes c ok k);
         clauses-counted = clauses-in-group;
         numbers-counted = group-numbers c k;
+        no-constants = no-constant;
         addresses-within = λ idle f i. address-below c (port c) (run c (initial c idle) f i);
         words-within = word-below c ok;
       }

@@ -68,3 +68,8 @@ noneSince-last c p i = rw (eq-eqb i i refl)
 pub noneSince-earlier : (c : Netlist) (p : Port) (j i : ℕ) → j < i → noneSince c p j i ≡ plus (pairBase c p j i + c .m + 3)
 unfolding noneSince
 noneSince-earlier c p j i h = rw (ne-eqb j i (λ e. omega arith))
+
+-- the variables of a pair come behind variable 1
+pub pairBase-least : (c : Netlist) (p : Port) (j i : ℕ) → 1 ≤ pairBase c p j i
+unfolding pairBase pairBaseOf base
+pairBase-least c p j i = omega (arith, base-least c i)

@@ -11,7 +11,9 @@
 use Prim.Native.Nat.{ℕ, _+_, _^_, _≤_, _<_}
 use mathlib.Core.Path.{_≡_}
 use mathlib.Core.Bool.{Bool, true, false}
-use lib.IntN.{natAbs, pos}
+use mathlib.Core.List.{List, [], _∷_}
+use mathlib.Core.Logic.{_⊎_}
+use lib.IntN.{ℤ, pos, negsuc, natAbs}
 use lib.ListN.{length, getD}
 use Rattle.model.specs.Netlist.{Netlist, port, inputWire, readWire, lastWire}
 use Rattle.model.specs.Circuit.{State, Feeds, codeValue, addressOf, stateAt, run, initial}
@@ -52,17 +54,22 @@ pub record Encodes (c : Netlist) (k : ℕ) : Type 0 where
 abbrev pub EncodingTheorem : Type 0
 EncodingTheorem = (c : Netlist) → Accepted c → (k : ℕ) → Encodes c k
 
+-- no number of a clause is 1 or -1, but that it may be the single -1 (RULES G28 and G29)
+abbrev pub NoConstant : List ℤ → Type 0
+NoConstant zs = (zs ≡ negsuc 0 ∷ []) ⊎ ((y : ℕ) → y < length zs → 2 ≤ natAbs (getD zs y (pos 0)))
+
 -- What else is said of the clauses of a depth. An assignment is of the variables from 1 to B(k + 1) (RULES A3): no other matters, each of
 -- them is numbered, and every number written is one of them or an end mark. Where no assignment satisfies the clauses, no run breaks
--- the property: this is what a designer relies on. A group has as many clauses and numbers as RULES G26 and G27 count. A run's
+-- the property: this is what a designer relies on. A group has at most as many clauses and numbers as RULES G30 and G31 count. A run's
 -- memory is 2^m words of n bits (RULES C1): no frame has another address, and no word is longer.
 pub record Stated (c : Netlist) (k : ℕ) : Type 0 where
   pub only-numbered : (a a′ : Assignment) → ((v : ℕ) → 1 ≤ v → v ≤ base c (k + 1) → a v ≡ a′ v) → Satisfies c k a → Satisfies c k a′
   pub all-numbered : (v : ℕ) → 1 ≤ v → v ≤ base c (k + 1) → Numbered c k v
   pub numbers-within : (x : ℕ) → natAbs (getD (formula c k) x (pos 0)) ≤ base c (k + 1)
   pub unsatisfiable→safe : ((a : Assignment) → Satisfies c k a → ⊥) → (idle : ℕ → Bool) (f : Feeds) → Breaks c (initial c idle) k f → ⊥
-  pub clauses-counted : (g : Group) → inDepth k g ≡ true → length (clausesIn (numbersOf c k g)) ≡ clauseCount c k g
-  pub numbers-counted : (g : Group) → length (numbersOf c k g) ≡ numberCount c k g
+  pub clauses-counted : (g : Group) → inDepth k g ≡ true → length (clausesIn (numbersOf c k g)) ≤ clauseCount c k g
+  pub numbers-counted : (g : Group) → length (numbersOf c k g) ≤ numberCount c k g
+  pub no-constants : (x : ℕ) → 1 ≤ x → NoConstant (getD (clausesIn (formula c k)) x [])
   pub addresses-within : (idle : ℕ → Bool) (f : Feeds) (i : ℕ) → addressOf c (port c) (run c (initial c idle) f i) < 2 ^ c .m
   pub words-within : (idle : ℕ → Bool) (f : Feeds) (i x : ℕ) → stateAt c (initial c idle) f i .memory x < 2 ^ c .n
 

@@ -1,25 +1,48 @@
--- Clauses as DIMACS numbers (RULES W4 and V1, each clause ended by 0: G17), and back; what an assignment makes true
+-- Clauses as DIMACS numbers (RULES W4, G28 and G29, each clause ended by 0: G17), and back; what an assignment makes true
 -- (RULES A2 to A4). Cited by every group call and by the claim.
 use Prim.Native.Nat.{ℕ, zero, suc}
-use mathlib.Core.Bool.{Bool, true, false, not, _&&_, _||_}
-use mathlib.Core.List.{List, [], _∷_, _++_, map}
+use mathlib.Core.Bool.{Bool, true, false, cond, not, _&&_, _||_}
+use mathlib.Core.List.{List, [], _∷_, _++_}
 use lib.IntN.{ℤ, pos, negsuc, negℤ}
+use lib.ListN.{length}
 use Rattle.model.specs.Netlist.{Netlist}
 use Rattle.model.specs.Clauses.{Literal, known, plus, minus, Clause}
 use Rattle.model.specs.Groups.{clausesOf, groupOrder}
 use Rattle.model.specs.declared.Group.{Group}
 
--- variable 1 is true: constants become 1 and -1 (RULES V1)
-unfoldable pub numberOf : Literal → ℤ
-numberOf (known true) = pos 1
-numberOf (known false) = negℤ (pos 1)
-numberOf (plus v) = pos v
-numberOf (minus v) = negℤ (pos v)
+-- what is written of a literal: the number of a variable, negative where it is negated; of a constant nothing
+unfoldable pub keptOf : Literal → List ℤ
+keptOf (known b) = []
+keptOf (plus v) = pos v ∷ []
+keptOf (minus v) = negℤ (pos v) ∷ []
 
--- clauses as they are written, each with its end mark (RULES G16 and G17)
+-- what is written of a clause's literals
+unfoldable pub kept : Clause → List ℤ
+kept [] = []
+kept (l ∷ x) = keptOf l ++ kept x
+
+-- whether one of a clause's literals is the constant true
+unfoldable pub isTrue : Literal → Bool
+isTrue (known b) = b
+isTrue (plus v) = false
+isTrue (minus v) = false
+
+unfoldable pub hasTrue : Clause → Bool
+hasTrue [] = false
+hasTrue (l ∷ x) = isTrue l || hasTrue x
+
+-- the end of a clause of which so many numbers are written: of one that is left empty, the single -1 stands before the end mark
+unfoldable pub endOf : ℕ → List ℤ
+endOf zero = negsuc 0 ∷ pos 0 ∷ []
+endOf (suc n) = pos 0 ∷ []
+
+-- a clause as it is written: not at all where it has a true literal, else without its false ones
+unfoldable pub writtenClause : Clause → List ℤ
+writtenClause x = cond (hasTrue x) [] (kept x ++ endOf (length (kept x)))
+
 unfoldable pub written : List Clause → List ℤ
 written [] = []
-written (x ∷ xs) = map numberOf x ++ pos 0 ∷ [] ++ written xs
+written (x ∷ xs) = writtenClause x ++ written xs
 
 unfoldable pub numbersOf : Netlist → ℕ → Group → List ℤ
 numbersOf c k g = written (clausesOf c k g)

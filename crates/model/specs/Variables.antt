@@ -1,4 +1,4 @@
--- The numbering of variables (RULES V1 to V6), and the literals that it gives. Cited by `Groups`, by the
+-- The numbering of variables (RULES V2 to V7), and the literals that it gives. Cited by `Groups`, by the
 -- claim, and by what makes a literal.
 use Prim.Native.Nat.{ℕ, _+_, _-_, _*_, _/_, _≤_, _<_}
 use mathlib.Core.Path.{_≡_}
@@ -26,7 +26,7 @@ pairBaseOf wires stride first j i = baseOf wires stride i + wires + j * stride +
 unfoldable pub pairBase : Netlist → Port → ℕ → ℕ → ℕ
 pairBase c p j i = pairBaseOf (lastWire c) (stride c) (p .firstVariable) j i
 
--- a wire, and a code, in a frame whose variables start after b. Codes 0 and 1 are constants (RULES V1 and V3)
+-- a wire, and a code, in a frame whose variables start after b. Codes 0 and 1 are constants (RULES V7 and V3)
 unfoldable pub wireAt : ℕ → ℕ → Literal
 wireAt b w = plus (b + w)
 

@@ -5,7 +5,7 @@ use mathlib.Core.Bool.{true}
 use mathlib.Core.List.{List, [], _∷_, _++_, append-assoc, append-nil}
 use lib.IntN.{ℤ}
 use lib.ListN.{length, take, drop, length-append, take-append-drop}
-use lib.Seq.{take-append-seam, take-at, drop-at}
+use lib.Seq.{take-at, drop-at}
 use native.Mathlib.Omega.{arith}
 use borrow.Author.Tests.{le-leb, lt-leb}
 use borrow.Rule.Slice.PartMut.{midOf, putMid}
@@ -24,10 +24,6 @@ use Rattle.dimacs.specs.Text.{clauseText}
 use Rattle.dimacs.proofs.Text.{clauseText-append}
 use Rattle.program_output.specs.declared.Piece.{Piece}
 use Rattle.program_output.specs.Pieces.{OrderHas, fitting, inPiece, pieceText, pieceOf, Printed, Continues}
-
--- what a writer wrote stands in front
-pub wrote-front : {A : Type 0} {xs old new : List A} {r : ℕ} → Wrote xs old new r → take r new ≡ xs
-wrote-front {A} {xs} {old} {new} {r} w = rw (w .counted, w .leaves) (take-append-seam xs (drop (length xs) old))
 
 -- a group that stands in the order of the whole is a group of the depth
 pub orderHas-inDepth : (k : ℕ) (g : Group) → OrderHas k g → inDepth k g ≡ true

@@ -41,7 +41,7 @@ pub fn print_header(
     ensures { λ r. ⌜ Wrote (formulaHeader (netOf net (now (latches .entry)) (now (gates .entry))) depth) (now (text .entry)) (now (text .exit)) r × (r ≤ 28) ⌝ }
 {
     let variables = clause_variables::frame_base(net, depth + 1);
-    let clauses = group_order::lengths::clause_count(net, latches, gates, depth);
+    let clauses = group_counts::clause_count(net, latches, gates, depth);
     print_counts(text, variables, clauses)
 }
 

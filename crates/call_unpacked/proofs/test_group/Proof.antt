@@ -3,12 +3,13 @@ use mathlib.Core.Path.{_≡_, sym, _∙_}
 use native.Mathlib.Omega.{arith}
 use borrow.Author.Tests.{not-true, not-false}
 use mathlib.Core.List.{[]}
+use Rattle.refusals.specs.Tests.{_then_}
 use Rattle.refusals.specs.declared.Verdict.the-variants.{Passed}
 use Rattle.netlist.specs.NetOf.{netOf}
 use Rattle.netlist_tests.specs.Record.{recordVerdict}
 use Rattle.netlist.proofs.NetOf.{sizes-lists, base-lists}
 use Rattle.netlist_tests.proofs.Acceptance.{passes-accepted}
-use Rattle.call_unpacked.proofs.Calls.{group-record, group-depth, group-absent, group-no-room, group-passed, variables-fit}
+use Rattle.call_unpacked.proofs.Calls.{group-record, group-depth, group-absent, group-room, variables-fit}
 use borrow.Author.Needs.{needs}
 use Rattle.call_unpacked.proofs.test_group.Statement.{statement}
 use Rattle.call_unpacked.proofs.test_group.Tie as tie
@@ -25,24 +26,27 @@ enum-told : tie.Need-enum-told
 enum-told c = search needs
 
 returns : tie.Need-returns
+unfolding _then_
 returns c =
     let refused = c .enum-told .given .1 in
-    refused ∙ sym (group-record _ _ _ _ _ _ (sym (c .before .before .test-record .ensures) ∙ refused))
+    λ room. rw refused (group-record _ _ _ _ _ room (sym (c .before .before .test-record .ensures) ∙ refused))
 
 enum-told-2 : tie.Need-enum-told-2
 enum-told-2 c = search needs
 
 returns-2 : tie.Need-returns-2
-returns-2 c =
-    sym (group-depth _ _ _ _ _ _ (passed (c .before)) (c .if1 .taken))
+unfolding _then_
+returns-2 c = λ room. group-depth _ _ _ _ _ room (passed (c .before)) (c .if1 .taken)
 
 is-in-depth-requires : tie.Need-is-in-depth-requires
 is-in-depth-requires c κs = search needs
 
 returns-3 : tie.Need-returns-3
+unfolding _then_
 returns-3 c =
-    sym (group-absent _ _ _ _ _ _ (passed (c .before .before .before)) (c .before .before .if1 .left)
-    (sym (c .before .is-in-depth .ensures) ∙ not-true _ (c .if2 .taken)))
+    λ room.
+    group-absent _ _ _ _ _ room (passed (c .before .before .before)) (c .before .before .if1 .left)
+    (sym (c .before .is-in-depth .ensures) ∙ not-true _ (c .if2 .taken))
 
 add-frame-base : tie.Need-add-frame-base
 add-frame-base c = search needs
@@ -57,29 +61,12 @@ returns-4 c =
     (variables-fit _ _ _ (passes-accepted _ _ _ .0 (passed (c .before .before .before .before .before)) .0) (c .before .before .before .before .if1 .left)
     (c .before .frame-base .ensures ∙ base-lists _ _ _ _) (c .if3 .taken))
 
-group-length-requires : tie.Need-group-length-requires
-group-length-requires c κs = (
-  passes-accepted _ _ _ .0 (passed (c .before .before .before .before .before)) .0,
-  c .before .before .before .before .if1 .left,
-  sym (c .before .before .before .is-in-depth .ensures) ∙ not-false _ (c .before .before .if2 .left),
-)
-
-cast-if4 : tie.Need-cast-if4
-cast-if4 c = search needs
-
 returns-5 : tie.Need-returns-5
+unfolding _then_
 returns-5 c =
-    sym
-    (group-no-room _ _ _ _ _ _ (passed (c .before .before .before .before .before .before .before)) (c .before .before .before .before .before .before .if1 .left)
-    (sym (c .before .before .before .before .before .is-in-depth .ensures) ∙ not-false _ (c .before .before .before .before .if2 .left))
-    (omega (arith, c .if4 .taken, c .before .group-length .ensures)))
-
-returns-6 : tie.Need-returns-6
-returns-6 c =
-    sym
-    (group-passed _ _ _ _ _ _ (passed (c .before .before .before .before .before .before .before)) (c .before .before .before .before .before .before .if1 .left)
-    (sym (c .before .before .before .before .before .is-in-depth .ensures) ∙ not-false _ (c .before .before .before .before .if2 .left))
-    (omega (arith, c .if4 .left, c .before .group-length .ensures)))
+    λ room.
+    group-room _ _ _ _ _ room (passed (c .before .before .before .before .before)) (c .before .before .before .before .if1 .left)
+    (sym (c .before .before .before .is-in-depth .ensures) ∙ not-false _ (c .before .before .if2 .left))
 
 pub test-group-spec : {M : Type 1} → statement M
 test-group-spec =
@@ -95,7 +82,4 @@ test-group-spec =
     add-frame-base
     frame-base-requires
     returns-4
-    group-length-requires
-    cast-if4
-    returns-5
-    returns-6)
+    returns-5)

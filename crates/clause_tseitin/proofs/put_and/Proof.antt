@@ -1,8 +1,7 @@
 -- `clause_tseitin::put_and` meets its contract: two clauses, then the third.
 use borrow.Author.Needs.{needs}
 use Rattle.model.specs.Clauses.{andClauses}
-use Rattle.model.specs.Numbers.{written}
-use Rattle.clause_writer.proofs.Wrote.{wrote-then}
+use Rattle.clause_writer.proofs.Wrote.{wrote-clauses}
 use Rattle.clause_tseitin.proofs.put_and.Statement.{statement}
 use Rattle.clause_tseitin.proofs.put_and.Tie as tie
 
@@ -40,10 +39,10 @@ same-length : tie.Need-same-length
 same-length c = search needs
 
 returns : tie.Need-returns
-unfolding written andClauses
+unfolding andClauses
 returns c = (
   simp (c .before .before .before .before .before .before .before .before .negated .ensures .0, c .before .before .before .negated2 .ensures .0, c .before .before .negated3 .ensures .0)
-      at (wrote-then (c .before .before .before .before .before .before .put-two-binary .ensures .0) (c .before .put-ternary .ensures .0)),
+      at (wrote-clauses _ _ (c .before .before .before .before .before .before .put-two-binary .ensures .0) (c .before .put-ternary .ensures .0)),
   search needs,
 )
 

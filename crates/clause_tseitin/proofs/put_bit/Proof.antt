@@ -1,9 +1,8 @@
 -- `clause_tseitin::put_bit` meets its contract: twice two clauses that begin alike.
 use borrow.Author.Needs.{needs}
 use Rattle.model.specs.Clauses.{bitClauses}
-use Rattle.model.specs.Numbers.{written}
 use Rattle.clause_tseitin.specs.BothClauses.{bothClauses}
-use Rattle.clause_writer.proofs.Wrote.{wrote-then}
+use Rattle.clause_writer.proofs.Wrote.{wrote-clauses}
 use Rattle.clause_tseitin.proofs.put_bit.Statement.{statement}
 use Rattle.clause_tseitin.proofs.put_bit.Tie as tie
 
@@ -41,10 +40,10 @@ same-length : tie.Need-same-length
 same-length c = search needs
 
 returns : tie.Need-returns
-unfolding written bitClauses bothClauses
+unfolding bitClauses bothClauses
 returns c = (
   simp (c .before .before .before .before .before .before .before .before .negated .ensures .0, c .before .before .before .before .before .before .before .negated2 .ensures .0, c .before .before .before .before .before .negated3 .ensures .0)
-      at (wrote-then (c .before .before .before .before .put-two-ternary .ensures .0) (c .before .put-two-ternary2 .ensures .0)),
+      at (wrote-clauses _ _ (c .before .before .before .before .put-two-ternary .ensures .0) (c .before .put-two-ternary2 .ensures .0)),
   search needs,
 )
 

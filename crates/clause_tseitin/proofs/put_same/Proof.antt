@@ -1,7 +1,6 @@
 -- `clause_tseitin::put_same` meets its contract: two clauses.
 use borrow.Author.Needs.{needs}
 use Rattle.model.specs.Clauses.{sameClauses}
-use Rattle.model.specs.Numbers.{written}
 use Rattle.clause_tseitin.proofs.put_same.Statement.{statement}
 use Rattle.clause_tseitin.proofs.put_same.Tie as tie
 
@@ -18,7 +17,7 @@ same-length : tie.Need-same-length
 same-length c = search needs
 
 returns : tie.Need-returns
-unfolding written sameClauses
+unfolding sameClauses
 returns c =
     simp (c .before .before .before .negated .ensures .0, c .before .before .negated2 .ensures .0)
     at (c .before .put-two-binary .ensures)

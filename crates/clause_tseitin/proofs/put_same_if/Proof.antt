@@ -1,7 +1,6 @@
 -- `clause_tseitin::put_same_if` meets its contract: two clauses that begin alike.
 use borrow.Author.Needs.{needs}
 use Rattle.model.specs.Clauses.{sameIfClauses}
-use Rattle.model.specs.Numbers.{written}
 use Rattle.clause_tseitin.specs.BothClauses.{bothClauses}
 use Rattle.clause_tseitin.proofs.put_same_if.Statement.{statement}
 use Rattle.clause_tseitin.proofs.put_same_if.Tie as tie
@@ -22,7 +21,7 @@ same-length : tie.Need-same-length
 same-length c = search needs
 
 returns : tie.Need-returns
-unfolding written sameIfClauses bothClauses
+unfolding sameIfClauses bothClauses
 returns c =
     simp (c .before .before .before .before .negated .ensures .0, c .before .before .before .negated2 .ensures .0, c .before .before .negated3 .ensures .0)
     at (c .before .put-two-ternary .ensures)

@@ -1,7 +1,6 @@
 -- `clause_tseitin::put_two_binary` meets its contract: two clauses, one after the other.
 use borrow.Author.Needs.{needs}
-use Rattle.model.specs.Numbers.{written}
-use Rattle.clause_writer.proofs.Wrote.{wrote-then}
+use Rattle.clause_writer.proofs.Wrote.{wrote-clauses}
 use Rattle.clause_tseitin.proofs.put_two_binary.Statement.{statement}
 use Rattle.clause_tseitin.proofs.put_two_binary.Tie as tie
 
@@ -30,8 +29,7 @@ same-length : tie.Need-same-length
 same-length c = search needs
 
 returns : tie.Need-returns
-unfolding written
-returns c = (wrote-then (c .before .before .before .before .put-binary .ensures .0) (c .before .put-binary2 .ensures .0), search needs)
+returns c = (wrote-clauses _ _ (c .before .before .before .before .put-binary .ensures .0) (c .before .put-binary2 .ensures .0), search needs)
 
 pub put-two-binary-spec : {M : Type 1} → statement M
 put-two-binary-spec =

@@ -1,8 +1,7 @@
 -- `clause_tseitin::put_two_ternary` meets its contract: two clauses, one after the other.
 use borrow.Author.Needs.{needs}
-use Rattle.model.specs.Numbers.{written}
 use Rattle.clause_tseitin.specs.BothClauses.{bothClauses}
-use Rattle.clause_writer.proofs.Wrote.{wrote-then}
+use Rattle.clause_writer.proofs.Wrote.{wrote-clauses}
 use Rattle.clause_tseitin.proofs.put_two_ternary.Statement.{statement}
 use Rattle.clause_tseitin.proofs.put_two_ternary.Tie as tie
 
@@ -31,8 +30,8 @@ same-length : tie.Need-same-length
 same-length c = search needs
 
 returns : tie.Need-returns
-unfolding written bothClauses
-returns c = (wrote-then (c .before .before .before .before .put-ternary .ensures .0) (c .before .put-ternary2 .ensures .0), search needs)
+unfolding bothClauses
+returns c = (wrote-clauses _ _ (c .before .before .before .before .put-ternary .ensures .0) (c .before .put-ternary2 .ensures .0), search needs)
 
 pub put-two-ternary-spec : {M : Type 1} → statement M
 put-two-ternary-spec =

@@ -1,27 +1,57 @@
--- `clause_writer::put_binary` meets its contract: the first literal, then the others.
+-- `clause_writer::put_binary` meets its contract: left out where a literal is true, else its literals and the end.
+use mathlib.Core.List.{[], _∷_}
+use native.Mathlib.Omega.{arith}
+use Rattle.literals.specs.Lit.{literalOf}
+use Rattle.clause_writer.proofs.Wrote.{wrote-then, clause-ended, clause-left-out, end-most, hasTrue-two, kept-two}
 use borrow.Author.Needs.{needs}
-use Rattle.model.specs.Numbers.{written}
-use Rattle.clause_writer.proofs.Wrote.{wrote-then}
 use Rattle.clause_writer.proofs.put_binary.Statement.{statement}
 use Rattle.clause_writer.proofs.put_binary.Tie as tie
+
+is-true-requires : tie.Need-is-true-requires
+is-true-requires c κs = search needs
+
+is-true-requires-2 : tie.Need-is-true-requires-2
+is-true-requires-2 c κs = search needs
+
+returns : tie.Need-returns
+returns c =
+    (clause-left-out _ _ (rw (hasTrue-two _ _) (rw (c .before .before .is-true .ensures, c .before .is-true2 .ensures) at (c .if1 .taken))), search needs)
 
 put-literal-requires : tie.Need-put-literal-requires
 put-literal-requires c κs = search needs
 
-mul-put-unit : tie.Need-mul-put-unit
-mul-put-unit c = search needs
+mul-put-literal : tie.Need-mul-put-literal
+mul-put-literal c = search needs
 
-sub-put-unit : tie.Need-sub-put-unit
-sub-put-unit c = search needs
+sub-put-literal : tie.Need-sub-put-literal
+sub-put-literal c = search needs
 
-part-put-unit-start : tie.Need-part-put-unit-start
-part-put-unit-start c = search needs
+part-put-literal-start : tie.Need-part-put-literal-start
+part-put-literal-start c = search needs
 
-part-put-unit-end : tie.Need-part-put-unit-end
-part-put-unit-end c = search needs
+part-put-literal-end : tie.Need-part-put-literal-end
+part-put-literal-end c = search needs
 
-put-unit-requires : tie.Need-put-unit-requires
-put-unit-requires c κs = search needs
+put-literal-requires-2 : tie.Need-put-literal-requires-2
+put-literal-requires-2 c κs = search needs
+
+add-j : tie.Need-add-j
+add-j c = search needs
+
+mul-put-end : tie.Need-mul-put-end
+mul-put-end c = search needs
+
+sub-put-end : tie.Need-sub-put-end
+sub-put-end c = search needs
+
+part-put-end-start : tie.Need-part-put-end-start
+part-put-end-start c = search needs
+
+part-put-end-end : tie.Need-part-put-end-end
+part-put-end-end c = search needs
+
+put-end-requires : tie.Need-put-end-requires
+put-end-requires c κs = search needs
 
 add-result : tie.Need-add-result
 add-result c = search needs
@@ -29,20 +59,38 @@ add-result c = search needs
 same-length : tie.Need-same-length
 same-length c = search needs
 
-returns : tie.Need-returns
-unfolding written
-returns c = (wrote-then (c .before .before .before .before .put-literal .ensures .0) (c .before .put-unit .ensures .0), search needs)
+returns-2 : tie.Need-returns-2
+returns-2 c =
+    let a = literalOf (c .before .before .before .before .before .before .before .before .before .before .before .before .args .a) in
+    let b = literalOf (c .before .before .before .before .before .before .before .before .before .before .before .before .args .b) in
+    let first = c .before .before .before .before .before .before .before .put-literal .ensures in
+    let second = c .before .before .before .before .put-literal2 .ensures in
+    let end = c .before .put-end .ensures .0 in (
+      clause-ended (a ∷ b ∷ [])
+          (rw (hasTrue-two a b) (rw (c .before .before .before .before .before .before .before .before .before .before .before .is-true .ensures, c .before .before .before .before .before .before .before .before .before .before .is-true2 .ensures) at (c .before .before .before .before .before .before .before .before .before .if1 .left)))
+          (rw (kept-two a b) (wrote-then (first .0) (second .0))) end,
+      end-most {most = 2} end (omega (arith, first .1, second .1)) (omega arith),
+    )
 
 pub put-binary-spec : {M : Type 1} → statement M
 put-binary-spec =
     tie.close
     (tie.spec
+    is-true-requires
+    is-true-requires-2
+    returns
     put-literal-requires
-    mul-put-unit
-    sub-put-unit
-    part-put-unit-start
-    part-put-unit-end
-    put-unit-requires
+    mul-put-literal
+    sub-put-literal
+    part-put-literal-start
+    part-put-literal-end
+    put-literal-requires-2
+    add-j
+    mul-put-end
+    sub-put-end
+    part-put-end-start
+    part-put-end-end
+    put-end-requires
     add-result
     same-length
-    returns)
+    returns-2)

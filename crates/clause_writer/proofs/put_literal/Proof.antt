@@ -1,23 +1,47 @@
--- `clause_writer::put_literal` meets its contract.
+-- `clause_writer::put_literal` meets its contract: a constant is not written.
+use Rattle.model.specs.Numbers.{keptOf}
+use Rattle.literals.specs.Lit.{literalOf}
+use Rattle.model.proofs.Wrote.{wrote-nothing}
 use borrow.Author.Needs.{needs}
-use mir.Syntax.{w32}
-use mir.ValLaws.{toZ-ofZ}
-use Rattle.literals.proofs.Literal.{numberOf-literalOf, fits}
-use Rattle.model.proofs.Wrote.{wrote-one}
 use Rattle.clause_writer.proofs.put_literal.Statement.{statement}
 use Rattle.clause_writer.proofs.put_literal.Tie as tie
 
-slice-set-from-x : tie.Need-slice-set-from-x
-slice-set-from-x c = search needs
+enum-told : tie.Need-enum-told
+enum-told c = search needs
+
+enum-told-2 : tie.Need-enum-told-2
+enum-told-2 c = search needs
+
+enum-known-a : tie.Need-enum-known-a
+enum-known-a c = search needs
+
+put-number-requires : tie.Need-put-number-requires
+put-number-requires c κs = (rw (c .before .before .a .given .1) at (c .before .before .before .before .pre .0), search needs)
+
+returns : tie.Need-returns
+unfolding literalOf keptOf
+returns c = rw (c .enum-told .given .1) (wrote-nothing _, search needs)
+
+returns-2 : tie.Need-returns-2
+unfolding literalOf keptOf
+returns-2 c = rw (c .enum-told2 .given .1) (wrote-nothing _, search needs)
 
 same-length : tie.Need-same-length
 same-length c = search needs
 
-returns : tie.Need-returns
-returns c =
-    let a = c .before .args .a in
-    rw (toZ-ofZ w32 (a .0) (fits (a .0) (c .before .pre .0 .bounded)), numberOf-literalOf a (c .before .pre .0))
-    (wrote-one (a .0) _ (c .before .pre .1), search needs)
+returns-3 : tie.Need-returns-3
+unfolding literalOf
+returns-3 c = rw (c .before .before .before .before .a .given .1) (c .before .put-number .ensures)
 
 pub put-literal-spec : {M : Type 1} → statement M
-put-literal-spec = tie.close (tie.spec slice-set-from-x same-length returns)
+put-literal-spec =
+    tie.close
+    (tie.spec
+    enum-told
+    enum-told-2
+    enum-known-a
+    put-number-requires
+    returns
+    returns-2
+    same-length
+    returns-3)

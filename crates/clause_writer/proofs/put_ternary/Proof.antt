@@ -1,27 +1,78 @@
--- `clause_writer::put_ternary` meets its contract: the first literal, then the others.
+-- `clause_writer::put_ternary` meets its contract: left out where a literal is true, else its literals and the end.
+use mathlib.Core.List.{[], _∷_}
+use native.Mathlib.Omega.{arith}
+use Rattle.literals.specs.Lit.{literalOf}
+use Rattle.clause_writer.proofs.Wrote.{wrote-then, clause-ended, clause-left-out, end-most, hasTrue-three, kept-three}
 use borrow.Author.Needs.{needs}
-use Rattle.model.specs.Numbers.{written}
-use Rattle.clause_writer.proofs.Wrote.{wrote-then}
 use Rattle.clause_writer.proofs.put_ternary.Statement.{statement}
 use Rattle.clause_writer.proofs.put_ternary.Tie as tie
+
+is-true-requires : tie.Need-is-true-requires
+is-true-requires c κs = search needs
+
+is-true-requires-2 : tie.Need-is-true-requires-2
+is-true-requires-2 c κs = search needs
+
+is-true-requires-3 : tie.Need-is-true-requires-3
+is-true-requires-3 c κs = search needs
+
+returns : tie.Need-returns
+returns c =
+    (clause-left-out _ _ (rw (hasTrue-three _ _ _) (rw (c .before .before .before .is-true .ensures, c .before .before .is-true2 .ensures, c .before .is-true3 .ensures) at (c .if1 .taken))), search needs)
 
 put-literal-requires : tie.Need-put-literal-requires
 put-literal-requires c κs = search needs
 
-mul-put-binary : tie.Need-mul-put-binary
-mul-put-binary c = search needs
+mul-put-literal : tie.Need-mul-put-literal
+mul-put-literal c = search needs
 
-sub-put-binary : tie.Need-sub-put-binary
-sub-put-binary c = search needs
+sub-put-literal : tie.Need-sub-put-literal
+sub-put-literal c = search needs
 
-part-put-binary-start : tie.Need-part-put-binary-start
-part-put-binary-start c = search needs
+part-put-literal-start : tie.Need-part-put-literal-start
+part-put-literal-start c = search needs
 
-part-put-binary-end : tie.Need-part-put-binary-end
-part-put-binary-end c = search needs
+part-put-literal-end : tie.Need-part-put-literal-end
+part-put-literal-end c = search needs
 
-put-binary-requires : tie.Need-put-binary-requires
-put-binary-requires c κs = search needs
+put-literal-requires-2 : tie.Need-put-literal-requires-2
+put-literal-requires-2 c κs = search needs
+
+add-j : tie.Need-add-j
+add-j c = search needs
+
+mul-put-literal-2 : tie.Need-mul-put-literal-2
+mul-put-literal-2 c = search needs
+
+sub-put-literal-2 : tie.Need-sub-put-literal-2
+sub-put-literal-2 c = search needs
+
+part-put-literal-start-2 : tie.Need-part-put-literal-start-2
+part-put-literal-start-2 c = search needs
+
+part-put-literal-end-2 : tie.Need-part-put-literal-end-2
+part-put-literal-end-2 c = search needs
+
+put-literal-requires-3 : tie.Need-put-literal-requires-3
+put-literal-requires-3 c κs = search needs
+
+add-k : tie.Need-add-k
+add-k c = search needs
+
+mul-put-end : tie.Need-mul-put-end
+mul-put-end c = search needs
+
+sub-put-end : tie.Need-sub-put-end
+sub-put-end c = search needs
+
+part-put-end-start : tie.Need-part-put-end-start
+part-put-end-start c = search needs
+
+part-put-end-end : tie.Need-part-put-end-end
+part-put-end-end c = search needs
+
+put-end-requires : tie.Need-put-end-requires
+put-end-requires c κs = search needs
 
 add-result : tie.Need-add-result
 add-result c = search needs
@@ -29,20 +80,47 @@ add-result c = search needs
 same-length : tie.Need-same-length
 same-length c = search needs
 
-returns : tie.Need-returns
-unfolding written
-returns c = (wrote-then (c .before .before .before .before .put-literal .ensures .0) (c .before .put-binary .ensures .0), search needs)
+returns-2 : tie.Need-returns-2
+returns-2 c =
+    let a = literalOf (c .before .before .before .before .before .before .before .before .before .before .before .before .before .before .before .before .args .a) in
+    let b = literalOf (c .before .before .before .before .before .before .before .before .before .before .before .before .before .before .before .before .args .b) in
+    let d = literalOf (c .before .before .before .before .before .before .before .before .before .before .before .before .before .before .before .before .args .c) in
+    let first = c .before .before .before .before .before .before .before .before .before .before .put-literal .ensures in
+    let second = c .before .before .before .before .before .before .before .put-literal2 .ensures in
+    let third = c .before .before .before .before .put-literal3 .ensures in
+    let end = c .before .put-end .ensures .0 in (
+      clause-ended (a ∷ b ∷ d ∷ [])
+          (rw (hasTrue-three a b d) (rw (c .before .before .before .before .before .before .before .before .before .before .before .before .before .before .before .is-true .ensures, c .before .before .before .before .before .before .before .before .before .before .before .before .before .before .is-true2 .ensures, c .before .before .before .before .before .before .before .before .before .before .before .before .before .is-true3 .ensures) at (c .before .before .before .before .before .before .before .before .before .before .before .before .if1 .left)))
+          (rw (kept-three a b d) (wrote-then (wrote-then (first .0) (second .0)) (third .0))) end,
+      end-most {most = 3} end (omega (arith, first .1, second .1, third .1)) (omega arith),
+    )
 
 pub put-ternary-spec : {M : Type 1} → statement M
 put-ternary-spec =
     tie.close
     (tie.spec
+    is-true-requires
+    is-true-requires-2
+    is-true-requires-3
+    returns
     put-literal-requires
-    mul-put-binary
-    sub-put-binary
-    part-put-binary-start
-    part-put-binary-end
-    put-binary-requires
+    mul-put-literal
+    sub-put-literal
+    part-put-literal-start
+    part-put-literal-end
+    put-literal-requires-2
+    add-j
+    mul-put-literal-2
+    sub-put-literal-2
+    part-put-literal-start-2
+    part-put-literal-end-2
+    put-literal-requires-3
+    add-k
+    mul-put-end
+    sub-put-end
+    part-put-end-start
+    part-put-end-end
+    put-end-requires
     add-result
     same-length
-    returns)
+    returns-2)

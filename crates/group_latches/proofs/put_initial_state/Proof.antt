@@ -6,8 +6,8 @@ use Rattle.group_latches.proofs.StateOf.{state-first}
 use Rattle.group_latches.proofs.put_initial_state.Statement.{statement}
 use Rattle.group_latches.proofs.put_initial_state.Tie as tie
 
-constant-requires : tie.Need-constant-requires
-constant-requires c κs = search needs
+first-requires : tie.Need-first-requires
+first-requires c κs = search needs
 
 put-unit-requires : tie.Need-put-unit-requires
 put-unit-requires c κs = search needs
@@ -36,14 +36,14 @@ same-length c = search needs
 returns : tie.Need-returns
 unfolding netOf
 returns c =
-    let one = rw (c .before .before .before .before .before .constant .ensures .0) at (c .before .before .before .before .put-unit .ensures .0) in
+    let one = rw (c .before .before .before .before .before .first .ensures .0) at (c .before .before .before .before .put-unit .ensures .0) in
     (rw state-first (wrote-then one (c .before .put-resets .ensures .0)), search needs)
 
 pub put-initial-state-spec : {M : Type 1} → statement M
 put-initial-state-spec =
     tie.close
     (tie.spec
-    constant-requires
+    first-requires
     put-unit-requires
     mul-put-resets
     sub-put-resets

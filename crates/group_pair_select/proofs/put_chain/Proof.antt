@@ -1,8 +1,6 @@
 -- `group_pair_select::put_chain` meets its contract: two gates, one after the other.
 use borrow.Author.Needs.{needs}
-use Rattle.model.specs.Clauses.{andClauses}
-use Rattle.model.specs.Numbers.{written}
-use Rattle.clause_writer.proofs.Wrote.{wrote-then}
+use Rattle.clause_writer.proofs.Wrote.{wrote-clauses}
 use Rattle.group_pair_select.proofs.put_chain.Statement.{statement}
 use Rattle.group_pair_select.proofs.put_chain.Tie as tie
 
@@ -34,9 +32,8 @@ same-length : tie.Need-same-length
 same-length c = search needs
 
 returns : tie.Need-returns
-unfolding written andClauses
 returns c =
-    (rw (c .before .before .before .before .before .negated .ensures .0) at (wrote-then (c .before .before .before .before .put-and .ensures .0) (c .before .put-and2 .ensures .0)), search needs)
+    (rw (c .before .before .before .before .before .negated .ensures .0) at (wrote-clauses _ _ (c .before .before .before .before .put-and .ensures .0) (c .before .put-and2 .ensures .0)), search needs)
 
 pub put-chain-spec : {M : Type 1} → statement M
 put-chain-spec =

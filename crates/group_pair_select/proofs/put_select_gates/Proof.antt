@@ -1,8 +1,7 @@
 -- `group_pair_select::put_select_gates` meets its contract: one gate, then the other two.
 use borrow.Author.Needs.{needs}
 use Rattle.model.specs.Clauses.{andClauses}
-use Rattle.model.specs.Numbers.{written}
-use Rattle.clause_writer.proofs.Wrote.{wrote-then}
+use Rattle.clause_writer.proofs.Wrote.{wrote-clauses}
 use Rattle.group_pair_select.specs.SelectClauses.{selectClauses}
 use Rattle.group_pair_select.proofs.put_select_gates.Statement.{statement}
 use Rattle.group_pair_select.proofs.put_select_gates.Tie as tie
@@ -32,8 +31,8 @@ same-length : tie.Need-same-length
 same-length c = search needs
 
 returns : tie.Need-returns
-unfolding written andClauses selectClauses
-returns c = (wrote-then (c .before .before .before .before .put-and .ensures .0) (c .before .put-chain .ensures .0), search needs)
+unfolding andClauses selectClauses
+returns c = (wrote-clauses _ _ (c .before .before .before .before .put-and .ensures .0) (c .before .put-chain .ensures .0), search needs)
 
 pub put-select-gates-spec : {M : Type 1} → statement M
 put-select-gates-spec =

@@ -1,11 +1,37 @@
 -- `group_property::put_property` meets its contract.
+use Prim.Native.Nat.{_+_}
+use native.Mathlib.Omega.{arith}
 use borrow.Author.Needs.{needs}
 use Rattle.model.specs.Groups.{clausesOf}
 use Rattle.model.specs.Numbers.{numbersOf}
-use Rattle.clause_writer.proofs.Wrote.{wrote-then}
-use Rattle.clause_writer.proofs.Turns.{written-ended}
+use Rattle.netlist.specs.NetOf.{netOf}
+use Rattle.clause_variables.proofs.Room.{code-has-number}
+use Rattle.clause_writer.proofs.Wrote.{clause-ended, clause-left-out, end-most}
+use Rattle.group_property.proofs.Violations.{violations-true}
 use Rattle.group_property.proofs.put_property.Statement.{statement}
 use Rattle.group_property.proofs.put_property.Tie as tie
+
+frame-base-requires : tie.Need-frame-base-requires
+frame-base-requires c κs = (c .pre .0 .limits .sizes, omega arith)
+
+in-frame-requires : tie.Need-in-frame-requires
+unfolding netOf
+in-frame-requires c κs =
+    let is = c .before .pre .0 in
+    rw (c .frame-base .ensures) (code-has-number _ (is .limits .sizes) _ _ (omega arith) (omega arith))
+
+negated-requires : tie.Need-negated-requires
+negated-requires c κs = search needs
+
+is-true-requires : tie.Need-is-true-requires
+is-true-requires c κs = search needs
+
+returns : tie.Need-returns
+unfolding numbersOf clausesOf
+returns c =
+    let a = c .before .before .before .before .before .args in
+    let tested = rw (c .before .is-true .ensures, c .before .before .negated .ensures .0, c .before .before .before .in-frame .ensures .0) at (c .if1 .taken) in
+    (clause-left-out _ _ (violations-true (a .net) (a .k) _ tested), search needs)
 
 put-violations-requires : tie.Need-put-violations-requires
 put-violations-requires c κs = search needs
@@ -31,15 +57,26 @@ add-result c = search needs
 same-length : tie.Need-same-length
 same-length c = search needs
 
-returns : tie.Need-returns
+returns-2 : tie.Need-returns-2
 unfolding numbersOf clausesOf
-returns c =
-    (rw written-ended (wrote-then (c .before .before .before .before .put-violations .ensures .0) (c .before .put-end .ensures .0)), search needs)
+returns-2 c =
+    let a = c .before .before .before .before .before .before .before .before .before .before .before .args in
+    let tested = rw (c .before .before .before .before .before .before .before .is-true .ensures, c .before .before .before .before .before .before .before .before .negated .ensures .0, c .before .before .before .before .before .before .before .before .before .in-frame .ensures .0) at (c .before .before .before .before .before .before .if1 .left) in
+    let all = c .before .before .before .before .put-violations .ensures in
+    let end = c .before .put-end .ensures .0 in (
+      clause-ended _ (violations-true (a .net) (a .k) _ tested) (all .0) end,
+      omega (arith, end-most {most = a .k + 1} end (all .1) (omega arith)),
+    )
 
 pub put-property-spec : {M : Type 1} → statement M
 put-property-spec =
     tie.close
     (tie.spec
+    frame-base-requires
+    in-frame-requires
+    negated-requires
+    is-true-requires
+    returns
     put-violations-requires
     mul-put-end
     sub-put-end
@@ -48,4 +85,4 @@ put-property-spec =
     put-end-requires
     add-result
     same-length
-    returns)
+    returns-2)

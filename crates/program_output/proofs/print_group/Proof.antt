@@ -8,8 +8,9 @@ use lib.Seq.{length-take-le}
 use Rattle.model.specs.Numbers.{numbersOf}
 use Rattle.model.proofs.Wrote.{wrote-length}
 use Rattle.netlist.specs.NetOf.{netOf}
-use Rattle.program_output.proofs.Room.{numbers-most, text-most}
-use Rattle.program_output.proofs.Pieces.{orderHas-inDepth, wrote-front}
+use Rattle.group_counts.proofs.Counted.{wrote-front, numbers-most}
+use Rattle.program_output.proofs.Room.{text-most}
+use Rattle.program_output.proofs.Pieces.{orderHas-inDepth}
 use Rattle.program_output.proofs.print_group.Statement.{statement}
 use Rattle.program_output.proofs.print_group.Tie as tie
 

@@ -1,27 +1,22 @@
--- `literals::Code::in_frame` meets its contract: the lowest bit inverts.
-use mathlib.Core.Path.{_∙_, ap}
+-- `literals::Code::in_frame` meets its contract: codes below 2 are the constants.
+use Rattle.literals.specs.Lit.{literalOf}
+use Rattle.literals.proofs.Literal.{codeAt-constant}
 use borrow.Author.Needs.{needs}
-use Rattle.model.specs.Clauses.{neg}
-use Rattle.literals.proofs.Literal.{codeAt-odd, codeAt-even}
 use Rattle.literals.proofs.Code.in_frame.Statement.{statement}
 use Rattle.literals.proofs.Code.in_frame.Tie as tie
 
-even-requires : tie.Need-even-requires
-even-requires c κs = search needs
-
-negated-requires : tie.Need-negated-requires
-negated-requires c κs = search needs
+constant-requires : tie.Need-constant-requires
+constant-requires c κs = search needs
 
 returns : tie.Need-returns
-returns c =
-    let a = c .before .before .before .args in
-    rw (codeAt-odd (a .b) (a .self .0) (c .before .if1 .taken))
-    (c .negated .ensures .0 ∙ ap neg (c .before .before .even .ensures .0), c .negated .ensures .1)
+returns c = rw (codeAt-constant (c .before .before .args .b) (c .before .before .args .self .0) (c .before .if1 .taken)) (c .constant .ensures)
+
+signed-requires : tie.Need-signed-requires
+signed-requires c κs = search needs
 
 returns-2 : tie.Need-returns-2
-returns-2 c =
-    let a = c .before .before .args in
-    rw (codeAt-even (a .b) (a .self .0) (c .if1 .left)) (c .before .even .ensures)
+unfolding literalOf
+returns-2 c = c .signed .ensures
 
 pub in-frame-spec : {M : Type 1} → statement M
-in-frame-spec = tie.close (tie.spec even-requires negated-requires returns returns-2)
+in-frame-spec = tie.close (tie.spec constant-requires returns signed-requires returns-2)

@@ -1,5 +1,4 @@
 -- `literals::Lit::negated` meets its contract: within the bound, the machine's 0 - x is x with its sign turned.
-use Rattle.literals.specs.Lit.{literalOf}
 use Rattle.literals.proofs.Literal.{literalAt-neg, natAbs-neg, minus-fits, minus-is}
 use Rattle.literals.proofs.Lit.negated.Statement.{statement}
 use Rattle.literals.proofs.Lit.negated.Tie as tie
@@ -8,7 +7,6 @@ sub-t3 : tie.Need-sub-t3
 sub-t3 c = minus-fits (c .before .args .self .0) (c .before .pre .bounded)
 
 returns : tie.Need-returns
-unfolding literalOf
 returns c =
     let z = c .before .args .self .0 in
     let is-lit = c .before .pre in

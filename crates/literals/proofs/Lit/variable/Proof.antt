@@ -1,8 +1,9 @@
 -- `literals::Lit::variable` meets its contract: within the bound the machine's sum is the variable's number.
+use mathlib.Core.Path.{refl}
 use native.Mathlib.Omega.{arith}
 use borrow.Author.Needs.{needs}
-use Rattle.literals.specs.Lit.{literalOf}
-use Rattle.literals.proofs.Literal.{literalAt-pos, variable-is}
+use Rattle.literals.specs.Lit.{literalAt}
+use Rattle.literals.proofs.Literal.{variable-is}
 use Rattle.literals.proofs.Lit.variable.Statement.{statement}
 use Rattle.literals.proofs.Lit.variable.Tie as tie
 
@@ -13,10 +14,10 @@ cast-t4 : tie.Need-cast-t4
 cast-t4 c = search needs
 
 returns : tie.Need-returns
-unfolding literalOf
+unfolding literalAt
 returns c =
     rw (variable-is (c .args .b) (c .args .w) (c .pre .0))
-    (literalAt-pos _ (omega arith), record { nonzero = omega arith; bounded = omega arith })
+    (refl, record { nonzero = omega arith; bounded = omega arith })
 
 pub variable-spec : {M : Type 1} → statement M
 variable-spec = tie.close (tie.spec add-t3 cast-t4 returns)

@@ -1,0 +1,23 @@
+-- `clause_writer::put_number` meets its contract.
+use borrow.Author.Needs.{needs}
+use mir.Syntax.{w32}
+use mir.ValLaws.{toZ-ofZ}
+use Rattle.literals.proofs.Literal.{kept-literalAt, fits}
+use Rattle.model.proofs.Wrote.{wrote-one}
+use Rattle.clause_writer.proofs.put_number.Statement.{statement}
+use Rattle.clause_writer.proofs.put_number.Tie as tie
+
+slice-set-from-x : tie.Need-slice-set-from-x
+slice-set-from-x c = search needs
+
+same-length : tie.Need-same-length
+same-length c = search needs
+
+returns : tie.Need-returns
+returns c =
+    let a = c .before .args .a in
+    rw (toZ-ofZ w32 (a .0) (fits (a .0) (c .before .pre .0 .bounded)), kept-literalAt (a .0))
+    (wrote-one (a .0) _ (c .before .pre .1), search needs)
+
+pub put-number-spec : {M : Type 1} → statement M
+put-number-spec = tie.close (tie.spec slice-set-from-x same-length returns)

@@ -1,0 +1,130 @@
+-- Clauses counted by their end marks, the most numbers of a group, and the clauses of a depth from those of one group of each class. No
+-- contract cites this file.
+use Prim.Native.Nat.{ℕ, zero, suc, _+_, _-_, _*_, _/_, _^_, _≤_, _<_}
+use mathlib.Core.Path.{_≡_, refl, sym, ap, _∙_}
+use mathlib.Core.Bool.{true}
+use mathlib.Core.List.{List, [], _∷_, _++_}
+use native.Mathlib.Nat.{mul-le-mul}
+use native.Mathlib.Omega.{arith}
+use borrow.Author.Tests.{leb-true}
+use lib.IntN.{ℤ, pos, negsuc}
+use lib.ListN.{length, getD, take, drop}
+use lib.Seq.{take-suc, take-append-seam}
+use lib.Signed.{mag}
+use mir.Syntax.{w32}
+use mir.Val.{SFits, toZ, ofZ}
+use mir.ValLaws.{toZ-ofZ}
+use Rattle.model.specs.Netlist.{Netlist}
+use Rattle.model.specs.Acceptance.{Accepted}
+use Rattle.model.specs.Groups.{inDepth, clausesOf}
+use Rattle.model.specs.Numbers.{numbersOf, formula, splitAfter, clausesIn}
+use Rattle.model.specs.Counts.{numberCount}
+use Rattle.model.specs.Wrote.{Wrote}
+use Rattle.model.specs.declared.Group.{Group}
+use Rattle.model.specs.declared.Group.the-variants.{Wires, Pair, Closing, Property}
+use Rattle.model.proofs.Bounds.{wires-within, pairs-within, closing-within, property-within, all-within-one}
+use Rattle.model.proofs.Numbers.{shown, clausesIn-written}
+use Rattle.model.proofs.Variables.{base-least}
+use Rattle.model.proofs.Classes.{shownCount, formula-count}
+
+-- the end mark, and any other number, as a machine tells them, by their bits
+pub ends-mark : (z : ℤ) → SFits w32 z → ofZ w32 z ≡ 0 → length (clausesIn (z ∷ [])) ≡ 1
+unfolding clausesIn splitAfter
+ends-mark z f e =
+    let zero-is : z ≡ pos 0 = sym (toZ-ofZ w32 z f) ∙ ap (toZ w32) e in
+    rw zero-is
+
+pub ends-other : (z : ℤ) → (ofZ w32 z ≡ 0 → ⊥) → length (clausesIn (z ∷ [])) ≡ 0
+unfolding clausesIn splitAfter
+ends-other (pos zero) n = absurd (n refl)
+ends-other (pos (suc v)) n = refl
+ends-other (negsuc v) n = refl
+
+-- how many clauses there are does not depend on what stands before
+split-length : (b d zs : List ℤ) → length (splitAfter b zs) ≡ length (splitAfter d zs)
+unfolding splitAfter
+split-length b d [] = refl
+split-length b d (pos zero ∷ zs) = refl
+split-length b d (pos (suc v) ∷ zs) = split-length (b ++ pos (suc v) ∷ []) (d ++ pos (suc v) ∷ []) zs
+split-length b d (negsuc v ∷ zs) = split-length (b ++ negsuc v ∷ []) (d ++ negsuc v ∷ []) zs
+
+split-append : (b zs ys : List ℤ) → length (splitAfter b (zs ++ ys)) ≡ length (splitAfter b zs) + length (splitAfter [] ys)
+unfolding splitAfter
+split-append b [] ys = split-length b [] ys ∙ omega arith
+split-append b (pos zero ∷ zs) ys = omega (arith, split-append [] zs ys)
+split-append b (pos (suc v) ∷ zs) ys = split-append (b ++ pos (suc v) ∷ []) zs ys
+split-append b (negsuc v ∷ zs) ys = split-append (b ++ negsuc v ∷ []) zs ys
+
+-- a number of a slice as a machine reads it
+pub element-is : (zs : List ℤ) (i : ℕ) → mag (getD zs i (pos 0)) < 2 ^ 31 → toZ w32 (ofZ w32 (getD zs i (pos 0))) ≡ getD zs i (pos 0)
+element-is zs i h = toZ-ofZ w32 (getD zs i (pos 0)) (record { sfits = h })
+
+-- one number more
+pub ends-next : (zs : List ℤ) (i : ℕ) → i < length zs
+    → length (clausesIn (take (suc i) zs)) ≡ length (clausesIn (take i zs)) + length (clausesIn (getD zs i (pos 0) ∷ []))
+unfolding clausesIn
+ends-next zs i h = ap (λ ys. length (splitAfter [] ys)) (take-suc zs i (pos 0) h) ∙ split-append [] (take i zs) (getD zs i (pos 0) ∷ [])
+
+-- what was written stands in front
+pub wrote-front : {A : Type 0} {xs old new : List A} {r : ℕ} → Wrote xs old new r → take r new ≡ xs
+wrote-front {A} {xs} {old} {new} {r} w = rw (w .counted, w .leaves) (take-append-seam xs (drop (length xs) old))
+
+-- no group has more than 5,992 numbers: the most are the wires of frame 0 with gates alone
+pub numbers-most : (c : Netlist) (k : ℕ) (g : Group) → Accepted c → k ≤ 255 → inDepth k g ≡ true → numberCount c k g ≤ 5992
+unfolding inDepth numberCount
+numbers-most c k (Wires zero) a d h = omega (arith, a .limits .sizes .wires-fit, a .limits .sizes .n-least)
+numbers-most c k (Wires (suc i)) a d h = omega (arith, a .limits .sizes .wires-fit, a .limits .sizes .n-least)
+numbers-most c k (Pair j i) a d h = omega (arith, a .limits .sizes .m-most, a .limits .sizes .n-most)
+numbers-most c k (Closing zero) a d h = omega (arith, a .limits .sizes .n-most)
+numbers-most c k (Closing (suc i)) a d h = omega (arith, a .limits .sizes .n-most, leb-true (suc i) k h)
+numbers-most c k Property a d h = omega (arith, d)
+
+-- pairs of frames
+pub pairs-most : (k : ℕ) → k ≤ 255 → k * (k + 1) ≤ 65280
+pairs-most k h =
+    let next : k + 1 ≤ 256 = omega arith in
+    let both : k * (k + 1) ≤ 255 * 256 = mul-le-mul h next in
+    both
+
+-- the clauses of a group that are written, as the model counts them
+module _ {c : Netlist} (ok : Accepted c) (k : ℕ) where
+  wires-shown : (i : ℕ) → i ≤ k → length (clausesIn (numbersOf c k (Wires i))) ≡ shownCount (clausesOf c k (Wires i))
+  unfolding numbersOf shownCount
+  wires-shown i h = ap length (clausesIn-written _ _ (base-least c (k + 1)) (wires-within ok k i h))
+
+  pair-shown : (j i : ℕ) → j < i → i ≤ k → length (clausesIn (numbersOf c k (Pair j i))) ≡ shownCount (clausesOf c k (Pair j i))
+  unfolding numbersOf shownCount
+  pair-shown j i l h = ap length (clausesIn-written _ _ (base-least c (k + 1)) (all-within-one (pairs-within ok k j i l h)))
+
+  closing-shown : (i : ℕ) → i ≤ k → length (clausesIn (numbersOf c k (Closing i))) ≡ shownCount (clausesOf c k (Closing i))
+  unfolding numbersOf shownCount
+  closing-shown i h = ap length (clausesIn-written _ _ (base-least c (k + 1)) (all-within-one (closing-within ok k i h)))
+
+  property-shown : length (clausesIn (numbersOf c k Property)) ≡ shownCount (clausesOf c k Property)
+  unfolding numbersOf shownCount
+  property-shown = ap length (clausesIn-written _ _ (base-least c (k + 1)) (all-within-one (property-within ok k)))
+
+-- the clauses of a depth. But for the property, a group's do not depend on it: they are counted at the greatest
+pub counted : {c : Netlist} → Accepted c → (k first later other property : ℕ)
+    → first ≡ length (clausesIn (numbersOf c 255 (Wires 0))) + length (clausesIn (numbersOf c 255 (Closing 0)))
+    → later
+    ≡ length (clausesIn (numbersOf c 255 (Wires 1))) + length (clausesIn (numbersOf c 255 (Pair 0 1)))
+    + length (clausesIn (numbersOf c 255 (Closing 1)))
+    → other ≡ length (clausesIn (numbersOf c 255 (Pair 0 2))) → property ≡ length (clausesIn (numbersOf c k Property))
+    → first + k * later + (k * (k + 1) / 2 - k) * other + property ≡ length (clausesIn (formula c k))
+unfolding clausesOf
+counted {c} ok k first later other property ef el eo ep =
+    rw (
+      ef,
+      el,
+      eo,
+      ep,
+      wires-shown ok 255 0 (omega arith),
+      closing-shown ok 255 0 (omega arith),
+      wires-shown ok 255 1 (omega arith),
+      pair-shown ok 255 0 1 (omega arith) (omega arith),
+      closing-shown ok 255 1 (omega arith),
+      pair-shown ok 255 0 2 (omega arith) (omega arith),
+      property-shown ok k,
+    )
+    (sym (formula-count ok k))

@@ -1,0 +1,357 @@
+-- Groups that have equally many clauses. Which clauses of a group are written depends on which of its literals are constants alone: so
+-- it is the same for the wires of all later frames, for all pairs of neighbouring frames, for all other pairs and for the closings of
+-- all later frames, and the clauses of a depth are counted by one group of each class. No contract cites this file.
+use Prim.Native.Nat.{ℕ, zero, suc, _+_, _-_, _*_, _/_, _≤_, _<_}
+use mathlib.Core.Path.{_≡_, refl, sym, _∙_, ap, ap₂}
+use mathlib.Core.Bool.{Bool, true, false, cond, _||_, or-assoc}
+use mathlib.Core.List.{List, [], _∷_, _++_, map, append-nil, map-append}
+use native.Mathlib.Nat.{add-mul, suc-mul, mul-suc}
+use native.Mathlib.Numerals.{add-one}
+use native.Mathlib.Omega.{arith}
+use borrow.Author.Tests.{ne-eqb, eq-eqb}
+use lib.Dec.{eqb, ltb}
+use lib.ListN.{length, length-append}
+use Rattle.model.specs.Bits.{odd}
+use Rattle.model.specs.Netlist.{Netlist, Port, port, latchWire, gateWire, readWire}
+use Rattle.model.specs.Gather.{gather, gatherDown}
+use Rattle.model.specs.Acceptance.{Accepted}
+use Rattle.model.specs.Clauses.{Literal, known, plus, minus, Clause, neg, andClauses, sameClauses, sameIfClauses, bitClauses, PairLiterals, addressBitClauses, unequalOf, allBits, forwardedClauses, pairClauses, ClosingLiterals, initialReadClauses, heldClauses, heldReads, selectedOf, someSource, closingClauses}
+use Rattle.model.specs.Variables.{base, wireAt, codeAt, wireIn, codeIn, noneSince, selected, readBit, pairLiterals, closingLiterals}
+use Rattle.model.specs.Groups.{gateClauses, latchClauses, stateClauses, clausesOf, pairOf, frameGroups, groupOrder}
+use Rattle.model.specs.Numbers.{isTrue, hasTrue, kept, formula, clausesIn}
+use Rattle.model.specs.declared.Group.{Group}
+use Rattle.model.specs.declared.Group.the-variants.{Wires, Pair, Closing, Property}
+use Rattle.model.proofs.Gather.{Adds, gather-total, gatherDown-count}
+use Rattle.model.proofs.Joined.{joinedClauses, joinedClauses-append}
+use Rattle.model.proofs.Numbers.{orMinusOne, shown, shown-append}
+use Rattle.model.proofs.Claim.{clausesIn-formula}
+
+-- how many of the clauses are written
+unfoldable pub shownCount : List Clause → ℕ
+shownCount xs = length (shown xs)
+
+shownCount-adds : Adds shownCount
+unfolding shownCount shown
+shownCount-adds = record { of-none = refl; of-both = λ xs ys. rw (shown-append xs ys, length-append) }
+
+shownCount-cons : (x : Clause) (xs : List Clause) → shownCount (x ∷ xs) ≡ cond (hasTrue x) 0 1 + shownCount xs
+unfolding shownCount shown
+shownCount-cons x xs = go (hasTrue x)
+  where
+    go : (t : Bool) → length (cond t [] (orMinusOne (kept x) ∷ []) ++ shown xs) ≡ cond t 0 1 + length (shown xs)
+    go true = omega arith
+    go false = omega arith
+
+-- a literal without its variable: what counts here
+erase : Literal → Literal
+erase (known b) = known b
+erase (plus v) = plus 0
+erase (minus v) = minus 0
+
+erase-neg : (l : Literal) → erase (neg l) ≡ neg (erase l)
+unfolding erase neg
+erase-neg (known b) = refl
+erase-neg (plus v) = refl
+erase-neg (minus v) = refl
+
+hasTrue-erase : (x : Clause) → hasTrue (map erase x) ≡ hasTrue x
+unfolding hasTrue isTrue erase
+hasTrue-erase [] = refl
+hasTrue-erase (known b ∷ x) = ap (λ (t : Bool). b || t) (hasTrue-erase x)
+hasTrue-erase (plus v ∷ x) = hasTrue-erase x
+hasTrue-erase (minus v ∷ x) = hasTrue-erase x
+
+pub hasTrue-append : (x y : Clause) → hasTrue (x ++ y) ≡ (hasTrue x || hasTrue y)
+unfolding hasTrue
+hasTrue-append [] y = refl
+hasTrue-append (l ∷ x) y = ap (λ (t : Bool). isTrue l || t) (hasTrue-append x y) ∙ sym (or-assoc (isTrue l) (hasTrue x) (hasTrue y))
+
+-- two literals, and two lists of clauses, that are the same without their variables
+record Like (l r : Literal) : Type 0 where
+  like : erase l ≡ erase r
+
+record Alike (xs ys : List Clause) : Type 0 where
+  alike : map (map erase) xs ≡ map (map erase) ys
+
+-- negation keeps it
+like-neg : {l r : Literal} → Like l r → Like (neg l) (neg r)
+like-neg {l} {r} h = record { like = erase-neg l ∙ ap neg (h .like) ∙ sym (erase-neg r) }
+
+-- variables
+like-plus : (v w : ℕ) → Like (plus v) (plus w)
+unfolding erase
+like-plus v w = record { like = refl }
+
+-- as many of alike clauses are written
+shownCount-erase : (xs : List Clause) → shownCount (map (map erase) xs) ≡ shownCount xs
+shownCount-erase [] = refl
+shownCount-erase (x ∷ xs) =
+    shownCount-cons (map erase x) (map (map erase) xs)
+    ∙ ap₂ (λ (t : Bool) (n : ℕ). cond t 0 1 + n) (hasTrue-erase x) (shownCount-erase xs)
+    ∙ sym (shownCount-cons x xs)
+
+alike-count : {xs ys : List Clause} → Alike xs ys → shownCount xs ≡ shownCount ys
+alike-count {xs} {ys} h = sym (shownCount-erase xs) ∙ ap shownCount (h .alike) ∙ shownCount-erase ys
+
+-- joined
+infixl 40 _⧺_
+_⧺_ : {xs ys zs ws : List Clause} → Alike xs ys → Alike zs ws → Alike (xs ++ zs) (ys ++ ws)
+_⧺_ {xs} {ys} {zs} {ws} p q =
+    record { alike = map-append (map erase) xs zs ∙ ap₂ _++_ (p .alike) (q .alike) ∙ sym (map-append (map erase) ys ws) }
+
+alike-gather : (n : ℕ) (f h : ℕ → List Clause) → ((t : ℕ) → Alike (f t) (h t)) → Alike (gather n f) (gather n h)
+unfolding gather
+alike-gather zero f h each = record { alike = refl }
+alike-gather (suc n) f h each = alike-gather n f h each ⧺ each n
+
+-- clause by clause, and literal by literal
+data LikeAll : Clause → Clause → Type 0 where
+  no-literal : LikeAll [] []
+  literal : {l r : Literal} {x y : Clause} → Like l r → LikeAll x y → LikeAll (l ∷ x) (r ∷ y)
+
+likeAll-erase : {x y : Clause} → LikeAll x y → map erase x ≡ map erase y
+likeAll-erase no-literal = refl
+likeAll-erase (literal h r) = ap₂ _∷_ (h .like) (likeAll-erase r)
+
+likeAll-hasTrue : {x y : Clause} → LikeAll x y → hasTrue x ≡ hasTrue y
+likeAll-hasTrue {x} {y} h = sym (hasTrue-erase x) ∙ ap hasTrue (likeAll-erase h) ∙ hasTrue-erase y
+
+alike-none : Alike [] []
+alike-none = record { alike = refl }
+
+alike-cons : {x y : Clause} {xs ys : List Clause} → LikeAll x y → Alike xs ys → Alike (x ∷ xs) (y ∷ ys)
+alike-cons h r = record { alike = ap₂ _∷_ (likeAll-erase h) (r .alike) }
+
+likeAll-then : {x y z w : Clause} → LikeAll x y → LikeAll z w → LikeAll (x ++ z) (y ++ w)
+likeAll-then no-literal q = q
+likeAll-then (literal h r) q = literal h (likeAll-then r q)
+
+likeAll-gather : (n : ℕ) (f h : ℕ → Clause) → ((t : ℕ) → LikeAll (f t) (h t)) → LikeAll (gather n f) (gather n h)
+unfolding gather
+likeAll-gather zero f h each = no-literal
+likeAll-gather (suc n) f h each = likeAll-then (likeAll-gather n f h each) (each n)
+
+-- the families of clauses
+and-alike : {g a b g′ a′ b′ : Literal} → Like g g′ → Like a a′ → Like b b′ → Alike (andClauses g a b) (andClauses g′ a′ b′)
+unfolding andClauses
+and-alike g a b = search (alike-cons, alike-none, literal, no-literal, like-neg) depth 14
+
+same-alike : {q d q′ d′ : Literal} → Like q q′ → Like d d′ → Alike (sameClauses q d) (sameClauses q′ d′)
+unfolding sameClauses
+same-alike q d = search (alike-cons, alike-none, literal, no-literal, like-neg) depth 14
+
+sameIf-alike : {p a b p′ a′ b′ : Literal} → Like p p′ → Like a a′ → Like b b′
+    → Alike (sameIfClauses p a b) (sameIfClauses p′ a′ b′)
+unfolding sameIfClauses
+sameIf-alike p a b = search (alike-cons, alike-none, literal, no-literal, like-neg) depth 14
+
+bit-alike : {E e x y E′ e′ x′ y′ : Literal} → Like E E′ → Like e e′ → Like x x′ → Like y y′
+    → Alike (bitClauses E e x y) (bitClauses E′ e′ x′ y′)
+unfolding bitClauses
+bit-alike E e x y = search (alike-cons, alike-none, literal, no-literal, like-neg) depth 14
+
+-- the literals of two pairs
+record PairLike (x y : PairLiterals) : Type 0 where
+  E : Like (x .E) (y .E)
+  e : (t : ℕ) → Like (x .e t) (y .e t)
+  s : Like (x .s) (y .s)
+  PS : Like (x .PS) (y .PS)
+  S : Like (x .S) (y .S)
+  N : Like (x .N) (y .N)
+  WE : Like (x .WE) (y .WE)
+  Aj : (t : ℕ) → Like (x .Aj t) (y .Aj t)
+  WD : (t : ℕ) → Like (x .WD t) (y .WD t)
+  Ai : (t : ℕ) → Like (x .Ai t) (y .Ai t)
+  RD : (t : ℕ) → Like (x .RD t) (y .RD t)
+
+pair-alike : (m n : ℕ) (x y : PairLiterals) → PairLike x y → Alike (pairClauses m n x) (pairClauses m n y)
+unfolding pairClauses addressBitClauses allBits unequalOf forwardedClauses
+pair-alike m n x y h =
+    alike-gather m _ _ (λ t. bit-alike (h .E) (h .e t) (h .Aj t) (h .Ai t))
+    ⧺ alike-cons
+    (likeAll-then (likeAll-gather m _ _ (λ t. literal (like-neg (h .e t)) no-literal)) (literal (h .E) no-literal))
+    alike-none
+    ⧺ and-alike (h .s) (h .E) (h .WE)
+    ⧺ and-alike (h .PS) (like-neg (h .s)) (h .N)
+    ⧺ and-alike (h .S) (h .s) (h .N)
+    ⧺ alike-gather n _ _ (λ t. sameIf-alike (h .S) (h .RD t) (h .WD t))
+
+-- a code in any two frames
+code-like : (b d x : ℕ) → Like (codeAt b x) (codeAt d x)
+unfolding codeAt erase
+code-like b d x = record { like = go (ltb x 2) (odd x) }
+  where
+    go : (s t : Bool)
+        → erase (cond s (known (odd x)) (cond t (minus (b + x / 2)) (plus (b + x / 2))))
+        ≡ erase (cond s (known (odd x)) (cond t (minus (d + x / 2)) (plus (d + x / 2))))
+    go true t = refl
+    go false true = refl
+    go false false = refl
+
+-- PS of any two pairs, or RE of any two frames
+noneSince-like : (c : Netlist) (p : Port) (j i l k : ℕ) → eqb j i ≡ eqb l k → Like (noneSince c p j i) (noneSince c p l k)
+unfolding noneSince
+noneSince-like c p j i l k e = rw e (go (eqb l k) _ _)
+  where
+    go : (t : Bool) (v w : ℕ) → Like (cond t (codeIn c i (p .RE)) (plus v)) (cond t (codeIn c k (p .RE)) (plus w))
+    go true v w = code-like _ _ _
+    go false v w = like-plus v w
+
+-- 0 is no later frame
+never-zero : (i j : ℕ) → eqb 0 (suc i) ≡ eqb 0 (suc j)
+never-zero i j = ne-eqb 0 (suc i) (λ e. omega arith) ∙ sym (ne-eqb 0 (suc j) (λ e. omega arith))
+
+module _ (c : Netlist) (k : ℕ) where
+  -- pairs of neighbouring frames are alike, and so are all others
+  pairs-alike : (j i l h : ℕ) → eqb j i ≡ eqb l h → eqb (j + 1) i ≡ eqb (l + 1) h
+      → Alike (clausesOf c k (Pair j i)) (clausesOf c k (Pair l h))
+  unfolding clausesOf pairLiterals selected readBit wireAt
+  pairs-alike j i l h e f =
+      pair-alike (c .m) (c .n) _ _
+      (record {
+        E = like-plus _ _;
+        e = λ t. like-plus _ _;
+        s = like-plus _ _;
+        PS = noneSince-like c (port c) j i l h e;
+        S = like-plus _ _;
+        N = noneSince-like c (port c) (j + 1) i (l + 1) h f;
+        WE = code-like _ _ _;
+        Aj = λ t. code-like _ _ _;
+        WD = λ t. code-like _ _ _;
+        Ai = λ t. code-like _ _ _;
+        RD = λ t. like-plus _ _;
+      })
+
+  -- the wires of later frames
+  wires-alike : (i j : ℕ) → Alike (clausesOf c k (Wires (suc i))) (clausesOf c k (Wires (suc j)))
+  unfolding clausesOf stateClauses latchClauses gateClauses wireAt
+  wires-alike i j =
+      alike-gather (c .latches) _ _ (λ l. same-alike (like-plus _ _) (code-like _ _ _))
+      ⧺ alike-gather (c .gates) _ _ (λ g. and-alike (like-plus _ _) (code-like _ _ _) (code-like _ _ _))
+
+  -- The closings of later frames. The clause of a read's sources has more literals in a later frame, but they are variables.
+  sources-variables : (i n : ℕ) → hasTrue (gather n (selectedOf (closingLiterals c (port c) i))) ≡ false
+  unfolding gather selectedOf closingLiterals selected hasTrue isTrue
+  sources-variables i zero = refl
+  sources-variables i (suc n) =
+      hasTrue-append (gather n (selectedOf (closingLiterals c (port c) i))) _ ∙ ap (λ (t : Bool). t || false) (sources-variables i n)
+
+  source-literals : (i j : ℕ)
+      → LikeAll (neg (closingLiterals c (port c) (suc i) .RE) ∷ closingLiterals c (port c) (suc i) .Z ∷ [])
+      (neg (closingLiterals c (port c) (suc j) .RE) ∷ closingLiterals c (port c) (suc j) .Z ∷ [])
+  unfolding closingLiterals
+  source-literals i j =
+      literal (like-neg (code-like _ _ _)) (literal (noneSince-like c (port c) 0 (suc i) 0 (suc j) (never-zero i j)) no-literal)
+
+  sources-count : (i j : ℕ)
+      → shownCount (someSource (suc i) (closingLiterals c (port c) (suc i)) ∷ [])
+      ≡ shownCount (someSource (suc j) (closingLiterals c (port c) (suc j)) ∷ [])
+  unfolding someSource
+  sources-count i j =
+      let x = closingLiterals c (port c) (suc i) in
+      let y = closingLiterals c (port c) (suc j) in
+      let same : hasTrue (neg (x .RE) ∷ x .Z ∷ []) ≡ hasTrue (neg (y .RE) ∷ y .Z ∷ []) = likeAll-hasTrue (source-literals i j) in
+      shownCount-cons _ [] ∙ ap (λ (t : Bool). cond t 0 1 + shownCount [])
+      (hasTrue-append (neg (x .RE) ∷ x .Z ∷ []) _ ∙ ap₂ _||_ same (sources-variables (suc i) (suc i) ∙ sym (sources-variables (suc j) (suc j)))
+      ∙ sym (hasTrue-append (neg (y .RE) ∷ y .Z ∷ []) _))
+      ∙ sym (shownCount-cons _ [])
+
+  reads-alike : (i j : ℕ)
+      → Alike (gather (c .n) (initialReadClauses (closingLiterals c (port c) (suc i))) ++ heldReads (c .n) (suc i) (closingLiterals c (port c) (suc i)))
+      (gather (c .n) (initialReadClauses (closingLiterals c (port c) (suc j))) ++ heldReads (c .n) (suc j) (closingLiterals c (port c) (suc j)))
+  unfolding initialReadClauses heldReads heldClauses closingLiterals readBit wireAt
+  reads-alike i j =
+      alike-gather (c .n) _ _ (λ t. sameIf-alike (noneSince-like c (port c) 0 (suc i) 0 (suc j) (never-zero i j)) (like-plus _ _) (record { like = refl }))
+      ⧺ alike-gather (c .n) _ _ (λ t. sameIf-alike (like-neg (code-like _ _ _)) (like-plus _ _) (like-plus _ _))
+
+  closings-count : (i j : ℕ) → shownCount (clausesOf c k (Closing (suc i))) ≡ shownCount (clausesOf c k (Closing (suc j)))
+  unfolding clausesOf closingClauses
+  closings-count i j =
+      shownCount-adds .of-both _ (someSource (suc i) (closingLiterals c (port c) (suc i)) ∷ [])
+      ∙ ap₂ _+_ (alike-count (reads-alike i j)) (sources-count i j)
+      ∙ sym (shownCount-adds .of-both _ (someSource (suc j) (closingLiterals c (port c) (suc j)) ∷ []))
+
+  -- how many clauses of a group, and of a list of groups, are written
+  abbrev of : Group → ℕ
+  of g = shownCount (clausesOf c k g)
+
+  count : List Group → ℕ
+  count gs = shownCount (joinedClauses (clausesOf c k) gs)
+
+  count-adds : Adds count
+  unfolding count joinedClauses
+  count-adds =
+      record {
+        of-none = shownCount-adds .of-none;
+        of-both = λ gs hs. rw (joinedClauses-append (clausesOf c k) gs hs) (shownCount-adds .of-both (joinedClauses (clausesOf c k) gs) (joinedClauses (clausesOf c k) hs));
+      }
+
+  count-one : (g : Group) → count (g ∷ []) ≡ of g
+  unfolding count joinedClauses
+  count-one g = rw append-nil
+
+  -- of the pairs of frame i + 1: the first is one of neighbours
+  pairs-count : (i : ℕ) → count (gatherDown (suc i) (pairOf (suc i))) ≡ of (Pair 0 1) + i * of (Pair 0 2)
+  unfolding gatherDown pairOf
+  pairs-count i =
+      count-adds .of-both (Pair i (suc i) ∷ []) (gatherDown i (pairOf (suc i)))
+      ∙ ap₂ _+_
+      (count-one (Pair i (suc i))
+      ∙ alike-count (pairs-alike i (suc i) 0 1 (ne-eqb i (suc i) (λ e. omega arith)) (eq-eqb (i + 1) (suc i) (omega arith))))
+      (gatherDown-count count-adds i (of (Pair 0 2)) (pairOf (suc i)) (λ j h.
+      count-one (Pair j (suc i))
+      ∙ alike-count (pairs-alike j (suc i) 0 2 (ne-eqb j (suc i) (λ e. omega arith)) (ne-eqb (j + 1) (suc i) (λ e. omega arith)))))
+
+  -- of frame 0, and of a later frame
+  first-count : count (frameGroups 0) ≡ of (Wires 0) + of (Closing 0)
+  unfolding frameGroups gatherDown
+  first-count =
+      count-adds .of-both (Wires 0 ∷ []) (Closing 0 ∷ []) ∙ ap₂ _+_ (count-one (Wires 0)) (count-one (Closing 0))
+
+  later-count : (i : ℕ)
+      → count (frameGroups (suc i)) ≡ of (Wires 1) + (of (Pair 0 1) + i * of (Pair 0 2) + of (Closing 1))
+  unfolding frameGroups
+  later-count i =
+      count-adds .of-both (Wires (suc i) ∷ []) (gatherDown (suc i) (pairOf (suc i)) ++ Closing (suc i) ∷ [])
+      ∙ ap₂ _+_ (count-one (Wires (suc i)) ∙ alike-count (wires-alike i 0))
+      (count-adds .of-both (gatherDown (suc i) (pairOf (suc i))) (Closing (suc i) ∷ [])
+      ∙ ap₂ _+_ (pairs-count i) (count-one (Closing (suc i)) ∙ closings-count i 0))
+
+-- how many pairs of frames 0 to i are not of neighbours
+others : ℕ → ℕ
+others i = i * (i + 1) / 2 - i
+
+-- with each frame there are as many pairs more as there are frames before it
+pairs-suc : (i : ℕ) → suc i * (suc i + 1) / 2 ≡ i * (i + 1) / 2 + suc i
+pairs-suc i = simp (add-one, suc-mul, mul-suc) (omega arith)
+
+pub pairs-least : (i : ℕ) → i ≤ i * (i + 1) / 2
+pairs-least zero = omega arith
+pairs-least (suc i) = omega (arith, pairs-suc i)
+
+others-suc : (i : ℕ) → others (suc i) ≡ others i + i
+unfolding others
+others-suc i = omega (arith, pairs-suc i, pairs-least i)
+
+module _ (c : Netlist) (k : ℕ) where
+  -- of frames 0 to i
+  frames-count : (i : ℕ)
+      → count c k (gather (suc i) frameGroups)
+      ≡ of c k (Wires 0) + of c k (Closing 0) + i * (of c k (Wires 1) + of c k (Pair 0 1) + of c k (Closing 1)) + others i * of c k (Pair 0 2)
+  unfolding gather others
+  frames-count zero = first-count c k ∙ omega arith
+  frames-count (suc i) =
+      let both = count-adds c k .of-both (gather (suc i) frameGroups) (frameGroups (suc i)) in
+      rw (both, frames-count i, later-count c k i, others-suc i) (simp (add-mul, suc-mul) (omega arith))
+
+-- the clauses of a depth, by one group of each class
+pub formula-count : {c : Netlist} → Accepted c → (k : ℕ)
+    → length (clausesIn (formula c k))
+    ≡ shownCount (clausesOf c k (Wires 0)) + shownCount (clausesOf c k (Closing 0))
+    + k * (shownCount (clausesOf c k (Wires 1)) + shownCount (clausesOf c k (Pair 0 1)) + shownCount (clausesOf c k (Closing 1)))
+    + (k * (k + 1) / 2 - k) * shownCount (clausesOf c k (Pair 0 2)) + shownCount (clausesOf c k Property)
+unfolding groupOrder others count shownCount
+formula-count {c} ok k =
+    ap length (clausesIn-formula ok k)
+    ∙ count-adds c k .of-both (gather (k + 1) frameGroups) (Property ∷ [])
+    ∙ rw (add-one k, frames-count c k k, count-one c k Property, add-one k)
