@@ -288,7 +288,7 @@ pub fn damaged_answers(tally: &mut Tally) {
     let small = [
         (1, FULL_RUN, "c a/s SATISFIABLE/v 2 -4 0/"),
         (1, FULL_RUN, "s SATISFIABLE/v 1 -2/v -3 4/c/v -5 0/c/"),
-        (2, IDLE, "s SATISFIABLE/v 2 -5 -6 7 13 0/"),
+        (2, IDLE, "s SATISFIABLE/v -2 3 4 -5 13 0/"),
         (2, IDLE, "s SATISFIABLE/v 2 -5/v 6 -7/v 13 -14 0/"),
         (1, LATCHED, "s SATISFIABLE/v 2 3/v 4/v -5 0/"),
         (0, BARE, "s SATISFIABLE/v 0/"),
@@ -320,7 +320,7 @@ pub fn damaged_answers(tally: &mut Tally) {
     }
     for (depth, sheet, variables) in [
         (1, FULL_RUN, &[2, 3, 4, 5][..]),
-        (1, IDLE, &[2, 3, 5, 6, 7][..]),
+        (1, IDLE, &[2, 3, 4, 5, 6][..]),
         (1, LATCHED, &[2, 3, 4, 5][..]),
     ] {
         let runs = Runs::new(accepted(sheet), depth);
