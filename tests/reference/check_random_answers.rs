@@ -48,7 +48,7 @@ pub fn largest_chip(tally: &mut Tally) {
 /// Answers of every shape: the outcome and the printed text are those of the run that they feed.
 pub fn random_answers(tally: &mut Tally) {
     let mut random = Random::new(21);
-    let [mut first, mut later, mut nothing, mut idle, mut reading] = [0; 5];
+    let [mut first, mut later, mut nothing, mut idle, mut holding, mut reading] = [0; 6];
     for round in 0..2000 {
         let draft = random_draft(&mut random);
         let answer = written(&mut random, &draft.numbers);
@@ -67,7 +67,8 @@ pub fn random_answers(tally: &mut Tally) {
             None => nothing += 1,
         }
         let reads = |values: &Values| value(values, draft.netlist.read_enable);
-        idle += usize::from(!draft.run.frames.iter().all(reads));
+        idle += usize::from(!reads(&draft.run.frames[0]));
+        holding += usize::from(!draft.run.frames[1..].iter().all(reads));
         reading += usize::from(draft.run.frames.iter().any(reads));
     }
     for round in 0..1000 {
@@ -76,12 +77,12 @@ pub fn random_answers(tally: &mut Tally) {
         let printed = replay(&call.input(), &call.answer);
         tally.check((round, name, "printed"), printed == expected.printed());
     }
-    for count in [first, later, nothing, idle, reading] {
+    for count in [first, later, nothing, idle, holding, reading] {
         tally.check(("occurrences", count), count >= 100);
     }
     tally.remark = format!(
-        " ({first} break in frame 0, {later} later, {nothing} never; {idle} with idle frames, \
-         {reading} with frames that read)"
+        " ({first} break in frame 0, {later} later, {nothing} never; {idle} with an idle word, \
+         {holding} with a word held, {reading} with frames that read)"
     );
 }
 
