@@ -62,7 +62,7 @@ pub fn pair_size(netlist: &Netlist) -> i64 {
     i64::from(netlist.address_width) + 4
 }
 
-/// The closed form of RULES G18 and K3: clauses of a group.
+/// The closed form of K3 and RULES G18: clauses of a group.
 pub fn clause_count(netlist: &Netlist, group: Group) -> i64 {
     let [latches, gates, m, n] = sizes(netlist);
     match group {
@@ -75,7 +75,7 @@ pub fn clause_count(netlist: &Netlist, group: Group) -> i64 {
     }
 }
 
-/// The closed form of RULES G19 and K3: numbers of a group with end marks.
+/// The closed form of K3 and RULES G19: numbers of a group with end marks.
 pub fn number_count(netlist: &Netlist, depth: u32, group: Group) -> i64 {
     let [latches, gates, m, n] = sizes(netlist);
     match group {
