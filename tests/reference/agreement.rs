@@ -62,9 +62,13 @@ pub fn all_feeds(netlist: &Netlist, depth: u32) -> impl Iterator<Item = Vec<Feed
     };
     let all = 0..1u64 << (width + inputs * (depth + 1));
     all.map(move |bits| {
-        let idle_word = (bits & ((1 << width) - 1)) as u32;
+        // Above frame 0 the idle word is the inverted one, so that a chip that takes it there shows.
+        let idle_word = |frame: u32| {
+            let word = if frame == 0 { bits } else { !bits };
+            (word & ((1 << width) - 1)) as u32
+        };
         (0..=depth)
-            .map(|frame| of_frame(bits >> (width + frame * inputs), idle_word))
+            .map(|frame| of_frame(bits >> (width + frame * inputs), idle_word(frame)))
             .collect()
     })
 }

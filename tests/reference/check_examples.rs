@@ -192,7 +192,7 @@ const MEMORY_FRAMES: [([u8; 5], u32, bool); 11] = [
     ([1, 1, 0, 0, 1], 0, true), // An address never written.
 ];
 
-/// A run that begins with idle frames, written down in the same way.
+/// Two runs that begin with idle frames, written down in the same way.
 const IDLE_FRAMES: [([u8; 5], u32, bool); 4] = [
     ([1, 0, 1, 1, 0], 0, false), // RE is false in frame 0: the idle word, and the write is done.
     ([1, 0, 0, 0, 0], 1, false), // RE is false: the word of the frame before.
@@ -200,9 +200,19 @@ const IDLE_FRAMES: [([u8; 5], u32, bool); 4] = [
     ([0, 0, 0, 0, 0], 0, true),  // RE is false: the word of the frame before.
 ];
 
+const OTHER_IDLE_FRAMES: [([u8; 5], u32, bool); 3] = [
+    ([0, 0, 0, 1, 0], 1, true), // RE is false in frame 0: the idle word, and the write is done.
+    ([0, 0, 0, 0, 0], 0, true), // RE is false: the word of the frame before.
+    ([0, 0, 0, 0, 1], 1, false), // The word written in frame 0.
+];
+
 pub fn memory_run(tally: &mut Tally) {
     let netlist = accepted(MEMORY);
-    for (frames, first_break) in [(&MEMORY_FRAMES[..], 1), (&IDLE_FRAMES, 0)] {
+    for (frames, first_break) in [
+        (&MEMORY_FRAMES[..], 1),
+        (&IDLE_FRAMES, 0),
+        (&OTHER_IDLE_FRAMES, 2),
+    ] {
         let feeds: Vec<Feed> = frames
             .iter()
             .map(|(inputs, idle_word, _)| Feed {
