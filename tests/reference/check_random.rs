@@ -4,8 +4,8 @@ use std::collections::HashSet;
 
 use super::agreement::{compare, propagation_follows_run};
 use super::formula::{
-    clause_count, frame_base, frames, group_call, heading, number_count, pair_base, pair_size,
-    Fault, Formula, Heading,
+    clause_bound, clause_count, frame_base, frames, group_call, heading, number_bound,
+    number_count, pair_base, pair_size, Fault, Formula, Group, Heading,
 };
 use super::netlist::Netlist;
 use super::random::{
@@ -162,18 +162,104 @@ pub fn numbering(tally: &mut Tally) {
     }
 }
 
-/// Whether every group of a formula has the numbers of clauses and of numbers of RULES G18 and G19.
-fn lengths_hold(netlist: &Netlist, depth: u32, fault: Fault) -> bool {
-    let formula = Formula::new(netlist, depth, fault);
-    formula.groups().into_iter().all(|group| {
-        let numbers = formula.group(group);
-        let clauses = numbers.iter().filter(|number| **number == 0).count();
-        numbers.len() as i64 == number_count(netlist, depth, group)
-            && clauses as i64 == clause_count(netlist, group)
-    })
+/// Clauses and numbers that are really there.
+fn counted(numbers: &[i32]) -> [i64; 2] {
+    let clauses = numbers.iter().filter(|number| **number == 0).count();
+    [clauses as i64, numbers.len() as i64]
 }
 
-/// Closed forms against what is written; a slice of exactly that length is enough, one less not.
+/// Whether every group of a formula has the clauses and numbers counted for it, and all groups
+/// have the clauses of the heading.
+fn lengths_hold(netlist: &Netlist, depth: u32, fault: Fault) -> bool {
+    let formula = Formula::new(netlist, depth, fault);
+    let groups = formula.groups().into_iter();
+    let written: Vec<(Group, [i64; 2])> = groups
+        .map(|group| (group, counted(&formula.group(group))))
+        .collect();
+    let clauses: i64 = written.iter().map(|(_, [clauses, _])| clauses).sum();
+    formula.clause_total() == clauses
+        && written
+            .iter()
+            .all(|(group, counts)| formula.counts(*group) == *counts)
+}
+
+/// What K4 leaves of clauses with constants in them: variable 1 stands for no wire, so a number 1
+/// is a true literal and -1 a false one.
+fn without_constants(numbers: &[i32]) -> Vec<i32> {
+    let mut left = Vec::new();
+    for clause in numbers.split_inclusive(|number| *number == 0) {
+        if clause.contains(&1) {
+            continue;
+        }
+        let kept = clause.iter().filter(|number| **number != -1);
+        match clause {
+            [.., 0] if kept.clone().count() == 1 => left.extend([-1, 0]),
+            _ => left.extend(kept),
+        }
+    }
+    left
+}
+
+/// Every group is what K4 leaves of the group of K3, whose counts are the closed forms; these are
+/// bounds of what is counted now. Variable 1 stands in the first clause and in a last -1 alone.
+pub fn constants(tally: &mut Tally) {
+    let mut random = Random::new(10);
+    let [mut shorter, mut empty, mut uneven] = [0; 3];
+    for round in 0..400 {
+        let netlist = if round % 4 == 0 {
+            wide_netlist(&mut random)
+        } else {
+            tiny_netlist(&mut random)
+        };
+        let depth = random.pick(&[0, 1, 2, 5]);
+        let formula = Formula::new(&netlist, depth, Fault::None);
+        let full = Formula::new(&netlist, depth, Fault::ConstantsKept);
+        for group in formula.groups() {
+            let (numbers, all) = (formula.group(group), full.group(group));
+            let most = [
+                clause_bound(&netlist, group),
+                number_bound(&netlist, depth, group),
+            ];
+            let counts = [
+                clause_count(&netlist, group),
+                number_count(&netlist, depth, group),
+            ];
+            tally.equal((round, group, "closed form"), counted(&all), most);
+            tally.check(
+                (round, group, "bound"),
+                counts[0] <= most[0] && counts[1] <= most[1],
+            );
+            let mut left = without_constants(&all);
+            if group == Group::Wires(0) {
+                left.splice(..0, [1, 0]);
+            }
+            tally.check((round, group), numbers == left);
+            shorter += usize::from(numbers.len() < all.len());
+            empty += usize::from(numbers.is_empty() && !all.is_empty());
+            if let Group::Pair(_, i) = group {
+                let newest = number_count(&netlist, depth, Group::Pair(i - 1, i));
+                uneven += usize::from(counts[1] != newest);
+            }
+        }
+        let numbers = formula.numbers();
+        let ones: Vec<usize> = (0..numbers.len())
+            .filter(|at| numbers[*at].abs() == 1)
+            .collect();
+        let mut expected = vec![0];
+        if netlist.property == 1 {
+            expected.push(numbers.len() - 2);
+        }
+        tally.equal((round, "variable 1"), ones, expected);
+    }
+    for (name, count) in [("shorter", shorter), ("empty", empty), ("uneven", uneven)] {
+        tally.check(("occurrences of", name, count), count >= 20);
+    }
+    tally.remark = format!(
+        " ({shorter} groups shorter than K3's, {empty} empty, {uneven} pairs unlike the newest)"
+    );
+}
+
+/// Counts against what is written; a slice of exactly that length is enough, one less not.
 pub fn lengths(tally: &mut Tally) {
     let mut random = Random::new(6);
     for round in 0..200 {
@@ -294,14 +380,24 @@ pub fn single_feeds(tally: &mut Tally) {
 
 /// Each fault, and which checks are to notice it: demand 3's first half, its second half, and
 /// the lengths. A fault that a check is not to notice must pass it on every case.
-const FAULTS: [(Fault, [bool; 3]); 7] = [
+const FAULTS: [(Fault, [bool; 3]); 17] = [
     (Fault::OwnFrameWrite, [true, true, true]),
-    (Fault::OldestWrite, [true, true, false]),
+    (Fault::OldestWrite, [true, true, true]),
     (Fault::ReaderWriteEnable, [true, true, false]),
     (Fault::IdleReadsZero, [false, true, true]),
     (Fault::IdleReadsFree, [true, false, true]),
     (Fault::HolderReadEnable, [true, true, false]),
     (Fault::EqualitySettled, [false, false, true]),
+    (Fault::ConstantsKept, [false, false, true]),
+    (Fault::TrueClauseWritten, [false, false, true]),
+    (Fault::TrueLiteralDropped, [false, true, true]),
+    (Fault::FalseLiteralKept, [false, false, true]),
+    (Fault::EmptyClauseOmitted, [true, false, true]),
+    (Fault::EmptyClauseBare, [false, false, true]),
+    (Fault::FirstClauseOmitted, [true, false, true]),
+    (Fault::StartBitsKept, [false, false, true]),
+    (Fault::BothSignsOmitted, [false, false, true]),
+    (Fault::NewestPairCounted, [false, false, true]),
 ];
 
 pub fn faults(tally: &mut Tally) {
