@@ -1,4 +1,5 @@
-//! The rules' own examples and figures, with K3 and K4.
+//! The rules' own examples and figures (RULES P8, P10, F1 to F3, F7 to F10), as K3 and K4 have
+//! them.
 
 use super::agreement::compare;
 use super::circuit::{Feed, Run};
@@ -160,8 +161,8 @@ pub fn of_sizes(counts: [u32; 3], widths: [u32; 2]) -> Netlist {
     }
 }
 
-/// A netlist of given sizes, I or L not 0, in which every code is that of wire 1, so none is a
-/// constant. Resets and start bits are 0.
+/// A netlist of given sizes in which every code is that of wire 1, so none is a constant. Resets
+/// and start bits are 0. It is accepted unless wire 1 is a read bit.
 pub fn without_constants(counts: [u32; 3], widths: [u32; 2]) -> Netlist {
     let mut netlist = of_sizes(counts, widths);
     let code = 2;
@@ -331,8 +332,14 @@ pub fn largest_sizes(tally: &mut Tally) {
         tally.equal("variables fit", variables_fit(variables), fit);
     }
 
-    // Constants only take away; the address needs a wire that no read bit reaches.
-    let widest = without_constants([1, 0, 567], [12, 32]);
+    // Constants only take away, and the address needs a wire that no read bit reaches: a latch
+    // has the most numbers, a gate of constants the most clauses.
+    let widest = without_constants([0, 1, 567], [12, 32]);
+    let mut most_clauses = without_constants([0, 0, 568], [12, 32]);
+    most_clauses.gates[0] = Gate { left: 0, right: 0 };
+    let clean = 2 * most_clauses.first_gate();
+    most_clauses.address.fill(clean);
+    most_clauses.read_enable = clean;
     let mut most_gates = of_sizes([0, 0, 599], [1, 1]);
     most_gates.gates.fill(Gate { left: 2, right: 2 });
     let needs = [
@@ -347,13 +354,15 @@ pub fn largest_sizes(tally: &mut Tally) {
         let written = group_call(netlist, 255, group, need).map(|numbers| numbers.len());
         tally.equal(group, written, Ok(need));
     }
-    let expected = Heading {
-        variables: 675_841,
-        clauses: 4_442_306,
-    };
-    tally.equal("widest heading", heading(&widest, 255), Ok(expected));
+    for (netlist, clauses) in [(&widest, 4_442_817), (&most_clauses, 4_442_818)] {
+        let expected = Heading {
+            variables: 675_841,
+            clauses,
+        };
+        tally.equal("largest heading", heading(netlist, 255), Ok(expected));
+    }
     let formula = Formula::new(&widest, 255, Fault::None);
     let groups = formula.groups();
     let numbers: usize = groups.iter().map(|group| formula.group(*group).len()).sum();
-    tally.equal("numbers of the widest", numbers, 17_633_923);
+    tally.equal("numbers at the largest sizes", numbers, 17_635_455);
 }

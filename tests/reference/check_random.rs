@@ -168,19 +168,19 @@ fn counted(numbers: &[i32]) -> [i64; 2] {
     [clauses as i64, numbers.len() as i64]
 }
 
-/// Whether every group of a formula has the clauses and numbers counted for it, and all groups
-/// have the clauses of the heading.
+/// Whether every group of a formula has the clauses and numbers counted for it.
 fn lengths_hold(netlist: &Netlist, depth: u32, fault: Fault) -> bool {
     let formula = Formula::new(netlist, depth, fault);
-    let groups = formula.groups().into_iter();
-    let written: Vec<(Group, [i64; 2])> = groups
-        .map(|group| (group, counted(&formula.group(group))))
-        .collect();
-    let clauses: i64 = written.iter().map(|(_, [clauses, _])| clauses).sum();
-    formula.clause_total() == clauses
-        && written
-            .iter()
-            .all(|(group, counts)| formula.counts(*group) == *counts)
+    formula
+        .groups()
+        .into_iter()
+        .all(|group| counted(&formula.group(group)) == formula.counts(group))
+}
+
+/// Whether all groups of a formula together have the clauses of its heading.
+fn heading_holds(netlist: &Netlist, depth: u32, fault: Fault) -> bool {
+    let formula = Formula::new(netlist, depth, fault);
+    counted(&formula.numbers())[0] == formula.clause_total()
 }
 
 /// What K4 leaves of clauses with constants in them: variable 1 stands for no wire, so a number 1
@@ -220,15 +220,13 @@ pub fn constants(tally: &mut Tally) {
                 clause_bound(&netlist, group),
                 number_bound(&netlist, depth, group),
             ];
-            let counts = [
+            let [clauses, need] = [
                 clause_count(&netlist, group),
                 number_count(&netlist, depth, group),
             ];
             tally.equal((round, group, "closed form"), counted(&all), most);
-            tally.check(
-                (round, group, "bound"),
-                counts[0] <= most[0] && counts[1] <= most[1],
-            );
+            let within = clauses <= most[0] && need <= most[1];
+            tally.check((round, group, "bound"), within);
             let mut left = without_constants(&all);
             if group == Group::Wires(0) {
                 left.splice(..0, [1, 0]);
@@ -238,7 +236,7 @@ pub fn constants(tally: &mut Tally) {
             empty += usize::from(numbers.is_empty() && !all.is_empty());
             if let Group::Pair(_, i) = group {
                 let newest = number_count(&netlist, depth, Group::Pair(i - 1, i));
-                uneven += usize::from(counts[1] != newest);
+                uneven += usize::from(need != newest);
             }
         }
         let numbers = formula.numbers();
@@ -300,12 +298,11 @@ pub fn headings(tally: &mut Tally) {
         let netlist = wide_netlist(&mut random);
         let depth = random.pick(&[0, 1, 3, 8, 20]);
         let numbers = Formula::new(&netlist, depth, Fault::None).numbers();
-        let ends = numbers.iter().filter(|number| **number == 0).count();
         let largest = numbers.iter().map(|number| number.abs()).max();
         let variables = frame_base(&netlist, depth + 1);
         let expected = Heading {
             variables,
-            clauses: ends as i64,
+            clauses: counted(&numbers)[0],
         };
         tally.equal((round, "heading"), heading(&netlist, depth), Ok(expected));
         let fits = largest.map_or(false, |largest| i64::from(largest) <= variables);
@@ -378,44 +375,45 @@ pub fn single_feeds(tally: &mut Tally) {
     }
 }
 
-/// Each fault, and which checks are to notice it: demand 3's first half, its second half, and
-/// the lengths. A fault that a check is not to notice must pass it on every case.
-const FAULTS: [(Fault, [bool; 3]); 17] = [
-    (Fault::OwnFrameWrite, [true, true, true]),
-    (Fault::OldestWrite, [true, true, true]),
-    (Fault::ReaderWriteEnable, [true, true, false]),
-    (Fault::IdleReadsZero, [false, true, true]),
-    (Fault::IdleReadsFree, [true, false, true]),
-    (Fault::HolderReadEnable, [true, true, false]),
-    (Fault::EqualitySettled, [false, false, true]),
-    (Fault::ConstantsKept, [false, false, true]),
-    (Fault::TrueClauseWritten, [false, false, true]),
-    (Fault::TrueLiteralDropped, [false, true, true]),
-    (Fault::FalseLiteralKept, [false, false, true]),
-    (Fault::EmptyClauseOmitted, [true, false, true]),
-    (Fault::EmptyClauseBare, [false, false, true]),
-    (Fault::FirstClauseOmitted, [true, false, true]),
-    (Fault::StartBitsKept, [false, false, true]),
-    (Fault::BothSignsOmitted, [false, false, true]),
-    (Fault::NewestPairCounted, [false, false, true]),
+/// Each fault, and which checks are to notice it: demand 3's first half, its second half, the
+/// lengths, and the heading. A fault that a check is not to notice must pass it on every case.
+const FAULTS: [(Fault, [bool; 4]); 17] = [
+    (Fault::OwnFrameWrite, [true, true, true, true]),
+    (Fault::OldestWrite, [true, true, true, false]),
+    (Fault::ReaderWriteEnable, [true, true, false, false]),
+    (Fault::IdleReadsZero, [false, true, true, true]),
+    (Fault::IdleReadsFree, [true, false, true, true]),
+    (Fault::HolderReadEnable, [true, true, false, false]),
+    (Fault::EqualitySettled, [false, false, true, true]),
+    (Fault::ConstantsKept, [false, false, true, true]),
+    (Fault::TrueClauseWritten, [false, false, true, true]),
+    (Fault::TrueLiteralDropped, [false, true, true, true]),
+    (Fault::FalseLiteralKept, [false, false, true, false]),
+    (Fault::EmptyClauseOmitted, [true, false, true, true]),
+    (Fault::EmptyClauseBare, [false, false, true, false]),
+    (Fault::FirstClauseOmitted, [true, false, true, true]),
+    (Fault::StartBitsKept, [false, false, true, true]),
+    (Fault::BothSignsOmitted, [false, false, true, true]),
+    (Fault::NewestPairCounted, [false, false, true, true]),
 ];
 
 pub fn faults(tally: &mut Tally) {
     let cases = tiny_cases(500);
     let mut remarks = Vec::new();
     for (fault, expected) in FAULTS {
-        let mut caught = [0; 3];
+        let mut caught = [0; 4];
         for (netlist, depth) in &cases {
             let found = compare(netlist, *depth, fault);
             caught[0] += usize::from(found.disagreeing > 0);
             caught[1] += usize::from(found.missed > 0);
             caught[2] += usize::from(!lengths_hold(netlist, *depth, fault));
+            caught[3] += usize::from(!heading_holds(netlist, *depth, fault));
         }
         tally.equal(fault, caught.map(|count| count > 0), expected);
         remarks.push(format!("{fault:?} {caught:?}"));
     }
     tally.remark = format!(
-        " (of {} cases, by first half, second half, lengths: {})",
+        " (of {} cases, by first half, second half, lengths, heading: {})",
         cases.len(),
         remarks.join(", ")
     );
