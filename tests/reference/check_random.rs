@@ -12,7 +12,7 @@ use super::random::{
     damaged_record, damaged_sheet, random_feeds, tiny_netlist, wide_netlist, Random, SHAPES,
 };
 use super::refusal::{Refusal, CODE, MEMORY_LOOP, NO_ROOM, OUT_OF_ORDER};
-use super::sheet::{read_sheet, write_depth, write_sheet, LINE_BYTES};
+use super::sheet::{expand, read_sheet, write_depth, write_sheet, LINE_BYTES};
 use super::solver::{satisfies, Solver};
 use super::Tally;
 
@@ -362,6 +362,42 @@ pub fn demand_3(tally: &mut Tally) {
         " ({satisfiable} satisfiable, {unsatisfiable} unsatisfiable, {constant} with constant P, \
          {models} assignments)"
     );
+}
+
+/// Start word, next code, address code, write-data code, WE, RE and P of a sheet with wires input
+/// 1, latch 2 and read bit 3: constants and at least one wire.
+const CODES: [&[u32]; 7] = [
+    &[0, 1],
+    &[0, 1, 6],
+    &[0, 1, 2],
+    &[0, 1, 3],
+    &[0, 1, 4],
+    &[0, 1, 2],
+    &[0, 1, 6, 7],
+];
+
+/// Both halves of demand 3 at depth 2 with every set of constants, and the counts.
+pub fn constant_sets(tally: &mut Tally) {
+    let sets: usize = CODES.iter().map(|choices| choices.len()).product();
+    let mut satisfiable = 0;
+    for set in 0..sets {
+        let mut rest = set;
+        let [start, next, address, data, write, read, property] = CODES.map(|choices| {
+            let choice = choices[rest % choices.len()];
+            rest /= choices.len();
+            choice
+        });
+        let lines = format!("N 1 1 0/M 1 1 {start}/L {next} 1/A {address}/D {data}");
+        let short = format!("{lines}/C {write} {read} {property}");
+        let netlist = read_sheet(&expand(&short), 1, 0).expect("an accepted sheet");
+        let found = compare(&netlist, 2, Fault::None);
+        tally.check((&short, "demand 3"), found.holds());
+        let counts = lengths_hold(&netlist, 2, Fault::None);
+        let heading = heading_holds(&netlist, 2, Fault::None);
+        tally.check((&short, "counts"), counts && heading);
+        satisfiable += usize::from(found.models > 0);
+    }
+    tally.remark = format!(" ({satisfiable} of {sets} satisfiable)");
 }
 
 /// Demand 3 for random feeds of netlists of every size.

@@ -97,7 +97,7 @@ pub fn number_count(netlist: &Netlist, depth: u32, group: Group) -> i64 {
 fn counts(netlist: &Netlist, depth: u32, group: Group) -> [i64; 2] {
     match group {
         Group::Wires(frame) => wires_counts(netlist, frame),
-        Group::Pair(j, i) => pair_counts(netlist, j + 1 == i),
+        Group::Pair(j, i) => pair_counts(netlist, i.checked_sub(1) == Some(j)),
         Group::Closing(i) => closing_counts(netlist, i64::from(i)),
         Group::Property => match constant(netlist.property) {
             None => [1, i64::from(depth) + 2],
