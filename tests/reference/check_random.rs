@@ -4,15 +4,15 @@ use std::collections::HashSet;
 
 use super::agreement::{compare, propagation_follows_run};
 use super::formula::{
-    clause_count, frame_base, frames, group_call, heading, number_count, pair_base, pair_size,
-    Fault, Formula, Heading,
+    clause_bound, clause_count, frame_base, frames, group_call, heading, number_bound,
+    number_count, pair_base, pair_size, Fault, Formula, Group, Heading,
 };
 use super::netlist::Netlist;
 use super::random::{
     damaged_record, damaged_sheet, random_feeds, tiny_netlist, wide_netlist, Random, SHAPES,
 };
 use super::refusal::{Refusal, CODE, MEMORY_LOOP, NO_ROOM, OUT_OF_ORDER};
-use super::sheet::{read_sheet, write_depth, write_sheet, LINE_BYTES};
+use super::sheet::{expand, read_sheet, write_depth, write_sheet, LINE_BYTES};
 use super::solver::{satisfies, Solver};
 use super::Tally;
 
@@ -162,18 +162,102 @@ pub fn numbering(tally: &mut Tally) {
     }
 }
 
-/// Whether every group of a formula has the numbers of clauses and of numbers of RULES G18 and G19.
-fn lengths_hold(netlist: &Netlist, depth: u32, fault: Fault) -> bool {
-    let formula = Formula::new(netlist, depth, fault);
-    formula.groups().into_iter().all(|group| {
-        let numbers = formula.group(group);
-        let clauses = numbers.iter().filter(|number| **number == 0).count();
-        numbers.len() as i64 == number_count(netlist, depth, group)
-            && clauses as i64 == clause_count(netlist, group)
-    })
+/// Clauses and numbers that are really there.
+fn counted(numbers: &[i32]) -> [i64; 2] {
+    let clauses = numbers.iter().filter(|number| **number == 0).count();
+    [clauses as i64, numbers.len() as i64]
 }
 
-/// Closed forms against what is written; a slice of exactly that length is enough, one less not.
+/// Whether every group of a formula has the clauses and numbers counted for it.
+fn lengths_hold(netlist: &Netlist, depth: u32, fault: Fault) -> bool {
+    let formula = Formula::new(netlist, depth, fault);
+    formula
+        .groups()
+        .into_iter()
+        .all(|group| counted(&formula.group(group)) == formula.counts(group))
+}
+
+/// Whether all groups of a formula together have the clauses of its heading.
+fn heading_holds(netlist: &Netlist, depth: u32, fault: Fault) -> bool {
+    let formula = Formula::new(netlist, depth, fault);
+    counted(&formula.numbers())[0] == formula.clause_total()
+}
+
+/// What K4 leaves of clauses with constants in them: variable 1 stands for no wire, so a number 1
+/// is a true literal and -1 a false one.
+fn without_constants(numbers: &[i32]) -> Vec<i32> {
+    let mut left = Vec::new();
+    for clause in numbers.split_inclusive(|number| *number == 0) {
+        if clause.contains(&1) {
+            continue;
+        }
+        let kept = clause.iter().filter(|number| **number != -1);
+        match clause {
+            [.., 0] if kept.clone().count() == 1 => left.extend([-1, 0]),
+            _ => left.extend(kept),
+        }
+    }
+    left
+}
+
+/// Every group is what K4 leaves of the group of K3, whose counts are the closed forms; these are
+/// bounds of what is counted now. Variable 1 stands in the first clause and in a last -1 alone.
+pub fn constants(tally: &mut Tally) {
+    let mut random = Random::new(10);
+    let [mut shorter, mut empty, mut uneven] = [0; 3];
+    for round in 0..400 {
+        let netlist = if round % 4 == 0 {
+            wide_netlist(&mut random)
+        } else {
+            tiny_netlist(&mut random)
+        };
+        let depth = random.pick(&[0, 1, 2, 5]);
+        let formula = Formula::new(&netlist, depth, Fault::None);
+        let full = Formula::new(&netlist, depth, Fault::ConstantsKept);
+        for group in formula.groups() {
+            let (numbers, all) = (formula.group(group), full.group(group));
+            let most = [
+                clause_bound(&netlist, group),
+                number_bound(&netlist, depth, group),
+            ];
+            let [clauses, need] = [
+                clause_count(&netlist, group),
+                number_count(&netlist, depth, group),
+            ];
+            tally.equal((round, group, "closed form"), counted(&all), most);
+            let within = clauses <= most[0] && need <= most[1];
+            tally.check((round, group, "bound"), within);
+            let mut left = without_constants(&all);
+            if group == Group::Wires(0) {
+                left.splice(..0, [1, 0]);
+            }
+            tally.check((round, group), numbers == left);
+            shorter += usize::from(numbers.len() < all.len());
+            empty += usize::from(numbers.is_empty() && !all.is_empty());
+            if let Group::Pair(_, i) = group {
+                let newest = number_count(&netlist, depth, Group::Pair(i - 1, i));
+                uneven += usize::from(need != newest);
+            }
+        }
+        let numbers = formula.numbers();
+        let ones: Vec<usize> = (0..numbers.len())
+            .filter(|at| numbers[*at].abs() == 1)
+            .collect();
+        let mut expected = vec![0];
+        if netlist.property == 1 {
+            expected.push(numbers.len() - 2);
+        }
+        tally.equal((round, "variable 1"), ones, expected);
+    }
+    for (name, count) in [("shorter", shorter), ("empty", empty), ("uneven", uneven)] {
+        tally.check(("occurrences of", name, count), count >= 20);
+    }
+    tally.remark = format!(
+        " ({shorter} groups shorter than K3's, {empty} empty, {uneven} pairs unlike the newest)"
+    );
+}
+
+/// Counts against what is written; a slice of exactly that length is enough, one less not.
 pub fn lengths(tally: &mut Tally) {
     let mut random = Random::new(6);
     for round in 0..200 {
@@ -214,12 +298,11 @@ pub fn headings(tally: &mut Tally) {
         let netlist = wide_netlist(&mut random);
         let depth = random.pick(&[0, 1, 3, 8, 20]);
         let numbers = Formula::new(&netlist, depth, Fault::None).numbers();
-        let ends = numbers.iter().filter(|number| **number == 0).count();
         let largest = numbers.iter().map(|number| number.abs()).max();
         let variables = frame_base(&netlist, depth + 1);
         let expected = Heading {
             variables,
-            clauses: ends as i64,
+            clauses: counted(&numbers)[0],
         };
         tally.equal((round, "heading"), heading(&netlist, depth), Ok(expected));
         let fits = largest.map_or(false, |largest| i64::from(largest) <= variables);
@@ -245,7 +328,7 @@ fn dimacs(heading: Heading, numbers: &[i32]) -> String {
 }
 
 /// Tiny netlists with a depth of at most 2, the same for every caller. I and n are at most 2, so
-/// each case has at most 2^12 runs.
+/// each case has at most 2^8 runs.
 fn tiny_cases(count: usize) -> Vec<(Netlist, u32)> {
     let mut random = Random::new(8);
     let mut cases = Vec::new();
@@ -281,6 +364,42 @@ pub fn demand_3(tally: &mut Tally) {
     );
 }
 
+/// Start word, next code, address code, write-data code, WE, RE and P of a sheet with wires input
+/// 1, latch 2 and read bit 3: constants and at least one wire.
+const CODES: [&[u32]; 7] = [
+    &[0, 1],
+    &[0, 1, 6],
+    &[0, 1, 2],
+    &[0, 1, 3],
+    &[0, 1, 4],
+    &[0, 1, 2],
+    &[0, 1, 6, 7],
+];
+
+/// Both halves of demand 3 at depth 2 with every set of constants, and the counts.
+pub fn constant_sets(tally: &mut Tally) {
+    let sets: usize = CODES.iter().map(|choices| choices.len()).product();
+    let mut satisfiable = 0;
+    for set in 0..sets {
+        let mut rest = set;
+        let [start, next, address, data, write, read, property] = CODES.map(|choices| {
+            let choice = choices[rest % choices.len()];
+            rest /= choices.len();
+            choice
+        });
+        let lines = format!("N 1 1 0/M 1 1 {start}/L {next} 1/A {address}/D {data}");
+        let short = format!("{lines}/C {write} {read} {property}");
+        let netlist = read_sheet(&expand(&short), 1, 0).expect("an accepted sheet");
+        let found = compare(&netlist, 2, Fault::None);
+        tally.check((&short, "demand 3"), found.holds());
+        let counts = lengths_hold(&netlist, 2, Fault::None);
+        let heading = heading_holds(&netlist, 2, Fault::None);
+        tally.check((&short, "counts"), counts && heading);
+        satisfiable += usize::from(found.models > 0);
+    }
+    tally.remark = format!(" ({satisfiable} of {sets} satisfiable)");
+}
+
 /// Demand 3 for random feeds of netlists of every size.
 pub fn single_feeds(tally: &mut Tally) {
     let mut random = Random::new(9);
@@ -292,32 +411,45 @@ pub fn single_feeds(tally: &mut Tally) {
     }
 }
 
-/// Each fault, and which checks are to notice it: demand 3's first half, its second half, and
-/// the lengths. A fault that a check is not to notice must pass it on every case.
-const FAULTS: [(Fault, [bool; 3]); 5] = [
-    (Fault::OwnFrameWrite, [true, true, true]),
-    (Fault::OldestWrite, [true, true, false]),
-    (Fault::ReaderWriteEnable, [true, true, false]),
-    (Fault::IdleReadsZero, [false, true, true]),
-    (Fault::EqualitySettled, [false, false, true]),
+/// Each fault, and which checks are to notice it: demand 3's first half, its second half, the
+/// lengths, and the heading. A fault that a check is not to notice must pass it on every case.
+const FAULTS: [(Fault, [bool; 4]); 17] = [
+    (Fault::OwnFrameWrite, [true, true, true, true]),
+    (Fault::OldestWrite, [true, true, true, false]),
+    (Fault::ReaderWriteEnable, [true, true, false, false]),
+    (Fault::IdleReadsZero, [false, true, true, true]),
+    (Fault::IdleReadsFree, [true, false, true, true]),
+    (Fault::HolderReadEnable, [true, true, false, false]),
+    (Fault::EqualitySettled, [false, false, true, true]),
+    (Fault::ConstantsKept, [false, false, true, true]),
+    (Fault::TrueClauseWritten, [false, false, true, true]),
+    (Fault::TrueLiteralDropped, [false, true, true, true]),
+    (Fault::FalseLiteralKept, [false, false, true, false]),
+    (Fault::EmptyClauseOmitted, [true, false, true, true]),
+    (Fault::EmptyClauseBare, [false, false, true, false]),
+    (Fault::FirstClauseOmitted, [true, false, true, true]),
+    (Fault::StartBitsKept, [false, false, true, true]),
+    (Fault::BothSignsOmitted, [false, false, true, true]),
+    (Fault::NewestPairCounted, [false, false, true, true]),
 ];
 
 pub fn faults(tally: &mut Tally) {
     let cases = tiny_cases(500);
     let mut remarks = Vec::new();
     for (fault, expected) in FAULTS {
-        let mut caught = [0; 3];
+        let mut caught = [0; 4];
         for (netlist, depth) in &cases {
             let found = compare(netlist, *depth, fault);
             caught[0] += usize::from(found.disagreeing > 0);
             caught[1] += usize::from(found.missed > 0);
             caught[2] += usize::from(!lengths_hold(netlist, *depth, fault));
+            caught[3] += usize::from(!heading_holds(netlist, *depth, fault));
         }
         tally.equal(fault, caught.map(|count| count > 0), expected);
         remarks.push(format!("{fault:?} {caught:?}"));
     }
     tally.remark = format!(
-        " (of {} cases, by first half, second half, lengths: {})",
+        " (of {} cases, by first half, second half, lengths, heading: {})",
         cases.len(),
         remarks.join(", ")
     );

@@ -427,15 +427,18 @@ pub fn records(tally: &mut Tally) {
 }
 
 /// Depth, group, and the exact need or the refusal, for FULL_RUN: V = 2, m = n = 1, L = A = 0.
-pub const GROUP_CALLS: [(u32, Group, Result<usize, u32>); 31] = [
+pub const GROUP_CALLS: [(u32, Group, Result<usize, u32>); 33] = [
     (0, Group::Wires(0), Ok(2)),
     (1, Group::Wires(1), Ok(0)),
     (255, Group::Wires(255), Ok(0)),
-    (0, Group::Closing(0), Ok(11)),
-    (1, Group::Closing(1), Ok(12)),
-    (255, Group::Closing(255), Ok(266)),
-    (1, Group::Pair(0, 1), Ok(57)),
-    (255, Group::Pair(254, 255), Ok(57)),
+    (0, Group::Closing(0), Ok(2)),
+    (1, Group::Closing(1), Ok(6)),
+    (255, Group::Closing(255), Ok(260)),
+    // N is RE, a constant, only where j = i - 1.
+    (1, Group::Pair(0, 1), Ok(31)),
+    (255, Group::Pair(254, 255), Ok(31)),
+    (255, Group::Pair(253, 255), Ok(39)),
+    (2, Group::Pair(0, 2), Ok(39)),
     (0, Group::Property, Ok(2)),
     (255, Group::Property, Ok(257)),
     // 7 comes before 8 and 9.
@@ -462,6 +465,80 @@ pub const GROUP_CALLS: [(u32, Group, Result<usize, u32>); 31] = [
     (255, Group::Pair(u32::MAX, 255), Err(NO_SUCH_GROUP)),
     (255, Group::Pair(u32::MAX, u32::MAX), Err(NO_SUCH_GROUP)),
 ];
+
+/// Sheet, depth, group, and the exact need, for sheets with other constants. RICH has none but the
+/// start bits.
+#[rustfmt::skip]
+pub const NEEDS: [(&str, u32, Group, usize); 46] = [
+    // P = 0: the clause has a true literal. P = 1: it is left empty, and -1 stands for it.
+    ("N 1 0 0/M 1 1 0/A 0/D 2/C 1 1 0", 0, Group::Property, 0),
+    ("N 1 0 0/M 1 1 0/A 0/D 2/C 1 1 0", 255, Group::Property, 0),
+    ("N 1 0 0/M 1 1 0/A 0/D 2/C 1 1 1", 0, Group::Property, 2),
+    ("N 1 0 0/M 1 1 0/A 0/D 2/C 1 1 1", 255, Group::Property, 2),
+    (RICH, 0, Group::Property, 2),
+    (RICH, 255, Group::Property, 257),
+    // RE: false, true, the input. n = 2.
+    ("N 1 0 0/M 1 2 2/A 2/D 2/D 2/C 2 0 2", 2, Group::Closing(0), 0),
+    ("N 1 0 0/M 1 2 2/A 2/D 2/D 2/C 2 0 2", 2, Group::Closing(1), 18),
+    ("N 1 0 0/M 1 2 2/A 2/D 2/D 2/C 2 0 2", 2, Group::Closing(2), 18),
+    ("N 1 0 0/M 1 2 2/A 2/D 2/D 2/C 2 1 2", 2, Group::Closing(0), 4),
+    ("N 1 0 0/M 1 2 2/A 2/D 2/D 2/C 2 1 2", 2, Group::Closing(1), 9),
+    ("N 1 0 0/M 1 2 2/A 2/D 2/D 2/C 2 1 2", 2, Group::Closing(2), 10),
+    ("N 1 0 0/M 1 2 2/A 2/D 2/D 2/C 2 2 2", 2, Group::Closing(0), 9),
+    ("N 1 0 0/M 1 2 2/A 2/D 2/D 2/C 2 2 2", 2, Group::Closing(1), 26),
+    ("N 1 0 0/M 1 2 2/A 2/D 2/D 2/C 2 2 2", 2, Group::Closing(2), 27),
+    (RICH, 2, Group::Closing(0), 9),
+    (RICH, 2, Group::Closing(1), 26),
+    // Pairs, by RE: the gates of PS and S have 10, 12 or 20 numbers where N is RE, else 20.
+    ("N 1 0 0/M 1 1 0/A 2/D 2/C 2 0 2", 2, Group::Pair(1, 2), 47),
+    ("N 1 0 0/M 1 1 0/A 2/D 2/C 2 0 2", 2, Group::Pair(0, 2), 57),
+    ("N 1 0 0/M 1 1 0/A 2/D 2/C 2 1 2", 2, Group::Pair(1, 2), 49),
+    ("N 1 0 0/M 1 1 0/A 2/D 2/C 2 1 2", 2, Group::Pair(0, 2), 57),
+    ("N 1 0 0/M 1 1 0/A 2/D 2/C 2 3 2", 2, Group::Pair(1, 2), 57),
+    ("N 1 0 0/M 1 1 0/A 2/D 2/C 2 3 2", 2, Group::Pair(0, 2), 57),
+    // Pairs, by WE, write data and address.
+    ("N 1 0 0/M 1 1 0/A 2/D 2/C 0 2 2", 2, Group::Pair(0, 2), 52),
+    ("N 1 0 0/M 1 1 0/A 2/D 2/C 1 2 2", 2, Group::Pair(0, 2), 53),
+    ("N 1 0 0/M 1 1 0/A 2/D 0/C 2 2 2", 2, Group::Pair(0, 2), 52),
+    ("N 1 0 0/M 1 1 0/A 2/D 1/C 2 2 2", 2, Group::Pair(0, 2), 52),
+    ("N 1 0 0/M 1 1 0/A 0/D 2/C 2 2 2", 2, Group::Pair(0, 2), 43),
+    ("N 1 0 0/M 1 1 0/A 1/D 2/C 2 2 2", 2, Group::Pair(0, 2), 43),
+    ("N 1 0 0/M 2 1 0/A 1/A 2/D 2/C 2 2 2", 2, Group::Pair(0, 2), 60),
+    (RICH, 2, Group::Pair(1, 2), 82),
+    (RICH, 2, Group::Pair(0, 2), 82),
+    // One latch, by its next code. Resets are no literals.
+    ("N 0 1 0/M 1 1 0/L 0 0/A 2/D 2/C 2 2 2", 1, Group::Wires(0), 4),
+    ("N 0 1 0/M 1 1 0/L 0 1/A 2/D 2/C 2 2 2", 1, Group::Wires(1), 2),
+    ("N 0 1 0/M 1 1 0/L 1 0/A 2/D 2/C 2 2 2", 1, Group::Wires(1), 2),
+    ("N 0 1 0/M 1 1 0/L 3 0/A 2/D 2/C 2 2 2", 1, Group::Wires(1), 6),
+    // One gate, by its operands. A wire and its inverse are no constant.
+    ("N 1 0 1/M 1 1 0/G 0 0/A 2/D 2/C 2 2 2", 1, Group::Wires(1), 4),
+    ("N 1 0 1/M 1 1 0/G 0 1/A 2/D 2/C 2 2 2", 1, Group::Wires(1), 2),
+    ("N 1 0 1/M 1 1 0/G 1 0/A 2/D 2/C 2 2 2", 1, Group::Wires(1), 2),
+    ("N 1 0 1/M 1 1 0/G 1 1/A 2/D 2/C 2 2 2", 1, Group::Wires(1), 2),
+    ("N 1 0 1/M 1 1 0/G 2 0/A 2/D 2/C 2 2 2", 1, Group::Wires(1), 5),
+    ("N 1 0 1/M 1 1 0/G 0 3/A 2/D 2/C 2 2 2", 1, Group::Wires(1), 5),
+    ("N 1 0 1/M 1 1 0/G 2 1/A 2/D 2/C 2 2 2", 1, Group::Wires(1), 6),
+    ("N 1 0 1/M 1 1 0/G 1 3/A 2/D 2/C 2 2 2", 1, Group::Wires(1), 6),
+    ("N 1 0 1/M 1 1 0/G 2 3/A 2/D 2/C 2 2 2", 1, Group::Wires(1), 10),
+    ("N 1 0 1/M 1 1 0/G 2 2/A 2/D 2/C 2 2 2", 1, Group::Wires(0), 12),
+];
+
+/// The exact needs of `NEEDS`, and one less.
+pub fn needs(tally: &mut Tally) {
+    for (short, depth, group, need) in NEEDS {
+        let netlist = accepted(short);
+        let call = |room| group_call(&netlist, depth, group, room).map(|it| it.len());
+        tally.equal((short, group, need), call(need), Ok(need));
+        if need > 0 {
+            tally.equal(
+                (short, group, need - 1),
+                verdict(call(need - 1)),
+                (NO_ROOM, 0),
+            );
+        }
+    }
+}
 
 /// 10 is met by no accepted record; `largest_sizes` shows the bound that keeps it away.
 pub fn group_calls(tally: &mut Tally) {

@@ -1,14 +1,15 @@
 //! The formula of the unrolling to depth k: numbers of variables, groups of clauses, group calls,
-//! heading, and the text of `frames`. RULES V1 to V6, G1 to G23, T40 to T43,
-//! P2 and P3.
+//! heading, and the text of `frames`. RULES V1 to V6, G1 to G15, T40 to T43, P2 and P3; the
+//! closing as K3 has it, and what is written of every group as K4 has it.
 
 use std::io::Write;
+use std::ops::Neg;
 
 use super::netlist::{Netlist, MAX_DEPTH};
 use super::refusal::{require, Refusal, DEPTH, NO_ROOM, NO_SUCH_GROUP, OUT_OF_NUMBERS};
 use super::sheet::{read_depth, read_sheet, write_field};
 
-/// Deliberate mistakes of a generator (RULES M1 to M5). They
+/// Deliberate mistakes of a generator (RULES M1 to M5, two on K3, and the rest on K4). They
 /// show that the checks notice them; `None` is the formula of the rules.
 #[derive(Clone, Copy, Debug, PartialEq, Eq)]
 pub enum Fault {
@@ -21,8 +22,32 @@ pub enum Fault {
     ReaderWriteEnable,
     /// Read bits are forced to 0 when RE is false.
     IdleReadsZero,
+    /// Read bits are left free when RE is false, above frame 0 too.
+    IdleReadsFree,
+    /// RE of frame i - 1 is used where RE of frame i belongs, in the clauses that hold the word.
+    HolderReadEnable,
     /// e is taken as settled: clauses are added that make it false where the bits differ.
     EqualitySettled,
+    /// Constants stand in clauses as 1 and -1, and every clause is written: K4 is left out.
+    ConstantsKept,
+    /// A clause with a true literal is written, with 1 for it.
+    TrueClauseWritten,
+    /// A true literal is dropped from its clause as a false one is.
+    TrueLiteralDropped,
+    /// False literals are written as -1.
+    FalseLiteralKept,
+    /// A clause left empty is not written.
+    EmptyClauseOmitted,
+    /// A clause left empty is written as its end mark alone.
+    EmptyClauseBare,
+    /// The first clause, (1), is left out as one with a true literal.
+    FirstClauseOmitted,
+    /// The start bits are written as 1 and -1 in the closing.
+    StartBitsKept,
+    /// A clause with both signs of a wire is not written.
+    BothSignsOmitted,
+    /// Each pair of a frame is counted as the one with j = i - 1.
+    NewestPairCounted,
 }
 
 #[derive(Clone, Copy, Debug, PartialEq, Eq)]
@@ -58,26 +83,126 @@ pub fn pair_size(netlist: &Netlist) -> i64 {
     i64::from(netlist.address_width) + 4
 }
 
-/// The closed form of RULES G18: clauses of a group.
+/// Clauses of a group. Those of the property do not depend on the depth.
 pub fn clause_count(netlist: &Netlist, group: Group) -> i64 {
+    counts(netlist, 0, group)[0]
+}
+
+/// Numbers of a group with end marks: the exact need of its slice.
+pub fn number_count(netlist: &Netlist, depth: u32, group: Group) -> i64 {
+    counts(netlist, depth, group)[1]
+}
+
+/// Clauses and numbers of a group, by which of its codes are constants; nothing is written here.
+fn counts(netlist: &Netlist, depth: u32, group: Group) -> [i64; 2] {
+    match group {
+        Group::Wires(frame) => wires_counts(netlist, frame),
+        Group::Pair(j, i) => pair_counts(netlist, i.checked_sub(1) == Some(j)),
+        Group::Closing(i) => closing_counts(netlist, i64::from(i)),
+        Group::Property => match constant(netlist.property) {
+            None => [1, i64::from(depth) + 2],
+            Some(true) => [1, 2],
+            Some(false) => [0, 0],
+        },
+    }
+}
+
+/// The value of a code that is a constant.
+fn constant(code: u32) -> Option<bool> {
+    (code < 2).then(|| code == 1)
+}
+
+fn total(parts: impl IntoIterator<Item = [i64; 2]>) -> [i64; 2] {
+    let add = |[clauses, numbers]: [i64; 2], part: [i64; 2]| [clauses + part[0], numbers + part[1]];
+    parts.into_iter().fold([0, 0], add)
+}
+
+fn times(count: i64, [clauses, numbers]: [i64; 2]) -> [i64; 2] {
+    [count * clauses, count * numbers]
+}
+
+/// The three clauses of a gate, by its operands.
+fn gate_counts(left: Option<bool>, right: Option<bool>) -> [i64; 2] {
+    match (left, right) {
+        (None, None) => [3, 10],
+        (None, Some(true)) | (Some(true), None) => [2, 6],
+        (None, Some(false)) | (Some(false), None) => [2, 5],
+        (Some(false), Some(false)) => [2, 4],
+        _ => [1, 2],
+    }
+}
+
+fn wires_counts(netlist: &Netlist, frame: u32) -> [i64; 2] {
+    let latches = &netlist.latches[..netlist.latch_count as usize];
+    let gates = &netlist.gates[..netlist.gate_count as usize];
+    let of_latch = |next: u32| match (frame, constant(next)) {
+        (0, _) | (_, Some(_)) => [1, 2],
+        (_, None) => [2, 6],
+    };
+    let first = if frame == 0 { [1, 2] } else { [0, 0] };
+    let latches = total(latches.iter().map(|latch| of_latch(latch.next)));
+    let gates = gates
+        .iter()
+        .map(|gate| gate_counts(constant(gate.left), constant(gate.right)));
+    total([first, latches, total(gates)])
+}
+
+/// A pair whose N is RE (`newest`) or a variable.
+fn pair_counts(netlist: &Netlist, newest: bool) -> [i64; 2] {
+    let of_address_bit = |code: &u32| match constant(*code) {
+        None => [4, 16],
+        Some(_) => [1, 2],
+    };
+    let of_data_bit = |code: &u32| match constant(*code) {
+        None => [2, 8],
+        Some(_) => [1, 3],
+    };
+    let newer = constant(netlist.read_enable).filter(|_| newest);
+    total([
+        total(netlist.address_codes().iter().map(of_address_bit)),
+        [1, i64::from(netlist.address_width) + 2],
+        gate_counts(None, constant(netlist.write_enable)),
+        times(2, gate_counts(None, newer)),
+        total(netlist.write_data_codes().iter().map(of_data_bit)),
+    ])
+}
+
+/// Of the two clauses with a start bit one has a true literal. In frame 0 Z is RE.
+fn closing_counts(netlist: &Netlist, i: i64) -> [i64; 2] {
+    let [start, hold, last] = match (constant(netlist.read_enable), i) {
+        (None, 0) => [[1, 3], [0, 0], [1, 3]],
+        (None, _) => [[1, 3], [2, 8], [1, i + 3]],
+        (Some(true), 0) => [[1, 2], [0, 0], [0, 0]],
+        (Some(true), _) => [[1, 3], [0, 0], [1, i + 2]],
+        (Some(false), 0) => [[0, 0], [0, 0], [0, 0]],
+        (Some(false), _) => [[1, 3], [2, 6], [0, 0]],
+    };
+    let n = i64::from(netlist.data_width);
+    total([times(n, start), times(n, hold), last])
+}
+
+/// The closed form of K3, which counts constants too: no group has more clauses.
+pub fn clause_bound(netlist: &Netlist, group: Group) -> i64 {
     let [latches, gates, m, n] = sizes(netlist);
     match group {
         Group::Wires(0) => 1 + latches + 3 * gates,
         Group::Wires(_) => 2 * latches + 3 * gates,
         Group::Pair(..) => 4 * m + 2 * n + 10,
-        Group::Closing(_) => 2 * n + 1,
+        Group::Closing(0) => 2 * n + 1,
+        Group::Closing(_) => 4 * n + 1,
         Group::Property => 1,
     }
 }
 
-/// The closed form of RULES G19: numbers of a group with end marks.
-pub fn number_count(netlist: &Netlist, depth: u32, group: Group) -> i64 {
+/// The closed form of K3, which counts constants too: no group has more numbers.
+pub fn number_bound(netlist: &Netlist, depth: u32, group: Group) -> i64 {
     let [latches, gates, m, n] = sizes(netlist);
     match group {
         Group::Wires(0) => 2 + 2 * latches + 10 * gates,
         Group::Wires(_) => 6 * latches + 10 * gates,
         Group::Pair(..) => 17 * m + 8 * n + 32,
-        Group::Closing(i) => 8 * n + i64::from(i) + 3,
+        Group::Closing(0) => 8 * n + 3,
+        Group::Closing(i) => 16 * n + i64::from(i) + 3,
         Group::Property => i64::from(depth) + 2,
     }
 }
@@ -92,25 +217,89 @@ fn sizes(netlist: &Netlist) -> [i64; 4] {
     .map(i64::from)
 }
 
+/// What a code is in a frame: a constant or a clause number.
+#[derive(Clone, Copy, Debug, PartialEq, Eq)]
+enum Literal {
+    True,
+    False,
+    Number(i32),
+}
+
+impl Literal {
+    fn constant(value: bool) -> Literal {
+        if value {
+            Literal::True
+        } else {
+            Literal::False
+        }
+    }
+}
+
+impl Neg for Literal {
+    type Output = Literal;
+
+    fn neg(self) -> Literal {
+        match self {
+            Literal::True => Literal::False,
+            Literal::False => Literal::True,
+            Literal::Number(number) => Literal::Number(-number),
+        }
+    }
+}
+
 /// Clauses as numbers, each clause followed by 0.
-#[derive(Default)]
-struct Clauses(Vec<i32>);
+struct Clauses {
+    numbers: Vec<i32>,
+    fault: Fault,
+}
 
 impl Clauses {
-    fn clause(&mut self, literals: &[i32]) {
-        self.0.extend_from_slice(literals);
-        self.0.push(0);
+    fn new(fault: Fault) -> Clauses {
+        Clauses {
+            numbers: Vec::new(),
+            fault,
+        }
+    }
+
+    /// A clause with a true literal is not written, false literals are dropped, and -1 stands for
+    /// a clause left empty.
+    fn clause(&mut self, literals: &[Literal]) {
+        let true_number = match self.fault {
+            Fault::ConstantsKept | Fault::TrueClauseWritten => Some(1),
+            Fault::TrueLiteralDropped => None,
+            _ if literals.contains(&Literal::True) => return,
+            _ => None,
+        };
+        let false_number = match self.fault {
+            Fault::ConstantsKept | Fault::FalseLiteralKept => Some(-1),
+            _ => None,
+        };
+        let written = |literal: &Literal| match literal {
+            Literal::True => true_number,
+            Literal::False => false_number,
+            Literal::Number(number) => Some(*number),
+        };
+        let mut clause: Vec<i32> = literals.iter().filter_map(written).collect();
+        match self.fault {
+            Fault::BothSignsOmitted if clause.iter().any(|it| clause.contains(&-it)) => return,
+            Fault::EmptyClauseOmitted if clause.is_empty() => return,
+            Fault::EmptyClauseBare => {}
+            _ if clause.is_empty() => clause.push(-1),
+            _ => {}
+        }
+        self.numbers.extend(clause);
+        self.numbers.push(0);
     }
 
     /// g = a AND b.
-    fn gate(&mut self, g: i32, a: i32, b: i32) {
+    fn gate(&mut self, g: Literal, a: Literal, b: Literal) {
         self.clause(&[-g, a]);
         self.clause(&[-g, b]);
         self.clause(&[g, -a, -b]);
     }
 
     /// condition implies a = b.
-    fn equal_if(&mut self, condition: i32, a: i32, b: i32) {
+    fn equal_if(&mut self, condition: Literal, a: Literal, b: Literal) {
         self.clause(&[-condition, -a, b]);
         self.clause(&[-condition, a, -b]);
     }
@@ -119,15 +308,15 @@ impl Clauses {
 /// The variables of one pair under the names of RULES V5.
 struct PairVariables {
     /// E: all address bits are equal.
-    all_equal: i32,
+    all_equal: Literal,
     /// e of each address bit.
-    equal: Vec<i32>,
+    equal: Vec<Literal>,
     /// s: frame j writes the word that frame i addresses.
-    matches: i32,
+    matches: Literal,
     /// PS: frame i reads, and no frame from j on matches.
-    pending: i32,
+    pending: Literal,
     /// S: frame i reads, and frame j is the newest that matches.
-    selected: i32,
+    selected: Literal,
 }
 
 /// The formula of an accepted netlist to a depth of at most 255.
@@ -153,6 +342,21 @@ impl<'a> Formula<'a> {
             _ => 0,
         };
         frame_base(self.netlist, self.depth + 1) + own_pairs * pair_size(self.netlist)
+    }
+
+    /// Clauses and numbers counted for a group before it is written.
+    pub fn counts(&self, group: Group) -> [i64; 2] {
+        let counted = match (self.fault, group) {
+            (Fault::NewestPairCounted, Group::Pair(_, i)) => Group::Pair(i - 1, i),
+            _ => group,
+        };
+        counts(self.netlist, self.depth, counted)
+    }
+
+    /// The clauses of the heading.
+    pub fn clause_total(&self) -> i64 {
+        let groups = self.groups().into_iter();
+        groups.map(|group| self.counts(group)[0]).sum()
     }
 
     /// All groups in the order of the whole.
@@ -194,10 +398,10 @@ impl<'a> Formula<'a> {
         }
     }
 
-    /// A code as a literal of one frame; variable 1 is true, so code 0 is -1 and code 1 is 1.
-    fn literal(&self, code: u32, frame: u32) -> i32 {
+    /// A code put into a frame.
+    fn literal(&self, code: u32, frame: u32) -> Literal {
         let positive = match code / 2 {
-            0 => -1,
+            0 => Literal::False,
             wire => number(frame_base(self.netlist, frame) + i64::from(wire)),
         };
         if code % 2 == 0 {
@@ -225,13 +429,13 @@ impl<'a> Formula<'a> {
     }
 
     fn wires(&self, frame: u32) -> Vec<i32> {
-        let mut clauses = Clauses::default();
-        if frame == 0 {
-            clauses.clause(&[1]);
+        let mut clauses = Clauses::new(self.fault);
+        if frame == 0 && self.fault != Fault::FirstClauseOmitted {
+            clauses.clause(&[number(1)]);
         }
         self.latch_clauses(&mut clauses, frame);
         self.gate_clauses(&mut clauses, frame);
-        clauses.0
+        clauses.numbers
     }
 
     fn latch_clauses(&self, clauses: &mut Clauses, frame: u32) {
@@ -261,7 +465,7 @@ impl<'a> Formula<'a> {
 
     fn pair(&self, j: u32, i: u32) -> Vec<i32> {
         let pair = self.pair_variables(j, i);
-        let mut clauses = Clauses::default();
+        let mut clauses = Clauses::new(self.fault);
         self.address_clauses(&mut clauses, &pair, j, i);
         self.select_clauses(&mut clauses, &pair, j, i);
         let read_data = self.netlist.read_data_codes();
@@ -269,7 +473,7 @@ impl<'a> Formula<'a> {
             let (read, write) = (self.literal(*read, i), self.literal(*write, j));
             clauses.equal_if(pair.selected, read, write);
         }
-        clauses.0
+        clauses.numbers
     }
 
     /// Four clauses for each address bit, bit by bit, then the clause that ends in E.
@@ -284,7 +488,7 @@ impl<'a> Formula<'a> {
                 clauses.equal_if(*e, aj, ai);
             }
         }
-        let mut last: Vec<i32> = pair.equal.iter().map(|e| -e).collect();
+        let mut last: Vec<Literal> = pair.equal.iter().map(|e| -*e).collect();
         last.push(pair.all_equal);
         clauses.clause(&last);
     }
@@ -302,7 +506,7 @@ impl<'a> Formula<'a> {
     }
 
     /// N of the pair (j, i): PS of the next newer pair, or RE of frame i at the newest.
-    fn pending_before(&self, j: u32, i: u32) -> i32 {
+    fn pending_before(&self, j: u32, i: u32) -> Literal {
         let neighbour = match self.fault {
             Fault::OldestWrite => j.checked_sub(1),
             _ => Some(j + 1).filter(|newer| *newer < self.writers(i)),
@@ -314,7 +518,7 @@ impl<'a> Formula<'a> {
     }
 
     /// Z of frame i: PS of the pair (0, i), or RE when there is no pair.
-    fn untouched(&self, i: u32) -> i32 {
+    fn untouched(&self, i: u32) -> Literal {
         match (self.writers(i), self.fault) {
             (0, _) => self.literal(self.netlist.read_enable, i),
             (writers, Fault::OldestWrite) => self.pair_variables(writers - 1, i).pending,
@@ -323,38 +527,58 @@ impl<'a> Formula<'a> {
     }
 
     fn closing(&self, i: u32) -> Vec<i32> {
-        let mut clauses = Clauses::default();
+        let mut clauses = Clauses::new(self.fault);
         let read_enable = self.literal(self.netlist.read_enable, i);
         let untouched = self.untouched(i);
         for (bit, code) in self.netlist.read_data_codes().iter().enumerate() {
             let read = self.literal(*code, i);
-            let start_bit = (self.netlist.start_word >> bit) & 1;
-            // A start bit is 1 or -1, which are codes 1 and 0 in every frame.
-            clauses.equal_if(untouched, read, self.literal(start_bit, i));
+            let start_bit = (self.netlist.start_word >> bit) & 1 == 1;
+            let start_literal = match self.fault {
+                Fault::StartBitsKept if start_bit => number(1),
+                Fault::StartBitsKept => -number(1),
+                _ => Literal::constant(start_bit),
+            };
+            clauses.equal_if(untouched, read, start_literal);
             if self.fault == Fault::IdleReadsZero {
                 clauses.clause(&[read_enable, -read]);
             }
         }
+        self.hold_clauses(&mut clauses, i);
         let mut last = vec![-read_enable, untouched];
         last.extend((0..self.writers(i)).map(|j| self.pair_variables(j, i).selected));
         clauses.clause(&last);
-        clauses.0
+        clauses.numbers
+    }
+
+    /// Above frame 0: where RE is false, the read bits are those of the frame before.
+    fn hold_clauses(&self, clauses: &mut Clauses, i: u32) {
+        if i == 0 || self.fault == Fault::IdleReadsFree {
+            return;
+        }
+        let enable_frame = match self.fault {
+            Fault::HolderReadEnable => i - 1,
+            _ => i,
+        };
+        let idle = -self.literal(self.netlist.read_enable, enable_frame);
+        for code in self.netlist.read_data_codes() {
+            clauses.equal_if(idle, self.literal(code, i), self.literal(code, i - 1));
+        }
     }
 
     fn property(&self) -> Vec<i32> {
         let property = self.netlist.property;
-        let broken: Vec<i32> = (0..=self.depth)
+        let broken: Vec<Literal> = (0..=self.depth)
             .map(|i| -self.literal(property, i))
             .collect();
-        let mut clauses = Clauses::default();
+        let mut clauses = Clauses::new(self.fault);
         clauses.clause(&broken);
-        clauses.0
+        clauses.numbers
     }
 }
 
-/// A clause number. The largest variable is 675,841 (RULES V6).
-fn number(variable: i64) -> i32 {
-    i32::try_from(variable).expect("a variable number within the bound")
+/// A variable's literal. The largest variable is 675,841 (RULES V6).
+fn number(variable: i64) -> Literal {
+    Literal::Number(i32::try_from(variable).expect("a variable number within the bound"))
 }
 
 /// Whether all variables can be written as clause numbers (refusal 10). No accepted record at a
@@ -396,11 +620,7 @@ pub fn heading(netlist: &Netlist, depth: u32) -> Result<Heading, Refusal> {
     let formula = Formula::new(netlist, depth, Fault::None);
     let variables = formula.variable_count();
     require(variables_fit(variables), OUT_OF_NUMBERS, 0)?;
-    let groups = formula.groups();
-    let clauses = groups
-        .iter()
-        .map(|group| clause_count(netlist, *group))
-        .sum();
+    let clauses = formula.clause_total();
     Ok(Heading { variables, clauses })
 }
 

@@ -1,5 +1,5 @@
-//! Self-test of a second implementation of docs/RULES.md, K1 and K2: each family of checks prints one
-//! line, the last line is the total. Build: rustc -O --edition 2021 main.rs
+//! Self-test of a second implementation of docs/RULES.md and K1 to K4: each family of checks prints
+//! one line, the last line is the total. Build: rustc -O --edition 2021 main.rs
 
 mod agreement;
 mod aiger;
@@ -27,7 +27,7 @@ use tally::{Report, Tally};
 
 type Family = (&'static str, fn(&mut Tally));
 
-const FAMILIES: [Family; 35] = [
+const FAMILIES: [Family; 38] = [
     ("full runs, byte for byte", check_examples::full_runs),
     ("a run of the chip, by hand", check_examples::memory_run),
     ("starred facts", check_examples::starred_facts),
@@ -40,6 +40,7 @@ const FAMILIES: [Family; 35] = [
     ("sheets, length", check_refusals::sheet_lengths),
     ("records, refusals 3 to 6", check_refusals::records),
     ("group calls, refusals 7 to 10", check_refusals::group_calls),
+    ("group calls, exact needs", check_refusals::needs),
     ("refusals of frames", check_refusals::frames_refusals),
     ("solver against brute force", check_random::solver),
     ("round trip of sheets", check_random::round_trip),
@@ -47,8 +48,10 @@ const FAMILIES: [Family; 35] = [
     ("damaged sheets", check_random::damaged_sheets),
     ("numbering", check_random::numbering),
     ("lengths of groups", check_random::lengths),
+    ("constants left out of groups", check_random::constants),
     ("headings and texts", check_random::headings),
     ("demand 3, all assignments", check_random::demand_3),
+    ("demand 3, sets of constants", check_random::constant_sets),
     ("demand 3, single feeds", check_random::single_feeds),
     ("faults are caught", check_random::faults),
     ("texts of K1, by hand", check_aiger::by_hand),
