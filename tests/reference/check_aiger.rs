@@ -3,7 +3,7 @@
 
 use super::aiger::{read_text, Text};
 use super::aiger_values::{differences, random_given, read_words};
-use super::check_examples::{accepted, of_sizes, FULL_RUN};
+use super::check_examples::{accepted, bytes_of, of_sizes, FULL_RUN};
 use super::check_refusals::{verdict, Verdict, ACCEPTED};
 use super::netlist::Netlist;
 use super::random::{Random, SHAPES};
@@ -20,11 +20,6 @@ pub type TextRow = (String, Call, Result<Netlist, Verdict>);
 
 /// The sheet that a text stands for, in short form, or the verdict on the text.
 type Expected = Result<&'static str, Verdict>;
-
-/// Bytes in which `/` stands for a line feed.
-pub fn bytes_of(short: &str) -> Vec<u8> {
-    short.replace('/', "\n").into_bytes()
-}
 
 fn row(short: &str, memory: [u32; 3], rooms: [usize; 2], expected: Expected) -> TextRow {
     let call = Call {

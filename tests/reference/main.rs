@@ -1,18 +1,23 @@
-//! Self-test of a second implementation of docs/RULES.md and K1: each family of checks prints one
+//! Self-test of a second implementation of docs/RULES.md and K1 to K3: each family of checks prints one
 //! line, the last line is the total. Build: rustc -O --edition 2021 main.rs
 
 mod agreement;
 mod aiger;
 mod aiger_values;
+mod answer;
+mod answer_calls;
 mod check_aiger;
+mod check_answers;
 mod check_examples;
 mod check_random;
+mod check_random_answers;
 mod check_refusals;
 mod circuit;
 mod formula;
 mod netlist;
 mod random;
 mod random_aiger;
+mod random_answers;
 mod refusal;
 mod sheet;
 mod solver;
@@ -22,7 +27,7 @@ use tally::{Report, Tally};
 
 type Family = (&'static str, fn(&mut Tally));
 
-const FAMILIES: [Family; 26] = [
+const FAMILIES: [Family; 35] = [
     ("full runs, byte for byte", check_examples::full_runs),
     ("a run of the chip, by hand", check_examples::memory_run),
     ("starred facts", check_examples::starred_facts),
@@ -52,6 +57,30 @@ const FAMILIES: [Family; 26] = [
     ("texts of K1, wrong values", check_aiger::values_part),
     ("texts of K1, faults", check_aiger::predicted_faults),
     ("texts of K1, damaged", check_aiger::damaged_texts),
+    ("answers of K2, by hand", check_answers::forms),
+    ("replays of K2, by hand", check_answers::replays),
+    ("calls of K2, sets of faults", check_answers::fault_sets),
+    ("the largest run of K2", check_random_answers::largest_chip),
+    (
+        "answers of K2, random",
+        check_random_answers::random_answers,
+    ),
+    (
+        "answers of K2, faults",
+        check_random_answers::predicted_faults,
+    ),
+    (
+        "answers of K2, two faults",
+        check_random_answers::two_faults,
+    ),
+    (
+        "answers of K2, damaged",
+        check_random_answers::damaged_answers,
+    ),
+    (
+        "answers of K2, all assignments",
+        check_random_answers::assignments,
+    ),
 ];
 
 fn main() {

@@ -1,4 +1,4 @@
-//! Refusals: a number (RULES T1 to T10; 11 to 13: K1) and a place.
+//! Refusals: a number (RULES T1 to T10; 11 to 13: K1; 14 and 15: K2) and a place.
 
 pub const RAGGED: u32 = 1;
 pub const MISPRINT: u32 = 2;
@@ -13,6 +13,8 @@ pub const OUT_OF_NUMBERS: u32 = 10;
 pub const NOT_WELL_FORMED: u32 = 11;
 pub const WRONG_COUNTS: u32 = 12;
 pub const UNDEFINED: u32 = 13;
+pub const BAD_ANSWER: u32 = 14;
+pub const NOTHING_BREAKS: u32 = 15;
 
 #[derive(Clone, Copy, Debug, PartialEq, Eq)]
 pub struct Refusal {

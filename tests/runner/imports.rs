@@ -4,8 +4,9 @@
 use super::calls::differ;
 use super::exports::{import, Answer, Lists};
 use super::reference::check_aiger::{
-    bytes_of, every_damage, fault_set_rows, plain_text, small_calls, text_rows,
+    every_damage, fault_set_rows, plain_text, small_calls, text_rows,
 };
+use super::reference::check_examples::bytes_of;
 use super::reference::check_refusals::{verdict, Verdict, ACCEPTED};
 use super::reference::formula::heading;
 use super::reference::netlist::Netlist;
