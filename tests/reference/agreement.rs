@@ -53,18 +53,22 @@ pub fn agrees(netlist: &Netlist, model: &[bool], run: &Run) -> bool {
     })
 }
 
-/// Every feed of frames 0 to depth. There are 2^((depth + 1) (I + n)), so only for tiny sizes.
+/// Every feed of frames 0 to depth. There are 2^(n + (depth + 1) I), so only for tiny sizes.
 pub fn all_feeds(netlist: &Netlist, depth: u32) -> impl Iterator<Item = Vec<Feed>> {
     let (inputs, width) = (netlist.inputs, netlist.data_width);
-    let of_frame = move |bits: u64| Feed {
+    let of_frame = move |bits: u64, idle_word: u32| Feed {
         inputs: (0..inputs).map(|bit| (bits >> bit) & 1 == 1).collect(),
-        idle_word: ((bits >> inputs) & ((1 << width) - 1)) as u32,
+        idle_word,
     };
-    let frame_bits = inputs + width;
-    let all = 0..1u64 << (frame_bits * (depth + 1));
+    let all = 0..1u64 << (width + inputs * (depth + 1));
     all.map(move |bits| {
+        // Above frame 0 the idle word is the inverted one, so that a chip that takes it there shows.
+        let idle_word = |frame: u32| {
+            let word = if frame == 0 { bits } else { !bits };
+            (word & ((1 << width) - 1)) as u32
+        };
         (0..=depth)
-            .map(|frame| of_frame(bits >> (frame * frame_bits)))
+            .map(|frame| of_frame(bits >> (width + frame * inputs), idle_word(frame)))
             .collect()
     })
 }
@@ -97,8 +101,8 @@ pub fn compare(netlist: &Netlist, depth: u32, fault: Fault) -> Agreement {
     }
 }
 
-/// Demand 3 for one feed of a netlist of any size. Inputs, and idle words where RE is false, are
-/// assumed; unit propagation must then give every wire its value in the run, so no satisfying
+/// Demand 3 for one feed of a netlist of any size. Inputs, and the idle word where RE is false in
+/// frame 0, are assumed; unit propagation must then give every wire its value in the run, so no satisfying
 /// assignment of this feed differs from the run. With all variables left free made false, every
 /// clause but the property's must be true, and the property's exactly when the run breaks.
 pub fn propagation_follows_run(netlist: &Netlist, feeds: &[Feed]) -> bool {
@@ -127,13 +131,13 @@ pub fn propagation_follows_run(netlist: &Netlist, feeds: &[Feed]) -> bool {
         && satisfies(&completed, &property) == run.first_break.is_some()
 }
 
-/// The literals that fix a feed: all inputs, and the read bits of frames in which RE is false.
+/// The literals that fix a feed: all inputs, and the read bits of frame 0 where RE is false there.
 pub fn feed_literals(netlist: &Netlist, run: &Run) -> Vec<i32> {
     let mut literals = Vec::new();
     for (frame, values) in run.frames.iter().enumerate() {
         let inputs = 1..netlist.first_latch() as usize;
         let read_bits = netlist.first_read_bit() as usize..netlist.first_gate() as usize;
-        let idle = !value(values, netlist.read_enable);
+        let idle = frame == 0 && !value(values, netlist.read_enable);
         for wire in inputs.chain(read_bits.filter(|_| idle)) {
             let number = variable(netlist, frame, wire) as i32;
             literals.push(if values[wire] { number } else { -number });

@@ -358,7 +358,7 @@ pub const BARE: &str = "N 0 0 0/M 1 1 0/A 0/D 0/C 0 1 2";
 /// refusal's number.
 type Replay = (u32, &'static str, &'static str, Result<&'static str, u32>);
 
-const REPLAYS: [Replay; 62] = [
+const REPLAYS: [Replay; 67] = [
     // The full run: variables 2 and 3 in frame 0, 4 and 5 in frame 1, 11 and 12 in frame 2.
     (1, FULL_RUN, "2 4 0", Ok("1/10/11/")),
     (1, FULL_RUN, "2 -4 0", Ok("1/10/01/")),
@@ -404,28 +404,32 @@ const REPLAYS: [Replay; 62] = [
     (2, FULL_RUN, "2 4 0", Err(14)),
     (2, FULL_RUN, "2 4 11 -11 0", Err(14)),
     (2, FULL_RUN, "-2 -4 0", Err(14)),
-    // Idle read bits: needed where the chip does not read, and there alone.
-    (2, IDLE, "2 -5 -6 7 13 0", Ok("1/110/001/100/")),
-    (2, IDLE, "2 -5 6 -7 13 0", Err(15)),
-    (2, IDLE, "-2 -3 -4 -5 6 7 -13 14 15 0", Ok("0/000/011/011/")),
+    // Idle read bits: needed in frame 0 where the chip does not read, and there alone.
+    (2, IDLE, "-2 3 4 -5 13 0", Ok("2/011/011/101/")),
+    (2, IDLE, "-2 3 -4 -5 13 0", Err(15)),
+    (2, IDLE, "-2 -3 4 5 13 0", Ok("0/001/100/100/")),
+    (2, IDLE, "-2 -3 -4 -5 -13 0", Ok("0/000/000/000/")),
+    (2, IDLE, "2 -5 13 0", Err(15)),
+    (2, IDLE, "2 -5 -6 7 13 0", Err(15)),
+    (2, IDLE, "2 3 -3 4 -4 -5 13 0", Err(15)),
+    (2, IDLE, "2 -3 -5 13 0", Err(15)),
+    (2, IDLE, "-2 3 4 -5 -6 -7 13 14 15 0", Ok("2/011/011/101/")),
     (
         2,
         IDLE,
-        "2 3 -3 4 -4 -5 -6 7 13 14 -14 15 -15 0",
-        Ok("1/110/001/100/"),
+        "-2 3 4 -5 6 -6 -7 13 14 -14 15 -15 0",
+        Ok("2/011/011/101/"),
     ),
-    (2, IDLE, "2 -3 -5 -6 7 13 14 0", Ok("1/110/001/100/")),
-    (2, IDLE, "2 -5 7 13 0", Err(14)),
-    (2, IDLE, "2 -5 -6 13 0", Err(14)),
-    (2, IDLE, "2 -5 13 0", Err(14)),
-    (2, IDLE, "2 -5 -6 6 7 13 0", Err(14)),
-    (2, IDLE, "2 -5 -6 7 -7 13 0", Err(14)),
-    (2, IDLE, "2 -5 -6 7 0", Err(14)),
-    (2, IDLE, "2 -5 -6 7 -13 0", Err(14)),
-    (2, IDLE, "2 -5 -6 7 -13 14 0", Err(14)),
-    (2, IDLE, "2 -5 -6 7 -13 -14 15 0", Ok("1/110/001/001/")),
+    (2, IDLE, "-2 3 4 -5 -13 -14 0", Err(15)),
+    (2, IDLE, "-2 4 -5 13 0", Err(14)),
+    (2, IDLE, "-2 3 -5 13 0", Err(14)),
+    (2, IDLE, "-2 -5 13 0", Err(14)),
     (2, IDLE, "-2 -5 6 7 13 0", Err(14)),
-    (2, IDLE, "-5 -6 7 13 0", Err(14)),
+    (2, IDLE, "-2 3 -3 4 -5 13 0", Err(14)),
+    (2, IDLE, "-2 3 4 -4 -5 13 0", Err(14)),
+    (2, IDLE, "-2 3 4 -5 0", Err(14)),
+    (2, IDLE, "-2 3 4 13 0", Err(14)),
+    (2, IDLE, "3 4 -5 13 0", Err(14)),
     // Whether the chip reads is the chip's, not the answer's.
     (1, LATCHED, "3 0", Ok("1/01/10/")),
     (1, LATCHED, "-3 0", Ok("0/00/10/")),
@@ -435,10 +439,11 @@ const REPLAYS: [Replay; 62] = [
     (1, LATCHED, "2 0", Err(14)),
     (1, LATCHED, "2 5 0", Err(14)),
     (1, LATCHED, "3 -3 0", Err(14)),
-    (2, LATCHED, "3 0", Err(14)),
-    (2, LATCHED, "3 11 0", Err(14)),
-    (2, LATCHED, "3 12 0", Ok("1/01/10/01/")),
-    (2, LATCHED, "-12 3 0", Ok("1/01/10/00/")),
+    (2, LATCHED, "3 0", Ok("1/01/10/00/")),
+    (2, LATCHED, "3 11 0", Ok("1/01/10/00/")),
+    (2, LATCHED, "3 12 0", Ok("1/01/10/00/")),
+    (2, LATCHED, "-12 12 3 0", Ok("1/01/10/00/")),
+    (2, LATCHED, "12 0", Err(14)),
     // Nothing is needed.
     (0, BARE, "0", Ok("0/0/")),
     (1, BARE, "0", Ok("0/0/0/")),
@@ -535,17 +540,18 @@ fn long_rows() -> Vec<ReplayRow> {
 }
 
 /// By the table's rows too, what the library leaves in the memory: the words are known by hand.
-const MEMORIES: [(u32, &str, &str, &[u32]); 12] = [
+const MEMORIES: [(u32, &str, &str, &[u32]); 13] = [
     (1, FULL_RUN, "2 4 0", &[1, 0]),
     (1, FULL_RUN, "2 -4 0", &[0, 0]),
     (1, FULL_RUN, "-2 4 0", &[1, 0]),
     (2, FULL_RUN, "2 4 -11 0", &[0, 0]),
     (2, FULL_RUN, "2 4 0", &[0, 0]),
-    (2, IDLE, "2 -5 -6 7 13 0", &[0, 1]),
-    (2, IDLE, "2 -5 6 -7 13 0", &[3, 1]),
-    (2, IDLE, "-2 -3 -4 -5 6 7 -13 14 15 0", &[2, 1]),
-    (2, IDLE, "2 -5 -6 7 -13 -14 15 0", &[0, 1]),
-    (2, IDLE, "2 -5 -6 7 0", &[0, 0]),
+    (2, IDLE, "2 -5 13 0", &[3, 1]),
+    (2, IDLE, "-2 3 4 -5 13 0", &[2, 1]),
+    (2, IDLE, "-2 3 -4 -5 13 0", &[3, 1]),
+    (2, IDLE, "-2 -3 4 5 13 0", &[0, 1]),
+    (2, IDLE, "-2 -3 -4 -5 -13 0", &[1, 1]),
+    (2, IDLE, "-2 3 4 -5 0", &[0, 0]),
     (2, IDLE, "0 0", &[0, 0]),
     (1, BARE, "0", &[0, 0]),
 ];
@@ -591,24 +597,24 @@ const SAID: [Said; 6] = [
     ("s UNSATISFIABLE/", Ok(Claim::Unsatisfiable), None),
     ("s UNSATISFIABLE", Err(BAD_ANSWER), Some([0, 0])),
     (
-        "s SATISFIABLE/v 2 -5 -6 7 13/",
+        "s SATISFIABLE/v -2 3 4 -5 13/",
         Err(BAD_ANSWER),
         Some([0, 0]),
     ),
     (
-        "s SATISFIABLE/v 2 -5 -6 13 0/",
+        "s SATISFIABLE/v -2 3 -5 13 0/",
         Err(BAD_ANSWER),
         Some([0, 0]),
     ),
     (
-        "s SATISFIABLE/v 2 -5 6 -7 13 0/",
+        "s SATISFIABLE/v -2 3 -4 -5 13 0/",
         Err(NOTHING_BREAKS),
         Some([3, 1]),
     ),
     (
-        "s SATISFIABLE/v 2 -5 -6 7 13 0/",
-        Ok(Claim::Breaks(1)),
-        Some([0, 1]),
+        "s SATISFIABLE/v -2 3 4 -5 13 0/",
+        Ok(Claim::Breaks(2)),
+        Some([2, 1]),
     ),
 ];
 
@@ -644,7 +650,7 @@ pub fn fault_set_rows() -> Vec<(String, Call, Outcome)> {
                     outcome
                 };
                 if let Ok(Claim::Breaks(_)) = outcome.result {
-                    outcome.trace[..12].copy_from_slice(b"110\n001\n100\n");
+                    outcome.trace[..12].copy_from_slice(b"011\n011\n101\n");
                 }
                 let name = format!("record {index}, {depth}, {words}, {bytes}, {short}");
                 rows.push((name, call, outcome));

@@ -162,7 +162,7 @@ pub fn numbering(tally: &mut Tally) {
     }
 }
 
-/// Whether every group of a formula has the numbers of clauses and of numbers of RULES G18 and G19.
+/// Whether every group of a formula has the numbers of clauses and of numbers of RULES G26 and G27.
 fn lengths_hold(netlist: &Netlist, depth: u32, fault: Fault) -> bool {
     let formula = Formula::new(netlist, depth, fault);
     formula.groups().into_iter().all(|group| {
@@ -245,7 +245,7 @@ fn dimacs(heading: Heading, numbers: &[i32]) -> String {
 }
 
 /// Tiny netlists with a depth of at most 2, the same for every caller. I and n are at most 2, so
-/// each case has at most 2^12 runs.
+/// each case has at most 2^8 runs.
 fn tiny_cases(count: usize) -> Vec<(Netlist, u32)> {
     let mut random = Random::new(8);
     let mut cases = Vec::new();
@@ -294,11 +294,13 @@ pub fn single_feeds(tally: &mut Tally) {
 
 /// Each fault, and which checks are to notice it: demand 3's first half, its second half, and
 /// the lengths. A fault that a check is not to notice must pass it on every case.
-const FAULTS: [(Fault, [bool; 3]); 5] = [
+const FAULTS: [(Fault, [bool; 3]); 7] = [
     (Fault::OwnFrameWrite, [true, true, true]),
     (Fault::OldestWrite, [true, true, false]),
     (Fault::ReaderWriteEnable, [true, true, false]),
     (Fault::IdleReadsZero, [false, true, true]),
+    (Fault::IdleReadsFree, [true, false, true]),
+    (Fault::HolderReadEnable, [true, true, false]),
     (Fault::EqualitySettled, [false, false, true]),
 ];
 

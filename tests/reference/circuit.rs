@@ -1,8 +1,8 @@
-//! The chip with its whole memory, stepped frame by frame (RULES C1 to C16).
+//! The chip with its whole memory, stepped frame by frame (RULES C1 to C22).
 
 use super::netlist::Netlist;
 
-/// What one frame is fed: I input bits and the idle word.
+/// What one frame is fed: I input bits and the idle word, which counts in frame 0 alone.
 #[derive(Clone, Debug, PartialEq, Eq, Hash)]
 pub struct Feed {
     pub inputs: Vec<bool>,
@@ -24,12 +24,14 @@ pub fn word(values: &[bool], codes: &[u32]) -> u32 {
         .sum()
 }
 
-/// The state between frames: the latches and the 2^m words.
+/// The state between frames: the latches, the 2^m words and the read bits of the frame before.
 #[derive(Clone)]
 pub struct Circuit<'a> {
     netlist: &'a Netlist,
     latches: Vec<bool>,
     words: Vec<u32>,
+    /// None before frame 0.
+    held_word: Option<u32>,
 }
 
 impl<'a> Circuit<'a> {
@@ -40,12 +42,15 @@ impl<'a> Circuit<'a> {
             netlist,
             latches: latches.iter().map(|latch| latch.reset == 1).collect(),
             words: vec![netlist.start_word; 1 << netlist.address_width],
+            held_word: None,
         }
     }
 
-    /// Whether the next frame, fed these inputs, takes the idle word. RE depends on no read bit.
+    /// Whether the next frame, fed these inputs, takes the idle word: it is frame 0 and RE, which
+    /// depends on no read bit, is false.
     pub fn takes_idle_word(&self, inputs: &[bool]) -> bool {
-        !value(&self.evaluate(inputs, 0), self.netlist.read_enable)
+        let reads = value(&self.evaluate(inputs, 0), self.netlist.read_enable);
+        self.held_word.is_none() && !reads
     }
 
     /// One frame: its values, after which the state is that before the next frame.
@@ -56,8 +61,9 @@ impl<'a> Circuit<'a> {
         let read_word = if value(&settled, self.netlist.read_enable) {
             self.words[address]
         } else {
-            feed.idle_word
+            self.held_word.unwrap_or(feed.idle_word)
         };
+        self.held_word = Some(read_word);
         let values = self.evaluate(&feed.inputs, read_word);
         if value(&values, self.netlist.write_enable) {
             self.words[address] = word(&values, self.netlist.write_data_codes());
@@ -113,7 +119,7 @@ impl Run {
     }
 
     /// This run's inputs and read words. Fed again they give the same run: the idle word counts
-    /// only where RE is false, and there the read word is the idle word.
+    /// only in frame 0 where RE is false, and there the read word is the idle word.
     pub fn feeds(&self, netlist: &Netlist) -> Vec<Feed> {
         let read_data = netlist.read_data_codes();
         let of_frame = |values: &Values| Feed {

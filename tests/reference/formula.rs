@@ -1,5 +1,5 @@
 //! The formula of the unrolling to depth k: numbers of variables, groups of clauses, group calls,
-//! heading, and the text of `frames`. RULES V1 to V6, G1 to G23, T40 to T43,
+//! heading, and the text of `frames`. RULES V1 to V6, G1 to G27, T40 to T43,
 //! P2 and P3.
 
 use std::io::Write;
@@ -8,7 +8,7 @@ use super::netlist::{Netlist, MAX_DEPTH};
 use super::refusal::{require, Refusal, DEPTH, NO_ROOM, NO_SUCH_GROUP, OUT_OF_NUMBERS};
 use super::sheet::{read_depth, read_sheet, write_field};
 
-/// Deliberate mistakes of a generator (RULES M1 to M5). They
+/// Deliberate mistakes of a generator (RULES M1 to M5 and M9, and another on the word held). They
 /// show that the checks notice them; `None` is the formula of the rules.
 #[derive(Clone, Copy, Debug, PartialEq, Eq)]
 pub enum Fault {
@@ -21,6 +21,10 @@ pub enum Fault {
     ReaderWriteEnable,
     /// Read bits are forced to 0 when RE is false.
     IdleReadsZero,
+    /// Read bits are left free when RE is false, above frame 0 too.
+    IdleReadsFree,
+    /// RE of frame i - 1 is used where RE of frame i belongs, in the clauses that hold the word.
+    HolderReadEnable,
     /// e is taken as settled: clauses are added that make it false where the bits differ.
     EqualitySettled,
 }
@@ -58,26 +62,28 @@ pub fn pair_size(netlist: &Netlist) -> i64 {
     i64::from(netlist.address_width) + 4
 }
 
-/// The closed form of RULES G18: clauses of a group.
+/// The closed form of RULES G26: clauses of a group.
 pub fn clause_count(netlist: &Netlist, group: Group) -> i64 {
     let [latches, gates, m, n] = sizes(netlist);
     match group {
         Group::Wires(0) => 1 + latches + 3 * gates,
         Group::Wires(_) => 2 * latches + 3 * gates,
         Group::Pair(..) => 4 * m + 2 * n + 10,
-        Group::Closing(_) => 2 * n + 1,
+        Group::Closing(0) => 2 * n + 1,
+        Group::Closing(_) => 4 * n + 1,
         Group::Property => 1,
     }
 }
 
-/// The closed form of RULES G19: numbers of a group with end marks.
+/// The closed form of RULES G27: numbers of a group with end marks.
 pub fn number_count(netlist: &Netlist, depth: u32, group: Group) -> i64 {
     let [latches, gates, m, n] = sizes(netlist);
     match group {
         Group::Wires(0) => 2 + 2 * latches + 10 * gates,
         Group::Wires(_) => 6 * latches + 10 * gates,
         Group::Pair(..) => 17 * m + 8 * n + 32,
-        Group::Closing(i) => 8 * n + i64::from(i) + 3,
+        Group::Closing(0) => 8 * n + 3,
+        Group::Closing(i) => 16 * n + i64::from(i) + 3,
         Group::Property => i64::from(depth) + 2,
     }
 }
@@ -335,10 +341,26 @@ impl<'a> Formula<'a> {
                 clauses.clause(&[read_enable, -read]);
             }
         }
+        self.hold_clauses(&mut clauses, i);
         let mut last = vec![-read_enable, untouched];
         last.extend((0..self.writers(i)).map(|j| self.pair_variables(j, i).selected));
         clauses.clause(&last);
         clauses.0
+    }
+
+    /// Above frame 0: where RE is false, the read bits are those of the frame before.
+    fn hold_clauses(&self, clauses: &mut Clauses, i: u32) {
+        if i == 0 || self.fault == Fault::IdleReadsFree {
+            return;
+        }
+        let enable_frame = match self.fault {
+            Fault::HolderReadEnable => i - 1,
+            _ => i,
+        };
+        let idle = -self.literal(self.netlist.read_enable, enable_frame);
+        for code in self.netlist.read_data_codes() {
+            clauses.equal_if(idle, self.literal(code, i), self.literal(code, i - 1));
+        }
     }
 
     fn property(&self) -> Vec<i32> {

@@ -1,4 +1,4 @@
-//! Self-test of a second implementation of docs/RULES.md, K1 and K2: each family of checks prints one
+//! Self-test of a second implementation of docs/RULES.md and K1 to K3: each family of checks prints one
 //! line, the last line is the total. Build: rustc -O --edition 2021 main.rs
 
 mod agreement;
