@@ -214,7 +214,7 @@ pub fn full_runs(tally: &mut Tally) {
 /// values; wire 8 is the read bit, and the property.
 const MEMORY: &str = "N 5 2 0/M 2 1 1/L 14 1/L 12 0/A 2/A 4/D 6/C 8 10 16";
 
-/// Inputs from 1 to 5, idle word, and the read bit that K3 and RULES C4 and C5 give.
+/// Inputs from 1 to 5, idle word, and the read bit that RULES C4, C17 and C18 give.
 const MEMORY_FRAMES: [([u8; 5], u32, bool); 11] = [
     ([1, 0, 0, 1, 1], 0, true), // The start word: the read comes before this frame's write.
     ([1, 0, 1, 0, 1], 1, false), // The word written in frame 0; WE is false.

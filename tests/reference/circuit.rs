@@ -1,4 +1,4 @@
-//! The chip with its whole memory, stepped frame by frame (K3 and RULES C1 to C16).
+//! The chip with its whole memory, stepped frame by frame (RULES C1 to C22).
 
 use super::netlist::Netlist;
 

@@ -1,5 +1,5 @@
 //! The formula of the unrolling to depth k: numbers of variables, groups of clauses, group calls,
-//! heading, and the text of `frames`. RULES V1 to V6, G1 to G15, T40 to T43, P2 and P3; the
+//! heading, and the text of `frames`. RULES V2 to V6, G1 to G15, T40 to T43, P2 and P3; the
 //! closing as K3 has it, and what is written of every group as K4 has it.
 
 use std::io::Write;

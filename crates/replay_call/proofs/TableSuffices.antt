@@ -5,15 +5,16 @@ use mathlib.Core.Bool.{Bool, true, false, cond, not, _&&_, _||_}
 use mathlib.Core.List.{List, [], _∷_}
 use native.Mathlib.Numerals.{add-one}
 use native.Mathlib.Omega.{arith}
+use lib.Dec.{eqb}
 use lib.ListN.{length}
 use lib.IntN.{ℤ}
 use Rattle.model.specs.Search.{anyBelow, firstWhere, IsFirst}
 use Rattle.model.specs.Gather.{gather}
-use Rattle.model.specs.Netlist.{Netlist, inputWire, readWire, lastWire}
+use Rattle.model.specs.Netlist.{Netlist, readBits, inputWire, readWire, lastWire}
 use Rattle.model.specs.Circuit.{codeValue}
 use Rattle.model.specs.Acceptance.{Accepted, IsCode}
 use Rattle.model.specs.Variables.{base}
-use Rattle.model.specs.Claim.{feedOf}
+use Rattle.model.specs.Claim.{feedOf, idleOf}
 use Rattle.model.proofs.Search.{firstWhere-is, first-unique}
 use Rattle.model.proofs.Gather.{gather-same}
 use Rattle.model.proofs.Variables.{base-suc, base-monotone, base-most}
@@ -30,7 +31,7 @@ use Rattle.answer_signs.specs.Signs.{SignsOf}
 use Rattle.answer_signs.proofs.Signs.{table-tells}
 use Rattle.answer_lines.specs.declared.AnswerKind.{AnswerKind}
 use Rattle.answer_lines.specs.declared.AnswerKind.the-variants.{Malformed, Unsatisfiable, Satisfiable}
-use Rattle.circuit_step.proofs.Alike.{FedAlike, StatesAlike, states-same, run-same}
+use Rattle.circuit_step.proofs.Alike.{InputsAlike, StatesAlike, states-same, run-same}
 use Rattle.replay_frame.specs.Replay.{Said, saidIn, replayed, replayedState, fedUnclear, feedFault, violates, firstViolation, lineOf, traceText}
 use Rattle.replay_frame.proofs.Replay.{any-same, line-same}
 use Rattle.replay_call.specs.ReplayCall.{replayTests, fedFault, runVerdict, outcome, wordsLeft, unlessRefused, replayAnswer, replayReply, replaySent, afterTests, replayMemory, traceAfter, replayTrace}
@@ -56,16 +57,16 @@ module _ {c : Netlist} (ok : Accepted c) (k : ℕ) {y z : Said} (say : SayAlike 
   within : (i w : ℕ) → i ≤ k → w ≤ lastWire c → base c i + w ≤ base c (k + 1)
   within i w h l = omega (arith, base-suc c i, base-monotone c {i = suc i} {j = k + 1} (omega arith))
 
-  fed : (i : ℕ) → i ≤ k → FedAlike c (replayedState c y i) (feedOf c (y .value) i) (feedOf c (z .value) i)
+  inputs : (i : ℕ) → i ≤ k → InputsAlike c (feedOf c (y .value) i) (feedOf c (z .value) i)
   unfolding feedOf
-  fed i h =
-      record {
-        input-alike = λ x l. say .value-alike (base c i + inputWire c x) (within i (inputWire c x) h (omega arith));
-        idle-alike = λ r t l. say .value-alike (base c i + readWire c t) (within i (readWire c t) h (omega arith));
-      }
+  inputs i h x l = say .value-alike (base c i + inputWire c x) (within i (inputWire c x) h (omega arith))
+
+  idles : (t : ℕ) → t < readBits c → idleOf c (y .value) t ≡ idleOf c (z .value) t
+  unfolding idleOf
+  idles t l = say .value-alike (base c 0 + readWire c t) (within 0 (readWire c t) (omega arith) (omega arith))
 
   runs : (i : ℕ) → i ≤ k → (w : ℕ) → w ≤ lastWire c → replayed c y i w ≡ replayed c z i w
-  runs i h = run-same ok (feedOf c (y .value)) (feedOf c (z .value)) i (λ j l. fed j (omega arith))
+  runs i h = run-same ok (feedOf c (y .value)) (feedOf c (z .value)) (λ r. idles) i (λ j l. inputs j (omega arith))
 
   codes : (i : ℕ) → i ≤ k → (x : ℕ) → IsCode c x → codeValue (replayed c y i) x ≡ codeValue (replayed c z i) x
   codes i h x l = code-same (replayed c y i) (replayed c z i) x (runs i h (x / 2) (omega arith))
@@ -75,8 +76,8 @@ module _ {c : Netlist} (ok : Accepted c) (k : ℕ) {y z : Said} (say : SayAlike 
   faults =
       any-same (k + 1) (λ i h.
       ap₂ _||_ (any-same (c .inputs) (λ x l. say .unclear-alike (base c i + inputWire c x) (within i (inputWire c x) (omega arith) (omega arith))))
-      (ap₂ _&&_ (ap not (codes i (omega arith) (c .RE) (ok .limits .codes .RE-fits)))
-      (any-same (c .n) (λ t l. say .unclear-alike (base c i + readWire c t) (within i (readWire c t) (omega arith) (omega arith))))))
+      (ap (λ idle. eqb i 0 && idle) (ap₂ _&&_ (ap not (codes i (omega arith) (c .RE) (ok .limits .codes .RE-fits)))
+      (any-same (readBits c) (λ t l. say .unclear-alike (base c i + readWire c t) (within i (readWire c t) (omega arith) (omega arith)))))))
 
   first : firstViolation c y k ≡ firstViolation c z k
   unfolding firstViolation violates
@@ -92,8 +93,8 @@ module _ {c : Netlist} (ok : Accepted c) (k : ℕ) {y z : Said} (say : SayAlike 
       → delivered (2 ^ c .m) (replayedState c y (k + 1) .memory) old ≡ delivered (2 ^ c .m) (replayedState c z (k + 1) .memory) old
   unfolding delivered
   words old =
-      let states : StatesAlike c (replayedState c y (k + 1)) (replayedState c z (k + 1))
-      = states-same ok (feedOf c (y .value)) (feedOf c (z .value)) (k + 1) (λ j l. fed j (omega arith)) in
+      let states : StatesAlike c (feedOf c (y .value) (k + 1)) (replayedState c y (k + 1)) (replayedState c z (k + 1))
+      = states-same ok (feedOf c (y .value)) (feedOf c (z .value)) (λ r. idles) (k + 1) (λ j l. inputs j (omega arith)) in
       rw (gather-same (2 ^ c .m) (λ t. replayedState c y (k + 1) .memory t ∷ []) (λ t. replayedState c z (k + 1) .memory t ∷ []) (λ t h. rw (states .memory-alike t h)))
 
   pub outcome-alike : (kind : AnswerKind) → outcome c k kind y ≡ outcome c k kind z

@@ -1,5 +1,5 @@
 // The replay of a solver's answer as a call over a record and unpacked lists: its tests in their order, what it answers, and what it leaves in
-// the lent memory and the lent trace (RULES Y1 to Y8, T14, T15 and T49).
+// the lent memory and the lent trace (RULES Y1, Y4 to Y10, T14, T15 and T49).
 use answer_lines::AnswerKind;
 use answer_signs::SignTable;
 use netlist::Netlist;
