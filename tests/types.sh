@@ -1,6 +1,7 @@
 #!/usr/bin/env bash
 # Wire numbers, codes and clause numbers are never accepted in each other's place. What is held to that, in code without its contracts:
-# - no function takes one of the three types, or a term, and answers another, but `in_frame` of crate `literals`, which answers a term;
+# - no function takes one of the three types, or a term, and answers another, but in crate `literals` `in_frame`, which answers a term, and
+#   `number`, which answers the clause number that a term is;
 # - outside `literals` no term is made of a clause number, and none taken apart but where the number is written;
 # - outside `literals` none is made, but a code of a list that is read, the code 0, and in `netlist` the wires that a count gives;
 #   inside, each is made by its own methods alone;
@@ -48,7 +49,7 @@ apart() { # files
         if (names(head, "self")) head = head " " owner(done)
         done = done head answer
         for (t in types) for (u in types) if (t != u && names(head, t) && names(answer, u))
-          verdict(inside && name == "in_frame" && u == "Term", "fn " name " takes " t " and answers " u)
+          verdict(inside && (name == "in_frame" && u == "Term" || name == "number" && t == "Term" && u == "Lit"), "fn " name " takes " t " and answers " u)
         passed++
       }
     }

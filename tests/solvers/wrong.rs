@@ -86,27 +86,36 @@ pub fn wrong_text(netlist: &Netlist, depth: u32, mistake: Mistake) -> Vec<u8> {
     text.into_bytes()
 }
 
-/// The closing of a frame with the mistake. It has 2n clauses of the start word, in a later frame 2n of the
-/// word held, each with its literal of the frame before at the end, and (¬RE Z S ..).
+/// The closing of a frame with the mistake. A later frame's has n clauses of the start word, then 2n of the word held, each with its literal of
+/// the frame before at the end, but none where RE is true; and (¬RE Z S ..), but not where RE is false.
 fn closing(netlist: &Netlist, frame: u32, numbers: &[i32], mistake: Mistake) -> Vec<i32> {
     let bits = netlist.data_width as usize;
     let (frame, first_read_bit) = (frame as usize, netlist.first_read_bit() as usize);
     let ended = numbers.split_inclusive(|number| *number == 0);
     let mut clauses: Vec<Vec<i32>> = ended.map(<[i32]>::to_vec).collect();
+    let read_enable = netlist.read_enable;
+    let held = bits..bits + if read_enable == 1 { 0 } else { 2 * bits };
     match mistake {
         HeldWordLost if frame > 0 => {
-            clauses.drain(2 * bits..4 * bits);
+            clauses.drain(held);
         }
-        HeldInFrameZero if frame == 0 => {
-            let read_enable = -clauses[2 * bits][0];
-            let zero = |bit| vec![read_enable, -(variable(netlist, 0, first_read_bit + bit) as i32), 0];
-            let held: Vec<Vec<i32>> = (0..bits).map(zero).collect();
-            clauses.splice(2 * bits..2 * bits, held);
+        HeldInFrameZero if frame == 0 && read_enable != 1 => {
+            let wire = variable(netlist, 0, read_enable as usize / 2) as i32;
+            let zero = |bit| {
+                let read = variable(netlist, 0, first_read_bit + bit) as i32;
+                match read_enable {
+                    0 => vec![-read, 0],
+                    code if code % 2 == 0 => vec![wire, -read, 0],
+                    _ => vec![-wire, -read, 0],
+                }
+            };
+            clauses.extend((0..bits).map(zero));
         }
         HeldTwoFramesBefore if frame > 1 => {
             let back = variable(netlist, frame - 1, 0) - variable(netlist, frame - 2, 0);
-            for clause in &mut clauses[2 * bits..4 * bits] {
-                clause[2] -= clause[2].signum() * back as i32;
+            for clause in &mut clauses[held] {
+                let last = clause.len() - 2;
+                clause[last] -= clause[last].signum() * back as i32;
             }
         }
         _ => {}

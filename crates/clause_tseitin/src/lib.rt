@@ -1,14 +1,16 @@
 // Gates and equalities as clauses (the Tseitin encoding; RULES G1, G4, G6, G10 and G12). Each function writes from the start of
 // what it is lent and answers how many numbers that was.
 use clause_writer::put_binary;
+use clause_writer::put_numbers;
 use clause_writer::put_ternary;
+use literals::Lit;
 use literals::Term;
 ghost use mathlib.Core.List.{[], _∷_};
 ghost use Prim.Native.Nat.{_≤_};
 ghost use lib.ListN.{length};
 ghost use Rattle.model.specs.Clauses.{andClauses, sameClauses, sameIfClauses, bitClauses};
 ghost use Rattle.model.specs.Numbers.{written};
-ghost use Rattle.literals.specs.Lit.{literalOf, IsTerm};
+ghost use Rattle.literals.specs.Lit.{literalAt, literalOf, IsLit, IsTerm};
 ghost use Rattle.model.specs.Wrote.{Wrote};
 ghost use Rattle.clause_tseitin.specs.BothClauses.{bothClauses};
 
@@ -51,13 +53,68 @@ fn put_two_ternary(out: &mut [i32], p: Term, a: Term, b: Term, c: Term, d: Term)
     i + put_ternary(&mut out[i..], p, c, d)
 }
 
-// The clauses of a = b where p is true.
-pub fn put_same_if(out: &mut [i32], p: Term, a: Term, b: Term) -> usize
+// The same of literals that are no constants.
+fn put_two_numbers(out: &mut [i32], p: Lit, a: Lit, b: Lit, c: Lit, d: Lit) -> usize
+    requires { ⌜ IsLit p × IsLit a × IsLit b × IsLit c × IsLit d × (8 ≤ length (now out)) ⌝ }
+    ensures { λ r. ⌜ Wrote (written (bothClauses (literalAt (p .0)) (literalAt (a .0)) (literalAt (b .0)) (literalAt (c .0)) (literalAt (d .0))))
+        (now (out .entry)) (now (out .exit)) r × (r ≤ 8) ⌝ }
+{
+    let i = put_numbers(out, p, a, b);
+    i + put_numbers(&mut out[i..], p, c, d)
+}
+
+// The clauses of a = b where p is true, of any terms.
+fn put_same_terms(out: &mut [i32], p: Term, a: Term, b: Term) -> usize
     requires { ⌜ IsTerm p × IsTerm a × IsTerm b × (8 ≤ length (now out)) ⌝ }
     ensures { λ r. ⌜ Wrote (written (sameIfClauses (literalOf p) (literalOf a) (literalOf b)))
         (now (out .entry)) (now (out .exit)) r × (r ≤ 8) ⌝ }
 {
     put_two_ternary(out, p.negated(), a.negated(), b, a, b.negated())
+}
+
+// Of numbers.
+fn put_same_numbers(out: &mut [i32], p: Lit, a: Lit, b: Lit) -> usize
+    requires { ⌜ IsLit p × IsLit a × IsLit b × (8 ≤ length (now out)) ⌝ }
+    ensures { λ r. ⌜ Wrote (written (sameIfClauses (literalAt (p .0)) (literalAt (a .0)) (literalAt (b .0))))
+        (now (out .entry)) (now (out .exit)) r × (r ≤ 8) ⌝ }
+{
+    put_two_numbers(out, p.negated(), a.negated(), b, a, b.negated())
+}
+
+// The clauses of a = b where p is true. Most of a formula is these and an address bit's, of numbers: constants are asked for once.
+pub fn put_same_if(out: &mut [i32], p: Term, a: Term, b: Term) -> usize
+    requires { ⌜ IsTerm p × IsTerm a × IsTerm b × (8 ≤ length (now out)) ⌝ }
+    ensures { λ r. ⌜ Wrote (written (sameIfClauses (literalOf p) (literalOf a) (literalOf b)))
+        (now (out .entry)) (now (out .exit)) r × (r ≤ 8) ⌝ }
+{
+    if p.is_number() & a.is_number() & b.is_number() {
+        return put_same_numbers(out, p.number(), a.number(), b.number());
+    }
+    put_same_terms(out, p, a, b)
+}
+
+// The clauses of one address bit, of any terms.
+fn put_bit_terms(out: &mut [i32], address_equal: Term, bit_equal: Term, x: Term, y: Term) -> usize
+    requires { ⌜ IsTerm «address_equal» × IsTerm «bit_equal» × IsTerm x × IsTerm y × (16 ≤ length (now out)) ⌝ }
+    ensures { λ r. ⌜ Wrote (written (bitClauses (literalOf «address_equal») (literalOf «bit_equal») (literalOf x) (literalOf y)))
+        (now (out .entry)) (now (out .exit)) r × (r ≤ 16) ⌝ }
+{
+    let not_x = x.negated();
+    let not_y = y.negated();
+    let i = put_two_ternary(out, address_equal.negated(), x, not_y, not_x, y);
+    i + put_two_ternary(&mut out[i..], bit_equal, x, y, not_x, not_y)
+}
+
+// Of numbers.
+fn put_bit_numbers(out: &mut [i32], address_equal: Lit, bit_equal: Lit, x: Lit, y: Lit) -> usize
+    requires { ⌜ IsLit «address_equal» × IsLit «bit_equal» × IsLit x × IsLit y × (16 ≤ length (now out)) ⌝ }
+    ensures { λ r. ⌜ Wrote (written (bitClauses (literalAt («address_equal» .0)) (literalAt («bit_equal» .0)) (literalAt (x .0)) (literalAt (y .0))))
+        (now (out .entry)) (now (out .exit)) r × (r ≤ 16) ⌝ }
+{
+    let not_x = x.negated();
+    let not_y = y.negated();
+    let i = put_two_numbers(out, address_equal.negated(), x, not_y, not_x, y);
+    i + put_two_numbers(&mut out[i..], bit_equal, x, y, not_x, not_y)
 }
 
 // The clauses of one address bit, `x` of the writing frame and `y` of the reading one: `address_equal` where all bits are, `bit_equal`
@@ -67,8 +124,14 @@ pub fn put_bit(out: &mut [i32], address_equal: Term, bit_equal: Term, x: Term, y
     ensures { λ r. ⌜ Wrote (written (bitClauses (literalOf «address_equal») (literalOf «bit_equal») (literalOf x) (literalOf y)))
         (now (out .entry)) (now (out .exit)) r × (r ≤ 16) ⌝ }
 {
-    let not_x = x.negated();
-    let not_y = y.negated();
-    let i = put_two_ternary(out, address_equal.negated(), x, not_y, not_x, y);
-    i + put_two_ternary(&mut out[i..], bit_equal, x, y, not_x, not_y)
+    if address_equal.is_number() & bit_equal.is_number() & x.is_number() & y.is_number() {
+        return put_bit_numbers(
+            out,
+            address_equal.number(),
+            bit_equal.number(),
+            x.number(),
+            y.number(),
+        );
+    }
+    put_bit_terms(out, address_equal, bit_equal, x, y)
 }

@@ -5,11 +5,12 @@ use mathlib.Core.Path.{_≡_, refl, sym, _∙_, ap}
 use mathlib.Core.Bool.{Bool, true, false, _||_, or-false, or-assoc}
 use mathlib.Core.List.{List, [], _∷_, _++_, append-nil, append-assoc}
 use native.Mathlib.Omega.{arith}
-use lib.IntN.{ℤ, pos}
+use lib.IntN.{ℤ, pos, negsuc}
 use lib.ListN.{length}
 use borrow.Rule.Slice.PartMut.{midOf, putMid}
 use Rattle.model.specs.Clauses.{Literal, Clause}
 use Rattle.model.specs.Numbers.{keptOf, kept, isTrue, hasTrue, endOf, writtenClause, written}
+use Rattle.literals.specs.Lit.{literalAt}
 use Rattle.model.specs.Wrote.{Wrote}
 use Rattle.model.proofs.Joined.{written-append}
 use Rattle.model.proofs.Wrote as W
@@ -78,6 +79,20 @@ kept-behind a b x = sym (append-assoc (keptOf a) (keptOf b) (kept x))
 pub hasTrue-behind : (a b : Literal) (x : Clause) → hasTrue (a ∷ b ∷ x) ≡ (isTrue a || isTrue b || hasTrue x)
 unfolding hasTrue
 hasTrue-behind a b x = sym (or-assoc (isTrue a) (isTrue b) (hasTrue x))
+
+-- a clause of three numbers: each is kept
+pub written-numbers : (x y z : ℤ)
+    → written ((literalAt x ∷ literalAt y ∷ literalAt z ∷ []) ∷ [])
+    ≡ keptOf (literalAt x) ++ keptOf (literalAt y) ++ keptOf (literalAt z) ++ pos 0 ∷ []
+unfolding written writtenClause hasTrue isTrue kept keptOf endOf literalAt
+written-numbers (pos x) (pos y) (pos z) = refl
+written-numbers (pos x) (pos y) (negsuc z) = refl
+written-numbers (pos x) (negsuc y) (pos z) = refl
+written-numbers (pos x) (negsuc y) (negsuc z) = refl
+written-numbers (negsuc x) (pos y) (pos z) = refl
+written-numbers (negsuc x) (pos y) (negsuc z) = refl
+written-numbers (negsuc x) (negsuc y) (pos z) = refl
+written-numbers (negsuc x) (negsuc y) (negsuc z) = refl
 
 -- one with a true literal is left out
 pub clause-left-out : (x : Clause) (old : List ℤ) → hasTrue x ≡ true → Wrote (written (x ∷ [])) old old 0

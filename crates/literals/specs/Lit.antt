@@ -1,7 +1,7 @@
 -- The literal that a DIMACS number stands for, and its bounds (RULES W4 and W5); and what a code is in a clause: a constant or such a
 -- number. Cited by every function that makes or writes one.
 use Prim.Native.Nat.{ℕ, suc, _+_, _≤_, _<_}
-use mathlib.Core.Bool.{true, false}
+use mathlib.Core.Bool.{Bool, true, false}
 use lib.IntN.{ℤ, pos, negsuc, natAbs}
 use Rattle.model.specs.Clauses.{Literal, known, plus, minus}
 use Rattle.literals.specs.declared.Lit.{Lit}
@@ -17,6 +17,12 @@ unfoldable pub literalOf : T.Term → Literal
 literalOf True = known true
 literalOf False = known false
 literalOf (Number l) = literalAt (l .0)
+
+-- whether it is no constant
+unfoldable pub isNumber : T.Term → Bool
+isNumber True = false
+isNumber False = false
+isNumber (Number l) = true
 
 -- RULES W4: "Neither 0 nor −2,147,483,648 is one; 0 only ends a clause"
 pub record IsLit (l : Lit) : Type 0 where

@@ -1,13 +1,14 @@
 // Wire numbers, codes and clause numbers: three types, never accepted in each other's place (RULES W6 and N1).
 // Between them only a frame converts; a code in a frame may also be a constant. What compares or counts by the numbers inside stands here.
 ghost use mathlib.Core.Path.{_≡_};
+ghost use mathlib.Core.Bool.{true};
 ghost use Prim.Native.Nat.{_+_, _*_, _/_, _^_, _≤_, _<_};
 ghost use lib.Dec.{ltb};
 ghost use Rattle.model.specs.Bits.{bit};
 ghost use Rattle.model.specs.Clauses.{known, plus, neg};
 ghost use Rattle.model.specs.Variables.{baseOf, pairBaseOf, wireAt, codeAt};
 ghost use Rattle.model.specs.Numbers.{isTrue};
-ghost use Rattle.literals.specs.Lit.{literalAt, literalOf, IsLit, IsTerm, HasNumber};
+ghost use Rattle.literals.specs.Lit.{literalAt, literalOf, isNumber, IsLit, IsTerm, HasNumber};
 ghost use Rattle.literals.specs.Numbering.{NumberingFits};
 
 // An AIG variable, numbered from 1.
@@ -196,6 +197,30 @@ impl Term {
             Term::True => true,
             Term::False => false,
             Term::Number(_) => false,
+        }
+    }
+
+    // Whether it is no constant.
+    pub fn is_number(self) -> bool
+        ensures { λ r. ⌜ r ≡ isNumber self ⌝ }
+    {
+        match self {
+            Term::True => false,
+            Term::False => false,
+            Term::Number(_) => true,
+        }
+    }
+
+    // The number that it is. A constant has none: it is not asked for.
+    pub fn number(self) -> Lit
+        requires { ⌜ IsTerm self × (isNumber self ≡ true) ⌝ }
+        ensures literal { λ r. ⌜ literalAt (r .0) ≡ literalOf self ⌝ }
+        ensures number { λ r. ⌜ IsLit r ⌝ }
+    {
+        match self {
+            Term::True => Lit::first(),
+            Term::False => Lit::first(),
+            Term::Number(l) => l,
         }
     }
 }

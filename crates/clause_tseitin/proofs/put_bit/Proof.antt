@@ -1,65 +1,80 @@
--- `clause_tseitin::put_bit` meets its contract: twice two clauses that begin alike.
+-- `clause_tseitin::put_bit` meets its contract: numbers, or any terms.
+use mathlib.Core.Path.{_≡_}
+use mathlib.Core.Bool.{true}
 use borrow.Author.Needs.{needs}
-use Rattle.model.specs.Clauses.{bitClauses}
-use Rattle.clause_tseitin.specs.BothClauses.{bothClauses}
-use Rattle.clause_writer.proofs.Wrote.{wrote-clauses}
+use Rattle.literals.specs.Lit.{isNumber}
+use Rattle.clause_tseitin.proofs.Numbers.{all-four}
 use Rattle.clause_tseitin.proofs.put_bit.Statement.{statement}
 use Rattle.clause_tseitin.proofs.put_bit.Tie as tie
 
-negated-requires : tie.Need-negated-requires
-negated-requires c κs = search needs
+is-number-requires : tie.Need-is-number-requires
+is-number-requires c κs = search needs
 
-negated-requires-2 : tie.Need-negated-requires-2
-negated-requires-2 c κs = search needs
+is-number-requires-2 : tie.Need-is-number-requires-2
+is-number-requires-2 c κs = search needs
 
-negated-requires-3 : tie.Need-negated-requires-3
-negated-requires-3 c κs = search needs
+is-number-requires-3 : tie.Need-is-number-requires-3
+is-number-requires-3 c κs = search needs
 
-put-two-ternary-requires : tie.Need-put-two-ternary-requires
-put-two-ternary-requires c κs = search needs
+is-number-requires-4 : tie.Need-is-number-requires-4
+is-number-requires-4 c κs = search needs
 
-mul-put-two-ternary : tie.Need-mul-put-two-ternary
-mul-put-two-ternary c = search needs
+-- each is a number
+numbers :
+    (c : tie.Then1) →
+    let a = c .before .before .before .before .before .args in
+    (isNumber (a .address-equal) ≡ true) × (isNumber (a .bit-equal) ≡ true) × (isNumber (a .x) ≡ true) × (isNumber (a .y) ≡ true)
+numbers c =
+    let a = c .before .before .before .before .before .args in
+    let told = rw (c .before .before .before .before .is-number .ensures, c .before .before .before .is-number2 .ensures, c .before .before .is-number3 .ensures, c .before .is-number4 .ensures) at (c .if1 .taken) in
+    all-four (isNumber (a .address-equal)) (isNumber (a .bit-equal)) (isNumber (a .x)) (isNumber (a .y)) told
 
-sub-put-two-ternary : tie.Need-sub-put-two-ternary
-sub-put-two-ternary c = search needs
+number-requires : tie.Need-number-requires
+number-requires c κs = (c .before .before .before .before .before .before .pre .0, numbers (c .before) .0)
 
-part-put-two-ternary-start : tie.Need-part-put-two-ternary-start
-part-put-two-ternary-start c = search needs
+number-requires-2 : tie.Need-number-requires-2
+number-requires-2 c κs = (c .before .before .before .before .before .before .before .pre .1, numbers (c .before .before) .1)
 
-part-put-two-ternary-end : tie.Need-part-put-two-ternary-end
-part-put-two-ternary-end c = search needs
+number-requires-3 : tie.Need-number-requires-3
+number-requires-3 c κs = (c .before .before .before .before .before .before .before .before .pre .2, numbers (c .before .before .before) .2)
 
-put-two-ternary-requires-2 : tie.Need-put-two-ternary-requires-2
-put-two-ternary-requires-2 c κs = search needs
+number-requires-4 : tie.Need-number-requires-4
+number-requires-4 c κs = (c .before .before .before .before .before .before .before .before .before .pre .3, numbers (c .before .before .before .before) .3)
 
-add-result : tie.Need-add-result
-add-result c = search needs
+put-bit-numbers-requires : tie.Need-put-bit-numbers-requires
+put-bit-numbers-requires c κs = search needs
 
 same-length : tie.Need-same-length
 same-length c = search needs
 
 returns : tie.Need-returns
-unfolding bitClauses bothClauses
-returns c = (
-  simp (c .before .before .before .before .before .before .before .before .negated .ensures .0, c .before .before .before .before .before .before .before .negated2 .ensures .0, c .before .before .before .before .before .negated3 .ensures .0)
-      at (wrote-clauses _ _ (c .before .before .before .before .put-two-ternary .ensures .0) (c .before .put-two-ternary2 .ensures .0)),
-  search needs,
-)
+returns c =
+    rw (c .before .before .before .before .before .number .ensures .0, c .before .before .before .before .number2 .ensures .0, c .before .before .before .number3 .ensures .0, c .before .before .number4 .ensures .0) at (c .before .put-bit-numbers .ensures)
+
+put-bit-terms-requires : tie.Need-put-bit-terms-requires
+put-bit-terms-requires c κs = search needs
+
+same-length-2 : tie.Need-same-length-2
+same-length-2 c = search needs
+
+returns-2 : tie.Need-returns-2
+returns-2 c = c .before .put-bit-terms .ensures
 
 pub put-bit-spec : {M : Type 1} → statement M
 put-bit-spec =
     tie.close
     (tie.spec
-    negated-requires
-    negated-requires-2
-    negated-requires-3
-    put-two-ternary-requires
-    mul-put-two-ternary
-    sub-put-two-ternary
-    part-put-two-ternary-start
-    part-put-two-ternary-end
-    put-two-ternary-requires-2
-    add-result
+    is-number-requires
+    is-number-requires-2
+    is-number-requires-3
+    is-number-requires-4
+    number-requires
+    number-requires-2
+    number-requires-3
+    number-requires-4
+    put-bit-numbers-requires
     same-length
-    returns)
+    returns
+    put-bit-terms-requires
+    same-length-2
+    returns-2)

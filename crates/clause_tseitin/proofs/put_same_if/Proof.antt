@@ -1,38 +1,72 @@
--- `clause_tseitin::put_same_if` meets its contract: two clauses that begin alike.
+-- `clause_tseitin::put_same_if` meets its contract: numbers, or any terms.
+use mathlib.Core.Path.{_≡_}
+use mathlib.Core.Bool.{true}
 use borrow.Author.Needs.{needs}
-use Rattle.model.specs.Clauses.{sameIfClauses}
-use Rattle.clause_tseitin.specs.BothClauses.{bothClauses}
+use Rattle.literals.specs.Lit.{isNumber}
+use Rattle.clause_tseitin.proofs.Numbers.{all-three}
 use Rattle.clause_tseitin.proofs.put_same_if.Statement.{statement}
 use Rattle.clause_tseitin.proofs.put_same_if.Tie as tie
 
-negated-requires : tie.Need-negated-requires
-negated-requires c κs = search needs
+is-number-requires : tie.Need-is-number-requires
+is-number-requires c κs = search needs
 
-negated-requires-2 : tie.Need-negated-requires-2
-negated-requires-2 c κs = search needs
+is-number-requires-2 : tie.Need-is-number-requires-2
+is-number-requires-2 c κs = search needs
 
-negated-requires-3 : tie.Need-negated-requires-3
-negated-requires-3 c κs = search needs
+is-number-requires-3 : tie.Need-is-number-requires-3
+is-number-requires-3 c κs = search needs
 
-put-two-ternary-requires : tie.Need-put-two-ternary-requires
-put-two-ternary-requires c κs = search needs
+-- each is a number
+numbers :
+    (c : tie.Then1) →
+    let a = c .before .before .before .before .args in
+    (isNumber (a .p) ≡ true) × (isNumber (a .a) ≡ true) × (isNumber (a .b) ≡ true)
+numbers c =
+    let a = c .before .before .before .before .args in
+    let told = rw (c .before .before .before .is-number .ensures, c .before .before .is-number2 .ensures, c .before .is-number3 .ensures) at (c .if1 .taken) in
+    all-three (isNumber (a .p)) (isNumber (a .a)) (isNumber (a .b)) told
+
+number-requires : tie.Need-number-requires
+number-requires c κs = (c .before .before .before .before .before .pre .0, numbers (c .before) .0)
+
+number-requires-2 : tie.Need-number-requires-2
+number-requires-2 c κs = (c .before .before .before .before .before .before .pre .1, numbers (c .before .before) .1)
+
+number-requires-3 : tie.Need-number-requires-3
+number-requires-3 c κs = (c .before .before .before .before .before .before .before .pre .2, numbers (c .before .before .before) .2)
+
+put-same-numbers-requires : tie.Need-put-same-numbers-requires
+put-same-numbers-requires c κs = search needs
 
 same-length : tie.Need-same-length
 same-length c = search needs
 
 returns : tie.Need-returns
-unfolding sameIfClauses bothClauses
 returns c =
-    simp (c .before .before .before .before .negated .ensures .0, c .before .before .before .negated2 .ensures .0, c .before .before .negated3 .ensures .0)
-    at (c .before .put-two-ternary .ensures)
+    rw (c .before .before .before .before .number .ensures .0, c .before .before .before .number2 .ensures .0, c .before .before .number3 .ensures .0) at (c .before .put-same-numbers .ensures)
+
+put-same-terms-requires : tie.Need-put-same-terms-requires
+put-same-terms-requires c κs = search needs
+
+same-length-2 : tie.Need-same-length-2
+same-length-2 c = search needs
+
+returns-2 : tie.Need-returns-2
+returns-2 c = c .before .put-same-terms .ensures
 
 pub put-same-if-spec : {M : Type 1} → statement M
 put-same-if-spec =
     tie.close
     (tie.spec
-    negated-requires
-    negated-requires-2
-    negated-requires-3
-    put-two-ternary-requires
+    is-number-requires
+    is-number-requires-2
+    is-number-requires-3
+    number-requires
+    number-requires-2
+    number-requires-3
+    put-same-numbers-requires
     same-length
-    returns)
+    returns
+    put-same-terms-requires
+    same-length-2
+    returns-2)
