@@ -15,8 +15,8 @@
 /* the version of this interface: the first number goes up where a program that was written for the version before has to be changed, the
  * second where something is added; while the first is 0, the second goes up for both */
 #define MARRUBIGAI_VERSION_MAJOR 0
-#define MARRUBIGAI_VERSION_MINOR 3
-#define MARRUBIGAI_VERSION "0.3"
+#define MARRUBIGAI_VERSION_MINOR 5
+#define MARRUBIGAI_VERSION "0.5"
 
 #ifdef __cplusplus
 extern "C" {
@@ -98,13 +98,14 @@ marrubigai_heading_reply marrubigai_heading(marrubigai_netlist net, const marrub
 
 /* writes the clauses of one group, each ended by 0, and answers how many numbers that is: wires or closing of frame i, pair (j, i),
  * or the property; j counts only for a pair, and i not for the property. The order of the whole: for each frame wires, pairs from
- * j = i - 1 down to 0, closing; then the property. Only the property's numbers depend on the depth: not P of frames 0 to depth, and 0. */
+ * j = i - 1 down to 0, closing; then the property. Only the property's numbers depend on the depth: not P of frames 0 to depth, and 0.
+ * Constants are left out: where P is code 0 there are none, where it is code 1 they are -1 and 0. */
 marrubigai_count_reply marrubigai_write_group(marrubigai_netlist net, const marrubigai_latch *latches, size_t latch_count,
                                               const marrubigai_gate *gates, size_t gate_count, uint32_t depth, uint32_t kind,
                                               uint32_t j, uint32_t i, int32_t *out, size_t room);
 
 /* runs a solver's answer, in the SAT Competition's output form, through the frames 0 to depth. Only the inputs are taken from it, and the read
- * bits of frames that do not read; the chip is stepped with its whole memory, the first 2^m words lent, whatever they hold. `first` is then the
+ * bits of frame 0 where that does not read; the chip is stepped with its whole memory, the first 2^m words lent, whatever they hold. `first` is then the
  * first frame that breaks the property, and the trace holds for each frame a line of V digits 0 or 1, wire 1 first: (depth + 1)(V + 1) bytes.
  * Where the answer is `s UNSATISFIABLE`, claimed is 1 and nothing was written. 14 where it is malformed, or gives something that the run is fed no
  * value or both; 15 where the run breaks nothing; 9 where memory or trace are shorter than their need, tested before the answer counts. After 14 the

@@ -51,6 +51,7 @@ done
 line() { printf "%s%10s%10s%10s\n" "$1" "${2-}" "${3-}" "${4-}"; }
 { line N 0 4 0; line M 1 1 0; line L 1 0; line L 2 0; line L 4 0; line L 6 0; line A 0; line D 0; line C 0 0 9; } > "$work/chain.sheet"
 { line N 0 0 0; line M 1 1 0; line A 0; line D 0; line C 0 0 0; } > "$work/false.sheet"
+{ line N 0 1 0; line M 1 1 0; line L 0 0; line A 0; line D 0; line C 0 3 0; } > "$work/reading.sheet" # RE is an inverted latch
 { line N 0 0 0; line M 1 1 0; line A 0; line D 0; line C 0 0 1; } > "$work/true.sheet"
 for depth in 3 4 255; do check "the chain to depth $depth" agree "$work/chain.sheet" "$depth"; done
 ends() { # what, status, printed, arguments ..
@@ -61,6 +62,7 @@ ends() { # what, status, printed, arguments ..
 }
 ends "the chain" 10 "$work/chain.sheet: the property is broken in frame 4 at the earliest" "$work/chain.sheet" 255
 ends "a property that is false" 10 "$work/false.sheet: the property is broken in frame 0 at the earliest" "$work/false.sheet" 0
+ends "a property that is false in a chip that reads" 10 "$work/reading.sheet: the property is broken in frame 0 at the earliest" "$work/reading.sheet" 3
 ends "a property that is true" 20 "$work/true.sheet: no run breaks the property in frames 0 to 255" "$work/true.sheet" 255
 
 said() { check "$1: said" [ "$(head -n 1 "$work/said")" = "$2" ]; }

@@ -53,10 +53,12 @@ static void add_frame(CCaDiCaL *solver, uint32_t i) {
   add_group(solver, i, MARRUBIGAI_CLOSING, 0, i);
 }
 
-// not P of frame i: number i of the property group of depth i
+// not P of frame i: number i of the property group of depth i. Where P is a constant there is none: a false P leaves nothing to write, and is
+// broken (1, which is true); a true one leaves -1 alone, and is not.
 static int32_t violation(uint32_t i) {
-  write_group(i, MARRUBIGAI_PROPERTY, 0, 0);
-  return numbers[i];
+  size_t count = write_group(i, MARRUBIGAI_PROPERTY, 0, 0);
+  if (count == 0) return 1;
+  return count == (size_t)i + 2 ? numbers[i] : -1;
 }
 
 int main(int argc, char **argv) {

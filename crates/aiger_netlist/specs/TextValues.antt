@@ -48,7 +48,7 @@ abbrev pub valuesOf : Netlist → (ℕ → Bool) → (ℕ → Bool) → Values
 valuesOf c input latch = evaluate c input latch (λ t. input (c .inputs + t))
 
 -- Each input, latch, gate, next code and output has in the netlist c the value that it has in the text: w are the values of the
--- netlist's wires, v those of the text's variables (RULES I6 and I8)
+-- netlist's wires, v those of the text's variables (RULES I9, by I6 and I8)
 pub record SameValues (s : List ℕ) (c : Netlist) (w v : Values) : Type 0 where
   pub input-same : (x : ℕ) → x < c .inputs → w (inputWire c x) ≡ v (inputVariable s x)
   pub read-same : (t : ℕ) → t < c .n → w (readWire c t) ≡ v (inputVariable s (c .inputs + t))

@@ -6,7 +6,7 @@ use mathlib.Core.Bool.{Bool, not}
 use mathlib.Core.List.{List, [], _∷_, _++_}
 use Rattle.model.specs.Gather.{gather}
 
--- A literal: a constant, or a variable, inverted or not. Which number stands for a constant is said in `Numbers` alone.
+-- A literal: a constant, or a variable, inverted or not. What is written of a constant is said in `Numbers` alone.
 pub data Literal : Type 0 where
   known : Bool → Literal
   plus : ℕ → Literal

@@ -1,5 +1,5 @@
--- How many clauses and numbers a group has at most (RULES G30 and G31, line for line): as many where no code is a constant and nothing
--- is left out. Cited by the claim and by what needs room for a group.
+-- How many clauses and numbers a group has at most (RULES G30 and G31, line for line): as many as there would be if nothing were left
+-- out. Cited by the claim and by what needs room for a group.
 use Prim.Native.Nat.{ℕ, zero, suc, _+_, _*_}
 use Rattle.model.specs.Netlist.{Netlist}
 use Rattle.model.specs.declared.Group.{Group}

@@ -1,5 +1,5 @@
 -- What a replay depends on, as theorems: not on what stands for an unclear variable (RULES Y10), and not on what is said of a variable past
--- the file's. Promised by `replay`; the proofs are in proofs/Settled.antt and TableSuffices.antt.
+-- the file's. The first is promised by `marrubigai_replay`, both by `replay_call::replay`; the proofs are in proofs/Settled.antt and TableSuffices.antt.
 use Prim.Native.Nat.{ℕ, _+_, _≤_}
 use mathlib.Core.Path.{_≡_}
 use mathlib.Core.Bool.{false}

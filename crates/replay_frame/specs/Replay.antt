@@ -1,5 +1,5 @@
--- The replay of a solver's answer (RULES Y1, Y4 to Y6, Y9 and Y10): the model's run, fed what the answer says of the inputs and of the idle word. Cited by the functions that
--- replay and by what the call promises (replay_call/specs/Replay).
+-- The replay of a solver's answer (RULES Y1, Y4 to Y6, Y9 and Y10): the model's run, fed what the answer says of the inputs and of the
+-- idle word. Cited by the functions that replay and by what the call promises (replay_call/specs/ReplayCall).
 use Prim.Native.Nat.{ℕ, _+_}
 use mathlib.Core.Bool.{Bool, cond, not, _&&_, _||_}
 use mathlib.Core.List.{List, [], _∷_, _++_}

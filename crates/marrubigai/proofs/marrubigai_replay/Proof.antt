@@ -66,6 +66,8 @@ use Rattle.replay_answer.proofs.replay as inner
 use Rattle.replay_answer.proofs.replay.Symbol as inner-def
 use Rattle.replay_answer.proofs.replay.Symbol.{name as #inner}
 use Rattle.replay_answer.proofs.replay.Met as inner-thm
+use Rattle.answer_lines.proofs.Written.{as-written}
+use Rattle.replay_call.proofs.Settled.{faults-settled}
 use Rattle.calls.proofs.Lent.{netOf-unpacked}
 use Rattle.marrubigai.proofs.marrubigai_replay.Key.{name as #marrubigai-replay}
 use Rattle.marrubigai.proofs.marrubigai_replay as f
@@ -278,8 +280,9 @@ module _ {M : Type 1} (𝓤 : URA M) (H : Heap 𝓤) (A : Atoms 𝓤) (W : Given
           (length (memory .now)) (length (trace .now))) same-net))
           (both 𝓤 (factI 𝓤 _ (emp 𝓤) (remembers ∙ ap (λ c. memoryFor c (length (ls .now)) (length (gs .now)) k (answer .now)
           (memory .now) (length (trace .now))) same-net))
-          (factI 𝓤 _ (emp 𝓤) (traces ∙ ap (λ c. traceFor c (length (ls .now)) (length (gs .now)) k (answer .now)
-          (length (memory .now)) (trace .now)) same-net))))))))))))))))))))))))))))))))))
+          (both 𝓤 (factI 𝓤 _ (emp 𝓤) (traces ∙ ap (λ c. traceFor c (length (ls .now)) (length (gs .now)) k (answer .now)
+          (length (memory .now)) (trace .now)) same-net))
+          (both 𝓤 (factI 𝓤 _ (emp 𝓤) faults-settled) (factI 𝓤 _ (emp 𝓤) as-written)))))))))))))))))))))))))))))))))))
         where
           same-net : netOf net zl zg ≡ netOf net (latchCodes (ls .now)) (gateCodes (gs .now))
           same-net = netOf-unpacked net (latchCodes (ls .now)) (gateCodes (gs .now))
