@@ -1,2 +1,3 @@
--- What `replay` prints. Nothing here imports a law or a proof.
+-- What `replay` prints, and what its room suffices for. Nothing here imports a law or a proof.
 pub mod Printed
+pub mod Room

@@ -16,6 +16,7 @@ ghost use Rattle.answer_scan.specs.Scan.{AnswerRead};
 ghost use Rattle.replay_run.specs.Runs.{traceLength};
 ghost use Rattle.replay_answer.specs.ReplayAnswer.{replayFor, memoryFor, traceFor};
 ghost use Rattle.program_replay.specs.Printed.{isBroken, answerText};
+ghost use Rattle.program_replay.specs.Room.{RoomSuffices};
 
 // Replays an answer that was read, on lists of 600 records: what is answered and left in the trace is what the exported call answers and leaves,
 // of the text that was read.
@@ -35,6 +36,7 @@ pub fn replay_read(
         → now (memory .exit) ≡ memoryFor (netOf net (now (latches .entry)) (now (gates .entry))) 600 600 depth text (now (memory .entry)) (length (now (trace .entry)))) ⌝ }
     ensures trace { λ _. ⌜ ((text : List ℕ) → AnswerRead text (now (signs .entry)) kind
         → now (trace .exit) ≡ traceFor (netOf net (now (latches .entry)) (now (gates .entry))) 600 600 depth text (length (now (memory .entry))) (now (trace .entry))) ⌝ }
+    ensures room { λ _. ⌜ RoomSuffices ⌝ }
 {
     replay_call::reply_of(replay_call::replay(
         net,

@@ -74,13 +74,6 @@ fn no_words() -> [u32; 4096]
     [0; 4096]
 }
 
-// The trace: as many bytes as the longest has.
-fn no_lines() -> [u8; 153856]
-    ensures { λ r. ⌜ length r ≡ 153856 ⌝ }
-{
-    [0; 153856]
-}
-
 // Replays an answer, and prints what comes of it.
 fn print_replay(
     net: Netlist,
@@ -93,7 +86,7 @@ fn print_replay(
     requires { ⌜ Accepted (netOf net (now latches) (now gates)) × (depth ≤ 255) ⌝ }
 {
     let mut memory = no_words();
-    let mut trace = no_lines();
+    let mut trace = replay_call::no_lines();
     let reply = program_replay::replay_read(
         net,
         latches,

@@ -97,7 +97,7 @@ fn test_replay(
 }
 
 // The lines of a run, to be filled: so many that every trace fits.
-fn no_lines() -> [u8; 153856]
+pub fn no_lines() -> [u8; 153856]
     ensures { λ r. ⌜ length r ≡ 153856 ⌝ }
 {
     [0; 153856]

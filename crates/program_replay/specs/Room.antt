@@ -1,0 +1,12 @@
+-- What a program that lends the largest memory and trace knows (RULES P15, "Only 1 to 7, 14 and 15 occur in `replay`"). Promised by `replay_read`.
+use Prim.Native.Nat.{ℕ, _≤_}
+use mathlib.Core.Path.{_≡_}
+use Rattle.model.specs.Limits.{mostWires, mostDepth}
+use Rattle.model.specs.Netlist.{Netlist}
+use Rattle.model.specs.Acceptance.{Accepted}
+use Rattle.refusals.specs.declared.Verdict.the-variants.{Passed}
+use Rattle.replay_call.specs.ReplayCall.{replayTests}
+
+-- of an accepted netlist, on lists of 600 records, no test before the answer's refuses
+abbrev pub RoomSuffices : Type 0
+RoomSuffices = (c : Netlist) → Accepted c → (k : ℕ) → k ≤ mostDepth → replayTests c mostWires mostWires k 4096 153856 ≡ Passed
