@@ -215,7 +215,7 @@ frame  input  read  not-read  both  reversed  memory
 # Read enable is the inverted latch, which is 0 in frame 0 alone: frame 0 reads the start word 1, and frame 1 holds it.
 { line N 0 1 0; line M 1 1 1; line L 1 0; line A 0; line D 0; line C 0 3 3; } > "$work/sheets/held.sheet"
 printf 'read 4\nnot-read 5\n' > "$work/sheets/held.names"
-ends "a word that is held" 10 "held.sheet: the property is broken in one of the frames 0 to 1:
+ends "a word that is held" 10 "held.sheet: a run breaks the property, first in frame 1:
 frame  read  not-read  memory
     0     1         0  reads 1 at 0 (start word)
     1     1         0  idle  <- property broken" "" held.sheet 1
