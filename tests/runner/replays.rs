@@ -224,6 +224,18 @@ fn model(answer: &[u8]) -> Vec<bool> {
     values
 }
 
+/// The answer with values for its variables up to B(k + 1): MiniSat has none for those behind the last that stands in a clause.
+fn completed(answer: Vec<u8>, variables: usize) -> Vec<u8> {
+    let missing = model(&answer).len()..variables + 1;
+    if missing.is_empty() {
+        return answer;
+    }
+    let text = String::from_utf8(answer).expect("a text");
+    let values = text.strip_suffix(" 0\n").expect("a last 0");
+    let more: String = missing.map(|variable| format!(" -{variable}")).collect();
+    format!("{values}{more} 0\n").into_bytes()
+}
+
 /// What CaDiCaL prints as it stands, with its comments and without, and MiniSat's result: 14 as it stands, and in the other form. Of an
 /// answer that is satisfiable the run has every wire as the solver said.
 pub fn solvers(replay: &Replay, tally: &mut Tally) {
@@ -259,7 +271,9 @@ pub fn solvers(replay: &Replay, tally: &mut Tally) {
         ];
         for (name, answer) in answers {
             let name = format!("{name}, sheet {round}");
+            let mut answer = answer;
             let expected = if is_satisfiable {
+                answer = completed(answer, frame_base(netlist, *depth + 1) as usize);
                 let model = model(&answer);
                 let run = Run::new(netlist, &feeds_of_model(netlist, *depth, &model));
                 tally.check((&name, "wires"), agrees(netlist, &model, &run));
