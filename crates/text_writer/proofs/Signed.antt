@@ -41,6 +41,17 @@ unfolding signedDigits
 length-parts (pos n) = sym (zero-add (length (digits n)))
 length-parts (negsuc n) = omega arith
 
+-- a number's text by its parts, with no sign and with one
+pub signedDigits-plain : (z : ℤ) → partsOf z .sign ≡ 0 → signedDigits z ≡ digits (partsOf z .value)
+unfolding signedDigits
+signedDigits-plain (pos n) h = refl
+signedDigits-plain (negsuc n) h = absurd (omega (arith, h))
+
+pub signedDigits-minus : (z : ℤ) → 0 < partsOf z .sign → signedDigits z ≡ minus ∷ digits (partsOf z .value)
+unfolding signedDigits
+signedDigits-minus (pos n) h = absurd (omega (arith, h))
+signedDigits-minus (negsuc n) h = refl
+
 -- a text that is not empty does not tell what stood at the first byte
 wrote-over : (text old new : List ℕ) (x count : ℕ) → 0 < length text → Wrote text (set old 0 x) new count → Wrote text old new count
 wrote-over text old new x count h w =
