@@ -5,7 +5,7 @@ ghost use lib.Dec.{leb};
 ghost use lib.ListN.{length};
 ghost use Rattle.model.specs.Wrote.{Wrote};
 ghost use Rattle.text_writer.specs.Table.{TableOrNone};
-ghost use Rattle.dimacs.specs.Text.{headerText, numberText, clauseText, OtherNumbers, refusalText};
+ghost use Rattle.dimacs.specs.Text.{headerText, numberText, clauseText, OtherNumbers, NumberPrinted, refusalText};
 ghost use Rattle.decimal.specs.Digits.{signedDigits};
 ghost use Rattle.decimal.specs.Filled.{Filled};
 ghost use Rattle.dimacs.specs.PrintCalls.{printReply, printSent, printLeaves, fillLeaves};
@@ -162,6 +162,7 @@ fn fill_number(out: &mut [u8], z: i32) -> usize
 pub fn put_number(out: &mut [u8], z: i32) -> PrintAnswer
     ensures answer { λ r. ⌜ printReply r ≡ printSent (signedDigits z) (length (now (out .entry))) ⌝ }
     ensures borrowed { λ _. ⌜ now (out .exit) ≡ fillLeaves (signedDigits z) (now (out .entry)) ⌝ }
+    ensures printed { λ _. ⌜ NumberPrinted ⌝ }
 {
     if number_fits(out.len(), z) {
         return PrintAnswer::Written(fill_number(out, z));

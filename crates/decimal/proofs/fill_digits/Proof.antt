@@ -1,6 +1,6 @@
 -- `decimal::fill_digits` meets its contract. The loop's invariant: the digits of `rest`, which are still to be written before `at`, with
 -- everything else as it is, are the digits of x at the end of what was there.
-use Prim.Native.Nat.{ℕ, suc, _+_, _-_, _/_, _%_, _≤_}
+use Prim.Native.Nat.{ℕ, _+_, _-_, _/_, _%_, _≤_}
 use mathlib.Core.Path.{_≡_, refl, sym, ap, _∙_}
 use mathlib.Core.List.{List, [], _∷_, _++_}
 use native.Mathlib.Omega.{arith}

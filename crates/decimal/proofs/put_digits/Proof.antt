@@ -1,10 +1,8 @@
 -- `decimal::put_digits` meets its contract: the digits fill as many bytes as they are.
-use Prim.Native.Nat.{ℕ}
-use mathlib.Core.Path.{_≡_, sym, ap, _∙_}
-use mathlib.Core.List.{List, _++_}
+use mathlib.Core.Path.{_≡_, sym, _∙_}
 use native.Mathlib.Omega.{arith}
 use borrow.Author.Needs.{needs}
-use lib.ListN.{length, take, drop}
+use lib.ListN.{length, take}
 use lib.Seq.{length-take-le}
 use Rattle.decimal.specs.Digits.{digits}
 use Rattle.decimal.proofs.Filled.{filled-all}
@@ -35,7 +33,6 @@ same-length c = search needs
 returns : tie.Need-returns
 returns c =
     let start = c .before .before .before .before .before .before in
-    let old : List ℕ = start .args .out .now in
     let count-is = c .before .before .before .before .digit-count .ensures in
     let filled = c .before .before .fill-digits in
     let all : filled .last .0 ≡ digits (start .args .x) = filled-all (filled .ensures) (sym count-is ∙ sym (long (c .before .before .before))) in

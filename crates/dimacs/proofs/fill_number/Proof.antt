@@ -1,12 +1,11 @@
 -- `dimacs::fill_number` meets its contract: the digits at the end, and a minus before them where the parts have a sign.
-use Prim.Native.Nat.{ℕ, _+_, _<_}
+use Prim.Native.Nat.{_+_, _<_}
 use mathlib.Core.Path.{_≡_, sym, ap, _∙_}
-use mathlib.Core.List.{List, _∷_}
+use mathlib.Core.List.{_∷_}
 use native.Mathlib.Omega.{arith}
 use borrow.Author.Needs.{needs}
 use lib.ListN.{length}
 use Rattle.decimal.specs.Digits.{minus, digits, signedDigits}
-use Rattle.decimal.specs.Filled.{Filled}
 use Rattle.decimal.proofs.Filled.{filled-before}
 use Rattle.decimal.proofs.Signed.{read-back, length-signedDigits}
 use Rattle.text_writer.specs.Signed.{partsOf}
