@@ -15,8 +15,8 @@
 /* the version of this interface: the first number goes up where a program that was written for the version before has to be changed, the
  * second where something is added; while the first is 0, the second goes up for both */
 #define MARRUBIGAI_VERSION_MAJOR 0
-#define MARRUBIGAI_VERSION_MINOR 5
-#define MARRUBIGAI_VERSION "0.5"
+#define MARRUBIGAI_VERSION_MINOR 6
+#define MARRUBIGAI_VERSION "0.6"
 
 #ifdef __cplusplus
 extern "C" {
@@ -121,6 +121,11 @@ marrubigai_replay_reply marrubigai_replay(marrubigai_netlist net, const marrubig
 marrubigai_count_reply marrubigai_put_header(uint8_t *out, size_t room, uint32_t variables, uint32_t clauses);
 marrubigai_count_reply marrubigai_put_clauses(uint8_t *out, size_t room, const int32_t *numbers, size_t count);
 marrubigai_count_reply marrubigai_put_refusal(uint8_t *out, size_t room, uint32_t number, uint32_t place);
+
+/* prints one number in decimal, as put_clauses does, from the right into the end of the buffer: its last byte is the buffer's, and those
+ * before it stay as they were. Any number, INT32_MIN too, whose 11 bytes are the most; 0 is one byte. It answers how many bytes it filled;
+ * 9 where the buffer is shorter. */
+marrubigai_count_reply marrubigai_put_number(uint8_t *out, size_t room, int32_t number);
 
 #ifdef __cplusplus
 }

@@ -425,6 +425,14 @@ static int printed(marrubigai_count_reply reply, const char *expected) {
   return holds;
 }
 
+// whether the reply is a success with these bytes at the end of a buffer of so many, and nothing else was written
+static int filled(marrubigai_count_reply reply, size_t room, const char *expected) {
+  const size_t count = strlen(expected), start = room - count;
+  int holds = reply.number == 0 && reply.place == 0 && reply.count == count && memcmp(text + start, expected, count) == 0;
+  for (size_t t = 0; t < MOST_BYTES; t++) holds = holds && ((t >= start && t < room) || text[t] == UNPRINTED);
+  return holds;
+}
+
 static int not_printed(marrubigai_count_reply reply) {
   int holds = reply.number == MARRUBIGAI_NO_ROOM && reply.place == 0 && reply.count == 0;
   for (size_t t = 0; t < MOST_BYTES; t++) holds = holds && text[t] == UNPRINTED;
@@ -443,6 +451,11 @@ static void printing(void) {
   check("no numbers, into a slice of length 0", printed(marrubigai_put_clauses(unprinted(), 0, numbers, 0), ""));
   check("a refusal of 28 bytes", printed(marrubigai_put_refusal(unprinted(), 28, 6, 3), "refused         6         3\n"));
   check("27 bytes are too few for it", not_printed(marrubigai_put_refusal(unprinted(), 27, 6, 3)));
+  check("the least number fills its 11 bytes", filled(marrubigai_put_number(unprinted(), 11, INT32_MIN), 11, "-2147483648"));
+  check("10 bytes are too few for it", not_printed(marrubigai_put_number(unprinted(), 10, INT32_MIN)));
+  check("a number at the end of 13 bytes", filled(marrubigai_put_number(unprinted(), 13, -70), 13, "-70"));
+  check("zero is one byte", filled(marrubigai_put_number(unprinted(), 1, 0), 1, "0"));
+  check("no byte is too few for it", not_printed(marrubigai_put_number(unprinted(), 0, 0)));
 }
 
 // what the header calls room enough is what the largest of its kind needs, and no more, but for the lists: V leaves 599
@@ -460,6 +473,7 @@ static void rooms(void) {
   check("a longer one is", marrubigai_read(sheet, sizeof sheet, latches, 0, gates, 0).number == MARRUBIGAI_RAGGED);
   check("the longest header", marrubigai_put_header(text, MARRUBIGAI_LINE_BYTES, UINT32_MAX, UINT32_MAX).count == MARRUBIGAI_LINE_BYTES);
   check("a refusal", marrubigai_put_refusal(text, MARRUBIGAI_LINE_BYTES, UINT32_MAX, UINT32_MAX).count == MARRUBIGAI_LINE_BYTES);
+  check("the longest number, and one byte behind it", marrubigai_put_number(text, MARRUBIGAI_NUMBER_BYTES, INT32_MIN).count + 1 == MARRUBIGAI_NUMBER_BYTES);
   static uint32_t words[MARRUBIGAI_MEMORY_WORDS];
   static uint8_t longest_trace[MARRUBIGAI_TRACE_BYTES];
   const marrubigai_netlist widest = {.gates = 599, .m = 12, .n = 1};

@@ -160,6 +160,8 @@ extern "C" {
     ) -> CountReply;
 
     fn marrubigai_put_refusal(out: *mut u8, room: usize, number: u32, place: u32) -> CountReply;
+
+    fn marrubigai_put_number(out: *mut u8, room: usize, number: i32) -> CountReply;
 }
 
 fn record_of(netlist: &Netlist) -> Record {
@@ -213,12 +215,21 @@ impl<T: Copy + PartialEq> Lent<T> {
         &mut self.all[GUARDS..GUARDS + self.room]
     }
 
-    /// What stands at the front, and whether everything else is as it was.
+    /// What stands at the front, where everything else is as it was.
     fn written(&self, count: usize, fill: impl Fn(usize) -> T) -> Option<Vec<T>> {
-        let end = GUARDS + count.min(self.room);
+        (count <= self.room).then(|| self.part(0, count, fill))?
+    }
+
+    /// What stands at the end, where everything else is as it was.
+    fn filled(&self, count: usize, fill: impl Fn(usize) -> T) -> Option<Vec<T>> {
+        self.part(self.room.checked_sub(count)?, count, fill)
+    }
+
+    fn part(&self, start: usize, count: usize, fill: impl Fn(usize) -> T) -> Option<Vec<T>> {
+        let part = GUARDS + start..GUARDS + start + count;
         let is_kept = |index: usize| self.all[index] == fill(index);
-        let kept = (0..GUARDS).all(is_kept) && (end..self.all.len()).all(is_kept);
-        (kept && count <= self.room).then(|| self.all[GUARDS..end].to_vec())
+        let kept = (0..part.start).all(is_kept) && (part.end..self.all.len()).all(is_kept);
+        kept.then(|| self.all[part].to_vec())
     }
 }
 
@@ -483,6 +494,18 @@ pub fn put_refusal(number: u32, place: u32, room: usize) -> Answer<Vec<u8>> {
     written_into(room, unprinted, |out, room| unsafe {
         marrubigai_put_refusal(out, room, number, place)
     })
+}
+
+/// A number filled into the end of a slice of `room` bytes: the bytes filled.
+pub fn put_number(number: i32, room: usize) -> Answer<Vec<u8>> {
+    let mut out = Lent::new(room, unprinted);
+    let slice = out.slice();
+    // SAFETY: pointer and length are those of a live slice.
+    let reply = unsafe { marrubigai_put_number(slice.as_mut_ptr(), slice.len(), number) };
+    let bytes = out
+        .filled(reply.count, unprinted)
+        .ok_or("something before the count, or a count above the room")?;
+    answer(reply.number, reply.place, reply.count == 0, || Ok(bytes))
 }
 
 fn netlist_of(net: Record, latches: &[LatchRecord], gates: &[GateRecord]) -> Netlist {

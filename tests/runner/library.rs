@@ -44,6 +44,7 @@ pub struct Library {
     headers: RefCell<Counts>,
     clauses: RefCell<Counts>,
     refusals: RefCell<Counts>,
+    numbers: RefCell<Counts>,
     replays: RefCell<Counts>,
     /// Of the replays, those that say what the solver claimed.
     claims: RefCell<Counts>,
@@ -51,7 +52,7 @@ pub struct Library {
 
 type Family = (&'static str, fn(&Library, &mut Tally));
 
-const FAMILIES: [Family; 28] = [
+const FAMILIES: [Family; 29] = [
     ("facts of the full run", calls::stated),
     ("table of group calls", calls::table_of_calls),
     ("table of records", calls::table_of_records),
@@ -71,6 +72,7 @@ const FAMILIES: [Family; 28] = [
     ("imports, damaged texts", imports::damaged),
     ("imports, ends of texts", imports::ends),
     ("texts at their limits", prints::limits),
+    ("numbers from the right", prints::filled),
     ("random texts", prints::random),
     ("joined texts", prints::joined),
     ("replays by hand", replay_calls::by_hand),
@@ -86,7 +88,7 @@ const FAMILIES: [Family; 28] = [
 
 /// Each function, and the numbers that the tests must have made it answer: all that it has. 10 has none.
 fn every_number(library: &Library, tally: &mut Tally) {
-    let rows: [(&str, &RefCell<Counts>, &[usize]); 10] = [
+    let rows: [(&str, &RefCell<Counts>, &[usize]); 11] = [
         ("read", &library.reads, &[1, 2, 3, 4, 5, 6, 9]),
         ("next_line", &library.lines, &[2]),
         ("import", &library.imports, &[4, 6, 9, 11, 12, 13]),
@@ -95,6 +97,7 @@ fn every_number(library: &Library, tally: &mut Tally) {
         ("put_header", &library.headers, &[9]),
         ("put_clauses", &library.clauses, &[9]),
         ("put_refusal", &library.refusals, &[9]),
+        ("put_number", &library.numbers, &[9]),
         ("replay", &library.replays, &[3, 4, 5, 6, 7, 9, 14, 15]),
         ("replay, claimed unsatisfiable", &library.claims, &[]),
     ];

@@ -1,7 +1,7 @@
 //! The calls that print, through the static library: texts, counts, refusal 9, and what is left untouched.
 
 use super::calls::differ;
-use super::exports::{put_clauses, put_header, put_refusal, Answer};
+use super::exports::{put_clauses, put_header, put_number, put_refusal, Answer};
 use super::reference::check_examples::{accepted, input, FULL_RUN};
 use super::reference::formula::{
     clauses_text, frames, header_text, heading, refusal_text, Fault, Formula, Heading,
@@ -74,6 +74,62 @@ impl Library {
     }
 }
 
+impl Library {
+    /// A number filled from the right into slices of these lengths, against Rust's own decimal.
+    fn number_agrees(
+        &self,
+        tally: &mut Tally,
+        number: i32,
+        rooms: impl IntoIterator<Item = usize>,
+    ) {
+        let text = number.to_string().into_bytes();
+        for room in rooms {
+            let (found, expected) = (put_number(number, room), expected(&text, room));
+            Counts::add(&self.numbers, &found);
+            tally.check_with((number, room), found == expected, || {
+                differ(number, &found, &expected)
+            });
+        }
+    }
+}
+
+/// Both ends of every length and sign, into slices of every length up to two above the longest number, and a million random numbers.
+pub fn filled(library: &Library, tally: &mut Tally) {
+    for number in numbers() {
+        let number = number as i32;
+        library.number_agrees(tally, number, 0..=13);
+        library.number_agrees(tally, number.wrapping_neg(), 0..=13);
+    }
+    // written down by hand: the least number and its neighbours, zero, and what stands before a number
+    let rows: [(i32, usize, &[u8]); 8] = [
+        (i32::MIN, 11, b"-2147483648"),
+        (i32::MIN, 13, b"-2147483648"),
+        (i32::MIN + 1, 11, b"-2147483647"),
+        (i32::MAX, 10, b"2147483647"),
+        (0, 1, b"0"),
+        (0, 13, b"0"),
+        (-1, 2, b"-1"),
+        (-10, 3, b"-10"),
+    ];
+    for (number, room, text) in rows {
+        let found = put_number(number, room);
+        tally.check((number, room), found == Ok(Ok(text.to_vec())));
+        let short = put_number(number, text.len() - 1);
+        tally.check((number, "short"), short == expected(text, text.len() - 1));
+    }
+    let mut random = Random::new(802);
+    for _ in 0..1_000_000 {
+        any_number(library, tally, &mut random);
+    }
+}
+
+/// A number of any length and sign, into a slice of any length up to two above the longest number.
+fn any_number(library: &Library, tally: &mut Tally, random: &mut Random) {
+    let plain = number(random) as i32;
+    let signed = if random.percent(50) { plain.wrapping_neg() } else { plain };
+    library.number_agrees(tally, signed, [random.index(14)]);
+}
+
 /// Numbers at their limits in each text, and none at all.
 pub fn limits(library: &Library, tally: &mut Tally) {
     for first in numbers() {
@@ -137,9 +193,10 @@ fn list(random: &mut Random) -> Vec<i32> {
 
 /// One text of random numbers.
 pub fn any(library: &Library, tally: &mut Tally, random: &mut Random) {
-    match random.below(3) {
+    match random.below(4) {
         0 => library.header_agrees(tally, number(random), number(random)),
         1 => library.refusal_agrees(tally, number(random), number(random)),
+        2 => any_number(library, tally, random),
         _ => library.clauses_agree(tally, &list(random)),
     }
 }

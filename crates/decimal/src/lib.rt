@@ -3,6 +3,7 @@ ghost use mathlib.Core.Path.{_≡_};
 ghost use Prim.Native.Nat.{_≤_};
 ghost use lib.ListN.{length, replicate};
 ghost use Rattle.decimal.specs.Digits.{digits, space, field};
+ghost use Rattle.decimal.specs.Filled.{Filled};
 ghost use Rattle.decimal.specs.TextValue.{numberIn};
 ghost use Rattle.decimal.specs.SignedValue.{clauseNumberIn};
 ghost use Rattle.model.specs.Wrote.{Wrote};
@@ -95,20 +96,30 @@ pub fn digit_count(x: u32) -> usize
     count
 }
 
-// Writes a number's digits, the last first, and answers how many they are.
+// Fills a number's digits from the right into the end of a slice, in one pass, and answers how many they are.
+pub fn fill_digits(out: &mut [u8], x: u32) -> usize
+    requires { ⌜ length (digits x) ≤ length (now out) ⌝ }
+    ensures { λ r. ⌜ Filled (digits x) (now (out .entry)) (now (out .exit)) r ⌝ }
+{
+    let mut at = out.len();
+    let mut rest = x;
+    while 10 <= rest {
+        at -= 1;
+        out[at] = b'0' + ((rest % 10) as u8);
+        rest = rest / 10;
+    }
+    at -= 1;
+    out[at] = b'0' + (rest as u8);
+    out.len() - at
+}
+
+// Writes a number's digits, and answers how many they are.
 pub fn put_digits(out: &mut [u8], x: u32) -> usize
     requires { ⌜ length (digits x) ≤ length (now out) ⌝ }
     ensures { λ r. ⌜ Wrote (digits x) (now (out .entry)) (now (out .exit)) r ⌝ }
 {
     let count = digit_count(x);
-    let mut rest = x;
-    let mut i = count;
-    while 0 < i {
-        i -= 1;
-        out[i] = b'0' + ((rest % 10) as u8);
-        rest = rest / 10;
-    }
-    count
+    fill_digits(&mut out[..count], x)
 }
 
 // Fills the first bytes of a slice with spaces.
@@ -128,7 +139,7 @@ pub fn put_field(out: &mut [u8], x: u32) -> usize
     requires { ⌜ 10 ≤ length (now out) ⌝ }
     ensures { λ r. ⌜ Wrote (field x) (now (out .entry)) (now (out .exit)) r ⌝ }
 {
-    let before = 10 - digit_count(x);
-    put_spaces(out, before);
-    before + put_digits(&mut out[before..], x)
+    put_spaces(out, 10);
+    let _ = fill_digits(&mut out[..10], x);
+    10
 }

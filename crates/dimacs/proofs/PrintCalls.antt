@@ -8,7 +8,8 @@ use Rattle.refusals.specs.Slices.{withCount, contentsAfter}
 use Rattle.refusals.specs.declared.Refusal.the-variants.{NoRoom}
 use Rattle.refusals.proofs.Slices.{room-enough, room-short}
 use Rattle.model.specs.Wrote.{Wrote}
-use Rattle.dimacs.specs.PrintCalls.{printReply, printSent, printLeaves}
+use Rattle.decimal.specs.Filled.{Filled}
+use Rattle.dimacs.specs.PrintCalls.{printReply, printSent, printLeaves, filledAfter, fillLeaves}
 use Rattle.dimacs.specs.declared.PrintAnswer.the-variants.{Written, Refused}
 
 -- a text that was written in a slice that kept its length: the answer is its count, and it stands before what was there
@@ -21,11 +22,28 @@ written text old new count kept w =
     let passes = room-enough (length text) (length old) room in
     (rw (passes, w .counted), rw passes (w .leaves))
 
+-- a text that was filled from the right: the same answer, and it stands behind what was there
+pub filled :
+    (text old new : List ℕ) (count : ℕ) → length text ≤ length old → Filled text old new count →
+    (printReply (Written count) ≡ printSent text (length old)) × (new ≡ fillLeaves text old)
+unfolding printReply printSent fillLeaves withCount filledAfter
+filled text old new count room f =
+    let passes = room-enough (length text) (length old) room in
+    (rw (passes, f .counted), rw passes (f .leaves))
+
 -- a text that has no room: refusal 9 at place 0, and nothing is changed
 pub not-written :
     (text old : List ℕ) → length old < length text →
     (printReply (Refused NoRoom 0) ≡ printSent text (length old)) × (old ≡ printLeaves text old)
 unfolding printReply printSent printLeaves withCount contentsAfter
 not-written text old short =
+    let refuses = room-short (length text) (length old) short in
+    (rw refuses, rw refuses)
+
+pub not-filled :
+    (text old : List ℕ) → length old < length text →
+    (printReply (Refused NoRoom 0) ≡ printSent text (length old)) × (old ≡ fillLeaves text old)
+unfolding printReply printSent fillLeaves withCount filledAfter
+not-filled text old short =
     let refuses = room-short (length text) (length old) short in
     (rw refuses, rw refuses)

@@ -13,10 +13,11 @@ use lib.Signed.{mag}
 use mir.Syntax.{w32}
 use mir.Val.{SFits, toZ, ofZ}
 use Rattle.decimal.proofs.Digits.{digits-single, digits-behind, length-digits-ten, length-field}
+use Rattle.decimal.proofs.TextValue.{first-digit}
 use Rattle.decimal.proofs.Signed.{length-signedDigits, read-back}
 use Rattle.decimal.specs.Digits.{digit, space, minus, lineFeed, digits, field, signedDigits}
 use Rattle.model.proofs.Gather.{All, nothing, also}
-use Rattle.dimacs.specs.Text.{problem, refused, headerText, refusalText, behind, numberText, clauseText, OtherNumbers}
+use Rattle.dimacs.specs.Text.{problem, refused, headerText, refusalText, behind, numberText, clauseText, OtherNumbers, NumberPrinted}
 
 -- the header's length
 pub length-headerText : (variables clauses : ℕ) → length (headerText variables clauses) ≡ 8 + length (digits variables) + length (digits clauses)
@@ -59,14 +60,15 @@ unfolding clauseText
 clauseText-append [] ys = refl
 clauseText-append (z ∷ zs) ys = rw (clauseText-append zs ys) (sym (append-assoc (numberText z) (clauseText zs) (clauseText ys)))
 
+-- one number alone
+clauseText-single : (z : ℤ) → clauseText (z ∷ []) ≡ numberText z
+unfolding clauseText
+clauseText-single z = append-nil (numberText z)
+
 -- one number more
 pub clauseText-next : (zs : List ℤ) (i : ℕ) → i < length zs → clauseText (take (suc i) zs) ≡ clauseText (take i zs) ++ numberText (getD zs i (pos 0))
-unfolding clauseText
 clauseText-next zs i h =
-    ap clauseText (take-suc zs i (pos 0) h) ∙ clauseText-append (take i zs) (getD zs i (pos 0) ∷ []) ∙ ap (λ (t : List ℕ). clauseText (take i zs) ++ t) (single (getD zs i (pos 0)))
-  where
-    single : (z : ℤ) → clauseText (z ∷ []) ≡ numberText z
-    single z = append-nil (numberText z)
+    ap clauseText (take-suc zs i (pos 0) h) ∙ clauseText-append (take i zs) (getD zs i (pos 0) ∷ []) ∙ ap (λ (t : List ℕ). clauseText (take i zs) ++ t) (clauseText-single (getD zs i (pos 0)))
 
 -- the text of the first numbers is no longer than that of all
 pub length-clauseText-take : (zs : List ℤ) (i : ℕ) → length (clauseText (take i zs)) ≤ length (clauseText zs)
@@ -113,4 +115,15 @@ other-numbers =
       end-alone = ap (λ (ds : List ℕ). (ds ++ lineFeed ∷ []) ++ []) (digits-single 0 (omega arith));
       not-ended = ap (λ (ds : List ℕ). (ds ++ space ∷ []) ++ []) (digits-single 7 (omega arith));
       least = ap (λ (ds : List ℕ). ((minus ∷ ds) ++ space ∷ []) ++ []) digits-least;
+    }
+
+-- the decimal of any number
+pub number-printed : NumberPrinted
+unfolding signedDigits
+number-printed =
+    record {
+      printed = clauseText-single;
+      minus-below = λ x. refl;
+      no-leading-zero = λ x. first-digit (suc x) (omega arith);
+      zero-alone = digits-single 0 (omega arith);
     }

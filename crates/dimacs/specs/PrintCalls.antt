@@ -1,9 +1,11 @@
--- What a call that prints a text sends back and leaves (RULES L3, T43 and T44): 9 is its only test. Cited by
--- `put_header`, `put_clauses` and `put_refusal`, here and in `marrubigai`, and by `print_numbers`.
+-- What a call that prints a text sends back and leaves (RULES L3, L9, T43 and T44): 9 is its only test. Cited by `put_header`,
+-- `put_clauses`, `put_refusal` and `put_number`, here and in `marrubigai`, and by `print_numbers`.
 use Prim.Native.Nat.{ℕ}
 use mathlib.Core.List.{List}
 use lib.ListN.{length}
 use Rattle.refusals.specs.Slices.{testRoom, CountReply, withCount, contentsAfter}
+use Rattle.decimal.specs.Filled.{atEnd}
+use Rattle.refusals.specs.declared.Verdict.{Verdict}
 use Rattle.refusals.specs.declared.Verdict.the-variants.{Passed, Refused}
 use Rattle.dimacs.specs.declared.PrintAnswer.{PrintAnswer}
 use Rattle.dimacs.specs.declared.PrintAnswer.the-variants.{Written}
@@ -20,3 +22,11 @@ printSent text room = withCount (testRoom (length text) room) (length text)
 -- what the slice holds then
 unfoldable pub printLeaves : List ℕ → List ℕ → List ℕ
 printLeaves text old = contentsAfter (testRoom (length text) (length old)) text old
+
+-- the same where the text is filled from the right into the slice's end (RULES L9)
+unfoldable pub filledAfter : Verdict → List ℕ → List ℕ → List ℕ
+filledAfter Passed text old = atEnd text old
+filledAfter (Refused r p) text old = old
+
+unfoldable pub fillLeaves : List ℕ → List ℕ → List ℕ
+fillLeaves text old = filledAfter (testRoom (length text) (length old)) text old

@@ -6,9 +6,12 @@ ghost use lib.ListN.{length};
 ghost use Rattle.model.specs.Wrote.{Wrote};
 ghost use Rattle.text_writer.specs.Table.{TableOrNone};
 ghost use Rattle.text_writer.specs.Extends.{Extends};
-ghost use Rattle.dimacs.specs.Text.{headerText, numberText, clauseText, OtherNumbers, refusalText};
-ghost use Rattle.dimacs.specs.PrintCalls.{printReply, printSent, printLeaves};
+ghost use Rattle.dimacs.specs.Text.{headerText, numberText, clauseText, OtherNumbers, NumberPrinted, refusalText};
+ghost use Rattle.decimal.specs.Digits.{signedDigits};
+ghost use Rattle.decimal.specs.Filled.{Filled};
+ghost use Rattle.dimacs.specs.PrintCalls.{printReply, printSent, printLeaves, fillLeaves};
 use decimal::digit_count;
+use decimal::fill_digits;
 use decimal::put_field;
 use refusals::Refusal;
 use text_writer::parts_of;
@@ -51,12 +54,12 @@ pub fn write_numbers(out: &mut [u8], numbers: &[i32], table: &[u8]) -> usize
     at
 }
 
-// How many bytes a number takes with the one behind it.
+// How many bytes a number takes.
 fn number_length(z: i32) -> usize
-    ensures { λ r. ⌜ r ≡ length (numberText z) ⌝ }
+    ensures { λ r. ⌜ (r ≡ length (signedDigits z)) × (r ≤ 11) ⌝ }
 {
     let parts = parts_of(z);
-    parts.sign + digit_count(parts.value) + 1
+    parts.sign + digit_count(parts.value)
 }
 
 // Whether the text of numbers with end marks is no longer than the room. Their lengths are taken off the room: their sum might not fit.
@@ -66,7 +69,7 @@ fn clauses_fit(room: usize, numbers: &[i32]) -> bool
     let mut remaining = room;
     let mut i = 0;
     while i < numbers.len() {
-        let need = number_length(numbers[i]);
+        let need = number_length(numbers[i]) + 1;
         if remaining < need {
             return false;
         }
@@ -130,4 +133,41 @@ pub fn put_refusal(out: &mut [u8], number: u32, place: u32) -> PrintAnswer
         return PrintAnswer::Refused(Refusal::NoRoom, 0);
     }
     PrintAnswer::Written(write_refusal(out, number, place))
+}
+
+// Whether a number is no longer than the room. Its digits are counted only where the room is shorter than the longest number.
+fn number_fits(room: usize, z: i32) -> bool
+    ensures { λ r. ⌜ r ≡ leb (length (signedDigits z)) room ⌝ }
+{
+    if 11 <= room {
+        return true;
+    }
+    number_length(z) <= room
+}
+
+// Fills a number from the right into the end of a slice that has room for it: its digits, and a minus before them only below zero.
+fn fill_number(out: &mut [u8], z: i32) -> usize
+    requires { ⌜ length (signedDigits z) ≤ length (now out) ⌝ }
+    ensures { λ r. ⌜ Filled (signedDigits z) (now (out .entry)) (now (out .exit)) r ⌝ }
+{
+    let parts = parts_of(z);
+    let count = fill_digits(out, parts.value);
+    if parts.sign == 0 {
+        return count;
+    }
+    let before = out.len() - count;
+    out[before - 1] = b'-';
+    count + 1
+}
+
+// Prints any 32-bit number in decimal, from the right into the end of a buffer.
+pub fn put_number(out: &mut [u8], z: i32) -> PrintAnswer
+    ensures answer { λ r. ⌜ printReply r ≡ printSent (signedDigits z) (length (now (out .entry))) ⌝ }
+    ensures borrowed { λ _. ⌜ now (out .exit) ≡ fillLeaves (signedDigits z) (now (out .entry)) ⌝ }
+    ensures printed { λ _. ⌜ NumberPrinted ⌝ }
+{
+    if number_fits(out.len(), z) {
+        return PrintAnswer::Written(fill_number(out, z));
+    }
+    PrintAnswer::Refused(Refusal::NoRoom, 0)
 }

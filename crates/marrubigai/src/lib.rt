@@ -12,8 +12,9 @@ ghost use mathlib.Core.Path.{_≡_};
 ghost use lib.ListN.{length};
 ghost use Rattle.call_lists.specs.Lent.{netLent};
 ghost use Rattle.calls.specs.LentCalls.{headingFor, groupFor, numbersAfter};
-ghost use Rattle.dimacs.specs.Text.{headerText, clauseText, refusalText};
-ghost use Rattle.dimacs.specs.PrintCalls.{printSent, printLeaves};
+ghost use Rattle.decimal.specs.Digits.{signedDigits};
+ghost use Rattle.dimacs.specs.Text.{headerText, clauseText, NumberPrinted, refusalText};
+ghost use Rattle.dimacs.specs.PrintCalls.{printSent, printLeaves, fillLeaves};
 ghost use Rattle.sheet_parse.specs.LineAnswers.{lineAnswer, linesRead};
 ghost use Rattle.sheet_reader.specs.ReadCall.{readVerdict, readRecord, latchesAfter, gatesAfter, SheetDelivered};
 ghost use Rattle.aiger_lines.specs.Written.{ReadAsWritten};
@@ -145,6 +146,16 @@ pub extern "C" fn marrubigai_put_refusal(out: &mut [u8], number: u32, place: u32
     ensures borrowed { λ _. ⌜ now (out .exit) ≡ printLeaves (refusalText number place) (now (out .entry)) ⌝ }
 {
     call_replies::print_numbers(dimacs::put_refusal(out, number, place))
+}
+
+// `dimacs::put_number`.
+#[no_mangle]
+pub extern "C" fn marrubigai_put_number(out: &mut [u8], number: i32) -> CountReply
+    ensures answer { λ r. ⌜ r ≡ countNumbers (printSent (signedDigits number) (length (now (out .entry)))) ⌝ }
+    ensures borrowed { λ _. ⌜ now (out .exit) ≡ fillLeaves (signedDigits number) (now (out .entry)) ⌝ }
+    ensures printed { λ _. ⌜ NumberPrinted ⌝ }
+{
+    call_replies::print_numbers(dimacs::put_number(out, number))
 }
 
 // `replay_answer::replay`, of lent lists.

@@ -43,6 +43,17 @@ unfolding signedDigits
 length-parts (pos n) = sym (zero-add (length (digits n)))
 length-parts (negsuc n) = omega arith
 
+-- a number's text by its parts, with no sign and with one
+pub signedDigits-plain : (z : ℤ) → partsOf z .sign ≡ 0 → signedDigits z ≡ digits (partsOf z .value)
+unfolding signedDigits
+signedDigits-plain (pos n) h = refl
+signedDigits-plain (negsuc n) h = absurd (omega (arith, h))
+
+pub signedDigits-minus : (z : ℤ) → 0 < partsOf z .sign → signedDigits z ≡ minus ∷ digits (partsOf z .value)
+unfolding signedDigits
+signedDigits-minus (pos n) h = absurd (omega (arith, h))
+signedDigits-minus (negsuc n) h = refl
+
 -- a text does not tell what stood where it is
 wrote-over : (text start new : List ℕ) (i x count : ℕ) → i < length text → Wrote text (set start i x) new count → Wrote text start new count
 wrote-over text start new i x count h w =

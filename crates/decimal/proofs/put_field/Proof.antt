@@ -1,73 +1,58 @@
--- `decimal::put_field` meets its contract: spaces, and then the digits into the rest.
-use Prim.Native.Nat.{ℕ, _-_}
-use native.Mathlib.Omega.{arith}
+-- `decimal::put_field` meets its contract: spaces, and then the digits at the end of them.
+use Prim.Native.Nat.{ℕ}
+use mathlib.Core.Path.{_≡_, sym, ap, _∙_}
+use mathlib.Core.List.{List}
 use borrow.Author.Needs.{needs}
-use borrow.Rule.Slice.PartMut.{mid-len}
-use lib.ListN.{length, replicate}
+use lib.ListN.{length, take, drop, replicate}
+use lib.Seq.{take-append-seam, drop-append-seam}
 use Rattle.decimal.specs.Digits.{digits, space, field}
-use Rattle.decimal.proofs.Digits.{length-digits-ten}
-use Rattle.model.proofs.Wrote.{wrote-then}
+use Rattle.decimal.specs.Filled.{atEnd}
+use Rattle.decimal.proofs.Digits.{length-digits-ten, length-field}
+use Rattle.decimal.proofs.Filled.{field-filled}
 use Rattle.decimal.proofs.put_field.Statement.{statement}
 use Rattle.decimal.proofs.put_field.Tie as tie
 
-digit-count-requires : tie.Need-digit-count-requires
-digit-count-requires c κs = search needs
-
-sub-before : tie.Need-sub-before
-sub-before c =
-    let start = c .before .before in
-    omega (arith, c .digit-count .ensures, length-digits-ten (start .args .x) (start .fits .x .fits))
+-- the part that is lent is ten spaces
+spaces : (c : tie.After-put-spaces) → take 10 (c .put-spaces .last .0) ≡ replicate 10 space
+spaces c = ap (λ (s : List ℕ). take 10 s) (c .put-spaces .ensures .leaves) ∙ take-append-seam (replicate 10 space) (drop 10 (c .before .before .before .args .out .now))
 
 put-spaces-requires : tie.Need-put-spaces-requires
 put-spaces-requires c κs = search needs
 
-sub-put-digits : tie.Need-sub-put-digits
-sub-put-digits c = search needs
+slice-relend-prefix-fill-digits : tie.Need-slice-relend-prefix-fill-digits
+slice-relend-prefix-fill-digits c = search needs
 
-part-put-digits-start : tie.Need-part-put-digits-start
-part-put-digits-start c = search needs
+slice-aggregate-fill-digits : tie.Need-slice-aggregate-fill-digits
+slice-aggregate-fill-digits c = search needs
 
-part-put-digits-end : tie.Need-part-put-digits-end
-part-put-digits-end c = search needs
-
-put-digits-requires : tie.Need-put-digits-requires
-put-digits-requires c κs =
-    let start = c .before .before .before .before .before .before .before in
-    let count : ℕ = c .before .before .before .before .before .digit-count .result in
-    let count-is = c .before .before .before .before .before .digit-count .ensures in
-    let spaced = c .before .before .before .put-spaces in
-    rw (mid-len (10 - count) (length (spaced .last .0)) (spaced .last .0) (omega arith))
-    (omega (arith, count-is, start .pre, spaced .kept .0, length-digits-ten (start .args .x) (start .fits .x .fits)))
-
-add-result : tie.Need-add-result
-add-result c = search needs
+fill-digits-requires : tie.Need-fill-digits-requires
+fill-digits-requires c κs =
+    let start = c .before .before .before .before .before .before in
+    rw (spaces (c .before .before .before)) (length-digits-ten (start .args .x) (start .fits .x .fits))
 
 same-length : tie.Need-same-length
 same-length c = search needs
 
 returns : tie.Need-returns
-unfolding field
 returns c =
-    let start = c .before .before .before .before .before .before .before .before .before .before in
-    let count : ℕ = c .before .before .before .before .before .before .before .before .digit-count .result in
-    let count-is = c .before .before .before .before .before .before .before .before .digit-count .ensures in
-    let spaced = c .before .before .before .before .before .before .put-spaces in
-    let last = c .before .before .put-digits in
-    rw (← count-is)
-    (wrote-then (replicate (10 - count) space) (digits (start .args .x)) (start .args .out .now) (spaced .last .0)
-    (last .last .0) (10 - count) (last .result) (spaced .ensures) (last .ensures))
+    let start = c .before .before .before .before .before .before .before .before .before in
+    let x : ℕ = start .args .x in
+    let old : List ℕ = start .args .out .now in
+    let spaced = c .before .before .before .before .before .before in
+    let filled = c .before .before .fill-digits in
+    let ten : length (field x) ≡ 10 = length-field x (start .fits .x .fits) in
+    let all : filled .last .0 ≡ field x = filled .ensures .leaves ∙ ap (atEnd (digits x)) (spaces spaced) ∙ field-filled x (length-digits-ten x (start .fits .x .fits)) in
+    let behind : drop 10 (spaced .put-spaces .last .0) ≡ drop 10 old =
+    ap (λ (s : List ℕ). drop 10 s) (spaced .put-spaces .ensures .leaves) ∙ drop-append-seam (replicate 10 space) (drop 10 old) in
+    record { counted = sym ten; leaves = rw (all, behind, ten) }
 
 pub put-field-spec : {M : Type 1} → statement M
 put-field-spec =
     tie.close
     (tie.spec
-    digit-count-requires
-    sub-before
     put-spaces-requires
-    sub-put-digits
-    part-put-digits-start
-    part-put-digits-end
-    put-digits-requires
-    add-result
+    slice-relend-prefix-fill-digits
+    slice-aggregate-fill-digits
+    fill-digits-requires
     same-length
     returns)

@@ -1,7 +1,7 @@
 -- `dimacs::clauses_fit` meets its contract. The loop's invariant: what remains, and the text of the first i numbers, are the room.
 use Prim.Native.Nat.{ℕ, _+_, _-_, _≤_}
 use mathlib.Core.Path.{_≡_, ap, sym, _∙_}
-use mathlib.Core.List.{List}
+use mathlib.Core.List.{List, [], _∷_}
 use native.Mathlib.Nat.{add-zero}
 use native.Mathlib.Numerals.{add-one}
 use native.Mathlib.Omega.{arith}
@@ -10,7 +10,8 @@ use borrow.Author.Tests.{le-leb, lt-leb}
 use lib.IntN.{ℤ, pos}
 use lib.ListN.{length, length-append, getD, take}
 use lib.Seq.{take-all}
-use Rattle.dimacs.specs.Text.{numberText, clauseText}
+use Rattle.decimal.specs.Digits.{signedDigits}
+use Rattle.dimacs.specs.Text.{behind, numberText, clauseText}
 use Rattle.dimacs.proofs.Text.{element-is, clauseText-next, clauseText-room}
 use Rattle.dimacs.proofs.clauses_fit.Statement.{statement}
 use Rattle.dimacs.proofs.clauses_fit.Tie as tie
@@ -26,11 +27,14 @@ abbrev μ-loop : tie.MeasureT-loop
 need :
     (c : tie.After-number-length Inv-loop μ-loop) →
     let at = c .before .before .before .loop in
-    c .number-length .result ≡ length (numberText (getD (c .before .before .before .before .args .numbers .now) (at .i) (pos 0)))
+    c .number-length .result + 1 ≡ length (numberText (getD (c .before .before .before .before .args .numbers .now) (at .i) (pos 0)))
 need c =
     let at = c .before .before .before .loop in
     let numbers : List ℤ = c .before .before .before .before .args .numbers .now in
-    c .number-length .ensures ∙ ap (λ (z : ℤ). length (numberText z)) (element-is numbers (at .i) (c .before .number-length-arg .given))
+    let z : ℤ = getD numbers (at .i) (pos 0) in
+    let counted : c .number-length .result ≡ length (signedDigits z) =
+    c .number-length .ensures .0 ∙ ap (λ (z : ℤ). length (signedDigits z)) (element-is numbers (at .i) (c .before .number-length-arg .given)) in
+    omega (arith, counted, length-append (signedDigits z) (behind z ∷ []))
 
 loop-holds : tie.Need-loop-holds Inv-loop μ-loop
 unfolding clauseText
@@ -44,6 +48,9 @@ shared-slice-copy-out-number-length c = omega arith
 
 number-length-requires : tie.Need-number-length-requires Inv-loop μ-loop
 number-length-requires c κs = search needs
+
+add-need : tie.Need-add-need Inv-loop μ-loop
+add-need c = omega (arith, c .number-length .ensures .1)
 
 returns : tie.Need-returns Inv-loop μ-loop
 returns c =
@@ -63,7 +70,7 @@ loop-again c =
     let at = c .before .before .before .before .loop in
     let numbers : List ℤ = c .before .before .before .before .before .args .numbers .now in
     let text : List ℕ = numberText (getD numbers (at .i) (pos 0)) in
-    (omega arith, rw (add-one, clauseText-next numbers (at .i) (omega arith), length-append (clauseText (take (at .i) numbers)) text) (omega (arith, need (c .before), at .inv .1)))
+    (omega arith, rw (add-one (at .i), clauseText-next numbers (at .i) (omega arith), length-append (clauseText (take (at .i) numbers)) text) (omega (arith, need (c .before), at .inv .1)))
 
 returns-2 : tie.Need-returns-2 Inv-loop μ-loop
 returns-2 c =
@@ -84,6 +91,7 @@ clauses-fit-spec =
     mul-number-length
     shared-slice-copy-out-number-length
     number-length-requires
+    add-need
     returns
     add-i
     loop-less

@@ -1,16 +1,14 @@
--- `dimacs::number_length` meets its contract: sign, digits, and the byte behind them.
+-- `dimacs::number_length` meets its contract: sign and digits, at most eleven bytes.
 use Prim.Native.Nat.{ℕ, _+_}
 use mathlib.Core.Path.{_≡_, ap, _∙_}
-use mathlib.Core.List.{[], _∷_}
 use native.Mathlib.Omega.{arith}
 use borrow.Author.Needs.{needs}
-use lib.ListN.{length, length-append}
+use lib.ListN.{length}
 use Rattle.decimal.specs.Digits.{digits, signedDigits}
 use Rattle.decimal.proofs.Signed.{read-back, length-signedDigits}
 use Rattle.text_writer.specs.Signed.{partsOf}
 use Rattle.text_writer.specs.declared.Parts.{Parts}
 use Rattle.text_writer.proofs.Signed.{length-parts}
-use Rattle.dimacs.specs.Text.{behind}
 use Rattle.dimacs.proofs.number_length.Statement.{statement}
 use Rattle.dimacs.proofs.number_length.Tie as tie
 
@@ -33,16 +31,11 @@ add-result c =
     let start = c .before .before .before in
     omega (arith, counted (c .before), length-signedDigits (start .args .z) (start .fits .z))
 
-add-result-2 : tie.Need-add-result-2
-add-result-2 c =
+returns : tie.Need-returns
+returns c =
     let start = c .before .before .before in
     omega (arith, counted (c .before), length-signedDigits (start .args .z) (start .fits .z))
 
-returns : tie.Need-returns
-returns c =
-    let z = c .before .before .before .args .z in
-    omega (arith, counted (c .before), length-append (signedDigits z) (behind z ∷ []))
-
 pub number-length-spec : {M : Type 1} → statement M
 number-length-spec =
-    tie.close (tie.spec parts-of-requires digit-count-requires add-result add-result-2 returns)
+    tie.close (tie.spec parts-of-requires digit-count-requires add-result returns)
