@@ -7,7 +7,7 @@ use native.Mathlib.Numerals.{add-one}
 use native.Mathlib.Nat.{le-refl, le-of-suc-le, lt-suc-self, not-suc-le-zero, zero-add}
 use native.Mathlib.Omega.{arith}
 use Rattle.model.specs.Bits.{bit}
-use Rattle.model.specs.Netlist.{Netlist, port, inputWire, latchWire, readWire}
+use Rattle.model.specs.Netlist.{Netlist, givenWord, start, port, inputWire, latchWire, readWire}
 use Rattle.model.specs.Circuit.{Values, codeValue, State, Feeds, addressOf, readData, step, stateAt, run, initial}
 use Rattle.model.specs.Acceptance.{Accepted}
 use Rattle.model.specs.Variables.{base, readBit, closingLiterals}
@@ -43,11 +43,11 @@ module _ (c : Netlist) (a : Assignment) where
   module _ (k : ℕ) (holds : EachGroup c k (AllHold a)) where
     -- where RE is true, the read bits assigned are the word that the writes assigned leave
     read-at : (i : ℕ) → i ≤ k → codeValue (u i) (c .RE) ≡ true → (t : ℕ) → t < c .n
-        → u i (readWire c t) ≡ bit (wordBefore c u (c .initialWord) (at i) i) t
+        → u i (readWire c t) ≡ bit (wordBefore c u (givenWord (start c)) (at i) i) t
     unfolding closingLiterals value
     read-at i d r t b =
         rw (zero-add t) at (
-        word-read c (port c) a i (λ j l. pair-holds c a k j i .0 (holds .pairs j i l d)) (c .initialWord)
+        word-read c (port c) a i (λ j l. pair-holds c a k j i .0 (holds .pairs j i l d)) (givenWord (start c))
         (λ z t b. closing-holds c a k i .0 (holds .closings i d) .initial-where-Z t b z) r t b
         )
 
@@ -88,10 +88,10 @@ module _ (c : Netlist) (a : Assignment) where
           ∙ code-agrees c (u i) (driven i) (before i (lt-suc-self i)) (c .next l) (ok .limits .codes .next-fits l b)
 
       -- so is the word that frame i reads
-      word-at : (i : ℕ) → Before i → (x : ℕ) → wordBefore c u (c .initialWord) x i ≡ state i .memory x
+      word-at : (i : ℕ) → Before i → (x : ℕ) → wordBefore c u (givenWord (start c)) x i ≡ state i .memory x
       unfolding initial
       word-at i before x =
-          wordBefore-agrees c (ok .limits .codes) u driven (c .initialWord) x i before
+          wordBefore-agrees c (ok .limits .codes) u driven (givenWord (start c)) x i before
           ∙ sym (memory-stepped c (initial c idle) f x i)
 
       -- so are the read bits of a frame that does not read

@@ -2,9 +2,10 @@
 use Prim.Native.Nat.{ℕ, zero, suc, _^_, _<_}
 use mathlib.Core.Bool.{Bool, true, false, cond, _&&_}
 use lib.Dec.{eqb}
-use Rattle.model.specs.Netlist.{Netlist, Port, port}
+use lib.Pow.{pow-pos}
+use Rattle.model.specs.Netlist.{Netlist, Start, given, unknown, givenWord, start, Port, port}
 use Rattle.model.specs.Circuit.{Values, codeValue, State, Feeds, addressOf, frame, wordWritten, step, stateAt, initial}
-use Rattle.model.specs.Acceptance.{Accepted}
+use Rattle.model.specs.Acceptance.{StartFits, Accepted}
 use Rattle.model.proofs.Bits.{fromBits-below}
 
 -- every address is below 2^m
@@ -36,7 +37,13 @@ unfolding stateAt
 stateAt-fits c s h f zero = h
 stateAt-fits c s h f (suc i) = step-fits c (stateAt c s f i) (frame c (stateAt c s f i) (f i)) (stateAt-fits c s h f i)
 
+-- the word given at the start is below 2^n
+givenWord-below : (n : ℕ) (s : Start) → StartFits n s → givenWord s < 2 ^ n
+unfolding StartFits givenWord
+givenWord-below n (given word) h = h
+givenWord-below n unknown h = pow-pos n
+
 -- in a run from the start, every word is below 2^n
 pub word-below : (c : Netlist) → Accepted c → (idle : ℕ → Bool) (f : Feeds) (i x : ℕ) → stateAt c (initial c idle) f i .memory x < 2 ^ c .n
 unfolding initial
-word-below c h idle f i x = stateAt-fits c (initial c idle) (λ y. h .limits .sizes .word-fits) f i x
+word-below c h idle f i x = stateAt-fits c (initial c idle) (λ y. givenWord-below (c .n) (start c) (h .limits .sizes .word-fits)) f i x

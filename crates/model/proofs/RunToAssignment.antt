@@ -7,7 +7,7 @@ use native.Mathlib.Numerals.{add-one}
 use native.Mathlib.Nat.{le-of-suc-le, le-trans, not-suc-le-zero, zero-add}
 use native.Mathlib.Omega.{arith}
 use Rattle.model.specs.Bits.{bit}
-use Rattle.model.specs.Netlist.{Netlist, port, latchWire, readWire, gateWire}
+use Rattle.model.specs.Netlist.{Netlist, givenWord, start, port, latchWire, readWire, gateWire}
 use Rattle.model.specs.Circuit.{Values, codeValue, State, Feeds, addressOf, readData, wordWritten, step, stateAt, run, initial}
 use Rattle.model.specs.Acceptance.{Accepted, IsCode}
 use Rattle.model.specs.Variables.{codeIn, readBit, closingLiterals}
@@ -87,7 +87,7 @@ module _ (c : Netlist) (ok : Accepted c) (idle : ℕ → Bool) (f : Feeds) (k : 
 
   -- where frame i reads, its read bits are the word that the writes before it leave
   read-bit : (i : ℕ) → codeValue (u i) (c .RE) ≡ true → (t : ℕ) → t < c .n
-      → u i (readWire c t) ≡ bit (stepped (c .initialWord) (hits c (port c) u i) (λ j. wordWritten c (u j)) i) t
+      → u i (readWire c t) ≡ bit (stepped (givenWord (start c)) (hits c (port c) u i) (λ j. wordWritten c (u j)) i) t
   unfolding readData initial hits
   read-bit i r t b =
       frame-at i .at-read t b
@@ -110,7 +110,7 @@ module _ (c : Netlist) (ok : Accepted c) (idle : ℕ → Bool) (f : Feeds) (k : 
       rw last (bit-value (suc i) d t b ∙ held-bit i r t b ∙ sym (bit-value i (le-of-suc-le d) t b))
 
   -- the witness has frame i's read
-  read-at : (i : ℕ) → i ≤ k → HasRead c (port c) u a i (c .initialWord)
+  read-at : (i : ℕ) → i ≤ k → HasRead c (port c) u a i (givenWord (start c))
   read-at i d =
       record {
         address-codes = ok .limits .codes .address-fits;

@@ -12,7 +12,7 @@ use Rattle.model.specs.declared.Group.{Group}
 use Rattle.model.specs.declared.Group.the-variants.{Wires, Pair, Closing, Property}
 use Rattle.model.specs.Agree.{Agree}
 use Rattle.model.proofs.Gather.{gather-same, gathers-same}
-use Rattle.model.proofs.Agree.{inputs-same, latches-same, gates-same, m-same, n-same, word-same, lastWire-same}
+use Rattle.model.proofs.Agree.{inputs-same, latches-same, gates-same, m-same, n-same, start-same, lastWire-same}
 
 module _ (c d : Netlist) (q : Agree c d) where
   pub base-same : (i : ℕ) → base c i ≡ base d i
@@ -109,7 +109,7 @@ module _ (c d : Netlist) (q : Agree c d) where
 
     initial-same : (t : ℕ) → t < c .n → initialReadClauses u t ≡ initialReadClauses v t
     unfolding initialReadClauses closingLiterals
-    initial-same t b = rw (none-same 0 i, readBit-same i t, word-same c d q)
+    initial-same t b = rw (none-same 0 i, readBit-same i t, start-same c d q)
 
     held-bit-same : (t : ℕ) → t < c .n → heldClauses u t ≡ heldClauses v t
     unfolding heldClauses closingLiterals

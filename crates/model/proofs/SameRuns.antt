@@ -16,7 +16,7 @@ use Rattle.model.specs.Agree.{Agree, SameState}
 use Rattle.model.proofs.Booleans.{cond-same}
 use Rattle.model.proofs.Bits.{fromBits-same}
 use Rattle.model.proofs.Circuit.{code-same, conjunction-of-two}
-use Rattle.model.proofs.Agree.{inputs-same, latches-same, gates-same, m-same, n-same, word-same, lastWire-same, sweep-same}
+use Rattle.model.proofs.Agree.{inputs-same, latches-same, gates-same, m-same, n-same, start-same, lastWire-same, sweep-same}
 use Rattle.model.proofs.SameNumbers.{base-same}
 
 -- a state agrees with itself
@@ -28,7 +28,7 @@ module _ (c d : Netlist) (q : Agree c d) where
   pub initial-same : (idle : ℕ → Bool) → SameState c (initial c idle) (initial d idle)
   unfolding initial
   initial-same idle =
-      record { latch-same = λ l b. rw (q .reset-same l b); memory-same = λ x. word-same c d q; held-same = λ t b. refl }
+      record { latch-same = λ l b. rw (q .reset-same l b); memory-same = λ x. rw (start-same c d q); held-same = λ t b. refl }
 
   -- from the same inputs, latches and read bits every wire has the same value
   module _ (input : ℕ → Bool) {latch other read back : ℕ → Bool} (latches : (l : ℕ) → l < c .latches → latch l ≡ other l)

@@ -5,7 +5,7 @@ use mathlib.Core.Path.{_≡_}
 use mathlib.Core.Bool.{Bool, false, cond, not, _&&_, _||_}
 use lib.Dec.{eqb, leb, ltb}
 use Rattle.model.specs.Bits.{odd, bit, fromBits}
-use Rattle.model.specs.Netlist.{Netlist, Port, port, readBits, inputWire, latchWire, readWire, gateWire}
+use Rattle.model.specs.Netlist.{Netlist, givenWord, start, Port, port, readBits, inputWire, latchWire, readWire, gateWire}
 
 -- a value for each wire, in one frame
 abbrev pub Values : Type 0
@@ -113,4 +113,4 @@ run c s f i = frame c (stateAt c s f i) (f i)
 
 -- the state at the start: latches at their reset, each word the initial word, and the idle word of frame 0 (RULES C1, C2 and C18)
 unfoldable pub initial : Netlist → (ℕ → Bool) → State
-initial c idle = record { latch = λ l. eqb (c .reset l) 1; memory = λ x. c .initialWord; held = idle }
+initial c idle = record { latch = λ l. eqb (c .reset l) 1; memory = λ x. givenWord (start c); held = idle }

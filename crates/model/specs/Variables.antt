@@ -5,7 +5,7 @@ use mathlib.Core.Path.{_≡_}
 use mathlib.Core.Bool.{cond}
 use lib.Dec.{eqb, ltb}
 use Rattle.model.specs.Bits.{odd, bit}
-use Rattle.model.specs.Netlist.{Netlist, Port, port, lastWire, readWire}
+use Rattle.model.specs.Netlist.{Netlist, givenWord, start, Port, port, lastWire, readWire}
 use Rattle.model.specs.Clauses.{Literal, known, plus, minus, PairLiterals, ClosingLiterals}
 
 -- how many variables a pair of frames has, over all ports (RULES V5)
@@ -73,7 +73,7 @@ closingLiterals c p i =
       RE = codeIn c i (p .RE);
       S = λ j. selected c p j i;
       RD = readBit c p i;
-      W = λ t. known (bit (c .initialWord) t);
+      W = λ t. known (bit (givenWord (start c)) t);
       before = readBit c p (i - 1);
     }
 
