@@ -2,11 +2,13 @@
 -- No contract cites this file.
 use Prim.Native.Nat.{ℕ, zero, suc, _+_, _-_, _≤_}
 use mathlib.Core.Path.{_≡_, refl, sym, _∙_, ap}
-use mathlib.Core.Bool.{Bool, true, false, _||_, or-false, or-assoc}
+use mathlib.Core.Bool.{Bool, true, false, cond, _||_, or-false, or-assoc}
 use mathlib.Core.List.{List, [], _∷_, _++_, append-nil, append-assoc}
 use native.Mathlib.Omega.{arith}
+use lib.Dec.{eqb}
 use lib.IntN.{ℤ, pos, negsuc}
 use lib.ListN.{length, length-append}
+use borrow.Author.Tests.{eq-eqb, ne-eqb}
 use borrow.Rule.Slice.PartMut.{midOf, putMid}
 use Rattle.model.specs.Clauses.{Literal, Clause}
 use Rattle.model.specs.Numbers.{keptOf, kept, isTrue, hasTrue, endOf, writtenClause, written}
@@ -88,19 +90,27 @@ hasTrue-five a b c d e = hasTrue-behind a b (c ∷ d ∷ e ∷ []) ∙ rw (hasTr
     go true = refl
     go false = refl
 
--- a clause of three numbers: each is kept
-pub written-numbers : (x y z : ℤ)
-    → written ((literalAt x ∷ literalAt y ∷ literalAt z ∷ []) ∷ [])
-    ≡ keptOf (literalAt x) ++ keptOf (literalAt y) ++ keptOf (literalAt z) ++ pos 0 ∷ []
+-- a clause of two numbers, and of three: each is kept
+pub written-two-numbers : (x y : ℤ)
+    → written ((literalAt x ∷ literalAt y ∷ []) ∷ []) ≡ keptOf (literalAt x) ++ keptOf (literalAt y) ++ pos 0 ∷ []
 unfolding written writtenClause hasTrue isTrue kept keptOf endOf literalAt
-written-numbers (pos x) (pos y) (pos z) = refl
-written-numbers (pos x) (pos y) (negsuc z) = refl
-written-numbers (pos x) (negsuc y) (pos z) = refl
-written-numbers (pos x) (negsuc y) (negsuc z) = refl
-written-numbers (negsuc x) (pos y) (pos z) = refl
-written-numbers (negsuc x) (pos y) (negsuc z) = refl
-written-numbers (negsuc x) (negsuc y) (pos z) = refl
-written-numbers (negsuc x) (negsuc y) (negsuc z) = refl
+written-two-numbers (pos x) (pos y) = refl
+written-two-numbers (pos x) (negsuc y) = refl
+written-two-numbers (negsuc x) (pos y) = refl
+written-two-numbers (negsuc x) (negsuc y) = refl
+
+pub written-three-numbers : (x y z : ℤ)
+    → written ((literalAt x ∷ literalAt y ∷ literalAt z ∷ []) ∷ [])
+    ≡ keptOf (literalAt x) ++ written ((literalAt y ∷ literalAt z ∷ []) ∷ [])
+unfolding written writtenClause hasTrue isTrue kept keptOf endOf literalAt
+written-three-numbers (pos x) (pos y) (pos z) = refl
+written-three-numbers (pos x) (pos y) (negsuc z) = refl
+written-three-numbers (pos x) (negsuc y) (pos z) = refl
+written-three-numbers (pos x) (negsuc y) (negsuc z) = refl
+written-three-numbers (negsuc x) (pos y) (pos z) = refl
+written-three-numbers (negsuc x) (pos y) (negsuc z) = refl
+written-three-numbers (negsuc x) (negsuc y) (pos z) = refl
+written-three-numbers (negsuc x) (negsuc y) (negsuc z) = refl
 
 -- the last literals of a clause that is begun, and its end
 pub begun-ended : (begun : ℕ) (x : Clause) {old mid part : List ℤ} {r s : ℕ} → Wrote (kept x) old mid r
@@ -131,3 +141,10 @@ pub wrote-clauses : (xs ys : List Clause) {old mid part : List ℤ} {r s : ℕ} 
     → Wrote (written ys) (midOf r (length mid - r) mid) part s
     → Wrote (written (xs ++ ys)) old (putMid r (length mid - r) mid part) (r + s)
 wrote-clauses xs ys w v = rw (written-append xs ys) (wrote-then w v)
+
+-- room for what depends on whether frame i is the first, as `search` looks for it
+pub room-first : (i x y l : ℕ) → cond (eqb i 0) x y ≤ l → i ≡ 0 → x ≤ l
+room-first i x y l h e = rw (eq-eqb i 0 e) at h
+
+pub room-later : (i x y l : ℕ) → cond (eqb i 0) x y ≤ l → (i ≡ 0 → ⊥) → y ≤ l
+room-later i x y l h n = rw (ne-eqb i 0 n) at h

@@ -89,16 +89,24 @@ pub fn put_binary(out: &mut [i32], a: Term, b: Term) -> usize
     j + put_end(&mut out[j..], j)
 }
 
-// A clause of three literals that are no constants: nothing is tested, which is most of what is written.
-pub fn put_numbers(out: &mut [i32], a: Lit, b: Lit, c: Lit) -> usize
+// A clause of two literals that are no constants: nothing is tested.
+pub fn put_two_numbers(out: &mut [i32], a: Lit, b: Lit) -> usize
+    requires { ⌜ IsLit a × IsLit b × (3 ≤ length (now out)) ⌝ }
+    ensures { λ r. ⌜ Wrote (written ((literalAt (a .0) ∷ literalAt (b .0) ∷ []) ∷ [])) (now (out .entry)) (now (out .exit)) r × (r ≤ 3) ⌝ }
+{
+    let i = put_number(out, a);
+    let j = i + put_number(&mut out[i..], b);
+    j + put_mark(&mut out[j..])
+}
+
+// A clause of three, which is most of what is written.
+pub fn put_three_numbers(out: &mut [i32], a: Lit, b: Lit, c: Lit) -> usize
     requires { ⌜ IsLit a × IsLit b × IsLit c × (4 ≤ length (now out)) ⌝ }
     ensures { λ r. ⌜ Wrote (written ((literalAt (a .0) ∷ literalAt (b .0) ∷ literalAt (c .0) ∷ []) ∷ []))
         (now (out .entry)) (now (out .exit)) r × (r ≤ 4) ⌝ }
 {
     let i = put_number(out, a);
-    let j = i + put_number(&mut out[i..], b);
-    let k = j + put_number(&mut out[j..], c);
-    k + put_mark(&mut out[k..])
+    i + put_two_numbers(&mut out[i..], b, c)
 }
 
 // The last three literals of a clause of which `begun` numbers are written, and its end.

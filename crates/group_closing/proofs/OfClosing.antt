@@ -2,7 +2,7 @@
 -- literals. No contract cites this file.
 use Prim.Native.Nat.{ℕ, zero, suc, _+_, _-_, _*_}
 use mathlib.Core.Path.{_≡_, refl, _∙_, ap}
-use mathlib.Core.Bool.{false}
+use mathlib.Core.Bool.{Bool, false, _||_}
 use mathlib.Core.List.{List, [], _∷_, _++_}
 use native.Mathlib.Nat.{add-zero, add-assoc, zero-mul}
 use native.Mathlib.Omega.{arith}
@@ -82,6 +82,10 @@ sources net port i n {q} {s} e es =
 pub sources-none : (net : Netlist) (port : R.Port) (i : ℕ) → hasTrue (gather i (selectedOf (ofClosing net port i))) ≡ false
 unfolding selectedOf closingLiterals selected isTrue hasTrue
 sources-none net port i = none-gather i (selectedOf (ofClosing net port i)) (λ j. refl)
+
+-- neither of two literals is true, from the one test of both, as `search` looks for it
+pub neither : (r s x y : Bool) → (r || s) ≡ false → r ≡ x → s ≡ y → (x || y) ≡ false
+neither r s x y h e f = rw (e, f) at h
 
 -- the parts of a closing's clauses, in their order
 pub closing-parts : (n i : ℕ) (x : ClosingLiterals)

@@ -39,7 +39,7 @@ part-put-some-source-end : tie.Need-part-put-some-source-end
 part-put-some-source-end c = search needs
 
 put-some-source-requires : tie.Need-put-some-source-requires
-put-some-source-requires c κs = let p = c .before .before .before .before .before .before .before .pre in (p .0, search needs)
+put-some-source-requires c κs = (search needs, search needs)
 
 add-result : tie.Need-add-result
 add-result c = search needs

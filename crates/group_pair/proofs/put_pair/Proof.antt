@@ -21,7 +21,7 @@ part-put-gated-data-end : tie.Need-part-put-gated-data-end
 part-put-gated-data-end c = search needs
 
 put-gated-data-requires : tie.Need-put-gated-data-requires
-put-gated-data-requires c κs = (record { fits = search needs; earlier = search needs; depth = search needs }, search needs)
+put-gated-data-requires c κs = search needs
 
 add-result : tie.Need-add-result
 add-result c = search needs
