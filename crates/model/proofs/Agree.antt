@@ -7,10 +7,10 @@ use mathlib.Core.List.{List}
 use native.Mathlib.Nat.{le-refl}
 use native.Mathlib.Omega.{arith}
 use lib.ListN.{getD}
-use Rattle.model.specs.Netlist.{Netlist, Start, given, givenWord, startOf, start, gateWire, lastWire}
+use Rattle.model.specs.Netlist.{Netlist, given, startOf, start, gateWire, lastWire}
 use Rattle.model.specs.Circuit.{Values, sweep, isRead, dependsOnRead}
 use Rattle.model.specs.Acceptance.{SizesFit, CodesFit, Accepted}
-use Rattle.model.specs.Agree.{sizesOf, SameSizes, Agree}
+use Rattle.model.specs.Agree.{givenWord, sizesOf, SameSizes, Agree}
 use Rattle.model.proofs.Sweep.{OfTwoWires}
 use Rattle.model.proofs.Dependence.{eitherWire-of-two}
 

@@ -28,7 +28,7 @@ pub record Netlist : Type 0 where
   pub RE : ℕ
   pub P : ℕ
 
--- what the memory is at first: each word the word given, or anything, each word by itself
+-- what the memory is at first: each word the word given, or anything, each word by itself (RULES C23 and C24)
 pub data Start : Type 0 where
   given : ℕ → Start
   unknown : Start
@@ -39,11 +39,6 @@ startOf word (suc u) = unknown
 
 abbrev pub start : Netlist → Start
 start c = startOf (c .initialWord) (c .unknownStart)
-
--- the word that is given at the start; one beside an unknown start is ignored
-unfoldable pub givenWord : Start → ℕ
-givenWord (given word) = word
-givenWord unknown = 0
 
 -- A read port of the memory. Only `port` below says which there are.
 pub record Port : Type 0 where
