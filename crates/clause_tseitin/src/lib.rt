@@ -1,6 +1,7 @@
-// Gates and equalities as clauses (the Tseitin encoding; RULES G1, G4, G6, G10 and G12). Each function writes from the start of
+// Gates and equalities as clauses (the Tseitin encoding; RULES G1, G4, G6, G10, G12 and G32). Each function writes from the start of
 // what it is lent and answers how many numbers that was.
 use clause_writer::put_binary;
+use clause_writer::put_quinary;
 use clause_writer::put_ternary;
 use clause_writer::put_three_numbers;
 use clause_writer::put_two_numbers;
@@ -9,7 +10,7 @@ use literals::Term;
 ghost use mathlib.Core.List.{[], _∷_};
 ghost use Prim.Native.Nat.{_≤_};
 ghost use lib.ListN.{length};
-ghost use Rattle.model.specs.Clauses.{andClauses, sameClauses, sameIfClauses, bitClauses};
+ghost use Rattle.model.specs.Clauses.{andClauses, sameClauses, sameIfClauses, sameIfAllClauses, bitClauses};
 ghost use Rattle.model.specs.Numbers.{written};
 ghost use Rattle.literals.specs.Lit.{literalAt, literalOf, IsLit, IsTerm};
 ghost use Rattle.model.specs.Wrote.{Wrote};
@@ -140,4 +141,17 @@ pub fn put_bit(out: &mut [i32], address_equal: Term, bit_equal: Term, x: Term, y
         );
     }
     put_bit_terms(out, address_equal, bit_equal, x, y)
+}
+
+// The clauses of a = b where p, q and r are true.
+pub fn put_same_if_all(out: &mut [i32], p: Term, q: Term, r: Term, a: Term, b: Term) -> usize
+    requires { ⌜ IsTerm p × IsTerm q × IsTerm r × IsTerm a × IsTerm b × (12 ≤ length (now out)) ⌝ }
+    ensures { λ count. ⌜ Wrote (written (sameIfAllClauses (literalOf p) (literalOf q) (literalOf r) (literalOf a) (literalOf b)))
+        (now (out .entry)) (now (out .exit)) count × (count ≤ 12) ⌝ }
+{
+    let not_p = p.negated();
+    let not_q = q.negated();
+    let not_r = r.negated();
+    let i = put_quinary(out, not_p, not_q, not_r, a.negated(), b);
+    i + put_quinary(&mut out[i..], not_p, not_q, not_r, a, b.negated())
 }

@@ -7,7 +7,7 @@ use mathlib.Core.List.{List, [], _∷_, _++_, append-nil, append-assoc}
 use native.Mathlib.Omega.{arith}
 use lib.Dec.{eqb}
 use lib.IntN.{ℤ, pos, negsuc}
-use lib.ListN.{length}
+use lib.ListN.{length, length-append}
 use borrow.Author.Tests.{eq-eqb, ne-eqb}
 use borrow.Rule.Slice.PartMut.{midOf, putMid}
 use Rattle.model.specs.Clauses.{Literal, Clause}
@@ -17,6 +17,7 @@ use Rattle.literals.specs.declared.Term.{Term}
 use Rattle.literals.specs.declared.Term.the-variants.{Number}
 use Rattle.literals.specs.Lit.{literalAt, IsLit, IsTerm}
 use Rattle.model.specs.Wrote.{Wrote}
+use Rattle.clause_writer.specs.EndedAfter.{endedAfter}
 use Rattle.model.proofs.Joined.{written-append}
 use Rattle.model.proofs.Wrote as W
 pub use Rattle.model.proofs.Wrote.{wrote-nothing, wrote-length, rest-room}
@@ -85,6 +86,13 @@ pub hasTrue-behind : (a b : Literal) (x : Clause) → hasTrue (a ∷ b ∷ x) �
 unfolding hasTrue
 hasTrue-behind a b x = sym (or-assoc (isTrue a) (isTrue b) (hasTrue x))
 
+pub hasTrue-five : (a b c d e : Literal) → hasTrue (a ∷ b ∷ c ∷ d ∷ e ∷ []) ≡ ((((isTrue a || isTrue b) || isTrue c) || isTrue d) || isTrue e)
+hasTrue-five a b c d e = hasTrue-behind a b (c ∷ d ∷ e ∷ []) ∙ rw (hasTrue-three c d e) (go (isTrue a || isTrue b))
+  where
+    go : (t : Bool) → (t || ((isTrue c || isTrue d) || isTrue e)) ≡ (((t || isTrue c) || isTrue d) || isTrue e)
+    go true = refl
+    go false = refl
+
 -- a clause of two numbers, and of three: each is kept
 pub written-two-numbers : (x y : ℤ)
     → written ((literalAt x ∷ literalAt y ∷ []) ∷ []) ≡ keptOf (literalAt x) ++ keptOf (literalAt y) ++ pos 0 ∷ []
@@ -106,6 +114,25 @@ written-three-numbers (negsuc x) (pos y) (pos z) = refl
 written-three-numbers (negsuc x) (pos y) (negsuc z) = refl
 written-three-numbers (negsuc x) (negsuc y) (pos z) = refl
 written-three-numbers (negsuc x) (negsuc y) (negsuc z) = refl
+
+-- the last literals of a clause that is begun, and its end
+pub begun-ended : (begun : ℕ) (x : Clause) {old mid part : List ℤ} {r s : ℕ} → Wrote (kept x) old mid r
+    → Wrote (endOf (begun + r)) (midOf r (length mid - r) mid) part s
+    → Wrote (endedAfter begun x) old (putMid r (length mid - r) mid part) (r + s)
+unfolding endedAfter
+begun-ended begun x w v = rw (sym (w .counted)) (wrote-then w v)
+
+-- a clause without a true literal is its first literals and the rest; its last three may be all that it has
+pub written-three : (x : Clause) → hasTrue x ≡ false → written (x ∷ []) ≡ endedAfter 0 x
+unfolding written writtenClause endedAfter
+written-three x none = rw (none, append-nil (kept x ++ endOf (length (kept x)))) (ap (λ (n : ℕ). kept x ++ endOf n) (omega arith))
+
+pub written-five : (a b : Literal) (x : Clause) → hasTrue (a ∷ b ∷ x) ≡ false
+    → written ((a ∷ b ∷ x) ∷ []) ≡ (keptOf a ++ keptOf b) ++ endedAfter (length (keptOf a ++ keptOf b)) x
+unfolding written writtenClause endedAfter
+written-five a b x none =
+    rw (none, append-nil (kept (a ∷ b ∷ x) ++ endOf (length (kept (a ∷ b ∷ x)))), kept-behind a b x, length-append (keptOf a ++ keptOf b) (kept x))
+    (append-assoc (keptOf a ++ keptOf b) (kept x) (endOf (length (keptOf a ++ keptOf b) + length (kept x))))
 
 -- one with a true literal is left out
 pub clause-left-out : (x : Clause) (old : List ℤ) → hasTrue x ≡ true → Wrote (written (x ∷ [])) old old 0
