@@ -16,9 +16,9 @@ for case in "whole 0" "feed 255" "whole 255"; do
   read -r values depth <<< "$case"
   folder=$work/replay.$values.$depth
   mkdir -p "$folder"
-  "$work/answer" "$values" < "$work/sheet.txt" > "$folder/answer"
+  "$work/answer" "$values" < bench/largest.sheet > "$folder/answer"
   (cd "$folder" && "$replay" < "$work/input.$depth") > "$folder/printed"
-  "$work/answer" run "$depth" "$folder/answer" < "$work/sheet.txt" | cmp - "$folder/printed" ||
+  "$work/answer" run "$depth" "$folder/answer" < bench/largest.sheet | cmp - "$folder/printed" ||
     { echo "replay and the second implementation differ at depth $depth" >&2; exit 1; }
   echo "$depth $(wc -c < "$folder/answer") $(wc -c < "$folder/printed") $(cd "$folder" && "$work/measure" "$repetitions" "$work/input.$depth" "$replay")" \
     >> "$work/replay.out"

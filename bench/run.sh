@@ -1,10 +1,11 @@
 #!/usr/bin/env bash
-# Measures `frames` on the largest kind of sheet (I = 60, L = 100, A = 408, m = 12, n = 32) at depths 15, 63 and 255, beside a C
-# generator of the same text that is optimised by hand and one that prints through fprintf; and, of the library, every group of depth
-# 255 through the exported call, which tests its record each time, the import of ASCII AIGER texts (bench/text.rs), and `replay`
-# (bench/replay.sh). Every figure is the best of several repetitions, all programs and depths in turn, input from a file, output to
-# /dev/null; the time is the process's processor time (user and system), so that other work on the machine matters little. It says which
-# of our own targets (1.3 times, 4 times, 4 MiB, 20%, 50 ms) are reached, and fails only where a program fails or the texts differ.
+# Measures `frames` on bench/largest.sheet, of the largest kind (I = 60, L = 100, A = 408, m = 12, n = 32; its codes were drawn once), at
+# depths 15, 63 and 255, beside a C generator of the same text that is optimised by hand and one that prints through fprintf; and, of the
+# library, every group of depth 255 through the exported call, which tests its record each time, the import of ASCII AIGER texts
+# (bench/text.rs), and `replay` (bench/replay.sh). Every figure is the best of several repetitions, all programs and depths in turn, input
+# from a file, output to /dev/null; the time is the process's processor time (user and system), so that other work on the machine matters
+# little. It says which of our own targets (1.3 times, 4 times, 4 MiB, 20%, 50 ms) are reached, and fails only where a program fails or the
+# texts differ.
 # Arguments: repetitions (100; a tenth as many of the slow generator and of the imports), and `worst` for the worst import known as well, which
 # takes a minute; the program is target/bin/frames unless FRAMES names another.
 set -euo pipefail
@@ -23,12 +24,10 @@ compile() { cc -std=gnu11 -Wall -Wextra -O3 "$@"; }
 compile -DOUTPUT='"output_buffer.h"' -o "$work/optimised" bench/generate.c
 compile -DOUTPUT='"output_printf.h"' -o "$work/formatted" bench/generate.c
 compile -o "$work/measure" bench/measure.c
-rustc -O --edition 2021 -o "$work/sheet" bench/sheet.rs
 [ -f target/staticlib/libmarrubigai.a ] || rt staticlib marrubigai > "$work/staticlib.out" || { cat "$work/staticlib.out" >&2; exit 1; }
 compile -o "$work/library" bench/library.c -L target/staticlib -lmarrubigai
 compile -o "$work/import" bench/import.c -L target/staticlib -lmarrubigai
 rustc -O --edition 2021 -o "$work/text" bench/text.rs
-"$work/sheet" > "$work/sheet.txt"
 
 # Depth 0 is the start of the process, the reading of the sheet and next to no text. The longest run comes first: the one behind it
 # in the next repetition, which finds the caches full of something else, is then not the shortest.
@@ -38,7 +37,7 @@ fast=()
 slow=()
 for depth in "${depths[@]}"; do
   input=$work/input.$depth
-  { printf '%10d\n' "$depth"; cat "$work/sheet.txt"; } > "$input"
+  { printf '%10d\n' "$depth"; cat bench/largest.sheet; } > "$input"
   for other in optimised formatted; do
     "$work/$other" < "$input" | cmp - <("$frames" < "$input") || { echo "frames and $other differ at depth $depth" >&2; exit 1; }
   done
@@ -47,7 +46,7 @@ for depth in "${depths[@]}"; do
   slow+=("$input" "$work/formatted")
 done
 # a sheet in which half of the codes are constants: clauses are left out, and literals
-{ printf '%10d\n' 63; "$work/sheet" constants; } > "$work/input.constants"
+{ printf '%10d\n' 63; awk -f bench/constants.awk bench/largest.sheet; } > "$work/input.constants"
 for other in optimised formatted; do
   "$work/$other" < "$work/input.constants" | cmp - <("$frames" < "$work/input.constants") ||
     { echo "frames and $other differ where codes are constants" >&2; exit 1; }

@@ -144,6 +144,8 @@ refused 5 "(code) at line 5: D         8" wrong.sheet 1
 one_bit | sed 's/^A         0/A         4/' | wrong_sheet
 refused 6 "(memory loop) at line 4: A         4" wrong.sheet 1
 refused 6 "(memory loop) at line 4: A         4" --least wrong.sheet 1
+one_bit | sed 's/^M         1/M         2/; s/^A         0/A         2/; /^A/p' | wrong_sheet
+refused 17 "(tied address) at line 5: A         2" wrong.sheet 1
 one_bit | wrong_sheet
 refused 7 "(depth)" wrong.sheet 256
 refused 7 "(depth)" --least wrong.sheet 256

@@ -99,7 +99,7 @@ static const char DISTINCT[] =
     LINE("L", "        17", "         0", EMPTY)
     LINE("G", "        21", "         3", EMPTY)
     LINE("A", "         8", EMPTY, EMPTY)
-    LINE("A", "         9", EMPTY, EMPTY)
+    LINE("A", "         5", EMPTY, EMPTY)
     LINE("A", "         7", EMPTY, EMPTY)
     LINE("A", "        10", EMPTY, EMPTY)
     LINE("D", "        12", EMPTY, EMPTY)
@@ -111,7 +111,7 @@ static const char DISTINCT[] =
 
 static const marrubigai_netlist DISTINCT_NET = {
     .inputs = 3, .latches = 2, .gates = 1, .m = 4, .n = 5, .initial_word = 6,
-    .address = {8, 9, 7, 10}, .write_data = {12, 14, 15, 16, 18}, .we = 23, .re = 11, .p = 13};
+    .address = {8, 5, 7, 10}, .write_data = {12, 14, 15, 16, 18}, .we = 23, .re = 11, .p = 13};
 static const marrubigai_latch DISTINCT_LATCHES[] = {{.next = 22, .reset = 1}, {.next = 17, .reset = 0}};
 static const marrubigai_gate DISTINCT_GATES[] = {{.left = 21, .right = 3}};
 
@@ -247,6 +247,9 @@ static void importing(void) {
         answers_sheet(import_start(TEXT_OF_A_CHIP, bytes, 2, 3, 2, ROOM, ROOM), MARRUBIGAI_SIZE, 2, &nothing) && lists_hold(0, 0, 0, 0));
   check("a read bit as the first address bit gives 6 at line 6 of a sheet",
         answers_sheet(import_damaged("\n2\n", 1, '4'), MARRUBIGAI_MEMORY_LOOP, 6, &nothing) && lists_hold(0, 0, 0, 0));
+  check("an input and its inverse as address bits give 17 at line 4 of a sheet",
+        answers_sheet(import_text("aag 3 3 0 7 0\n2\n4\n6\n2\n3\n0\n0\n0\n0\n0\n", 34, 2, 3, ROOM, ROOM), MARRUBIGAI_TIED_ADDRESS, 4, &nothing) &&
+            lists_hold(0, 0, 0, 0));
   check("a gate list too short gives 9, place 0",
         answers_sheet(import_text(TEXT_OF_A_CHIP, bytes, 2, 3, ROOM, 1), MARRUBIGAI_NO_ROOM, 0, &nothing) && lists_hold(0, 0, 0, 0));
 }
@@ -311,6 +314,11 @@ static void headings(void) {
   loop.address[0] = 4;
   check("address code 4 gives 6 at line 3",
         answers_heading(marrubigai_heading(loop, latches, 0, gates, 0, 1), MARRUBIGAI_MEMORY_LOOP, 3, 0, 0));
+  marrubigai_netlist tied = DISTINCT_NET;
+  tied.address[2] = 9;
+  tied.re = 12;
+  check("the first address bit's wire, inverted, as the third gives 17 at line 8, before 6",
+        answers_heading(marrubigai_heading(tied, DISTINCT_LATCHES, 2, DISTINCT_GATES, 1, 2), MARRUBIGAI_TIED_ADDRESS, 8, 0, 0));
 }
 
 enum { MOST = 96, UNWRITTEN = INT32_MIN };

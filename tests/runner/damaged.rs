@@ -1,4 +1,4 @@
-//! Damaged inputs of `frames`: each refusal number 1 to 7 at its boundaries.
+//! Damaged inputs of `frames`: each refusal number 1 to 7, and 17, at its boundaries.
 
 use super::process::Program;
 use super::reference::check_examples::{accepted, input, of_sizes, FULL_RUN, RICH};

@@ -66,13 +66,11 @@ pub fn inputs(program: &Program, tally: &mut Tally, seed: u64, count: usize) {
         );
     }
     let counts = program.counts();
-    let new: Vec<String> = counts
-        .iter()
-        .zip(before)
-        .take(8)
-        .map(|(now, then)| (now - then).to_string())
+    let new: Vec<String> = (0..8)
+        .chain([17])
+        .map(|number: usize| (counts[number] - before[number]).to_string())
         .collect();
-    tally.remark = format!(" (formulas and numbers 1 to 7: {})", new.join(", "));
+    tally.remark = format!(" (formulas and numbers 1 to 7 and 17: {})", new.join(", "));
 }
 
 /// An input of `replay` and an answer: one of them or both hostile.

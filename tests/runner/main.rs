@@ -103,8 +103,8 @@ fn every_number(program: &Program, tally: &mut Tally, due: &[usize]) {
 }
 
 /// What a program may print: 0 stands for a formula or a run.
-const OF_FRAMES: [usize; 8] = [0, 1, 2, 3, 4, 5, 6, 7];
-const OF_REPLAY: [usize; 11] = [0, 1, 2, 3, 4, 5, 6, 7, 14, 15, CLAIMED];
+const OF_FRAMES: [usize; 9] = [0, 1, 2, 3, 4, 5, 6, 7, 17];
+const OF_REPLAY: [usize; 12] = [0, 1, 2, 3, 4, 5, 6, 7, 14, 15, 17, CLAIMED];
 
 fn all(program: &Program, replay: &Replay, page: &Path) -> Report {
     let mut report = Report::default();

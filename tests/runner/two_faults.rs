@@ -24,14 +24,15 @@ struct Fault {
     expected: Verdict,
 }
 
-/// When the tests come to a refusal (RULES P4 and T33): the depth's form, its value, the file's length, then line
-/// by line 2, 3, and 4 or 5, where a missing line counts as the line behind the last; then 6.
+/// When the tests come to a refusal (RULES P4 and T53): the depth's form, its value, the file's length, then line
+/// by line 2, 3, and 4 or 5, where a missing line counts as the line behind the last; then 17, then 6.
 fn order((number, place): Verdict) -> (u32, u32, u32) {
     let stage = match (number, place) {
         (MISPRINT, 0) => 0,
         (DEPTH, _) => 1,
         (RAGGED, _) => 2,
-        (MEMORY_LOOP, _) => 4,
+        (TIED_ADDRESS, _) => 4,
+        (MEMORY_LOOP, _) => 5,
         _ => 3,
     };
     (stage, place, number)
@@ -57,6 +58,12 @@ fn in_line(place: u32, column: usize, text: &str, expected: Verdict) -> Fault {
 fn field(place: u32, index: usize, text: &str, expected: Verdict) -> Fault {
     let text = format!("{text:>FIELD_BYTES$}");
     in_line(place, 1 + index * FIELD_BYTES, &text, expected)
+}
+
+/// Both address lines, 5 and 6, replaced: whether they are tied, neither says alone.
+fn address_lines(lines: &str, expected: Verdict) -> Fault {
+    let offset = DEPTH_LINE_BYTES + 4 * LINE_BYTES;
+    fault(lines, Edit::Bytes(offset, expand(lines)), expected)
 }
 
 fn faults() -> Vec<Fault> {
@@ -110,6 +117,9 @@ fn faults() -> Vec<Fault> {
         field(5, 0, "6", (MEMORY_LOOP, 5)),
         field(6, 0, "9", (MEMORY_LOOP, 6)),
         field(9, 1, "6", (MEMORY_LOOP, 9)),
+        address_lines("A 4/A 4", (TIED_ADDRESS, 6)),
+        address_lines("A 3/A 2", (TIED_ADDRESS, 6)),
+        address_lines("A 6/A 7", (TIED_ADDRESS, 6)),
     ];
     // In each line: unknown letter, no number, no line feed, and a letter with the same filled fields.
     for (place, other) in (1..).zip(["M", "C", "G", "L", "D", "D", "A", "A", "N"]) {

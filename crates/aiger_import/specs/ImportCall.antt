@@ -1,5 +1,5 @@
 -- What `marrubigai_import` answers and leaves in the lists that it is lent, for a text s with the caller's m, n and start (RULES I6, I10 and
--- T47; lists and record as where a sheet is read, T43 to T45). Cited by `import_text` and `marrubigai_import`.
+-- T55; lists and record as where a sheet is read, T43 to T45). Cited by `import_text` and `marrubigai_import`.
 use Prim.Native.Nat.{ℕ}
 use mathlib.Core.List.{List}
 use lib.ListN.{length}

@@ -1,4 +1,4 @@
-// An ASCII AIGER text as a record and unpacked lists, or the refusal that it gets (RULES I1 to I8, I10 and I11, T47).
+// An ASCII AIGER text as a record and unpacked lists, or the refusal that it gets (RULES I1 to I8, I10 and I11, T55).
 use aiger_lines::HeaderLine;
 use netlist::Netlist;
 use netlist::UnpackedList;
@@ -117,8 +117,8 @@ pub fn import_codes(
         return sheet_steps::refused(refusal, place);
     }
     let net = fill(text, header, sizes, latches, gates);
-    let looped = netlist_tests::test_loops(net, gates);
-    if let Verdict::Refused(refusal, place) = looped {
+    let port = netlist_tests::test_port(net, gates);
+    if let Verdict::Refused(refusal, place) = port {
         return sheet_steps::refused(refusal, place);
     }
     if (latch_room < net.latches as usize) | (gate_room < net.gates as usize) {

@@ -1,5 +1,5 @@
 -- Where a text passes 11 to 13, every code of its netlist is within its limits, so that 5 is never met (specs/TextNetlist.antt;
--- RULES T5 and T47). No contract cites this file.
+-- RULES T5 and T55). No contract cites this file.
 use Prim.Native.Nat.{ℕ, _+_, _-_, _*_, _/_, _%_, _≤_, _<_}
 use mathlib.Core.Path.{_≡_, refl, _∙_, ap}
 use mathlib.Core.List.{List}

@@ -1,4 +1,4 @@
--- Which texts an import refuses, and where (RULES T11 to T13, and T47: 11, 12, 13, then 4, 5, 6 and 9). No text that passes 13 meets 5, so no
+-- Which texts an import refuses, and where (RULES T11 to T13, and T55: 11, 12, 13, then 4, 5, 17, 6 and 9). No text that passes 13 meets 5, so no
 -- function tests it: the law `no-code-fault` in proofs/Codes.antt. Cited by `import_codes`,
 -- aiger_import/specs/ImportCall and specs/Imported.
 use Prim.Native.Nat.{ℕ, _+_, _-_, _^_, min}
@@ -11,7 +11,7 @@ use Rattle.refusals.specs.declared.Refusal.{Refusal}
 use Rattle.refusals.specs.declared.Refusal.the-variants.{Size, CodeOutside, NoRoom, NotAiger, Interface, Undefined}
 use Rattle.refusals.specs.declared.Verdict.{Verdict}
 use Rattle.netlist.specs.Faults.{sizeFault, codeFault}
-use Rattle.netlist_tests.specs.Record.{testLines, testLoops, listsShort}
+use Rattle.netlist_tests.specs.Record.{testLines, testPort, listsShort}
 use Rattle.aiger_lines.specs.Parts.{countsIn, linesDue, malformedAt}
 use Rattle.aiger_lines.specs.declared.Counts.{Counts}
 use Rattle.aiger_definitions.specs.Definitions.{definesAgain, undefinedAt}
@@ -45,5 +45,5 @@ importVerdict s m n word unknown latchRoom gateRoom =
     textVerdict s m n
     then testLines (aagNet s m n word unknown) Size sizeFault
     then testLines (aagNet s m n word unknown) CodeOutside codeFault
-    then testLoops (aagNet s m n word unknown)
+    then testPort (aagNet s m n word unknown)
     then refuseIf (listsShort (aagNet s m n word unknown) latchRoom gateRoom) NoRoom 0

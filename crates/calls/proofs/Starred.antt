@@ -8,9 +8,10 @@ use Rattle.model.specs.Clauses.{neg, andClauses, sameIfClauses, bitClauses, add
 use Rattle.model.specs.Variables.{baseOf, base, pairBaseOf, pairBase, wireAt, codeAt, noneSince, selected, readBit, pairLiterals, closingLiterals}
 use Rattle.model.specs.Groups.{stateClauses, violationOf, clausesOf, pairOf, frameGroups, groupOrder, inDepth}
 use Rattle.model.specs.Numbers.{keptOf, kept, isTrue, hasTrue, endOf, writtenClause, written, numbersOf, joined, formula, splitAfter, clausesIn}
+use Rattle.model.specs.Search.{anyBelow, seen}
 use Rattle.refusals.specs.Tests.{_then_, inOrder}
 use Rattle.netlist.specs.Places.{lineAt}
-use Rattle.netlist.specs.Faults.{startFault, sizeFault, codeFault, loopFaultBy}
+use Rattle.netlist.specs.Faults.{startFault, sizeFault, codeFault, isTied, tieFault, loopFaultBy}
 use Rattle.netlist_tests.specs.Record.{testLines, recordVerdict}
 use Rattle.refusals.specs.Slices.{testRoom}
 use Rattle.call_unpacked.specs.Calls.{testDepth, testGroup, testNumbers, groupVerdict, headingVerdict}
@@ -30,7 +31,7 @@ pub starred : Starred
 unfolding odd bit sweep isRead eitherWire dependsOnRead neg gather gatherDown andClauses sameIfClauses bitClauses addressBitClauses unequalOf allBits
     forwardedClauses agreedReads pairClauses initialReadClauses initialReads heldClauses heldReads selectedOf someSource closingClauses baseOf base pairBaseOf pairBase wireAt codeAt noneSince
     selected readBit pairLiterals closingLiterals stateClauses violationOf clausesOf pairOf frameGroups groupOrder inDepth keptOf
-    kept isTrue hasTrue endOf writtenClause written numbersOf joined formula splitAfter clausesIn _then_ inOrder lineAt startOf startFault sizeFault codeFault loopFaultBy testLines
+    kept isTrue hasTrue endOf writtenClause written numbersOf joined formula splitAfter clausesIn _then_ inOrder lineAt startOf startFault sizeFault codeFault seen anyBelow isTied tieFault loopFaultBy testLines
     recordVerdict testDepth testGroup testNumbers testRoom groupVerdict headingVerdict digitsWithin digits field sameText
     valueAfter numberIn dropSpaces filledWith behindSpaces fieldOf kindOf contentOf fieldIn allAsWanted lineWith lineOf
     depthField fieldVerdict depthVerdict faultsAt lineIn sizesIn netOfLines netIn ragged notDue testLineIn endVerdict

@@ -122,9 +122,16 @@ module _ (c d : Netlist) (q : Agree c d) where
   accepted-same h =
       record {
         limits = record { sizes = sizesFit-same c d (q .sizes-same) (h .limits .sizes); codes = codes-same (h .limits .codes) };
+        noTie = record { tie-free = untied };
         noLoop =
             record {
               address-free = λ t b. let s : t < c .m = rw m-same b in free (q .address-same t s) (h .noLoop .address-free t s);
               RE-free = free (q .RE-same) (h .noLoop .RE-free);
             };
       }
+    where
+      untied : (s t : ℕ) → s < t → t < d .m → d .address s / 2 ≡ d .address t / 2 → d .address t / 2 ≡ 0
+      untied s t l b e =
+          let m : t < c .m = rw m-same b in
+          let n : s < c .m = omega arith in
+          rw (← q .address-same t m) (h .noTie .tie-free s t l m (rw (q .address-same s n, q .address-same t m) e))

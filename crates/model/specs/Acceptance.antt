@@ -1,4 +1,4 @@
--- Which netlists are accepted (RULES A1, W7 to W9, W11 to W13, W15 and C8). Cited by the
+-- Which netlists are accepted (RULES A1, W7 to W9, W11 to W13, W15, C8 and C27). Cited by the
 -- theorem, by what writes clauses, and by the tests of records, which are proved to pass exactly these.
 use Prim.Native.Nat.{ℕ, _+_, _*_, _/_, _^_, _≤_, _<_}
 use mathlib.Core.Path.{_≡_}
@@ -47,6 +47,10 @@ pub record WithinLimits (c : Netlist) : Type 0 where
   pub sizes : SizesFit c
   pub codes : CodesFit c
 
+-- refusal 17 (RULES T17): two address codes of one wire, inverted or not. Wire 0 is the constants': they may repeat.
+pub record NoTie (c : Netlist) (p : Port) : Type 0 where
+  pub tie-free : (s t : ℕ) → s < t → t < c .m → p .address s / 2 ≡ p .address t / 2 → p .address t / 2 ≡ 0
+
 -- refusal 6 (RULES T6): an address code or RE depends on a read bit
 pub record NoLoop (c : Netlist) (p : Port) : Type 0 where
   pub address-free : (t : ℕ) → t < c .m → dependsOnRead c (p .address t / 2) ≡ false
@@ -54,6 +58,7 @@ pub record NoLoop (c : Netlist) (p : Port) : Type 0 where
 
 pub record Accepted (c : Netlist) : Type 0 where
   pub limits : WithinLimits c
+  pub noTie : NoTie c (port c)
   pub noLoop : NoLoop c (port c)
 
 -- Dependence on a read bit is a path through gates: of every netlist within limits, so of those too that refusal 6 is about. Promised

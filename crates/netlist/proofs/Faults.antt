@@ -1,18 +1,21 @@
 -- A netlist has no fault in any line exactly where it meets the model's limits (specs/Faults.antt and the model's Acceptance).
 -- Cited by the tests of records and by the sheet reader.
 use Prim.Native.Nat.{ℕ, zero, suc, _+_, _-_, _*_, _/_, _^_, _≤_, _<_, zero-le}
-use mathlib.Core.Path.{_≡_, refl, _∙_}
+use mathlib.Core.Path.{_≡_, refl, sym, _∙_}
 use mathlib.Core.Bool.{Bool, true, false, not, _||_, true≢false}
 use mathlib.Core.Logic.{_↔_, by-cases}
 use native.Mathlib.Nat.{div-eq-of-lt, le-div-iff-mul-le}
-use native.Mathlib.Decide.{decLt}
+use native.Mathlib.Decide.{ℕ-discrete, decLt}
 use native.Mathlib.Omega.{arith}
 use lib.Dec.{ltb, leb, eqb}
 use lib.Pow.{pow-pos, pow-mono}
 use borrow.Author.Tests.{ltb-false, lt-ltb, le-ltb, leb-false, lt-leb, le-leb, eq-eqb, ne-eqb}
 use Rattle.model.specs.Netlist.{Netlist, Start, given, unknown, startOf, start, port, gateWire, lastWire}
-use Rattle.model.specs.Acceptance.{StartFits, SizesFit, CodesFit, NoLoop}
-use Rattle.netlist.specs.Faults.{outside, startFault, sizeFault, codeFault, loopFaultBy, loopFault}
+use Rattle.model.specs.Search.{seen}
+use Rattle.model.specs.Acceptance.{StartFits, SizesFit, CodesFit, NoTie, NoLoop}
+use Rattle.model.proofs.Search.{seen-at}
+use Rattle.model.proofs.Booleans.{not-true-false}
+use Rattle.netlist.specs.Faults.{outside, startFault, sizeFault, codeFault, isTied, tieFault, loopFaultBy, loopFault}
 use Rattle.netlist.specs.declared.Line.{Line}
 use Rattle.netlist.specs.declared.Line.the-variants.{Sizes, Memory, Latch, Gate, Control}
 use Rattle.netlist.proofs.Places.{EveryLine}
@@ -76,6 +79,23 @@ leb-not-ltb a b =
 -- a code is within its limit
 pub code-inside : (last x : ℕ) → (ltb (2 * last + 1) x ≡ false) ↔ (x ≤ 2 * last + 1)
 code-inside last x = (ltb-false (2 * last + 1) x, le-ltb (2 * last + 1) x)
+
+-- an address code is not tied: an earlier one of its wire is a constant as it is itself
+untied : (address : ℕ → ℕ) (t : ℕ) → (isTied address t ≡ false) ↔ ((s : ℕ) → s < t → address s / 2 ≡ address t / 2 → address t / 2 ≡ 0)
+unfolding isTied
+untied address t =
+    by-cases (ℕ-discrete w 0)
+    (λ z. (λ h s l e. z, λ h. rw (eq-eqb w 0 z)))
+    (λ z. rw (ne-eqb w 0 z) (
+      λ h s l e. absurd (true≢false (sym (seen-at wires t w .1 (s, l, e)) ∙ h)),
+      λ h. not-true-false (seen wires t w) (λ k. let found = seen-at wires t w .0 k in z (h (found .0) (found .1) (found .2))),
+    ))
+  where
+    w : ℕ
+    w = address t / 2
+
+    wires : ℕ → ℕ
+    wires s = address s / 2
 
 -- a line is without a fault
 abbrev pub Without : (Netlist → Line → Bool) → Netlist → Line → Type 0
@@ -178,6 +198,23 @@ module _ (c : Netlist) where
               of-control = control-inside .1 ((q .WE-fits, q .RE-fits), q .P-fits);
             },
       )
+
+  -- refusal 17
+  pub no-tie : EveryLine c (Without tieFault c) ↔ NoTie c (port c)
+  unfolding tieFault
+  no-tie = (
+    λ q. record { tie-free = λ s t l b e. untied (c .address) t .0 (q .of-address t b) s l e },
+    λ q.
+        record {
+          of-sizes = refl;
+          of-memory = refl;
+          of-latch = λ l h. refl;
+          of-gate = λ g h. refl;
+          of-address = λ t b. untied (c .address) t .1 (λ s l. q .tie-free s t l b);
+          of-data = λ t h. refl;
+          of-control = refl;
+        },
+  )
 
   -- refusal 6
   pub no-loop : EveryLine c (Without loopFault c) ↔ NoLoop c (port c)

@@ -72,6 +72,15 @@ has-lineAt c p =
     by-cases (decLt p (controlLine c)) (λ b. rw (at-data c p (p - dataLine c 0) (omega arith) (omega arith)) (omega arith)) λ d.
     rw (at-control c p (omega arith)) tt
 
+-- what holds of lines N and M, of every latch and of every gate holds of each line before the address codes
+pub before-address : (c : Netlist) (P : Line → Type 0) → P Sizes → P Memory → ((l : ℕ) → P (Latch l)) → ((g : ℕ) → P (Gate g))
+    → (p : ℕ) → p < addressLine c 0 → P (lineAt c p)
+before-address c P sizes memory latch gate p b =
+    by-cases (decLt p memoryLine) (λ s. rw (at-sizes c p s) sizes) λ s.
+    by-cases (decLt p (latchLine c 0)) (λ m. rw (at-memory c p (omega arith)) memory) λ m.
+    by-cases (decLt p (gateLine c 0)) (λ l. rw (at-latch c p (p - latchLine c 0) (omega arith) (omega arith)) (latch (p - latchLine c 0))) λ l.
+    rw (at-gate c p (p - gateLine c 0) (omega arith) (omega arith)) (gate (p - gateLine c 0))
+
 -- a property of every line, said of each kind
 pub record EveryLine (c : Netlist) (P : Line → Type 0) : Type 0 where
   pub of-sizes : P Sizes

@@ -1,11 +1,12 @@
--- The faults of a line (RULES T4, T5 and T6), as computed tests. Cited by the tests
+-- The faults of a line (RULES T4, T5, T6 and T17), as computed tests. Cited by the tests
 -- of records and by the sheet reader.
 use Prim.Native.Nat.{ℕ, _+_, _-_, _*_, _/_, _^_}
-use mathlib.Core.Bool.{Bool, false, _||_}
-use lib.Dec.{ltb, leb}
+use mathlib.Core.Bool.{Bool, false, not, _&&_, _||_}
+use lib.Dec.{ltb, leb, eqb}
 use Rattle.model.specs.Limits.{mostWires, mostAddressBits, mostDataBits}
-use Rattle.model.specs.Netlist.{Netlist, Start, given, unknown, start, gateWire, lastWire}
+use Rattle.model.specs.Netlist.{Netlist, Start, given, unknown, start, port, gateWire, lastWire}
 use Rattle.model.specs.Circuit.{dependsOnRead}
+use Rattle.model.specs.Search.{seen}
 use Rattle.netlist.specs.declared.Line.{Line}
 use Rattle.netlist.specs.declared.Line.the-variants.{Sizes, Memory, Latch, Gate, Address, WriteData, Control}
 
@@ -51,6 +52,20 @@ codeFault c (Gate g) = gateFault (gateWire c g) (c .left g) (c .right g)
 codeFault c (Address t) = aboveLimit (lastWire c) (c .address t)
 codeFault c (WriteData t) = aboveLimit (lastWire c) (c .writeData t)
 codeFault c Control = aboveLimit (lastWire c) (c .WE) || aboveLimit (lastWire c) (c .RE) || aboveLimit (lastWire c) (c .P)
+
+-- of a port's address: the wire of code t is that of an earlier code, inverted or not, and no constant's
+unfoldable pub isTied : (ℕ → ℕ) → ℕ → Bool
+isTied address t = not (eqb (address t / 2) 0) && seen (λ s. address s / 2) t (address t / 2)
+
+-- RULES T17: "an A line whose wire an earlier A line has"
+unfoldable pub tieFault : Netlist → Line → Bool
+tieFault c Sizes = false
+tieFault c Memory = false
+tieFault c (Latch l) = false
+tieFault c (Gate g) = false
+tieFault c (Address t) = isTied (port c .address) t
+tieFault c (WriteData t) = false
+tieFault c Control = false
 
 -- RULES T6: "an address code or RE depends on a read bit", d saying which wires do
 unfoldable pub loopFaultBy : (ℕ → Bool) → Netlist → Line → Bool

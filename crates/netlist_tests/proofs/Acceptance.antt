@@ -6,14 +6,15 @@ use mathlib.Core.Bool.{false}
 use mathlib.Core.Logic.{_↔_}
 use borrow.Author.Tests.{ltb-false, le-ltb}
 use Rattle.refusals.specs.Tests.{refuseIf}
-use Rattle.refusals.specs.declared.Refusal.the-variants.{OutOfOrder, Size, CodeOutside, MemoryLoop}
+use Rattle.refusals.specs.declared.Refusal.the-variants.{OutOfOrder, Size, CodeOutside, MemoryLoop, TiedAddress}
 use Rattle.refusals.specs.declared.Verdict.the-variants.{Passed}
-use Rattle.refusals.proofs.Tests.{refuseIf-passes, passed-then, first-passes, rest-passes}
-use Rattle.model.specs.Netlist.{Netlist}
-use Rattle.model.specs.Acceptance.{Accepted}
-use Rattle.netlist.specs.Faults.{sizeFault, codeFault, loopFault}
-use Rattle.netlist_tests.specs.Record.{testLines, listsShort, recordVerdict}
-use Rattle.netlist.proofs.Faults.{neither, sizes-fit, codes-fit, no-loop}
+use Rattle.refusals.proofs.Tests.{refuseIf-passes, then-passes, passed-then, first-passes, rest-passes}
+use Rattle.model.specs.Netlist.{Netlist, port}
+use Rattle.model.specs.Acceptance.{NoTie, NoLoop, Accepted}
+use Rattle.netlist.specs.Faults.{sizeFault, codeFault, tieFault, loopFault}
+use Rattle.netlist_tests.specs.Record.{testLines, listsShort, testTies, testLoops, testPort, recordVerdict}
+use Rattle.netlist.proofs.Places.{EveryLine}
+use Rattle.netlist.proofs.Faults.{Without, neither, sizes-fit, codes-fit, no-tie, no-loop}
 use Rattle.netlist_tests.proofs.Record.{testLines-passes}
 
 -- no list is short where each is long enough
@@ -30,6 +31,21 @@ lists-pass c x y =
     test : (refuseIf (listsShort c x y) OutOfOrder 0 ≡ Passed) ↔ (listsShort c x y ≡ false)
     test = refuseIf-passes (listsShort c x y) OutOfOrder 0
 
+-- the tests of the port pass where it has neither ties nor memory loops
+pub port-passes : (c : Netlist) → (testPort c ≡ Passed) ↔ (NoTie c (port c) × NoLoop c (port c))
+port-passes c = (
+  λ e.
+      let passed = then-passes (testTies c) (testLoops c) .0 e in
+      (no-tie c .0 (ties .0 (passed .0)), no-loop c .0 (loops .0 (passed .1))),
+  λ h. then-passes (testTies c) (testLoops c) .1 (ties .1 (no-tie c .1 (h .0)), loops .1 (no-loop c .1 (h .1))),
+)
+  where
+    ties : (testTies c ≡ Passed) ↔ EveryLine c (Without tieFault c)
+    ties = testLines-passes c TiedAddress tieFault
+
+    loops : (testLoops c ≡ Passed) ↔ EveryLine c (Without loopFault c)
+    loops = testLines-passes c MemoryLoop loopFault
+
 -- no test of a record refuses exactly where the model accepts the netlist and both lists have as many records as their sizes say
 pub passes-accepted : (c : Netlist) (latchCount gateCount : ℕ)
     → (recordVerdict c latchCount gateCount ≡ Passed) ↔ (Accepted c × (c .latches ≤ latchCount) × (c .gates ≤ gateCount))
@@ -41,7 +57,7 @@ passes-accepted c x y = (accepted, passing)
         let sizes : testLines c Size sizeFault ≡ Passed = search (first-passes, rest-passes) in
         let lists : refuseIf (listsShort c x y) OutOfOrder 0 ≡ Passed = search (first-passes, rest-passes) in
         let codes : testLines c CodeOutside codeFault ≡ Passed = search (first-passes, rest-passes) in
-        let loops : testLines c MemoryLoop loopFault ≡ Passed = search (first-passes, rest-passes) in
+        let free : testPort c ≡ Passed = rest-passes _ _ (rest-passes _ _ (rest-passes _ _ e)) in
         let long = lists-pass c x y .0 lists in (
           record {
             limits =
@@ -49,7 +65,8 @@ passes-accepted c x y = (accepted, passing)
                   sizes = sizes-fit c .0 (testLines-passes c Size sizeFault .0 sizes);
                   codes = codes-fit c .0 (testLines-passes c CodeOutside codeFault .0 codes);
                 };
-            noLoop = no-loop c .0 (testLines-passes c MemoryLoop loopFault .0 loops);
+            noTie = port-passes c .0 free .0;
+            noLoop = port-passes c .0 free .1;
           },
           long .0,
           long .1,
@@ -57,5 +74,5 @@ passes-accepted c x y = (accepted, passing)
 
     passing : Accepted c × (c .latches ≤ x) × (c .gates ≤ y) → recordVerdict c x y ≡ Passed
     passing h =
-        rw (testLines-passes c Size sizeFault .1 (sizes-fit c .1 (h .0 .limits .sizes)), lists-pass c x y .1 (h .1, h .2), testLines-passes c CodeOutside codeFault .1 (codes-fit c .1 (h .0 .limits .codes)), testLines-passes c MemoryLoop loopFault .1 (no-loop c .1 (h .0 .noLoop)))
+        rw (testLines-passes c Size sizeFault .1 (sizes-fit c .1 (h .0 .limits .sizes)), lists-pass c x y .1 (h .1, h .2), testLines-passes c CodeOutside codeFault .1 (codes-fit c .1 (h .0 .limits .codes)), port-passes c .1 (h .0 .noTie, h .0 .noLoop))
         (simp passed-then)

@@ -1,6 +1,6 @@
 -- Laws of tables of wires (specs/Dependence.antt): a table made entry by entry, of the read bits and of a sweep over the gates.
 -- No contract cites this file.
-use Prim.Native.Nat.{ℕ, _+_, _-_, _/_, _≤_, _<_}
+use Prim.Native.Nat.{ℕ, _+_, _/_, _≤_, _<_}
 use mathlib.Core.Path.{_≡_, refl, sym, _∙_}
 use mathlib.Core.Bool.{Bool, true, false, cond, _&&_}
 use mathlib.Core.Logic.{by-cases}
@@ -18,15 +18,15 @@ use Rattle.refusals.proofs.Tests.{refuseIf-passes, inOrder-passes}
 use Rattle.model.specs.Netlist.{Netlist, readWire, gateWire}
 use Rattle.model.specs.Circuit.{Values, sweep, isRead, dependsOnRead}
 use Rattle.model.specs.Acceptance.{WithinLimits}
-use Rattle.netlist.specs.Places.{memoryLine, latchLine, gateLine, addressLine, lineAt, HasLine}
+use Rattle.netlist.specs.Places.{addressLine, lineAt, HasLine}
 use Rattle.netlist.specs.Faults.{loopFaultBy, loopFault}
 use Rattle.netlist_scan.specs.AnyLine.{anyLine}
 use Rattle.netlist_tests.specs.Record.{testLine, testLines}
 use Rattle.netlist_tests.specs.Dependence.{entry, Table}
 use Rattle.netlist.specs.declared.Line.{Line}
 use Rattle.netlist.specs.declared.Line.the-variants.{Sizes, Memory, Latch, Gate, Address, WriteData, Control}
-use Rattle.netlist.proofs.Places.{at-sizes, at-memory, at-latch, at-gate}
-use Rattle.netlist.proofs.Faults.{no-loop}
+use Rattle.netlist.proofs.Places.{before-address}
+use Rattle.netlist.proofs.Faults.{Without, no-loop}
 use Rattle.netlist_scan.proofs.AnyLine.{none-in-lines}
 use Rattle.netlist_tests.proofs.Record.{PassedTo, testLines-passes}
 
@@ -108,11 +108,5 @@ pub loops-before : (c : Netlist) (p : ℕ) → p < addressLine c 0 → PassedTo 
 unfolding loopFaultBy
 loops-before c p h =
     inOrder-passes (testLine c MemoryLoop loopFault) p .1
-    (λ q l b. refuseIf-passes (loopFault c (lineAt c q)) MemoryLoop q .1 (none q (omega arith)))
-  where
-    none : (q : ℕ) → q < addressLine c 0 → loopFault c (lineAt c q) ≡ false
-    none q b =
-        by-cases (decLt q memoryLine) (λ s. rw (at-sizes c q s)) λ s.
-        by-cases (decLt q (latchLine c 0)) (λ m. rw (at-memory c q (omega arith))) λ m.
-        by-cases (decLt q (gateLine c 0)) (λ l. rw (at-latch c q (q - latchLine c 0) (omega arith) (omega arith))) λ l.
-        rw (at-gate c q (q - gateLine c 0) (omega arith) (omega arith))
+    (λ q l b. refuseIf-passes (loopFault c (lineAt c q)) MemoryLoop q .1
+    (before-address c (Without loopFault c) refl refl (λ l. refl) (λ g. refl) q (omega arith)))

@@ -1,4 +1,5 @@
 pub mod Record
 pub mod Lists
+pub mod Ties
 pub mod Dependence
 pub mod Acceptance

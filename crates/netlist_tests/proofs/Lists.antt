@@ -1,19 +1,19 @@
--- What the lists of a record have no part in, of the tests: sizes in neither list, memory loops in the latches. No contract cites
+-- What the lists of a record have no part in, of the tests: sizes and ties in neither list, memory loops in the latches. No contract cites
 -- this file.
 use Prim.Native.Nat.{ℕ, _/_}
 use mathlib.Core.Path.{_≡_, refl}
 use mathlib.Core.Bool.{Bool}
 use mathlib.Core.List.{List, []}
-use Rattle.refusals.specs.declared.Refusal.the-variants.{Size, MemoryLoop}
+use Rattle.refusals.specs.declared.Refusal.the-variants.{Size, MemoryLoop, TiedAddress}
 use Rattle.netlist.specs.NetOf.{codeOf, netOf, alone}
 use Rattle.netlist.specs.Places.{lineAt}
-use Rattle.netlist.specs.Faults.{sizeFault, loopFaultBy, loopFault}
+use Rattle.netlist.specs.Faults.{sizeFault, tieFault, loopFaultBy, loopFault}
 use Rattle.netlist.specs.declared.Line.{Line}
 use Rattle.netlist.specs.declared.Line.the-variants.{Sizes, Memory, Latch, Gate, Address, WriteData, Control}
 use Rattle.netlist.specs.declared.Netlist.{Netlist}
 use Rattle.netlist.proofs.NetOf.{lineAt-lists, sizeFault-lists, depends-latches}
 use Rattle.netlist_scan.specs.AnyLine.{anyLine}
-use Rattle.netlist_tests.specs.Record.{testLines, testLoops}
+use Rattle.netlist_tests.specs.Record.{testLines, testTies, testLoops, testPort}
 use Rattle.netlist_tests.proofs.Record.{testLines-same}
 
 module _ (r : Netlist) (latches gates : List ℕ) where
@@ -23,8 +23,22 @@ module _ (r : Netlist) (latches gates : List ℕ) where
   test-sizes-lists =
       testLines-same (alone r) (netOf r latches gates) Size sizeFault (sizeFault-lists r latches gates) (lineAt-lists r latches gates) refl
 
+  -- the tests of ties
+  pub test-ties-lists : testTies (alone r) ≡ testTies (netOf r latches gates)
+  unfolding netOf lineAt tieFault
+  test-ties-lists = testLines-same (alone r) (netOf r latches gates) TiedAddress tieFault same (λ p. refl) refl
+    where
+      same : (x : Line) → tieFault (alone r) x ≡ tieFault (netOf r latches gates) x
+      same Sizes = refl
+      same Memory = refl
+      same (Latch l) = refl
+      same (Gate g) = refl
+      same (Address t) = refl
+      same (WriteData t) = refl
+      same Control = refl
+
   -- the tests of memory loops
-  pub test-loops-latches : testLoops (netOf r [] gates) ≡ testLoops (netOf r latches gates)
+  test-loops-latches : testLoops (netOf r [] gates) ≡ testLoops (netOf r latches gates)
   unfolding netOf lineAt loopFaultBy
   test-loops-latches = testLines-same (netOf r [] gates) (netOf r latches gates) MemoryLoop loopFault same (λ p. refl) refl
     where
@@ -41,3 +55,7 @@ module _ (r : Netlist) (latches gates : List ℕ) where
   pub any-loop-lists : (d : ℕ → Bool) → anyLine (alone r) (loopFaultBy d) ≡ anyLine (netOf r latches gates) (loopFaultBy d)
   unfolding netOf loopFaultBy anyLine
   any-loop-lists d = refl
+
+-- so the tests of the port
+pub test-port-latches : (r : Netlist) (latches gates : List ℕ) → testPort (netOf r [] gates) ≡ testPort (netOf r latches gates)
+test-port-latches r latches gates = rw (← test-ties-lists r [] gates, test-ties-lists r latches gates, test-loops-latches r latches gates)

@@ -1,4 +1,4 @@
--- The tests of a record with its lists, in their order (RULES T38 and T39). That they pass exactly the accepted netlists is
+-- The tests of a record with its lists, in their order (RULES T54 and T39). That they pass exactly the accepted netlists is
 -- the law `passes-accepted` in proofs/Acceptance.antt. Cited by the tests of this crate, by the calls over a record by
 -- the reading of a sheet and by the import of a text.
 use Prim.Native.Nat.{ℕ}
@@ -6,11 +6,11 @@ use mathlib.Core.Bool.{Bool, _||_}
 use lib.Dec.{ltb}
 use Rattle.refusals.specs.Tests.{refuseIf, _then_, inOrder}
 use Rattle.refusals.specs.declared.Refusal.{Refusal}
-use Rattle.refusals.specs.declared.Refusal.the-variants.{OutOfOrder, Size, CodeOutside, MemoryLoop}
+use Rattle.refusals.specs.declared.Refusal.the-variants.{OutOfOrder, Size, CodeOutside, MemoryLoop, TiedAddress}
 use Rattle.refusals.specs.declared.Verdict.{Verdict}
 use Rattle.model.specs.Netlist.{Netlist}
 use Rattle.netlist.specs.Places.{controlLine, lineAt}
-use Rattle.netlist.specs.Faults.{sizeFault, codeFault, loopFault}
+use Rattle.netlist.specs.Faults.{sizeFault, codeFault, tieFault, loopFault}
 use Rattle.netlist.specs.declared.Line.{Line}
 
 -- the line due at a place, tested for a fault
@@ -26,14 +26,22 @@ testLines c r fault = inOrder (testLine c r fault) (controlLine c)
 abbrev pub listsShort : Netlist → ℕ → ℕ → Bool
 listsShort c latchCount gateCount = ltb latchCount (c .latches) || ltb gateCount (c .gates)
 
+-- RULES T17: "The place is the first such line"
+abbrev pub testTies : Netlist → Verdict
+testTies c = testLines c TiedAddress tieFault
+
 -- RULES T6: "the first A line concerned, else the C line"
 abbrev pub testLoops : Netlist → Verdict
 testLoops c = testLines c MemoryLoop loopFault
 
--- RULES T38: "4, then 3, then 5 in line order, then 6, each with the place that it would have in a sheet"
+-- RULES T54: "then 17, then 6"; of a sheet (RULES T53) and a text (RULES T55) too
+abbrev pub testPort : Netlist → Verdict
+testPort c = testTies c then testLoops c
+
+-- RULES T54: "4, then 3, then 5 in line order, then 17, then 6, each with the place that it would have in a sheet"
 unfoldable pub recordVerdict : Netlist → ℕ → ℕ → Verdict
 recordVerdict c latchCount gateCount =
     testLines c Size sizeFault
     then refuseIf (listsShort c latchCount gateCount) OutOfOrder 0
     then testLines c CodeOutside codeFault
-    then testLoops c
+    then testPort c

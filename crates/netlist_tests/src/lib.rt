@@ -1,4 +1,4 @@
-// The tests of a record with its lists (RULES T38, "is tested alike").
+// The tests of a record with its lists (RULES T54, "is tested alike").
 use literals::Code;
 use netlist::Line;
 use netlist::Netlist;
@@ -13,7 +13,7 @@ ghost use Rattle.netlist.specs.NetOf.{netOf, alone};
 ghost use Rattle.netlist.specs.Places.{HasLine};
 ghost use Rattle.netlist.specs.Faults.{sizeFault, codeFault, loopFaultBy};
 ghost use Rattle.netlist_scan.specs.AnyLine.{anyLine};
-ghost use Rattle.netlist_tests.specs.Record.{testLines, testLoops, recordVerdict};
+ghost use Rattle.netlist_tests.specs.Record.{testLines, testTies, testLoops, testPort, recordVerdict};
 ghost use Rattle.netlist_tests.specs.Dependence.{Table, entry};
 
 // Tests the numbers of lines N and M (refusal 4).
@@ -53,6 +53,19 @@ fn test_codes(net: Netlist, latches: &UnpackedList, gates: &UnpackedList) -> Ver
 {
     if netlist_scan::any_code_fault(net, latches, gates) {
         return first_code_fault(net, latches, gates);
+    }
+    Verdict::Passed
+}
+
+// Tests the address codes for ties, in line order (refusal 17).
+fn test_ties(net: Netlist) -> Verdict
+    requires { ⌜ SizesFit (alone net) ⌝ }
+    ensures { λ r. ⌜ r ≡ testTies (alone net) ⌝ }
+{
+    let address = net.address;
+    let t = netlist_scan::first_tie(address, net.m);
+    if t < net.m {
+        return Verdict::Refused(Refusal::TiedAddress, 3 + net.latches + net.gates + t);
     }
     Verdict::Passed
 }
@@ -133,7 +146,7 @@ fn any_loop(net: Netlist, flags: &[bool; 601]) -> bool
 
 // Tests the address codes and RE, in line order (refusal 6). A place is looked for only where there is one. The lines before the
 // address codes make no memory loop.
-pub fn test_loops(net: Netlist, gates: &UnpackedList) -> Verdict
+fn test_loops(net: Netlist, gates: &UnpackedList) -> Verdict
     requires { ⌜ WithinLimits (netOf net [] (now gates)) ⌝ }
     ensures { λ r. ⌜ r ≡ testLoops (netOf net [] (now (gates .entry))) ⌝ }
 {
@@ -153,7 +166,19 @@ pub fn test_loops(net: Netlist, gates: &UnpackedList) -> Verdict
     Verdict::Passed
 }
 
-// Tests a record with its lists, in the order of RULES T38. The caller's lists have `latch_count` and `gate_count` records.
+// Tests the memory's port: ties, then memory loops.
+pub fn test_port(net: Netlist, gates: &UnpackedList) -> Verdict
+    requires { ⌜ WithinLimits (netOf net [] (now gates)) ⌝ }
+    ensures { λ r. ⌜ r ≡ testPort (netOf net [] (now (gates .entry))) ⌝ }
+{
+    let ties = test_ties(net);
+    if let Verdict::Refused(_, _) = ties {
+        return ties;
+    }
+    test_loops(net, gates)
+}
+
+// Tests a record with its lists, in the order of RULES T54. The caller's lists have `latch_count` and `gate_count` records.
 pub fn test_record(
     net: Netlist,
     latches: &UnpackedList,
@@ -174,5 +199,5 @@ pub fn test_record(
     if let Verdict::Refused(_, _) = codes {
         return codes;
     }
-    test_loops(net, gates)
+    test_port(net, gates)
 }

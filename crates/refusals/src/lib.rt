@@ -1,4 +1,4 @@
-// The numbered errors (RULES T1 to T15), and what a chain of tests answers.
+// The numbered errors (RULES T1 to T17), and what a chain of tests answers.
 ghost use mathlib.Core.Path.{_≡_};
 ghost use Rattle.refusals.specs.Refusal.{refusalNumber, replyOf};
 
@@ -19,6 +19,8 @@ pub enum Refusal {
     Undefined,
     NoAnswer,
     NoViolation,
+    WrongBase,
+    TiedAddress,
 }
 
 // What a chain of tests answers: none refuses, or the first that does, with its place (0: none).
@@ -53,6 +55,8 @@ pub fn number(refusal: Refusal) -> u32
         Refusal::Undefined => 13,
         Refusal::NoAnswer => 14,
         Refusal::NoViolation => 15,
+        Refusal::WrongBase => 16,
+        Refusal::TiedAddress => 17,
     }
 }
 

@@ -1,4 +1,4 @@
--- The tests of a file and of its lines, in their order (RULES T33): the line due at a place from the sizes alone, and
+-- The tests of a file and of its lines, in their order (RULES T53): the line due at a place from the sizes alone, and
 -- the faults of a line in their order. Cited by `is_ragged`, sheet_loop and sheet_tests/specs/Sheet.
 use Prim.Native.Nat.{ℕ, _%_}
 use mathlib.Core.Bool.{Bool, true, false, not, _&&_, _||_}
@@ -37,7 +37,7 @@ isOf k (ParsedLine.Read kind x y z e) = eqb (rowOf kind) (rowOf k)
 unfoldable pub notDue : Netlist → List ℕ → ℕ → Bool
 notDue c file p = not (leb p (controlLine c) && isOf (kindDue (lineAt c p)) (lineIn file p))
 
--- RULES T33: "line by line, at each line 2, then 3, then 4 or 5"; the place is the line, the first being 1 (RULES S7)
+-- RULES T53: "line by line, at each line 2, then 3, then 4 or 5"; the place is the line, the first being 1 (RULES S7)
 unfoldable pub testLineIn : Netlist → List ℕ → ℕ → Verdict
 testLineIn c file p =
     refuseIf (misprinted (lineIn file p)) Misprint p

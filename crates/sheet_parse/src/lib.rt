@@ -1,5 +1,5 @@
 // The sheet reader, which carries the file and its own line number (RULES S10 and L2), and what one answer of it more does to the record
-// and the lists (RULES S5 to S7 and T33). The loop over its answers is crate `sheet_loop`.
+// and the lists (RULES S5 to S7 and T53). The loop over its answers is crate `sheet_loop`.
 use netlist::UnpackedList;
 use refusals::Refusal;
 use refusals::Verdict;

@@ -1,4 +1,4 @@
--- Refusals 4 and 5 at one line (RULES T33, "line by line, at each line 2, then 3, then 4 or 5"). Cited by `test_stored`, sheet_steps/specs/Steps and
+-- Refusals 4 and 5 at one line (RULES T53, "line by line, at each line 2, then 3, then 4 or 5"). Cited by `test_stored`, sheet_steps/specs/Steps and
 -- sheet_parse/specs/FileTests.
 use Prim.Native.Nat.{ℕ}
 use Rattle.refusals.specs.Tests.{refuseIf, _then_}

@@ -60,7 +60,7 @@ StoredIn r old due x y z e =
 unfoldable pub stepNet : Netlist → ℕ → ℕ → ℕ → ℕ → ℕ → Netlist
 stepNet c x y z e p = stored c (lineAt c p) x y z e
 
--- RULES T33, "3, then 4 or 5", at place p: a line of this kind and with these numbers
+-- RULES T53, "3, then 4 or 5", at place p: a line of this kind and with these numbers
 unfoldable pub stepVerdict : Netlist → Kind → ℕ → ℕ → ℕ → ℕ → ℕ → Verdict
 stepVerdict c kind x y z e p =
     refuseIf (ltb (controlLine c) p || not (eqb (rowOf kind) (rowOf (kindDue (lineAt c p))))) OutOfOrder p

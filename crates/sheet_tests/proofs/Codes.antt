@@ -8,20 +8,19 @@ use lib.Dec.{ltb}
 use borrow.Author.Tests.{ltb-false}
 use Rattle.refusals.specs.Tests.{refuseIf, _then_, inOrder}
 use Rattle.refusals.specs.declared.Refusal.{Refusal}
-use Rattle.refusals.specs.declared.Refusal.the-variants.{Ragged, OutOfOrder, MemoryLoop, NoRoom}
+use Rattle.refusals.specs.declared.Refusal.the-variants.{Ragged, OutOfOrder, NoRoom}
 use Rattle.refusals.specs.declared.Verdict.the-variants.{Passed, Refused}
 use Rattle.refusals.proofs.Tests.{refuseIf-passes, then-passes, passed-then}
 use Rattle.model.specs.Netlist as M
 use Rattle.model.specs.Acceptance.{Accepted}
 use Rattle.netlist.specs.NetOf.{netOf}
 use Rattle.netlist.specs.Places.{controlLine}
-use Rattle.netlist.specs.Faults.{codeFault, loopFault}
+use Rattle.netlist.specs.Faults.{codeFault}
 use Rattle.netlist.specs.declared.Netlist.{Netlist}
 use Rattle.netlist.proofs.Places.{every-place}
-use Rattle.netlist.proofs.Faults.{Without, codes-fit, no-loop}
-use Rattle.netlist_tests.specs.Record.{testLoops, listsShort, recordVerdict}
-use Rattle.netlist_tests.proofs.Record.{testLines-passes}
-use Rattle.netlist_tests.proofs.Acceptance.{lists-long, passes-accepted}
+use Rattle.netlist.proofs.Faults.{Without, codes-fit}
+use Rattle.netlist_tests.specs.Record.{testPort, listsShort, recordVerdict}
+use Rattle.netlist_tests.proofs.Acceptance.{lists-long, port-passes, passes-accepted}
 use Rattle.sheet_steps.specs.Lists.{Holds}
 use Rattle.sheet_steps.specs.declared.SheetAnswer.{SheetAnswer}
 use Rattle.sheet_steps.proofs.Records.{holds}
@@ -40,15 +39,15 @@ module _ (file : List ℕ) (passed : fileVerdict file ≡ Passed) where
       (then-passes (refuseIf (ragged file) Ragged 0)
       (inOrder (testLineIn (netIn file) file) (lineCount file) then endVerdict (netIn file) (lineCount file)) .0 passed .1) .0
 
-  end-passes : (controlLine (netIn file) ≤ lineCount file) × (testLoops (netIn file) ≡ Passed)
+  end-passes : (controlLine (netIn file) ≤ lineCount file) × (testPort (netIn file) ≡ Passed)
   unfolding fileVerdict endVerdict _then_
   end-passes =
       let missing = refuseIf (ltb (lineCount file) (controlLine (netIn file))) OutOfOrder (lineCount file + 1) in
-      let loops = testLoops (netIn file) in
+      let port = testPort (netIn file) in
       let lines = inOrder (testLineIn (netIn file) file) (lineCount file) in
-      let end = then-passes lines (missing then loops) .0
-      (then-passes (refuseIf (ragged file) Ragged 0) (lines then missing then loops) .0 passed .1) .1 in
-      let parts = then-passes missing loops .0 end in (
+      let end = then-passes lines (missing then port) .0
+      (then-passes (refuseIf (ragged file) Ragged 0) (lines then missing then port) .0 passed .1) .1 in
+      let parts = then-passes missing port .0 end in (
         ltb-false (lineCount file) (controlLine (netIn file))
             (refuseIf-passes (ltb (lineCount file) (controlLine (netIn file))) OutOfOrder (lineCount file + 1) .0 (parts .0)),
         parts .1,
@@ -66,7 +65,8 @@ module _ (file : List ℕ) (passed : fileVerdict file ≡ Passed) where
                   (every-place (netIn file) (Without codeFault (netIn file)) .1
                   (λ p l b. line-passed file (lineCount file) lines-pass p l (omega arith) .code));
             };
-        noLoop = no-loop (netIn file) .0 (testLines-passes (netIn file) MemoryLoop loopFault .0 (end-passes .1));
+        noTie = port-passes (netIn file) .0 (end-passes .1) .0;
+        noLoop = port-passes (netIn file) .0 (end-passes .1) .1;
       }
 
 -- the list sizes in a record

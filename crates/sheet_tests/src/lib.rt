@@ -1,5 +1,5 @@
 // The tests of a sheet, a netlist file of fixed columns, and what it is read as, over unpacked lists (RULES S1 to S7,
-// T33 to T37).
+// T53 and T34 to T37).
 use netlist::Netlist;
 use netlist::UnpackedList;
 use refusals::Refusal;
@@ -23,7 +23,7 @@ pub fn no_codes() -> UnpackedList
     [0; 1200]
 }
 
-// The tests behind the last line: refusal 3 where one is missing, then 6.
+// The tests behind the last line: refusal 3 where one is missing, then 17 and 6.
 fn test_end(net: Netlist, gates: &UnpackedList, count: u32) -> Verdict
     requires { ⌜ (count ≤ 615) × LinesPassed (netOf net [] (now gates)) count ⌝ }
     ensures { λ r. ⌜ r ≡ endVerdict (netOf net [] (now (gates .entry))) count ⌝ }
@@ -34,7 +34,7 @@ fn test_end(net: Netlist, gates: &UnpackedList, count: u32) -> Verdict
     if count < netlist::control_line(net) {
         return Verdict::Refused(Refusal::OutOfOrder, count + 1);
     }
-    netlist_tests::test_loops(net, gates)
+    netlist_tests::test_port(net, gates)
 }
 
 // The tests of a file, read into lists of no codes. Where it passes, its codes are in the lists and the rest in the record; after a

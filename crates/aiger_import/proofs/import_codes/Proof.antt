@@ -5,14 +5,14 @@ use borrow.Author.Needs.{needs}
 use Rattle.refusals.specs.declared.Refusal.the-variants.{Size}
 use Rattle.refusals.specs.declared.Verdict.the-variants.{Passed}
 use Rattle.netlist.specs.Faults.{sizeFault}
-use Rattle.netlist_tests.specs.Record.{testLines, testLoops}
+use Rattle.netlist_tests.specs.Record.{testLines, testPort}
 use Rattle.sheet_steps.specs.Lists.{Holds}
 use Rattle.sheet_steps.proofs.Records.{outcome-refused, outcome-passed}
 use Rattle.aiger_netlist.specs.TextNetlist.{aagNet}
 use Rattle.aiger_netlist.specs.ImportVerdict.{textVerdict}
 use Rattle.aiger_netlist.proofs.Verdict.{fits-interface}
 use Rattle.aiger_import.specs.Tables.{Ready}
-use Rattle.aiger_import.proofs.Tested.{sizes-tested, ready, held, limits, loops-tested, short-held, text-refused, sizes-refused, loops-refused, room-refused, all-passed}
+use Rattle.aiger_import.proofs.Tested.{sizes-tested, ready, held, limits, port-tested, short-held, text-refused, sizes-refused, port-refused, room-refused, all-passed}
 use Rattle.aiger_import.proofs.import_codes.Statement.{statement}
 use Rattle.aiger_import.proofs.import_codes.Tie as tie
 
@@ -46,15 +46,15 @@ net-held c =
     held (a .text .now) (a .m) (a .n) (a .word) (a .unknown) (header .result .counts) (header .ensures .counts-are) (sizes .result) (sizes .ensures)
     (text-passed (c .before .before .before .before .before .before .before)) (sizes-passed (c .before .before .before)) _ _ _ (c .fill .ensures)
 
--- and are tested for memory loops
-loops-judged : (c : tie.After-test-loops) →
-    let a = c .before .before .before .before .before .before .before .before .before .before .before .before .before .before .args in testLoops (aagNet (a .text .now) (a .m) (a .n) (a .word) (a .unknown)) ≡ c .test-loops .result
-loops-judged c =
+-- and its port is tested
+port-judged : (c : tie.After-test-port) →
+    let a = c .before .before .before .before .before .before .before .before .before .before .before .before .before .before .args in testPort (aagNet (a .text .now) (a .m) (a .n) (a .word) (a .unknown)) ≡ c .test-port .result
+port-judged c =
     let a = c .before .before .before .before .before .before .before .before .before .before .before .before .before .before .args in
     let header = c .before .before .before .before .before .before .before .before .before .before .before .before .read-header in
     let sizes = c .before .before .before .before .before .before .before .before .text-sizes in
-    loops-tested (a .text .now) (a .m) (a .n) (a .word) (a .unknown) (header .result .counts) (header .ensures .counts-are) (sizes .result) (sizes .ensures)
-    (text-passed (c .before .before .before .before .before .before .before .before .before)) (sizes-passed (c .before .before .before .before .before)) _ _ _ (c .before .before .fill .ensures) (c .test-loops .ensures)
+    port-tested (a .text .now) (a .m) (a .n) (a .word) (a .unknown) (header .result .counts) (header .ensures .counts-are) (sizes .result) (sizes .ensures)
+    (text-passed (c .before .before .before .before .before .before .before .before .before)) (sizes-passed (c .before .before .before .before .before)) _ _ _ (c .before .before .fill .ensures) (c .test-port .ensures)
 
 read-header-requires : tie.Need-read-header-requires
 read-header-requires c κs = search needs
@@ -118,16 +118,16 @@ fill-requires c κs =
       start .pre .1,
     )
 
-test-loops-requires : tie.Need-test-loops-requires
-test-loops-requires c κs =
+test-port-requires : tie.Need-test-port-requires
+test-port-requires c κs =
     let a = c .before .before .before .before .before .before .before .before .before .before .before .before .before .args in
     let header = c .before .before .before .before .before .before .before .before .before .before .before .read-header in
     let sizes = c .before .before .before .before .before .before .before .text-sizes in
     limits (a .text .now) (a .m) (a .n) (a .word) (a .unknown) (header .result .counts) (header .ensures .counts-are) (sizes .result) (sizes .ensures)
     (text-passed (c .before .before .before .before .before .before .before .before)) (sizes-passed (c .before .before .before .before)) _ _ _ (c .before .fill .ensures)
 
-enum-known-looped : tie.Need-enum-known-looped
-enum-known-looped c = search needs
+enum-known-port : tie.Need-enum-known-port
+enum-known-port c = search needs
 
 refused-requires-3 : tie.Need-refused-requires-3
 refused-requires-3 c κs = search needs
@@ -137,8 +137,8 @@ returns-3 c =
     let a = c .before .before .before .before .before .before .before .before .before .before .before .before .before .before .before .before .before .before .args in
     rw (c .refused3 .ensures)
     (outcome-refused _ _ (aagNet (a .text .now) (a .m) (a .n) (a .word) (a .unknown))
-    (loops-refused (a .text .now) (a .m) (a .n) (a .word) (a .unknown) (a .latch-room) (a .gate-room)
-    (text-passed (c .before .before .before .before .before .before .before .before .before .before .before .before .before)) (sizes-passed (c .before .before .before .before .before .before .before .before .before)) (loops-judged (c .before .before .before .before) ∙ c .before .before .looped .given .1)))
+    (port-refused (a .text .now) (a .m) (a .n) (a .word) (a .unknown) (a .latch-room) (a .gate-room)
+    (text-passed (c .before .before .before .before .before .before .before .before .before .before .before .before .before)) (sizes-passed (c .before .before .before .before .before .before .before .before .before)) (port-judged (c .before .before .before .before) ∙ c .before .before .port .given .1)))
 
 enum-told-3 : tie.Need-enum-told-3
 enum-told-3 c = search needs
@@ -159,13 +159,13 @@ returns-4 c =
     let sizes = c .before .before .before .before .before .before .before .before .before .before .before .before .before .before .text-sizes in
     let text = text-passed (c .before .before .before .before .before .before .before .before .before .before .before .before .before .before .before) in
     let sized = sizes-passed (c .before .before .before .before .before .before .before .before .before .before .before) in
-    let loops = loops-judged (c .before .before .before .before .before .before) ∙ c .before .before .before .before .enum-told3 .given .1 in
+    let port = port-judged (c .before .before .before .before .before .before) ∙ c .before .before .before .before .enum-told3 .given .1 in
     let short =
     short-held (a .text .now) (a .m) (a .n) (a .word) (a .unknown) (header .result .counts) (header .ensures .counts-are) (sizes .result) (sizes .ensures) text sized
     _ _ _ (c .before .before .before .before .before .before .before .before .fill .ensures) (a .latch-room) (a .gate-room) in
     rw (c .refused4 .ensures)
     (outcome-refused _ _ (aagNet (a .text .now) (a .m) (a .n) (a .word) (a .unknown))
-    (room-refused (a .text .now) (a .m) (a .n) (a .word) (a .unknown) (a .latch-room) (a .gate-room) text sized loops (sym short ∙ c .before .if1 .taken)))
+    (room-refused (a .text .now) (a .m) (a .n) (a .word) (a .unknown) (a .latch-room) (a .gate-room) text sized port (sym short ∙ c .before .if1 .taken)))
 
 returns-5 : tie.Need-returns-5
 returns-5 c =
@@ -174,12 +174,12 @@ returns-5 c =
     let sizes = c .before .before .before .before .before .before .before .before .before .before .before .before .before .text-sizes in
     let text = text-passed (c .before .before .before .before .before .before .before .before .before .before .before .before .before .before) in
     let sized = sizes-passed (c .before .before .before .before .before .before .before .before .before .before) in
-    let loops = loops-judged (c .before .before .before .before .before) ∙ c .before .before .before .enum-told3 .given .1 in
+    let port = port-judged (c .before .before .before .before .before) ∙ c .before .before .before .enum-told3 .given .1 in
     let short =
     short-held (a .text .now) (a .m) (a .n) (a .word) (a .unknown) (header .result .counts) (header .ensures .counts-are) (sizes .result) (sizes .ensures) text sized
     _ _ _ (c .before .before .before .before .before .before .before .fill .ensures) (a .latch-room) (a .gate-room) in
     outcome-passed _ _ (aagNet (a .text .now) (a .m) (a .n) (a .word) (a .unknown)) (c .before .before .before .before .before .before .before .fill .result) (net-held (c .before .before .before .before .before .before .before))
-    (all-passed (a .text .now) (a .m) (a .n) (a .word) (a .unknown) (a .latch-room) (a .gate-room) text sized loops (sym short ∙ c .if1 .left))
+    (all-passed (a .text .now) (a .m) (a .n) (a .word) (a .unknown) (a .latch-room) (a .gate-room) text sized port (sym short ∙ c .if1 .left))
 
 pub import-codes-spec : {M : Type 1} → statement M
 import-codes-spec =
@@ -198,8 +198,8 @@ import-codes-spec =
     returns-2
     enum-told-2
     fill-requires
-    test-loops-requires
-    enum-known-looped
+    test-port-requires
+    enum-known-port
     refused-requires-3
     returns-3
     enum-told-3
