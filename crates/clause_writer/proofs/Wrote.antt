@@ -12,7 +12,10 @@ use borrow.Author.Tests.{eq-eqb, ne-eqb}
 use borrow.Rule.Slice.PartMut.{midOf, putMid}
 use Rattle.model.specs.Clauses.{Literal, Clause}
 use Rattle.model.specs.Numbers.{keptOf, kept, isTrue, hasTrue, endOf, writtenClause, written}
-use Rattle.literals.specs.Lit.{literalAt}
+use Rattle.literals.specs.declared.Lit.{Lit}
+use Rattle.literals.specs.declared.Term.{Term}
+use Rattle.literals.specs.declared.Term.the-variants.{Number}
+use Rattle.literals.specs.Lit.{literalAt, IsLit, IsTerm}
 use Rattle.model.specs.Wrote.{Wrote}
 use Rattle.clause_writer.specs.EndedAfter.{endedAfter}
 use Rattle.model.proofs.Joined.{written-append}
@@ -141,6 +144,10 @@ pub wrote-clauses : (xs ys : List Clause) {old mid part : List ℤ} {r s : ℕ} 
     → Wrote (written ys) (midOf r (length mid - r) mid) part s
     → Wrote (written (xs ++ ys)) old (putMid r (length mid - r) mid part) (r + s)
 wrote-clauses xs ys w v = rw (written-append xs ys) (wrote-then w v)
+
+-- what a term is that is a number, as `search` looks for it
+pub number-is-lit : (a : Term) (l : Lit) → a ≡ Number l → IsTerm a → IsLit l
+number-is-lit a l e h = rw e at h
 
 -- room for what depends on whether frame i is the first, as `search` looks for it
 pub room-first : (i x y l : ℕ) → cond (eqb i 0) x y ≤ l → i ≡ 0 → x ≤ l
