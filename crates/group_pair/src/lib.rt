@@ -100,14 +100,9 @@ fn put_agreed_bit(
     ensures { λ r. ⌜ Wrote (written (sameIfAllClauses (literalOf «address_equal») (literalOf earlier) (literalOf later)
         (wireAt reading (rd .0)) (wireAt before (rd .0)))) (now (out .entry)) (now (out .exit)) r × (r ≤ 12) ⌝ }
 {
-    clause_tseitin::put_same_if_all(
-        out,
-        address_equal,
-        earlier,
-        later,
-        rd.in_frame(reading),
-        rd.in_frame(before),
-    )
+    let is = rd.in_frame(reading);
+    let was = rd.in_frame(before);
+    clause_tseitin::put_same_if_all(out, address_equal, earlier, later, is, was)
 }
 
 // The clauses of each data bit where the start is unknown, in bit order.

@@ -17,7 +17,7 @@ same-length c = search needs
 
 returns : tie.Need-returns
 returns c =
-    rw (c .before .before .before .in-frame .ensures .0, c .before .before .in-frame2 .ensures .0) at (c .before .put-same-if-all .ensures)
+    rw (c .before .before .before .before .in-frame .ensures .0, c .before .before .before .in-frame2 .ensures .0) at (c .before .put-same-if-all .ensures)
 
 pub put-agreed-bit-spec : {M : Type 1} → statement M
 put-agreed-bit-spec =
