@@ -1,16 +1,14 @@
-// Whether any line of a record has a code, gate operand or reset outside its limit (refusal 5), and which address code is tied to an
-// earlier one (refusal 17). Every call tests its record, and nearly all pass: each loop over codes runs to its end and looks for no
-// place, so that the compiler can take several codes at a time.
+// Whether any line of a record has a code, gate operand or reset outside its limit (refusal 5). Every call tests its record, and
+// nearly all pass: each loop runs to its end and looks for no place, so that the compiler can take several codes at a time.
 use literals::Code;
 use literals::Wire;
 use netlist::Netlist;
 use netlist::UnpackedList;
 ghost use mathlib.Core.Path.{_≡_};
-ghost use Prim.Native.Nat.{_≤_, _<_};
-ghost use Rattle.model.specs.Search.{firstWhere};
+ghost use Prim.Native.Nat.{_≤_};
 ghost use Rattle.model.specs.Acceptance.{SizesFit};
-ghost use Rattle.netlist.specs.NetOf.{codeOf, netOf, alone};
-ghost use Rattle.netlist.specs.Faults.{codeFault, isTied};
+ghost use Rattle.netlist.specs.NetOf.{netOf, alone};
+ghost use Rattle.netlist.specs.Faults.{codeFault};
 ghost use Rattle.netlist_scan.specs.AnyLine.{anyLatch, anyGate, anyInRecord, anyLine};
 
 // Whether any latch's next code or reset is outside its limit.
@@ -77,35 +75,4 @@ pub fn any_code_fault(net: Netlist, latches: &UnpackedList, gates: &UnpackedList
     any_latch(last, latches, net.latches)
         | any_gate(first, gates, net.gates)
         | any_in_record(net, last)
-}
-
-// Whether the wire of address code t is that of an earlier one, inverted or not, and no constant's.
-fn is_tied(address: [Code; 12], t: u32) -> bool
-    requires { ⌜ t < 12 ⌝ }
-    ensures { λ r. ⌜ r ≡ isTied (codeOf address) t ⌝ }
-{
-    let own = address[t as usize].wire_index();
-    let mut any = false;
-    let mut s = 0;
-    while s < t {
-        let at = s as usize;
-        any = any | (address[at].wire_index() == own);
-        s += 1;
-    }
-    (own != 0) & any
-}
-
-// The first of m address codes that is tied to an earlier one; m where none is.
-pub fn first_tie(address: [Code; 12], m: u32) -> u32
-    requires { ⌜ m ≤ 12 ⌝ }
-    ensures { λ r. ⌜ r ≡ firstWhere (isTied (codeOf address)) m ⌝ }
-{
-    let mut t = 0;
-    while t < m {
-        if is_tied(address, t) {
-            return t;
-        }
-        t += 1;
-    }
-    m
 }

@@ -7,11 +7,13 @@ use refusals::Refusal;
 use refusals::Verdict;
 ghost use mathlib.Core.Path.{_≡_};
 ghost use mathlib.Core.List.{[]};
+ghost use Prim.Native.Nat.{_≤_, _<_};
 ghost use Rattle.model.specs.Circuit.{isRead, dependsOnRead};
+ghost use Rattle.model.specs.Search.{firstWhere};
 ghost use Rattle.model.specs.Acceptance.{SizesFit, WithinLimits};
-ghost use Rattle.netlist.specs.NetOf.{netOf, alone};
+ghost use Rattle.netlist.specs.NetOf.{codeOf, netOf, alone};
 ghost use Rattle.netlist.specs.Places.{HasLine};
-ghost use Rattle.netlist.specs.Faults.{sizeFault, codeFault, loopFaultBy};
+ghost use Rattle.netlist.specs.Faults.{sizeFault, codeFault, isTied, loopFaultBy};
 ghost use Rattle.netlist_scan.specs.AnyLine.{anyLine};
 ghost use Rattle.netlist_tests.specs.Record.{testLines, testTies, testLoops, testPort, recordVerdict};
 ghost use Rattle.netlist_tests.specs.Dependence.{Table, entry};
@@ -57,13 +59,45 @@ fn test_codes(net: Netlist, latches: &UnpackedList, gates: &UnpackedList) -> Ver
     Verdict::Passed
 }
 
+// Whether the wire of address code t is that of an earlier one, inverted or not, and no constant's. Nearly all records pass: the loop
+// runs to its end, so that the compiler can take several codes at a time.
+fn is_tied(address: [Code; 12], t: u32) -> bool
+    requires { ⌜ t < 12 ⌝ }
+    ensures { λ r. ⌜ r ≡ isTied (codeOf address) t ⌝ }
+{
+    let own = address[t as usize].wire_index();
+    let mut any = false;
+    let mut s = 0;
+    while s < t {
+        let at = s as usize;
+        any = any | (address[at].wire_index() == own);
+        s += 1;
+    }
+    (own != 0) & any
+}
+
+// The first of m address codes that is tied to an earlier one; m where none is.
+fn first_tie(address: [Code; 12], m: u32) -> u32
+    requires { ⌜ m ≤ 12 ⌝ }
+    ensures { λ r. ⌜ r ≡ firstWhere (isTied (codeOf address)) m ⌝ }
+{
+    let mut t = 0;
+    while t < m {
+        if is_tied(address, t) {
+            return t;
+        }
+        t += 1;
+    }
+    m
+}
+
 // Tests the address codes for ties, in line order (refusal 17).
 fn test_ties(net: Netlist) -> Verdict
     requires { ⌜ SizesFit (alone net) ⌝ }
     ensures { λ r. ⌜ r ≡ testTies (alone net) ⌝ }
 {
     let address = net.address;
-    let t = netlist_scan::first_tie(address, net.m);
+    let t = first_tie(address, net.m);
     if t < net.m {
         return Verdict::Refused(Refusal::TiedAddress, 3 + net.latches + net.gates + t);
     }

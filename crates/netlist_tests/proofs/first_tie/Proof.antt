@@ -1,4 +1,4 @@
--- `netlist_scan::first_tie` meets its contract. The loop's invariant: none of the first t codes is tied.
+-- `netlist_tests::first_tie` meets its contract. The loop's invariant: none of the first t codes is tied.
 use Prim.Native.Nat.{ℕ, _-_, _≤_, _<_}
 use mathlib.Core.Path.{_≡_, sym, _∙_}
 use mathlib.Core.Bool.{false}
@@ -9,8 +9,8 @@ use Rattle.model.proofs.Below.{all-below-suc}
 use Rattle.model.proofs.Search.{firstWhere-is, first-unique}
 use Rattle.netlist.specs.NetOf.{codeOf}
 use Rattle.netlist.specs.Faults.{isTied}
-use Rattle.netlist_scan.proofs.first_tie.Statement.{statement}
-use Rattle.netlist_scan.proofs.first_tie.Tie as tie
+use Rattle.netlist_tests.proofs.first_tie.Statement.{statement}
+use Rattle.netlist_tests.proofs.first_tie.Tie as tie
 
 abbrev Inv-loop : tie.InvT-loop
 Inv-loop address m t₀ t = (t ≤ m) × ((q : ℕ) → q < t → isTied (codeOf address) q ≡ false)

@@ -1,4 +1,4 @@
--- `netlist_scan::is_tied` meets its contract. The loop's invariant: what was found is whether the wire is that of one of the first s codes.
+-- `netlist_tests::is_tied` meets its contract. The loop's invariant: what was found is whether the wire is that of one of the first s codes.
 use Prim.Native.Nat.{_-_, _/_, _≤_}
 use mathlib.Core.Path.{_≡_}
 use mathlib.Core.Bool.{false}
@@ -7,8 +7,8 @@ use Rattle.model.specs.Search.{seen}
 use Rattle.model.proofs.Search.{any-none, any-next}
 use Rattle.netlist.specs.NetOf.{codeOf}
 use Rattle.netlist.specs.Faults.{isTied}
-use Rattle.netlist_scan.proofs.is_tied.Statement.{statement}
-use Rattle.netlist_scan.proofs.is_tied.Tie as tie
+use Rattle.netlist_tests.proofs.is_tied.Statement.{statement}
+use Rattle.netlist_tests.proofs.is_tied.Tie as tie
 
 abbrev Inv-loop : tie.InvT-loop
 Inv-loop t address own any₀ s₀ any s = (s ≤ t) × (any ≡ seen (λ x. codeOf address x / 2) s own)
