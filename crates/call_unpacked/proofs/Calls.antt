@@ -107,17 +107,17 @@ module _ (c : Netlist) (latchCount gateCount k : ℕ) where
       let a = then-passes (recordVerdict c latchCount gateCount) (testDepth k) .0 h in
       (passes-accepted c latchCount gateCount .0 (a .0) .0, depth-passes k (a .1))
 
-  -- both calls go on from there
+  -- one test more behind them
+  pub depth-more : (more : Verdict) {v : Verdict} → v ≡ (recordVerdict c latchCount gateCount then testDepth k)
+      → recordVerdict c latchCount gateCount then testDepth k then more ≡ v then more
+  depth-more more = tests-more (recordVerdict c latchCount gateCount) (testDepth k) more
+
   pub heading-tested : {v : Verdict} → v ≡ (recordVerdict c latchCount gateCount then testDepth k)
       → headingVerdict c latchCount gateCount k ≡ v then testNumbers c k
   unfolding headingVerdict
-  heading-tested = tests-more (recordVerdict c latchCount gateCount) (testDepth k) (testNumbers c k)
+  heading-tested = depth-more (testNumbers c k)
 
   module _ (g : Group) where
-    pub group-asked : {v : Verdict} → v ≡ (recordVerdict c latchCount gateCount then testDepth k)
-        → v then testGroup k g ≡ recordVerdict c latchCount gateCount then testDepth k then testGroup k g
-    group-asked e = sym (tests-more (recordVerdict c latchCount gateCount) (testDepth k) (testGroup k g) e)
-
     -- what the tests of a group call up to 8 have shown
     pub group-shown : recordVerdict c latchCount gateCount then testDepth k then testGroup k g ≡ Passed
         → Accepted c × (k ≤ 255) × (inDepth k g ≡ true)
@@ -130,13 +130,17 @@ module _ (c : Netlist) (latchCount gateCount k : ℕ) where
           not-false (inDepth k g) (refuseIf-passes (not (inDepth k g)) NoSuchGroup 0 .0 (b .1)),
         )
 
-    -- a group call goes on from there
+    -- one test more behind them
+    pub group-more : (more : Verdict) {v : Verdict} → v ≡ (recordVerdict c latchCount gateCount then testDepth k then testGroup k g)
+        → recordVerdict c latchCount gateCount then testDepth k then testGroup k g then more ≡ v then more
+    group-more more e =
+        ap (λ v. recordVerdict c latchCount gateCount then v) (tests-more (testDepth k) (testGroup k g) more refl)
+        ∙ tests-more (recordVerdict c latchCount gateCount) (testDepth k then testGroup k g) more e
+
     pub group-tested : (room : ℕ) {v : Verdict} → v ≡ (recordVerdict c latchCount gateCount then testDepth k then testGroup k g)
         → groupVerdict c latchCount gateCount k g room ≡ v then writeVerdict c k g room
     unfolding groupVerdict
-    group-tested room e =
-        ap (λ v. recordVerdict c latchCount gateCount then v) (tests-more (testDepth k) (testGroup k g) (writeVerdict c k g room) refl)
-        ∙ tests-more (recordVerdict c latchCount gateCount) (testDepth k then testGroup k g) (writeVerdict c k g room) e
+    group-tested room = group-more (writeVerdict c k g room)
 
 -- 10 is never met, so only the room is tested
 pub write-room : (c : Netlist) (k : ℕ) (g : Group) (room : ℕ) → Accepted c → k ≤ 255

@@ -8,7 +8,7 @@ use Rattle.refusals.specs.declared.Verdict.the-variants.{Passed, Refused}
 use Rattle.netlist.specs.NetOf.{netOf}
 use Rattle.netlist_tests.specs.Record.{recordVerdict}
 use Rattle.call_unpacked.specs.Calls.{testDepth, testGroup}
-use Rattle.call_unpacked.proofs.Calls.{group-asked}
+use Rattle.call_unpacked.proofs.Calls.{depth-more}
 use Rattle.call_unpacked.proofs.test_group.Statement.{statement}
 use Rattle.call_unpacked.proofs.test_group.Tie as tie
 
@@ -22,7 +22,8 @@ returns : tie.Need-returns
 unfolding _then_
 returns c =
     let refused = c .enum-told .given .1 in
-    rw refused (group-asked _ _ _ _ (c .before .before .before .args .group) (sym refused ∙ c .before .before .test-depth .ensures))
+    let a = c .before .before .before .args in
+    rw refused (sym (depth-more _ _ _ _ (testGroup (a .depth) (a .group)) (sym refused ∙ c .before .before .test-depth .ensures)))
 
 enum-told-2 : tie.Need-enum-told-2
 enum-told-2 c = search needs
@@ -38,8 +39,9 @@ asked : (c : tie.After-enum-told2) →
     then testGroup (a .depth) (a .group)
 unfolding _then_
 asked c =
-    group-asked _ _ _ _ (c .before .before .before .args .group)
-    (sym (c .enum-told2 .given .1) ∙ c .before .before .test-depth .ensures)
+    let a = c .before .before .before .args in
+    sym (depth-more _ _ _ _ (testGroup (a .depth) (a .group))
+    (sym (c .enum-told2 .given .1) ∙ c .before .before .test-depth .ensures))
 
 returns-2 : tie.Need-returns-2
 unfolding testGroup
