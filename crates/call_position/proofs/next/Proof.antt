@@ -18,26 +18,28 @@ add-t4 : tie.Need-add-t4
 add-t4 c = search needs
 
 -- the stored base, and the frame's wires and pairs, are far below 2^32
-sum : (c : tie.After-numbering) → c .before .args .position .base + c .numbering .result .wires ≤ 676441
+bounds : (c : tie.After-numbering) →
+    let p = c .before .args .position in
+    let n = c .numbering .result in
+    (p .base + n .wires ≤ 676441) × (n .stride ≤ 16) × (p .frame * n .stride ≤ 254 * 16)
 unfolding netOf
-sum c =
+bounds c =
     let a = c .before .args in
-    omega (arith, c .before .pre .2, base-most (alone (a .net)) (c .before .pre .0) (a .position .frame) (omega (arith, c .before .pre .1)), c .numbering .ensures .0, c .before .pre .0 .wires-fit)
-
-product : (c : tie.After-numbering) → c .before .args .position .frame * c .numbering .result .stride ≤ 254 * 16
-unfolding netOf
-product c =
-    let most : c .numbering .result .stride ≤ 16 = omega (arith, c .numbering .ensures .1, c .before .pre .0 .m-most) in
-    mul-le-mul (c .before .pre .1) most
+    let sizes = c .before .pre .0 in
+    let stride-most : c .numbering .result .stride ≤ 16 = omega (arith, c .numbering .ensures .1, sizes .m-most) in (
+      omega (arith, c .before .pre .2, base-most (alone (a .net)) sizes (a .position .frame) (omega (arith, c .before .pre .1)), c .numbering .ensures .0, sizes .wires-fit),
+      stride-most,
+      mul-le-mul (c .before .pre .1) stride-most,
+    )
 
 add-t5 : tie.Need-add-t5
-add-t5 c = omega (arith, sum (c .before .before .before))
+add-t5 c = omega (arith, bounds (c .before .before .before))
 
 mul-t6 : tie.Need-mul-t6
-mul-t6 c = omega (arith, product (c .before .before .before .before .before))
+mul-t6 c = omega (arith, bounds (c .before .before .before .before .before))
 
 add-t7 : tie.Need-add-t7
-add-t7 c = omega (arith, sum (c .before .before .before .before .before), product (c .before .before .before .before .before))
+add-t7 c = omega (arith, bounds (c .before .before .before .before .before))
 
 returns : tie.Need-returns
 returns c =
