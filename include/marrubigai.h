@@ -36,11 +36,14 @@ typedef struct {
 typedef struct { marrubigai_code next; uint32_t reset; } marrubigai_latch;
 typedef struct { marrubigai_code left, right; } marrubigai_gate;
 
-/* number is 0 where nothing is refused; what stands beside a refusal is all zeros. A count is of numbers or bytes written. */
+/* number is 0 where nothing is refused; what stands beside a refusal is all zeros, but for a running record that is to move on or back. A count is of numbers or bytes written. */
 typedef struct { uint32_t number, place; size_t count; } marrubigai_count_reply;
 typedef struct { uint32_t number, place, variables, clauses; } marrubigai_heading_reply;
 typedef struct { uint32_t number, place; marrubigai_netlist net; } marrubigai_sheet_reply;
 typedef struct { uint32_t number, place; uint8_t letter; uint32_t first, second, third, empty, line; } marrubigai_line_reply;
+typedef struct { uint32_t depth, frame, base; } marrubigai_position; /* a running record: base is that of the frame */
+typedef struct { uint32_t number, place; marrubigai_position position; } marrubigai_position_reply;
+typedef struct { uint32_t number, place; int32_t literal; } marrubigai_literal_reply;
 typedef struct { uint32_t number, place, claimed, first; } marrubigai_replay_reply; /* claimed: 1 where the answer claims to be unsatisfiable */
 
 /* a refusal's number */
@@ -67,6 +70,9 @@ enum marrubigai_refusal {
 
 /* the kinds of group */
 enum marrubigai_kind { MARRUBIGAI_WIRES = 0, MARRUBIGAI_PAIR = 1, MARRUBIGAI_CLOSING = 2, MARRUBIGAI_PROPERTY = 3 };
+
+/* the moves of a running record */
+enum marrubigai_way { MARRUBIGAI_START = 0, MARRUBIGAI_ON = 1, MARRUBIGAI_BACK = 2 };
 
 /* room that is always enough */
 enum marrubigai_room {
@@ -106,6 +112,20 @@ marrubigai_heading_reply marrubigai_heading(marrubigai_netlist net, const marrub
 marrubigai_count_reply marrubigai_write_group(marrubigai_netlist net, const marrubigai_latch *latches, size_t latch_count,
                                               const marrubigai_gate *gates, size_t gate_count, uint32_t depth, uint32_t kind,
                                               uint32_t j, uint32_t i, int32_t *out, size_t room);
+
+/* moves a running record, which the caller keeps: to frame 0 of its depth (START: frame and base are not looked at), one frame on, or back to frame
+ * 0. The base is then that of the frame. A refused start answers zeros; another refused move answers the record as it was handed in. */
+marrubigai_position_reply marrubigai_move(marrubigai_netlist net, const marrubigai_latch *latches, size_t latch_count,
+                                          const marrubigai_gate *gates, size_t gate_count, marrubigai_position position, uint32_t way);
+
+/* the group of a running record's frame: what marrubigai_write_group writes and answers for its depth and frame, after the test of its base */
+marrubigai_count_reply marrubigai_write_group_at(marrubigai_netlist net, const marrubigai_latch *latches, size_t latch_count,
+                                                 const marrubigai_gate *gates, size_t gate_count, marrubigai_position position,
+                                                 uint32_t kind, uint32_t j, int32_t *out, size_t room);
+
+/* the literal of a code in a running record's frame, as it stands in clauses: a variable's number, negative where it is inverted; 1 where the
+ * code is true, -1 where it is false. `net.p ^ 1` is not P. The lists have no part in it. */
+marrubigai_literal_reply marrubigai_literal_at(marrubigai_netlist net, marrubigai_position position, marrubigai_code code);
 
 /* runs a solver's answer, in the SAT Competition's output form, through the frames 0 to depth. Only the inputs are taken from it, and the read
  * bits of frame 0 where that does not read; the chip is stepped with its whole memory, the first 2^m words lent, whatever they hold. `first` is then the

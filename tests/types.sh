@@ -2,8 +2,8 @@
 # Wire numbers, codes and clause numbers are never accepted in each other's place. What is held to that, in code without its contracts:
 # - no function takes one of the three types, or a term, and answers another, but in crate `literals` `in_frame`, which answers a term, and
 #   `number`, which answers the clause number that a term is;
-# - outside `literals` no term is made of a clause number, and none taken apart but where the number is written;
-# - outside `literals` none is made, but a code of a list that is read, the code 0, and in `netlist` the wires that a count gives;
+# - outside `literals` no term is made of a clause number, and none taken apart but where the number is written, or is a call's answer;
+# - outside `literals` none is made, but a code of a list that is read, one that a caller asks about, the code 0, and in `netlist` the wires that a count gives;
 #   inside, each is made by its own methods alone;
 # - outside `literals` no number is taken out of one or put into one, but where numbers are stored, where a code's value is read off a table of
 #   wires, and where a wire's variable is looked up among signs (the lines under `allowed`);
@@ -15,6 +15,7 @@ cd "$(dirname "$0")/.." || exit 2
 allowed='
 crates/clause_writer/src/lib.rt let x = a.0
 crates/circuit_values/src/lib.rt let x = code.0
+crates/call_position/src/lib.rt Term::True => 1, Term::False => -1, Term::Number(l) => l.0,
 crates/replay_frame/src/lib.rt let read = netlist::first_read_wire(net).0
 crates/call_lists/src/unpack.rt netlist::put_numbers(codes, g, gate.left.0, gate.right.0)
 crates/call_lists/src/unpack.rt netlist::put_numbers(codes, l, latch.next.0, latch.reset)
@@ -63,6 +64,7 @@ apart() { # files
         argument = substr(rest, 1, k - 2)
         if (inside) verdict(owner(done) == type, type "(" argument ") in the methods of " owner(done))
         else verdict(type == "Code" && (argument == "0" || argument ~ /^(latches|gates|codes)\[[^\[\]]*\]$/) ||
+          type == "Code" && file == "crates/call_position/src/lib.rt" && argument == "code" ||
           type == "Wire" && file == "crates/netlist/src/lib.rt" && (argument == "wire_count(net)" || argument == "1 + net.inputs"),
           type "(" argument ")")
       }
@@ -71,7 +73,8 @@ apart() { # files
       rest = code
       while (match(rest, /Number\(/)) {
         rest = substr(rest, RSTART + RLENGTH)
-        verdict(inside || file == "crates/clause_writer/src/lib.rt" && rest ~ /^l\) => put_number\(out, l\)/, "a term of a clause number")
+        verdict(inside || file == "crates/clause_writer/src/lib.rt" && rest ~ /^l\) => put_number\(out, l\)/ ||
+          file == "crates/call_position/src/lib.rt" && rest ~ /^l\) => l\.0,/, "a term of a clause number")
       }
     }
     function fields(   statements, n, k, line) {

@@ -34,31 +34,31 @@ static void read_sheet(const char *path) {
   net = reply.net;
 }
 
-// writes a group's numbers into `numbers`, and answers how many there are
-static size_t write_group(uint32_t depth, uint32_t kind, uint32_t j, uint32_t i) {
-  marrubigai_count_reply reply = marrubigai_write_group(net, latches, net.latches, gates, net.gates, depth, kind, j, i, numbers,
-                                                        MARRUBIGAI_GROUP_ROOM);
+// the running record: started, or moved one frame on
+static marrubigai_position moved(marrubigai_position position, uint32_t way) {
+  marrubigai_position_reply reply = marrubigai_move(net, latches, net.latches, gates, net.gates, position, way);
   test(reply.number, reply.place);
-  return reply.count;
+  return reply.position;
 }
 
-static void add_group(CCaDiCaL *solver, uint32_t depth, uint32_t kind, uint32_t j, uint32_t i) {
-  size_t count = write_group(depth, kind, j, i);
-  for (size_t t = 0; t < count; t++) ccadical_add(solver, numbers[t]); // each clause ends in 0, as the solver wants it
+static void add_group(CCaDiCaL *solver, marrubigai_position position, uint32_t kind, uint32_t j) {
+  marrubigai_count_reply reply =
+      marrubigai_write_group_at(net, latches, net.latches, gates, net.gates, position, kind, j, numbers, MARRUBIGAI_GROUP_ROOM);
+  test(reply.number, reply.place);
+  for (size_t t = 0; t < reply.count; t++) ccadical_add(solver, numbers[t]); // each clause ends in 0, as the solver wants it
 }
 
-static void add_frame(CCaDiCaL *solver, uint32_t i) {
-  add_group(solver, i, MARRUBIGAI_WIRES, 0, i);
-  for (uint32_t j = i; j > 0; j--) add_group(solver, i, MARRUBIGAI_PAIR, j - 1, i);
-  add_group(solver, i, MARRUBIGAI_CLOSING, 0, i);
+static void add_frame(CCaDiCaL *solver, marrubigai_position position) {
+  add_group(solver, position, MARRUBIGAI_WIRES, 0);
+  for (uint32_t j = position.frame; j > 0; j--) add_group(solver, position, MARRUBIGAI_PAIR, j - 1);
+  add_group(solver, position, MARRUBIGAI_CLOSING, 0);
 }
 
-// not P of frame i: number i of the property group of depth i. Where P is a constant there is none: a false P leaves nothing to write, and is
-// broken (1, which is true); a true one leaves -1 alone, and is not.
-static int32_t violation(uint32_t i) {
-  size_t count = write_group(i, MARRUBIGAI_PROPERTY, 0, 0);
-  if (count == 0) return 1;
-  return count == (size_t)i + 2 ? numbers[i] : -1;
+// not P of the record's frame: also where P is a constant, as variable 1 is true
+static int32_t violation(marrubigai_position position) {
+  marrubigai_literal_reply reply = marrubigai_literal_at(net, position, net.p ^ 1);
+  test(reply.number, reply.place);
+  return reply.literal;
 }
 
 int main(int argc, char **argv) {
@@ -69,22 +69,24 @@ int main(int argc, char **argv) {
     return 2;
   }
   read_sheet(argv[1]);
-  marrubigai_heading_reply heading = marrubigai_heading(net, latches, net.latches, gates, net.gates, (uint32_t)depth);
-  test(heading.number, heading.place); // a depth that is too large is refused before the search
+  marrubigai_position position = {.depth = (uint32_t)depth};
+  position = moved(position, MARRUBIGAI_START); // a depth that is too large is refused before the search
 
   CCaDiCaL *solver = ccadical_init();
-  int answer = UNSATISFIABLE;
-  for (uint32_t k = 0; k <= depth && answer == UNSATISFIABLE; k++) {
-    add_frame(solver, k);
-    int32_t broken = violation(k);
+  int answer;
+  for (;;) {
+    add_frame(solver, position);
+    int32_t broken = violation(position);
     ccadical_assume(solver, broken);
     answer = ccadical_solve(solver);
     if (answer == SATISFIABLE) {
-      printf("%s: the property is broken in frame %u at the earliest\n", argv[1], (unsigned)k);
-    } else if (answer == UNSATISFIABLE) { // then P holds in frame k, whatever the frames behind it add
+      printf("%s: the property is broken in frame %u at the earliest\n", argv[1], (unsigned)position.frame);
+    } else if (answer == UNSATISFIABLE) { // then P holds in this frame, whatever the frames behind it add
       ccadical_add(solver, -broken);
       ccadical_add(solver, 0);
     }
+    if (answer != UNSATISFIABLE || position.frame == position.depth) break;
+    position = moved(position, MARRUBIGAI_ON);
   }
   ccadical_release(solver);
   if (answer == UNSATISFIABLE) printf("%s: no run breaks the property in frames 0 to %lu\n", argv[1], depth);

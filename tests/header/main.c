@@ -52,6 +52,18 @@ FIELD(marrubigai_line_reply, second, 16);
 FIELD(marrubigai_line_reply, third, 20);
 FIELD(marrubigai_line_reply, empty, 24);
 FIELD(marrubigai_line_reply, line, 28);
+SIZE(marrubigai_position, 12);
+FIELD(marrubigai_position, depth, 0);
+FIELD(marrubigai_position, frame, 4);
+FIELD(marrubigai_position, base, 8);
+SIZE(marrubigai_position_reply, 20);
+FIELD(marrubigai_position_reply, number, 0);
+FIELD(marrubigai_position_reply, place, 4);
+FIELD(marrubigai_position_reply, position, 8);
+SIZE(marrubigai_literal_reply, 12);
+FIELD(marrubigai_literal_reply, number, 0);
+FIELD(marrubigai_literal_reply, place, 4);
+FIELD(marrubigai_literal_reply, literal, 8);
 SIZE(marrubigai_replay_reply, 16);
 FIELD(marrubigai_replay_reply, number, 0);
 FIELD(marrubigai_replay_reply, place, 4);
@@ -413,6 +425,64 @@ static void groups(void) {
           MOST, MARRUBIGAI_CODE, 15);
 }
 
+static void moves(const char *what, lent of, marrubigai_position from, uint32_t way, uint32_t number, marrubigai_position to) {
+  marrubigai_position_reply reply =
+      marrubigai_move(*of.net, of.latches, of.net->latches, of.gates, of.net->gates, from, way);
+  check(what, reply.number == number && reply.place == 0 && reply.position.depth == to.depth && reply.position.frame == to.frame &&
+                  reply.position.base == to.base);
+}
+
+// a group through a record: the same numbers, or a refusal, as by frame number
+static void at(const char *what, lent of, marrubigai_position position, uint32_t kind, uint32_t j, size_t room, uint32_t number,
+               const int32_t *numbers, size_t count) {
+  for (size_t t = 0; t < MOST; t++) out[t] = UNWRITTEN;
+  marrubigai_count_reply reply = marrubigai_write_group_at(*of.net, of.latches, of.net->latches, of.gates, of.net->gates, position,
+                                                           kind, j, out, room);
+  int holds = reply.number == number && reply.place == 0 && reply.count == count;
+  for (size_t t = 0; t < MOST; t++) holds = holds && out[t] == (t < count ? numbers[t] : UNWRITTEN);
+  check(what, holds);
+}
+
+static void literal(const char *what, marrubigai_position position, marrubigai_code code, uint32_t number, int32_t expected) {
+  marrubigai_literal_reply reply = marrubigai_literal_at(CHIP, position, code);
+  check(what, reply.number == number && reply.place == 0 && reply.literal == expected);
+}
+
+// the full run's chip: B(0) = 1, B(1) = 3, B(2) = 10
+static void positions(void) {
+  const lent chip = {&CHIP, latches, gates, 1};
+  const marrubigai_position first = {1, 0, 1}, last = {1, 1, 3}, wrong = {1, 1, 4}, past = {1, 2, 10}, zeros = {0, 0, 0};
+  moves("a start looks at the depth alone", chip, (marrubigai_position){1, 7, 9}, MARRUBIGAI_START, MARRUBIGAI_PASSED, first);
+  moves("a frame on", chip, first, MARRUBIGAI_ON, MARRUBIGAI_PASSED, last);
+  moves("back", chip, last, MARRUBIGAI_BACK, MARRUBIGAI_PASSED, first);
+  moves("on past the depth gives 8, and the record", chip, last, MARRUBIGAI_ON, MARRUBIGAI_NO_SUCH_GROUP, last);
+  moves("with a wrong base too", chip, wrong, MARRUBIGAI_ON, MARRUBIGAI_NO_SUCH_GROUP, wrong);
+  moves("back with a wrong base gives 16, and the record", chip, wrong, MARRUBIGAI_BACK, MARRUBIGAI_WRONG_BASE, wrong);
+  moves("back from a frame above the depth gives 8, and the record", chip, past, MARRUBIGAI_BACK, MARRUBIGAI_NO_SUCH_GROUP, past);
+  moves("a move above 2 gives 8, and the record", chip, first, MARRUBIGAI_BACK + 1, MARRUBIGAI_NO_SUCH_GROUP, first);
+  moves("a start at depth 256 gives 7, and zeros", chip, (marrubigai_position){256, 0, 1}, MARRUBIGAI_START, MARRUBIGAI_DEPTH, zeros);
+  moves("on at depth 256 gives 7, and the record", chip, (marrubigai_position){256, 0, 1}, MARRUBIGAI_ON, MARRUBIGAI_DEPTH,
+        (marrubigai_position){256, 0, 1});
+  moves("B(2) of the other is 31", (lent){&DISTINCT_NET, DISTINCT_LATCHES, DISTINCT_GATES, 2}, (marrubigai_position){2, 1, 12},
+        MARRUBIGAI_ON, MARRUBIGAI_PASSED, (marrubigai_position){2, 2, 31});
+
+  static const int32_t closing[] = {-9, -5, 0, 9, 10, 0};
+  static const int32_t property[] = {3, 5, 0};
+  at("closing of the record's frame", chip, last, MARRUBIGAI_CLOSING, 0, COUNT(closing), MARRUBIGAI_PASSED, closing, COUNT(closing));
+  at("the property, from any frame", chip, first, MARRUBIGAI_PROPERTY, 0, COUNT(property), MARRUBIGAI_PASSED, property, COUNT(property));
+  at("a slice of 5 gives 9", chip, last, MARRUBIGAI_CLOSING, 0, 5, MARRUBIGAI_NO_ROOM, 0, 0);
+  at("a wrong base gives 16 before 9", chip, wrong, MARRUBIGAI_CLOSING, 0, 5, MARRUBIGAI_WRONG_BASE, 0, 0);
+  at("pair (1, 1) gives 8 before 16", chip, wrong, MARRUBIGAI_PAIR, 1, MOST, MARRUBIGAI_NO_SUCH_GROUP, 0, 0);
+  at("a frame above the depth gives 8 for the property too", chip, past, MARRUBIGAI_PROPERTY, 0, MOST, MARRUBIGAI_NO_SUCH_GROUP, 0, 0);
+
+  literal("wire 2 in frame 1", last, 4, MARRUBIGAI_PASSED, 5);
+  literal("inverted", last, 5, MARRUBIGAI_PASSED, -5);
+  literal("code 1 is true", last, 1, MARRUBIGAI_PASSED, 1);
+  literal("code 0 is false", last, 0, MARRUBIGAI_PASSED, -1);
+  literal("code 6 of two wires gives 5", last, 6, MARRUBIGAI_CODE, 0);
+  literal("a wrong base gives 16 before it", wrong, 6, MARRUBIGAI_WRONG_BASE, 0);
+}
+
 // The full run's chip at depth 1: the input is variable 2 in frame 0 and 4 in frame 1, and every frame reads. Memory and trace are one word and one
 // byte longer than their need.
 enum { WORDS = 2, LINES = 2 * 3, UNTOUCHED = 0x5a };
@@ -549,6 +619,7 @@ int main(void) {
   lines();
   headings();
   groups();
+  positions();
   replays();
   printing();
   rooms();

@@ -1,6 +1,6 @@
 -- Laws of specs/Calls.antt: which tests a call passes, and demand 3 of the calls. No contract cites this file.
 use Prim.Native.Nat.{ℕ, _+_, _≤_, _<_}
-use mathlib.Core.Path.{_≡_, refl, _∙_, ap}
+use mathlib.Core.Path.{_≡_, refl, sym, _∙_, ap}
 use mathlib.Core.Bool.{true, false, not}
 use mathlib.Core.List.{List}
 use native.Mathlib.Omega.{arith}
@@ -8,7 +8,7 @@ use lib.Dec.{ltb}
 use lib.IntN.{ℤ}
 use lib.ListN.{length, take, drop}
 use lib.Seq.{take-append-seam}
-use borrow.Author.Tests.{ltb-false, le-ltb, lt-ltb, not-false}
+use borrow.Author.Tests.{ltb-false, le-ltb, not-false}
 use Rattle.model.specs.Netlist.{Netlist}
 use Rattle.model.specs.Acceptance.{Accepted}
 use Rattle.model.specs.Variables.{base}
@@ -21,8 +21,7 @@ use Rattle.model.proofs.Joined.{joined-same, order-inDepth}
 use Rattle.model.proofs.Claim.{encodes}
 use Rattle.model.proofs.Stated.{stated}
 use Rattle.refusals.specs.Tests.{refuseIf, _then_}
-use Rattle.refusals.specs.declared.Refusal.{Refusal}
-use Rattle.refusals.specs.declared.Refusal.the-variants.{Depth, NoSuchGroup}
+use Rattle.refusals.specs.declared.Refusal.the-variants.{NoSuchGroup}
 use Rattle.refusals.specs.declared.Verdict.{Verdict}
 use Rattle.refusals.specs.declared.Verdict.the-variants.{Passed, Refused}
 use Rattle.refusals.specs.Slices.{testRoom, withCount, contentsAfter}
@@ -30,7 +29,7 @@ use Rattle.refusals.proofs.Tests.{refuseIf-passes, then-passes}
 use Rattle.refusals.proofs.Slices.{room-enough}
 use Rattle.netlist_tests.specs.Record.{recordVerdict}
 use Rattle.netlist_tests.proofs.Acceptance.{passes-accepted}
-use Rattle.call_unpacked.specs.Calls.{testDepth, testGroup, testNumbers, groupVerdict, headingVerdict, groupSent, groupLeaves, CallsEncode}
+use Rattle.call_unpacked.specs.Calls.{testDepth, testGroup, testNumbers, writeVerdict, groupVerdict, headingVerdict, groupSent, groupLeaves, CallsEncode}
 
 -- a depth passes up to 255
 pub depth-passes : (k : ℕ) → testDepth k ≡ Passed → k ≤ 255
@@ -95,71 +94,56 @@ pub calls-encode : (c : Netlist) (latchCount gateCount k : ℕ) → recordVerdic
 calls-encode c latchCount gateCount k passed most =
     calls-encode-for c c latchCount gateCount k passed most (accepted c latchCount gateCount k passed most) (λ g. refl)
 
--- which test of a heading call decides
+-- one test more behind two whose verdict is known
+tests-more : (first second more : Verdict) {v : Verdict} → v ≡ (first then second) → first then second then more ≡ v then more
+unfolding _then_
+tests-more Passed second more e = rw e
+tests-more (Refused r p) second more e = rw e
+
 module _ (c : Netlist) (latchCount gateCount k : ℕ) where
-  -- one of the record's
-  pub heading-record : {r : Refusal} {p : ℕ} → recordVerdict c latchCount gateCount ≡ Refused r p
-      → headingVerdict c latchCount gateCount k ≡ Refused r p
-  unfolding headingVerdict _then_
-  heading-record h = rw h
+  -- what the tests of the record and of the depth have shown
+  pub depth-shown : recordVerdict c latchCount gateCount then testDepth k ≡ Passed → Accepted c × (k ≤ 255)
+  depth-shown h =
+      let a = then-passes (recordVerdict c latchCount gateCount) (testDepth k) .0 h in
+      (passes-accepted c latchCount gateCount .0 (a .0) .0, depth-passes k (a .1))
 
-  module _ (record-passed : recordVerdict c latchCount gateCount ≡ Passed) where
-    -- 7
-    pub heading-depth : 255 < k → headingVerdict c latchCount gateCount k ≡ Refused Depth 0
-    unfolding headingVerdict _then_ testDepth
-    heading-depth d = rw (record-passed, lt-ltb 255 k d)
+  -- one test more behind them
+  pub depth-more : (more : Verdict) {v : Verdict} → v ≡ (recordVerdict c latchCount gateCount then testDepth k)
+      → recordVerdict c latchCount gateCount then testDepth k then more ≡ v then more
+  depth-more more = tests-more (recordVerdict c latchCount gateCount) (testDepth k) more
 
-    -- none: 10 is never met
-    pub heading-passes : k ≤ 255 → headingVerdict c latchCount gateCount k ≡ Passed
-    unfolding headingVerdict _then_ testDepth
-    heading-passes d =
-        rw (record-passed, le-ltb 255 k d)
-        (numbers-suffice c k (passes-accepted c latchCount gateCount .0 record-passed .0) d)
+  pub heading-tested : {v : Verdict} → v ≡ (recordVerdict c latchCount gateCount then testDepth k)
+      → headingVerdict c latchCount gateCount k ≡ v then testNumbers c k
+  unfolding headingVerdict
+  heading-tested = depth-more (testNumbers c k)
 
--- which test of a group call decides
-module _ (c : Netlist) (latchCount gateCount k : ℕ) (g : Group) (room : ℕ) where
-  -- one of the record's
-  pub group-record : {r : Refusal} {p : ℕ} → recordVerdict c latchCount gateCount ≡ Refused r p
-      → groupVerdict c latchCount gateCount k g room ≡ Refused r p
-  unfolding groupVerdict _then_
-  group-record h = rw h
+  module _ (g : Group) where
+    -- what the tests of a group call up to 8 have shown
+    pub group-shown : recordVerdict c latchCount gateCount then testDepth k then testGroup k g ≡ Passed
+        → Accepted c × (k ≤ 255) × (inDepth k g ≡ true)
+    unfolding testGroup
+    group-shown h =
+        let a = then-passes (recordVerdict c latchCount gateCount) _ .0 h in
+        let b = then-passes (testDepth k) (testGroup k g) .0 (a .1) in (
+          passes-accepted c latchCount gateCount .0 (a .0) .0,
+          depth-passes k (b .0),
+          not-false (inDepth k g) (refuseIf-passes (not (inDepth k g)) NoSuchGroup 0 .0 (b .1)),
+        )
 
-  module _ (record-passed : recordVerdict c latchCount gateCount ≡ Passed) where
-    -- 7
-    pub group-depth : 255 < k → groupVerdict c latchCount gateCount k g room ≡ Refused Depth 0
-    unfolding groupVerdict _then_ testDepth
-    group-depth d = rw (record-passed, lt-ltb 255 k d)
+    -- one test more behind them
+    pub group-more : (more : Verdict) {v : Verdict} → v ≡ (recordVerdict c latchCount gateCount then testDepth k then testGroup k g)
+        → recordVerdict c latchCount gateCount then testDepth k then testGroup k g then more ≡ v then more
+    group-more more e =
+        ap (λ v. recordVerdict c latchCount gateCount then v) (tests-more (testDepth k) (testGroup k g) more refl)
+        ∙ tests-more (recordVerdict c latchCount gateCount) (testDepth k then testGroup k g) more e
 
-    -- 8
-    pub group-absent : k ≤ 255 → inDepth k g ≡ false → groupVerdict c latchCount gateCount k g room ≡ Refused NoSuchGroup 0
-    unfolding groupVerdict _then_ testDepth testGroup
-    group-absent d h = rw (record-passed, le-ltb 255 k d, h)
+    pub group-tested : (room : ℕ) {v : Verdict} → v ≡ (recordVerdict c latchCount gateCount then testDepth k then testGroup k g)
+        → groupVerdict c latchCount gateCount k g room ≡ v then writeVerdict c k g room
+    unfolding groupVerdict
+    group-tested room = group-more (writeVerdict c k g room)
 
-    -- that of the room: 10 is never met
-    pub group-room : k ≤ 255 → inDepth k g ≡ true
-        → groupVerdict c latchCount gateCount k g room ≡ testRoom (length (numbersOf c k g)) room
-    unfolding groupVerdict _then_ testDepth testGroup
-    group-room d h =
-        rw (record-passed, le-ltb 255 k d, h, numbers-suffice c k (passes-accepted c latchCount gateCount .0 record-passed .0) d)
-
-  -- what a group call that is not refused has shown
-  pub group-shown : groupVerdict c latchCount gateCount k g room ≡ Passed
-      → Accepted c × (k ≤ 255) × (inDepth k g ≡ true)
-  unfolding groupVerdict testGroup
-  group-shown h =
-      let a = then-passes (recordVerdict c latchCount gateCount) _ .0 h in
-      let b = then-passes (testDepth k) _ .0 (a .1) in
-      let d = then-passes (refuseIf (not (inDepth k g)) NoSuchGroup 0) _ .0 (b .1) in
-      let ok = passes-accepted c latchCount gateCount .0 (a .0) .0 in (
-        ok,
-        depth-passes k (b .0),
-        not-false (inDepth k g) (refuseIf-passes (not (inDepth k g)) NoSuchGroup 0 .0 (d .0)),
-      )
-
--- where only the room is still to be tested
-pub group-allowed : (c : Netlist) (latchCount gateCount k : ℕ) (g : Group)
-    → ((room : ℕ) → groupVerdict c latchCount gateCount k g room ≡ testRoom (length (numbersOf c k g)) room)
-    → Accepted c × (k ≤ 255) × (inDepth k g ≡ true)
-group-allowed c latchCount gateCount k g v =
-    let need = length (numbersOf c k g) in
-    group-shown c latchCount gateCount k g need (v need ∙ room-enough need need (omega arith))
+-- 10 is never met, so only the room is tested
+pub write-room : (c : Netlist) (k : ℕ) (g : Group) (room : ℕ) → Accepted c → k ≤ 255
+    → writeVerdict c k g room ≡ testRoom (length (numbersOf c k g)) room
+unfolding _then_
+write-room c k g room ok d = rw (numbers-suffice c k ok d)

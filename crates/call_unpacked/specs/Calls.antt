@@ -40,12 +40,14 @@ testGroup k g = refuseIf (not (inDepth k g)) NoSuchGroup 0
 unfoldable pub testNumbers : Netlist → ℕ → Verdict
 testNumbers c k = refuseIf (ltb 2147483647 (base c (k + 1))) OutOfNumbers 0
 
--- RULES T40: "the record with its lists, then 7, 8, 10, 9". It is of a record whose lists have latchCount and gateCount records, with a slice of
--- `room` numbers; 9 is of this group's exact length
+-- 10, then 9 of the group's exact length, with a slice of `room` numbers
+abbrev pub writeVerdict : Netlist → ℕ → Group → ℕ → Verdict
+writeVerdict c k g room = testNumbers c k then testRoom (length (numbersOf c k g)) room
+
+-- RULES T40: "the record with its lists, then 7, 8, 10, 9". It is of a record whose lists have latchCount and gateCount records
 unfoldable pub groupVerdict : Netlist → ℕ → ℕ → ℕ → Group → ℕ → Verdict
 groupVerdict c latchCount gateCount k g room =
-    recordVerdict c latchCount gateCount then testDepth k then testGroup k g then testNumbers c k
-    then testRoom (length (numbersOf c k g)) room
+    recordVerdict c latchCount gateCount then testDepth k then testGroup k g then writeVerdict c k g room
 
 -- RULES T41: a heading call has no group and writes nothing, so no 8 and no 9
 unfoldable pub headingVerdict : Netlist → ℕ → ℕ → ℕ → Verdict

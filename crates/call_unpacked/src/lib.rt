@@ -5,14 +5,18 @@ use netlist::UnpackedList;
 use refusals::Refusal;
 use refusals::Verdict;
 ghost use mathlib.Core.Path.{_≡_};
-ghost use Prim.Native.Nat.{ℕ, _≤_};
+ghost use mathlib.Core.Bool.{true};
+ghost use Prim.Native.Nat.{_≤_};
 ghost use lib.ListN.{length};
+ghost use Rattle.model.specs.Acceptance.{Accepted};
+ghost use Rattle.model.specs.Groups.{inDepth};
 ghost use Rattle.model.specs.Numbers.{numbersOf};
 ghost use Rattle.model.specs.Wrote.{Wrote};
 ghost use Rattle.refusals.specs.Tests.{_then_};
-ghost use Rattle.refusals.specs.Slices.{testRoom};
+ghost use Rattle.refusals.specs.Slices.{withCount, contentsAfter};
 ghost use Rattle.netlist.specs.NetOf.{netOf};
-ghost use Rattle.call_unpacked.specs.Calls.{groupReply, groupVerdict, groupSent, groupLeaves, headingReply, headingSent};
+ghost use Rattle.netlist_tests.specs.Record.{recordVerdict};
+ghost use Rattle.call_unpacked.specs.Calls.{testDepth, testGroup, writeVerdict, groupReply, groupSent, groupLeaves, headingReply, headingSent};
 
 // What a group call answers: how many numbers it wrote, or the refusal with its place.
 pub enum GroupAnswer {
@@ -27,6 +31,27 @@ pub enum HeadingAnswer {
     Refused(Refusal, u32),
 }
 
+// The tests of the record with its lists, and of the depth: with these each call about a depth begins.
+pub fn test_depth(
+    net: Netlist,
+    latches: &UnpackedList,
+    latch_count: usize,
+    gates: &UnpackedList,
+    gate_count: usize,
+    depth: u32,
+) -> Verdict
+    ensures { λ r. ⌜ r ≡ (recordVerdict (netOf net (now (latches .entry)) (now (gates .entry))) «latch_count» «gate_count» then testDepth depth) ⌝ }
+{
+    let record = netlist_tests::test_record(net, latches, latch_count, gates, gate_count);
+    if let Verdict::Refused(_, _) = record {
+        return record;
+    }
+    if 255 < depth {
+        return Verdict::Refused(Refusal::Depth, 0);
+    }
+    Verdict::Passed
+}
+
 // The heading of a depth, RULES G23: "the variables that are numbered .. and the clauses that are really written".
 pub fn heading(
     net: Netlist,
@@ -38,17 +63,15 @@ pub fn heading(
 ) -> HeadingAnswer
     ensures { λ r. ⌜ headingReply r ≡ headingSent (netOf net (now (latches .entry)) (now (gates .entry))) «latch_count» «gate_count» depth ⌝ }
 {
-    if let Verdict::Refused(refusal, place) = netlist_tests::test_record(
+    if let Verdict::Refused(refusal, place) = test_depth(
         net,
         latches,
         latch_count,
         gates,
         gate_count,
+        depth,
     ) {
         return HeadingAnswer::Refused(refusal, place);
-    }
-    if 255 < depth {
-        return HeadingAnswer::Refused(Refusal::Depth, 0);
     }
     let variables = clause_variables::frame_base(net, depth + 1);
     if 2147483647 < variables {
@@ -60,8 +83,8 @@ pub fn heading(
     }
 }
 
-// The tests of a group call but that of the room, which is known when the group is written.
-fn test_group(
+// The tests of a group call up to that of the group.
+pub fn test_group(
     net: Netlist,
     latches: &UnpackedList,
     latch_count: usize,
@@ -70,21 +93,14 @@ fn test_group(
     depth: u32,
     group: Group,
 ) -> Verdict
-    ensures { λ r. ⌜ ((room : ℕ) → groupVerdict (netOf net (now (latches .entry)) (now (gates .entry))) «latch_count» «gate_count» depth group room
-        ≡ (r then testRoom (length (numbersOf (netOf net (now (latches .entry)) (now (gates .entry))) depth group)) room)) ⌝ }
+    ensures { λ r. ⌜ r ≡ (recordVerdict (netOf net (now (latches .entry)) (now (gates .entry))) «latch_count» «gate_count» then testDepth depth then testGroup depth group) ⌝ }
 {
-    let record = netlist_tests::test_record(net, latches, latch_count, gates, gate_count);
-    if let Verdict::Refused(_, _) = record {
-        return record;
-    }
-    if 255 < depth {
-        return Verdict::Refused(Refusal::Depth, 0);
+    let asked = test_depth(net, latches, latch_count, gates, gate_count, depth);
+    if let Verdict::Refused(_, _) = asked {
+        return asked;
     }
     if !group_order::order::is_in_depth(depth, group) {
         return Verdict::Refused(Refusal::NoSuchGroup, 0);
-    }
-    if 2147483647 < clause_variables::frame_base(net, depth + 1) {
-        return Verdict::Refused(Refusal::OutOfNumbers, 0);
     }
     Verdict::Passed
 }
@@ -102,8 +118,32 @@ fn copy_numbers(out: &mut [i32], numbers: &[i32]) -> usize
     i
 }
 
+// Writes a group that is there, after the tests of 10 and 9. It is written aside first: how many numbers it has shows when it is written.
+pub fn write_tested(
+    net: Netlist,
+    latches: &UnpackedList,
+    gates: &UnpackedList,
+    depth: u32,
+    group: Group,
+    out: &mut [i32],
+) -> GroupAnswer
+    requires { ⌜ Accepted (netOf net (now latches) (now gates)) × (depth ≤ 255) × (inDepth depth group ≡ true) ⌝ }
+    ensures answer { λ r. ⌜ groupReply r ≡ withCount (writeVerdict (netOf net (now (latches .entry)) (now (gates .entry))) depth group (length (now (out .entry)))) (length (numbersOf (netOf net (now (latches .entry)) (now (gates .entry))) depth group)) ⌝ }
+    ensures borrowed { λ r. ⌜ now (out .exit) ≡ contentsAfter (writeVerdict (netOf net (now (latches .entry)) (now (gates .entry))) depth group (length (now (out .entry)))) (numbersOf (netOf net (now (latches .entry)) (now (gates .entry))) depth group) (now (out .entry)) ⌝ }
+{
+    if 2147483647 < clause_variables::frame_base(net, depth + 1) {
+        return GroupAnswer::Refused(Refusal::OutOfNumbers, 0);
+    }
+    let mut numbers = [0; 5992];
+    let count = groups::put_group(&mut numbers, net, latches, gates, depth, group);
+    if out.len() < count {
+        return GroupAnswer::Refused(Refusal::NoRoom, 0);
+    }
+    GroupAnswer::Written(copy_numbers(out, &numbers[..count]))
+}
+
 // Writes one group's clauses at the start of a slice, in the order of RULES G3 to G14, and answers how many numbers that is; or refuses and
-// writes nothing. The group is written aside first: how many numbers it has shows when it is written.
+// writes nothing.
 pub fn write_group(
     net: Netlist,
     latches: &UnpackedList,
@@ -128,10 +168,5 @@ pub fn write_group(
     ) {
         return GroupAnswer::Refused(refusal, place);
     }
-    let mut numbers = [0; 5992];
-    let count = groups::put_group(&mut numbers, net, latches, gates, depth, group);
-    if out.len() < count {
-        return GroupAnswer::Refused(Refusal::NoRoom, 0);
-    }
-    GroupAnswer::Written(copy_numbers(out, &numbers[..count]))
+    write_tested(net, latches, gates, depth, group, out)
 }

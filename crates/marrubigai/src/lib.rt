@@ -1,6 +1,9 @@
 // The library for C and Rust: each public call under its plain name (include/marrubigai.h).
 use call_lists::Gate;
 use call_lists::Latch;
+use call_position::LiteralReply;
+use call_position::Position;
+use call_position::PositionReply;
 use call_replies::CountReply;
 use call_replies::HeadingReply;
 use call_replies::LineReply;
@@ -22,6 +25,10 @@ ghost use Rattle.aiger_import.specs.ImportCall.{importVerdictFor, importRecord,
 ghost use Rattle.answer_lines.specs.Written.{AnswerAsWritten};
 ghost use Rattle.replay_call.specs.Settled.{FaultsSettled};
 ghost use Rattle.replay_answer.specs.ReplayAnswer.{replayFor, memoryFor, traceFor};
+ghost use Rattle.call_position.specs.Moves.{moveOf, moveSent, MoveStands};
+ghost use Rattle.call_position.specs.GroupsAt.{groupAtSent, groupAtLeaves, ByFrame};
+ghost use Rattle.call_position.specs.Literals.{literalSent};
+ghost use Rattle.netlist.specs.NetOf.{alone};
 ghost use Rattle.call_replies.specs.Replies.{groupOf, countNumbers, headingNumbers, sheetNumbers, lineNumbers};
 
 // `calls::write_group`. The kind is 0 for the wires of frame i, 1 for the pair (j, i), 2 for the closing of frame i, 3 for the property.
@@ -192,4 +199,72 @@ pub extern "C" fn marrubigai_replay(
         memory,
         trace,
     )
+}
+
+// `call_position::move_position`, of lent lists: a running record started at frame 0 of its depth (0), moved one frame on (1), or taken back to
+// frame 0 (2).
+#[no_mangle]
+pub extern "C" fn marrubigai_move(
+    net: Netlist,
+    latches: &[Latch],
+    gates: &[Gate],
+    position: Position,
+    way: u32,
+) -> PositionReply
+    ensures answer { λ r. ⌜ r ≡ moveSent (netLent net (now (latches .entry)) (now (gates .entry))) (length (now (latches .entry))) (length (now (gates .entry))) position (moveOf way) ⌝ }
+    ensures stands { λ r. ⌜ MoveStands (netLent net (now (latches .entry)) (now (gates .entry))) r ⌝ }
+{
+    let mut latch_codes = [0; 1200];
+    call_lists::unpack::unpack_latches(&mut latch_codes, latches);
+    let mut gate_codes = [0; 1200];
+    call_lists::unpack::unpack_gates(&mut gate_codes, gates);
+    call_position::move_position(
+        net,
+        &latch_codes,
+        latches.len(),
+        &gate_codes,
+        gates.len(),
+        position,
+        way,
+    )
+}
+
+// `call_position::write_group_at`, of lent lists. The kinds are those of `marrubigai_write_group`; the frame is the record's.
+#[no_mangle]
+pub extern "C" fn marrubigai_write_group_at(
+    net: Netlist,
+    latches: &[Latch],
+    gates: &[Gate],
+    position: Position,
+    kind: u32,
+    j: u32,
+    out: &mut [i32],
+) -> CountReply
+    ensures answer { λ r. ⌜ r ≡ countNumbers (groupAtSent (netLent net (now (latches .entry)) (now (gates .entry))) (length (now (latches .entry))) (length (now (gates .entry))) position (groupOf kind j (position .frame)) (length (now (out .entry)))) ⌝ }
+    ensures borrowed { λ r. ⌜ now (out .exit) ≡ groupAtLeaves (netLent net (now (latches .entry)) (now (gates .entry))) (length (now (latches .entry))) (length (now (gates .entry))) position (groupOf kind j (position .frame)) (now (out .entry)) ⌝ }
+    ensures by_frame { λ r. ⌜ ByFrame (netLent net (now (latches .entry)) (now (gates .entry))) (length (now (latches .entry))) (length (now (gates .entry))) position (groupOf kind j (position .frame)) (now (out .entry)) ⌝ }
+{
+    let mut latch_codes = [0; 1200];
+    call_lists::unpack::unpack_latches(&mut latch_codes, latches);
+    let mut gate_codes = [0; 1200];
+    call_lists::unpack::unpack_gates(&mut gate_codes, gates);
+    call_position::write_group_at(
+        net,
+        &latch_codes,
+        latches.len(),
+        &gate_codes,
+        gates.len(),
+        position,
+        kind,
+        j,
+        out,
+    )
+}
+
+// `call_position::literal_at`.
+#[no_mangle]
+pub extern "C" fn marrubigai_literal_at(net: Netlist, position: Position, code: u32) -> LiteralReply
+    ensures { λ r. ⌜ r ≡ literalSent (alone net) position code ⌝ }
+{
+    call_position::literal_at(net, position, code)
 }

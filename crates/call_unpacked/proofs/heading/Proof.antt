@@ -1,77 +1,69 @@
 -- `call_unpacked::heading` meets its contract: each answer is that of the first test that refuses.
-use Prim.Native.Nat.{_+_}
+use Prim.Native.Nat.{_+_, _≤_}
 use mathlib.Core.Path.{_≡_, sym, _∙_}
 use native.Mathlib.Omega.{arith}
 use borrow.Author.Needs.{needs}
 use mathlib.Core.List.{[]}
-use Rattle.refusals.specs.declared.Verdict.the-variants.{Passed}
+use Rattle.model.specs.Acceptance.{Accepted}
+use Rattle.refusals.specs.Tests.{_then_}
 use Rattle.netlist.specs.NetOf.{netOf}
-use Rattle.netlist_tests.specs.Record.{recordVerdict}
 use Rattle.netlist.proofs.NetOf.{sizes-lists, base-lists}
-use Rattle.netlist_tests.proofs.Acceptance.{passes-accepted}
 use Rattle.call_unpacked.specs.Calls.{headingReply, withHeading, headingSent}
-use Rattle.call_unpacked.proofs.Calls.{heading-record, heading-depth, heading-passes, variables-fit}
+use Rattle.call_unpacked.proofs.Calls.{depth-shown, heading-tested, numbers-suffice, variables-fit}
 use Rattle.call_unpacked.proofs.heading.Statement.{statement}
 use Rattle.call_unpacked.proofs.heading.Tie as tie
 
-test-record-requires : tie.Need-test-record-requires
-test-record-requires c κs = search needs
-
--- the record has passed its tests
-passed : (c : tie.After-enum-told)
-    → recordVerdict (netOf (c .before .before .before .args .net) (c .before .before .before .args .latches .now) (c .before .before .before .args .gates .now)) (c .before .before .before .args .latch-count) (c .before .before .before .args .gate-count) ≡ Passed
-passed c = sym (c .before .before .test-record .ensures) ∙ c .enum-told .given .1
+test-depth-requires : tie.Need-test-depth-requires
+test-depth-requires c κs = search needs
 
 enum-known-refusal : tie.Need-enum-known-refusal
 enum-known-refusal c = search needs
 
 returns : tie.Need-returns
-unfolding headingReply withHeading headingSent
-returns c = rw (heading-record _ _ _ _ (sym (c .before .before .before .test-record .ensures) ∙ c .before .refusal .given .1))
+unfolding headingReply withHeading headingSent _then_
+returns c = rw (heading-tested _ _ _ _ (sym (c .before .refusal .given .1) ∙ c .before .before .before .test-depth .ensures))
 
 enum-told : tie.Need-enum-told
 enum-told c = search needs
 
-returns-2 : tie.Need-returns-2
-unfolding headingReply withHeading headingSent
-returns-2 c = rw (heading-depth _ _ _ _ (passed (c .before)) (c .if1 .taken))
+-- what the tests have shown
+shown : (c : tie.After-enum-told) →
+    let a = c .before .before .before .args in
+    Accepted (netOf (a .net) (a .latches .now) (a .gates .now)) × (a .depth ≤ 255)
+shown c = depth-shown _ _ _ _ (sym (c .before .before .test-depth .ensures) ∙ c .enum-told .given .1)
 
 add-frame-base : tie.Need-add-frame-base
-add-frame-base c = search needs
+add-frame-base c = let most = shown c .1 in search needs
 
 frame-base-requires : tie.Need-frame-base-requires
-frame-base-requires c κs =
-    (sizes-lists _ _ _ [] [] (passes-accepted _ _ _ .0 (passed (c .before)) .0 .limits .sizes), omega (arith, c .if1 .left))
+frame-base-requires c κs = (sizes-lists _ _ _ [] [] (shown c .0 .limits .sizes), omega (arith, shown c .1))
 
-returns-3 : tie.Need-returns-3
-returns-3 c =
-    absurd
-    (variables-fit _ _ _ (passes-accepted _ _ _ .0 (passed (c .before .before .before)) .0) (c .before .before .if1 .left) (c .before .frame-base .ensures ∙ base-lists _ _ _ _)
-    (c .if2 .taken))
+returns-2 : tie.Need-returns-2
+returns-2 c =
+    let ok = shown (c .before .before) in
+    absurd (variables-fit _ _ _ (ok .0) (ok .1) (c .before .frame-base .ensures ∙ base-lists _ _ _ _) (c .if1 .taken))
 
 clause-count-requires : tie.Need-clause-count-requires
-clause-count-requires c κs = (
-  passes-accepted _ _ _ .0 (passed (c .before .before .before)) .0,
-  c .before .before .if1 .left,
-)
+clause-count-requires c κs = shown (c .before .before)
 
-returns-4 : tie.Need-returns-4
-unfolding headingReply withHeading headingSent
-returns-4 c =
-    let a = c .before .before .before .before .before .before .before .args in
-    rw (heading-passes _ _ _ _ (passed (c .before .before .before .before)) (c .before .before .before .if1 .left), c .before .before .frame-base .ensures ∙ base-lists (a .net) (a .latches .now) (a .gates .now) (a .depth + 1), c .clause-count .ensures)
+returns-3 : tie.Need-returns-3
+unfolding headingReply withHeading headingSent _then_
+returns-3 c =
+    let start = c .before .before .before in
+    let ok = shown start in
+    let a = start .before .before .before .args in
+    rw (heading-tested _ _ _ _ (sym (start .enum-told .given .1) ∙ start .before .before .test-depth .ensures), numbers-suffice _ _ (ok .0) (ok .1), c .before .before .frame-base .ensures ∙ base-lists (a .net) (a .latches .now) (a .gates .now) (a .depth + 1), c .clause-count .ensures)
 
 pub heading-spec : {M : Type 1} → statement M
 heading-spec =
     tie.close
     (tie.spec
-    test-record-requires
+    test-depth-requires
     enum-known-refusal
     returns
     enum-told
-    returns-2
     add-frame-base
     frame-base-requires
-    returns-3
+    returns-2
     clause-count-requires
-    returns-4)
+    returns-3)
