@@ -1,4 +1,4 @@
-//! Self-test of a second implementation of docs/RULES.md and K1 to K4: each family of checks prints
+//! Self-test of a second implementation of docs/RULES.md and K1 to K4, K7 and K8: each family of checks prints
 //! one line, the last line is the total. Build: rustc -O --edition 2021 main.rs
 
 mod agreement;
@@ -27,18 +27,22 @@ use tally::{Report, Tally};
 
 type Family = (&'static str, fn(&mut Tally));
 
-const FAMILIES: [Family; 38] = [
+const FAMILIES: [Family; 39] = [
     ("full runs, byte for byte", check_examples::full_runs),
     ("a run of the chip, by hand", check_examples::memory_run),
+    (
+        "a run from an unknown start, by hand",
+        check_examples::unknown_memory_run,
+    ),
     ("starred facts", check_examples::starred_facts),
     ("largest sizes", check_examples::largest_sizes),
     (
         "fields and letters of a sheet",
         check_refusals::fields_and_letters,
     ),
-    ("sheets, refusals 1 to 6 and 9", check_refusals::sheets),
+    ("sheets, refusals 1 to 6, 9 and 17", check_refusals::sheets),
     ("sheets, length", check_refusals::sheet_lengths),
-    ("records, refusals 3 to 6", check_refusals::records),
+    ("records, refusals 3 to 6 and 17", check_refusals::records),
     ("group calls, refusals 7 to 10", check_refusals::group_calls),
     ("group calls, exact needs", check_refusals::needs),
     ("refusals of frames", check_refusals::frames_refusals),
