@@ -20,6 +20,7 @@ struct Record {
     m: u32,
     n: u32,
     initial_word: u32,
+    unknown_start: u32,
     address: [Code; 12],
     write_data: [Code; 32],
     we: Code,
@@ -84,6 +85,7 @@ struct LineReply {
     first: u32,
     second: u32,
     third: u32,
+    empty: u32,
     line: u32,
 }
 
@@ -141,6 +143,7 @@ extern "C" {
         m: u32,
         n: u32,
         word: u32,
+        unknown_start: u32,
         latches: *mut LatchRecord,
         latch_room: usize,
         gates: *mut GateRecord,
@@ -170,6 +173,7 @@ fn record_of(netlist: &Netlist) -> Record {
         m: netlist.address_width,
         n: netlist.data_width,
         initial_word: netlist.start_word,
+        unknown_start: netlist.unknown_start,
         address: netlist.address.map(Code),
         write_data: netlist.write_data.map(Code),
         we: Code(netlist.write_enable),
@@ -424,8 +428,13 @@ pub fn read(file: &[u8], latch_room: usize, gate_room: usize) -> Answer<Netlist>
     })
 }
 
-/// Imports a text for m, n and start word into lists of these lengths.
-pub fn import(text: &[u8], [m, n, word]: [u32; 3], rooms: [usize; 2]) -> Answer<Netlist> {
+/// Imports a text for m, n and start word, or with an unknown start, into lists of these lengths.
+pub fn import(
+    text: &[u8],
+    [m, n, word]: [u32; 3],
+    unknown_start: u32,
+    rooms: [usize; 2],
+) -> Answer<Netlist> {
     // SAFETY: each pointer and length are those of a live slice, and only the two lists are written to.
     delivered(rooms, |latches, gates| unsafe {
         marrubigai_import(
@@ -434,6 +443,7 @@ pub fn import(text: &[u8], [m, n, word]: [u32; 3], rooms: [usize; 2]) -> Answer<
             m,
             n,
             word,
+            unknown_start,
             latches.as_mut_ptr(),
             latches.len(),
             gates.as_mut_ptr(),
@@ -442,15 +452,16 @@ pub fn import(text: &[u8], [m, n, word]: [u32; 3], rooms: [usize; 2]) -> Answer<
     })
 }
 
-/// A line: its letter and its fields.
-pub type Line = (u8, [u32; 3]);
+/// A line: its letter, its fields, and 1 where the start word is left out.
+pub type Line = (u8, [u32; 3], u32);
 
 /// What is answered of the line behind the first `line` lines, `None` where there is none, and the new line number.
 pub fn next_line(file: &[u8], line: u32) -> (Answer<Option<Line>>, u32) {
     // SAFETY: the pointer and the length are those of a live slice.
     let reply = unsafe { marrubigai_next_line(file.as_ptr(), file.len(), line) };
-    let found = (reply.letter, [reply.first, reply.second, reply.third]);
-    let zeros = found == (0, [0; 3]);
+    let fields = [reply.first, reply.second, reply.third];
+    let found = (reply.letter, fields, reply.empty);
+    let zeros = found == (0, [0; 3], 0);
     let found = answer(reply.number, reply.place, zeros, || match found.0 {
         0 if zeros => Ok(None),
         0 => Err("fields without a letter"),
@@ -493,6 +504,7 @@ fn netlist_of(net: Record, latches: &[LatchRecord], gates: &[GateRecord]) -> Net
         address_width: net.m,
         data_width: net.n,
         start_word: net.initial_word,
+        unknown_start: net.unknown_start,
         address: net.address.map(|code| code.0),
         write_data: net.write_data.map(|code| code.0),
         write_enable: net.we.0,
