@@ -9,11 +9,11 @@ use super::reference::refusal::Refusal;
 
 #[repr(C)]
 #[derive(Clone, Copy, Debug, Default, PartialEq, Eq)]
-struct Code(u32);
+pub struct Code(u32);
 
 #[repr(C)]
 #[derive(Clone, Copy, Debug, Default, PartialEq, Eq)]
-struct Record {
+pub struct Record {
     inputs: u32,
     latches: u32,
     gates: u32,
@@ -30,21 +30,21 @@ struct Record {
 
 #[repr(C)]
 #[derive(Clone, Copy, Debug, PartialEq, Eq)]
-struct GateRecord {
+pub struct GateRecord {
     left: Code,
     right: Code,
 }
 
 #[repr(C)]
 #[derive(Clone, Copy, Debug, PartialEq, Eq)]
-struct LatchRecord {
+pub struct LatchRecord {
     next: Code,
     reset: u32,
 }
 
 #[repr(C)]
 #[derive(Clone, Copy, Debug, PartialEq, Eq)]
-struct CountReply {
+pub struct CountReply {
     number: u32,
     place: u32,
     count: usize,
@@ -228,9 +228,9 @@ impl<T: Copy + PartialEq> Lent<T> {
 
 /// A netlist as the C functions take it.
 pub struct Lists {
-    record: Record,
-    latches: Vec<LatchRecord>,
-    gates: Vec<GateRecord>,
+    pub record: Record,
+    pub latches: Vec<LatchRecord>,
+    pub gates: Vec<GateRecord>,
 }
 
 /// What a call answered; `Err` where it broke a promise that holds whatever it is asked.
@@ -261,7 +261,7 @@ pub fn parameters(group: Group) -> (u32, u32, u32) {
 }
 
 /// A call that writes into a slice of `room` entries and answers how many: the entries written.
-fn written_into<T: Copy + PartialEq>(
+pub fn written_into<T: Copy + PartialEq>(
     room: usize,
     fill: fn(usize) -> T,
     call: impl FnOnce(*mut T, usize) -> CountReply,
@@ -276,7 +276,7 @@ fn written_into<T: Copy + PartialEq>(
 }
 
 /// No number of any formula, different at each index.
-fn unwritten(index: usize) -> i32 {
+pub fn unwritten(index: usize) -> i32 {
     i32::MIN + index as i32
 }
 
@@ -471,7 +471,7 @@ pub fn next_line(file: &[u8], line: u32) -> (Answer<Option<Line>>, u32) {
 }
 
 /// No byte of any text, different at nearby indices.
-fn unprinted(index: usize) -> u8 {
+pub fn unprinted(index: usize) -> u8 {
     128 | index as u8
 }
 
