@@ -672,23 +672,30 @@ const MEMORIES: [(u32, &str, &str, &[u32]); 26] = [
     ),
 ];
 
+/// The calls of these rows, each with what the memory holds afterwards.
+pub fn memory_rows() -> Vec<(Call, Vec<u32>)> {
+    let mut rows = Vec::new();
+    for (depth, sheet, numbers, words) in MEMORIES {
+        for more in [[0, 0], [1, 0], [0, 1], [7, 9]] {
+            let call = Call::new(&accepted(sheet), depth, satisfiable(numbers), more);
+            let memory = [words, &call.memory[words.len()..]].concat();
+            rows.push((call, memory));
+        }
+    }
+    rows
+}
+
 pub fn replays(tally: &mut Tally) {
     for (name, input, answer, printed) in replay_rows() {
         let found = String::from_utf8(replay(&input, &answer)).expect("ASCII");
         let expected = String::from_utf8(printed).expect("ASCII");
         tally.equal(name, found, expected);
     }
-    for (depth, sheet, numbers, words) in MEMORIES {
-        let netlist = accepted(sheet);
-        for more in [[0, 0], [1, 0], [0, 1], [7, 9]] {
-            let call = Call::new(&netlist, depth, satisfiable(numbers), more);
-            let outcome = call.outcome();
-            let behind = &call.memory[words.len()..];
-            let name = (sheet, depth, numbers, more);
-            tally.equal(name, outcome.memory, [words, behind].concat());
-            let printed = replay(&call.input(), &call.answer);
-            tally.equal(name, printed, call.outcome().printed());
-        }
+    for (index, (call, memory)) in memory_rows().into_iter().enumerate() {
+        let outcome = call.outcome();
+        tally.equal((index, "memory"), &outcome.memory, &memory);
+        let printed = replay(&call.input(), &call.answer);
+        tally.equal((index, "printed"), printed, outcome.printed());
     }
 }
 

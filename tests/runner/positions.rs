@@ -333,40 +333,48 @@ fn failing(netlist: &Netlist, position: Position, exists: bool, room: Option<(Fr
     numbers
 }
 
+/// One hostile call: the number that it must answer, and the tests that it fails.
+pub fn any(tally: &mut Tally, random: &mut Random) -> (u32, Vec<u32>) {
+    let mut netlist = netlist(random);
+    if random.percent(20) {
+        netlist = damaged_record(random, &netlist);
+    }
+    if random.percent(5) {
+        netlist.unknown_start = random.pick(&[0, 1, 2, u32::MAX]);
+    }
+    if random.percent(5) {
+        netlist.gate_count = random.pick(&LIMITS);
+    }
+    let position = hostile_position(random, &netlist);
+    if random.percent(40) {
+        let way = random.pick(&[START, ON, ON, ON, BACK, BACK, 3, u32::MAX]);
+        let at_zero = Position {
+            frame: 0,
+            base: 1,
+            ..position
+        };
+        let failing = match way {
+            START => failing(&netlist, at_zero, true, None),
+            ON => failing(&netlist, position, position.frame < position.depth, None),
+            _ => failing(&netlist, position, way == BACK, None),
+        };
+        return (move_agrees(tally, &netlist, position, way), failing);
+    }
+    let of = (random.below(5), small_or_limit(random));
+    let room = random.pick(&[0, 0, 20, 60, 600, 6_000]);
+    let group = group_of(position, of);
+    let exists = !matches!(group, FrameGroup::Pair(j) if j >= position.frame);
+    let failing = failing(&netlist, position, exists, Some((group, room)));
+    (group_agrees(tally, &netlist, position, of, room), failing)
+}
+
 /// Hostile calls. Each refusal and each pair of failing tests must have come often: of two the earlier is answered.
 pub fn hostile(_: &Library, tally: &mut Tally) {
     let mut random = Random::new(1202);
     let mut counts: BTreeMap<u32, usize> = BTreeMap::new();
     let mut pairs: BTreeMap<[u32; 2], usize> = BTreeMap::new();
     for _ in 0..60_000 {
-        let mut netlist = netlist(&mut random);
-        if random.percent(20) {
-            netlist = damaged_record(&mut random, &netlist);
-        }
-        if random.percent(5) {
-            netlist.unknown_start = random.pick(&[0, 1, 2, u32::MAX]);
-        }
-        if random.percent(5) {
-            netlist.gate_count = random.pick(&LIMITS);
-        }
-        let position = hostile_position(&mut random, &netlist);
-        let (number, failing) = if random.percent(40) {
-            let way = random.pick(&[START, ON, ON, ON, BACK, BACK, 3, u32::MAX]);
-            let failing = match way {
-                START => failing(&netlist, Position { frame: 0, base: 1, ..position }, true, None),
-                ON => failing(&netlist, position, position.frame < position.depth, None),
-                _ => failing(&netlist, position, way == BACK, None),
-            };
-            (move_agrees(tally, &netlist, position, way), failing)
-        } else {
-            let of = (random.below(5), small_or_limit(&mut random));
-            let room = random.pick(&[0, 0, 20, 60, 600, 6_000]);
-            let group = group_of(position, of);
-            let exists = !matches!(group, FrameGroup::Pair(j) if j >= position.frame);
-            let failing = failing(&netlist, position, exists, Some((group, room)));
-            let number = group_agrees(tally, &netlist, position, of, room);
-            (number, failing)
-        };
+        let (number, failing) = any(tally, &mut random);
         *counts.entry(number).or_default() += 1;
         tally.equal("the first failing test", failing.first().copied().unwrap_or(0), number);
         for (at, first) in failing.iter().enumerate() {
