@@ -8,10 +8,15 @@ mod exports;
 mod fuzz_exports;
 mod imports;
 mod mutate;
+// Not in the list of families before the library has these calls.
+#[allow(dead_code)]
+mod positions;
 mod prints;
 mod reads;
 mod reference;
 mod replay_calls;
+#[allow(dead_code)]
+mod written_sheets;
 
 use std::cell::RefCell;
 
