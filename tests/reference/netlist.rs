@@ -1,5 +1,5 @@
 //! The netlist with one single-port memory, and the tests of a record.
-//! RULES W1 to W18, C8, C9, T38 and T39; the unknown start of K7 and the tied address bits of K8.
+//! RULES W1 to W18, C8, C9, T39 and T54; the unknown start of K7 and the tied address bits of K8.
 
 use super::refusal::{require, Refusal, CODE, MEMORY_LOOP, OUT_OF_ORDER, SIZE, TIED_ADDRESS};
 
