@@ -1,1 +1,4 @@
 pub mod Positions
+pub mod Moves
+pub mod GroupsAt
+pub mod Literals

@@ -10,7 +10,8 @@ use Rattle.netlist.proofs.NetOf.{sizes-lists}
 use Rattle.call_unpacked.specs.Calls.{groupReply, writeVerdict}
 use Rattle.call_unpacked.proofs.Calls.{group-shown}
 use Rattle.call_position.specs.GroupsAt.{groupAtVerdict, groupAtSent, groupAtLeaves}
-use Rattle.call_position.proofs.Positions.{testFrame-lists, group-at-tested}
+use Rattle.call_position.proofs.Positions.{testFrame-lists}
+use Rattle.call_position.proofs.GroupsAt.{group-at-tested}
 use borrow.Author.Needs.{needs}
 use Rattle.call_position.proofs.group_at.Statement.{statement}
 use Rattle.call_position.proofs.group_at.Tie as tie

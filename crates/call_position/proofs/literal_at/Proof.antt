@@ -5,7 +5,7 @@ use mir.ValLaws.{toZ-ofZ}
 use Rattle.literals.proofs.Literal.{fits}
 use Rattle.clause_variables.proofs.Room.{code-numbered}
 use Rattle.call_position.specs.Literals.{withLiteral, literalSent}
-use Rattle.call_position.proofs.Positions.{literal-shown}
+use Rattle.call_position.proofs.Literals.{literal-shown}
 use borrow.Author.Needs.{needs}
 use Rattle.call_position.proofs.literal_at.Statement.{statement}
 use Rattle.call_position.proofs.literal_at.Tie as tie

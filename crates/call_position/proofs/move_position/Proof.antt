@@ -10,7 +10,7 @@ use Rattle.netlist.specs.NetOf.{netOf, alone}
 use Rattle.netlist.proofs.NetOf.{sizes-lists}
 use Rattle.call_unpacked.proofs.Calls.{depth-shown}
 use Rattle.call_position.specs.Moves.{moveOf, testMove, moveVerdict, withPosition, moveSent}
-use Rattle.call_position.proofs.Positions.{testMove-lists, movedTo-lists, move-tested}
+use Rattle.call_position.proofs.Moves.{testMove-lists, movedTo-lists, move-tested}
 use borrow.Author.Needs.{needs}
 use Rattle.call_position.proofs.move_position.Statement.{statement}
 use Rattle.call_position.proofs.move_position.Tie as tie

@@ -6,7 +6,7 @@ use mir.ValLaws.{toZ-ofZ}
 use Rattle.literals.specs.Lit.{literalOf}
 use Rattle.literals.proofs.Literal.{fits}
 use Rattle.call_position.specs.Literals.{literalNumber}
-use Rattle.call_position.proofs.Positions.{literalNumber-at}
+use Rattle.call_position.proofs.Literals.{literalNumber-at}
 use borrow.Author.Needs.{needs}
 use Rattle.call_position.proofs.number_of.Statement.{statement}
 use Rattle.call_position.proofs.number_of.Tie as tie

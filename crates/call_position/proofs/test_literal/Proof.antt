@@ -6,7 +6,7 @@ use Rattle.refusals.specs.declared.Refusal.the-variants.{CodeOutside}
 use Rattle.netlist.specs.NetOf.{alone}
 use Rattle.call_unpacked.specs.Calls.{testDepth}
 use Rattle.call_position.specs.Literals.{literalVerdict}
-use Rattle.call_position.proofs.Positions.{sizes-shown}
+use Rattle.call_position.proofs.Literals.{sizes-shown}
 use borrow.Author.Needs.{needs}
 use Rattle.call_position.proofs.test_literal.Statement.{statement}
 use Rattle.call_position.proofs.test_literal.Tie as tie

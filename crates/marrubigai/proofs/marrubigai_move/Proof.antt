@@ -66,7 +66,7 @@ use Rattle.call_position.proofs.Position as P
 use Rattle.call_position.proofs.Position.Laws as P′
 use Rattle.call_position.proofs.PositionReply as Reply
 use Rattle.call_position.proofs.PositionReply.Laws as Reply′
-use Rattle.call_position.proofs.Positions.{move-stands}
+use Rattle.call_position.proofs.Moves.{move-stands}
 use Rattle.call_position.proofs.move_position as inner
 use Rattle.call_position.proofs.move_position.Symbol as inner-def
 use Rattle.call_position.proofs.move_position.Symbol.{name as #inner}

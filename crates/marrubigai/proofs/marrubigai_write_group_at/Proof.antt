@@ -67,7 +67,7 @@ use Rattle.call_position.specs.GroupsAt.{groupAtSent, groupAtLeaves}
 use Rattle.call_position.specs.declared.Position.{Position}
 use Rattle.call_position.proofs.Position as P
 use Rattle.call_position.proofs.Position.Laws as P′
-use Rattle.call_position.proofs.Positions.{by-frame}
+use Rattle.call_position.proofs.GroupsAt.{by-frame}
 use Rattle.call_position.proofs.write_group_at as inner
 use Rattle.call_position.proofs.write_group_at.Symbol as inner-def
 use Rattle.call_position.proofs.write_group_at.Symbol.{name as #inner}
