@@ -122,15 +122,15 @@ pub begun-ended : (begun : ℕ) (x : Clause) {old mid part : List ℤ} {r s : �
 unfolding endedAfter
 begun-ended begun x w v = rw (sym (w .counted)) (wrote-then w v)
 
--- a clause without a true literal is its first literals and the rest; its last three may be all that it has
-pub written-three : (x : Clause) → hasTrue x ≡ false → written (x ∷ []) ≡ endedAfter 0 x
+-- a clause without a true literal is what is kept of it and its end, or of its first two literals and the rest
+pub written-ended : (x : Clause) → hasTrue x ≡ false → written (x ∷ []) ≡ endedAfter 0 x
 unfolding written writtenClause endedAfter
-written-three x none = rw (none, append-nil (kept x ++ endOf (length (kept x)))) (ap (λ (n : ℕ). kept x ++ endOf n) (omega arith))
+written-ended x none = rw (none, append-nil (kept x ++ endOf (length (kept x)))) (ap (λ (n : ℕ). kept x ++ endOf n) (omega arith))
 
-pub written-five : (a b : Literal) (x : Clause) → hasTrue (a ∷ b ∷ x) ≡ false
+pub written-behind : (a b : Literal) (x : Clause) → hasTrue (a ∷ b ∷ x) ≡ false
     → written ((a ∷ b ∷ x) ∷ []) ≡ (keptOf a ++ keptOf b) ++ endedAfter (length (keptOf a ++ keptOf b)) x
 unfolding written writtenClause endedAfter
-written-five a b x none =
+written-behind a b x none =
     rw (none, append-nil (kept (a ∷ b ∷ x) ++ endOf (length (kept (a ∷ b ∷ x)))), kept-behind a b x, length-append (keptOf a ++ keptOf b) (kept x))
     (append-assoc (keptOf a ++ keptOf b) (kept x) (endOf (length (keptOf a ++ keptOf b) + length (kept x))))
 

@@ -1,4 +1,4 @@
--- The clauses of a depth's pairs that are written, counted by one pair of each class (RULES G23 and G28). Cited by every function of this
+-- The clauses of a depth's pairs that are written, counted by one pair of each class (RULES G23 and G34). Cited by every function of this
 -- crate that counts frames or pairs.
 use Prim.Native.Nat.{ℕ, zero, suc, _+_, _-_, _*_, _/_}
 use lib.ListN.{length}

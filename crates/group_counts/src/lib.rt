@@ -1,4 +1,4 @@
-// How many clauses of a depth are written (RULES G23 and G28): counted in what the groups' own writer writes, by one group of each class of
+// How many clauses of a depth are written (RULES G23, G28 and G34): counted in what the groups' own writer writes, by one group of each class of
 // groups that have equally many.
 use model::Group;
 use netlist::Netlist;

@@ -1,7 +1,7 @@
 -- `clause_writer::put_quinary` meets its contract: left out where a literal is true, else two literals and the rest.
 use mathlib.Core.Path.{sym, _∙_}
 use native.Mathlib.Omega.{arith}
-use Rattle.clause_writer.proofs.Wrote.{wrote-then, rest-room, clause-left-out, written-five, hasTrue-five}
+use Rattle.clause_writer.proofs.Wrote.{wrote-then, clause-left-out, written-behind, hasTrue-five}
 use borrow.Author.Needs.{needs}
 use Rattle.clause_writer.proofs.put_quinary.Statement.{statement}
 use Rattle.clause_writer.proofs.put_quinary.Tie as tie
@@ -60,11 +60,7 @@ part-put-last-three-end : tie.Need-part-put-last-three-end
 part-put-last-three-end c = search needs
 
 put-last-three-requires : tie.Need-put-last-three-requires
-put-last-three-requires c κs =
-    let p = c .before .before .before .before .before .before .before .before .before .before .before .before .before .pre in
-    let first = c .before .before .before .before .before .put-literal .ensures in
-    let second = c .before .before .put-literal2 .ensures in
-    (p .2, p .3, p .4, omega (arith, first .1, second .1), rest-room (wrote-then (first .0) (second .0)) (omega (arith, first .1, second .1, p .5)))
+put-last-three-requires c κs = (search needs, search needs, search needs, search needs, search needs)
 
 add-result : tie.Need-add-result
 add-result c = search needs
@@ -79,7 +75,7 @@ returns-2 c =
     let last = c .before .put-last-three .ensures in
     let none = rw (c .before .before .before .before .before .before .before .before .before .before .before .before .before .before .is-true .ensures, c .before .before .before .before .before .before .before .before .before .before .before .before .before .is-true2 .ensures, c .before .before .before .before .before .before .before .before .before .before .before .before .is-true3 .ensures, c .before .before .before .before .before .before .before .before .before .before .before .is-true4 .ensures, c .before .before .before .before .before .before .before .before .before .before .is-true5 .ensures) at (c .before .before .before .before .before .before .before .before .before .if1 .left) in
     let begun = wrote-then (first .0) (second .0) in
-    (rw (written-five _ _ _ (hasTrue-five _ _ _ _ _ ∙ none), sym (begun .counted)) (wrote-then begun (last .0)), omega (arith, first .1, second .1, last .1))
+    (rw (written-behind _ _ _ (hasTrue-five _ _ _ _ _ ∙ none), sym (begun .counted)) (wrote-then begun (last .0)), omega (arith, first .1, second .1, last .1))
 
 pub put-quinary-spec : {M : Type 1} → statement M
 put-quinary-spec =

@@ -1,5 +1,5 @@
 -- `clause_writer::put_ternary` meets its contract: left out where a literal is true, else its literals and the end.
-use Rattle.clause_writer.proofs.Wrote.{clause-left-out, written-three, hasTrue-three}
+use Rattle.clause_writer.proofs.Wrote.{clause-left-out, written-ended, hasTrue-three}
 use mathlib.Core.Path.{_∙_}
 use borrow.Author.Needs.{needs}
 use Rattle.clause_writer.proofs.put_ternary.Statement.{statement}
@@ -27,7 +27,7 @@ same-length c = search needs
 returns-2 : tie.Need-returns-2
 returns-2 c =
     let none = rw (c .before .before .before .before .before .before .is-true .ensures, c .before .before .before .before .before .is-true2 .ensures, c .before .before .before .before .is-true3 .ensures) at (c .before .before .before .if1 .left) in
-    rw (written-three _ (hasTrue-three _ _ _ ∙ none)) (c .before .put-last-three .ensures)
+    rw (written-ended _ (hasTrue-three _ _ _ ∙ none)) (c .before .put-last-three .ensures)
 
 pub put-ternary-spec : {M : Type 1} → statement M
 put-ternary-spec =
