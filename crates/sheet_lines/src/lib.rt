@@ -2,7 +2,7 @@
 ghost use mathlib.Core.Path.{_≡_};
 ghost use Prim.Native.Nat.{_<_};
 ghost use Rattle.refusals.specs.Refusal.{replyOf};
-ghost use Rattle.sheet_lines.specs.Letters.{kindOf, rowOf, isFilled, FilledAsPrinted};
+ghost use Rattle.sheet_lines.specs.Letters.{letterOf, kindOf, rowOf, isFilled, FilledAsPrinted};
 ghost use Rattle.sheet_lines.specs.Lines.{asWanted, valueOf, lineWith, lineOf, ReadAsWritten};
 ghost use Rattle.sheet_lines.specs.Depth.{depthField, fieldVerdict, depthVerdict, withDepth, depthLine};
 use refusals::Refusal;
@@ -65,6 +65,22 @@ fn kind_of(letter: u8) -> Kind
     }
 }
 
+// The letter of a kind, and 0 where it is unknown.
+pub fn letter_of(kind: Kind) -> u8
+    ensures { λ r. ⌜ r ≡ letterOf kind ⌝ }
+{
+    match kind {
+        Kind::Sizes => b'N',
+        Kind::Memory => b'M',
+        Kind::Latch => b'L',
+        Kind::Gate => b'G',
+        Kind::Address => b'A',
+        Kind::WriteData => b'D',
+        Kind::Control => b'C',
+        Kind::Unknown => 0,
+    }
+}
+
 // The row of the table that a kind has, and 7 where the letter is unknown.
 pub fn row_of(kind: Kind) -> usize
     ensures { λ r. ⌜ r ≡ rowOf kind ⌝ }
@@ -89,7 +105,7 @@ fn filled_fields() -> [[u8; 3]; 7]
 }
 
 // Whether a column, 0 to 2, is filled.
-fn is_filled(kind: Kind, column: usize) -> bool
+pub fn is_filled(kind: Kind, column: usize) -> bool
     requires { ⌜ (rowOf kind < 7) × (column < 3) ⌝ }
     ensures { λ r. ⌜ r ≡ isFilled kind column ⌝ }
 {

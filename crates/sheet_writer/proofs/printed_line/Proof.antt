@@ -1,0 +1,159 @@
+-- `sheet_writer::printed_line` meets its contract: each arm knows its line, whose number is below its size.
+use native.Mathlib.Omega.{arith}
+use borrow.Author.Needs.{needs}
+use mathlib.Core.Path.{subst}
+use Rattle.netlist.specs.NetOf.{codeOf, netOf, alone}
+use Rattle.netlist.specs.Places.{HasLine}
+use Rattle.sheet_writer.specs.SheetText.{printedLine}
+use Rattle.sheet_writer.proofs.printed_line.Statement.{statement}
+use Rattle.sheet_writer.proofs.printed_line.Tie as tie
+use Rattle.sheet_writer.proofs.printed_line.Reads as reads
+use Rattle.sheet_writer.proofs.printed_line.Lts as lts
+
+enum-told : tie.Need-enum-told
+enum-told c = search needs
+
+enum-told-2 : tie.Need-enum-told-2
+enum-told-2 c = search needs
+
+enum-known-line : tie.Need-enum-known-line
+enum-known-line c = search needs
+
+cast-at : tie.Need-cast-at
+cast-at c = search needs
+
+mul-at : tie.Need-mul-at
+mul-at c = search needs
+
+mul-t23 : tie.Need-mul-t23
+mul-t23 c = search needs
+
+element-copy-out-t27 : tie.Need-element-copy-out-t27
+element-copy-out-t27 c = omega (arith, subst (HasLine (alone (c .before .before .before .args .t1))) (c .before .line .given .1) (c .before .before .before .pre .1), c .before .before .before .pre .0 .latches-fit)
+
+add-t28 : tie.Need-add-t28
+add-t28 c = search needs
+
+mul-t29 : tie.Need-mul-t29
+mul-t29 c = search needs
+
+element-copy-out-t32 : tie.Need-element-copy-out-t32
+element-copy-out-t32 c = omega (arith, subst (HasLine (alone (c .before .before .before .before .args .t1))) (c .before .before .line .given .1) (c .before .before .before .before .pre .1), c .before .before .before .before .pre .0 .latches-fit)
+
+enum-known-line-2 : tie.Need-enum-known-line-2
+enum-known-line-2 c = search needs
+
+cast-at-2 : tie.Need-cast-at-2
+cast-at-2 c = search needs
+
+mul-at-2 : tie.Need-mul-at-2
+mul-at-2 c = search needs
+
+mul-t33 : tie.Need-mul-t33
+mul-t33 c = search needs
+
+element-copy-out-t37 : tie.Need-element-copy-out-t37
+element-copy-out-t37 c = omega (arith, subst (HasLine (alone (c .before .before .before .args .t1))) (c .before .line2 .given .1) (c .before .before .before .pre .1), c .before .before .before .pre .0 .gates-fit)
+
+add-t38 : tie.Need-add-t38
+add-t38 c = search needs
+
+mul-t39 : tie.Need-mul-t39
+mul-t39 c = search needs
+
+element-copy-out-t42 : tie.Need-element-copy-out-t42
+element-copy-out-t42 c = omega (arith, subst (HasLine (alone (c .before .before .before .before .args .t1))) (c .before .before .line2 .given .1) (c .before .before .before .before .pre .1), c .before .before .before .before .pre .0 .gates-fit)
+
+enum-known-line-3 : tie.Need-enum-known-line-3
+enum-known-line-3 c = search needs
+
+cast-at-3 : tie.Need-cast-at-3
+cast-at-3 c = search needs
+
+mul-t44 : tie.Need-mul-t44
+mul-t44 c = search needs
+
+element-copy-out-t47 : tie.Need-element-copy-out-t47
+element-copy-out-t47 c = omega (arith, subst (HasLine (alone (c .before .before .before .args .t1))) (c .before .line3 .given .1) (c .before .before .before .pre .1), c .before .before .before .pre .0 .m-most)
+
+enum-known-line-4 : tie.Need-enum-known-line-4
+enum-known-line-4 c = search needs
+
+cast-at-4 : tie.Need-cast-at-4
+cast-at-4 c = search needs
+
+mul-t49 : tie.Need-mul-t49
+mul-t49 c = search needs
+
+element-copy-out-t52 : tie.Need-element-copy-out-t52
+element-copy-out-t52 c = omega (arith, subst (HasLine (alone (c .before .before .before .args .t1))) (c .before .line4 .given .1) (c .before .before .before .pre .1), c .before .before .before .pre .0 .n-most)
+
+enum-told-3 : tie.Need-enum-told-3
+enum-told-3 c = search needs
+
+returns : tie.Need-returns
+unfolding netOf printedLine
+returns c = rw (c .enum-told .given .1)
+
+returns-2 : tie.Need-returns-2
+unfolding netOf printedLine
+returns-2 c = rw (c .enum-told2 .given .1)
+
+returns-3 : tie.Need-returns-3
+unfolding netOf printedLine
+returns-3 c = rw (c .before .before .before .line .given .1)
+
+returns-4 : tie.Need-returns-4
+unfolding netOf printedLine
+returns-4 c = rw (c .before .before .before .line2 .given .1)
+
+returns-5 : tie.Need-returns-5
+unfolding netOf printedLine codeOf
+returns-5 c = rw (c .before .line3 .given .1)
+
+returns-6 : tie.Need-returns-6
+unfolding netOf printedLine codeOf
+returns-6 c = rw (c .before .line4 .given .1)
+
+returns-7 : tie.Need-returns-7
+unfolding netOf printedLine
+returns-7 c = rw (c .enum-told3 .given .1)
+
+pub printed-line-spec : {M : Type 1} → statement M
+printed-line-spec =
+    tie.close
+    (tie.spec
+    enum-told
+    enum-told-2
+    enum-known-line
+    cast-at
+    mul-at
+    mul-t23
+    element-copy-out-t27
+    add-t28
+    mul-t29
+    element-copy-out-t32
+    enum-known-line-2
+    cast-at-2
+    mul-at-2
+    mul-t33
+    element-copy-out-t37
+    add-t38
+    mul-t39
+    element-copy-out-t42
+    enum-known-line-3
+    cast-at-3
+    mul-t44
+    element-copy-out-t47
+    enum-known-line-4
+    cast-at-4
+    mul-t49
+    element-copy-out-t52
+    enum-told-3
+    returns
+    returns-2
+    returns-3
+    returns-4
+    returns-5
+    returns-6
+    returns-7)
