@@ -42,5 +42,5 @@ pub record SheetWritten : Type 0 where
   -- RULES B5: "writing what was read gives the same bytes"; that no test of records refuses it is promised by `read`
   pub write-back : (file : List ℕ) (latches : List Latch) (gates : List Gate) → readVerdict file latches gates ≡ Passed
       → sheetText (netRead file latches gates) ≡ file
-  -- RULES B6: "records with the same used entries give one sheet"
+  -- RULES B6: "Two records with the same used entries give one sheet"
   pub one-sheet : (c d : Netlist) → Agree c d → sheetText c ≡ sheetText d

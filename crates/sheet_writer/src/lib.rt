@@ -55,19 +55,23 @@ fn printed_line(
         },
         Line::Latch(l) => {
             let at = 2 * (l as usize);
+            let next = latches[at];
+            let reset = latches[at + 1];
             PrintedLine {
                 kind: Kind::Latch,
-                first: latches[at],
-                second: latches[at + 1],
+                first: next,
+                second: reset,
                 third: 0,
             }
         }
         Line::Gate(g) => {
             let at = 2 * (g as usize);
+            let left = gates[at];
+            let right = gates[at + 1];
             PrintedLine {
                 kind: Kind::Gate,
-                first: gates[at],
-                second: gates[at + 1],
+                first: left,
+                second: right,
                 third: 0,
             }
         }

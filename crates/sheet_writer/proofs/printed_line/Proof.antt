@@ -25,20 +25,20 @@ cast-at c = search needs
 mul-at : tie.Need-mul-at
 mul-at c = search needs
 
-mul-t23 : tie.Need-mul-t23
-mul-t23 c = search needs
+mul-next : tie.Need-mul-next
+mul-next c = search needs
 
-element-copy-out-t27 : tie.Need-element-copy-out-t27
-element-copy-out-t27 c = omega (arith, subst (HasLine (alone (c .before .before .before .args .t1))) (c .before .line .given .1) (c .before .before .before .pre .1), c .before .before .before .pre .0 .latches-fit)
+element-copy-out-next : tie.Need-element-copy-out-next
+element-copy-out-next c = omega (arith, subst (HasLine (alone (c .before .before .before .args .t1))) (c .before .line .given .1) (c .before .before .before .pre .1), c .before .before .before .pre .0 .latches-fit)
 
-add-t28 : tie.Need-add-t28
-add-t28 c = search needs
+add-reset : tie.Need-add-reset
+add-reset c = search needs
 
-mul-t29 : tie.Need-mul-t29
-mul-t29 c = search needs
+mul-reset : tie.Need-mul-reset
+mul-reset c = search needs
 
-element-copy-out-t32 : tie.Need-element-copy-out-t32
-element-copy-out-t32 c = omega (arith, subst (HasLine (alone (c .before .before .before .before .args .t1))) (c .before .before .line .given .1) (c .before .before .before .before .pre .1), c .before .before .before .before .pre .0 .latches-fit)
+element-copy-out-reset : tie.Need-element-copy-out-reset
+element-copy-out-reset c = omega (arith, subst (HasLine (alone (c .before .before .before .before .args .t1))) (c .before .before .line .given .1) (c .before .before .before .before .pre .1), c .before .before .before .before .pre .0 .latches-fit)
 
 enum-known-line-2 : tie.Need-enum-known-line-2
 enum-known-line-2 c = search needs
@@ -49,20 +49,20 @@ cast-at-2 c = search needs
 mul-at-2 : tie.Need-mul-at-2
 mul-at-2 c = search needs
 
-mul-t33 : tie.Need-mul-t33
-mul-t33 c = search needs
+mul-left : tie.Need-mul-left
+mul-left c = search needs
 
-element-copy-out-t37 : tie.Need-element-copy-out-t37
-element-copy-out-t37 c = omega (arith, subst (HasLine (alone (c .before .before .before .args .t1))) (c .before .line2 .given .1) (c .before .before .before .pre .1), c .before .before .before .pre .0 .gates-fit)
+element-copy-out-left : tie.Need-element-copy-out-left
+element-copy-out-left c = omega (arith, subst (HasLine (alone (c .before .before .before .args .t1))) (c .before .line2 .given .1) (c .before .before .before .pre .1), c .before .before .before .pre .0 .gates-fit)
 
-add-t38 : tie.Need-add-t38
-add-t38 c = search needs
+add-right : tie.Need-add-right
+add-right c = search needs
 
-mul-t39 : tie.Need-mul-t39
-mul-t39 c = search needs
+mul-right : tie.Need-mul-right
+mul-right c = search needs
 
-element-copy-out-t42 : tie.Need-element-copy-out-t42
-element-copy-out-t42 c = omega (arith, subst (HasLine (alone (c .before .before .before .before .args .t1))) (c .before .before .line2 .given .1) (c .before .before .before .before .pre .1), c .before .before .before .before .pre .0 .gates-fit)
+element-copy-out-right : tie.Need-element-copy-out-right
+element-copy-out-right c = omega (arith, subst (HasLine (alone (c .before .before .before .before .args .t1))) (c .before .before .line2 .given .1) (c .before .before .before .before .pre .1), c .before .before .before .before .pre .0 .gates-fit)
 
 enum-known-line-3 : tie.Need-enum-known-line-3
 enum-known-line-3 c = search needs
@@ -128,19 +128,19 @@ printed-line-spec =
     enum-known-line
     cast-at
     mul-at
-    mul-t23
-    element-copy-out-t27
-    add-t28
-    mul-t29
-    element-copy-out-t32
+    mul-next
+    element-copy-out-next
+    add-reset
+    mul-reset
+    element-copy-out-reset
     enum-known-line-2
     cast-at-2
     mul-at-2
-    mul-t33
-    element-copy-out-t37
-    add-t38
-    mul-t39
-    element-copy-out-t42
+    mul-left
+    element-copy-out-left
+    add-right
+    mul-right
+    element-copy-out-right
     enum-known-line-3
     cast-at-3
     mul-t44

@@ -1,0 +1,77 @@
+// The program `import_aag` (RULES P18 to P22): m, n and the start word as arguments and an ASCII AIGER text on standard input; on standard
+// output the sheet of its netlist, or one refusal. What is printed is in the crates below; here are only arguments, input and output.
+use decimal::Number;
+ghost use mathlib.Core.Path.{_≡_};
+ghost use lib.ListN.{length};
+
+// Writes text to standard output. Where that fails, says so on standard error.
+fn write_text(text: &[u8]) {
+    if !io::write_all(1, text) {
+        io::write_all(2, b"import_aag: writing failed, the output is not whole\n");
+    }
+}
+
+fn print_usage() {
+    io::write_all(
+        2,
+        b"usage: import_aag m n start < text.aag > sheet\n  m, n: how many address and data bits; start: the word that the memory is filled with\n",
+    );
+}
+
+// An argument as a number of at most ten digits; one that is missing or longer is none.
+fn number_at(i: usize) -> Number {
+    let mut word = [0; 10];
+    let count = os::arg(i, &mut word);
+    decimal::read_number(&word[..count])
+}
+
+// One byte more than the longest text that is read, so that a longer one is seen to be too long.
+fn no_text() -> [u8; 4194305]
+    ensures { λ r. ⌜ length r ≡ 4194305 ⌝ }
+{
+    [0; 4194305]
+}
+
+// As many bytes as the longest sheet has.
+fn no_sheet() -> [u8; 19680]
+    ensures { λ r. ⌜ length r ≡ 19680 ⌝ }
+{
+    [0; 19680]
+}
+
+fn print_import(text: &[u8], m: u32, n: u32, word: u32) {
+    let mut sheet = no_sheet();
+    let bytes = program_import::write_import(&mut sheet, text, m, n, word);
+    write_text(&sheet[..bytes]);
+}
+
+// Imports the text on standard input.
+fn import(m: u32, n: u32, word: u32) {
+    let mut text = no_text();
+    let count = io::read_full(0, &mut text);
+    if 4194304 < count {
+        io::write_all(2, b"import_aag: the text has more than 4194304 bytes\n");
+        return;
+    }
+    print_import(&text[..count], m, n, word);
+}
+
+fn main() {
+    if os::arg_count() != 4 {
+        print_usage();
+        return;
+    }
+    let Number::Value(m) = number_at(1) else {
+        print_usage();
+        return;
+    };
+    let Number::Value(n) = number_at(2) else {
+        print_usage();
+        return;
+    };
+    let Number::Value(word) = number_at(3) else {
+        print_usage();
+        return;
+    };
+    import(m, n, word);
+}
