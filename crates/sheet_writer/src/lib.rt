@@ -157,7 +157,12 @@ fn put_line_at(
 }
 
 // Writes all lines, one behind the other.
-pub fn put_sheet(out: &mut [u8], net: Netlist, latches: &UnpackedList, gates: &UnpackedList) -> usize
+pub fn put_sheet(
+    out: &mut [u8],
+    net: Netlist,
+    latches: &UnpackedList,
+    gates: &UnpackedList,
+) -> usize
     requires { ⌜ SizesFit (alone net) × (controlLine (alone net) * 32 ≤ length (now out)) ⌝ }
     ensures { λ r. ⌜ Wrote (sheetText (netOf net (now (latches .entry)) (now (gates .entry)))) (now (out .entry)) (now (out .exit)) r ⌝ }
 {
