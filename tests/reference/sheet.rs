@@ -174,6 +174,15 @@ pub fn write_sheet(netlist: &Netlist) -> Vec<u8> {
     expand(&short_lines.join("/"))
 }
 
+/// K9, for a lent buffer of `room` bytes: the record's tests, then 9. The result is what is written;
+/// its length is the count.
+pub fn write_back(netlist: &Netlist, room: usize) -> Result<Vec<u8>, Refusal> {
+    netlist.check()?;
+    let need = netlist.line_count() as usize * LINE_BYTES;
+    require(room >= need, NO_ROOM, 0)?;
+    Ok(write_sheet(netlist))
+}
+
 /// Spreads a short form to lines of 32 bytes: lines parted by `/`, a letter and up to three
 /// fields parted by single spaces; fields left out are empty. Fields may be any text of at most
 /// ten bytes, so that misprints can be written down as well.

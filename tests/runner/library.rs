@@ -12,6 +12,7 @@ mod prints;
 mod reads;
 mod reference;
 mod replay_calls;
+mod sheets;
 
 use std::cell::RefCell;
 
@@ -37,6 +38,7 @@ impl Counts {
 #[derive(Default)]
 pub struct Library {
     reads: RefCell<Counts>,
+    sheets: RefCell<Counts>,
     lines: RefCell<Counts>,
     imports: RefCell<Counts>,
     calls: RefCell<Counts>,
@@ -51,7 +53,7 @@ pub struct Library {
 
 type Family = (&'static str, fn(&Library, &mut Tally));
 
-const FAMILIES: [Family; 28] = [
+const FAMILIES: [Family; 33] = [
     ("facts of the full run", calls::stated),
     ("table of group calls", calls::table_of_calls),
     ("table of records", calls::table_of_records),
@@ -62,6 +64,11 @@ const FAMILIES: [Family; 28] = [
     ("rooms of lists", reads::rooms),
     ("damaged sheets", reads::damaged),
     ("lines of sheets", reads::lines),
+    ("sheets written, by hand", sheets::by_hand),
+    ("sheets written and read back", sheets::round_trips),
+    ("sheets read and written back", sheets::damaged_sheets),
+    ("sheets of damaged records", sheets::damaged_records),
+    ("rooms of sheets", sheets::rooms),
     ("tables of imports", imports::tables),
     ("imports, sets of faults", imports::fault_sets),
     ("imports, predicted faults", imports::predicted_faults),
@@ -86,8 +93,9 @@ const FAMILIES: [Family; 28] = [
 
 /// Each function, and the numbers that the tests must have made it answer: all that it has. 10 has none.
 fn every_number(library: &Library, tally: &mut Tally) {
-    let rows: [(&str, &RefCell<Counts>, &[usize]); 10] = [
+    let rows: [(&str, &RefCell<Counts>, &[usize]); 11] = [
         ("read", &library.reads, &[1, 2, 3, 4, 5, 6, 9]),
+        ("write_sheet", &library.sheets, &[3, 4, 5, 6, 9]),
         ("next_line", &library.lines, &[2]),
         ("import", &library.imports, &[4, 6, 9, 11, 12, 13]),
         ("write_group", &library.calls, &[3, 4, 5, 6, 7, 8, 9]),
@@ -151,6 +159,9 @@ fn main() {
             });
             report.family("tables of sheets", |tally| reads::tables(&library, tally));
             report.family("lines of sheets", |tally| reads::lines(&library, tally));
+            report.family("sheets written, by hand", |tally| {
+                sheets::by_hand(&library, tally)
+            });
             report.family("imports, ends of texts", |tally| {
                 imports::ends(&library, tally)
             });
