@@ -36,7 +36,7 @@ pub fn by_hand(library: &Library, tally: &mut Tally) {
     for short in [
         "N 1 0 0/M 1 1 0/A 0/D 2/C 1 1 5",
         "N 0 0 0/M 1 1 1/A 1/D 0/C 0 0 1",
-        "N 2 1 2/M 2 3 7/L 17 1/G 2 4/G 16 3/A 2/A 7/D 8/D 10/D 1/C 18 5 19",
+        "N 2 1 2/M 2 3 7/L 17 1/G 2 4/G 14 3/A 2/A 7/D 8/D 10/D 1/C 16 5 17",
         "N 0 0 0/M 12 32 4294967295/A 0/A 0/A 0/A 0/A 0/A 0/A 0/A 0/A 0/A 0/A 0/A 1\
          /D 2/D 0/D 0/D 0/D 0/D 0/D 0/D 0/D 0/D 0/D 0/D 0/D 0/D 0/D 0/D 0\
          /D 0/D 0/D 0/D 0/D 0/D 0/D 0/D 0/D 0/D 0/D 0/D 0/D 0/D 0/D 0/D 65/C 0 1 64",
