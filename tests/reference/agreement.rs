@@ -1,5 +1,5 @@
 //! Demand 3: satisfying assignments and runs that break the property match one another
-//! (RULES A2 to A9).
+//! (RULES A2 to A16).
 
 use std::collections::HashSet;
 

@@ -1,4 +1,4 @@
-//! The chip with its whole memory, stepped frame by frame (RULES C1 to C22).
+//! The chip with its whole memory, stepped frame by frame (RULES C2 to C24).
 
 use super::netlist::Netlist;
 

@@ -129,8 +129,8 @@ pub fn sheet_numbers(sheet: SheetAnswer) -> SheetReply
     }
 }
 
-// What is sent back of a line: number and place (0 where it is not refused), its letter, its fields, and how many lines are read with
-// it. An empty field is 0; letter and fields are 0 beside a refusal, and where there is no line.
+// What is sent back of a line: number and place (0 where it is not refused), its letter, its fields, whether the third is empty and may
+// be filled, and how many lines are read with it. An empty field is 0; letter and fields are 0 beside a refusal, and where there is no line.
 #[repr(C)]
 pub struct LineReply {
     pub number: u32,
@@ -139,6 +139,7 @@ pub struct LineReply {
     pub first: u32,
     pub second: u32,
     pub third: u32,
+    pub empty: u32,
     pub line: u32,
 }
 
@@ -153,6 +154,7 @@ fn without_fields(number: u32, place: u32, line: u32) -> LineReply
         first: 0,
         second: 0,
         third: 0,
+        empty: 0,
         line,
     }
 }
@@ -167,6 +169,7 @@ pub fn line_numbers(answer: LineAnswer, line: u32) -> LineReply
             first,
             second,
             third,
+            empty,
         } => LineReply {
             number: 0,
             place: 0,
@@ -174,6 +177,7 @@ pub fn line_numbers(answer: LineAnswer, line: u32) -> LineReply
             first,
             second,
             third,
+            empty,
             line,
         },
         LineAnswer::Refused(refusal, place) => without_fields(

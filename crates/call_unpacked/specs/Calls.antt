@@ -87,7 +87,7 @@ headingSent c latchCount gateCount k =
     withHeading (headingVerdict c latchCount gateCount k) (base c (k + 1)) (length (clausesIn (formula c k)))
 
 -- Demand 3, of the calls over the netlist d, for the netlist c that is meant: d itself, or that of the sheet which d was read from
--- (past the sizes the two may differ). RULES A2, A8 and A9: each group is asked for once with room enough, and the numbers are joined in
+-- (past the sizes the two may differ). RULES A2, A13 and A14: each group is asked for once with room enough, and the numbers are joined in
 -- the order of the whole. Those numbers are c's formula, and the formula encodes the runs and is as `Stated` says; the variables are at
 -- most 675,841 (RULES V6), so that refusal 10 is never met; and c's sheet has at most 615 lines (RULES S6).
 abbrev pub RoomEnough : Netlist → ℕ → (Group → List ℤ) → Type 0

@@ -1,4 +1,4 @@
--- What the public calls over a record and its lent lists answer, leave and claim (RULES T40, T41, A8 and A9): the calls over a
+-- What the public calls over a record and its lent lists answer, leave and claim (RULES T40, T41, A13 and A14): the calls over a
 -- netlist (call_unpacked/specs/Calls), for the netlist that record and lists stand for. Cited by `heading` and `write_group`, here and in `marrubigai`.
 use Prim.Native.Nat.{ℕ, _≤_}
 use mathlib.Core.Path.{_≡_}

@@ -1,5 +1,5 @@
--- Runs that are fed alike: the inputs, and the idle word where RE is false in frame 0. They go through the same states and values. No contract
--- cites this file.
+-- Runs that begin with the same words and are fed alike: the inputs, and the idle word where RE is false in frame 0. They go through the same
+-- states and values. No contract cites this file.
 use Prim.Native.Nat.{ℕ, zero, suc, _/_, _^_, _≤_, _<_}
 use mathlib.Core.Path.{_≡_, refl, sym, _∙_}
 use mathlib.Core.Bool.{Bool, true, false, cond}
@@ -84,16 +84,17 @@ module _ {c : Netlist} (ok : Accepted c) where
           held-alike = λ e t h. frame-same (readWire c t) (omega arith);
         }
 
-  -- runs whose idle words are the same where RE is false in frame 0, and whose inputs are in every frame before i
-  module _ (f g : Feeds) {idle idle′ : ℕ → Bool}
-      (idles : codeValue (run c (initial c idle) f 0) (c .RE) ≡ false → (t : ℕ) → t < readBits c → idle t ≡ idle′ t) where
+  -- runs with the same 2^m words at first, whose idle words are the same where RE is false in frame 0, and whose inputs are in every frame
+  -- before i
+  module _ (f g : Feeds) {memory memory′ : ℕ → ℕ} (words : (x : ℕ) → x < 2 ^ c .m → memory x ≡ memory′ x) {idle idle′ : ℕ → Bool}
+      (idles : codeValue (run c (initial c memory idle) f 0) (c .RE) ≡ false → (t : ℕ) → t < readBits c → idle t ≡ idle′ t) where
     pub states-same : (i : ℕ) → ((j : ℕ) → j < i → InputsAlike c (f j) (g j))
-        → StatesAlike c (f i) (stateAt c (initial c idle) f i) (stateAt c (initial c idle′) g i)
+        → StatesAlike c (f i) (stateAt c (initial c memory idle) f i) (stateAt c (initial c memory′ idle′) g i)
     unfolding run stateAt initial
-    states-same zero inputs = record { latch-alike = λ l h. refl; memory-alike = λ x h. refl; held-alike = idles }
+    states-same zero inputs = record { latch-alike = λ l h. refl; memory-alike = words; held-alike = idles }
     states-same (suc i) inputs = step-same (states-same i (λ j h. inputs j (omega arith))) (inputs i (omega arith)) (f (suc i))
 
     pub run-same : (i : ℕ) → ((j : ℕ) → j ≤ i → InputsAlike c (f j) (g j))
-        → (w : ℕ) → w ≤ lastWire c → run c (initial c idle) f i w ≡ run c (initial c idle′) g i w
+        → (w : ℕ) → w ≤ lastWire c → run c (initial c memory idle) f i w ≡ run c (initial c memory′ idle′) g i w
     unfolding run
     run-same i inputs = frame-same (states-same i (λ j h. inputs j (omega arith))) (inputs i (omega arith))

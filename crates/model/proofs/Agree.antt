@@ -1,24 +1,35 @@
 -- Netlists that agree below their sizes (specs/Agree.antt) have the same limits, the same wires and the same wires that depend on a
 -- read bit: they are accepted alike. No contract cites this file.
 use Prim.Native.Nat.{ℕ, zero, suc, _/_, _≤_, _<_}
-use mathlib.Core.Path.{_≡_, sym, _∙_, ap}
+use mathlib.Core.Path.{_≡_, refl, sym, _∙_, ap}
 use mathlib.Core.Bool.{Bool, false}
 use mathlib.Core.List.{List}
 use native.Mathlib.Nat.{le-refl}
 use native.Mathlib.Omega.{arith}
 use lib.ListN.{getD}
-use Rattle.model.specs.Netlist.{Netlist, gateWire, lastWire}
+use Rattle.model.specs.Netlist.{Netlist, given, startOf, start, gateWire, lastWire}
 use Rattle.model.specs.Circuit.{Values, sweep, isRead, dependsOnRead}
 use Rattle.model.specs.Acceptance.{SizesFit, CodesFit, Accepted}
-use Rattle.model.specs.Agree.{sizesOf, SameSizes, Agree}
+use Rattle.model.specs.Agree.{givenWord, sizesOf, SameSizes, Agree}
 use Rattle.model.proofs.Sweep.{OfTwoWires}
 use Rattle.model.proofs.Dependence.{eitherWire-of-two}
+
+-- the same start, where the word given and whether there is one are the same
+startOf-same : (x y u v : ℕ) → u ≡ v → givenWord (startOf x u) ≡ givenWord (startOf y v) → startOf x u ≡ startOf y v
+unfolding startOf givenWord
+startOf-same x y zero zero e q = ap given q
+startOf-same x y (suc u) (suc v) e q = refl
+startOf-same x y zero (suc v) e q = absurd (omega arith)
+startOf-same x y (suc u) zero e q = absurd (omega arith)
 
 -- netlists with the same sizes
 module _ (c d : Netlist) (q : SameSizes c d) where
   -- each size by itself
   pub same-at : (i : ℕ) → getD (sizesOf c) i 0 ≡ getD (sizesOf d) i 0
   same-at i = ap (λ (xs : List ℕ). getD xs i 0) q
+
+  start-at : start c ≡ start d
+  start-at = startOf-same (c .initialWord) (d .initialWord) (c .unknownStart) (d .unknownStart) (same-at 6) (same-at 5)
 
   -- have the same limits, kept or not
   pub sizesFit-same : SizesFit c → SizesFit d
@@ -31,7 +42,8 @@ module _ (c d : Netlist) (q : SameSizes c d) where
         m-most = rw (← same-at 3) (h .m-most);
         n-least = rw (← same-at 4) (h .n-least);
         n-most = rw (← same-at 4) (h .n-most);
-        word-fits = rw (← same-at 5, ← same-at 4) (h .word-fits);
+        unknown-fits = rw (← same-at 6) (h .unknown-fits);
+        word-fits = rw (← start-at, ← same-at 4) (h .word-fits);
         wires-fit = rw (← same-at 0, ← same-at 1, ← same-at 2, ← same-at 4) (h .wires-fit);
       }
 
@@ -52,8 +64,8 @@ module _ (c d : Netlist) (q : Agree c d) where
   pub n-same : c .n ≡ d .n
   n-same = same-at c d (q .sizes-same) 4
 
-  pub word-same : c .initialWord ≡ d .initialWord
-  word-same = same-at c d (q .sizes-same) 5
+  pub start-same : start c ≡ start d
+  start-same = start-at c d (q .sizes-same)
 
   -- a number within a limit that both share
   pub lastWire-same : lastWire c ≡ lastWire d

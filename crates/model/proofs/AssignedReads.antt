@@ -9,7 +9,7 @@ use native.Mathlib.Nat.{le-refl}
 use lib.Dec.{eqb}
 use borrow.Author.Tests.{eqb-true, eq-eqb}
 use Rattle.model.specs.Bits.{bit}
-use Rattle.model.specs.Netlist.{Netlist, Port, port, readWire}
+use Rattle.model.specs.Netlist.{Netlist, Start, Port, port, readWire}
 use Rattle.model.specs.Circuit.{Values, codeValue, addressOf, wordWritten}
 use Rattle.model.specs.Clauses.{PairLiterals}
 use Rattle.model.specs.Variables.{noneSince, readBit, pairLiterals}
@@ -34,7 +34,7 @@ module _ (c : Netlist) (p : Port) (a : Assignment) where
   literals = pairLiterals c p
 
   -- E is true exactly where frame i reads the address that frame j has for a write
-  pub E-value : (j i : ℕ) → PairHolds a (c .m) (c .n) (literals j i) → value a (literals j i .E) ≡ eqb (at i) (addressOf c (port c) (u j))
+  pub E-value : (j i : ℕ) {s : Start} → PairHolds a (c .m) (c .n) s (literals j i) → value a (literals j i .E) ≡ eqb (at i) (addressOf c (port c) (u j))
   unfolding pairLiterals addressOf
   E-value j i h =
       iff-eq _ _
@@ -49,7 +49,7 @@ module _ (c : Netlist) (p : Port) (a : Assignment) where
       Ai t = codeIn-value c a i (p .address t)
 
   -- s is true exactly where frame j writes the word that frame i reads
-  pub s-value : (j i : ℕ) → PairHolds a (c .m) (c .n) (literals j i) → value a (literals j i .s) ≡ hits c p u i j
+  pub s-value : (j i : ℕ) {s : Start} → PairHolds a (c .m) (c .n) s (literals j i) → value a (literals j i .s) ≡ hits c p u i j
   unfolding hits writes pairLiterals
   s-value j i h =
       h .valid ∙ and-comm (value a (literals j i .E)) (value a (literals j i .WE))
@@ -61,7 +61,7 @@ module _ (c : Netlist) (p : Port) (a : Assignment) where
   N-value j i = ap (λ (x : ℕ). value a (noneSince c p x i)) (add-one j)
 
   -- of a frame whose pairs hold
-  module _ (i : ℕ) (pairs : (j : ℕ) → j < i → PairHolds a (c .m) (c .n) (literals j i)) where
+  module _ (i : ℕ) {s : Start} (pairs : (j : ℕ) → j < i → PairHolds a (c .m) (c .n) s (literals j i)) where
     -- the literals `noneSince` are the chain of the writes to the word read
     pub chain-value : Chain i (hits c p u i) (λ j. value a (noneSince c p j i))
     unfolding pairLiterals

@@ -1,5 +1,5 @@
--- From an assignment that makes all clauses true to every run that is fed as it is: frame by frame, the values assigned are the
--- frame's. No contract cites this file.
+-- From an assignment that makes all clauses true to every run that is fed as it is and begins with a memory that explains its reads: frame
+-- by frame, the values assigned are the frame's. No contract cites this file.
 use Prim.Native.Nat.{ℕ, zero, suc, _+_, _-_, _<_, _≤_}
 use mathlib.Core.Path.{_≡_, refl, sym, _∙_, ap}
 use mathlib.Core.Bool.{Bool, true, false}
@@ -19,6 +19,7 @@ use Rattle.model.proofs.Truth.{value, AllHold}
 use Rattle.model.proofs.InFrame.{assigned, assigned-zero, assigned-wire, readBit-value, codeIn-value}
 use Rattle.model.proofs.Joined.{EachGroup}
 use Rattle.model.proofs.AssignedReads.{word-read}
+use Rattle.model.proofs.StartMemory.{Explains}
 use Rattle.model.proofs.Agreement.{Same, code-agrees, wordBefore, memory-stepped, wordBefore-agrees}
 use Rattle.model.proofs.Groups.{wires-hold, state-first-holds, state-later-holds, gateClauses-holds, resetClauses-holds, latchClauses-holds, pair-holds, closing-holds, property-holds}
 
@@ -40,15 +41,13 @@ module _ (c : Netlist) (a : Assignment) where
   abbrev at : ℕ → ℕ
   at i = addressOf c (port c) (u i)
 
-  module _ (k : ℕ) (holds : EachGroup c k (AllHold a)) where
+  module _ (k : ℕ) (holds : EachGroup c k (AllHold a)) (memory : ℕ → ℕ) (explains : Explains c a k memory) where
     -- where RE is true, the read bits assigned are the word that the writes assigned leave
     read-at : (i : ℕ) → i ≤ k → codeValue (u i) (c .RE) ≡ true → (t : ℕ) → t < c .n
-        → u i (readWire c t) ≡ bit (wordBefore c u (c .initialWord) (at i) i) t
-    unfolding closingLiterals value
+        → u i (readWire c t) ≡ bit (wordBefore c u (memory (at i)) (at i) i) t
     read-at i d r t b =
         rw (zero-add t) at (
-        word-read c (port c) a i (λ j l. pair-holds c a k j i .0 (holds .pairs j i l d)) (c .initialWord)
-        (λ z t b. closing-holds c a k i .0 (holds .closings i d) .initial-where-Z t b z) r t b
+        word-read c (port c) a i (λ j l. pair-holds c a k j i .0 (holds .pairs j i l d)) (memory (at i)) (explains i d) r t b
         )
 
     -- where RE is false, the read bits assigned to a later frame are those of the frame before
@@ -66,10 +65,10 @@ module _ (c : Netlist) (a : Assignment) where
     module _ (ok : Accepted c) {idle : ℕ → Bool} {f : Feeds} (fed : FedAs c k a idle f) where
       -- a run that is fed as the assignment has it, and its states
       abbrev driven : ℕ → Values
-      driven = run c (initial c idle) f
+      driven = run c (initial c memory idle) f
 
       abbrev state : ℕ → State
-      state = stateAt c (initial c idle) f
+      state = stateAt c (initial c memory idle) f
 
       -- the frames below i agree
       abbrev Before : ℕ → Type 0
@@ -88,11 +87,11 @@ module _ (c : Netlist) (a : Assignment) where
           ∙ code-agrees c (u i) (driven i) (before i (lt-suc-self i)) (c .next l) (ok .limits .codes .next-fits l b)
 
       -- so is the word that frame i reads
-      word-at : (i : ℕ) → Before i → (x : ℕ) → wordBefore c u (c .initialWord) x i ≡ state i .memory x
+      word-at : (i : ℕ) → Before i → (x : ℕ) → wordBefore c u (memory x) x i ≡ state i .memory x
       unfolding initial
       word-at i before x =
-          wordBefore-agrees c (ok .limits .codes) u driven (c .initialWord) x i before
-          ∙ sym (memory-stepped c (initial c idle) f x i)
+          wordBefore-agrees c (ok .limits .codes) u driven (memory x) x i before
+          ∙ sym (memory-stepped c (initial c memory idle) f x i)
 
       -- so are the read bits of a frame that does not read
       idle-at : (i : ℕ) → i ≤ k → Before i → codeValue (u i) (c .RE) ≡ false → (t : ℕ) → t < c .n → u i (readWire c t) ≡ state i .held t
@@ -128,11 +127,11 @@ module _ (c : Netlist) (a : Assignment) where
       agree : (i : ℕ) → i < k + 1 → Same c (u i) (driven i)
       agree = agree-below (k + 1) (le-refl (k + 1))
 
-      pub assignment-agrees : Agrees c (initial c idle) k a f
+      pub assignment-agrees : Agrees c (initial c memory idle) k a f
       unfolding Agrees
       assignment-agrees i d w l b = sym (assigned-wire c a i w l) ∙ agree i (omega arith) w b
 
-      pub assignment-breaks : Breaks c (initial c idle) k f
+      pub assignment-breaks : Breaks c (initial c memory idle) k f
       unfolding Breaks
       assignment-breaks =
           let p = property-holds c a k .0 (holds .property) in

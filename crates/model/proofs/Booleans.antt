@@ -83,6 +83,17 @@ pub implies-true : (x y : Bool) → ((not x || y) ≡ true) ↔ (x ≡ true → 
 implies-true true y = (λ h e. h, λ h. h refl)
 implies-true false y = (λ h e. absurd (false≢true e), λ h. refl)
 
+-- one with three premises
+pub implied-by-all : (p q r x : Bool) → (not p || (not q || (not r || x))) ≡ (not (p && q && r) || x)
+implied-by-all true true r x = refl
+implied-by-all true false r x = refl
+implied-by-all false q r x = refl
+
+pub all-true : (p q r : Bool) → ((p && q && r) ≡ true) ↔ ((p ≡ true) × (q ≡ true) × (r ≡ true))
+all-true true true r = (λ h. (refl, refl, h), λ h. h .2)
+all-true true false r = (λ h. absurd (false≢true h), λ h. h .1)
+all-true false q r = (λ h. absurd (false≢true h), λ h. h .0)
+
 -- an implication whose conclusion, and one whose premise, is an equality
 pub equal-if : (p x y : Bool) → ((not p || Bool·beq x y) ≡ true) ↔ (p ≡ true → x ≡ y)
 equal-if true x y = (λ h e. beq-true x y .0 h, λ h. beq-true x y .1 (h refl))

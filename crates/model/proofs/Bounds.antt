@@ -12,8 +12,8 @@ use lib.IntN.{pos, natAbs}
 use lib.ListN.{length}
 use Rattle.model.specs.Bits.{odd}
 use Rattle.model.specs.Gather.{gather, gatherDown}
-use Rattle.model.specs.Netlist.{Netlist, port, gateWire, lastWire}
-use Rattle.model.specs.Clauses.{Literal, known, plus, minus, Clause, neg, andClauses, sameClauses, sameIfClauses, bitClauses, PairLiterals, addressBitClauses, unequalOf, allBits, forwardedClauses, pairClauses, ClosingLiterals, initialReadClauses, heldClauses, heldReads, selectedOf, someSource, closingClauses}
+use Rattle.model.specs.Netlist.{Netlist, Start, given, unknown, start, port, gateWire, lastWire}
+use Rattle.model.specs.Clauses.{Literal, known, plus, minus, Clause, neg, andClauses, sameClauses, sameIfClauses, sameIfAllClauses, bitClauses, PairLiterals, addressBitClauses, unequalOf, allBits, forwardedClauses, agreedClauses, agreedReads, pairClauses, ClosingLiterals, initialReadClauses, initialReads, heldClauses, heldReads, selectedOf, someSource, closingClauses}
 use Rattle.model.specs.Variables.{stride, base, pairBase, wireAt, codeAt, wireIn, codeIn, noneSince, selected, readBit, pairLiterals, closingLiterals}
 use Rattle.model.specs.Acceptance.{Accepted, IsCode}
 use Rattle.model.specs.Groups.{gateClauses, resetClauses, latchClauses, stateClauses, violationOf, clausesOf, pairOf, frameGroups, groupOrder}
@@ -47,6 +47,9 @@ record PairAll (P : Literal → Type 0) (m n : ℕ) (x : PairLiterals) : Type 0 
   WD : (t : ℕ) → t < n → P (x .WD t)
   Ai : (t : ℕ) → t < m → P (x .Ai t)
   RD : (t : ℕ) → t < n → P (x .RD t)
+  Zj : P (x .Zj)
+  Zi : P (x .Zi)
+  RDj : (t : ℕ) → t < n → P (x .RDj t)
 
 -- and of the literals of a closing
 record ClosingAll (P : Literal → Type 0) (n i : ℕ) (x : ClosingLiterals) : Type 0 where
@@ -54,7 +57,6 @@ record ClosingAll (P : Literal → Type 0) (n i : ℕ) (x : ClosingLiterals) : T
   RE : P (x .RE)
   S : (j : ℕ) → j < i → P (x .S j)
   RD : (t : ℕ) → t < n → P (x .RD t)
-  W : (t : ℕ) → t < n → P (x .W t)
   before : (t : ℕ) → t < n → P (x .before t)
 
 -- a property of literals that negation keeps is one of whole clauses, once their literals have it
@@ -79,16 +81,34 @@ module _ {P : Literal → Type 0} (keeps : (l : Literal) → P l → P (neg l)) 
   unfolding sameIfClauses
   sameIfClauses-all p a b = search (also, nothing, keeps) depth 12
 
+  -- where three others are
+  sameIfAllClauses-all : {p q r a b : Literal} → P p → P q → P r → P a → P b → AllLits P (sameIfAllClauses p q r a b)
+  unfolding sameIfAllClauses
+  sameIfAllClauses-all p q r a b = search (also, nothing, keeps) depth 14
+
   -- of an address bit's clauses
   bit-all : {E e x y : Literal} → P E → P e → P x → P y → AllLits P (bitClauses E e x y)
   unfolding bitClauses
   bit-all E e x y = search (also, nothing, keeps) depth 12
 
+  -- of a pair's clauses of reads that agree
+  agreed-all : (m n : ℕ) (s : Start) (x : PairLiterals) → PairAll P m n x → AllLits P (agreedReads n s x)
+  unfolding agreedReads agreedClauses
+  agreed-all m n (given word) x a = nothing
+  agreed-all m n unknown x a =
+      all-gather n (agreedClauses x) (λ t b. sameIfAllClauses-all (a .E) (a .Zj) (a .Zi) (a .RD t b) (a .RDj t b))
+
   -- of a pair's clauses
-  pair-all : (m n : ℕ) (x : PairLiterals) → PairAll P m n x → AllLits P (pairClauses m n x)
+  pair-all : (m n : ℕ) (s : Start) (x : PairLiterals) → PairAll P m n x → AllLits P (pairClauses m n s x)
   unfolding pairClauses addressBitClauses allBits unequalOf forwardedClauses
-  pair-all m n x a =
-      search (_⧺_, just, also, all-gather, bit-all, and-all, sameIfClauses-all, keeps, a .E, a .e, a .s, a .PS, a .S, a .N, a .WE, a .Aj, a .WD, a .Ai, a .RD) depth 20
+  pair-all m n s x a =
+      search (_⧺_, just, also, all-gather, bit-all, and-all, sameIfClauses-all, agreed-all m, keeps, a, a .E, a .e, a .s, a .PS, a .S, a .N, a .WE, a .Aj, a .WD, a .Ai, a .RD) depth 20
+
+  -- of a closing's clauses of the initial word; what is said of a constant is said of both
+  initial-all : ((b : Bool) → P (known b)) → (n : ℕ) (s : Start) (i : ℕ) (x : ClosingLiterals) → ClosingAll P n i x → AllLits P (initialReads n s x)
+  unfolding initialReads initialReadClauses
+  initial-all constants n (given word) i x a = all-gather n (initialReadClauses word x) (λ t b. sameIfClauses-all (a .Z) (a .RD t b) (constants _))
+  initial-all constants n unknown i x a = nothing
 
   -- of a closing's clauses of the word held
   held-all : (n i : ℕ) (x : ClosingLiterals) → ClosingAll P n i x → AllLits P (heldReads n i x)
@@ -97,10 +117,10 @@ module _ {P : Literal → Type 0} (keeps : (l : Literal) → P l → P (neg l)) 
   held-all n (suc i) x a = search (all-gather, sameIfClauses-all, keeps, a .RE, a .RD, a .before) depth 12
 
   -- of a closing's clauses
-  closing-all : (n i : ℕ) (x : ClosingLiterals) → ClosingAll P n i x → AllLits P (closingClauses n i x)
-  unfolding closingClauses initialReadClauses someSource selectedOf
-  closing-all n i x a =
-      search (_⧺_, just, also, all-gather, sameIfClauses-all, held-all, keeps, a, a .Z, a .RE, a .S, a .RD, a .W) depth 20
+  closing-all : ((b : Bool) → P (known b)) → (n : ℕ) (s : Start) (i : ℕ) (x : ClosingLiterals) → ClosingAll P n i x → AllLits P (closingClauses n s i x)
+  unfolding closingClauses someSource selectedOf
+  closing-all constants n s i x a =
+      initial-all constants n s i x a ⧺ held-all n i x a ⧺ just (also (keeps _ (a .RE)) (also (a .Z) (all-gather i (selectedOf x) (λ j b. just (a .S j b)))))
 
 -- what each group's clauses have, all groups' clauses joined have
 pub joined-all : {Q : Clause → Type 0} (f : Group → List Clause) (gs : List Group)
@@ -244,7 +264,7 @@ module _ {c : Netlist} (accepted : Accepted c) (k : ℕ) where
   pub pairs-within : (j i : ℕ) → j < i → i ≤ k → AllLits (Within 2 (base c (k + 1))) (clausesOf c k (Pair j i))
   unfolding clausesOf pairLiterals
   pairs-within j i l h =
-      pair-all (within-neg _ _) (c .m) (c .n) _
+      pair-all (within-neg _ _) (c .m) (c .n) (start c) _
       (record {
         E = pair-variable-within c k j i _ l h (omega arith);
         e = λ t b. pair-variable-within c k j i _ l h (omega arith);
@@ -257,19 +277,21 @@ module _ {c : Netlist} (accepted : Accepted c) (k : ℕ) where
         WD = λ t b. code-within c k _ _ (omega arith) (accepted .limits .codes .data-fits t b);
         Ai = λ t b. code-within c k _ _ (omega arith) (accepted .limits .codes .address-fits t b);
         RD = λ t b. readBit-within c k i t h b;
+        Zj = noneSince-within c k 0 j (omega arith) (omega arith) (accepted .limits .codes .RE-fits);
+        Zi = noneSince-within c k 0 i (omega arith) h (accepted .limits .codes .RE-fits);
+        RDj = λ t b. readBit-within c k j t (omega arith) b;
       })
 
   -- the closing of frame i
   pub closing-within : (i : ℕ) → i ≤ k → AllLits (Within 2 (base c (k + 1))) (clausesOf c k (Closing i))
   unfolding clausesOf closingLiterals
   closing-within i h =
-      closing-all (within-neg _ _) (c .n) i _
+      closing-all (within-neg _ _) (λ b. tt) (c .n) (start c) i _
       (record {
         Z = noneSince-within c k 0 i (omega arith) h (accepted .limits .codes .RE-fits);
         RE = code-within c k i _ h (accepted .limits .codes .RE-fits);
         S = λ j l. selected-within c k j i l h;
         RD = λ t b. readBit-within c k i t h b;
-        W = λ t b. tt;
         before = λ t b. readBit-within c k _ t (omega arith) b;
       })
 

@@ -1,27 +1,28 @@
 -- Groups that have equally many clauses. Which clauses of a group are written depends on which of its literals are constants alone: so
 -- it is the same for the wires of all later frames, for all pairs of neighbouring frames, for all other pairs and for the closings of
--- all later frames, and the clauses of a depth are counted by one group of each class. No contract cites this file.
+-- all later frames; only where the start is unknown are the pairs with frame 0, whose Z is RE, a class of their own. The clauses of a depth
+-- are counted by one group of each class. No contract cites this file.
 use Prim.Native.Nat.{ℕ, zero, suc, _+_, _-_, _*_, _/_, _≤_, _<_}
 use mathlib.Core.Path.{_≡_, refl, sym, _∙_, ap, ap₂}
 use mathlib.Core.Bool.{Bool, true, false, cond, _||_, or-assoc}
 use mathlib.Core.List.{List, [], _∷_, _++_, map, append-nil, map-append}
-use native.Mathlib.Nat.{add-mul, suc-mul, mul-suc}
+use native.Mathlib.Nat.{add-mul, mul-add, suc-mul, mul-suc}
 use native.Mathlib.Numerals.{add-one}
 use native.Mathlib.Omega.{arith}
 use borrow.Author.Tests.{ne-eqb, eq-eqb}
 use lib.Dec.{eqb, ltb}
 use lib.ListN.{length, length-append}
 use Rattle.model.specs.Bits.{odd}
-use Rattle.model.specs.Netlist.{Netlist, Port, port, latchWire, gateWire, readWire}
+use Rattle.model.specs.Netlist.{Netlist, Start, given, unknown, start, Port, port}
 use Rattle.model.specs.Gather.{gather, gatherDown}
 use Rattle.model.specs.Acceptance.{Accepted}
-use Rattle.model.specs.Clauses.{Literal, known, plus, minus, Clause, neg, andClauses, sameClauses, sameIfClauses, bitClauses, PairLiterals, addressBitClauses, unequalOf, allBits, forwardedClauses, pairClauses, ClosingLiterals, initialReadClauses, heldClauses, heldReads, selectedOf, someSource, closingClauses}
-use Rattle.model.specs.Variables.{base, wireAt, codeAt, wireIn, codeIn, noneSince, selected, readBit, pairLiterals, closingLiterals}
+use Rattle.model.specs.Clauses.{Literal, known, plus, minus, Clause, neg, andClauses, sameClauses, sameIfClauses, sameIfAllClauses, bitClauses, PairLiterals, addressBitClauses, unequalOf, allBits, forwardedClauses, agreedClauses, agreedReads, pairClauses, initialReadClauses, initialReads, heldClauses, heldReads, selectedOf, someSource, closingClauses}
+use Rattle.model.specs.Variables.{wireAt, codeAt, codeIn, noneSince, selected, readBit, pairLiterals, closingLiterals}
 use Rattle.model.specs.Groups.{gateClauses, latchClauses, stateClauses, clausesOf, pairOf, frameGroups, groupOrder}
 use Rattle.model.specs.Numbers.{isTrue, hasTrue, kept, formula, clausesIn}
 use Rattle.model.specs.declared.Group.{Group}
 use Rattle.model.specs.declared.Group.the-variants.{Wires, Pair, Closing, Property}
-use Rattle.model.proofs.Gather.{Adds, gather-total, gatherDown-count}
+use Rattle.model.proofs.Gather.{Adds}
 use Rattle.model.proofs.Joined.{joinedClauses, joinedClauses-append}
 use Rattle.model.proofs.Numbers.{orMinusOne, shown, shown-append}
 use Rattle.model.proofs.Claim.{clausesIn-formula}
@@ -145,12 +146,17 @@ sameIf-alike : {p a b p′ a′ b′ : Literal} → Like p p′ → Like a a′ 
 unfolding sameIfClauses
 sameIf-alike p a b = search (alike-cons, alike-none, literal, no-literal, like-neg) depth 14
 
+sameIfAll-alike : {p q r a b p′ q′ r′ a′ b′ : Literal} → Like p p′ → Like q q′ → Like r r′ → Like a a′ → Like b b′
+    → Alike (sameIfAllClauses p q r a b) (sameIfAllClauses p′ q′ r′ a′ b′)
+unfolding sameIfAllClauses
+sameIfAll-alike p q r a b = search (alike-cons, alike-none, literal, no-literal, like-neg) depth 18
+
 bit-alike : {E e x y E′ e′ x′ y′ : Literal} → Like E E′ → Like e e′ → Like x x′ → Like y y′
     → Alike (bitClauses E e x y) (bitClauses E′ e′ x′ y′)
 unfolding bitClauses
 bit-alike E e x y = search (alike-cons, alike-none, literal, no-literal, like-neg) depth 14
 
--- the literals of two pairs
+-- the literals of two pairs, but for Z of the earlier frame
 record PairLike (x y : PairLiterals) : Type 0 where
   E : Like (x .E) (y .E)
   e : (t : ℕ) → Like (x .e t) (y .e t)
@@ -163,10 +169,22 @@ record PairLike (x y : PairLiterals) : Type 0 where
   WD : (t : ℕ) → Like (x .WD t) (y .WD t)
   Ai : (t : ℕ) → Like (x .Ai t) (y .Ai t)
   RD : (t : ℕ) → Like (x .RD t) (y .RD t)
+  Zi : Like (x .Zi) (y .Zi)
+  RDj : (t : ℕ) → Like (x .RDj t) (y .RDj t)
 
-pair-alike : (m n : ℕ) (x y : PairLiterals) → PairLike x y → Alike (pairClauses m n x) (pairClauses m n y)
+-- that Z counts where the start is unknown
+abbrev ZjLike : Start → PairLiterals → PairLiterals → Type 0
+ZjLike (given word) x y = Unit {0}
+ZjLike unknown x y = Like (x .Zj) (y .Zj)
+
+agreed-alike : (n : ℕ) (s : Start) (x y : PairLiterals) → PairLike x y → ZjLike s x y → Alike (agreedReads n s x) (agreedReads n s y)
+unfolding agreedReads agreedClauses
+agreed-alike n (given word) x y h z = alike-none
+agreed-alike n unknown x y h z = alike-gather n _ _ (λ t. sameIfAll-alike (h .E) z (h .Zi) (h .RD t) (h .RDj t))
+
+pair-alike : (m n : ℕ) (s : Start) (x y : PairLiterals) → PairLike x y → ZjLike s x y → Alike (pairClauses m n s x) (pairClauses m n s y)
 unfolding pairClauses addressBitClauses allBits unequalOf forwardedClauses
-pair-alike m n x y h =
+pair-alike m n s x y h z =
     alike-gather m _ _ (λ t. bit-alike (h .E) (h .e t) (h .Aj t) (h .Ai t))
     ⧺ alike-cons
     (likeAll-then (likeAll-gather m _ _ (λ t. literal (like-neg (h .e t)) no-literal)) (literal (h .E) no-literal))
@@ -175,6 +193,7 @@ pair-alike m n x y h =
     ⧺ and-alike (h .PS) (like-neg (h .s)) (h .N)
     ⧺ and-alike (h .S) (h .s) (h .N)
     ⧺ alike-gather n _ _ (λ t. sameIf-alike (h .S) (h .RD t) (h .WD t))
+    ⧺ agreed-alike n s x y h z
 
 -- a code in any two frames
 code-like : (b d x : ℕ) → Like (codeAt b x) (codeAt d x)
@@ -202,25 +221,59 @@ never-zero : (i j : ℕ) → eqb 0 (suc i) ≡ eqb 0 (suc j)
 never-zero i j = ne-eqb 0 (suc i) (λ e. omega arith) ∙ sym (ne-eqb 0 (suc j) (λ e. omega arith))
 
 module _ (c : Netlist) (k : ℕ) where
+  -- of an unknown start: both earlier frames are frame 0, or neither is
+  abbrev SameFirst : Start → ℕ → ℕ → Type 0
+  SameFirst (given word) j l = Unit {0}
+  SameFirst unknown j l = eqb 0 j ≡ eqb 0 l
+
+  same-first : (s : Start) (j i l h : ℕ) → SameFirst s j l → ZjLike s (pairLiterals c (port c) j i) (pairLiterals c (port c) l h)
+  unfolding pairLiterals
+  same-first (given word) j i l h z = tt
+  same-first unknown j i l h z = noneSince-like c (port c) 0 j 0 l z
+
   -- pairs of neighbouring frames are alike, and so are all others
-  pairs-alike : (j i l h : ℕ) → eqb j i ≡ eqb l h → eqb (j + 1) i ≡ eqb (l + 1) h
-      → Alike (clausesOf c k (Pair j i)) (clausesOf c k (Pair l h))
+  pairs-alike : (j i l h : ℕ) → eqb j (suc i) ≡ eqb l (suc h) → eqb (j + 1) (suc i) ≡ eqb (l + 1) (suc h) → SameFirst (start c) j l
+      → Alike (clausesOf c k (Pair j (suc i))) (clausesOf c k (Pair l (suc h)))
   unfolding clausesOf pairLiterals selected readBit wireAt
-  pairs-alike j i l h e f =
-      pair-alike (c .m) (c .n) _ _
+  pairs-alike j i l h e f z =
+      pair-alike (c .m) (c .n) (start c) _ _
       (record {
         E = like-plus _ _;
         e = λ t. like-plus _ _;
         s = like-plus _ _;
-        PS = noneSince-like c (port c) j i l h e;
+        PS = noneSince-like c (port c) j (suc i) l (suc h) e;
         S = like-plus _ _;
-        N = noneSince-like c (port c) (j + 1) i (l + 1) h f;
+        N = noneSince-like c (port c) (j + 1) (suc i) (l + 1) (suc h) f;
         WE = code-like _ _ _;
         Aj = λ t. code-like _ _ _;
         WD = λ t. code-like _ _ _;
         Ai = λ t. code-like _ _ _;
         RD = λ t. like-plus _ _;
+        Zi = noneSince-like c (port c) 0 (suc i) 0 (suc h) (never-zero i h);
+        RDj = λ t. like-plus _ _;
       })
+      (same-first (start c) j (suc i) l (suc h) z)
+
+  neighbours-count : (j l : ℕ) → SameFirst (start c) j l → shownCount (clausesOf c k (Pair j (suc j))) ≡ shownCount (clausesOf c k (Pair l (suc l)))
+  neighbours-count j l z =
+      alike-count (pairs-alike j j l l (ne-eqb j (suc j) (λ e. omega arith) ∙ sym (ne-eqb l (suc l) (λ e. omega arith)))
+      (eq-eqb (j + 1) (suc j) (omega arith) ∙ sym (eq-eqb (l + 1) (suc l) (omega arith))) z)
+
+  others-count : (j i l h : ℕ) → j < i → l < h → SameFirst (start c) j l
+      → shownCount (clausesOf c k (Pair j (suc i))) ≡ shownCount (clausesOf c k (Pair l (suc h)))
+  others-count j i l h a b z =
+      alike-count (pairs-alike j i l h (ne-eqb j (suc i) (λ e. omega arith) ∙ sym (ne-eqb l (suc h) (λ e. omega arith)))
+      (ne-eqb (j + 1) (suc i) (λ e. omega arith) ∙ sym (ne-eqb (l + 1) (suc h) (λ e. omega arith))) z)
+
+  -- two later frames
+  both-later : (s : Start) (j l : ℕ) → SameFirst s (suc j) (suc l)
+  both-later (given word) j l = tt
+  both-later unknown j l = never-zero j l
+
+  -- the same frame
+  one-frame : (s : Start) (j : ℕ) → SameFirst s j j
+  one-frame (given word) j = tt
+  one-frame unknown j = refl
 
   -- the wires of later frames
   wires-alike : (i j : ℕ) → Alike (clausesOf c k (Wires (suc i))) (clausesOf c k (Wires (suc j)))
@@ -256,12 +309,19 @@ module _ (c : Netlist) (k : ℕ) where
       ∙ sym (hasTrue-append (neg (y .RE) ∷ y .Z ∷ []) _))
       ∙ sym (shownCount-cons _ [])
 
-  reads-alike : (i j : ℕ)
-      → Alike (gather (c .n) (initialReadClauses (closingLiterals c (port c) (suc i))) ++ heldReads (c .n) (suc i) (closingLiterals c (port c) (suc i)))
-      (gather (c .n) (initialReadClauses (closingLiterals c (port c) (suc j))) ++ heldReads (c .n) (suc j) (closingLiterals c (port c) (suc j)))
-  unfolding initialReadClauses heldReads heldClauses closingLiterals readBit wireAt
-  reads-alike i j =
+  initial-alike : (s : Start) (i j : ℕ)
+      → Alike (initialReads (c .n) s (closingLiterals c (port c) (suc i))) (initialReads (c .n) s (closingLiterals c (port c) (suc j)))
+  unfolding initialReads initialReadClauses closingLiterals readBit wireAt
+  initial-alike (given word) i j =
       alike-gather (c .n) _ _ (λ t. sameIf-alike (noneSince-like c (port c) 0 (suc i) 0 (suc j) (never-zero i j)) (like-plus _ _) (record { like = refl }))
+  initial-alike unknown i j = alike-none
+
+  reads-alike : (i j : ℕ)
+      → Alike (initialReads (c .n) (start c) (closingLiterals c (port c) (suc i)) ++ heldReads (c .n) (suc i) (closingLiterals c (port c) (suc i)))
+      (initialReads (c .n) (start c) (closingLiterals c (port c) (suc j)) ++ heldReads (c .n) (suc j) (closingLiterals c (port c) (suc j)))
+  unfolding heldReads heldClauses closingLiterals readBit wireAt
+  reads-alike i j =
+      initial-alike (start c) i j
       ⧺ alike-gather (c .n) _ _ (λ t. sameIf-alike (like-neg (code-like _ _ _)) (like-plus _ _) (like-plus _ _))
 
   closings-count : (i j : ℕ) → shownCount (clausesOf c k (Closing (suc i))) ≡ shownCount (clausesOf c k (Closing (suc j)))
@@ -290,17 +350,29 @@ module _ (c : Netlist) (k : ℕ) where
   unfolding count joinedClauses
   count-one g = rw append-nil
 
-  -- of the pairs of frame i + 1: the first is one of neighbours
-  pairs-count : (i : ℕ) → count (gatherDown (suc i) (pairOf (suc i))) ≡ of (Pair 0 1) + i * of (Pair 0 2)
+  -- of the pairs of frame i + 2, but for that of neighbours: the last is one with frame 0
+  down-count : (i n : ℕ) → n ≤ i → count (gatherDown (suc n) (pairOf (suc (suc i)))) ≡ n * of (Pair 1 3) + of (Pair 0 2)
   unfolding gatherDown pairOf
-  pairs-count i =
-      count-adds .of-both (Pair i (suc i) ∷ []) (gatherDown i (pairOf (suc i)))
-      ∙ ap₂ _+_
-      (count-one (Pair i (suc i))
-      ∙ alike-count (pairs-alike i (suc i) 0 1 (ne-eqb i (suc i) (λ e. omega arith)) (eq-eqb (i + 1) (suc i) (omega arith))))
-      (gatherDown-count count-adds i (of (Pair 0 2)) (pairOf (suc i)) (λ j h.
-      count-one (Pair j (suc i))
-      ∙ alike-count (pairs-alike j (suc i) 0 2 (ne-eqb j (suc i) (λ e. omega arith)) (ne-eqb (j + 1) (suc i) (λ e. omega arith)))))
+  down-count i zero h =
+      count-one (Pair 0 (suc (suc i))) ∙ others-count 0 (suc i) 0 1 (omega arith) (omega arith) (one-frame (start c) 0) ∙ omega arith
+  down-count i (suc n) h =
+      count-adds .of-both (Pair (suc n) (suc (suc i)) ∷ []) (gatherDown (suc n) (pairOf (suc (suc i))))
+      ∙ rw (
+        count-one (Pair (suc n) (suc (suc i))),
+        others-count (suc n) (suc i) 1 2 (omega arith) (omega arith) (both-later (start c) n 0),
+        down-count i n (omega arith),
+      ) (omega (arith, suc-mul n (of (Pair 1 3))))
+
+  -- of the pairs of frame 1, and of a later frame
+  pairs-count-first : count (gatherDown 1 (pairOf 1)) ≡ of (Pair 0 1)
+  unfolding gatherDown pairOf
+  pairs-count-first = count-one (Pair 0 1)
+
+  pairs-count-later : (i : ℕ) → count (gatherDown (suc (suc i)) (pairOf (suc (suc i)))) ≡ of (Pair 1 2) + (i * of (Pair 1 3) + of (Pair 0 2))
+  unfolding gatherDown pairOf
+  pairs-count-later i =
+      count-adds .of-both (Pair (suc i) (suc (suc i)) ∷ []) (gatherDown (suc i) (pairOf (suc (suc i))))
+      ∙ ap₂ _+_ (count-one (Pair (suc i) (suc (suc i))) ∙ neighbours-count (suc i) 1 (both-later (start c) i 0)) (down-count i i (omega arith))
 
   -- of frame 0, and of a later frame
   first-count : count (frameGroups 0) ≡ of (Wires 0) + of (Closing 0)
@@ -308,14 +380,14 @@ module _ (c : Netlist) (k : ℕ) where
   first-count =
       count-adds .of-both (Wires 0 ∷ []) (Closing 0 ∷ []) ∙ ap₂ _+_ (count-one (Wires 0)) (count-one (Closing 0))
 
-  later-count : (i : ℕ)
-      → count (frameGroups (suc i)) ≡ of (Wires 1) + (of (Pair 0 1) + i * of (Pair 0 2) + of (Closing 1))
+  later-count : (i : ℕ) {pairs : ℕ} → count (gatherDown (suc i) (pairOf (suc i))) ≡ pairs
+      → count (frameGroups (suc i)) ≡ of (Wires 1) + (pairs + of (Closing 1))
   unfolding frameGroups
-  later-count i =
+  later-count i e =
       count-adds .of-both (Wires (suc i) ∷ []) (gatherDown (suc i) (pairOf (suc i)) ++ Closing (suc i) ∷ [])
       ∙ ap₂ _+_ (count-one (Wires (suc i)) ∙ alike-count (wires-alike i 0))
       (count-adds .of-both (gatherDown (suc i) (pairOf (suc i))) (Closing (suc i) ∷ [])
-      ∙ ap₂ _+_ (pairs-count i) (count-one (Closing (suc i)) ∙ closings-count i 0))
+      ∙ ap₂ _+_ e (count-one (Closing (suc i)) ∙ closings-count i 0))
 
 -- how many pairs of frames 0 to i are not of neighbours
 others : ℕ → ℕ
@@ -334,24 +406,66 @@ unfolding others
 others-suc i = omega (arith, pairs-suc i, pairs-least i)
 
 module _ (c : Netlist) (k : ℕ) where
-  -- of frames 0 to i
+  -- of frames 0 to i + 1
   frames-count : (i : ℕ)
-      → count c k (gather (suc i) frameGroups)
-      ≡ of c k (Wires 0) + of c k (Closing 0) + i * (of c k (Wires 1) + of c k (Pair 0 1) + of c k (Closing 1)) + others i * of c k (Pair 0 2)
+      → count c k (gather (suc (suc i)) frameGroups)
+      ≡ of c k (Wires 0) + of c k (Closing 0) + suc i * (of c k (Wires 1) + of c k (Closing 1)) + of c k (Pair 0 1)
+      + i * (of c k (Pair 1 2) + of c k (Pair 0 2)) + others i * of c k (Pair 1 3)
   unfolding gather others
-  frames-count zero = first-count c k ∙ omega arith
+  frames-count zero =
+      count-adds c k .of-both (gather 1 frameGroups) (frameGroups 1)
+      ∙ rw (first-count c k, later-count c k 0 (pairs-count-first c k)) (omega arith)
   frames-count (suc i) =
-      let both = count-adds c k .of-both (gather (suc i) frameGroups) (frameGroups (suc i)) in
-      rw (both, frames-count i, later-count c k i, others-suc i) (simp (add-mul, suc-mul) (omega arith))
+      let both = count-adds c k .of-both (gather (suc (suc i)) frameGroups) (frameGroups (suc (suc i))) in
+      rw (both, frames-count i, later-count c k (suc i) (pairs-count-later c k i), others-suc i) (simp (add-mul, suc-mul) (omega arith))
+
+  -- of frames 0 to i
+  all-count : (i : ℕ)
+      → count c k (gather (suc i) frameGroups)
+      ≡ of c k (Wires 0) + of c k (Closing 0) + i * (of c k (Wires 1) + of c k (Closing 1)) + (i - (i - 1)) * of c k (Pair 0 1)
+      + (i - 1) * (of c k (Pair 1 2) + of c k (Pair 0 2)) + others (i - 1) * of c k (Pair 1 3)
+  unfolding gather others
+  all-count zero = first-count c k ∙ omega arith
+  all-count (suc i) =
+      let last : suc i - 1 ≡ i = omega arith in
+      let one : suc i - i ≡ 1 = omega arith in
+      rw (last, one) (frames-count i ∙ omega arith)
 
 -- the clauses of a depth, by one group of each class
 pub formula-count : {c : Netlist} → Accepted c → (k : ℕ)
     → length (clausesIn (formula c k))
     ≡ shownCount (clausesOf c k (Wires 0)) + shownCount (clausesOf c k (Closing 0))
-    + k * (shownCount (clausesOf c k (Wires 1)) + shownCount (clausesOf c k (Pair 0 1)) + shownCount (clausesOf c k (Closing 1)))
-    + (k * (k + 1) / 2 - k) * shownCount (clausesOf c k (Pair 0 2)) + shownCount (clausesOf c k Property)
+    + k * (shownCount (clausesOf c k (Wires 1)) + shownCount (clausesOf c k (Closing 1)))
+    + (k - (k - 1)) * shownCount (clausesOf c k (Pair 0 1))
+    + (k - 1) * (shownCount (clausesOf c k (Pair 1 2)) + shownCount (clausesOf c k (Pair 0 2)))
+    + ((k - 1) * (k - 1 + 1) / 2 - (k - 1)) * shownCount (clausesOf c k (Pair 1 3)) + shownCount (clausesOf c k Property)
 unfolding groupOrder others count shownCount
 formula-count {c} ok k =
     ap length (clausesIn-formula ok k)
     ∙ count-adds c k .of-both (gather (k + 1) frameGroups) (Property ∷ [])
-    ∙ rw (add-one k, frames-count c k k, count-one c k Property, add-one k)
+    ∙ rw (add-one k, all-count c k k, count-one c k Property)
+
+-- where the initial word is given, the pairs with frame 0 are like the others
+pub given-pairs : (c : Netlist) (k word : ℕ) → start c ≡ given word
+    → (shownCount (clausesOf c k (Pair 1 2)) ≡ shownCount (clausesOf c k (Pair 0 1)))
+    × (shownCount (clausesOf c k (Pair 1 3)) ≡ shownCount (clausesOf c k (Pair 0 2)))
+given-pairs c k word e = (neighbours-count c k 1 0 (rw e tt), others-count c k 1 2 0 1 (omega arith) (omega arith) (rw e tt))
+
+pub given-count : {c : Netlist} → Accepted c → (word : ℕ) → start c ≡ given word → (k : ℕ)
+    → length (clausesIn (formula c k))
+    ≡ shownCount (clausesOf c k (Wires 0)) + shownCount (clausesOf c k (Closing 0))
+    + k * (shownCount (clausesOf c k (Wires 1)) + shownCount (clausesOf c k (Pair 0 1)) + shownCount (clausesOf c k (Closing 1)))
+    + (k * (k + 1) / 2 - k) * shownCount (clausesOf c k (Pair 0 2)) + shownCount (clausesOf c k Property)
+unfolding others
+given-count {c} ok word e k =
+    let same = given-pairs c k word e in
+    rw (formula-count ok k, same .0, same .1) (sums k (of c k (Wires 1)) (of c k (Closing 1)) (of c k (Pair 0 1)) (of c k (Pair 0 2))
+    (of c k (Wires 0) + of c k (Closing 0)) (of c k Property))
+  where
+    sums : (k w l p o f q : ℕ)
+        → f + k * (w + l) + (k - (k - 1)) * p + (k - 1) * (p + o) + others (k - 1) * o + q ≡ f + k * (w + p + l) + others k * o + q
+    sums zero w l p o f q = omega arith
+    sums (suc i) w l p o f q =
+        let last : suc i - 1 ≡ i = omega arith in
+        let one : suc i - i ≡ 1 = omega arith in
+        rw (last, one, others-suc i) (simp (add-mul, suc-mul, mul-add) (omega arith))

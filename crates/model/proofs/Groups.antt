@@ -7,7 +7,7 @@ use mathlib.Core.Logic.{_↔_, Iff·trans}
 use native.Mathlib.Omega.{arith}
 use lib.Dec.{eqb}
 use borrow.Author.Tests.{not-true}
-use Rattle.model.specs.Netlist.{Netlist, port, latchWire, gateWire}
+use Rattle.model.specs.Netlist.{Netlist, start, port, latchWire, gateWire}
 use Rattle.model.specs.Circuit.{codeValue}
 use Rattle.model.specs.Gather.{gather}
 use Rattle.model.specs.Clauses.{plus, neg}
@@ -84,14 +84,14 @@ unfolding stateClauses
 state-later-holds c a i = allHold-gather a (c .latches) (latchClauses c i)
 
 pub pair-holds : (c : Netlist) (a : Assignment) (k j i : ℕ)
-    → AllHold a (clausesOf c k (Pair j i)) ↔ PairHolds a (c .m) (c .n) (pairLiterals c (port c) j i)
+    → AllHold a (clausesOf c k (Pair j i)) ↔ PairHolds a (c .m) (c .n) (start c) (pairLiterals c (port c) j i)
 unfolding clausesOf
-pair-holds c a k j i = pairClauses-holds a (c .m) (c .n) (pairLiterals c (port c) j i)
+pair-holds c a k j i = pairClauses-holds a (c .m) (c .n) (start c) (pairLiterals c (port c) j i)
 
 pub closing-holds : (c : Netlist) (a : Assignment) (k i : ℕ)
-    → AllHold a (clausesOf c k (Closing i)) ↔ ClosingHolds a (c .n) i (closingLiterals c (port c) i)
+    → AllHold a (clausesOf c k (Closing i)) ↔ ClosingHolds a (c .n) (start c) i (closingLiterals c (port c) i)
 unfolding clausesOf
-closing-holds c a k i = closingClauses-holds a (c .n) i (closingLiterals c (port c) i)
+closing-holds c a k i = closingClauses-holds a (c .n) (start c) i (closingLiterals c (port c) i)
 
 pub property-holds : (c : Netlist) (a : Assignment) (k : ℕ)
     → AllHold a (clausesOf c k Property) ↔ ((i : ℕ) × (i < k + 1) × (codeValue (assigned c a i) (c .P) ≡ false))

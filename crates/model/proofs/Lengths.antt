@@ -1,4 +1,4 @@
--- How many clauses each group has, and how many numbers it is written in at most (RULES G30 and G31). No contract cites this file.
+-- How many clauses each group has, and how many numbers it is written in at most (RULES G35 and G36). No contract cites this file.
 use Prim.Native.Nat.{ℕ, suc, zero-le, _+_, _*_, _≤_}
 use mathlib.Core.Path.{_≡_, refl, _∙_, ap}
 use mathlib.Core.Bool.{Bool, true, false, cond}
@@ -6,12 +6,13 @@ use mathlib.Core.List.{List, [], _∷_, _++_, append-nil}
 use native.Mathlib.Omega.{arith}
 use lib.IntN.{ℤ, pos}
 use lib.ListN.{length, length-append}
-use Rattle.model.specs.Netlist.{Netlist}
+use Rattle.model.specs.Netlist.{Netlist, Start, given, unknown, start}
 use Rattle.model.specs.Gather.{gather}
-use Rattle.model.specs.Clauses.{Literal, known, plus, minus, Clause, andClauses, sameClauses, sameIfClauses, bitClauses, PairLiterals, addressBitClauses, unequalOf, allBits, forwardedClauses, pairClauses, ClosingLiterals, initialReadClauses, heldClauses, heldReads, selectedOf, someSource, closingClauses}
+use Rattle.model.specs.Clauses.{Literal, known, plus, minus, Clause, andClauses, sameClauses, sameIfClauses, sameIfAllClauses, bitClauses, PairLiterals, addressBitClauses, unequalOf, allBits, forwardedClauses, agreedClauses, agreedReads, pairClauses, ClosingLiterals, initialReadClauses, initialReads, heldClauses, heldReads, selectedOf, someSource, closingClauses}
 use Rattle.model.specs.Groups.{gateClauses, resetClauses, latchClauses, stateClauses, violationOf, clausesOf}
 use Rattle.model.specs.Numbers.{keptOf, kept, hasTrue, endOf, writtenClause, written, numbersOf}
 use Rattle.model.specs.declared.Group.the-variants.{Wires, Pair, Closing, Property}
+use Rattle.model.specs.Counts.{whereGiven, whereUnknown}
 use Rattle.model.proofs.Joined.{written-append}
 use Rattle.model.proofs.Gather.{Adds, length-adds, gather-count, gather-most, length-gather}
 
@@ -112,6 +113,11 @@ pub sameIfClauses-counts : (p a b : Literal) → Counts (sameIfClauses p a b) 2 
 unfolding sameIfClauses numbersIn
 sameIfClauses-counts p a b = counts-each (sameIfClauses p a b) tt
 
+-- where three others are
+pub sameIfAllClauses-counts : (p q r a b : Literal) → Counts (sameIfAllClauses p q r a b) 2 12
+unfolding sameIfAllClauses numbersIn
+sameIfAllClauses-counts p q r a b = counts-each (sameIfAllClauses p q r a b) tt
+
 -- of an address bit
 pub bit-counts : (E e x y : Literal) → Counts (bitClauses E e x y) 4 16
 unfolding bitClauses numbersIn
@@ -122,17 +128,26 @@ allBits-length : (m : ℕ) (x : PairLiterals) → length (allBits m x) ≡ m + 1
 unfolding allBits unequalOf
 allBits-length m x = rw (length-append, length-gather m 1 (unequalOf x) (λ t h. refl)) (omega arith)
 
+-- of a pair's clauses of reads that agree
+agreed-counts : (n : ℕ) (s : Start) (x : PairLiterals) → Counts (agreedReads n s x) (whereUnknown s (2 * n)) (whereUnknown s (12 * n))
+unfolding agreedReads agreedClauses whereUnknown
+agreed-counts n (given word) x = counts-none
+agreed-counts n unknown x =
+    counts-as (counts-gather n 2 12 (agreedClauses x) (λ t. sameIfAllClauses-counts _ _ _ _ _)) (omega arith) (omega arith)
+
 -- of a pair
-pub pair-counts : (m n : ℕ) (x : PairLiterals) → Counts (pairClauses m n x) (4 * m + 2 * n + 10) (17 * m + 8 * n + 32)
+pub pair-counts : (m n : ℕ) (s : Start) (x : PairLiterals)
+    → Counts (pairClauses m n s x) (4 * m + 2 * n + 10 + whereUnknown s (2 * n)) (17 * m + 8 * n + 32 + whereUnknown s (12 * n))
 unfolding pairClauses addressBitClauses forwardedClauses
-pair-counts m n x =
+pair-counts m n s x =
     counts-as
     (counts-gather m 4 16 (addressBitClauses x) (λ t. bit-counts _ _ _ _)
     ⊕ counts-one (allBits m x) (omega (arith, allBits-length m x))
     ⊕ and-counts _ _ _
     ⊕ and-counts _ _ _
     ⊕ and-counts _ _ _
-    ⊕ counts-gather n 2 8 (forwardedClauses x) (λ t. sameIfClauses-counts _ _ _))
+    ⊕ counts-gather n 2 8 (forwardedClauses x) (λ t. sameIfClauses-counts _ _ _)
+    ⊕ agreed-counts n s x)
     (omega arith)
     (omega (arith, allBits-length m x))
 
@@ -141,28 +156,37 @@ someSource-length : (i : ℕ) (x : ClosingLiterals) → length (someSource i x) 
 unfolding someSource selectedOf
 someSource-length i x = rw (length-gather i 1 (selectedOf x) (λ t h. refl)) (omega arith)
 
+-- of a closing's clauses of the initial word
+initial-counts : (n : ℕ) (s : Start) (x : ClosingLiterals) → Counts (initialReads n s x) (whereGiven s (2 * n)) (whereGiven s (8 * n))
+unfolding initialReads initialReadClauses whereGiven
+initial-counts n (given word) x =
+    counts-as (counts-gather n 2 8 (initialReadClauses word x) (λ t. sameIfClauses-counts _ _ _)) (omega arith) (omega arith)
+initial-counts n unknown x = counts-none
+
 -- of a closing's clauses of the word held
 held-counts : (n i : ℕ) (x : ClosingLiterals) → Counts (heldReads n (suc i) x) (n * 2) (n * 8)
 unfolding heldReads heldClauses
 held-counts n i x = counts-gather n 2 8 (heldClauses x) (λ t. sameIfClauses-counts _ _ _)
 
 -- of a closing, by what its clauses of the word held have
-closing-counts : (n i : ℕ) (x : ClosingLiterals) {a b : ℕ} → Counts (heldReads n i x) a b
-    → Counts (closingClauses n i x) (2 * n + 1 + a) (8 * n + i + 3 + b)
-unfolding closingClauses initialReadClauses
-closing-counts n i x held =
+closing-counts : (n : ℕ) (s : Start) (i : ℕ) (x : ClosingLiterals) {a b : ℕ} → Counts (heldReads n i x) a b
+    → Counts (closingClauses n s i x) (whereGiven s (2 * n) + a + 1) (whereGiven s (8 * n) + b + i + 3)
+unfolding closingClauses
+closing-counts n s i x held =
     counts-as
-    (counts-gather n 2 8 (initialReadClauses x) (λ t. sameIfClauses-counts _ _ _) ⊕ held ⊕ counts-one (someSource i x) (omega (arith, someSource-length i x)))
+    (initial-counts n s x ⊕ held ⊕ counts-one (someSource i x) (omega (arith, someSource-length i x)))
     (omega arith)
     (omega (arith, someSource-length i x))
 
 -- of the closing of frame 0, and of a later one
-pub closing-counts-first : (n : ℕ) (x : ClosingLiterals) → Counts (closingClauses n 0 x) (2 * n + 1) (8 * n + 3)
+pub closing-counts-first : (n : ℕ) (s : Start) (x : ClosingLiterals)
+    → Counts (closingClauses n s 0 x) (whereGiven s (2 * n) + 1) (whereGiven s (8 * n) + 3)
 unfolding heldReads
-closing-counts-first n x = counts-as (closing-counts n 0 x counts-none) (omega arith) (omega arith)
+closing-counts-first n s x = counts-as (closing-counts n s 0 x counts-none) (omega arith) (omega arith)
 
-pub closing-counts-later : (n i : ℕ) (x : ClosingLiterals) → Counts (closingClauses n (suc i) x) (4 * n + 1) (16 * n + suc i + 3)
-closing-counts-later n i x = counts-as (closing-counts n (suc i) x (held-counts n i x)) (omega arith) (omega arith)
+pub closing-counts-later : (n : ℕ) (s : Start) (i : ℕ) (x : ClosingLiterals)
+    → Counts (closingClauses n s (suc i) x) (whereGiven s (2 * n) + 2 * n + 1) (whereGiven s (8 * n) + 8 * n + suc i + 3)
+closing-counts-later n s i x = counts-as (closing-counts n s (suc i) x (held-counts n i x)) (omega arith) (omega arith)
 
 -- of a frame's gates
 gates-counts : (c : Netlist) (i : ℕ) → Counts (gather (c .gates) (gateClauses c i)) (c .gates * 3) (c .gates * 10)
@@ -206,19 +230,19 @@ module _ (c : Netlist) (k : ℕ) where
   wires-clauses-later i = wires-counts-later i .in-clauses
 
   -- a pair
-  pub pair-clauses : (j i : ℕ) → length (clausesOf c k (Pair j i)) ≡ 4 * c .m + 2 * c .n + 10
+  pub pair-clauses : (j i : ℕ) → length (clausesOf c k (Pair j i)) ≡ 4 * c .m + 2 * c .n + 10 + whereUnknown (start c) (2 * c .n)
   unfolding clausesOf
-  pair-clauses j i = pair-counts (c .m) (c .n) _ .in-clauses
+  pair-clauses j i = pair-counts (c .m) (c .n) (start c) _ .in-clauses
 
   -- the closing of frame 0
-  pub closing-clauses-first : length (clausesOf c k (Closing 0)) ≡ 2 * c .n + 1
+  pub closing-clauses-first : length (clausesOf c k (Closing 0)) ≡ whereGiven (start c) (2 * c .n) + 1
   unfolding clausesOf
-  closing-clauses-first = closing-counts-first (c .n) _ .in-clauses
+  closing-clauses-first = closing-counts-first (c .n) (start c) _ .in-clauses
 
   -- the closing of a later frame
-  pub closing-clauses-later : (i : ℕ) → length (clausesOf c k (Closing (suc i))) ≡ 4 * c .n + 1
+  pub closing-clauses-later : (i : ℕ) → length (clausesOf c k (Closing (suc i))) ≡ whereGiven (start c) (2 * c .n) + 2 * c .n + 1
   unfolding clausesOf
-  closing-clauses-later i = closing-counts-later (c .n) i _ .in-clauses
+  closing-clauses-later i = closing-counts-later (c .n) (start c) i _ .in-clauses
 
   -- the property
   pub property-clauses : length (clausesOf c k Property) ≡ 1
@@ -235,19 +259,19 @@ module _ (c : Netlist) (k : ℕ) where
   wires-numbers-later i = wires-counts-later i .in-numbers
 
   -- a pair
-  pub pair-numbers : (j i : ℕ) → length (numbersOf c k (Pair j i)) ≤ 17 * c .m + 8 * c .n + 32
+  pub pair-numbers : (j i : ℕ) → length (numbersOf c k (Pair j i)) ≤ 17 * c .m + 8 * c .n + 32 + whereUnknown (start c) (12 * c .n)
   unfolding numbersOf clausesOf
-  pair-numbers j i = pair-counts (c .m) (c .n) _ .in-numbers
+  pair-numbers j i = pair-counts (c .m) (c .n) (start c) _ .in-numbers
 
   -- the closing of frame 0
-  pub closing-numbers-first : length (numbersOf c k (Closing 0)) ≤ 8 * c .n + 3
+  pub closing-numbers-first : length (numbersOf c k (Closing 0)) ≤ whereGiven (start c) (8 * c .n) + 3
   unfolding numbersOf clausesOf
-  closing-numbers-first = closing-counts-first (c .n) _ .in-numbers
+  closing-numbers-first = closing-counts-first (c .n) (start c) _ .in-numbers
 
   -- the closing of a later frame
-  pub closing-numbers-later : (i : ℕ) → length (numbersOf c k (Closing (suc i))) ≤ 16 * c .n + suc i + 3
+  pub closing-numbers-later : (i : ℕ) → length (numbersOf c k (Closing (suc i))) ≤ whereGiven (start c) (8 * c .n) + 8 * c .n + suc i + 3
   unfolding numbersOf clausesOf
-  closing-numbers-later i = closing-counts-later (c .n) i _ .in-numbers
+  closing-numbers-later i = closing-counts-later (c .n) (start c) i _ .in-numbers
 
   -- the property
   pub property-numbers : length (numbersOf c k Property) ≤ k + 2

@@ -19,6 +19,7 @@ pub mod Groups
 pub mod Forwarding
 pub mod Agreement
 pub mod AssignedReads
+pub mod StartMemory
 pub mod AssignmentToRun
 pub mod WitnessedReads
 pub mod Witness

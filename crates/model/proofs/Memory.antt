@@ -2,9 +2,9 @@
 use Prim.Native.Nat.{ℕ, zero, suc, _^_, _<_}
 use mathlib.Core.Bool.{Bool, true, false, cond, _&&_}
 use lib.Dec.{eqb}
-use Rattle.model.specs.Netlist.{Netlist, Port, port}
-use Rattle.model.specs.Circuit.{Values, codeValue, State, Feeds, addressOf, frame, wordWritten, step, stateAt, initial}
-use Rattle.model.specs.Acceptance.{Accepted}
+use Rattle.model.specs.Netlist.{Netlist, Start, given, unknown, start, Port, port}
+use Rattle.model.specs.Circuit.{Values, codeValue, State, Feeds, addressOf, frame, wordWritten, step, stateAt, BeginsAs, Begins, initial}
+use Rattle.model.specs.Acceptance.{StartFits, Accepted}
 use Rattle.model.proofs.Bits.{fromBits-below}
 
 -- every address is below 2^m
@@ -36,7 +36,15 @@ unfolding stateAt
 stateAt-fits c s h f zero = h
 stateAt-fits c s h f (suc i) = step-fits c (stateAt c s f i) (frame c (stateAt c s f i) (f i)) (stateAt-fits c s h f i)
 
+-- a run begins with words below 2^n
+begins-below : (n : ℕ) (s : Start) (memory : ℕ → ℕ) → StartFits n s → BeginsAs n s memory → (x : ℕ) → memory x < 2 ^ n
+unfolding StartFits BeginsAs
+begins-below n (given word) memory h b x = rw (b x) h
+begins-below n unknown memory h b x = b x
+
 -- in a run from the start, every word is below 2^n
-pub word-below : (c : Netlist) → Accepted c → (idle : ℕ → Bool) (f : Feeds) (i x : ℕ) → stateAt c (initial c idle) f i .memory x < 2 ^ c .n
+pub word-below : (c : Netlist) → Accepted c → (memory : ℕ → ℕ) → Begins c memory → (idle : ℕ → Bool) (f : Feeds) (i x : ℕ)
+    → stateAt c (initial c memory idle) f i .memory x < 2 ^ c .n
 unfolding initial
-word-below c h idle f i x = stateAt-fits c (initial c idle) (λ y. h .limits .sizes .word-fits) f i x
+word-below c h memory b idle f i x =
+    stateAt-fits c (initial c memory idle) (begins-below (c .n) (start c) memory (h .limits .sizes .word-fits) b) f i x

@@ -1,10 +1,10 @@
 -- Netlists that agree below their sizes (specs/Agree.antt) have the same variables and the same clauses, group by group: no entry
 -- past a size is asked for. No contract cites this file.
 use Prim.Native.Nat.{ℕ, zero, suc, _+_, _-_, _<_}
-use mathlib.Core.Path.{_≡_, refl, ap, ap₂}
+use mathlib.Core.Path.{_≡_, refl, _∙_, ap, ap₂}
 use mathlib.Core.List.{List, [], _∷_, _++_}
-use Rattle.model.specs.Netlist.{Netlist, port}
-use Rattle.model.specs.Clauses.{Clause, Literal, PairLiterals, ClosingLiterals, addressBitClauses, unequalOf, allBits, forwardedClauses, pairClauses, initialReadClauses, heldClauses, heldReads, selectedOf, someSource, closingClauses, plus, neg, andClauses}
+use Rattle.model.specs.Netlist.{Netlist, Start, given, unknown, start, port}
+use Rattle.model.specs.Clauses.{Clause, Literal, PairLiterals, ClosingLiterals, addressBitClauses, unequalOf, allBits, forwardedClauses, agreedClauses, agreedReads, pairClauses, initialReadClauses, initialReads, heldClauses, heldReads, selectedOf, someSource, closingClauses, plus, neg, andClauses}
 use Rattle.model.specs.Variables.{base, pairBase, noneSince, selected, readBit, pairLiterals, closingLiterals}
 use Rattle.model.specs.Groups.{gateClauses, resetClauses, latchClauses, stateClauses, violationOf, clausesOf}
 use Rattle.model.specs.Numbers.{written, numbersOf}
@@ -12,7 +12,7 @@ use Rattle.model.specs.declared.Group.{Group}
 use Rattle.model.specs.declared.Group.the-variants.{Wires, Pair, Closing, Property}
 use Rattle.model.specs.Agree.{Agree}
 use Rattle.model.proofs.Gather.{gather-same, gathers-same}
-use Rattle.model.proofs.Agree.{inputs-same, latches-same, gates-same, m-same, n-same, word-same, lastWire-same}
+use Rattle.model.proofs.Agree.{inputs-same, latches-same, gates-same, m-same, n-same, start-same, lastWire-same}
 
 module _ (c d : Netlist) (q : Agree c d) where
   pub base-same : (i : ℕ) → base c i ≡ base d i
@@ -92,13 +92,25 @@ module _ (c d : Netlist) (q : Agree c d) where
     unfolding allBits
     all-same = ap₂ (λ (a : Clause) (e : Literal). a ++ e ∷ []) (gathers-same (m-same c d q) own-same) compared-same
 
-    pair-same : pairClauses (c .m) (c .n) x ≡ pairClauses (d .m) (d .n) y
+    -- its reads that agree
+    agreed-same : (t : ℕ) → t < c .n → agreedClauses x t ≡ agreedClauses y t
+    unfolding agreedClauses pairLiterals
+    agreed-same t b = rw (pairBase-same j i, none-same 0 j, none-same 0 i, readBit-same i t, readBit-same j t)
+
+    agreed-reads-same : (s : Start) → agreedReads (c .n) s x ≡ agreedReads (d .n) s y
+    unfolding agreedReads
+    agreed-reads-same (given word) = refl
+    agreed-reads-same unknown = gathers-same (n-same c d q) agreed-same
+
+    pair-same : pairClauses (c .m) (c .n) (start c) x ≡ pairClauses (d .m) (d .n) (start d) y
     unfolding pairClauses
     pair-same =
         ap₂ _++_
+        (ap₂ _++_
         (ap₂ _++_ (ap₂ _++_ (ap₂ _++_ (ap₂ (λ (b : List Clause) (a : Clause). b ++ a ∷ []) (gathers-same (m-same c d q) bit-same) all-same) valid-same) newer-same)
         exclusive-same)
-        (gathers-same (n-same c d q) data-same)
+        (gathers-same (n-same c d q) data-same))
+        (agreed-reads-same (start c) ∙ ap (λ (s : Start). agreedReads (d .n) s y) (start-same c d q))
 
   module _ (i : ℕ) where
     abbrev u : ClosingLiterals
@@ -107,9 +119,14 @@ module _ (c d : Netlist) (q : Agree c d) where
     abbrev v : ClosingLiterals
     v = closingLiterals d (port d) i
 
-    initial-same : (t : ℕ) → t < c .n → initialReadClauses u t ≡ initialReadClauses v t
+    initial-bit-same : (word t : ℕ) → t < c .n → initialReadClauses word u t ≡ initialReadClauses word v t
     unfolding initialReadClauses closingLiterals
-    initial-same t b = rw (none-same 0 i, readBit-same i t, word-same c d q)
+    initial-bit-same word t b = rw (none-same 0 i, readBit-same i t)
+
+    initial-same : (s : Start) → initialReads (c .n) s u ≡ initialReads (d .n) s v
+    unfolding initialReads
+    initial-same (given word) = gathers-same (n-same c d q) (initial-bit-same word)
+    initial-same unknown = refl
 
     held-bit-same : (t : ℕ) → t < c .n → heldClauses u t ≡ heldClauses v t
     unfolding heldClauses closingLiterals
@@ -130,10 +147,10 @@ module _ (c d : Netlist) (q : Agree c d) where
   held-same zero = refl
   held-same (suc i) = gathers-same (n-same c d q) (held-bit-same (suc i))
 
-  closing-same : (i : ℕ) → closingClauses (c .n) i (closingLiterals c (port c) i) ≡ closingClauses (d .n) i (closingLiterals d (port d) i)
+  closing-same : (i : ℕ) → closingClauses (c .n) (start c) i (closingLiterals c (port c) i) ≡ closingClauses (d .n) (start d) i (closingLiterals d (port d) i)
   unfolding closingClauses
   closing-same i =
-      ap₂ (λ (a : List Clause) (s : Clause). a ++ s ∷ []) (ap₂ _++_ (gathers-same (n-same c d q) (initial-same i)) (held-same i)) (some-same i)
+      ap₂ (λ (a : List Clause) (s : Clause). a ++ s ∷ []) (ap₂ _++_ (initial-same i (start c) ∙ ap (λ (s : Start). initialReads (d .n) s (closingLiterals d (port d) i)) (start-same c d q)) (held-same i)) (some-same i)
 
   violated-same : (i : ℕ) → violationOf c i ≡ violationOf d i
   unfolding violationOf

@@ -9,14 +9,14 @@ use native.Mathlib.Omega.{arith}
 use lib.Dec.{ltb}
 use borrow.Author.Tests.{ltb-true, ltb-false}
 use Rattle.model.specs.Netlist.{Netlist, port, readBits, inputWire, latchWire, readWire, gateWire}
-use Rattle.model.specs.Circuit.{Values, codeValue, sources, evaluate, State, Feed, Feeds, addressOf, readData, firstPass, frame, wordWritten, step, stateAt, run, initial}
+use Rattle.model.specs.Circuit.{Values, codeValue, sources, evaluate, State, Feed, Feeds, addressOf, readData, firstPass, frame, wordWritten, step, stateAt, run, Begins, initial}
 use Rattle.model.specs.Numbers.{Assignment}
 use Rattle.model.specs.Claim.{Agrees, Breaks}
 use Rattle.model.specs.Agree.{Agree, SameState}
 use Rattle.model.proofs.Booleans.{cond-same}
 use Rattle.model.proofs.Bits.{fromBits-same}
 use Rattle.model.proofs.Circuit.{code-same, conjunction-of-two}
-use Rattle.model.proofs.Agree.{inputs-same, latches-same, gates-same, m-same, n-same, word-same, lastWire-same, sweep-same}
+use Rattle.model.proofs.Agree.{inputs-same, latches-same, gates-same, m-same, n-same, start-same, lastWire-same, sweep-same}
 use Rattle.model.proofs.SameNumbers.{base-same}
 
 -- a state agrees with itself
@@ -25,10 +25,14 @@ same-state c s = record { latch-same = λ l b. refl; memory-same = λ x. refl; h
 
 module _ (c d : Netlist) (q : Agree c d) where
   -- so do the two initial states
-  pub initial-same : (idle : ℕ → Bool) → SameState c (initial c idle) (initial d idle)
+  pub initial-same : (memory : ℕ → ℕ) (idle : ℕ → Bool) → SameState c (initial c memory idle) (initial d memory idle)
   unfolding initial
-  initial-same idle =
-      record { latch-same = λ l b. rw (q .reset-same l b); memory-same = λ x. word-same c d q; held-same = λ t b. refl }
+  initial-same memory idle =
+      record { latch-same = λ l b. rw (q .reset-same l b); memory-same = λ x. refl; held-same = λ t b. refl }
+
+  -- and they may begin with the same memories
+  pub begins-same : (memory : ℕ → ℕ) → Begins c memory → Begins d memory
+  begins-same memory h = rw (← n-same c d q, ← start-same c d q) h
 
   -- from the same inputs, latches and read bits every wire has the same value
   module _ (input : ℕ → Bool) {latch other read back : ℕ → Bool} (latches : (l : ℕ) → l < c .latches → latch l ≡ other l)

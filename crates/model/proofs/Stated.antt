@@ -29,9 +29,9 @@ use Rattle.model.proofs.Lengths.{wires-clauses-first, wires-clauses-lat
 use Rattle.model.proofs.Variables.{base-least}
 use Rattle.model.proofs.Bounds.{AllLits, Within, all-within-one, wires-within, pairs-within, closing-within, property-within, formula-first, formula-numbers-within}
 use Rattle.model.proofs.Numbers.{shown, shown-length, shown-one, shown-constants, clausesIn-written}
-use Rattle.model.proofs.Claim.{clausesIn-formula, encodes, satisfies-same, unsatisfiable→safe}
+use Rattle.model.proofs.Claim.{clausesIn-formula, encodes, satisfies-same, given→run, unsatisfiable→safe}
 
--- the numbers of a group, at most as many as RULES G31 counts
+-- the numbers of a group, at most as many as RULES G36 counts
 group-numbers : (c : Netlist) (k : ℕ) (g : Group) → length (numbersOf c k g) ≤ numberCount c k g
 unfolding numberCount
 group-numbers c k (Wires zero) = wires-numbers-first c k
@@ -84,10 +84,11 @@ module _ {c : Netlist} (ok : Accepted c) (k : ℕ) where
         all-numbered = λ v least most. numbered c k v least (subst (λ (n : ℕ). v ≤ base c n) (add-one k) most);
         numbers-within = λ x. all-getD (formula-numbers-within ok k) zero-le x;
         unsatisfiable→safe = unsatisfiable→safe (encodes c ok k);
+        given→run = given→run ok k;
         clauses-counted = clauses-in-group;
         numbers-counted = group-numbers c k;
         no-constants = no-constant;
-        addresses-within = λ idle f i. address-below c (port c) (run c (initial c idle) f i);
+        addresses-within = λ memory idle f i. address-below c (port c) (run c (initial c memory idle) f i);
         words-within = word-below c ok;
       }
 

@@ -7,13 +7,15 @@ use mathlib.Core.List.{List, [], _∷_, _++_}
 use mathlib.Core.Logic.{_⊎_, inl, inr, _↔_, Iff·trans, Iff·and, ⊎-elim, ⊎-map}
 use native.Mathlib.Nat.{not-suc-le-zero, lt-suc-self, le-step}
 use native.Mathlib.Omega.{arith}
+use Rattle.model.specs.Bits.{bit}
+use Rattle.model.specs.Netlist.{Start, given, unknown}
 use Rattle.model.specs.Gather.{gather}
-use Rattle.model.specs.Clauses.{Literal, known, plus, minus, Clause, neg, andClauses, sameClauses, sameIfClauses, bitClauses, PairLiterals, addressBitClauses, unequalOf, allBits, forwardedClauses, pairClauses, ClosingLiterals, initialReadClauses, heldClauses, heldReads, selectedOf, someSource, closingClauses}
+use Rattle.model.specs.Clauses.{Literal, known, plus, minus, Clause, neg, andClauses, sameClauses, sameIfClauses, sameIfAllClauses, bitClauses, PairLiterals, addressBitClauses, unequalOf, allBits, forwardedClauses, agreedClauses, agreedReads, pairClauses, ClosingLiterals, initialReadClauses, initialReads, heldClauses, heldReads, selectedOf, someSource, closingClauses}
 use Rattle.model.specs.Numbers.{Assignment}
 use borrow.Author.Tests.{not-true, not-false}
 use Rattle.model.proofs.Below.{below-suc}
 use Rattle.model.proofs.Gather.{Splits, splits-gather, All, nothing, also}
-use Rattle.model.proofs.Booleans.{and-true, or-true, either, not-true-false, beq-true, eq-iff, tables-equal, implies-true, equal-if, if-equal}
+use Rattle.model.proofs.Booleans.{and-true, or-true, either, not-true-false, beq-true, eq-iff, tables-equal, implies-true, implied-by-all, all-true, equal-if, if-equal}
 
 -- the value of a literal under an assignment
 unfoldable pub value : Assignment → Literal → Bool
@@ -159,6 +161,25 @@ sameIfClauses-holds a p x y =
     test : Bool → Bool → Bool → Bool
     test p x y = allHold a (sameIfClauses (known p) (known x) (known y))
 
+-- where p, q and r are true, x = y
+pub sameIfAllClauses-holds : (a : Assignment) (p q r x y : Literal)
+    → AllHold a (sameIfAllClauses p q r x y)
+    ↔ (value a p ≡ true → value a q ≡ true → value a r ≡ true → value a x ≡ value a y)
+unfolding sameIfAllClauses sameIfClauses neg everyOf someOf value
+sameIfAllClauses-holds a p q r x y = Iff·trans (eq-iff table) (Iff·trans (sameIfClauses-holds a both x y) (to, from))
+  where
+    both : Literal
+    both = known (value a p && value a q && value a r)
+
+    table : allHold a (sameIfAllClauses p q r x y) ≡ allHold a (sameIfClauses both x y)
+    table = simp (value-neg a, implied-by-all (value a p) (value a q) (value a r))
+
+    to : (value a both ≡ true → value a x ≡ value a y) → value a p ≡ true → value a q ≡ true → value a r ≡ true → value a x ≡ value a y
+    to h e f g = h (rw (e, f, g))
+
+    from : (value a p ≡ true → value a q ≡ true → value a r ≡ true → value a x ≡ value a y) → value a both ≡ true → value a x ≡ value a y
+    from h e = let all = all-true (value a p) (value a q) (value a r) .0 e in h (all .0) (all .1) (all .2)
+
 -- one address bit: E only where the two bits are equal, e wherever they are
 pub bitClauses-holds : (a : Assignment) (E e x y : Literal)
     → AllHold a (bitClauses E e x y)
@@ -178,8 +199,14 @@ bitClauses-holds a E e x y =
     meant : Bool → Bool → Bool → Bool → Bool
     meant E e x y = (not E || Bool·beq x y) && (not (Bool·beq x y) || e)
 
+-- from an unknown start: reads of one address that both reach it agree
+unfoldable pub AgreedHold : Assignment → ℕ → Start → PairLiterals → Type 0
+AgreedHold a n (given word) x = Unit {0}
+AgreedHold a n unknown x =
+    (t : ℕ) → t < n → value a (x .E) ≡ true → value a (x .Zj) ≡ true → value a (x .Zi) ≡ true → value a (x .RD t) ≡ value a (x .RDj t)
+
 -- A pair's clauses hold exactly where all of this does.
-pub record PairHolds (a : Assignment) (m n : ℕ) (x : PairLiterals) : Type 0 where
+pub record PairHolds (a : Assignment) (m n : ℕ) (start : Start) (x : PairLiterals) : Type 0 where
   -- E only where the bit is equal, e wherever it is
   pub address-bit : (t : ℕ) → t < m
       → (value a (x .E) ≡ true → value a (x .Aj t) ≡ value a (x .Ai t)) × (value a (x .Aj t) ≡ value a (x .Ai t) → value a (x .e t) ≡ true)
@@ -188,6 +215,7 @@ pub record PairHolds (a : Assignment) (m n : ℕ) (x : PairLiterals) : Type 0 wh
   pub none-since : value a (x .PS) ≡ (not (value a (x .s)) && value a (x .N))
   pub exclusive : value a (x .S) ≡ (value a (x .s) && value a (x .N))
   pub data-where-S : (t : ℕ) → t < n → value a (x .S) ≡ true → value a (x .RD t) ≡ value a (x .WD t)
+  pub agreed : AgreedHold a n start x
 
 -- the literals ¬e: one is true, or every e is
 pub unequalOf-holds : (a : Assignment) (x : PairLiterals) (t : ℕ) → anyTrue a (unequalOf x t) ≡ not (value a (x .e t))
@@ -233,23 +261,46 @@ pub forwardedClauses-holds : (a : Assignment) (x : PairLiterals) (t : ℕ)
 unfolding forwardedClauses
 forwardedClauses-holds a x t = Iff·trans (sameIfClauses-holds a _ _ _) (λ h e. let q = h e in (cc), λ h e. let q = h e in (cc))
 
-pub pairClauses-holds : (a : Assignment) (m n : ℕ) (x : PairLiterals) → AllHold a (pairClauses m n x) ↔ PairHolds a m n x
+pub agreedReads-holds : (a : Assignment) (n : ℕ) (start : Start) (x : PairLiterals) → AllHold a (agreedReads n start x) ↔ AgreedHold a n start x
+unfolding agreedReads AgreedHold agreedClauses
+agreedReads-holds a n (given word) x = allHold-none a
+agreedReads-holds a n unknown x = (
+  λ h t b. sameIfAllClauses-holds a _ _ _ _ _ .0 (allHold-gather a n (agreedClauses x) .0 h t b),
+  λ h. allHold-gather a n (agreedClauses x) .1 (λ t b. sameIfAllClauses-holds a _ _ _ _ _ .1 (h t b)),
+)
+
+pub pairClauses-holds : (a : Assignment) (m n : ℕ) (start : Start) (x : PairLiterals)
+    → AllHold a (pairClauses m n start x) ↔ PairHolds a m n start x
 unfolding pairClauses
-pairClauses-holds a m n x =
+pairClauses-holds a m n start x =
     simp
-    (allHold-append a, allHold-cons a, allHold-none a, allHold-gather a, allBits-holds a, addressBitClauses-holds a, forwardedClauses-holds a, andClauses-holds a, value-neg a)
+    (allHold-append a, allHold-cons a, allHold-none a, allHold-gather a, allBits-holds a, addressBitClauses-holds a, forwardedClauses-holds a, agreedReads-holds a, andClauses-holds a, value-neg a)
     (λ h. search, λ h. search)
 
+-- from a given start: a read that reaches it is of the initial word
+unfoldable pub InitialHold : Assignment → ℕ → Start → ClosingLiterals → Type 0
+InitialHold a n (given word) x = (t : ℕ) → t < n → value a (x .Z) ≡ true → value a (x .RD t) ≡ bit word t
+InitialHold a n unknown x = Unit {0}
+
 -- The closing's clauses hold exactly where all of this does.
-pub record ClosingHolds (a : Assignment) (n i : ℕ) (x : ClosingLiterals) : Type 0 where
-  pub initial-where-Z : (t : ℕ) → t < n → value a (x .Z) ≡ true → value a (x .RD t) ≡ value a (x .W t)
+pub record ClosingHolds (a : Assignment) (n : ℕ) (start : Start) (i : ℕ) (x : ClosingLiterals) : Type 0 where
+  pub initial-where-Z : InitialHold a n start x
   pub held-where-idle : 0 < i → (t : ℕ) → t < n → value a (x .RE) ≡ false → value a (x .RD t) ≡ value a (x .before t)
   pub source-where-RE : value a (x .RE) ≡ true → (value a (x .Z) ≡ true) ⊎ ((j : ℕ) × (j < i) × (value a (x .S j) ≡ true))
 
-pub initialReadClauses-holds : (a : Assignment) (x : ClosingLiterals) (t : ℕ)
-    → AllHold a (initialReadClauses x t) ↔ (value a (x .Z) ≡ true → value a (x .RD t) ≡ value a (x .W t))
-unfolding initialReadClauses
-initialReadClauses-holds a x t = Iff·trans (sameIfClauses-holds a _ _ _) (λ h e. let q = h e in (cc), λ h e. let q = h e in (cc))
+pub initialReadClauses-holds : (a : Assignment) (word : ℕ) (x : ClosingLiterals) (t : ℕ)
+    → AllHold a (initialReadClauses word x t) ↔ (value a (x .Z) ≡ true → value a (x .RD t) ≡ bit word t)
+unfolding initialReadClauses value
+initialReadClauses-holds a word x t = sameIfClauses-holds a (x .Z) (x .RD t) (known (bit word t))
+
+pub initialReads-holds : (a : Assignment) (n : ℕ) (start : Start) (x : ClosingLiterals)
+    → AllHold a (initialReads n start x) ↔ InitialHold a n start x
+unfolding initialReads InitialHold
+initialReads-holds a n (given word) x = (
+  λ h t b. initialReadClauses-holds a word x t .0 (allHold-gather a n (initialReadClauses word x) .0 h t b),
+  λ h. allHold-gather a n (initialReadClauses word x) .1 (λ t b. initialReadClauses-holds a word x t .1 (h t b)),
+)
+initialReads-holds a n unknown x = allHold-none a
 
 -- (RE ¬RDi RDi−1), (RE RDi ¬RDi−1): where RE is false, the word of the frame before
 pub heldClauses-holds : (a : Assignment) (x : ClosingLiterals) (t : ℕ)
@@ -298,9 +349,9 @@ someSource-holds a i x =
         → value a (x .RE) ≡ true → (value a (x .Z) || anyTrue a (gather i (selectedOf x))) ≡ true
     back h r = or-true (value a (x .Z)) (anyTrue a (gather i (selectedOf x))) .1 (⊎-map (λ z. z) (someS-holds a i x .1) (h r))
 
-pub closingClauses-holds : (a : Assignment) (n i : ℕ) (x : ClosingLiterals)
-    → AllHold a (closingClauses n i x) ↔ ClosingHolds a n i x
+pub closingClauses-holds : (a : Assignment) (n : ℕ) (start : Start) (i : ℕ) (x : ClosingLiterals)
+    → AllHold a (closingClauses n start i x) ↔ ClosingHolds a n start i x
 unfolding closingClauses
-closingClauses-holds a n i x =
-    simp (allHold-append a, allHold-cons a, allHold-none a, allHold-gather a, initialReadClauses-holds a, heldReads-holds a, someSource-holds a)
+closingClauses-holds a n start i x =
+    simp (allHold-append a, allHold-cons a, allHold-none a, initialReads-holds a, heldReads-holds a, someSource-holds a)
     (λ h. search, λ h. search)

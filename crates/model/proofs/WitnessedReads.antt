@@ -11,14 +11,14 @@ use native.Mathlib.Omega.{arith}
 use lib.Dec.{eqb}
 use borrow.Author.Tests.{eqb-true, eq-eqb}
 use Rattle.model.specs.Bits.{bit}
-use Rattle.model.specs.Netlist.{Netlist, Port, port}
+use Rattle.model.specs.Netlist.{Netlist, Start, Port, port}
 use Rattle.model.specs.Circuit.{Values, codeValue, addressOf, wordWritten}
 use Rattle.model.specs.Acceptance.{CodesFit, IsCode}
 use Rattle.model.specs.Variables.{codeIn, noneSince, selected, readBit, pairLiterals, closingLiterals}
 use Rattle.model.specs.Numbers.{Assignment}
 use Rattle.model.proofs.Booleans.{and-true, beq-true}
 use Rattle.model.proofs.Bits.{fromBits-same}
-use Rattle.model.proofs.Truth.{value, PairHolds, ClosingHolds}
+use Rattle.model.proofs.Truth.{value, AgreedHold, PairHolds, InitialHold, ClosingHolds}
 use Rattle.model.proofs.Forwarding.{stepped, Chain, noneFrom, noneFrom-last, noneFrom-chain, none-unchanged, source-exists}
 use Rattle.model.proofs.Variables.{noneSince-last}
 use Rattle.model.proofs.Agreement.{word-bit, writes, hits, address-bits}
@@ -72,10 +72,16 @@ module _ {c : Netlist} (fit : CodesFit c) {p : Port} {u : ℕ → Values} {a : A
           (ap (value a) (noneSince-last c p i) ∙ has .codes i (le-refl i) (p .RE) (has .RE-code)
           ∙ sym (noneFrom-last (hits c p u i) (codeValue (u i) (p .RE)) i))
 
-  -- the clauses of a pair hold
-  pub pair-witnessed : (j : ℕ) → j < i → PairHolds a (c .m) (c .n) (pairLiterals c p j i)
+  -- a read that reaches the start is of the word there
+  pub read-start : value a (noneSince c p 0 i) ≡ true → (t : ℕ) → t < c .n → value a (readBit c p i t) ≡ bit start t
+  unfolding stepped nones
+  read-start h t b = read-since 0 zero-le (sym (noneSince-value 0 zero-le) ∙ h) t b
+
+  -- the clauses of a pair hold, if its reads agree
+  pub pair-witnessed : {s : Start} (j : ℕ) → j < i → AgreedHold a (c .n) s (pairLiterals c p j i)
+      → PairHolds a (c .m) (c .n) s (pairLiterals c p j i)
   unfolding pairLiterals hits writes stepped addressOf
-  pair-witnessed j l =
+  pair-witnessed j l agreed =
       record {
         address-bit = λ t b. (
           λ h. Aj t b ∙ sym (address-bits c p (port c) (u i) (u j) (eqb-true _ _ (sym (given .E-is) ∙ h)) t b) ∙ sym (Ai t b),
@@ -88,6 +94,7 @@ module _ {c : Netlist} (fit : CodesFit c) {p : Port} {u : ℕ → Values} {a : A
         none-since = noneSince-value j (le-of-lt l) ∙ chain-at .link j l ∙ ap₂ (λ (x y : Bool). not x && y) (sym (given .s-is)) N;
         exclusive = given .S-is ∙ ap₂ _&&_ (sym (given .s-is)) N;
         data-where-S = λ t b h. forwards t b (and-true (hits c p u i j) (nones c p u i (suc j)) .0 (sym (given .S-is) ∙ h));
+        agreed = agreed;
       }
     where
       given : PairValues c p u a j i
@@ -109,13 +116,12 @@ module _ {c : Netlist} (fit : CodesFit c) {p : Port} {u : ℕ → Values} {a : A
           ∙ ap (λ (x : Bool). bit (cond x (wordWritten c (u j)) (stepped start (hits c p u i) (λ j. wordWritten c (u j)) j)) t) (h .0)
           ∙ word-bit c (u j) t b ∙ sym (has .codes j (le-of-lt l) (c .writeData t) (fit .data-fits t b))
 
-  -- the clauses of the closing hold, if it has the start word
-  pub closing-witnessed : ((t : ℕ) → t < c .n → bit start t ≡ value a (closingLiterals c p i .W t))
-      → ClosingHolds a (c .n) i (closingLiterals c p i)
-  unfolding closingLiterals stepped nones
+  -- the clauses of the closing hold, if a read that reaches the start has the initial word
+  pub closing-witnessed : {s : Start} → InitialHold a (c .n) s (closingLiterals c p i) → ClosingHolds a (c .n) s i (closingLiterals c p i)
+  unfolding closingLiterals nones
   closing-witnessed first =
       record {
-        initial-where-Z = λ t b h. read-since 0 zero-le (sym (noneSince-value 0 zero-le) ∙ h) t b ∙ first t b;
+        initial-where-Z = first;
         held-where-idle = λ l t b h. has .held l (sym (has .codes i (le-refl i) (p .RE) (has .RE-code)) ∙ h) t b;
         source-where-RE = λ h.
             ⊎-map (λ z. noneSince-value 0 zero-le ∙ z) (λ x. (x .0, x .1, has .pairs (x .0) (x .1) .S-is ∙ x .2))

@@ -5,8 +5,13 @@ use mathlib.Core.Path.{_≡_}
 use mathlib.Core.Bool.{true, false}
 use mathlib.Core.Logic.{_↔_}
 use Rattle.model.specs.Limits.{mostWires, mostAddressBits, mostDataBits}
-use Rattle.model.specs.Netlist.{Netlist, Port, port, gateWire, lastWire}
+use Rattle.model.specs.Netlist.{Netlist, Start, given, unknown, start, Port, port, gateWire, lastWire}
 use Rattle.model.specs.Circuit.{dependsOnRead, ReadPath}
+
+-- a given initial word has n bits
+unfoldable pub StartFits : ℕ → Start → Type 0
+StartFits n (given word) = word < 2 ^ n
+StartFits n unknown = Unit {0}
 
 -- refusal 4 (RULES T4): a size outside its limit
 pub record SizesFit (c : Netlist) : Type 0 where
@@ -17,7 +22,8 @@ pub record SizesFit (c : Netlist) : Type 0 where
   pub m-most : c .m ≤ mostAddressBits
   pub n-least : 1 ≤ c .n
   pub n-most : c .n ≤ mostDataBits
-  pub word-fits : c .initialWord < 2 ^ c .n
+  pub unknown-fits : c .unknownStart ≤ 1
+  pub word-fits : StartFits (c .n) (start c)
   pub wires-fit : lastWire c ≤ mostWires
 
 -- RULES W12: "A code is at most 2V + 1"

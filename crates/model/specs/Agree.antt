@@ -4,12 +4,17 @@
 use Prim.Native.Nat.{ℕ, _<_}
 use mathlib.Core.Path.{_≡_}
 use mathlib.Core.List.{List, [], _∷_}
-use Rattle.model.specs.Netlist.{Netlist, readBits}
+use Rattle.model.specs.Netlist.{Netlist, Start, given, unknown, start, readBits}
 use Rattle.model.specs.Circuit.{State}
+
+-- the word that is given at the start; one beside an unknown start is ignored
+unfoldable pub givenWord : Start → ℕ
+givenWord (given word) = word
+givenWord unknown = 0
 
 -- two netlists with the same sizes
 abbrev pub sizesOf : Netlist → List ℕ
-sizesOf c = c .inputs ∷ c .latches ∷ c .gates ∷ c .m ∷ c .n ∷ c .initialWord ∷ []
+sizesOf c = c .inputs ∷ c .latches ∷ c .gates ∷ c .m ∷ c .n ∷ givenWord (start c) ∷ c .unknownStart ∷ []
 
 abbrev pub SameSizes : Netlist → Netlist → Type 0
 SameSizes c d = sizesOf c ≡ sizesOf d

@@ -1,11 +1,11 @@
--- The sequential circuit with its whole memory, and its runs through time frames (RULES C1 to C22). Cited by the claim,
+-- The sequential circuit with its whole memory, and its runs through time frames (RULES C2 to C24). Cited by the claim,
 -- and for dependence on a read bit by the tests of records.
-use Prim.Native.Nat.{ℕ, zero, suc, _-_, _/_, _<_}
+use Prim.Native.Nat.{ℕ, zero, suc, _-_, _/_, _^_, _<_}
 use mathlib.Core.Path.{_≡_}
 use mathlib.Core.Bool.{Bool, false, cond, not, _&&_, _||_}
 use lib.Dec.{eqb, leb, ltb}
 use Rattle.model.specs.Bits.{odd, bit, fromBits}
-use Rattle.model.specs.Netlist.{Netlist, Port, port, readBits, inputWire, latchWire, readWire, gateWire}
+use Rattle.model.specs.Netlist.{Netlist, Start, given, unknown, start, Port, port, readBits, inputWire, latchWire, readWire, gateWire}
 
 -- a value for each wire, in one frame
 abbrev pub Values : Type 0
@@ -111,6 +111,15 @@ stateAt c s f (suc i) = step c (stateAt c s f i) (frame c (stateAt c s f i) (f i
 unfoldable pub run : Netlist → State → Feeds → ℕ → Values
 run c s f i = frame c (stateAt c s f i) (f i)
 
--- the state at the start: latches at their reset, each word the initial word, and the idle word of frame 0 (RULES C1, C2 and C18)
-unfoldable pub initial : Netlist → (ℕ → Bool) → State
-initial c idle = record { latch = λ l. eqb (c .reset l) 1; memory = λ x. c .initialWord; held = idle }
+-- a memory that a run may begin with: each word the initial word; or, where that is unknown, any word of n bits, each by itself (RULES C23
+-- and C24)
+unfoldable pub BeginsAs : ℕ → Start → (ℕ → ℕ) → Type 0
+BeginsAs n (given word) memory = (x : ℕ) → memory x ≡ word
+BeginsAs n unknown memory = (x : ℕ) → memory x < 2 ^ n
+
+abbrev pub Begins : Netlist → (ℕ → ℕ) → Type 0
+Begins c memory = BeginsAs (c .n) (start c) memory
+
+-- the state at the start: latches at their reset, the memory begun with, and the idle word of frame 0 (RULES C2 and C18)
+unfoldable pub initial : Netlist → (ℕ → ℕ) → (ℕ → Bool) → State
+initial c memory idle = record { latch = λ l. eqb (c .reset l) 1; memory = memory; held = idle }

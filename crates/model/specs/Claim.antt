@@ -1,10 +1,11 @@
--- Demand 3, the correctness of the encoding in both directions (`Encodes`), and the theorem (`EncodingTheorem`). RULES A2 to A12.
+-- Demand 3, the correctness of the encoding in both directions (`Encodes`), and the theorem (`EncodingTheorem`). RULES A2 to A16.
 --
 -- `Satisfies c k a`: the assignment a makes every clause true that stands in the numbers written for depth k.
--- First direction: whatever assignment does so, its inputs, fed frame by frame to the circuit with its whole memory from its initial
--- state with frame 0's read bits as idle word, drive every wire of every frame 0 to k as assigned, and break the property in one.
--- Second direction: for every run, whatever its idle word and whatever it is fed, that breaks the property in some frame 0 to k, there
--- is an assignment that does so and agrees with the run on every wire of every frame 0 to k.
+-- First direction: whatever assignment does so, there is a memory that a run may begin with, of the initial word where that is given,
+-- from which its inputs, fed frame by frame to the circuit with its whole memory and frame 0's read bits as idle word, drive every wire of
+-- every frame 0 to k as assigned, and break the property in one.
+-- Second direction: for every run, whatever memory it begins with, whatever its idle word and whatever it is fed, that breaks the property
+-- in some frame 0 to k, there is an assignment that does so and agrees with the run on every wire of every frame 0 to k.
 -- Without the first a solver's answer could be no run of the chip; without the second a fault could go unfound.
 -- The theorem says so of every accepted netlist and every depth; its proof is `encodes` in proofs/Claim.antt. Cited by the contracts of
 -- `heading` and `read`.
@@ -15,8 +16,8 @@ use mathlib.Core.List.{List, [], _∷_}
 use mathlib.Core.Logic.{_⊎_}
 use lib.IntN.{ℤ, pos, negsuc, natAbs}
 use lib.ListN.{length, getD}
-use Rattle.model.specs.Netlist.{Netlist, port, inputWire, readWire, lastWire}
-use Rattle.model.specs.Circuit.{State, Feeds, codeValue, addressOf, stateAt, run, initial}
+use Rattle.model.specs.Netlist.{Netlist, given, start, port, inputWire, readWire, lastWire}
+use Rattle.model.specs.Circuit.{State, Feeds, codeValue, addressOf, stateAt, run, Begins, initial}
 use Rattle.model.specs.Acceptance.{Accepted}
 use Rattle.model.specs.Variables.{base, Numbered}
 use Rattle.model.specs.Groups.{inDepth}
@@ -43,12 +44,12 @@ Agrees c s k a f = (i : ℕ) → i ≤ k → (w : ℕ) → 1 ≤ w → w ≤ las
 unfoldable pub Breaks : Netlist → State → ℕ → Feeds → Type 0
 Breaks c s k f = (i : ℕ) × (i ≤ k) × (codeValue (run c s f i) (c .P) ≡ false)
 
--- demand 3 (RULES A8 and A9)
+-- demand 3 (RULES A13 and A14)
 pub record Encodes (c : Netlist) (k : ℕ) : Type 0 where
-  pub assignment→run : (a : Assignment) → Satisfies c k a
-      → Agrees c (initial c (idleOf c a)) k a (feedOf c a) × Breaks c (initial c (idleOf c a)) k (feedOf c a)
-  pub run→assignment : (idle : ℕ → Bool) (f : Feeds) → Breaks c (initial c idle) k f
-      → (a : Assignment) × Satisfies c k a × Agrees c (initial c idle) k a f
+  pub assignment→run : (a : Assignment) → Satisfies c k a → (memory : ℕ → ℕ) × Begins c memory
+      × Agrees c (initial c memory (idleOf c a)) k a (feedOf c a) × Breaks c (initial c memory (idleOf c a)) k (feedOf c a)
+  pub run→assignment : (memory : ℕ → ℕ) → Begins c memory → (idle : ℕ → Bool) (f : Feeds) → Breaks c (initial c memory idle) k f
+      → (a : Assignment) × Satisfies c k a × Agrees c (initial c memory idle) k a f
 
 -- The theorem: `encodes` in proofs/Claim.antt is of this type.
 abbrev pub EncodingTheorem : Type 0
@@ -60,18 +61,24 @@ NoConstant zs = (zs ≡ negsuc 0 ∷ []) ⊎ ((y : ℕ) → y < length zs → 2 
 
 -- What else is said of the clauses of a depth. An assignment is of the variables from 1 to B(k + 1) (RULES A3): no other matters, each of
 -- them is numbered, and every number written is one of them or an end mark. Where no assignment satisfies the clauses, no run breaks
--- the property: this is what a designer relies on. A group has at most as many clauses and numbers as RULES G30 and G31 count. A run's
--- memory is 2^m words of n bits (RULES C1): no frame has another address, and no word is longer.
+-- the property: this is what a designer relies on. Where the initial word is given, the memory of the first direction is that word
+-- everywhere (RULES A15). A group has at most as many clauses and numbers as RULES G35 and G36 count. A run's memory is 2^m words of n bits
+-- (RULES C23): no frame has another address, and no word is longer.
 pub record Stated (c : Netlist) (k : ℕ) : Type 0 where
   pub only-numbered : (a a′ : Assignment) → ((v : ℕ) → 1 ≤ v → v ≤ base c (k + 1) → a v ≡ a′ v) → Satisfies c k a → Satisfies c k a′
   pub all-numbered : (v : ℕ) → 1 ≤ v → v ≤ base c (k + 1) → Numbered c k v
   pub numbers-within : (x : ℕ) → natAbs (getD (formula c k) x (pos 0)) ≤ base c (k + 1)
-  pub unsatisfiable→safe : ((a : Assignment) → Satisfies c k a → ⊥) → (idle : ℕ → Bool) (f : Feeds) → Breaks c (initial c idle) k f → ⊥
+  pub unsatisfiable→safe : ((a : Assignment) → Satisfies c k a → ⊥)
+      → (memory : ℕ → ℕ) → Begins c memory → (idle : ℕ → Bool) (f : Feeds) → Breaks c (initial c memory idle) k f → ⊥
+  pub given→run : (word : ℕ) → start c ≡ given word → (a : Assignment) → Satisfies c k a
+      → Agrees c (initial c (λ x. word) (idleOf c a)) k a (feedOf c a) × Breaks c (initial c (λ x. word) (idleOf c a)) k (feedOf c a)
   pub clauses-counted : (g : Group) → inDepth k g ≡ true → length (clausesIn (numbersOf c k g)) ≤ clauseCount c k g
   pub numbers-counted : (g : Group) → length (numbersOf c k g) ≤ numberCount c k g
   pub no-constants : (x : ℕ) → 1 ≤ x → NoConstant (getD (clausesIn (formula c k)) x [])
-  pub addresses-within : (idle : ℕ → Bool) (f : Feeds) (i : ℕ) → addressOf c (port c) (run c (initial c idle) f i) < 2 ^ c .m
-  pub words-within : (idle : ℕ → Bool) (f : Feeds) (i x : ℕ) → stateAt c (initial c idle) f i .memory x < 2 ^ c .n
+  pub addresses-within : (memory : ℕ → ℕ) (idle : ℕ → Bool) (f : Feeds) (i : ℕ)
+      → addressOf c (port c) (run c (initial c memory idle) f i) < 2 ^ c .m
+  pub words-within : (memory : ℕ → ℕ) → Begins c memory → (idle : ℕ → Bool) (f : Feeds) (i x : ℕ)
+      → stateAt c (initial c memory idle) f i .memory x < 2 ^ c .n
 
 -- likewise: `stated` in proofs/Stated.antt
 abbrev pub StatedTheorem : Type 0

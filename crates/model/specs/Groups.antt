@@ -4,7 +4,7 @@ use Prim.Native.Nat.{ℕ, zero, suc, _+_}
 use mathlib.Core.Bool.{Bool, true, cond, _&&_}
 use mathlib.Core.List.{List, [], _∷_, _++_}
 use lib.Dec.{eqb, leb, ltb}
-use Rattle.model.specs.Netlist.{Netlist, port, latchWire, gateWire}
+use Rattle.model.specs.Netlist.{Netlist, start, port, latchWire, gateWire}
 use Rattle.model.specs.Gather.{gather, gatherDown}
 use Rattle.model.specs.Clauses.{Literal, Clause, plus, neg, andClauses, sameClauses, pairClauses, closingClauses}
 use Rattle.model.specs.Variables.{wireIn, codeIn, pairLiterals, closingLiterals}
@@ -35,8 +35,8 @@ violationOf c i = neg (codeIn c i (c .P)) ∷ []
 -- the clauses of a group at depth k
 unfoldable pub clausesOf : Netlist → ℕ → Group → List Clause
 clausesOf c k (Wires i) = stateClauses c i ++ gather (c .gates) (gateClauses c i)
-clausesOf c k (Pair j i) = pairClauses (c .m) (c .n) (pairLiterals c (port c) j i)
-clausesOf c k (Closing i) = closingClauses (c .n) i (closingLiterals c (port c) i)
+clausesOf c k (Pair j i) = pairClauses (c .m) (c .n) (start c) (pairLiterals c (port c) j i)
+clausesOf c k (Closing i) = closingClauses (c .n) (start c) i (closingLiterals c (port c) i)
 clausesOf c k Property = gather (k + 1) (violationOf c) ∷ []
 
 -- the groups of frame i: wires, pairs from j = i - 1 down to 0, closing

@@ -1,6 +1,6 @@
 -- A netlist with one memory: the record with its lists (RULES W14 to W17), and the numbers of its wires (RULES W1).
 -- Cited by nearly every other file.
-use Prim.Native.Nat.{ℕ, _+_}
+use Prim.Native.Nat.{ℕ, zero, suc, _+_}
 
 -- What the lists hold are functions, so that an entry past its size has no meaning to ignore: it is never asked for.
 -- A code (the customer's term, RULES W3) is an AIGER literal: 2 × wire, plus 1 for the inverted wire; code 0 is false, code 1 true.
@@ -11,8 +11,9 @@ pub record Netlist : Type 0 where
   -- address width and data width
   pub m : ℕ
   pub n : ℕ
-  -- the customer's "start word" (RULES W11, C1): what every word of the memory is at first
+  -- the customer's "start word", and whether there is none: 0, or 1 where the memory powers up unknown. `start` says what they mean
   pub initialWord : ℕ
+  pub unknownStart : ℕ
   -- a latch's next code, and its reset, 0 or 1
   pub next : ℕ → ℕ
   pub reset : ℕ → ℕ
@@ -26,6 +27,18 @@ pub record Netlist : Type 0 where
   pub WE : ℕ
   pub RE : ℕ
   pub P : ℕ
+
+-- what the memory is at first: each word the word given, or anything, each word by itself (RULES C23 and C24)
+pub data Start : Type 0 where
+  given : ℕ → Start
+  unknown : Start
+
+unfoldable pub startOf : ℕ → ℕ → Start
+startOf word zero = given word
+startOf word (suc u) = unknown
+
+abbrev pub start : Netlist → Start
+start c = startOf (c .initialWord) (c .unknownStart)
 
 -- A read port of the memory. Only `port` below says which there are.
 pub record Port : Type 0 where

@@ -4,7 +4,7 @@ use Prim.Native.Nat.{ℕ, _+_, _-_, _*_, _/_, _≤_, _<_}
 use mathlib.Core.Path.{_≡_}
 use mathlib.Core.Bool.{cond}
 use lib.Dec.{eqb, ltb}
-use Rattle.model.specs.Bits.{odd, bit}
+use Rattle.model.specs.Bits.{odd}
 use Rattle.model.specs.Netlist.{Netlist, Port, port, lastWire, readWire}
 use Rattle.model.specs.Clauses.{Literal, known, plus, minus, PairLiterals, ClosingLiterals}
 
@@ -64,6 +64,9 @@ pairLiterals c p j i =
       WD = λ t. codeIn c j (c .writeData t);
       Ai = λ t. codeIn c i (p .address t);
       RD = readBit c p i;
+      Zj = noneSince c p 0 j;
+      Zi = noneSince c p 0 i;
+      RDj = readBit c p j;
     }
 
 unfoldable pub closingLiterals : Netlist → Port → ℕ → ClosingLiterals
@@ -73,7 +76,6 @@ closingLiterals c p i =
       RE = codeIn c i (p .RE);
       S = λ j. selected c p j i;
       RD = readBit c p i;
-      W = λ t. known (bit (c .initialWord) t);
       before = readBit c p (i - 1);
     }
 

@@ -1,6 +1,6 @@
 -- A netlist has no fault in any line exactly where it meets the model's limits (specs/Faults.antt and the model's Acceptance).
 -- Cited by the tests of records and by the sheet reader.
-use Prim.Native.Nat.{ℕ, _+_, _-_, _*_, _/_, _^_, _≤_, _<_, zero-le}
+use Prim.Native.Nat.{ℕ, zero, suc, _+_, _-_, _*_, _/_, _^_, _≤_, _<_, zero-le}
 use mathlib.Core.Path.{_≡_, refl, _∙_}
 use mathlib.Core.Bool.{Bool, true, false, not, _||_, true≢false}
 use mathlib.Core.Logic.{_↔_, by-cases}
@@ -10,9 +10,9 @@ use native.Mathlib.Omega.{arith}
 use lib.Dec.{ltb, leb, eqb}
 use lib.Pow.{pow-pos, pow-mono}
 use borrow.Author.Tests.{ltb-false, lt-ltb, le-ltb, leb-false, lt-leb, le-leb, eq-eqb, ne-eqb}
-use Rattle.model.specs.Netlist.{Netlist, port, gateWire, lastWire}
-use Rattle.model.specs.Acceptance.{SizesFit, CodesFit, NoLoop}
-use Rattle.netlist.specs.Faults.{outside, sizeFault, codeFault, loopFaultBy, loopFault}
+use Rattle.model.specs.Netlist.{Netlist, Start, given, unknown, startOf, start, port, gateWire, lastWire}
+use Rattle.model.specs.Acceptance.{StartFits, SizesFit, CodesFit, NoLoop}
+use Rattle.netlist.specs.Faults.{outside, startFault, sizeFault, codeFault, loopFaultBy, loopFault}
 use Rattle.netlist.specs.declared.Line.{Line}
 use Rattle.netlist.specs.declared.Line.the-variants.{Sizes, Memory, Latch, Gate, Control}
 use Rattle.netlist.proofs.Places.{EveryLine}
@@ -49,6 +49,23 @@ word-outside n x =
 pub word-inside : (n x : ℕ) → 32 ≤ n → x < 2 ^ 32 → outside 0 (2 ^ n - 1) x ≡ false
 word-inside n x h b = at-most (2 ^ n - 1) x .1 (omega (arith, pow-mono {i = 32} {j = n} h))
 
+-- a start without a fault is one that fits
+start-inside : (n : ℕ) (s : Start) → (startFault n s ≡ false) ↔ StartFits n s
+unfolding startFault StartFits
+start-inside n (given word) =
+    (λ h. omega (arith, pow-pos n, at-most (2 ^ n - 1) word .0 h), λ h. at-most (2 ^ n - 1) word .1 (omega arith))
+start-inside n unknown = (λ h. tt, λ h. refl)
+
+-- the fault by the number that says whether the start is unknown
+pub given-fault : (n word u : ℕ) → u ≡ 0 → startFault n (startOf word u) ≡ outside 0 (2 ^ n - 1) word
+unfolding startFault startOf
+given-fault n word u e = rw e
+
+pub unknown-fault : (n word u : ℕ) → (u ≡ 0 → ⊥) → startFault n (startOf word u) ≡ false
+unfolding startFault startOf
+unknown-fault n word zero h = absurd (h refl)
+unknown-fault n word (suc u) h = refl
+
 -- the two tests of an order are each other's opposite
 pub leb-not-ltb : (a b : ℕ) → leb a b ≡ not (ltb b a)
 leb-not-ltb a b =
@@ -72,10 +89,12 @@ module _ (c : Netlist) where
 
   -- the numbers of line M
   memory-inside : Without sizeFault c Memory
-      ↔ (((((1 ≤ c .m) × (c .m ≤ 12)) × ((1 ≤ c .n) × (c .n ≤ 32))) × (c .initialWord ≤ 2 ^ c .n - 1)) × (lastWire c ≤ 600))
+      ↔ ((((((1 ≤ c .m) × (c .m ≤ 12)) × ((1 ≤ c .n) × (c .n ≤ 32))) × (c .unknownStart ≤ 1)) × StartFits (c .n) (start c)) × (lastWire c ≤ 600))
   unfolding sizeFault
   memory-inside =
-      neither (neither (neither (inside 1 12 (c .m)) (inside 1 32 (c .n))) (at-most (2 ^ c .n - 1) (c .initialWord))) (at-most 600 (lastWire c))
+      neither
+      (neither (neither (neither (inside 1 12 (c .m)) (inside 1 32 (c .n))) (at-most 1 (c .unknownStart))) (start-inside (c .n) (start c)))
+      (at-most 600 (lastWire c))
 
   -- refusal 4
   pub sizes-fit : EveryLine c (Without sizeFault c) ↔ SizesFit c
@@ -83,17 +102,19 @@ module _ (c : Netlist) where
   sizes-fit = (λ q. fits (sizes-inside .0 (q .of-sizes)) (memory-inside .0 (q .of-memory)), none)
     where
       fits : ((c .inputs ≤ 600) × (c .latches ≤ 600)) × (c .gates ≤ 600)
-          → ((((1 ≤ c .m) × (c .m ≤ 12)) × ((1 ≤ c .n) × (c .n ≤ 32))) × (c .initialWord ≤ 2 ^ c .n - 1)) × (lastWire c ≤ 600) → SizesFit c
+          → (((((1 ≤ c .m) × (c .m ≤ 12)) × ((1 ≤ c .n) × (c .n ≤ 32))) × (c .unknownStart ≤ 1)) × StartFits (c .n) (start c)) × (lastWire c ≤ 600)
+          → SizesFit c
       fits s r =
           record {
             inputs-fit = s .0 .0;
             latches-fit = s .0 .1;
             gates-fit = s .1;
-            m-least = r .0 .0 .0 .0;
-            m-most = r .0 .0 .0 .1;
-            n-least = r .0 .0 .1 .0;
-            n-most = r .0 .0 .1 .1;
-            word-fits = omega (arith, pow-pos (c .n));
+            m-least = r .0 .0 .0 .0 .0;
+            m-most = r .0 .0 .0 .0 .1;
+            n-least = r .0 .0 .0 .1 .0;
+            n-most = r .0 .0 .0 .1 .1;
+            unknown-fits = r .0 .0 .1;
+            word-fits = r .0 .1;
             wires-fit = r .1;
           }
 
@@ -101,7 +122,8 @@ module _ (c : Netlist) where
       none q =
           record {
             of-sizes = sizes-inside .1 (omega arith);
-            of-memory = memory-inside .1 (omega arith);
+            of-memory =
+                memory-inside .1 (((((q .m-least, q .m-most), (q .n-least, q .n-most)), q .unknown-fits), q .word-fits), q .wires-fit);
             of-latch = λ l h. refl;
             of-gate = λ g h. refl;
             of-address = λ t h. refl;

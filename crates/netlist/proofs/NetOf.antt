@@ -29,6 +29,7 @@ sizes-lists r latches gates otherLatches otherGates q =
       m-most = q .m-most;
       n-least = q .n-least;
       n-most = q .n-most;
+      unknown-fits = q .unknown-fits;
       word-fits = q .word-fits;
       wires-fit = q .wires-fit;
     }

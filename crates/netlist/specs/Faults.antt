@@ -4,7 +4,7 @@ use Prim.Native.Nat.{ℕ, _+_, _-_, _*_, _/_, _^_}
 use mathlib.Core.Bool.{Bool, false, _||_}
 use lib.Dec.{ltb, leb}
 use Rattle.model.specs.Limits.{mostWires, mostAddressBits, mostDataBits}
-use Rattle.model.specs.Netlist.{Netlist, gateWire, lastWire}
+use Rattle.model.specs.Netlist.{Netlist, Start, given, unknown, start, gateWire, lastWire}
 use Rattle.model.specs.Circuit.{dependsOnRead}
 use Rattle.netlist.specs.declared.Line.{Line}
 use Rattle.netlist.specs.declared.Line.the-variants.{Sizes, Memory, Latch, Gate, Address, WriteData, Control}
@@ -13,11 +13,17 @@ use Rattle.netlist.specs.declared.Line.the-variants.{Sizes, Memory, Latc
 abbrev pub outside : ℕ → ℕ → ℕ → Bool
 outside low high x = ltb x low || ltb high x
 
+-- RULES W20: a word that is given has n bits; where the start is unknown there is none to test
+unfoldable pub startFault : ℕ → Start → Bool
+startFault n (given word) = outside 0 (2 ^ n - 1) word
+startFault n unknown = false
+
 -- RULES T4: "a number of the N or the M line, or V, outside its limit"; V is tested at the M line (RULES T36)
 unfoldable pub sizeFault : Netlist → Line → Bool
 sizeFault c Sizes = outside 0 mostWires (c .inputs) || outside 0 mostWires (c .latches) || outside 0 mostWires (c .gates)
 sizeFault c Memory =
-    outside 1 mostAddressBits (c .m) || outside 1 mostDataBits (c .n) || outside 0 (2 ^ c .n - 1) (c .initialWord) || outside 0 mostWires (lastWire c)
+    outside 1 mostAddressBits (c .m) || outside 1 mostDataBits (c .n) || outside 0 1 (c .unknownStart) || startFault (c .n) (start c)
+    || outside 0 mostWires (lastWire c)
 sizeFault c (Latch l) = false
 sizeFault c (Gate g) = false
 sizeFault c (Address t) = false

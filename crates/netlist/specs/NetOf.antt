@@ -30,6 +30,7 @@ netOf r latches gates =
       m = r .m;
       n = r .n;
       initialWord = r .«initial_word»;
+      unknownStart = r .«unknown_start»;
       next = firstAt latches;
       reset = secondAt latches;
       left = firstAt gates;

@@ -24,6 +24,7 @@ recordOf c =
       m = c .m;
       n = c .n;
       «initial_word» = c .initialWord;
+      «unknown_start» = c .unknownStart;
       address = gather mostAddressBits (codeEntry (c .address));
       «write_data» = gather mostDataBits (codeEntry (c .writeData));
       we = record { 0 = c .WE };
@@ -36,8 +37,8 @@ abbrev pub upTo : ℕ → (ℕ → ℕ) → ℕ → ℕ
 upTo size f x = cond (ltb x size) (f x) 0
 
 -- sizes with no codes
-abbrev pub withoutCodes : ℕ → ℕ → ℕ → ℕ → ℕ → ℕ → M.Netlist
-withoutCodes inputs latches gates m n initialWord =
+abbrev pub withoutCodes : ℕ → ℕ → ℕ → ℕ → ℕ → ℕ → ℕ → M.Netlist
+withoutCodes inputs latches gates m n initialWord unknownStart =
     record {
       inputs = inputs;
       latches = latches;
@@ -45,6 +46,7 @@ withoutCodes inputs latches gates m n initialWord =
       m = m;
       n = n;
       initialWord = initialWord;
+      unknownStart = unknownStart;
       next = λ l. 0;
       reset = λ l. 0;
       left = λ g. 0;
@@ -58,4 +60,4 @@ withoutCodes inputs latches gates m n initialWord =
 
 -- the record that is all zeros
 abbrev pub noNetlist : M.Netlist
-noNetlist = withoutCodes 0 0 0 0 0 0
+noNetlist = withoutCodes 0 0 0 0 0 0 0

@@ -6,12 +6,12 @@ use literals::Code;
 use literals::Wire;
 ghost use mathlib.Core.Path.{_≡_};
 ghost use Prim.Native.Nat.{_+_, _-_, _^_, _<_};
-ghost use Rattle.model.specs.Netlist.{latchWire, readWire, gateWire, lastWire};
+ghost use Rattle.model.specs.Netlist.{startOf, latchWire, readWire, gateWire, lastWire};
 ghost use Rattle.model.specs.Acceptance.{SizesFit};
 ghost use Rattle.netlist.specs.NetOf.{netOf, alone, putNumbers};
 ghost use Rattle.netlist.specs.RecordOf.{recordOf, noNetlist};
 ghost use Rattle.netlist.specs.Places.{controlLine, lineAt, HasLine};
-ghost use Rattle.netlist.specs.Faults.{outside, sizeFault, latchFault, gateFault, codeFault};
+ghost use Rattle.netlist.specs.Faults.{outside, startFault, sizeFault, latchFault, gateFault, codeFault};
 
 // 600 latches or gates, unpacked: two numbers each.
 pub type UnpackedList = [u32; 1200];
@@ -24,6 +24,7 @@ pub struct Netlist {
     pub m: u32,
     pub n: u32,
     pub initial_word: u32,
+    pub unknown_start: u32,
     pub address: [Code; 12],
     pub write_data: [Code; 32],
     pub we: Code,
@@ -54,6 +55,7 @@ pub fn empty_net() -> Netlist
         m: 0,
         n: 0,
         initial_word: 0,
+        unknown_start: 0,
         address: [none; 12],
         write_data: [none; 32],
         we: none,
@@ -85,6 +87,16 @@ fn is_word_outside(n: u32, word: u32) -> bool
     if n < 32 { word >> n != 0 } else { false }
 }
 
+// Whether a start word that is given has more than n bits. Where the start is unknown the word is not looked at.
+fn is_start_outside(n: u32, word: u32, unknown: u32) -> bool
+    ensures { λ r. ⌜ r ≡ startFault n (startOf word unknown) ⌝ }
+{
+    if unknown == 0 {
+        return is_word_outside(n, word);
+    }
+    false
+}
+
 // Whether V is above its limit. The sizes may be any numbers yet: their sum is taken where it fits.
 fn is_last_wire_outside(inputs: u32, latches: u32, n: u32, gates: u32) -> bool
     ensures { λ r. ⌜ r ≡ outside 0 600 (inputs + latches + n + gates) ⌝ }
@@ -105,7 +117,8 @@ pub fn memory_fault(net: Netlist) -> bool
 {
     is_outside(1, 12, net.m)
         | is_outside(1, 32, net.n)
-        | is_word_outside(net.n, net.initial_word)
+        | is_outside(0, 1, net.unknown_start)
+        | is_start_outside(net.n, net.initial_word, net.unknown_start)
         | is_last_wire_outside(net.inputs, net.latches, net.n, net.gates)
 }
 

@@ -1,7 +1,7 @@
--- Laws of specs/Letters.antt: a letter and its kind, and the rule of a table of filled fields. No contract cites this file.
+-- Laws of specs/Letters.antt: a letter and its kind, and the rule of a table of fields. No contract cites this file.
 use Prim.Native.Nat.{ℕ, zero, suc, _<_}
 use mathlib.Core.Path.{_≡_, refl, sym, ap, _∙_}
-use mathlib.Core.Bool.{Bool, true, false, cond, _&&_, Bool·beq, false≢true}
+use mathlib.Core.Bool.{Bool, true, false, not, cond, _&&_, false≢true}
 use mathlib.Core.List.{List, [], _∷_}
 use mathlib.Core.Logic.{⊎-elim}
 use native.Mathlib.Nat.{eq-or-lt-of-le, le-of-suc-le-suc}
@@ -9,8 +9,8 @@ use native.Mathlib.Omega.{arith}
 use borrow.Author.Tests.{eqb-true}
 use lib.Dec.{eqb}
 use lib.ListN.{getD}
-use Rattle.model.proofs.Booleans.{and-true, beq-true}
-use Rattle.sheet_lines.specs.Letters.{letterOf, kindOf, rowOf, isKnown, isFilled, FilledAsPrinted}
+use Rattle.model.proofs.Booleans.{and-true}
+use Rattle.sheet_lines.specs.Letters.{letterOf, kindOf, rowOf, isKnown, contentOf, contentNumber, ContentsAsPrinted}
 use Rattle.sheet_lines.specs.declared.Kind.{Kind}
 use Rattle.sheet_lines.specs.declared.Kind.the-variants.{Sizes, Memory, Latch, Gate, Address, WriteData, Control, Unknown}
 
@@ -73,22 +73,22 @@ kind-at-row Unknown h = absurd (omega arith)
 -- whether an entry of a table says what the rule says, and whether all 21 do
 abbrev pub entry-right : List (List ℕ) → ℕ → ℕ → Bool
 entry-right table row column =
-    Bool·beq (eqb (getD (getD table row []) column 0) 1) (isFilled (getD kinds row Unknown) column)
+    eqb (getD (getD table row []) column 0) (contentNumber (contentOf (getD kinds row Unknown) column))
 
 abbrev pub table-right : List (List ℕ) → Bool
 table-right table = every 7 (λ row. every 3 (entry-right table row))
 
 -- a table that passes that one test says at every row and column what the rule says
-pub table-follows : (table : List (List ℕ)) → table-right table ≡ true → FilledAsPrinted table
-unfolding FilledAsPrinted
+pub table-follows : (table : List (List ℕ)) → table-right table ≡ true → ContentsAsPrinted table
+unfolding ContentsAsPrinted
 table-follows table right k column l c =
     let at-row : every 3 (entry-right table (rowOf k)) ≡ true = every-at 7 (λ row. every 3 (entry-right table row)) right (rowOf k) l in
     let at-column : entry-right table (rowOf k) column ≡ true = every-at 3 (entry-right table (rowOf k)) at-row column c in
-    beq-true _ _ .0 at-column ∙ ap (λ (k : Kind). isFilled k column) (kind-at-row k l)
+    eqb-true _ _ at-column ∙ ap (λ (k : Kind). contentNumber (contentOf k column)) (kind-at-row k l)
 
 -- what such a table says at the row of a kind
-pub filled-at :
-    (table : List (List ℕ)) → FilledAsPrinted table → (k : Kind) (row column : ℕ) → row ≡ rowOf k → rowOf k < 7 → column < 3 →
-    eqb (getD (getD table row []) column 0) 1 ≡ isFilled k column
-unfolding FilledAsPrinted
-filled-at table rule k row column e l c = rw e (rule k column l c)
+pub content-at :
+    (table : List (List ℕ)) → ContentsAsPrinted table → (k : Kind) (row column : ℕ) → row ≡ rowOf k → rowOf k < 7 → column < 3 →
+    getD (getD table row []) column 0 ≡ contentNumber (contentOf k column)
+unfolding ContentsAsPrinted
+content-at table rule k row column e l c = rw e (rule k column l c)

@@ -2,7 +2,7 @@
 -- written reads back (`lineOf-lineText`). No contract cites this file.
 use Prim.Native.Nat.{ℕ, _+_, _^_, _<_}
 use mathlib.Core.Path.{_≡_, refl, sym, ap, ap₂, _∙_}
-use mathlib.Core.Bool.{Bool, true, false, cond, _&&_, false≢true}
+use mathlib.Core.Bool.{Bool, true, false, not, cond, _&&_, false≢true}
 use mathlib.Core.List.{List, [], _∷_, _++_, append-assoc}
 use native.Mathlib.Omega.{arith}
 use borrow.Author.Tests.{eq-eqb, ne-eqb, eqb-true}
@@ -16,17 +16,46 @@ use Rattle.sheet_fields.specs.Fields.{fieldOf}
 use Rattle.sheet_fields.specs.declared.Field.{Field}
 use Rattle.sheet_fields.specs.declared.Field.the-variants.{Empty, Filled, Misprinted}
 use Rattle.sheet_fields.proofs.Fields.{fieldOf-field, fieldOf-empty, field-fieldOf, empty-fieldOf}
-use Rattle.sheet_lines.specs.Letters.{letterOf, kindOf, isKnown, isFilled}
-use Rattle.sheet_lines.specs.Lines.{fieldIn, asWanted, allAsWanted, valueOf, lineWith, lineOf, columnText, lineText, ReadAsWritten}
+use Rattle.sheet_lines.specs.Letters.{Content, mustBeEmpty, mustBeFilled, mayBeEmpty, contentNumber, letterOf, kindOf, isKnown, contentOf}
+use Rattle.sheet_lines.specs.Lines.{fieldIn, asWanted, allAsWanted, valueOf, leftEmpty, lineWith, lineOf, written, fieldText, lineText, ReadAsWritten}
 use Rattle.sheet_lines.specs.declared.Kind.{Kind}
+use Rattle.sheet_lines.specs.declared.Kind.the-variants.{Sizes, Memory, Latch, Gate, Address, WriteData, Control, Unknown}
 use Rattle.sheet_lines.specs.declared.ParsedLine.the-variants.{Misprint, Read}
 use Rattle.sheet_lines.proofs.Letters.{letterOf-kindOf, kindOf-letterOf}
 
+-- what the number of a content says of a field: 1 that it is not empty, 0 that it is
+pub wanted-empty : (w : Content) → not (eqb (contentNumber w) 1) ≡ asWanted w Empty
+wanted-empty mustBeEmpty = refl
+wanted-empty mustBeFilled = refl
+wanted-empty mayBeEmpty = refl
+
+pub wanted-number : (w : Content) (x : ℕ) → not (eqb (contentNumber w) 0) ≡ asWanted w (Filled x)
+wanted-number mustBeEmpty x = refl
+wanted-number mustBeFilled x = refl
+wanted-number mayBeEmpty x = refl
+
+pub wanted-misprint : (w : Content) → asWanted w Misprinted ≡ false
+wanted-misprint mustBeEmpty = refl
+wanted-misprint mustBeFilled = refl
+wanted-misprint mayBeEmpty = refl
+
+-- 2 that it may be either, and no other
+pub left-either : (w : Content) (f : Field) → contentNumber w ≡ 2 → leftEmpty w f ≡ leftEmpty mayBeEmpty f
+left-either mustBeEmpty f h = absurd (omega arith)
+left-either mustBeFilled f h = absurd (omega arith)
+left-either mayBeEmpty f h = refl
+
+pub left-firm : (w : Content) (f : Field) → (contentNumber w ≡ 2 → ⊥) → leftEmpty w f ≡ 0
+left-firm mustBeEmpty f n = refl
+left-firm mustBeFilled f n = refl
+left-firm mayBeEmpty f n = absurd (n refl)
+
 -- a line by the outcomes of its four tests: the letter, and each field
 pub lineWith-tests :
-    (k : Kind) (a b c : Field) (known first second third : Bool) → isKnown k ≡ known → asWanted (isFilled k 0) a ≡ first →
-    asWanted (isFilled k 1) b ≡ second → asWanted (isFilled k 2) c ≡ third →
-    lineWith k a b c ≡ cond (known && (first && second && third)) (Read k (valueOf a) (valueOf b) (valueOf c)) Misprint
+    (k : Kind) (a b c : Field) (known first second third : Bool) → isKnown k ≡ known → asWanted (contentOf k 0) a ≡ first →
+    asWanted (contentOf k 1) b ≡ second → asWanted (contentOf k 2) c ≡ third →
+    lineWith k a b c
+    ≡ cond (known && (first && second && third)) (Read k (valueOf a) (valueOf b) (valueOf c) (leftEmpty (contentOf k 2) c)) Misprint
 unfolding lineWith allAsWanted
 lineWith-tests k a b c known first second third e₀ e₁ e₂ e₃ = rw (e₀, e₁, e₂, e₃)
 
@@ -47,16 +76,33 @@ unfolding lineOf
 lineOf-no-feed s l n = rw (eq-eqb (length s) 32 l, ne-eqb (getD s 31 0) lineFeed n)
 
 -- ten columns that are as wanted are the text of what is read there
-column-text : (wanted : Bool) (f : List ℕ) → length f ≡ 10 → asWanted wanted (fieldOf f) ≡ true → f ≡ columnText wanted (valueOf (fieldOf f))
-unfolding columnText
-column-text wanted f l h = by-field wanted (fieldOf f) refl h
+column-text :
+    (w : Content) (f : List ℕ) → length f ≡ 10 → asWanted w (fieldOf f) ≡ true →
+    f ≡ fieldText (written w (leftEmpty w (fieldOf f)) (valueOf (fieldOf f)))
+column-text w f l h = by-field w (fieldOf f) refl h
   where
-    by-field : (w : Bool) (r : Field) → fieldOf f ≡ r → asWanted w r ≡ true → f ≡ cond w (field (valueOf r)) emptyField
-    by-field true Empty e h = absurd (false≢true h)
-    by-field false Empty e h = empty-fieldOf f l e
-    by-field true (Filled x) e h = field-fieldOf f x l e .0
-    by-field false (Filled x) e h = absurd (false≢true h)
-    by-field w Misprinted e h = absurd (false≢true h)
+    by-field : (w : Content) (r : Field) → fieldOf f ≡ r → asWanted w r ≡ true → f ≡ fieldText (written w (leftEmpty w r) (valueOf r))
+    by-field mustBeEmpty Empty e h = empty-fieldOf f l e
+    by-field mustBeFilled Empty e h = absurd (false≢true h)
+    by-field mayBeEmpty Empty e h = empty-fieldOf f l e
+    by-field mustBeEmpty (Filled x) e h = absurd (false≢true h)
+    by-field mustBeFilled (Filled x) e h = field-fieldOf f x l e .0
+    by-field mayBeEmpty (Filled x) e h = field-fieldOf f x l e .0
+    by-field mustBeEmpty Misprinted e h = absurd (false≢true h)
+    by-field mustBeFilled Misprinted e h = absurd (false≢true h)
+    by-field mayBeEmpty Misprinted e h = absurd (false≢true h)
+
+-- the first two fields are of one content for each letter: whether the third is left empty is nothing to them
+firm : (k : Kind) (d e x : ℕ) → (written (contentOf k 0) d x ≡ written (contentOf k 0) e x) × (written (contentOf k 1) d x ≡ written (contentOf k 1) e x)
+unfolding contentOf
+firm Sizes d e x = (refl, refl)
+firm Memory d e x = (refl, refl)
+firm Latch d e x = (refl, refl)
+firm Gate d e x = (refl, refl)
+firm Address d e x = (refl, refl)
+firm WriteData d e x = (refl, refl)
+firm Control d e x = (refl, refl)
+firm Unknown d e x = (refl, refl)
 
 -- 32 bytes are a letter, three parts of ten, and one byte more
 line-parts :
@@ -77,68 +123,74 @@ line-parts s l =
         sym (take-append-drop 10 (drop n s)) ∙ ap (λ (t : List ℕ). take 10 (drop n s) ++ t) (drop-drop 10 n s ∙ h)
 
 -- what the tests of a line that is read have found
-record IsLine (k : Kind) (f g h : Field) (a b c : ℕ) : Type 0 where
+record IsLine (k : Kind) (f g h : Field) (a b c e : ℕ) : Type 0 where
   known : isKnown k ≡ true
-  first : asWanted (isFilled k 0) f ≡ true
-  second : asWanted (isFilled k 1) g ≡ true
-  third : asWanted (isFilled k 2) h ≡ true
+  first : asWanted (contentOf k 0) f ≡ true
+  second : asWanted (contentOf k 1) g ≡ true
+  third : asWanted (contentOf k 2) h ≡ true
   first-is : valueOf f ≡ a
   second-is : valueOf g ≡ b
   third-is : valueOf h ≡ c
+  empty-is : leftEmpty (contentOf k 2) h ≡ e
 
-lineWith-read : (k l : Kind) (f g h : Field) (a b c : ℕ) → lineWith k f g h ≡ Read l a b c → (k ≡ l) × IsLine k f g h a b c
+lineWith-read : (k l : Kind) (f g h : Field) (a b c e : ℕ) → lineWith k f g h ≡ Read l a b c e → (k ≡ l) × IsLine k f g h a b c e
 unfolding lineWith allAsWanted
-lineWith-read k l f g h a b c = by-tests (isKnown k && allAsWanted k f g h) refl
+lineWith-read k l f g h a b c e = by-tests (isKnown k && allAsWanted k f g h) refl
   where
     by-tests :
         (t : Bool) → (isKnown k && allAsWanted k f g h) ≡ t →
-        cond t (Read k (valueOf f) (valueOf g) (valueOf h)) Misprint ≡ Read l a b c → (k ≡ l) × IsLine k f g h a b c
-    by-tests true t e =
+        cond t (Read k (valueOf f) (valueOf g) (valueOf h) (leftEmpty (contentOf k 2) h)) Misprint ≡ Read l a b c e →
+        (k ≡ l) × IsLine k f g h a b c e
+    by-tests true t is =
         let p = and-true (isKnown k) (allAsWanted k f g h) .0 t in
-        let q = and-true (asWanted (isFilled k 0) f && asWanted (isFilled k 1) g) (asWanted (isFilled k 2) h) .0 (p .1) in
-        let r = and-true (asWanted (isFilled k 0) f) (asWanted (isFilled k 1) g) .0 (q .0) in (
+        let q = and-true (asWanted (contentOf k 0) f && asWanted (contentOf k 1) g) (asWanted (contentOf k 2) h) .0 (p .1) in
+        let r = and-true (asWanted (contentOf k 0) f) (asWanted (contentOf k 1) g) .0 (q .0) in (
           cc,
-          record { known = p .0; first = r .0; second = r .1; third = q .1; first-is = cc; second-is = cc; third-is = cc },
+          record { known = p .0; first = r .0; second = r .1; third = q .1; first-is = cc; second-is = cc; third-is = cc; empty-is = cc },
         )
-    by-tests false t e = let z : _≡_ {A = ℕ} 0 1 = cc in absurd (omega arith)
+    by-tests false t is = let z : _≡_ {A = ℕ} 0 1 = cc in absurd (omega arith)
 
 -- what the length and the last byte of a line that is read are
 lineOf-read :
-    (s : List ℕ) (k : Kind) (a b c : ℕ) → lineOf s ≡ Read k a b c →
+    (s : List ℕ) (k : Kind) (a b c e : ℕ) → lineOf s ≡ Read k a b c e →
     (length s ≡ 32) × (getD s 31 0 ≡ lineFeed)
-    × (lineWith (kindOf (getD s 0 0)) (fieldIn s 0) (fieldIn s 1) (fieldIn s 2) ≡ Read k a b c)
+    × (lineWith (kindOf (getD s 0 0)) (fieldIn s 0) (fieldIn s 1) (fieldIn s 2) ≡ Read k a b c e)
 unfolding lineOf
-lineOf-read s k a b c = by-tests (eqb (length s) 32 && eqb (getD s 31 0) lineFeed) refl
+lineOf-read s k a b c e = by-tests (eqb (length s) 32 && eqb (getD s 31 0) lineFeed) refl
   where
     by-tests :
         (t : Bool) → (eqb (length s) 32 && eqb (getD s 31 0) lineFeed) ≡ t →
-        cond t (lineWith (kindOf (getD s 0 0)) (fieldIn s 0) (fieldIn s 1) (fieldIn s 2)) Misprint ≡ Read k a b c →
+        cond t (lineWith (kindOf (getD s 0 0)) (fieldIn s 0) (fieldIn s 1) (fieldIn s 2)) Misprint ≡ Read k a b c e →
         (length s ≡ 32) × (getD s 31 0 ≡ lineFeed)
-        × (lineWith (kindOf (getD s 0 0)) (fieldIn s 0) (fieldIn s 1) (fieldIn s 2) ≡ Read k a b c)
-    by-tests true t e =
+        × (lineWith (kindOf (getD s 0 0)) (fieldIn s 0) (fieldIn s 1) (fieldIn s 2) ≡ Read k a b c e)
+    by-tests true t is =
         let p = and-true (eqb (length s) 32) (eqb (getD s 31 0) lineFeed) .0 t in
-        (eqb-true (length s) 32 (p .0), eqb-true (getD s 31 0) lineFeed (p .1), e)
-    by-tests false t e = let z : _≡_ {A = ℕ} 0 1 = cc in absurd (omega arith)
+        (eqb-true (length s) 32 (p .0), eqb-true (getD s 31 0) lineFeed (p .1), is)
+    by-tests false t is = let z : _≡_ {A = ℕ} 0 1 = cc in absurd (omega arith)
 
 -- what is read is the line's text
-lineText-lineOf : (s : List ℕ) (k : Kind) (a b c : ℕ) → lineOf s ≡ Read k a b c → s ≡ lineText k a b c
+lineText-lineOf : (s : List ℕ) (k : Kind) (a b c e : ℕ) → lineOf s ≡ Read k a b c e → s ≡ lineText k a b c e
 unfolding lineText fieldIn
-lineText-lineOf s k a b c h =
-    let read = lineOf-read s k a b c h in
+lineText-lineOf s k a b c e h =
+    let read = lineOf-read s k a b c e h in
     let l : length s ≡ 32 = read .0 in
     let last : getD s 31 0 ≡ lineFeed = read .1 in
-    let line = lineWith-read (kindOf (getD s 0 0)) k (fieldIn s 0) (fieldIn s 1) (fieldIn s 2) a b c (read .2) in
+    let line = lineWith-read (kindOf (getD s 0 0)) k (fieldIn s 0) (fieldIn s 1) (fieldIn s 2) a b c e (read .2) in
     let found = line .1 in
+    let letter-kind : Kind = kindOf (getD s 0 0) in
     let letter : getD s 0 0 ≡ letterOf k = sym (letterOf-kindOf (getD s 0 0) (found .known)) ∙ ap letterOf (line .0) in
-    let first : take 10 (drop 1 s) ≡ columnText (isFilled k 0) a =
-    column-text _ (take 10 (drop 1 s)) (rw (length-take, length-drop) (omega arith)) (found .first)
-    ∙ ap₂ (λ (k : Kind) (x : ℕ). columnText (isFilled k 0) x) (line .0) (found .first-is) in
-    let second : take 10 (drop 11 s) ≡ columnText (isFilled k 1) b =
-    column-text _ (take 10 (drop 11 s)) (rw (length-take, length-drop) (omega arith)) (found .second)
-    ∙ ap₂ (λ (k : Kind) (x : ℕ). columnText (isFilled k 1) x) (line .0) (found .second-is) in
-    let third : take 10 (drop 21 s) ≡ columnText (isFilled k 2) c =
-    column-text _ (take 10 (drop 21 s)) (rw (length-take, length-drop) (omega arith)) (found .third)
-    ∙ ap₂ (λ (k : Kind) (x : ℕ). columnText (isFilled k 2) x) (line .0) (found .third-is) in
+    let first : take 10 (drop 1 s) ≡ fieldText (written (contentOf k 0) e a) =
+    column-text (contentOf letter-kind 0) (take 10 (drop 1 s)) (rw (length-take, length-drop) (omega arith)) (found .first)
+    ∙ ap fieldText (firm letter-kind (leftEmpty (contentOf letter-kind 0) (fieldIn s 0)) e (valueOf (fieldIn s 0)) .0)
+    ∙ ap₂ (λ (k : Kind) (x : ℕ). fieldText (written (contentOf k 0) e x)) (line .0) (found .first-is) in
+    let second : take 10 (drop 11 s) ≡ fieldText (written (contentOf k 1) e b) =
+    column-text (contentOf letter-kind 1) (take 10 (drop 11 s)) (rw (length-take, length-drop) (omega arith)) (found .second)
+    ∙ ap fieldText (firm letter-kind (leftEmpty (contentOf letter-kind 1) (fieldIn s 1)) e (valueOf (fieldIn s 1)) .1)
+    ∙ ap₂ (λ (k : Kind) (x : ℕ). fieldText (written (contentOf k 1) e x)) (line .0) (found .second-is) in
+    let third : take 10 (drop 21 s) ≡ fieldText (written (contentOf k 2) e c) =
+    column-text (contentOf letter-kind 2) (take 10 (drop 21 s)) (rw (length-take, length-drop) (omega arith)) (found .third)
+    ∙ ap (λ (d : ℕ). fieldText (written (contentOf letter-kind 2) d (valueOf (fieldIn s 2)))) (found .empty-is)
+    ∙ ap₂ (λ (k : Kind) (x : ℕ). fieldText (written (contentOf k 2) e x)) (line .0) (found .third-is) in
     line-parts s l ∙ rw (letter, first, second, third, last)
 
 -- a letter, three columns and a last byte: the length, the bytes at both ends, and each column again
@@ -173,55 +225,58 @@ module _ (letter last : ℕ) (a b c : List ℕ) (x : length a ≡ 10) (y : lengt
       (take-at c (last ∷ []) 10 z)
 
 -- a column as it is written is read as what was written, and is as wanted
-fieldOf-columnText : (filled : Bool) (x : ℕ) → x < 2 ^ 32 → fieldOf (columnText filled x) ≡ cond filled (Filled x) Empty
-unfolding columnText
-fieldOf-columnText true x h = fieldOf-field x h
-fieldOf-columnText false x h = fieldOf-empty
+fieldOf-written : (w : Content) (e x : ℕ) → x < 2 ^ 32 → fieldOf (fieldText (written w e x)) ≡ written w e x
+fieldOf-written mustBeEmpty e x h = fieldOf-empty
+fieldOf-written mustBeFilled e x h = fieldOf-field x h
+fieldOf-written mayBeEmpty e x h = by-flag (eqb e 0)
+  where
+    by-flag : (b : Bool) → fieldOf (fieldText (cond b (Filled x) Empty)) ≡ cond b (Filled x) Empty
+    by-flag true = fieldOf-field x h
+    by-flag false = fieldOf-empty
 
-length-columnText : (filled : Bool) (x : ℕ) → x < 2 ^ 32 → length (columnText filled x) ≡ 10
-unfolding columnText
-length-columnText true x h = length-field x h
-length-columnText false x h = refl
+length-written : (w : Content) (e x : ℕ) → x < 2 ^ 32 → length (fieldText (written w e x)) ≡ 10
+length-written mustBeEmpty e x h = refl
+length-written mustBeFilled e x h = length-field x h
+length-written mayBeEmpty e x h = by-flag (eqb e 0)
+  where
+    by-flag : (b : Bool) → length (fieldText (cond b (Filled x) Empty)) ≡ 10
+    by-flag true = length-field x h
+    by-flag false = refl
 
-wanted-column : (filled : Bool) (x : ℕ) → asWanted filled (cond filled (Filled x) Empty) ≡ true
-wanted-column true x = refl
-wanted-column false x = refl
-
-value-column : (filled : Bool) (x : ℕ) → valueOf (cond filled (Filled x) Empty) ≡ cond filled x 0
-value-column true x = refl
-value-column false x = refl
-
--- what is read where the fields are filled as the letter wants
-lineWith-filled :
-    (k : Kind) (a b c : ℕ) → isKnown k ≡ true →
-    lineWith k (cond (isFilled k 0) (Filled a) Empty) (cond (isFilled k 1) (Filled b) Empty) (cond (isFilled k 2) (Filled c) Empty)
-    ≡ Read k (cond (isFilled k 0) a 0) (cond (isFilled k 1) b 0) (cond (isFilled k 2) c 0)
-lineWith-filled k a b c h =
-    lineWith-tests k _ _ _ true true true true h (wanted-column (isFilled k 0) a) (wanted-column (isFilled k 1) b)
-    (wanted-column (isFilled k 2) c)
-    ∙ rw (value-column (isFilled k 0) a, value-column (isFilled k 1) b, value-column (isFilled k 2) c)
+wanted-written : (w : Content) (e x : ℕ) → asWanted w (written w e x) ≡ true
+wanted-written mustBeEmpty e x = refl
+wanted-written mustBeFilled e x = refl
+wanted-written mayBeEmpty e x = by-flag (eqb e 0)
+  where
+    by-flag : (b : Bool) → asWanted mayBeEmpty (cond b (Filled x) Empty) ≡ true
+    by-flag true = refl
+    by-flag false = refl
 
 -- a line as it is written is read back, with 0 where a field is empty
 lineOf-lineText :
-    (k : Kind) (a b c : ℕ) → isKnown k ≡ true → a < 2 ^ 32 → b < 2 ^ 32 → c < 2 ^ 32 →
-    lineOf (lineText k a b c) ≡ Read k (cond (isFilled k 0) a 0) (cond (isFilled k 1) b 0) (cond (isFilled k 2) c 0)
+    (k : Kind) (a b c e : ℕ) → isKnown k ≡ true → a < 2 ^ 32 → b < 2 ^ 32 → c < 2 ^ 32 →
+    lineOf (lineText k a b c e)
+    ≡ Read k (valueOf (written (contentOf k 0) e a)) (valueOf (written (contentOf k 1) e b)) (valueOf (written (contentOf k 2) e c))
+    (leftEmpty (contentOf k 2) (written (contentOf k 2) e c))
 unfolding lineText fieldIn
-lineOf-lineText k a b c h x y z =
-    let s : List ℕ = lineText k a b c in
-    let f : List ℕ = columnText (isFilled k 0) a in
-    let g : List ℕ = columnText (isFilled k 1) b in
-    let e : List ℕ = columnText (isFilled k 2) c in
-    let lf : length f ≡ 10 = length-columnText (isFilled k 0) a x in
-    let lg : length g ≡ 10 = length-columnText (isFilled k 1) b y in
-    let le : length e ≡ 10 = length-columnText (isFilled k 2) c z in
-    let first : fieldIn s 0 ≡ cond (isFilled k 0) (Filled a) Empty =
-    ap fieldOf (first-column (letterOf k) lineFeed f g e lf lg le) ∙ fieldOf-columnText (isFilled k 0) a x in
-    let second : fieldIn s 1 ≡ cond (isFilled k 1) (Filled b) Empty =
-    ap fieldOf (second-column (letterOf k) lineFeed f g e lf lg le) ∙ fieldOf-columnText (isFilled k 1) b y in
-    let third : fieldIn s 2 ≡ cond (isFilled k 2) (Filled c) Empty =
-    ap fieldOf (third-column (letterOf k) lineFeed f g e lf lg le) ∙ fieldOf-columnText (isFilled k 2) c z in
-    lineOf-fields s (length-bytes (letterOf k) lineFeed f g e lf lg le) (last-byte (letterOf k) lineFeed f g e lf lg le)
-    ∙ rw (kindOf-letterOf k h, first, second, third) (lineWith-filled k a b c h)
+lineOf-lineText k a b c e h x y z =
+    let s : List ℕ = lineText k a b c e in
+    let f : List ℕ = fieldText (written (contentOf k 0) e a) in
+    let g : List ℕ = fieldText (written (contentOf k 1) e b) in
+    let o : List ℕ = fieldText (written (contentOf k 2) e c) in
+    let lf : length f ≡ 10 = length-written (contentOf k 0) e a x in
+    let lg : length g ≡ 10 = length-written (contentOf k 1) e b y in
+    let lo : length o ≡ 10 = length-written (contentOf k 2) e c z in
+    let first : fieldIn s 0 ≡ written (contentOf k 0) e a =
+    ap fieldOf (first-column (letterOf k) lineFeed f g o lf lg lo) ∙ fieldOf-written (contentOf k 0) e a x in
+    let second : fieldIn s 1 ≡ written (contentOf k 1) e b =
+    ap fieldOf (second-column (letterOf k) lineFeed f g o lf lg lo) ∙ fieldOf-written (contentOf k 1) e b y in
+    let third : fieldIn s 2 ≡ written (contentOf k 2) e c =
+    ap fieldOf (third-column (letterOf k) lineFeed f g o lf lg lo) ∙ fieldOf-written (contentOf k 2) e c z in
+    lineOf-fields s (length-bytes (letterOf k) lineFeed f g o lf lg lo) (last-byte (letterOf k) lineFeed f g o lf lg lo)
+    ∙ rw (kindOf-letterOf k h, first, second, third)
+    (lineWith-tests k _ _ _ true true true true h (wanted-written (contentOf k 0) e a) (wanted-written (contentOf k 1) e b)
+    (wanted-written (contentOf k 2) e c))
 
 -- both
 pub read-as-written : ReadAsWritten

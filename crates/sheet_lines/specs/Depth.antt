@@ -1,7 +1,7 @@
 -- The depth line, the first eleven bytes of the input (RULES P1 and P4). Cited by `read_depth`
 -- and its parts, program_input/specs/Input and calls/specs/Starred.
 use Prim.Native.Nat.{ℕ}
-use mathlib.Core.Bool.{true, not, cond, _&&_}
+use mathlib.Core.Bool.{not, cond, _&&_}
 use mathlib.Core.List.{List}
 use lib.Dec.{eqb, leb, ltb}
 use lib.ListN.{length, getD, take}
@@ -14,6 +14,7 @@ use Rattle.decimal.specs.Digits.{lineFeed}
 use Rattle.sheet_fields.specs.Fields.{fieldOf}
 use Rattle.sheet_fields.specs.declared.Field.{Field}
 use Rattle.sheet_fields.specs.declared.Field.the-variants.{Misprinted}
+use Rattle.sheet_lines.specs.Letters.{mustBeFilled}
 use Rattle.sheet_lines.specs.Lines.{asWanted, valueOf}
 use Rattle.sheet_lines.specs.declared.DepthLine.{DepthLine}
 
@@ -23,7 +24,7 @@ depthField s = cond (leb 11 (length s) && eqb (getD s 10 0) lineFeed) (fieldOf (
 
 -- RULES P4: "at place 0: its form is 2, .. then its value is 7"; a number, and at most 255
 unfoldable pub fieldVerdict : Field → Verdict
-fieldVerdict f = refuseIf (not (asWanted true f)) Misprint 0 then refuseIf (ltb mostDepth (valueOf f)) Depth 0
+fieldVerdict f = refuseIf (not (asWanted mustBeFilled f)) Misprint 0 then refuseIf (ltb mostDepth (valueOf f)) Depth 0
 
 unfoldable pub depthVerdict : List ℕ → Verdict
 depthVerdict s = fieldVerdict (depthField s)

@@ -1,8 +1,8 @@
--- The table of letters (RULES S4 and S5): which line a letter stands for, and which of its fields are filled. Cited by the functions that
+-- The table of letters (RULES S4 and S5): which line a letter stands for, and what its fields hold. Cited by the functions that
 -- read a line, by sheet_steps/specs and sheet_parse/specs for the line due, and by call_replies/specs.
 use Prim.Native.Nat.{ℕ, _<_}
 use mathlib.Core.Path.{_≡_}
-use mathlib.Core.Bool.{Bool, cond}
+use mathlib.Core.Bool.{Bool, cond, _&&_}
 use mathlib.Core.List.{List, []}
 use lib.Dec.{eqb, ltb}
 use lib.ListN.{getD}
@@ -46,7 +46,7 @@ rowOf Unknown = 7
 abbrev pub isKnown : Kind → Bool
 isKnown k = ltb (rowOf k) 7
 
--- how many numbers a line has: I, L, A; m, n, start word; next code, reset; code, code; a code; a code; WE, RE, P
+-- how many numbers a line has at most: I, L, A; m, n, start word; next code, reset; code, code; a code; a code; WE, RE, P
 abbrev pub numbersIn : Kind → ℕ
 numbersIn Sizes = 3
 numbersIn Memory = 3
@@ -57,11 +57,24 @@ numbersIn WriteData = 1
 numbersIn Control = 3
 numbersIn Unknown = 0
 
--- RULES S8: "which of the three fields are filled"; the numbers stand in the first columns (counted from 0), the others are empty
-unfoldable pub isFilled : Kind → ℕ → Bool
-isFilled k column = ltb column (numbersIn k)
+-- RULES S12: what a field is to be
+pub data Content : Type 0 where
+  mustBeEmpty : Content
+  mustBeFilled : Content
+  mayBeEmpty : Content
 
--- a table of seven rows and three columns that says so, by 1 for a field that is filled
-unfoldable pub FilledAsPrinted : List (List ℕ) → Type 0
-FilledAsPrinted table =
-    (k : Kind) (column : ℕ) → rowOf k < 7 → column < 3 → eqb (getD (getD table (rowOf k) []) column 0) 1 ≡ isFilled k column
+-- RULES S11: "the third field of M may be empty"; else the numbers stand in the first columns (counted from 0), and the others are empty
+unfoldable pub contentOf : Kind → ℕ → Content
+contentOf k column =
+    cond (eqb (rowOf k) (rowOf Memory) && eqb column 2) mayBeEmpty
+    (cond (ltb column (numbersIn k)) mustBeFilled mustBeEmpty)
+
+-- a table of seven rows and three columns that says so, in numbers
+abbrev pub contentNumber : Content → ℕ
+contentNumber mustBeEmpty = 0
+contentNumber mustBeFilled = 1
+contentNumber mayBeEmpty = 2
+
+unfoldable pub ContentsAsPrinted : List (List ℕ) → Type 0
+ContentsAsPrinted table =
+    (k : Kind) (column : ℕ) → rowOf k < 7 → column < 3 → getD (getD table (rowOf k) []) column 0 ≡ contentNumber (contentOf k column)

@@ -2,7 +2,7 @@
 -- sheet_lines/specs/Depth and sheet_parse/specs/Files.
 use Prim.Native.Nat.{ℕ, _+_, _*_, _^_, _<_}
 use mathlib.Core.Path.{_≡_}
-use mathlib.Core.Bool.{Bool, true, false, not, cond, _&&_}
+use mathlib.Core.Bool.{Bool, true, false, cond, _&&_}
 use mathlib.Core.List.{List, [], _∷_, _++_}
 use lib.Dec.{eqb}
 use lib.ListN.{length, getD, take, drop}
@@ -11,7 +11,7 @@ use Rattle.decimal.specs.Digits.{lineFeed, field, emptyField}
 use Rattle.sheet_fields.specs.Fields.{fieldOf}
 use Rattle.sheet_fields.specs.declared.Field.{Field}
 use Rattle.sheet_fields.specs.declared.Field.the-variants.{Empty, Filled, Misprinted}
-use Rattle.sheet_lines.specs.Letters.{letterOf, kindOf, isKnown, isFilled}
+use Rattle.sheet_lines.specs.Letters.{Content, mustBeEmpty, mustBeFilled, mayBeEmpty, letterOf, kindOf, isKnown, contentOf}
 use Rattle.sheet_lines.specs.declared.Kind.{Kind}
 use Rattle.sheet_lines.specs.declared.ParsedLine.{ParsedLine}
 use Rattle.sheet_lines.specs.declared.ParsedLine.the-variants.{Misprint, Read}
@@ -20,14 +20,20 @@ use Rattle.sheet_lines.specs.declared.ParsedLine.the-variants.{Misprint,
 unfoldable pub fieldIn : List ℕ → ℕ → Field
 fieldIn s column = fieldOf (take 10 (drop (1 + 10 * column) s))
 
--- a field as its letter wants it: a number where it is to be filled, and else empty
-abbrev pub asWanted : Bool → Field → Bool
-asWanted filled Empty = not filled
-asWanted filled (Filled x) = filled
-asWanted filled Misprinted = false
+-- a field as its letter wants it: empty, or a number
+abbrev pub asWanted : Content → Field → Bool
+asWanted mustBeEmpty Empty = true
+asWanted mustBeEmpty (Filled x) = false
+asWanted mustBeEmpty Misprinted = false
+asWanted mustBeFilled Empty = false
+asWanted mustBeFilled (Filled x) = true
+asWanted mustBeFilled Misprinted = false
+asWanted mayBeEmpty Empty = true
+asWanted mayBeEmpty (Filled x) = true
+asWanted mayBeEmpty Misprinted = false
 
 unfoldable pub allAsWanted : Kind → Field → Field → Field → Bool
-allAsWanted k a b c = asWanted (isFilled k 0) a && asWanted (isFilled k 1) b && asWanted (isFilled k 2) c
+allAsWanted k a b c = asWanted (contentOf k 0) a && asWanted (contentOf k 1) b && asWanted (contentOf k 2) c
 
 -- the number in a field, 0 where it is empty
 abbrev pub valueOf : Field → ℕ
@@ -35,10 +41,18 @@ valueOf Empty = 0
 valueOf (Filled x) = x
 valueOf Misprinted = 0
 
+-- 1 where a field that may be empty or filled is empty: its 0 is then no number
+abbrev pub leftEmpty : Content → Field → ℕ
+leftEmpty mustBeEmpty f = 0
+leftEmpty mustBeFilled f = 0
+leftEmpty mayBeEmpty Empty = 1
+leftEmpty mayBeEmpty (Filled x) = 0
+leftEmpty mayBeEmpty Misprinted = 0
+
 -- a line of this kind with these fields. RULES T2: "an unknown letter, a field not as its letter wants" is a misprint
 unfoldable pub lineWith : Kind → Field → Field → Field → ParsedLine
 lineWith k a b c =
-    cond (isKnown k && allAsWanted k a b c) (Read k (valueOf a) (valueOf b) (valueOf c)) Misprint
+    cond (isKnown k && allAsWanted k a b c) (Read k (valueOf a) (valueOf b) (valueOf c) (leftEmpty (contentOf k 2) c)) Misprint
 
 -- RULES S1: "a letter, three fields of ten columns each, a line feed"; 32 bytes, of which the last is a line feed, or a misprint
 unfoldable pub lineOf : List ℕ → ParsedLine
@@ -47,16 +61,26 @@ lineOf s =
     (lineWith (kindOf (getD s 0 0)) (fieldIn s 0) (fieldIn s 1) (fieldIn s 2))
     Misprint
 
--- a line as it is written
-unfoldable pub columnText : Bool → ℕ → List ℕ
-columnText filled x = cond filled (field x) emptyField
+-- a line as it is written: a field that may be empty or filled is empty where `e` is not 0
+abbrev pub written : Content → ℕ → ℕ → Field
+written mustBeEmpty e x = Empty
+written mustBeFilled e x = Filled x
+written mayBeEmpty e x = cond (eqb e 0) (Filled x) Empty
 
-unfoldable pub lineText : Kind → ℕ → ℕ → ℕ → List ℕ
-lineText k a b c =
-    letterOf k ∷ columnText (isFilled k 0) a ++ columnText (isFilled k 1) b ++ columnText (isFilled k 2) c ++ lineFeed ∷ []
+abbrev pub fieldText : Field → List ℕ
+fieldText Empty = emptyField
+fieldText (Filled x) = field x
+fieldText Misprinted = emptyField
+
+unfoldable pub lineText : Kind → ℕ → ℕ → ℕ → ℕ → List ℕ
+lineText k a b c e =
+    letterOf k ∷ fieldText (written (contentOf k 0) e a) ++ fieldText (written (contentOf k 1) e b) ++ fieldText (written (contentOf k 2) e c)
+    ++ lineFeed ∷ []
 
 -- the two are one: what is read as a line is its text, and its text is read as the line, with 0 where a field is empty
 pub record ReadAsWritten : Type 0 where
-  pub read→text : (s : List ℕ) (k : Kind) (a b c : ℕ) → lineOf s ≡ Read k a b c → s ≡ lineText k a b c
-  pub text→read : (k : Kind) (a b c : ℕ) → isKnown k ≡ true → a < 2 ^ 32 → b < 2 ^ 32 → c < 2 ^ 32
-      → lineOf (lineText k a b c) ≡ Read k (cond (isFilled k 0) a 0) (cond (isFilled k 1) b 0) (cond (isFilled k 2) c 0)
+  pub read→text : (s : List ℕ) (k : Kind) (a b c e : ℕ) → lineOf s ≡ Read k a b c e → s ≡ lineText k a b c e
+  pub text→read : (k : Kind) (a b c e : ℕ) → isKnown k ≡ true → a < 2 ^ 32 → b < 2 ^ 32 → c < 2 ^ 32
+      → lineOf (lineText k a b c e)
+      ≡ Read k (valueOf (written (contentOf k 0) e a)) (valueOf (written (contentOf k 1) e b)) (valueOf (written (contentOf k 2) e c))
+      (leftEmpty (contentOf k 2) (written (contentOf k 2) e c))

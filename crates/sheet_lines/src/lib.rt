@@ -2,8 +2,8 @@
 ghost use mathlib.Core.Path.{_≡_};
 ghost use Prim.Native.Nat.{_<_};
 ghost use Rattle.refusals.specs.Refusal.{replyOf};
-ghost use Rattle.sheet_lines.specs.Letters.{letterOf, kindOf, rowOf, isFilled, FilledAsPrinted};
-ghost use Rattle.sheet_lines.specs.Lines.{asWanted, valueOf, lineWith, lineOf, ReadAsWritten};
+ghost use Rattle.sheet_lines.specs.Letters.{letterOf, kindOf, rowOf, contentNumber, contentOf, ContentsAsPrinted};
+ghost use Rattle.sheet_lines.specs.Lines.{asWanted, valueOf, leftEmpty, lineWith, lineOf, ReadAsWritten};
 ghost use Rattle.sheet_lines.specs.Depth.{depthField, fieldVerdict, depthVerdict, withDepth, depthLine};
 use refusals::Refusal;
 use refusals::Verdict;
@@ -21,7 +21,7 @@ pub enum Kind {
     Unknown,
 }
 
-// A line as it is read: its kind and three numbers, 0 where a field is empty.
+// A line as it is read: its kind, three numbers, 0 where a field is empty, and 1 where its third field may be filled and is empty.
 pub enum ParsedLine {
     Misprint,
     Read {
@@ -29,6 +29,7 @@ pub enum ParsedLine {
         first: u32,
         second: u32,
         third: u32,
+        empty: u32,
     },
 }
 
@@ -38,10 +39,10 @@ pub struct DepthLine {
     pub depth: u32,
 }
 
-// Which fields are filled, 1, and which are empty, 0, in the order of the table in RULES S5.
-const FILLED: [[u8; 3]; 7] = [
+// Which fields are empty, 0, filled, 1, and which may be either, 2, in the order of the table in RULES S5.
+const CONTENTS: [[u8; 3]; 7] = [
     [1, 1, 1], // N
-    [1, 1, 1], // M
+    [1, 1, 2], // M
     [1, 1, 0], // L
     [1, 1, 0], // G
     [1, 0, 0], // A
@@ -98,31 +99,31 @@ pub fn row_of(kind: Kind) -> usize
 }
 
 // The table: at every row and column it says what the table in RULES S5 says.
-fn filled_fields() -> [[u8; 3]; 7]
-    ensures { λ table. ⌜ FilledAsPrinted table ⌝ }
+fn contents() -> [[u8; 3]; 7]
+    ensures { λ table. ⌜ ContentsAsPrinted table ⌝ }
 {
-    FILLED
+    CONTENTS
 }
 
-// Whether a column, 0 to 2, is filled.
-pub fn is_filled(kind: Kind, column: usize) -> bool
+// What the table says of a column, 0 to 2.
+pub fn content_of(kind: Kind, column: usize) -> u8
     requires { ⌜ (rowOf kind < 7) × (column < 3) ⌝ }
-    ensures { λ r. ⌜ r ≡ isFilled kind column ⌝ }
+    ensures { λ r. ⌜ r ≡ contentNumber (contentOf kind column) ⌝ }
 {
     let row = row_of(kind);
-    let table = filled_fields();
-    table[row][column] == 1
+    let table = contents();
+    table[row][column]
 }
 
 // Whether a field is as its letter wants it.
 fn is_wanted(kind: Kind, column: usize, field: Field) -> bool
     requires { ⌜ (rowOf kind < 7) × (column < 3) ⌝ }
-    ensures { λ r. ⌜ r ≡ asWanted (isFilled kind column) field ⌝ }
+    ensures { λ r. ⌜ r ≡ asWanted (contentOf kind column) field ⌝ }
 {
-    let filled = is_filled(kind, column);
+    let content = content_of(kind, column);
     match field {
-        Field::Empty => !filled,
-        Field::Filled(_) => filled,
+        Field::Empty => content != 1,
+        Field::Filled(_) => content != 0,
         Field::Misprinted => false,
     }
 }
@@ -136,6 +137,21 @@ fn value_of(field: Field) -> u32
         Field::Filled(x) => x,
         Field::Misprinted => 0,
     }
+}
+
+// 1 where a third field that may be filled is empty, else 0.
+fn left_empty(kind: Kind, third: Field) -> u32
+    requires { ⌜ rowOf kind < 7 ⌝ }
+    ensures { λ r. ⌜ r ≡ leftEmpty (contentOf kind 2) third ⌝ }
+{
+    if content_of(kind, 2) == 2 {
+        return match third {
+            Field::Empty => 1,
+            Field::Filled(_) => 0,
+            Field::Misprinted => 0,
+        };
+    }
+    0
 }
 
 // The line of a kind with three fields, or a misprint.
@@ -159,6 +175,7 @@ fn line_with(kind: Kind, first: Field, second: Field, third: Field) -> ParsedLin
         first: value_of(first),
         second: value_of(second),
         third: value_of(third),
+        empty: left_empty(kind, third),
     }
 }
 

@@ -20,7 +20,7 @@ use Rattle.netlist.specs.declared.Line.the-variants.{Sizes, Memory, Latch, Gate
 use Rattle.sheet_lines.specs.Lines.{lineOf}
 use Rattle.sheet_lines.specs.declared.ParsedLine.{ParsedLine}
 use Rattle.sheet_lines.specs.declared.ParsedLine.the-variants.{Misprint}
-use Rattle.sheet_parse.specs.Files.{lineCount, lineIn, firstNumber, secondNumber, thirdNumber, sizesIn, netOfLines, netIn}
+use Rattle.sheet_parse.specs.Files.{lineCount, lineIn, firstNumber, secondNumber, thirdNumber, emptyThird, sizesIn, netOfLines, netIn}
 use Rattle.sheet_parse.specs.FileTests.{ragged}
 use Rattle.sheet_steps.specs.LineIndex.{lineIndex}
 use Rattle.sheet_steps.specs.Steps.{numberAfter, stored}
@@ -62,7 +62,7 @@ module _ (file : List ℕ) where
 
   -- one line more puts its numbers into the netlist
   pub stored-next : (p : ℕ) → p + 1 ≤ controlLine (sizesIn file)
-      → stored (netTo file p) (lineAt (sizesIn file) (p + 1)) (firstNumber (lineIn file (p + 1))) (secondNumber (lineIn file (p + 1))) (thirdNumber (lineIn file (p + 1))) ≡ netTo file (p + 1)
+      → stored (netTo file p) (lineAt (sizesIn file) (p + 1)) (firstNumber (lineIn file (p + 1))) (secondNumber (lineIn file (p + 1))) (thirdNumber (lineIn file (p + 1))) (emptyThird (lineIn file (p + 1))) ≡ netTo file (p + 1)
   unfolding stored netTo netOfLines
   stored-next p b =
       λ i. record {
@@ -72,6 +72,7 @@ module _ (file : List ℕ) where
         m = number-next p b firstNumber Memory i;
         n = number-next p b secondNumber Memory i;
         initialWord = number-next p b thirdNumber Memory i;
+        unknownStart = number-next p b emptyThird Memory i;
         next = λ l. number-next p b firstNumber (Latch l) i;
         reset = λ l. number-next p b secondNumber (Latch l) i;
         left = λ g. number-next p b firstNumber (Gate g) i;

@@ -72,6 +72,7 @@ module _ (file : List ℕ) where
         m = 0;
         n = 0;
         initialWord = 0;
+        unknownStart = 0;
         next = λ l. (no-code (2 * l) ∙ sym (unread (s .latches) firstNumber (latchLine s) refl (λ x. omega arith) l)) i;
         reset = λ l. (no-code (2 * l + 1) ∙ sym (unread (s .latches) secondNumber (latchLine s) refl (λ x. omega arith) l)) i;
         left = λ g. (no-code (2 * g) ∙ sym (unread (s .gates) firstNumber (gateLine s) refl (λ x. omega arith) g)) i;
@@ -186,10 +187,10 @@ module _ (file : List ℕ) (whole : WholeLines file) (p : ℕ) (r : Netlist) (la
         → Behind (lineAfter file p) at newLatches newGates
     by-parsed h there Misprint e t =
         subst (λ (a : LineAfter). Taken a → Behind a at newLatches newGates) (sym (after-misprint file p h e)) (misprint there e) t
-    by-parsed h there (Read kind x y z) e t =
-        subst (λ (a : LineAfter). Taken a → Behind a at newLatches newGates) (sym (after-read file p h kind x y z e))
+    by-parsed h there (Read kind x y z u) e t =
+        subst (λ (a : LineAfter). Taken a → Behind a at newLatches newGates) (sym (after-read file p h kind x y z u e))
         (λ (o, m). by-verdict there (at .sheet .verdict) refl m
-        (outcome-next file p r latches gates read kind x y z e (at .sheet) newLatches newGates o)) t
+        (outcome-next file p r latches gates read kind x y z u e (at .sheet) newLatches newGates o)) t
 
     by-line : (b : Bool) → hasLine file p ≡ b → Taken (lineAfter file p) → Behind (lineAfter file p) at newLatches newGates
     by-line false h t =

@@ -52,7 +52,7 @@ module _ (file : List ℕ) (line : ℕ) where
   unfolding lineAnswer linesRead
   after-misprint h e = rw (h, e)
 
-  pub after-read : hasLine file line ≡ true → (k : Kind) (a b c : ℕ) → lineIn file (line + 1) ≡ Read k a b c
-      → lineAfter file line ≡ record { line = Line k a b c; «lines_read» = line + 1 }
+  pub after-read : hasLine file line ≡ true → (k : Kind) (a b c u : ℕ) → lineIn file (line + 1) ≡ Read k a b c u
+      → lineAfter file line ≡ record { line = Line k a b c u; «lines_read» = line + 1 }
   unfolding lineAnswer linesRead
-  after-read h k a b c e = rw (h, e)
+  after-read h k a b c u e = rw (h, e)

@@ -56,14 +56,14 @@ unfolding testLineIn _then_
 test-misprint c file q e = rw e
 
 -- a printed line
-test-printed : (c : M.Netlist) (file : List ℕ) (q : ℕ) (kind : Kind) (x y z : ℕ) → lineIn file q ≡ ParsedLine.Read kind x y z
+test-printed : (c : M.Netlist) (file : List ℕ) (q : ℕ) (kind : Kind) (x y z u : ℕ) → lineIn file q ≡ ParsedLine.Read kind x y z u
     → testLineIn c file q ≡ (refuseIf (ltb (controlLine c) q || not (eqb (rowOf kind) (rowOf (kindDue (lineAt c q))))) OutOfOrder q then faultsAt c (lineAt c q) q)
 unfolding testLineIn notDue _then_
-test-printed c file q kind x y z e = rw (e, not-within q (controlLine c) (eqb (rowOf kind) (rowOf (kindDue (lineAt c q)))))
+test-printed c file q kind x y z u e = rw (e, not-within q (controlLine c) (eqb (rowOf kind) (rowOf (kindDue (lineAt c q)))))
 
-module _ (file : List ℕ) (p : ℕ) (kind : Kind) (x y z : ℕ) (e : lineIn file (p + 1) ≡ ParsedLine.Read kind x y z) where
+module _ (file : List ℕ) (p : ℕ) (kind : Kind) (x y z u : ℕ) (e : lineIn file (p + 1) ≡ ParsedLine.Read kind x y z u) where
   -- a line not behind the last puts its numbers into the netlist
-  pub stepNet-next : p + 1 ≤ controlLine (netIn file) → stepNet (netTo file p) x y z (p + 1) ≡ netTo file (p + 1)
+  pub stepNet-next : p + 1 ≤ controlLine (netIn file) → stepNet (netTo file p) x y z u (p + 1) ≡ netTo file (p + 1)
   unfolding stepNet
   stepNet-next b = rw (due-to file p, ← lineAt-in file (p + 1)) (rw e at (stored-next file p (rw (controlLine-in file) b)))
 
@@ -76,10 +76,10 @@ module _ (file : List ℕ) (p : ℕ) (kind : Kind) (x y z : ℕ) (e : lineIn fil
       read = rw (← lineAt-in file (p + 1)) (omega (arith, place-lineAt (sizesIn file) (p + 1) (omega arith) (rw (controlLine-in file) b)))
 
   -- so is its verdict
-  pub step-next : stepVerdict (netTo file p) kind x y z (p + 1) ≡ testLineIn (netIn file) file (p + 1)
+  pub step-next : stepVerdict (netTo file p) kind x y z u (p + 1) ≡ testLineIn (netIn file) file (p + 1)
   unfolding stepVerdict _then_
   step-next =
-      rw (past-to file p, due-to file p, test-printed (netIn file) file (p + 1) kind x y z e)
+      rw (past-to file p, due-to file p, test-printed (netIn file) file (p + 1) kind x y z u e)
       (by-cases (decLt (controlLine (netIn file)) (p + 1))
       (λ h. rw (lt-ltb (controlLine (netIn file)) (p + 1) h))
       (λ h. rw (stepNet-next (omega arith), faults-next (omega arith))))
@@ -152,12 +152,12 @@ within-last c file q e =
 
 -- what a line does to the record and the lists as far as they are read is what it does in the whole file
 pub outcome-next : (file : List ℕ) (p : ℕ) (r : Netlist) (latches gates : List ℕ) → ReadTo file p r latches gates
-    → (kind : Kind) (x y z : ℕ) → lineIn file (p + 1) ≡ ParsedLine.Read kind x y z → (sheet : SheetAnswer) (newLatches newGates : List ℕ)
-    → Outcome sheet newLatches newGates (stepVerdict (netOf r latches gates) kind x y z (p + 1)) (stepNet (netOf r latches gates) x y z (p + 1))
+    → (kind : Kind) (x y z u : ℕ) → lineIn file (p + 1) ≡ ParsedLine.Read kind x y z u → (sheet : SheetAnswer) (newLatches newGates : List ℕ)
+    → Outcome sheet newLatches newGates (stepVerdict (netOf r latches gates) kind x y z u (p + 1)) (stepNet (netOf r latches gates) x y z u (p + 1))
     → Outcome sheet newLatches newGates (testLineIn (netIn file) file (p + 1)) (netTo file (p + 1))
-outcome-next file p r latches gates read kind x y z e sheet newLatches newGates o =
-    outcome-same (testLineIn (netIn file) file (p + 1)) (step-next file p kind x y z e)
-    (λ passed. stepNet-next file p kind x y z e (within-last (netIn file) file (p + 1) passed)) (rw (read .holds .net-is) at o)
+outcome-next file p r latches gates read kind x y z u e sheet newLatches newGates o =
+    outcome-same (testLineIn (netIn file) file (p + 1)) (step-next file p kind x y z u e)
+    (λ passed. stepNet-next file p kind x y z u e (within-last (netIn file) file (p + 1) passed)) (rw (read .holds .net-is) at o)
 
 -- the tests of places in their order, one place more
 module _ (test : ℕ → Verdict) (p : ℕ) (h : inOrder test p ≡ Passed) where

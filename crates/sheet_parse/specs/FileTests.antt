@@ -26,12 +26,12 @@ ragged file = eqb (length file) 0 || not (eqb (length file % lineBytes) 0) || lt
 -- RULES T2: a line that is misprinted
 abbrev pub misprinted : ParsedLine → Bool
 misprinted ParsedLine.Misprint = true
-misprinted (ParsedLine.Read k x y z) = false
+misprinted (ParsedLine.Read k x y z e) = false
 
 -- whether a line is of a kind
 abbrev pub isOf : Kind → ParsedLine → Bool
 isOf k ParsedLine.Misprint = false
-isOf k (ParsedLine.Read kind x y z) = eqb (rowOf kind) (rowOf k)
+isOf k (ParsedLine.Read kind x y z e) = eqb (rowOf kind) (rowOf k)
 
 -- RULES T3: "not the line due, .. or a line too many"
 unfoldable pub notDue : Netlist → List ℕ → ℕ → Bool

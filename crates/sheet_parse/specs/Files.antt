@@ -22,21 +22,27 @@ lineIn file p = lineOf (take lineBytes (drop (lineBytes * (p - 1)) file))
 -- the first, second and third number of a line
 abbrev pub firstNumber : ParsedLine → ℕ
 firstNumber Misprint = 0
-firstNumber (Read k x y z) = x
+firstNumber (Read k x y z e) = x
 
 abbrev pub secondNumber : ParsedLine → ℕ
 secondNumber Misprint = 0
-secondNumber (Read k x y z) = y
+secondNumber (Read k x y z e) = y
 
 abbrev pub thirdNumber : ParsedLine → ℕ
 thirdNumber Misprint = 0
-thirdNumber (Read k x y z) = z
+thirdNumber (Read k x y z e) = z
+
+-- 1 where its third field may be filled and is empty
+abbrev pub emptyThird : ParsedLine → ℕ
+emptyThird Misprint = 0
+emptyThird (Read k x y z e) = e
 
 -- the sizes in lines N and M, with no codes
 unfoldable pub sizesIn : List ℕ → Netlist
 sizesIn file =
     withoutCodes (firstNumber (lineIn file sizesLine)) (secondNumber (lineIn file sizesLine)) (thirdNumber (lineIn file sizesLine))
     (firstNumber (lineIn file memoryLine)) (secondNumber (lineIn file memoryLine)) (thirdNumber (lineIn file memoryLine))
+    (emptyThird (lineIn file memoryLine))
 
 -- the netlist whose numbers stand in the given lines, at the places that the sizes s have
 unfoldable pub netOfLines : Netlist → (ℕ → ParsedLine) → Netlist
@@ -48,6 +54,7 @@ netOfLines s line =
       m = firstNumber (line memoryLine);
       n = secondNumber (line memoryLine);
       initialWord = thirdNumber (line memoryLine);
+      unknownStart = emptyThird (line memoryLine);
       next = upTo (s .latches) (λ l. firstNumber (line (latchLine s l)));
       reset = upTo (s .latches) (λ l. secondNumber (line (latchLine s l)));
       left = upTo (s .gates) (λ g. firstNumber (line (gateLine s g)));

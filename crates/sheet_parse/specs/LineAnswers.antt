@@ -23,7 +23,7 @@ hasLine file line = ltb line mostLines && leb (lineBytes * line + lineBytes) (le
 -- a line at a place as an answer: a misprinted one is refused, the place being the line (RULES T2)
 abbrev pub answerOf : ParsedLine → ℕ → LineAnswer
 answerOf Misprint place = Refused Refusal.Misprint place
-answerOf (Read kind first second third) place = Line kind first second third
+answerOf (Read kind first second third empty) place = Line kind first second third empty
 
 -- the answer, and how many lines are read with it: one more, be it misprinted or not, and no more where there is none
 unfoldable pub lineAnswer : List ℕ → ℕ → LineAnswer
@@ -37,13 +37,14 @@ pub record LineSent : Type 0 where
   pub first : ℕ
   pub second : ℕ
   pub third : ℕ
+  pub empty : ℕ
 
 unfoldable pub lineSent : LineAnswer → LineSent
-lineSent (Line kind first second third) =
-    record { number = 0; place = 0; letter = letterOf kind; first = first; second = second; third = third }
+lineSent (Line kind first second third empty) =
+    record { number = 0; place = 0; letter = letterOf kind; first = first; second = second; third = third; empty = empty }
 lineSent (Refused refusal place) =
-    record { number = refusalNumber refusal; place = place; letter = 0; first = 0; second = 0; third = 0 }
-lineSent NoLine = record { number = 0; place = 0; letter = 0; first = 0; second = 0; third = 0 }
+    record { number = refusalNumber refusal; place = place; letter = 0; first = 0; second = 0; third = 0; empty = 0 }
+lineSent NoLine = record { number = 0; place = 0; letter = 0; first = 0; second = 0; third = 0; empty = 0 }
 
 unfoldable pub linesRead : List ℕ → ℕ → ℕ
 linesRead file line = cond (hasLine file line) (line + 1) line

@@ -45,16 +45,16 @@ progressWith sheet = record { more = passes (sheet .verdict); sheet = sheet }
 -- the answer about the line at place p, for the netlist c of the lines before it: its verdict, the netlist then, and whether there
 -- may be one line more
 abbrev pub answerVerdict : Netlist → LineAnswer → ℕ → Verdict
-answerVerdict c (Answer.Line kind x y z) p = stepVerdict c kind x y z p
+answerVerdict c (Answer.Line kind x y z e) p = stepVerdict c kind x y z e p
 answerVerdict c (Answer.Refused r q) p = Refused r q
 answerVerdict c Answer.NoLine p = Passed
 
 abbrev pub answerNet : Netlist → LineAnswer → ℕ → Netlist
-answerNet c (Answer.Line kind x y z) p = stepNet c x y z p
+answerNet c (Answer.Line kind x y z e) p = stepNet c x y z e p
 answerNet c (Answer.Refused r q) p = c
 answerNet c Answer.NoLine p = c
 
 abbrev pub moreAfter : LineAnswer → Verdict → Bool
-moreAfter (Answer.Line kind x y z) v = passes v
+moreAfter (Answer.Line kind x y z e) v = passes v
 moreAfter (Answer.Refused r q) v = passes v
 moreAfter Answer.NoLine v = false

@@ -18,13 +18,15 @@ ghost use Rattle.sheet_parse.specs.NextLine.{nextLine};
 ghost use Rattle.sheet_parse.specs.FileTests.{ragged};
 ghost use Rattle.sheet_parse.specs.Progress.{noProgress, progressWith, answerVerdict, answerNet, moreAfter};
 
-// What is answered of a line: its kind and three numbers, 0 where a field is empty; a refusal with its place; or that there is none.
+// What is answered of a line: its kind, three numbers, 0 where a field is empty, and 1 where its third field may be filled and is empty;
+// a refusal with its place; or that there is none.
 pub enum LineAnswer {
     Line {
         kind: Kind,
         first: u32,
         second: u32,
         third: u32,
+        empty: u32,
     },
     Refused(Refusal, u32),
     NoLine,
@@ -84,11 +86,13 @@ fn answer_of(line: ParsedLine, place: u32) -> LineAnswer
             first,
             second,
             third,
+            empty,
         } => LineAnswer::Line {
             kind,
             first,
             second,
             third,
+            empty,
         },
     }
 }
@@ -186,6 +190,7 @@ pub fn take_answer(
             first,
             second,
             third,
+            empty,
         } => progress_with(sheet_steps::take_line(
             net,
             latches,
@@ -195,6 +200,7 @@ pub fn take_answer(
             first,
             second,
             third,
+            empty,
         )),
         LineAnswer::Refused(refusal, at) => progress_with(sheet_steps::refused(refusal, at)),
         LineAnswer::NoLine => Progress {

@@ -41,6 +41,7 @@ record-of r latches gates full =
       m = r .m;
       n = r .n;
       «initial_word» = r .«initial_word»;
+      «unknown_start» = r .«unknown_start»;
       address = sym (gather-all (r .address) 12 (full .address-codes)) i;
       «write_data» = sym (gather-all (r .«write_data») 32 (full .data-codes)) i;
       we = r .we;

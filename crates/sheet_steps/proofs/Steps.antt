@@ -42,9 +42,9 @@ code-set xs i x h = fun-ext at
         (λ e. rw (ne-eqb i j e) (ap (λ (k : Code). k .0) (getD-set-other xs i j (record { 0 = x }) (record { 0 = 0 }) (λ q. e (omega arith)))))
 
 -- a line's numbers put into a record and lists of full length
-module _ (r : Netlist) (latches gates : List ℕ) (full : FullLength (r .address) (r .«write_data») latches gates) (x y z : ℕ) where
+module _ (r : Netlist) (latches gates : List ℕ) (full : FullLength (r .address) (r .«write_data») latches gates) (x y z e : ℕ) where
   -- those of a latch
-  pub holds-latch : (l : ℕ) → l < 600 → Holds r (putNumbers l x y latches) gates (stored (netOf r latches gates) (Latch l) x y z)
+  pub holds-latch : (l : ℕ) → l < 600 → Holds r (putNumbers l x y latches) gates (stored (netOf r latches gates) (Latch l) x y z e)
   unfolding netOf stored
   holds-latch l h =
       record {
@@ -59,7 +59,7 @@ module _ (r : Netlist) (latches gates : List ℕ) (full : FullLength (r .address
       }
 
   -- of a gate
-  pub holds-gate : (g : ℕ) → g < 600 → Holds r latches (putNumbers g x y gates) (stored (netOf r latches gates) (Gate g) x y z)
+  pub holds-gate : (g : ℕ) → g < 600 → Holds r latches (putNumbers g x y gates) (stored (netOf r latches gates) (Gate g) x y z e)
   unfolding netOf stored
   holds-gate g h =
       record {
@@ -74,18 +74,18 @@ module _ (r : Netlist) (latches gates : List ℕ) (full : FullLength (r .address
       }
 
 -- a line of codes leaves the sizes
-same-stored : (c d : M.Netlist) (p x y z : ℕ) → 3 ≤ p → SameSizes c (stored c (lineAt d p) x y z)
+same-stored : (c d : M.Netlist) (p x y z e : ℕ) → 3 ≤ p → SameSizes c (stored c (lineAt d p) x y z e)
 unfolding stored
-same-stored c d p x y z h =
-    codes-from-3 d p (λ due. SameSizes c (stored c due x y z)) h (λ l. refl) (λ g. refl) (λ t. refl) (λ t. refl) refl
+same-stored c d p x y z e h =
+    codes-from-3 d p (λ due. SameSizes c (stored c due x y z e)) h (λ l. refl) (λ g. refl) (λ t. refl) (λ t. refl) refl
 
 -- the record after a line, from line 3 on: its sizes, and so the line due at this place
-module _ (r next : Netlist) (latches gates newLatches newGates : List ℕ) (p x y z : ℕ)
-    (holds : Holds next newLatches newGates (stepNet (netOf r latches gates) x y z p)) where
+module _ (r next : Netlist) (latches gates newLatches newGates : List ℕ) (p x y z e : ℕ)
+    (holds : Holds next newLatches newGates (stepNet (netOf r latches gates) x y z e p)) where
   sizes-step : 3 ≤ p → SameSizes (alone r) (alone next)
   unfolding netOf stepNet
   sizes-step h =
-      same-stored (netOf r latches gates) (netOf r latches gates) p x y z h ∙ sym (ap sizesOf (holds .net-is))
+      same-stored (netOf r latches gates) (netOf r latches gates) p x y z e h ∙ sym (ap sizesOf (holds .net-is))
 
   pub sizesKnown-step : SizesKnown (alone r) p → SizesKnown (alone next) p
   sizesKnown-step known h = sizesFit-same (alone r) (alone next) (sizes-step h) (known h)
@@ -98,11 +98,11 @@ module _ (c : M.Netlist) (kind : Kind) (p : ℕ) where
   abbrev pub outOfOrder : Bool
   outOfOrder = ltb (controlLine c) p || not (eqb (rowOf kind) (rowOf (kindDue (lineAt c p))))
 
-  module _ (x y z : ℕ) where
-    pub step-refused : outOfOrder ≡ true → stepVerdict c kind x y z p ≡ Refused OutOfOrder p
+  module _ (x y z e : ℕ) where
+    pub step-refused : outOfOrder ≡ true → stepVerdict c kind x y z e p ≡ Refused OutOfOrder p
     unfolding stepVerdict _then_
     step-refused h = rw h
 
-    pub step-due : outOfOrder ≡ false → stepVerdict c kind x y z p ≡ faultsAt (stepNet c x y z p) (lineAt c p) p
+    pub step-due : outOfOrder ≡ false → stepVerdict c kind x y z e p ≡ faultsAt (stepNet c x y z e p) (lineAt c p) p
     unfolding stepVerdict _then_
     step-due h = rw h

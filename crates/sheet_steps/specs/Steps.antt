@@ -28,9 +28,9 @@ use Rattle.sheet_steps.specs.Lists.{FullLength, Holds, ListsBeside}
 abbrev pub numberAfter : Line → Line → ℕ → ℕ → ℕ
 numberAfter due at new old = cond (sameLine due at) new old
 
--- a netlist with the three numbers of line `due` put where that line has them
-unfoldable pub stored : Netlist → Line → ℕ → ℕ → ℕ → Netlist
-stored c due x y z =
+-- a netlist with the numbers of line `due` put where that line has them, e saying whether its third field is left empty
+unfoldable pub stored : Netlist → Line → ℕ → ℕ → ℕ → ℕ → Netlist
+stored c due x y z e =
     record {
       inputs = numberAfter due Sizes x (c .inputs);
       latches = numberAfter due Sizes y (c .latches);
@@ -38,6 +38,7 @@ stored c due x y z =
       m = numberAfter due Memory x (c .m);
       n = numberAfter due Memory y (c .n);
       initialWord = numberAfter due Memory z (c .initialWord);
+      unknownStart = numberAfter due Memory e (c .unknownStart);
       next = λ l. numberAfter due (Latch l) x (c .next l);
       reset = λ l. numberAfter due (Latch l) y (c .reset l);
       left = λ g. numberAfter due (Gate g) x (c .left g);
@@ -50,20 +51,20 @@ stored c due x y z =
     }
 
 -- the record r is the old one with the numbers of line `due` put in, whatever the lists
-abbrev pub StoredIn : R.Netlist → R.Netlist → Line → ℕ → ℕ → ℕ → Type 0
-StoredIn r old due x y z =
+abbrev pub StoredIn : R.Netlist → R.Netlist → Line → ℕ → ℕ → ℕ → ℕ → Type 0
+StoredIn r old due x y z e =
     (latches gates : List ℕ) → FullLength (old .address) (old .«write_data») latches gates
-    → Holds r latches gates (stored (netOf old latches gates) due x y z)
+    → Holds r latches gates (stored (netOf old latches gates) due x y z e)
 
 -- the netlist c of the lines before place p, with the numbers of the line at p
-unfoldable pub stepNet : Netlist → ℕ → ℕ → ℕ → ℕ → Netlist
-stepNet c x y z p = stored c (lineAt c p) x y z
+unfoldable pub stepNet : Netlist → ℕ → ℕ → ℕ → ℕ → ℕ → Netlist
+stepNet c x y z e p = stored c (lineAt c p) x y z e
 
 -- RULES T33, "3, then 4 or 5", at place p: a line of this kind and with these numbers
-unfoldable pub stepVerdict : Netlist → Kind → ℕ → ℕ → ℕ → ℕ → Verdict
-stepVerdict c kind x y z p =
+unfoldable pub stepVerdict : Netlist → Kind → ℕ → ℕ → ℕ → ℕ → ℕ → Verdict
+stepVerdict c kind x y z e p =
     refuseIf (ltb (controlLine c) p || not (eqb (rowOf kind) (rowOf (kindDue (lineAt c p))))) OutOfOrder p
-    then faultsAt (stepNet c x y z p) (lineAt c p) p
+    then faultsAt (stepNet c x y z e p) (lineAt c p) p
 
 -- the answer with verdict v and netlist c, and the lists beside it
 pub record Outcome (sheet : SheetAnswer) (latches gates : List ℕ) (v : Verdict) (c : Netlist) : Type 0 where

@@ -54,7 +54,7 @@ fn row_due(due: Line) -> usize
 
 // Puts the sizes of line N into the record.
 fn store_sizes(net: Netlist, first: u32, second: u32, third: u32) -> Netlist
-    ensures { λ r. ⌜ StoredIn r net Line.Sizes first second third ⌝ }
+    ensures { λ r. ⌜ StoredIn r net Line.Sizes first second third 0 ⌝ }
 {
     let mut next = net;
     next.inputs = first;
@@ -63,21 +63,22 @@ fn store_sizes(net: Netlist, first: u32, second: u32, third: u32) -> Netlist
     next
 }
 
-// Puts the numbers of line M into the record.
-fn store_memory(net: Netlist, first: u32, second: u32, third: u32) -> Netlist
-    ensures { λ r. ⌜ StoredIn r net Line.Memory first second third ⌝ }
+// Puts the numbers of line M into the record, and whether its third field is empty: the start is then unknown.
+fn store_memory(net: Netlist, first: u32, second: u32, third: u32, empty: u32) -> Netlist
+    ensures { λ r. ⌜ StoredIn r net Line.Memory first second third empty ⌝ }
 {
     let mut next = net;
     next.m = first;
     next.n = second;
     next.initial_word = third;
+    next.unknown_start = empty;
     next
 }
 
 // Puts an address code into the record.
 fn store_address(net: Netlist, t: u32, first: u32) -> Netlist
     requires { ⌜ t < 12 ⌝ }
-    ensures { λ r. ⌜ StoredIn r net (Line.Address t) first 0 0 ⌝ }
+    ensures { λ r. ⌜ StoredIn r net (Line.Address t) first 0 0 0 ⌝ }
 {
     let mut next = net;
     let at = t as usize;
@@ -88,7 +89,7 @@ fn store_address(net: Netlist, t: u32, first: u32) -> Netlist
 // Puts a write-data code into the record.
 fn store_data(net: Netlist, t: u32, first: u32) -> Netlist
     requires { ⌜ t < 32 ⌝ }
-    ensures { λ r. ⌜ StoredIn r net (Line.WriteData t) first 0 0 ⌝ }
+    ensures { λ r. ⌜ StoredIn r net (Line.WriteData t) first 0 0 0 ⌝ }
 {
     let mut next = net;
     let at = t as usize;
@@ -98,7 +99,7 @@ fn store_data(net: Netlist, t: u32, first: u32) -> Netlist
 
 // Puts the codes of line C into the record.
 fn store_control(net: Netlist, first: u32, second: u32, third: u32) -> Netlist
-    ensures { λ r. ⌜ StoredIn r net Line.Control first second third ⌝ }
+    ensures { λ r. ⌜ StoredIn r net Line.Control first second third 0 ⌝ }
 {
     let mut next = net;
     next.we.0 = first;
@@ -116,13 +117,14 @@ fn store(
     first: u32,
     second: u32,
     third: u32,
+    empty: u32,
 ) -> Netlist
     requires { ⌜ FullLength (net .address) (net .«write_data») (now latches) (now gates) × (lineIndex due < roomFor due) ⌝ }
-    ensures { λ r. ⌜ Holds r (now (latches .exit)) (now (gates .exit)) (stored (netOf net (now (latches .entry)) (now (gates .entry))) due first second third) ⌝ }
+    ensures { λ r. ⌜ Holds r (now (latches .exit)) (now (gates .exit)) (stored (netOf net (now (latches .entry)) (now (gates .entry))) due first second third empty) ⌝ }
 {
     match due {
         Line::Sizes => store_sizes(net, first, second, third),
-        Line::Memory => store_memory(net, first, second, third),
+        Line::Memory => store_memory(net, first, second, third, empty),
         Line::Latch(l) => {
             netlist::put_numbers(latches, l as usize, first, second);
             net
@@ -202,15 +204,16 @@ pub fn take_line(
     first: u32,
     second: u32,
     third: u32,
+    empty: u32,
 ) -> SheetAnswer
     requires { ⌜ FullLength (net .address) (net .«write_data») (now latches) (now gates) × SizesKnown (alone net) place ⌝ }
-    ensures { λ r. ⌜ Outcome r (now (latches .exit)) (now (gates .exit)) (stepVerdict (netOf net (now (latches .entry)) (now (gates .entry))) kind first second third place) (stepNet (netOf net (now (latches .entry)) (now (gates .entry))) first second third place) ⌝ }
+    ensures { λ r. ⌜ Outcome r (now (latches .exit)) (now (gates .exit)) (stepVerdict (netOf net (now (latches .entry)) (now (gates .entry))) kind first second third empty place) (stepNet (netOf net (now (latches .entry)) (now (gates .entry))) first second third empty place) ⌝ }
 {
     let due = line_due(net, place);
     if is_past_last(net, place) | (sheet_lines::row_of(kind) != row_due(due)) {
         return refused(Refusal::OutOfOrder, place);
     }
-    let next = store(net, latches, gates, due, first, second, third);
+    let next = store(net, latches, gates, due, first, second, third, empty);
     let verdict = test_stored(next, latches, gates, due, place);
     if let Verdict::Refused(refusal, at) = verdict {
         return refused(refusal, at);

@@ -10,8 +10,11 @@ is-outside-requires c κs = tt
 is-outside-requires-2 : tie.Need-is-outside-requires-2
 is-outside-requires-2 c κs = tt
 
-is-word-outside-requires : tie.Need-is-word-outside-requires
-is-word-outside-requires c κs = tt
+is-outside-requires-3 : tie.Need-is-outside-requires-3
+is-outside-requires-3 c κs = tt
+
+is-start-outside-requires : tie.Need-is-start-outside-requires
+is-start-outside-requires c κs = tt
 
 is-last-wire-outside-requires : tie.Need-is-last-wire-outside-requires
 is-last-wire-outside-requires c κs = tt
@@ -19,7 +22,13 @@ is-last-wire-outside-requires c κs = tt
 returns : tie.Need-returns
 unfolding netOf sizeFault
 returns c =
-    rw (c .before .before .before .is-outside .ensures, c .before .before .is-outside2 .ensures, c .before .is-word-outside .ensures, c .is-last-wire-outside .ensures)
+    rw (
+      c .before .before .before .before .is-outside .ensures,
+      c .before .before .before .is-outside2 .ensures,
+      c .before .before .is-outside3 .ensures,
+      c .before .is-start-outside .ensures,
+      c .is-last-wire-outside .ensures,
+    )
 
 pub memory-fault-spec : {M : Type 1} → statement M
 memory-fault-spec =
@@ -27,6 +36,7 @@ memory-fault-spec =
     (tie.spec
     is-outside-requires
     is-outside-requires-2
-    is-word-outside-requires
+    is-outside-requires-3
+    is-start-outside-requires
     is-last-wire-outside-requires
     returns)

@@ -1,10 +1,13 @@
 -- `sheet_lines::is_wanted` meets its contract.
+use mathlib.Core.Path.{sym}
 use borrow.Author.Needs.{needs}
+use Rattle.sheet_lines.specs.Letters.{contentOf}
+use Rattle.sheet_lines.proofs.Lines.{wanted-empty, wanted-number, wanted-misprint}
 use Rattle.sheet_lines.proofs.is_wanted.Statement.{statement}
 use Rattle.sheet_lines.proofs.is_wanted.Tie as tie
 
-is-filled-requires : tie.Need-is-filled-requires
-is-filled-requires c κs = search needs
+content-of-requires : tie.Need-content-of-requires
+content-of-requires c κs = search needs
 
 enum-told : tie.Need-enum-told
 enum-told c = search needs
@@ -16,15 +19,21 @@ enum-told-3 : tie.Need-enum-told-3
 enum-told-3 c = search needs
 
 returns : tie.Need-returns
-returns c = rw (c .enum-told .given .1, c .before .before .is-filled .ensures)
+returns c =
+    let x = c .before .before .before .args in
+    rw (c .enum-told .given .1, c .before .before .content-of .ensures) (wanted-empty (contentOf (x .kind) (x .column)))
 
 returns-2 : tie.Need-returns-2
-returns-2 c = rw (c .enum-told2 .given .1, c .before .before .is-filled .ensures)
+returns-2 c =
+    let x = c .before .before .before .args in
+    rw (c .enum-told2 .given .1, c .before .before .content-of .ensures) (wanted-number (contentOf (x .kind) (x .column)) _)
 
 returns-3 : tie.Need-returns-3
-returns-3 c = search needs
+returns-3 c =
+    let x = c .before .before .before .args in
+    rw (c .enum-told3 .given .1) (sym (wanted-misprint (contentOf (x .kind) (x .column))))
 
 pub is-wanted-spec : {M : Type 1} → statement M
 is-wanted-spec =
     tie.close
-    (tie.spec is-filled-requires enum-told enum-told-2 enum-told-3 returns returns-2 returns-3)
+    (tie.spec content-of-requires enum-told enum-told-2 enum-told-3 returns returns-2 returns-3)

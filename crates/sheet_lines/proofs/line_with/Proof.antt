@@ -4,7 +4,7 @@ use mathlib.Core.Bool.{true, false}
 use native.Mathlib.Omega.{arith}
 use borrow.Author.Needs.{needs}
 use borrow.Author.Tests.{lt-ltb, le-ltb, not-true, not-false}
-use Rattle.sheet_lines.specs.Letters.{rowOf, isKnown, isFilled}
+use Rattle.sheet_lines.specs.Letters.{rowOf, isKnown, contentOf}
 use Rattle.sheet_lines.specs.Lines.{asWanted}
 use Rattle.sheet_lines.proofs.Lines.{lineWith-tests}
 use Rattle.sheet_lines.proofs.line_with.Statement.{statement}
@@ -16,17 +16,17 @@ known c = lt-ltb (rowOf (c .before .before .args .kind)) 7 (omega arith)
 
 first-wanted :
     (c : tie.Else2) →
-    asWanted (isFilled (c .before .before .before .before .args .kind) 0) (c .before .before .before .before .args .first) ≡ true
+    asWanted (contentOf (c .before .before .before .before .args .kind) 0) (c .before .before .before .before .args .first) ≡ true
 first-wanted c = sym (c .before .is-wanted .ensures) ∙ not-false _ (c .if2 .left)
 
 second-wanted :
     (c : tie.Else3) →
-    asWanted (isFilled (c .before .before .before .before .before .before .args .kind) 1) (c .before .before .before .before .before .before .args .second) ≡ true
+    asWanted (contentOf (c .before .before .before .before .before .before .args .kind) 1) (c .before .before .before .before .before .before .args .second) ≡ true
 second-wanted c = sym (c .before .is-wanted2 .ensures) ∙ not-false _ (c .if3 .left)
 
 third-wanted :
     (c : tie.Else4) →
-    asWanted (isFilled (c .before .before .before .before .before .before .before .before .args .kind) 2) (c .before .before .before .before .before .before .before .before .args .third) ≡ true
+    asWanted (contentOf (c .before .before .before .before .before .before .before .before .args .kind) 2) (c .before .before .before .before .before .before .before .before .args .third) ≡ true
 third-wanted c = sym (c .before .is-wanted3 .ensures) ∙ not-false _ (c .if4 .left)
 
 row-of-requires : tie.Need-row-of-requires
@@ -78,11 +78,14 @@ value-of-requires-2 c κs = search needs
 value-of-requires-3 : tie.Need-value-of-requires-3
 value-of-requires-3 c κs = search needs
 
+left-empty-requires : tie.Need-left-empty-requires
+left-empty-requires c κs = search needs
+
 returns-5 : tie.Need-returns-5
 returns-5 c =
-    let passed = c .before .before .before in
+    let passed = c .before .before .before .before in
     let x = passed .before .before .before .before .before .before .before .before .args in
-    rw (c .before .before .value-of .ensures, c .before .value-of2 .ensures, c .value-of3 .ensures)
+    rw (c .before .before .before .value-of .ensures, c .before .before .value-of2 .ensures, c .before .value-of3 .ensures, c .left-empty .ensures)
     (sym
     (lineWith-tests (x .kind) (x .first) (x .second) (x .third) true true true true (known (passed .before .before .before .before .before .before))
     (first-wanted (passed .before .before .before .before)) (second-wanted (passed .before .before)) (third-wanted passed)))
@@ -102,4 +105,5 @@ line-with-spec =
     value-of-requires
     value-of-requires-2
     value-of-requires-3
+    left-empty-requires
     returns-5)

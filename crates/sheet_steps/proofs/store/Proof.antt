@@ -62,6 +62,7 @@ store-control-requires : tie.Need-store-control-requires
 store-control-requires c κs = search needs
 
 returns : tie.Need-returns
+unfolding stored
 returns c =
     let start = c .before .before .before in
     rw (c .before .enum-told .given .1) (c .store-sizes .ensures (start .args .latches .now) (start .args .gates .now) (start .pre .0))
@@ -77,7 +78,7 @@ returns-3 c =
     let a = start .args in
     let due = c .before .before .before .due in
     rw (due .given .1, c .put-numbers .ensures)
-    (holds-latch (a .net) (a .latches .now) (a .gates .now) (start .pre .0) (a .first) (a .second) (a .third) (due .given .0 .0) (within (due .given .1) (start .pre .1)))
+    (holds-latch (a .net) (a .latches .now) (a .gates .now) (start .pre .0) (a .first) (a .second) (a .third) (a .empty) (due .given .0 .0) (within (due .given .1) (start .pre .1)))
 
 returns-4 : tie.Need-returns-4
 returns-4 c =
@@ -85,7 +86,7 @@ returns-4 c =
     let a = start .args in
     let due = c .before .before .before .due2 in
     rw (due .given .1, c .put-numbers2 .ensures)
-    (holds-gate (a .net) (a .latches .now) (a .gates .now) (start .pre .0) (a .first) (a .second) (a .third) (due .given .0 .0) (within (due .given .1) (start .pre .1)))
+    (holds-gate (a .net) (a .latches .now) (a .gates .now) (start .pre .0) (a .first) (a .second) (a .third) (a .empty) (due .given .0 .0) (within (due .given .1) (start .pre .1)))
 
 returns-5 : tie.Need-returns-5
 unfolding stored
@@ -100,6 +101,7 @@ returns-6 c =
     rw (c .before .before .due4 .given .1) (c .store-data .ensures (start .args .latches .now) (start .args .gates .now) (start .pre .0))
 
 returns-7 : tie.Need-returns-7
+unfolding stored
 returns-7 c =
     let start = c .before .before .before in
     rw (c .before .enum-told3 .given .1) (c .store-control .ensures (start .args .latches .now) (start .args .gates .now) (start .pre .0))

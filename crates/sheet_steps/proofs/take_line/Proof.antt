@@ -27,7 +27,7 @@ tested c =
     rw (c .before .before .is-past-last .ensures, c .before .row-of .ensures, c .row-due .ensures, due (c .before .before .before))
 
 -- the line put into the record and the lists
-taken : (c : tie.After-store) → Holds (c .store .result) (c .store .last .1 .0) (c .store .last .1 .1 .0) (stepNet (netOf (c .before .before .before .before .before .before .before .before .args .net) (c .before .before .before .before .before .before .before .before .args .latches .now) (c .before .before .before .before .before .before .before .before .args .gates .now)) (c .before .before .before .before .before .before .before .before .args .first) (c .before .before .before .before .before .before .before .before .args .second) (c .before .before .before .before .before .before .before .before .args .third) (c .before .before .before .before .before .before .before .before .args .place))
+taken : (c : tie.After-store) → Holds (c .store .result) (c .store .last .1 .0) (c .store .last .1 .1 .0) (stepNet (netOf (c .before .before .before .before .before .before .before .before .args .net) (c .before .before .before .before .before .before .before .before .args .latches .now) (c .before .before .before .before .before .before .before .before .args .gates .now)) (c .before .before .before .before .before .before .before .before .args .first) (c .before .before .before .before .before .before .before .before .args .second) (c .before .before .before .before .before .before .before .before .args .third) (c .before .before .before .before .before .before .before .before .args .empty) (c .before .before .before .before .before .before .before .before .args .place))
 unfolding stepNet
 taken c = rw (due (c .before .before .before .before .before .before .before)) at (c .store .ensures)
 
@@ -51,8 +51,8 @@ returns c =
     let a = c .before .before .before .before .before .before .args in
     let d = netOf (a .net) (a .latches .now) (a .gates .now) in
     rw (c .refused .ensures)
-    (outcome-refused (a .latches .now) (a .gates .now) (stepNet d (a .first) (a .second) (a .third) (a .place))
-    (step-refused d (a .kind) (a .place) (a .first) (a .second) (a .third) (sym (tested (c .before .before)) ∙ c .before .if1 .taken)))
+    (outcome-refused (a .latches .now) (a .gates .now) (stepNet d (a .first) (a .second) (a .third) (a .empty) (a .place))
+    (step-refused d (a .kind) (a .place) (a .first) (a .second) (a .third) (a .empty) (sym (tested (c .before .before)) ∙ c .before .if1 .taken)))
 
 store-requires : tie.Need-store-requires
 store-requires c κs =
@@ -64,18 +64,18 @@ test-stored-requires c κs =
     let start = c .before .before .before .before .before .before .before .before .before .before in
     let a = start .args in
     let next = c .before .before .store .result in
-    (sizesKnown-step (a .net) next (a .latches .now) (a .gates .now) _ _ (a .place) (a .first) (a .second) (a .third) (taken (c .before .before)) (start .pre .1), c .before .before .before .before .before .before .before .before .before .line-due .ensures ∙ due-step (a .net) next (a .latches .now) (a .gates .now) _ _ (a .place) (a .first) (a .second) (a .third) (taken (c .before .before)))
+    (sizesKnown-step (a .net) next (a .latches .now) (a .gates .now) _ _ (a .place) (a .first) (a .second) (a .third) (a .empty) (taken (c .before .before)) (start .pre .1), c .before .before .before .before .before .before .before .before .before .line-due .ensures ∙ due-step (a .net) next (a .latches .now) (a .gates .now) _ _ (a .place) (a .first) (a .second) (a .third) (a .empty) (taken (c .before .before)))
 
 -- the verdict on it, in the record with its lists
 judged : (c : tie.After-test-stored) →
     let a = c .before .before .before .before .before .before .before .before .before .before .before .args in
-    c .test-stored .result ≡ stepVerdict (netOf (a .net) (a .latches .now) (a .gates .now)) (a .kind) (a .first) (a .second) (a .third) (a .place)
+    c .test-stored .result ≡ stepVerdict (netOf (a .net) (a .latches .now) (a .gates .now)) (a .kind) (a .first) (a .second) (a .third) (a .empty) (a .place)
 judged c =
     let a = c .before .before .before .before .before .before .before .before .before .before .before .args in
     let d = netOf (a .net) (a .latches .now) (a .gates .now) in
     c .test-stored .ensures
     ∙ rw (taken (c .before .before .before) .net-is, due (c .before .before .before .before .before .before .before .before .before .before))
-    (sym (step-due d (a .kind) (a .place) (a .first) (a .second) (a .third) (sym (tested (c .before .before .before .before .before .before .before)) ∙ c .before .before .before .before .before .before .if1 .left)))
+    (sym (step-due d (a .kind) (a .place) (a .first) (a .second) (a .third) (a .empty) (sym (tested (c .before .before .before .before .before .before .before)) ∙ c .before .before .before .before .before .before .if1 .left)))
 
 enum-known-verdict : tie.Need-enum-known-verdict
 enum-known-verdict c = search needs
