@@ -1,4 +1,4 @@
-// The program `import_aag` (RULES P18 to P22): m, n and the start word as arguments and an ASCII AIGER text on standard input; on standard
+// The program `import_aag` (RULES P18 to P22): m, n and the start word, which may be left out, as arguments and an ASCII AIGER text on standard input; on standard
 // output the sheet of its netlist, or one refusal. What is printed is in the crates below; here are only arguments, input and output.
 use decimal::Number;
 ghost use mathlib.Core.Path.{_≡_};
@@ -14,7 +14,7 @@ fn write_text(text: &[u8]) {
 fn print_usage() {
     io::write_all(
         2,
-        b"usage: import_aag m n start < text.aag > sheet\n  m, n: how many address and data bits; start: the word that the memory is filled with\n",
+        b"usage: import_aag m n [start] < text.aag > sheet\n  m, n: how many address and data bits; start: what every word starts as; left out: anything\n",
     );
 }
 
@@ -39,25 +39,39 @@ fn no_sheet() -> [u8; 19680]
     [0; 19680]
 }
 
-fn print_import(text: &[u8], m: u32, n: u32, word: u32) {
+fn print_import(text: &[u8], m: u32, n: u32, word: u32, unknown: u32) {
     let mut sheet = no_sheet();
-    let bytes = program_import::write_import(&mut sheet, text, m, n, word);
+    let bytes = program_import::write_import(&mut sheet, text, m, n, word, unknown);
     write_text(&sheet[..bytes]);
 }
 
 // Imports the text on standard input.
-fn import(m: u32, n: u32, word: u32) {
+fn import(m: u32, n: u32, word: u32, unknown: u32) {
     let mut text = no_text();
     let count = io::read_full(0, &mut text);
     if 4194304 < count {
         io::write_all(2, b"import_aag: the text has more than 4194304 bytes\n");
         return;
     }
-    print_import(&text[..count], m, n, word);
+    print_import(&text[..count], m, n, word, unknown);
+}
+
+// Imports for a start that is given as the third argument, or unknown where there is none.
+fn import_for(m: u32, n: u32, count: usize) {
+    if count == 3 {
+        import(m, n, 0, 1);
+        return;
+    }
+    let Number::Value(word) = number_at(3) else {
+        print_usage();
+        return;
+    };
+    import(m, n, word, 0);
 }
 
 fn main() {
-    if os::arg_count() != 4 {
+    let count = os::arg_count();
+    if (count < 3) | (4 < count) {
         print_usage();
         return;
     }
@@ -69,9 +83,5 @@ fn main() {
         print_usage();
         return;
     };
-    let Number::Value(word) = number_at(3) else {
-        print_usage();
-        return;
-    };
-    import(m, n, word);
+    import_for(m, n, count);
 }

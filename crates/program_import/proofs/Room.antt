@@ -27,9 +27,9 @@ long-enough c latchRoom gateRoom l g e =
 
 pub room-suffices : RoomSuffices
 unfolding importVerdict _then_
-room-suffices s m n word latchRoom gateRoom l g = by-sizes (testLines (aagNet s m n word) Size sizeFault) refl
+room-suffices s m n word unknown latchRoom gateRoom l g = by-sizes (testLines (aagNet s m n word unknown) Size sizeFault) refl
   where
-    by-sizes : (v : Verdict) → testLines (aagNet s m n word) Size sizeFault ≡ v → importVerdict s m n word 600 600 ≡ importVerdict s m n word latchRoom gateRoom
+    by-sizes : (v : Verdict) → testLines (aagNet s m n word unknown) Size sizeFault ≡ v → importVerdict s m n word unknown 600 600 ≡ importVerdict s m n word unknown latchRoom gateRoom
     by-sizes Passed e =
-        rw (long-enough (aagNet s m n word) 600 600 (omega arith) (omega arith) e, long-enough (aagNet s m n word) latchRoom gateRoom l g e)
+        rw (long-enough (aagNet s m n word unknown) 600 600 (omega arith) (omega arith) e, long-enough (aagNet s m n word unknown) latchRoom gateRoom l g e)
     by-sizes (Refused r p) e = rw e

@@ -18,10 +18,10 @@ sheetOrRefusal Passed c = sheetText c
 sheetOrRefusal (Refused r p) c = refusalText (refusalNumber r) p
 
 -- lists of 600 records each are the program's own
-unfoldable pub importText : List ℕ → ℕ → ℕ → ℕ → List ℕ
-importText s m n word = sheetOrRefusal (importVerdict s m n word mostWires mostWires) (aagNet s m n word)
+unfoldable pub importText : List ℕ → ℕ → ℕ → ℕ → ℕ → List ℕ
+importText s m n word unknown = sheetOrRefusal (importVerdict s m n word unknown mostWires mostWires) (aagNet s m n word unknown)
 
 -- they are long enough: the verdict is that of an import into lists of any greater length, so that 9 does not occur
 abbrev pub RoomSuffices : Type 0
-RoomSuffices = (s : List ℕ) (m n word latchRoom gateRoom : ℕ) → mostWires ≤ latchRoom → mostWires ≤ gateRoom
-    → importVerdict s m n word mostWires mostWires ≡ importVerdict s m n word latchRoom gateRoom
+RoomSuffices = (s : List ℕ) (m n word unknown latchRoom gateRoom : ℕ) → mostWires ≤ latchRoom → mostWires ≤ gateRoom
+    → importVerdict s m n word unknown mostWires mostWires ≡ importVerdict s m n word unknown latchRoom gateRoom

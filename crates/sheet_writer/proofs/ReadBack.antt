@@ -18,15 +18,11 @@ use Rattle.refusals.specs.declared.Verdict.the-variants.{Passed}
 use Rattle.refusals.proofs.Tests.{refuseIf-passes, passed-then, inOrder-passes}
 use Rattle.netlist.specs.Places.{controlLine, lineAt}
 use Rattle.netlist.specs.Faults.{sizeFault, codeFault, loopFault}
-use Rattle.netlist.specs.declared.Line.{Line}
-use Rattle.netlist.specs.declared.Line.the-variants as Due
 use Rattle.netlist.proofs.Places.{every-place}
 use Rattle.netlist.proofs.Faults.{Without, sizes-fit, codes-fit, no-loop}
 use Rattle.netlist_tests.specs.Record.{listsShort}
 use Rattle.netlist_tests.proofs.Record.{testLines-passes}
 use Rattle.netlist_tests.proofs.Acceptance.{lists-long}
-use Rattle.sheet_lines.specs.Letters.{rowOf}
-use Rattle.sheet_steps.specs.Due.{kindDue}
 use Rattle.sheet_steps.specs.LineFaults.{faultsAt}
 use Rattle.sheet_steps.proofs.Places.{lineAt-known}
 use Rattle.sheet_parse.specs.Files.{lineCount, lineIn, netIn}
@@ -34,19 +30,8 @@ use Rattle.sheet_parse.specs.FileTests.{ragged, misprinted, isOf, notDue, testL
 use Rattle.sheet_tests.specs.Sheet.{endVerdict, fileVerdict, sheetVerdict}
 use Rattle.sheet_tests.proofs.Verdicts.{file-lines, end-whole}
 use Rattle.sheet_tests.proofs.Codes.{sheet-passed}
-use Rattle.sheet_writer.specs.SheetText.{printedLine, sheetText}
-use Rattle.sheet_writer.proofs.SheetText.{length-sheetText, line-in, agrees-read, ends-same}
-
--- a line is printed as one of its kind
-pub kind-printed : (c : Netlist) (x : Line) → printedLine c x .kind ≡ kindDue x
-unfolding printedLine
-kind-printed c Due.Sizes = refl
-kind-printed c Due.Memory = refl
-kind-printed c (Due.Latch l) = refl
-kind-printed c (Due.Gate g) = refl
-kind-printed c (Due.Address t) = refl
-kind-printed c (Due.WriteData t) = refl
-kind-printed c Due.Control = refl
+use Rattle.sheet_writer.specs.SheetText.{sheetText}
+use Rattle.sheet_writer.proofs.SheetText.{not-misprinted, of-kind-due, length-sheetText, line-in, agrees-read, ends-same}
 
 module _ (c : Netlist) (accepted : Accepted c) where
   abbrev file : List ℕ
@@ -91,8 +76,7 @@ module _ (c : Netlist) (accepted : Accepted c) where
         ← due p,
         le-leb p (controlLine c) b,
         line-in c (accepted .limits) p l b,
-        kind-printed c (lineAt c p),
-        eq-eqb (rowOf (kindDue (lineAt c p))) (rowOf (kindDue (lineAt c p))) refl,
+        of-kind-due c (lineAt c p),
       )
 
   line-passes : (p : ℕ) → 1 ≤ p → p ≤ controlLine c → testLineIn read file p ≡ Passed
@@ -101,6 +85,7 @@ module _ (c : Netlist) (accepted : Accepted c) where
       let within : p ≤ controlLine read = rw (← ends) b in
       rw (
         line-in c (accepted .limits) p l b,
+        not-misprinted c (lineAt c p),
         in-place p l b,
         every-place read (Without sizeFault read) .0 (sizes-fit read .1 (read-accepted .limits .sizes)) p l within,
         every-place read (Without codeFault read) .0 (codes-fit read .1 (read-accepted .limits .codes)) p l within,

@@ -19,8 +19,8 @@ use Rattle.netlist.specs.Places.{controlLine, lineAt, HasLine}
 use Rattle.netlist.specs.declared.Line.{Line}
 use Rattle.netlist.specs.declared.Line.the-variants as Due
 use Rattle.netlist.proofs.Places.{has-lineAt}
-use Rattle.sheet_lines.specs.Letters.{rowOf, isFilled}
-use Rattle.sheet_lines.specs.Lines.{lineOf, columnText, lineText}
+use Rattle.sheet_lines.specs.Letters.{rowOf, contentOf}
+use Rattle.sheet_lines.specs.Lines.{lineOf, lineText}
 use Rattle.sheet_lines.specs.declared.Kind.{Kind}
 use Rattle.sheet_lines.specs.declared.Kind.the-variants.{Sizes, Memory, Latch, Gate, Address, WriteData, Control, Unknown}
 use Rattle.sheet_lines.specs.declared.ParsedLine.{ParsedLine}
@@ -57,24 +57,25 @@ record OfKind (k : Kind) (line : ParsedLine) : Type 0 where
   x : ℕ
   y : ℕ
   z : ℕ
-  is : line ≡ Read k x y z
+  empty : ℕ
+  is : line ≡ Read k x y z empty
 
 of-kind : (k : Kind) (line : ParsedLine) → isOf k line ≡ true → OfKind k line
 of-kind k Misprint h = absurd (false≢true h)
-of-kind k (Read kind x y z) h = record { x = x; y = y; z = z; is = ap (λ l. Read l x y z) (row-one-kind kind k (eqb-true (rowOf kind) (rowOf k) h)) }
+of-kind k (Read kind x y z e) h = record { x = x; y = y; z = z; empty = e; is = ap (λ l. Read l x y z e) (row-one-kind kind k (eqb-true (rowOf kind) (rowOf k) h)) }
 
 module _ (file : List ℕ) where
   -- a line's text is that of the numbers that are read there: what stands in an empty field does not show
-  text-of-line : (due : Line) → HasLine (netIn file) due → (x y z : ℕ) → lineIn file (placeOf (netIn file) due) ≡ Read (kindDue due) x y z
-      → printedText (printedLine (netIn file) due) ≡ lineText (kindDue due) x y z
-  unfolding printedText printedLine netIn netOfLines sizesIn lineText columnText isFilled
-  text-of-line Due.Sizes h x y z e = rw e
-  text-of-line Due.Memory h x y z e = rw e
-  text-of-line (Due.Latch l) h x y z e = rw (lt-ltb l _ h, e)
-  text-of-line (Due.Gate g) h x y z e = rw (lt-ltb g _ h, e)
-  text-of-line (Due.Address t) h x y z e = rw (lt-ltb t _ h, e)
-  text-of-line (Due.WriteData t) h x y z e = rw (lt-ltb t _ h, e)
-  text-of-line Due.Control h x y z e = rw (simp add-zero at e)
+  text-of-line : (due : Line) → HasLine (netIn file) due → (x y z empty : ℕ) → lineIn file (placeOf (netIn file) due) ≡ Read (kindDue due) x y z empty
+      → printedText (printedLine (netIn file) due) ≡ lineText (kindDue due) x y z empty
+  unfolding printedText printedLine netIn netOfLines sizesIn lineText contentOf
+  text-of-line Due.Sizes h x y z empty e = rw e
+  text-of-line Due.Memory h x y z empty e = rw e
+  text-of-line (Due.Latch l) h x y z empty e = rw (lt-ltb l _ h, e)
+  text-of-line (Due.Gate g) h x y z empty e = rw (lt-ltb g _ h, e)
+  text-of-line (Due.Address t) h x y z empty e = rw (lt-ltb t _ h, e)
+  text-of-line (Due.WriteData t) h x y z empty e = rw (lt-ltb t _ h, e)
+  text-of-line Due.Control h x y z empty e = rw (simp add-zero at e)
 
   module _ (passed : fileVerdict file ≡ Passed) where
     whole : length file ≡ 32 * lineCount file
@@ -101,8 +102,8 @@ module _ (file : List ℕ) where
         let kind = and-true (leb (p + 1) (controlLine c)) (isOf (kindDue due) (lineIn file (p + 1))) .0 (not-false _ (sound .due)) .1 in
         let line = of-kind (kindDue due) (lineIn file (p + 1)) kind in
         let place : placeOf c due ≡ p + 1 = place-lineAt c (p + 1) (omega arith) (omega arith) in
-        text-of-line due (has-lineAt c (p + 1)) (line .x) (line .y) (line .z) (ap (lineIn file) place ∙ line .is)
-        ∙ sym (read-as-written .read→text (take 32 (drop (32 * (p + 1 - 1)) file)) (kindDue due) (line .x) (line .y) (line .z) (line .is))
+        text-of-line due (has-lineAt c (p + 1)) (line .x) (line .y) (line .z) (line .empty) (ap (lineIn file) place ∙ line .is)
+        ∙ sym (read-as-written .read→text (take 32 (drop (32 * (p + 1 - 1)) file)) (kindDue due) (line .x) (line .y) (line .z) (line .empty) (line .is))
         ∙ ap (λ q. take 32 (drop (32 * q) file)) back
 
     pub written-back : sheetText (netIn file) ≡ file

@@ -11,19 +11,20 @@ use Rattle.sheet_lines.specs.Lines.{lineText}
 use Rattle.sheet_lines.specs.declared.Kind.the-variants.{Sizes, Memory, Latch, Gate, Address, WriteData, Control}
 use Rattle.sheet_writer.specs.declared.PrintedLine.{PrintedLine}
 
--- the kind and the numbers of a line (RULES S5), 0 where a field is empty
+-- The kind and the numbers of a line (RULES S5), 0 where a field is always empty; and whether the third is to be left empty, as an initial
+-- word is where the start is unknown (RULES S11). What shows of them is the table's to say (`lineText`)
 unfoldable pub printedLine : Netlist → Line → PrintedLine
-printedLine c Due.Sizes = record { kind = Sizes; first = c .inputs; second = c .latches; third = c .gates }
-printedLine c Due.Memory = record { kind = Memory; first = c .m; second = c .n; third = c .initialWord }
-printedLine c (Due.Latch l) = record { kind = Latch; first = c .next l; second = c .reset l; third = 0 }
-printedLine c (Due.Gate g) = record { kind = Gate; first = c .left g; second = c .right g; third = 0 }
-printedLine c (Due.Address t) = record { kind = Address; first = c .address t; second = 0; third = 0 }
-printedLine c (Due.WriteData t) = record { kind = WriteData; first = c .writeData t; second = 0; third = 0 }
-printedLine c Due.Control = record { kind = Control; first = c .WE; second = c .RE; third = c .P }
+printedLine c Due.Sizes = record { kind = Sizes; first = c .inputs; second = c .latches; third = c .gates; empty = 0 }
+printedLine c Due.Memory = record { kind = Memory; first = c .m; second = c .n; third = c .initialWord; empty = c .unknownStart }
+printedLine c (Due.Latch l) = record { kind = Latch; first = c .next l; second = c .reset l; third = 0; empty = 0 }
+printedLine c (Due.Gate g) = record { kind = Gate; first = c .left g; second = c .right g; third = 0; empty = 0 }
+printedLine c (Due.Address t) = record { kind = Address; first = c .address t; second = 0; third = 0; empty = 0 }
+printedLine c (Due.WriteData t) = record { kind = WriteData; first = c .writeData t; second = 0; third = 0; empty = 0 }
+printedLine c Due.Control = record { kind = Control; first = c .WE; second = c .RE; third = c .P; empty = 0 }
 
 -- its 32 bytes
 unfoldable pub printedText : PrintedLine → List ℕ
-printedText x = lineText (x .kind) (x .first) (x .second) (x .third)
+printedText x = lineText (x .kind) (x .first) (x .second) (x .third) (x .empty)
 
 -- all lines in their order, the first at place 1
 unfoldable pub sheetText : Netlist → List ℕ

@@ -10,24 +10,27 @@ use sheet_lines::Kind;
 use text_writer::write_byte;
 use text_writer::write_word;
 ghost use mathlib.Core.Path.{_≡_};
-ghost use Prim.Native.Nat.{_*_, _≤_, _<_};
+ghost use mathlib.Core.Bool.{cond};
+ghost use Prim.Native.Nat.{ℕ, _*_, _≤_, _<_};
 ghost use lib.ListN.{length};
 ghost use Rattle.model.specs.Acceptance.{SizesFit};
 ghost use Rattle.model.specs.Wrote.{Wrote};
 ghost use Rattle.netlist.specs.NetOf.{netOf, alone};
 ghost use Rattle.netlist.specs.Places.{controlLine, lineAt, HasLine};
-ghost use Rattle.sheet_lines.specs.Letters.{rowOf};
-ghost use Rattle.sheet_lines.specs.Lines.{columnText};
+ghost use Rattle.sheet_fields.specs.declared.Field.the-variants.{Empty, Filled};
+ghost use Rattle.sheet_lines.specs.Letters.{rowOf, contentOf};
+ghost use Rattle.sheet_lines.specs.Lines.{written, fieldText};
 ghost use Rattle.dimacs.specs.PrintCalls.{printReply};
 ghost use Rattle.sheet_writer.specs.SheetText.{printedLine, printedText, sheetText};
 ghost use Rattle.sheet_writer.specs.WriteCall.{writeSent, writeLeaves, SheetWritten};
 
-// A line to be printed: its kind and three numbers, 0 where a field is empty.
+// A line to be printed: its kind and three numbers, 0 where a field is always empty; and 1 where one that may be filled is to be left empty.
 pub struct PrintedLine {
     pub kind: Kind,
     pub first: u32,
     pub second: u32,
     pub third: u32,
+    pub empty: u32,
 }
 
 // The numbers of a line.
@@ -46,12 +49,14 @@ fn printed_line(
             first: net.inputs,
             second: net.latches,
             third: net.gates,
+            empty: 0,
         },
         Line::Memory => PrintedLine {
             kind: Kind::Memory,
             first: net.m,
             second: net.n,
             third: net.initial_word,
+            empty: net.unknown_start,
         },
         Line::Latch(l) => {
             let at = 2 * (l as usize);
@@ -62,6 +67,7 @@ fn printed_line(
                 first: next,
                 second: reset,
                 third: 0,
+                empty: 0,
             }
         }
         Line::Gate(g) => {
@@ -73,6 +79,7 @@ fn printed_line(
                 first: left,
                 second: right,
                 third: 0,
+                empty: 0,
             }
         }
         Line::Address(t) => {
@@ -82,6 +89,7 @@ fn printed_line(
                 first: net.address[at].0,
                 second: 0,
                 third: 0,
+                empty: 0,
             }
         }
         Line::WriteData(t) => {
@@ -91,6 +99,7 @@ fn printed_line(
                 first: net.write_data[at].0,
                 second: 0,
                 third: 0,
+                empty: 0,
             }
         }
         Line::Control => PrintedLine {
@@ -98,14 +107,24 @@ fn printed_line(
             first: net.we.0,
             second: net.re.0,
             third: net.p.0,
+            empty: 0,
         },
     }
+}
+
+// Whether a column of a line is printed as a number: where the table says so, and where it leaves both open, unless it is to be empty.
+fn is_printed(kind: Kind, column: usize, empty: u32) -> bool
+    requires { ⌜ (rowOf kind < 7) × (column < 3) ⌝ }
+    ensures { λ r. ⌜ ((x : ℕ) → written (contentOf kind column) empty x ≡ cond r (Filled x) Empty) ⌝ }
+{
+    let content = sheet_lines::content_of(kind, column);
+    (content == 1) | ((content == 2) & (empty == 0))
 }
 
 // Writes ten columns: a number, or spaces.
 fn put_column(out: &mut [u8], filled: bool, x: u32) -> usize
     requires { ⌜ 10 ≤ length (now out) ⌝ }
-    ensures { λ r. ⌜ Wrote (columnText filled x) (now (out .entry)) (now (out .exit)) r × (r ≤ 10) ⌝ }
+    ensures { λ r. ⌜ Wrote (fieldText (cond filled (Filled x) Empty)) (now (out .entry)) (now (out .exit)) r × (r ≤ 10) ⌝ }
 {
     if filled {
         return put_field(out, x);

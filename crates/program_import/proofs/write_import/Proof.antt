@@ -56,11 +56,11 @@ enum-told c = search needs
 
 -- what is imported is held by the record and the lists, and its sizes fit
 module _ (c : tie.After-enum-told) where
-  passed : let a = c .before .before .before .before .before .before .before .before .before .args in importVerdict (a .text .now) (a .m) (a .n) (a .word) 600 600 ≡ Passed
+  passed : let a = c .before .before .before .before .before .before .before .before .before .args in importVerdict (a .text .now) (a .m) (a .n) (a .word) (a .unknown) 600 600 ≡ Passed
   passed = sym (verdict-is (c .before .before .import-codes .ensures)) ∙ c .enum-told .given .1
 
-  limits : let a = c .before .before .before .before .before .before .before .before .before .args in WithinLimits (aagNet (a .text .now) (a .m) (a .n) (a .word))
-  limits = import-passed _ _ _ _ 600 600 passed .accepted .limits
+  limits : let a = c .before .before .before .before .before .before .before .before .before .args in WithinLimits (aagNet (a .text .now) (a .m) (a .n) (a .word) (a .unknown))
+  limits = import-passed _ _ _ _ _ 600 600 passed .accepted .limits
 
   sizes : SizesFit (alone (c .before .before .import-codes .result .net))
   sizes = sizes-lists _ _ _ [] [] (subst SizesFit (sym (holds (c .before .before .import-codes .ensures) passed .net-is)) (limits .sizes))

@@ -2,7 +2,6 @@
 use native.Mathlib.Omega.{arith}
 use borrow.Author.Needs.{needs}
 use Rattle.decimal.proofs.Digits.{length-field}
-use Rattle.sheet_lines.specs.Lines.{columnText}
 use Rattle.sheet_writer.proofs.put_column.Statement.{statement}
 use Rattle.sheet_writer.proofs.put_column.Tie as tie
 use Rattle.sheet_writer.proofs.put_column.Reads as reads
@@ -17,7 +16,6 @@ same-length : tie.Need-same-length
 same-length c = search needs
 
 returns : tie.Need-returns
-unfolding columnText
 returns c = let w = c .before .before .put-field .ensures in
     rw (c .before .before .before .before .if1 .taken) (w, omega (arith, w .counted, length-field (c .before .before .before .before .before .before .args .x) (c .before .before .before .before .before .before .fits .x .fits)))
 
@@ -31,7 +29,6 @@ same-length-2 : tie.Need-same-length-2
 same-length-2 c = search needs
 
 returns-2 : tie.Need-returns-2
-unfolding columnText
 returns-2 c = let w = c .before .before .write-word .ensures in
     rw (c .before .before .before .before .before .if1 .left) (w, omega (arith, w .counted))
 

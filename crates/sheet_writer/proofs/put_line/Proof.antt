@@ -8,7 +8,7 @@ use Rattle.sheet_writer.proofs.put_line.Statement.{statement}
 use Rattle.sheet_writer.proofs.put_line.Tie as tie
 use Rattle.sheet_writer.proofs.put_line.Reads as reads
 use Rattle.sheet_writer.proofs.put_line.Lts as lts
-use Rattle.sheet_lines.proofs.is_filled.Reads as is-filled-reads
+use Rattle.sheet_lines.proofs.is_filled.Reads as is-printed-reads
 use Rattle.sheet_lines.proofs.letter_of.Reads as letter-of-reads
 use Rattle.sheet_writer.proofs.put_column.Reads as put-column-reads
 use Rattle.text_writer.proofs.write_byte.Reads as write-byte-reads
@@ -28,8 +28,8 @@ part-put-column-start c = search needs
 part-put-column-end : tie.Need-part-put-column-end
 part-put-column-end c = search needs
 
-is-filled-requires : tie.Need-is-filled-requires
-is-filled-requires c κs = search needs
+is-printed-requires : tie.Need-is-printed-requires
+is-printed-requires c κs = search needs
 
 put-column-requires : tie.Need-put-column-requires
 put-column-requires c κs = search needs
@@ -46,8 +46,8 @@ part-put-column-start-2 c = search needs
 part-put-column-end-2 : tie.Need-part-put-column-end-2
 part-put-column-end-2 c = search needs
 
-is-filled-requires-2 : tie.Need-is-filled-requires-2
-is-filled-requires-2 c κs = search needs
+is-printed-requires-2 : tie.Need-is-printed-requires-2
+is-printed-requires-2 c κs = search needs
 
 put-column-requires-2 : tie.Need-put-column-requires-2
 put-column-requires-2 c κs = search needs
@@ -64,8 +64,8 @@ part-put-column-start-3 c = search needs
 part-put-column-end-3 : tie.Need-part-put-column-end-3
 part-put-column-end-3 c = search needs
 
-is-filled-requires-3 : tie.Need-is-filled-requires-3
-is-filled-requires-3 c κs = search needs
+is-printed-requires-3 : tie.Need-is-printed-requires-3
+is-printed-requires-3 c κs = search needs
 
 put-column-requires-3 : tie.Need-put-column-requires-3
 put-column-requires-3 c κs = search needs
@@ -99,9 +99,10 @@ returns c = let first = c .before .before .before .before .before .before .befor
     let d = c .before .before .before .before .before .before .put-column3 in
     let last = c .before .before .write-byte2 in
     let w₁ = rw (c .before .before .before .before .before .before .before .before .before .before .before .before .before .before .before .before .before .before .before .before .before .before .letter-of .ensures) at (first .ensures) in
-    let w₂ = rw (c .before .before .before .before .before .before .before .before .before .before .before .before .before .before .before .before .before .is-filled .ensures) at (a .ensures .0) in
-    let w₃ = rw (c .before .before .before .before .before .before .before .before .before .before .before .before .is-filled2 .ensures) at (b .ensures .0) in
-    let w₄ = rw (c .before .before .before .before .before .before .before .is-filled3 .ensures) at (d .ensures .0) in
+    let line = c .before .before .before .before .before .before .before .before .before .before .before .before .before .before .before .before .before .before .before .before .before .before .before .before .before .args .line in
+    let w₂ = rw (← c .before .before .before .before .before .before .before .before .before .before .before .before .before .before .before .before .before .is-printed .ensures (line .first)) at (a .ensures .0) in
+    let w₃ = rw (← c .before .before .before .before .before .before .before .before .before .before .before .before .is-printed2 .ensures (line .second)) at (b .ensures .0) in
+    let w₄ = rw (← c .before .before .before .before .before .before .before .is-printed3 .ensures (line .third)) at (d .ensures .0) in
     (wrote-then _ _ _ _ _ _ _ (wrote-then _ _ _ _ _ _ _ (wrote-then _ _ _ _ _ _ _ (wrote-then _ _ _ _ _ _ _ w₁ w₂) w₃) w₄) (last .ensures), omega arith)
 
 pub put-line-spec : {M : Type 1} → statement M
@@ -113,19 +114,19 @@ put-line-spec =
     sub-put-column
     part-put-column-start
     part-put-column-end
-    is-filled-requires
+    is-printed-requires
     put-column-requires
     add-first
     sub-put-column-2
     part-put-column-start-2
     part-put-column-end-2
-    is-filled-requires-2
+    is-printed-requires-2
     put-column-requires-2
     add-second
     sub-put-column-3
     part-put-column-start-3
     part-put-column-end-3
-    is-filled-requires-3
+    is-printed-requires-3
     put-column-requires-3
     add-third
     sub-write-byte
