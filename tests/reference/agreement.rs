@@ -1,9 +1,9 @@
 //! Demand 3: satisfying assignments and runs that break the property match one another
-//! (RULES A2 to A16).
+//! (RULES A2 to A16), from every starting memory where the start is unknown.
 
 use std::collections::HashSet;
 
-use super::circuit::{value, Feed, Run};
+use super::circuit::{value, word, Feed, Run, Values};
 use super::formula::{frame_base, Fault, Formula, Group};
 use super::netlist::Netlist;
 use super::solver::{satisfies, Solver};
@@ -11,19 +11,17 @@ use super::solver::{satisfies, Solver};
 /// What comparing all satisfying assignments with all runs found.
 pub struct Agreement {
     pub models: usize,
-    /// Assignments that differ from their run on some wire, or whose run does not break the
-    /// property: demand 3's first half fails.
+    /// Assignments whose wires are those of no run that breaks the property: demand 3's first half
+    /// fails. A run with these wires is fed these inputs and this idle word.
     pub disagreeing: usize,
-    /// Runs that break the property and that no satisfying assignment feeds: the second half
+    /// Runs that break the property and whose wires no satisfying assignment has: the second half
     /// fails.
     pub missed: usize,
-    /// Whether the runs that break are exactly the runs that satisfying assignments feed.
-    pub same_feeds: bool,
 }
 
 impl Agreement {
     pub fn holds(&self) -> bool {
-        self.disagreeing == 0 && self.missed == 0 && self.same_feeds
+        self.disagreeing == 0 && self.missed == 0
     }
 }
 
@@ -73,36 +71,81 @@ pub fn all_feeds(netlist: &Netlist, depth: u32) -> impl Iterator<Item = Vec<Feed
     })
 }
 
+/// Every starting memory: one, or 2^(n 2^m) where the start is unknown, so only for tiny sizes.
+pub fn all_memories(netlist: &Netlist) -> Vec<Vec<u32>> {
+    let words = 1 << netlist.address_width;
+    if !netlist.has_unknown_start() {
+        return vec![vec![netlist.start_word; words as usize]];
+    }
+    let width = netlist.data_width;
+    let word = |bits: u64, at: u32| (bits >> (at * width)) as u32 & ((1 << width) - 1);
+    (0..1u64 << (words * width))
+        .map(|bits| (0..words).map(|at| word(bits, at)).collect())
+        .collect()
+}
+
+/// The wires of all frames, as a run or an assignment has them.
+pub type Frames = Vec<Values>;
+
+/// All runs to a depth that break the property, from all starting memories.
+pub fn breaking_runs(netlist: &Netlist, depth: u32) -> HashSet<Frames> {
+    let mut breaking = HashSet::new();
+    for memory in all_memories(netlist) {
+        for feeds in all_feeds(netlist, depth) {
+            let run = Run::from_memory(netlist, &memory, &feeds);
+            if run.first_break.is_some() {
+                breaking.insert(run.frames);
+            }
+        }
+    }
+    breaking
+}
+
+/// The wires of all frames that an assignment has.
+fn frames_of_model(netlist: &Netlist, depth: u32, model: &[bool]) -> Frames {
+    let of_wire = |frame: usize, wire: usize| wire > 0 && model[variable(netlist, frame, wire)];
+    (0..=depth as usize)
+        .map(|frame| {
+            (0..=netlist.wire_count() as usize)
+                .map(|wire| of_wire(frame, wire))
+                .collect()
+        })
+        .collect()
+}
+
 /// Compares all satisfying assignments with all runs, for tiny netlists.
 pub fn compare(netlist: &Netlist, depth: u32, fault: Fault) -> Agreement {
+    compare_with(netlist, depth, fault, &breaking_runs(netlist, depth))
+}
+
+/// The same with the runs that break already found.
+pub fn compare_with(
+    netlist: &Netlist,
+    depth: u32,
+    fault: Fault,
+    breaking: &HashSet<Frames>,
+) -> Agreement {
     let formula = Formula::new(netlist, depth, fault);
     let mut solver = Solver::new(formula.variable_count() as usize, &formula.numbers());
     let (mut models, mut disagreeing) = (0, 0);
     let mut satisfying = HashSet::new();
     solver.models(&mut |model| {
-        let feeds = feeds_of_model(netlist, depth, model);
-        let run = Run::new(netlist, &feeds);
+        let frames = frames_of_model(netlist, depth, model);
         models += 1;
-        if run.first_break.is_none() || !agrees(netlist, model, &run) {
+        if !breaking.contains(&frames) {
             disagreeing += 1;
         }
-        satisfying.insert(feeds);
+        satisfying.insert(frames);
     });
-    let breaking: HashSet<Vec<Feed>> = all_feeds(netlist, depth)
-        .map(|feeds| Run::new(netlist, &feeds))
-        .filter(|run| run.first_break.is_some())
-        .map(|run| run.feeds(netlist))
-        .collect();
     Agreement {
         models,
         disagreeing,
         missed: breaking.difference(&satisfying).count(),
-        same_feeds: breaking == satisfying,
     }
 }
 
-/// Demand 3 for one feed of a netlist of any size. Inputs, and the idle word where RE is false in
-/// frame 0, are assumed; unit propagation must then give every wire its value in the run, so no satisfying
+/// Demand 3 for one feed of a netlist of any size. Inputs, and the read bits where the fed word counts,
+/// are assumed; unit propagation must then give every wire its value in the run, so no satisfying
 /// assignment of this feed differs from the run. With all variables left free made false, every
 /// clause but the property's must be true, and the property's exactly when the run breaks.
 pub fn propagation_follows_run(netlist: &Netlist, feeds: &[Feed]) -> bool {
@@ -131,14 +174,34 @@ pub fn propagation_follows_run(netlist: &Netlist, feeds: &[Feed]) -> bool {
         && satisfies(&completed, &property) == run.first_break.is_some()
 }
 
-/// The literals that fix a feed: all inputs, and the read bits of frame 0 where RE is false there.
+/// The word that each address of an unknown start must begin with for this run: what its first reader
+/// read, if no frame wrote before that. With it the frame of that reader.
+pub fn first_reads(netlist: &Netlist, run: &Run) -> Vec<Option<(usize, u32)>> {
+    let mut first = vec![None; 1 << netlist.address_width];
+    let mut settled = vec![!netlist.has_unknown_start(); first.len()];
+    for (frame, values) in run.frames.iter().enumerate() {
+        let address = word(values, netlist.address_codes()) as usize;
+        let reads = value(values, netlist.read_enable);
+        if reads && !settled[address] {
+            first[address] = Some((frame, word(values, &netlist.read_data_codes())));
+        }
+        settled[address] |= reads || value(values, netlist.write_enable);
+    }
+    first
+}
+
+/// The literals that fix a feed: all inputs, the read bits of frame 0 where RE is false there, and
+/// those of the frames that settle a word of an unknown start.
 pub fn feed_literals(netlist: &Netlist, run: &Run) -> Vec<i32> {
     let mut literals = Vec::new();
+    let first_reads = first_reads(netlist, run);
+    let settles = |frame: usize| first_reads.iter().flatten().any(|it| it.0 == frame);
     for (frame, values) in run.frames.iter().enumerate() {
         let inputs = 1..netlist.first_latch() as usize;
         let read_bits = netlist.first_read_bit() as usize..netlist.first_gate() as usize;
         let idle = frame == 0 && !value(values, netlist.read_enable);
-        for wire in inputs.chain(read_bits.filter(|_| idle)) {
+        let needed = idle || settles(frame);
+        for wire in inputs.chain(read_bits.filter(|_| needed)) {
             let number = variable(netlist, frame, wire) as i32;
             literals.push(if values[wire] { number } else { -number });
         }

@@ -1,4 +1,4 @@
-//! Netlists from ASCII AIGER texts (K1).
+//! Netlists from ASCII AIGER texts (K1), with the unknown start of K7 and 17 of K8.
 
 use std::collections::{HashMap, HashSet};
 
@@ -182,8 +182,8 @@ impl Text {
         Ok(())
     }
 
-    /// The record's sizes and start word alone. There are at least n inputs.
-    fn sizes(&self, m: u32, n: u32, word: u32) -> Netlist {
+    /// The record's sizes and start alone. There are at least n inputs.
+    fn sizes(&self, m: u32, n: u32, word: u32, unknown_start: u32) -> Netlist {
         Netlist {
             inputs: self.inputs.len() as u32 - n,
             latch_count: self.latches.len() as u32,
@@ -191,6 +191,7 @@ impl Text {
             address_width: m,
             data_width: n,
             start_word: word,
+            unknown_start,
             ..Netlist::default()
         }
     }
@@ -238,25 +239,31 @@ impl Text {
     }
 }
 
-/// Imports a text for a caller that gives m, n and the start word and lends a latch list and a gate
-/// list of these lengths. Tests in this order: 11, 12, 13, 4, 6, 9; a text that passes the first
-/// three has no code outside its limit, so 5 cannot occur. On success the netlist's lists are the
-/// records that the lent lists would begin with.
+/// Imports a text for a caller that gives m, n and the start word, or says that the start is unknown,
+/// and lends a latch list and a gate list of these lengths. Tests in this order: 11, 12, 13, 4, 17, 6,
+/// 9; a text that passes the first three has no code outside its limit, so 5 cannot occur. On success
+/// the netlist's lists are the records that the lent lists would begin with, and its start word is 0
+/// where the start is unknown.
 pub fn import(
     text: &[u8],
     m: u32,
     n: u32,
     word: u32,
+    unknown_start: u32,
     latch_room: usize,
     gate_room: usize,
 ) -> Result<Netlist, Refusal> {
     let text = read_text(text)?;
     text.check_counts(m, n)?;
     text.check_definitions()?;
-    let mut netlist = text.sizes(m, n, word);
+    let mut netlist = text.sizes(m, n, word, unknown_start);
     netlist.check_line(1)?;
     netlist.check_line(2)?;
+    if netlist.has_unknown_start() {
+        netlist.start_word = 0;
+    }
     text.fill(&mut netlist);
+    netlist.check_ties()?;
     netlist.check_loop()?;
     let room = latch_room >= netlist.latches.len() && gate_room >= netlist.gates.len();
     require(room, NO_ROOM, 0)?;

@@ -1,4 +1,5 @@
-//! K2: a solver's answer in the SAT Competition output form, and the run of the chip that it feeds.
+//! K2: a solver's answer in the SAT Competition output form, and the run of the chip that it feeds; the
+//! words of an unknown start as K7 has them.
 
 use std::collections::HashSet;
 
@@ -58,8 +59,8 @@ fn read_value(word: &[u8]) -> Option<i32> {
     })
 }
 
-/// What an answer feeds the chip, stepped to learn where RE is false; none where an input or a
-/// needed read bit is missing or has both signs. All other numbers are never looked at.
+/// What an answer feeds the chip, stepped to learn where it takes a word from the answer; none where
+/// an input or a needed read bit is missing or has both signs. All other numbers are never looked at.
 fn feeds_of_answer(netlist: &Netlist, depth: u32, literals: &[i32]) -> Option<Vec<Feed>> {
     let given: HashSet<i64> = literals.iter().map(|literal| i64::from(*literal)).collect();
     let mut circuit = Circuit::new(netlist);
@@ -73,7 +74,7 @@ fn feeds_of_answer(netlist: &Netlist, depth: u32, literals: &[i32]) -> Option<Ve
         let bits = |wires: std::ops::Range<u32>| wires.map(bit).collect::<Option<Vec<bool>>>();
         let inputs = bits(1..netlist.first_latch())?;
         let mut idle_word = 0;
-        if circuit.takes_idle_word(&inputs) {
+        if circuit.takes_fed_word(&inputs) {
             let read_bits = bits(netlist.first_read_bit()..netlist.first_gate())?;
             for (weight, bit) in read_bits.into_iter().enumerate() {
                 idle_word |= u32::from(bit) << weight;

@@ -125,16 +125,24 @@ fn refused(number: u32, place: u32) -> Result<Claim, Refusal> {
     Err(Refusal { number, place })
 }
 
-/// The words behind the last frame, from the start word and the writes that the wires show.
+/// The words behind the last frame, from the start word and the writes that the wires show; where the
+/// start is unknown, a word never written is what a frame read there, else 0.
 fn words_behind(netlist: &Netlist, run: &Run) -> Vec<u32> {
     let of_address = |address: u32| {
-        let writes = |values: &&Vec<bool>| {
-            value(values, netlist.write_enable) && word(values, netlist.address_codes()) == address
+        let uses = |enable: u32| {
+            move |values: &&Vec<bool>| {
+                value(values, enable) && word(values, netlist.address_codes()) == address
+            }
         };
-        let newest = run.frames.iter().rev().find(writes);
-        newest.map_or(netlist.start_word, |values| {
-            word(values, netlist.write_data_codes())
-        })
+        let newest = run.frames.iter().rev().find(uses(netlist.write_enable));
+        let start = || {
+            if !netlist.has_unknown_start() {
+                return netlist.start_word;
+            }
+            let read = run.frames.iter().find(uses(netlist.read_enable));
+            read.map_or(0, |values| word(values, &netlist.read_data_codes()))
+        };
+        newest.map_or_else(start, |values| word(values, netlist.write_data_codes()))
     };
     (0..1 << netlist.address_width).map(of_address).collect()
 }

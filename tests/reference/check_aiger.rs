@@ -25,6 +25,7 @@ fn row(short: &str, memory: [u32; 3], rooms: [usize; 2], expected: Expected) -> 
     let call = Call {
         text: bytes_of(short),
         memory,
+        unknown_start: 0,
         rooms,
     };
     let name = format!("{} {memory:?} {rooms:?}", short.escape_debug());
@@ -204,7 +205,7 @@ const RICH_MEMORY: [u32; 3] = [2, 2, 2];
 type LineRow = (usize, &'static str, Result<(usize, &'static str), Verdict>);
 
 #[rustfmt::skip]
-const RICH_LINES: [LineRow; 108] = [
+const RICH_LINES: [LineRow; 113] = [
     // Inputs: one even literal above 1 and not above 2M + 1, not defined before.
     (2, "0", Err((11, 2))),
     (2, "1", Err((11, 2))),
@@ -269,7 +270,8 @@ const RICH_LINES: [LineRow; 108] = [
     // Outputs: one number up to 2M + 1. The sheet's places: A 5 and 6, C 9.
     (6, "0", Ok((5, "A 0"))),
     (6, "1", Ok((5, "A 1"))),
-    (6, "2", Ok((5, "A 2"))),
+    (6, "2", Err((17, 6))),
+    (6, "3", Err((17, 6))),
     (6, "4", Err((6, 5))),
     (6, "7", Err((6, 5))),
     (6, "10", Err((6, 5))),
@@ -281,7 +283,11 @@ const RICH_LINES: [LineRow; 108] = [
     (6, "08", Err((11, 6))),
     (6, "", Err((11, 6))),
     (7, "6", Err((6, 6))),
-    (7, "9", Ok((6, "A 5"))),
+    (7, "8", Err((17, 6))),
+    (7, "9", Err((17, 6))),
+    (7, "0", Ok((6, "A 0"))),
+    (7, "1", Ok((6, "A 1"))),
+    (7, "2", Ok((6, "A 2"))),
     (8, "4", Ok((7, "D 6"))),
     (8, "13", Err((13, 8))),
     (9, "12", Err((13, 9))),
@@ -321,7 +327,7 @@ const RICH_LINES: [LineRow; 108] = [
 
 /// Texts with m, n and start word.
 #[rustfmt::skip]
-const MEMORIES: [(&str, [u32; 3], Expected); 25] = [
+const MEMORIES: [(&str, [u32; 3], Expected); 39] = [
     // 12: at least n inputs, exactly m + n + 3 outputs, counted without wrapping.
     (BARE, [1, 0, 0], Err((12, 0))),
     (BARE, [1, 2, 0], Err((12, 0))),
@@ -345,7 +351,24 @@ const MEMORIES: [(&str, [u32; 3], Expected); 25] = [
     (BARE, [1, 1, 2], Err((4, 2))),
     (BARE, [1, 1, u32::MAX], Err((4, 2))),
     // The last n inputs are the read bits: variable 1 is one with n = 2, not with n = 1.
-    ("aag 2 2 0 6 0/2/4/2/2/2/1/1/5/", [2, 1, 0], Ok("N 1 0 0/M 2 1 0/A 2/A 2/D 2/C 1 1 5")),
+    ("aag 2 2 0 6 0/2/4/2/1/2/1/1/5/", [2, 1, 0], Ok("N 1 0 0/M 2 1 0/A 2/A 1/D 2/C 1 1 5")),
+    ("aag 2 2 0 6 0/2/4/2/1/2/1/1/5/", [1, 2, 0], Err((6, 3))),
+    // 17: the first address bit whose wire an earlier one has, inverted or not, before 6 and behind 4.
+    // Constants may repeat.
+    ("aag 2 2 0 6 0/2/4/2/2/2/1/1/5/", [2, 1, 0], Err((17, 4))),
+    ("aag 2 2 0 6 0/2/4/2/3/2/1/1/5/", [2, 1, 0], Err((17, 4))),
+    ("aag 2 2 0 6 0/2/4/2/2/2/1/1/5/", [2, 1, 2], Err((4, 2))),
+    ("aag 2 2 0 6 0/2/4/2/2/6/1/1/5/", [2, 1, 0], Err((11, 6))),
+    ("aag 3 2 0 6 0/2/4/2/2/6/1/1/5/", [2, 1, 0], Err((13, 6))),
+    ("aag 2 2 0 6 0/2/4/4/5/2/1/1/5/", [2, 1, 0], Err((17, 4))),
+    ("aag 2 2 0 6 0/2/4/2/3/2/1/4/5/", [2, 1, 0], Err((17, 4))),
+    ("aag 2 2 0 6 0/2/4/1/1/2/1/1/5/", [2, 1, 0], Ok("N 1 0 0/M 2 1 0/A 1/A 1/D 2/C 1 1 5")),
+    ("aag 3 3 0 8 0/2/4/6/2/4/3/5/2/1/1/5/", [4, 1, 0], Err((17, 5))),
+    ("aag 3 3 0 8 0/2/4/6/0/2/1/3/2/1/1/5/", [4, 1, 0], Err((17, 6))),
+    ("aag 3 3 0 8 0/2/4/6/2/6/7/3/2/1/1/5/", [4, 1, 0], Err((17, 5))),
+    ("aag 4 3 0 7 1/2/4/6/8/2/8/2/1/1/5/8 2 2/", [3, 1, 0], Err((17, 6))),
+    ("aag 4 3 0 7 1/2/4/6/8/2/4/2/1/1/5/8 2 2/", [3, 1, 0],
+        Ok("N 2 0 1/M 3 1 0/G 2 2/A 8/A 2/A 4/D 2/C 1 1 5")),
     ("aag 2 2 0 6 0/2/4/2/2/2/1/1/5/", [1, 2, 0], Err((6, 3))),
     ("aag 2 2 0 6 0/2/4/2/4/2/1/4/5/", [2, 1, 0], Err((6, 4))),
     // 13 before 4, 4 before 6, 12 before both.
@@ -353,6 +376,36 @@ const MEMORIES: [(&str, [u32; 3], Expected); 25] = [
     ("aag 2 2 0 5 0/2/4/4/2/1/1/5/", [1, 1, 2], Err((4, 2))),
     ("aag 3 2 0 5 0/2/4/4/2/1/1/6/", [1, 3, 2], Err((12, 0))),
 ];
+
+/// Texts with m, n and start word, the flag of the start, and the sheet or the verdict.
+#[rustfmt::skip]
+const STARTS: [(&str, [u32; 3], u32, Expected); 18] = [
+    (BARE, [1, 1, 0], 1, Ok(UNKNOWN_FULL_RUN)),
+    // The start word is then not looked at, nor is it in the record.
+    (BARE, [1, 1, 1], 1, Ok(UNKNOWN_FULL_RUN)),
+    (BARE, [1, 1, 2], 1, Ok(UNKNOWN_FULL_RUN)),
+    (BARE, [1, 1, u32::MAX], 1, Ok(UNKNOWN_FULL_RUN)),
+    (RICH_TEXT, [2, 2, 0], 1, Ok(UNKNOWN_RICH)),
+    (RICH_TEXT, [2, 2, 4], 1, Ok(UNKNOWN_RICH)),
+    (RICH_TEXT, [2, 2, 4], 0, Err((4, 2))),
+    // Above 1 it is a size.
+    (BARE, [1, 1, 0], 2, Err((4, 2))),
+    (BARE, [1, 1, 0], u32::MAX, Err((4, 2))),
+    (BARE, [1, 1, 2], 3, Err((4, 2))),
+    // m and n keep their limits, and every test its place in the order.
+    (BARE, [2, 0, 0], 1, Err((4, 2))),
+    (BARE, [0, 2, 0], 1, Err((4, 2))),
+    (BARE, [1, 2, 0], 1, Err((12, 0))),
+    (BARE, [1, 2, 0], 2, Err((12, 0))),
+    ("aag 3 2 0 5 0/2/4/4/2/1/1/6/", [1, 1, 0], 2, Err((13, 8))),
+    ("aag 2 2 0 5 0/2/4/4/2/1/1/5/", [1, 1, 0], 2, Err((4, 2))),
+    ("aag 2 2 0 5 0/2/4/4/2/1/1/5/", [1, 1, 9], 1, Err((6, 3))),
+    ("aag 2 2 0 6 0/2/4/2/2/2/1/1/5/", [2, 1, 9], 1, Err((17, 4))),
+];
+
+/// The sheets of `BARE` and `RICH_TEXT` with an unknown start.
+const UNKNOWN_FULL_RUN: &str = "N 1 0 0/M 1 1/A 0/D 2/C 1 1 5";
+const UNKNOWN_RICH: &str = "N 1 1 1/M 2 2/L 10 0/G 2 7/A 4/A 3/D 10/D 8/C 11 5 9";
 
 /// Lengths of the lent lists. `RICH_TEXT` needs one record in each.
 #[rustfmt::skip]
@@ -441,6 +494,7 @@ fn size_rows() -> Vec<TextRow> {
         let call = Call {
             text: bytes_of(&plain_text(counts, m + n + 3)),
             memory,
+            unknown_start: 0,
             rooms: ROOMY,
         };
         let expected = match expected {
@@ -539,6 +593,7 @@ fn line_rows() -> Vec<TextRow> {
         let call = Call {
             text: bytes_of(&replaced(RICH_TEXT, line, by)),
             memory: RICH_MEMORY,
+            unknown_start: 0,
             rooms: ROOMY,
         };
         let expected = expected.map(|(line, by)| accepted(&replaced(RICH_SHEET, line, by)));
@@ -563,6 +618,14 @@ pub fn text_rows() -> Vec<TextRow> {
     }
     for (short, memory, expected) in MEMORIES {
         rows.push(row(short, memory, ROOMY, expected));
+    }
+    for (short, memory, unknown_start, expected) in STARTS {
+        let (name, call, expected) = row(short, memory, ROOMY, expected);
+        let call = Call {
+            unknown_start,
+            ..call
+        };
+        rows.push((format!("{name}, flag {unknown_start}"), call, expected));
     }
     for (short, memory, rooms, expected) in ROOMS {
         rows.push(row(short, memory, rooms, expected));
@@ -592,27 +655,30 @@ struct Faulty {
 /// A fault and its verdict.
 type FaultRow = (&'static str, fn(&mut Faulty), Verdict);
 
-/// Inputs are lines 2 to 4, latches 5 and 6, address 7 and 8, write data 9 and 10, WE, RE and P 11
-/// to 13, gates 14 and 15; variables 8 and 9 are not defined. In the sheet the address has lines 7
-/// and 8, and WE, RE and P have line 11.
-const FAULTY: &str = "aag 9 3 2 7 2/2/4/6/8 14/10 3/8/3/12/6/13/9/7/12 2 5/14 12 10/";
+/// Inputs are lines 2 to 4, latches 5 and 6, address 7 to 9, write data 10 and 11, WE, RE and P 12 to
+/// 14, gates 15 and 16; variables 8 and 9 are not defined. In the sheet the address has lines 7 to 9,
+/// and WE, RE and P have line 12.
+const FAULTY: &str = "aag 9 3 2 8 2/2/4/6/8 14/10 3/8/3/10/12/6/13/9/7/12 2 5/14 12 10/";
+
+const FAULTY_MEMORY: [u32; 3] = [3, 2, 2];
 
 /// In the order of the tests: the first of several faults gives the verdict.
 #[rustfmt::skip]
-const FAULTS: [FaultRow; 15] = [
+const FAULTS: [FaultRow; 16] = [
     ("header", |it| it.lines[0] += " ", (11, 1)),
     ("second definition", |it| it.lines[2] = "2".to_string(), (11, 3)),
     ("next code above 2M + 1", |it| it.lines[4] = "8 20".to_string(), (11, 5)),
-    ("leading zero", |it| it.lines[12] = "07".to_string(), (11, 13)),
-    ("last gate line", |it| it.lines[14] += "\r", (11, 15)),
+    ("leading zero", |it| it.lines[13] = "07".to_string(), (11, 14)),
+    ("last gate line", |it| it.lines[15] += "\r", (11, 16)),
     ("m", |it| it.memory[0] = 1, (12, 0)),
     ("n", |it| it.memory[1] = 4, (12, 0)),
     ("undefined next code", |it| it.lines[5] = "10 16".to_string(), (13, 6)),
-    ("undefined output", |it| it.lines[8] = "19".to_string(), (13, 9)),
-    ("later operand", |it| it.lines[13] = "12 2 14".to_string(), (13, 14)),
+    ("undefined output", |it| it.lines[9] = "19".to_string(), (13, 10)),
+    ("later operand", |it| it.lines[14] = "12 2 14".to_string(), (13, 15)),
     ("start word", |it| it.memory[2] = 4, (4, 2)),
+    ("address bit 2 tied", |it| it.lines[8] = "9".to_string(), (17, 9)),
     ("loop in address bit 1", |it| it.lines[7] = "4".to_string(), (6, 8)),
-    ("loop in RE", |it| it.lines[11] = "6".to_string(), (6, 11)),
+    ("loop in RE", |it| it.lines[12] = "6".to_string(), (6, 12)),
     ("latch room", |it| it.rooms[0] = 1, (9, 0)),
     ("gate room", |it| it.rooms[1] = 1, (9, 0)),
 ];
@@ -623,7 +689,7 @@ pub fn fault_set_rows() -> Vec<(String, Call, Verdict)> {
     for set in 0..1 << FAULTS.len() {
         let mut faulty = Faulty {
             lines: FAULTY.split('/').map(str::to_string).collect(),
-            memory: RICH_MEMORY,
+            memory: FAULTY_MEMORY,
             rooms: [2, 2],
         };
         let chosen = FAULTS.iter().enumerate();
@@ -634,6 +700,7 @@ pub fn fault_set_rows() -> Vec<(String, Call, Verdict)> {
         let call = Call {
             text: bytes_of(&faulty.lines.join("/")),
             memory: faulty.memory,
+            unknown_start: 0,
             rooms: faulty.rooms,
         };
         let expected = chosen.first().map_or(ACCEPTED, |(_, fault)| fault.2);
@@ -651,7 +718,7 @@ pub fn several_faults(tally: &mut Tally) {
 
 /// The sheet that one would retype from a text, in short form: the lines N and M, and the rest. A
 /// literal's code is found by looking for the line that defines its variable.
-fn retyped(text: &Text, [m, n, word]: [u32; 3]) -> (String, String) {
+fn retyped(text: &Text, [m, n, word]: [u32; 3], unknown_start: bool) -> (String, String) {
     let inputs = text.inputs.len() - n as usize;
     let (latches, gates) = (text.latches.len(), text.gates.len());
     let wire = |variable: u32| {
@@ -668,7 +735,12 @@ fn retyped(text: &Text, [m, n, word]: [u32; 3]) -> (String, String) {
         }
     };
     let code = |literal: u32| 2 * wire(literal / 2) as u32 + literal % 2;
-    let head = format!("N {inputs} {latches} {gates}/M {m} {n} {word}");
+    let start = if unknown_start {
+        String::new()
+    } else {
+        format!(" {word}")
+    };
+    let head = format!("N {inputs} {latches} {gates}/M {m} {n}{start}");
     let mut body = String::new();
     for [_, next] in &text.latches {
         body += &format!("/L {} 0", code(*next));
@@ -750,8 +822,19 @@ fn wrong_answer(random: &mut Random, call: &Call) -> Option<&'static str> {
     if let Some(line) = first_undefined_line(&text) {
         return (found != refused(UNDEFINED, line)).then_some("13");
     }
-    let (head, body) = retyped(&text, call.memory);
+    let (head, body) = retyped(&text, call.memory, call.unknown_start == 1);
     let sizes = read_sheet(&expand(&head), 0, 0);
+    if call.unknown_start > 1 {
+        // No sheet says this: line 1 comes before it, and it is a fault of line 2.
+        let line = match sizes {
+            Err(Refusal {
+                number: SIZE,
+                place: 1,
+            }) => 1,
+            _ => 2,
+        };
+        return (found != refused(SIZE, line)).then_some("flag of the start");
+    }
     let sheet = match sizes {
         Err(Refusal { number: SIZE, .. }) => sizes,
         _ => read_sheet(&expand(&(head + &body)), call.rooms[0], call.rooms[1]),
@@ -884,13 +967,14 @@ pub fn small_calls() -> Vec<Call> {
     let texts = [
         (BARE, SMALL),
         (RICH_TEXT, RICH_MEMORY),
-        (FAULTY, RICH_MEMORY),
+        (FAULTY, FAULTY_MEMORY),
         ("aag 5 2 2 5 1/2/4/6 8/8 11/6/10/11/9/10/10 5 0/", SMALL),
         ("aag 4 2 0 5 2/2/4/2/6/8/1/9/8 4 2/6 2 9/c", SMALL),
     ];
     let call = |(short, memory)| Call {
         text: bytes_of(short),
         memory,
+        unknown_start: 0,
         rooms: ROOMY,
     };
     texts.map(call).to_vec()
@@ -909,7 +993,7 @@ pub fn every_damage(call: &Call) -> Vec<Call> {
 /// Small texts damaged at every byte and in every line, and random ones with one fault or two.
 pub fn damaged_texts(tally: &mut Tally) {
     let mut random = Random::new(13);
-    let mut counts = [0; 14];
+    let mut counts = [0; 18];
     let mut examine = |tally: &mut Tally, name: &str, call: &Call| {
         counts[verdict(call.import()).0 as usize] += 1;
         let wrong = wrong_answer(&mut random, call);
@@ -927,16 +1011,16 @@ pub fn damaged_texts(tally: &mut Tally) {
         let call = damaged_call(&mut others);
         examine(tally, "random", &call);
     }
-    for number in [0, 4, 6, 9, 11, 12, 13] {
+    for number in [0, 4, 6, 9, 11, 12, 13, 17] {
         tally.check(("occurrences of", number), counts[number] >= 20);
     }
     tally.equal(
         "no other number",
         counts.iter().filter(|it| **it > 0).count(),
-        7,
+        8,
     );
     tally.remark = format!(
-        " (accepted {}, 4: {}, 6: {}, 9: {}, 11: {}, 12: {}, 13: {})",
-        counts[0], counts[4], counts[6], counts[9], counts[11], counts[12], counts[13]
+        " (accepted {}, 4: {}, 6: {}, 9: {}, 11: {}, 12: {}, 13: {}, 17: {})",
+        counts[0], counts[4], counts[6], counts[9], counts[11], counts[12], counts[13], counts[17]
     );
 }

@@ -1,4 +1,4 @@
-//! Answers of K2 and calls with them, with their outcomes written down by hand.
+//! Answers of K2 and calls with them, with their outcomes written down by hand; unknown starts by K7.
 
 use super::answer::{read_answer, replay, Answer, Claim};
 use super::answer_calls::{marks, Call, Outcome};
@@ -354,11 +354,20 @@ pub const LATCHED: &str = "N 0 1 0/M 1 1 0/L 3 0/A 0/D 0/C 0 2 4";
 /// No input, and it reads the start word in every frame: no number is needed.
 pub const BARE: &str = "N 0 0 0/M 1 1 0/A 0/D 0/C 0 1 2";
 
+/// An unknown start. Wires: inputs 1 to 4, which are address, WE, RE and write data, and the read bit,
+/// which is the property. Variables of the frames: 2 to 6, 7 to 11, 17 to 21, the read bits being 6, 11
+/// and 21.
+pub const UNKNOWN: &str = "N 4 0 0/M 1 1/A 2/D 8/C 4 6 10";
+
+/// The same with two data bits: read bits 5 and 6, of which the second is the property, and both are
+/// written inverted. Variables of the frames: 2 to 7 and 8 to 13, the read bits being 6, 7 and 12, 13.
+pub const UNKNOWN_WIDE: &str = "N 4 0 0/M 1 2/A 2/D 11/D 13/C 4 6 12";
+
 /// Depth, sheet, the numbers of the answer, and what is printed (`/` for a line feed) or the
 /// refusal's number.
 type Replay = (u32, &'static str, &'static str, Result<&'static str, u32>);
 
-const REPLAYS: [Replay; 67] = [
+const REPLAYS: [Replay; 101] = [
     // The full run: variables 2 and 3 in frame 0, 4 and 5 in frame 1, 11 and 12 in frame 2.
     (1, FULL_RUN, "2 4 0", Ok("1/10/11/")),
     (1, FULL_RUN, "2 -4 0", Ok("1/10/01/")),
@@ -448,6 +457,94 @@ const REPLAYS: [Replay; 67] = [
     (0, BARE, "0", Ok("0/0/")),
     (1, BARE, "0", Ok("0/0/0/")),
     (1, BARE, "1 -2 2 3 0", Ok("0/0/0/")),
+    // Unknown start: the word read first is the answer's, and needed.
+    (0, UNKNOWN, "-2 -3 4 -5 -6 0", Ok("0/00100/")),
+    (0, UNKNOWN, "2 -3 4 5 -6 0", Ok("0/10110/")),
+    (0, UNKNOWN, "-2 -3 4 -5 6 0", Err(15)),
+    (0, UNKNOWN, "-2 -3 4 -5 0", Err(14)),
+    (0, UNKNOWN, "-2 -3 4 -5 6 -6 0", Err(14)),
+    // Idle in frame 0: the idle word, needed as ever.
+    (0, UNKNOWN, "-2 -3 -4 -5 -6 0", Ok("0/00000/")),
+    (0, UNKNOWN, "-2 -3 -4 -5 6 0", Err(15)),
+    (0, UNKNOWN, "-2 -3 -4 -5 0", Err(14)),
+    // Read and written in one frame: the read comes first.
+    (0, UNKNOWN, "2 3 4 5 -6 0", Ok("0/11110/")),
+    (0, UNKNOWN, "2 3 4 5 0", Err(14)),
+    (
+        1,
+        UNKNOWN,
+        "2 3 4 -5 6 7 -8 9 -10 11 0",
+        Ok("1/11101/10100/"),
+    ),
+    (1, UNKNOWN, "2 3 4 -5 6 7 -8 9 -10 0", Ok("1/11101/10100/")),
+    // Read again: the same word, whatever the answer says there.
+    (1, UNKNOWN, "-2 -3 4 -5 6 -7 -8 9 -10 -11 0", Err(15)),
+    (1, UNKNOWN, "-2 -3 4 -5 6 -7 -8 9 -10 0", Err(15)),
+    (1, UNKNOWN, "-2 -3 4 -5 6 -7 -8 9 -10 11 -11 0", Err(15)),
+    (
+        1,
+        UNKNOWN,
+        "-2 -3 4 -5 -6 -7 -8 9 -10 11 0",
+        Ok("0/00100/00100/"),
+    ),
+    // Another address is another word, and needed.
+    (
+        1,
+        UNKNOWN,
+        "-2 -3 4 -5 6 7 -8 9 -10 -11 0",
+        Ok("1/00101/10100/"),
+    ),
+    (1, UNKNOWN, "-2 -3 4 -5 6 7 -8 9 -10 11 0", Err(15)),
+    (1, UNKNOWN, "-2 -3 4 -5 6 7 -8 9 -10 0", Err(14)),
+    (1, UNKNOWN, "-2 -3 4 -5 6 7 -8 9 -10 11 -11 0", Err(14)),
+    // Written before it is read: the write's word, and nothing is needed.
+    (1, UNKNOWN, "2 3 -4 5 6 7 -8 9 -10 0", Err(15)),
+    (1, UNKNOWN, "2 3 -4 5 6 7 -8 9 -10 -11 0", Err(15)),
+    (
+        1,
+        UNKNOWN,
+        "2 3 -4 -5 6 7 -8 9 -10 11 0",
+        Ok("1/11001/10100/"),
+    ),
+    (1, UNKNOWN, "2 3 -4 -5 7 -8 9 -10 11 0", Err(14)),
+    // An idle frame reads no word: its address is read first later, and there it is needed.
+    (
+        2,
+        UNKNOWN,
+        "-2 -3 4 -5 6 7 -8 -9 -10 17 -18 19 -20 -21 0",
+        Ok("2/00101/10001/10100/"),
+    ),
+    (
+        2,
+        UNKNOWN,
+        "-2 -3 4 -5 6 7 -8 -9 -10 -11 17 -18 19 -20 0",
+        Err(14),
+    ),
+    (
+        2,
+        UNKNOWN,
+        "-2 -3 4 -5 6 7 -8 -9 -10 -17 -18 19 -20 -21 0",
+        Err(15),
+    ),
+    // A word that an idle frame 0 shows is in no address.
+    (
+        1,
+        UNKNOWN,
+        "-2 -3 -4 -5 6 -7 -8 9 -10 -11 0",
+        Ok("1/00001/00100/"),
+    ),
+    (1, UNKNOWN, "-2 -3 -4 -5 6 -7 -8 9 -10 0", Err(14)),
+    // All bits of a word are needed, each with its weight.
+    (0, UNKNOWN_WIDE, "-2 -3 4 -5 6 -7 0", Ok("0/001010/")),
+    (0, UNKNOWN_WIDE, "-2 -3 4 -5 6 7 0", Err(15)),
+    (0, UNKNOWN_WIDE, "-2 -3 4 -5 -7 0", Err(14)),
+    (0, UNKNOWN_WIDE, "-2 -3 4 -5 6 0", Err(14)),
+    (
+        1,
+        UNKNOWN_WIDE,
+        "-2 3 4 -5 -6 7 -8 -9 10 -11 0",
+        Ok("1/011001/001010/"),
+    ),
 ];
 
 /// A name, standard input, the content of `answer`, and what the program prints.
@@ -540,7 +637,7 @@ fn long_rows() -> Vec<ReplayRow> {
 }
 
 /// By the table's rows too, what the library leaves in the memory: the words are known by hand.
-const MEMORIES: [(u32, &str, &str, &[u32]); 13] = [
+const MEMORIES: [(u32, &str, &str, &[u32]); 26] = [
     (1, FULL_RUN, "2 4 0", &[1, 0]),
     (1, FULL_RUN, "2 -4 0", &[0, 0]),
     (1, FULL_RUN, "-2 4 0", &[1, 0]),
@@ -554,7 +651,39 @@ const MEMORIES: [(u32, &str, &str, &[u32]); 13] = [
     (2, IDLE, "-2 3 4 -5 0", &[0, 0]),
     (2, IDLE, "0 0", &[0, 0]),
     (1, BARE, "0", &[0, 0]),
+    // Unknown start: what was read or written, and 0 where nothing was.
+    (0, UNKNOWN, "-2 -3 4 -5 6 0", &[1, 0]),
+    (0, UNKNOWN, "2 -3 4 -5 6 0", &[0, 1]),
+    (0, UNKNOWN, "2 -3 4 5 -6 0", &[0, 0]),
+    (0, UNKNOWN, "-2 -3 -4 -5 6 0", &[0, 0]),
+    (0, UNKNOWN, "2 3 4 -5 6 0", &[0, 0]),
+    (0, UNKNOWN, "2 3 4 5 -6 0", &[0, 1]),
+    (0, UNKNOWN, "2 3 4 5 0", &[0, 0]),
+    (1, UNKNOWN, "-2 -3 4 -5 6 7 -8 9 -10 -11 0", &[1, 0]),
+    (1, UNKNOWN, "-2 -3 4 -5 6 7 -8 9 -10 11 0", &[1, 1]),
+    (1, UNKNOWN, "-2 -3 4 -5 6 7 -8 9 -10 0", &[0, 0]),
+    (1, UNKNOWN, "2 3 -4 5 6 7 -8 9 -10 0", &[0, 1]),
+    (0, UNKNOWN_WIDE, "2 -3 4 -5 -6 7 0", &[0, 2]),
+    (
+        1,
+        UNKNOWN_WIDE,
+        "-2 3 4 -5 -6 7 8 -9 10 -11 12 13 0",
+        &[1, 3],
+    ),
 ];
+
+/// The calls of these rows, each with what the memory holds afterwards.
+pub fn memory_rows() -> Vec<(Call, Vec<u32>)> {
+    let mut rows = Vec::new();
+    for (depth, sheet, numbers, words) in MEMORIES {
+        for more in [[0, 0], [1, 0], [0, 1], [7, 9]] {
+            let call = Call::new(&accepted(sheet), depth, satisfiable(numbers), more);
+            let memory = [words, &call.memory[words.len()..]].concat();
+            rows.push((call, memory));
+        }
+    }
+    rows
+}
 
 pub fn replays(tally: &mut Tally) {
     for (name, input, answer, printed) in replay_rows() {
@@ -562,27 +691,22 @@ pub fn replays(tally: &mut Tally) {
         let expected = String::from_utf8(printed).expect("ASCII");
         tally.equal(name, found, expected);
     }
-    for (depth, sheet, numbers, words) in MEMORIES {
-        let netlist = accepted(sheet);
-        for more in [[0, 0], [1, 0], [0, 1], [7, 9]] {
-            let call = Call::new(&netlist, depth, satisfiable(numbers), more);
-            let outcome = call.outcome();
-            let behind = &call.memory[words.len()..];
-            let name = (sheet, depth, numbers, more);
-            tally.equal(name, outcome.memory, [words, behind].concat());
-            let printed = replay(&call.input(), &call.answer);
-            tally.equal(name, printed, call.outcome().printed());
-        }
+    for (index, (call, memory)) in memory_rows().into_iter().enumerate() {
+        let outcome = call.outcome();
+        tally.equal((index, "memory"), &outcome.memory, &memory);
+        let printed = replay(&call.input(), &call.answer);
+        tally.equal((index, "printed"), printed, outcome.printed());
     }
 }
 
 /// A fault of the record of `IDLE`, and its verdict.
 type RecordFault = (fn(&mut Netlist), (u32, u32));
 
-const RECORD_FAULTS: [RecordFault; 7] = [
+const RECORD_FAULTS: [RecordFault; 8] = [
     (|_| (), ACCEPTED),
     (|record| record.inputs = 601, (SIZE, 1)),
     (|record| record.start_word = 4, (SIZE, 2)),
+    (|record| record.unknown_start = 2, (SIZE, 2)),
     (|record| record.address_width = 0, (SIZE, 2)),
     (|record| record.latch_count = 1, (OUT_OF_ORDER, 0)),
     (|record| record.property = 8, (CODE, 6)),

@@ -1,5 +1,5 @@
 //! The rules' own examples and figures (RULES P8, P10, F1 to F3, F7 to F10), as K3 and K4 have
-//! them.
+//! them, and the same sheets with an unknown start (K7).
 
 use super::agreement::compare;
 use super::circuit::{Feed, Run};
@@ -130,6 +130,116 @@ const MIXED_TEXT: [&str; 10] = [
     "-42 31 0\n-42 -32 0\n42 43 49 0\n",
 ];
 
+/// The sheet of the full run with an unknown start.
+pub const UNKNOWN_FULL_RUN: &str = "N 1 0 0/M 1 1/A 0/D 2/C 1 1 5";
+
+/// Its text at depth 1. RE is always true, so Z of frame 0 is.
+const UNKNOWN_FULL_RUN_TEXT: &str = "\
+p cnf 10 15
+1 0
+7 0
+-7 6 0
+-8 6 0
+8 -6 0
+-9 -8 0
+9 8 0
+-10 8 0
+10 -8 0
+-10 -5 2 0
+-10 5 -2 0
+-6 -9 -5 3 0
+-6 -9 5 -3 0
+9 10 0
+3 5 0
+";
+
+/// `RICH` with an unknown start.
+pub const UNKNOWN_RICH: &str = "N 1 1 1/M 2 2/L 10 1/G 2 7/A 4/A 3/D 10/D 8/C 11 5 9";
+
+/// Its text at depth 2. Z of the frames is -3 (RE), 16 and 27.
+const UNKNOWN_RICH_TEXT: [&str; 11] = [
+    "p cnf 34 105\n",
+    // Frame 0: wires, closing.
+    "1 0\n3 0\n-6 2 0\n-6 -4 0\n6 -2 4 0\n",
+    "3 -3 0\n",
+    // Frame 1: wires, pair (0, 1), closing.
+    "-8 6 0\n8 -6 0\n-11 7 0\n-11 -9 0\n11 -7 9 0\n",
+    "-12 3 -8 0\n-12 -3 8 0\n13 3 8 0\n13 -3 -8 0\n\
+     -12 -2 7 0\n-12 2 -7 0\n14 -2 -7 0\n14 2 7 0\n-13 -14 12 0\n\
+     -15 12 0\n-15 -6 0\n15 -12 6 0\n\
+     -16 -15 0\n-16 -8 0\n16 15 8 0\n\
+     -17 15 0\n-17 -8 0\n17 -15 8 0\n\
+     -17 -9 6 0\n-17 9 -6 0\n-17 -10 5 0\n-17 10 -5 0\n\
+     -12 3 -16 -9 4 0\n-12 3 -16 9 -4 0\n-12 3 -16 -10 5 0\n-12 3 -16 10 -5 0\n",
+    "-8 -9 4 0\n-8 9 -4 0\n-8 -10 5 0\n-8 10 -5 0\n8 16 17 0\n",
+    // Frame 2: wires, pair (1, 2), pair (0, 2), closing.
+    "-19 11 0\n19 -11 0\n-22 18 0\n-22 -20 0\n22 -18 20 0\n",
+    "-29 8 -19 0\n-29 -8 19 0\n30 8 19 0\n30 -8 -19 0\n\
+     -29 -7 18 0\n-29 7 -18 0\n31 -7 -18 0\n31 7 18 0\n-30 -31 29 0\n\
+     -32 29 0\n-32 -11 0\n32 -29 11 0\n\
+     -33 -32 0\n-33 -19 0\n33 32 19 0\n\
+     -34 32 0\n-34 -19 0\n34 -32 19 0\n\
+     -34 -20 11 0\n-34 20 -11 0\n-34 -21 10 0\n-34 21 -10 0\n\
+     -29 -16 -27 -20 9 0\n-29 -16 -27 20 -9 0\n-29 -16 -27 -21 10 0\n-29 -16 -27 21 -10 0\n",
+    "-23 3 -19 0\n-23 -3 19 0\n24 3 19 0\n24 -3 -19 0\n\
+     -23 -2 18 0\n-23 2 -18 0\n25 -2 -18 0\n25 2 18 0\n-24 -25 23 0\n\
+     -26 23 0\n-26 -6 0\n26 -23 6 0\n\
+     -27 -26 0\n-27 33 0\n27 26 -33 0\n\
+     -28 26 0\n-28 33 0\n28 -26 -33 0\n\
+     -28 -20 6 0\n-28 20 -6 0\n-28 -21 5 0\n-28 21 -5 0\n\
+     -23 3 -27 -20 4 0\n-23 3 -27 20 -4 0\n-23 3 -27 -21 5 0\n-23 3 -27 21 -5 0\n",
+    "-19 -20 9 0\n-19 20 -9 0\n-19 -21 10 0\n-19 21 -10 0\n19 27 28 34 0\n",
+    // Property.
+    "5 10 21 0\n",
+];
+
+/// `CONSTANT` with an unknown start: RE is never true, so frame 0 has nothing to agree on. At depth 2
+/// the read bits are 2, 3 and 9, the pair (0, 1) is 4 to 8, (0, 2) is 10 to 14, (1, 2) is 15 to 19.
+const UNKNOWN_CONSTANT: &str = "N 0 0 0/M 1 1/A 1/D 0/C 0 0 1";
+
+const UNKNOWN_CONSTANT_TEXT: [&str; 7] = [
+    "p cnf 19 37\n1 0\n",
+    // Frame 1: pair (0, 1), closing.
+    "5 0\n-5 4 0\n-6 4 0\n-6 0\n-7 -6 0\n-7 0\n-8 6 0\n-8 0\n-8 -3 0\n",
+    "-3 2 0\n3 -2 0\n",
+    // Frame 2: pair (1, 2), pair (0, 2), closing.
+    "16 0\n-16 15 0\n-17 15 0\n-17 0\n-18 -17 0\n-18 0\n-19 17 0\n-19 0\n-19 -9 0\n\
+     -15 -7 -13 -9 3 0\n-15 -7 -13 9 -3 0\n",
+    "11 0\n-11 10 0\n-12 10 0\n-12 0\n-13 -12 0\n-13 18 0\n13 12 -18 0\n\
+     -14 12 0\n-14 18 0\n14 -12 -18 0\n-14 -9 0\n",
+    "-9 3 0\n9 -3 0\n",
+    "-1 0\n",
+];
+
+/// `MIXED` with an unknown start. Z of the frames is true, 26 and 42.
+const UNKNOWN_MIXED: &str = "N 1 2 5/M 2 2/L 1 0/L 0 1/G 1 1/G 0 0/G 1 2/G 3 0/G 0 1/\
+                             A 1/A 3/D 1/D 4/C 2 1 0";
+
+const UNKNOWN_MIXED_TEXT: [&str; 9] = [
+    "p cnf 49 95\n",
+    // Frame 0: wires.
+    "1 0\n-3 0\n4 0\n7 0\n-8 0\n-8 0\n-9 2 0\n9 -2 0\n-10 -2 0\n-10 0\n-11 0\n",
+    // Frame 1: wires, pair (0, 1), closing.
+    "13 0\n-14 0\n17 0\n-18 0\n-18 0\n-19 12 0\n19 -12 0\n-20 -12 0\n-20 0\n-21 0\n",
+    "23 0\n-22 -2 12 0\n-22 2 -12 0\n24 -2 -12 0\n24 2 12 0\n-23 -24 22 0\n\
+     -25 22 0\n-25 2 0\n25 -22 -2 0\n-26 -25 0\n26 25 0\n-27 25 0\n27 -25 0\n\
+     -27 15 0\n-27 -16 3 0\n-27 16 -3 0\n\
+     -22 -26 -15 5 0\n-22 -26 15 -5 0\n-22 -26 -16 6 0\n-22 -26 16 -6 0\n",
+    "26 27 0\n",
+    // Frame 2: wires, pair (1, 2), pair (0, 2), closing.
+    "29 0\n-30 0\n33 0\n-34 0\n-34 0\n-35 28 0\n35 -28 0\n-36 -28 0\n-36 0\n-37 0\n",
+    "45 0\n-44 -12 28 0\n-44 12 -28 0\n46 -12 -28 0\n46 12 28 0\n-45 -46 44 0\n\
+     -47 44 0\n-47 12 0\n47 -44 -12 0\n-48 -47 0\n48 47 0\n-49 47 0\n49 -47 0\n\
+     -49 31 0\n-49 -32 13 0\n-49 32 -13 0\n\
+     -44 -26 -42 -31 15 0\n-44 -26 -42 31 -15 0\n-44 -26 -42 -32 16 0\n-44 -26 -42 32 -16 0\n",
+    "39 0\n-38 -2 28 0\n-38 2 -28 0\n40 -2 -28 0\n40 2 28 0\n-39 -40 38 0\n\
+     -41 38 0\n-41 2 0\n41 -38 -2 0\n\
+     -42 -41 0\n-42 48 0\n42 41 -48 0\n-43 41 0\n-43 48 0\n43 -41 -48 0\n\
+     -43 31 0\n-43 -32 3 0\n-43 32 -3 0\n\
+     -38 -42 -31 5 0\n-38 -42 31 -5 0\n-38 -42 -32 6 0\n-38 -42 32 -6 0\n",
+    "42 43 49 0\n",
+];
+
 /// The input of `frames`: a depth and the sheet of a short form.
 pub fn input(depth: u32, short: &str) -> Vec<u8> {
     [write_depth(depth), expand(short)].concat()
@@ -161,8 +271,9 @@ pub fn of_sizes(counts: [u32; 3], widths: [u32; 2]) -> Netlist {
     }
 }
 
-/// A netlist of given sizes in which every code is that of wire 1, so none is a constant. Resets
-/// and start bits are 0. It is accepted unless wire 1 is a read bit.
+/// A netlist of given sizes in which no code is a constant: it is that of wire 1, but each address bit
+/// has the next wire that no read bit reaches, as long as there is one. Resets and start bits are 0. It
+/// is accepted unless wire 1 is a read bit or there are fewer such wires than address bits.
 pub fn without_constants(counts: [u32; 3], widths: [u32; 2]) -> Netlist {
     let mut netlist = of_sizes(counts, widths);
     let code = 2;
@@ -170,7 +281,15 @@ pub fn without_constants(counts: [u32; 3], widths: [u32; 2]) -> Netlist {
     for gate in &mut netlist.gates {
         (gate.left, gate.right) = (code, code);
     }
-    netlist.address[..widths[0] as usize].fill(code);
+    let [inputs, latches, gates] = counts;
+    let behind = netlist.first_gate()..netlist.first_gate() + gates;
+    let own_wires = (1..=inputs + latches).chain(behind);
+    for (entry, wire) in netlist.address[..widths[0] as usize]
+        .iter_mut()
+        .zip(own_wires)
+    {
+        *entry = 2 * wire;
+    }
     netlist.write_data[..widths[1] as usize].fill(code);
     netlist.write_enable = code;
     netlist.read_enable = code;
@@ -179,13 +298,17 @@ pub fn without_constants(counts: [u32; 3], widths: [u32; 2]) -> Netlist {
 }
 
 /// Depth, sheet and text of the runs that were worked out by hand or stand in the rules.
-pub fn full_run_rows() -> [(u32, &'static str, String); 5] {
+pub fn full_run_rows() -> [(u32, &'static str, String); 9] {
     [
         (1, FULL_RUN, FULL_RUN_TEXT.to_string()),
         (0, FULL_RUN, DEPTH_0_TEXT.to_string()),
         (2, RICH, RICH_TEXT.concat()),
         (1, CONSTANT, CONSTANT_TEXT.concat()),
         (2, MIXED, MIXED_TEXT.concat()),
+        (1, UNKNOWN_FULL_RUN, UNKNOWN_FULL_RUN_TEXT.to_string()),
+        (2, UNKNOWN_RICH, UNKNOWN_RICH_TEXT.concat()),
+        (2, UNKNOWN_CONSTANT, UNKNOWN_CONSTANT_TEXT.concat()),
+        (2, UNKNOWN_MIXED, UNKNOWN_MIXED_TEXT.concat()),
     ]
 }
 
@@ -193,6 +316,14 @@ pub fn full_runs(tally: &mut Tally) {
     for (depth, short, text) in full_run_rows() {
         let printed = String::from_utf8(frames(&input(depth, short))).expect("ASCII");
         tally.equal((short, depth), printed, text);
+    }
+    // The unknown word breaks the property in frame 0, or the input of frame 0 does in frame 1; the
+    // other inputs are free.
+    let netlist = accepted(UNKNOWN_FULL_RUN);
+    for (depth, models) in [(0, 2), (1, 6)] {
+        let found = compare(&netlist, depth, Fault::None);
+        tally.check("demand 3 of the full run, unknown start", found.holds());
+        tally.equal("assignments, unknown start", found.models, models);
     }
     let netlist = accepted(FULL_RUN);
     for (first, second, first_break) in [(true, false, Some(1)), (false, true, None)] {
@@ -243,6 +374,68 @@ const OTHER_IDLE_FRAMES: [([u8; 5], u32, bool); 3] = [
     ([0, 0, 0, 0, 1], 1, false), // The word written in frame 0.
 ];
 
+/// The same chip with an unknown start: inputs, fed word and read bit as above. The fed word counts
+/// where a word is read first, if no frame wrote it.
+const UNKNOWN_MEMORY: &str = "N 5 2 0/M 2 1/L 14 1/L 12 0/A 2/A 4/D 6/C 8 10 16";
+
+const UNKNOWN_FRAMES: [([u8; 5], u32, bool); 11] = [
+    ([1, 0, 0, 1, 1], 1, true), // Read first: the fed word, and the write is done behind the read.
+    ([1, 0, 1, 0, 1], 1, false), // The word written in frame 0.
+    ([0, 1, 1, 0, 1], 0, false), // Another address, read first.
+    ([0, 1, 1, 0, 1], 1, false), // Read again: the same word.
+    ([0, 0, 1, 1, 0], 1, false), // RE is false: the word held; address 0 is written unread.
+    ([1, 1, 0, 0, 0], 1, false), // RE is false: the word held; address 3 is neither read nor written.
+    ([0, 0, 0, 0, 1], 0, true),  // The word written in frame 4, not the fed one.
+    ([1, 1, 0, 0, 1], 1, true),  // Address 3 is read first.
+    ([0, 1, 1, 1, 1], 1, false), // Address 2 again, and now it is written.
+    ([0, 1, 0, 0, 1], 0, true),  // The word written in frame 8.
+    ([1, 1, 0, 0, 1], 0, true),  // Address 3 again.
+];
+
+/// Its starting memory, as far as the run shows it; address 0 is written before it is read.
+const UNKNOWN_STARTS: [u32; 4] = [0, 1, 0, 1];
+
+/// The words behind it.
+const UNKNOWN_ENDS: [u32; 4] = [1, 0, 1, 1];
+
+pub fn unknown_memory_run(tally: &mut Tally) {
+    let netlist = accepted(UNKNOWN_MEMORY);
+    let feeds: Vec<Feed> = UNKNOWN_FRAMES.iter().map(feed_of).collect();
+    let run = Run::new(&netlist, &feeds);
+    for (frame, (_, _, read_bit)) in UNKNOWN_FRAMES.iter().enumerate() {
+        tally.equal(("frame", frame), run.frames[frame][8], *read_bit);
+    }
+    tally.equal("first frame that breaks", run.first_break, Some(1));
+    tally.equal("words", run.words.as_slice(), &UNKNOWN_ENDS[..]);
+    for first_word in [0, 1] {
+        let mut memory = UNKNOWN_STARTS;
+        memory[0] = first_word;
+        let whole = Run::from_memory(&netlist, &memory, &feeds);
+        tally.check("run from the whole memory", whole.frames == run.frames);
+        tally.equal("its words", whole.words.as_slice(), &UNKNOWN_ENDS[..]);
+    }
+    for (address, word) in [(1, 0), (2, 1), (3, 0)] {
+        let mut memory = UNKNOWN_STARTS;
+        memory[address] = word;
+        let whole = Run::from_memory(&netlist, &memory, &feeds);
+        tally.check("run from another memory", whole.frames != run.frames);
+    }
+    // Words that are neither read nor written end as 0.
+    let run = Run::new(&netlist, &feeds[..3]);
+    tally.equal("words after frame 2", run.words, vec![0, 0, 0, 0]);
+    let run = Run::new(&netlist, &feeds[..1]);
+    tally.equal("words after frame 0", run.words, vec![0, 0, 0, 0]);
+    let run = Run::new(&netlist, &feeds[7..8]);
+    tally.equal("words after frame 7 alone", run.words, vec![0, 0, 0, 1]);
+}
+
+fn feed_of((inputs, idle_word, _): &([u8; 5], u32, bool)) -> Feed {
+    Feed {
+        inputs: inputs.map(|bit| bit == 1).to_vec(),
+        idle_word: *idle_word,
+    }
+}
+
 pub fn memory_run(tally: &mut Tally) {
     let netlist = accepted(MEMORY);
     for (frames, first_break) in [
@@ -250,13 +443,7 @@ pub fn memory_run(tally: &mut Tally) {
         (&IDLE_FRAMES, 0),
         (&OTHER_IDLE_FRAMES, 2),
     ] {
-        let feeds: Vec<Feed> = frames
-            .iter()
-            .map(|(inputs, idle_word, _)| Feed {
-                inputs: inputs.map(|bit| bit == 1).to_vec(),
-                idle_word: *idle_word,
-            })
-            .collect();
+        let feeds: Vec<Feed> = frames.iter().map(feed_of).collect();
         let run = Run::new(&netlist, &feeds);
         for (frame, (_, _, read_bit)) in frames.iter().enumerate() {
             let even = frame % 2 == 0;
@@ -332,14 +519,19 @@ pub fn largest_sizes(tally: &mut Tally) {
         tally.equal("variables fit", variables_fit(variables), fit);
     }
 
-    // Constants only take away, and the address needs a wire that no read bit reaches: a latch
-    // has the most numbers, a gate of constants the most clauses.
+    // Constants only take away, and the address needs wires that no read bit reaches: with a latch
+    // there are the most numbers, with a gate of constants the most clauses.
     let widest = without_constants([0, 1, 567], [12, 32]);
     let mut most_clauses = without_constants([0, 0, 568], [12, 32]);
     most_clauses.gates[0] = Gate { left: 0, right: 0 };
     let clean = 2 * most_clauses.first_gate();
-    most_clauses.address.fill(clean);
+    for gate in &mut most_clauses.gates[1..12] {
+        (gate.left, gate.right) = (clean, clean);
+    }
     most_clauses.read_enable = clean;
+    let [mut widest_unknown, mut most_unknown] = [widest.clone(), most_clauses.clone()];
+    widest_unknown.unknown_start = 1;
+    most_unknown.unknown_start = 1;
     let mut most_gates = of_sizes([0, 0, 599], [1, 1]);
     most_gates.gates.fill(Gate { left: 2, right: 2 });
     let needs = [
@@ -349,20 +541,31 @@ pub fn largest_sizes(tally: &mut Tally) {
         (&widest, Group::Closing(0), 99),
         (&widest, Group::Closing(255), 610),
         (&widest, Group::Property, 257),
+        (&widest_unknown, Group::Pair(254, 255), 876),
+        (&widest_unknown, Group::Pair(0, 255), 876),
+        (&widest_unknown, Group::Closing(0), 3),
+        (&widest_unknown, Group::Closing(255), 514),
     ];
     for (netlist, group, need) in needs {
         let written = group_call(netlist, 255, group, need).map(|numbers| numbers.len());
         tally.equal(group, written, Ok(need));
     }
-    for (netlist, clauses) in [(&widest, 4_442_817), (&most_clauses, 4_442_818)] {
+    for (netlist, clauses) in [
+        (&widest, 4_442_817),
+        (&most_clauses, 4_442_818),
+        (&widest_unknown, 6_523_585),
+        (&most_unknown, 6_523_586),
+    ] {
         let expected = Heading {
             variables: 675_841,
             clauses,
         };
         tally.equal("largest heading", heading(netlist, 255), Ok(expected));
     }
-    let formula = Formula::new(&widest, 255, Fault::None);
-    let groups = formula.groups();
-    let numbers: usize = groups.iter().map(|group| formula.group(*group).len()).sum();
-    tally.equal("numbers at the largest sizes", numbers, 17_635_455);
+    for (netlist, expected) in [(&widest, 17_635_455), (&widest_unknown, 30_144_639)] {
+        let formula = Formula::new(netlist, 255, Fault::None);
+        let groups = formula.groups();
+        let numbers: usize = groups.iter().map(|group| formula.group(*group).len()).sum();
+        tally.equal("numbers at the largest sizes", numbers, expected);
+    }
 }

@@ -2,7 +2,10 @@
 
 use std::collections::HashSet;
 
-use super::agreement::{compare, propagation_follows_run};
+use super::agreement::{
+    breaking_runs, compare, compare_with, first_reads, propagation_follows_run,
+};
+use super::circuit::{Feed, Run};
 use super::formula::{
     clause_bound, clause_count, frame_base, frames, group_call, heading, number_bound,
     number_count, pair_base, pair_size, Fault, Formula, Group, Heading,
@@ -11,7 +14,7 @@ use super::netlist::Netlist;
 use super::random::{
     damaged_record, damaged_sheet, random_feeds, tiny_netlist, wide_netlist, Random, SHAPES,
 };
-use super::refusal::{Refusal, CODE, MEMORY_LOOP, NO_ROOM, OUT_OF_ORDER};
+use super::refusal::{Refusal, CODE, MEMORY_LOOP, NO_ROOM, OUT_OF_ORDER, TIED_ADDRESS};
 use super::sheet::{expand, read_sheet, write_depth, write_sheet, LINE_BYTES};
 use super::solver::{satisfies, Solver};
 use super::Tally;
@@ -77,7 +80,7 @@ pub fn round_trip(tally: &mut Tally) {
 /// A record and its sheet get the same refusal at the same place.
 pub fn damaged_records(tally: &mut Tally) {
     let mut random = Random::new(3);
-    let mut counts = [0; 11];
+    let mut counts = [0; 18];
     for round in 0..400 {
         let netlist = wide_netlist(&mut random);
         let record = damaged_record(&mut random, &netlist);
@@ -86,7 +89,7 @@ pub fn damaged_records(tally: &mut Tally) {
         counts[found.map_or_else(|refusal| refusal.number as usize, |()| 0)] += 1;
         tally.equal(round, found, read);
     }
-    for number in [0, CODE, MEMORY_LOOP] {
+    for number in [0, CODE, MEMORY_LOOP, TIED_ADDRESS] {
         tally.check(("occurrences of", number), counts[number as usize] >= 20);
     }
 }
@@ -95,7 +98,8 @@ pub fn damaged_records(tally: &mut Tally) {
 /// line.
 pub fn damaged_sheets(tally: &mut Tally) {
     let mut random = Random::new(4);
-    let mut counts = [0; 11];
+    let mut counts = [0; 18];
+    let mut unknown = 0;
     for round in 0..3000 {
         let netlist = if random.percent(80) {
             tiny_netlist(&mut random)
@@ -106,6 +110,7 @@ pub fn damaged_sheets(tally: &mut Tally) {
         match read_sheet(&sheet, 600, 600) {
             Ok(read) => {
                 counts[0] += 1;
+                unknown += usize::from(read.unknown_start == 1);
                 tally.check(round, write_sheet(&read) == sheet);
             }
             Err(refusal) => {
@@ -114,11 +119,16 @@ pub fn damaged_sheets(tally: &mut Tally) {
             }
         }
     }
-    for (number, count) in counts.iter().enumerate().take(7) {
-        tally.check(("occurrences of", number), *count >= 20);
+    for number in [0, 1, 2, 3, 4, 5, 6, 17] {
+        tally.check(("occurrences of", number), counts[number] >= 20);
     }
+    tally.check(("unknown starts", unknown), unknown >= 20);
     let numbers: Vec<String> = counts[..7].iter().map(usize::to_string).collect();
-    tally.remark = format!(" (accepted and numbers 1 to 6: {})", numbers.join(", "));
+    tally.remark = format!(
+        " (accepted and numbers 1 to 6: {}; 17: {}; accepted with an unknown start: {unknown})",
+        numbers.join(", "),
+        counts[17]
+    );
 }
 
 /// Whether a refusal at a line is that of the sheet up to this line, and the line before it ends
@@ -126,7 +136,8 @@ pub fn damaged_sheets(tally: &mut Tally) {
 fn refusal_is_local(sheet: &[u8], refusal: Refusal) -> bool {
     let lines = sheet.len() / LINE_BYTES;
     let place = refusal.place as usize;
-    if place == 0 || place > lines || refusal.number == MEMORY_LOOP {
+    let of_all_lines = |number: u32| [MEMORY_LOOP, TIED_ADDRESS].contains(&number);
+    if place == 0 || place > lines || of_all_lines(refusal.number) {
         return place <= lines + 1;
     }
     let first = |count: usize| read_sheet(&sheet[..count * LINE_BYTES], 600, 600);
@@ -136,7 +147,7 @@ fn refusal_is_local(sheet: &[u8], refusal: Refusal) -> bool {
     };
     let prefix_passes = match first(place - 1) {
         Ok(_) => true,
-        Err(other) => place == 1 || other == missing || other.number == MEMORY_LOOP,
+        Err(other) => place == 1 || other == missing || of_all_lines(other.number),
     };
     first(place) == Err(refusal) && prefix_passes
 }
@@ -364,10 +375,13 @@ pub fn demand_3(tally: &mut Tally) {
     );
 }
 
+/// Stands for an empty start field.
+const UNKNOWN: u32 = u32::MAX;
+
 /// Start word, next code, address code, write-data code, WE, RE and P of a sheet with wires input
 /// 1, latch 2 and read bit 3: constants and at least one wire.
 const CODES: [&[u32]; 7] = [
-    &[0, 1],
+    &[0, 1, UNKNOWN],
     &[0, 1, 6],
     &[0, 1, 2],
     &[0, 1, 3],
@@ -387,7 +401,11 @@ pub fn constant_sets(tally: &mut Tally) {
             rest /= choices.len();
             choice
         });
-        let lines = format!("N 1 1 0/M 1 1 {start}/L {next} 1/A {address}/D {data}");
+        let start = match start {
+            UNKNOWN => String::new(),
+            word => format!(" {word}"),
+        };
+        let lines = format!("N 1 1 0/M 1 1{start}/L {next} 1/A {address}/D {data}");
         let short = format!("{lines}/C {write} {read} {property}");
         let netlist = read_sheet(&expand(&short), 1, 0).expect("an accepted sheet");
         let found = compare(&netlist, 2, Fault::None);
@@ -403,17 +421,40 @@ pub fn constant_sets(tally: &mut Tally) {
 /// Demand 3 for random feeds of netlists of every size.
 pub fn single_feeds(tally: &mut Tally) {
     let mut random = Random::new(9);
+    let mut unknown = 0;
     for round in 0..300 {
         let netlist = wide_netlist(&mut random);
         let depth = random.below(7);
         let feeds = random_feeds(&mut random, &netlist, depth);
         tally.check((round, depth), propagation_follows_run(&netlist, &feeds));
+        let run = Run::new(&netlist, &feeds);
+        let again = Run::new(&netlist, &run.feeds(&netlist));
+        tally.check((round, "fed again"), again.frames == run.frames);
+        if netlist.has_unknown_start() {
+            unknown += 1;
+            tally.check((round, "whole memory"), starts_somewhere(&netlist, &feeds));
+        }
     }
+    tally.remark = format!(" ({unknown} with an unknown start)");
+    tally.check(("unknown starts", unknown), unknown >= 50);
+}
+
+/// Whether a run that settles an unknown start by its feeds is a run from a whole memory, whatever the
+/// words are that it does not settle.
+fn starts_somewhere(netlist: &Netlist, feeds: &[Feed]) -> bool {
+    let run = Run::new(netlist, feeds);
+    let settled = first_reads(netlist, &run);
+    let all_ones = u32::MAX >> (32 - netlist.data_width);
+    [0, all_ones].iter().all(|other| {
+        let word = |it: &Option<(usize, u32)>| it.map_or(*other, |(_, word)| word);
+        let memory: Vec<u32> = settled.iter().map(word).collect();
+        Run::from_memory(netlist, &memory, feeds).frames == run.frames
+    })
 }
 
 /// Each fault, and which checks are to notice it: demand 3's first half, its second half, the
 /// lengths, and the heading. A fault that a check is not to notice must pass it on every case.
-const FAULTS: [(Fault, [bool; 4]); 17] = [
+const FAULTS: [(Fault, [bool; 4]); 22] = [
     (Fault::OwnFrameWrite, [true, true, true, true]),
     (Fault::OldestWrite, [true, true, true, false]),
     (Fault::ReaderWriteEnable, [true, true, false, false]),
@@ -431,15 +472,24 @@ const FAULTS: [(Fault, [bool; 4]); 17] = [
     (Fault::StartBitsKept, [false, false, true, true]),
     (Fault::BothSignsOmitted, [false, false, true, true]),
     (Fault::NewestPairCounted, [false, false, true, true]),
+    (Fault::AgreementOmitted, [true, false, true, true]),
+    (Fault::AgreementOfNeighbours, [true, false, true, true]),
+    (Fault::AgreementWithoutEarlier, [false, true, true, true]),
+    (Fault::AgreementWithoutLater, [false, true, true, false]),
+    (Fault::UnknownStartsZero, [false, true, true, true]),
 ];
 
 pub fn faults(tally: &mut Tally) {
     let cases = tiny_cases(500);
+    let runs: Vec<_> = cases
+        .iter()
+        .map(|(netlist, depth)| breaking_runs(netlist, *depth))
+        .collect();
     let mut remarks = Vec::new();
     for (fault, expected) in FAULTS {
         let mut caught = [0; 4];
-        for (netlist, depth) in &cases {
-            let found = compare(netlist, *depth, fault);
+        for ((netlist, depth), breaking) in cases.iter().zip(&runs) {
+            let found = compare_with(netlist, *depth, fault, breaking);
             caught[0] += usize::from(found.disagreeing > 0);
             caught[1] += usize::from(found.missed > 0);
             caught[2] += usize::from(!lengths_hold(netlist, *depth, fault));

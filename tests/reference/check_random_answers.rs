@@ -3,10 +3,12 @@
 
 use std::collections::HashSet;
 
-use super::agreement::{agrees, all_feeds, feed_literals, feeds_of_model, variable};
+use super::agreement::{
+    agrees, all_feeds, all_memories, feed_literals, feeds_of_model, first_reads, variable,
+};
 use super::answer::{read_answer, replay, replay_call, trace_size, Answer, Claim};
 use super::answer_calls::{Call, Outcome};
-use super::check_answers::{satisfiable, scan, BARE, IDLE, LATCHED};
+use super::check_answers::{satisfiable, scan, BARE, IDLE, LATCHED, UNKNOWN};
 use super::check_examples::{accepted, bytes_of, of_sizes, FULL_RUN};
 use super::circuit::{value, Run, Values};
 use super::formula::{Fault, Formula};
@@ -49,6 +51,7 @@ pub fn largest_chip(tally: &mut Tally) {
 pub fn random_answers(tally: &mut Tally) {
     let mut random = Random::new(21);
     let [mut first, mut later, mut nothing, mut idle, mut holding, mut reading] = [0; 6];
+    let mut filling = 0;
     for round in 0..2000 {
         let draft = random_draft(&mut random);
         let answer = written(&mut random, &draft.numbers);
@@ -70,6 +73,8 @@ pub fn random_answers(tally: &mut Tally) {
         idle += usize::from(!reads(&draft.run.frames[0]));
         holding += usize::from(!draft.run.frames[1..].iter().all(reads));
         reading += usize::from(draft.run.frames.iter().any(reads));
+        let settled = first_reads(&draft.netlist, &draft.run);
+        filling += usize::from(settled.iter().any(Option::is_some));
     }
     for round in 0..1000 {
         let (name, call, expected) = answer_case(&mut random);
@@ -77,12 +82,12 @@ pub fn random_answers(tally: &mut Tally) {
         let printed = replay(&call.input(), &call.answer);
         tally.check((round, name, "printed"), printed == expected.printed());
     }
-    for count in [first, later, nothing, idle, holding, reading] {
+    for count in [first, later, nothing, idle, holding, reading, filling] {
         tally.check(("occurrences", count), count >= 100);
     }
     tally.remark = format!(
         " ({first} break in frame 0, {later} later, {nothing} never; {idle} with an idle word, \
-         {holding} with a word held, {reading} with frames that read)"
+         {holding} with a word held, {reading} with frames that read, {filling} that fill a word)"
     );
 }
 
@@ -217,7 +222,7 @@ pub fn two_faults(tally: &mut Tally) {
     }
 }
 
-/// All runs of a small chip, each with the numbers that it needs.
+/// All runs of a small chip from all its starts, each with the numbers that it needs.
 struct Runs {
     netlist: Netlist,
     depth: u32,
@@ -228,11 +233,13 @@ impl Runs {
     fn new(netlist: Netlist, depth: u32) -> Runs {
         let mut known = HashSet::new();
         let mut runs = Vec::new();
-        for feeds in all_feeds(&netlist, depth) {
-            let run = Run::new(&netlist, &feeds);
-            let literals = feed_literals(&netlist, &run);
-            if known.insert(literals.clone()) {
-                runs.push((literals, run));
+        for memory in all_memories(&netlist) {
+            for feeds in all_feeds(&netlist, depth) {
+                let run = Run::from_memory(&netlist, &memory, &feeds);
+                let literals = feed_literals(&netlist, &run);
+                if known.insert(literals.clone()) {
+                    runs.push((literals, run));
+                }
             }
         }
         Runs {
@@ -286,12 +293,17 @@ pub fn damaged_answers(tally: &mut Tally) {
             format!(" {}", call.answer.escape_ascii())
         });
     };
+    // It reads in every frame, at the address that its input names, and never writes.
+    let reading = "N 1 0 0/M 1 1/A 2/D 0/C 0 1 4";
     let small = [
         (1, FULL_RUN, "c a/s SATISFIABLE/v 2 -4 0/"),
         (1, FULL_RUN, "s SATISFIABLE/v 1 -2/v -3 4/c/v -5 0/c/"),
         (2, IDLE, "s SATISFIABLE/v -2 3 4 -5 13 0/"),
         (2, IDLE, "s SATISFIABLE/v 2 -5/v 6 -7/v 13 -14 0/"),
         (1, LATCHED, "s SATISFIABLE/v 2 3/v 4/v -5 0/"),
+        (0, UNKNOWN, "s SATISFIABLE/v -2 3/v 4 -5 -6 0/"),
+        (1, reading, "s SATISFIABLE/v -2 3/v 4 -5 0/"),
+        (1, reading, "s SATISFIABLE/v -2 3/v -4 -5 0/"),
         (0, BARE, "s SATISFIABLE/v 0/"),
         (0, BARE, "c/s UNSATISFIABLE/c/"),
     ];
@@ -323,6 +335,8 @@ pub fn damaged_answers(tally: &mut Tally) {
         (1, FULL_RUN, &[2, 3, 4, 5][..]),
         (1, IDLE, &[2, 3, 4, 5, 6][..]),
         (1, LATCHED, &[2, 3, 4, 5][..]),
+        (1, reading, &[2, 3, 4, 5][..]),
+        (0, UNKNOWN, &[2, 3, 4, 5, 6][..]),
     ] {
         let runs = Runs::new(accepted(sheet), depth);
         for choice in 0..4u32.pow(variables.len() as u32) {

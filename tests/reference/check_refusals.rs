@@ -1,7 +1,7 @@
-//! Every refusal with its place at its boundaries, as tables (RULES T1 to T10, T33 to T41,
-//! P4).
+//! Every refusal with its place at its boundaries, as tables (RULES T1 to T10, T33 to T41, P4; the empty
+//! start field of K7, and K8).
 
-use super::check_examples::{accepted, input, of_sizes, FULL_RUN, RICH};
+use super::check_examples::{accepted, input, of_sizes, FULL_RUN, RICH, UNKNOWN_RICH};
 use super::formula::{frames, group_call, heading, refusal_text, Group};
 use super::netlist::{Gate, Latch, Netlist};
 use super::refusal::*;
@@ -98,7 +98,8 @@ fn depth_forms() -> Vec<Row> {
     FIELD_FORMS.into_iter().map(row).collect()
 }
 
-/// In every line of every kind: filled fields emptied, empty fields filled, line feed replaced.
+/// In every line of every kind: filled fields emptied, empty fields filled, line feed replaced. Only the
+/// start field may be emptied.
 fn filled_and_empty_fields() -> Vec<Row> {
     let sheet = expand(RICH);
     let mut rows = Vec::new();
@@ -112,7 +113,11 @@ fn filled_and_empty_fields() -> Vec<Row> {
             let is_empty = field.iter().all(|byte| *byte == b' ');
             field.fill(b' ');
             field[FIELD_BYTES - 1] = if is_empty { b'0' } else { b' ' };
-            rows.push((format!("line {line} field {index}"), changed, misprint));
+            let expected = match (line, index) {
+                (1, 2) => ACCEPTED,
+                _ => misprint,
+            };
+            rows.push((format!("line {line} field {index}"), changed, expected));
         }
         for byte in [b' ', b'\r', b'0', 0] {
             let mut changed = sheet.clone();
@@ -141,7 +146,7 @@ fn letters() -> Vec<Row> {
 
 /// Whole sheets as short forms.
 #[rustfmt::skip]
-const SHEETS: [(&str, Verdict); 61] = [
+const SHEETS: [(&str, Verdict); 91] = [
     (FULL_RUN, ACCEPTED),
     (RICH, ACCEPTED),
     // A line missing at the end: one past the last.
@@ -187,7 +192,8 @@ const SHEETS: [(&str, Verdict); 61] = [
     ("N 0 600 0/M 1 1 0", (SIZE, 2)),
     ("N 0 0 600/M 1 1 0", (SIZE, 2)),
     ("N 600 600 600/M 1 1 0", (SIZE, 2)),
-    ("N 600 600 600/M 1 1", (MISPRINT, 2)),
+    ("N 600 600 600/M 1 1", (SIZE, 2)),
+    ("N 600 600 600/M 1", (MISPRINT, 2)),
     ("N 600 600 600/C 1 1 0", (OUT_OF_ORDER, 2)),
     ("N 599 0 0/M 1 1 0/A 0/D 2/C 1 1 5", ACCEPTED),
     ("N 599 0 0/M 1 2 0/A 0/D 2/D 2/C 1 1 5", (SIZE, 2)),
@@ -201,7 +207,41 @@ const SHEETS: [(&str, Verdict); 61] = [
     ("N 1 0 0/M 1 1 0/A 4/D 2/C 1 4 5", (MEMORY_LOOP, 3)),
     ("N 1 0 0/M 1 1 0/A 2/D 2/C 1 5 5", (MEMORY_LOOP, 5)),
     ("N 1 0 0/M 2 1 0/A 2/A 4/D 2/C 1 4 5", (MEMORY_LOOP, 4)),
-    ("N 1 0 0/M 2 1 0/A 4/A 4/D 2/C 1 1 5", (MEMORY_LOOP, 3)),
+    ("N 1 0 0/M 2 1 0/A 4/A 2/D 2/C 1 1 5", (MEMORY_LOOP, 3)),
+    // Two address bits of one wire, inverted or not: at the first line whose wire an earlier one has.
+    ("N 1 0 0/M 2 1 0/A 2/A 2/D 2/C 1 1 5", (TIED_ADDRESS, 4)),
+    ("N 1 0 0/M 2 1 0/A 2/A 3/D 2/C 1 1 5", (TIED_ADDRESS, 4)),
+    ("N 1 0 0/M 2 1 0/A 3/A 2/D 2/C 1 1 5", (TIED_ADDRESS, 4)),
+    ("N 2 0 0/M 4 1 0/A 2/A 4/A 4/A 2/D 2/C 1 1 5", (TIED_ADDRESS, 5)),
+    ("N 2 0 0/M 4 1 0/A 2/A 4/A 3/A 5/D 2/C 1 1 5", (TIED_ADDRESS, 5)),
+    ("N 2 0 0/M 4 1 0/A 0/A 4/A 1/A 5/D 2/C 1 1 5", (TIED_ADDRESS, 6)),
+    ("N 1 1 1/M 3 1 0/L 2 0/G 2 4/A 8/A 2/A 9/D 2/C 1 1 5", (TIED_ADDRESS, 7)),
+    ("N 1 1 1/M 3 1 0/L 2 0/G 2 4/A 8/A 2/A 4/D 2/C 1 1 5", ACCEPTED),
+    // By wire alone: two wires that always have the same value are no tie.
+    ("N 1 0 1/M 2 1 0/G 2 2/A 2/A 6/D 2/C 1 1 5", ACCEPTED),
+    // Constants may repeat.
+    ("N 0 0 0/M 4 1 0/A 0/A 0/A 1/A 1/D 2/C 1 1 3", ACCEPTED),
+    // It comes before 6 and after all else.
+    ("N 1 0 0/M 2 1 0/A 4/A 4/D 2/C 1 1 5", (TIED_ADDRESS, 4)),
+    ("N 1 0 0/M 3 1 0/A 4/A 2/A 3/D 2/C 1 1 5", (TIED_ADDRESS, 5)),
+    ("N 1 0 0/M 2 1 0/A 2/A 2/D 2/C 1 4 5", (TIED_ADDRESS, 4)),
+    ("N 1 0 0/M 2 1 0/A 2/A 2/D 6/C 1 1 5", (CODE, 5)),
+    ("N 1 0 0/M 2 1 0/A 2/A 2/D 2", (OUT_OF_ORDER, 6)),
+    ("N 1 0 0/M 2 1 0/A 2/A 2/D 2/C 1 1 5/A 0", (OUT_OF_ORDER, 7)),
+    // An empty start field. Every other field of N, M and C stays filled, and m and n keep their limits.
+    ("N 1 0 0/M 1 1/A 0/D 2/C 1 1 5", ACCEPTED),
+    ("N 1 0/M 1 1 0/A 0/D 2/C 1 1 5", (MISPRINT, 1)),
+    ("N 1 0 0/M 1  0/A 0/D 2/C 1 1 5", (MISPRINT, 2)),
+    ("N 1 0 0/M  1 0/A 0/D 2/C 1 1 5", (MISPRINT, 2)),
+    ("N 1 0 0/M 1/A 0/D 2/C 1 1 5", (MISPRINT, 2)),
+    ("N 1 0 0/M/A 0/D 2/C 1 1 5", (MISPRINT, 2)),
+    ("N 1 0 0/M 1 1/A 0/D 2/C 1 1", (MISPRINT, 5)),
+    ("N 1 0 0/M 1 1/A 4/D 2/C 1 1 5", (MEMORY_LOOP, 3)),
+    ("N 1 0 0/M 2 1/A 2/A 2/D 2/C 1 1 5", (TIED_ADDRESS, 4)),
+    ("N 1 0 0/M 1 1", (OUT_OF_ORDER, 3)),
+    ("N 599 0 0/M 1 1/A 0/D 2/C 1 1 5", ACCEPTED),
+    ("N 599 0 0/M 1 2/A 0/D 2/D 2/C 1 1 5", (SIZE, 2)),
+    ("M 1 1/A 0/D 2/C 1 1 5", (OUT_OF_ORDER, 1)),
     ("N 1 0 0/M 1 1 0/A 2/D 4/C 4 2 4", ACCEPTED),
     // It comes after every code and after missing and surplus lines.
     ("N 1 0 0/M 1 1 0/A 4/D 2/C 1 1 6", (CODE, 5)),
@@ -217,7 +257,7 @@ const SHEETS: [(&str, Verdict); 61] = [
 ];
 
 /// RICH with the line at a place replaced: V = 5, so codes go to 11, gate operands to 9.
-const RICH_LINES: [(usize, &str, Verdict); 28] = [
+const RICH_LINES: [(usize, &str, Verdict); 30] = [
     (3, "L 11 0", ACCEPTED),
     (3, "L 12 0", (CODE, 3)),
     (3, "L 4294967295 0", (CODE, 3)),
@@ -232,7 +272,9 @@ const RICH_LINES: [(usize, &str, Verdict); 28] = [
     (5, "A 1", ACCEPTED),
     (5, "A 11", (MEMORY_LOOP, 5)),
     (5, "A 12", (CODE, 5)),
-    (6, "A 5", ACCEPTED),
+    (6, "A 2", ACCEPTED),
+    (6, "A 4", (TIED_ADDRESS, 6)),
+    (6, "A 5", (TIED_ADDRESS, 6)),
     (6, "A 6", (MEMORY_LOOP, 6)),
     (6, "A 9", (MEMORY_LOOP, 6)),
     (6, "A 12", (CODE, 6)),
@@ -249,7 +291,7 @@ const RICH_LINES: [(usize, &str, Verdict); 28] = [
 ];
 
 /// m, n, start word, and the verdict on a sheet of constants with this M line.
-const MEMORIES: [(u32, u32, &str, Verdict); 19] = [
+const MEMORIES: [(u32, u32, &str, Verdict); 25] = [
     (0, 1, "0", (SIZE, 2)),
     (1, 1, "0", ACCEPTED),
     (12, 1, "0", ACCEPTED),
@@ -269,6 +311,12 @@ const MEMORIES: [(u32, u32, &str, Verdict); 19] = [
     (1, 32, "4294967296", (MISPRINT, 2)),
     (0, 33, "4294967295", (SIZE, 2)),
     (0, 33, "4294967296", (MISPRINT, 2)),
+    (1, 1, "", ACCEPTED),
+    (12, 32, "", ACCEPTED),
+    (0, 1, "", (SIZE, 2)),
+    (13, 1, "", (SIZE, 2)),
+    (1, 0, "", (SIZE, 2)),
+    (1, 33, "", (SIZE, 2)),
 ];
 
 /// Lengths of the lent latch and gate lists. RICH needs one record in each.
@@ -363,7 +411,7 @@ pub fn sheet_lengths(tally: &mut Tally) {
 pub type RecordRow = (&'static str, fn(&mut Netlist), Verdict);
 
 #[rustfmt::skip]
-pub const RECORDS: [RecordRow; 42] = [
+pub const RECORDS: [RecordRow; 60] = [
     ("unchanged", |_| {}, ACCEPTED),
     // 4: at 1 for I, L, A; at 2 for m, n, start word and V; lists are not looked at yet.
     ("I = 601", |it| it.inputs = 601, (SIZE, 1)),
@@ -381,6 +429,18 @@ pub const RECORDS: [RecordRow; 42] = [
     ("n = 2^32 - 1", |it| it.data_width = u32::MAX, (SIZE, 2)),
     ("start word 3", |it| it.start_word = 3, ACCEPTED),
     ("start word 4", |it| it.start_word = 4, (SIZE, 2)),
+    // The flag of the start: 0 or 1; where it is 1, the start word is not tested.
+    ("unknown start", |it| it.unknown_start = 1, ACCEPTED),
+    ("unknown start, word 4", |it| (it.unknown_start, it.start_word) = (1, 4), ACCEPTED),
+    ("unknown start, word 2^32 - 1", |it| (it.unknown_start, it.start_word) = (1, u32::MAX), ACCEPTED),
+    ("flag 2", |it| it.unknown_start = 2, (SIZE, 2)),
+    ("flag 2^32 - 1", |it| it.unknown_start = u32::MAX, (SIZE, 2)),
+    ("flag 2, word 0", |it| (it.unknown_start, it.start_word) = (2, 0), (SIZE, 2)),
+    ("flag 2, I = 601", |it| (it.unknown_start, it.inputs) = (2, 601), (SIZE, 1)),
+    ("flag 2, no list", |it| (it.unknown_start, it.latches) = (2, vec![]), (SIZE, 2)),
+    ("unknown start, n = 0", |it| (it.unknown_start, it.data_width) = (1, 0), (SIZE, 2)),
+    ("unknown start, n = 33", |it| (it.unknown_start, it.data_width) = (1, 33), (SIZE, 2)),
+    ("unknown start, V = 601", |it| (it.unknown_start, it.inputs) = (1, 597), (SIZE, 2)),
     ("I = 600", |it| it.inputs = 600, (SIZE, 2)),
     ("V = 601", |it| it.inputs = 597, (SIZE, 2)),
     ("L = 601, no list", |it| (it.latch_count, it.latches) = (601, vec![]), (SIZE, 1)),
@@ -395,6 +455,7 @@ pub const RECORDS: [RecordRow; 42] = [
     // Entries past the sizes are ignored, by 5 and by 6.
     ("entry past m", |it| it.address[2] = u32::MAX, ACCEPTED),
     ("read bit past m", |it| it.address[11] = 6, ACCEPTED),
+    ("wire of bit 0 past m", |it| it.address[2] = 4, ACCEPTED),
     ("entry past n", |it| it.write_data[2] = u32::MAX, ACCEPTED),
     // 5 in line order, then 6.
     ("next", |it| it.latches[0].next = 12, (CODE, 3)),
@@ -407,6 +468,13 @@ pub const RECORDS: [RecordRow; 42] = [
     ("RE", |it| it.read_enable = 12, (CODE, 9)),
     ("P", |it| it.property = 12, (CODE, 9)),
     ("P and a loop", |it| (it.property, it.address[0]) = (12, 6), (CODE, 9)),
+    // 17 behind every 5 and before 6.
+    ("tied", |it| it.address[1] = 4, (TIED_ADDRESS, 6)),
+    ("tied, inverted", |it| it.address[0] = 2, (TIED_ADDRESS, 6)),
+    ("two constants", |it| (it.address[0], it.address[1]) = (1, 1), ACCEPTED),
+    ("tied read bits", |it| (it.address[0], it.address[1]) = (6, 7), (TIED_ADDRESS, 6)),
+    ("tied, loop in RE", |it| (it.address[1], it.read_enable) = (4, 6), (TIED_ADDRESS, 6)),
+    ("tied, P", |it| (it.address[1], it.property) = (4, 12), (CODE, 9)),
     ("loop in address bit 0", |it| it.address[0] = 10, (MEMORY_LOOP, 5)),
     ("loops in bit 1 and RE", |it| (it.address[1], it.read_enable) = (6, 6), (MEMORY_LOOP, 6)),
     ("loop in RE", |it| it.read_enable = 11, (MEMORY_LOOP, 9)),
@@ -469,7 +537,7 @@ pub const GROUP_CALLS: [(u32, Group, Result<usize, u32>); 33] = [
 /// Sheet, depth, group, and the exact need, for sheets with other constants. RICH has none but the
 /// start bits.
 #[rustfmt::skip]
-pub const NEEDS: [(&str, u32, Group, usize); 46] = [
+pub const NEEDS: [(&str, u32, Group, usize); 68] = [
     // P = 0: the clause has a true literal. P = 1: it is left empty, and -1 stands for it.
     ("N 1 0 0/M 1 1 0/A 0/D 2/C 1 1 0", 0, Group::Property, 0),
     ("N 1 0 0/M 1 1 0/A 0/D 2/C 1 1 0", 255, Group::Property, 0),
@@ -522,6 +590,32 @@ pub const NEEDS: [(&str, u32, Group, usize); 46] = [
     ("N 1 0 1/M 1 1 0/G 1 3/A 2/D 2/C 2 2 2", 1, Group::Wires(1), 6),
     ("N 1 0 1/M 1 1 0/G 2 3/A 2/D 2/C 2 2 2", 1, Group::Wires(1), 10),
     ("N 1 0 1/M 1 1 0/G 2 2/A 2/D 2/C 2 2 2", 1, Group::Wires(0), 12),
+    // Unknown start, n = 2: no clause with a start bit. RE: false, true, the input.
+    ("N 1 0 0/M 1 2/A 2/D 2/D 2/C 2 0 2", 2, Group::Closing(0), 0),
+    ("N 1 0 0/M 1 2/A 2/D 2/D 2/C 2 0 2", 2, Group::Closing(1), 12),
+    ("N 1 0 0/M 1 2/A 2/D 2/D 2/C 2 0 2", 2, Group::Closing(2), 12),
+    ("N 1 0 0/M 1 2/A 2/D 2/D 2/C 2 1 2", 2, Group::Closing(0), 0),
+    ("N 1 0 0/M 1 2/A 2/D 2/D 2/C 2 1 2", 2, Group::Closing(1), 3),
+    ("N 1 0 0/M 1 2/A 2/D 2/D 2/C 2 1 2", 2, Group::Closing(2), 4),
+    ("N 1 0 0/M 1 2/A 2/D 2/D 2/C 2 2 2", 2, Group::Closing(0), 3),
+    ("N 1 0 0/M 1 2/A 2/D 2/D 2/C 2 2 2", 2, Group::Closing(1), 20),
+    ("N 1 0 0/M 1 2/A 2/D 2/D 2/C 2 2 2", 2, Group::Closing(2), 21),
+    // Pairs, 17 + 40 + 32 numbers with two data bits where nothing is a constant. Zj is RE where j = 0:
+    // false takes the clauses of the start away, true a number from each. N is RE where j = i - 1.
+    ("N 1 0 0/M 1 2/A 2/D 2/D 2/C 2 2 2", 2, Group::Pair(0, 1), 89),
+    ("N 1 0 0/M 1 2/A 2/D 2/D 2/C 2 2 2", 2, Group::Pair(1, 2), 89),
+    ("N 1 0 0/M 1 2/A 2/D 2/D 2/C 2 2 2", 2, Group::Pair(0, 2), 89),
+    ("N 1 0 0/M 1 2/A 2/D 2/D 2/C 2 1 2", 2, Group::Pair(0, 1), 77),
+    ("N 1 0 0/M 1 2/A 2/D 2/D 2/C 2 1 2", 2, Group::Pair(1, 2), 81),
+    ("N 1 0 0/M 1 2/A 2/D 2/D 2/C 2 1 2", 2, Group::Pair(0, 2), 85),
+    ("N 1 0 0/M 1 2/A 2/D 2/D 2/C 2 0 2", 2, Group::Pair(0, 1), 55),
+    ("N 1 0 0/M 1 2/A 2/D 2/D 2/C 2 0 2", 2, Group::Pair(1, 2), 79),
+    ("N 1 0 0/M 1 2/A 2/D 2/D 2/C 2 0 2", 2, Group::Pair(0, 2), 65),
+    // Constant write data and address take no more away than with a start word.
+    ("N 1 0 0/M 1 1/A 2/D 1/C 2 2 2", 2, Group::Pair(0, 2), 64),
+    ("N 1 0 0/M 1 1/A 0/D 2/C 2 2 2", 2, Group::Pair(0, 2), 55),
+    ("N 1 0 0/M 1 1/A 2/D 2/C 0 2 2", 2, Group::Pair(0, 2), 64),
+    (UNKNOWN_RICH, 2, Group::Pair(0, 2), 106),
 ];
 
 /// The exact needs of `NEEDS`, and one less.
@@ -624,6 +718,16 @@ pub fn input_rows() -> Vec<Row> {
             "loop",
             input(0, "N 1 0 0/M 1 1 0/A 4/D 2/C 1 1 5"),
             (MEMORY_LOOP, 3),
+        ),
+        (
+            "tied",
+            input(0, "N 1 0 0/M 2 1 0/A 2/A 3/D 2/C 1 1 5"),
+            (TIED_ADDRESS, 4),
+        ),
+        (
+            "unknown start",
+            input(0, "N 1 0 0/M 1 1/A 0/D 2/C 1 1 5"),
+            ACCEPTED,
         ),
         ("largest sheet", with(&largest), ACCEPTED),
         ("depth 255", input(255, FULL_RUN), ACCEPTED),

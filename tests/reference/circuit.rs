@@ -2,7 +2,8 @@
 
 use super::netlist::Netlist;
 
-/// What one frame is fed: I input bits and the idle word, which counts in frame 0 alone.
+/// What one frame is fed: I input bits and a word. The word counts where RE is false in frame 0, and,
+/// where the start is unknown and left open, where a word is read that nothing has settled yet.
 #[derive(Clone, Debug, PartialEq, Eq, Hash)]
 pub struct Feed {
     pub inputs: Vec<bool>,
@@ -24,49 +25,73 @@ pub fn word(values: &[bool], codes: &[u32]) -> u32 {
         .sum()
 }
 
-/// The state between frames: the latches, the 2^m words and the read bits of the frame before.
+/// The state between frames: the latches, the 2^m words and the read bits of the frame before. A word
+/// is none while it is unknown: neither read nor written yet.
 #[derive(Clone)]
 pub struct Circuit<'a> {
     netlist: &'a Netlist,
     latches: Vec<bool>,
-    words: Vec<u32>,
+    words: Vec<Option<u32>>,
     /// None before frame 0.
     held_word: Option<u32>,
 }
 
 impl<'a> Circuit<'a> {
-    /// The state before frame 0 of an accepted netlist.
+    /// The state before frame 0 of an accepted netlist. An unknown start is left open: the feeds
+    /// settle each word when it is first read.
     pub fn new(netlist: &'a Netlist) -> Circuit<'a> {
+        let start = (!netlist.has_unknown_start()).then_some(netlist.start_word);
+        Circuit::with_words(netlist, vec![start; 1 << netlist.address_width])
+    }
+
+    /// The state before frame 0 with these 2^m words.
+    pub fn from_memory(netlist: &'a Netlist, memory: &[u32]) -> Circuit<'a> {
+        Circuit::with_words(netlist, memory.iter().copied().map(Some).collect())
+    }
+
+    fn with_words(netlist: &'a Netlist, words: Vec<Option<u32>>) -> Circuit<'a> {
         let latches = &netlist.latches[..netlist.latch_count as usize];
         Circuit {
             netlist,
             latches: latches.iter().map(|latch| latch.reset == 1).collect(),
-            words: vec![netlist.start_word; 1 << netlist.address_width],
+            words,
             held_word: None,
         }
     }
 
-    /// Whether the next frame, fed these inputs, takes the idle word: it is frame 0 and RE, which
-    /// depends on no read bit, is false.
-    pub fn takes_idle_word(&self, inputs: &[bool]) -> bool {
-        let reads = value(&self.evaluate(inputs, 0), self.netlist.read_enable);
-        self.held_word.is_none() && !reads
+    /// Whether the next frame, fed these inputs, takes the word that it is fed: it does not read and is
+    /// frame 0, or it reads a word that is still unknown.
+    pub fn takes_fed_word(&self, inputs: &[bool]) -> bool {
+        // Address and RE depend on no read bit.
+        self.read_word(&self.evaluate(inputs, 0)).is_none()
+    }
+
+    /// The read word of a frame with these values, if anything before this frame settles it.
+    fn read_word(&self, values: &[bool]) -> Option<u32> {
+        if value(values, self.netlist.read_enable) {
+            self.words[self.address(values)]
+        } else {
+            self.held_word
+        }
+    }
+
+    fn address(&self, values: &[bool]) -> usize {
+        word(values, self.netlist.address_codes()) as usize
     }
 
     /// One frame: its values, after which the state is that before the next frame.
     pub fn step(&mut self, feed: &Feed) -> Values {
         // The first pass settles address and RE, which depend on no read bit.
         let settled = self.evaluate(&feed.inputs, 0);
-        let address = word(&settled, self.netlist.address_codes()) as usize;
-        let read_word = if value(&settled, self.netlist.read_enable) {
-            self.words[address]
-        } else {
-            self.held_word.unwrap_or(feed.idle_word)
-        };
+        let address = self.address(&settled);
+        let read_word = self.read_word(&settled).unwrap_or(feed.idle_word);
+        if value(&settled, self.netlist.read_enable) {
+            self.words[address] = Some(read_word);
+        }
         self.held_word = Some(read_word);
         let values = self.evaluate(&feed.inputs, read_word);
         if value(&values, self.netlist.write_enable) {
-            self.words[address] = word(&values, self.netlist.write_data_codes());
+            self.words[address] = Some(word(&values, self.netlist.write_data_codes()));
         }
         let latches = &self.netlist.latches[..self.netlist.latch_count as usize];
         self.latches = latches
@@ -100,13 +125,22 @@ pub struct Run {
     pub frames: Vec<Values>,
     /// The first frame in which P is false.
     pub first_break: Option<usize>,
-    /// The 2^m words behind the last frame.
+    /// The 2^m words behind the last frame; 0 for a word that is still unknown.
     pub words: Vec<u32>,
 }
 
 impl Run {
+    /// A run from the start word, or from a start that the feeds settle where it is unknown.
     pub fn new(netlist: &Netlist, feeds: &[Feed]) -> Run {
-        let mut circuit = Circuit::new(netlist);
+        Run::of_circuit(netlist, Circuit::new(netlist), feeds)
+    }
+
+    /// A run from a whole starting memory.
+    pub fn from_memory(netlist: &Netlist, memory: &[u32], feeds: &[Feed]) -> Run {
+        Run::of_circuit(netlist, Circuit::from_memory(netlist, memory), feeds)
+    }
+
+    fn of_circuit(netlist: &Netlist, mut circuit: Circuit, feeds: &[Feed]) -> Run {
         let frames: Vec<Values> = feeds.iter().map(|feed| circuit.step(feed)).collect();
         let first_break = frames
             .iter()
@@ -114,12 +148,12 @@ impl Run {
         Run {
             frames,
             first_break,
-            words: circuit.words,
+            words: circuit.words.iter().map(|it| it.unwrap_or(0)).collect(),
         }
     }
 
-    /// This run's inputs and read words. Fed again they give the same run: the idle word counts
-    /// only in frame 0 where RE is false, and there the read word is the idle word.
+    /// This run's inputs and read words. Fed again they give the same run: where the fed word counts,
+    /// the read word is the fed word.
     pub fn feeds(&self, netlist: &Netlist) -> Vec<Feed> {
         let read_data = netlist.read_data_codes();
         let of_frame = |values: &Values| Feed {

@@ -1,6 +1,6 @@
 //! The formula of the unrolling to depth k: numbers of variables, groups of clauses, group calls,
 //! heading, and the text of `frames`. RULES V2 to V6, G1 to G15, T40 to T43, P2 and P3; the
-//! closing as K3 has it, and what is written of every group as K4 has it.
+//! closing as K3 has it, what is written of every group as K4 has it, and unknown starts (K7).
 
 use std::io::Write;
 use std::ops::Neg;
@@ -9,7 +9,7 @@ use super::netlist::{Netlist, MAX_DEPTH};
 use super::refusal::{require, Refusal, DEPTH, NO_ROOM, NO_SUCH_GROUP, OUT_OF_NUMBERS};
 use super::sheet::{read_depth, read_sheet, write_field};
 
-/// Deliberate mistakes of a generator (RULES M1 to M5, two on K3, and the rest on K4). They
+/// Deliberate mistakes of a generator (RULES M1 to M5, two on K3, some on K4, the last on K7). They
 /// show that the checks notice them; `None` is the formula of the rules.
 #[derive(Clone, Copy, Debug, PartialEq, Eq)]
 pub enum Fault {
@@ -48,6 +48,18 @@ pub enum Fault {
     BothSignsOmitted,
     /// Each pair of a frame is counted as the one with j = i - 1.
     NewestPairCounted,
+    /// Two reads of one address that reach an unknown start need not agree.
+    AgreementOmitted,
+    /// Only reads of neighbouring frames must agree.
+    AgreementOfNeighbours,
+    /// A read that reaches the start must agree with every earlier frame at its address: Zj is left
+    /// out.
+    AgreementWithoutEarlier,
+    /// Every frame at an address must agree with an earlier read that reaches the start: Zi is left
+    /// out.
+    AgreementWithoutLater,
+    /// An unknown start is a start word of 0.
+    UnknownStartsZero,
 }
 
 #[derive(Clone, Copy, Debug, PartialEq, Eq)]
@@ -97,7 +109,7 @@ pub fn number_count(netlist: &Netlist, depth: u32, group: Group) -> i64 {
 fn counts(netlist: &Netlist, depth: u32, group: Group) -> [i64; 2] {
     match group {
         Group::Wires(frame) => wires_counts(netlist, frame),
-        Group::Pair(j, i) => pair_counts(netlist, i.checked_sub(1) == Some(j)),
+        Group::Pair(j, i) => pair_counts(netlist, j, i),
         Group::Closing(i) => closing_counts(netlist, i64::from(i)),
         Group::Property => match constant(netlist.property) {
             None => [1, i64::from(depth) + 2],
@@ -147,8 +159,8 @@ fn wires_counts(netlist: &Netlist, frame: u32) -> [i64; 2] {
     total([first, latches, total(gates)])
 }
 
-/// A pair whose N is RE (`newest`) or a variable.
-fn pair_counts(netlist: &Netlist, newest: bool) -> [i64; 2] {
+/// N is RE where j = i - 1, else a variable; Zj is RE where j = 0, else a variable, as Zi always is.
+fn pair_counts(netlist: &Netlist, j: u32, i: u32) -> [i64; 2] {
     let of_address_bit = |code: &u32| match constant(*code) {
         None => [4, 16],
         Some(_) => [1, 2],
@@ -157,17 +169,25 @@ fn pair_counts(netlist: &Netlist, newest: bool) -> [i64; 2] {
         None => [2, 8],
         Some(_) => [1, 3],
     };
-    let newer = constant(netlist.read_enable).filter(|_| newest);
+    let newer = constant(netlist.read_enable).filter(|_| i.checked_sub(1) == Some(j));
+    let earlier = constant(netlist.read_enable).filter(|_| j == 0);
+    let agreement = match (netlist.has_unknown_start(), earlier) {
+        (false, _) | (true, Some(false)) => [0, 0],
+        (true, Some(true)) => [2, 10],
+        (true, None) => [2, 12],
+    };
     total([
         total(netlist.address_codes().iter().map(of_address_bit)),
         [1, i64::from(netlist.address_width) + 2],
         gate_counts(None, constant(netlist.write_enable)),
         times(2, gate_counts(None, newer)),
         total(netlist.write_data_codes().iter().map(of_data_bit)),
+        times(i64::from(netlist.data_width), agreement),
     ])
 }
 
-/// Of the two clauses with a start bit one has a true literal. In frame 0 Z is RE.
+/// Of the two clauses with a start bit one has a true literal; an unknown start has none. In frame 0 Z
+/// is RE.
 fn closing_counts(netlist: &Netlist, i: i64) -> [i64; 2] {
     let [start, hold, last] = match (constant(netlist.read_enable), i) {
         (None, 0) => [[1, 3], [0, 0], [1, 3]],
@@ -178,29 +198,38 @@ fn closing_counts(netlist: &Netlist, i: i64) -> [i64; 2] {
         (Some(false), _) => [[1, 3], [2, 6], [0, 0]],
     };
     let n = i64::from(netlist.data_width);
-    total([times(n, start), times(n, hold), last])
+    let given = if netlist.has_unknown_start() { 0 } else { n };
+    total([times(given, start), times(n, hold), last])
 }
 
-/// The closed form of K3, which counts constants too: no group has more clauses.
+/// The closed form of K3 and K7, which counts constants too: no group has more clauses.
 pub fn clause_bound(netlist: &Netlist, group: Group) -> i64 {
     let [latches, gates, m, n] = sizes(netlist);
+    let unknown = netlist.has_unknown_start();
     match group {
         Group::Wires(0) => 1 + latches + 3 * gates,
         Group::Wires(_) => 2 * latches + 3 * gates,
+        Group::Pair(..) if unknown => 4 * m + 4 * n + 10,
         Group::Pair(..) => 4 * m + 2 * n + 10,
+        Group::Closing(0) if unknown => 1,
+        Group::Closing(_) if unknown => 2 * n + 1,
         Group::Closing(0) => 2 * n + 1,
         Group::Closing(_) => 4 * n + 1,
         Group::Property => 1,
     }
 }
 
-/// The closed form of K3, which counts constants too: no group has more numbers.
+/// The closed form of K3 and K7, which counts constants too: no group has more numbers.
 pub fn number_bound(netlist: &Netlist, depth: u32, group: Group) -> i64 {
     let [latches, gates, m, n] = sizes(netlist);
+    let unknown = netlist.has_unknown_start();
     match group {
         Group::Wires(0) => 2 + 2 * latches + 10 * gates,
         Group::Wires(_) => 6 * latches + 10 * gates,
+        Group::Pair(..) if unknown => 17 * m + 20 * n + 32,
         Group::Pair(..) => 17 * m + 8 * n + 32,
+        Group::Closing(0) if unknown => 3,
+        Group::Closing(i) if unknown => 8 * n + i64::from(i) + 3,
         Group::Closing(0) => 8 * n + 3,
         Group::Closing(i) => 16 * n + i64::from(i) + 3,
         Group::Property => i64::from(depth) + 2,
@@ -473,7 +502,28 @@ impl<'a> Formula<'a> {
             let (read, write) = (self.literal(*read, i), self.literal(*write, j));
             clauses.equal_if(pair.selected, read, write);
         }
+        if self.netlist.has_unknown_start() {
+            self.agreement_clauses(&mut clauses, &pair, j, i);
+        }
         clauses.numbers
+    }
+
+    /// Where both frames read the start of one address, both read the same word.
+    fn agreement_clauses(&self, clauses: &mut Clauses, pair: &PairVariables, j: u32, i: u32) {
+        let (zj, zi) = (self.untouched(j), self.untouched(i));
+        let conditions = match self.fault {
+            Fault::AgreementOmitted | Fault::UnknownStartsZero => return,
+            Fault::AgreementOfNeighbours if j + 1 < i => return,
+            Fault::AgreementWithoutEarlier => vec![pair.all_equal, zi],
+            Fault::AgreementWithoutLater => vec![pair.all_equal, zj],
+            _ => vec![pair.all_equal, zj, zi],
+        };
+        let unless: Vec<Literal> = conditions.iter().map(|it| -*it).collect();
+        for code in self.netlist.read_data_codes() {
+            let (rdi, rdj) = (self.literal(code, i), self.literal(code, j));
+            clauses.clause(&[unless.as_slice(), &[-rdi, rdj]].concat());
+            clauses.clause(&[unless.as_slice(), &[rdi, -rdj]].concat());
+        }
     }
 
     /// Four clauses for each address bit, bit by bit, then the clause that ends in E.
@@ -532,13 +582,16 @@ impl<'a> Formula<'a> {
         let untouched = self.untouched(i);
         for (bit, code) in self.netlist.read_data_codes().iter().enumerate() {
             let read = self.literal(*code, i);
-            let start_bit = (self.netlist.start_word >> bit) & 1 == 1;
+            let given = !self.netlist.has_unknown_start();
+            let start_bit = given && (self.netlist.start_word >> bit) & 1 == 1;
             let start_literal = match self.fault {
                 Fault::StartBitsKept if start_bit => number(1),
                 Fault::StartBitsKept => -number(1),
                 _ => Literal::constant(start_bit),
             };
-            clauses.equal_if(untouched, read, start_literal);
+            if given || self.fault == Fault::UnknownStartsZero {
+                clauses.equal_if(untouched, read, start_literal);
+            }
             if self.fault == Fault::IdleReadsZero {
                 clauses.clause(&[read_enable, -read]);
             }

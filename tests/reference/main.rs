@@ -1,4 +1,4 @@
-//! Self-test of a second implementation of docs/RULES.md and K1 to K4: each family of checks prints
+//! Self-test of a second implementation of docs/RULES.md and K1 to K9: each family of checks prints
 //! one line, the last line is the total. Build: rustc -O --edition 2021 main.rs
 
 mod agreement;
@@ -9,12 +9,15 @@ mod answer_calls;
 mod check_aiger;
 mod check_answers;
 mod check_examples;
+mod check_position;
 mod check_random;
 mod check_random_answers;
 mod check_refusals;
 mod circuit;
 mod formula;
 mod netlist;
+mod number;
+mod position;
 mod random;
 mod random_aiger;
 mod random_answers;
@@ -27,18 +30,22 @@ use tally::{Report, Tally};
 
 type Family = (&'static str, fn(&mut Tally));
 
-const FAMILIES: [Family; 38] = [
+const FAMILIES: [Family; 44] = [
     ("full runs, byte for byte", check_examples::full_runs),
     ("a run of the chip, by hand", check_examples::memory_run),
+    (
+        "a run from an unknown start, by hand",
+        check_examples::unknown_memory_run,
+    ),
     ("starred facts", check_examples::starred_facts),
     ("largest sizes", check_examples::largest_sizes),
     (
         "fields and letters of a sheet",
         check_refusals::fields_and_letters,
     ),
-    ("sheets, refusals 1 to 6 and 9", check_refusals::sheets),
+    ("sheets, refusals 1 to 6, 9 and 17", check_refusals::sheets),
     ("sheets, length", check_refusals::sheet_lengths),
-    ("records, refusals 3 to 6", check_refusals::records),
+    ("records, refusals 3 to 6 and 17", check_refusals::records),
     ("group calls, refusals 7 to 10", check_refusals::group_calls),
     ("group calls, exact needs", check_refusals::needs),
     ("refusals of frames", check_refusals::frames_refusals),
@@ -60,6 +67,14 @@ const FAMILIES: [Family; 38] = [
     ("texts of K1, wrong values", check_aiger::values_part),
     ("texts of K1, faults", check_aiger::predicted_faults),
     ("texts of K1, damaged", check_aiger::damaged_texts),
+    ("positions of K5, by hand", check_position::positions),
+    ("positions of K5, random", check_position::walks),
+    (
+        "positions of K5, whole formulas",
+        check_position::whole_formula,
+    ),
+    ("numbers of K6", check_position::numbers),
+    ("sheets of K9", check_position::written_back),
     ("answers of K2, by hand", check_answers::forms),
     ("replays of K2, by hand", check_answers::replays),
     ("calls of K2, sets of faults", check_answers::fault_sets),

@@ -1,7 +1,7 @@
 //! The netlist with one single-port memory, and the tests of a record.
-//! RULES W1 to W18, C8, C9, T38 and T39.
+//! RULES W1 to W18, C8, C9, T38 and T39; the unknown start of K7 and the tied address bits of K8.
 
-use super::refusal::{require, Refusal, CODE, MEMORY_LOOP, OUT_OF_ORDER, SIZE};
+use super::refusal::{require, Refusal, CODE, MEMORY_LOOP, OUT_OF_ORDER, SIZE, TIED_ADDRESS};
 
 /// Limit of V, and of each of I, L and A.
 pub const MAX_WIRES: u32 = 600;
@@ -31,6 +31,9 @@ pub struct Netlist {
     pub address_width: u32,
     pub data_width: u32,
     pub start_word: u32,
+    /// 0 where the start word is given, 1 where every word begins as anything: the start word is
+    /// then neither tested nor used.
+    pub unknown_start: u32,
     pub address: [u32; MAX_ADDRESS_WIDTH as usize],
     pub write_data: [u32; MAX_DATA_WIDTH as usize],
     pub write_enable: u32,
@@ -56,6 +59,11 @@ impl Netlist {
     /// V. Meaningful once I, L and A are known to be within their limits.
     pub fn wire_count(&self) -> u32 {
         self.inputs + self.latch_count + self.data_width + self.gate_count
+    }
+
+    /// Meaningful once line 2 is known to be within its limits.
+    pub fn has_unknown_start(&self) -> bool {
+        self.unknown_start == 1
     }
 
     pub fn first_latch(&self) -> u32 {
@@ -120,7 +128,7 @@ impl Netlist {
         1 + index as u32 + earlier.map(|(_, count)| count).sum::<u32>()
     }
 
-    /// The tests of a record in the order of RULES T38: 4, 3, 5, 6.
+    /// The tests of a record in the order of RULES T38, with K8's: 4, 3, 5, 17, 6.
     pub fn check(&self) -> Result<(), Refusal> {
         self.check_line(1)?;
         self.check_line(2)?;
@@ -128,6 +136,7 @@ impl Netlist {
         for place in 3..=self.line_count() {
             self.check_line(place)?;
         }
+        self.check_ties()?;
         self.check_loop()
     }
 
@@ -169,8 +178,15 @@ impl Netlist {
     fn memory_in_limits(&self) -> bool {
         (1..=MAX_ADDRESS_WIDTH).contains(&self.address_width)
             && (1..=MAX_DATA_WIDTH).contains(&self.data_width)
-            && u64::from(self.start_word) < 1u64 << self.data_width
+            && self.start_in_limits()
             && self.wire_count() <= MAX_WIRES
+    }
+
+    fn start_in_limits(&self) -> bool {
+        match self.unknown_start {
+            0 => u64::from(self.start_word) < 1u64 << self.data_width,
+            flag => flag == 1,
+        }
     }
 
     fn is_code(&self, number: u32) -> bool {
@@ -204,6 +220,18 @@ impl Netlist {
             depends.push(reached);
         }
         depends
+    }
+
+    /// Refusal 17: at the first A line whose wire an earlier one has. Constants are no wires.
+    pub fn check_ties(&self) -> Result<(), Refusal> {
+        let codes = self.address_codes();
+        for (index, code) in codes.iter().enumerate() {
+            let mut earlier = codes[..index].iter();
+            let tied = *code > 1 && earlier.any(|other| other / 2 == code / 2);
+            let place = self.place_of(Kind::Address, index);
+            require(!tied, TIED_ADDRESS, place)?;
+        }
+        Ok(())
     }
 
     /// Refusal 6: at the first A line concerned, else at the C line.

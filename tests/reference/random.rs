@@ -4,6 +4,9 @@ use super::circuit::Feed;
 use super::netlist::{Gate, Latch, Netlist, MAX_ADDRESS_WIDTH, MAX_DATA_WIDTH, MAX_WIRES};
 use super::sheet::{FIELDS, FIELD_BYTES, LINE_BYTES};
 
+/// How many of a hundred random netlists have an unknown start.
+const UNKNOWN_STARTS: u32 = 35;
+
 /// SplitMix64.
 pub struct Random(u64);
 
@@ -107,8 +110,9 @@ pub fn enable_often(random: &mut Random, netlist: &mut Netlist) {
     }
 }
 
-/// Fills start word, codes and lists of an empty netlist that has its sizes. `clean` collects the wires
-/// that no read bit reaches (0 for the constants), from which address codes and RE are taken.
+/// Fills start, codes and lists of an empty netlist that has its sizes. `clean` collects the wires that
+/// no read bit reaches (0 for the constants), from which address codes and RE are taken; no two address
+/// bits have the same wire.
 pub fn fill(random: &mut Random, mut netlist: Netlist) -> Netlist {
     let mut clean: Vec<u32> = (0..netlist.first_read_bit()).collect();
     for index in 0..netlist.gate_count {
@@ -125,8 +129,13 @@ pub fn fill(random: &mut Random, mut netlist: Netlist) -> Netlist {
         netlist.latches.push(Latch { next, reset });
     }
     netlist.start_word = random_word(random, netlist.data_width);
+    if random.percent(UNKNOWN_STARTS) {
+        (netlist.start_word, netlist.unknown_start) = (0, 1);
+    }
+    let mut untied = clean.clone();
     for code in &mut netlist.address[..netlist.address_width as usize] {
-        *code = clean_code(random, &clean);
+        *code = clean_code(random, &untied);
+        untied.retain(|wire| *wire == 0 || *wire != *code / 2);
     }
     for code in &mut netlist.write_data[..netlist.data_width as usize] {
         *code = any_code(random, wires);
@@ -183,7 +192,7 @@ pub type Shape = (&'static str, fn(&Netlist) -> bool);
 
 /// The shapes that random netlists must have often.
 #[rustfmt::skip]
-pub const SHAPES: [Shape; 21] = [
+pub const SHAPES: [Shape; 23] = [
     ("I = 0", |it| it.inputs == 0),
     ("L = 0", |it| it.latch_count == 0),
     ("A = 0", |it| it.gate_count == 0),
@@ -192,11 +201,13 @@ pub const SHAPES: [Shape; 21] = [
     ("m = 12", |it| it.address_width == 12),
     ("n = 1", |it| it.data_width == 1),
     ("n = 32", |it| it.data_width == 32),
-    ("start word 0", |it| it.start_word == 0),
+    ("unknown start", |it| it.unknown_start == 1),
+    ("start word 0", |it| it.unknown_start == 0 && it.start_word == 0),
     ("start word 2^n - 1", |it| u64::from(it.start_word) + 1 == 1 << it.data_width),
     ("constant WE", |it| it.write_enable < 2),
     ("constant RE", |it| it.read_enable < 2),
     ("constant P", |it| it.property < 2),
+    ("every address bit a wire", |it| it.address_codes().iter().all(|code| *code > 1)),
     ("constant address bit", |it| it.address_codes().iter().any(|code| *code < 2)),
     ("constant write-data bit", |it| it.write_data_codes().iter().any(|code| *code < 2)),
     ("constant operand", |it| it.gates.iter().any(|gate| gate.left < 2)),
@@ -228,6 +239,10 @@ pub fn damaged_record(random: &mut Random, netlist: &Netlist) -> Netlist {
     let beyond = 2 * netlist.wire_count() + 4;
     let any = random.below(beyond);
     let number = random.pick(&[any, any, beyond - 3, beyond - 2, u32::MAX]);
+    if random.percent(15) {
+        tie(random, &mut damaged);
+        return damaged;
+    }
     let entry = match random.below(6) {
         0 => damaged.latches.first_mut().map(|latch| &mut latch.reset),
         1 => damaged.latches.last_mut().map(|latch| &mut latch.next),
@@ -242,6 +257,13 @@ pub fn damaged_record(random: &mut Random, netlist: &Netlist) -> Netlist {
     damaged
 }
 
+/// Puts the wire of one address bit on another, if there are two, often inverted.
+pub fn tie(random: &mut Random, netlist: &mut Netlist) {
+    let bits = netlist.address_width as usize;
+    let (from, to) = (random.index(bits), random.index(bits));
+    netlist.address[to] = netlist.address[from] ^ random.below(2);
+}
+
 /// A sheet after one or two random changes; it may still be an accepted sheet.
 pub fn damaged_sheet(random: &mut Random, sheet: &[u8]) -> Vec<u8> {
     let mut damaged = sheet.to_vec();
@@ -250,13 +272,33 @@ pub fn damaged_sheet(random: &mut Random, sheet: &[u8]) -> Vec<u8> {
         if damaged.is_empty() || damaged.len() % LINE_BYTES != 0 {
             break;
         }
-        match random.below(3) {
-            0 => damage_bytes(random, &mut damaged),
-            1 => damage_lines(random, &mut damaged),
+        match random.below(12) {
+            0 => tie_lines(random, &mut damaged),
+            1..=4 => damage_bytes(random, &mut damaged),
+            5..=8 => damage_lines(random, &mut damaged),
             _ => damage_field(random, &mut damaged),
         }
     }
     damaged
+}
+
+/// Puts the line of one address bit in place of another's, often with its code inverted.
+fn tie_lines(random: &mut Random, sheet: &mut [u8]) {
+    let is_address = |at: &usize| sheet[*at] == b'A';
+    let lines: Vec<usize> = (0..sheet.len())
+        .step_by(LINE_BYTES)
+        .filter(is_address)
+        .collect();
+    if lines.is_empty() {
+        return;
+    }
+    let (from, to) = (random.pick(&lines), random.pick(&lines));
+    sheet.copy_within(from..from + LINE_BYTES, to);
+    // An even digit and the odd one behind it are one wire.
+    let last_digit = &mut sheet[to + FIELD_BYTES];
+    if from != to && last_digit.is_ascii_digit() && random.percent(50) {
+        *last_digit ^= 1;
+    }
 }
 
 fn damage_bytes(random: &mut Random, sheet: &mut Vec<u8>) {

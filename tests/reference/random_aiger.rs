@@ -6,7 +6,7 @@ use super::aiger::{import, Text};
 use super::netlist::{Netlist, MAX_ADDRESS_WIDTH, MAX_DATA_WIDTH, MAX_WIRES};
 use super::random::{tiny_netlist, wide_netlist, Random};
 use super::refusal::{
-    Refusal, MEMORY_LOOP, NOT_WELL_FORMED, NO_ROOM, SIZE, UNDEFINED, WRONG_COUNTS,
+    Refusal, MEMORY_LOOP, NOT_WELL_FORMED, NO_ROOM, SIZE, TIED_ADDRESS, UNDEFINED, WRONG_COUNTS,
 };
 
 /// A call of `import`.
@@ -15,6 +15,7 @@ pub struct Call {
     pub text: Vec<u8>,
     /// m, n and the start word.
     pub memory: [u32; 3],
+    pub unknown_start: u32,
     /// Lengths of the lent latch and gate lists.
     pub rooms: [usize; 2],
 }
@@ -23,7 +24,8 @@ impl Call {
     pub fn import(&self) -> Result<Netlist, Refusal> {
         let [m, n, word] = self.memory;
         let [latch_room, gate_room] = self.rooms;
-        import(&self.text, m, n, word, latch_room, gate_room)
+        let flag = self.unknown_start;
+        import(&self.text, m, n, word, flag, latch_room, gate_room)
     }
 }
 
@@ -32,6 +34,7 @@ impl Call {
 pub struct Draft {
     pub text: Text,
     pub memory: [u32; 3],
+    pub unknown_start: u32,
     pub rooms: [usize; 2],
 }
 
@@ -40,6 +43,7 @@ impl Draft {
         Call {
             text: self.text.write(),
             memory: self.memory,
+            unknown_start: self.unknown_start,
             rooms: self.rooms,
         }
     }
@@ -146,6 +150,7 @@ pub fn draft_of(random: &mut Random, netlist: &Netlist, numbering: Numbering) ->
             netlist.data_width,
             netlist.start_word,
         ],
+        unknown_start: netlist.unknown_start,
         rooms: [netlist.latches.len(), netlist.gates.len()],
     }
 }
@@ -236,7 +241,7 @@ fn fresh_variables(text: &mut Text, count: usize) -> Vec<u32> {
 /// no place for it, which then is as it was.
 pub type DraftFault = (&'static str, fn(&mut Random, &mut Draft) -> Option<Refusal>);
 
-pub const DRAFT_FAULTS: [DraftFault; 22] = [
+pub const DRAFT_FAULTS: [DraftFault; 24] = [
     ("odd definition", odd_definition),
     ("definition of a constant", constant_definition),
     ("definition repeated", repeated_definition),
@@ -254,8 +259,10 @@ pub const DRAFT_FAULTS: [DraftFault; 22] = [
     ("data width 0", data_width_0),
     ("data width 33", data_width_33),
     ("start word beyond its limit", start_word_beyond),
+    ("flag of the start beyond 1", start_flag_beyond),
     ("601 of a kind", too_many_of_a_kind),
     ("V = 601", too_many_wires),
+    ("address bits tied", address_bits_tied),
     ("read bit as address or RE", read_bit_as_address),
     ("memory loop through gates", loop_through_gates),
     ("short list", short_list),
@@ -435,6 +442,12 @@ fn data_width_33(_: &mut Random, draft: &mut Draft) -> Option<Refusal> {
 fn start_word_beyond(random: &mut Random, draft: &mut Draft) -> Option<Refusal> {
     let first = 1u32.checked_shl(draft.memory[1])?;
     draft.memory[2] = random.pick(&[first, first + 1, u32::MAX]);
+    draft.unknown_start = 0;
+    refused(SIZE, 2)
+}
+
+fn start_flag_beyond(random: &mut Random, draft: &mut Draft) -> Option<Refusal> {
+    draft.unknown_start = random.pick(&[2, 3, 1 << 31, u32::MAX]);
     refused(SIZE, 2)
 }
 
@@ -480,6 +493,17 @@ fn first_address_line(draft: &Draft) -> u32 {
     3 + (draft.text.latches.len() + draft.text.gates.len()) as u32
 }
 
+fn address_bits_tied(random: &mut Random, draft: &mut Draft) -> Option<Refusal> {
+    let later = random.below(draft.memory[0]);
+    let earlier = random.below(later.max(1));
+    let literal = draft.text.outputs[earlier as usize];
+    if later == 0 || literal < 2 {
+        return None;
+    }
+    draft.text.outputs[later as usize] = literal ^ random.below(2);
+    refused(TIED_ADDRESS, first_address_line(draft) + later)
+}
+
 fn read_bit_as_address(random: &mut Random, draft: &mut Draft) -> Option<Refusal> {
     let [m, n, _] = draft.memory;
     let literal = read_bit(random, draft);
@@ -508,7 +532,14 @@ fn loop_through_gates(random: &mut Random, draft: &mut Draft) -> Option<Refusal>
     let at = random.index(2);
     gates[second][1] = operands[at];
     gates[second][2] = operands[1 - at];
-    draft.text.outputs[0] = gates[second][0] | random.below(2);
+    let literal = gates[second][0] | random.below(2);
+    // The other address bits are not to be tied to this one.
+    for output in &mut draft.text.outputs[1..draft.memory[0] as usize] {
+        if *output / 2 == literal / 2 {
+            *output = 0;
+        }
+    }
+    draft.text.outputs[0] = literal;
     refused(MEMORY_LOOP, first_address_line(draft))
 }
 

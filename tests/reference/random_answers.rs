@@ -13,7 +13,9 @@ use super::circuit::Run;
 use super::formula::frame_base;
 use super::netlist::Netlist;
 use super::random::{random_feeds, tiny_netlist, wide_netlist, Random};
-use super::refusal::{Refusal, CODE, DEPTH, MEMORY_LOOP, NO_ROOM, OUT_OF_ORDER, SIZE};
+use super::refusal::{
+    Refusal, CODE, DEPTH, MEMORY_LOOP, NO_ROOM, OUT_OF_ORDER, SIZE, TIED_ADDRESS,
+};
 
 /// A run, and the numbers of an answer that feeds it, without the 0 that ends them.
 #[derive(Clone, Debug)]
@@ -666,13 +668,14 @@ pub type CallFault = (&'static str, fn(&mut Random, &mut Call) -> Option<Refusal
 
 /// In the order of their tests. Of two at once, the later is to be made first: it relies on what the
 /// earlier damages.
-pub const CALL_FAULTS: [CallFault; 7] = [
+pub const CALL_FAULTS: [CallFault; 8] = [
     ("size", |random, call| {
-        let (field, place) = random.pick(&[(0, 1), (1, 1), (2, 2), (3, 2)]);
+        let (field, place) = random.pick(&[(0, 1), (1, 1), (2, 2), (3, 2), (4, 2)]);
         match field {
             0 => call.netlist.inputs = 601,
             1 => call.netlist.gate_count = u32::MAX,
             2 => call.netlist.address_width = random.pick(&[0, 13, u32::MAX]),
+            3 => call.netlist.unknown_start = random.pick(&[2, 3, u32::MAX]),
             _ => call.netlist.data_width = random.pick(&[0, 33, u32::MAX]),
         }
         fault(SIZE, place)
@@ -691,6 +694,17 @@ pub const CALL_FAULTS: [CallFault; 7] = [
     ("code", |random, call| {
         call.netlist.property = random.pick(&[2 * call.netlist.wire_count() + 2, u32::MAX]);
         fault(CODE, call.netlist.line_count())
+    }),
+    ("tied address", |random, call| {
+        let netlist = &mut call.netlist;
+        let later = random.below(netlist.address_width) as usize;
+        let code = netlist.address[random.index(later.max(1))];
+        if later == 0 || code < 2 {
+            return None;
+        }
+        netlist.address[later] = code ^ random.below(2);
+        let lines_behind = netlist.address_width + netlist.data_width - later as u32;
+        fault(TIED_ADDRESS, netlist.line_count() - lines_behind)
     }),
     ("memory loop", |random, call| {
         call.netlist.read_enable = 2 * call.netlist.first_read_bit() + random.below(2);

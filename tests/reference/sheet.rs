@@ -1,5 +1,5 @@
-//! Sheets: reading, the depth line before a sheet, and writing for tests.
-//! RULES S1 to S10, T33 to T37, P1 and P4.
+//! Sheets: reading, the depth line before a sheet, and writing.
+//! RULES S1 to S10, T33 to T37, P1 and P4; the empty start field of K7, 17 of K8, and K9.
 
 use super::netlist::{Gate, Kind, Latch, Netlist, MAX_DEPTH};
 use super::refusal::{require, Refusal, DEPTH, MISPRINT, NO_ROOM, OUT_OF_ORDER, RAGGED};
@@ -12,15 +12,25 @@ pub const FIELDS: usize = 3;
 /// Ten columns and a line feed.
 pub const DEPTH_LINE_BYTES: usize = FIELD_BYTES + 1;
 
-/// Letter, kind, and how many of the three fields are filled; the rest are empty.
-const LETTERS: [(u8, Kind, usize); 7] = [
-    (b'N', Kind::Sizes, 3),
-    (b'M', Kind::Memory, 3),
-    (b'L', Kind::Latch, 2),
-    (b'G', Kind::Gate, 2),
-    (b'A', Kind::Address, 1),
-    (b'D', Kind::WriteData, 1),
-    (b'C', Kind::Control, 3),
+/// What a letter wants of a field.
+#[derive(Clone, Copy, Debug, PartialEq, Eq)]
+enum Want {
+    Number,
+    Empty,
+    /// The start word, which may be left out (K7).
+    Either,
+}
+
+use Want::{Either, Empty, Number};
+
+const LETTERS: [(u8, Kind, [Want; FIELDS]); 7] = [
+    (b'N', Kind::Sizes, [Number, Number, Number]),
+    (b'M', Kind::Memory, [Number, Number, Either]),
+    (b'L', Kind::Latch, [Number, Number, Empty]),
+    (b'G', Kind::Gate, [Number, Number, Empty]),
+    (b'A', Kind::Address, [Number, Empty, Empty]),
+    (b'D', Kind::WriteData, [Number, Empty, Empty]),
+    (b'C', Kind::Control, [Number, Number, Number]),
 ];
 
 /// The number in a field; none for an empty field and for everything that is not a number.
@@ -37,24 +47,26 @@ fn read_number(field: &[u8]) -> Option<u32> {
     u32::try_from(value).ok()
 }
 
-/// The kind and the numbers of a line, with 0 for empty fields; none for a misprint.
+/// The kind and the fields of a line, none for an empty field; none at all for a misprint.
 /// The fields are judged by the letter on the line, whichever line is due.
-pub fn read_line(line: &[u8]) -> Option<(Kind, [u32; FIELDS])> {
-    let (_, kind, filled) = *LETTERS.iter().find(|row| row.0 == line[0])?;
+pub fn read_line(line: &[u8]) -> Option<(Kind, [Option<u32>; FIELDS])> {
+    let (_, kind, wants) = *LETTERS.iter().find(|row| row.0 == line[0])?;
     let (fields, end) = line[1..].split_at(FIELDS * FIELD_BYTES);
-    let mut numbers = [0; FIELDS];
+    let mut numbers = [None; FIELDS];
     for (index, field) in fields.chunks(FIELD_BYTES).enumerate() {
-        if index < filled {
-            numbers[index] = read_number(field)?;
-        } else if field.iter().any(|byte| *byte != b' ') {
-            return None;
-        }
+        let is_empty = field.iter().all(|byte| *byte == b' ');
+        numbers[index] = match (wants[index], is_empty) {
+            (Number, true) | (Empty, false) => return None,
+            (Empty | Either, true) => None,
+            (Number | Either, false) => Some(read_number(field)?),
+        };
     }
     (end == b"\n").then_some((kind, numbers))
 }
 
-fn store(netlist: &mut Netlist, kind: Kind, index: usize, numbers: [u32; FIELDS]) {
-    let [first, second, third] = numbers;
+/// Where the start field is empty, the record's start word is 0.
+fn store(netlist: &mut Netlist, kind: Kind, index: usize, fields: [Option<u32>; FIELDS]) {
+    let [first, second, third] = fields.map(Option::unwrap_or_default);
     match kind {
         Kind::Sizes => {
             netlist.inputs = first;
@@ -65,6 +77,7 @@ fn store(netlist: &mut Netlist, kind: Kind, index: usize, numbers: [u32; FIELDS]
             netlist.address_width = first;
             netlist.data_width = second;
             netlist.start_word = third;
+            netlist.unknown_start = u32::from(fields[2].is_none());
         }
         Kind::Latch => netlist.latches.push(Latch {
             next: first,
@@ -90,13 +103,13 @@ fn take_line(netlist: &mut Netlist, line: &[u8], place: u32) -> Result<(), Refus
         number: MISPRINT,
         place,
     };
-    let (kind, numbers) = read_line(line).ok_or(misprint)?;
+    let (kind, fields) = read_line(line).ok_or(misprint)?;
     let due = netlist.line_at(place);
     let index = match due {
         Some((kind_due, index)) if kind_due == kind => index,
         _ => return require(false, OUT_OF_ORDER, place),
     };
-    store(netlist, kind, index, numbers);
+    store(netlist, kind, index, fields);
     netlist.check_line(place)
 }
 
@@ -114,6 +127,7 @@ pub fn read_sheet(file: &[u8], latch_room: usize, gate_room: usize) -> Result<Ne
     }
     // Before line 2 is read the widths are 0 and the count is still above 1: M is then missing.
     require(lines == netlist.line_count(), OUT_OF_ORDER, lines + 1)?;
+    netlist.check_ties()?;
     netlist.check_loop()?;
     let room = latch_room >= netlist.latches.len() && gate_room >= netlist.gates.len();
     require(room, NO_ROOM, 0)?;
@@ -145,11 +159,11 @@ pub fn write_depth(depth: u32) -> Vec<u8> {
 fn fields_of(netlist: &Netlist, kind: Kind, index: usize) -> Vec<u32> {
     match kind {
         Kind::Sizes => vec![netlist.inputs, netlist.latch_count, netlist.gate_count],
-        Kind::Memory => vec![
-            netlist.address_width,
-            netlist.data_width,
-            netlist.start_word,
-        ],
+        Kind::Memory => {
+            let mut fields = vec![netlist.address_width, netlist.data_width];
+            fields.extend((!netlist.has_unknown_start()).then_some(netlist.start_word));
+            fields
+        }
         Kind::Latch => vec![netlist.latches[index].next, netlist.latches[index].reset],
         Kind::Gate => vec![netlist.gates[index].left, netlist.gates[index].right],
         Kind::Address => vec![netlist.address[index]],

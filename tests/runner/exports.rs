@@ -9,17 +9,18 @@ use super::reference::refusal::Refusal;
 
 #[repr(C)]
 #[derive(Clone, Copy, Debug, Default, PartialEq, Eq)]
-struct Code(u32);
+pub struct Code(u32);
 
 #[repr(C)]
 #[derive(Clone, Copy, Debug, Default, PartialEq, Eq)]
-struct Record {
+pub struct Record {
     inputs: u32,
     latches: u32,
     gates: u32,
     m: u32,
     n: u32,
     initial_word: u32,
+    unknown_start: u32,
     address: [Code; 12],
     write_data: [Code; 32],
     we: Code,
@@ -29,21 +30,21 @@ struct Record {
 
 #[repr(C)]
 #[derive(Clone, Copy, Debug, PartialEq, Eq)]
-struct GateRecord {
+pub struct GateRecord {
     left: Code,
     right: Code,
 }
 
 #[repr(C)]
 #[derive(Clone, Copy, Debug, PartialEq, Eq)]
-struct LatchRecord {
+pub struct LatchRecord {
     next: Code,
     reset: u32,
 }
 
 #[repr(C)]
 #[derive(Clone, Copy, Debug, PartialEq, Eq)]
-struct CountReply {
+pub struct CountReply {
     number: u32,
     place: u32,
     count: usize,
@@ -84,6 +85,7 @@ struct LineReply {
     first: u32,
     second: u32,
     third: u32,
+    empty: u32,
     line: u32,
 }
 
@@ -151,6 +153,7 @@ extern "C" {
         m: u32,
         n: u32,
         word: u32,
+        unknown_start: u32,
         latches: *mut LatchRecord,
         latch_room: usize,
         gates: *mut GateRecord,
@@ -180,6 +183,7 @@ fn record_of(netlist: &Netlist) -> Record {
         m: netlist.address_width,
         n: netlist.data_width,
         initial_word: netlist.start_word,
+        unknown_start: netlist.unknown_start,
         address: netlist.address.map(Code),
         write_data: netlist.write_data.map(Code),
         we: Code(netlist.write_enable),
@@ -234,9 +238,9 @@ impl<T: Copy + PartialEq> Lent<T> {
 
 /// A netlist as the C functions take it.
 pub struct Lists {
-    record: Record,
-    latches: Vec<LatchRecord>,
-    gates: Vec<GateRecord>,
+    pub record: Record,
+    pub latches: Vec<LatchRecord>,
+    pub gates: Vec<GateRecord>,
 }
 
 /// What a call answered; `Err` where it broke a promise that holds whatever it is asked.
@@ -267,7 +271,7 @@ pub fn parameters(group: Group) -> (u32, u32, u32) {
 }
 
 /// A call that writes into a slice of `room` entries and answers how many: the entries written.
-fn written_into<T: Copy + PartialEq>(
+pub fn written_into<T: Copy + PartialEq>(
     room: usize,
     fill: fn(usize) -> T,
     call: impl FnOnce(*mut T, usize) -> CountReply,
@@ -282,7 +286,7 @@ fn written_into<T: Copy + PartialEq>(
 }
 
 /// No number of any formula, different at each index.
-fn unwritten(index: usize) -> i32 {
+pub fn unwritten(index: usize) -> i32 {
     i32::MIN + index as i32
 }
 
@@ -450,8 +454,13 @@ pub fn read(file: &[u8], latch_room: usize, gate_room: usize) -> Answer<Netlist>
     })
 }
 
-/// Imports a text for m, n and start word into lists of these lengths.
-pub fn import(text: &[u8], [m, n, word]: [u32; 3], rooms: [usize; 2]) -> Answer<Netlist> {
+/// Imports a text for m, n and start word, or with an unknown start, into lists of these lengths.
+pub fn import(
+    text: &[u8],
+    [m, n, word]: [u32; 3],
+    unknown_start: u32,
+    rooms: [usize; 2],
+) -> Answer<Netlist> {
     // SAFETY: each pointer and length are those of a live slice, and only the two lists are written to.
     delivered(rooms, |latches, gates| unsafe {
         marrubigai_import(
@@ -460,6 +469,7 @@ pub fn import(text: &[u8], [m, n, word]: [u32; 3], rooms: [usize; 2]) -> Answer<
             m,
             n,
             word,
+            unknown_start,
             latches.as_mut_ptr(),
             latches.len(),
             gates.as_mut_ptr(),
@@ -468,15 +478,16 @@ pub fn import(text: &[u8], [m, n, word]: [u32; 3], rooms: [usize; 2]) -> Answer<
     })
 }
 
-/// A line: its letter and its fields.
-pub type Line = (u8, [u32; 3]);
+/// A line: its letter, its fields, and 1 where the start word is left out.
+pub type Line = (u8, [u32; 3], u32);
 
 /// What is answered of the line behind the first `line` lines, `None` where there is none, and the new line number.
 pub fn next_line(file: &[u8], line: u32) -> (Answer<Option<Line>>, u32) {
     // SAFETY: the pointer and the length are those of a live slice.
     let reply = unsafe { marrubigai_next_line(file.as_ptr(), file.len(), line) };
-    let found = (reply.letter, [reply.first, reply.second, reply.third]);
-    let zeros = found == (0, [0; 3]);
+    let fields = [reply.first, reply.second, reply.third];
+    let found = (reply.letter, fields, reply.empty);
+    let zeros = found == (0, [0; 3], 0);
     let found = answer(reply.number, reply.place, zeros, || match found.0 {
         0 if zeros => Ok(None),
         0 => Err("fields without a letter"),
@@ -486,7 +497,7 @@ pub fn next_line(file: &[u8], line: u32) -> (Answer<Option<Line>>, u32) {
 }
 
 /// No byte of any text, different at nearby indices.
-fn unprinted(index: usize) -> u8 {
+pub fn unprinted(index: usize) -> u8 {
     128 | index as u8
 }
 
@@ -519,6 +530,7 @@ fn netlist_of(net: Record, latches: &[LatchRecord], gates: &[GateRecord]) -> Net
         address_width: net.m,
         data_width: net.n,
         start_word: net.initial_word,
+        unknown_start: net.unknown_start,
         address: net.address.map(|code| code.0),
         write_data: net.write_data.map(|code| code.0),
         write_enable: net.we.0,

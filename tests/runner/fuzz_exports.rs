@@ -4,7 +4,7 @@ use super::mutate::{change_bytes, netlist, sheet, LIMITS};
 use super::prints;
 use super::reference::answer_calls::{marks, Call as ReplayCall};
 use super::reference::netlist::{Gate, Latch, Netlist};
-use super::reference::random::{damaged_record, Random};
+use super::reference::random::{damaged_record, tie, Random};
 use super::reference::random_aiger::{damaged_call, draft_of, Call as ImportCall, Numbering};
 use super::reference::random_answers::{random_draft, written, written_unsatisfiable, CALL_FAULTS};
 use super::reference::Tally;
@@ -15,7 +15,7 @@ fn record(random: &mut Random) -> Netlist {
     let mut record = netlist(random);
     for _ in 0..random.below(4) {
         let number = random.pick(&LIMITS);
-        let entry = match random.below(12) {
+        let entry = match random.below(14) {
             0 => &mut record.inputs,
             1 => &mut record.latch_count,
             2 => &mut record.gate_count,
@@ -29,6 +29,11 @@ fn record(random: &mut Random) -> Netlist {
             9 => &mut record.write_data[random.index(32)],
             10 if record.address_width <= 12 && record.address_width > 0 && fits(&record) => {
                 record = damaged_record(random, &record);
+                continue;
+            }
+            11 => &mut record.unknown_start,
+            12 if (2..=12).contains(&record.address_width) => {
+                tie(random, &mut record);
                 continue;
             }
             _ => {
@@ -93,7 +98,7 @@ fn room(random: &mut Random) -> usize {
     random.pick(&[some, some, some, 0, 1, 600, 6_000])
 }
 
-/// An import with hostile bytes, m, n, start word or lists, or several of these, or none.
+/// An import with hostile bytes, m, n, start word, flag or lists, or several of these, or none.
 fn import_call(random: &mut Random) -> ImportCall {
     let mut call = if random.percent(20) {
         damaged_call(random)
@@ -105,10 +110,11 @@ fn import_call(random: &mut Random) -> ImportCall {
         let numbering = random.pick(&[Numbering::InOrder, Numbering::Shuffled]);
         draft_of(random, &netlist, numbering).call()
     };
-    match random.below(8) {
+    match random.below(9) {
         0 => call.memory[random.index(3)] = random.pick(&LIMITS),
         1 => call.memory[random.index(3)] = random.below(4),
         2 => call.rooms[random.index(2)] = room(random),
+        7 => call.unknown_start = random.pick(&[0, 1, 1, 2, u32::MAX]),
         3 => change_header(random, &mut call.text),
         4 => {
             call.text = (0..random.below(40))

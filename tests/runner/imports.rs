@@ -1,5 +1,5 @@
 //! `import` through the static library: the record and the lists, what is left untouched, the order of the tests, and refusals 11,
-//! 12, 13, 4, 6 and 9 with their places. 5 is met by no text.
+//! 12, 13, 4, 17, 6 and 9 with their places. 5 is met by no text.
 
 use super::calls::differ;
 use super::exports::{import, Answer, Lists};
@@ -26,7 +26,7 @@ impl Library {
     /// What the call answers; counted. A room beyond what can be lent is cut down to what is always enough.
     fn imported(&self, call: &Call) -> Answer<Netlist> {
         let rooms = call.rooms.map(|room| room.min(MOST_ROOM));
-        let found = import(&call.text, call.memory, rooms);
+        let found = import(&call.text, call.memory, call.unknown_start, rooms);
         Counts::add(&self.imports, &found);
         found
     }
@@ -36,7 +36,8 @@ impl Library {
         let (found, expected) = (self.imported(call), Ok(call.import()));
         tally.check_with(name, found == expected, || {
             let text = call.text.escape_ascii().to_string();
-            differ((text, call.memory, call.rooms), &found, &expected)
+            let start = (call.memory, call.unknown_start);
+            differ((text, start, call.rooms), &found, &expected)
         });
     }
 
@@ -64,7 +65,7 @@ pub fn tables(library: &Library, tally: &mut Tally) {
     }
 }
 
-/// All sets of fifteen faults: the first in the order of the tests decides.
+/// All sets of sixteen faults: the first in the order of the tests decides.
 pub fn fault_sets(library: &Library, tally: &mut Tally) {
     for (names, call, expected) in fault_set_rows() {
         library.import_verdict(tally, names, &call, expected);
@@ -178,7 +179,7 @@ const WIDTHS: [u32; 16] = [
 ];
 
 /// The verdict by rule on a text with all codes 0 and no latch or gate.
-fn of_widths(inputs: u32, outputs: u32, [m, n, word]: [u32; 3]) -> Verdict {
+fn of_widths(inputs: u32, outputs: u32, [m, n, word]: [u32; 3], unknown_start: u32) -> Verdict {
     let due = u64::from(m) + u64::from(n) + 3;
     if u64::from(outputs) != due || inputs < n {
         return (WRONG_COUNTS, 0);
@@ -187,13 +188,17 @@ fn of_widths(inputs: u32, outputs: u32, [m, n, word]: [u32; 3]) -> Verdict {
         return (SIZE, 1);
     }
     let widths_fit = (1..=12).contains(&m) && (1..=32).contains(&n);
-    if !widths_fit || inputs > 600 || u64::from(word) >= 1 << n {
+    let start_fits = || match unknown_start {
+        0 => u64::from(word) < 1 << n,
+        flag => flag == 1,
+    };
+    if !widths_fit || inputs > 600 || !start_fits() {
         return (SIZE, 2);
     }
     ACCEPTED
 }
 
-/// Every kind of m, n and start word on texts whose outputs are as many as they ask for, in 32 bits, one fewer or one more.
+/// Every kind of m, n, start word and flag on texts whose outputs are as many as they ask for, in 32 bits, one fewer or one more.
 pub fn memories(library: &Library, tally: &mut Tally) {
     for (m, n) in pairs(&WIDTHS) {
         let due = m.wrapping_add(n).wrapping_add(3);
@@ -212,15 +217,26 @@ pub fn memories(library: &Library, tally: &mut Tally) {
             ] {
                 let text = bytes_of(&plain_text([inputs, 0, 0], outputs));
                 let top = 1u32.checked_shl(n).unwrap_or(0);
-                for word in [0, 1, top.wrapping_sub(1), top, u32::MAX] {
+                for (word, unknown_start) in [
+                    (0, 0),
+                    (1, 0),
+                    (top.wrapping_sub(1), 0),
+                    (top, 0),
+                    (u32::MAX, 0),
+                    (0, 1),
+                    (u32::MAX, 1),
+                    (0, 2),
+                    (0, u32::MAX),
+                ] {
                     let memory = [m, n, word];
                     let call = Call {
                         text: text.clone(),
                         memory,
+                        unknown_start,
                         rooms: [0, 0],
                     };
-                    let expected = of_widths(inputs, outputs, memory);
-                    let name = (inputs, outputs, memory);
+                    let expected = of_widths(inputs, outputs, memory, unknown_start);
+                    let name = (inputs, outputs, memory, unknown_start);
                     library.import_verdict(tally, name, &call, expected);
                 }
             }
@@ -259,6 +275,7 @@ pub fn counts(library: &Library, tally: &mut Tally) {
                 let call = Call {
                     text: bytes_of(&(header.clone() + lines)),
                     memory: [1, 1, 0],
+                    unknown_start: 0,
                     rooms: [0, 0],
                 };
                 library.import_agrees(tally, header, &call);
@@ -272,6 +289,7 @@ pub fn counts(library: &Library, tally: &mut Tally) {
             let call = Call {
                 text: bytes_of(&format!("aag {} {count}{number}{zeros}/", u32::MAX)),
                 memory: [1, 1, 0],
+                unknown_start: 0,
                 rooms: [0, 0],
             };
             library.import_verdict(tally, (place, number), &call, (NOT_WELL_FORMED, 2));
@@ -301,7 +319,12 @@ pub fn ends(library: &Library, tally: &mut Tally) {
     for call in calls {
         let (lines, due) = lines_due(&call.text);
         for end in 0..due {
-            let found = import(&call.text[..end], call.memory, call.rooms);
+            let found = import(
+                &call.text[..end],
+                call.memory,
+                call.unknown_start,
+                call.rooms,
+            );
             Counts::add(&library.imports, &found);
             let whole_lines = call.text[..end]
                 .iter()
@@ -311,7 +334,12 @@ pub fn ends(library: &Library, tally: &mut Tally) {
             tally.equal((lines, end), found.map(verdict), Ok(expected));
         }
         for end in due..=call.text.len() {
-            let found = import(&call.text[..end], call.memory, call.rooms);
+            let found = import(
+                &call.text[..end],
+                call.memory,
+                call.unknown_start,
+                call.rooms,
+            );
             tally.equal((lines, end), found, Ok(call.import()));
         }
     }

@@ -52,10 +52,16 @@ pub fn sheet(random: &mut Random) -> Vec<u8> {
     bytes
 }
 
-/// One number of the N or the M line replaced.
+/// One number of the N or the M line replaced, or left out.
 fn change_sizes(random: &mut Random, sheet: &mut [u8]) {
     let at = random.index(2) * LINE_BYTES + 1 + random.index(FIELDS) * FIELD_BYTES;
-    let text = format!("{:>FIELD_BYTES$}", random.pick(&LIMITS));
+    let number = random.pick(&LIMITS).to_string();
+    let text = if random.percent(15) {
+        String::new()
+    } else {
+        number
+    };
+    let text = format!("{text:>FIELD_BYTES$}");
     sheet[at..at + FIELD_BYTES].copy_from_slice(text.as_bytes());
 }
 
@@ -71,6 +77,7 @@ fn lines_of_letters(random: &mut Random) -> Vec<u8> {
         let (letter, filled) = random.pick(&[
             (b'N', 3),
             (b'M', 3),
+            (b'M', 2),
             (b'L', 2),
             (b'G', 2),
             (b'A', 1),

@@ -1,5 +1,5 @@
 //! `read` and `next_line` through the static library: the record and the lists, what is left untouched, refusals 1
-//! to 6 and 9; a line, a misprint or no line, and the number behind it.
+//! to 6, 9 and 17; a line, a misprint or no line, and the number behind it.
 
 use super::calls::differ;
 use super::exports::{next_line, read, Answer, Line};
@@ -7,6 +7,7 @@ use super::mutate;
 use super::reference::check_refusals::{
     field_and_letter_rows, length_rows, short_sheet_rows, verdict, ACCEPTED, ROOMS,
 };
+use super::reference::netlist::Kind;
 use super::reference::random::{damaged_sheet, wide_netlist, Random};
 use super::reference::refusal::{Refusal, MISPRINT, NO_ROOM};
 use super::reference::sheet::{expand, read_line, read_sheet, write_sheet, LINE_BYTES};
@@ -36,7 +37,10 @@ fn line_behind(file: &[u8], line: u32) -> (Result<Option<Line>, Refusal>, u32) {
         number: MISPRINT,
         place: line + 1,
     };
-    let read = read_line(bytes).map(|(_, numbers)| (bytes[0], numbers));
+    let read = read_line(bytes).map(|(kind, fields)| {
+        let empty = kind == Kind::Memory && fields[2].is_none();
+        (bytes[0], fields.map(Option::unwrap_or_default), u32::from(empty))
+    });
     (read.map(Some).ok_or(misprint), line + 1)
 }
 
@@ -57,15 +61,20 @@ impl Library {
 /// Answers that were written down: the end of a file, a line cut short, a misprint with its place, and line 616.
 fn stated_lines(tally: &mut Tally) {
     let two = expand("N 1 0 0/M 1 1 0");
+    let unknown = expand("M 1 1/L 2 0/M 1");
     let misprinted = expand("N 1 0 0/X 1 1 0/A 0");
     let long = vec![expand("C 1 2 3"); 700].concat();
     let none = |line| (Ok(Ok(None)), line);
-    let read = |letter, numbers, line| (Ok(Ok(Some((letter, numbers)))), line);
+    let read = |letter, numbers, line| (Ok(Ok(Some((letter, numbers, 0)))), line);
+    let left_out = (Ok(Ok(Some((b'M', [1, 1, 0], 1)))), 1);
     let misprint = |place| (Ok(Err(Refusal { number: 2, place })), place);
-    let rows: [(&str, &[u8], u32, (Answer<Option<Line>>, u32)); 15] = [
+    let rows: [(&str, &[u8], u32, (Answer<Option<Line>>, u32)); 18] = [
         ("no file", &[], 0, none(0)),
         ("the first line", &two, 0, read(b'N', [1, 0, 0], 1)),
         ("the last line", &two, 1, read(b'M', [1, 1, 0], 2)),
+        ("an empty start field", &unknown, 0, left_out),
+        ("a field that is always empty", &unknown, 1, read(b'L', [2, 0, 0], 2)),
+        ("n left out", &unknown, 2, misprint(3)),
         ("a missing line", &two, 2, none(2)),
         ("a line further behind", &two, 3, none(3)),
         ("31 bytes", &two[..31], 0, none(0)),

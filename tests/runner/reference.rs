@@ -18,6 +18,8 @@ pub mod answer_calls;
 pub mod check_answers;
 #[path = "../reference/check_examples.rs"]
 pub mod check_examples;
+#[path = "../reference/check_position.rs"]
+pub mod check_position;
 #[path = "../reference/check_refusals.rs"]
 pub mod check_refusals;
 #[path = "../reference/circuit.rs"]
@@ -26,6 +28,10 @@ pub mod circuit;
 pub mod formula;
 #[path = "../reference/netlist.rs"]
 pub mod netlist;
+#[path = "../reference/number.rs"]
+pub mod number;
+#[path = "../reference/position.rs"]
+pub mod position;
 #[path = "../reference/random.rs"]
 pub mod random;
 #[path = "../reference/random_aiger.rs"]

@@ -6,7 +6,7 @@ use super::calls::differ;
 use super::exports::replay;
 use super::reference::answer::{trace_size, Claim};
 use super::reference::answer_calls::{marks, Call, Outcome};
-use super::reference::check_answers::{fault_set_rows, satisfiable, IDLE};
+use super::reference::check_answers::{fault_set_rows, memory_rows, satisfiable, IDLE, UNKNOWN};
 use super::reference::check_examples::{accepted, of_sizes, FULL_RUN};
 use super::reference::circuit::Run;
 use super::reference::netlist::{Gate, Latch, MAX_DEPTH};
@@ -152,6 +152,12 @@ pub fn by_hand(library: &Library, tally: &mut Tally) {
             }
         }
     }
+    // the second implementation's rows, with unknown starts too
+    for (index, (call, memory)) in memory_rows().into_iter().enumerate() {
+        let found = library.replay(&call).map(|it| it.memory);
+        tally.equal(("memory", index), found, Ok(memory));
+        library.replay_agrees(tally, "memory", &call);
+    }
     let call = Call::new(&netlist, 1, satisfiable("2 -4 0"), [0, 3]);
     let trace = [b"10\n01\n", &call.trace[6..]].concat();
     tally.equal(
@@ -198,7 +204,8 @@ pub fn random_answers(library: &Library, tally: &mut Tally) {
 
 /// Answers damaged at every byte and in every line, as the second implementation judges them.
 pub fn damaged(library: &Library, tally: &mut Tally) {
-    let rows: [(u32, &str, &[u8]); 4] = [
+    let rows: [(u32, &str, &[u8]); 5] = [
+        (1, UNKNOWN, b"s SATISFIABLE\nv -2 -3 4 -5 6\nv 7 -8 9 -10 -11 0\n"),
         (1, FULL_RUN, b"c a\ns SATISFIABLE\nv 2 -4 0\n"),
         (
             1,

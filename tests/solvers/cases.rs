@@ -1,6 +1,6 @@
 //! Small random sheets with fixed seeds, and all runs of a small netlist.
 
-use super::reference::circuit::{value, Circuit, Feed, Run};
+use super::reference::circuit::{Circuit, Feed, Run};
 use super::reference::netlist::Netlist;
 use super::reference::random::{Random, enable_often, fill};
 
@@ -12,12 +12,21 @@ pub struct Case {
 
 /// Netlists with m, n at most 3 whose property depends on a read bit.
 pub fn small_cases(seed: u64, count: usize) -> Vec<Case> {
+    cases_of(seed, count, |_| true)
+}
+
+/// Those of them that have an unknown start.
+pub fn unknown_cases(seed: u64, count: usize) -> Vec<Case> {
+    cases_of(seed, count, Netlist::has_unknown_start)
+}
+
+fn cases_of(seed: u64, count: usize, is_wanted: fn(&Netlist) -> bool) -> Vec<Case> {
     let mut random = Random::new(seed);
     let mut cases = Vec::new();
     while cases.len() < count {
         let netlist = small_netlist(&mut random);
         let depth = random.below(5);
-        if depends_on_read_bit(&netlist, netlist.property) {
+        if depends_on_read_bit(&netlist, netlist.property) && is_wanted(&netlist) {
             cases.push(Case { netlist, depth });
         }
     }
@@ -47,23 +56,25 @@ fn small_netlist(random: &mut Random) -> Netlist {
 }
 
 /// All runs to frame `depth`, where none is fed more than `most` free bits: I input bits in each frame,
-/// and n idle bits in frame 0 where RE is false there. There are then at most 2^most.
+/// and n bits where RE is false in frame 0 or a word of an unknown start is read first. There are then
+/// at most 2^most, and they are the runs from every starting memory.
 pub fn all_runs(netlist: &Netlist, depth: u32, most: u32) -> Option<Vec<Run>> {
     let mut prefixes = vec![(Circuit::new(netlist), Vec::new(), 0)];
-    for frame in 0..=depth {
+    for _ in 0..=depth {
         let mut longer = Vec::new();
         for (circuit, feeds, bits) in &prefixes {
-            for inputs in 0..1 << netlist.inputs {
-                let reads = step(netlist, circuit, inputs, 0).reads;
-                let idle_bits = if frame > 0 || reads { 0 } else { netlist.data_width };
-                let bits = bits + netlist.inputs + idle_bits;
+            for inputs in all_inputs(netlist) {
+                let word_bits = if circuit.takes_fed_word(&inputs) { netlist.data_width } else { 0 };
+                let bits = bits + netlist.inputs + word_bits;
                 if bits > most {
                     return None;
                 }
-                for idle_word in 0..1 << idle_bits {
-                    let stepped = step(netlist, circuit, inputs, idle_word);
-                    let feeds: Vec<Feed> = [feeds.as_slice(), &[stepped.feed]].concat();
-                    longer.push((stepped.circuit, feeds, bits));
+                for idle_word in 0..1 << word_bits {
+                    let feed = Feed { inputs: inputs.clone(), idle_word };
+                    let mut circuit = circuit.clone();
+                    circuit.step(&feed);
+                    let feeds: Vec<Feed> = [feeds.as_slice(), &[feed]].concat();
+                    longer.push((circuit, feeds, bits));
                 }
             }
         }
@@ -73,23 +84,7 @@ pub fn all_runs(netlist: &Netlist, depth: u32, most: u32) -> Option<Vec<Run>> {
     Some(feeds.map(|feeds| Run::new(netlist, feeds)).collect())
 }
 
-struct Step<'a> {
-    circuit: Circuit<'a>,
-    feed: Feed,
-    reads: bool,
-}
-
-fn step<'a>(netlist: &Netlist, circuit: &Circuit<'a>, inputs: u32, idle_word: u32) -> Step<'a> {
-    let bit = |bit: u32| (inputs >> bit) & 1 == 1;
-    let feed = Feed {
-        inputs: (0..netlist.inputs).map(bit).collect(),
-        idle_word,
-    };
-    let mut circuit = circuit.clone();
-    let values = circuit.step(&feed);
-    Step {
-        circuit,
-        feed,
-        reads: value(&values, netlist.read_enable),
-    }
+fn all_inputs(netlist: &Netlist) -> impl Iterator<Item = Vec<bool>> {
+    let inputs = netlist.inputs;
+    (0..1u32 << inputs).map(move |bits| (0..inputs).map(|bit| (bits >> bit) & 1 == 1).collect())
 }

@@ -4,7 +4,7 @@
 use super::cadical::Cadical;
 use super::cases::all_runs;
 use super::programs::{Answer, Programs};
-use super::reference::agreement::{agrees, feeds_of_model, variable};
+use super::reference::agreement::{agrees, feeds_of_model, first_reads, variable};
 use super::reference::circuit::{word, Run};
 use super::reference::formula::pair_base;
 use super::reference::netlist::Netlist;
@@ -85,9 +85,16 @@ pub fn read_dimacs(text: &[u8]) -> Option<Formula> {
     })
 }
 
-/// Whether the run that a model feeds has every wire as assigned and breaks the property.
+/// Whether the run that a model feeds has every wire as assigned and breaks the property. Where the start
+/// is unknown, it begins with a whole memory: what the model reads first, and zeros.
 pub fn follows_its_run(netlist: &Netlist, depth: u32, model: &[bool]) -> bool {
-    let run = Run::new(netlist, &feeds_of_model(netlist, depth, model));
+    let feeds = feeds_of_model(netlist, depth, model);
+    let mut run = Run::new(netlist, &feeds);
+    if netlist.has_unknown_start() {
+        let word = |it: &Option<(usize, u32)>| it.map_or(0, |(_, word)| word);
+        let memory: Vec<u32> = first_reads(netlist, &run).iter().map(word).collect();
+        run = Run::from_memory(netlist, &memory, &feeds);
+    }
     run.first_break.is_some() && agrees(netlist, model, &run)
 }
 
@@ -131,8 +138,8 @@ fn sample_runs(netlist: &Netlist, depth: u32) -> Vec<Run> {
         .collect()
 }
 
-/// A run's inputs and read bits as literals. But in frame 0 where RE is false there the read bits follow
-/// from the rest, and an assignment with others is not to be taken for the run's.
+/// A run's inputs and read bits as literals. But where the run takes a fed word the read bits follow from
+/// the rest, and an assignment with others is not to be taken for the run's.
 fn projection(netlist: &Netlist, run: &Run) -> Vec<i32> {
     let inputs = 1..netlist.first_latch() as usize;
     let read_bits = netlist.first_read_bit() as usize..netlist.first_gate() as usize;

@@ -14,10 +14,13 @@ mod wrong;
 use std::path::PathBuf;
 
 use cadical::Cadical;
-use cases::{depends_on_read_bit, small_cases, Case};
+use std::collections::HashSet;
+
+use cases::{all_runs, depends_on_read_bit, small_cases, unknown_cases, Case};
 use judge::{judge, read_dimacs, Faults};
 use programs::{Answer, Programs};
-use reference::agreement::variable;
+use reference::agreement::{all_feeds, all_memories, variable, Frames};
+use reference::circuit::Run;
 use reference::sheet::{expand, read_sheet};
 use reference::tally::{Report, Tally};
 
@@ -37,6 +40,8 @@ fn main() {
     let mut report = Report::default();
     report.family("strict reading", |tally| strict_reading(tally, &programs));
     report.family("the full run's sheet", |tally| full_run(tally, &programs));
+    report.family("reads that must agree", |tally| agreeing_reads(tally, &programs));
+    report.family("starting memories", starting_memories);
     report.family("random sheets", |tally| random_sheets(tally, &programs));
     report.family("stories", |tally| {
         stories::stories(tally, &programs, examples)
@@ -104,17 +109,76 @@ fn full_run(tally: &mut Tally, programs: &Programs) {
     tally.equal("input false in frame 0", other, None);
 }
 
+/// Whether two reads in a row differ: wires input 1, latches 2 (a frame has been) and 3 (what it read), read bit 4, and gates of which
+/// the last is their AND. It reads in every frame and never writes.
+const READS_DIFFER: &str = "L 1 0/L 8 0/G 6 9/G 7 8/G 11 13/G 4 15";
+
+/// With an unknown start, two reads of one address agree, and reads of two need not.
+fn agreeing_reads(tally: &mut Tally, programs: &Programs) {
+    for (start, address, satisfiable) in [("", 0, false), ("", 2, true), (" 0", 2, false), (" 1", 0, false)] {
+        let sheet = expand(&format!("N 1 2 4/M 1 1{start}/{READS_DIFFER}/A {address}/D 0/C 0 1 17"));
+        let netlist = read_sheet(&sheet, 2, 4).expect("an accepted sheet");
+        for depth in [0, 1, 2, 5] {
+            let name = (start, address, depth);
+            let text = programs.frames(&netlist, depth);
+            let judgement = judge(programs, &netlist, depth, &text);
+            tally.equal((name, "faults"), judgement.faults, Faults::default());
+            tally.check((name, "all runs"), judgement.all_runs);
+            tally.equal((name, "verdict"), judgement.satisfiable, satisfiable && depth > 0);
+        }
+        let formula = read_dimacs(&programs.frames(&netlist, 1)).expect("a formula");
+        let mut solver = Cadical::new(formula.variables, &formula.numbers);
+        let [first, second] = [0, 1].map(|frame| variable(&netlist, frame, 1) as i32);
+        for (assumed, possible) in [
+            ([first, second], false),
+            ([-first, -second], false),
+            ([first, -second], satisfiable),
+            ([-first, second], satisfiable),
+        ] {
+            let found = solver.solve(&assumed).is_some();
+            tally.equal((start, address, assumed), found, possible);
+        }
+    }
+}
+
+/// The runs that `all_runs` finds for an unknown start are those from each whole starting memory.
+fn starting_memories(tally: &mut Tally) {
+    let is_small = |case: &&Case| {
+        let netlist = &case.netlist;
+        let feed_bits = netlist.data_width + netlist.inputs * (case.depth + 1);
+        netlist.data_width << netlist.address_width <= 6 && feed_bits <= 9
+    };
+    let cases = unknown_cases(4, 600);
+    let mut runs = 0;
+    let small: Vec<&Case> = cases.iter().filter(is_small).collect();
+    for (index, Case { netlist, depth }) in small.iter().enumerate() {
+        let from_memories: HashSet<Frames> = all_memories(netlist)
+            .iter()
+            .flat_map(|memory| {
+                all_feeds(netlist, *depth).map(|feeds| Run::from_memory(netlist, memory, &feeds).frames)
+            })
+            .collect();
+        let found = all_runs(netlist, *depth, 15).expect("few free bits");
+        runs += found.len();
+        let found: HashSet<Frames> = found.into_iter().map(|run| run.frames).collect();
+        tally.check((index, netlist, depth), found == from_memories);
+    }
+    tally.check(("sheets", small.len()), small.len() >= 100);
+    tally.remark = format!(" ({} sheets, {runs} runs)", small.len());
+}
+
 type Shape = (&'static str, fn(&Case) -> bool);
 
 /// What the random sheets must have often.
 #[rustfmt::skip]
-const SHAPES: [Shape; 10] = [
+const SHAPES: [Shape; 11] = [
     ("k = 0", |it| it.depth == 0),
     ("k = 4", |it| it.depth == 4),
     ("m = 1", |it| it.netlist.address_width == 1),
     ("m = 3", |it| it.netlist.address_width == 3),
     ("n = 1", |it| it.netlist.data_width == 1),
     ("n = 3", |it| it.netlist.data_width == 3),
+    ("unknown start", |it| it.netlist.has_unknown_start()),
     ("no input", |it| it.netlist.inputs == 0),
     ("no latch", |it| it.netlist.latch_count == 0),
     ("RE not constant", |it| it.netlist.read_enable > 1),
@@ -124,6 +188,7 @@ const SHAPES: [Shape; 10] = [
 fn random_sheets(tally: &mut Tally, programs: &Programs) {
     let cases = small_cases(1, SHEETS);
     let (mut satisfiable, mut all_runs, mut breaking) = (0, [0, 0], 0);
+    let mut unknown = 0;
     for (index, Case { netlist, depth }) in cases.iter().enumerate() {
         let text = programs.frames(netlist, *depth);
         let judgement = judge(programs, netlist, *depth, &text);
@@ -133,6 +198,7 @@ fn random_sheets(tally: &mut Tally, programs: &Programs) {
         satisfiable += usize::from(judgement.satisfiable);
         all_runs[usize::from(judgement.satisfiable)] += usize::from(judgement.all_runs);
         breaking += judgement.breaking_runs;
+        unknown += usize::from(judgement.all_runs && netlist.has_unknown_start());
     }
     for (name, has_shape) in SHAPES {
         let count = cases.iter().filter(|case| has_shape(case)).count();
@@ -148,8 +214,9 @@ fn random_sheets(tally: &mut Tally, programs: &Programs) {
         ("sheets with all runs compared", compared),
         2 * compared >= SHEETS,
     );
+    tally.check(("and an unknown start", unknown), 10 * unknown >= SHEETS);
     tally.remark = format!(
-        " ({satisfiable} satisfiable, {} not; all runs compared on {} and {} of them, {breaking} breaking)",
+        " ({satisfiable} satisfiable, {} not; all runs compared on {} and {} of them, {breaking} breaking; {unknown} of these sheets have an unknown start)",
         SHEETS - satisfiable,
         all_runs[1],
         all_runs[0],

@@ -1,6 +1,7 @@
-//! The wrong generators of RULES M1 to M5 and M9 to M11: the test that the program passes must catch each of them.
+//! The wrong generators of RULES M1 to M5 and M9 to M11, and those of unknown starts (K7): the test that the program passes must
+//! catch each of them.
 
-use super::cases::{small_cases, Case};
+use super::cases::{small_cases, unknown_cases, Case};
 use super::judge::{judge, Faults};
 use super::programs::Programs;
 use super::reference::agreement::variable;
@@ -26,7 +27,7 @@ use Mistake::{HeldInFrameZero, HeldTwoFramesBefore, HeldWordLost, Of};
 
 /// Each wrong generator, and what is to be found wrong with its texts: nothing else may be.
 #[rustfmt::skip]
-const WRONG: [(Mistake, Faults); 8] = [
+const WRONG: [(Mistake, Faults); 13] = [
     (Of(Fault::OwnFrameWrite), Faults { assignment_to_run: true, run_to_assignment: true, ..NONE }),
     (Of(Fault::OldestWrite), Faults { assignment_to_run: true, run_to_assignment: true, ..NONE }),
     (Of(Fault::ReaderWriteEnable), Faults { assignment_to_run: true, run_to_assignment: true, ..NONE }),
@@ -35,6 +36,11 @@ const WRONG: [(Mistake, Faults); 8] = [
     (HeldWordLost, Faults { assignment_to_run: true, ..NONE }),
     (HeldInFrameZero, Faults { run_to_assignment: true, ..NONE }),
     (HeldTwoFramesBefore, Faults { assignment_to_run: true, run_to_assignment: true, ..NONE }),
+    (Of(Fault::AgreementOmitted), Faults { assignment_to_run: true, ..NONE }),
+    (Of(Fault::AgreementOfNeighbours), Faults { assignment_to_run: true, ..NONE }),
+    (Of(Fault::AgreementWithoutEarlier), Faults { run_to_assignment: true, ..NONE }),
+    (Of(Fault::AgreementWithoutLater), Faults { run_to_assignment: true, ..NONE }),
+    (Of(Fault::UnknownStartsZero), Faults { run_to_assignment: true, ..NONE }),
 ];
 const NONE: Faults = Faults {
     file: false,
@@ -44,11 +50,17 @@ const NONE: Faults = Faults {
 };
 
 pub fn wrong_generators(tally: &mut Tally, programs: &Programs) {
-    let cases = small_cases(2, SHEETS);
+    let any_start = small_cases(2, SHEETS);
+    let unknown_start = unknown_cases(3, SHEETS);
     let mut remarks = Vec::new();
     for (mistake, expected) in WRONG {
         let (mut found, mut caught) = (NONE, 0);
-        for Case { netlist, depth } in &cases {
+        let cases = if is_of_unknown_start(mistake) {
+            &unknown_start
+        } else {
+            &any_start
+        };
+        for Case { netlist, depth } in cases {
             let text = wrong_text(netlist, *depth, mistake);
             let faults = judge(programs, netlist, *depth, &text).faults;
             caught += usize::from(faults != NONE);
@@ -61,6 +73,18 @@ pub fn wrong_generators(tally: &mut Tally, programs: &Programs) {
         remarks.push(format!("{mistake:?} {caught}"));
     }
     tally.remark = format!(" (caught, of {SHEETS} sheets: {})", remarks.join(", "));
+}
+
+/// Whether a mistake shows in sheets with an unknown start alone.
+fn is_of_unknown_start(mistake: Mistake) -> bool {
+    matches!(
+        mistake,
+        Of(Fault::AgreementOmitted
+            | Fault::AgreementOfNeighbours
+            | Fault::AgreementWithoutEarlier
+            | Fault::AgreementWithoutLater
+            | Fault::UnknownStartsZero)
+    )
 }
 
 /// A wrong generator's text. Its header is right for what it writes, so no solver refuses the file.
@@ -86,7 +110,7 @@ pub fn wrong_text(netlist: &Netlist, depth: u32, mistake: Mistake) -> Vec<u8> {
     text.into_bytes()
 }
 
-/// The closing of a frame with the mistake. A later frame's has n clauses of the start word, then 2n of the word held, each with its literal of
+/// The closing of a frame with the mistake. A later frame's has n clauses of the start word unless it is unknown, then 2n of the word held, each with its literal of
 /// the frame before at the end, but none where RE is true; and (¬RE Z S ..), but not where RE is false.
 fn closing(netlist: &Netlist, frame: u32, numbers: &[i32], mistake: Mistake) -> Vec<i32> {
     let bits = netlist.data_width as usize;
@@ -94,7 +118,8 @@ fn closing(netlist: &Netlist, frame: u32, numbers: &[i32], mistake: Mistake) -> 
     let ended = numbers.split_inclusive(|number| *number == 0);
     let mut clauses: Vec<Vec<i32>> = ended.map(<[i32]>::to_vec).collect();
     let read_enable = netlist.read_enable;
-    let held = bits..bits + if read_enable == 1 { 0 } else { 2 * bits };
+    let first = if netlist.has_unknown_start() { 0 } else { bits };
+    let held = first..first + if read_enable == 1 { 0 } else { 2 * bits };
     match mistake {
         HeldWordLost if frame > 0 => {
             clauses.drain(held);

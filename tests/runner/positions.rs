@@ -1,0 +1,405 @@
+//! Running records (K5) through the static library: moves, groups of the record's frame, what is left untouched, and the order of the
+//! tests on hostile records.
+
+use std::collections::BTreeMap;
+
+use super::calls::differ;
+use super::exports::{
+    unwritten, written_into, Answer, CountReply, GateRecord, LatchRecord, Lists, Record,
+};
+use super::mutate::{netlist, LIMITS};
+use super::reference::check_examples::{accepted, FULL_RUN, RICH};
+use super::reference::check_position::{position_of, POSITIONS};
+use super::reference::check_refusals::{Verdict, ACCEPTED, RECORDS};
+use super::reference::formula::{frame_base, group_call};
+use super::reference::netlist::{Netlist, MAX_DEPTH};
+use super::reference::position::{start, FrameGroup, Position};
+use super::reference::random::{damaged_record, wide_netlist, Random};
+use super::reference::refusal::*;
+use super::reference::Tally;
+use super::Library;
+
+#[repr(C)]
+#[derive(Clone, Copy, Debug, PartialEq, Eq)]
+struct PositionRecord {
+    depth: u32,
+    frame: u32,
+    base: u32,
+}
+
+#[repr(C)]
+#[derive(Clone, Copy, Debug, PartialEq, Eq)]
+struct PositionReply {
+    number: u32,
+    place: u32,
+    position: PositionRecord,
+}
+
+extern "C" {
+    fn marrubigai_move(
+        net: Record,
+        latches: *const LatchRecord,
+        latch_count: usize,
+        gates: *const GateRecord,
+        gate_count: usize,
+        position: PositionRecord,
+        way: u32,
+    ) -> PositionReply;
+
+    fn marrubigai_write_group_at(
+        net: Record,
+        latches: *const LatchRecord,
+        latch_count: usize,
+        gates: *const GateRecord,
+        gate_count: usize,
+        position: PositionRecord,
+        kind: u32,
+        j: u32,
+        out: *mut i32,
+        room: usize,
+    ) -> CountReply;
+}
+
+/// The ways of a move.
+const START: u32 = 0;
+const ON: u32 = 1;
+const BACK: u32 = 2;
+
+fn record_of(position: Position) -> PositionRecord {
+    PositionRecord {
+        depth: position.depth,
+        frame: position.frame,
+        base: position.base,
+    }
+}
+
+/// Number and place, 0 where it is not refused, and the record handed back.
+type Moved = (Verdict, Position);
+
+fn moved(lists: &Lists, position: Position, way: u32) -> Moved {
+    // SAFETY: each pointer and length are those of a live slice.
+    let reply = unsafe {
+        marrubigai_move(
+            lists.record,
+            lists.latches.as_ptr(),
+            lists.latches.len(),
+            lists.gates.as_ptr(),
+            lists.gates.len(),
+            record_of(position),
+            way,
+        )
+    };
+    let PositionRecord { depth, frame, base } = reply.position;
+    ((reply.number, reply.place), Position { depth, frame, base })
+}
+
+fn group_at(lists: &Lists, position: Position, of: (u32, u32), room: usize) -> Answer<Vec<i32>> {
+    // SAFETY: each pointer and length are those of a live slice, and only `out` is written to.
+    written_into(room, unwritten, |out, room| unsafe {
+        marrubigai_write_group_at(
+            lists.record,
+            lists.latches.as_ptr(),
+            lists.latches.len(),
+            lists.gates.as_ptr(),
+            lists.gates.len(),
+            record_of(position),
+            of.0,
+            of.1,
+            out,
+            room,
+        )
+    })
+}
+
+/// What a move must answer. No such way is tested in 8's place, as a move past k is.
+fn due_move(netlist: &Netlist, position: Position, way: u32) -> Moved {
+    let verdict = |refusal: Refusal| (refusal.number, refusal.place);
+    if way == START {
+        // Of the record handed in only the depth counts, and a refused start answers zeros.
+        return match start(netlist, position.depth) {
+            Ok(position) => (ACCEPTED, position),
+            Err(refusal) => (verdict(refusal), Position::default()),
+        };
+    }
+    let mut moved = position;
+    let result = match way {
+        ON => moved.on(netlist),
+        BACK => moved.back(netlist),
+        _ => start(netlist, position.depth)
+            .and_then(|_| require(false, NO_SUCH_GROUP, 0)),
+    };
+    (result.map_or_else(verdict, |()| ACCEPTED), moved)
+}
+
+/// The group of a kind; no such kind is tested in 8's place, as a pair of a frame with itself is.
+fn group_of(position: Position, (kind, j): (u32, u32)) -> FrameGroup {
+    match kind {
+        0 => FrameGroup::Wires,
+        1 => FrameGroup::Pair(j),
+        2 => FrameGroup::Closing,
+        3 => FrameGroup::Property,
+        _ => FrameGroup::Pair(position.frame),
+    }
+}
+
+fn kind_of(group: FrameGroup) -> (u32, u32) {
+    match group {
+        FrameGroup::Wires => (0, u32::MAX),
+        FrameGroup::Pair(j) => (1, j),
+        FrameGroup::Closing => (2, u32::MAX),
+        FrameGroup::Property => (3, u32::MAX),
+    }
+}
+
+fn move_agrees(tally: &mut Tally, netlist: &Netlist, position: Position, way: u32) -> u32 {
+    let (found, due) = (
+        moved(&Lists::new(netlist), position, way),
+        due_move(netlist, position, way),
+    );
+    tally.check_with((position, way), found == due, || differ(netlist, found, due));
+    due.0 .0
+}
+
+fn group_agrees(
+    tally: &mut Tally,
+    netlist: &Netlist,
+    position: Position,
+    of: (u32, u32),
+    room: usize,
+) -> u32 {
+    let found = group_at(&Lists::new(netlist), position, of, room);
+    let due = position.group(netlist, group_of(position, of), room);
+    let number = due.as_ref().err().map_or(0, |refusal| refusal.number);
+    let due = Ok(due);
+    tally.check_with((position, of, room), found == due, || {
+        differ(netlist, &found, &due)
+    });
+    number
+}
+
+/// The second implementation's table with the verdicts that were written down, and every record that is refused.
+pub fn tables(_: &Library, tally: &mut Tally) {
+    let netlist = accepted(FULL_RUN);
+    let lists = Lists::new(&netlist);
+    for (row, [on, back, closing]) in POSITIONS {
+        let position = position_of(row);
+        tally.equal((row, "on"), moved(&lists, position, ON).0, on);
+        tally.equal((row, "back"), moved(&lists, position, BACK).0, back);
+        let found = group_at(&lists, position, (2, 0), 600);
+        let number = found.map(|it| it.err().map_or(0, |refusal| refusal.number));
+        tally.equal((row, "closing"), number, Ok(closing.0));
+        for way in [START, ON, BACK, 3, 255, u32::MAX] {
+            move_agrees(tally, &netlist, position, way);
+        }
+        for kind in [0, 1, 2, 3, 4, u32::MAX] {
+            for j in [0, 1, row[1], u32::MAX] {
+                for room in [0, 30, 31, 600] {
+                    group_agrees(tally, &netlist, position, (kind, j), room);
+                }
+            }
+        }
+    }
+    for (_, change, _) in RECORDS {
+        let mut record = accepted(RICH);
+        change(&mut record);
+        for row in [[256, 300, 7], [1, 2, 7], [1, 0, 7], [1, 0, 1], [2, 1, 6]] {
+            for way in [START, ON, BACK, 3] {
+                move_agrees(tally, &record, position_of(row), way);
+            }
+            for of in [(0, 0), (1, 0), (2, 0), (3, 0), (9, 0)] {
+                group_agrees(tally, &record, position_of(row), of, 0);
+                group_agrees(tally, &record, position_of(row), of, 600);
+            }
+        }
+    }
+}
+
+/// From frame 0 through all frames and back: the base is the formula's, and the groups are those by frame number.
+pub fn walks(_: &Library, tally: &mut Tally) {
+    let mut random = Random::new(1201);
+    for round in 0..120 {
+        let netlist = wide_netlist(&mut random);
+        let lists = Lists::new(&netlist);
+        let depth = random.pick(&[0, 1, 3, 3, 6, MAX_DEPTH]);
+        let any = Position {
+            depth,
+            frame: random.next() as u32,
+            base: random.next() as u32,
+        };
+        let (verdict, mut position) = moved(&lists, any, START);
+        tally.equal((round, "start"), verdict, ACCEPTED);
+        for frame in 0..=depth {
+            let base = frame_base(&netlist, frame) as u32;
+            let due = Position { depth, frame, base };
+            tally.equal((round, frame), position, due);
+            if frame < 4 || frame == depth {
+                let mut groups = vec![FrameGroup::Wires, FrameGroup::Closing, FrameGroup::Property];
+                groups.extend([0, frame / 2, frame.saturating_sub(1)].map(FrameGroup::Pair));
+                for group in groups {
+                    let by_frame = group_call(&netlist, depth, position.numbered(group), 6_000);
+                    let found = group_at(&lists, position, kind_of(group), 6_000);
+                    tally.check((round, frame, group), found == Ok(by_frame));
+                }
+            }
+            let zero = Position {
+                depth,
+                frame: 0,
+                base: 1,
+            };
+            tally.equal((round, frame, "back"), moved(&lists, position, BACK), (ACCEPTED, zero));
+            let (verdict, next) = moved(&lists, position, ON);
+            let due = if frame < depth {
+                ACCEPTED
+            } else {
+                (NO_SUCH_GROUP, 0)
+            };
+            tally.equal((round, frame, "on"), verdict, due);
+            position = next;
+        }
+    }
+}
+
+/// A depth or a frame: mostly small, so that the tests behind 7 and 8 are often reached.
+fn small_or_limit(random: &mut Random) -> u32 {
+    if random.percent(85) {
+        random.below(5)
+    } else {
+        random.pick(&[254, 255, 256, 257, 65_536, 1 << 31, u32::MAX - 1, u32::MAX])
+    }
+}
+
+/// A record with any depth, frame and base, the base often the right one or near it.
+fn hostile_position(random: &mut Random, netlist: &Netlist) -> Position {
+    let (depth, frame) = (small_or_limit(random), small_or_limit(random));
+    let frame = if random.percent(30) { depth } else { frame };
+    let sizes_add_up = [
+        netlist.inputs,
+        netlist.latch_count,
+        netlist.gate_count,
+        netlist.data_width,
+        netlist.address_width,
+    ]
+    .iter()
+    .all(|size| *size <= 601);
+    let base_of = |frame: u32| match sizes_add_up && frame <= 257 {
+        true => frame_base(netlist, frame) as u32,
+        false => 1,
+    };
+    let right = base_of(frame);
+    let any = random.next() as u32 >> random.below(32);
+    let base = match random.below(20) {
+        0..=11 => right,
+        12 => right.wrapping_add(1),
+        13 => right.wrapping_sub(1),
+        14 => base_of(frame.wrapping_add(1)),
+        15 => base_of(frame.saturating_sub(1)),
+        16 => right.wrapping_add(1 << 31),
+        17 => random.pick(&LIMITS),
+        _ => any,
+    };
+    Position { depth, frame, base }
+}
+
+/// Which tests a call fails, each taken alone: the record's, 7, 8, 16 and 9.
+fn failing(netlist: &Netlist, position: Position, exists: bool, room: Option<(FrameGroup, usize)>) -> Vec<u32> {
+    let mut numbers = Vec::new();
+    let accepted = match netlist.check() {
+        Ok(()) => true,
+        Err(refusal) => {
+            numbers.push(refusal.number);
+            false
+        }
+    };
+    if position.depth > MAX_DEPTH {
+        numbers.push(DEPTH);
+    }
+    if position.frame > position.depth || !exists {
+        numbers.push(NO_SUCH_GROUP);
+    }
+    // What the base and the need are is said for accepted records and frames within their limit.
+    if accepted && position.frame <= MAX_DEPTH {
+        if i64::from(position.base) != frame_base(netlist, position.frame) {
+            numbers.push(WRONG_BASE);
+        }
+        let short = |(group, room): (FrameGroup, usize)| {
+            let depth = position.depth.clamp(position.frame, MAX_DEPTH);
+            group_call(netlist, depth, position.numbered(group), room)
+                .is_err_and(|refusal| refusal.number == NO_ROOM)
+        };
+        if room.is_some_and(short) {
+            numbers.push(NO_ROOM);
+        }
+    }
+    numbers
+}
+
+/// One hostile call: the number that it must answer, and the tests that it fails.
+pub fn any(tally: &mut Tally, random: &mut Random) -> (u32, Vec<u32>) {
+    let mut netlist = netlist(random);
+    if random.percent(20) {
+        netlist = damaged_record(random, &netlist);
+    }
+    if random.percent(5) {
+        netlist.unknown_start = random.pick(&[0, 1, 2, u32::MAX]);
+    }
+    if random.percent(5) {
+        netlist.gate_count = random.pick(&LIMITS);
+    }
+    let position = hostile_position(random, &netlist);
+    if random.percent(40) {
+        let way = random.pick(&[START, ON, ON, ON, BACK, BACK, 3, u32::MAX]);
+        let at_zero = Position {
+            frame: 0,
+            base: 1,
+            ..position
+        };
+        let failing = match way {
+            START => failing(&netlist, at_zero, true, None),
+            ON => failing(&netlist, position, position.frame < position.depth, None),
+            _ => failing(&netlist, position, way == BACK, None),
+        };
+        return (move_agrees(tally, &netlist, position, way), failing);
+    }
+    let of = (random.below(5), small_or_limit(random));
+    let room = random.pick(&[0, 0, 20, 60, 600, 6_000]);
+    let group = group_of(position, of);
+    let exists = !matches!(group, FrameGroup::Pair(j) if j >= position.frame);
+    let failing = failing(&netlist, position, exists, Some((group, room)));
+    (group_agrees(tally, &netlist, position, of, room), failing)
+}
+
+/// Hostile calls. Each refusal and each pair of failing tests must have come often: of two the earlier is answered.
+pub fn hostile(_: &Library, tally: &mut Tally) {
+    let mut random = Random::new(1202);
+    let mut counts: BTreeMap<u32, usize> = BTreeMap::new();
+    let mut pairs: BTreeMap<[u32; 2], usize> = BTreeMap::new();
+    for _ in 0..60_000 {
+        let (number, failing) = any(tally, &mut random);
+        *counts.entry(number).or_default() += 1;
+        tally.equal("the first failing test", failing.first().copied().unwrap_or(0), number);
+        for (at, first) in failing.iter().enumerate() {
+            for second in &failing[at + 1..] {
+                *pairs.entry([*first, *second]).or_default() += 1;
+            }
+        }
+    }
+    let record = [OUT_OF_ORDER, SIZE, CODE, TIED_ADDRESS, MEMORY_LOOP];
+    for number in record.into_iter().chain([0, DEPTH, NO_SUCH_GROUP, WRONG_BASE, NO_ROOM]) {
+        let count = counts.get(&number).copied().unwrap_or(0);
+        tally.check(("occurrences of", number, count), count >= 20);
+    }
+    let orders = [
+        [DEPTH, NO_SUCH_GROUP],
+        [DEPTH, WRONG_BASE],
+        [NO_SUCH_GROUP, WRONG_BASE],
+        [WRONG_BASE, NO_ROOM],
+        [CODE, DEPTH],
+        [SIZE, NO_SUCH_GROUP],
+        [TIED_ADDRESS, NO_SUCH_GROUP],
+    ];
+    for order in orders {
+        let count = pairs.get(&order).copied().unwrap_or(0);
+        tally.check(("both fail", order, count), count >= 20);
+    }
+    tally.remark = format!(" (answers {counts:?}; two at once {pairs:?})");
+}
