@@ -15,7 +15,17 @@ pub fn write_import(out: &mut [u8], text: &[u8], m: u32, n: u32, word: u32, unkn
 {
     let mut latches = sheet_tests::no_codes();
     let mut gates = sheet_tests::no_codes();
-    let sheet = aiger_import::import_codes(text, m, n, word, unknown, 600, 600, &mut latches, &mut gates);
+    let sheet = aiger_import::import_codes(
+        text,
+        m,
+        n,
+        word,
+        unknown,
+        600,
+        600,
+        &mut latches,
+        &mut gates,
+    );
     let verdict = sheet.verdict;
     if let Verdict::Refused(refusal, place) = verdict {
         return dimacs::write_refusal(out, refusals::number(refusal), place);

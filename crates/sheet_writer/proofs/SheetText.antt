@@ -2,26 +2,28 @@
 -- as the netlist. No contract cites this file.
 use Prim.Native.Nat.{ℕ, zero, suc, _+_, _-_, _*_, _^_, _≤_, _<_}
 use mathlib.Core.Path.{_≡_, refl, sym, _∙_, ap, subst}
-use mathlib.Core.Bool.{true, false, true≢false}
+use mathlib.Core.Bool.{true, false, cond, _&&_, _||_, true≢false}
 use mathlib.Core.Logic.{by-cases}
 use mathlib.Core.List.{List}
 use native.Mathlib.Decide.{ℕ-discrete}
 use native.Mathlib.Omega.{arith}
+use lib.Dec.{eqb}
 use lib.ListN.{length, take, drop}
 use lib.Pow.{pow-mono}
-use borrow.Author.Tests.{lt-ltb}
+use borrow.Author.Tests.{ne-eqb, lt-ltb}
 use Rattle.model.specs.Gather.{gather}
-use Rattle.model.specs.Netlist.{Netlist, Start, given, startOf, start, givenWord}
+use Rattle.model.specs.Netlist.{Netlist, given, startOf, start}
 use Rattle.model.specs.Acceptance.{StartFits, WithinLimits}
-use Rattle.model.specs.Agree.{Agree}
+use Rattle.model.specs.Agree.{givenWord, Agree}
 use Rattle.model.proofs.Agree.{same-at, inputs-same, latches-same, gates-same, m-same, n-same}
 use Rattle.model.proofs.Gather.{length-gather, gathers-same}
 use Rattle.netlist.specs.Places.{sizesLine, memoryLine, latchLine, gateLine, addressLine, dataLine, controlLine, lineAt, HasLine}
 use Rattle.netlist.specs.declared.Line.{Line}
 use Rattle.netlist.specs.declared.Line.the-variants as Due
 use Rattle.netlist.proofs.Places.{has-lineAt, at-sizes, at-memory, at-latch, at-gate, at-address, at-data, at-control}
-use Rattle.sheet_lines.specs.Letters.{rowOf, contentOf}
-use Rattle.sheet_lines.specs.Lines.{lineOf, lineText}
+use Rattle.sheet_fields.specs.declared.Field.the-variants.{Empty, Filled}
+use Rattle.sheet_lines.specs.Letters.{rowOf, Content, mustBeEmpty, mustBeFilled, mayBeEmpty, contentNumber, contentOf}
+use Rattle.sheet_lines.specs.Lines.{lineOf, written, lineText}
 use Rattle.sheet_lines.specs.declared.ParsedLine.{ParsedLine}
 use Rattle.sheet_lines.specs.declared.ParsedLine.the-variants.{Misprint, Read}
 use Rattle.sheet_lines.specs.declared.Kind.the-variants.{Sizes, Memory, Latch, Gate, Address, WriteData, Control}
@@ -72,7 +74,14 @@ given-again word (suc unknown) = refl
 memory-text : (m n word unknown : ℕ) → lineText Memory m n word unknown ≡ lineText Memory m n (givenWord (startOf word unknown)) unknown
 unfolding lineText contentOf startOf givenWord
 memory-text m n word zero = refl
-memory-text m n word (suc unknown) = refl
+memory-text m n word (suc unknown) = rw (ne-eqb (suc unknown) 0 (λ e. omega arith))
+
+-- what a column holds, by the table's number for it
+pub printed-by : (w : Content) (number empty x : ℕ) → number ≡ contentNumber w
+    → written w empty x ≡ cond (eqb number 1 || (eqb number 2 && eqb empty 0)) (Filled x) Empty
+printed-by mustBeEmpty number empty x e = rw e
+printed-by mustBeFilled number empty x e = rw e
+printed-by mayBeEmpty number empty x e = rw e
 
 -- a line's letter is one of the table's
 pub known-row : (c : Netlist) (x : Line) → rowOf (printedLine c x .kind) < 7

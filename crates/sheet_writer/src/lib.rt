@@ -84,9 +84,10 @@ fn printed_line(
         }
         Line::Address(t) => {
             let at = t as usize;
+            let code = net.address[at].0;
             PrintedLine {
                 kind: Kind::Address,
-                first: net.address[at].0,
+                first: code,
                 second: 0,
                 third: 0,
                 empty: 0,
@@ -94,9 +95,10 @@ fn printed_line(
         }
         Line::WriteData(t) => {
             let at = t as usize;
+            let code = net.write_data[at].0;
             PrintedLine {
                 kind: Kind::WriteData,
-                first: net.write_data[at].0,
+                first: code,
                 second: 0,
                 third: 0,
                 empty: 0,
@@ -142,19 +144,19 @@ fn put_line(out: &mut [u8], line: PrintedLine) -> usize
     let first = letter
         + put_column(
             &mut out[letter..],
-            sheet_lines::is_filled(kind, 0),
+            is_printed(kind, 0, line.empty),
             line.first,
         );
     let second = first
         + put_column(
             &mut out[first..],
-            sheet_lines::is_filled(kind, 1),
+            is_printed(kind, 1, line.empty),
             line.second,
         );
     let third = second
         + put_column(
             &mut out[second..],
-            sheet_lines::is_filled(kind, 2),
+            is_printed(kind, 2, line.empty),
             line.third,
         );
     third + write_byte(&mut out[third..], b'\n')

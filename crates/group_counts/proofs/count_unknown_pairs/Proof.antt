@@ -42,8 +42,11 @@ returns c =
     let p = c .before .before .before .before .before .before .before .before .before .before .before .before .pre in
     let first = c .product2 .ensures in
     let second = c .before .before .product .ensures in (
-      (rw (first .0, second .0, c .before .other-pairs .ensures .0)
-          (unknown-counted _ (c .before .before .before .before .before .before .before .before .before .before .before .before .args .depth) _ _ _ (p .1) (c .before .before .before .before .before .before .before .before .before .before .count-group .ensures .0 .0) (c .before .before .before .before .before .before .before .count-later-pairs .ensures .0 .0) (c .before .before .before .before .count-group2 .ensures .0 .0)), search needs),
+      (
+        rw (first .0, second .0, c .before .other-pairs .ensures .0)
+            (unknown-counted _ (c .before .before .before .before .before .before .before .before .before .before .before .before .args .depth) _ _ _ (p .1) (c .before .before .before .before .before .before .before .before .before .before .count-group .ensures .0 .0) (c .before .before .before .before .before .before .before .count-later-pairs .ensures .0 .0) (c .before .before .before .before .count-group2 .ensures .0 .0)),
+        search needs,
+      ),
       search needs,
     )
 

@@ -7,8 +7,6 @@ use Rattle.netlist.specs.Places.{HasLine}
 use Rattle.sheet_writer.specs.SheetText.{printedLine}
 use Rattle.sheet_writer.proofs.printed_line.Statement.{statement}
 use Rattle.sheet_writer.proofs.printed_line.Tie as tie
-use Rattle.sheet_writer.proofs.printed_line.Reads as reads
-use Rattle.sheet_writer.proofs.printed_line.Lts as lts
 
 enum-told : tie.Need-enum-told
 enum-told c = search needs
@@ -70,11 +68,11 @@ enum-known-line-3 c = search needs
 cast-at-3 : tie.Need-cast-at-3
 cast-at-3 c = search needs
 
-mul-t44 : tie.Need-mul-t44
-mul-t44 c = search needs
+mul-code : tie.Need-mul-code
+mul-code c = search needs
 
-element-copy-out-t47 : tie.Need-element-copy-out-t47
-element-copy-out-t47 c = omega (arith, subst (HasLine (alone (c .before .before .before .args .t1))) (c .before .line3 .given .1) (c .before .before .before .pre .1), c .before .before .before .pre .0 .m-most)
+element-copy-out-code : tie.Need-element-copy-out-code
+element-copy-out-code c = omega (arith, subst (HasLine (alone (c .before .before .before .args .t1))) (c .before .line3 .given .1) (c .before .before .before .pre .1), c .before .before .before .pre .0 .m-most)
 
 enum-known-line-4 : tie.Need-enum-known-line-4
 enum-known-line-4 c = search needs
@@ -82,11 +80,11 @@ enum-known-line-4 c = search needs
 cast-at-4 : tie.Need-cast-at-4
 cast-at-4 c = search needs
 
-mul-t49 : tie.Need-mul-t49
-mul-t49 c = search needs
+mul-code-2 : tie.Need-mul-code-2
+mul-code-2 c = search needs
 
-element-copy-out-t52 : tie.Need-element-copy-out-t52
-element-copy-out-t52 c = omega (arith, subst (HasLine (alone (c .before .before .before .args .t1))) (c .before .line4 .given .1) (c .before .before .before .pre .1), c .before .before .before .pre .0 .n-most)
+element-copy-out-code-2 : tie.Need-element-copy-out-code-2
+element-copy-out-code-2 c = omega (arith, subst (HasLine (alone (c .before .before .before .args .t1))) (c .before .line4 .given .1) (c .before .before .before .pre .1), c .before .before .before .pre .0 .n-most)
 
 enum-told-3 : tie.Need-enum-told-3
 enum-told-3 c = search needs
@@ -143,12 +141,12 @@ printed-line-spec =
     element-copy-out-right
     enum-known-line-3
     cast-at-3
-    mul-t44
-    element-copy-out-t47
+    mul-code
+    element-copy-out-code
     enum-known-line-4
     cast-at-4
-    mul-t49
-    element-copy-out-t52
+    mul-code-2
+    element-copy-out-code-2
     enum-told-3
     returns
     returns-2

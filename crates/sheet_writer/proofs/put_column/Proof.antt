@@ -4,10 +4,6 @@ use borrow.Author.Needs.{needs}
 use Rattle.decimal.proofs.Digits.{length-field}
 use Rattle.sheet_writer.proofs.put_column.Statement.{statement}
 use Rattle.sheet_writer.proofs.put_column.Tie as tie
-use Rattle.sheet_writer.proofs.put_column.Reads as reads
-use Rattle.sheet_writer.proofs.put_column.Lts as lts
-use Rattle.decimal.proofs.put_field.Reads as put-field-reads
-use Rattle.text_writer.proofs.write_word.Reads as write-word-reads
 
 put-field-requires : tie.Need-put-field-requires
 put-field-requires c κs = search needs

@@ -6,12 +6,6 @@ use Rattle.sheet_lines.specs.Lines.{lineText}
 use Rattle.sheet_writer.specs.SheetText.{printedText}
 use Rattle.sheet_writer.proofs.put_line.Statement.{statement}
 use Rattle.sheet_writer.proofs.put_line.Tie as tie
-use Rattle.sheet_writer.proofs.put_line.Reads as reads
-use Rattle.sheet_writer.proofs.put_line.Lts as lts
-use Rattle.sheet_lines.proofs.is_filled.Reads as is-printed-reads
-use Rattle.sheet_lines.proofs.letter_of.Reads as letter-of-reads
-use Rattle.sheet_writer.proofs.put_column.Reads as put-column-reads
-use Rattle.text_writer.proofs.write_byte.Reads as write-byte-reads
 
 letter-of-requires : tie.Need-letter-of-requires
 letter-of-requires c κs = search needs

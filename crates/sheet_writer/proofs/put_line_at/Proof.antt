@@ -5,11 +5,6 @@ use Rattle.netlist.proofs.Places.{has-lineAt}
 use Rattle.sheet_writer.proofs.SheetText.{known-row}
 use Rattle.sheet_writer.proofs.put_line_at.Statement.{statement}
 use Rattle.sheet_writer.proofs.put_line_at.Tie as tie
-use Rattle.sheet_writer.proofs.put_line_at.Reads as reads
-use Rattle.sheet_writer.proofs.put_line_at.Lts as lts
-use Rattle.netlist.proofs.line_at.Reads as line-at-reads
-use Rattle.sheet_writer.proofs.printed_line.Reads as printed-line-reads
-use Rattle.sheet_writer.proofs.put_line.Reads as put-line-reads
 
 line-at-requires : tie.Need-line-at-requires
 line-at-requires c κs = search needs
