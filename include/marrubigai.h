@@ -127,6 +127,11 @@ marrubigai_count_reply marrubigai_write_group_at(marrubigai_netlist net, const m
  * code is true, -1 where it is false. `net.p ^ 1` is not P. The lists have no part in it. */
 marrubigai_literal_reply marrubigai_literal_at(marrubigai_netlist net, marrubigai_position position, marrubigai_code code);
 
+/* writes the one sheet that stands for a record with its lists, and answers its length, 32 x (latches + gates + m + n + 3) bytes: 9 where the
+ * buffer is shorter. marrubigai_read of it gives the same record and lists, and a sheet that was read is written as the same bytes. */
+marrubigai_count_reply marrubigai_write_sheet(marrubigai_netlist net, const marrubigai_latch *latches, size_t latch_count,
+                                              const marrubigai_gate *gates, size_t gate_count, uint8_t *out, size_t room);
+
 /* runs a solver's answer, in the SAT Competition's output form, through the frames 0 to depth. Only the inputs are taken from it, and the read
  * bits of frame 0 where that does not read; the chip is stepped with its whole memory, the first 2^m words lent, whatever they hold. `first` is then the
  * first frame that breaks the property, and the trace holds for each frame a line of V digits 0 or 1, wire 1 first: (depth + 1)(V + 1) bytes.

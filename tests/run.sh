@@ -89,7 +89,8 @@ if rt staticlib marrubigai > "$logs/staticlib.out" 2>&1; then
   run "the header for C against the library" header bash tests/header.sh
   run "a search depth by depth with the library and CaDiCaL's" search bash tests/search.sh target/bin/frames target/bin/replay
   compile verilog tests/verilog/main.rs -L target/staticlib -l static=marrubigai &&
-    run "from Verilog to an imported netlist, with yosys and abc" verilog timeout 600 bash tests/verilog.sh target/bin/frames "$logs/verilog"
+    run "from Verilog to an imported netlist and a shown run, with yosys and abc" verilog \
+      timeout 600 bash tests/verilog.sh target/bin/frames target/bin/replay target/bin/import_aag "$logs/verilog"
 else
   cat "$logs/staticlib.out"
   fail "rt staticlib marrubigai"

@@ -531,7 +531,7 @@ static void replays(void) {
   check("depth 256 gives 7", answers_replay(replay_text(256, "", WORDS, LINES), MARRUBIGAI_DEPTH, 0, 0) && untouched());
 }
 
-enum { MOST_BYTES = 40, UNPRINTED = 0xa5 };
+enum { MOST_BYTES = 600, UNPRINTED = 0xa5 };
 static uint8_t text[MOST_BYTES];
 
 static uint8_t *unprinted(void) {
@@ -555,11 +555,13 @@ static int filled(marrubigai_count_reply reply, size_t room, const char *expecte
   return holds;
 }
 
-static int not_printed(marrubigai_count_reply reply) {
-  int holds = reply.number == MARRUBIGAI_NO_ROOM && reply.place == 0 && reply.count == 0;
+static int refused_at(marrubigai_count_reply reply, uint32_t number, uint32_t place) {
+  int holds = reply.number == number && reply.place == place && reply.count == 0;
   for (size_t t = 0; t < MOST_BYTES; t++) holds = holds && text[t] == UNPRINTED;
   return holds;
 }
+
+static int not_printed(marrubigai_count_reply reply) { return refused_at(reply, MARRUBIGAI_NO_ROOM, 0); }
 
 static void printing(void) {
   check("a header of 12 bytes", printed(marrubigai_put_header(unprinted(), 12, 10, 24), "p cnf 10 24\n"));
@@ -580,6 +582,23 @@ static void printing(void) {
   check("no byte is too few for it", not_printed(marrubigai_put_number(unprinted(), 0, 0)));
 }
 
+static void sheets(void) {
+  const size_t bytes = sizeof FULL_RUN - 1, longer = sizeof DISTINCT - 1;
+  check("a sheet in a buffer of its length",
+        printed(marrubigai_write_sheet(CHIP, latches, 0, gates, 0, unprinted(), bytes), FULL_RUN));
+  check("in a longer one", printed(marrubigai_write_sheet(CHIP, latches, 0, gates, 0, unprinted(), MOST_BYTES), FULL_RUN));
+  check("one byte less is too short", not_printed(marrubigai_write_sheet(CHIP, latches, 0, gates, 0, unprinted(), bytes - 1)));
+  check("so is no byte", not_printed(marrubigai_write_sheet(CHIP, latches, 0, gates, 0, unprinted(), 0)));
+  check("each number in its field",
+        printed(marrubigai_write_sheet(DISTINCT_NET, DISTINCT_LATCHES, 2, DISTINCT_GATES, 1, unprinted(), longer), DISTINCT));
+  check("a record with a memory loop is 6 at line 3",
+        refused_at(marrubigai_write_sheet((marrubigai_netlist){.inputs = 1, .m = 1, .n = 1, .address = {4}, .re = 1}, latches, 0, gates, 0,
+                                          unprinted(), MOST_BYTES),
+                   MARRUBIGAI_MEMORY_LOOP, 3));
+  check("the record is tested before the room",
+        refused_at(marrubigai_write_sheet(DISTINCT_NET, DISTINCT_LATCHES, 1, DISTINCT_GATES, 1, unprinted(), 0), MARRUBIGAI_OUT_OF_ORDER, 0));
+}
+
 // what the header calls room enough is what the largest of its kind needs, and no more, but for the lists: V leaves 599
 static void rooms(void) {
   static marrubigai_gate most_gates[MARRUBIGAI_LIST_ROOM];
@@ -592,6 +611,9 @@ static void rooms(void) {
   static uint8_t sheet[MARRUBIGAI_SHEET_BYTES + 32];
   check("the longest sheet is not ragged",
         marrubigai_read(sheet, MARRUBIGAI_SHEET_BYTES, latches, 0, gates, 0).number == MARRUBIGAI_MISPRINT);
+  const marrubigai_netlist most_lines = {.gates = 599, .m = 12, .n = 1};
+  check("the longest sheet written", marrubigai_write_sheet(most_lines, latches, 0, most_gates, 599, sheet, sizeof sheet).count ==
+                                         MARRUBIGAI_SHEET_BYTES);
   check("a longer one is", marrubigai_read(sheet, sizeof sheet, latches, 0, gates, 0).number == MARRUBIGAI_RAGGED);
   check("the longest header", marrubigai_put_header(text, MARRUBIGAI_LINE_BYTES, UINT32_MAX, UINT32_MAX).count == MARRUBIGAI_LINE_BYTES);
   check("a refusal", marrubigai_put_refusal(text, MARRUBIGAI_LINE_BYTES, UINT32_MAX, UINT32_MAX).count == MARRUBIGAI_LINE_BYTES);
@@ -622,6 +644,7 @@ int main(void) {
   positions();
   replays();
   printing();
+  sheets();
   rooms();
   printf("%d passed, %d failed\n", passed, failed);
   return failed != 0;

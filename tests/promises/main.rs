@@ -29,7 +29,7 @@ fn is_shown(of: &str, it: &Public) -> bool {
 }
 
 /// The crates whose functions the programs are put together from; what they promise must be believed too.
-const PROGRAM: [&str; 3] = ["program_input", "program_output", "program_replay"];
+const PROGRAM: [&str; 4] = ["program_input", "program_output", "program_replay", "program_import"];
 
 struct Repository(PathBuf);
 

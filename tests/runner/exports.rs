@@ -128,6 +128,16 @@ extern "C" {
         trace_room: usize,
     ) -> ReplayReply;
 
+    fn marrubigai_write_sheet(
+        net: Record,
+        latches: *const LatchRecord,
+        latch_count: usize,
+        gates: *const GateRecord,
+        gate_count: usize,
+        out: *mut u8,
+        room: usize,
+    ) -> CountReply;
+
     fn marrubigai_read(
         file: *const u8,
         length: usize,
@@ -319,6 +329,22 @@ impl Lists {
                 kind,
                 j,
                 i,
+                out,
+                room,
+            )
+        })
+    }
+
+    /// A call that writes the record's sheet into a buffer of `room` bytes: the bytes written.
+    pub fn write_sheet(&self, room: usize) -> Answer<Vec<u8>> {
+        // SAFETY: each pointer and length are those of a live slice, and only `out` is written to.
+        written_into(room, unprinted, |out, room| unsafe {
+            marrubigai_write_sheet(
+                self.record,
+                self.latches.as_ptr(),
+                self.latches.len(),
+                self.gates.as_ptr(),
+                self.gates.len(),
                 out,
                 room,
             )

@@ -176,7 +176,7 @@ fn change_header(random: &mut Random, text: &mut Vec<u8>) {
 pub fn calls(library: &Library, tally: &mut Tally, seed: u64, count: usize) {
     let mut random = Random::new(seed);
     for _ in 0..count {
-        match random.below(13) {
+        match random.below(14) {
             0 => {
                 let file = sheet(&mut random);
                 let line = small_or_limit(&mut random);
@@ -206,6 +206,11 @@ pub fn calls(library: &Library, tally: &mut Tally, seed: u64, count: usize) {
             11 => {
                 let call = replay_call(&mut random);
                 library.replay_agrees(tally, "hostile replay", &call);
+            }
+            12 => {
+                let netlist = record(&mut random);
+                let room = 32 * room(&mut random);
+                library.sheet_agrees(tally, &netlist, room);
             }
             _ => {
                 let netlist = record(&mut random);

@@ -15,7 +15,6 @@ mod prints;
 mod reads;
 mod reference;
 mod replay_calls;
-#[allow(dead_code)]
 mod written_sheets;
 
 use std::cell::RefCell;
@@ -42,6 +41,7 @@ impl Counts {
 #[derive(Default)]
 pub struct Library {
     reads: RefCell<Counts>,
+    sheets: RefCell<Counts>,
     lines: RefCell<Counts>,
     imports: RefCell<Counts>,
     calls: RefCell<Counts>,
@@ -57,7 +57,7 @@ pub struct Library {
 
 type Family = (&'static str, fn(&Library, &mut Tally));
 
-const FAMILIES: [Family; 29] = [
+const FAMILIES: [Family; 33] = [
     ("facts of the full run", calls::stated),
     ("table of group calls", calls::table_of_calls),
     ("table of records", calls::table_of_records),
@@ -68,6 +68,10 @@ const FAMILIES: [Family; 29] = [
     ("rooms of lists", reads::rooms),
     ("damaged sheets", reads::damaged),
     ("lines of sheets", reads::lines),
+    ("tables of written sheets", written_sheets::tables),
+    ("sheets written and read back", written_sheets::round_trips),
+    ("sheets read and written back", written_sheets::damaged_sheets),
+    ("rooms of sheets", written_sheets::rooms),
     ("tables of imports", imports::tables),
     ("imports, sets of faults", imports::fault_sets),
     ("imports, predicted faults", imports::predicted_faults),
@@ -93,8 +97,9 @@ const FAMILIES: [Family; 29] = [
 
 /// Each function, and the numbers that the tests must have made it answer: all that it has. 10 has none.
 fn every_number(library: &Library, tally: &mut Tally) {
-    let rows: [(&str, &RefCell<Counts>, &[usize]); 11] = [
+    let rows: [(&str, &RefCell<Counts>, &[usize]); 12] = [
         ("read", &library.reads, &[1, 2, 3, 4, 5, 6, 9, 17]),
+        ("write_sheet", &library.sheets, &[3, 4, 5, 6, 9, 17]),
         ("next_line", &library.lines, &[2]),
         ("import", &library.imports, &[4, 6, 9, 11, 12, 13, 17]),
         ("write_group", &library.calls, &[3, 4, 5, 6, 7, 8, 9, 17]),
@@ -159,6 +164,9 @@ fn main() {
             });
             report.family("tables of sheets", |tally| reads::tables(&library, tally));
             report.family("lines of sheets", |tally| reads::lines(&library, tally));
+            report.family("tables of written sheets", |tally| {
+                written_sheets::tables(&library, tally)
+            });
             report.family("imports, ends of texts", |tally| {
                 imports::ends(&library, tally)
             });

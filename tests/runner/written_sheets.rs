@@ -1,87 +1,67 @@
-//! Sheets written back (K9) through the static library: the bytes, the length, what is left untouched, and the order of the tests.
+//! Sheets written back (K9) through the static library: the bytes, the length, what is left untouched, and the order of the tests; that a sheet
+//! which is read is written as it was, and one that is written is read as the record.
 
 use super::calls::differ;
-use super::exports::{
-    read, unprinted, written_into, Answer, CountReply, GateRecord, LatchRecord, Lists, Record,
-};
+use super::exports::{read, Answer, Lists};
 use super::mutate::{netlist, LIMITS};
 use super::reference::check_examples::{accepted, FULL_RUN, RICH};
 use super::reference::check_position::change_unused;
 use super::reference::check_refusals::{short_sheet_rows, verdict, ACCEPTED, RECORDS};
-use super::reference::netlist::Netlist;
-use super::reference::random::{damaged_record, tie, wide_netlist, Random};
+use super::reference::netlist::{Gate, Netlist};
+use super::reference::random::{damaged_record, damaged_sheet, tie, wide_netlist, Random};
 use super::reference::sheet::{expand, read_sheet, write_back, write_sheet, MAX_SHEET_BYTES};
 use super::reference::Tally;
-use super::Library;
+use super::{Counts, Library};
 
-extern "C" {
-    fn marrubigai_write_sheet(
-        net: Record,
-        latches: *const LatchRecord,
-        latch_count: usize,
-        gates: *const GateRecord,
-        gate_count: usize,
-        out: *mut u8,
-        room: usize,
-    ) -> CountReply;
-}
+impl Library {
+    /// What the call answers; counted.
+    fn sheet_of(&self, netlist: &Netlist, room: usize) -> Answer<Vec<u8>> {
+        let found = Lists::new(netlist).write_sheet(room);
+        Counts::add(&self.sheets, &found);
+        found
+    }
 
-fn written(netlist: &Netlist, room: usize) -> Answer<Vec<u8>> {
-    let lists = Lists::new(netlist);
-    // SAFETY: each pointer and length are those of a live slice, and only `out` is written to.
-    written_into(room, unprinted, |out, room| unsafe {
-        marrubigai_write_sheet(
-            lists.record,
-            lists.latches.as_ptr(),
-            lists.latches.len(),
-            lists.gates.as_ptr(),
-            lists.gates.len(),
-            out,
-            room,
-        )
-    })
-}
-
-/// One check: the bytes that the second implementation writes, or its refusal.
-fn agrees(tally: &mut Tally, netlist: &Netlist, room: usize) {
-    let (found, due) = (written(netlist, room), Ok(write_back(netlist, room)));
-    tally.check_with(room, found == due, || differ(netlist, &found, &due));
+    /// One check: the bytes that the second implementation writes, or its refusal.
+    pub fn sheet_agrees(&self, tally: &mut Tally, netlist: &Netlist, room: usize) {
+        let (found, due) = (self.sheet_of(netlist, room), Ok(write_back(netlist, room)));
+        tally.check_with(room, found == due, || differ(netlist, &found, &due));
+    }
 }
 
 /// Every accepted sheet of the tables comes back byte for byte; every record of the table of records.
-pub fn tables(_: &Library, tally: &mut Tally) {
-    let rows = short_sheet_rows().into_iter().chain(
-        [FULL_RUN, RICH].map(|short| (short.to_string(), expand(short), ACCEPTED)),
-    );
+pub fn tables(library: &Library, tally: &mut Tally) {
+    let rows = short_sheet_rows()
+        .into_iter()
+        .chain([FULL_RUN, RICH].map(|short| (short.to_string(), expand(short), ACCEPTED)));
     for (name, sheet, expected) in rows {
         if expected != ACCEPTED {
             continue;
         }
         let netlist = read_sheet(&sheet, 600, 600).expect("an accepted sheet");
         let need = sheet.len();
-        tally.check(&name, written(&netlist, need) == Ok(Ok(sheet)));
+        tally.check(&name, library.sheet_of(&netlist, need) == Ok(Ok(sheet)));
         for room in [0, 1, need - 32, need - 1, need, need + 1, need + 100] {
-            agrees(tally, &netlist, room);
+            library.sheet_agrees(tally, &netlist, room);
         }
     }
     for (name, change, expected) in RECORDS {
         let mut record = accepted(RICH);
         change(&mut record);
         for room in [0, 287, 288, 600] {
-            agrees(tally, &record, room);
+            library.sheet_agrees(tally, &record, room);
         }
         if expected != ACCEPTED {
-            let found = written(&record, 0).map(verdict);
+            let found = library.sheet_of(&record, 0).map(verdict);
             tally.equal(name, found, Ok(expected));
         }
     }
 }
 
 /// Read what was written and write what was read: the same record in all used entries, the same bytes.
-pub fn round_trips(_: &Library, tally: &mut Tally) {
+pub fn round_trips(library: &Library, tally: &mut Tally) {
     let mut random = Random::new(1301);
     let mut unknown = 0;
-    for round in 0..1_500 {
+    for round in 0..3_000 {
         let netlist = if round % 4 == 0 {
             wide_netlist(&mut random)
         } else {
@@ -92,13 +72,14 @@ pub fn round_trips(_: &Library, tally: &mut Tally) {
         change_unused(&mut random, &mut record);
         let sheet = write_sheet(&netlist);
         let need = sheet.len();
-        tally.check((round, "written"), written(&record, need) == Ok(Ok(sheet.clone())));
+        let written = library.sheet_of(&record, need);
+        tally.check((round, "written"), written == Ok(Ok(sheet.clone())));
         let read = read(&sheet, netlist.latches.len(), netlist.gates.len());
         tally.check((round, "read"), read == Ok(Ok(netlist.clone())));
-        let again = read.map(|it| it.map(|netlist| written(&netlist, MAX_SHEET_BYTES)));
+        let again = read.map(|it| it.map(|netlist| library.sheet_of(&netlist, MAX_SHEET_BYTES)));
         tally.check((round, "written again"), again == Ok(Ok(Ok(Ok(sheet)))));
         for room in [0, need - 1, need + 1, random.index(need)] {
-            agrees(tally, &record, room);
+            library.sheet_agrees(tally, &record, room);
         }
         let mut damaged = damaged_record(&mut random, &record);
         match random.below(4) {
@@ -108,8 +89,43 @@ pub fn round_trips(_: &Library, tally: &mut Tally) {
             _ => damaged.latch_count = random.pick(&LIMITS),
         }
         for room in [0, need, MAX_SHEET_BYTES] {
-            agrees(tally, &damaged, room);
+            library.sheet_agrees(tally, &damaged, room);
         }
     }
-    tally.check(("unknown starts", unknown), unknown >= 100);
+    tally.check(("unknown starts", unknown), unknown >= 200);
+}
+
+/// Sheets with a change or two: those that are still accepted are written as they were.
+pub fn damaged_sheets(library: &Library, tally: &mut Tally) {
+    let mut random = Random::new(1302);
+    let mut accepted = 0;
+    for round in 0..6_000 {
+        let netlist = wide_netlist(&mut random);
+        let sheet = damaged_sheet(&mut random, &write_sheet(&netlist));
+        if let Ok(Ok(found)) = read(&sheet, 600, 600) {
+            accepted += 1;
+            let written = library.sheet_of(&found, sheet.len());
+            tally.check_with((round, "written"), written == Ok(Ok(sheet)), || {
+                format!(": {found:?}")
+            });
+        }
+    }
+    tally.check(("still accepted", accepted), accepted >= 300);
+}
+
+/// Buffers of every length around the need, of a small sheet, a middling one and the largest.
+pub fn rooms(library: &Library, tally: &mut Tally) {
+    let largest = Netlist {
+        gate_count: 599,
+        address_width: 12,
+        data_width: 1,
+        gates: vec![Gate { left: 2, right: 2 }; 599],
+        ..Netlist::default()
+    };
+    for netlist in [accepted(FULL_RUN), accepted(RICH), largest] {
+        let need = write_sheet(&netlist).len();
+        for room in (0..34).chain(need.saturating_sub(40)..need + 40) {
+            library.sheet_agrees(tally, &netlist, room);
+        }
+    }
 }

@@ -6,14 +6,12 @@ use model::Group;
 use netlist::Netlist;
 use refusals::Refusal;
 use refusals::Verdict;
-use sheet_lines::Kind;
 use sheet_parse::LineAnswer;
 use sheet_steps::SheetAnswer;
 ghost use mathlib.Core.Path.{_≡_};
 ghost use Rattle.refusals.specs.Slices.{withCount};
 ghost use Rattle.call_unpacked.specs.Calls.{groupReply, headingReply};
 ghost use Rattle.dimacs.specs.PrintCalls.{printReply};
-ghost use Rattle.sheet_lines.specs.Letters.{letterOf};
 ghost use Rattle.call_replies.specs.Replies.{groupOf, countNumbers, headingNumbers, sheetNumbers, withoutFields, lineNumbers};
 
 // What is sent back of a call that writes into a slice: number (0 where it is not refused), place, and how many numbers or bytes
@@ -145,22 +143,6 @@ pub struct LineReply {
     pub line: u32,
 }
 
-// The letter of a line.
-fn letter_of(kind: Kind) -> u8
-    ensures { λ r. ⌜ r ≡ letterOf kind ⌝ }
-{
-    match kind {
-        Kind::Sizes => b'N',
-        Kind::Memory => b'M',
-        Kind::Latch => b'L',
-        Kind::Gate => b'G',
-        Kind::Address => b'A',
-        Kind::WriteData => b'D',
-        Kind::Control => b'C',
-        Kind::Unknown => 0,
-    }
-}
-
 // What is sent back where no line is read.
 fn without_fields(number: u32, place: u32, line: u32) -> LineReply
     ensures { λ r. ⌜ r ≡ withoutFields number place line ⌝ }
@@ -191,7 +173,7 @@ pub fn line_numbers(answer: LineAnswer, line: u32) -> LineReply
         } => LineReply {
             number: 0,
             place: 0,
-            letter: letter_of(kind),
+            letter: sheet_lines::letter_of(kind),
             first,
             second,
             third,

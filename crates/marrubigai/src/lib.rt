@@ -29,6 +29,7 @@ ghost use Rattle.call_position.specs.Moves.{moveOf, moveSent, MoveStands};
 ghost use Rattle.call_position.specs.GroupsAt.{groupAtSent, groupAtLeaves, ByFrame};
 ghost use Rattle.call_position.specs.Literals.{literalSent};
 ghost use Rattle.netlist.specs.NetOf.{alone};
+ghost use Rattle.sheet_writer.specs.WriteCall.{writeSent, writeLeaves, SheetWritten};
 ghost use Rattle.call_replies.specs.Replies.{groupOf, countNumbers, headingNumbers, sheetNumbers, lineNumbers};
 
 // `calls::write_group`. The kind is 0 for the wires of frame i, 1 for the pair (j, i), 2 for the closing of frame i, 3 for the property.
@@ -267,4 +268,30 @@ pub extern "C" fn marrubigai_literal_at(net: Netlist, position: Position, code: 
     ensures { λ r. ⌜ r ≡ literalSent (alone net) position code ⌝ }
 {
     call_position::literal_at(net, position, code)
+}
+
+// `sheet_writer::write_sheet`, of lent lists.
+#[no_mangle]
+pub extern "C" fn marrubigai_write_sheet(
+    net: Netlist,
+    latches: &[Latch],
+    gates: &[Gate],
+    out: &mut [u8],
+) -> CountReply
+    ensures answer { λ r. ⌜ r ≡ countNumbers (writeSent (netLent net (now (latches .entry)) (now (gates .entry))) (length (now (latches .entry))) (length (now (gates .entry))) (length (now (out .entry)))) ⌝ }
+    ensures borrowed { λ _. ⌜ now (out .exit) ≡ writeLeaves (netLent net (now (latches .entry)) (now (gates .entry))) (length (now (latches .entry))) (length (now (gates .entry))) (now (out .entry)) ⌝ }
+    ensures written { λ _. ⌜ SheetWritten ⌝ }
+{
+    let mut latch_codes = [0; 1200];
+    call_lists::unpack::unpack_latches(&mut latch_codes, latches);
+    let mut gate_codes = [0; 1200];
+    call_lists::unpack::unpack_gates(&mut gate_codes, gates);
+    call_replies::print_numbers(sheet_writer::write_sheet(
+        net,
+        &latch_codes,
+        latches.len(),
+        &gate_codes,
+        gates.len(),
+        out,
+    ))
 }

@@ -2,7 +2,7 @@
 ghost use mathlib.Core.Path.{_≡_};
 ghost use Prim.Native.Nat.{_<_};
 ghost use Rattle.refusals.specs.Refusal.{replyOf};
-ghost use Rattle.sheet_lines.specs.Letters.{kindOf, rowOf, contentNumber, contentOf, ContentsAsPrinted};
+ghost use Rattle.sheet_lines.specs.Letters.{letterOf, kindOf, rowOf, contentNumber, contentOf, ContentsAsPrinted};
 ghost use Rattle.sheet_lines.specs.Lines.{asWanted, valueOf, leftEmpty, lineWith, lineOf, ReadAsWritten};
 ghost use Rattle.sheet_lines.specs.Depth.{depthField, fieldVerdict, depthVerdict, withDepth, depthLine};
 use refusals::Refusal;
@@ -66,6 +66,22 @@ fn kind_of(letter: u8) -> Kind
     }
 }
 
+// The letter of a kind, and 0 where it is unknown.
+pub fn letter_of(kind: Kind) -> u8
+    ensures { λ r. ⌜ r ≡ letterOf kind ⌝ }
+{
+    match kind {
+        Kind::Sizes => b'N',
+        Kind::Memory => b'M',
+        Kind::Latch => b'L',
+        Kind::Gate => b'G',
+        Kind::Address => b'A',
+        Kind::WriteData => b'D',
+        Kind::Control => b'C',
+        Kind::Unknown => 0,
+    }
+}
+
 // The row of the table that a kind has, and 7 where the letter is unknown.
 pub fn row_of(kind: Kind) -> usize
     ensures { λ r. ⌜ r ≡ rowOf kind ⌝ }
@@ -90,7 +106,7 @@ fn contents() -> [[u8; 3]; 7]
 }
 
 // What the table says of a column, 0 to 2.
-fn content_of(kind: Kind, column: usize) -> u8
+pub fn content_of(kind: Kind, column: usize) -> u8
     requires { ⌜ (rowOf kind < 7) × (column < 3) ⌝ }
     ensures { λ r. ⌜ r ≡ contentNumber (contentOf kind column) ⌝ }
 {

@@ -32,14 +32,14 @@ use Rattle.sheet_tests.specs.Codes.{CodesRead}
 
 -- the file's netlist, where all tests of the file pass
 module _ (file : List ℕ) (passed : fileVerdict file ≡ Passed) where
-  lines-pass : inOrder (testLineIn (netIn file) file) (lineCount file) ≡ Passed
+  pub lines-pass : inOrder (testLineIn (netIn file) file) (lineCount file) ≡ Passed
   unfolding fileVerdict _then_
   lines-pass =
       then-passes (inOrder (testLineIn (netIn file) file) (lineCount file)) (endVerdict (netIn file) (lineCount file)) .0
       (then-passes (refuseIf (ragged file) Ragged 0)
       (inOrder (testLineIn (netIn file) file) (lineCount file) then endVerdict (netIn file) (lineCount file)) .0 passed .1) .0
 
-  end-passes : (controlLine (netIn file) ≤ lineCount file) × (testPort (netIn file) ≡ Passed)
+  pub end-passes : (controlLine (netIn file) ≤ lineCount file) × (testPort (netIn file) ≡ Passed)
   unfolding fileVerdict endVerdict _then_
   end-passes =
       let missing = refuseIf (ltb (lineCount file) (controlLine (netIn file))) OutOfOrder (lineCount file + 1) in
@@ -99,6 +99,10 @@ module _ (file : List ℕ) (latchRoom gateRoom : ℕ) where
   sheet-passed e h = by-room e ∙ rw h
 
   -- what the verdict Passed says
+  pub passed-file : sheetVerdict file latchRoom gateRoom ≡ Passed → fileVerdict file ≡ Passed
+  unfolding sheetVerdict
+  passed-file e = then-passes (fileVerdict file) _ .0 e .0
+
   pub passed-sheet : sheetVerdict file latchRoom gateRoom ≡ Passed
       → Accepted (netIn file) × (netIn file .latches ≤ latchRoom) × (netIn file .gates ≤ gateRoom)
   unfolding sheetVerdict

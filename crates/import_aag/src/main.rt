@@ -1,0 +1,87 @@
+// The program `import_aag` (RULES P18 to P22): m, n and the start word, which may be left out, as arguments and an ASCII AIGER text on standard input; on standard
+// output the sheet of its netlist, or one refusal. What is printed is in the crates below; here are only arguments, input and output.
+use decimal::Number;
+ghost use mathlib.Core.Path.{_≡_};
+ghost use lib.ListN.{length};
+
+// Writes text to standard output. Where that fails, says so on standard error.
+fn write_text(text: &[u8]) {
+    if !io::write_all(1, text) {
+        io::write_all(2, b"import_aag: writing failed, the output is not whole\n");
+    }
+}
+
+fn print_usage() {
+    io::write_all(
+        2,
+        b"usage: import_aag m n [start] < text.aag > sheet\n  m, n: how many address and data bits; start: what every word starts as; left out: anything\n",
+    );
+}
+
+// An argument as a number of at most ten digits; one that is missing or longer is none.
+fn number_at(i: usize) -> Number {
+    let mut word = [0; 10];
+    let count = os::arg(i, &mut word);
+    decimal::read_number(&word[..count])
+}
+
+// One byte more than the longest text that is read, so that a longer one is seen to be too long.
+fn no_text() -> [u8; 4194305]
+    ensures { λ r. ⌜ length r ≡ 4194305 ⌝ }
+{
+    [0; 4194305]
+}
+
+// As many bytes as the longest sheet has.
+fn no_sheet() -> [u8; 19680]
+    ensures { λ r. ⌜ length r ≡ 19680 ⌝ }
+{
+    [0; 19680]
+}
+
+fn print_import(text: &[u8], m: u32, n: u32, word: u32, unknown: u32) {
+    let mut sheet = no_sheet();
+    let bytes = program_import::write_import(&mut sheet, text, m, n, word, unknown);
+    write_text(&sheet[..bytes]);
+}
+
+// Imports the text on standard input.
+fn import(m: u32, n: u32, word: u32, unknown: u32) {
+    let mut text = no_text();
+    let count = io::read_full(0, &mut text);
+    if 4194304 < count {
+        io::write_all(2, b"import_aag: the text has more than 4194304 bytes\n");
+        return;
+    }
+    print_import(&text[..count], m, n, word, unknown);
+}
+
+// Imports for a start that is given as the third argument, or unknown where there is none.
+fn import_for(m: u32, n: u32, count: usize) {
+    if count == 3 {
+        import(m, n, 0, 1);
+        return;
+    }
+    let Number::Value(word) = number_at(3) else {
+        print_usage();
+        return;
+    };
+    import(m, n, word, 0);
+}
+
+fn main() {
+    let count = os::arg_count();
+    if (count < 3) | (4 < count) {
+        print_usage();
+        return;
+    }
+    let Number::Value(m) = number_at(1) else {
+        print_usage();
+        return;
+    };
+    let Number::Value(n) = number_at(2) else {
+        print_usage();
+        return;
+    };
+    import_for(m, n, count);
+}

@@ -1,0 +1,35 @@
+-- Laws of specs/Printed.antt: lists of 600 records are long enough. Cited by `write_import`.
+use Prim.Native.Nat.{ℕ, _≤_}
+use mathlib.Core.Path.{_≡_, refl, sym, _∙_, ap}
+use mathlib.Core.Bool.{false}
+use mathlib.Core.List.{List}
+use native.Mathlib.Omega.{arith}
+use Rattle.model.specs.Netlist.{Netlist}
+use Rattle.refusals.specs.Tests.{refuseIf, _then_}
+use Rattle.refusals.specs.declared.Refusal.the-variants.{Size, CodeOutside, NoRoom}
+use Rattle.refusals.specs.declared.Verdict.{Verdict}
+use Rattle.refusals.specs.declared.Verdict.the-variants.{Passed, Refused}
+use Rattle.netlist.specs.Faults.{sizeFault}
+use Rattle.netlist.proofs.Faults.{sizes-fit}
+use Rattle.netlist_tests.specs.Record.{testLines, listsShort}
+use Rattle.netlist_tests.proofs.Record.{testLines-passes}
+use Rattle.netlist_tests.proofs.Acceptance.{lists-long}
+use Rattle.aiger_netlist.specs.TextNetlist.{aagNet}
+use Rattle.aiger_netlist.specs.ImportVerdict.{importVerdict}
+use Rattle.program_import.specs.Printed.{RoomSuffices}
+
+-- where the sizes pass, no list of so many records is short
+long-enough : (c : Netlist) (latchRoom gateRoom : ℕ) → 600 ≤ latchRoom → 600 ≤ gateRoom → testLines c Size sizeFault ≡ Passed
+    → listsShort c latchRoom gateRoom ≡ false
+long-enough c latchRoom gateRoom l g e =
+    let sizes = sizes-fit c .0 (testLines-passes c Size sizeFault .0 e) in
+    lists-long c latchRoom gateRoom .1 (omega (arith, sizes .latches-fit), omega (arith, sizes .gates-fit))
+
+pub room-suffices : RoomSuffices
+unfolding importVerdict _then_
+room-suffices s m n word unknown latchRoom gateRoom l g = by-sizes (testLines (aagNet s m n word unknown) Size sizeFault) refl
+  where
+    by-sizes : (v : Verdict) → testLines (aagNet s m n word unknown) Size sizeFault ≡ v → importVerdict s m n word unknown 600 600 ≡ importVerdict s m n word unknown latchRoom gateRoom
+    by-sizes Passed e =
+        rw (long-enough (aagNet s m n word unknown) 600 600 (omega arith) (omega arith) e, long-enough (aagNet s m n word unknown) latchRoom gateRoom l g e)
+    by-sizes (Refused r p) e = rw e

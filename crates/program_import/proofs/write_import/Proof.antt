@@ -1,0 +1,100 @@
+-- `program_import::write_import` meets its contract: the refusal, or the sheet of what was imported, which is no longer than the longest.
+use Prim.Native.Nat.{_^_, _<_, _≤_}
+use mathlib.Core.Path.{_≡_, sym, _∙_, subst}
+use mathlib.Core.List.{[]}
+use native.Mathlib.Omega.{arith}
+use borrow.Author.Needs.{needs}
+use Rattle.model.specs.Acceptance.{SizesFit, WithinLimits}
+use Rattle.refusals.specs.declared.Verdict.the-variants.{Passed}
+use Rattle.netlist.specs.NetOf.{netOf, alone}
+use Rattle.netlist.proofs.NetOf.{sizes-lists}
+use Rattle.sheet_steps.proofs.Records.{verdict-is, holds}
+use Rattle.dimacs.proofs.Text.{length-refusalText}
+use Rattle.aiger_netlist.specs.TextNetlist.{aagNet}
+use Rattle.aiger_netlist.specs.ImportVerdict.{importVerdict}
+use Rattle.aiger_netlist.proofs.Verdict.{import-passed}
+use Rattle.sheet_writer.proofs.SheetText.{length-sheetText}
+use Rattle.program_import.specs.Printed.{sheetOrRefusal, importText}
+use Rattle.program_import.proofs.Room.{room-suffices}
+use Rattle.program_import.proofs.write_import.Statement.{statement}
+use Rattle.program_import.proofs.write_import.Tie as tie
+
+no-codes-requires : tie.Need-no-codes-requires
+no-codes-requires c κs = search needs
+
+no-codes-requires-2 : tie.Need-no-codes-requires-2
+no-codes-requires-2 c κs = search needs
+
+import-codes-requires : tie.Need-import-codes-requires
+import-codes-requires c κs = search needs
+
+enum-known-verdict : tie.Need-enum-known-verdict
+enum-known-verdict c = search needs
+
+number-requires : tie.Need-number-requires
+number-requires c κs = search needs
+
+write-refusal-requires : tie.Need-write-refusal-requires
+write-refusal-requires c κs =
+    let place = c .before .before .before .verdict .given .0 .1 .0 in
+    omega (arith, length-refusalText (c .number .result) place (search needs) (search needs))
+
+same-length : tie.Need-same-length
+same-length c = search needs
+
+returns : tie.Need-returns
+unfolding importText sheetOrRefusal
+returns c =
+    let told = c .before .before .before .before .before .before .verdict .given in
+    let number = c .before .before .before .number in
+    let v = sym (verdict-is (c .before .before .before .before .before .before .before .before .import-codes .ensures)) ∙ told .1 in
+    let w = rw (number .ensures) at (c .before .before .write-refusal .ensures) in
+    (rw v w, (omega (arith, c .before .before .write-refusal .ensures .counted, length-refusalText (number .result) (told .0 .1 .0) (search needs) (search needs)), room-suffices))
+
+enum-told : tie.Need-enum-told
+enum-told c = search needs
+
+-- what is imported is held by the record and the lists, and its sizes fit
+module _ (c : tie.After-enum-told) where
+  passed : let a = c .before .before .before .before .before .before .before .before .before .args in importVerdict (a .text .now) (a .m) (a .n) (a .word) (a .unknown) 600 600 ≡ Passed
+  passed = sym (verdict-is (c .before .before .import-codes .ensures)) ∙ c .enum-told .given .1
+
+  limits : let a = c .before .before .before .before .before .before .before .before .before .args in WithinLimits (aagNet (a .text .now) (a .m) (a .n) (a .word) (a .unknown))
+  limits = import-passed _ _ _ _ _ 600 600 passed .accepted .limits
+
+  sizes : SizesFit (alone (c .before .before .import-codes .result .net))
+  sizes = sizes-lists _ _ _ [] [] (subst SizesFit (sym (holds (c .before .before .import-codes .ensures) passed .net-is)) (limits .sizes))
+
+put-sheet-requires : tie.Need-put-sheet-requires
+unfolding netOf
+put-sheet-requires c κs =
+    let fit = sizes (c .before .before .before) in
+    (fit, omega (arith, fit .wires-fit, fit .m-most, c .before .before .before .before .before .before .before .before .before .before .before .before .pre))
+
+same-length-2 : tie.Need-same-length-2
+same-length-2 c = search needs
+
+returns-2 : tie.Need-returns-2
+unfolding importText sheetOrRefusal
+returns-2 c =
+    let told = c .before .before .before .before .before .before in
+    let fit = limits told .sizes in
+    let w = rw (holds (told .before .before .import-codes .ensures) (passed told) .net-is) at (c .before .before .put-sheet .ensures) in
+    (rw (passed told) w, (omega (arith, w .counted, length-sheetText _ (limits told), fit .wires-fit, fit .m-most), room-suffices))
+
+pub write-import-spec : {M : Type 1} → statement M
+write-import-spec =
+    tie.close
+    (tie.spec
+    no-codes-requires
+    no-codes-requires-2
+    import-codes-requires
+    enum-known-verdict
+    number-requires
+    write-refusal-requires
+    same-length
+    returns
+    enum-told
+    put-sheet-requires
+    same-length-2
+    returns-2)

@@ -1,0 +1,27 @@
+-- What `import_aag` prints for a text s with its caller's numbers (RULES P3 and P20), and that its room suffices. Cited by `write_import`.
+use Prim.Native.Nat.{ℕ, _≤_}
+use mathlib.Core.Path.{_≡_}
+use mathlib.Core.List.{List}
+use Rattle.model.specs.Limits.{mostWires}
+use Rattle.model.specs.Netlist.{Netlist}
+use Rattle.refusals.specs.Refusal.{refusalNumber}
+use Rattle.refusals.specs.declared.Verdict.{Verdict}
+use Rattle.refusals.specs.declared.Verdict.the-variants.{Passed, Refused}
+use Rattle.dimacs.specs.Text.{refusalText}
+use Rattle.aiger_netlist.specs.TextNetlist.{aagNet}
+use Rattle.aiger_netlist.specs.ImportVerdict.{importVerdict}
+use Rattle.sheet_writer.specs.SheetText.{sheetText}
+
+-- the netlist's sheet, or the refusal
+unfoldable pub sheetOrRefusal : Verdict → Netlist → List ℕ
+sheetOrRefusal Passed c = sheetText c
+sheetOrRefusal (Refused r p) c = refusalText (refusalNumber r) p
+
+-- lists of 600 records each are the program's own
+unfoldable pub importText : List ℕ → ℕ → ℕ → ℕ → ℕ → List ℕ
+importText s m n word unknown = sheetOrRefusal (importVerdict s m n word unknown mostWires mostWires) (aagNet s m n word unknown)
+
+-- they are long enough: the verdict is that of an import into lists of any greater length, so that 9 does not occur
+abbrev pub RoomSuffices : Type 0
+RoomSuffices = (s : List ℕ) (m n word unknown latchRoom gateRoom : ℕ) → mostWires ≤ latchRoom → mostWires ≤ gateRoom
+    → importVerdict s m n word unknown mostWires mostWires ≡ importVerdict s m n word unknown latchRoom gateRoom

@@ -1,0 +1,113 @@
+-- A sheet that is accepted is the sheet of the netlist that it is read as (specs/WriteCall.antt). No contract cites this file.
+use Prim.Native.Nat.{ℕ, _+_, _-_, _*_, _≤_, _<_}
+use mathlib.Core.Path.{_≡_, refl, sym, _∙_, ap}
+use mathlib.Core.Bool.{Bool, true, false, not, _&&_, true≢false, false≢true}
+use mathlib.Core.List.{List}
+use native.Mathlib.Nat.{add-zero}
+use native.Mathlib.Omega.{arith}
+use lib.Dec.{eqb, leb}
+use lib.ListN.{getD, length, take, drop}
+use borrow.Author.Tests.{eqb-true, lt-ltb, not-false}
+use Rattle.model.specs.Gather.{gather}
+use Rattle.model.specs.Netlist.{Netlist}
+use Rattle.model.proofs.Booleans.{and-true}
+use Rattle.model.proofs.Gather.{gathers-same}
+use Rattle.refusals.specs.declared.Refusal.the-variants.{Ragged}
+use Rattle.refusals.specs.declared.Verdict.the-variants.{Passed}
+use Rattle.refusals.proofs.Tests.{refuseIf-passes, first-passes, inOrder-passes}
+use Rattle.netlist.specs.Places.{controlLine, lineAt, HasLine}
+use Rattle.netlist.specs.declared.Line.{Line}
+use Rattle.netlist.specs.declared.Line.the-variants as Due
+use Rattle.netlist.proofs.Places.{has-lineAt}
+use Rattle.sheet_lines.specs.Letters.{rowOf, contentOf}
+use Rattle.sheet_lines.specs.Lines.{lineOf, lineText}
+use Rattle.sheet_lines.specs.declared.Kind.{Kind}
+use Rattle.sheet_lines.specs.declared.Kind.the-variants.{Sizes, Memory, Latch, Gate, Address, WriteData, Control, Unknown}
+use Rattle.sheet_lines.specs.declared.ParsedLine.{ParsedLine}
+use Rattle.sheet_lines.specs.declared.ParsedLine.the-variants.{Misprint, Read}
+use Rattle.sheet_lines.proofs.Letters.{kinds}
+use Rattle.sheet_lines.proofs.Lines.{read-as-written}
+use Rattle.sheet_steps.specs.Due.{kindDue}
+use Rattle.sheet_steps.proofs.Places.{placeOf, place-lineAt}
+use Rattle.sheet_parse.specs.Files.{lineCount, lineIn, sizesIn, netOfLines, netIn}
+use Rattle.sheet_parse.specs.FileTests.{ragged, isOf, notDue, testLineIn}
+use Rattle.sheet_parse.proofs.Files.{whole-lines}
+use Rattle.sheet_parse.proofs.LineTests.{line-passed, within-last}
+use Rattle.sheet_tests.specs.Sheet.{fileVerdict}
+use Rattle.sheet_tests.proofs.Codes.{lines-pass, end-passes}
+use Rattle.sheet_writer.specs.SheetText.{printedLine, printedText, sheetText}
+use Rattle.sheet_writer.proofs.Parts.{parts-gather}
+
+-- a kind is known by its row
+kind-in-row : (k : Kind) → getD kinds (rowOf k) Unknown ≡ k
+kind-in-row Sizes = refl
+kind-in-row Memory = refl
+kind-in-row Latch = refl
+kind-in-row Gate = refl
+kind-in-row Address = refl
+kind-in-row WriteData = refl
+kind-in-row Control = refl
+kind-in-row Unknown = refl
+
+row-one-kind : (k l : Kind) → rowOf k ≡ rowOf l → k ≡ l
+row-one-kind k l e = sym (kind-in-row k) ∙ ap (λ row. getD kinds row Unknown) e ∙ kind-in-row l
+
+-- a line of a kind, and its numbers
+record OfKind (k : Kind) (line : ParsedLine) : Type 0 where
+  x : ℕ
+  y : ℕ
+  z : ℕ
+  empty : ℕ
+  is : line ≡ Read k x y z empty
+
+of-kind : (k : Kind) (line : ParsedLine) → isOf k line ≡ true → OfKind k line
+of-kind k Misprint h = absurd (false≢true h)
+of-kind k (Read kind x y z e) h = record { x = x; y = y; z = z; empty = e; is = ap (λ l. Read l x y z e) (row-one-kind kind k (eqb-true (rowOf kind) (rowOf k) h)) }
+
+module _ (file : List ℕ) where
+  -- a line's text is that of the numbers that are read there: what stands in an empty field does not show
+  text-of-line : (due : Line) → HasLine (netIn file) due → (x y z empty : ℕ) → lineIn file (placeOf (netIn file) due) ≡ Read (kindDue due) x y z empty
+      → printedText (printedLine (netIn file) due) ≡ lineText (kindDue due) x y z empty
+  unfolding printedText printedLine netIn netOfLines sizesIn lineText contentOf
+  text-of-line Due.Sizes h x y z empty e = rw e
+  text-of-line Due.Memory h x y z empty e = rw e
+  text-of-line (Due.Latch l) h x y z empty e = rw (lt-ltb l _ h, e)
+  text-of-line (Due.Gate g) h x y z empty e = rw (lt-ltb g _ h, e)
+  text-of-line (Due.Address t) h x y z empty e = rw (lt-ltb t _ h, e)
+  text-of-line (Due.WriteData t) h x y z empty e = rw (lt-ltb t _ h, e)
+  text-of-line Due.Control h x y z empty e = rw (simp add-zero at e)
+
+  module _ (passed : fileVerdict file ≡ Passed) where
+    whole : length file ≡ 32 * lineCount file
+    unfolding fileVerdict
+    whole = whole-lines file (refuseIf-passes (ragged file) Ragged 0 .0 (first-passes _ _ passed)) .whole
+
+    some : 1 ≤ lineCount file
+    unfolding fileVerdict
+    some = omega (arith, whole, whole-lines file (refuseIf-passes (ragged file) Ragged 0 .0 (first-passes _ _ passed)) .some)
+
+    ends : controlLine (netIn file) ≡ lineCount file
+    ends =
+        let last = inOrder-passes (testLineIn (netIn file) file) (lineCount file) .0 (lines-pass file passed) (lineCount file) some (omega arith) in
+        omega (arith, within-last (netIn file) file (lineCount file) last, end-passes file passed .0)
+
+    -- the line at a place, as it is printed
+    line-text : (p : ℕ) → p < controlLine (netIn file) → printedText (printedLine (netIn file) (lineAt (netIn file) (p + 1))) ≡ take 32 (drop (32 * p) file)
+    unfolding notDue lineIn
+    line-text p b =
+        let c = netIn file in
+        let due = lineAt c (p + 1) in
+        let back : p + 1 - 1 ≡ p = omega arith in
+        let sound = line-passed file (lineCount file) (lines-pass file passed) (p + 1) (omega arith) (omega (arith, ends)) in
+        let kind = and-true (leb (p + 1) (controlLine c)) (isOf (kindDue due) (lineIn file (p + 1))) .0 (not-false _ (sound .due)) .1 in
+        let line = of-kind (kindDue due) (lineIn file (p + 1)) kind in
+        let place : placeOf c due ≡ p + 1 = place-lineAt c (p + 1) (omega arith) (omega arith) in
+        text-of-line due (has-lineAt c (p + 1)) (line .x) (line .y) (line .z) (line .empty) (ap (lineIn file) place ∙ line .is)
+        ∙ sym (read-as-written .read→text (take 32 (drop (32 * (p + 1 - 1)) file)) (kindDue due) (line .x) (line .y) (line .z) (line .empty) (line .is))
+        ∙ ap (λ q. take 32 (drop (32 * q) file)) back
+
+    pub written-back : sheetText (netIn file) ≡ file
+    unfolding sheetText
+    written-back =
+        gathers-same {f = λ p. printedText (printedLine (netIn file) (lineAt (netIn file) (p + 1)))} {h = λ p. take 32 (drop (32 * p) file)} ends line-text
+        ∙ parts-gather 32 (lineCount file) file whole

@@ -1,0 +1,96 @@
+-- `sheet_writer::write_sheet` meets its contract: the tests of the record, that of the room, and the sheet.
+use mathlib.Core.Path.{_≡_, sym, _∙_}
+use mathlib.Core.List.{[]}
+use native.Mathlib.Omega.{arith}
+use borrow.Author.Needs.{needs}
+use lib.ListN.{length}
+use Rattle.model.specs.Acceptance.{Accepted}
+use Rattle.refusals.specs.Tests.{_then_}
+use Rattle.refusals.specs.Slices.{withCount, contentsAfter}
+use Rattle.refusals.specs.declared.Verdict.the-variants.{Passed}
+use Rattle.refusals.proofs.Slices.{room-enough, room-short}
+use Rattle.netlist.specs.NetOf.{netOf}
+use Rattle.netlist.proofs.NetOf.{sizes-lists}
+use Rattle.netlist_tests.specs.Record.{recordVerdict}
+use Rattle.netlist_tests.proofs.Acceptance.{passes-accepted}
+use Rattle.dimacs.specs.PrintCalls.{printReply}
+use Rattle.sheet_writer.specs.SheetText.{sheetText}
+use Rattle.sheet_writer.specs.WriteCall.{writeVerdict, writeSent, writeLeaves}
+use Rattle.sheet_writer.proofs.SheetText.{length-sheetText}
+use Rattle.sheet_writer.proofs.WriteCall.{sheet-written}
+use Rattle.sheet_writer.proofs.write_sheet.Statement.{statement}
+use Rattle.sheet_writer.proofs.write_sheet.Tie as tie
+
+test-record-requires : tie.Need-test-record-requires
+test-record-requires c κs = search needs
+
+enum-known-refusal : tie.Need-enum-known-refusal
+enum-known-refusal c = search needs
+
+returns : tie.Need-returns
+unfolding printReply writeVerdict writeSent writeLeaves withCount contentsAfter _then_
+returns c =
+    let v = sym (c .before .before .before .test-record .ensures) ∙ c .before .refusal .given .1 in
+    (rw v, (rw v, sheet-written))
+
+enum-told : tie.Need-enum-told
+enum-told c = search needs
+
+-- the record is accepted, its sizes fit, and so its sheet is so long
+module _ (c : tie.After-enum-told) where
+  passed : let a = c .before .before .before .before .args in recordVerdict (netOf (a .net) (a .latches .now) (a .gates .now)) (a .latch-count) (a .gate-count) ≡ Passed
+  passed = sym (c .before .before .test-record .ensures) ∙ c .enum-told .given .1
+
+  accepted : let a = c .before .before .before .before .args in Accepted (netOf (a .net) (a .latches .now) (a .gates .now))
+  accepted = passes-accepted _ _ _ .0 passed .0
+
+control-line-requires : tie.Need-control-line-requires
+control-line-requires c κs = sizes-lists _ _ _ [] [] (accepted c .limits .sizes)
+
+cast-if1 : tie.Need-cast-if1
+cast-if1 c = search needs
+
+mul-if1 : tie.Need-mul-if1
+mul-if1 c = search needs
+
+returns-2 : tie.Need-returns-2
+unfolding netOf printReply writeVerdict writeSent writeLeaves withCount contentsAfter _then_
+returns-2 c =
+    let told = c .before .before in
+    let a = told .before .before .before .before .args in
+    let v = passed told in
+    let short = room-short (length (sheetText (netOf (a .net) (a .latches .now) (a .gates .now)))) (length (a .out .now)) (omega (arith, length-sheetText _ (accepted told .limits), c .if1 .taken, c .before .control-line .ensures)) in
+    (rw (v, short), (rw (v, short), sheet-written))
+
+put-sheet-requires : tie.Need-put-sheet-requires
+put-sheet-requires c κs =
+    (sizes-lists _ _ _ [] [] (accepted (c .before .before .before) .limits .sizes), omega (arith, c .before .if1 .left, c .before .before .control-line .ensures))
+
+same-length : tie.Need-same-length
+same-length c = search needs
+
+returns-3 : tie.Need-returns-3
+unfolding netOf printReply writeVerdict writeSent writeLeaves withCount contentsAfter _then_
+returns-3 c =
+    let told = c .before .before .before .before .before .before in
+    let a = told .before .before .before .before .args in
+    let v = passed told in
+    let w = c .before .before .put-sheet .ensures in
+    let enough = room-enough (length (sheetText (netOf (a .net) (a .latches .now) (a .gates .now)))) (length (a .out .now)) (omega (arith, length-sheetText _ (accepted told .limits), c .before .before .before .before .if1 .left, c .before .before .before .before .before .control-line .ensures)) in
+    (rw (v, enough, w .counted), (rw (v, enough) (w .leaves), sheet-written))
+
+pub write-sheet-spec : {M : Type 1} → statement M
+write-sheet-spec =
+    tie.close
+    (tie.spec
+    test-record-requires
+    enum-known-refusal
+    returns
+    enum-told
+    control-line-requires
+    cast-if1
+    mul-if1
+    returns-2
+    put-sheet-requires
+    same-length
+    returns-3)
