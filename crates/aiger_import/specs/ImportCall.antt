@@ -3,7 +3,8 @@
 use Prim.Native.Nat.{ℕ}
 use mathlib.Core.List.{List}
 use lib.ListN.{length}
-use Rattle.model.specs.Netlist.{givenWord, startOf}
+use Rattle.model.specs.Netlist.{startOf}
+use Rattle.model.specs.Agree.{givenWord}
 use Rattle.refusals.specs.declared.Verdict.{Verdict}
 use Rattle.netlist.specs.declared.Netlist.{Netlist}
 use Rattle.sheet_steps.specs.Records.{recordBeside}

@@ -1,7 +1,8 @@
 -- `aiger_import::given_word` meets its contract.
 use Prim.Native.Nat.{ℕ, zero, suc}
 use mathlib.Core.Path.{_≡_, refl, sym}
-use Rattle.model.specs.Netlist.{givenWord, startOf}
+use Rattle.model.specs.Netlist.{startOf}
+use Rattle.model.specs.Agree.{givenWord}
 use Rattle.aiger_import.specs.ImportCall.{importedWord}
 use Rattle.aiger_import.proofs.given_word.Statement.{statement}
 use Rattle.aiger_import.proofs.given_word.Tie as tie
