@@ -1,7 +1,8 @@
 #!/usr/bin/env bash
 # Looks for a run of a chip that breaks its property in one of the frames 0 to DEPTH, and shows it frame by frame; with --least, for one
 # that breaks it in the earliest frame that any run does; with --vcd, writes it to FILE as a waveform too. A solver finds the run, but
-# what is shown is what `replay` made of its answer: the chip stepped with its whole memory, from the answer's inputs and idle read bits.
+# what is shown is what `replay` made of its answer: the chip stepped with its whole memory, from the answer's inputs and idle read bits, and
+# from the words of an unknown start that it reads.
 # The sheet's wires may have names in a file beside it (chip.sheet, chip.names).
 # Exit status: 10 a run is shown, 20 there is none to this depth, 1 the sheet or depth is refused or something failed, 2 the command is
 # not as below. At 1 and 2 there is a message on standard error and nothing on standard output; FILE is written at 10 alone.

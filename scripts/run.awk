@@ -33,11 +33,13 @@ function fault(   w) { # why there is nothing to show
 }
 
 # a field of a sheet's line, by its columns: one that is full has no space before it
-function field(column) { return substr($0, 2 + 10 * column, 10) + 0 }
+function field_text(column) { return substr($0, 2 + 10 * column, 10) }
+function field(column) { return field_text(column) + 0 }
 
 file == "names" && NF { name[++names] = $1; $1 = ""; codes[names] = $0 }
 file == "sheet" && /^N/ { V = field(0) + field(1) + field(2); first_read = field(0) + field(1) + 1 }
 file == "sheet" && /^M/ { m = field(0); n = field(1); V += n; for (t = 0; t < n; t++) read_data = read_data " " 2 * (first_read + t) }
+file == "sheet" && /^M/ { unknown_start = field_text(2) !~ /[0-9]/ }
 file == "sheet" && /^A/ { address = address " " field(0) }
 file == "sheet" && /^D/ { write_data = write_data " " field(0) }
 file == "sheet" && /^C/ { we = field(0); re = field(1); property = field(2) }

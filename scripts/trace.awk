@@ -1,6 +1,7 @@
-# Shows a run frame by frame: the named words, what the memory does, and which frame wrote the word that is read. With run.awk, whose
-# head says how it is called. A named word with a code of a read bit, inverted or not, is shown as - in frame 0 where that does not read:
-# what stands there is no word of the memory. A later frame that does not read holds the word of the frame before.
+# Shows a run frame by frame: the named words, what the memory does, and which frame wrote the word that is read, or that it is the start
+# word or of an unknown start. With run.awk, whose head says how it is called. A named word with a code of a read bit, inverted or not, is
+# shown as - in frame 0 where that does not read: what stands there is no word of the memory. A later frame that does not read holds the
+# word of the frame before.
 
 function word(codes, frame,   parts, t, sum) { # of codes parted by spaces
   for (t = split(codes, parts, " "); t >= 1; t--) sum = 2 * sum + value(parts[t], frame)
@@ -18,7 +19,7 @@ function is_idle(codes, frame,   parts, t, wire) { # has a read bit that is free
 
 function read_of(frame, at) {
   if (!value(re, frame)) return ""
-  return "reads " word(read_data, frame) " at " at " (" (at in writer ? "written in frame " writer[at] : "start word") ")"
+  return "reads " word(read_data, frame) " at " at " (" (at in writer ? "written in frame " writer[at] : unknown_start ? "unknown start" : "start word") ")"
 }
 
 function write_of(frame, at) {

@@ -1,7 +1,7 @@
 #!/usr/bin/env bash
 # The script that looks for a run (scripts/find.sh) and those that show it (scripts/run.awk, trace.awk): whatever the sheet is called, each
-# exit status, each refusal with its word, its line and its hint, the earliest frame, idle read bits, answers that are not the chip's, and
-# everything that can be missing. tests/waveform.sh has the waveform's values.
+# exit status, each refusal with its word, its line and its hint, the earliest frame, idle read bits, an unknown start, answers that are not
+# the chip's, and everything that can be missing. tests/waveform.sh has the waveform's values.
 # Arguments: the programs `frames` and `replay`.
 set -u
 frames=$(readlink -f "$1")
@@ -221,6 +221,37 @@ ends "a word that is held" 10 "held.sheet: a run breaks the property, first in f
 frame  read  not-read  memory
     0     1         0  reads 1 at 0 (start word)
     1     1         0  idle  <- property broken" "" held.sheet 1
+
+# From an unknown start. The chip of above can read a 1 in frame 0 already.
+one_bit | sed '2s/0$/ /' > "$work/sheets/unknown.sheet"
+cp "$work/sheets/chip.names" "$work/sheets/unknown.names"
+ends "a word of an unknown start" 10 "unknown.sheet: a run breaks the property, first in frame 0:
+frame  input  read  memory
+    0      0     1  reads 1 at 0 (unknown start), writes 0 at 0  <- property broken" "" unknown.sheet 0
+
+# Every frame reads a word that none writes, and the property is that it is 0. Two reads of it agree. The bit read is variable 2 in frame 0
+# and 3 in frame 1, where it is the word of frame 0, whatever an answer says of it.
+{ line N 0 0 0; line M 1 1; line A 0; line D 0; line C 0 1 3; } > "$work/sheets/agreed.sheet"
+printf 'read 2\n' > "$work/sheets/agreed.names"
+agreed="agreed.sheet: a run breaks the property, first in frame 0:
+frame  read  memory
+    0     1  reads 1 at 0 (unknown start)  <- property broken
+    1     1  reads 1 at 0 (unknown start)  <- property broken"
+ends "two reads of one word" 10 "$agreed" "" agreed.sheet 1
+answered "a word that is read again" $'s SATISFIABLE\nv 2 0' 10 "$agreed" "" agreed.sheet 1
+answered "reads that do not agree" $'s SATISFIABLE\nv 2 -3 0' 10 "$agreed" "" agreed.sheet 1
+answered "a word without a value" $'s SATISFIABLE\nv 3 0' 1 "" "agreed${no_answer#chip}" agreed.sheet 1
+answered "a word with both values" $'s SATISFIABLE\nv 2 -2 3 0' 1 "" "agreed${no_answer#chip}" agreed.sheet 1
+
+# Read enable is the latch, which is 0 in frame 0 alone: what stands on the read bit there, variable 3, is not the word that frame 1 reads,
+# variable 5.
+{ line N 0 1 0; line M 1 1; line L 1 0; line A 0; line D 0; line C 0 2 5; } > "$work/sheets/late.sheet"
+printf 'read 4\n' > "$work/sheets/late.names"
+answered "a start that is read behind an idle frame" $'s SATISFIABLE\nv -3 5 0' 10 "late.sheet: a run breaks the property, first in frame 1:
+frame  read  memory
+    0     -  idle
+    1     1  reads 1 at 0 (unknown start)  <- property broken" "" late.sheet 1
+answered "an idle frame's bits are not the start" $'s SATISFIABLE\nv 3 0' 1 "" "late${no_answer#chip}" late.sheet 1
 
 # A word of 32 bits, all of them 1: its field fills its columns, so that no space stands before it. No input, no latch, no gate; wires 1
 # to 32 are the read bits, and the property is that bit 0 reads 0.

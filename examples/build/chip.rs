@@ -3,7 +3,7 @@
 use std::ops::Not;
 
 use super::netlist::{Gate, Latch, Netlist};
-use super::sheet::write_sheet;
+use super::sheet::{write_sheet, FIELD_BYTES, LINE_BYTES};
 
 /// One wire or its inverse, or a constant: a code (RULES W3).
 #[derive(Clone, Copy, PartialEq, Eq)]
@@ -37,6 +37,7 @@ pub fn widen(word: &[Bit], width: usize) -> Word {
 
 pub struct Chip {
     netlist: Netlist,
+    start_unknown: bool,
     names: Vec<(&'static str, Word)>,
     shown: Vec<&'static str>,
 }
@@ -60,6 +61,7 @@ impl Chip {
                 start_word,
                 ..Netlist::default()
             },
+            start_unknown: false,
             names: Vec::new(),
             shown: Vec::new(),
         };
@@ -71,6 +73,11 @@ impl Chip {
         }
         chip.netlist.latches = vec![Latch { next: 0, reset: 0 }; chip.netlist.latch_count as usize];
         chip
+    }
+
+    /// Nothing clears the memory: whatever start word was given, each word begins as anything.
+    pub fn leave_start_unknown(&mut self) {
+        self.start_unknown = true;
     }
 
     /// The word of a name.
@@ -214,7 +221,13 @@ impl Chip {
         self.netlist
             .check()
             .expect("a netlist within the limits");
-        write_sheet(&self.netlist)
+        let mut sheet = write_sheet(&self.netlist);
+        if self.start_unknown {
+            // the third field of the second line, M
+            let start = LINE_BYTES + 1 + 2 * FIELD_BYTES;
+            sheet[start..start + FIELD_BYTES].fill(b' ');
+        }
+        sheet
     }
 
     /// One line for each name that is shown: the name, then its codes, the lowest bit first.

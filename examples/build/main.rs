@@ -16,9 +16,12 @@ mod refusal;
 #[allow(dead_code)]
 #[path = "../../tests/reference/sheet.rs"]
 mod sheet;
+mod sixth_revision;
 
 use std::fs;
 use std::path::PathBuf;
+
+use sixth_revision::Memory;
 
 fn main() {
     let folder = match std::env::args_os().nth(1) {
@@ -34,6 +37,9 @@ fn main() {
         ("fourth-revision/repaired", fourth_revision::chip(true)),
         ("fifth-revision/faulty", fifth_revision::chip(false)),
         ("fifth-revision/repaired", fifth_revision::chip(true)),
+        ("sixth-revision/unknown", sixth_revision::chip(Memory::Unknown)),
+        ("sixth-revision/cleared", sixth_revision::chip(Memory::Cleared)),
+        ("sixth-revision/repaired", sixth_revision::chip(Memory::Flagged)),
     ];
     for (name, chip) in chips {
         let path = folder.join(name);
