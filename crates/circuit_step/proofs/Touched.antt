@@ -93,8 +93,3 @@ module _ {c : Netlist} (ok : Accepted c) where
         let each = none-below (λ j. touches c (run c s f j) x) i .0 none in
         ap (λ r. frame c r (f j)) (state-untouched j (none-below (λ j. touches c (run c s f j) x) j .1 (λ l b. each l (omega arith))))
         ∙ frame-untouched x w (stateAt c s f j) (f j) (each j h)
-
-    -- and has touched the same words
-    pub touched-untouched : (i : ℕ) → touchedBefore c s f i x ≡ false → (z : ℕ) → touchedBefore c (withWord x w s) f i z ≡ touchedBefore c s f i z
-    unfolding touchedBefore
-    touched-untouched i none z = any-same i (λ j h. ap (λ v. touches c v z) (run-untouched i none j h))
