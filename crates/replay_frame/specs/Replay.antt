@@ -11,6 +11,7 @@ use Rattle.model.specs.Gather.{gather}
 use Rattle.model.specs.Bits.{fromBits}
 use Rattle.model.specs.Netlist.{Netlist, Start, given, unknown, start, port, readBits, inputWire, readWire, lastWire}
 use Rattle.model.specs.Circuit.{Values, codeValue, State, addressOf, stateAt, run, Begins, initial}
+use Rattle.model.specs.Acceptance.{Accepted}
 use Rattle.model.specs.Agree.{givenWord}
 use Rattle.model.specs.Variables.{base}
 use Rattle.model.specs.Numbers.{Assignment}
@@ -71,10 +72,13 @@ abbrev pub replayedState : Netlist → Said → ℕ → State
 replayedState c y i = stateAt c (begunFrom c y (startWords c y i)) (feedOf c (y .value)) i
 
 -- The frames 0 to k of the replay are those of the run from one memory that a run may begin with, and the memory that frame k leaves is that
--- run's. Promised by `marrubigai_replay`; the proof is in replay_run/proofs/OneRun.antt
+-- run's. Promised by `marrubigai_replay`; the proof is in proofs/OneRun.antt
 pub record OneRun (c : Netlist) (y : Said) (k : ℕ) : Type 0 where
   pub begins : Begins c (startWords c y (k + 1))
   pub frames : (i : ℕ) → i ≤ k → replayed c y i ≡ runFrom c y (startWords c y (k + 1)) i
+
+abbrev pub OneRunTheorem : Type 0
+OneRunTheorem = (c : Netlist) → Accepted c → (y : Said) (k : ℕ) → OneRun c y k
 
 -- RULES Y13: an input of frame i is unclear; or a read bit where RE is false in frame 0, with the values v of the frame that is stepped, or
 -- where the frame fills a word
