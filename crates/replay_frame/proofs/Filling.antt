@@ -28,7 +28,7 @@ use Rattle.circuit_values.specs.WireTable.{entry, HasBelow}
 use Rattle.circuit_step.specs.Held.{Holds, Fed}
 use Rattle.circuit_step.specs.Touched.{touches, touchedBefore}
 use Rattle.circuit_step.proofs.Held.{code-in, address-in, first-alike, evaluate-lists}
-use Rattle.circuit_step.proofs.Alike.{RE-settled, address-settled}
+use Rattle.circuit_step.proofs.Alike.{LatchesAlike, RE-settled, address-settled}
 use Rattle.circuit_step.proofs.Touched.{any-same, withWord, state-untouched, run-untouched}
 use Rattle.replay_frame.specs.Replay.{Said, begunFrom, runFrom, isUnknown, fillsFrom, wordSaid, startWords, fills, replayed, replayedState}
 use Rattle.replay_frame.specs.Frames.{marked, Filled, TouchedIs}
@@ -127,6 +127,14 @@ module _ {c : Netlist} (ok : Accepted c) (y : Said) (i : ℕ) where
   state-filled e =
       ap (λ s. stateAt c s (feedOf c (y .value)) i) (begun-filled e)
       ∙ state-untouched ok _ (wordSaid c y i) (begunFrom c y (startWords c y i)) (feedOf c (y .value)) i (fills-untouched e)
+
+  -- and the same latches
+  pub latches-on : LatchesAlike c (stateAt c (begunFrom c y (startWords c y (suc i))) (feedOf c (y .value)) i) (replayedState c y i)
+  latches-on l h = by (fills c y i) refl
+    where
+      by : (b : Bool) → fills c y i ≡ b → stateAt c (begunFrom c y (startWords c y (suc i))) (feedOf c (y .value)) i .latch l ≡ replayedState c y i .latch l
+      by true e = ap (λ s. s .latch l) (state-filled e)
+      by false e = ap (λ words. stateAt c (begunFrom c y words) (feedOf c (y .value)) i .latch l) (begun-kept e)
 
   module _ {latches inputs touched : List Bool} {memory memory′ : List ℕ} {word : ℕ} {r : Bool} (held : Holds c (replayedState c y i) latches memory word)
       (fed : Fed c (feedOf c (y .value) i) inputs) (marks : TouchedIs c y i touched)
