@@ -28,6 +28,7 @@ typedef uint32_t marrubigai_code;
 typedef struct {
   uint32_t inputs, latches, gates;
   uint32_t m, n, initial_word; /* address width, data width, what every word starts as */
+  uint32_t unknown_start; /* 0, or 1: each word starts as anything, each by itself, and initial_word is not looked at; above 1 is refused */
   marrubigai_code address[12], write_data[32]; /* bit 0 first; entries past the widths are ignored */
   marrubigai_code we, re, p; /* write enable, read enable, property */
 } marrubigai_netlist;
@@ -39,7 +40,7 @@ typedef struct { marrubigai_code left, right; } marrubigai_gate;
 typedef struct { uint32_t number, place; size_t count; } marrubigai_count_reply;
 typedef struct { uint32_t number, place, variables, clauses; } marrubigai_heading_reply;
 typedef struct { uint32_t number, place; marrubigai_netlist net; } marrubigai_sheet_reply;
-typedef struct { uint32_t number, place; uint8_t letter; uint32_t first, second, third, line; } marrubigai_line_reply;
+typedef struct { uint32_t number, place; uint8_t letter; uint32_t first, second, third, empty, line; } marrubigai_line_reply;
 typedef struct { uint32_t number, place, claimed, first; } marrubigai_replay_reply; /* claimed: 1 where the answer claims to be unsatisfiable */
 
 /* a refusal's number */
@@ -80,15 +81,15 @@ enum marrubigai_room {
 marrubigai_sheet_reply marrubigai_read(const uint8_t *file, size_t bytes, marrubigai_latch *latches, size_t latch_room,
                                        marrubigai_gate *gates, size_t gate_room);
 
-/* imports a netlist in ASCII AIGER, for a memory of m address bits and n data bits whose words all start as `word`: the last n inputs of the
- * text are the read bits, in order from bit 0; its outputs are the m address bits, the n write-data bits, write enable, read enable and
+/* imports a netlist in ASCII AIGER, for a memory of m address bits and n data bits whose words all start as `word`, or as anything where
+ * `unknown` is 1 (`word` then counts for nothing; a number above 1 is refused): the last n inputs of the text are the read bits, in order from bit 0; its outputs are the m address bits, the n write-data bits, write enable, read enable and
  * the property, m + n + 3 in all. Record and lists as where a sheet is read; every latch has reset 0. No order or name of inputs is
  * tested beyond their number: docs/LIBRARY.md says what to look at in a text that a tool has written. */
-marrubigai_sheet_reply marrubigai_import(const uint8_t *text, size_t bytes, uint32_t m, uint32_t n, uint32_t word, marrubigai_latch *latches,
-                                         size_t latch_room, marrubigai_gate *gates, size_t gate_room);
+marrubigai_sheet_reply marrubigai_import(const uint8_t *text, size_t bytes, uint32_t m, uint32_t n, uint32_t word, uint32_t unknown,
+                                         marrubigai_latch *latches, size_t latch_room, marrubigai_gate *gates, size_t gate_room);
 
-/* the line behind the first `line` lines of a sheet: its letter, its fields (0 where one is empty), and how many lines are read with
- * it, one more. Where it is misprinted, 2 with its place, line + 1, and it is read too. Where there is none (missing, cut short, or
+/* the line behind the first `line` lines of a sheet: its letter, its fields (0 where one is empty), 1 as `empty` where it is an M line whose
+ * start word is left empty, and how many lines are read with it, one more. Where it is misprinted, 2 with its place, line + 1, and it is read too. Where there is none (missing, cut short, or
  * behind 615 lines, the most that a sheet has), number and letter are 0 and the line number is `line` itself. */
 marrubigai_line_reply marrubigai_next_line(const uint8_t *file, size_t bytes, uint32_t line);
 

@@ -11,18 +11,19 @@
 #define FIELD(type, field, at) _Static_assert(offsetof(type, field) == (at), #type "." #field)
 
 SIZE(marrubigai_code, 4);
-SIZE(marrubigai_netlist, 212);
+SIZE(marrubigai_netlist, 216);
 FIELD(marrubigai_netlist, inputs, 0);
 FIELD(marrubigai_netlist, latches, 4);
 FIELD(marrubigai_netlist, gates, 8);
 FIELD(marrubigai_netlist, m, 12);
 FIELD(marrubigai_netlist, n, 16);
 FIELD(marrubigai_netlist, initial_word, 20);
-FIELD(marrubigai_netlist, address, 24);
-FIELD(marrubigai_netlist, write_data, 72);
-FIELD(marrubigai_netlist, we, 200);
-FIELD(marrubigai_netlist, re, 204);
-FIELD(marrubigai_netlist, p, 208);
+FIELD(marrubigai_netlist, unknown_start, 24);
+FIELD(marrubigai_netlist, address, 28);
+FIELD(marrubigai_netlist, write_data, 76);
+FIELD(marrubigai_netlist, we, 204);
+FIELD(marrubigai_netlist, re, 208);
+FIELD(marrubigai_netlist, p, 212);
 SIZE(marrubigai_latch, 8);
 FIELD(marrubigai_latch, next, 0);
 FIELD(marrubigai_latch, reset, 4);
@@ -38,18 +39,19 @@ FIELD(marrubigai_heading_reply, number, 0);
 FIELD(marrubigai_heading_reply, place, 4);
 FIELD(marrubigai_heading_reply, variables, 8);
 FIELD(marrubigai_heading_reply, clauses, 12);
-SIZE(marrubigai_sheet_reply, 220);
+SIZE(marrubigai_sheet_reply, 224);
 FIELD(marrubigai_sheet_reply, number, 0);
 FIELD(marrubigai_sheet_reply, place, 4);
 FIELD(marrubigai_sheet_reply, net, 8);
-SIZE(marrubigai_line_reply, 28);
+SIZE(marrubigai_line_reply, 32);
 FIELD(marrubigai_line_reply, number, 0);
 FIELD(marrubigai_line_reply, place, 4);
 FIELD(marrubigai_line_reply, letter, 8);
 FIELD(marrubigai_line_reply, first, 12);
 FIELD(marrubigai_line_reply, second, 16);
 FIELD(marrubigai_line_reply, third, 20);
-FIELD(marrubigai_line_reply, line, 24);
+FIELD(marrubigai_line_reply, empty, 24);
+FIELD(marrubigai_line_reply, line, 28);
 SIZE(marrubigai_replay_reply, 16);
 FIELD(marrubigai_replay_reply, number, 0);
 FIELD(marrubigai_replay_reply, place, 4);
@@ -143,9 +145,25 @@ static int answers_sheet(marrubigai_sheet_reply reply, uint32_t number, uint32_t
   return reply.number == number && reply.place == place && memcmp(&reply.net, net, sizeof *net) == 0;
 }
 
+// the same sheet with the start word left empty
+static void without_start(char *text) {
+  memcpy(text, DISTINCT, sizeof DISTINCT);
+  memset(text + 32 + 21, ' ', 10);
+}
+
 static void reading(void) {
   static const marrubigai_netlist nothing = {0};
   const size_t bytes = sizeof DISTINCT - 1;
+  char unknown[sizeof DISTINCT];
+  without_start(unknown);
+  marrubigai_netlist unknown_net = DISTINCT_NET;
+  unknown_net.initial_word = 0;
+  unknown_net.unknown_start = 1;
+  check("an empty start word is read as unknown",
+        answers_sheet(read_text(unknown, bytes, ROOM, ROOM), MARRUBIGAI_PASSED, 0, &unknown_net) &&
+            lists_hold(DISTINCT_LATCHES, 2, DISTINCT_GATES, 1));
+  unknown[32 + 20] = ' ';
+  check("empty data bits give 2 at line 2", answers_sheet(read_text(unknown, bytes, ROOM, ROOM), MARRUBIGAI_MISPRINT, 2, &nothing));
   check("the sheet of the full run is read, into lists of length 0",
         answers_sheet(read_text(FULL_RUN, sizeof FULL_RUN - 1, 0, 0), MARRUBIGAI_PASSED, 0, &CHIP) && lists_hold(0, 0, 0, 0));
   check("every field of the record is in its place, and the records are in the lists",
@@ -181,9 +199,14 @@ static const marrubigai_netlist IMPORTED_NET = {
 static const marrubigai_latch IMPORTED_LATCHES[] = {{.next = 13, .reset = 0}};
 static const marrubigai_gate IMPORTED_GATES[] = {{.left = 3, .right = 4}, {.left = 11, .right = 6}};
 
-static marrubigai_sheet_reply import_text(const char *text, size_t bytes, uint32_t m, uint32_t word, size_t latch_room, size_t gate_room) {
+static marrubigai_sheet_reply import_start(const char *text, size_t bytes, uint32_t m, uint32_t word, uint32_t unknown, size_t latch_room,
+                                           size_t gate_room) {
   fill_lists();
-  return marrubigai_import((const uint8_t *)text, bytes, m, 2, word, latches, latch_room, gates, gate_room);
+  return marrubigai_import((const uint8_t *)text, bytes, m, 2, word, unknown, latches, latch_room, gates, gate_room);
+}
+
+static marrubigai_sheet_reply import_text(const char *text, size_t bytes, uint32_t m, uint32_t word, size_t latch_room, size_t gate_room) {
+  return import_start(text, bytes, m, word, 0, latch_room, gate_room);
 }
 
 // the text with the byte at a place replaced, for m = 2 and the start word 3
@@ -214,6 +237,14 @@ static void importing(void) {
         answers_sheet(import_damaged("\n6 11 2\n", 6, '8'), MARRUBIGAI_UNDEFINED, 13, &nothing) && lists_hold(0, 0, 0, 0));
   check("start word 4 of two bits gives 4 at line 2 of a sheet",
         answers_sheet(import_text(TEXT_OF_A_CHIP, bytes, 2, 4, ROOM, ROOM), MARRUBIGAI_SIZE, 2, &nothing) && lists_hold(0, 0, 0, 0));
+  marrubigai_netlist unknown_net = IMPORTED_NET;
+  unknown_net.initial_word = 0;
+  unknown_net.unknown_start = 1;
+  check("an unknown start is imported, whatever the start word",
+        answers_sheet(import_start(TEXT_OF_A_CHIP, bytes, 2, 4, 1, ROOM, ROOM), MARRUBIGAI_PASSED, 0, &unknown_net) &&
+            lists_hold(IMPORTED_LATCHES, 1, IMPORTED_GATES, 2));
+  check("a number above 1 beside the start word gives 4 at line 2 of a sheet",
+        answers_sheet(import_start(TEXT_OF_A_CHIP, bytes, 2, 3, 2, ROOM, ROOM), MARRUBIGAI_SIZE, 2, &nothing) && lists_hold(0, 0, 0, 0));
   check("a read bit as the first address bit gives 6 at line 6 of a sheet",
         answers_sheet(import_damaged("\n2\n", 1, '4'), MARRUBIGAI_MEMORY_LOOP, 6, &nothing) && lists_hold(0, 0, 0, 0));
   check("a gate list too short gives 9, place 0",
@@ -224,7 +255,7 @@ static int answers_line_of(const char *text, size_t bytes, uint32_t line, marrub
   marrubigai_line_reply reply = marrubigai_next_line((const uint8_t *)text, bytes, line);
   return reply.number == expected.number && reply.place == expected.place && reply.letter == expected.letter &&
          reply.first == expected.first && reply.second == expected.second && reply.third == expected.third &&
-         reply.line == expected.line;
+         reply.empty == expected.empty && reply.line == expected.line;
 }
 
 static int answers_line(uint32_t line, marrubigai_line_reply expected) {
@@ -236,15 +267,20 @@ static void lines(void) {
   char misprinted[sizeof DISTINCT];
   memcpy(misprinted, DISTINCT, sizeof DISTINCT);
   misprinted[32] = '?';
-  check("the first line", answers_line(0, (marrubigai_line_reply){0, 0, 'N', 3, 2, 1, 1}));
-  check("a line with an empty field", answers_line(2, (marrubigai_line_reply){0, 0, 'L', 22, 1, 0, 3}));
-  check("the last line", answers_line(14, (marrubigai_line_reply){0, 0, 'C', 23, 11, 13, 15}));
+  char unknown[sizeof DISTINCT];
+  without_start(unknown);
+  check("the first line", answers_line(0, (marrubigai_line_reply){0, 0, 'N', 3, 2, 1, 0, 1}));
+  check("a line with an empty field", answers_line(2, (marrubigai_line_reply){0, 0, 'L', 22, 1, 0, 0, 3}));
+  check("a line with its start word", answers_line(1, (marrubigai_line_reply){0, 0, 'M', 4, 5, 6, 0, 2}));
+  check("a line whose start word is left empty",
+        answers_line_of(unknown, bytes, 1, (marrubigai_line_reply){0, 0, 'M', 4, 5, 0, 1, 2}));
+  check("the last line", answers_line(14, (marrubigai_line_reply){0, 0, 'C', 23, 11, 13, 0, 15}));
   check("a misprinted line gives 2 at its place, and is read",
-        answers_line_of(misprinted, bytes, 1, (marrubigai_line_reply){2, 2, 0, 0, 0, 0, 2}));
-  check("behind the last line there is none", answers_line(15, (marrubigai_line_reply){0, 0, 0, 0, 0, 0, 15}));
+        answers_line_of(misprinted, bytes, 1, (marrubigai_line_reply){2, 2, 0, 0, 0, 0, 0, 2}));
+  check("behind the last line there is none", answers_line(15, (marrubigai_line_reply){0, 0, 0, 0, 0, 0, 0, 15}));
   check("a line cut short is none",
-        answers_line_of(DISTINCT, bytes - 1, 14, (marrubigai_line_reply){0, 0, 0, 0, 0, 0, 14}));
-  check("the greatest line number stays", answers_line(UINT32_MAX, (marrubigai_line_reply){0, 0, 0, 0, 0, 0, UINT32_MAX}));
+        answers_line_of(DISTINCT, bytes - 1, 14, (marrubigai_line_reply){0, 0, 0, 0, 0, 0, 0, 14}));
+  check("the greatest line number stays", answers_line(UINT32_MAX, (marrubigai_line_reply){0, 0, 0, 0, 0, 0, 0, UINT32_MAX}));
 }
 
 static int answers_heading(marrubigai_heading_reply reply, uint32_t number, uint32_t place, uint32_t variables, uint32_t clauses) {
@@ -257,6 +293,14 @@ static void headings(void) {
   // B(3) = 1 + 3 x 11 + 8 x 3; wires 6 and 2 x 7, pairs 3 x 36, closings 6 and 2 x 16, property 1
   check("depth 2 of the other: 58 variables, 167 clauses",
         answers_heading(marrubigai_heading(DISTINCT_NET, DISTINCT_LATCHES, 2, DISTINCT_GATES, 1, 2), MARRUBIGAI_PASSED, 0, 58, 167));
+  marrubigai_netlist unknown = CHIP;
+  unknown.initial_word = UINT32_MAX;
+  unknown.unknown_start = 2;
+  check("an unknown_start of 2 gives 4 at line 2",
+        answers_heading(marrubigai_heading(unknown, latches, 0, gates, 0, 1), MARRUBIGAI_SIZE, 2, 0, 0));
+  unknown.unknown_start = 1;
+  check("where the start is unknown the start word is not looked at",
+        marrubigai_heading(unknown, latches, 0, gates, 0, 1).number == MARRUBIGAI_PASSED);
   check("depth 256 gives 7, place 0", answers_heading(marrubigai_heading(CHIP, latches, 0, gates, 0, 256), MARRUBIGAI_DEPTH, 0, 0, 0));
   check("a latch list shorter than its size gives 3, place 0",
         answers_heading(marrubigai_heading(DISTINCT_NET, DISTINCT_LATCHES, 1, DISTINCT_GATES, 1, 2), MARRUBIGAI_OUT_OF_ORDER, 0, 0, 0));

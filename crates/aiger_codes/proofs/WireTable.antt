@@ -82,9 +82,9 @@ pub record LineAndWire (h : Counts) (c : Netlist) (p w : ℕ) : Type 0 where
   pub wire-some : 1 ≤ w
   pub wire-most : w ≤ lastWire c
 
-module _ (h : Counts) (m n word : ℕ) (enough : n ≤ h .inputs) where
+module _ (h : Counts) (m n word unknown : ℕ) (enough : n ≤ h .inputs) where
   abbrev c : Netlist
-  c = textSizes h m n word
+  c = textSizes h m n word unknown
 
   both-input : (x : ℕ) → x < h .inputs - n → LineAndWire h c (inputLine h x) (inputWire c x)
   both-input x b =
@@ -150,16 +150,16 @@ module _ (h : Counts) (m n word : ℕ) (enough : n ≤ h .inputs) where
       let e : w ≡ gateWire c (w - gateWire c 0) = omega arith in
       rw e (gateLine h (w - gateWire c 0), both-gate (w - gateWire c 0) (omega arith))
 
-module _ (s : List ℕ) (ok : WellDefined s) (m n word : ℕ) (fits : FitsInterface (countsIn s) m n) (table : List ℕ)
-    (has : WireTable s (textSizes (countsIn s) m n word) table) (small : lastWire (textSizes (countsIn s) m n word) ≤ 600) where
+module _ (s : List ℕ) (ok : WellDefined s) (m n word unknown : ℕ) (fits : FitsInterface (countsIn s) m n) (table : List ℕ)
+    (has : WireTable s (textSizes (countsIn s) m n word unknown) table) (small : lastWire (textSizes (countsIn s) m n word unknown) ≤ 600) where
   abbrev net : Netlist
-  net = textSizes (countsIn s) m n word
+  net = textSizes (countsIn s) m n word unknown
 
   -- a wire is that of the variable which the table has at it
   wire-at : (w v : ℕ) → w ≤ lastWire net → variableAt table w ≡ v → wireIn s net v ≡ w
   wire-at zero v b e = ap (wireIn s net) (sym e ∙ has .at-zero) ∙ wire-zero s net
   wire-at (suc w) v b e =
-      let found = wire-both (countsIn s) m n word (fits .inputs-enough) (suc w) (omega arith) b in
+      let found = wire-both (countsIn s) m n word unknown (fits .inputs-enough) (suc w) (omega arith) b in
       let there = found .1 in
       let variable : v ≡ definedAt s (found .0) = sym e ∙ has .at-wire (suc w) (omega arith) b ∙ ap (definedAt s) (there .line-is) in
       ap (wireIn s net) variable ∙ wire-defined s ok net (there .defines) ∙ there .wire-is
@@ -168,7 +168,7 @@ module _ (s : List ℕ) (ok : WellDefined s) (m n word : ℕ) (fits : FitsInterf
   variable-at : (v : ℕ) → Known s (linesDue (countsIn s) + 1) v → (wireIn s net v ≤ lastWire net) × (variableAt table (wireIn s net v) ≡ v)
   variable-at v (constant e) = rw (e, wire-zero s net) (omega arith, has .at-zero)
   variable-at v (line q l d e) =
-      let found = line-both (countsIn s) m n word (fits .inputs-enough) d in
+      let found = line-both (countsIn s) m n word unknown (fits .inputs-enough) d in
       let there = found .1 in
       let wire : wireIn s net v ≡ found .0 = ap (wireIn s net) e ∙ wire-defined s ok net d ∙ there .wire-is in
       rw wire (

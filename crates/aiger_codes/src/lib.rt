@@ -38,9 +38,9 @@ pub fn code_of(table: &[u32; 648], literal: u32) -> u32
 }
 
 // The record of a text's sizes, with no codes. The last n inputs are the read bits.
-pub fn text_sizes(counts: Counts, m: u32, n: u32, word: u32) -> Netlist
+pub fn text_sizes(counts: Counts, m: u32, n: u32, word: u32, unknown: u32) -> Netlist
     requires { ⌜ n ≤ counts .inputs ⌝ }
-    ensures { λ r. ⌜ r ≡ recordOf (textSizes counts m n word) ⌝ }
+    ensures { λ r. ⌜ r ≡ recordOf (textSizes counts m n word unknown) ⌝ }
 {
     let none = Code(0);
     Netlist {
@@ -50,6 +50,7 @@ pub fn text_sizes(counts: Counts, m: u32, n: u32, word: u32) -> Netlist
         m,
         n,
         initial_word: word,
+        unknown_start: unknown,
         address: [none; 12],
         write_data: [none; 32],
         we: none,

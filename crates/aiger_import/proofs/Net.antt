@@ -70,7 +70,7 @@ module _ (s : List ℕ) (r : Netlist) (ready : Ready s r) where
     found : (x : ℕ) → Known s (linesDue h + 1) (x / 2) → renamed (wireFound table) x ≡ codeFrom s c x
     unfolding renamed
     found x k =
-        rw (wire-found s (text-defined s r ready) (r .m) (r .n) (r .«initial_word») (text-fits s r ready) table (has .wires)
+        rw (wire-found s (text-defined s r ready) (r .m) (r .n) (r .«initial_word») (r .«unknown_start») (text-fits s r ready) table (has .wires)
         (ready .sizes-fit .wires-fit) (x / 2) k)
 
     output : (o : ℕ) → o < h .outputs → outputCode table o ≡ codeFrom s c (outputAt s o)
@@ -154,7 +154,7 @@ module _ (s : List ℕ) (r : Netlist) (ready : Ready s r) where
             put .data-codes .has
             ∙ upTo-same (r .n) (λ t. outputCode table (r .m + t)) (λ t. codeFrom s c (outputAt s (r .m + t))) (λ t b. due (r .m + t) (omega arith))
 
-        net-is : netOf net latches gates ≡ aagNet s (r .m) (r .n) (r .«initial_word»)
+        net-is : netOf net latches gates ≡ aagNet s (r .m) (r .n) (r .«initial_word») (r .«unknown_start»)
         unfolding netOf netOfCodes recordOf
         net-is =
             λ i. record {
@@ -164,6 +164,7 @@ module _ (s : List ℕ) (r : Netlist) (ready : Ready s r) where
               m = whole i .m;
               n = whole i .n;
               initialWord = whole i .«initial_word»;
+              unknownStart = whole i .«unknown_start»;
               next = next-is i;
               reset = reset-is i;
               left = left-is i;
@@ -175,7 +176,7 @@ module _ (s : List ℕ) (r : Netlist) (ready : Ready s r) where
               P = (ap (λ (x : Netlist). x .p .0) whole ∙ due (r .m + r .n + 2) (omega arith)) i;
             }
 
-        of-text : Holds net latches gates (aagNet s (r .m) (r .n) (r .«initial_word»))
+        of-text : Holds net latches gates (aagNet s (r .m) (r .n) (r .«initial_word») (r .«unknown_start»))
         of-text =
             record {
               full =
@@ -193,5 +194,5 @@ module _ (s : List ℕ) (r : Netlist) (ready : Ready s r) where
         → ListFilled (r .latches) (codesBehind s (1 + k .inputs) table 1) (codesBehind s (1 + k .inputs) table 2) latches
         → ListFilled (r .gates) (codesBehind s (1 + k .inputs + k .latches + k .outputs) table 1)
         (codesBehind s (1 + k .inputs + k .latches + k .outputs) table 2) gates
-        → (net : Netlist) → OutputsPut r table net → Holds net latches gates (aagNet s (r .m) (r .n) (r .«initial_word»))
+        → (net : Netlist) → OutputsPut r table net → Holds net latches gates (aagNet s (r .m) (r .n) (r .«initial_word») (r .«unknown_start»))
     filled k e = rw e of-text

@@ -131,7 +131,7 @@ module _ (s : List ℕ) (r : Netlist) (ready : Ready s r) (t₀ t₁ t₂ t₃ t
         record {
           at-zero = ap (λ (x : ℕ). x / 2) at-zero;
           at-wire = λ w a b.
-              let found = wire-both h (r .m) (r .n) (r .«initial_word») (text-fits s r ready .inputs-enough) w a b in
+              let found = wire-both h (r .m) (r .n) (r .«initial_word») (r .«unknown_start») (text-fits s r ready .inputs-enough) w a b in
               let both = found .1 in
               let entry : getD t₅ w 0 ≡ numberAt s (found .0) 0 = ap (λ (x : ℕ). getD t₅ x 0) (sym (both .wire-is)) ∙ at-line (both .defines) in
               rw (both .line-is, defining-defines h (both .defines), entry);

@@ -35,13 +35,13 @@ use Rattle.aiger_netlist.proofs.Codes.{text-codes-fit, no-code-fault}
 use Rattle.aiger_netlist.proofs.Verdict.{well-defined, fits-interface}
 use Rattle.aiger_import.specs.Tables.{Ready}
 
-module _ (s : List ℕ) (m n word : ℕ) where
+module _ (s : List ℕ) (m n word unknown : ℕ) where
   -- sizes are tested alike, whatever the codes
-  sizes-alone : testLines (alone (recordOf (textSizes (countsIn s) m n word))) Size sizeFault ≡ testLines (aagNet s m n word) Size sizeFault
+  sizes-alone : testLines (alone (recordOf (textSizes (countsIn s) m n word unknown))) Size sizeFault ≡ testLines (aagNet s m n word unknown) Size sizeFault
   unfolding netOf recordOf netOfCodes lineAt sizeFault
-  sizes-alone = testLines-same (alone (recordOf (textSizes (countsIn s) m n word))) (aagNet s m n word) Size sizeFault same (λ p. refl) refl
+  sizes-alone = testLines-same (alone (recordOf (textSizes (countsIn s) m n word unknown))) (aagNet s m n word unknown) Size sizeFault same (λ p. refl) refl
     where
-      same : (x : Line) → sizeFault (alone (recordOf (textSizes (countsIn s) m n word))) x ≡ sizeFault (aagNet s m n word) x
+      same : (x : Line) → sizeFault (alone (recordOf (textSizes (countsIn s) m n word unknown))) x ≡ sizeFault (aagNet s m n word unknown) x
       same Sizes = refl
       same Memory = refl
       same (Latch l) = refl
@@ -50,16 +50,16 @@ module _ (s : List ℕ) (m n word : ℕ) where
       same (WriteData t) = refl
       same Control = refl
 
-  module _ (h : Counts) (counts-are : h ≡ countsIn s) (r : Netlist) (sizes-are : r ≡ recordOf (textSizes h m n word)) where
-    of-text : r ≡ recordOf (textSizes (countsIn s) m n word)
-    of-text = sizes-are ∙ ap (λ (k : Counts). recordOf (textSizes k m n word)) counts-are
+  module _ (h : Counts) (counts-are : h ≡ countsIn s) (r : Netlist) (sizes-are : r ≡ recordOf (textSizes h m n word unknown)) where
+    of-text : r ≡ recordOf (textSizes (countsIn s) m n word unknown)
+    of-text = sizes-are ∙ ap (λ (k : Counts). recordOf (textSizes k m n word unknown)) counts-are
 
-    pub sizes-tested : {v : Verdict} → v ≡ testLines (alone r) Size sizeFault → testLines (aagNet s m n word) Size sizeFault ≡ v
+    pub sizes-tested : {v : Verdict} → v ≡ testLines (alone r) Size sizeFault → testLines (aagNet s m n word unknown) Size sizeFault ≡ v
     sizes-tested e = sym sizes-alone ∙ ap (λ (x : Netlist). testLines (alone x) Size sizeFault) (sym of-text) ∙ sym e
 
-    module _ (passed : textVerdict s m n ≡ Passed) (sized : testLines (aagNet s m n word) Size sizeFault ≡ Passed) where
-      fit : SizesFit (aagNet s m n word)
-      fit = sizes-fit (aagNet s m n word) .0 (testLines-passes (aagNet s m n word) Size sizeFault .0 sized)
+    module _ (passed : textVerdict s m n ≡ Passed) (sized : testLines (aagNet s m n word unknown) Size sizeFault ≡ Passed) where
+      fit : SizesFit (aagNet s m n word unknown)
+      fit = sizes-fit (aagNet s m n word unknown) .0 (testLines-passes (aagNet s m n word unknown) Size sizeFault .0 sized)
 
       pub ready : Ready s r
       unfolding recordOf netOfCodes
@@ -67,57 +67,57 @@ module _ (s : List ℕ) (m n word : ℕ) where
           rw of-text (record {
             text-passes = passed;
             sizes-are = refl;
-            sizes-fit = sizesFit-same (aagNet s m n word) (textSizes (countsIn s) m n word) refl fit;
+            sizes-fit = sizesFit-same (aagNet s m n word unknown) (textSizes (countsIn s) m n word unknown) refl fit;
           })
 
-      module _ (net : Netlist) (latches gates : List ℕ) (filled : Holds net latches gates (aagNet s (r .m) (r .n) (r .«initial_word»))) where
-        pub held : Holds net latches gates (aagNet s m n word)
+      module _ (net : Netlist) (latches gates : List ℕ) (filled : Holds net latches gates (aagNet s (r .m) (r .n) (r .«initial_word») (r .«unknown_start»))) where
+        pub held : Holds net latches gates (aagNet s m n word unknown)
         unfolding recordOf
-        held = subst (λ (x : Netlist). Holds net latches gates (aagNet s (x .m) (x .n) (x .«initial_word»))) of-text filled
+        held = subst (λ (x : Netlist). Holds net latches gates (aagNet s (x .m) (x .n) (x .«initial_word») (x .«unknown_start»))) of-text filled
 
         pub limits : WithinLimits (netOf net [] gates)
         limits =
             limits-without-latches net latches gates
             (rw (held .net-is) (record {
               sizes = fit;
-              codes = text-codes-fit s (well-defined s m n passed) m n word (fits-interface s m n passed);
+              codes = text-codes-fit s (well-defined s m n passed) m n word unknown (fits-interface s m n passed);
             }))
 
-        pub loops-tested : {v : Verdict} → v ≡ testLoops (netOf net [] gates) → testLoops (aagNet s m n word) ≡ v
+        pub loops-tested : {v : Verdict} → v ≡ testLoops (netOf net [] gates) → testLoops (aagNet s m n word unknown) ≡ v
         loops-tested e = sym (e ∙ test-loops-latches net latches gates ∙ ap testLoops (held .net-is))
 
         pub short-held : (latchRoom gateRoom : ℕ)
-            → (ltb latchRoom (net .latches) || ltb gateRoom (net .gates)) ≡ listsShort (aagNet s m n word) latchRoom gateRoom
+            → (ltb latchRoom (net .latches) || ltb gateRoom (net .gates)) ≡ listsShort (aagNet s m n word unknown) latchRoom gateRoom
         short-held latchRoom gateRoom = let same = sizes-held net latches gates held in rw (same .0, same .1)
 
   -- 5 is met by no text that has passed its own tests
-  no-five : textVerdict s m n ≡ Passed → testLines (aagNet s m n word) CodeOutside codeFault ≡ Passed
-  no-five e = no-code-fault s (well-defined s m n e) m n word (fits-interface s m n e)
+  no-five : textVerdict s m n ≡ Passed → testLines (aagNet s m n word unknown) CodeOutside codeFault ≡ Passed
+  no-five e = no-code-fault s (well-defined s m n e) m n word unknown (fits-interface s m n e)
 
   -- the verdict, by the first test that refuses
   module _ (latchRoom gateRoom : ℕ) where
     module _ {r : Refusal} {p : ℕ} where
-      pub text-refused : textVerdict s m n ≡ Refused r p → importVerdict s m n word latchRoom gateRoom ≡ Refused r p
+      pub text-refused : textVerdict s m n ≡ Refused r p → importVerdict s m n word unknown latchRoom gateRoom ≡ Refused r p
       unfolding importVerdict _then_
       text-refused e = rw e
 
-      pub sizes-refused : textVerdict s m n ≡ Passed → testLines (aagNet s m n word) Size sizeFault ≡ Refused r p
-          → importVerdict s m n word latchRoom gateRoom ≡ Refused r p
+      pub sizes-refused : textVerdict s m n ≡ Passed → testLines (aagNet s m n word unknown) Size sizeFault ≡ Refused r p
+          → importVerdict s m n word unknown latchRoom gateRoom ≡ Refused r p
       unfolding importVerdict _then_
       sizes-refused e f = rw (e, f)
 
-      pub loops-refused : textVerdict s m n ≡ Passed → testLines (aagNet s m n word) Size sizeFault ≡ Passed
-          → testLoops (aagNet s m n word) ≡ Refused r p → importVerdict s m n word latchRoom gateRoom ≡ Refused r p
+      pub loops-refused : textVerdict s m n ≡ Passed → testLines (aagNet s m n word unknown) Size sizeFault ≡ Passed
+          → testLoops (aagNet s m n word unknown) ≡ Refused r p → importVerdict s m n word unknown latchRoom gateRoom ≡ Refused r p
       unfolding importVerdict _then_
       loops-refused e f g = rw (e, f, no-five e, g)
 
-    module _ (e : textVerdict s m n ≡ Passed) (f : testLines (aagNet s m n word) Size sizeFault ≡ Passed)
-        (g : testLoops (aagNet s m n word) ≡ Passed) where
-      pub room-refused : listsShort (aagNet s m n word) latchRoom gateRoom ≡ true
-          → importVerdict s m n word latchRoom gateRoom ≡ Refused NoRoom 0
+    module _ (e : textVerdict s m n ≡ Passed) (f : testLines (aagNet s m n word unknown) Size sizeFault ≡ Passed)
+        (g : testLoops (aagNet s m n word unknown) ≡ Passed) where
+      pub room-refused : listsShort (aagNet s m n word unknown) latchRoom gateRoom ≡ true
+          → importVerdict s m n word unknown latchRoom gateRoom ≡ Refused NoRoom 0
       unfolding importVerdict _then_
       room-refused k = rw (e, f, no-five e, g, k)
 
-      pub all-passed : listsShort (aagNet s m n word) latchRoom gateRoom ≡ false → importVerdict s m n word latchRoom gateRoom ≡ Passed
+      pub all-passed : listsShort (aagNet s m n word unknown) latchRoom gateRoom ≡ false → importVerdict s m n word unknown latchRoom gateRoom ≡ Passed
       unfolding importVerdict _then_
       all-passed k = rw (e, f, no-five e, g, k)

@@ -1,8 +1,10 @@
--- What `marrubigai_import` answers and leaves in the lists that it is lent, for a text s with the caller's m, n and start word (RULES I6 and
--- T47; lists and record as where a sheet is read, T43 to T45). Cited by `marrubigai_import`.
+-- What `marrubigai_import` answers and leaves in the lists that it is lent, for a text s with the caller's m, n and start (RULES I6, I10 and
+-- T47; lists and record as where a sheet is read, T43 to T45). Cited by `import_text` and `marrubigai_import`.
 use Prim.Native.Nat.{ℕ}
 use mathlib.Core.List.{List}
 use lib.ListN.{length}
+use Rattle.model.specs.Netlist.{startOf}
+use Rattle.model.specs.Agree.{givenWord}
 use Rattle.refusals.specs.declared.Verdict.{Verdict}
 use Rattle.netlist.specs.declared.Netlist.{Netlist}
 use Rattle.sheet_steps.specs.Records.{recordBeside}
@@ -14,19 +16,23 @@ use Rattle.aiger_netlist.specs.TextNetlist.{aagNet}
 use Rattle.aiger_netlist.specs.ImportVerdict.{importVerdict}
 use Rattle.aiger_netlist.specs.Imported.{Imported}
 
+-- RULES I11: the start word of the record, 0 where the start is unknown
+abbrev pub importedWord : ℕ → ℕ → ℕ
+importedWord word unknown = givenWord (startOf word unknown)
+
 -- the verdict, the record and both lists, for lent lists `latches` and `gates`
-unfoldable pub importVerdictFor : List ℕ → ℕ → ℕ → ℕ → List Latch → List Gate → Verdict
-importVerdictFor s m n word latches gates = importVerdict s m n word (length latches) (length gates)
+unfoldable pub importVerdictFor : List ℕ → ℕ → ℕ → ℕ → ℕ → List Latch → List Gate → Verdict
+importVerdictFor s m n word unknown latches gates = importVerdict s m n (importedWord word unknown) unknown (length latches) (length gates)
 
-unfoldable pub importRecord : List ℕ → ℕ → ℕ → ℕ → List Latch → List Gate → Netlist
-importRecord s m n word latches gates = recordBeside (importVerdictFor s m n word latches gates) (aagNet s m n word)
+unfoldable pub importRecord : List ℕ → ℕ → ℕ → ℕ → ℕ → List Latch → List Gate → Netlist
+importRecord s m n word unknown latches gates = recordBeside (importVerdictFor s m n word unknown latches gates) (aagNet s m n (importedWord word unknown) unknown)
 
-unfoldable pub importLatches : List ℕ → ℕ → ℕ → ℕ → List Latch → List Gate → List Latch
-importLatches s m n word latches gates = latchesBeside (importVerdictFor s m n word latches gates) (aagNet s m n word) latches
+unfoldable pub importLatches : List ℕ → ℕ → ℕ → ℕ → ℕ → List Latch → List Gate → List Latch
+importLatches s m n word unknown latches gates = latchesBeside (importVerdictFor s m n word unknown latches gates) (aagNet s m n (importedWord word unknown) unknown) latches
 
-unfoldable pub importGates : List ℕ → ℕ → ℕ → ℕ → List Latch → List Gate → List Gate
-importGates s m n word latches gates = gatesBeside (importVerdictFor s m n word latches gates) (aagNet s m n word) gates
+unfoldable pub importGates : List ℕ → ℕ → ℕ → ℕ → ℕ → List Latch → List Gate → List Gate
+importGates s m n word unknown latches gates = gatesBeside (importVerdictFor s m n word unknown latches gates) (aagNet s m n (importedWord word unknown) unknown) gates
 
 -- what holds of the record r and the lists that are left where nothing is refused
-abbrev pub TextDelivered : List ℕ → ℕ → ℕ → ℕ → Netlist → List Latch → List Gate → Type 0
-TextDelivered s m n word r latches gates = Imported s m n word (netLent r latches gates) (length latches) (length gates)
+abbrev pub TextDelivered : List ℕ → ℕ → ℕ → ℕ → ℕ → Netlist → List Latch → List Gate → Type 0
+TextDelivered s m n word unknown r latches gates = Imported s m n (importedWord word unknown) unknown (netLent r latches gates) (length latches) (length gates)

@@ -19,7 +19,7 @@ use Rattle.aiger_codes.specs.WireTable.{WireTable}
 
 -- the sizes of a text, with the caller's numbers in a record
 abbrev pub sizesIn : List ℕ → Netlist → M.Netlist
-sizesIn s r = textSizes (countsIn s) (r .m) (r .n) (r .«initial_word»)
+sizesIn s r = textSizes (countsIn s) (r .m) (r .n) (r .«initial_word») (r .«unknown_start»)
 
 -- a text that passes 11 to 13, and the record of its sizes, which are within their limits
 pub record Ready (s : List ℕ) (r : Netlist) : Type 0 where

@@ -1,4 +1,4 @@
-// An ASCII AIGER text as a record and unpacked lists, or the refusal that it gets (RULES I1 to I8, T47).
+// An ASCII AIGER text as a record and unpacked lists, or the refusal that it gets (RULES I1 to I8, I10 and I11, T47).
 use aiger_lines::HeaderLine;
 use netlist::Netlist;
 use netlist::UnpackedList;
@@ -12,6 +12,7 @@ ghost use Rattle.aiger_netlist.specs.ImportVerdict.{importVerdict};
 ghost use Rattle.sheet_steps.specs.Lists.{Holds};
 ghost use Rattle.sheet_steps.specs.Steps.{Outcome};
 ghost use Rattle.sheet_parse.specs.Progress.{noCodes};
+ghost use Rattle.aiger_import.specs.ImportCall.{importedWord};
 ghost use Rattle.aiger_import.specs.Tables.{Ready, TableFor};
 
 // A table of a text's first numbers by wire, with its outputs behind; and where the lines of its latches and of its gates begin.
@@ -70,7 +71,7 @@ fn fill(
     gates: &mut UnpackedList,
 ) -> Netlist
     requires { ⌜ HeaderRead (now text) (header .counts) (header .next) × Ready (now text) sizes × (now latches ≡ noCodes) × (now gates ≡ noCodes) ⌝ }
-    ensures { λ r. ⌜ Holds r (now (latches .exit)) (now (gates .exit)) (aagNet (now (text .entry)) (sizes .m) (sizes .n) (sizes .«initial_word»)) ⌝ }
+    ensures { λ r. ⌜ Holds r (now (latches .exit)) (now (gates .exit)) (aagNet (now (text .entry)) (sizes .m) (sizes .n) (sizes .«initial_word») (sizes .«unknown_start»)) ⌝ }
 {
     let counts = header.counts;
     let table = text_table(text, header, sizes);
@@ -96,20 +97,21 @@ pub fn import_codes(
     m: u32,
     n: u32,
     word: u32,
+    unknown: u32,
     latch_room: usize,
     gate_room: usize,
     latches: &mut UnpackedList,
     gates: &mut UnpackedList,
 ) -> SheetAnswer
     requires { ⌜ (now latches ≡ noCodes) × (now gates ≡ noCodes) ⌝ }
-    ensures { λ r. ⌜ Outcome r (now (latches .exit)) (now (gates .exit)) (importVerdict (now (text .entry)) m n word «latch_room» «gate_room») (aagNet (now (text .entry)) m n word) ⌝ }
+    ensures { λ r. ⌜ Outcome r (now (latches .exit)) (now (gates .exit)) (importVerdict (now (text .entry)) m n word unknown «latch_room» «gate_room») (aagNet (now (text .entry)) m n word unknown) ⌝ }
 {
     let header = aiger_lines::read_header(text);
     let tested = aiger_tests::test_text(text, header, m, n);
     if let Verdict::Refused(refusal, line) = tested {
         return sheet_steps::refused(refusal, line);
     }
-    let sizes = aiger_codes::text_sizes(header.counts, m, n, word);
+    let sizes = aiger_codes::text_sizes(header.counts, m, n, word, unknown);
     let sized = netlist_tests::test_sizes(sizes);
     if let Verdict::Refused(refusal, place) = sized {
         return sheet_steps::refused(refusal, place);
@@ -126,4 +128,43 @@ pub fn import_codes(
         verdict: Verdict::Passed,
         net,
     }
+}
+
+// The start word that is given, 0 where the start is unknown.
+fn given_word(word: u32, unknown: u32) -> u32
+    ensures { λ r. ⌜ r ≡ importedWord word unknown ⌝ }
+{
+    if unknown == 0 {
+        return word;
+    }
+    0
+}
+
+// Reads a text for a start that is given or unknown. Where it is unknown, the word handed over is left out of the record.
+pub fn import_text(
+    text: &[u8],
+    m: u32,
+    n: u32,
+    word: u32,
+    unknown: u32,
+    latch_room: usize,
+    gate_room: usize,
+    latches: &mut UnpackedList,
+    gates: &mut UnpackedList,
+) -> SheetAnswer
+    requires { ⌜ (now latches ≡ noCodes) × (now gates ≡ noCodes) ⌝ }
+    ensures { λ r. ⌜ Outcome r (now (latches .exit)) (now (gates .exit)) (importVerdict (now (text .entry)) m n (importedWord word unknown) unknown «latch_room» «gate_room») (aagNet (now (text .entry)) m n (importedWord word unknown) unknown) ⌝ }
+{
+    let given = given_word(word, unknown);
+    import_codes(
+        text,
+        m,
+        n,
+        given,
+        unknown,
+        latch_room,
+        gate_room,
+        latches,
+        gates,
+    )
 }

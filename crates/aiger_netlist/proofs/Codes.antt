@@ -34,12 +34,12 @@ pub wire-zero : (s : List ℕ) (c : Netlist) → wireIn s c 0 ≡ 0
 unfolding wireIn
 wire-zero s c = refl
 
-module _ (s : List ℕ) (ok : WellDefined s) (m n word : ℕ) (fits : FitsInterface (countsIn s) m n) where
+module _ (s : List ℕ) (ok : WellDefined s) (m n word unknown : ℕ) (fits : FitsInterface (countsIn s) m n) where
   abbrev h : Counts
   h = countsIn s
 
   abbrev sizes : Netlist
-  sizes = textSizes (countsIn s) m n word
+  sizes = textSizes (countsIn s) m n word unknown
 
   -- what a line before gate g's defines has a wire below the gate's
   wire-below : (g : ℕ) {q : ℕ} → q < gateLine (countsIn s) g → Defining (countsIn s) q → wireOf (countsIn s) sizes q < gateWire sizes g
@@ -63,7 +63,7 @@ module _ (s : List ℕ) (ok : WellDefined s) (m n word : ℕ) (fits : FitsInterf
   code-fits : (x : ℕ) → Known s (linesDue (countsIn s) + 1) (x / 2) → codeFrom s sizes x ≤ 2 * lastWire sizes + 1
   code-fits x k = let w = code-below (linesDue (countsIn s) + 1) (countsIn s .gates) x (omega arith) k in omega (arith, w)
 
-  pub text-codes-fit : CodesFit (aagNet s m n word)
+  pub text-codes-fit : CodesFit (aagNet s m n word unknown)
   unfolding netOfCodes
   text-codes-fit =
       let due = fits .outputs-due in
@@ -84,5 +84,5 @@ module _ (s : List ℕ) (ok : WellDefined s) (m n word : ℕ) (fits : FitsInterf
       }
 
   -- 5 is never met
-  pub no-code-fault : testLines (aagNet s m n word) CodeOutside codeFault ≡ Passed
-  no-code-fault = testLines-passes (aagNet s m n word) CodeOutside codeFault .1 (codes-fit (aagNet s m n word) .1 text-codes-fit)
+  pub no-code-fault : testLines (aagNet s m n word unknown) CodeOutside codeFault ≡ Passed
+  no-code-fault = testLines-passes (aagNet s m n word unknown) CodeOutside codeFault .1 (codes-fit (aagNet s m n word unknown) .1 text-codes-fit)

@@ -49,34 +49,34 @@ module _ (s : List ℕ) (c d : Netlist) (q : Agree c d) (input latch : ℕ → B
         P-same = sym (code-value-same c d q wire-same (q .P-same)) ∙ rw (← m-same c d q, ← n-same c d q) (r .P-same);
       }
 
-module _ (s : List ℕ) (m n word : ℕ) (d : Netlist) (latchCount gateCount : ℕ)
-    (passed : importVerdict s m n word latchCount gateCount ≡ Passed) (q : Agree (aagNet s m n word) d) where
-  tests : ImportPassed s m n word latchCount gateCount
-  tests = import-passed s m n word latchCount gateCount passed
+module _ (s : List ℕ) (m n word unknown : ℕ) (d : Netlist) (latchCount gateCount : ℕ)
+    (passed : importVerdict s m n word unknown latchCount gateCount ≡ Passed) (q : Agree (aagNet s m n word unknown) d) where
+  tests : ImportPassed s m n word unknown latchCount gateCount
+  tests = import-passed s m n word unknown latchCount gateCount passed
 
   -- no test of records refuses it
   not-refused : recordVerdict d latchCount gateCount ≡ Passed
   not-refused =
-      let c = aagNet s m n word in
+      let c = aagNet s m n word unknown in
       passes-accepted d latchCount gateCount .1 (
         accepted-same c d q (tests .accepted),
         rw (← latches-same c d q) (tests .latches-long),
         rw (← gates-same c d q) (tests .gates-long),
       )
 
-  pub imported : Imported s m n word d latchCount gateCount
+  pub imported : Imported s m n word unknown d latchCount gateCount
   imported =
-      let c = aagNet s m n word in
+      let c = aagNet s m n word unknown in
       let ok = well-defined s m n (tests .text) in
       let fits = fits-interface s m n (tests .text) in
       record {
         not-refused = not-refused;
         agrees = q;
         has-values = λ input latch. (
-          λ x. valuesOf c input latch (wireIn s (textSizes (countsIn s) m n word) x),
-          text-values s ok m n word fits input latch,
+          λ x. valuesOf c input latch (wireIn s (textSizes (countsIn s) m n word unknown) x),
+          text-values s ok m n word unknown fits input latch,
         );
-        same-values = λ input latch v text. values-same s c d q input latch v (text-same-values s ok m n word fits input latch v text);
+        same-values = λ input latch v text. values-same s c d q input latch v (text-same-values s ok m n word unknown fits input latch v text);
         variables-same = λ i. sym (base-same c d q i);
         numbers-same = λ k g. sym (numbers-same c d q k g);
         calls-encode = λ k most.

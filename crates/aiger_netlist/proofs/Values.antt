@@ -48,12 +48,12 @@ module _ (s : List ℕ) (ok : WellDefined s) where
   known-defined : (v : ℕ) → Known s (linesDue (countsIn s) + 1) v → Defined (textNetwork s) (Source s) v
   known-defined v k = known-before s (linesDue (countsIn s) + 1) (countsIn s .gates) v (omega arith) k
 
-  module _ (m n word : ℕ) (fits : FitsInterface (countsIn s) m n) where
+  module _ (m n word unknown : ℕ) (fits : FitsInterface (countsIn s) m n) where
     abbrev sizes : Netlist
-    sizes = textSizes (countsIn s) m n word
+    sizes = textSizes (countsIn s) m n word unknown
 
     abbrev net : Netlist
-    net = aagNet s m n word
+    net = aagNet s m n word unknown
 
     -- the wires of inputs, read bits, latches and gates
     input-wire : (x : ℕ) → x < countsIn s .inputs - n → wireIn s sizes (inputVariable s x) ≡ inputWire sizes x
@@ -85,7 +85,7 @@ module _ (s : List ℕ) (ok : WellDefined s) where
       w = valuesOf net input latch
 
       solved : Solves net input latch (λ t. input (net .inputs + t)) w
-      solved = evaluate-solves net input latch (λ t. input (net .inputs + t)) (text-codes-fit s ok m n word fits)
+      solved = evaluate-solves net input latch (λ t. input (net .inputs + t)) (text-codes-fit s ok m n word unknown fits)
 
       -- in the netlist inputs and latches are as given, read bits as the inputs that follow
       input-value : (x : ℕ) → x < countsIn s .inputs → w (wireIn s sizes (inputVariable s x)) ≡ input x

@@ -62,17 +62,17 @@ module _ (s : List ℕ) (m n : ℕ) (passed : textVerdict s m n ≡ Passed) wher
       }
 
 -- the text's tests pass, the model accepts its netlist, and both lists have as many records as its sizes say
-pub record ImportPassed (s : List ℕ) (m n word latchRoom gateRoom : ℕ) : Type 0 where
+pub record ImportPassed (s : List ℕ) (m n word unknown latchRoom gateRoom : ℕ) : Type 0 where
   pub text : textVerdict s m n ≡ Passed
-  pub accepted : Accepted (aagNet s m n word)
-  pub latches-long : aagNet s m n word .latches ≤ latchRoom
-  pub gates-long : aagNet s m n word .gates ≤ gateRoom
+  pub accepted : Accepted (aagNet s m n word unknown)
+  pub latches-long : aagNet s m n word unknown .latches ≤ latchRoom
+  pub gates-long : aagNet s m n word unknown .gates ≤ gateRoom
 
-pub import-passed : (s : List ℕ) (m n word latchRoom gateRoom : ℕ) → importVerdict s m n word latchRoom gateRoom ≡ Passed
-    → ImportPassed s m n word latchRoom gateRoom
+pub import-passed : (s : List ℕ) (m n word unknown latchRoom gateRoom : ℕ) → importVerdict s m n word unknown latchRoom gateRoom ≡ Passed
+    → ImportPassed s m n word unknown latchRoom gateRoom
 unfolding importVerdict
-import-passed s m n word latchRoom gateRoom e =
-    let c = aagNet s m n word in
+import-passed s m n word unknown latchRoom gateRoom e =
+    let c = aagNet s m n word unknown in
     let short = refuseIf (listsShort c latchRoom gateRoom) NoRoom 0 in
     let fault = testLines c CodeOutside codeFault in
     let all = then-passes (textVerdict s m n) (testLines c Size sizeFault then fault then testLoops c then short) .0 e in

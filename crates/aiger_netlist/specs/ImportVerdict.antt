@@ -40,10 +40,10 @@ textVerdict s m n =
     then refuseIf (wrongInterface (countsIn s) m n) Interface 0
     then firstLine s undefinedAt Undefined
 
-unfoldable pub importVerdict : List ℕ → ℕ → ℕ → ℕ → ℕ → ℕ → Verdict
-importVerdict s m n word latchRoom gateRoom =
+unfoldable pub importVerdict : List ℕ → ℕ → ℕ → ℕ → ℕ → ℕ → ℕ → Verdict
+importVerdict s m n word unknown latchRoom gateRoom =
     textVerdict s m n
-    then testLines (aagNet s m n word) Size sizeFault
-    then testLines (aagNet s m n word) CodeOutside codeFault
-    then testLoops (aagNet s m n word)
-    then refuseIf (listsShort (aagNet s m n word) latchRoom gateRoom) NoRoom 0
+    then testLines (aagNet s m n word unknown) Size sizeFault
+    then testLines (aagNet s m n word unknown) CodeOutside codeFault
+    then testLoops (aagNet s m n word unknown)
+    then refuseIf (listsShort (aagNet s m n word unknown) latchRoom gateRoom) NoRoom 0

@@ -19,11 +19,11 @@ use Rattle.call_unpacked.specs.Calls.{CallsEncode}
 use Rattle.aiger_netlist.specs.TextNetlist.{aagNet}
 use Rattle.aiger_netlist.specs.TextValues.{TextValues, valuesOf, SameValues}
 
-pub record Imported (s : List ℕ) (m n word : ℕ) (d : Netlist) (latchCount gateCount : ℕ) : Type 0 where
+pub record Imported (s : List ℕ) (m n word unknown : ℕ) (d : Netlist) (latchCount gateCount : ℕ) : Type 0 where
   pub not-refused : recordVerdict d latchCount gateCount ≡ Passed
-  pub agrees : Agree (aagNet s m n word) d
+  pub agrees : Agree (aagNet s m n word unknown) d
   pub has-values : (input latch : ℕ → Bool) → (v : Values) × TextValues s input latch v
   pub same-values : (input latch : ℕ → Bool) (v : Values) → TextValues s input latch v → SameValues s d (valuesOf d input latch) v
-  pub variables-same : (i : ℕ) → base d i ≡ base (aagNet s m n word) i
-  pub numbers-same : (k : ℕ) (g : Group) → numbersOf d k g ≡ numbersOf (aagNet s m n word) k g
-  pub calls-encode : (k : ℕ) → k ≤ mostDepth → CallsEncode (aagNet s m n word) d latchCount gateCount k
+  pub variables-same : (i : ℕ) → base d i ≡ base (aagNet s m n word unknown) i
+  pub numbers-same : (k : ℕ) (g : Group) → numbersOf d k g ≡ numbersOf (aagNet s m n word unknown) k g
+  pub calls-encode : (k : ℕ) → k ≤ mostDepth → CallsEncode (aagNet s m n word unknown) d latchCount gateCount k

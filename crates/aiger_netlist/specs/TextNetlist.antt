@@ -1,4 +1,4 @@
--- The netlist that an ASCII AIGER text describes (RULES I6 to I8). The caller gives m, n and the start word; the text's last n inputs are
+-- The netlist that an ASCII AIGER text describes (RULES I6 to I8). The caller gives m, n, the start word and whether it is unknown; the text's last n inputs are
 -- the read bits, its outputs are address, write data, WE, RE and P, and each latch starts at 0. Variables become wires in the order of
 -- their lines. Cited by `import_codes`, aiger_import/specs/ImportCall, specs/ImportVerdict and
 -- specs/Imported.
@@ -15,8 +15,8 @@ use Rattle.aiger_lines.specs.declared.Counts.{Counts}
 use Rattle.aiger_definitions.specs.Definitions.{numberAt, definedAt}
 
 -- the sizes: the inputs that are not read bits, the latches and the gates of the header; with no codes
-abbrev pub textSizes : Counts → ℕ → ℕ → ℕ → Netlist
-textSizes h m n word = withoutCodes (h .inputs - n) (h .latches) (h .gates) m n word
+abbrev pub textSizes : Counts → ℕ → ℕ → ℕ → ℕ → Netlist
+textSizes h m n word unknown = withoutCodes (h .inputs - n) (h .latches) (h .gates) m n word unknown
 
 -- the wire of what line p defines, in a netlist of the sizes c: an input, a read bit, a latch or a gate
 unfoldable pub wireOf : Counts → Netlist → ℕ → ℕ
@@ -47,6 +47,7 @@ netOfCodes h c code =
       m = c .m;
       n = c .n;
       initialWord = c .initialWord;
+      unknownStart = c .unknownStart;
       next = upTo (c .latches) (λ l. code (latchLine h l) 1);
       reset = λ l. 0;
       left = upTo (c .gates) (λ g. code (gateLine h g) 1);
@@ -58,7 +59,7 @@ netOfCodes h c code =
       P = code (outputLine h (c .m + c .n + 2)) 0;
     }
 
-abbrev pub aagNet : List ℕ → ℕ → ℕ → ℕ → Netlist
-aagNet s m n word =
-    let c = textSizes (countsIn s) m n word in
+abbrev pub aagNet : List ℕ → ℕ → ℕ → ℕ → ℕ → Netlist
+aagNet s m n word unknown =
+    let c = textSizes (countsIn s) m n word unknown in
     netOfCodes (countsIn s) c (λ p i. codeFrom s c (numberAt s p i))

@@ -34,7 +34,7 @@ sheetNumbers verdict net = record { number = replyOf verdict .number; place = re
 -- what is answered of a line, and how many are read with it: where it is refused, and where there is none, letter and fields are 0
 abbrev pub withoutFields : ℕ → ℕ → ℕ → LineReply
 withoutFields number place line =
-    record { number = number; place = place; letter = 0; first = 0; second = 0; third = 0; line = line }
+    record { number = number; place = place; letter = 0; first = 0; second = 0; third = 0; empty = 0; line = line }
 
 unfoldable pub lineNumbers : LineAnswer → ℕ → LineReply
 lineNumbers answer line =
@@ -46,5 +46,6 @@ lineNumbers answer line =
       first = sent .first;
       second = sent .second;
       third = sent .third;
+      empty = sent .empty;
       line = line;
     }

@@ -131,8 +131,8 @@ pub fn sheet_numbers(sheet: SheetAnswer) -> SheetReply
     }
 }
 
-// What is sent back of a line: number and place (0 where it is not refused), its letter, its fields, and how many lines are read with
-// it. An empty field is 0; letter and fields are 0 beside a refusal, and where there is no line.
+// What is sent back of a line: number and place (0 where it is not refused), its letter, its fields, whether the third is empty and may
+// be filled, and how many lines are read with it. An empty field is 0; letter and fields are 0 beside a refusal, and where there is no line.
 #[repr(C)]
 pub struct LineReply {
     pub number: u32,
@@ -141,6 +141,7 @@ pub struct LineReply {
     pub first: u32,
     pub second: u32,
     pub third: u32,
+    pub empty: u32,
     pub line: u32,
 }
 
@@ -171,6 +172,7 @@ fn without_fields(number: u32, place: u32, line: u32) -> LineReply
         first: 0,
         second: 0,
         third: 0,
+        empty: 0,
         line,
     }
 }
@@ -185,6 +187,7 @@ pub fn line_numbers(answer: LineAnswer, line: u32) -> LineReply
             first,
             second,
             third,
+            empty,
         } => LineReply {
             number: 0,
             place: 0,
@@ -192,6 +195,7 @@ pub fn line_numbers(answer: LineAnswer, line: u32) -> LineReply
             first,
             second,
             third,
+            empty,
             line,
         },
         LineAnswer::Refused(refusal, place) => without_fields(

@@ -20,6 +20,7 @@ netOf-unpacked net latches gates = λ i.
       m = net .m;
       n = net .n;
       initialWord = net .«initial_word»;
+      unknownStart = net .«unknown_start»;
       next = λ l. getD-over latches 1200 (2 * l) i;
       reset = λ l. getD-over latches 1200 (2 * l + 1) i;
       left = λ g. getD-over gates 1200 (2 * g) i;

@@ -2,16 +2,22 @@
 -- No contract cites this file.
 use Prim.Native.Nat.{ℕ, zero, suc, _+_, _-_, _≤_}
 use mathlib.Core.Path.{_≡_, refl, sym, _∙_, ap}
-use mathlib.Core.Bool.{Bool, true, false, _||_, or-false, or-assoc}
+use mathlib.Core.Bool.{Bool, true, false, cond, _||_, or-false, or-assoc}
 use mathlib.Core.List.{List, [], _∷_, _++_, append-nil, append-assoc}
 use native.Mathlib.Omega.{arith}
+use lib.Dec.{eqb}
 use lib.IntN.{ℤ, pos, negsuc}
-use lib.ListN.{length}
+use lib.ListN.{length, length-append}
+use borrow.Author.Tests.{eq-eqb, ne-eqb}
 use borrow.Rule.Slice.PartMut.{midOf, putMid}
 use Rattle.model.specs.Clauses.{Literal, Clause}
 use Rattle.model.specs.Numbers.{keptOf, kept, isTrue, hasTrue, endOf, writtenClause, written}
-use Rattle.literals.specs.Lit.{literalAt}
+use Rattle.literals.specs.declared.Lit.{Lit}
+use Rattle.literals.specs.declared.Term.{Term}
+use Rattle.literals.specs.declared.Term.the-variants.{Number}
+use Rattle.literals.specs.Lit.{literalAt, IsLit, IsTerm}
 use Rattle.model.specs.Wrote.{Wrote}
+use Rattle.clause_writer.specs.EndedAfter.{endedAfter}
 use Rattle.model.proofs.Joined.{written-append}
 use Rattle.model.proofs.Wrote as W
 pub use Rattle.model.proofs.Wrote.{wrote-nothing, wrote-length, rest-room}
@@ -80,19 +86,53 @@ pub hasTrue-behind : (a b : Literal) (x : Clause) → hasTrue (a ∷ b ∷ x) �
 unfolding hasTrue
 hasTrue-behind a b x = sym (or-assoc (isTrue a) (isTrue b) (hasTrue x))
 
--- a clause of three numbers: each is kept
-pub written-numbers : (x y z : ℤ)
-    → written ((literalAt x ∷ literalAt y ∷ literalAt z ∷ []) ∷ [])
-    ≡ keptOf (literalAt x) ++ keptOf (literalAt y) ++ keptOf (literalAt z) ++ pos 0 ∷ []
+pub hasTrue-five : (a b c d e : Literal) → hasTrue (a ∷ b ∷ c ∷ d ∷ e ∷ []) ≡ ((((isTrue a || isTrue b) || isTrue c) || isTrue d) || isTrue e)
+hasTrue-five a b c d e = hasTrue-behind a b (c ∷ d ∷ e ∷ []) ∙ rw (hasTrue-three c d e) (go (isTrue a || isTrue b))
+  where
+    go : (t : Bool) → (t || ((isTrue c || isTrue d) || isTrue e)) ≡ (((t || isTrue c) || isTrue d) || isTrue e)
+    go true = refl
+    go false = refl
+
+-- a clause of two numbers, and of three: each is kept
+pub written-two-numbers : (x y : ℤ)
+    → written ((literalAt x ∷ literalAt y ∷ []) ∷ []) ≡ keptOf (literalAt x) ++ keptOf (literalAt y) ++ pos 0 ∷ []
 unfolding written writtenClause hasTrue isTrue kept keptOf endOf literalAt
-written-numbers (pos x) (pos y) (pos z) = refl
-written-numbers (pos x) (pos y) (negsuc z) = refl
-written-numbers (pos x) (negsuc y) (pos z) = refl
-written-numbers (pos x) (negsuc y) (negsuc z) = refl
-written-numbers (negsuc x) (pos y) (pos z) = refl
-written-numbers (negsuc x) (pos y) (negsuc z) = refl
-written-numbers (negsuc x) (negsuc y) (pos z) = refl
-written-numbers (negsuc x) (negsuc y) (negsuc z) = refl
+written-two-numbers (pos x) (pos y) = refl
+written-two-numbers (pos x) (negsuc y) = refl
+written-two-numbers (negsuc x) (pos y) = refl
+written-two-numbers (negsuc x) (negsuc y) = refl
+
+pub written-three-numbers : (x y z : ℤ)
+    → written ((literalAt x ∷ literalAt y ∷ literalAt z ∷ []) ∷ [])
+    ≡ keptOf (literalAt x) ++ written ((literalAt y ∷ literalAt z ∷ []) ∷ [])
+unfolding written writtenClause hasTrue isTrue kept keptOf endOf literalAt
+written-three-numbers (pos x) (pos y) (pos z) = refl
+written-three-numbers (pos x) (pos y) (negsuc z) = refl
+written-three-numbers (pos x) (negsuc y) (pos z) = refl
+written-three-numbers (pos x) (negsuc y) (negsuc z) = refl
+written-three-numbers (negsuc x) (pos y) (pos z) = refl
+written-three-numbers (negsuc x) (pos y) (negsuc z) = refl
+written-three-numbers (negsuc x) (negsuc y) (pos z) = refl
+written-three-numbers (negsuc x) (negsuc y) (negsuc z) = refl
+
+-- the last literals of a clause that is begun, and its end
+pub begun-ended : (begun : ℕ) (x : Clause) {old mid part : List ℤ} {r s : ℕ} → Wrote (kept x) old mid r
+    → Wrote (endOf (begun + r)) (midOf r (length mid - r) mid) part s
+    → Wrote (endedAfter begun x) old (putMid r (length mid - r) mid part) (r + s)
+unfolding endedAfter
+begun-ended begun x w v = rw (sym (w .counted)) (wrote-then w v)
+
+-- a clause without a true literal is what is kept of it and its end, or of its first two literals and the rest
+pub written-ended : (x : Clause) → hasTrue x ≡ false → written (x ∷ []) ≡ endedAfter 0 x
+unfolding written writtenClause endedAfter
+written-ended x none = rw (none, append-nil (kept x ++ endOf (length (kept x)))) (ap (λ (n : ℕ). kept x ++ endOf n) (omega arith))
+
+pub written-behind : (a b : Literal) (x : Clause) → hasTrue (a ∷ b ∷ x) ≡ false
+    → written ((a ∷ b ∷ x) ∷ []) ≡ (keptOf a ++ keptOf b) ++ endedAfter (length (keptOf a ++ keptOf b)) x
+unfolding written writtenClause endedAfter
+written-behind a b x none =
+    rw (none, append-nil (kept (a ∷ b ∷ x) ++ endOf (length (kept (a ∷ b ∷ x)))), kept-behind a b x, length-append (keptOf a ++ keptOf b) (kept x))
+    (append-assoc (keptOf a ++ keptOf b) (kept x) (endOf (length (keptOf a ++ keptOf b) + length (kept x))))
 
 -- one with a true literal is left out
 pub clause-left-out : (x : Clause) (old : List ℤ) → hasTrue x ≡ true → Wrote (written (x ∷ [])) old old 0
@@ -104,3 +144,14 @@ pub wrote-clauses : (xs ys : List Clause) {old mid part : List ℤ} {r s : ℕ} 
     → Wrote (written ys) (midOf r (length mid - r) mid) part s
     → Wrote (written (xs ++ ys)) old (putMid r (length mid - r) mid part) (r + s)
 wrote-clauses xs ys w v = rw (written-append xs ys) (wrote-then w v)
+
+-- what a term is that is a number, as `search` looks for it
+pub number-is-lit : (a : Term) (l : Lit) → a ≡ Number l → IsTerm a → IsLit l
+number-is-lit a l e h = rw e at h
+
+-- room for what depends on whether frame i is the first, as `search` looks for it
+pub room-first : (i x y l : ℕ) → cond (eqb i 0) x y ≤ l → i ≡ 0 → x ≤ l
+room-first i x y l h e = rw (eq-eqb i 0 e) at h
+
+pub room-later : (i x y l : ℕ) → cond (eqb i 0) x y ≤ l → (i ≡ 0 → ⊥) → y ≤ l
+room-later i x y l h n = rw (ne-eqb i 0 n) at h

@@ -10,6 +10,7 @@ ghost use lib.IntN.{pos, negsuc};
 ghost use Rattle.model.specs.Numbers.{keptOf, endOf, written};
 ghost use Rattle.literals.specs.Lit.{literalAt, literalOf, IsLit, IsTerm};
 ghost use Rattle.model.specs.Wrote.{Wrote};
+ghost use Rattle.clause_writer.specs.EndedAfter.{endedAfter};
 
 // The end mark of a clause.
 fn put_mark(out: &mut [i32]) -> usize
@@ -88,16 +89,36 @@ pub fn put_binary(out: &mut [i32], a: Term, b: Term) -> usize
     j + put_end(&mut out[j..], j)
 }
 
-// A clause of three literals that are no constants: nothing is tested, which is most of what is written.
-pub fn put_numbers(out: &mut [i32], a: Lit, b: Lit, c: Lit) -> usize
+// A clause of two literals that are no constants: nothing is tested.
+pub fn put_two_numbers(out: &mut [i32], a: Lit, b: Lit) -> usize
+    requires { ⌜ IsLit a × IsLit b × (3 ≤ length (now out)) ⌝ }
+    ensures { λ r. ⌜ Wrote (written ((literalAt (a .0) ∷ literalAt (b .0) ∷ []) ∷ [])) (now (out .entry)) (now (out .exit)) r × (r ≤ 3) ⌝ }
+{
+    let i = put_number(out, a);
+    let j = i + put_number(&mut out[i..], b);
+    j + put_mark(&mut out[j..])
+}
+
+// A clause of three, which is most of what is written.
+pub fn put_three_numbers(out: &mut [i32], a: Lit, b: Lit, c: Lit) -> usize
     requires { ⌜ IsLit a × IsLit b × IsLit c × (4 ≤ length (now out)) ⌝ }
     ensures { λ r. ⌜ Wrote (written ((literalAt (a .0) ∷ literalAt (b .0) ∷ literalAt (c .0) ∷ []) ∷ []))
         (now (out .entry)) (now (out .exit)) r × (r ≤ 4) ⌝ }
 {
     let i = put_number(out, a);
-    let j = i + put_number(&mut out[i..], b);
-    let k = j + put_number(&mut out[j..], c);
-    k + put_mark(&mut out[k..])
+    i + put_two_numbers(&mut out[i..], b, c)
+}
+
+// The last three literals of a clause of which `begun` numbers are written, and its end.
+fn put_last_three(out: &mut [i32], begun: usize, a: Term, b: Term, c: Term) -> usize
+    requires { ⌜ IsTerm a × IsTerm b × IsTerm c × (begun ≤ 2) × (4 ≤ length (now out)) ⌝ }
+    ensures { λ r. ⌜ Wrote (endedAfter begun (literalOf a ∷ literalOf b ∷ literalOf c ∷ [])) (now (out .entry)) (now (out .exit)) r
+        × (r ≤ 4) ⌝ }
+{
+    let i = put_literal(out, a);
+    let j = i + put_literal(&mut out[i..], b);
+    let k = j + put_literal(&mut out[j..], c);
+    k + put_end(&mut out[k..], begun + k)
 }
 
 // A clause of three literals.
@@ -109,8 +130,19 @@ pub fn put_ternary(out: &mut [i32], a: Term, b: Term, c: Term) -> usize
     if a.is_true() | b.is_true() | c.is_true() {
         return 0;
     }
+    put_last_three(out, 0, a, b, c)
+}
+
+// A clause of five literals.
+pub fn put_quinary(out: &mut [i32], a: Term, b: Term, c: Term, d: Term, e: Term) -> usize
+    requires { ⌜ IsTerm a × IsTerm b × IsTerm c × IsTerm d × IsTerm e × (6 ≤ length (now out)) ⌝ }
+    ensures { λ r. ⌜ Wrote (written ((literalOf a ∷ literalOf b ∷ literalOf c ∷ literalOf d ∷ literalOf e ∷ []) ∷ []))
+        (now (out .entry)) (now (out .exit)) r × (r ≤ 6) ⌝ }
+{
+    if a.is_true() | b.is_true() | c.is_true() | d.is_true() | e.is_true() {
+        return 0;
+    }
     let i = put_literal(out, a);
     let j = i + put_literal(&mut out[i..], b);
-    let k = j + put_literal(&mut out[j..], c);
-    k + put_end(&mut out[k..], k)
+    j + put_last_three(&mut out[j..], j, c, d, e)
 }

@@ -1,10 +1,11 @@
 // The bytes that `frames` prints (RULES P2 and P3): header, clauses, refusal.
 ghost use mathlib.Core.Path.{_≡_};
-ghost use Prim.Native.Nat.{_≤_};
+ghost use Prim.Native.Nat.{_+_, _≤_};
 ghost use lib.Dec.{leb};
 ghost use lib.ListN.{length};
 ghost use Rattle.model.specs.Wrote.{Wrote};
 ghost use Rattle.text_writer.specs.Table.{TableOrNone};
+ghost use Rattle.text_writer.specs.Extends.{Extends};
 ghost use Rattle.dimacs.specs.Text.{headerText, numberText, clauseText, OtherNumbers, refusalText};
 ghost use Rattle.dimacs.specs.PrintCalls.{printReply, printSent, printLeaves};
 use decimal::digit_count;
@@ -22,17 +23,18 @@ pub enum PrintAnswer {
     Refused(Refusal, u32),
 }
 
-// Writes a clause number or an end mark, and the byte behind it.
-fn write_number(out: &mut [u8], z: i32, table: &[u8]) -> usize
-    requires { ⌜ TableOrNone (now table) × (length (numberText z) ≤ length (now out)) ⌝ }
-    ensures { λ r. ⌜ Wrote (numberText z) (now (out .entry)) (now (out .exit)) r ⌝ }
+// Writes a clause number or an end mark, and the byte behind it, from place `at` on, and answers where it ends.
+fn write_number(out: &mut [u8], at: usize, z: i32, table: &[u8]) -> usize
+    requires { ⌜ TableOrNone (now table) × (at + length (numberText z) ≤ length (now out)) ⌝ }
+    ensures { λ r. ⌜ Extends (numberText z) at (now (out .entry)) (now (out .exit)) r ⌝ }
 {
     if z == 0 {
-        out[0] = b'0';
-        out[1] = b'\n';
-        return 2;
+        let next = at + 1;
+        out[at] = b'0';
+        out[next] = b'\n';
+        return at + 2;
     }
-    write_signed_spaced(out, z, table)
+    write_signed_spaced(out, at, z, table)
 }
 
 // Writes numbers with end marks, a clause a line, in one pass, and answers how many bytes that is.
@@ -43,7 +45,7 @@ pub fn write_numbers(out: &mut [u8], numbers: &[i32], table: &[u8]) -> usize
     let mut at = 0;
     let mut i = 0;
     while i < numbers.len() {
-        at = at + write_number(&mut out[at..], numbers[i], table);
+        at = write_number(out, at, numbers[i], table);
         i += 1;
     }
     at

@@ -2,16 +2,16 @@
 -- literals. No contract cites this file.
 use Prim.Native.Nat.{ℕ, zero, suc, _+_, _-_, _*_}
 use mathlib.Core.Path.{_≡_, refl, _∙_, ap}
-use mathlib.Core.Bool.{false}
+use mathlib.Core.Bool.{Bool, false, _||_}
 use mathlib.Core.List.{List, [], _∷_, _++_}
 use native.Mathlib.Nat.{add-zero, add-assoc, zero-mul}
 use native.Mathlib.Omega.{arith}
 use lib.IntN.{ℤ}
 use Rattle.model.specs.Bits.{bit}
-use Rattle.model.specs.Netlist.{Port, readWire}
+use Rattle.model.specs.Netlist.{Start, startOf, Port, readWire}
 use Rattle.model.specs.Netlist as M
 use Rattle.model.specs.Gather.{gather}
-use Rattle.model.specs.Clauses.{Literal, known, plus, neg, sameIfClauses, ClosingLiterals, initialReadClauses, heldClauses, heldReads, selectedOf, someSource, closingClauses}
+use Rattle.model.specs.Clauses.{Literal, known, plus, neg, sameIfClauses, ClosingLiterals, initialReadClauses, initialReads, heldClauses, heldReads, selectedOf, someSource, closingClauses}
 use Rattle.model.specs.Variables.{stride, base, pairBase, wireAt, codeAt, noneSince, selected, readBit, closingLiterals}
 use Rattle.model.specs.Numbers.{keptOf, kept, isTrue, hasTrue, written}
 use Rattle.model.proofs.Variables.{pairBase-base}
@@ -20,6 +20,7 @@ use Rattle.netlist.specs.NetOf.{netOf, alone}
 use Rattle.netlist.specs.declared.Netlist.{Netlist}
 use Rattle.clause_variables.specs.declared.Port as R
 use Rattle.clause_variables.specs.PortOf.{portOf}
+use Rattle.clause_variables.proofs.Start.{start-given, start-unknown}
 use Rattle.model.proofs.Gather.{gather-same}
 use Rattle.clause_writer.proofs.Wrote.{kept-one}
 use Rattle.clause_writer.proofs.Turns.{written-gather, kept-gather, none-gather}
@@ -31,10 +32,19 @@ initialBit z reading first read word t = written (sameIfClauses z (wireAt readin
 
 pub initial-bits : (net : Netlist) (port : R.Port) (i n : ℕ) {reading first : ℕ} {z : Literal}
     → z ≡ noneSince (alone net) (portOf port) 0 i → reading ≡ base (alone net) i → first ≡ readWire (alone net) 0
-    → written (gather n (initialReadClauses (ofClosing net port i)))
+    → written (gather n (initialReadClauses (net .«initial_word») (ofClosing net port i)))
     ≡ gather n (initialBit z reading first (port .«first_read») (net .«initial_word»))
 unfolding initialReadClauses closingLiterals readBit netOf portOf
-initial-bits net port i n ez er ef = rw (written-gather n (initialReadClauses (ofClosing net port i)), ez, er, ef, add-zero)
+initial-bits net port i n ez er ef = rw (written-gather n (initialReadClauses (net .«initial_word») (ofClosing net port i)), ez, er, ef, add-zero)
+
+-- a given word has each of them, an unknown start none
+pub initial-given : (n word u : ℕ) (x : ClosingLiterals) → u ≡ 0 → initialReads n (startOf word u) x ≡ gather n (initialReadClauses word x)
+unfolding initialReads
+initial-given n word u x e = rw (start-given word u e)
+
+pub initial-unknown : (n word u : ℕ) (x : ClosingLiterals) → (u ≡ 0 → ⊥) → written (initialReads n (startOf word u) x) ≡ []
+unfolding initialReads written
+initial-unknown n word u x h = rw (start-unknown word u h)
 
 -- the clauses of data bit t where RE is false, from ¬RE, the bases of the frame and of the one before, the read wires before the port's
 -- and the port's before it
@@ -83,11 +93,14 @@ pub sources-none : (net : Netlist) (port : R.Port) (i : ℕ) → hasTrue (gather
 unfolding selectedOf closingLiterals selected isTrue hasTrue
 sources-none net port i = none-gather i (selectedOf (ofClosing net port i)) (λ j. refl)
 
+-- neither of two literals is true, from the one test of both, as `search` looks for it
+pub neither : (r s x y : Bool) → (r || s) ≡ false → r ≡ x → s ≡ y → (x || y) ≡ false
+neither r s x y h e f = rw (e, f) at h
+
 -- the parts of a closing's clauses, in their order
-pub closing-parts : (n i : ℕ) (x : ClosingLiterals)
-    → written (closingClauses n i x)
-    ≡ written (gather n (initialReadClauses x)) ++ written (heldReads n i x) ++ written (someSource i x ∷ [])
+pub closing-parts : (n : ℕ) (s : Start) (i : ℕ) (x : ClosingLiterals)
+    → written (closingClauses n s i x) ≡ written (initialReads n s x) ++ written (heldReads n i x) ++ written (someSource i x ∷ [])
 unfolding closingClauses
-closing-parts n i x =
-    written-append (gather n (initialReadClauses x) ++ heldReads n i x) (someSource i x ∷ [])
-    ∙ ap (λ (zs : List ℤ). zs ++ written (someSource i x ∷ [])) (written-append (gather n (initialReadClauses x)) (heldReads n i x))
+closing-parts n s i x =
+    written-append (initialReads n s x ++ heldReads n i x) (someSource i x ∷ [])
+    ∙ ap (λ (zs : List ℤ). zs ++ written (someSource i x ∷ [])) (written-append (initialReads n s x) (heldReads n i x))

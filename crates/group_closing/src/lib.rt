@@ -1,5 +1,5 @@
-// The clauses of the closing of frame i at a port (RULES G11 to G13 and G25): a read of a word that no earlier
-// frame wrote is the start word, the word of the frame before is held where nothing is read, and a read has some source.
+// The clauses of the closing of frame i at a port (RULES G11 to G13, G25 and G33): a read of a word that no earlier frame wrote is the
+// start word where one is given, the word of the frame before is held where nothing is read, and a read has some source.
 use clause_variables::Port;
 use literals::Term;
 use literals::Wire;
@@ -11,10 +11,12 @@ ghost use mathlib.Core.List.{[], _∷_};
 ghost use lib.Dec.{eqb};
 ghost use lib.ListN.{length};
 ghost use Rattle.model.specs.Bits.{bit};
+ghost use Rattle.model.specs.Netlist.{startOf};
 ghost use Rattle.model.specs.Gather.{gather};
-ghost use Rattle.model.specs.Clauses.{known, sameIfClauses, initialReadClauses, heldClauses, heldReads, selectedOf, someSource, closingClauses};
+ghost use Rattle.model.specs.Clauses.{known, sameIfClauses, initialReadClauses, initialReads, heldClauses, heldReads, selectedOf, someSource, closingClauses};
 ghost use Rattle.model.specs.Variables.{wireAt};
 ghost use Rattle.model.specs.Numbers.{isTrue, kept, written};
+ghost use Rattle.model.specs.Counts.{whereGiven};
 ghost use Rattle.literals.specs.Lit.{literalOf, IsTerm, HasNumber};
 ghost use Rattle.model.specs.Wrote.{Wrote};
 ghost use Rattle.group_closing.specs.OfClosing.{ofClosing, ClosingFits};
@@ -38,7 +40,7 @@ fn put_initial_bit(
 // The clauses of each data bit, in bit order.
 fn put_initial_reads(out: &mut [i32], net: Netlist, port: Port, i: u32) -> usize
     requires { ⌜ ClosingFits net port i × (net .n * 8 ≤ length (now out)) ⌝ }
-    ensures { λ r. ⌜ Wrote (written (gather (net .n) (initialReadClauses (ofClosing net port i))))
+    ensures { λ r. ⌜ Wrote (written (gather (net .n) (initialReadClauses (net .«initial_word») (ofClosing net port i))))
         (now (out .entry)) (now (out .exit)) r × (r ≤ net .n * 8) ⌝ }
 {
     let none_since = clause_variables::none_since(net, port, 0, i);
@@ -62,6 +64,20 @@ fn put_initial_reads(out: &mut [i32], net: Netlist, port: Port, i: u32) -> usize
         t = t + 1;
     }
     at
+}
+
+// The clauses of the start word: an unknown start has none.
+fn put_initial(out: &mut [i32], net: Netlist, port: Port, i: u32) -> usize
+    requires { ⌜ ClosingFits net port i
+        × (whereGiven (startOf (net .«initial_word») (net .«unknown_start»)) (8 * net .n) ≤ length (now out)) ⌝ }
+    ensures { λ r. ⌜ Wrote (written (initialReads (net .n) (startOf (net .«initial_word») (net .«unknown_start»)) (ofClosing net port i)))
+        (now (out .entry)) (now (out .exit)) r
+        × (r ≤ whereGiven (startOf (net .«initial_word») (net .«unknown_start»)) (8 * net .n)) ⌝ }
+{
+    if net.unknown_start == 0 {
+        return put_initial_reads(out, net, port, i);
+    }
+    0
 }
 
 // The two clauses of data bit `rd`: where RE is false, it is as in the frame before.
@@ -169,11 +185,13 @@ fn put_some_source(out: &mut [i32], net: Netlist, port: Port, i: u32) -> usize
 
 // All clauses of the closing.
 pub fn put_closing(out: &mut [i32], net: Netlist, port: Port, i: u32) -> usize
-    requires { ⌜ ClosingFits net port i × (net .n * 8 + cond (eqb i 0) 0 (net .n * 8) + i + 3 ≤ length (now out)) ⌝ }
-    ensures { λ r. ⌜ Wrote (written (closingClauses (net .n) i (ofClosing net port i)))
-        (now (out .entry)) (now (out .exit)) r × (r ≤ net .n * 8 + cond (eqb i 0) 0 (net .n * 8) + i + 3) ⌝ }
+    requires { ⌜ ClosingFits net port i × (whereGiven (startOf (net .«initial_word») (net .«unknown_start»)) (8 * net .n)
+        + cond (eqb i 0) 0 (net .n * 8) + i + 3 ≤ length (now out)) ⌝ }
+    ensures { λ r. ⌜ Wrote (written (closingClauses (net .n) (startOf (net .«initial_word») (net .«unknown_start»)) i (ofClosing net port i)))
+        (now (out .entry)) (now (out .exit)) r
+        × (r ≤ whereGiven (startOf (net .«initial_word») (net .«unknown_start»)) (8 * net .n) + cond (eqb i 0) 0 (net .n * 8) + i + 3) ⌝ }
 {
-    let a = put_initial_reads(out, net, port, i);
+    let a = put_initial(out, net, port, i);
     let b = a + put_held(&mut out[a..], net, port, i);
     b + put_some_source(&mut out[b..], net, port, i)
 }

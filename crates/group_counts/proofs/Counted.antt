@@ -4,7 +4,7 @@ use Prim.Native.Nat.{ℕ, zero, suc, _+_, _-_, _*_, _/_, _^_, _≤_, _<_}
 use mathlib.Core.Path.{_≡_, refl, sym, ap, _∙_}
 use mathlib.Core.Bool.{true}
 use mathlib.Core.List.{List, [], _∷_, _++_}
-use native.Mathlib.Nat.{mul-le-mul}
+use native.Mathlib.Nat.{mul-le-mul, mul-add}
 use native.Mathlib.Omega.{arith}
 use borrow.Author.Tests.{leb-true}
 use lib.IntN.{ℤ, pos, negsuc}
@@ -14,18 +14,19 @@ use lib.Signed.{mag}
 use mir.Syntax.{w32}
 use mir.Val.{SFits, toZ, ofZ}
 use mir.ValLaws.{toZ-ofZ}
-use Rattle.model.specs.Netlist.{Netlist}
+use Rattle.model.specs.Netlist.{Netlist, Start, given, unknown, start}
 use Rattle.model.specs.Acceptance.{Accepted}
 use Rattle.model.specs.Groups.{inDepth, clausesOf}
 use Rattle.model.specs.Numbers.{numbersOf, formula, splitAfter, clausesIn}
-use Rattle.model.specs.Counts.{numberCount}
+use Rattle.model.specs.Counts.{whereGiven, whereUnknown, numberCount}
 use Rattle.model.specs.Wrote.{Wrote}
 use Rattle.model.specs.declared.Group.{Group}
 use Rattle.model.specs.declared.Group.the-variants.{Wires, Pair, Closing, Property}
 use Rattle.model.proofs.Bounds.{wires-within, pairs-within, closing-within, property-within, all-within-one}
 use Rattle.model.proofs.Numbers.{shown, clausesIn-written}
 use Rattle.model.proofs.Variables.{base-least}
-use Rattle.model.proofs.Classes.{shownCount, formula-count}
+use Rattle.model.proofs.Classes.{shownCount, formula-count, given-count}
+use Rattle.group_counts.specs.PairCounts.{groupCount, pairCounts}
 
 -- the end mark, and any other number, as a machine tells them, by their bits
 pub ends-mark : (z : ℤ) → SFits w32 z → ofZ w32 z ≡ 0 → length (clausesIn (z ∷ [])) ≡ 1
@@ -69,14 +70,27 @@ ends-next zs i h = ap (λ ys. length (splitAfter [] ys)) (take-suc zs i (pos 0) 
 pub wrote-front : {A : Type 0} {xs old new : List A} {r : ℕ} → Wrote xs old new r → take r new ≡ xs
 wrote-front {A} {xs} {old} {new} {r} w = rw (w .counted, w .leaves) (take-append-seam xs (drop (length xs) old))
 
+-- what only one start has is at most all of it
+given-most : (s : Start) (x : ℕ) → whereGiven s x ≤ x
+unfolding whereGiven
+given-most (given word) x = omega arith
+given-most unknown x = omega arith
+
+unknown-most : (s : Start) (x : ℕ) → whereUnknown s x ≤ x
+unfolding whereUnknown
+unknown-most (given word) x = omega arith
+unknown-most unknown x = omega arith
+
 -- no group has more than 5,992 numbers: the most are the wires of frame 0 with gates alone
 pub numbers-most : (c : Netlist) (k : ℕ) (g : Group) → Accepted c → k ≤ 255 → inDepth k g ≡ true → numberCount c k g ≤ 5992
 unfolding inDepth numberCount
 numbers-most c k (Wires zero) a d h = omega (arith, a .limits .sizes .wires-fit, a .limits .sizes .n-least)
 numbers-most c k (Wires (suc i)) a d h = omega (arith, a .limits .sizes .wires-fit, a .limits .sizes .n-least)
-numbers-most c k (Pair j i) a d h = omega (arith, a .limits .sizes .m-most, a .limits .sizes .n-most)
-numbers-most c k (Closing zero) a d h = omega (arith, a .limits .sizes .n-most)
-numbers-most c k (Closing (suc i)) a d h = omega (arith, a .limits .sizes .n-most, leb-true (suc i) k h)
+numbers-most c k (Pair j i) a d h =
+    omega (arith, a .limits .sizes .m-most, a .limits .sizes .n-most, unknown-most (start c) (12 * c .n))
+numbers-most c k (Closing zero) a d h = omega (arith, a .limits .sizes .n-most, given-most (start c) (8 * c .n))
+numbers-most c k (Closing (suc i)) a d h =
+    omega (arith, a .limits .sizes .n-most, leb-true (suc i) k h, given-most (start c) (8 * c .n))
 numbers-most c k Property a d h = omega (arith, d)
 
 -- pairs of frames
@@ -104,27 +118,67 @@ module _ {c : Netlist} (ok : Accepted c) (k : ℕ) where
   unfolding numbersOf shownCount
   property-shown = ap length (clausesIn-written _ _ (base-least c (k + 1)) (all-within-one (property-within ok k)))
 
--- the clauses of a depth. But for the property, a group's do not depend on it: they are counted at the greatest
-pub counted : {c : Netlist} → Accepted c → (k first later other property : ℕ)
-    → first ≡ length (clausesIn (numbersOf c 255 (Wires 0))) + length (clausesIn (numbersOf c 255 (Closing 0)))
-    → later
-    ≡ length (clausesIn (numbersOf c 255 (Wires 1))) + length (clausesIn (numbersOf c 255 (Pair 0 1)))
-    + length (clausesIn (numbersOf c 255 (Closing 1)))
-    → other ≡ length (clausesIn (numbersOf c 255 (Pair 0 2))) → property ≡ length (clausesIn (numbersOf c k Property))
-    → first + k * later + (k * (k + 1) / 2 - k) * other + property ≡ length (clausesIn (formula c k))
+-- of all pairs of a depth. But for the property, a group's clauses do not depend on the depth: they are counted at the greatest
+pairs-shown : {c : Netlist} → Accepted c → (k : ℕ)
+    → pairCounts c k
+    ≡ (k - (k - 1)) * shownCount (clausesOf c k (Pair 0 1))
+    + (k - 1) * (shownCount (clausesOf c k (Pair 1 2)) + shownCount (clausesOf c k (Pair 0 2)))
+    + ((k - 1) * (k - 1 + 1) / 2 - (k - 1)) * shownCount (clausesOf c k (Pair 1 3))
+unfolding pairCounts clausesOf
+pairs-shown ok zero = omega arith
+pairs-shown ok (suc i) =
+    let last : suc i - 1 ≡ i = omega arith in
+    let one : suc i - i ≡ 1 = omega arith in
+    rw (
+      last,
+      one,
+      pair-shown ok 255 0 1 (omega arith) (omega arith),
+      pair-shown ok 255 1 2 (omega arith) (omega arith),
+      pair-shown ok 255 0 2 (omega arith) (omega arith),
+      pair-shown ok 255 1 3 (omega arith) (omega arith),
+    )
+    (omega arith)
+
+-- where the initial word is given, by two pairs alone
+pub given-counted : {c : Netlist} → Accepted c → (word : ℕ) → start c ≡ given word → (k near far : ℕ) → near ≡ groupCount c (Pair 0 1)
+    → far ≡ groupCount c (Pair 0 2) → k * near + (k * (k + 1) / 2 - k) * far ≡ pairCounts c k
 unfolding clausesOf
-counted {c} ok k first later other property ef el eo ep =
+given-counted {c} ok word e k near far en ef =
+    rw (en, ef, pair-shown ok 255 0 1 (omega arith) (omega arith), pair-shown ok 255 0 2 (omega arith) (omega arith), pairs-shown ok k)
+    (cancel _ k _ _ _ _ _ _ _ _ (sym (given-count ok word e k) ∙ formula-count ok k))
+  where
+    cancel : (f k w p l o x y z q : ℕ) → f + k * (w + p + l) + o + q ≡ f + k * (w + l) + x + y + z + q → k * p + o ≡ x + y + z
+    cancel f k w p l o x y z q e = let parted = simp mul-add at e in omega arith
+
+-- where it is not, of a depth above 0
+pub unknown-counted : (c : Netlist) (k first later far : ℕ) → 1 ≤ k → first ≡ groupCount c (Pair 0 1)
+    → later ≡ groupCount c (Pair 1 2) + groupCount c (Pair 0 2) → far ≡ groupCount c (Pair 1 3)
+    → first + (k - 1) * later + ((k - 1) * (k - 1 + 1) / 2 - (k - 1)) * far ≡ pairCounts c k
+unfolding pairCounts
+unknown-counted c zero first later far h ef el er = absurd (omega arith)
+unknown-counted c (suc i) first later far h ef el er =
+    let last : suc i - 1 ≡ i = omega arith in
+    rw (last, ef, el, er)
+
+-- the clauses of a depth
+pub counted : {c : Netlist} → Accepted c → (k first later pairs property : ℕ)
+    → first ≡ groupCount c (Wires 0) + groupCount c (Closing 0) → later ≡ groupCount c (Wires 1) + groupCount c (Closing 1)
+    → pairs ≡ pairCounts c k → property ≡ length (clausesIn (numbersOf c k Property))
+    → first + k * later + pairs + property ≡ length (clausesIn (formula c k))
+unfolding clausesOf
+counted {c} ok k first later pairs property ef el es ep =
     rw (
       ef,
       el,
-      eo,
+      es,
       ep,
       wires-shown ok 255 0 (omega arith),
       closing-shown ok 255 0 (omega arith),
       wires-shown ok 255 1 (omega arith),
-      pair-shown ok 255 0 1 (omega arith) (omega arith),
       closing-shown ok 255 1 (omega arith),
-      pair-shown ok 255 0 2 (omega arith) (omega arith),
       property-shown ok k,
     )
-    (sym (formula-count ok k))
+    (sum _ _ _ _ _ _ _ _ (formula-count ok k) (pairs-shown ok k))
+  where
+    sum : (total f l x y z s q : ℕ) → total ≡ f + l + x + y + z + q → s ≡ x + y + z → f + l + s + q ≡ total
+    sum total f l x y z s q e h = omega arith

@@ -1,4 +1,4 @@
-// How many clauses of a depth are written (RULES G23 and G28): counted in what the groups' own writer writes, by one group of each class of
+// How many clauses of a depth are written (RULES G23, G28 and G34): counted in what the groups' own writer writes, by one group of each class of
 // groups that have equally many.
 use model::Group;
 use netlist::Netlist;
@@ -6,13 +6,14 @@ use netlist::UnpackedList;
 ghost use mathlib.Core.Path.{_≡_};
 ghost use mathlib.Core.Bool.{true};
 ghost use mathlib.Core.List.{[], _∷_};
-ghost use Prim.Native.Nat.{_+_, _*_, _≤_};
+ghost use Prim.Native.Nat.{_+_, _-_, _*_, _/_, _≤_};
 ghost use lib.ListN.{length};
 ghost use Rattle.model.specs.Acceptance.{Accepted};
 ghost use Rattle.model.specs.Groups.{inDepth};
 ghost use Rattle.model.specs.Numbers.{numbersOf, formula, clausesIn};
 ghost use Rattle.model.specs.declared.Group.the-variants.{Wires, Pair, Closing};
 ghost use Rattle.netlist.specs.NetOf.{netOf};
+ghost use Rattle.group_counts.specs.PairCounts.{groupCount, pairCounts};
 
 // The clauses that a number ends: the end mark one, any other none.
 fn count_end(z: i32) -> usize
@@ -55,58 +56,122 @@ fn count_group(
     count_ends(&numbers[..count]) as u32
 }
 
-// Those of frame 0.
-fn count_first(
+// Those of a frame's wires and closing.
+fn count_frame(
     numbers: &mut [i32],
     net: Netlist,
     latches: &UnpackedList,
     gates: &UnpackedList,
+    i: u32,
 ) -> u32
-    requires { ⌜ Accepted (netOf net (now latches) (now gates)) × (5992 ≤ length (now numbers)) ⌝ }
-    ensures { λ r. ⌜ (r ≡ length (clausesIn (numbersOf (netOf net (now (latches .entry)) (now (gates .entry))) 255 (Wires 0)))
-        + length (clausesIn (numbersOf (netOf net (now (latches .entry)) (now (gates .entry))) 255 (Closing 0)))) × (r ≤ 11984) ⌝ }
+    requires { ⌜ Accepted (netOf net (now latches) (now gates)) × (i ≤ 255) × (5992 ≤ length (now numbers)) ⌝ }
+    ensures { λ r. ⌜ (r ≡ groupCount (netOf net (now (latches .entry)) (now (gates .entry))) (Wires i)
+        + groupCount (netOf net (now (latches .entry)) (now (gates .entry))) (Closing i)) × (r ≤ 11984) ⌝ }
     ensures scratch { λ _. ⌜ length (now (numbers .exit)) ≡ length (now (numbers .entry)) ⌝ }
 {
-    let wires = count_group(numbers, net, latches, gates, 255, Group::Wires(0));
-    wires + count_group(numbers, net, latches, gates, 255, Group::Closing(0))
-}
-
-// Those of a later frame, with the pair of it and the frame before.
-fn count_later(
-    numbers: &mut [i32],
-    net: Netlist,
-    latches: &UnpackedList,
-    gates: &UnpackedList,
-) -> u32
-    requires { ⌜ Accepted (netOf net (now latches) (now gates)) × (5992 ≤ length (now numbers)) ⌝ }
-    ensures { λ r. ⌜ (r ≡ length (clausesIn (numbersOf (netOf net (now (latches .entry)) (now (gates .entry))) 255 (Wires 1)))
-        + length (clausesIn (numbersOf (netOf net (now (latches .entry)) (now (gates .entry))) 255 (Pair 0 1)))
-        + length (clausesIn (numbersOf (netOf net (now (latches .entry)) (now (gates .entry))) 255 (Closing 1)))) × (r ≤ 17976) ⌝ }
-    ensures scratch { λ _. ⌜ length (now (numbers .exit)) ≡ length (now (numbers .entry)) ⌝ }
-{
-    let wires = count_group(numbers, net, latches, gates, 255, Group::Wires(1));
-    let pair = count_group(numbers, net, latches, gates, 255, Group::Pair(0, 1));
-    wires + pair + count_group(numbers, net, latches, gates, 255, Group::Closing(1))
+    let wires = count_group(numbers, net, latches, gates, 255, Group::Wires(i));
+    wires + count_group(numbers, net, latches, gates, 255, Group::Closing(i))
 }
 
 // A product with a bound, so that sums of it fit.
 fn product(a: u32, b: u32) -> u32
-    requires { ⌜ (a ≤ 32640) × (b ≤ 17976) ⌝ }
-    ensures { λ r. ⌜ (r ≡ a * b) × (r ≤ 586736640) ⌝ }
+    requires { ⌜ (a ≤ 32640) × (b ≤ 11984) ⌝ }
+    ensures { λ r. ⌜ (r ≡ a * b) × (r ≤ 391157760) ⌝ }
 {
     a * b
 }
 
-// The clauses of all groups of a depth. Of the pairs of a frame, one is with the frame before it.
+// How many pairs of frames 0 to k are not of neighbours.
+fn other_pairs(k: u32) -> u32
+    requires { ⌜ k ≤ 255 ⌝ }
+    ensures { λ r. ⌜ (r ≡ k * (k + 1) / 2 - k) × (r ≤ 32640) ⌝ }
+{
+    k * (k + 1) / 2 - k
+}
+
+// The clauses of all pairs of a depth where the initial word is given: one pair of each frame is with the frame before it.
+fn count_given_pairs(
+    numbers: &mut [i32],
+    net: Netlist,
+    latches: &UnpackedList,
+    gates: &UnpackedList,
+    depth: u32,
+) -> u32
+    requires { ⌜ Accepted (netOf net (now latches) (now gates)) × (net .«unknown_start» ≡ 0) × (depth ≤ 255) × (5992 ≤ length (now numbers)) ⌝ }
+    ensures { λ r. ⌜ (r ≡ pairCounts (netOf net (now (latches .entry)) (now (gates .entry))) depth) × (r ≤ 782315520) ⌝ }
+    ensures scratch { λ _. ⌜ length (now (numbers .exit)) ≡ length (now (numbers .entry)) ⌝ }
+{
+    let near = count_group(numbers, net, latches, gates, 255, Group::Pair(0, 1));
+    let far = count_group(numbers, net, latches, gates, 255, Group::Pair(0, 2));
+    product(depth, near) + product(other_pairs(depth), far)
+}
+
+// Those of the pairs of a frame above 1 that are like no pair of frame 1: with the frame before it, and with frame 0.
+fn count_later_pairs(
+    numbers: &mut [i32],
+    net: Netlist,
+    latches: &UnpackedList,
+    gates: &UnpackedList,
+) -> u32
+    requires { ⌜ Accepted (netOf net (now latches) (now gates)) × (5992 ≤ length (now numbers)) ⌝ }
+    ensures { λ r. ⌜ (r ≡ groupCount (netOf net (now (latches .entry)) (now (gates .entry))) (Pair 1 2)
+        + groupCount (netOf net (now (latches .entry)) (now (gates .entry))) (Pair 0 2)) × (r ≤ 11984) ⌝ }
+    ensures scratch { λ _. ⌜ length (now (numbers .exit)) ≡ length (now (numbers .entry)) ⌝ }
+{
+    let near = count_group(numbers, net, latches, gates, 255, Group::Pair(1, 2));
+    near + count_group(numbers, net, latches, gates, 255, Group::Pair(0, 2))
+}
+
+// The clauses of all pairs of a depth above 0 where the start is unknown: those with frame 0, whose Z may be a constant, are a class of
+// their own.
+fn count_unknown_pairs(
+    numbers: &mut [i32],
+    net: Netlist,
+    latches: &UnpackedList,
+    gates: &UnpackedList,
+    depth: u32,
+) -> u32
+    requires { ⌜ Accepted (netOf net (now latches) (now gates)) × (1 ≤ depth) × (depth ≤ 255) × (5992 ≤ length (now numbers)) ⌝ }
+    ensures { λ r. ⌜ (r ≡ pairCounts (netOf net (now (latches .entry)) (now (gates .entry))) depth) × (r ≤ 782321512) ⌝ }
+    ensures scratch { λ _. ⌜ length (now (numbers .exit)) ≡ length (now (numbers .entry)) ⌝ }
+{
+    let first = count_group(numbers, net, latches, gates, 255, Group::Pair(0, 1));
+    let later = count_later_pairs(numbers, net, latches, gates);
+    let far = count_group(numbers, net, latches, gates, 255, Group::Pair(1, 3));
+    let above = depth - 1;
+    first + product(above, later) + product(other_pairs(above), far)
+}
+
+// The clauses of all pairs of a depth.
+fn count_pairs(
+    numbers: &mut [i32],
+    net: Netlist,
+    latches: &UnpackedList,
+    gates: &UnpackedList,
+    depth: u32,
+) -> u32
+    requires { ⌜ Accepted (netOf net (now latches) (now gates)) × (depth ≤ 255) × (5992 ≤ length (now numbers)) ⌝ }
+    ensures { λ r. ⌜ (r ≡ pairCounts (netOf net (now (latches .entry)) (now (gates .entry))) depth) × (r ≤ 782321512) ⌝ }
+    ensures scratch { λ _. ⌜ length (now (numbers .exit)) ≡ length (now (numbers .entry)) ⌝ }
+{
+    if net.unknown_start == 0 {
+        return count_given_pairs(numbers, net, latches, gates, depth);
+    }
+    if depth == 0 {
+        return 0;
+    }
+    count_unknown_pairs(numbers, net, latches, gates, depth)
+}
+
+// The clauses of all groups of a depth.
 pub fn clause_count(net: Netlist, latches: &UnpackedList, gates: &UnpackedList, depth: u32) -> u32
     requires { ⌜ Accepted (netOf net (now latches) (now gates)) × (depth ≤ 255) ⌝ }
     ensures { λ r. ⌜ r ≡ length (clausesIn (formula (netOf net (now (latches .entry)) (now (gates .entry))) depth)) ⌝ }
 {
     let mut numbers = [0; 5992];
-    let first = count_first(&mut numbers, net, latches, gates);
-    let later = count_later(&mut numbers, net, latches, gates);
-    let other = count_group(&mut numbers, net, latches, gates, 255, Group::Pair(0, 2));
+    let first = count_frame(&mut numbers, net, latches, gates, 0);
+    let later = count_frame(&mut numbers, net, latches, gates, 1);
+    let pairs = count_pairs(&mut numbers, net, latches, gates, depth);
     let property = count_group(&mut numbers, net, latches, gates, depth, Group::Property);
-    let others = depth * (depth + 1) / 2 - depth;
-    first + product(depth, later) + product(others, other) + property
+    first + product(depth, later) + pairs + property
 }

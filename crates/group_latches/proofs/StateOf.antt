@@ -6,6 +6,7 @@ use mathlib.Core.Bool.{cond}
 use mathlib.Core.List.{List, [], _∷_, _++_}
 use native.Mathlib.Nat.{add-zero}
 use native.Mathlib.Numerals.{sub-one}
+use native.Mathlib.Omega.{arith}
 use lib.Dec.{eqb}
 use lib.IntN.{ℤ}
 use lib.ListN.{getD}
@@ -19,6 +20,7 @@ use Rattle.model.specs.Numbers.{written}
 use Rattle.model.proofs.Joined.{written-append}
 use Rattle.netlist.specs.NetOf.{netOf, alone}
 use Rattle.netlist.specs.declared.Netlist.{Netlist}
+use Rattle.clause_variables.specs.FrameFits.{FrameFits}
 use Rattle.clause_writer.proofs.Turns.{written-gather}
 
 -- latch l in frame 0
@@ -52,3 +54,7 @@ pub state-first : (c : M.Netlist)
     → written (stateClauses c 0) ≡ written ((plus 1 ∷ []) ∷ []) ++ written (gather (c .latches) (resetClauses c))
 unfolding stateClauses
 state-first c = written-append ((plus 1 ∷ []) ∷ []) (gather (c .latches) (resetClauses c))
+
+-- behind the frame before a later frame is that frame, as `search` looks for it
+pub frame-again : (c : M.Netlist) (i : ℕ) → (i ≡ 0 → ⊥) → FrameFits c i → FrameFits c (i - 1 + 1)
+frame-again c i h f = record { limits = f .limits; depth = omega (arith, f .depth) }

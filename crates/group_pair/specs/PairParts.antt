@@ -1,5 +1,5 @@
--- A pair's clauses, the model's `pairClauses`, in two parts: the address comparison, and the gates with the data bits. Cited by
--- `put_comparison` and `put_gated_data`.
+-- The first two of the three parts of a pair's clauses, the model's `pairClauses`: the address comparison, and the gates with the data
+-- bits; the third is the model's `agreedReads`. Cited by `put_comparison` and `put_gated_data`.
 use Prim.Native.Nat.{ℕ}
 use mathlib.Core.List.{List, [], _∷_, _++_}
 use Rattle.model.specs.Gather.{gather}

@@ -14,7 +14,7 @@ use Rattle.model.specs.Clauses.{pairClauses, closingClauses}
 use Rattle.model.specs.Variables.{base, pairBase, noneSince, selected, readBit, pairLiterals, closingLiterals}
 use Rattle.model.specs.Groups.{violationOf, clausesOf, inDepth}
 use Rattle.model.specs.Numbers.{written, numbersOf}
-use Rattle.model.specs.Counts.{numberCount}
+use Rattle.model.specs.Counts.{whereGiven, whereUnknown, numberCount}
 use Rattle.model.specs.Wrote.{Wrote}
 use Rattle.model.specs.declared.Group.{Group}
 use Rattle.model.specs.declared.Group.the-variants.{Wires, Pair, Closing, Property}
@@ -40,13 +40,13 @@ module _ (r : Netlist) (ls gs : List ℕ) where
 
   -- a pair
   pub pair-alone : (p : M.Port) → p ≡ M.port (alone r) → (k j i : ℕ)
-      → written (pairClauses (r .m) (r .n) (pairLiterals (alone r) p j i)) ≡ numbersOf (netOf r ls gs) k (Pair j i)
+      → written (pairClauses (r .m) (r .n) (M.startOf (r .«initial_word») (r .«unknown_start»)) (pairLiterals (alone r) p j i)) ≡ numbersOf (netOf r ls gs) k (Pair j i)
   unfolding netOf numbersOf clausesOf pairLiterals base pairBase noneSince selected readBit
   pair-alone p e k j i = rw e
 
   -- a closing
   pub closing-alone : (p : M.Port) → p ≡ M.port (alone r) → (k i : ℕ)
-      → written (closingClauses (r .n) i (closingLiterals (alone r) p i)) ≡ numbersOf (netOf r ls gs) k (Closing i)
+      → written (closingClauses (r .n) (M.startOf (r .«initial_word») (r .«unknown_start»)) i (closingLiterals (alone r) p i)) ≡ numbersOf (netOf r ls gs) k (Closing i)
   unfolding netOf numbersOf clausesOf closingLiterals base pairBase noneSince selected readBit
   closing-alone p e k i = rw e
 
@@ -63,12 +63,14 @@ module _ (r : Netlist) (ls gs : List ℕ) where
     wires-count zero e = rw e (omega arith)
     wires-count (suc i) e = rw (e, ne-eqb (suc i) 0 (λ h. omega arith)) (omega arith)
 
-    pub pair-count : {j i : ℕ} → g ≡ Pair j i → numberCount (netOf r ls gs) k g ≡ 17 * r .m + 8 * r .n + 32
+    pub pair-count : {j i : ℕ} → g ≡ Pair j i → numberCount (netOf r ls gs) k g
+        ≡ 17 * r .m + 8 * r .n + 32 + whereUnknown (M.startOf (r .«initial_word») (r .«unknown_start»)) (12 * r .n)
     unfolding numberCount netOf
     pair-count e = rw e
 
     pub closing-count : (i : ℕ) → g ≡ Closing i
-        → numberCount (netOf r ls gs) k g ≡ r .n * 8 + cond (eqb i 0) 0 (r .n * 8) + i + 3
+        → numberCount (netOf r ls gs) k g
+        ≡ whereGiven (M.startOf (r .«initial_word») (r .«unknown_start»)) (8 * r .n) + cond (eqb i 0) 0 (r .n * 8) + i + 3
     unfolding numberCount netOf
     closing-count zero e = rw e (omega arith)
     closing-count (suc i) e = rw (e, ne-eqb (suc i) 0 (λ h. omega arith)) (omega arith)

@@ -76,8 +76,8 @@ pub extern "C" fn marrubigai_read(
     call_replies::sheet_numbers(sheet_reader::read(file, latches, gates))
 }
 
-// Imports an ASCII AIGER text for a memory of m address bits, n data bits and this start word: its record, and its latches and gates into
-// the lent lists. Nothing lent is written before the last test has passed: a refusal's record is all zeros, so nothing of it is
+// Imports an ASCII AIGER text for a memory of m address bits, n data bits and this start word, or an unknown start where `unknown` is 1:
+// its record, and its latches and gates into the lent lists. Nothing lent is written before the last test has passed: a refusal's record is all zeros, so nothing of it is
 // delivered.
 #[no_mangle]
 pub extern "C" fn marrubigai_import(
@@ -85,22 +85,24 @@ pub extern "C" fn marrubigai_import(
     m: u32,
     n: u32,
     word: u32,
+    unknown: u32,
     latches: &mut [Latch],
     gates: &mut [Gate],
 ) -> SheetReply
-    ensures reply { λ r. ⌜ r ≡ sheetNumbers (importVerdictFor (now (text .entry)) m n word (now (latches .entry)) (now (gates .entry))) (importRecord (now (text .entry)) m n word (now (latches .entry)) (now (gates .entry))) ⌝ }
-    ensures latches { λ _. ⌜ now (latches .exit) ≡ importLatches (now (text .entry)) m n word (now (latches .entry)) (now (gates .entry)) ⌝ }
-    ensures gates { λ _. ⌜ now (gates .exit) ≡ importGates (now (text .entry)) m n word (now (latches .entry)) (now (gates .entry)) ⌝ }
-    ensures accepted { λ r. ⌜ (r .number ≡ 0 → TextDelivered (now (text .entry)) m n word (r .net) (now (latches .exit)) (now (gates .exit))) ⌝ }
+    ensures reply { λ r. ⌜ r ≡ sheetNumbers (importVerdictFor (now (text .entry)) m n word unknown (now (latches .entry)) (now (gates .entry))) (importRecord (now (text .entry)) m n word unknown (now (latches .entry)) (now (gates .entry))) ⌝ }
+    ensures latches { λ _. ⌜ now (latches .exit) ≡ importLatches (now (text .entry)) m n word unknown (now (latches .entry)) (now (gates .entry)) ⌝ }
+    ensures gates { λ _. ⌜ now (gates .exit) ≡ importGates (now (text .entry)) m n word unknown (now (latches .entry)) (now (gates .entry)) ⌝ }
+    ensures accepted { λ r. ⌜ (r .number ≡ 0 → TextDelivered (now (text .entry)) m n word unknown (r .net) (now (latches .exit)) (now (gates .exit))) ⌝ }
     ensures written { λ _. ⌜ ReadAsWritten ⌝ }
 {
     let mut latch_codes = sheet_tests::no_codes();
     let mut gate_codes = sheet_tests::no_codes();
-    let sheet = aiger_import::import_codes(
+    let sheet = aiger_import::import_text(
         text,
         m,
         n,
         word,
+        unknown,
         latches.len(),
         gates.len(),
         &mut latch_codes,

@@ -2,8 +2,8 @@
 use Prim.Native.Nat.{ℕ, suc, _+_, _-_, _<_}
 use mathlib.Core.Path.{_≡_, refl, sym, ap, _∙_}
 use mathlib.Core.Bool.{true, false, true≢false}
-use mathlib.Core.List.{List, [], _∷_, _++_}
-use native.Mathlib.Nat.{zero-add}
+use mathlib.Core.List.{List, [], _∷_, _++_, append-assoc}
+use native.Mathlib.Nat.{zero-add, add-zero}
 use native.Mathlib.Omega.{arith}
 use borrow.Author.Tests.{ltb-true, le-leb}
 use borrow.Rule.Slice.PartMut.{midOf, putMid}
@@ -14,8 +14,10 @@ use lib.Signed.{ltZ, leZ}
 use Rattle.decimal.specs.Digits.{minus, digits, signedDigits}
 use Rattle.model.specs.Wrote.{Wrote}
 use Rattle.decimal.proofs.Digits.{length-digits-some}
-use Rattle.model.proofs.Wrote.{wrote-one, wrote-then}
+use Rattle.model.proofs.Wrote.{wrote-then}
 use Rattle.text_writer.specs.Signed.{partsOf}
+use Rattle.text_writer.specs.Extends.{Extends}
+use Rattle.text_writer.proofs.Writing.{wrote-set, wrote-next}
 
 -- below zero is not at least zero, and the other way round
 pub below-not-least : (z : ℤ) → ltZ z (pos 0) ≡ true → leZ (pos 0) z ≡ false
@@ -41,20 +43,23 @@ unfolding signedDigits
 length-parts (pos n) = sym (zero-add (length (digits n)))
 length-parts (negsuc n) = omega arith
 
--- a text that is not empty does not tell what stood at the first byte
-wrote-over : (text old new : List ℕ) (x count : ℕ) → 0 < length text → Wrote text (set old 0 x) new count → Wrote text old new count
-wrote-over text old new x count h w =
-    record { counted = w .counted; leaves = w .leaves ∙ ap (λ (t : List ℕ). text ++ t) (drop-set-lt (length text) old 0 x h) }
+-- a text does not tell what stood where it is
+wrote-over : (text start new : List ℕ) (i x count : ℕ) → i < length text → Wrote text (set start i x) new count → Wrote text start new count
+wrote-over text start new i x count h w =
+    record { counted = w .counted; leaves = w .leaves ∙ ap (λ (t : List ℕ). text ++ t) (drop-set-lt (length text) start i x h) }
 
 -- a minus, and then the digits, before a text, into the rest behind the sign's bytes: where there is no sign they stand over the minus
 pub wrote-signed :
-    (z : ℤ) (t old part : List ℕ) (j : ℕ) → 0 < length old →
-    Wrote (digits (partsOf z .value) ++ t) (midOf (partsOf z .sign) (length (set old 0 minus) - partsOf z .sign) (set old 0 minus)) part j →
-    Wrote (signedDigits z ++ t) old (putMid (partsOf z .sign) (length (set old 0 minus) - partsOf z .sign) (set old 0 minus) part) (partsOf z .sign + j)
+    (z : ℤ) (t old part : List ℕ) (i j : ℕ) → i < length old →
+    Wrote (digits (partsOf z .value) ++ t) (midOf (i + partsOf z .sign) (length (set old i minus) - (i + partsOf z .sign)) (set old i minus)) part j →
+    Extends (signedDigits z ++ t) i old (putMid (i + partsOf z .sign) (length (set old i minus) - (i + partsOf z .sign)) (set old i minus) part) (i + partsOf z .sign + j)
 unfolding signedDigits
-wrote-signed (pos n) t old part j h w =
-    wrote-over (digits n ++ t) old (putMid 0 (length (set old 0 minus) - 0) (set old 0 minus) part) minus (0 + j)
-    (omega (arith, length-append (digits n) t, length-digits-some n))
-    (wrote-then [] (digits n ++ t) (set old 0 minus) (set old 0 minus) part 0 j (record { counted = refl; leaves = refl }) w)
-wrote-signed (negsuc n) t old part j h w =
-    wrote-then (minus ∷ []) (digits (suc n) ++ t) old (set old 0 minus) part 1 j (wrote-one minus old h) w
+wrote-signed (pos n) t old part i j h v seen start w =
+    let all : List ℕ = digits n ++ t in
+    let inside : i < length (seen ++ all) = omega (arith, w .counted, length-append seen all, length-append (digits n) t, length-digits-some n) in
+    rw (add-zero i)
+    (wrote-over (seen ++ all) start _ i minus _ inside
+    (wrote-then seen all (set start i minus) (set old i minus) part i j (wrote-set minus seen start old i h w) (rw (add-zero i) at v)))
+wrote-signed (negsuc n) t old part i j h v seen start w =
+    rw (append-assoc seen (minus ∷ []) (digits (suc n) ++ t))
+    at (wrote-then (seen ++ minus ∷ []) (digits (suc n) ++ t) start (set old i minus) part (i + 1) j (wrote-next minus seen start old i h w) v)

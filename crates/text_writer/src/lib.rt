@@ -2,12 +2,13 @@
 // digits is at hand.
 ghost use mathlib.Core.Path.{_≡_};
 ghost use mathlib.Core.List.{[], _∷_, _++_};
-ghost use Prim.Native.Nat.{_≤_, _<_, _/_, _%_};
+ghost use Prim.Native.Nat.{_+_, _≤_, _<_, _/_, _%_};
 ghost use lib.ListN.{length};
 ghost use Rattle.decimal.specs.Digits.{digits, space, signedDigits};
 ghost use Rattle.model.specs.Wrote.{Wrote};
 ghost use Rattle.text_writer.specs.Table.{pairDigits, fourDigits, tableBelow, TableOrNone};
 ghost use Rattle.text_writer.specs.Signed.{partsOf};
+ghost use Rattle.text_writer.specs.Extends.{Extends};
 use decimal::put_digits;
 
 // Writes one byte, and answers one.
@@ -208,14 +209,15 @@ pub fn parts_of(z: i32) -> Parts
     }
 }
 
-// Writes a signed number, with a minus only below zero, and a space. The minus is always written: where there is none, the first
-// digit stands over it.
-pub fn write_signed_spaced(out: &mut [u8], z: i32, table: &[u8]) -> usize
-    requires { ⌜ TableOrNone (now table) × (length (signedDigits z ++ space ∷ []) ≤ length (now out)) ⌝ }
-    ensures { λ r. ⌜ Wrote (signedDigits z ++ space ∷ []) (now (out .entry)) (now (out .exit)) r ⌝ }
+// Writes a signed number from place `at` on, with a minus only below zero, and a space, and answers where it ends. The minus is always
+// written: where there is none, the first digit stands over it. Each place is counted from the start, so that a sum is made once.
+pub fn write_signed_spaced(out: &mut [u8], at: usize, z: i32, table: &[u8]) -> usize
+    requires { ⌜ TableOrNone (now table) × (at + length (signedDigits z ++ space ∷ []) ≤ length (now out)) ⌝ }
+    ensures { λ r. ⌜ Extends (signedDigits z ++ space ∷ []) at (now (out .entry)) (now (out .exit)) r ⌝ }
 {
     let parts = parts_of(z);
     let sign = parts.sign;
-    out[0] = b'-';
-    sign + write_spaced(&mut out[sign..], parts.value, table)
+    let first = at + sign;
+    out[at] = b'-';
+    first + write_spaced(&mut out[first..], parts.value, table)
 }

@@ -6,12 +6,12 @@ use Rattle.netlist.specs.RecordOf.{recordOf}
 use Rattle.aiger_codes.proofs.text_sizes.Statement.{statement}
 use Rattle.aiger_codes.proofs.text_sizes.Tie as tie
 
-sub-t6 : tie.Need-sub-t6
-sub-t6 c = search needs
+sub-t7 : tie.Need-sub-t7
+sub-t7 c = search needs
 
 returns : tie.Need-returns
 unfolding recordOf gather
 returns c = refl
 
 pub text-sizes-spec : {M : Type 1} → statement M
-text-sizes-spec = tie.close (tie.spec sub-t6 returns)
+text-sizes-spec = tie.close (tie.spec sub-t7 returns)

@@ -23,37 +23,37 @@ text-passed c = sym (c .before .before .test-text .ensures) ∙ c .enum-told .gi
 
 -- its sizes, tested and passed
 sizes-judged : (c : tie.After-test-sizes) →
-    let a = c .before .before .before .before .before .before .before .args in testLines (aagNet (a .text .now) (a .m) (a .n) (a .word)) Size sizeFault ≡ c .test-sizes .result
+    let a = c .before .before .before .before .before .before .before .args in testLines (aagNet (a .text .now) (a .m) (a .n) (a .word) (a .unknown)) Size sizeFault ≡ c .test-sizes .result
 sizes-judged c =
     let a = c .before .before .before .before .before .before .before .args in
     let header = c .before .before .before .before .before .read-header in
     let sizes = c .before .text-sizes in
-    sizes-tested (a .text .now) (a .m) (a .n) (a .word) (header .result .counts) (header .ensures .counts-are) (sizes .result) (sizes .ensures)
+    sizes-tested (a .text .now) (a .m) (a .n) (a .word) (a .unknown) (header .result .counts) (header .ensures .counts-are) (sizes .result) (sizes .ensures)
     (c .test-sizes .ensures)
 
 sizes-passed : (c : tie.After-enum-told2) →
-    let a = c .before .before .before .before .before .before .before .before .before .args in testLines (aagNet (a .text .now) (a .m) (a .n) (a .word)) Size sizeFault ≡ Passed
+    let a = c .before .before .before .before .before .before .before .before .before .args in testLines (aagNet (a .text .now) (a .m) (a .n) (a .word) (a .unknown)) Size sizeFault ≡ Passed
 sizes-passed c = sizes-judged (c .before .before) ∙ c .enum-told2 .given .1
 
 -- the record and the lists hold its netlist
 net-held : (c : tie.After-fill) →
     let a = c .before .before .before .before .before .before .before .before .before .before .before .before .args in
-    Holds (c .fill .result) (c .fill .last .1 .1 .1 .0) (c .fill .last .1 .1 .1 .1 .0) (aagNet (a .text .now) (a .m) (a .n) (a .word))
+    Holds (c .fill .result) (c .fill .last .1 .1 .1 .0) (c .fill .last .1 .1 .1 .1 .0) (aagNet (a .text .now) (a .m) (a .n) (a .word) (a .unknown))
 net-held c =
     let a = c .before .before .before .before .before .before .before .before .before .before .before .before .args in
     let header = c .before .before .before .before .before .before .before .before .before .before .read-header in
     let sizes = c .before .before .before .before .before .before .text-sizes in
-    held (a .text .now) (a .m) (a .n) (a .word) (header .result .counts) (header .ensures .counts-are) (sizes .result) (sizes .ensures)
+    held (a .text .now) (a .m) (a .n) (a .word) (a .unknown) (header .result .counts) (header .ensures .counts-are) (sizes .result) (sizes .ensures)
     (text-passed (c .before .before .before .before .before .before .before)) (sizes-passed (c .before .before .before)) _ _ _ (c .fill .ensures)
 
 -- and are tested for memory loops
 loops-judged : (c : tie.After-test-loops) →
-    let a = c .before .before .before .before .before .before .before .before .before .before .before .before .before .before .args in testLoops (aagNet (a .text .now) (a .m) (a .n) (a .word)) ≡ c .test-loops .result
+    let a = c .before .before .before .before .before .before .before .before .before .before .before .before .before .before .args in testLoops (aagNet (a .text .now) (a .m) (a .n) (a .word) (a .unknown)) ≡ c .test-loops .result
 loops-judged c =
     let a = c .before .before .before .before .before .before .before .before .before .before .before .before .before .before .args in
     let header = c .before .before .before .before .before .before .before .before .before .before .before .before .read-header in
     let sizes = c .before .before .before .before .before .before .before .before .text-sizes in
-    loops-tested (a .text .now) (a .m) (a .n) (a .word) (header .result .counts) (header .ensures .counts-are) (sizes .result) (sizes .ensures)
+    loops-tested (a .text .now) (a .m) (a .n) (a .word) (a .unknown) (header .result .counts) (header .ensures .counts-are) (sizes .result) (sizes .ensures)
     (text-passed (c .before .before .before .before .before .before .before .before .before)) (sizes-passed (c .before .before .before .before .before)) _ _ _ (c .before .before .fill .ensures) (c .test-loops .ensures)
 
 read-header-requires : tie.Need-read-header-requires
@@ -72,8 +72,8 @@ returns : tie.Need-returns
 returns c =
     let a = c .before .before .before .before .before .before .before .args in
     rw (c .refused .ensures)
-    (outcome-refused _ _ (aagNet (a .text .now) (a .m) (a .n) (a .word))
-    (text-refused (a .text .now) (a .m) (a .n) (a .word) (a .latch-room) (a .gate-room)
+    (outcome-refused _ _ (aagNet (a .text .now) (a .m) (a .n) (a .word) (a .unknown))
+    (text-refused (a .text .now) (a .m) (a .n) (a .word) (a .unknown) (a .latch-room) (a .gate-room)
     (sym (c .before .before .before .before .test-text .ensures) ∙ c .before .before .tested .given .1)))
 
 enum-told : tie.Need-enum-told
@@ -98,8 +98,8 @@ returns-2 : tie.Need-returns-2
 returns-2 c =
     let a = c .before .before .before .before .before .before .before .before .before .before .before .args in
     rw (c .refused2 .ensures)
-    (outcome-refused _ _ (aagNet (a .text .now) (a .m) (a .n) (a .word))
-    (sizes-refused (a .text .now) (a .m) (a .n) (a .word) (a .latch-room) (a .gate-room)
+    (outcome-refused _ _ (aagNet (a .text .now) (a .m) (a .n) (a .word) (a .unknown))
+    (sizes-refused (a .text .now) (a .m) (a .n) (a .word) (a .unknown) (a .latch-room) (a .gate-room)
     (text-passed (c .before .before .before .before .before .before)) (sizes-judged (c .before .before .before .before) ∙ c .before .before .sized .given .1)))
 
 enum-told-2 : tie.Need-enum-told-2
@@ -112,7 +112,7 @@ fill-requires c κs =
     let header = c .before .before .before .before .before .before .before .before .before .read-header in
     let sizes = c .before .before .before .before .before .text-sizes in (
       header .ensures,
-      ready (a .text .now) (a .m) (a .n) (a .word) (header .result .counts) (header .ensures .counts-are) (sizes .result) (sizes .ensures)
+      ready (a .text .now) (a .m) (a .n) (a .word) (a .unknown) (header .result .counts) (header .ensures .counts-are) (sizes .result) (sizes .ensures)
           (text-passed (c .before .before .before .before .before .before)) (sizes-passed (c .before .before)),
       start .pre .0,
       start .pre .1,
@@ -123,7 +123,7 @@ test-loops-requires c κs =
     let a = c .before .before .before .before .before .before .before .before .before .before .before .before .before .args in
     let header = c .before .before .before .before .before .before .before .before .before .before .before .read-header in
     let sizes = c .before .before .before .before .before .before .before .text-sizes in
-    limits (a .text .now) (a .m) (a .n) (a .word) (header .result .counts) (header .ensures .counts-are) (sizes .result) (sizes .ensures)
+    limits (a .text .now) (a .m) (a .n) (a .word) (a .unknown) (header .result .counts) (header .ensures .counts-are) (sizes .result) (sizes .ensures)
     (text-passed (c .before .before .before .before .before .before .before .before)) (sizes-passed (c .before .before .before .before)) _ _ _ (c .before .fill .ensures)
 
 enum-known-looped : tie.Need-enum-known-looped
@@ -136,8 +136,8 @@ returns-3 : tie.Need-returns-3
 returns-3 c =
     let a = c .before .before .before .before .before .before .before .before .before .before .before .before .before .before .before .before .before .before .args in
     rw (c .refused3 .ensures)
-    (outcome-refused _ _ (aagNet (a .text .now) (a .m) (a .n) (a .word))
-    (loops-refused (a .text .now) (a .m) (a .n) (a .word) (a .latch-room) (a .gate-room)
+    (outcome-refused _ _ (aagNet (a .text .now) (a .m) (a .n) (a .word) (a .unknown))
+    (loops-refused (a .text .now) (a .m) (a .n) (a .word) (a .unknown) (a .latch-room) (a .gate-room)
     (text-passed (c .before .before .before .before .before .before .before .before .before .before .before .before .before)) (sizes-passed (c .before .before .before .before .before .before .before .before .before)) (loops-judged (c .before .before .before .before) ∙ c .before .before .looped .given .1)))
 
 enum-told-3 : tie.Need-enum-told-3
@@ -161,11 +161,11 @@ returns-4 c =
     let sized = sizes-passed (c .before .before .before .before .before .before .before .before .before .before .before) in
     let loops = loops-judged (c .before .before .before .before .before .before) ∙ c .before .before .before .before .enum-told3 .given .1 in
     let short =
-    short-held (a .text .now) (a .m) (a .n) (a .word) (header .result .counts) (header .ensures .counts-are) (sizes .result) (sizes .ensures) text sized
+    short-held (a .text .now) (a .m) (a .n) (a .word) (a .unknown) (header .result .counts) (header .ensures .counts-are) (sizes .result) (sizes .ensures) text sized
     _ _ _ (c .before .before .before .before .before .before .before .before .fill .ensures) (a .latch-room) (a .gate-room) in
     rw (c .refused4 .ensures)
-    (outcome-refused _ _ (aagNet (a .text .now) (a .m) (a .n) (a .word))
-    (room-refused (a .text .now) (a .m) (a .n) (a .word) (a .latch-room) (a .gate-room) text sized loops (sym short ∙ c .before .if1 .taken)))
+    (outcome-refused _ _ (aagNet (a .text .now) (a .m) (a .n) (a .word) (a .unknown))
+    (room-refused (a .text .now) (a .m) (a .n) (a .word) (a .unknown) (a .latch-room) (a .gate-room) text sized loops (sym short ∙ c .before .if1 .taken)))
 
 returns-5 : tie.Need-returns-5
 returns-5 c =
@@ -176,10 +176,10 @@ returns-5 c =
     let sized = sizes-passed (c .before .before .before .before .before .before .before .before .before .before) in
     let loops = loops-judged (c .before .before .before .before .before) ∙ c .before .before .before .enum-told3 .given .1 in
     let short =
-    short-held (a .text .now) (a .m) (a .n) (a .word) (header .result .counts) (header .ensures .counts-are) (sizes .result) (sizes .ensures) text sized
+    short-held (a .text .now) (a .m) (a .n) (a .word) (a .unknown) (header .result .counts) (header .ensures .counts-are) (sizes .result) (sizes .ensures) text sized
     _ _ _ (c .before .before .before .before .before .before .before .fill .ensures) (a .latch-room) (a .gate-room) in
-    outcome-passed _ _ (aagNet (a .text .now) (a .m) (a .n) (a .word)) (c .before .before .before .before .before .before .before .fill .result) (net-held (c .before .before .before .before .before .before .before))
-    (all-passed (a .text .now) (a .m) (a .n) (a .word) (a .latch-room) (a .gate-room) text sized loops (sym short ∙ c .if1 .left))
+    outcome-passed _ _ (aagNet (a .text .now) (a .m) (a .n) (a .word) (a .unknown)) (c .before .before .before .before .before .before .before .fill .result) (net-held (c .before .before .before .before .before .before .before))
+    (all-passed (a .text .now) (a .m) (a .n) (a .word) (a .unknown) (a .latch-room) (a .gate-room) text sized loops (sym short ∙ c .if1 .left))
 
 pub import-codes-spec : {M : Type 1} → statement M
 import-codes-spec =

@@ -1,64 +1,59 @@
--- `clause_tseitin::put_and` meets its contract: two clauses, then the third.
+-- `clause_tseitin::put_and` meets its contract: numbers, or any terms.
 use borrow.Author.Needs.{needs}
-use Rattle.model.specs.Clauses.{andClauses}
-use Rattle.clause_writer.proofs.Wrote.{wrote-clauses}
+use Rattle.clause_tseitin.proofs.Numbers.{tested}
 use Rattle.clause_tseitin.proofs.put_and.Statement.{statement}
 use Rattle.clause_tseitin.proofs.put_and.Tie as tie
 
-negated-requires : tie.Need-negated-requires
-negated-requires c κs = search needs
+is-number-requires : tie.Need-is-number-requires
+is-number-requires c κs = search needs
 
-put-two-binary-requires : tie.Need-put-two-binary-requires
-put-two-binary-requires c κs = search needs
+is-number-requires-2 : tie.Need-is-number-requires-2
+is-number-requires-2 c κs = search needs
 
-mul-put-ternary : tie.Need-mul-put-ternary
-mul-put-ternary c = search needs
+is-number-requires-3 : tie.Need-is-number-requires-3
+is-number-requires-3 c κs = search needs
 
-sub-put-ternary : tie.Need-sub-put-ternary
-sub-put-ternary c = search needs
+number-requires : tie.Need-number-requires
+number-requires c κs = search (needs, tested)
 
-part-put-ternary-start : tie.Need-part-put-ternary-start
-part-put-ternary-start c = search needs
+number-requires-2 : tie.Need-number-requires-2
+number-requires-2 c κs = search (needs, tested)
 
-part-put-ternary-end : tie.Need-part-put-ternary-end
-part-put-ternary-end c = search needs
+number-requires-3 : tie.Need-number-requires-3
+number-requires-3 c κs = search (needs, tested)
 
-negated-requires-2 : tie.Need-negated-requires-2
-negated-requires-2 c κs = search needs
-
-negated-requires-3 : tie.Need-negated-requires-3
-negated-requires-3 c κs = search needs
-
-put-ternary-requires : tie.Need-put-ternary-requires
-put-ternary-requires c κs = search needs
-
-add-result : tie.Need-add-result
-add-result c = search needs
+put-and-numbers-requires : tie.Need-put-and-numbers-requires
+put-and-numbers-requires c κs = search needs
 
 same-length : tie.Need-same-length
 same-length c = search needs
 
 returns : tie.Need-returns
-unfolding andClauses
-returns c = (
-  simp (c .before .before .before .before .before .before .before .before .negated .ensures .0, c .before .before .before .negated2 .ensures .0, c .before .before .negated3 .ensures .0)
-      at (wrote-clauses _ _ (c .before .before .before .before .before .before .put-two-binary .ensures .0) (c .before .put-ternary .ensures .0)),
-  search needs,
-)
+returns c =
+    rw (c .before .before .before .before .number .ensures .0, c .before .before .before .number2 .ensures .0, c .before .before .number3 .ensures .0) at (c .before .put-and-numbers .ensures)
+
+put-and-terms-requires : tie.Need-put-and-terms-requires
+put-and-terms-requires c κs = search needs
+
+same-length-2 : tie.Need-same-length-2
+same-length-2 c = search needs
+
+returns-2 : tie.Need-returns-2
+returns-2 c = c .before .put-and-terms .ensures
 
 pub put-and-spec : {M : Type 1} → statement M
 put-and-spec =
     tie.close
     (tie.spec
-    negated-requires
-    put-two-binary-requires
-    mul-put-ternary
-    sub-put-ternary
-    part-put-ternary-start
-    part-put-ternary-end
-    negated-requires-2
-    negated-requires-3
-    put-ternary-requires
-    add-result
+    is-number-requires
+    is-number-requires-2
+    is-number-requires-3
+    number-requires
+    number-requires-2
+    number-requires-3
+    put-and-numbers-requires
     same-length
-    returns)
+    returns
+    put-and-terms-requires
+    same-length-2
+    returns-2)

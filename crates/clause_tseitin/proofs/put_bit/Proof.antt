@@ -1,9 +1,6 @@
 -- `clause_tseitin::put_bit` meets its contract: numbers, or any terms.
-use mathlib.Core.Path.{_≡_}
-use mathlib.Core.Bool.{true}
 use borrow.Author.Needs.{needs}
-use Rattle.literals.specs.Lit.{isNumber}
-use Rattle.clause_tseitin.proofs.Numbers.{all-four}
+use Rattle.clause_tseitin.proofs.Numbers.{first-of-four, second-of-four, third-of-four, fourth-of-four}
 use Rattle.clause_tseitin.proofs.put_bit.Statement.{statement}
 use Rattle.clause_tseitin.proofs.put_bit.Tie as tie
 
@@ -19,27 +16,17 @@ is-number-requires-3 c κs = search needs
 is-number-requires-4 : tie.Need-is-number-requires-4
 is-number-requires-4 c κs = search needs
 
--- each is a number
-numbers :
-    (c : tie.Then1) →
-    let a = c .before .before .before .before .before .args in
-    (isNumber (a .address-equal) ≡ true) × (isNumber (a .bit-equal) ≡ true) × (isNumber (a .x) ≡ true) × (isNumber (a .y) ≡ true)
-numbers c =
-    let a = c .before .before .before .before .before .args in
-    let told = rw (c .before .before .before .before .is-number .ensures, c .before .before .before .is-number2 .ensures, c .before .before .is-number3 .ensures, c .before .is-number4 .ensures) at (c .if1 .taken) in
-    all-four (isNumber (a .address-equal)) (isNumber (a .bit-equal)) (isNumber (a .x)) (isNumber (a .y)) told
-
 number-requires : tie.Need-number-requires
-number-requires c κs = (c .before .before .before .before .before .before .pre .0, numbers (c .before) .0)
+number-requires c κs = (search needs, search first-of-four)
 
 number-requires-2 : tie.Need-number-requires-2
-number-requires-2 c κs = (c .before .before .before .before .before .before .before .pre .1, numbers (c .before .before) .1)
+number-requires-2 c κs = (search needs, search second-of-four)
 
 number-requires-3 : tie.Need-number-requires-3
-number-requires-3 c κs = (c .before .before .before .before .before .before .before .before .pre .2, numbers (c .before .before .before) .2)
+number-requires-3 c κs = (search needs, search third-of-four)
 
 number-requires-4 : tie.Need-number-requires-4
-number-requires-4 c κs = (c .before .before .before .before .before .before .before .before .before .pre .3, numbers (c .before .before .before .before) .3)
+number-requires-4 c κs = (search needs, search fourth-of-four)
 
 put-bit-numbers-requires : tie.Need-put-bit-numbers-requires
 put-bit-numbers-requires c κs = search needs

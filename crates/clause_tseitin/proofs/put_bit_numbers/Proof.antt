@@ -1,8 +1,7 @@
--- `clause_tseitin::put_bit_numbers` meets its contract: twice two clauses that begin alike.
+-- `clause_tseitin::put_bit_numbers` meets its contract: two equalities.
 use borrow.Author.Needs.{needs}
-use Rattle.model.specs.Clauses.{bitClauses}
-use Rattle.clause_tseitin.specs.BothClauses.{bothClauses}
 use Rattle.clause_writer.proofs.Wrote.{wrote-clauses}
+use Rattle.clause_tseitin.proofs.BitParts.{bit-parts}
 use Rattle.clause_tseitin.proofs.put_bit_numbers.Statement.{statement}
 use Rattle.clause_tseitin.proofs.put_bit_numbers.Tie as tie
 
@@ -12,26 +11,26 @@ negated-requires c κs = search needs
 negated-requires-2 : tie.Need-negated-requires-2
 negated-requires-2 c κs = search needs
 
+put-same-numbers-requires : tie.Need-put-same-numbers-requires
+put-same-numbers-requires c κs = search needs
+
+mul-put-same-numbers : tie.Need-mul-put-same-numbers
+mul-put-same-numbers c = search needs
+
+sub-put-same-numbers : tie.Need-sub-put-same-numbers
+sub-put-same-numbers c = search needs
+
+part-put-same-numbers-start : tie.Need-part-put-same-numbers-start
+part-put-same-numbers-start c = search needs
+
+part-put-same-numbers-end : tie.Need-part-put-same-numbers-end
+part-put-same-numbers-end c = search needs
+
 negated-requires-3 : tie.Need-negated-requires-3
 negated-requires-3 c κs = search needs
 
-put-two-numbers-requires : tie.Need-put-two-numbers-requires
-put-two-numbers-requires c κs = search needs
-
-mul-put-two-numbers : tie.Need-mul-put-two-numbers
-mul-put-two-numbers c = search needs
-
-sub-put-two-numbers : tie.Need-sub-put-two-numbers
-sub-put-two-numbers c = search needs
-
-part-put-two-numbers-start : tie.Need-part-put-two-numbers-start
-part-put-two-numbers-start c = search needs
-
-part-put-two-numbers-end : tie.Need-part-put-two-numbers-end
-part-put-two-numbers-end c = search needs
-
-put-two-numbers-requires-2 : tie.Need-put-two-numbers-requires-2
-put-two-numbers-requires-2 c κs = search needs
+put-same-numbers-requires-2 : tie.Need-put-same-numbers-requires-2
+put-same-numbers-requires-2 c κs = search needs
 
 add-result : tie.Need-add-result
 add-result c = search needs
@@ -40,10 +39,10 @@ same-length : tie.Need-same-length
 same-length c = search needs
 
 returns : tie.Need-returns
-unfolding bitClauses bothClauses
 returns c = (
-  simp (c .before .before .before .before .before .before .before .before .negated .ensures .0, c .before .before .before .before .before .before .before .negated2 .ensures .0, c .before .before .before .before .before .negated3 .ensures .0)
-      at (wrote-clauses _ _ (c .before .before .before .before .put-two-numbers .ensures .0) (c .before .put-two-numbers2 .ensures .0)),
+  rw bit-parts
+      (rw (c .before .before .before .before .before .before .before .before .negated .ensures .0, c .before .before .before .before .before .before .negated2 .ensures .0, c .before .before .negated3 .ensures .0)
+      at (wrote-clauses _ _ (c .before .before .before .before .before .put-same-numbers .ensures .0) (c .before .put-same-numbers2 .ensures .0))),
   search needs,
 )
 
@@ -53,13 +52,13 @@ put-bit-numbers-spec =
     (tie.spec
     negated-requires
     negated-requires-2
+    put-same-numbers-requires
+    mul-put-same-numbers
+    sub-put-same-numbers
+    part-put-same-numbers-start
+    part-put-same-numbers-end
     negated-requires-3
-    put-two-numbers-requires
-    mul-put-two-numbers
-    sub-put-two-numbers
-    part-put-two-numbers-start
-    part-put-two-numbers-end
-    put-two-numbers-requires-2
+    put-same-numbers-requires-2
     add-result
     same-length
     returns)

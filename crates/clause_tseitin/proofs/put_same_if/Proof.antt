@@ -1,9 +1,6 @@
 -- `clause_tseitin::put_same_if` meets its contract: numbers, or any terms.
-use mathlib.Core.Path.{_≡_}
-use mathlib.Core.Bool.{true}
 use borrow.Author.Needs.{needs}
-use Rattle.literals.specs.Lit.{isNumber}
-use Rattle.clause_tseitin.proofs.Numbers.{all-three}
+use Rattle.clause_tseitin.proofs.Numbers.{tested}
 use Rattle.clause_tseitin.proofs.put_same_if.Statement.{statement}
 use Rattle.clause_tseitin.proofs.put_same_if.Tie as tie
 
@@ -16,24 +13,14 @@ is-number-requires-2 c κs = search needs
 is-number-requires-3 : tie.Need-is-number-requires-3
 is-number-requires-3 c κs = search needs
 
--- each is a number
-numbers :
-    (c : tie.Then1) →
-    let a = c .before .before .before .before .args in
-    (isNumber (a .p) ≡ true) × (isNumber (a .a) ≡ true) × (isNumber (a .b) ≡ true)
-numbers c =
-    let a = c .before .before .before .before .args in
-    let told = rw (c .before .before .before .is-number .ensures, c .before .before .is-number2 .ensures, c .before .is-number3 .ensures) at (c .if1 .taken) in
-    all-three (isNumber (a .p)) (isNumber (a .a)) (isNumber (a .b)) told
-
 number-requires : tie.Need-number-requires
-number-requires c κs = (c .before .before .before .before .before .pre .0, numbers (c .before) .0)
+number-requires c κs = search (needs, tested)
 
 number-requires-2 : tie.Need-number-requires-2
-number-requires-2 c κs = (c .before .before .before .before .before .before .pre .1, numbers (c .before .before) .1)
+number-requires-2 c κs = search (needs, tested)
 
 number-requires-3 : tie.Need-number-requires-3
-number-requires-3 c κs = (c .before .before .before .before .before .before .before .pre .2, numbers (c .before .before .before) .2)
+number-requires-3 c κs = search (needs, tested)
 
 put-same-numbers-requires : tie.Need-put-same-numbers-requires
 put-same-numbers-requires c κs = search needs

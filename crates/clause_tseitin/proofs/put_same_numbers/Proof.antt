@@ -1,7 +1,7 @@
--- `clause_tseitin::put_same_numbers` meets its contract: two clauses that begin alike.
+-- `clause_tseitin::put_same_numbers` meets its contract: two clauses.
 use borrow.Author.Needs.{needs}
 use Rattle.model.specs.Clauses.{sameIfClauses}
-use Rattle.clause_tseitin.specs.BothClauses.{bothClauses}
+use Rattle.clause_writer.proofs.Wrote.{wrote-clauses}
 use Rattle.clause_tseitin.proofs.put_same_numbers.Statement.{statement}
 use Rattle.clause_tseitin.proofs.put_same_numbers.Tie as tie
 
@@ -11,20 +11,40 @@ negated-requires c κs = search needs
 negated-requires-2 : tie.Need-negated-requires-2
 negated-requires-2 c κs = search needs
 
+put-three-numbers-requires : tie.Need-put-three-numbers-requires
+put-three-numbers-requires c κs = search needs
+
+mul-put-three-numbers : tie.Need-mul-put-three-numbers
+mul-put-three-numbers c = search needs
+
+sub-put-three-numbers : tie.Need-sub-put-three-numbers
+sub-put-three-numbers c = search needs
+
+part-put-three-numbers-start : tie.Need-part-put-three-numbers-start
+part-put-three-numbers-start c = search needs
+
+part-put-three-numbers-end : tie.Need-part-put-three-numbers-end
+part-put-three-numbers-end c = search needs
+
 negated-requires-3 : tie.Need-negated-requires-3
 negated-requires-3 c κs = search needs
 
-put-two-numbers-requires : tie.Need-put-two-numbers-requires
-put-two-numbers-requires c κs = search needs
+put-three-numbers-requires-2 : tie.Need-put-three-numbers-requires-2
+put-three-numbers-requires-2 c κs = search needs
+
+add-result : tie.Need-add-result
+add-result c = search needs
 
 same-length : tie.Need-same-length
 same-length c = search needs
 
 returns : tie.Need-returns
-unfolding sameIfClauses bothClauses
-returns c =
-    simp (c .before .before .before .before .negated .ensures .0, c .before .before .before .negated2 .ensures .0, c .before .before .negated3 .ensures .0)
-    at (c .before .put-two-numbers .ensures)
+unfolding sameIfClauses
+returns c = (
+  simp (c .before .before .before .before .before .before .before .before .negated .ensures .0, c .before .before .before .before .before .before .negated2 .ensures .0, c .before .before .negated3 .ensures .0)
+      at (wrote-clauses _ _ (c .before .before .before .before .before .put-three-numbers .ensures .0) (c .before .put-three-numbers2 .ensures .0)),
+  search needs,
+)
 
 pub put-same-numbers-spec : {M : Type 1} → statement M
 put-same-numbers-spec =
@@ -32,7 +52,13 @@ put-same-numbers-spec =
     (tie.spec
     negated-requires
     negated-requires-2
+    put-three-numbers-requires
+    mul-put-three-numbers
+    sub-put-three-numbers
+    part-put-three-numbers-start
+    part-put-three-numbers-end
     negated-requires-3
-    put-two-numbers-requires
+    put-three-numbers-requires-2
+    add-result
     same-length
     returns)

@@ -3,6 +3,7 @@ use Rattle.model.specs.Numbers.{keptOf}
 use Rattle.literals.specs.Lit.{literalOf}
 use Rattle.model.proofs.Wrote.{wrote-nothing}
 use borrow.Author.Needs.{needs}
+use Rattle.clause_writer.proofs.Wrote.{number-is-lit}
 use Rattle.clause_writer.proofs.put_literal.Statement.{statement}
 use Rattle.clause_writer.proofs.put_literal.Tie as tie
 
@@ -16,7 +17,7 @@ enum-known-a : tie.Need-enum-known-a
 enum-known-a c = search needs
 
 put-number-requires : tie.Need-put-number-requires
-put-number-requires c κs = (rw (c .before .before .a .given .1) at (c .before .before .before .before .pre .0), search needs)
+put-number-requires c κs = search (needs, number-is-lit)
 
 returns : tie.Need-returns
 unfolding literalOf keptOf

@@ -1,8 +1,6 @@
 -- `clause_writer::put_ternary` meets its contract: left out where a literal is true, else its literals and the end.
-use mathlib.Core.List.{[], _∷_}
-use native.Mathlib.Omega.{arith}
-use Rattle.literals.specs.Lit.{literalOf}
-use Rattle.clause_writer.proofs.Wrote.{wrote-then, clause-ended, clause-left-out, end-most, hasTrue-three, kept-three}
+use Rattle.clause_writer.proofs.Wrote.{clause-left-out, written-ended, hasTrue-three}
+use mathlib.Core.Path.{_∙_}
 use borrow.Author.Needs.{needs}
 use Rattle.clause_writer.proofs.put_ternary.Statement.{statement}
 use Rattle.clause_writer.proofs.put_ternary.Tie as tie
@@ -20,80 +18,16 @@ returns : tie.Need-returns
 returns c =
     (clause-left-out _ _ (rw (hasTrue-three _ _ _) (rw (c .before .before .before .is-true .ensures, c .before .before .is-true2 .ensures, c .before .is-true3 .ensures) at (c .if1 .taken))), search needs)
 
-put-literal-requires : tie.Need-put-literal-requires
-put-literal-requires c κs = search needs
-
-mul-put-literal : tie.Need-mul-put-literal
-mul-put-literal c = search needs
-
-sub-put-literal : tie.Need-sub-put-literal
-sub-put-literal c = search needs
-
-part-put-literal-start : tie.Need-part-put-literal-start
-part-put-literal-start c = search needs
-
-part-put-literal-end : tie.Need-part-put-literal-end
-part-put-literal-end c = search needs
-
-put-literal-requires-2 : tie.Need-put-literal-requires-2
-put-literal-requires-2 c κs = search needs
-
-add-j : tie.Need-add-j
-add-j c = search needs
-
-mul-put-literal-2 : tie.Need-mul-put-literal-2
-mul-put-literal-2 c = search needs
-
-sub-put-literal-2 : tie.Need-sub-put-literal-2
-sub-put-literal-2 c = search needs
-
-part-put-literal-start-2 : tie.Need-part-put-literal-start-2
-part-put-literal-start-2 c = search needs
-
-part-put-literal-end-2 : tie.Need-part-put-literal-end-2
-part-put-literal-end-2 c = search needs
-
-put-literal-requires-3 : tie.Need-put-literal-requires-3
-put-literal-requires-3 c κs = search needs
-
-add-k : tie.Need-add-k
-add-k c = search needs
-
-mul-put-end : tie.Need-mul-put-end
-mul-put-end c = search needs
-
-sub-put-end : tie.Need-sub-put-end
-sub-put-end c = search needs
-
-part-put-end-start : tie.Need-part-put-end-start
-part-put-end-start c = search needs
-
-part-put-end-end : tie.Need-part-put-end-end
-part-put-end-end c = search needs
-
-put-end-requires : tie.Need-put-end-requires
-put-end-requires c κs = search needs
-
-add-result : tie.Need-add-result
-add-result c = search needs
+put-last-three-requires : tie.Need-put-last-three-requires
+put-last-three-requires c κs = search needs
 
 same-length : tie.Need-same-length
 same-length c = search needs
 
 returns-2 : tie.Need-returns-2
 returns-2 c =
-    let a = literalOf (c .before .before .before .before .before .before .before .before .before .before .before .before .before .before .before .before .args .a) in
-    let b = literalOf (c .before .before .before .before .before .before .before .before .before .before .before .before .before .before .before .before .args .b) in
-    let d = literalOf (c .before .before .before .before .before .before .before .before .before .before .before .before .before .before .before .before .args .c) in
-    let first = c .before .before .before .before .before .before .before .before .before .before .put-literal .ensures in
-    let second = c .before .before .before .before .before .before .before .put-literal2 .ensures in
-    let third = c .before .before .before .before .put-literal3 .ensures in
-    let end = c .before .put-end .ensures .0 in (
-      clause-ended (a ∷ b ∷ d ∷ [])
-          (rw (hasTrue-three a b d) (rw (c .before .before .before .before .before .before .before .before .before .before .before .before .before .before .before .is-true .ensures, c .before .before .before .before .before .before .before .before .before .before .before .before .before .before .is-true2 .ensures, c .before .before .before .before .before .before .before .before .before .before .before .before .before .is-true3 .ensures) at (c .before .before .before .before .before .before .before .before .before .before .before .before .if1 .left)))
-          (rw (kept-three a b d) (wrote-then (wrote-then (first .0) (second .0)) (third .0))) end,
-      end-most {most = 3} end (omega (arith, first .1, second .1, third .1)) (omega arith),
-    )
+    let none = rw (c .before .before .before .before .before .before .is-true .ensures, c .before .before .before .before .before .is-true2 .ensures, c .before .before .before .before .is-true3 .ensures) at (c .before .before .before .if1 .left) in
+    rw (written-ended _ (hasTrue-three _ _ _ ∙ none)) (c .before .put-last-three .ensures)
 
 pub put-ternary-spec : {M : Type 1} → statement M
 put-ternary-spec =
@@ -103,24 +37,6 @@ put-ternary-spec =
     is-true-requires-2
     is-true-requires-3
     returns
-    put-literal-requires
-    mul-put-literal
-    sub-put-literal
-    part-put-literal-start
-    part-put-literal-end
-    put-literal-requires-2
-    add-j
-    mul-put-literal-2
-    sub-put-literal-2
-    part-put-literal-start-2
-    part-put-literal-end-2
-    put-literal-requires-3
-    add-k
-    mul-put-end
-    sub-put-end
-    part-put-end-start
-    part-put-end-end
-    put-end-requires
-    add-result
+    put-last-three-requires
     same-length
     returns-2)

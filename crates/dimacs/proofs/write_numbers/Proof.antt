@@ -1,16 +1,15 @@
 -- `dimacs::write_numbers` meets its contract. The loop's invariant: the text of the first i numbers is written.
 use Prim.Native.Nat.{ℕ, _+_, _-_, _≤_}
 use mathlib.Core.Path.{_≡_, refl, _∙_}
-use mathlib.Core.List.{List}
+use mathlib.Core.List.{List, _++_}
 use native.Mathlib.Numerals.{add-one}
 use native.Mathlib.Omega.{arith}
 use borrow.Author.Needs.{needs}
-use borrow.Rule.Slice.PartMut.{midOf, mid-len, same-len-mid}
 use lib.IntN.{ℤ, pos}
 use lib.ListN.{length, getD, take}
 use lib.Seq.{take-all}
 use Rattle.model.specs.Wrote.{Wrote}
-use Rattle.model.proofs.Wrote.{wrote-then}
+use Rattle.text_writer.specs.Extends.{Extends}
 use Rattle.dimacs.specs.Text.{numberText, clauseText}
 use Rattle.dimacs.proofs.Text.{element-is, clauseText-next, clauseText-room}
 use Rattle.dimacs.proofs.write_numbers.Statement.{statement}
@@ -37,24 +36,21 @@ room c =
     let at = c .before .loop in
     omega (arith, start .pre .1, at .inv .1, at .inv .2 .counted, clauseText-room numbers (at .i) (omega arith))
 
--- it is written into the rest
+-- it is written behind the others
 next :
     (c : tie.After-write-number Inv-loop μ-loop) →
     let turn = c .before .before .before in
     let at = turn .before .loop in
-    Wrote (numberText (getD (turn .before .before .before .before .args .numbers .now) (at .i) (pos 0))) (midOf (at .at) (length (at .out) - at .at) (at .out)) (c .write-number .last .0) (c .write-number .result)
+    let start = turn .before .before .before .before in
+    Wrote (clauseText (take (at .i) (start .args .numbers .now)) ++ numberText (getD (start .args .numbers .now) (at .i) (pos 0))) (start .args .out .now) (c .write-number .last .0) (c .write-number .result)
 next c =
     let turn = c .before .before .before in
-    rw (element-is (turn .before .before .before .before .args .numbers .now) (turn .before .loop .i) (c .before .write-number-arg2 .given)) at (c .write-number .ensures)
-
-sub-write-number : tie.Need-sub-write-number Inv-loop μ-loop
-sub-write-number c = omega (arith, room c)
-
-part-write-number-start : tie.Need-part-write-number-start Inv-loop μ-loop
-part-write-number-start c = omega (arith, room c)
-
-part-write-number-end : tie.Need-part-write-number-end Inv-loop μ-loop
-part-write-number-end c = search needs
+    let at = turn .before .loop in
+    let start = turn .before .before .before .before in
+    let numbers : List ℤ = start .args .numbers .now in
+    let told : Extends (numberText (getD numbers (at .i) (pos 0))) (at .at) (at .out) (c .write-number .last .0) (c .write-number .result) =
+    rw (element-is numbers (at .i) (c .before .write-number-arg2 .given)) at (c .write-number .ensures) in
+    told (clauseText (take (at .i) numbers)) (start .args .out .now) (at .inv .2)
 
 mul-write-number : tie.Need-mul-write-number Inv-loop μ-loop
 mul-write-number c = search needs
@@ -65,16 +61,8 @@ shared-slice-copy-out-write-number c = omega arith
 write-number-requires : tie.Need-write-number-requires Inv-loop μ-loop
 write-number-requires c κs =
     let at = c .before .before .before .loop in
-    let mid : List ℕ = at .out in (
-      c .before .before .before .before .before .before .pre .0,
-      rw (element-is (c .before .before .before .before .before .before .args .numbers .now) (at .i) (c .write-number-arg2 .given), mid-len (at .at) (length mid) mid (omega arith))
-          (omega (arith, room (c .before .before))),
-    )
-
-add-at : tie.Need-add-at Inv-loop μ-loop
-add-at c =
-    let turn = c .before .before .before .before .before in
-    omega (arith, room turn, next (c .before .before) .counted)
+    let start = c .before .before .before .before .before .before in
+    (start .pre .0, rw (element-is (start .args .numbers .now) (at .i) (c .write-number-arg2 .given)) (omega (arith, room (c .before .before))))
 
 add-i : tie.Need-add-i Inv-loop μ-loop
 add-i c = omega arith
@@ -88,12 +76,7 @@ loop-again c =
     let start = turn .before .before .before .before in
     let at = turn .before .loop in
     let numbers : List ℤ = start .args .numbers .now in
-    let written = c .before .before .write-number in (
-      omega arith,
-      same-len-mid (at .at) (length (at .out) - at .at) (at .out) (written .last .0) (written .kept .0) ∙ at .inv .1,
-      rw (add-one, clauseText-next numbers (at .i) (omega arith))
-          (wrote-then (clauseText (take (at .i) numbers)) (numberText (getD numbers (at .i) (pos 0))) (start .args .out .now) (at .out) (written .last .0) (at .at) (written .result) (at .inv .2) (next (c .before .before))),
-    )
+    (omega arith, c .before .before .write-number .kept .0 ∙ at .inv .1, rw (add-one, clauseText-next numbers (at .i) (omega arith)) (next (c .before .before)))
 
 same-length : tie.Need-same-length Inv-loop μ-loop
 same-length c = search needs
@@ -113,13 +96,9 @@ write-numbers-spec =
     Inv-loop
     μ-loop
     loop-holds
-    sub-write-number
-    part-write-number-start
-    part-write-number-end
     mul-write-number
     shared-slice-copy-out-write-number
     write-number-requires
-    add-at
     add-i
     loop-less
     loop-again

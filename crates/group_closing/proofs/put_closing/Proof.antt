@@ -5,8 +5,8 @@ use Rattle.group_closing.proofs.OfClosing.{closing-parts}
 use Rattle.group_closing.proofs.put_closing.Statement.{statement}
 use Rattle.group_closing.proofs.put_closing.Tie as tie
 
-put-initial-reads-requires : tie.Need-put-initial-reads-requires
-put-initial-reads-requires c κs = search needs
+put-initial-requires : tie.Need-put-initial-requires
+put-initial-requires c κs = search needs
 
 mul-put-held : tie.Need-mul-put-held
 mul-put-held c = search needs
@@ -39,7 +39,7 @@ part-put-some-source-end : tie.Need-part-put-some-source-end
 part-put-some-source-end c = search needs
 
 put-some-source-requires : tie.Need-put-some-source-requires
-put-some-source-requires c κs = let p = c .before .before .before .before .before .before .before .pre in (p .0, search needs)
+put-some-source-requires c κs = (search needs, search needs)
 
 add-result : tie.Need-add-result
 add-result c = search needs
@@ -49,14 +49,14 @@ same-length c = search needs
 
 returns : tie.Need-returns
 returns c =
-    let first = wrote-then (c .before .before .before .before .before .before .before .put-initial-reads .ensures .0) (c .before .before .before .before .put-held .ensures .0) in
+    let first = wrote-then (c .before .before .before .before .before .before .before .put-initial .ensures .0) (c .before .before .before .before .put-held .ensures .0) in
     (rw closing-parts (wrote-then first (c .before .put-some-source .ensures .0)), search needs)
 
 pub put-closing-spec : {M : Type 1} → statement M
 put-closing-spec =
     tie.close
     (tie.spec
-    put-initial-reads-requires
+    put-initial-requires
     mul-put-held
     sub-put-held
     part-put-held-start

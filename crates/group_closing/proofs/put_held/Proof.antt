@@ -1,8 +1,8 @@
 -- `group_closing::put_held` meets its contract: frame 0, or a later one.
 use native.Mathlib.Omega.{arith}
 use borrow.Author.Needs.{needs}
-use borrow.Author.Tests.{eq-eqb, ne-eqb}
-use Rattle.clause_writer.proofs.Wrote.{wrote-nothing}
+use borrow.Author.Tests.{ne-eqb}
+use Rattle.clause_writer.proofs.Wrote.{wrote-nothing, room-later}
 use Rattle.group_closing.proofs.OfClosing.{held-first, held-later}
 use Rattle.group_closing.proofs.put_held.Statement.{statement}
 use Rattle.group_closing.proofs.put_held.Tie as tie
@@ -11,10 +11,7 @@ returns : tie.Need-returns
 returns c = rw (c .if1 .taken, held-first) (wrote-nothing _, omega arith)
 
 put-held-reads-requires : tie.Need-put-held-reads-requires
-put-held-reads-requires c κs =
-    let p = c .before .before .pre in
-    let later = c .before .if1 .left in
-    (p .0, omega arith, rw (ne-eqb _ 0 later) at (p .1))
+put-held-reads-requires c κs = search (needs, room-later)
 
 same-length : tie.Need-same-length
 same-length c = search needs

@@ -1,29 +1,27 @@
 -- `group_closing::put_some_source` meets its contract: left out where ¬RE or Z is true.
 use mathlib.Core.Path.{_∙_}
-use native.Mathlib.Omega.{arith}
 use borrow.Author.Needs.{needs}
 use Rattle.model.specs.Clauses.{someSource}
 use Rattle.model.specs.Variables.{closingLiterals}
 use Rattle.clause_variables.specs.PortOf.{portOf}
-use Rattle.clause_variables.proofs.Room.{code-has-number}
+use Rattle.clause_variables.proofs.Room.{numbered}
 use Rattle.clause_writer.proofs.Wrote.{clause-left-out, hasTrue-behind}
+use Rattle.group_closing.proofs.OfClosing.{neither}
 use Rattle.group_closing.proofs.put_some_source.Statement.{statement}
 use Rattle.group_closing.proofs.put_some_source.Tie as tie
 
 frame-base-requires : tie.Need-frame-base-requires
-frame-base-requires c κs = let is = c .pre .0 in (is .fits .limits .sizes, omega arith)
+frame-base-requires c κs = search needs
 
 in-frame-requires : tie.Need-in-frame-requires
 unfolding portOf
-in-frame-requires c κs =
-    let is = c .before .pre .0 in
-    rw (c .frame-base .ensures) (code-has-number _ (is .fits .limits .sizes) _ _ (is .depth) (is .fits .port-RE-fits))
+in-frame-requires c κs = search (needs, numbered)
 
 negated-requires : tie.Need-negated-requires
 negated-requires c κs = search needs
 
 none-since-requires : tie.Need-none-since-requires
-none-since-requires c κs = let is = c .before .before .before .pre .0 in (is .fits, omega arith, omega arith)
+none-since-requires c κs = search needs
 
 is-true-requires : tie.Need-is-true-requires
 is-true-requires c κs = search needs
@@ -39,9 +37,7 @@ returns c =
     (clause-left-out _ _ (hasTrue-behind _ _ _ ∙ rw some), search needs)
 
 put-source-clause-requires : tie.Need-put-source-clause-requires
-put-source-clause-requires c κs =
-    let p = c .before .before .before .before .before .before .before .before .pre in
-    (p .0, c .before .before .before .before .before .negated .ensures .1, c .before .before .before .before .none-since .ensures .1, rw (c .before .before .before .is-true .ensures, c .before .before .is-true2 .ensures) at (c .before .if1 .left), p .1)
+put-source-clause-requires c κs = (search needs, search needs, search needs, search (needs, neither), search needs)
 
 same-length : tie.Need-same-length
 same-length c = search needs

@@ -47,7 +47,7 @@ part-put-sources-end : tie.Need-part-put-sources-end
 part-put-sources-end c = search needs
 
 put-sources-requires : tie.Need-put-sources-requires
-put-sources-requires c κs = (c .before .before .before .before .before .before .before .pre .0, search needs)
+put-sources-requires c κs = (search needs, search needs)
 
 add-d : tie.Need-add-d
 add-d c = search needs

@@ -1,17 +1,15 @@
 -- `group_latches::put_state` meets its contract: frame 0, or a later one.
 use mathlib.Core.List.{[]}
-use native.Mathlib.Omega.{arith}
 use borrow.Author.Needs.{needs}
-use borrow.Author.Tests.{eq-eqb, ne-eqb}
+use borrow.Author.Tests.{ne-eqb}
 use Rattle.netlist.specs.NetOf.{netOf}
-use Rattle.group_latches.proofs.StateOf.{state-later}
+use Rattle.clause_writer.proofs.Wrote.{room-first, room-later}
+use Rattle.group_latches.proofs.StateOf.{state-later, frame-again}
 use Rattle.group_latches.proofs.put_state.Statement.{statement}
 use Rattle.group_latches.proofs.put_state.Tie as tie
 
 put-initial-state-requires : tie.Need-put-initial-state-requires
-put-initial-state-requires c κs =
-    let p = c .before .before .pre in
-    (record { limits = p .0 .limits; depth = omega arith }, rw (eq-eqb _ 0 (c .before .if1 .taken)) at (p .1))
+put-initial-state-requires c κs = search (needs, room-first)
 
 same-length : tie.Need-same-length
 same-length c = search needs
@@ -23,9 +21,7 @@ sub-put-latches : tie.Need-sub-put-latches
 sub-put-latches c = search needs
 
 put-latches-requires : tie.Need-put-latches-requires
-put-latches-requires c κs =
-    let p = c .before .before .pre in
-    (record { limits = p .0 .limits; depth = omega (arith, p .0 .depth) }, rw (ne-eqb _ 0 (c .before .if1 .left)) at (p .1))
+put-latches-requires c κs = search (needs, frame-again, room-later)
 
 same-length-2 : tie.Need-same-length-2
 same-length-2 c = search needs

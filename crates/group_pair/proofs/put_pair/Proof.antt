@@ -1,4 +1,4 @@
--- `group_pair::put_pair` meets its contract: its two parts, one after the other.
+-- `group_pair::put_pair` meets its contract: its three parts, one after the other.
 use borrow.Author.Needs.{needs}
 use Rattle.clause_writer.proofs.Wrote.{wrote-then}
 use Rattle.group_pair.proofs.OfPair.{pair-parts}
@@ -21,7 +21,25 @@ part-put-gated-data-end : tie.Need-part-put-gated-data-end
 part-put-gated-data-end c = search needs
 
 put-gated-data-requires : tie.Need-put-gated-data-requires
-put-gated-data-requires c κs = (record { fits = search needs; earlier = search needs; depth = search needs }, search needs)
+put-gated-data-requires c κs = search needs
+
+add-b : tie.Need-add-b
+add-b c = search needs
+
+mul-put-agreed : tie.Need-mul-put-agreed
+mul-put-agreed c = search needs
+
+sub-put-agreed : tie.Need-sub-put-agreed
+sub-put-agreed c = search needs
+
+part-put-agreed-start : tie.Need-part-put-agreed-start
+part-put-agreed-start c = search needs
+
+part-put-agreed-end : tie.Need-part-put-agreed-end
+part-put-agreed-end c = search needs
+
+put-agreed-requires : tie.Need-put-agreed-requires
+put-agreed-requires c κs = (search needs, search needs)
 
 add-result : tie.Need-add-result
 add-result c = search needs
@@ -31,7 +49,8 @@ same-length c = search needs
 
 returns : tie.Need-returns
 returns c =
-    (rw pair-parts (wrote-then (c .before .before .before .before .put-comparison .ensures .0) (c .before .put-gated-data .ensures .0)), search needs)
+    let first = wrote-then (c .before .before .before .before .before .before .before .put-comparison .ensures .0) (c .before .before .before .before .put-gated-data .ensures .0) in
+    (rw pair-parts (wrote-then first (c .before .put-agreed .ensures .0)), search needs)
 
 pub put-pair-spec : {M : Type 1} → statement M
 put-pair-spec =
@@ -43,6 +62,12 @@ put-pair-spec =
     part-put-gated-data-start
     part-put-gated-data-end
     put-gated-data-requires
+    add-b
+    mul-put-agreed
+    sub-put-agreed
+    part-put-agreed-start
+    part-put-agreed-end
+    put-agreed-requires
     add-result
     same-length
     returns)

@@ -5,20 +5,18 @@ use borrow.Author.Needs.{needs}
 use Rattle.model.specs.Groups.{clausesOf}
 use Rattle.model.specs.Numbers.{numbersOf}
 use Rattle.netlist.specs.NetOf.{netOf}
-use Rattle.clause_variables.proofs.Room.{code-has-number}
+use Rattle.clause_variables.proofs.Room.{numbered}
 use Rattle.clause_writer.proofs.Wrote.{clause-ended, clause-left-out, end-most}
 use Rattle.group_property.proofs.Violations.{violations-true}
 use Rattle.group_property.proofs.put_property.Statement.{statement}
 use Rattle.group_property.proofs.put_property.Tie as tie
 
 frame-base-requires : tie.Need-frame-base-requires
-frame-base-requires c κs = (c .pre .0 .limits .sizes, omega arith)
+frame-base-requires c κs = search needs
 
 in-frame-requires : tie.Need-in-frame-requires
 unfolding netOf
-in-frame-requires c κs =
-    let is = c .before .pre .0 in
-    rw (c .frame-base .ensures) (code-has-number _ (is .limits .sizes) _ _ (omega arith) (omega arith))
+in-frame-requires c κs = search (needs, numbered)
 
 negated-requires : tie.Need-negated-requires
 negated-requires c κs = search needs

@@ -20,7 +20,8 @@ parts-are c = c .parts-of .ensures ∙ ap partsOf (read-back (c .before .before 
 
 room :
     (c : tie.After-parts-of) →
-    c .parts-of .result .sign + length (digits (c .parts-of .result .value) ++ space ∷ []) ≤ length (c .before .before .before .args .out .now)
+    c .before .before .before .args .at + c .parts-of .result .sign + length (digits (c .parts-of .result .value) ++ space ∷ [])
+    ≤ length (c .before .before .before .args .out .now)
 room c =
     let start = c .before .before .before in
     let z : ℤ = start .args .z in
@@ -29,6 +30,9 @@ room c =
 
 parts-of-requires : tie.Need-parts-of-requires
 parts-of-requires c κs = search needs
+
+add-first : tie.Need-add-first
+add-first c = omega (arith, room c)
 
 slice-write-out : tie.Need-slice-write-out
 slice-write-out c = omega (arith, room c, length-append (digits (c .parts-of .result .value)) (space ∷ []))
@@ -45,8 +49,9 @@ part-write-spaced-end c = search needs
 write-spaced-requires : tie.Need-write-spaced-requires
 write-spaced-requires c κs =
     let at = c .before in
-    let signed : List ℕ = set (at .before .before .before .args .out .now) 0 minus in
-    (at .before .before .before .pre .0, rw (mid-len (at .parts-of .result .sign) (length signed) signed (omega arith), length-set) (omega (arith, room at)))
+    let start = at .before .before .before in
+    let signed : List ℕ = set (start .args .out .now) (start .args .at) minus in
+    (start .pre .0, rw (mid-len (start .args .at + at .parts-of .result .sign) (length signed) signed (omega arith), length-set) (omega (arith, room at)))
 
 add-result : tie.Need-add-result
 add-result c =
@@ -56,26 +61,27 @@ add-result c =
 same-length : tie.Need-same-length
 same-length c =
     let at = c .before .before .before .before in
-    let old : List ℕ = at .before .before .before .args .out .now in
-    let signed : List ℕ = set old 0 minus in
-    let sign : ℕ = at .parts-of .result .sign in
+    let start = at .before .before .before in
+    let old : List ℕ = start .args .out .now in
+    let signed : List ℕ = set old (start .args .at) minus in
+    let first : ℕ = start .args .at + at .parts-of .result .sign in
     let written = c .before .before .write-spaced in
-    same-len-mid sign (length signed - sign) signed (written .last .0) (written .kept .0) ∙ length-set old 0 minus
+    same-len-mid first (length signed - first) signed (written .last .0) (written .kept .0) ∙ length-set old (start .args .at) minus
 
 returns : tie.Need-returns
 returns c =
     let at = c .before .before .before .before in
     let start = at .before .before .before in
-    let old : List ℕ = start .args .out .now in
     let written = c .before .before .write-spaced in
     rw (parts-are at)
-    (wrote-signed (start .args .z) (space ∷ []) old (written .last .0) (written .result) (slice-write-out at) (rw (parts-are at) at (written .ensures)))
+    (wrote-signed (start .args .z) (space ∷ []) (start .args .out .now) (written .last .0) (start .args .at) (written .result) (slice-write-out at) (rw (parts-are at) at (written .ensures)))
 
 pub write-signed-spaced-spec : {M : Type 1} → statement M
 write-signed-spaced-spec =
     tie.close
     (tie.spec
     parts-of-requires
+    add-first
     slice-write-out
     sub-write-spaced
     part-write-spaced-start

@@ -1,8 +1,8 @@
--- `group_counts::count_first` meets its contract.
+-- `group_counts::count_later_pairs` meets its contract.
 use Rattle.model.specs.Groups.{inDepth}
 use borrow.Author.Needs.{needs}
-use Rattle.group_counts.proofs.count_first.Statement.{statement}
-use Rattle.group_counts.proofs.count_first.Tie as tie
+use Rattle.group_counts.proofs.count_later_pairs.Statement.{statement}
+use Rattle.group_counts.proofs.count_later_pairs.Tie as tie
 
 count-group-requires : tie.Need-count-group-requires
 unfolding inDepth
@@ -21,6 +21,6 @@ same-length c = search needs
 returns : tie.Need-returns
 returns c = search needs
 
-pub count-first-spec : {M : Type 1} → statement M
-count-first-spec =
+pub count-later-pairs-spec : {M : Type 1} → statement M
+count-later-pairs-spec =
     tie.close (tie.spec count-group-requires count-group-requires-2 add-result same-length returns)

@@ -1,8 +1,8 @@
--- `clause_writer::put_numbers` meets its contract: three numbers, and the end mark.
+-- `clause_writer::put_two_numbers` meets its contract: two numbers, and the end mark.
 use borrow.Author.Needs.{needs}
-use Rattle.clause_writer.proofs.Wrote.{wrote-then, written-numbers}
-use Rattle.clause_writer.proofs.put_numbers.Statement.{statement}
-use Rattle.clause_writer.proofs.put_numbers.Tie as tie
+use Rattle.clause_writer.proofs.Wrote.{wrote-then, written-two-numbers}
+use Rattle.clause_writer.proofs.put_two_numbers.Statement.{statement}
+use Rattle.clause_writer.proofs.put_two_numbers.Tie as tie
 
 put-number-requires : tie.Need-put-number-requires
 put-number-requires c κs = search needs
@@ -24,24 +24,6 @@ put-number-requires-2 c κs = search needs
 
 add-j : tie.Need-add-j
 add-j c = search needs
-
-mul-put-number-2 : tie.Need-mul-put-number-2
-mul-put-number-2 c = search needs
-
-sub-put-number-2 : tie.Need-sub-put-number-2
-sub-put-number-2 c = search needs
-
-part-put-number-start-2 : tie.Need-part-put-number-start-2
-part-put-number-start-2 c = search needs
-
-part-put-number-end-2 : tie.Need-part-put-number-end-2
-part-put-number-end-2 c = search needs
-
-put-number-requires-3 : tie.Need-put-number-requires-3
-put-number-requires-3 c κs = search needs
-
-add-k : tie.Need-add-k
-add-k c = search needs
 
 mul-put-mark : tie.Need-mul-put-mark
 mul-put-mark c = search needs
@@ -66,13 +48,12 @@ same-length c = search needs
 
 returns : tie.Need-returns
 returns c =
-    let first = c .before .before .before .before .before .before .before .before .before .before .put-number .ensures .0 in
-    let second = c .before .before .before .before .before .before .before .put-number2 .ensures .0 in
-    let third = c .before .before .before .before .put-number3 .ensures .0 in
-    (rw written-numbers (wrote-then (wrote-then (wrote-then first second) third) (c .before .put-mark .ensures .0)), search needs)
+    let first = c .before .before .before .before .before .before .before .put-number .ensures .0 in
+    let second = c .before .before .before .before .put-number2 .ensures .0 in
+    (rw written-two-numbers (wrote-then (wrote-then first second) (c .before .put-mark .ensures .0)), search needs)
 
-pub put-numbers-spec : {M : Type 1} → statement M
-put-numbers-spec =
+pub put-two-numbers-spec : {M : Type 1} → statement M
+put-two-numbers-spec =
     tie.close
     (tie.spec
     put-number-requires
@@ -82,12 +63,6 @@ put-numbers-spec =
     part-put-number-end
     put-number-requires-2
     add-j
-    mul-put-number-2
-    sub-put-number-2
-    part-put-number-start-2
-    part-put-number-end-2
-    put-number-requires-3
-    add-k
     mul-put-mark
     sub-put-mark
     part-put-mark-start

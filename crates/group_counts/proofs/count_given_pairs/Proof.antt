@@ -1,0 +1,58 @@
+-- `group_counts::count_given_pairs` meets its contract: two classes of pairs.
+use Rattle.model.specs.Groups.{inDepth}
+use Rattle.netlist.specs.NetOf.{netOf}
+use Rattle.clause_variables.proofs.Start.{start-given}
+use Rattle.group_counts.proofs.Counted.{given-counted}
+use borrow.Author.Needs.{needs}
+use Rattle.group_counts.proofs.count_given_pairs.Statement.{statement}
+use Rattle.group_counts.proofs.count_given_pairs.Tie as tie
+
+count-group-requires : tie.Need-count-group-requires
+unfolding inDepth
+count-group-requires c κs = search needs
+
+count-group-requires-2 : tie.Need-count-group-requires-2
+unfolding inDepth
+count-group-requires-2 c κs = search needs
+
+product-requires : tie.Need-product-requires
+product-requires c κs = search needs
+
+other-pairs-requires : tie.Need-other-pairs-requires
+other-pairs-requires c κs = search needs
+
+product-requires-2 : tie.Need-product-requires-2
+product-requires-2 c κs = search needs
+
+add-result : tie.Need-add-result
+add-result c = search needs
+
+same-length : tie.Need-same-length
+same-length c = search needs
+
+returns : tie.Need-returns
+unfolding netOf
+returns c =
+    let p = c .before .before .before .before .before .before .before .before .before .pre in
+    let first = c .product2 .ensures in
+    let second = c .before .before .product .ensures in (
+      (
+        rw (first .0, second .0, c .before .other-pairs .ensures .0)
+            (given-counted (p .0) _ (start-given _ _ (p .1)) (c .before .before .before .before .before .before .before .before .before .args .depth) _ _ (c .before .before .before .before .before .before .before .count-group .ensures .0 .0) (c .before .before .before .before .count-group2 .ensures .0 .0)),
+        search needs,
+      ),
+      search needs,
+    )
+
+pub count-given-pairs-spec : {M : Type 1} → statement M
+count-given-pairs-spec =
+    tie.close
+    (tie.spec
+    count-group-requires
+    count-group-requires-2
+    product-requires
+    other-pairs-requires
+    product-requires-2
+    add-result
+    same-length
+    returns)

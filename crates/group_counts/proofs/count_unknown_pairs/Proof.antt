@@ -1,0 +1,67 @@
+-- `group_counts::count_unknown_pairs` meets its contract: four classes of pairs.
+use Rattle.model.specs.Groups.{inDepth}
+use Rattle.group_counts.proofs.Counted.{unknown-counted}
+use borrow.Author.Needs.{needs}
+use Rattle.group_counts.proofs.count_unknown_pairs.Statement.{statement}
+use Rattle.group_counts.proofs.count_unknown_pairs.Tie as tie
+
+count-group-requires : tie.Need-count-group-requires
+unfolding inDepth
+count-group-requires c κs = search needs
+
+count-later-pairs-requires : tie.Need-count-later-pairs-requires
+count-later-pairs-requires c κs = search needs
+
+count-group-requires-2 : tie.Need-count-group-requires-2
+unfolding inDepth
+count-group-requires-2 c κs = search needs
+
+sub-above : tie.Need-sub-above
+sub-above c = search needs
+
+product-requires : tie.Need-product-requires
+product-requires c κs = search needs
+
+add-result : tie.Need-add-result
+add-result c = search needs
+
+other-pairs-requires : tie.Need-other-pairs-requires
+other-pairs-requires c κs = search needs
+
+product-requires-2 : tie.Need-product-requires-2
+product-requires-2 c κs = search needs
+
+add-result-2 : tie.Need-add-result-2
+add-result-2 c = search needs
+
+same-length : tie.Need-same-length
+same-length c = search needs
+
+returns : tie.Need-returns
+returns c =
+    let p = c .before .before .before .before .before .before .before .before .before .before .before .before .pre in
+    let first = c .product2 .ensures in
+    let second = c .before .before .product .ensures in (
+      (
+        rw (first .0, second .0, c .before .other-pairs .ensures .0)
+            (unknown-counted _ (c .before .before .before .before .before .before .before .before .before .before .before .before .args .depth) _ _ _ (p .1) (c .before .before .before .before .before .before .before .before .before .before .count-group .ensures .0 .0) (c .before .before .before .before .before .before .before .count-later-pairs .ensures .0 .0) (c .before .before .before .before .count-group2 .ensures .0 .0)),
+        search needs,
+      ),
+      search needs,
+    )
+
+pub count-unknown-pairs-spec : {M : Type 1} → statement M
+count-unknown-pairs-spec =
+    tie.close
+    (tie.spec
+    count-group-requires
+    count-later-pairs-requires
+    count-group-requires-2
+    sub-above
+    product-requires
+    add-result
+    other-pairs-requires
+    product-requires-2
+    add-result-2
+    same-length
+    returns)

@@ -1,0 +1,130 @@
+-- `group_pair::put_agreed_reads` meets its contract. The loop has written the bits passed.
+use Prim.Native.Nat.{_-_}
+use native.Mathlib.Omega.{arith}
+use borrow.Author.Needs.{needs}
+use Rattle.netlist.specs.NetOf.{netOf}
+use Rattle.literals.specs.Lit.{literalOf}
+use Rattle.clause_variables.specs.PortOf.{portOf}
+use Rattle.clause_variables.proofs.Room.{wire-has-number, numbered}
+use Rattle.clause_writer.proofs.Turns.{Turns, turns-start, turns-room, turns-count, turns-next, turns-end}
+use Rattle.group_pair.proofs.OfPair.{agreedBit, agreed-bits}
+use Rattle.group_pair.proofs.put_agreed_reads.Statement.{statement}
+use Rattle.group_pair.proofs.put_agreed_reads.Tie as tie
+
+abbrev Inv-loop : tie.InvT-loop
+Inv-loop out₀ j i q addressEqual earlier later before reading first read n at₀ t₀ out at t = Turns n 12 (agreedBit (literalOf addressEqual) (literalOf earlier) (literalOf later) reading before (first .0) read) out₀ out t at
+
+abbrev μ-loop : tie.MeasureT-loop
+μ-loop out₀ j i q addressEqual earlier later before reading first read n at₀ t₀ out at t = n - t
+
+pair-base-requires : tie.Need-pair-base-requires Inv-loop μ-loop
+pair-base-requires c κs = search needs
+
+in-pair-requires : tie.Need-in-pair-requires Inv-loop μ-loop
+in-pair-requires c κs = search (needs, numbered)
+
+none-since-requires : tie.Need-none-since-requires Inv-loop μ-loop
+none-since-requires c κs = let is = c .before .before .pre .0 in (is .fits, omega arith, omega (arith, is .earlier, is .depth))
+
+none-since-requires-2 : tie.Need-none-since-requires-2 Inv-loop μ-loop
+none-since-requires-2 c κs = let is = c .before .before .before .pre .0 in (is .fits, omega arith, is .depth)
+
+frame-base-requires : tie.Need-frame-base-requires Inv-loop μ-loop
+frame-base-requires c κs = let is = c .before .before .before .before .pre .0 in (is .fits .limits .sizes, omega (arith, is .earlier, is .depth))
+
+frame-base-requires-2 : tie.Need-frame-base-requires-2 Inv-loop μ-loop
+frame-base-requires-2 c κs = let is = c .before .before .before .before .before .pre .0 in (is .fits .limits .sizes, omega (arith, is .depth))
+
+first-read-wire-requires : tie.Need-first-read-wire-requires Inv-loop μ-loop
+first-read-wire-requires c κs = c .before .before .before .before .before .before .pre .0 .fits .limits .sizes
+
+loop-holds : tie.Need-loop-holds Inv-loop μ-loop
+loop-holds c = turns-start _ _ _ _ (c .before .before .before .before .before .before .before .pre .1)
+
+mul-put-agreed-bit : tie.Need-mul-put-agreed-bit Inv-loop μ-loop
+mul-put-agreed-bit c = search needs
+
+sub-put-agreed-bit : tie.Need-sub-put-agreed-bit Inv-loop μ-loop
+sub-put-agreed-bit c = search needs
+
+part-put-agreed-bit-start : tie.Need-part-put-agreed-bit-start Inv-loop μ-loop
+part-put-agreed-bit-start c = search needs
+
+part-put-agreed-bit-end : tie.Need-part-put-agreed-bit-end Inv-loop μ-loop
+part-put-agreed-bit-end c = search needs
+
+add-offset : tie.Need-add-offset Inv-loop μ-loop
+unfolding netOf portOf
+add-offset c = search needs
+
+offset-requires : tie.Need-offset-requires Inv-loop μ-loop
+unfolding netOf portOf
+offset-requires c κs = search needs
+
+put-agreed-bit-requires : tie.Need-put-agreed-bit-requires Inv-loop μ-loop
+unfolding netOf portOf
+put-agreed-bit-requires c κs =
+    let is = c .before .before .before .before .before .before .before .before .before .before .before .pre .0 in
+    let h = c .before .before .loop-test .taken in (
+      c .before .before .before .before .before .before .before .before .before .in-pair .ensures .1,
+      c .before .before .before .before .before .before .before .before .none-since .ensures .1,
+      c .before .before .before .before .before .before .before .none-since2 .ensures .1,
+      rw (c .before .before .before .before .before .frame-base2 .ensures) (wire-has-number _ (is .fits .limits .sizes) _ _ (is .depth) (omega arith)),
+      rw (c .before .before .before .before .before .before .frame-base .ensures) (wire-has-number _ (is .fits .limits .sizes) _ _ (omega arith) (omega arith)),
+      omega arith,
+      turns-room (c .before .before .before .loop .inv) h,
+    )
+
+add-at : tie.Need-add-at Inv-loop μ-loop
+unfolding netOf portOf
+add-at c =
+    let count = turns-count (c .before .before .before .before .before .loop .inv) (c .before .before .before .before .loop-test .taken) (c .before .put-agreed-bit .ensures .1) in
+    search needs
+
+add-t : tie.Need-add-t Inv-loop μ-loop
+unfolding netOf
+add-t c = omega (arith, c .before .before .before .before .loop-test .taken, c .before .before .before .before .before .before .before .before .before .before .before .before .before .pre .0 .fits .limits .sizes .n-most)
+
+loop-less : tie.Need-loop-less Inv-loop μ-loop
+loop-less c = search needs
+
+loop-again : tie.Need-loop-again Inv-loop μ-loop
+unfolding netOf portOf
+loop-again c =
+    turns-next (c .before .before .before .before .before .loop .inv) (c .before .before .before .before .loop-test .taken) (rw (c .before .before .offset .ensures) at (c .before .put-agreed-bit .ensures))
+
+same-length : tie.Need-same-length Inv-loop μ-loop
+same-length c = search needs
+
+returns : tie.Need-returns Inv-loop μ-loop
+returns c =
+    let a = c .before .before .before .before .before .before .before .before .before .args in
+    rw (agreed-bits (a .net) (a .port) (a .j) (a .i) _ (c .before .before .before .before .before .before .before .before .pair-base .ensures) (c .before .before .before .before .before .before .before .in-pair .ensures .0) (c .before .before .before .before .before .before .none-since .ensures .0) (c .before .before .before .before .before .none-since2 .ensures .0) (c .before .before .before .frame-base2 .ensures) (c .before .before .before .before .frame-base .ensures) (c .before .before .first-read-wire .ensures)) (turns-end (c .before .loop .inv) (omega arith))
+
+pub put-agreed-reads-spec : {M : Type 1} → statement M
+put-agreed-reads-spec =
+    tie.close
+    (tie.spec
+    Inv-loop
+    μ-loop
+    pair-base-requires
+    in-pair-requires
+    none-since-requires
+    none-since-requires-2
+    frame-base-requires
+    frame-base-requires-2
+    first-read-wire-requires
+    loop-holds
+    mul-put-agreed-bit
+    sub-put-agreed-bit
+    part-put-agreed-bit-start
+    part-put-agreed-bit-end
+    add-offset
+    offset-requires
+    put-agreed-bit-requires
+    add-at
+    add-t
+    loop-less
+    loop-again
+    same-length
+    returns)
