@@ -43,6 +43,11 @@ module _ {c : Netlist} (ok : Accepted c) {y z : Said} (same : (v : ℕ) → y .u
       only : {b : Bool} → (true && b) ≡ false → b ≡ false
       only e = e
 
+  -- RE in frame 0 is that of the replay, whatever the memory
+  RE-first : (words : ℕ → ℕ) → codeValue (replayed c y 0) (c .RE) ≡ codeValue (runFrom c y words 0) (c .RE)
+  unfolding run stateAt initial
+  RE-first words = RE-alike ok (begunFrom c y (startWords c y 1)) (begunFrom c y words) (feedOf c (y .value) 0) (feedOf c (y .value) 0) (λ l h. refl) (λ x h. refl)
+
   -- where no frame before has a fault, they are said alike
   said-alike : (i : ℕ) → ((j : ℕ) → j < i → feedFault c y j ≡ false) → SaidAlike c y z i
   unfolding wordSaid idleOf
@@ -53,11 +58,6 @@ module _ {c : Netlist} (ok : Accepted c) {y z : Said} (same : (v : ℕ) → y .u
         idle-said = λ h words r. reads-alike 0 (none 0 h) (idle-fed (fills c y 0) (RE-first words ∙ r));
       }
     where
-      -- RE in frame 0 is that of the replay, whatever the memory
-      RE-first : (words : ℕ → ℕ) → codeValue (replayed c y 0) (c .RE) ≡ codeValue (runFrom c y words 0) (c .RE)
-      unfolding run stateAt initial
-      RE-first words = RE-alike ok (begunFrom c y (startWords c y 1)) (begunFrom c y words) (feedOf c (y .value) 0) (feedOf c (y .value) 0) (λ l h. refl) (λ x h. refl)
-
       idle-fed : (b : Bool) → codeValue (replayed c y 0) (c .RE) ≡ false → (b || (true && not (codeValue (replayed c y 0) (c .RE)))) ≡ true
       idle-fed true e = refl
       idle-fed false e = rw e
