@@ -28,23 +28,23 @@ any-same (suc n) same = ap₂ _||_ (any-same n (λ x h. same x (omega arith))) (
 abbrev pub withWord : ℕ → ℕ → State → State
 withWord x w s = record { latch = s .latch; memory = λ y. cond (eqb y x) w (s .memory y); held = s .held }
 
--- a frame that touches a word is at its address
-apart : (b r w : Bool) → (b && (r || w)) ≡ false → (r || w) ≡ true → b ≡ true → ⊥
-apart b r w e q h = true≢false (sym (rw (h, q)) ∙ e)
+-- of a conjunction that is false, not both are true
+apart : (b q : Bool) → (b && q) ≡ false → q ≡ true → b ≡ true → ⊥
+apart b q e h k = true≢false (sym (rw (h, k)) ∙ e)
 
 or-right : (r w : Bool) → w ≡ true → (r || w) ≡ true
 or-right true w e = refl
 or-right false w e = e
 
 module _ (c : Netlist) (v : Values) (x : ℕ) (none : touches c v x ≡ false) where
+  -- a frame that does not touch a word neither reads nor writes it
   not-read : codeValue v (c .RE) ≡ true → addressOf c (port c) v ≡ x → ⊥
   unfolding touches
-  not-read r e = apart _ (codeValue v (c .RE)) (codeValue v (c .WE)) none (rw r) (eq-eqb x (addressOf c (port c) v) (sym e))
+  not-read r e = apart _ _ none (rw r) (eq-eqb x (addressOf c (port c) v) (sym e))
 
   not-written : codeValue v (c .WE) ≡ true → addressOf c (port c) v ≡ x → ⊥
   unfolding touches
-  not-written w e =
-      apart _ (codeValue v (c .RE)) (codeValue v (c .WE)) none (or-right (codeValue v (c .RE)) _ w) (eq-eqb x (addressOf c (port c) v) (sym e))
+  not-written w e = apart _ _ none (or-right (codeValue v (c .RE)) (codeValue v (c .WE)) w) (eq-eqb x (addressOf c (port c) v) (sym e))
 
   -- a step leaves the word
   step-untouched : (w : ℕ) (s : State) → step c (withWord x w s) v ≡ withWord x w (step c s v)

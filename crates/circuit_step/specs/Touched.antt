@@ -1,4 +1,4 @@
--- Which words of the memory a run has read or written (RULES Y11). Cited by what a replay fills from an answer (replay_frame/specs/Replay).
+-- Which words of the memory a run has read or written (RULES Y12). Cited by what a replay fills from an answer (replay_frame/specs/Replay).
 use Prim.Native.Nat.{ℕ}
 use mathlib.Core.Bool.{Bool, _&&_, _||_}
 use lib.Dec.{eqb}

@@ -202,8 +202,8 @@ module _ {c : Netlist} (ok : Accepted c) (y : Said) (i : ℕ) where
       (record {
         size = length-of (codeValue (replayed c y i) (c .RE) || codeValue (replayed c y i) (c .WE)) ∙ marks .size;
         has = λ x h. rw add-one (
-          at x (codeValue (replayed c y i) (c .RE) || codeValue (replayed c y i) (c .WE))
-          ∙ ap (λ b. b || touches c (replayed c y i) x) (marks .has x h ∙ sym (touched-on x)));
+            at x (codeValue (replayed c y i) (c .RE) || codeValue (replayed c y i) (c .WE))
+            ∙ ap (λ b. b || touches c (replayed c y i) x) (marks .has x h ∙ sym (touched-on x)));
       })
     where
       length-of : (b : Bool) → length (cond b (set touched (addressOf c (port c) (replayed c y i)) true) touched) ≡ length touched

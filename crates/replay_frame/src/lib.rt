@@ -205,7 +205,13 @@ pub fn step_fed(
 }
 
 // What frame i shows, by the table of its values.
-pub fn judge_frame(values: &WireValues, net: Netlist, signs: &SignTable, i: u32, filled: bool) -> FrameVerdict
+pub fn judge_frame(
+    values: &WireValues,
+    net: Netlist,
+    signs: &SignTable,
+    i: u32,
+    filled: bool,
+) -> FrameVerdict
     requires { ⌜ WithinLimits (alone net) × (i ≤ 255) ⌝ }
     ensures { λ r. ⌜ FrameJudged (alone net) (unclearIn (now (signs .entry))) i filled (entry (now (values .entry))) r ⌝ }
 {

@@ -56,9 +56,11 @@ returns-2 : tie.Need-returns-2
 unfolding netOf addressOf
 returns-2 c =
     let start = c .before .before .before .before .before .before .before .before .before .before .before in
-    let first = c .before .before .before .before .before .before .evaluate .ensures in
-    (filled-by (start .pre .0) first (c .before .before .before .before .before .before .before .before .if1 .left)
-    (sym (c .before .before .before .if2 .taken) ∙ c .before .before .before .before .reads-untouched .ensures) (rw (c .before .address-of .ensures, c .word-said .ensures)), first .size)
+    let first = c .before .before .before .before .before .before .evaluate .ensures in (
+      filled-by (start .pre .0) first (c .before .before .before .before .before .before .before .before .if1 .left)
+          (sym (c .before .before .before .if2 .taken) ∙ c .before .before .before .before .reads-untouched .ensures) (rw (c .before .address-of .ensures, c .word-said .ensures)),
+      first .size,
+    )
 
 returns-3 : tie.Need-returns-3
 unfolding netOf addressOf
