@@ -78,6 +78,8 @@ compile reference tests/reference/main.rs && run "the second implementation's ow
 compile runner tests/runner/main.rs &&
   run "the programs against the second implementation" runner timeout 900 "$logs/runner" target/bin/frames target/bin/replay docs/FORMAT.md
 
+run "the program import_aag" import timeout 120 bash tests/import.sh target/bin/import_aag
+
 echo "== the static library: rt staticlib marrubigai"
 if rt staticlib marrubigai > "$logs/staticlib.out" 2>&1; then
   pass

@@ -74,6 +74,7 @@ for chip in faulty repaired; do
   "$import_aag" 3 8 0 < "$work/$chip.aag" > "$work/$chip.sheet"
   check "$chip: import_aag prints its sheet" cmp "$work/imported.sheet" "$work/$chip.sheet"
 done
+check "an unknown start is an empty field" cmp <("$import_aag" 3 8 < "$work/repaired.aag") <(sed '2s/.\{10\}$/          /' "$work/repaired.sheet")
 answer() { bash scripts/find.sh "$work/$1.sheet" "$2" > "$work/found" 2>&1; echo $?; }
 check "faulty: no run in one frame" same 20 "$(answer faulty 0)"
 check "faulty: a run in two frames" same 10 "$(answer faulty 1)"

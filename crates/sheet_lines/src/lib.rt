@@ -98,7 +98,7 @@ pub fn row_of(kind: Kind) -> usize
     }
 }
 
-// The table: at every row and column it says what the table in RULES S5 says.
+// The table: at every row and column it says what RULES S5 and S11 say.
 fn contents() -> [[u8; 3]; 7]
     ensures { λ table. ⌜ ContentsAsPrinted table ⌝ }
 {
