@@ -1,7 +1,7 @@
 #!/usr/bin/env bash
 # The script that looks for a run (scripts/find.sh) and those that show it (scripts/run.awk, trace.awk): whatever the sheet is called, each
 # exit status, each refusal with its word, its line and its hint, the earliest frame, idle read bits, an unknown start, answers that are not
-# the chip's, and everything that can be missing. tests/waveform.sh has the waveform's values.
+# the chip's, and everything that can be missing. tests/waveform has the waveform's values.
 # Arguments: the programs `frames` and `replay`.
 set -u
 frames=$(readlink -f "$1")
