@@ -128,7 +128,8 @@ marrubigai_count_reply marrubigai_write_group_at(marrubigai_netlist net, const m
 marrubigai_literal_reply marrubigai_literal_at(marrubigai_netlist net, marrubigai_position position, marrubigai_code code);
 
 /* writes the one sheet that stands for a record with its lists, and answers its length, 32 x (latches + gates + m + n + 3) bytes: 9 where the
- * buffer is shorter. marrubigai_read of it gives the same record and lists, and a sheet that was read is written as the same bytes. */
+ * buffer is shorter. marrubigai_read of it gives the same record and lists in all entries that
+ * are used, and a sheet that was read is written as the same bytes. */
 marrubigai_count_reply marrubigai_write_sheet(marrubigai_netlist net, const marrubigai_latch *latches, size_t latch_count,
                                               const marrubigai_gate *gates, size_t gate_count, uint8_t *out, size_t room);
 

@@ -36,7 +36,7 @@ prints "a start word" "$(sheet 1)" "" 1 1 1 < <(printf "$chip")
 prints "the start word 0" "$(sheet 0)" "" 1 1 0 < <(printf "$chip")
 prints "no start word" "$(sheet)" "" 1 1 < <(printf "$chip")
 prints "a comment behind it" "$(sheet 0)" "" 1 1 0 < <(printf "${chip}c\nsome text, no line feed")
-# a latch, read bits behind it, and gates: 8 is wire 3, the latch 6 is wire 2
+# a latch, read bits behind it, and gates: the latch, literal 6, is wire 2, the read bit, literal 4, wire 3
 prints "wires in their order" "$(line N 1 1 2; line M 1 1 0; line L 5 0; line G 2 6; line G 8 5; line A 2; line D 10; line C 11 1 7)" "" 1 1 0 \
   < <(printf 'aag 5 2 1 5 2\n2\n4\n6 7\n2\n10\n11\n1\n5\n8 2 4\n10 8 7\n')
 

@@ -209,8 +209,8 @@ if yosys -V | grep -q '^Yosys 0\.23 '; then
     plain { print > shown }' docs/VERILOG.md
   check "the page has commands" [ "$(wc -l < "$work/commands")" -eq 9 ]
   # another version of the solver may choose another run
-  if [ "$(cadical --version)" = sc2021 ]; then shown=cat; else shown="grep -v ^frame\|^ "; fi
-  check "the page's commands" diff <($shown "$work/shown") <(bash "$work/commands" 2>&1 | $shown)
+  shown() { if [ "$(cadical --version)" = sc2021 ]; then cat; else grep -v '^frame\|^ '; fi; }
+  check "the page's commands" diff <(shown < "$work/shown") <(bash "$work/commands" 2>&1 | shown)
   check "the page's waveform" grep -q '^\$enddefinitions' target/faulty.vcd
 fi
 

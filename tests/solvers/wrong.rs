@@ -1,4 +1,4 @@
-//! The wrong generators of RULES M1 to M5 and M9 to M11, and those of unknown starts (K7): the test that the program passes must
+//! The wrong generators of RULES M1 to M5 and M9 to M14: the test that the program passes must
 //! catch each of them.
 
 use super::cases::{small_cases, unknown_cases, Case};

@@ -92,7 +92,7 @@ fn fill(
 
 // Reads a text, for lists that have room for so many records: its record, and its codes into unpacked lists of no codes, which are
 // scratch after a refusal. No text that passes 13 meets 5, so that it need not be tested.
-pub fn import_codes(
+fn import_codes(
     text: &[u8],
     m: u32,
     n: u32,

@@ -10,6 +10,7 @@ use Rattle.refusals.specs.declared.Verdict.the-variants.{Passed, Refused}
 use Rattle.dimacs.specs.Text.{refusalText}
 use Rattle.aiger_netlist.specs.TextNetlist.{aagNet}
 use Rattle.aiger_netlist.specs.ImportVerdict.{importVerdict}
+use Rattle.aiger_import.specs.ImportCall.{importedWord}
 use Rattle.sheet_writer.specs.SheetText.{sheetText}
 
 -- the netlist's sheet, or the refusal
@@ -19,7 +20,8 @@ sheetOrRefusal (Refused r p) c = refusalText (refusalNumber r) p
 
 -- lists of 600 records each are the program's own
 unfoldable pub importText : List ℕ → ℕ → ℕ → ℕ → ℕ → List ℕ
-importText s m n word unknown = sheetOrRefusal (importVerdict s m n word unknown mostWires mostWires) (aagNet s m n word unknown)
+importText s m n word unknown =
+    sheetOrRefusal (importVerdict s m n (importedWord word unknown) unknown mostWires mostWires) (aagNet s m n (importedWord word unknown) unknown)
 
 -- they are long enough: the verdict is that of an import into lists of any greater length, so that 9 does not occur
 abbrev pub RoomSuffices : Type 0

@@ -15,7 +15,7 @@ pub fn write_import(out: &mut [u8], text: &[u8], m: u32, n: u32, word: u32, unkn
 {
     let mut latches = sheet_tests::no_codes();
     let mut gates = sheet_tests::no_codes();
-    let sheet = aiger_import::import_codes(
+    let sheet = aiger_import::import_text(
         text,
         m,
         n,

@@ -17,7 +17,7 @@ use Rattle.sheet_fields.specs.declared.Field.{Field}
 use Rattle.sheet_fields.specs.declared.Field.the-variants.{Empty, Filled, Misprinted}
 use Rattle.sheet_fields.proofs.Fields.{fieldOf-field, fieldOf-empty, field-fieldOf, empty-fieldOf}
 use Rattle.sheet_lines.specs.Letters.{Content, mustBeEmpty, mustBeFilled, mayBeEmpty, contentNumber, letterOf, kindOf, isKnown, contentOf}
-use Rattle.sheet_lines.specs.Lines.{fieldIn, asWanted, allAsWanted, valueOf, leftEmpty, lineWith, lineOf, written, fieldText, lineText, ReadAsWritten}
+use Rattle.sheet_lines.specs.Lines.{fieldIn, asWanted, allAsWanted, valueOf, leftEmpty, lineWith, lineOf, printedField, fieldText, lineText, ReadAsWritten}
 use Rattle.sheet_lines.specs.declared.Kind.{Kind}
 use Rattle.sheet_lines.specs.declared.Kind.the-variants.{Sizes, Memory, Latch, Gate, Address, WriteData, Control, Unknown}
 use Rattle.sheet_lines.specs.declared.ParsedLine.the-variants.{Misprint, Read}
@@ -78,10 +78,10 @@ lineOf-no-feed s l n = rw (eq-eqb (length s) 32 l, ne-eqb (getD s 31 0) lineFeed
 -- ten columns that are as wanted are the text of what is read there
 column-text :
     (w : Content) (f : List ℕ) → length f ≡ 10 → asWanted w (fieldOf f) ≡ true →
-    f ≡ fieldText (written w (leftEmpty w (fieldOf f)) (valueOf (fieldOf f)))
+    f ≡ fieldText (printedField w (leftEmpty w (fieldOf f)) (valueOf (fieldOf f)))
 column-text w f l h = by-field w (fieldOf f) refl h
   where
-    by-field : (w : Content) (r : Field) → fieldOf f ≡ r → asWanted w r ≡ true → f ≡ fieldText (written w (leftEmpty w r) (valueOf r))
+    by-field : (w : Content) (r : Field) → fieldOf f ≡ r → asWanted w r ≡ true → f ≡ fieldText (printedField w (leftEmpty w r) (valueOf r))
     by-field mustBeEmpty Empty e h = empty-fieldOf f l e
     by-field mustBeFilled Empty e h = absurd (false≢true h)
     by-field mayBeEmpty Empty e h = empty-fieldOf f l e
@@ -93,7 +93,7 @@ column-text w f l h = by-field w (fieldOf f) refl h
     by-field mayBeEmpty Misprinted e h = absurd (false≢true h)
 
 -- the first two fields are of one content for each letter: whether the third is left empty is nothing to them
-firm : (k : Kind) (d e x : ℕ) → (written (contentOf k 0) d x ≡ written (contentOf k 0) e x) × (written (contentOf k 1) d x ≡ written (contentOf k 1) e x)
+firm : (k : Kind) (d e x : ℕ) → (printedField (contentOf k 0) d x ≡ printedField (contentOf k 0) e x) × (printedField (contentOf k 1) d x ≡ printedField (contentOf k 1) e x)
 unfolding contentOf
 firm Sizes d e x = (refl, refl)
 firm Memory d e x = (refl, refl)
@@ -179,18 +179,18 @@ lineText-lineOf s k a b c e h =
     let found = line .1 in
     let letter-kind : Kind = kindOf (getD s 0 0) in
     let letter : getD s 0 0 ≡ letterOf k = sym (letterOf-kindOf (getD s 0 0) (found .known)) ∙ ap letterOf (line .0) in
-    let first : take 10 (drop 1 s) ≡ fieldText (written (contentOf k 0) e a) =
+    let first : take 10 (drop 1 s) ≡ fieldText (printedField (contentOf k 0) e a) =
     column-text (contentOf letter-kind 0) (take 10 (drop 1 s)) (rw (length-take, length-drop) (omega arith)) (found .first)
     ∙ ap fieldText (firm letter-kind (leftEmpty (contentOf letter-kind 0) (fieldIn s 0)) e (valueOf (fieldIn s 0)) .0)
-    ∙ ap₂ (λ (k : Kind) (x : ℕ). fieldText (written (contentOf k 0) e x)) (line .0) (found .first-is) in
-    let second : take 10 (drop 11 s) ≡ fieldText (written (contentOf k 1) e b) =
+    ∙ ap₂ (λ (k : Kind) (x : ℕ). fieldText (printedField (contentOf k 0) e x)) (line .0) (found .first-is) in
+    let second : take 10 (drop 11 s) ≡ fieldText (printedField (contentOf k 1) e b) =
     column-text (contentOf letter-kind 1) (take 10 (drop 11 s)) (rw (length-take, length-drop) (omega arith)) (found .second)
     ∙ ap fieldText (firm letter-kind (leftEmpty (contentOf letter-kind 1) (fieldIn s 1)) e (valueOf (fieldIn s 1)) .1)
-    ∙ ap₂ (λ (k : Kind) (x : ℕ). fieldText (written (contentOf k 1) e x)) (line .0) (found .second-is) in
-    let third : take 10 (drop 21 s) ≡ fieldText (written (contentOf k 2) e c) =
+    ∙ ap₂ (λ (k : Kind) (x : ℕ). fieldText (printedField (contentOf k 1) e x)) (line .0) (found .second-is) in
+    let third : take 10 (drop 21 s) ≡ fieldText (printedField (contentOf k 2) e c) =
     column-text (contentOf letter-kind 2) (take 10 (drop 21 s)) (rw (length-take, length-drop) (omega arith)) (found .third)
-    ∙ ap (λ (d : ℕ). fieldText (written (contentOf letter-kind 2) d (valueOf (fieldIn s 2)))) (found .empty-is)
-    ∙ ap₂ (λ (k : Kind) (x : ℕ). fieldText (written (contentOf k 2) e x)) (line .0) (found .third-is) in
+    ∙ ap (λ (d : ℕ). fieldText (printedField (contentOf letter-kind 2) d (valueOf (fieldIn s 2)))) (found .empty-is)
+    ∙ ap₂ (λ (k : Kind) (x : ℕ). fieldText (printedField (contentOf k 2) e x)) (line .0) (found .third-is) in
     line-parts s l ∙ rw (letter, first, second, third, last)
 
 -- a letter, three columns and a last byte: the length, the bytes at both ends, and each column again
@@ -225,7 +225,7 @@ module _ (letter last : ℕ) (a b c : List ℕ) (x : length a ≡ 10) (y : lengt
       (take-at c (last ∷ []) 10 z)
 
 -- a column as it is written is read as what was written, and is as wanted
-fieldOf-written : (w : Content) (e x : ℕ) → x < 2 ^ 32 → fieldOf (fieldText (written w e x)) ≡ written w e x
+fieldOf-written : (w : Content) (e x : ℕ) → x < 2 ^ 32 → fieldOf (fieldText (printedField w e x)) ≡ printedField w e x
 fieldOf-written mustBeEmpty e x h = fieldOf-empty
 fieldOf-written mustBeFilled e x h = fieldOf-field x h
 fieldOf-written mayBeEmpty e x h = by-flag (eqb e 0)
@@ -234,7 +234,7 @@ fieldOf-written mayBeEmpty e x h = by-flag (eqb e 0)
     by-flag true = fieldOf-field x h
     by-flag false = fieldOf-empty
 
-length-written : (w : Content) (e x : ℕ) → x < 2 ^ 32 → length (fieldText (written w e x)) ≡ 10
+length-written : (w : Content) (e x : ℕ) → x < 2 ^ 32 → length (fieldText (printedField w e x)) ≡ 10
 length-written mustBeEmpty e x h = refl
 length-written mustBeFilled e x h = length-field x h
 length-written mayBeEmpty e x h = by-flag (eqb e 0)
@@ -243,7 +243,7 @@ length-written mayBeEmpty e x h = by-flag (eqb e 0)
     by-flag true = length-field x h
     by-flag false = refl
 
-wanted-written : (w : Content) (e x : ℕ) → asWanted w (written w e x) ≡ true
+wanted-written : (w : Content) (e x : ℕ) → asWanted w (printedField w e x) ≡ true
 wanted-written mustBeEmpty e x = refl
 wanted-written mustBeFilled e x = refl
 wanted-written mayBeEmpty e x = by-flag (eqb e 0)
@@ -256,22 +256,22 @@ wanted-written mayBeEmpty e x = by-flag (eqb e 0)
 lineOf-lineText :
     (k : Kind) (a b c e : ℕ) → isKnown k ≡ true → a < 2 ^ 32 → b < 2 ^ 32 → c < 2 ^ 32 →
     lineOf (lineText k a b c e)
-    ≡ Read k (valueOf (written (contentOf k 0) e a)) (valueOf (written (contentOf k 1) e b)) (valueOf (written (contentOf k 2) e c))
-    (leftEmpty (contentOf k 2) (written (contentOf k 2) e c))
+    ≡ Read k (valueOf (printedField (contentOf k 0) e a)) (valueOf (printedField (contentOf k 1) e b)) (valueOf (printedField (contentOf k 2) e c))
+    (leftEmpty (contentOf k 2) (printedField (contentOf k 2) e c))
 unfolding lineText fieldIn
 lineOf-lineText k a b c e h x y z =
     let s : List ℕ = lineText k a b c e in
-    let f : List ℕ = fieldText (written (contentOf k 0) e a) in
-    let g : List ℕ = fieldText (written (contentOf k 1) e b) in
-    let o : List ℕ = fieldText (written (contentOf k 2) e c) in
+    let f : List ℕ = fieldText (printedField (contentOf k 0) e a) in
+    let g : List ℕ = fieldText (printedField (contentOf k 1) e b) in
+    let o : List ℕ = fieldText (printedField (contentOf k 2) e c) in
     let lf : length f ≡ 10 = length-written (contentOf k 0) e a x in
     let lg : length g ≡ 10 = length-written (contentOf k 1) e b y in
     let lo : length o ≡ 10 = length-written (contentOf k 2) e c z in
-    let first : fieldIn s 0 ≡ written (contentOf k 0) e a =
+    let first : fieldIn s 0 ≡ printedField (contentOf k 0) e a =
     ap fieldOf (first-column (letterOf k) lineFeed f g o lf lg lo) ∙ fieldOf-written (contentOf k 0) e a x in
-    let second : fieldIn s 1 ≡ written (contentOf k 1) e b =
+    let second : fieldIn s 1 ≡ printedField (contentOf k 1) e b =
     ap fieldOf (second-column (letterOf k) lineFeed f g o lf lg lo) ∙ fieldOf-written (contentOf k 1) e b y in
-    let third : fieldIn s 2 ≡ written (contentOf k 2) e c =
+    let third : fieldIn s 2 ≡ printedField (contentOf k 2) e c =
     ap fieldOf (third-column (letterOf k) lineFeed f g o lf lg lo) ∙ fieldOf-written (contentOf k 2) e c z in
     lineOf-fields s (length-bytes (letterOf k) lineFeed f g o lf lg lo) (last-byte (letterOf k) lineFeed f g o lf lg lo)
     ∙ rw (kindOf-letterOf k h, first, second, third)

@@ -62,10 +62,10 @@ lineOf s =
     Misprint
 
 -- a line as it is written: a field that may be empty or filled is empty where `e` is not 0
-abbrev pub written : Content → ℕ → ℕ → Field
-written mustBeEmpty e x = Empty
-written mustBeFilled e x = Filled x
-written mayBeEmpty e x = cond (eqb e 0) (Filled x) Empty
+abbrev pub printedField : Content → ℕ → ℕ → Field
+printedField mustBeEmpty e x = Empty
+printedField mustBeFilled e x = Filled x
+printedField mayBeEmpty e x = cond (eqb e 0) (Filled x) Empty
 
 abbrev pub fieldText : Field → List ℕ
 fieldText Empty = emptyField
@@ -74,7 +74,7 @@ fieldText Misprinted = emptyField
 
 unfoldable pub lineText : Kind → ℕ → ℕ → ℕ → ℕ → List ℕ
 lineText k a b c e =
-    letterOf k ∷ fieldText (written (contentOf k 0) e a) ++ fieldText (written (contentOf k 1) e b) ++ fieldText (written (contentOf k 2) e c)
+    letterOf k ∷ fieldText (printedField (contentOf k 0) e a) ++ fieldText (printedField (contentOf k 1) e b) ++ fieldText (printedField (contentOf k 2) e c)
     ++ lineFeed ∷ []
 
 -- the two are one: what is read as a line is its text, and its text is read as the line, with 0 where a field is empty
@@ -82,5 +82,5 @@ pub record ReadAsWritten : Type 0 where
   pub read→text : (s : List ℕ) (k : Kind) (a b c e : ℕ) → lineOf s ≡ Read k a b c e → s ≡ lineText k a b c e
   pub text→read : (k : Kind) (a b c e : ℕ) → isKnown k ≡ true → a < 2 ^ 32 → b < 2 ^ 32 → c < 2 ^ 32
       → lineOf (lineText k a b c e)
-      ≡ Read k (valueOf (written (contentOf k 0) e a)) (valueOf (written (contentOf k 1) e b)) (valueOf (written (contentOf k 2) e c))
-      (leftEmpty (contentOf k 2) (written (contentOf k 2) e c))
+      ≡ Read k (valueOf (printedField (contentOf k 0) e a)) (valueOf (printedField (contentOf k 1) e b)) (valueOf (printedField (contentOf k 2) e c))
+      (leftEmpty (contentOf k 2) (printedField (contentOf k 2) e c))

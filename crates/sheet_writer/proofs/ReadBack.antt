@@ -13,16 +13,15 @@ use Rattle.model.specs.Acceptance.{Accepted}
 use Rattle.model.specs.Agree.{Agree}
 use Rattle.model.proofs.Agree.{accepted-same, latches-same, gates-same}
 use Rattle.refusals.specs.Tests.{refuseIf, _then_, inOrder}
-use Rattle.refusals.specs.declared.Refusal.the-variants.{Ragged, Misprint, OutOfOrder, Size, CodeOutside, MemoryLoop}
+use Rattle.refusals.specs.declared.Refusal.the-variants.{Ragged, Misprint, OutOfOrder, Size, CodeOutside}
 use Rattle.refusals.specs.declared.Verdict.the-variants.{Passed}
 use Rattle.refusals.proofs.Tests.{refuseIf-passes, passed-then, inOrder-passes}
 use Rattle.netlist.specs.Places.{controlLine, lineAt}
-use Rattle.netlist.specs.Faults.{sizeFault, codeFault, loopFault}
+use Rattle.netlist.specs.Faults.{sizeFault, codeFault}
 use Rattle.netlist.proofs.Places.{every-place}
-use Rattle.netlist.proofs.Faults.{Without, sizes-fit, codes-fit, no-loop}
+use Rattle.netlist.proofs.Faults.{Without, sizes-fit, codes-fit}
 use Rattle.netlist_tests.specs.Record.{listsShort}
-use Rattle.netlist_tests.proofs.Record.{testLines-passes}
-use Rattle.netlist_tests.proofs.Acceptance.{lists-long}
+use Rattle.netlist_tests.proofs.Acceptance.{lists-long, port-passes}
 use Rattle.sheet_steps.specs.LineFaults.{faultsAt}
 use Rattle.sheet_steps.proofs.Places.{lineAt-known}
 use Rattle.sheet_parse.specs.Files.{lineCount, lineIn, netIn}
@@ -99,7 +98,7 @@ module _ (c : Netlist) (accepted : Accepted c) where
   end-passes : endVerdict read (lineCount file) ≡ Passed
   end-passes =
       end-whole read (lineCount file) (rw (count, ends) (omega arith))
-      ∙ testLines-passes read MemoryLoop loopFault .1 (no-loop read .1 (read-accepted .noLoop))
+      ∙ port-passes read .1 (read-accepted .noTie, read-accepted .noLoop)
 
   file-passes : fileVerdict file ≡ Passed
   file-passes = file-lines file not-ragged lines-pass ∙ end-passes

@@ -23,7 +23,7 @@ use Rattle.netlist.specs.declared.Line.the-variants as Due
 use Rattle.netlist.proofs.Places.{has-lineAt, at-sizes, at-memory, at-latch, at-gate, at-address, at-data, at-control}
 use Rattle.sheet_fields.specs.declared.Field.the-variants.{Empty, Filled}
 use Rattle.sheet_lines.specs.Letters.{rowOf, Content, mustBeEmpty, mustBeFilled, mayBeEmpty, contentNumber, contentOf}
-use Rattle.sheet_lines.specs.Lines.{lineOf, written, lineText}
+use Rattle.sheet_lines.specs.Lines.{lineOf, printedField, lineText}
 use Rattle.sheet_lines.specs.declared.ParsedLine.{ParsedLine}
 use Rattle.sheet_lines.specs.declared.ParsedLine.the-variants.{Misprint, Read}
 use Rattle.sheet_lines.specs.declared.Kind.the-variants.{Sizes, Memory, Latch, Gate, Address, WriteData, Control}
@@ -78,7 +78,7 @@ memory-text m n word (suc unknown) = rw (ne-eqb (suc unknown) 0 (λ e. omega ari
 
 -- what a column holds, by the table's number for it
 pub printed-by : (w : Content) (number empty x : ℕ) → number ≡ contentNumber w
-    → written w empty x ≡ cond (eqb number 1 || (eqb number 2 && eqb empty 0)) (Filled x) Empty
+    → printedField w empty x ≡ cond (eqb number 1 || (eqb number 2 && eqb empty 0)) (Filled x) Empty
 printed-by mustBeEmpty number empty x e = rw e
 printed-by mustBeFilled number empty x e = rw e
 printed-by mayBeEmpty number empty x e = rw e

@@ -20,15 +20,15 @@ use Rattle.sheet_writer.specs.SheetText.{sheetText}
 
 -- RULES B3: "the record with its lists, then 9" for the exact length, of lists that have latchCount and gateCount records and a buffer of
 -- `room` bytes
-unfoldable pub writeVerdict : Netlist → ℕ → ℕ → ℕ → Verdict
-writeVerdict c latchCount gateCount room = recordVerdict c latchCount gateCount then testRoom (length (sheetText c)) room
+unfoldable pub writeSheetVerdict : Netlist → ℕ → ℕ → ℕ → Verdict
+writeSheetVerdict c latchCount gateCount room = recordVerdict c latchCount gateCount then testRoom (length (sheetText c)) room
 
 -- the answer, and what is in the buffer then
 unfoldable pub writeSent : Netlist → ℕ → ℕ → ℕ → CountReply
-writeSent c latchCount gateCount room = withCount (writeVerdict c latchCount gateCount room) (length (sheetText c))
+writeSent c latchCount gateCount room = withCount (writeSheetVerdict c latchCount gateCount room) (length (sheetText c))
 
 unfoldable pub writeLeaves : Netlist → ℕ → ℕ → List ℕ → List ℕ
-writeLeaves c latchCount gateCount old = contentsAfter (writeVerdict c latchCount gateCount (length old)) (sheetText c) old
+writeLeaves c latchCount gateCount old = contentsAfter (writeSheetVerdict c latchCount gateCount (length old)) (sheetText c) old
 
 -- the netlist that `read` makes of a file in lent lists
 abbrev pub netRead : List ℕ → List Latch → List Gate → Netlist

@@ -13,6 +13,7 @@ use Rattle.dimacs.proofs.Text.{length-refusalText}
 use Rattle.aiger_netlist.specs.TextNetlist.{aagNet}
 use Rattle.aiger_netlist.specs.ImportVerdict.{importVerdict}
 use Rattle.aiger_netlist.proofs.Verdict.{import-passed}
+use Rattle.aiger_import.specs.ImportCall.{importedWord}
 use Rattle.sheet_writer.proofs.SheetText.{length-sheetText}
 use Rattle.program_import.specs.Printed.{sheetOrRefusal, importText}
 use Rattle.program_import.proofs.Room.{room-suffices}
@@ -25,8 +26,8 @@ no-codes-requires c κs = search needs
 no-codes-requires-2 : tie.Need-no-codes-requires-2
 no-codes-requires-2 c κs = search needs
 
-import-codes-requires : tie.Need-import-codes-requires
-import-codes-requires c κs = search needs
+import-text-requires : tie.Need-import-text-requires
+import-text-requires c κs = search needs
 
 enum-known-verdict : tie.Need-enum-known-verdict
 enum-known-verdict c = search needs
@@ -47,7 +48,7 @@ unfolding importText sheetOrRefusal
 returns c =
     let told = c .before .before .before .before .before .before .verdict .given in
     let number = c .before .before .before .number in
-    let v = sym (verdict-is (c .before .before .before .before .before .before .before .before .import-codes .ensures)) ∙ told .1 in
+    let v = sym (verdict-is (c .before .before .before .before .before .before .before .before .import-text .ensures)) ∙ told .1 in
     let w = rw (number .ensures) at (c .before .before .write-refusal .ensures) in
     (rw v w, (omega (arith, c .before .before .write-refusal .ensures .counted, length-refusalText (number .result) (told .0 .1 .0) (search needs) (search needs)), room-suffices))
 
@@ -56,14 +57,14 @@ enum-told c = search needs
 
 -- what is imported is held by the record and the lists, and its sizes fit
 module _ (c : tie.After-enum-told) where
-  passed : let a = c .before .before .before .before .before .before .before .before .before .args in importVerdict (a .text .now) (a .m) (a .n) (a .word) (a .unknown) 600 600 ≡ Passed
-  passed = sym (verdict-is (c .before .before .import-codes .ensures)) ∙ c .enum-told .given .1
+  passed : let a = c .before .before .before .before .before .before .before .before .before .args in importVerdict (a .text .now) (a .m) (a .n) (importedWord (a .word) (a .unknown)) (a .unknown) 600 600 ≡ Passed
+  passed = sym (verdict-is (c .before .before .import-text .ensures)) ∙ c .enum-told .given .1
 
-  limits : let a = c .before .before .before .before .before .before .before .before .before .args in WithinLimits (aagNet (a .text .now) (a .m) (a .n) (a .word) (a .unknown))
+  limits : let a = c .before .before .before .before .before .before .before .before .before .args in WithinLimits (aagNet (a .text .now) (a .m) (a .n) (importedWord (a .word) (a .unknown)) (a .unknown))
   limits = import-passed _ _ _ _ _ 600 600 passed .accepted .limits
 
-  sizes : SizesFit (alone (c .before .before .import-codes .result .net))
-  sizes = sizes-lists _ _ _ [] [] (subst SizesFit (sym (holds (c .before .before .import-codes .ensures) passed .net-is)) (limits .sizes))
+  sizes : SizesFit (alone (c .before .before .import-text .result .net))
+  sizes = sizes-lists _ _ _ [] [] (subst SizesFit (sym (holds (c .before .before .import-text .ensures) passed .net-is)) (limits .sizes))
 
 put-sheet-requires : tie.Need-put-sheet-requires
 unfolding netOf
@@ -79,7 +80,7 @@ unfolding importText sheetOrRefusal
 returns-2 c =
     let told = c .before .before .before .before .before .before in
     let fit = limits told .sizes in
-    let w = rw (holds (told .before .before .import-codes .ensures) (passed told) .net-is) at (c .before .before .put-sheet .ensures) in
+    let w = rw (holds (told .before .before .import-text .ensures) (passed told) .net-is) at (c .before .before .put-sheet .ensures) in
     (rw (passed told) w, (omega (arith, w .counted, length-sheetText _ (limits told), fit .wires-fit, fit .m-most), room-suffices))
 
 pub write-import-spec : {M : Type 1} → statement M
@@ -88,7 +89,7 @@ write-import-spec =
     (tie.spec
     no-codes-requires
     no-codes-requires-2
-    import-codes-requires
+    import-text-requires
     enum-known-verdict
     number-requires
     write-refusal-requires

@@ -15,7 +15,7 @@ use Rattle.netlist_tests.specs.Record.{recordVerdict}
 use Rattle.netlist_tests.proofs.Acceptance.{passes-accepted}
 use Rattle.dimacs.specs.PrintCalls.{printReply}
 use Rattle.sheet_writer.specs.SheetText.{sheetText}
-use Rattle.sheet_writer.specs.WriteCall.{writeVerdict, writeSent, writeLeaves}
+use Rattle.sheet_writer.specs.WriteCall.{writeSheetVerdict, writeSent, writeLeaves}
 use Rattle.sheet_writer.proofs.SheetText.{length-sheetText}
 use Rattle.sheet_writer.proofs.WriteCall.{sheet-written}
 use Rattle.sheet_writer.proofs.write_sheet.Statement.{statement}
@@ -28,7 +28,7 @@ enum-known-refusal : tie.Need-enum-known-refusal
 enum-known-refusal c = search needs
 
 returns : tie.Need-returns
-unfolding printReply writeVerdict writeSent writeLeaves withCount contentsAfter _then_
+unfolding printReply writeSheetVerdict writeSent writeLeaves withCount contentsAfter _then_
 returns c =
     let v = sym (c .before .before .before .test-record .ensures) ∙ c .before .refusal .given .1 in
     (rw v, (rw v, sheet-written))
@@ -54,7 +54,7 @@ mul-if1 : tie.Need-mul-if1
 mul-if1 c = search needs
 
 returns-2 : tie.Need-returns-2
-unfolding netOf printReply writeVerdict writeSent writeLeaves withCount contentsAfter _then_
+unfolding netOf printReply writeSheetVerdict writeSent writeLeaves withCount contentsAfter _then_
 returns-2 c =
     let told = c .before .before in
     let a = told .before .before .before .before .args in
@@ -70,7 +70,7 @@ same-length : tie.Need-same-length
 same-length c = search needs
 
 returns-3 : tie.Need-returns-3
-unfolding netOf printReply writeVerdict writeSent writeLeaves withCount contentsAfter _then_
+unfolding netOf printReply writeSheetVerdict writeSent writeLeaves withCount contentsAfter _then_
 returns-3 c =
     let told = c .before .before .before .before .before .before in
     let a = told .before .before .before .before .args in
