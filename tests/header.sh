@@ -15,6 +15,7 @@ same() { # what, list, list
 }
 same "the header declares the exported functions" "$(exported)" "$(called include/marrubigai.h)"
 same "the test calls the exported functions" "$(exported)" "$(called tests/header/main.c)"
+same "the runner declares each of them once" "$(exported)" "$(grep -hoE 'fn marrubigai_[a-z_]+' tests/runner/*.rs | sed 's/^fn //' | sort)"
 
 # The header's refusals are the rows of the library's page, MARRUBIGAI_ and the word; the test has each of them.
 rows() {

@@ -1,6 +1,6 @@
 #!/usr/bin/env bash
 # The program `import_aag`: its arguments, the sheet or the refusal that it prints, texts at and beyond its limit, and streams that fail. What it
-# makes of netlists from yosys is in tests/verilog.sh, what the import makes of any text in tests/runner.
+# makes of netlists from yosys is in tests/verilog.sh, what it makes of any text in tests/runner.
 # Argument: the program.
 set -u
 program=$(readlink -f "$1")
@@ -42,9 +42,10 @@ prints "wires in their order" "$(line N 1 1 2; line M 1 1 0; line L 5 0; line G 
 
 prints "no text" "$(refusal 11 1)" "" 1 1 0 < /dev/null
 prints "a line cut short" "$(refusal 11 8)" "" 1 1 0 < <(printf "${chip%??}")
-prints "more outputs than are due" "$(refusal 12 0)" "" 2 1 0 < <(printf 'aag 2 2 0 5 0\n2\n4\n0\n2\n1\n1\n5\n')
+prints "fewer outputs than are due" "$(refusal 12 0)" "" 2 1 0 < <(printf 'aag 2 2 0 5 0\n2\n4\n0\n2\n1\n1\n5\n')
 prints "an undefined literal" "$(refusal 13 8)" "" 1 1 0 < <(printf 'aag 3 2 0 5 0\n2\n4\n0\n2\n1\n1\n6\n')
 prints "a start word of two bits" "$(refusal 4 2)" "" 1 1 2 < <(printf "$chip")
+prints "one wire on two address bits" "$(refusal 17 4)" "" 2 1 0 < <(printf 'aag 2 2 0 6 0\n2\n4\n2\n3\n0\n1\n1\n5\n')
 prints "the address is the read bit" "$(refusal 6 3)" "" 1 1 0 < <(printf 'aag 2 2 0 5 0\n2\n4\n4\n2\n1\n1\n5\n')
 
 usage="usage: import_aag m n [start] < text.aag > sheet"

@@ -76,8 +76,8 @@ run "wires, codes and clause numbers are kept apart" types bash tests/types.sh
 run "the table of layers is that of the imports" layers bash tests/layers.sh
 compile reference tests/reference/main.rs && run "the second implementation's own tests" reference "$logs/reference"
 compile runner tests/runner/main.rs &&
-  run "the programs against the second implementation" runner timeout 900 "$logs/runner" target/bin/frames target/bin/replay docs/FORMAT.md
-
+  run "the programs against the second implementation" runner \
+    timeout 900 "$logs/runner" target/bin/frames target/bin/replay target/bin/import_aag docs/FORMAT.md
 run "the program import_aag" import timeout 120 bash tests/import.sh target/bin/import_aag
 
 echo "== the static library: rt staticlib marrubigai"

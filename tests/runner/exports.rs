@@ -5,6 +5,7 @@ use super::reference::answer::Claim;
 use super::reference::answer_calls::{Call, Outcome};
 use super::reference::formula::Group;
 use super::reference::netlist::{Gate, Latch, Netlist};
+use super::reference::position::Position;
 use super::reference::refusal::Refusal;
 
 #[repr(C)]
@@ -61,6 +62,30 @@ struct HeadingReply {
 
 #[repr(C)]
 #[derive(Clone, Copy, Debug, PartialEq, Eq)]
+struct PositionRecord {
+    depth: u32,
+    frame: u32,
+    base: u32,
+}
+
+#[repr(C)]
+#[derive(Clone, Copy, Debug, PartialEq, Eq)]
+struct PositionReply {
+    number: u32,
+    place: u32,
+    position: PositionRecord,
+}
+
+#[repr(C)]
+#[derive(Clone, Copy, Debug, PartialEq, Eq)]
+struct LiteralReply {
+    number: u32,
+    place: u32,
+    literal: i32,
+}
+
+#[repr(C)]
+#[derive(Clone, Copy, Debug, PartialEq, Eq)]
 struct ReplayReply {
     number: u32,
     place: u32,
@@ -112,6 +137,31 @@ extern "C" {
         gate_count: usize,
         depth: u32,
     ) -> HeadingReply;
+
+    fn marrubigai_move(
+        net: Record,
+        latches: *const LatchRecord,
+        latch_count: usize,
+        gates: *const GateRecord,
+        gate_count: usize,
+        position: PositionRecord,
+        way: u32,
+    ) -> PositionReply;
+
+    fn marrubigai_write_group_at(
+        net: Record,
+        latches: *const LatchRecord,
+        latch_count: usize,
+        gates: *const GateRecord,
+        gate_count: usize,
+        position: PositionRecord,
+        kind: u32,
+        j: u32,
+        out: *mut i32,
+        room: usize,
+    ) -> CountReply;
+
+    fn marrubigai_literal_at(net: Record, position: PositionRecord, code: Code) -> LiteralReply;
 
     fn marrubigai_replay(
         net: Record,
@@ -191,6 +241,14 @@ fn record_of(netlist: &Netlist) -> Record {
         we: Code(netlist.write_enable),
         re: Code(netlist.read_enable),
         p: Code(netlist.property),
+    }
+}
+
+fn position_record(position: Position) -> PositionRecord {
+    PositionRecord {
+        depth: position.depth,
+        frame: position.frame,
+        base: position.base,
     }
 }
 
@@ -365,6 +423,58 @@ impl Lists {
         };
         let heading = (reply.variables, reply.clauses);
         answer(reply.number, reply.place, heading == (0, 0), || Ok(heading))
+    }
+
+    /// A move of a running record: number and place, 0 where it is not refused, and the record handed back.
+    pub fn move_position(&self, position: Position, way: u32) -> ((u32, u32), Position) {
+        // SAFETY: each pointer and length are those of a live slice.
+        let reply = unsafe {
+            marrubigai_move(
+                self.record,
+                self.latches.as_ptr(),
+                self.latches.len(),
+                self.gates.as_ptr(),
+                self.gates.len(),
+                position_record(position),
+                way,
+            )
+        };
+        let PositionRecord { depth, frame, base } = reply.position;
+        ((reply.number, reply.place), Position { depth, frame, base })
+    }
+
+    /// A group call through a running record, with a slice of `room` numbers: the numbers written.
+    pub fn write_group_at(
+        &self,
+        position: Position,
+        (kind, j): (u32, u32),
+        room: usize,
+    ) -> Answer<Vec<i32>> {
+        // SAFETY: each pointer and length are those of a live slice, and only `out` is written to.
+        written_into(room, unwritten, |out, room| unsafe {
+            marrubigai_write_group_at(
+                self.record,
+                self.latches.as_ptr(),
+                self.latches.len(),
+                self.gates.as_ptr(),
+                self.gates.len(),
+                position_record(position),
+                kind,
+                j,
+                out,
+                room,
+            )
+        })
+    }
+
+    /// The literal of a code in a running record's frame. The lists are not lent.
+    pub fn literal_at(&self, position: Position, code: u32) -> Answer<i32> {
+        // SAFETY: nothing is lent.
+        let reply =
+            unsafe { marrubigai_literal_at(self.record, position_record(position), Code(code)) };
+        answer(reply.number, reply.place, reply.literal == 0, || {
+            Ok(reply.literal)
+        })
     }
 }
 

@@ -1,14 +1,13 @@
 //! Hostile calls of the exported functions, each compared with the second implementation.
 
 use super::mutate::{change_bytes, netlist, sheet, LIMITS};
-use super::prints;
 use super::reference::answer_calls::{marks, Call as ReplayCall};
 use super::reference::netlist::{Gate, Latch, Netlist};
 use super::reference::random::{damaged_record, tie, Random};
 use super::reference::random_aiger::{damaged_call, draft_of, Call as ImportCall, Numbering};
 use super::reference::random_answers::{random_draft, written, written_unsatisfiable, CALL_FAULTS};
 use super::reference::Tally;
-use super::Library;
+use super::{literals, positions, prints, Library};
 
 /// A record with its lists, with up to three of its numbers replaced and its lists lengthened or cut.
 fn record(random: &mut Random) -> Netlist {
@@ -176,7 +175,7 @@ fn change_header(random: &mut Random, text: &mut Vec<u8>) {
 pub fn calls(library: &Library, tally: &mut Tally, seed: u64, count: usize) {
     let mut random = Random::new(seed);
     for _ in 0..count {
-        match random.below(14) {
+        match random.below(16) {
             0 => {
                 let file = sheet(&mut random);
                 let line = small_or_limit(&mut random);
@@ -211,6 +210,11 @@ pub fn calls(library: &Library, tally: &mut Tally, seed: u64, count: usize) {
                 let netlist = record(&mut random);
                 let room = 32 * room(&mut random);
                 library.sheet_agrees(tally, &netlist, room);
+            }
+            13 => drop(positions::any(library, tally, &mut random)),
+            14 => {
+                let netlist = record(&mut random);
+                literals::any(library, tally, &mut random, &netlist);
             }
             _ => {
                 let netlist = record(&mut random);

@@ -7,9 +7,8 @@ mod calls;
 mod exports;
 mod fuzz_exports;
 mod imports;
+mod literals;
 mod mutate;
-// Not in the list of families before the library has these calls.
-#[allow(dead_code)]
 mod positions;
 mod prints;
 mod reads;
@@ -29,10 +28,14 @@ pub struct Counts([usize; 18]);
 impl Counts {
     fn add<T>(counts: &RefCell<Counts>, answer: &Answer<T>) {
         let number = match answer {
-            Ok(Err(refusal)) => refusal.number as usize,
+            Ok(Err(refusal)) => refusal.number,
             _ => 0,
         };
-        if let Some(count) = counts.borrow_mut().0.get_mut(number) {
+        Counts::count(counts, number);
+    }
+
+    fn count(counts: &RefCell<Counts>, number: u32) {
+        if let Some(count) = counts.borrow_mut().0.get_mut(number as usize) {
             *count += 1;
         }
     }
@@ -46,6 +49,9 @@ pub struct Library {
     imports: RefCell<Counts>,
     calls: RefCell<Counts>,
     headings: RefCell<Counts>,
+    moves: RefCell<Counts>,
+    groups_at: RefCell<Counts>,
+    literals: RefCell<Counts>,
     headers: RefCell<Counts>,
     clauses: RefCell<Counts>,
     refusals: RefCell<Counts>,
@@ -57,13 +63,18 @@ pub struct Library {
 
 type Family = (&'static str, fn(&Library, &mut Tally));
 
-const FAMILIES: [Family; 33] = [
+const FAMILIES: [Family; 38] = [
     ("facts of the full run", calls::stated),
     ("table of group calls", calls::table_of_calls),
     ("table of records", calls::table_of_records),
     ("rooms of groups", calls::rooms),
     ("lengths of lists", calls::list_lengths),
     ("joined groups", calls::formulas),
+    ("tables of running records", positions::tables),
+    ("running records through all frames", positions::walks),
+    ("hostile running records", positions::hostile),
+    ("tables of literals", literals::tables),
+    ("groups put together from literals", literals::groups),
     ("tables of sheets", reads::tables),
     ("rooms of lists", reads::rooms),
     ("damaged sheets", reads::damaged),
@@ -97,13 +108,20 @@ const FAMILIES: [Family; 33] = [
 
 /// Each function, and the numbers that the tests must have made it answer: all that it has. 10 has none.
 fn every_number(library: &Library, tally: &mut Tally) {
-    let rows: [(&str, &RefCell<Counts>, &[usize]); 12] = [
+    let rows: [(&str, &RefCell<Counts>, &[usize]); 15] = [
         ("read", &library.reads, &[1, 2, 3, 4, 5, 6, 9, 17]),
         ("write_sheet", &library.sheets, &[3, 4, 5, 6, 9, 17]),
         ("next_line", &library.lines, &[2]),
         ("import", &library.imports, &[4, 6, 9, 11, 12, 13, 17]),
         ("write_group", &library.calls, &[3, 4, 5, 6, 7, 8, 9, 17]),
         ("heading", &library.headings, &[3, 4, 5, 6, 7, 17]),
+        ("move", &library.moves, &[3, 4, 5, 6, 7, 8, 16, 17]),
+        (
+            "write_group_at",
+            &library.groups_at,
+            &[3, 4, 5, 6, 7, 8, 9, 16, 17],
+        ),
+        ("literal_at", &library.literals, &[4, 5, 7, 8, 16]),
         ("put_header", &library.headers, &[9]),
         ("put_clauses", &library.clauses, &[9]),
         ("put_refusal", &library.refusals, &[9]),
@@ -161,6 +179,12 @@ fn main() {
             });
             report.family("table of records", |tally| {
                 calls::table_of_records(&library, tally)
+            });
+            report.family("tables of running records", |tally| {
+                positions::tables(&library, tally)
+            });
+            report.family("tables of literals", |tally| {
+                literals::tables(&library, tally)
             });
             report.family("tables of sheets", |tally| reads::tables(&library, tally));
             report.family("lines of sheets", |tally| reads::lines(&library, tally));

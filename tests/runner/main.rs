@@ -1,5 +1,5 @@
-//! Tests of the programs `frames` and `replay` against the second implementation, with fixed seeds.
-//! `main FRAMES REPLAY PAGE` runs all of them, and the examples of the page; `main FRAMES REPLAY fuzz COUNT [SEED]`
+//! Tests of the programs `frames`, `replay` and `import_aag` against the second implementation, with fixed seeds.
+//! `main FRAMES REPLAY IMPORT PAGE` runs all of them, and the examples of the page; `main FRAMES REPLAY IMPORT fuzz COUNT [SEED]`
 //! runs as many hostile inputs as asked for. The last line is `N passed, M failed`. Started in the repository's folder.
 //! Build: rustc -O --edition 2021 main.rs
 
@@ -14,6 +14,7 @@ mod page;
 mod process;
 mod reference;
 mod replays;
+mod texts;
 mod two_faults;
 
 use std::fs;
@@ -106,7 +107,7 @@ fn every_number(program: &Program, tally: &mut Tally, due: &[usize]) {
 const OF_FRAMES: [usize; 9] = [0, 1, 2, 3, 4, 5, 6, 7, 17];
 const OF_REPLAY: [usize; 12] = [0, 1, 2, 3, 4, 5, 6, 7, 14, 15, 17, CLAIMED];
 
-fn all(program: &Program, replay: &Replay, page: &Path) -> Report {
+fn all(program: &Program, replay: &Replay, import: &Program, page: &Path) -> Report {
     let mut report = Report::default();
     for (name, family) in FAMILIES {
         report.family(name, |tally| family(program, tally));
@@ -127,19 +128,29 @@ fn all(program: &Program, replay: &Replay, page: &Path) -> Report {
     report.family("replay: refusal numbers", |tally| {
         every_number(&replay.program, tally, &OF_REPLAY)
     });
+    report.family("import_aag: tables of imports", |tally| {
+        texts::tables(import, tally)
+    });
+    report.family("import_aag: random texts", |tally| {
+        texts::texts(import, tally, 305, 2_000)
+    });
+    report.family("import_aag: refusal numbers", |tally| {
+        every_number(import, tally, &texts::OF_IMPORT)
+    });
     report
 }
 
 fn main() {
     let words: Vec<String> = std::env::args().skip(1).collect();
     let words: Vec<&str> = words.iter().map(String::as_str).collect();
-    let (paths, rest) = words.split_at(words.len().min(2));
+    let (paths, rest) = words.split_at(words.len().min(3));
     let folder = std::env::temp_dir().join(format!("runner-{}", std::process::id()));
     fs::create_dir(&folder).expect("a folder for answers and outputs");
     let program = Program::new(absolute(paths[0]), Path::new("."), frames);
     let replay = Replay::new(absolute(paths[1]), absolute(paths[0]), &folder);
+    let import = Program::new(absolute(paths[2]), Path::new("."), |_| Vec::new());
     let report = match rest {
-        [page] => all(&program, &replay, Path::new(page)),
+        [page] => all(&program, &replay, &import, Path::new(page)),
         ["fuzz", count, seed @ ..] if seed.len() <= 1 => {
             let seed = seed
                 .first()
@@ -152,9 +163,12 @@ fn main() {
             report.family("replay: hostile inputs and answers", |tally| {
                 fuzz::answers(&replay, tally, seed, count)
             });
+            report.family("import_aag: hostile texts", |tally| {
+                texts::texts(&import, tally, seed, count)
+            });
             report
         }
-        _ => panic!("usage: FRAMES REPLAY PAGE, or FRAMES REPLAY fuzz COUNT [SEED]"),
+        _ => panic!("usage: FRAMES REPLAY IMPORT PAGE, or FRAMES REPLAY IMPORT fuzz COUNT [SEED]"),
     };
     fs::remove_dir_all(&folder).expect("removing the folder");
     report.finish()

@@ -4,9 +4,7 @@
 use std::collections::BTreeMap;
 
 use super::calls::differ;
-use super::exports::{
-    unwritten, written_into, Answer, CountReply, GateRecord, LatchRecord, Lists, Record,
-};
+use super::exports::{Answer, Lists};
 use super::mutate::{netlist, LIMITS};
 use super::reference::check_examples::{accepted, FULL_RUN, RICH};
 use super::reference::check_position::{position_of, POSITIONS};
@@ -17,99 +15,15 @@ use super::reference::position::{start, FrameGroup, Position};
 use super::reference::random::{damaged_record, wide_netlist, Random};
 use super::reference::refusal::*;
 use super::reference::Tally;
-use super::Library;
-
-#[repr(C)]
-#[derive(Clone, Copy, Debug, PartialEq, Eq)]
-struct PositionRecord {
-    depth: u32,
-    frame: u32,
-    base: u32,
-}
-
-#[repr(C)]
-#[derive(Clone, Copy, Debug, PartialEq, Eq)]
-struct PositionReply {
-    number: u32,
-    place: u32,
-    position: PositionRecord,
-}
-
-extern "C" {
-    fn marrubigai_move(
-        net: Record,
-        latches: *const LatchRecord,
-        latch_count: usize,
-        gates: *const GateRecord,
-        gate_count: usize,
-        position: PositionRecord,
-        way: u32,
-    ) -> PositionReply;
-
-    fn marrubigai_write_group_at(
-        net: Record,
-        latches: *const LatchRecord,
-        latch_count: usize,
-        gates: *const GateRecord,
-        gate_count: usize,
-        position: PositionRecord,
-        kind: u32,
-        j: u32,
-        out: *mut i32,
-        room: usize,
-    ) -> CountReply;
-}
+use super::{Counts, Library};
 
 /// The ways of a move.
-const START: u32 = 0;
-const ON: u32 = 1;
+pub const START: u32 = 0;
+pub const ON: u32 = 1;
 const BACK: u32 = 2;
-
-fn record_of(position: Position) -> PositionRecord {
-    PositionRecord {
-        depth: position.depth,
-        frame: position.frame,
-        base: position.base,
-    }
-}
 
 /// Number and place, 0 where it is not refused, and the record handed back.
 type Moved = (Verdict, Position);
-
-fn moved(lists: &Lists, position: Position, way: u32) -> Moved {
-    // SAFETY: each pointer and length are those of a live slice.
-    let reply = unsafe {
-        marrubigai_move(
-            lists.record,
-            lists.latches.as_ptr(),
-            lists.latches.len(),
-            lists.gates.as_ptr(),
-            lists.gates.len(),
-            record_of(position),
-            way,
-        )
-    };
-    let PositionRecord { depth, frame, base } = reply.position;
-    ((reply.number, reply.place), Position { depth, frame, base })
-}
-
-fn group_at(lists: &Lists, position: Position, of: (u32, u32), room: usize) -> Answer<Vec<i32>> {
-    // SAFETY: each pointer and length are those of a live slice, and only `out` is written to.
-    written_into(room, unwritten, |out, room| unsafe {
-        marrubigai_write_group_at(
-            lists.record,
-            lists.latches.as_ptr(),
-            lists.latches.len(),
-            lists.gates.as_ptr(),
-            lists.gates.len(),
-            record_of(position),
-            of.0,
-            of.1,
-            out,
-            room,
-        )
-    })
-}
 
 /// What a move must answer. No such way is tested in 8's place, as a move past k is.
 fn due_move(netlist: &Netlist, position: Position, way: u32) -> Moved {
@@ -151,50 +65,81 @@ fn kind_of(group: FrameGroup) -> (u32, u32) {
     }
 }
 
-fn move_agrees(tally: &mut Tally, netlist: &Netlist, position: Position, way: u32) -> u32 {
-    let (found, due) = (
-        moved(&Lists::new(netlist), position, way),
-        due_move(netlist, position, way),
-    );
-    tally.check_with((position, way), found == due, || differ(netlist, found, due));
-    due.0 .0
-}
+impl Library {
+    /// What a move answers; counted.
+    fn moved(&self, lists: &Lists, position: Position, way: u32) -> Moved {
+        let found = lists.move_position(position, way);
+        Counts::count(&self.moves, found.0 .0);
+        found
+    }
 
-fn group_agrees(
-    tally: &mut Tally,
-    netlist: &Netlist,
-    position: Position,
-    of: (u32, u32),
-    room: usize,
-) -> u32 {
-    let found = group_at(&Lists::new(netlist), position, of, room);
-    let due = position.group(netlist, group_of(position, of), room);
-    let number = due.as_ref().err().map_or(0, |refusal| refusal.number);
-    let due = Ok(due);
-    tally.check_with((position, of, room), found == due, || {
-        differ(netlist, &found, &due)
-    });
-    number
+    /// What a group call through the record answers; counted.
+    fn group_at(
+        &self,
+        lists: &Lists,
+        position: Position,
+        of: (u32, u32),
+        room: usize,
+    ) -> Answer<Vec<i32>> {
+        let found = lists.write_group_at(position, of, room);
+        Counts::add(&self.groups_at, &found);
+        found
+    }
+
+    /// One check of a move; the number that it must answer.
+    fn move_agrees(
+        &self,
+        tally: &mut Tally,
+        netlist: &Netlist,
+        position: Position,
+        way: u32,
+    ) -> u32 {
+        let found = self.moved(&Lists::new(netlist), position, way);
+        let due = due_move(netlist, position, way);
+        tally.check_with((position, way), found == due, || {
+            differ(netlist, found, due)
+        });
+        due.0 .0
+    }
+
+    /// One check of a group call; the number that it must answer.
+    fn group_at_agrees(
+        &self,
+        tally: &mut Tally,
+        netlist: &Netlist,
+        position: Position,
+        of: (u32, u32),
+        room: usize,
+    ) -> u32 {
+        let found = self.group_at(&Lists::new(netlist), position, of, room);
+        let due = position.group(netlist, group_of(position, of), room);
+        let number = due.as_ref().err().map_or(0, |refusal| refusal.number);
+        let due = Ok(due);
+        tally.check_with((position, of, room), found == due, || {
+            differ(netlist, &found, &due)
+        });
+        number
+    }
 }
 
 /// The second implementation's table with the verdicts that were written down, and every record that is refused.
-pub fn tables(_: &Library, tally: &mut Tally) {
+pub fn tables(library: &Library, tally: &mut Tally) {
     let netlist = accepted(FULL_RUN);
     let lists = Lists::new(&netlist);
     for (row, [on, back, closing]) in POSITIONS {
         let position = position_of(row);
-        tally.equal((row, "on"), moved(&lists, position, ON).0, on);
-        tally.equal((row, "back"), moved(&lists, position, BACK).0, back);
-        let found = group_at(&lists, position, (2, 0), 600);
+        tally.equal((row, "on"), library.moved(&lists, position, ON).0, on);
+        tally.equal((row, "back"), library.moved(&lists, position, BACK).0, back);
+        let found = library.group_at(&lists, position, (2, 0), 600);
         let number = found.map(|it| it.err().map_or(0, |refusal| refusal.number));
         tally.equal((row, "closing"), number, Ok(closing.0));
         for way in [START, ON, BACK, 3, 255, u32::MAX] {
-            move_agrees(tally, &netlist, position, way);
+            library.move_agrees(tally, &netlist, position, way);
         }
         for kind in [0, 1, 2, 3, 4, u32::MAX] {
             for j in [0, 1, row[1], u32::MAX] {
                 for room in [0, 30, 31, 600] {
-                    group_agrees(tally, &netlist, position, (kind, j), room);
+                    library.group_at_agrees(tally, &netlist, position, (kind, j), room);
                 }
             }
         }
@@ -204,18 +149,18 @@ pub fn tables(_: &Library, tally: &mut Tally) {
         change(&mut record);
         for row in [[256, 300, 7], [1, 2, 7], [1, 0, 7], [1, 0, 1], [2, 1, 6]] {
             for way in [START, ON, BACK, 3] {
-                move_agrees(tally, &record, position_of(row), way);
+                library.move_agrees(tally, &record, position_of(row), way);
             }
             for of in [(0, 0), (1, 0), (2, 0), (3, 0), (9, 0)] {
-                group_agrees(tally, &record, position_of(row), of, 0);
-                group_agrees(tally, &record, position_of(row), of, 600);
+                library.group_at_agrees(tally, &record, position_of(row), of, 0);
+                library.group_at_agrees(tally, &record, position_of(row), of, 600);
             }
         }
     }
 }
 
 /// From frame 0 through all frames and back: the base is the formula's, and the groups are those by frame number.
-pub fn walks(_: &Library, tally: &mut Tally) {
+pub fn walks(library: &Library, tally: &mut Tally) {
     let mut random = Random::new(1201);
     for round in 0..120 {
         let netlist = wide_netlist(&mut random);
@@ -226,7 +171,7 @@ pub fn walks(_: &Library, tally: &mut Tally) {
             frame: random.next() as u32,
             base: random.next() as u32,
         };
-        let (verdict, mut position) = moved(&lists, any, START);
+        let (verdict, mut position) = library.moved(&lists, any, START);
         tally.equal((round, "start"), verdict, ACCEPTED);
         for frame in 0..=depth {
             let base = frame_base(&netlist, frame) as u32;
@@ -237,7 +182,7 @@ pub fn walks(_: &Library, tally: &mut Tally) {
                 groups.extend([0, frame / 2, frame.saturating_sub(1)].map(FrameGroup::Pair));
                 for group in groups {
                     let by_frame = group_call(&netlist, depth, position.numbered(group), 6_000);
-                    let found = group_at(&lists, position, kind_of(group), 6_000);
+                    let found = library.group_at(&lists, position, kind_of(group), 6_000);
                     tally.check((round, frame, group), found == Ok(by_frame));
                 }
             }
@@ -246,8 +191,8 @@ pub fn walks(_: &Library, tally: &mut Tally) {
                 frame: 0,
                 base: 1,
             };
-            tally.equal((round, frame, "back"), moved(&lists, position, BACK), (ACCEPTED, zero));
-            let (verdict, next) = moved(&lists, position, ON);
+            tally.equal((round, frame, "back"), library.moved(&lists, position, BACK), (ACCEPTED, zero));
+            let (verdict, next) = library.moved(&lists, position, ON);
             let due = if frame < depth {
                 ACCEPTED
             } else {
@@ -269,7 +214,7 @@ fn small_or_limit(random: &mut Random) -> u32 {
 }
 
 /// A record with any depth, frame and base, the base often the right one or near it.
-fn hostile_position(random: &mut Random, netlist: &Netlist) -> Position {
+pub fn hostile_position(random: &mut Random, netlist: &Netlist) -> Position {
     let (depth, frame) = (small_or_limit(random), small_or_limit(random));
     let frame = if random.percent(30) { depth } else { frame };
     let sizes_add_up = [
@@ -323,10 +268,10 @@ fn failing(netlist: &Netlist, position: Position, exists: bool, room: Option<(Fr
         }
         let short = |(group, room): (FrameGroup, usize)| {
             let depth = position.depth.clamp(position.frame, MAX_DEPTH);
-            group_call(netlist, depth, position.numbered(group), room)
-                .is_err_and(|refusal| refusal.number == NO_ROOM)
+            let found = group_call(netlist, depth, position.numbered(group), room);
+            found.err().map(|refusal| refusal.number) == Some(NO_ROOM)
         };
-        if room.is_some_and(short) {
+        if room.map_or(false, short) {
             numbers.push(NO_ROOM);
         }
     }
@@ -334,7 +279,7 @@ fn failing(netlist: &Netlist, position: Position, exists: bool, room: Option<(Fr
 }
 
 /// One hostile call: the number that it must answer, and the tests that it fails.
-pub fn any(tally: &mut Tally, random: &mut Random) -> (u32, Vec<u32>) {
+pub fn any(library: &Library, tally: &mut Tally, random: &mut Random) -> (u32, Vec<u32>) {
     let mut netlist = netlist(random);
     if random.percent(20) {
         netlist = damaged_record(random, &netlist);
@@ -358,23 +303,23 @@ pub fn any(tally: &mut Tally, random: &mut Random) -> (u32, Vec<u32>) {
             ON => failing(&netlist, position, position.frame < position.depth, None),
             _ => failing(&netlist, position, way == BACK, None),
         };
-        return (move_agrees(tally, &netlist, position, way), failing);
+        return (library.move_agrees(tally, &netlist, position, way), failing);
     }
     let of = (random.below(5), small_or_limit(random));
     let room = random.pick(&[0, 0, 20, 60, 600, 6_000]);
     let group = group_of(position, of);
     let exists = !matches!(group, FrameGroup::Pair(j) if j >= position.frame);
     let failing = failing(&netlist, position, exists, Some((group, room)));
-    (group_agrees(tally, &netlist, position, of, room), failing)
+    (library.group_at_agrees(tally, &netlist, position, of, room), failing)
 }
 
 /// Hostile calls. Each refusal and each pair of failing tests must have come often: of two the earlier is answered.
-pub fn hostile(_: &Library, tally: &mut Tally) {
+pub fn hostile(library: &Library, tally: &mut Tally) {
     let mut random = Random::new(1202);
     let mut counts: BTreeMap<u32, usize> = BTreeMap::new();
     let mut pairs: BTreeMap<[u32; 2], usize> = BTreeMap::new();
     for _ in 0..60_000 {
-        let (number, failing) = any(tally, &mut random);
+        let (number, failing) = any(library, tally, &mut random);
         *counts.entry(number).or_default() += 1;
         tally.equal("the first failing test", failing.first().copied().unwrap_or(0), number);
         for (at, first) in failing.iter().enumerate() {

@@ -28,7 +28,7 @@ impl Ran {
     }
 }
 
-/// How often each refusal number was printed; entry 0 counts formulas and runs.
+/// How often each refusal number was printed; entry 0 counts formulas, runs and sheets.
 pub type Counts = [usize; CLAIMED + 2];
 /// The entry for `claimed unsatisfiable`, behind those of all refusals; the next is for anything else.
 pub const CLAIMED: usize = 18;
@@ -41,6 +41,7 @@ pub struct Program {
     expected: Rc<dyn Fn(&[u8]) -> Vec<u8>>,
     /// What the program is run under; often nothing.
     under: Vec<&'static str>,
+    arguments: Vec<String>,
     counts: RefCell<Counts>,
 }
 
@@ -55,7 +56,20 @@ impl Program {
             folder: folder.to_path_buf(),
             expected: Rc::new(expected),
             under: Vec::new(),
+            arguments: Vec::new(),
             counts: RefCell::default(),
+        }
+    }
+
+    /// The same program with arguments, and what the second implementation prints for an input then.
+    pub fn with(
+        &self,
+        arguments: Vec<String>,
+        expected: impl Fn(&[u8]) -> Vec<u8> + 'static,
+    ) -> Program {
+        Program {
+            arguments,
+            ..Program::new(self.path.clone(), &self.folder, expected)
         }
     }
 
@@ -66,6 +80,7 @@ impl Program {
             folder: self.folder.clone(),
             expected: self.expected.clone(),
             under: words.to_vec(),
+            arguments: self.arguments.clone(),
             counts: RefCell::default(),
         }
     }
@@ -97,7 +112,7 @@ impl Program {
                 command
             }
         };
-        command.current_dir(&self.folder);
+        command.args(&self.arguments).current_dir(&self.folder);
         command
     }
 
@@ -123,7 +138,7 @@ impl Program {
                 (collect(child), meanwhile())
             })
         };
-        self.count(&ran.output);
+        self.count(outcome(&ran.output));
         (ran, value)
     }
 
@@ -131,8 +146,8 @@ impl Program {
         self.run_beside(input, || ()).0
     }
 
-    fn count(&self, output: &[u8]) {
-        self.counts.borrow_mut()[outcome(output)] += 1;
+    pub fn count(&self, outcome: usize) {
+        self.counts.borrow_mut()[outcome] += 1;
     }
 
     /// One check: the program prints for this input what the second implementation prints. Answers
@@ -187,8 +202,9 @@ pub fn collect(mut child: Child) -> Ran {
 }
 
 /// The entry of the counts that a text belongs to.
-fn outcome(output: &[u8]) -> usize {
-    if output.starts_with(b"p cnf ") || output.first().map_or(false, u8::is_ascii_digit) {
+pub fn outcome(output: &[u8]) -> usize {
+    let is_run = output.first().map_or(false, u8::is_ascii_digit);
+    if is_run || output.starts_with(b"p cnf ") || output.starts_with(b"N ") {
         return 0;
     }
     if output == b"claimed unsatisfiable\n" {

@@ -16,17 +16,19 @@ use super::wrong::{wrong_text, Mistake};
 enum Fact {
     /// In a frame a named word has this value.
     Is(usize, &'static str, u32),
+    /// In a frame a named word has another value than this.
+    Other(usize, &'static str, u32),
     /// In two frames a named word has the same value.
     Same(usize, usize, &'static str),
 }
-use Fact::{Is, Same};
+use Fact::{Is, Other, Same};
 
 /// A sheet and a depth, and what holds of every run that breaks the property in frames 0 to depth; no
 /// facts where no run does.
 type Story = (&'static str, u32, &'static [Fact]);
 
 #[rustfmt::skip]
-const STORIES: [Story; 8] = [
+const STORIES: [Story; 12] = [
     ("echo/chip", 0, &[]),
     ("echo/chip", 1, &[Is(0, "input", 1), Is(1, "read", 1)]),
     // Fifty is written, a hundred is written over it; two frames later the carton is counted with the fifty.
@@ -45,11 +47,20 @@ const STORIES: [Story; 8] = [
         Is(1, "scan", 1), Is(1, "size", 100), Same(0, 1, "carton"), Is(1, "operand", 50),
     ]),
     ("fifth-revision/repaired", 12, &[]),
+    // A carton is counted that was never scanned, and the word that stands there is not 0.
+    ("sixth-revision/unknown", 0, &[]),
+    ("sixth-revision/unknown", 1, &[
+        Is(0, "scan", 0), Is(0, "count", 1), Other(0, "operand", 0),
+        Is(1, "scanned", 0), Other(1, "total", 0),
+    ]),
+    ("sixth-revision/cleared", 12, &[]),
+    ("sixth-revision/repaired", 12, &[]),
 ];
 
 /// Where a wrong generator misleads a designer: it misses a fault, or reports one in a repaired chip.
-const MISLED: [(&str, u32, Fault, bool); 2] = [
+const MISLED: [(&str, u32, Fault, bool); 3] = [
     ("fifth-revision/faulty", 4, Fault::OwnFrameWrite, false),
+    ("sixth-revision/unknown", 4, Fault::UnknownStartsZero, false),
     ("fourth-revision/repaired", 5, Fault::OldestWrite, true),
 ];
 
@@ -127,20 +138,27 @@ impl Example {
         codes.iter().map(literal).collect()
     }
 
+    /// The literals that all hold exactly if a named word has this value in a frame.
+    fn bits_of(&self, frame: usize, name: &str, value: u32) -> Vec<i32> {
+        let bits = self.literals(frame, name).into_iter().enumerate();
+        bits.map(|(bit, literal)| {
+            if (value >> bit) & 1 == 1 {
+                literal
+            } else {
+                -literal
+            }
+        })
+        .collect()
+    }
+
     /// Assumptions of which one can be met exactly if the fact can fail.
     fn otherwise(&self, fact: &Fact) -> Vec<Vec<i32>> {
         match *fact {
             Is(frame, name, value) => {
-                let bits = self.literals(frame, name).into_iter().enumerate();
-                bits.map(|(bit, literal)| {
-                    vec![if (value >> bit) & 1 == 1 {
-                        -literal
-                    } else {
-                        literal
-                    }]
-                })
-                .collect()
+                let bits = self.bits_of(frame, name, value).into_iter();
+                bits.map(|literal| vec![-literal]).collect()
             }
+            Other(frame, name, value) => vec![self.bits_of(frame, name, value)],
             Same(first, second, name) => {
                 let (a, b) = (self.literals(first, name), self.literals(second, name));
                 a.iter()

@@ -90,6 +90,7 @@ pub fn examples() -> Vec<Case> {
         example("fourth-revision/faulty", 3),
         example("fourth-revision/faulty", 7),
         example("fifth-revision/faulty", 1),
+        example("sixth-revision/unknown", 1),
     ];
     let bare = named.iter().map(|case| Case {
         names: String::new(),
