@@ -1,4 +1,4 @@
--- Which netlists are accepted (RULES A1, W7 to W9, W11 to W13, W15, C8 and C27). Cited by the
+-- Which netlists are accepted (RULES A1, W7 to W9, W11 to W13, W15, W19, W20, C8 and C27). Cited by the
 -- theorem, by what writes clauses, and by the tests of records, which are proved to pass exactly these.
 use Prim.Native.Nat.{ℕ, _+_, _*_, _/_, _^_, _≤_, _<_}
 use mathlib.Core.Path.{_≡_}

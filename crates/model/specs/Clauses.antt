@@ -1,6 +1,6 @@
 -- Clauses over literals, and the clauses of a gate, a pair and a closing: nothing here knows a variable's number.
--- RULES G1 to G13, G25 and G32 to G34; Ganai et al. 2004, section 4.1 and equations (3) and (4). Cited by `Groups` and by what
--- writes clauses.
+-- RULES G1 to G13, G25 and G32 to G34; Ganai et al. 2004, section 4.1 and equations (3) and (4); reads of an unknown
+-- memory that agree, as in Velev et al. 1997. Cited by `Groups` and by what writes clauses.
 use Prim.Native.Nat.{ℕ, zero, suc}
 use mathlib.Core.Bool.{Bool, not}
 use mathlib.Core.List.{List, [], _∷_, _++_}

@@ -1,4 +1,4 @@
--- A netlist with one memory: the record with its lists (RULES W14 to W17), and the numbers of its wires (RULES W1).
+-- A netlist with one memory: the record with its lists (RULES W14 to W17, W19 and W20), and the numbers of its wires (RULES W1).
 -- Cited by nearly every other file.
 use Prim.Native.Nat.{ℕ, zero, suc, _+_}
 

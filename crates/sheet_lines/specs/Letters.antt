@@ -1,4 +1,4 @@
--- The table of letters (RULES S4 and S5): which line a letter stands for, and what its fields hold. Cited by the functions that
+-- The table of letters (RULES S4, S5, S11 and S12): which line a letter stands for, and what its fields hold. Cited by the functions that
 -- read a line, by sheet_steps/specs and sheet_parse/specs for the line due, and by call_replies/specs.
 use Prim.Native.Nat.{ℕ, _<_}
 use mathlib.Core.Path.{_≡_}

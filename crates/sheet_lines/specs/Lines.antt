@@ -1,4 +1,4 @@
--- A line of 32 bytes as it is read and as it is written (RULES S1 and T2). Cited by `read_line` and its parts,
+-- A line of 32 bytes as it is read and as it is written (RULES S1, S11 and T2). Cited by `read_line` and its parts,
 -- sheet_lines/specs/Depth and sheet_parse/specs/Files.
 use Prim.Native.Nat.{ℕ, _+_, _*_, _^_, _<_}
 use mathlib.Core.Path.{_≡_}
