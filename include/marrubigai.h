@@ -124,7 +124,7 @@ marrubigai_count_reply marrubigai_write_group_at(marrubigai_netlist net, const m
                                                  uint32_t kind, uint32_t j, int32_t *out, size_t room);
 
 /* the literal of a code in a running record's frame, as it stands in clauses: a variable's number, negative where it is inverted; 1 where the
- * code is true, -1 where it is false. `net.p ^ 1` is not P. The lists have no part in it. */
+ * code is true, -1 where it is false. That of the code `net.p ^ 1` is the literal of not-P. The lists have no part in it. */
 marrubigai_literal_reply marrubigai_literal_at(marrubigai_netlist net, marrubigai_position position, marrubigai_code code);
 
 /* writes the one sheet that stands for a record with its lists, and answers its length, 32 x (latches + gates + m + n + 3) bytes: 9 where the

@@ -5,7 +5,7 @@
 # - outside `literals` no term is made of a clause number, and none taken apart but where the number is written, or is a call's answer;
 # - outside `literals` none is made, but a code of a list that is read, one that a caller asks about, the code 0, and in `netlist` the wires that a count gives;
 #   inside, each is made by its own methods alone;
-# - outside `literals` no number is taken out of one or put into one, but where numbers are stored, where a code's value is read off a table of
+# - outside `literals` no number is taken out of one or put into one, but where numbers are stored or printed, where a code's value is read off a table of
 #   wires, and where a wire's variable is looked up among signs (the lines under `allowed`);
 # - where a table's index is taken of a wire, no wire is made;
 # - none has another name.
@@ -19,6 +19,9 @@ crates/call_position/src/lib.rt Term::True => 1, Term::False => -1, Term::Number
 crates/replay_frame/src/lib.rt let read = netlist::first_read_wire(net).0
 crates/call_lists/src/unpack.rt netlist::put_numbers(codes, g, gate.left.0, gate.right.0)
 crates/call_lists/src/unpack.rt netlist::put_numbers(codes, l, latch.next.0, latch.reset)
+crates/sheet_writer/src/lib.rt let code = net.address[at].0
+crates/sheet_writer/src/lib.rt let code = net.write_data[at].0
+crates/sheet_writer/src/lib.rt kind: Kind::Control, first: net.we.0, second: net.re.0, third: net.p.0, empty: 0,
 crates/sheet_steps/src/lib.rt next.address[at].0 = first
 crates/sheet_steps/src/lib.rt next.write_data[at].0 = first
 crates/sheet_steps/src/lib.rt next.we.0 = first

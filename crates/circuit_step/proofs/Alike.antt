@@ -6,7 +6,7 @@ use mathlib.Core.Bool.{Bool, true, false, cond}
 use native.Mathlib.Omega.{arith}
 use Rattle.model.specs.Bits.{bit}
 use Rattle.model.specs.Netlist.{Netlist, port, readBits, readWire, lastWire}
-use Rattle.model.specs.Circuit.{Values, codeValue, State, Feed, Feeds, addressOf, evaluate, readData, firstPass, frame, wordWritten, step, stateAt, run, initial}
+use Rattle.model.specs.Circuit.{Values, codeValue, dependsOnRead, State, Feed, Feeds, addressOf, evaluate, readData, firstPass, frame, wordWritten, step, stateAt, run, initial}
 use Rattle.model.specs.Acceptance.{Accepted, IsCode}
 use Rattle.model.proofs.Bits.{fromBits-same}
 use Rattle.model.proofs.Memory.{address-below}
@@ -31,23 +31,36 @@ module _ {c : Netlist} (ok : Accepted c) where
   code-alike : {u v : Values} → ((w : ℕ) → w ≤ lastWire c → u w ≡ v w) → (x : ℕ) → IsCode c x → codeValue u x ≡ codeValue v x
   code-alike {u} {v} same x h = code-same u v x (same (x / 2) (omega arith))
 
-  -- RE is settled by the first pass
-  RE-settled : (s : State) (f : Feed) → codeValue (firstPass c s f) (c .RE) ≡ codeValue (frame c s f) (c .RE)
+  -- RE and the address are settled by the first pass
+  settled : (s : State) (f : Feed) (x : ℕ) → IsCode c x → dependsOnRead c (x / 2) ≡ false → codeValue (firstPass c s f) x ≡ codeValue (frame c s f) x
   unfolding firstPass frame
-  RE-settled s f =
-      code-same (firstPass c s f) (frame c s f) (c .RE)
+  settled s f x h free =
+      code-same (firstPass c s f) (frame c s f) x
       (independent-agree (ok .limits .codes) (evaluate-solves c (f .input) (s .latch) (λ t. false) (ok .limits .codes))
-      (evaluate-solves c (f .input) (s .latch) (readData c s (firstPass c s f)) (ok .limits .codes)) (c .RE / 2)
-      (omega (arith, ok .limits .codes .RE-fits)) (ok .noLoop .RE-free))
+      (evaluate-solves c (f .input) (s .latch) (readData c s (firstPass c s f)) (ok .limits .codes)) (x / 2) (omega arith) free)
+
+  pub RE-settled : (s : State) (f : Feed) → codeValue (firstPass c s f) (c .RE) ≡ codeValue (frame c s f) (c .RE)
+  RE-settled s f = settled s f (c .RE) (ok .limits .codes .RE-fits) (ok .noLoop .RE-free)
+
+  pub address-settled : (s : State) (f : Feed) → addressOf c (port c) (firstPass c s f) ≡ addressOf c (port c) (frame c s f)
+  address-settled s f =
+      address-same c (port c) (firstPass c s f) (frame c s f)
+      (λ t h. settled s f (c .address t) (ok .limits .codes .address-fits t h) (ok .noLoop .address-free t h))
 
   module _ (s r : State) (f g : Feed) (latches : LatchesAlike c s r) (inputs : InputsAlike c f g) where
     first-alike : (w : ℕ) → w ≤ lastWire c → firstPass c s f w ≡ firstPass c r g w
     unfolding firstPass
     first-alike = evaluate-alike (ok .limits .codes) inputs latches (λ t h. refl)
 
-    -- so RE is the same, whatever the words held are
+    -- so RE and the address are the same, whatever the words held are
     pub RE-alike : codeValue (frame c s f) (c .RE) ≡ codeValue (frame c r g) (c .RE)
     RE-alike = sym (RE-settled s f) ∙ code-alike first-alike (c .RE) (ok .limits .codes .RE-fits) ∙ RE-settled r g
+
+    pub address-alike : addressOf c (port c) (frame c s f) ≡ addressOf c (port c) (frame c r g)
+    address-alike =
+        sym (address-settled s f)
+        ∙ address-same c (port c) (firstPass c s f) (firstPass c r g) (λ t h. code-alike first-alike (c .address t) (ok .limits .codes .address-fits t h))
+        ∙ address-settled r g
 
   module _ {s r : State} {f g : Feed} (states : StatesAlike c f s r) (inputs : InputsAlike c f g) where
     first-same : (w : ℕ) → w ≤ lastWire c → firstPass c s f w ≡ firstPass c r g w

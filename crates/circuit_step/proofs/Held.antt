@@ -73,7 +73,7 @@ bit-zero t = rw zero-div
 module _ {c : Netlist} (limits : WithinLimits c) {s : State} {f : Feed} {latches inputs : List Bool} {memory : List ℕ} {word : ℕ}
     (held : Holds c s latches memory word) (fed : Fed c f inputs) where
   -- the first pass
-  first-alike : (w : ℕ) → w ≤ lastWire c → evaluate c (entry inputs) (entry latches) (bit 0) w ≡ firstPass c s f w
+  pub first-alike : (w : ℕ) → w ≤ lastWire c → evaluate c (entry inputs) (entry latches) (bit 0) w ≡ firstPass c s f w
   unfolding firstPass
   first-alike = evaluate-alike (limits .codes) (fed .input-fed) (held .latch-held) (λ t h. bit-zero t)
 
@@ -166,7 +166,7 @@ module _ (r : Record.Netlist) (latches gates : List ℕ) where
   sweep-lists v zero w = refl
   sweep-lists v (suc g) w = rw (sweep-lists v g w, sweep-lists v g (getD gates (2 * g) 0 / 2), sweep-lists v g (getD gates (2 * g + 1) 0 / 2))
 
-  evaluate-lists : (input latch read : ℕ → Bool) (w : ℕ) → evaluate (netOf r [] gates) input latch read w ≡ evaluate (netOf r latches gates) input latch read w
+  pub evaluate-lists : (input latch read : ℕ → Bool) (w : ℕ) → evaluate (netOf r [] gates) input latch read w ≡ evaluate (netOf r latches gates) input latch read w
   unfolding netOf evaluate sources
   evaluate-lists input latch read w = sweep-lists (sources (netOf r latches gates) input latch read) (r .gates) w
 

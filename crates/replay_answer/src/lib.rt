@@ -1,5 +1,5 @@
 // The replay of a solver's answer from its text, over a record and unpacked lists: the answer is read in one piece, and what it says is run
-// (RULES Q1 to Q7, Y1, Y4 to Y10).
+// (RULES Q1 to Q7, Y1, Y5 to Y8 and Y11 to Y14).
 use answer_lines::AnswerKind;
 use answer_signs::SignTable;
 use netlist::Netlist;

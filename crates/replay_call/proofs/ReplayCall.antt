@@ -69,7 +69,7 @@ tests-shown c latchCount gateCount k memory trace h =
     let b = then-passes (testDepth k) _ .0 (a .1) in
     let d = then-passes (testRoom (2 ^ c .m) (length memory)) _ .0 (b .1) in
     record {
-      limits = passes-accepted c latchCount gateCount .0 (a .0) .0 .limits;
+      accepted = passes-accepted c latchCount gateCount .0 (a .0) .0;
       depth = depth-passes k (b .0);
       memory-size = room-shown (2 ^ c .m) (length memory) (d .0);
       trace-size = room-shown (traceLength c k) (length trace) (d .1);

@@ -10,11 +10,13 @@ use Rattle.model.specs.Circuit.{codeValue, run, stateAt, initial}
 use Rattle.model.specs.Acceptance.{Accepted}
 use Rattle.model.specs.Variables.{base}
 use Rattle.model.specs.Claim.{feedOf, idleOf}
+use Rattle.model.proofs.Bits.{fromBits-same}
 use Rattle.model.proofs.Search.{none-below}
 use Rattle.model.proofs.Booleans.{neither-true}
-use Rattle.circuit_step.proofs.Alike.{InputsAlike, LatchesAlike, RE-alike, states-same}
-use Rattle.replay_frame.specs.Replay.{Said, replayed, replayedState, fedUnclear, feedFault}
-use Rattle.replay_frame.proofs.Replay.{any-same}
+use Rattle.circuit_step.proofs.Alike.{InputsAlike, RE-alike}
+use Rattle.circuit_step.proofs.Touched.{any-same}
+use Rattle.replay_frame.specs.Replay.{Said, begunFrom, runFrom, wordSaid, startWords, fills, replayed, fedUnclear, feedFault}
+use Rattle.replay_frame.proofs.SaidAlike.{SaidAlike, RE-on, RE-said, fills-said, words-alike}
 use Rattle.replay_call.specs.Settled.{FaultsSettled}
 
 module _ {c : Netlist} (ok : Accepted c) {y z : Said} (same : (v : ℕ) → y .unclear v ≡ z .unclear v)
@@ -30,36 +32,50 @@ module _ {c : Netlist} (ok : Accepted c) {y z : Said} (same : (v : ℕ) → y .u
   unfolding feedFault fedUnclear
   inputs-alike i e = inputs-clear i (neither-true (anyBelow (c .inputs) (λ x. y .unclear (base c i + inputWire c x))) _ .0 e .0)
 
-  -- and frame 0 the same idle word where RE is false
-  idles-alike : feedFault c y 0 ≡ false → codeValue (replayed c y 0) (c .RE) ≡ false
-      → (t : ℕ) → t < readBits c → idleOf c (y .value) t ≡ idleOf c (z .value) t
-  unfolding feedFault fedUnclear idleOf
-  idles-alike e r t h =
-      let idle = neither-true (anyBelow (c .inputs) (λ x. y .unclear (base c 0 + inputWire c x))) _ .0 e .1 in
-      clear (base c 0 + readWire c t) (none-below (λ t. y .unclear (base c 0 + readWire c t)) (readBits c) .0 (only (rw r at idle)) t h)
+  -- and the same read bits where they are fed
+  reads-alike : (i : ℕ) → feedFault c y i ≡ false → (fills c y i || (eqb i 0 && not (codeValue (replayed c y i) (c .RE)))) ≡ true
+      → (t : ℕ) → t < readBits c → y .value (base c i + readWire c t) ≡ z .value (base c i + readWire c t)
+  unfolding feedFault fedUnclear
+  reads-alike i e r t h =
+      let q = neither-true (anyBelow (c .inputs) (λ x. y .unclear (base c i + inputWire c x))) _ .0 e .1 in
+      clear (base c i + readWire c t) (none-below (λ t. y .unclear (base c i + readWire c t)) (readBits c) .0 (only (rw r at q)) t h)
     where
-      only : {b : Bool} → (true && (not false && b)) ≡ false → b ≡ false
+      only : {b : Bool} → (true && b) ≡ false → b ≡ false
       only e = e
 
-  -- where no frame before has a fault, a frame begins with the same latches
-  latches-alike : (i : ℕ) → ((j : ℕ) → j < i → feedFault c y j ≡ false) → LatchesAlike c (replayedState c y i) (replayedState c z i)
-  unfolding stateAt initial
-  latches-alike zero none = λ l h. refl
-  latches-alike (suc i) none =
-      states-same ok (feedOf c (y .value)) (feedOf c (z .value)) (idles-alike (none 0 (omega arith))) (suc i) (λ j h. inputs-alike j (none j h)) .latch-alike
+  -- RE in frame 0 is that of the replay, whatever the memory
+  RE-first : (words : ℕ → ℕ) → codeValue (replayed c y 0) (c .RE) ≡ codeValue (runFrom c y words 0) (c .RE)
+  unfolding run stateAt initial
+  RE-first words = RE-alike ok (begunFrom c y (startWords c y 1)) (begunFrom c y words) (feedOf c (y .value) 0) (feedOf c (y .value) 0) (λ l h. refl) (λ x h. refl)
 
-  -- so it has a fault with both or with neither
-  fault-alike : (i : ℕ) → ((j : ℕ) → j < i → feedFault c y j ≡ false) → feedFault c y i ≡ feedFault c z i
-  unfolding feedFault fedUnclear run
-  fault-alike i none =
-      by-inputs (eqb i 0) (anyBelow (c .inputs) (λ x. y .unclear (base c i + inputWire c x))) refl
-      (any-same (c .inputs) (λ x h. same (base c i + inputWire c x))) (any-same (readBits c) (λ t h. same (base c i + readWire c t)))
-      (λ e. RE-alike ok (replayedState c y i) (replayedState c z i) (feedOf c (y .value) i) (feedOf c (z .value) i) (latches-alike i none) (inputs-clear i e))
+  -- where no frame before has a fault, they are said alike
+  said-alike : (i : ℕ) → ((j : ℕ) → j < i → feedFault c y j ≡ false) → SaidAlike c y z i
+  unfolding wordSaid idleOf
+  said-alike i none =
+      record {
+        inputs-said = λ j h. inputs-alike j (none j h);
+        words-said = λ j h f. fromBits-same (readBits c) (λ t. y .value (base c j + readWire c t)) (λ t. z .value (base c j + readWire c t)) (reads-alike j (none j h) (rw f));
+        idle-said = λ h words r. reads-alike 0 (none 0 h) (idle-fed (fills c y 0) (RE-first words ∙ r));
+      }
     where
-      by-inputs : {a b idle idle′ r r′ : Bool} (first q : Bool) → a ≡ q → a ≡ b → idle ≡ idle′ → (a ≡ false → r ≡ r′)
-          → (a || (first && (not r && idle))) ≡ (b || (first && (not r′ && idle′)))
-      by-inputs first true e ab i r = rw (← ab, e)
-      by-inputs first false e ab i r = rw (← ab, e, r e, i)
+      idle-fed : (b : Bool) → codeValue (replayed c y 0) (c .RE) ≡ false → (b || (true && not (codeValue (replayed c y 0) (c .RE)))) ≡ true
+      idle-fed true e = refl
+      idle-fed false e = rw e
+
+  -- so a frame has a fault with both or with neither
+  fault-alike : (i : ℕ) → ((j : ℕ) → j < i → feedFault c y j ≡ false) → feedFault c y i ≡ feedFault c z i
+  unfolding feedFault fedUnclear
+  fault-alike i none =
+      let q : SaidAlike c y z i = said-alike i none in
+      let words : (x : ℕ) → startWords c y i x ≡ startWords c z i x = words-alike ok i q in
+      by-inputs (anyBelow (c .inputs) (λ x. y .unclear (base c i + inputWire c x))) refl
+      (any-same (c .inputs) (λ x h. same (base c i + inputWire c x))) (any-same (readBits c) (λ t h. same (base c i + readWire c t)))
+      (λ e. ap₂ (λ b r. b || (eqb i 0 && not r)) (fills-said ok i q words (inputs-clear i e)) (RE-on ok y i ∙ RE-said ok i q words (inputs-clear i e) ∙ sym (RE-on ok z i)))
+    where
+      by-inputs : {a b reads reads′ r r′ : Bool} (q : Bool) → a ≡ q → a ≡ b → reads ≡ reads′ → (a ≡ false → r ≡ r′)
+          → (a || (r && reads)) ≡ (b || (r′ && reads′))
+      by-inputs true e ab i r = rw (← ab, e)
+      by-inputs false e ab i r = rw (← ab, e, r e, i)
 
 -- so the first fault is the same
 pub faults-settled : FaultsSettled

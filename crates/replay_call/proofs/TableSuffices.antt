@@ -15,6 +15,7 @@ use Rattle.model.specs.Circuit.{codeValue}
 use Rattle.model.specs.Acceptance.{Accepted, IsCode}
 use Rattle.model.specs.Variables.{base}
 use Rattle.model.specs.Claim.{feedOf, idleOf}
+use Rattle.model.proofs.Bits.{fromBits-same}
 use Rattle.model.proofs.Search.{firstWhere-is, first-unique}
 use Rattle.model.proofs.Gather.{gather-same}
 use Rattle.model.proofs.Variables.{base-suc, base-monotone, base-most}
@@ -31,9 +32,11 @@ use Rattle.answer_signs.specs.Signs.{SignsOf}
 use Rattle.answer_signs.proofs.Signs.{table-tells}
 use Rattle.answer_lines.specs.declared.AnswerKind.{AnswerKind}
 use Rattle.answer_lines.specs.declared.AnswerKind.the-variants.{Malformed, Unsatisfiable, Satisfiable}
-use Rattle.circuit_step.proofs.Alike.{InputsAlike, StatesAlike, states-same, run-same}
-use Rattle.replay_frame.specs.Replay.{Said, saidIn, replayed, replayedState, fedUnclear, feedFault, violates, firstViolation, lineOf, traceText}
-use Rattle.replay_frame.proofs.Replay.{any-same, line-same}
+use Rattle.circuit_step.proofs.Alike.{InputsAlike, StatesAlike, states-same}
+use Rattle.circuit_step.proofs.Touched.{any-same}
+use Rattle.replay_frame.specs.Replay.{Said, saidIn, wordSaid, replayed, replayedState, fedUnclear, feedFault, violates, firstViolation, lineOf, traceText}
+use Rattle.replay_frame.proofs.Replay.{line-same}
+use Rattle.replay_frame.proofs.SaidAlike.{SaidAlike, fills-said, words-alike, runs-alike}
 use Rattle.replay_call.specs.ReplayCall.{replayTests, fedFault, runVerdict, outcome, wordsLeft, unlessRefused, replayAnswer, replayReply, replaySent, afterTests, replayMemory, traceAfter, replayTrace}
 use Rattle.replay_call.specs.Settled.{SayAlike, ReplayAlike, saidBy, TableSuffices}
 
@@ -65,8 +68,18 @@ module _ {c : Netlist} (ok : Accepted c) (k : ℕ) {y z : Said} (say : SayAlike 
   unfolding idleOf
   idles t l = say .value-alike (base c 0 + readWire c t) (within 0 (readWire c t) (omega arith) (omega arith))
 
+  said-alike : (i : ℕ) → i ≤ k + 1 → SaidAlike c y z i
+  unfolding wordSaid
+  said-alike i h =
+      record {
+        inputs-said = λ j l. inputs j (omega arith);
+        words-said = λ j l f. fromBits-same (readBits c) (λ t. y .value (base c j + readWire c t)) (λ t. z .value (base c j + readWire c t))
+            (λ t b. say .value-alike (base c j + readWire c t) (within j (readWire c t) (omega arith) (omega arith)));
+        idle-said = λ l words r. idles;
+      }
+
   runs : (i : ℕ) → i ≤ k → (w : ℕ) → w ≤ lastWire c → replayed c y i w ≡ replayed c z i w
-  runs i h = run-same ok (feedOf c (y .value)) (feedOf c (z .value)) (λ r. idles) i (λ j l. inputs j (omega arith))
+  runs i h = runs-alike ok i (said-alike (suc i) (omega arith))
 
   codes : (i : ℕ) → i ≤ k → (x : ℕ) → IsCode c x → codeValue (replayed c y i) x ≡ codeValue (replayed c z i) x
   codes i h x l = code-same (replayed c y i) (replayed c z i) x (runs i h (x / 2) (omega arith))
@@ -76,8 +89,8 @@ module _ {c : Netlist} (ok : Accepted c) (k : ℕ) {y z : Said} (say : SayAlike 
   faults =
       any-same (k + 1) (λ i h.
       ap₂ _||_ (any-same (c .inputs) (λ x l. say .unclear-alike (base c i + inputWire c x) (within i (inputWire c x) (omega arith) (omega arith))))
-      (ap (λ idle. eqb i 0 && idle) (ap₂ _&&_ (ap not (codes i (omega arith) (c .RE) (ok .limits .codes .RE-fits)))
-      (any-same (readBits c) (λ t l. say .unclear-alike (base c i + readWire c t) (within i (readWire c t) (omega arith) (omega arith)))))))
+      (ap₂ _&&_ (ap₂ (λ b r. b || (eqb i 0 && not r)) (fills-said ok i (said-alike i (omega arith)) (words-alike ok i (said-alike i (omega arith))) (inputs i (omega arith))) (codes i (omega arith) (c .RE) (ok .limits .codes .RE-fits)))
+      (any-same (readBits c) (λ t l. say .unclear-alike (base c i + readWire c t) (within i (readWire c t) (omega arith) (omega arith))))))
 
   first : firstViolation c y k ≡ firstViolation c z k
   unfolding firstViolation violates
@@ -94,7 +107,7 @@ module _ {c : Netlist} (ok : Accepted c) (k : ℕ) {y z : Said} (say : SayAlike 
   unfolding delivered
   words old =
       let states : StatesAlike c (feedOf c (y .value) (k + 1)) (replayedState c y (k + 1)) (replayedState c z (k + 1))
-      = states-same ok (feedOf c (y .value)) (feedOf c (z .value)) (λ r. idles) (k + 1) (λ j l. inputs j (omega arith)) in
+      = states-same ok (feedOf c (y .value)) (feedOf c (z .value)) (λ x b. words-alike ok (k + 1) (said-alike (k + 1) (omega arith)) x) (λ r. idles) (k + 1) (λ j l. inputs j (omega arith)) in
       rw (gather-same (2 ^ c .m) (λ t. replayedState c y (k + 1) .memory t ∷ []) (λ t. replayedState c z (k + 1) .memory t ∷ []) (λ t h. rw (states .memory-alike t h)))
 
   pub outcome-alike : (kind : AnswerKind) → outcome c k kind y ≡ outcome c k kind z
@@ -103,11 +116,11 @@ module _ {c : Netlist} (ok : Accepted c) (k : ℕ) {y z : Said} (say : SayAlike 
   outcome-alike Unsatisfiable = refl
   outcome-alike Satisfiable = rw (faults, first)
 
-  pub words-alike : (kind : AnswerKind) (old : List ℕ) → wordsLeft c k kind y old ≡ wordsLeft c k kind z old
+  pub left-alike : (kind : AnswerKind) (old : List ℕ) → wordsLeft c k kind y old ≡ wordsLeft c k kind z old
   unfolding wordsLeft
-  words-alike Malformed old = refl
-  words-alike Unsatisfiable old = refl
-  words-alike Satisfiable old = rw (faults, words old)
+  left-alike Malformed old = refl
+  left-alike Unsatisfiable old = refl
+  left-alike Satisfiable old = rw (faults, words old)
 
 -- where a replay passes its tests, the netlist is accepted and the depth within its limit
 accepted-at : (c : Netlist) (latchCount gateCount k words room : ℕ) → replayTests c latchCount gateCount k words room ≡ Passed → Accepted c × (k ≤ 255)
@@ -139,7 +152,7 @@ module _ (c : Netlist) (latchCount gateCount k : ℕ) (kind : AnswerKind) {y z :
   memory-alike old room = by (replayTests c latchCount gateCount k (length old) room) refl
     where
       by : (v : Verdict) → replayTests c latchCount gateCount k (length old) room ≡ v → afterTests v (wordsLeft c k kind y old) old ≡ afterTests v (wordsLeft c k kind z old) old
-      by Passed e = let ok = accepted-at c latchCount gateCount k (length old) room e in words-alike (ok .0) k (say ok) kind old
+      by Passed e = let ok = accepted-at c latchCount gateCount k (length old) room e in left-alike (ok .0) k (say ok) kind old
       by (Refused r p) e = refl
 
   trace-alike : (words : ℕ) (old : List ℕ) → replayTrace c latchCount gateCount k kind y words old ≡ replayTrace c latchCount gateCount k kind z words old

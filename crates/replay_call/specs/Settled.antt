@@ -1,4 +1,4 @@
--- What a replay depends on, as theorems: not on what stands for an unclear variable (RULES Y10), and not on what is said of a variable past
+-- What a replay depends on, as theorems: not on what stands for an unclear variable (RULES Y13), and not on what is said of a variable past
 -- the file's. The first is promised by `marrubigai_replay`, both by `replay_call::replay`; the proofs are in proofs/Settled.antt and TableSuffices.antt.
 use Prim.Native.Nat.{ℕ, _+_, _≤_}
 use mathlib.Core.Path.{_≡_}
@@ -14,7 +14,7 @@ use Rattle.answer_lines.specs.declared.AnswerKind.{AnswerKind}
 use Rattle.replay_frame.specs.Replay.{Said, saidIn, feedFault}
 use Rattle.replay_call.specs.ReplayCall.{replaySent, replayMemory, replayTrace}
 
--- RULES Y10: "Whatever stands for an unclear variable, it does not change whether there is one". Two that say the same of every clear variable
+-- RULES Y13: "Whatever stands for an unclear variable, it does not change whether there is one". Two that say the same of every clear variable
 abbrev pub FaultsSettled : Type 0
 FaultsSettled = (c : Netlist) → Accepted c → (y z : Said) → ((v : ℕ) → y .unclear v ≡ z .unclear v)
     → ((v : ℕ) → y .unclear v ≡ false → y .value v ≡ z .value v) → (n : ℕ) → anyBelow n (feedFault c y) ≡ anyBelow n (feedFault c z)

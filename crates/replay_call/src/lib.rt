@@ -1,5 +1,5 @@
 // The replay of a solver's answer as a call over a record and unpacked lists: its tests in their order, what it answers, and what it leaves in
-// the lent memory and the lent trace (RULES Y1, Y4 to Y10, T14, T15 and T49).
+// the lent memory and the lent trace (RULES Y1, Y5 to Y8, Y11 to Y14, T14, T15 and T49).
 use answer_lines::AnswerKind;
 use answer_signs::SignTable;
 use netlist::Netlist;
@@ -11,7 +11,7 @@ ghost use Prim.Native.Nat.{_≤_};
 ghost use lib.ListN.{length};
 ghost use Rattle.model.specs.Acceptance.{SizesFit};
 ghost use Rattle.netlist.specs.NetOf.{netOf, alone};
-ghost use Rattle.replay_frame.specs.Replay.{saidIn, traceText};
+ghost use Rattle.replay_frame.specs.Replay.{saidIn, OneRunTheorem, traceText};
 ghost use Rattle.replay_run.specs.Runs.{traceLength, RunFits};
 ghost use Rattle.replay_call.specs.ReplayCall.{ReplaysValues, replayTests, replayReply, replaySent, replayMemory, replayTrace};
 ghost use Rattle.replay_call.specs.Settled.{FaultsSettled, TableSuffices};
@@ -151,7 +151,7 @@ pub fn replay(
         (now (memory .entry)) (length (now (trace .entry))) ⌝ }
     ensures trace { λ _. ⌜ now (trace .exit) ≡ replayTrace (netOf net (now (latches .entry)) (now (gates .entry))) «latch_count» «gate_count» depth kind (saidIn (now (signs .entry)))
         (length (now (memory .entry))) (now (trace .entry)) ⌝ }
-    ensures settled { λ _. ⌜ FaultsSettled × TableSuffices ⌝ }
+    ensures settled { λ _. ⌜ FaultsSettled × TableSuffices × OneRunTheorem ⌝ }
 {
     let words = memory.len();
     let room = trace.len();

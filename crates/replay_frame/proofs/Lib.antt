@@ -1,1 +1,4 @@
 pub mod Replay
+pub mod Filling
+pub mod OneRun
+pub mod SaidAlike

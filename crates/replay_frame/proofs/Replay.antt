@@ -1,12 +1,11 @@
--- Laws of specs/Replay.antt: variables of a frame one after the other, and the line of a frame. No contract cites this file.
-use Prim.Native.Nat.{ℕ, zero, suc, _+_, _≤_, _<_}
-use mathlib.Core.Path.{_≡_, refl, sym, _∙_, ap, ap₂}
-use mathlib.Core.Bool.{Bool, _||_}
+-- Laws of specs/Replay.antt: the line of a frame. No contract cites this file.
+use Prim.Native.Nat.{ℕ, suc, _+_, _<_}
+use mathlib.Core.Path.{_≡_, refl, sym, _∙_, ap}
+use mathlib.Core.Bool.{Bool}
 use mathlib.Core.List.{List, [], _∷_, _++_, append-assoc}
 use native.Mathlib.Omega.{arith}
 use lib.ListN.{length, getD, set, drop, length-append}
 use lib.Seq.{drop-cons, set-at}
-use Rattle.model.specs.Search.{anyBelow}
 use Rattle.model.specs.Gather.{gather}
 use Rattle.model.specs.Wrote.{over, Wrote}
 use Rattle.model.specs.Netlist.{Netlist, lastWire}
@@ -15,12 +14,6 @@ use Rattle.model.proofs.Gather.{length-gather, gather-same}
 use Rattle.decimal.specs.Digits.{lineFeed}
 use Rattle.call_lists.specs.Delivered.{delivered}
 use Rattle.replay_frame.specs.Replay.{digitOf, lineOf}
-
--- whether any has a property needs it below the number alone
-pub any-same : (n : ℕ) {f g : ℕ → Bool} → ((x : ℕ) → x < n → f x ≡ g x) → anyBelow n f ≡ anyBelow n g
-unfolding anyBelow
-any-same zero same = refl
-any-same (suc n) same = ap₂ _||_ (any-same n (λ x h. same x (omega arith))) (same n (omega arith))
 
 -- one element more behind those in front
 set-behind : (xs old : List ℕ) (n y : ℕ) → length xs ≡ n → n < length old → set (over xs old) n y ≡ over (xs ++ y ∷ []) old

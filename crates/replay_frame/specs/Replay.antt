@@ -1,17 +1,23 @@
--- The replay of a solver's answer (RULES Y1, Y4 to Y6, Y9 and Y10): the model's run, fed what the answer says of the inputs and of the
--- idle word. Cited by the functions that replay and by what the call promises (replay_call/specs/ReplayCall).
-use Prim.Native.Nat.{ℕ, _+_}
-use mathlib.Core.Bool.{Bool, cond, not, _&&_, _||_}
+-- The replay of a solver's answer (RULES Y1, Y5, Y6 and Y11 to Y14): the model's run, fed what the answer says of the inputs, of the
+-- idle word and of the words of an unknown start that are read. Cited by the functions that replay and by what the call promises
+-- (replay_call/specs/ReplayCall).
+use Prim.Native.Nat.{ℕ, zero, suc, _+_, _≤_}
+use mathlib.Core.Path.{_≡_}
+use mathlib.Core.Bool.{Bool, true, false, cond, not, _&&_, _||_}
 use mathlib.Core.List.{List, [], _∷_, _++_}
 use lib.Dec.{eqb}
 use Rattle.model.specs.Search.{anyBelow, firstWhere}
 use Rattle.model.specs.Gather.{gather}
-use Rattle.model.specs.Netlist.{Netlist, port, readBits, inputWire, readWire, lastWire}
-use Rattle.model.specs.Circuit.{Values, codeValue, State, Feeds, stateAt, run, initial}
+use Rattle.model.specs.Bits.{fromBits}
+use Rattle.model.specs.Netlist.{Netlist, Start, given, unknown, start, port, readBits, inputWire, readWire, lastWire}
+use Rattle.model.specs.Circuit.{Values, codeValue, State, addressOf, stateAt, run, Begins, initial}
+use Rattle.model.specs.Acceptance.{Accepted}
+use Rattle.model.specs.Agree.{givenWord}
 use Rattle.model.specs.Variables.{base}
 use Rattle.model.specs.Numbers.{Assignment}
 use Rattle.model.specs.Claim.{feedOf, idleOf}
 use Rattle.decimal.specs.Digits.{lineFeed}
+use Rattle.circuit_step.specs.Touched.{touchedBefore}
 use Rattle.answer_signs.specs.Signs.{trueIn, unclearIn}
 
 -- what an answer says of each variable: whether it is true (RULES Q5), and whether that is unclear (RULES Q6)
@@ -23,23 +29,66 @@ pub record Said : Type 0 where
 abbrev pub saidIn : List ℕ → Said
 saidIn signs = record { value = trueIn signs; unclear = unclearIn signs }
 
--- Frame i of the replay, and the state in which it begins: the model's run, fed the inputs and frame 0's idle word that are said. Nothing
--- else of the answer counts (RULES Y9)
+-- the model's run from a memory, fed the inputs and frame 0's idle word that are said
+abbrev pub begunFrom : Netlist → Said → (ℕ → ℕ) → State
+begunFrom c y words = initial c words (idleOf c (y .value))
+
+abbrev pub runFrom : Netlist → Said → (ℕ → ℕ) → ℕ → Values
+runFrom c y words = run c (begunFrom c y words) (feedOf c (y .value))
+
+-- whether the start is unknown
+unfoldable pub isUnknown : Start → Bool
+isUnknown (given word) = false
+isUnknown unknown = true
+
+-- frame i of that run reads a word of an unknown start: one that no frame before it reads or writes (RULES Y12)
+unfoldable pub fillsFrom : Netlist → Said → (ℕ → ℕ) → ℕ → Bool
+fillsFrom c y words i =
+    isUnknown (start c)
+    && (codeValue (runFrom c y words i) (port c .RE)
+    && not (touchedBefore c (begunFrom c y words) (feedOf c (y .value)) i (addressOf c (port c) (runFrom c y words i))))
+
+-- the word of the read bits that are said of frame i
+unfoldable pub wordSaid : Netlist → Said → ℕ → ℕ
+wordSaid c y i = fromBits (readBits c) (λ t. y .value (base c i + readWire c t))
+
+-- The memory that the replay begins with, as far as its first i frames tell: the given word or, where the start is unknown, 0 but for what
+-- they fill. A frame that reads a word of an unknown start fills it with the read bits that are said of it (RULES Y12)
+unfoldable pub startWords : Netlist → Said → ℕ → ℕ → ℕ
+startWords c y zero x = givenWord (start c)
+startWords c y (suc i) x =
+    cond (fillsFrom c y (startWords c y i) i && eqb x (addressOf c (port c) (runFrom c y (startWords c y i) i))) (wordSaid c y i) (startWords c y i x)
+
+-- frame i fills a word
+abbrev pub fills : Netlist → Said → ℕ → Bool
+fills c y i = fillsFrom c y (startWords c y i) i
+
+-- Frame i of the replay, and the state in which it begins: the model's run from the memory filled so far. Nothing else of the answer
+-- counts (RULES Y11). What later frames fill does not change it: it is one run from one memory (`OneRun`)
 abbrev pub replayed : Netlist → Said → ℕ → Values
-replayed c y = run c (initial c (idleOf c (y .value))) (feedOf c (y .value))
+replayed c y i = runFrom c y (startWords c y (suc i)) i
 
 abbrev pub replayedState : Netlist → Said → ℕ → State
-replayedState c y = stateAt c (initial c (idleOf c (y .value))) (feedOf c (y .value))
+replayedState c y i = stateAt c (begunFrom c y (startWords c y i)) (feedOf c (y .value)) i
 
--- RULES Y10: an input of frame i is unclear or, in frame 0, a bit of the idle word where RE is false in the values v of the frame that is
--- stepped
-unfoldable pub fedUnclear : Netlist → (ℕ → Bool) → ℕ → Values → Bool
-fedUnclear c unclear i v =
+-- The frames 0 to k of the replay are those of the run from one memory that a run may begin with, and the memory that frame k leaves is that
+-- run's. Promised by `marrubigai_replay`; the proof is in proofs/OneRun.antt
+pub record OneRun (c : Netlist) (y : Said) (k : ℕ) : Type 0 where
+  pub begins : Begins c (startWords c y (k + 1))
+  pub frames : (i : ℕ) → i ≤ k → replayed c y i ≡ runFrom c y (startWords c y (k + 1)) i
+
+abbrev pub OneRunTheorem : Type 0
+OneRunTheorem = (c : Netlist) → Accepted c → (y : Said) (k : ℕ) → OneRun c y k
+
+-- RULES Y13: an input of frame i is unclear; or a read bit where RE is false in frame 0, with the values v of the frame that is stepped, or
+-- where the frame fills a word
+unfoldable pub fedUnclear : Netlist → (ℕ → Bool) → ℕ → Bool → Values → Bool
+fedUnclear c unclear i filled v =
     anyBelow (c .inputs) (λ x. unclear (base c i + inputWire c x))
-    || (eqb i 0 && (not (codeValue v (port c .RE)) && anyBelow (readBits c) (λ t. unclear (base c i + readWire c t))))
+    || ((filled || (eqb i 0 && not (codeValue v (port c .RE)))) && anyBelow (readBits c) (λ t. unclear (base c i + readWire c t)))
 
 unfoldable pub feedFault : Netlist → Said → ℕ → Bool
-feedFault c y i = fedUnclear c (y .unclear) i (replayed c y i)
+feedFault c y i = fedUnclear c (y .unclear) i (fills c y i) (replayed c y i)
 
 -- P is false in frame i
 unfoldable pub violates : Netlist → Said → ℕ → Bool

@@ -1,29 +1,41 @@
-// One frame of a replay: the circuit is fed what an answer says of the frame's inputs, in frame 0 also of the idle word, and stepped (RULES Y9 and
-// Y10).
+// One frame of a replay: the circuit is fed what an answer says of the frame's inputs, in frame 0 also of the idle word; a word of an unknown
+// start that it reads is filled as the answer says; and it is stepped (RULES Y11 to Y13).
 use answer_signs::SignTable;
 use circuit_values::SourceValues;
 use circuit_values::WireValues;
 use netlist::Netlist;
 use netlist::UnpackedList;
 ghost use mathlib.Core.Path.{_≡_};
-ghost use Prim.Native.Nat.{ℕ, _+_, _≤_, _<_};
+ghost use Prim.Native.Nat.{ℕ, _+_, _^_, _≤_, _<_};
+ghost use mathlib.Core.Bool.{not, _&&_};
+ghost use mathlib.Core.List.{[]};
 ghost use lib.ListN.{length};
 ghost use Rattle.model.specs.Bits.{bit, fromBits};
 ghost use Rattle.model.specs.Search.{anyBelow};
 ghost use Rattle.model.specs.Wrote.{Wrote};
-ghost use Rattle.model.specs.Netlist.{lastWire};
+ghost use Rattle.model.specs.Netlist.{port, lastWire};
+ghost use Rattle.model.specs.Circuit.{codeValue, addressOf};
 ghost use Rattle.model.specs.Acceptance.{SizesFit, WithinLimits};
 ghost use Rattle.model.specs.Claim.{idleOf};
 ghost use Rattle.netlist.specs.NetOf.{netOf, alone};
 ghost use Rattle.circuit_values.specs.WireTable.{entry};
 ghost use Rattle.answer_signs.specs.Signs.{trueIn, unclearIn};
-ghost use Rattle.replay_frame.specs.Replay.{saidIn, digitOf, lineOf};
-ghost use Rattle.replay_frame.specs.Frames.{FrameFits, FrameDone, FrameJudged};
+ghost use Rattle.replay_frame.specs.Replay.{saidIn, wordSaid, fills, digitOf, lineOf};
+ghost use Rattle.replay_frame.specs.Frames.{marked, Filled, FrameFits, FrameDone, FrameJudged};
 
 // What a frame of a replay shows: that it is fed something unclear, and that it breaks the property.
 pub struct FrameVerdict {
     pub fault: bool,
     pub broken: bool,
+}
+
+// Whether a frame has read or written a word, for each of the 4,096 there may be.
+pub type TouchedWords = [bool; 4096];
+
+// A frame that was stepped: the word held behind it, and whether it filled a word.
+pub struct FrameStepped {
+    pub held: u32,
+    pub filled: bool,
 }
 
 // Whether any of `count` variables from `first` on is unclear.
@@ -92,21 +104,85 @@ pub fn put_line(out: &mut [u8], values: &WireValues, net: Netlist) -> usize
     wires + 1
 }
 
+// The word of the read bits of frame i, as the signs say it.
+fn word_said(net: Netlist, signs: &SignTable, i: u32) -> u32
+    requires { ⌜ SizesFit (alone net) × (i ≤ 255) ⌝ }
+    ensures { λ r. ⌜ r ≡ wordSaid (alone net) (saidIn (now (signs .entry))) i ⌝ }
+{
+    let base = clause_variables::frame_base(net, i);
+    let read = netlist::first_read_wire(net).0;
+    word_of(signs, base + read, net.n)
+}
+
 // The idle word, which is held before frame 0: what the signs say of the read bits of frame 0.
 pub fn idle_word(net: Netlist, signs: &SignTable) -> u32
     requires { ⌜ SizesFit (alone net) ⌝ }
     ensures { λ r. ⌜ ((t : ℕ) → t < net .n → bit r t ≡ idleOf (alone net) (trueIn (now (signs .entry))) t) ⌝ }
 {
-    let base = clause_variables::frame_base(net, 0);
-    let read = netlist::first_read_wire(net).0;
-    word_of(signs, base + read, net.n)
+    word_said(net, signs, 0)
 }
 
-// Steps frame i with the word held before it, fed what the signs say of its inputs. Answers the word held behind it.
+// Whether a frame reads a word that no frame before has touched.
+fn reads_untouched(values: &WireValues, touched: &TouchedWords, net: Netlist) -> bool
+    requires { ⌜ WithinLimits (alone net) × (length (now touched) ≡ 4096) ⌝ }
+    ensures { λ r. ⌜ r ≡ (codeValue (entry (now (values .entry))) (alone net .RE)
+        && not (entry (now (touched .entry)) (addressOf (alone net) (port (alone net)) (entry (now (values .entry)))))) ⌝ }
+{
+    if circuit_values::code_value(values, net.re) {
+        let address = circuit_values::address_of(values, net);
+        return !touched[address as usize];
+    }
+    false
+}
+
+// Fills a word of an unknown start where frame i reads it: by the first pass, which settles address and RE. Answers whether it does.
+fn fill_word(
+    values: &mut WireValues,
+    memory: &mut [u32],
+    touched: &TouchedWords,
+    net: Netlist,
+    gates: &UnpackedList,
+    inputs: &SourceValues,
+    state: &SourceValues,
+    signs: &SignTable,
+    i: u32,
+) -> bool
+    requires { ⌜ WithinLimits (netOf net [] (now gates)) × (length (now values) ≡ 601) × (2 ^ net .m ≤ length (now memory)) × (length (now touched) ≡ 4096)
+        × (i ≤ 255) ⌝ }
+    ensures filled { λ r. ⌜ Filled (netOf net [] (now (gates .entry))) (now (touched .entry)) (now (inputs .entry)) (now (state .entry))
+        (wordSaid (alone net) (saidIn (now (signs .entry))) i) (now (memory .entry)) (now (memory .exit)) r ⌝ }
+    ensures size { λ _. ⌜ length (now (values .exit)) ≡ 601 ⌝ }
+{
+    if net.unknown_start == 0 {
+        return false;
+    }
+    circuit_values::evaluate(values, net, gates, inputs, state, 0);
+    if reads_untouched(values, touched, net) {
+        let address = circuit_values::address_of(values, net);
+        memory[address as usize] = word_said(net, signs, i);
+        return true;
+    }
+    false
+}
+
+// Marks the word that a frame reads or writes.
+fn mark_touched(values: &WireValues, touched: &mut TouchedWords, net: Netlist)
+    requires { ⌜ WithinLimits (alone net) × (length (now touched) ≡ 4096) ⌝ }
+    ensures { λ _. ⌜ now (touched .exit) ≡ marked (alone net) (entry (now (values .entry))) (now (touched .entry)) ⌝ }
+{
+    let reads = circuit_values::code_value(values, net.re);
+    if reads | circuit_values::code_value(values, net.we) {
+        let address = circuit_values::address_of(values, net);
+        touched[address as usize] = true;
+    }
+}
+
+// Steps frame i with the word held before it, fed what the signs say of its inputs and of a word that it fills.
 pub fn step_fed(
     values: &mut WireValues,
     inputs: &mut SourceValues,
     state: &mut SourceValues,
+    touched: &mut TouchedWords,
     memory: &mut [u32],
     net: Netlist,
     latches: &UnpackedList,
@@ -114,29 +190,39 @@ pub fn step_fed(
     signs: &SignTable,
     i: u32,
     held: u32,
-) -> u32
-    requires { ⌜ FrameFits (netOf net (now latches) (now gates)) (saidIn (now signs)) i (now values) (now inputs) (now state) (now memory) held ⌝ }
-    ensures { λ r. ⌜ FrameDone (netOf net (now (latches .entry)) (now (gates .entry))) (saidIn (now (signs .entry))) i (now (memory .entry))
-        (now (values .exit)) (now (inputs .exit)) (now (state .exit)) (now (memory .exit)) r ⌝ }
+) -> FrameStepped
+    requires { ⌜ FrameFits (netOf net (now latches) (now gates)) (saidIn (now signs)) i (now values) (now inputs) (now state) (now touched) (now memory) held ⌝ }
+    ensures done { λ r. ⌜ FrameDone (netOf net (now (latches .entry)) (now (gates .entry))) (saidIn (now (signs .entry))) i (now (memory .entry))
+        (now (values .exit)) (now (inputs .exit)) (now (state .exit)) (now (touched .exit)) (now (memory .exit)) (r .held) ⌝ }
+    ensures filled { λ r. ⌜ r .filled ≡ fills (netOf net (now (latches .entry)) (now (gates .entry))) (saidIn (now (signs .entry))) i ⌝ }
 {
     let base = clause_variables::frame_base(net, i);
     put_values(inputs, signs, base + 1, net.inputs);
-    circuit_step::step_frame(values, state, memory, net, latches, gates, inputs, held)
+    let filled = fill_word(values, memory, touched, net, gates, inputs, state, signs, i);
+    let next = circuit_step::step_frame(values, state, memory, net, latches, gates, inputs, held);
+    mark_touched(values, touched, net);
+    FrameStepped { held: next, filled }
 }
 
 // What frame i shows, by the table of its values.
-pub fn judge_frame(values: &WireValues, net: Netlist, signs: &SignTable, i: u32) -> FrameVerdict
+pub fn judge_frame(
+    values: &WireValues,
+    net: Netlist,
+    signs: &SignTable,
+    i: u32,
+    filled: bool,
+) -> FrameVerdict
     requires { ⌜ WithinLimits (alone net) × (i ≤ 255) ⌝ }
-    ensures { λ r. ⌜ FrameJudged (alone net) (unclearIn (now (signs .entry))) i (entry (now (values .entry))) r ⌝ }
+    ensures { λ r. ⌜ FrameJudged (alone net) (unclearIn (now (signs .entry))) i filled (entry (now (values .entry))) r ⌝ }
 {
     let base = clause_variables::frame_base(net, i);
     let read = netlist::first_read_wire(net).0;
     let input_fault = any_unclear(signs, base + 1, net.inputs);
-    let idle_fault = any_unclear(signs, base + read, net.n);
+    let read_fault = any_unclear(signs, base + read, net.n);
     let reads = circuit_values::code_value(values, net.re);
     let holds = circuit_values::code_value(values, net.p);
     FrameVerdict {
-        fault: input_fault | ((i == 0) & (!reads & idle_fault)),
+        fault: input_fault | ((filled | ((i == 0) & !reads)) & read_fault),
         broken: !holds,
     }
 }

@@ -15,7 +15,8 @@ use Rattle.model.specs.Bits.{bit}
 use Rattle.model.specs.Gather.{gather}
 use Rattle.model.specs.Search.{anyBelow, firstWhere, IsFirst}
 use Rattle.model.specs.Wrote.{over, Wrote}
-use Rattle.model.specs.Netlist.{Netlist, port, readBits, lastWire}
+use Rattle.model.specs.Netlist.{Netlist, startOf, port, readBits, lastWire}
+use Rattle.model.specs.Agree.{givenWord}
 use Rattle.model.specs.Circuit.{codeValue, initial}
 use Rattle.model.specs.Acceptance.{WithinLimits}
 use Rattle.model.proofs.Gather.{length-gather}
@@ -25,7 +26,7 @@ use Rattle.call_lists.proofs.Delivered.{length-delivered, delivered-next}
 use Rattle.circuit_values.specs.WireTable.{entry, HasBelow}
 use Rattle.circuit_step.specs.Held.{Holds}
 use Rattle.circuit_step.proofs.Held.{code-in}
-use Rattle.replay_frame.specs.Replay.{Said, replayed, fedUnclear, feedFault, violates, lineOf}
+use Rattle.replay_frame.specs.Replay.{Said, fills, replayed, fedUnclear, feedFault, violates, lineOf}
 use Rattle.replay_frame.specs.Frames.{FrameJudged}
 use Rattle.replay_frame.specs.declared.FrameVerdict.{FrameVerdict}
 use Rattle.replay_frame.proofs.Replay.{length-line, line-same}
@@ -61,11 +62,11 @@ first-next f i = first-unique (looked (f i) refl) (firstWhere-is f (i + 1))
 -- by the table of frame i's values
 module _ {c : Netlist} (limits : WithinLimits c) (y : Said) (i : ℕ) {table : List Bool} (q : HasBelow (lastWire c + 1) (replayed c y i) table) where
   -- what it shows
-  pub shown-by : {r : FrameVerdict} → FrameJudged c (y .unclear) i (entry table) r → Shown c y i r
+  pub shown-by : {filled : Bool} {r : FrameVerdict} → filled ≡ fills c y i → FrameJudged c (y .unclear) i filled (entry table) r → Shown c y i r
   unfolding feedFault fedUnclear violates
-  shown-by j =
+  shown-by f j =
       record {
-        fault-is = j .fault-is ∙ rw (code-in c q (c .RE) (limits .codes .RE-fits));
+        fault-is = j .fault-is ∙ rw (code-in c q (c .RE) (limits .codes .RE-fits), f);
         broken-is = j .broken-is ∙ rw (code-in c q (c .P) (limits .codes .P-fits));
       }
 
@@ -118,16 +119,26 @@ delivered-again f g n old h =
     delivered-by f n old (delivered n f (delivered n g old)) (omega arith) (delivered-at f n (delivered n g old) (omega arith))
     (behind-delivered f n (delivered n g old) ∙ behind-delivered g n old)
 
--- the initial state is held: every word the initial word, every latch at its reset, and the idle word
+-- the word that each is at first, by the record's fields
+pub given-word : (word u : ℕ) → u ≡ 0 → givenWord (startOf word u) ≡ word
+unfolding givenWord startOf
+given-word word u e = rw e
+
+pub unknown-word : (word u : ℕ) → (u ≡ 0 → ⊥) → givenWord (startOf word u) ≡ 0
+unfolding givenWord startOf
+unknown-word word zero h = absurd (h refl)
+unknown-word word (suc u) h = refl
+
+-- the initial state is held: every word the same, every latch at its reset, and the idle word
 pub initial-held : (c : Netlist) (latches : List Bool) (old : List ℕ) → 2 ^ c .m ≤ length old → length latches ≡ 600
     → ((l : ℕ) → l < c .latches → entry latches l ≡ eqb (c .reset l) 1) → {idle : ℕ → Bool} {word : ℕ} → ((t : ℕ) → t < readBits c → bit word t ≡ idle t)
-    → Holds c (initial c idle) latches (delivered (2 ^ c .m) (λ _. c .initialWord) old) word
+    → (first : ℕ) → Holds c (initial c (λ _. first) idle) latches (delivered (2 ^ c .m) (λ _. first) old) word
 unfolding initial
-initial-held c latches old h size each said =
+initial-held c latches old h size each said first =
     record {
       latch-size = size;
       latch-held = each;
-      memory-size = omega (arith, length-delivered (λ _. c .initialWord) old (2 ^ c .m) h);
-      memory-held = delivered-at (λ _. c .initialWord) (2 ^ c .m) old h;
+      memory-size = omega (arith, length-delivered (λ _. first) old (2 ^ c .m) h);
+      memory-held = delivered-at (λ _. first) (2 ^ c .m) old h;
       word-held = said;
     }

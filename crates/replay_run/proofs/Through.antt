@@ -1,18 +1,21 @@
 -- What a run (`run`) has left before frame i: the invariant of its loop. No contract cites this file.
-use Prim.Native.Nat.{ℕ, zero, _+_, _-_, _*_, _^_, _≤_}
+use Prim.Native.Nat.{ℕ, zero, _+_, _-_, _*_, _^_, _≤_, _<_}
 use mathlib.Core.Path.{_≡_, refl, sym, _∙_, ap, ap₂}
 use mathlib.Core.Bool.{Bool, false, _||_}
 use mathlib.Core.List.{List, [], _∷_, _++_}
 use native.Mathlib.Nat.{mul-le-mul-right, suc-mul}
 use native.Mathlib.Numerals.{add-one}
 use native.Mathlib.Omega.{arith}
+use lib.Pow.{pow-mono}
 use lib.ListN.{length, drop}
 use borrow.Rule.Slice.PartMut.{midOf, putMid}
 use Rattle.model.specs.Gather.{gather}
 use Rattle.model.specs.Search.{anyBelow, firstFrom, firstWhere}
 use Rattle.model.specs.Wrote.{Wrote}
-use Rattle.model.specs.Netlist.{Netlist, lastWire}
+use Rattle.model.specs.Netlist.{Netlist, start, lastWire}
 use Rattle.model.specs.Circuit.{stateAt, initial}
+use Rattle.model.specs.Agree.{givenWord}
+use Rattle.model.specs.Acceptance.{SizesFit}
 use Rattle.model.specs.Variables.{base}
 use Rattle.model.proofs.Gather.{length-gather}
 use Rattle.model.proofs.Search.{any-none, any-next}
@@ -21,9 +24,11 @@ use Rattle.model.specs.Claim.{idleOf}
 use Rattle.netlist.specs.NetOf.{netOf, alone}
 use Rattle.netlist.specs.declared.Netlist as Record
 use Rattle.call_lists.specs.Delivered.{delivered}
+use Rattle.circuit_values.specs.WireTable.{entry}
 use Rattle.circuit_step.specs.Held.{Holds}
-use Rattle.replay_frame.specs.Replay.{Said, replayed, replayedState, feedFault, violates, firstViolation, lineOf, traceText}
-use Rattle.replay_frame.specs.Frames.{FrameFits, FrameDone}
+use Rattle.circuit_step.specs.Touched.{touchedBefore}
+use Rattle.replay_frame.specs.Replay.{Said, startWords, replayed, replayedState, feedFault, violates, firstViolation, lineOf, traceText}
+use Rattle.replay_frame.specs.Frames.{TouchedIs, FrameFits, FrameDone}
 use Rattle.replay_frame.specs.declared.FrameVerdict.{FrameVerdict}
 use Rattle.replay_frame.proofs.Replay.{length-line}
 use Rattle.replay_run.specs.Runs.{nextFirst, Shown, traceLength, RunFits, RunDone}
@@ -37,12 +42,13 @@ linesTo c y i = gather i (λ j. lineOf c (replayed c y j))
 pub length-lines : (c : Netlist) (y : Said) (i : ℕ) → length (linesTo c y i) ≡ i * (lastWire c + 1)
 length-lines c y i = length-gather i (lastWire c + 1) (λ j. lineOf c (replayed c y j)) (λ j h. length-line c (replayed c y j))
 
-pub record Through (c : Netlist) (y : Said) (k : ℕ) (old oldTrace memory trace : List ℕ) (values inputs state : List Bool)
+pub record Through (c : Netlist) (y : Said) (k : ℕ) (old oldTrace memory trace : List ℕ) (values inputs state touched : List Bool)
     (held : ℕ) (fault : Bool) (first at i : ℕ) : Type 0 where
   pub within : i ≤ k + 1
   pub values-size : length values ≡ 601
   pub inputs-size : length inputs ≡ 600
   pub begins : Holds c (replayedState c y i) state memory held
+  pub touched-are : TouchedIs c y i touched
   pub behind : drop (2 ^ c .m) memory ≡ drop (2 ^ c .m) old
   pub memory-length : length memory ≡ length old
   pub trace-length : length trace ≡ length oldTrace
@@ -51,16 +57,22 @@ pub record Through (c : Netlist) (y : Said) (k : ℕ) (old oldTrace memory trace
   pub first-found : first ≡ firstWhere (violates c y) i
 
 -- before frame 0
-pub through-none : (r : Record.Netlist) (latches gates : List ℕ) (y : Said) (k : ℕ) (old trace : List ℕ) {values inputs state : List Bool} {word : ℕ}
-    → length values ≡ 601 → length inputs ≡ 600 → Holds (netOf r latches []) (initial (netOf r latches []) (idleOf (alone r) (y .value))) state old word
-    → Through (netOf r latches gates) y k old trace old trace values inputs state word false 0 0 0
-unfolding netOf initial idleOf base stateAt gather anyBelow firstWhere firstFrom
-through-none r latches gates y k old trace v n held =
+pub through-none : (r : Record.Netlist) (latches gates : List ℕ) (y : Said) (k : ℕ) (old trace : List ℕ) {values inputs state touched : List Bool} {word : ℕ}
+    → SizesFit (netOf r latches gates) → length values ≡ 601 → length inputs ≡ 600 → (length touched ≡ 4096) × ((x : ℕ) → x < 4096 → entry touched x ≡ false)
+    → Holds (netOf r latches []) (initial (netOf r latches []) (λ _. givenWord (start (alone r))) (idleOf (alone r) (y .value))) state old word
+    → Through (netOf r latches gates) y k old trace old trace values inputs state touched word false 0 0 0
+unfolding netOf initial idleOf base stateAt startWords touchedBefore gather anyBelow firstWhere firstFrom
+through-none r latches gates y k old trace sizes v n (size, none) held =
     record {
       within = omega arith;
       values-size = v;
       inputs-size = n;
       begins = record { latch-size = held .latch-size; latch-held = held .latch-held; memory-size = held .memory-size; memory-held = held .memory-held; word-held = held .word-held };
+      touched-are =
+          record {
+            size = size;
+            has = λ x h. let most : 2 ^ r .m ≤ 2 ^ 12 = pow-mono {i = r .m} {j = 12} (sizes .m-most) in none x (omega (arith, most));
+          };
       behind = refl;
       memory-length = refl;
       trace-length = refl;
@@ -69,8 +81,8 @@ through-none r latches gates y k old trace v n held =
       first-found = refl;
     }
 
-module _ {c : Netlist} {y : Said} {k : ℕ} {old oldTrace memory trace : List ℕ} {values inputs state : List Bool} {held : ℕ} {fault : Bool} {first at i : ℕ}
-    (t : Through c y k old oldTrace memory trace values inputs state held fault first at i) where
+module _ {c : Netlist} {y : Said} {k : ℕ} {old oldTrace memory trace : List ℕ} {values inputs state touched : List Bool} {held : ℕ} {fault : Bool} {first at i : ℕ}
+    (t : Through c y k old oldTrace memory trace values inputs state touched held fault first at i) where
   -- where the lines end, and that there is room for one more
   pub lines-end : at ≡ i * (lastWire c + 1)
   lines-end = t .lines .counted ∙ length-lines c y i
@@ -84,12 +96,12 @@ module _ {c : Netlist} {y : Said} {k : ℕ} {old oldTrace memory trace : List �
       omega (arith, lines-end, suc-mul i (lastWire c + 1), mul-le-mul-right {m = i + 1} {n = 256} (lastWire c + 1) (omega arith), add-one i)
 
   -- one frame on
-  pub through-next : i ≤ k → {memory′ part : List ℕ} {values′ inputs′ state′ : List Bool} {r : FrameVerdict} {held′ first′ line : ℕ}
-      → FrameDone c y i memory values′ inputs′ state′ memory′ held′ → length memory′ ≡ length memory
+  pub through-next : i ≤ k → {memory′ part : List ℕ} {values′ inputs′ state′ touched′ : List Bool} {r : FrameVerdict} {held′ first′ line : ℕ}
+      → FrameDone c y i memory values′ inputs′ state′ touched′ memory′ held′ → length memory′ ≡ length memory
       → Wrote (lineOf c (replayed c y i)) (midOf at (length trace - at) trace) part (lastWire c + 1)
       → length (putMid at (length trace - at) trace part) ≡ length trace
       → Shown c y i r → first′ ≡ nextFirst first i (r .broken) → line ≡ lastWire c + 1
-      → Through c y k old oldTrace memory′ (putMid at (length trace - at) trace part) values′ inputs′ state′ held′ (fault || r .fault) first′ (at + line) (i + 1)
+      → Through c y k old oldTrace memory′ (putMid at (length trace - at) trace part) values′ inputs′ state′ touched′ held′ (fault || r .fault) first′ (at + line) (i + 1)
   unfolding gather
   through-next h {memory′} {part} {r = r} done same line kept shown e width =
       record {
@@ -97,6 +109,7 @@ module _ {c : Netlist} {y : Said} {k : ℕ} {old oldTrace memory trace : List �
         values-size = done .values-are .size;
         inputs-size = done .inputs-size;
         begins = done .next-begins;
+        touched-are = done .next-touched;
         behind = done .behind ∙ t .behind;
         memory-length = same ∙ t .memory-length;
         trace-length = kept ∙ t .trace-length;

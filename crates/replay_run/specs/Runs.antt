@@ -9,7 +9,7 @@ use Rattle.model.specs.Limits.{mostDepth}
 use Rattle.model.specs.Search.{anyBelow}
 use Rattle.model.specs.Wrote.{over}
 use Rattle.model.specs.Netlist.{Netlist, lastWire}
-use Rattle.model.specs.Acceptance.{WithinLimits}
+use Rattle.model.specs.Acceptance.{Accepted}
 use Rattle.call_lists.specs.Delivered.{delivered}
 use Rattle.replay_frame.specs.declared.FrameVerdict.{FrameVerdict}
 use Rattle.replay_frame.specs.Replay.{Said, replayedState, feedFault, violates, firstViolation, traceText}
@@ -30,7 +30,7 @@ traceLength c k = (k + 1) * (lastWire c + 1)
 
 -- what a run asks
 pub record RunFits (c : Netlist) (k : ℕ) (memory trace : List ℕ) : Type 0 where
-  pub limits : WithinLimits c
+  pub accepted : Accepted c
   pub depth : k ≤ mostDepth
   pub memory-size : 2 ^ c .m ≤ length memory
   pub trace-size : traceLength c k ≤ length trace

@@ -1,19 +1,22 @@
-// The replay of an answer through all frames of a depth, from the initial state (RULES Y4, Y5, Y9 and Y10).
+// The replay of an answer through all frames of a depth, from the initial state (RULES Y5 and Y11 to Y14).
 use answer_signs::SignTable;
 use circuit_values::SourceValues;
 use circuit_values::WireValues;
 use netlist::Netlist;
 use netlist::UnpackedList;
 use replay_frame::FrameVerdict;
+use replay_frame::TouchedWords;
 ghost use mathlib.Core.Path.{_≡_};
 ghost use Prim.Native.Nat.{ℕ, _+_, _*_, _^_, _≤_, _<_};
+ghost use mathlib.Core.Bool.{false};
 ghost use mathlib.Core.List.{[]};
 ghost use lib.Dec.{eqb};
 ghost use lib.ListN.{length, drop};
 ghost use Rattle.model.specs.Wrote.{Wrote};
-ghost use Rattle.model.specs.Netlist.{lastWire};
+ghost use Rattle.model.specs.Netlist.{start, lastWire};
 ghost use Rattle.model.specs.Circuit.{initial};
-ghost use Rattle.model.specs.Acceptance.{SizesFit, WithinLimits};
+ghost use Rattle.model.specs.Agree.{givenWord};
+ghost use Rattle.model.specs.Acceptance.{SizesFit};
 ghost use Rattle.model.specs.Claim.{idleOf};
 ghost use Rattle.netlist.specs.NetOf.{netOf, alone};
 ghost use Rattle.call_lists.specs.Delivered.{delivered};
@@ -50,6 +53,13 @@ fn no_sources() -> SourceValues
     [false; 600]
 }
 
+// A table in which no word is touched.
+fn none_touched() -> TouchedWords
+    ensures { λ r. ⌜ (length r ≡ 4096) × ((x : ℕ) → x < 4096 → entry r x ≡ false) ⌝ }
+{
+    [false; 4096]
+}
+
 // How many words a memory has.
 pub fn word_count(net: Netlist) -> usize
     requires { ⌜ SizesFit (alone net) ⌝ }
@@ -83,6 +93,16 @@ fn put_resets(state: &mut SourceValues, net: Netlist, latches: &UnpackedList)
     }
 }
 
+// The word that each is at first: the one given, or 0 where the start is unknown.
+fn start_word(net: Netlist) -> u32
+    ensures { λ r. ⌜ r ≡ givenWord (start (alone net)) ⌝ }
+{
+    if net.unknown_start == 0 {
+        return net.initial_word;
+    }
+    0
+}
+
 // Puts latches and memory into the state in which frame 0 begins, and answers the word held there, the idle word.
 fn put_initial(
     state: &mut SourceValues,
@@ -92,11 +112,11 @@ fn put_initial(
     signs: &SignTable,
 ) -> u32
     requires { ⌜ SizesFit (alone net) × (length (now state) ≡ 600) × (2 ^ net .m ≤ length (now memory)) ⌝ }
-    ensures held { λ r. ⌜ Holds (netOf net (now (latches .entry)) []) (initial (netOf net (now (latches .entry)) []) (idleOf (alone net) (trueIn (now (signs .entry)))))
+    ensures held { λ r. ⌜ Holds (netOf net (now (latches .entry)) []) (initial (netOf net (now (latches .entry)) []) (λ _. givenWord (start (alone net))) (idleOf (alone net) (trueIn (now (signs .entry)))))
         (now (state .exit)) (now (memory .exit)) r ⌝ }
     ensures behind { λ _. ⌜ drop (2 ^ net .m) (now (memory .exit)) ≡ drop (2 ^ net .m) (now (memory .entry)) ⌝ }
 {
-    fill_words(memory, word_count(net), net.initial_word);
+    fill_words(memory, word_count(net), start_word(net));
     put_resets(state, net, latches);
     replay_frame::idle_word(net, signs)
 }
@@ -120,6 +140,7 @@ fn run_frame(
     values: &mut WireValues,
     inputs: &mut SourceValues,
     state: &mut SourceValues,
+    touched: &mut TouchedWords,
     memory: &mut [u32],
     out: &mut [u8],
     net: Netlist,
@@ -129,18 +150,19 @@ fn run_frame(
     i: u32,
     held: u32,
 ) -> FrameRun
-    requires { ⌜ FrameFits (netOf net (now latches) (now gates)) (saidIn (now signs)) i (now values) (now inputs) (now state) (now memory) held
+    requires { ⌜ FrameFits (netOf net (now latches) (now gates)) (saidIn (now signs)) i (now values) (now inputs) (now state) (now touched) (now memory) held
         × (lastWire (alone net) + 1 ≤ length (now out)) ⌝ }
     ensures done { λ r. ⌜ FrameDone (netOf net (now (latches .entry)) (now (gates .entry))) (saidIn (now (signs .entry))) i (now (memory .entry))
-        (now (values .exit)) (now (inputs .exit)) (now (state .exit)) (now (memory .exit)) (r .held) ⌝ }
+        (now (values .exit)) (now (inputs .exit)) (now (state .exit)) (now (touched .exit)) (now (memory .exit)) (r .held) ⌝ }
     ensures line { λ _. ⌜ Wrote (lineOf (netOf net (now (latches .entry)) (now (gates .entry))) (replayed (netOf net (now (latches .entry)) (now (gates .entry))) (saidIn (now (signs .entry))) i))
         (now (out .entry)) (now (out .exit)) (lastWire (alone net) + 1) ⌝ }
     ensures judged { λ r. ⌜ Shown (netOf net (now (latches .entry)) (now (gates .entry))) (saidIn (now (signs .entry))) i (r .shown) ⌝ }
 {
-    let next = replay_frame::step_fed(
+    let stepped = replay_frame::step_fed(
         values,
         inputs,
         state,
+        touched,
         memory,
         net,
         latches,
@@ -150,8 +172,11 @@ fn run_frame(
         held,
     );
     let _ = replay_frame::put_line(out, values, net);
-    let shown = replay_frame::judge_frame(values, net, signs, i);
-    FrameRun { shown, held: next }
+    let shown = replay_frame::judge_frame(values, net, signs, i, stepped.filled);
+    FrameRun {
+        shown,
+        held: stepped.held,
+    }
 }
 
 // Runs through the frames 0 to k from the initial state: a line for each in the trace, and in the memory the words that frame k leaves.
@@ -171,6 +196,7 @@ pub fn run(
     let mut values = no_values();
     let mut inputs = no_sources();
     let mut state = no_sources();
+    let mut touched = none_touched();
     let mut held = put_initial(&mut state, memory, net, latches, signs);
     let line = netlist::wire_count(net) as usize + 1;
     let mut fault = false;
@@ -182,6 +208,7 @@ pub fn run(
             &mut values,
             &mut inputs,
             &mut state,
+            &mut touched,
             memory,
             &mut trace[at..],
             net,

@@ -8,6 +8,7 @@ use Rattle.model.specs.Agree.{Agree}
 use Rattle.model.proofs.Agree.{latches-same, gates-same, m-same, n-same}
 use Rattle.refusals.specs.Slices.{contentsAfter}
 use Rattle.refusals.specs.declared.Verdict.the-variants.{Passed}
+use Rattle.netlist_tests.proofs.Acceptance.{passes-accepted}
 use Rattle.sheet_steps.specs.Records.{recordBeside}
 use Rattle.sheet_parse.specs.Files.{netIn}
 use Rattle.sheet_tests.specs.Sheet.{sheetVerdict}
@@ -53,7 +54,8 @@ unfolding readVerdict
 sheet-written =
     record {
       read-back =
-          λ c accepted latches gates long-latches long-gates.
+          λ c latchCount gateCount tested latches gates long-latches long-gates.
+          let accepted = passes-accepted c latchCount gateCount .0 tested .0 in
           let passed = sheet-passes c accepted (length latches) (length gates) long-latches long-gates in (
             passed,
             agree-then c (netIn (sheetText c)) (netRead (sheetText c) latches gates) (agrees-read c (accepted .limits)) (agrees-lent (sheetText c) latches gates passed),

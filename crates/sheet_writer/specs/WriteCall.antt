@@ -5,7 +5,6 @@ use mathlib.Core.Path.{_≡_}
 use mathlib.Core.List.{List}
 use lib.ListN.{length}
 use Rattle.model.specs.Netlist.{Netlist}
-use Rattle.model.specs.Acceptance.{Accepted}
 use Rattle.model.specs.Agree.{Agree}
 use Rattle.refusals.specs.Tests.{_then_}
 use Rattle.refusals.specs.Slices.{testRoom, CountReply, withCount, contentsAfter}
@@ -34,10 +33,11 @@ writeLeaves c latchCount gateCount old = contentsAfter (writeSheetVerdict c latc
 abbrev pub netRead : List ℕ → List Latch → List Gate → Netlist
 netRead file latches gates = netLent (readRecord file latches gates) (latchesAfter file latches gates) (gatesAfter file latches gates)
 
--- Of every accepted netlist, of every sheet that is read, and of every two netlists with the same used entries (`Agree`)
+-- Of every record that passes its tests, of every sheet that is read, and of every two netlists with the same used entries (`Agree`)
 pub record SheetWritten : Type 0 where
   -- RULES B4: "Reading it gives the same record and lists in all used entries", into lists with room
-  pub read-back : (c : Netlist) → Accepted c → (latches : List Latch) (gates : List Gate) → c .latches ≤ length latches → c .gates ≤ length gates
+  pub read-back : (c : Netlist) (latchCount gateCount : ℕ) → recordVerdict c latchCount gateCount ≡ Passed
+      → (latches : List Latch) (gates : List Gate) → c .latches ≤ length latches → c .gates ≤ length gates
       → (readVerdict (sheetText c) latches gates ≡ Passed) × Agree c (netRead (sheetText c) latches gates)
   -- RULES B5: "writing what was read gives the same bytes"; that no test of records refuses it is promised by `read`
   pub write-back : (file : List ℕ) (latches : List Latch) (gates : List Gate) → readVerdict file latches gates ≡ Passed

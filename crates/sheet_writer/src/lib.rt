@@ -19,7 +19,7 @@ ghost use Rattle.netlist.specs.NetOf.{netOf, alone};
 ghost use Rattle.netlist.specs.Places.{controlLine, lineAt, HasLine};
 ghost use Rattle.sheet_fields.specs.declared.Field.the-variants.{Empty, Filled};
 ghost use Rattle.sheet_lines.specs.Letters.{rowOf, contentOf};
-ghost use Rattle.sheet_lines.specs.Lines.{written, fieldText};
+ghost use Rattle.sheet_lines.specs.Lines.{printedField, fieldText};
 ghost use Rattle.dimacs.specs.PrintCalls.{printReply};
 ghost use Rattle.sheet_writer.specs.SheetText.{printedLine, printedText, sheetText};
 ghost use Rattle.sheet_writer.specs.WriteCall.{writeSent, writeLeaves, SheetWritten};
@@ -117,7 +117,7 @@ fn printed_line(
 // Whether a column of a line is printed as a number: where the table says so, and where it leaves both open, unless it is to be empty.
 fn is_printed(kind: Kind, column: usize, empty: u32) -> bool
     requires { ⌜ (rowOf kind < 7) × (column < 3) ⌝ }
-    ensures { λ r. ⌜ ((x : ℕ) → written (contentOf kind column) empty x ≡ cond r (Filled x) Empty) ⌝ }
+    ensures { λ r. ⌜ ((x : ℕ) → printedField (contentOf kind column) empty x ≡ cond r (Filled x) Empty) ⌝ }
 {
     let content = sheet_lines::content_of(kind, column);
     (content == 1) | ((content == 2) & (empty == 0))

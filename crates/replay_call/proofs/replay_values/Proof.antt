@@ -26,17 +26,17 @@ run-requires c κs =
     let start = c .before .before .before .before .before in
     let a = start .args in
     record {
-      limits = start .pre .limits;
+      accepted = start .pre .accepted;
       depth = start .pre .depth;
       memory-size = start .pre .memory-size;
-      trace-size = omega (arith, c .before .before .no-lines .ensures, trace-small (a .depth) (lastWire (alone (a .net))) (start .pre .depth) (start .pre .limits .sizes .wires-fit));
+      trace-size = omega (arith, c .before .before .no-lines .ensures, trace-small (a .depth) (lastWire (alone (a .net))) (start .pre .depth) (start .pre .accepted .limits .sizes .wires-fit));
     }
 
 word-count-requires : tie.Need-word-count-requires
 word-count-requires c κs =
     let start = c .before .before .before .before .before .before .before .before .before .before .before in
     let a = start .args in
-    sizes-lists (a .net) (a .latches .now) (a .gates .now) [] [] (start .pre .limits .sizes)
+    sizes-lists (a .net) (a .latches .now) (a .gates .now) [] [] (start .pre .accepted .limits .sizes)
 
 fill-words-requires : tie.Need-fill-words-requires
 unfolding netOf
@@ -77,14 +77,14 @@ trace-length-requires : tie.Need-trace-length-requires
 trace-length-requires c κs =
     let start = c .before .before .before .before .before .before .before .before .before .before .before in
     let a = start .args in
-    (sizes-lists (a .net) (a .latches .now) (a .gates .now) [] [] (start .pre .limits .sizes), start .pre .depth)
+    (sizes-lists (a .net) (a .latches .now) (a .gates .now) [] [] (start .pre .accepted .limits .sizes), start .pre .depth)
 
 array-share-prefix-lines : tie.Need-array-share-prefix-lines
 unfolding netOf
 array-share-prefix-lines c =
     let start = c .before .before .before .before .before .before .before .before .before .before .before .before .before in
     let a = start .args in
-    omega (arith, c .before .trace-length .ensures, trace-small (a .depth) (lastWire (alone (a .net))) (start .pre .depth) (start .pre .limits .sizes .wires-fit))
+    omega (arith, c .before .trace-length .ensures, trace-small (a .depth) (lastWire (alone (a .net))) (start .pre .depth) (start .pre .accepted .limits .sizes .wires-fit))
 
 slice-aggregate-write-word : tie.Need-slice-aggregate-write-word
 unfolding netOf
@@ -94,7 +94,7 @@ slice-aggregate-write-word c =
     let n = c .before .before .trace-length in
     let lines : List ℕ = c .before .before .before .before .before .before .before .before .run .last .1 .0 in
     let few : n .result ≤ length lines
-    = omega (arith, c .before .before .before .before .before .before .before .before .run .kept .1 .0, c .before .before .before .before .before .before .before .before .before .before .before .no-lines .ensures, n .ensures, trace-small (a .depth) (lastWire (alone (a .net))) (start .pre .depth) (start .pre .limits .sizes .wires-fit))
+    = omega (arith, c .before .before .before .before .before .before .before .before .run .kept .1 .0, c .before .before .before .before .before .before .before .before .before .before .before .no-lines .ensures, n .ensures, trace-small (a .depth) (lastWire (alone (a .net))) (start .pre .depth) (start .pre .accepted .limits .sizes .wires-fit))
     in
     sym (length-take-le (n .result) lines few)
 
@@ -106,7 +106,7 @@ write-word-requires c κs =
     let n = c .before .before .trace-length in
     let lines : List ℕ = c .before .before .before .before .before .before .before .before .run .last .1 .0 in
     let few : n .result ≤ length lines
-    = omega (arith, c .before .before .before .before .before .before .before .before .run .kept .1 .0, c .before .before .before .before .before .before .before .before .before .before .before .no-lines .ensures, n .ensures, trace-small (a .depth) (lastWire (alone (a .net))) (start .pre .depth) (start .pre .limits .sizes .wires-fit))
+    = omega (arith, c .before .before .before .before .before .before .before .before .run .kept .1 .0, c .before .before .before .before .before .before .before .before .before .before .before .no-lines .ensures, n .ensures, trace-small (a .depth) (lastWire (alone (a .net))) (start .pre .depth) (start .pre .accepted .limits .sizes .wires-fit))
     in
     omega (arith, length-take-le (n .result) lines few, n .ensures, start .pre .trace-size)
 

@@ -10,7 +10,7 @@ use Rattle.model.proofs.Variables.{base-most}
 use Rattle.netlist.specs.NetOf.{netOf, alone}
 use Rattle.answer_signs.specs.Signs.{unclearIn}
 use Rattle.replay_frame.specs.Replay.{fedUnclear}
-use Rattle.replay_frame.proofs.Replay.{any-same}
+use Rattle.circuit_step.proofs.Touched.{any-same}
 use borrow.Author.Needs.{needs}
 use Rattle.replay_frame.proofs.judge_frame.Statement.{statement}
 use Rattle.replay_frame.proofs.judge_frame.Tie as tie
@@ -62,9 +62,9 @@ returns c =
       fault-is =
           ap₂ _||_
           (c .before .before .before .any-unclear .ensures ∙ any-same (d .inputs) (λ x h. let e : b .result + 1 + x ≡ base d (a .i) + inputWire d x = omega (arith, b .ensures) in ap unclear e))
-          (ap (λ idle. eqb (a .i) 0 && idle) (ap₂ _&&_ (ap not (c .before .code-value .ensures))
+          (ap₂ _&&_ (ap (λ reads. a .filled || (eqb (a .i) 0 && not reads)) (c .before .code-value .ensures))
           (c .before .before .any-unclear2 .ensures ∙ any-same (d .n) (λ t h.
-          let e : b .result + c .before .before .before .before .first-read-wire .result .0 + t ≡ base d (a .i) + readWire d t = omega (arith, b .ensures, c .before .before .before .before .first-read-wire .ensures) in ap unclear e))));
+          let e : b .result + c .before .before .before .before .first-read-wire .result .0 + t ≡ base d (a .i) + readWire d t = omega (arith, b .ensures, c .before .before .before .before .first-read-wire .ensures) in ap unclear e)));
       broken-is = ap not (c .code-value2 .ensures);
     }
 

@@ -12,6 +12,9 @@ use Rattle.replay_run.proofs.put_initial.Tie as tie
 word-count-requires : tie.Need-word-count-requires
 word-count-requires c κs = search needs
 
+start-word-requires : tie.Need-start-word-requires
+start-word-requires c κs = search needs
+
 fill-words-requires : tie.Need-fill-words-requires
 fill-words-requires c κs = search needs
 
@@ -27,15 +30,16 @@ same-length c = search needs
 returns : tie.Need-returns
 unfolding netOf idleOf base
 returns c =
-    let start = c .before .before .before .before .before .before .before .before .before in
+    let start = c .before .before .before .before .before .before .before .before .before .before in
     let a = start .args in
     let d = netOf (a .net) (a .latches .now) [] in
-    rw (c .before .before .before .before .before .fill-words .ensures, c .before .before .before .before .before .before .word-count .ensures) (
-      initial-held d _ (a .memory .now) (start .pre .2) (c .before .put-resets .ensures .0) (c .before .put-resets .ensures .1) (c .idle-word .ensures),
-      behind-delivered (λ _. d .initialWord) (2 ^ d .m) (a .memory .now),
+    let first = c .before .before .before .before .before .before .start-word in
+    rw (c .before .before .before .before .before .fill-words .ensures, c .before .before .before .before .before .before .before .word-count .ensures, ← first .ensures) (
+      initial-held d _ (a .memory .now) (start .pre .2) (c .before .put-resets .ensures .0) (c .before .put-resets .ensures .1) (c .idle-word .ensures) (first .result),
+      behind-delivered (λ _. first .result) (2 ^ d .m) (a .memory .now),
     )
 
 pub put-initial-spec : {M : Type 1} → statement M
 put-initial-spec =
     tie.close
-    (tie.spec word-count-requires fill-words-requires put-resets-requires idle-word-requires same-length returns)
+    (tie.spec word-count-requires start-word-requires fill-words-requires put-resets-requires idle-word-requires same-length returns)

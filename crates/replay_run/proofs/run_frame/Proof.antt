@@ -14,15 +14,15 @@ step-fed-requires c κs = search needs
 
 put-line-requires : tie.Need-put-line-requires
 put-line-requires c κs =
-    let start = c .before .before .before .before .before .before .before .before .before .before .before in
+    let start = c .before .before .before .before .before .before .before .before .before .before .before .before in
     let a = start .args in
-    (sizes-lists (a .net) (a .latches .now) (a .gates .now) [] [] (start .pre .0 .limits .sizes), start .pre .1)
+    (sizes-lists (a .net) (a .latches .now) (a .gates .now) [] [] (start .pre .0 .accepted .limits .sizes), start .pre .1)
 
 judge-frame-requires : tie.Need-judge-frame-requires
 judge-frame-requires c κs =
-    let start = c .before .before .before .before .before .before .before .before .before .before .before .before .before .before .before in
+    let start = c .before .before .before .before .before .before .before .before .before .before .before .before .before .before .before .before in
     let a = start .args in
-    (limits-alone (a .net) (a .latches .now) (a .gates .now) (start .pre .0 .limits), start .pre .0 .depth)
+    (limits-alone (a .net) (a .latches .now) (a .gates .now) (start .pre .0 .accepted .limits), start .pre .0 .depth)
 
 same-length : tie.Need-same-length
 same-length c = search needs
@@ -33,15 +33,15 @@ same-length-2 c = search needs
 returns : tie.Need-returns
 unfolding netOf lineOf fedUnclear base
 returns c =
-    let start = c .before .before .before .before .before .before .before .before .before .before .before .before .before .before .before .before in
+    let start = c .before .before .before .before .before .before .before .before .before .before .before .before .before .before .before .before .before in
     let a = start .args in
     let d = netOf (a .net) (a .latches .now) (a .gates .now) in
     let y = saidIn (a .signs .now) in
     let done = c .before .before .before .before .before .before .before .before .before .step-fed .ensures in (
-      done,
+      done .0,
       (
-        line-by (start .pre .0 .limits) y (a .i) (done .values-are) (c .before .before .before .before .put-line .ensures),
-        shown-by (start .pre .0 .limits) y (a .i) (done .values-are) (record { fault-is = c .judge-frame .ensures .fault-is; broken-is = c .judge-frame .ensures .broken-is }),
+        line-by (start .pre .0 .accepted .limits) y (a .i) (done .0 .values-are) (c .before .before .before .before .put-line .ensures),
+        shown-by (start .pre .0 .accepted .limits) y (a .i) (done .0 .values-are) (done .1) (record { fault-is = c .judge-frame .ensures .fault-is; broken-is = c .judge-frame .ensures .broken-is }),
       ),
     )
 

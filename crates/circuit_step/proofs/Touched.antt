@@ -1,0 +1,95 @@
+-- A word that no frame of a run has read or written has no part in it: the same run goes on from a memory with another word there. No contract
+-- cites this file.
+use Prim.Native.Nat.{ℕ, zero, suc, _<_, _≤_}
+use mathlib.Core.Path.{_≡_, refl, sym, _∙_, ap, ap₂, fun-ext}
+use mathlib.Core.Bool.{Bool, true, false, cond, _&&_, _||_, true≢false}
+use mathlib.Core.Logic.{by-cases}
+use native.Mathlib.Decide.{ℕ-discrete}
+use native.Mathlib.Omega.{arith}
+use lib.Dec.{eqb}
+use borrow.Author.Tests.{eq-eqb, ne-eqb}
+use Rattle.model.specs.Bits.{bit}
+use Rattle.model.specs.Search.{anyBelow}
+use Rattle.model.specs.Netlist.{Netlist, port, readWire}
+use Rattle.model.specs.Circuit.{Values, codeValue, State, Feed, Feeds, addressOf, evaluate, readData, firstPass, frame, wordWritten, step, stateAt, run}
+use Rattle.model.specs.Acceptance.{Accepted}
+use Rattle.model.proofs.Search.{none-below}
+use Rattle.model.proofs.Booleans.{neither-true}
+use Rattle.circuit_step.specs.Touched.{touches, touchedBefore}
+use Rattle.circuit_step.proofs.Alike.{RE-settled, address-settled}
+
+-- whether any has a property needs it below the number alone
+pub any-same : (n : ℕ) {f g : ℕ → Bool} → ((x : ℕ) → x < n → f x ≡ g x) → anyBelow n f ≡ anyBelow n g
+unfolding anyBelow
+any-same zero same = refl
+any-same (suc n) same = ap₂ _||_ (any-same n (λ x h. same x (omega arith))) (same n (omega arith))
+
+-- the state s, with the word w at x
+abbrev pub withWord : ℕ → ℕ → State → State
+withWord x w s = record { latch = s .latch; memory = λ y. cond (eqb y x) w (s .memory y); held = s .held }
+
+-- of a conjunction that is false, not both are true
+apart : (b q : Bool) → (b && q) ≡ false → q ≡ true → b ≡ true → ⊥
+apart b q e h k = true≢false (sym (rw (h, k)) ∙ e)
+
+or-right : (r w : Bool) → w ≡ true → (r || w) ≡ true
+or-right true w e = refl
+or-right false w e = e
+
+module _ (c : Netlist) (v : Values) (x : ℕ) (none : touches c v x ≡ false) where
+  -- a frame that does not touch a word neither reads nor writes it
+  not-read : codeValue v (c .RE) ≡ true → addressOf c (port c) v ≡ x → ⊥
+  unfolding touches
+  not-read r e = apart _ _ none (rw r) (eq-eqb x (addressOf c (port c) v) (sym e))
+
+  not-written : codeValue v (c .WE) ≡ true → addressOf c (port c) v ≡ x → ⊥
+  unfolding touches
+  not-written w e = apart _ _ none (or-right (codeValue v (c .RE)) (codeValue v (c .WE)) w) (eq-eqb x (addressOf c (port c) v) (sym e))
+
+  -- a step leaves the word
+  step-untouched : (w : ℕ) (s : State) → step c (withWord x w s) v ≡ withWord x w (step c s v)
+  unfolding step
+  step-untouched w s = ap with-memory (fun-ext (λ y. at y (codeValue v (c .WE)) refl))
+    where
+      with-memory : (ℕ → ℕ) → State
+      with-memory memory = record { latch = λ l. codeValue v (c .next l); memory = memory; held = λ t. v (readWire c t) }
+
+      at : (y : ℕ) (b : Bool) → codeValue v (c .WE) ≡ b
+          → cond (b && eqb y (addressOf c (port c) v)) (wordWritten c v) (cond (eqb y x) w (s .memory y))
+          ≡ cond (eqb y x) w (cond (b && eqb y (addressOf c (port c) v)) (wordWritten c v) (s .memory y))
+      at y false e = refl
+      at y true e =
+          by-cases (ℕ-discrete y x)
+          (λ q. rw (ne-eqb y (addressOf c (port c) v) (λ h. not-written e (sym h ∙ q))))
+          (λ q. rw (ne-eqb y x q))
+
+module _ {c : Netlist} (ok : Accepted c) where
+  -- and the frame reads none of it
+  frame-untouched : (x w : ℕ) (s : State) (f : Feed) → touches c (frame c s f) x ≡ false → frame c (withWord x w s) f ≡ frame c s f
+  unfolding frame firstPass readData
+  frame-untouched x w s f none = ap (evaluate c (f .input) (s .latch)) (fun-ext (λ t. read t (codeValue (firstPass c s f) (c .RE)) refl))
+    where
+      read : (t : ℕ) (b : Bool) → codeValue (firstPass c s f) (c .RE) ≡ b
+          → cond b (bit (withWord x w s .memory (addressOf c (port c) (firstPass c s f))) t) (s .held t)
+          ≡ cond b (bit (s .memory (addressOf c (port c) (firstPass c s f))) t) (s .held t)
+      read t false e = refl
+      read t true e =
+          rw (ne-eqb (addressOf c (port c) (firstPass c s f)) x (λ h. not-read c (frame c s f) x none (sym (RE-settled ok s f) ∙ e) (sym (address-settled ok s f) ∙ h)))
+
+  -- so a run goes on with another word there as it did
+  module _ (x w : ℕ) (s : State) (f : Feeds) where
+    pub state-untouched : (i : ℕ) → touchedBefore c s f i x ≡ false → stateAt c (withWord x w s) f i ≡ withWord x w (stateAt c s f i)
+    unfolding stateAt touchedBefore anyBelow run
+    state-untouched zero none = refl
+    state-untouched (suc i) none =
+        let q = neither-true (touchedBefore c s f i x) (touches c (run c s f i) x) .0 none in
+        ap (λ r. step c r (frame c r (f i))) (state-untouched i (q .0))
+        ∙ ap (step c (withWord x w (stateAt c s f i))) (frame-untouched x w (stateAt c s f i) (f i) (q .1))
+        ∙ step-untouched c (run c s f i) x (q .1) w (stateAt c s f i)
+
+    pub run-untouched : (i : ℕ) → touchedBefore c s f i x ≡ false → (j : ℕ) → j < i → run c (withWord x w s) f j ≡ run c s f j
+    unfolding run touchedBefore
+    run-untouched i none j h =
+        let each = none-below (λ j. touches c (run c s f j) x) i .0 none in
+        ap (λ r. frame c r (f j)) (state-untouched j (none-below (λ j. touches c (run c s f j) x) j .1 (λ l b. each l (omega arith))))
+        ∙ frame-untouched x w (stateAt c s f j) (f j) (each j h)

@@ -1,0 +1,230 @@
+-- Laws of what a frame fills: the code's table of touched words and its first pass tell it, and the run goes on from the memory filled. No
+-- contract cites this file.
+use Prim.Native.Nat.{ℕ, zero, suc, _+_, _/_, _^_, _≤_, _<_}
+use mathlib.Core.Path.{_≡_, refl, sym, _∙_, ap, ap₂, fun-ext}
+use mathlib.Core.Bool.{Bool, true, false, cond, not, _&&_, _||_, or-false}
+use mathlib.Core.List.{List, []}
+use mathlib.Core.Logic.{by-cases}
+use native.Mathlib.Decide.{ℕ-discrete}
+use native.Mathlib.Numerals.{add-one}
+use native.Mathlib.Omega.{arith}
+use lib.Dec.{eqb}
+use lib.Pow.{pow-mono}
+use lib.ListN.{length, getD, set, drop, length-set}
+use lib.Seq.{getD-set-same, getD-set-other, drop-set-lt}
+use borrow.Author.Tests.{eq-eqb, ne-eqb}
+use Rattle.model.specs.Bits.{bit}
+use Rattle.model.specs.Search.{anyBelow}
+use Rattle.model.specs.Netlist.{Netlist, Start, startOf, start, port, lastWire}
+use Rattle.model.specs.Circuit.{Values, codeValue, State, addressOf, evaluate, firstPass, frame, stateAt, run, initial}
+use Rattle.model.specs.Acceptance.{SizesFit, WithinLimits, Accepted}
+use Rattle.model.specs.Claim.{feedOf}
+use Rattle.model.proofs.Booleans.{and-true}
+use Rattle.model.proofs.Memory.{address-below}
+use Rattle.model.proofs.Circuit.{code-same, address-same}
+use Rattle.netlist.specs.NetOf.{netOf}
+use Rattle.netlist.specs.declared.Netlist as Record
+use Rattle.circuit_values.specs.WireTable.{entry, HasBelow}
+use Rattle.circuit_step.specs.Held.{Holds, Fed}
+use Rattle.circuit_step.specs.Touched.{touches, touchedBefore}
+use Rattle.circuit_step.proofs.Held.{code-in, address-in, first-alike, evaluate-lists}
+use Rattle.circuit_step.proofs.Alike.{LatchesAlike, RE-settled, address-settled}
+use Rattle.circuit_step.proofs.Touched.{any-same, withWord, state-untouched, run-untouched}
+use Rattle.replay_frame.specs.Replay.{Said, begunFrom, runFrom, isUnknown, fillsFrom, wordSaid, startWords, fills, replayed, replayedState}
+use Rattle.replay_frame.specs.Frames.{marked, Filled, TouchedIs}
+
+-- every address has a place in the table of touched words
+pub address-small : (c : Netlist) → SizesFit c → (v : Values) → addressOf c (port c) v < 4096
+address-small c sizes v =
+    let most : 2 ^ c .m ≤ 2 ^ 12 = pow-mono {i = c .m} {j = 12} (sizes .m-most) in
+    omega (arith, most, address-below c (port c) v)
+
+-- whether the start is unknown, by the record's field
+start-given : (word u : ℕ) → u ≡ 0 → isUnknown (startOf word u) ≡ false
+unfolding isUnknown startOf
+start-given word u e = rw e
+
+start-unknown : (word u : ℕ) → (u ≡ 0 → ⊥) → isUnknown (startOf word u) ≡ true
+unfolding isUnknown startOf
+start-unknown word zero h = absurd (h refl)
+start-unknown word (suc u) h = refl
+
+-- where the start is given, nothing is filled
+pub none-filled : {c : Netlist} {touched inputs latches : List Bool} {word : ℕ} {memory : List ℕ} → c .unknownStart ≡ 0
+    → Filled c touched inputs latches word memory memory false
+none-filled {c} e = record { fills-is = rw (start-given (c .initialWord) (c .unknownStart) e); memory-is = refl }
+
+-- where it is unknown, by the table of the first pass
+pub filled-by : {c : Netlist} → WithinLimits c → {inputs latches table : List Bool} → HasBelow (lastWire c + 1) (evaluate c (entry inputs) (entry latches) (bit 0)) table
+    → (c .unknownStart ≡ 0 → ⊥) → {touched : List Bool} {word : ℕ} {memory memory′ : List ℕ} {r : Bool}
+    → r ≡ (codeValue (entry table) (c .RE) && not (entry touched (addressOf c (port c) (entry table))))
+    → memory′ ≡ cond r (set memory (addressOf c (port c) (entry table)) word) memory
+    → Filled c touched inputs latches word memory memory′ r
+filled-by {c} limits {inputs} {latches} {table} q u {touched} {word} {memory} e m =
+    record {
+      fills-is = e ∙ rw (start-unknown (c .initialWord) (c .unknownStart) u, code-in c q (c .RE) (limits .codes .RE-fits), address-in limits q);
+      memory-is = m ∙ rw (address-in limits q);
+    }
+
+-- the latches of a record have no part in its first pass
+pub filled-lists : (r : Record.Netlist) (latches gates : List ℕ) {touched inputs state : List Bool} {word : ℕ} {memory memory′ : List ℕ} {b : Bool}
+    → Filled (netOf r [] gates) touched inputs state word memory memory′ b → Filled (netOf r latches gates) touched inputs state word memory memory′ b
+unfolding netOf addressOf
+filled-lists r latches gates {touched} {inputs} {state} {word} {memory} {b = b} q =
+    let c = netOf r latches gates in
+    let same : evaluate (netOf r [] gates) (entry inputs) (entry state) (bit 0) ≡ evaluate c (entry inputs) (entry state) (bit 0)
+    = fun-ext (evaluate-lists r latches gates (entry inputs) (entry state) (bit 0)) in
+    record {
+      fills-is = q .fills-is ∙ ap (λ v. isUnknown (start c) && (codeValue v (c .RE) && not (entry touched (addressOf c (port c) v)))) same;
+      memory-is = q .memory-is ∙ ap (λ v. cond b (set memory (addressOf c (port c) v) word) memory) same;
+    }
+
+or-last : (b : Bool) → (b || true) ≡ true
+or-last true = refl
+or-last false = refl
+
+-- the last of three conditions that hold is that something does not
+last-not : (p q r : Bool) → (p && (q && not r)) ≡ true → r ≡ false
+last-not p q true e = let h = and-true q false .0 (and-true p (q && false) .0 e .1) .1 in sym h
+last-not p q false e = refl
+
+module _ {c : Netlist} (ok : Accepted c) (y : Said) (i : ℕ) where
+  -- a frame that fills is at a word that no frame before has touched
+  fills-untouched : fills c y i ≡ true
+      → touchedBefore c (begunFrom c y (startWords c y i)) (feedOf c (y .value)) i (addressOf c (port c) (runFrom c y (startWords c y i) i)) ≡ false
+  unfolding fillsFrom
+  fills-untouched e = last-not (isUnknown (start c)) (codeValue (runFrom c y (startWords c y i) i) (c .RE)) _ e
+
+  -- so the memory begun with has another word there, or is the same
+  begun-filled : fills c y i ≡ true
+      → begunFrom c y (startWords c y (suc i)) ≡ withWord (addressOf c (port c) (runFrom c y (startWords c y i) i)) (wordSaid c y i) (begunFrom c y (startWords c y i))
+  unfolding startWords initial
+  begun-filled e = ap (λ words. begunFrom c y words) (fun-ext (λ x. rw e))
+
+  begun-kept : fills c y i ≡ false → startWords c y (suc i) ≡ startWords c y i
+  unfolding startWords
+  begun-kept e = fun-ext (λ x. rw e)
+
+  -- the frames before go on as they did
+  pub runs-on : (j : ℕ) → j < i → runFrom c y (startWords c y (suc i)) j ≡ runFrom c y (startWords c y i) j
+  runs-on j h = by (fills c y i) refl
+    where
+      by : (b : Bool) → fills c y i ≡ b → runFrom c y (startWords c y (suc i)) j ≡ runFrom c y (startWords c y i) j
+      by true e =
+          ap (λ s. run c s (feedOf c (y .value)) j) (begun-filled e)
+          ∙ run-untouched ok _ (wordSaid c y i) (begunFrom c y (startWords c y i)) (feedOf c (y .value)) i (fills-untouched e) j h
+      by false e = ap (λ words. runFrom c y words j) (begun-kept e)
+
+  -- and have touched the same words
+  pub touched-on : (x : ℕ) → touchedBefore c (begunFrom c y (startWords c y (suc i))) (feedOf c (y .value)) i x
+      ≡ touchedBefore c (begunFrom c y (startWords c y i)) (feedOf c (y .value)) i x
+  unfolding touchedBefore
+  touched-on x = any-same i (λ j h. ap (λ v. touches c v x) (runs-on j h))
+
+  -- the state in which frame i begins has the word filled
+  state-filled : fills c y i ≡ true → stateAt c (begunFrom c y (startWords c y (suc i))) (feedOf c (y .value)) i
+      ≡ withWord (addressOf c (port c) (runFrom c y (startWords c y i) i)) (wordSaid c y i) (replayedState c y i)
+  state-filled e =
+      ap (λ s. stateAt c s (feedOf c (y .value)) i) (begun-filled e)
+      ∙ state-untouched ok _ (wordSaid c y i) (begunFrom c y (startWords c y i)) (feedOf c (y .value)) i (fills-untouched e)
+
+  -- and the same latches
+  pub latches-on : LatchesAlike c (stateAt c (begunFrom c y (startWords c y (suc i))) (feedOf c (y .value)) i) (replayedState c y i)
+  latches-on l h = by (fills c y i) refl
+    where
+      by : (b : Bool) → fills c y i ≡ b → stateAt c (begunFrom c y (startWords c y (suc i))) (feedOf c (y .value)) i .latch l ≡ replayedState c y i .latch l
+      by true e = ap (λ s. s .latch l) (state-filled e)
+      by false e = ap (λ words. stateAt c (begunFrom c y words) (feedOf c (y .value)) i .latch l) (begun-kept e)
+
+  module _ {latches inputs touched : List Bool} {memory memory′ : List ℕ} {word : ℕ} {r : Bool} (held : Holds c (replayedState c y i) latches memory word)
+      (fed : Fed c (feedOf c (y .value) i) inputs) (marks : TouchedIs c y i touched)
+      (q : Filled c touched inputs latches (wordSaid c y i) memory memory′ r) where
+    -- RE and address of the first pass in the table are the frame's
+    RE-is : codeValue (evaluate c (entry inputs) (entry latches) (bit 0)) (c .RE) ≡ codeValue (runFrom c y (startWords c y i) i) (c .RE)
+    unfolding run
+    RE-is =
+        code-same (evaluate c (entry inputs) (entry latches) (bit 0)) (firstPass c (replayedState c y i) (feedOf c (y .value) i)) (c .RE)
+        (first-alike (ok .limits) held fed (c .RE / 2) (omega (arith, ok .limits .codes .RE-fits)))
+        ∙ RE-settled ok (replayedState c y i) (feedOf c (y .value) i)
+
+    address-is : addressOf c (port c) (evaluate c (entry inputs) (entry latches) (bit 0)) ≡ addressOf c (port c) (runFrom c y (startWords c y i) i)
+    unfolding run
+    address-is =
+        address-same c (port c) (evaluate c (entry inputs) (entry latches) (bit 0)) (firstPass c (replayedState c y i) (feedOf c (y .value) i))
+        (λ t h. code-same (evaluate c (entry inputs) (entry latches) (bit 0)) (firstPass c (replayedState c y i) (feedOf c (y .value) i)) (c .address t)
+        (first-alike (ok .limits) held fed (c .address t / 2) (omega (arith, ok .limits .codes .address-fits t h))))
+        ∙ address-settled ok (replayedState c y i) (feedOf c (y .value) i)
+
+    -- it is told rightly whether the frame fills a word
+    pub filled-is : r ≡ fills c y i
+    unfolding fillsFrom
+    filled-is =
+        q .fills-is
+        ∙ ap (λ b. isUnknown (start c) && b)
+        (ap₂ (λ b t. b && not t) RE-is
+        (ap (entry touched) address-is ∙ marks .has _ (address-below c (port c) (runFrom c y (startWords c y i) i))))
+
+    memory-filled : memory′ ≡ cond (fills c y i) (set memory (addressOf c (port c) (runFrom c y (startWords c y i) i)) (wordSaid c y i)) memory
+    memory-filled = q .memory-is ∙ ap₂ (λ b a. cond b (set memory a (wordSaid c y i)) memory) filled-is address-is
+
+    -- and the memory then holds the words of the run that has it filled
+    pub filled-holds : Holds c (stateAt c (begunFrom c y (startWords c y (suc i))) (feedOf c (y .value)) i) latches memory′ word
+    filled-holds = by (fills c y i) refl
+      where
+        by : (b : Bool) → fills c y i ≡ b → Holds c (stateAt c (begunFrom c y (startWords c y (suc i))) (feedOf c (y .value)) i) latches memory′ word
+        by false e = rw (begun-kept e, memory-filled, e) held
+        by true e =
+            rw (state-filled e, memory-filled, e)
+            (record {
+              latch-size = held .latch-size;
+              latch-held = held .latch-held;
+              memory-size = omega (arith, held .memory-size, length-set memory (addressOf c (port c) (runFrom c y (startWords c y i) i)) (wordSaid c y i));
+              memory-held = λ x h.
+                  by-cases (ℕ-discrete x (addressOf c (port c) (runFrom c y (startWords c y i) i)))
+                  (λ at. rw (eq-eqb x _ at, at) (getD-set-same memory (addressOf c (port c) (runFrom c y (startWords c y i) i)) (wordSaid c y i) 0 (omega (arith, held .memory-size, address-below c (port c) (runFrom c y (startWords c y i) i)))))
+                  (λ at. rw (ne-eqb x _ at) (getD-set-other memory (addressOf c (port c) (runFrom c y (startWords c y i) i)) x (wordSaid c y i) 0 at ∙ held .memory-held x h));
+              word-held = held .word-held;
+            })
+
+    pub filled-behind : drop (2 ^ c .m) memory′ ≡ drop (2 ^ c .m) memory
+    filled-behind = ap (drop (2 ^ c .m)) memory-filled ∙ by (fills c y i)
+      where
+        by : (b : Bool) → drop (2 ^ c .m) (cond b (set memory (addressOf c (port c) (runFrom c y (startWords c y i) i)) (wordSaid c y i)) memory) ≡ drop (2 ^ c .m) memory
+        by true = drop-set-lt (2 ^ c .m) memory _ (wordSaid c y i) (address-below c (port c) (runFrom c y (startWords c y i) i))
+        by false = refl
+
+  -- the table of touched words, with the frame's marked
+  pub marked-is : {touched values : List Bool} → TouchedIs c y i touched → HasBelow (lastWire c + 1) (replayed c y i) values
+      → TouchedIs c y (i + 1) (marked c (entry values) touched)
+  unfolding marked touchedBefore anyBelow touches
+  marked-is {touched} {values} marks q =
+      rw (code-in c q (c .RE) (ok .limits .codes .RE-fits), code-in c q (c .WE) (ok .limits .codes .WE-fits), address-in (ok .limits) q)
+      (record {
+        size = length-of (codeValue (replayed c y i) (c .RE) || codeValue (replayed c y i) (c .WE)) ∙ marks .size;
+        has = λ x h. rw add-one (
+            at x (codeValue (replayed c y i) (c .RE) || codeValue (replayed c y i) (c .WE))
+            ∙ ap (λ b. b || touches c (replayed c y i) x) (marks .has x h ∙ sym (touched-on x)));
+      })
+    where
+      length-of : (b : Bool) → length (cond b (set touched (addressOf c (port c) (replayed c y i)) true) touched) ≡ length touched
+      length-of true = length-set touched _ true
+      length-of false = refl
+
+      there : (b : Bool) → entry (cond b (set touched (addressOf c (port c) (replayed c y i)) true) touched) (addressOf c (port c) (replayed c y i))
+          ≡ (entry touched (addressOf c (port c) (replayed c y i)) || b)
+      there true =
+          getD-set-same touched (addressOf c (port c) (replayed c y i)) true false (omega (arith, marks .size, address-small c (ok .limits .sizes) (replayed c y i)))
+          ∙ sym (or-last (entry touched (addressOf c (port c) (replayed c y i))))
+      there false = sym (or-false _)
+
+      elsewhere : (x : ℕ) → (x ≡ addressOf c (port c) (replayed c y i) → ⊥) → (b : Bool)
+          → entry (cond b (set touched (addressOf c (port c) (replayed c y i)) true) touched) x ≡ entry touched x
+      elsewhere x e true = getD-set-other touched (addressOf c (port c) (replayed c y i)) x true false e
+      elsewhere x e false = refl
+
+      at : (x : ℕ) (b : Bool) → entry (cond b (set touched (addressOf c (port c) (replayed c y i)) true) touched) x
+          ≡ (entry touched x || (eqb x (addressOf c (port c) (replayed c y i)) && b))
+      at x b =
+          by-cases (ℕ-discrete x (addressOf c (port c) (replayed c y i)))
+          (λ e. rw (eq-eqb x _ e, e) (there b))
+          (λ e. rw (ne-eqb x _ e) (elsewhere x e b ∙ sym (or-false (entry touched x))))
