@@ -1,4 +1,4 @@
-// What `frames` is measured against: the same text from the same input, without any test of the input. The clauses are made here;
+// What `frames` is measured against: the same text from the same input, without any test of the input; the start word must be given. The clauses are made here;
 // how numbers are written is in the header that OUTPUT names.
 
 #include <stdint.h>

@@ -90,15 +90,16 @@ marrubigai_sheet_reply marrubigai_read(const uint8_t *file, size_t bytes, marrub
                                        marrubigai_gate *gates, size_t gate_room);
 
 /* imports a netlist in ASCII AIGER, for a memory of m address bits and n data bits whose words all start as `word`, or as anything where
- * `unknown` is 1 (`word` then counts for nothing; a number above 1 is refused): the last n inputs of the text are the read bits, in order from bit 0; its outputs are the m address bits, the n write-data bits, write enable, read enable and
- * the property, m + n + 3 in all. Record and lists as where a sheet is read; every latch has reset 0. No order or name of inputs is
+ * `unknown` is 1 (`word` then counts for nothing; a number above 1 is refused): the last n inputs of the text are the read bits, in order from
+ * bit 0; its outputs are the m address bits, the n write-data bits, write enable, read enable and the property, m + n + 3 in all. Record and lists as where a sheet is read; every latch has reset 0. No order or name of inputs is
  * tested beyond their number: docs/LIBRARY.md says what to look at in a text that a tool has written. */
 marrubigai_sheet_reply marrubigai_import(const uint8_t *text, size_t bytes, uint32_t m, uint32_t n, uint32_t word, uint32_t unknown,
                                          marrubigai_latch *latches, size_t latch_room, marrubigai_gate *gates, size_t gate_room);
 
 /* the line behind the first `line` lines of a sheet: its letter, its fields (0 where one is empty), 1 as `empty` where it is an M line whose
- * start word is left empty, and how many lines are read with it, one more. Where it is misprinted, 2 with its place, line + 1, and it is read too. Where there is none (missing, cut short, or
- * behind 615 lines, the most that a sheet has), number and letter are 0 and the line number is `line` itself. */
+ * start word is left empty, and how many lines are read with it, one more. Where it is misprinted, 2 with its place, line + 1, and it is read
+ * too. Where there is none (missing, cut short, or behind 615 lines, the most that a sheet has), number and letter are 0 and the line number is
+ * `line` itself. */
 marrubigai_line_reply marrubigai_next_line(const uint8_t *file, size_t bytes, uint32_t line);
 
 /* how many variables and clauses the formula of a depth has */
@@ -128,14 +129,15 @@ marrubigai_count_reply marrubigai_write_group_at(marrubigai_netlist net, const m
 marrubigai_literal_reply marrubigai_literal_at(marrubigai_netlist net, marrubigai_position position, marrubigai_code code);
 
 /* writes the one sheet that stands for a record with its lists, and answers its length, 32 x (latches + gates + m + n + 3) bytes: 9 where the
- * buffer is shorter. marrubigai_read of it gives the same record and lists in all entries that
- * are used, and a sheet that was read is written as the same bytes. */
+ * buffer is shorter. marrubigai_read of it gives the same record and lists in all entries that are used, and a sheet that was read is written
+ * as the same bytes. */
 marrubigai_count_reply marrubigai_write_sheet(marrubigai_netlist net, const marrubigai_latch *latches, size_t latch_count,
                                               const marrubigai_gate *gates, size_t gate_count, uint8_t *out, size_t room);
 
 /* runs a solver's answer, in the SAT Competition's output form, through the frames 0 to depth. Only the inputs are taken from it, and the read
- * bits of frame 0 where that does not read; the chip is stepped with its whole memory, the first 2^m words lent, whatever they hold. `first` is then the
- * first frame that breaks the property, and the trace holds for each frame a line of V digits 0 or 1, wire 1 first: (depth + 1)(V + 1) bytes.
+ * bits of frame 0 where that does not read; from an unknown start also the read bits of a frame that reads a word which no earlier frame read or
+ * wrote: they are this word at first, and a word that no frame reads or writes is 0. The chip is stepped with its whole memory, the first 2^m words
+ * lent, whatever they hold. `first` is then the first frame that breaks the property, and the trace holds for each frame a line of V digits 0 or 1, wire 1 first: (depth + 1)(V + 1) bytes.
  * Where the answer is `s UNSATISFIABLE`, claimed is 1 and nothing was written. 14 where it is malformed, or gives something that the run is fed no
  * value or both; 15 where the run breaks nothing; 9 where memory or trace are shorter than their need, tested before the answer counts. After 14 the
  * first 2^m words are 0; after 15, and where a frame is answered, they are the chip's after frame `depth`; after any other refusal they are as they

@@ -2,10 +2,13 @@
 -- netlist (call_unpacked/specs/Calls), for the netlist that record and lists stand for. Cited by `heading` and `write_group`, here and in `marrubigai`.
 use Prim.Native.Nat.{ℕ, _≤_}
 use mathlib.Core.Path.{_≡_}
+use mathlib.Core.Logic.{_↔_}
 use mathlib.Core.List.{List}
 use lib.IntN.{ℤ}
 use lib.ListN.{length}
 use Rattle.model.specs.Limits.{mostDepth}
+use Rattle.model.specs.Netlist as model
+use Rattle.model.specs.Acceptance.{Accepted}
 use Rattle.model.specs.declared.Group.{Group}
 use Rattle.refusals.specs.Slices.{CountReply}
 use Rattle.refusals.specs.declared.Verdict.the-variants.{Passed}
@@ -31,3 +34,9 @@ abbrev pub Claim : Netlist → List Latch → List Gate → ℕ → Type 0
 Claim net latches gates k =
     recordVerdict (netLent net latches gates) (length latches) (length gates) ≡ Passed → k ≤ mostDepth
     → CallsEncode (netLent net latches gates) (netLent net latches gates) (length latches) (length gates) k
+
+-- The tests of a record pass exactly the netlists of which the theorems speak (RULES A1), with lists that are long enough. Promised by
+-- `heading`; `passes-accepted` in netlist_tests/proofs/Acceptance.antt is of this type.
+abbrev pub AcceptedTheorem : Type 0
+AcceptedTheorem = (c : model.Netlist) (latchCount gateCount : ℕ)
+    → (recordVerdict c latchCount gateCount ≡ Passed) ↔ (Accepted c × (c .latches ≤ latchCount) × (c .gates ≤ gateCount))

@@ -43,6 +43,7 @@ use Rattle.netlist.proofs.Netlist.Laws as N′
 use Rattle.call_lists.specs.Unpacked.{latchCodes, gateCodes}
 use Rattle.model.specs.Wrote.{over}
 use Rattle.model.proofs.Dependence.{paths}
+use Rattle.netlist_tests.proofs.Acceptance.{passes-accepted}
 use Rattle.call_lists.specs.declared.Latch.{Latch}
 use Rattle.call_lists.specs.declared.Gate.{Gate}
 use Rattle.call_lists.proofs.Latch as L
@@ -217,7 +218,7 @@ module _ {M : Type 1} (𝓤 : URA M) (H : Heap 𝓤) (A : Atoms 𝓤) (W : Given
           by ! (both 𝓤 (factI 𝓤 _ (emp 𝓤) (is ∙ ap (λ c. headingSent c (length (ls .now)) (length (gs .now)) k)
           (netOf-unpacked net (latchCodes (ls .now)) (gateCodes (gs .now)))))
           (both 𝓤 (factI 𝓤 _ (emp 𝓤) (calls-encode _ _ _ _))
-          (both 𝓤 (factI 𝓤 _ (emp 𝓤) paths) (factI 𝓤 _ (emp 𝓤) starred)))))))))))))))))))))))
+          (both 𝓤 (factI 𝓤 _ (emp 𝓤) paths) (both 𝓤 (factI 𝓤 _ (emp 𝓤) passes-accepted) (factI 𝓤 _ (emp 𝓤) starred))))))))))))))))))))))))
 
 heading-meets : {M : Type 1} (𝓤 : URA M) (H : Heap 𝓤) (A : Atoms 𝓤) (W : Given 𝓤 H A) (mem : Memory → SProp 𝓤)
     (run : Routine → Fun 𝓤) (𝓣 : Tables 𝓤 H)
