@@ -10,11 +10,11 @@ use super::reference::refusal::Refusal;
 
 #[repr(C)]
 #[derive(Clone, Copy, Debug, Default, PartialEq, Eq)]
-pub struct Code(u32);
+struct Code(u32);
 
 #[repr(C)]
 #[derive(Clone, Copy, Debug, Default, PartialEq, Eq)]
-pub struct Record {
+struct Record {
     inputs: u32,
     latches: u32,
     gates: u32,
@@ -31,21 +31,21 @@ pub struct Record {
 
 #[repr(C)]
 #[derive(Clone, Copy, Debug, PartialEq, Eq)]
-pub struct GateRecord {
+struct GateRecord {
     left: Code,
     right: Code,
 }
 
 #[repr(C)]
 #[derive(Clone, Copy, Debug, PartialEq, Eq)]
-pub struct LatchRecord {
+struct LatchRecord {
     next: Code,
     reset: u32,
 }
 
 #[repr(C)]
 #[derive(Clone, Copy, Debug, PartialEq, Eq)]
-pub struct CountReply {
+struct CountReply {
     number: u32,
     place: u32,
     count: usize,
@@ -307,9 +307,9 @@ impl<T: Copy + PartialEq> Lent<T> {
 
 /// A netlist as the C functions take it.
 pub struct Lists {
-    pub record: Record,
-    pub latches: Vec<LatchRecord>,
-    pub gates: Vec<GateRecord>,
+    record: Record,
+    latches: Vec<LatchRecord>,
+    gates: Vec<GateRecord>,
 }
 
 /// What a call answered; `Err` where it broke a promise that holds whatever it is asked.
@@ -340,7 +340,7 @@ pub fn parameters(group: Group) -> (u32, u32, u32) {
 }
 
 /// A call that writes into a slice of `room` entries and answers how many: the entries written.
-pub fn written_into<T: Copy + PartialEq>(
+fn written_into<T: Copy + PartialEq>(
     room: usize,
     fill: fn(usize) -> T,
     call: impl FnOnce(*mut T, usize) -> CountReply,
@@ -355,7 +355,7 @@ pub fn written_into<T: Copy + PartialEq>(
 }
 
 /// No number of any formula, different at each index.
-pub fn unwritten(index: usize) -> i32 {
+fn unwritten(index: usize) -> i32 {
     i32::MIN + index as i32
 }
 
@@ -618,7 +618,7 @@ pub fn next_line(file: &[u8], line: u32) -> (Answer<Option<Line>>, u32) {
 }
 
 /// No byte of any text, different at nearby indices.
-pub fn unprinted(index: usize) -> u8 {
+fn unprinted(index: usize) -> u8 {
     128 | index as u8
 }
 
