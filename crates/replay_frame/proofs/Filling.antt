@@ -10,13 +10,13 @@ use native.Mathlib.Numerals.{add-one}
 use native.Mathlib.Omega.{arith}
 use lib.Dec.{eqb}
 use lib.Pow.{pow-mono}
-use lib.ListN.{length, getD, set, drop, length-set}
+use lib.ListN.{length, set, drop, length-set}
 use lib.Seq.{getD-set-same, getD-set-other, drop-set-lt}
 use borrow.Author.Tests.{eq-eqb, ne-eqb}
 use Rattle.model.specs.Bits.{bit}
 use Rattle.model.specs.Search.{anyBelow}
-use Rattle.model.specs.Netlist.{Netlist, Start, startOf, start, port, lastWire}
-use Rattle.model.specs.Circuit.{Values, codeValue, State, addressOf, evaluate, firstPass, frame, stateAt, run, initial}
+use Rattle.model.specs.Netlist.{Netlist, startOf, start, port, lastWire}
+use Rattle.model.specs.Circuit.{Values, codeValue, addressOf, evaluate, firstPass, stateAt, run, initial}
 use Rattle.model.specs.Acceptance.{SizesFit, WithinLimits, Accepted}
 use Rattle.model.specs.Claim.{feedOf}
 use Rattle.model.proofs.Booleans.{and-true}

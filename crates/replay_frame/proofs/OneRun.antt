@@ -13,7 +13,7 @@ use Rattle.model.specs.Circuit.{addressOf, BeginsAs, Begins}
 use Rattle.model.specs.Agree.{givenWord}
 use Rattle.model.specs.Acceptance.{Accepted}
 use Rattle.model.proofs.Bits.{fromBits-below}
-use Rattle.replay_frame.specs.Replay.{Said, runFrom, isUnknown, fillsFrom, wordSaid, startWords, fills, replayed, OneRun, OneRunTheorem}
+use Rattle.replay_frame.specs.Replay.{Said, runFrom, isUnknown, fillsFrom, wordSaid, startWords, fills, replayed, OneRunTheorem}
 use Rattle.replay_frame.proofs.Filling.{runs-on}
 
 -- a memory of one word

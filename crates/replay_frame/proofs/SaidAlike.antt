@@ -1,11 +1,10 @@
 -- Two answers that say the same of all that the frames before i are fed are replayed alike there: the same words are filled, and the runs are
 -- the same. No contract cites this file.
-use Prim.Native.Nat.{ℕ, zero, suc, _/_, _^_, _≤_, _<_}
-use mathlib.Core.Path.{_≡_, refl, sym, _∙_, ap, ap₂}
+use Prim.Native.Nat.{ℕ, zero, suc, _/_, _≤_, _<_}
+use mathlib.Core.Path.{_≡_, refl, _∙_, ap, ap₂}
 use mathlib.Core.Bool.{Bool, true, false, cond, not, _&&_, _||_}
 use native.Mathlib.Omega.{arith}
 use lib.Dec.{eqb}
-use Rattle.model.specs.Search.{anyBelow}
 use Rattle.model.specs.Netlist.{Netlist, start, port, readBits, lastWire}
 use Rattle.model.specs.Circuit.{codeValue, addressOf, stateAt, run, initial}
 use Rattle.model.specs.Acceptance.{Accepted, IsCode}

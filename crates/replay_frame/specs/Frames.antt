@@ -13,7 +13,7 @@ use Rattle.model.specs.Claim.{feedOf}
 use Rattle.circuit_values.specs.WireTable.{entry, HasBelow}
 use Rattle.circuit_step.specs.Held.{Holds}
 use Rattle.circuit_step.specs.Touched.{touchedBefore}
-use Rattle.replay_frame.specs.Replay.{Said, begunFrom, isUnknown, startWords, fills, replayed, replayedState, fedUnclear}
+use Rattle.replay_frame.specs.Replay.{Said, begunFrom, isUnknown, startWords, replayed, replayedState, fedUnclear}
 use Rattle.replay_frame.specs.declared.FrameVerdict.{FrameVerdict}
 
 -- the table of the words that are touched, after a frame with the values v

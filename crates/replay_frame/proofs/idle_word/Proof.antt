@@ -10,7 +10,6 @@ use Rattle.model.proofs.Bits.{bit-fromBits}
 use Rattle.netlist.specs.NetOf.{netOf, alone}
 use Rattle.answer_signs.specs.Signs.{trueIn}
 use Rattle.replay_frame.specs.Replay.{wordSaid}
-use borrow.Author.Needs.{needs}
 use Rattle.replay_frame.proofs.idle_word.Statement.{statement}
 use Rattle.replay_frame.proofs.idle_word.Tie as tie
 
