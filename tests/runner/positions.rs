@@ -199,6 +199,9 @@ pub fn walks(library: &Library, tally: &mut Tally) {
                 (NO_SUCH_GROUP, 0)
             };
             tally.equal((round, frame, "on"), verdict, due);
+            if due != ACCEPTED {
+                tally.equal((round, frame, "handed back"), next, position);
+            }
             position = next;
         }
     }
