@@ -1,10 +1,10 @@
 #!/usr/bin/env bash
 # Measures `frames` on bench/largest.sheet, of the largest kind (I = 60, L = 100, A = 408, m = 12, n = 32; its codes were drawn once), at
-# depths 15, 63 and 255, beside a C generator of the same text that is optimised by hand and one that prints through fprintf; and, of the
-# library, every group of depth 255 through the exported call, which tests its record each time, the import of ASCII AIGER texts
+# depths 15, 63 and 255, and at depth 63 on the same sheet with half of its codes made constants, beside a C generator of the same text that is
+# optimised by hand and one that prints through fprintf; and, of the library, every group of depth 255 through the exported call, which tests its record each time, the import of ASCII AIGER texts
 # (bench/text.rs), and `replay` (bench/replay.sh). Every figure is the best of several repetitions, all programs and depths in turn, input
 # from a file, output to /dev/null; the time is the process's processor time (user and system), so that other work on the machine matters
-# little. It says which of our own targets (1.3 times, 4 times, 4 MiB, 20%, 50 ms) are reached, and fails only where a program fails or the
+# little. It says which of our own targets (1.25 times, 4 times, 4 MiB, 20%, 50 ms) are reached, and fails only where a program fails or the
 # texts differ.
 # Arguments: repetitions (100; a tenth as many of the slow generator and of the imports), and `worst` for the worst import known as well, which
 # takes a minute; the program is target/bin/frames unless FRAMES names another.
@@ -51,6 +51,8 @@ for other in optimised formatted; do
   "$work/$other" < "$work/input.constants" | cmp - <("$frames" < "$work/input.constants") ||
     { echo "frames and $other differ where codes are constants" >&2; exit 1; }
 done
+bytes+=("$("$frames" < "$work/input.constants" | wc -c)")
+fast+=("$work/input.constants" "$frames" "$work/input.constants" "$work/optimised")
 input=$work/input.255
 [ "$("$work/library" < "$input")" -eq "$("$frames" < "$input" | tail -n +2 | wc -w)" ] ||
   { echo "the library writes other numbers than frames prints" >&2; exit 1; }
@@ -65,7 +67,10 @@ awk -v depths="${depths[*]}" -v bytes="${bytes[*]}" '
   function change(time, off, less) {
     return 100 * ((time[255] - off) / (size[255] - less) / ((time[63] - off) / (size[63] - less)) - 1)
   }
-  BEGIN { most = split(depths, depth, " "); split(bytes, counts, " "); for (d = 1; d <= most; d++) size[depth[d]] = counts[d] }
+  BEGIN {
+    most = split(depths, depth, " "); split(bytes, counts, " "); depth[most + 1] = "constants"
+    for (d = 1; d <= most + 1; d++) size[depth[d]] = counts[d]
+  }
   FNR < NR { formatted[depth[FNR]] = $1; next }
   FNR == 1 { library = $1; next }
   FNR % 2 == 0 { time[depth[FNR / 2]] = $1; resident[depth[FNR / 2]] = $2; next }
@@ -79,10 +84,12 @@ awk -v depths="${depths[*]}" -v bytes="${bytes[*]}" '
     }
     for (d = most - 1; d >= 1; d--) {
       k = depth[d]
-      say(time[k] <= 1.3 * optimised[k], "depth " k ", at most 1.3 times the optimised generator", sprintf("%.2f", time[k] / optimised[k]))
+      say(time[k] <= 1.25 * optimised[k], "depth " k ", at most 1.25 times the optimised generator", sprintf("%.2f", time[k] / optimised[k]))
       say(formatted[k] >= 4 * time[k], "depth " k ", at least 4 times faster than formatted printing", sprintf("%.1f", formatted[k] / time[k]))
       say(resident[k] <= 4096, "depth " k ", at most 4 MiB resident", resident[k] " KiB")
     }
+    k = "constants"
+    say(size[k] < size[63] && time[k] < time[63], "depth 63, half of the codes constants, shorter and faster", sprintf("%.2f of the bytes, %.2f of the time (%d bytes, %.2f ms), %.2f times the optimised generator", size[k] / size[63], time[k] / time[63], size[k], time[k] / 1000, time[k] / optimised[k]))
     # what depth 0 takes is the start of the process: no cost of a byte
     flat = change(time, time[0], size[0])
     say(flat >= -20 && flat <= 20, "cost per byte from depth 63 to 255 within 20%, the time of depth 0 taken off", sprintf("%+.0f%%", flat))
