@@ -14,8 +14,7 @@ find_run() { # sheet, depth; statuses 10 and 20 are answers
 
 step "1 of 4: tools"
 present rt || stop "the Rattle kit is missing: the command 'rt' is not on the PATH"
-install_missing awk mawk || exit 1
-install_missing cadical cadical || exit 1
+install_missing awk mawk cadical cadical || exit 1
 echo "$(rt version); CaDiCaL $(cadical --version)"
 
 step "2 of 4: every crate is proved from nothing (rt prove; some minutes, a line for each crate)"

@@ -23,26 +23,23 @@ count() { # name, exit status, log
   if [ "$2" -ne 0 ] && [ "$4" -eq 0 ]; then fail "$1 exited with $2"; fi
 }
 
-. scripts/install.sh
-need() { install_missing "$1" "$2" || { fail "$1 is missing"; finish; } } # command or file, Debian package
-
 if ! command -v rt >/dev/null 2>&1; then
   fail "the Rattle kit is missing: the command 'rt' is not on the PATH"
   finish
 fi
-need awk mawk
-need rustc rustc
-need cadical cadical
-need minisat minisat
-need cc gcc
-need g++ g++
-need valgrind valgrind
-need vcd2fst gtkwave
-need /usr/include/ccadical.h libcadical-dev
-need yosys yosys
-need berkeley-abc berkeley-abc
+. scripts/install.sh
+install_missing awk mawk rustc rustc cadical cadical minisat minisat cc gcc g++ g++ valgrind valgrind vcd2fst gtkwave \
+  /usr/include/ccadical.h libcadical-dev yosys yosys berkeley-abc berkeley-abc || { fail "a tool is missing"; finish; }
 
-logs=target/test
+compile() { # where, name, root file, further options of rustc ..
+  nice rustc -O --edition 2021 -o "$1/$2" "${@:4}" "$3"
+}
+# What needs nothing of the proofs is compiled beside them: they leave a processor idle at times.
+early=$(mktemp -d) # rt ci removes target/
+for test in reference runner solvers waveform rules promises; do
+  compile "$early" "$test" "tests/$test/main.rs"
+done > "$early/compiled.out" 2>&1 &
+
 echo "== layout: rt fmt --check"
 if out=$(rt fmt --check 2>&1); then pass; else echo "$out"; fail "rt fmt --check"; fi
 
@@ -53,58 +50,78 @@ rt ci 2>&1 | tee "$log"
 status=${PIPESTATUS[0]}
 echo "($((SECONDS - began)) s)"
 count "rt ci" "$status" "$log"
-mkdir -p "$logs" # rt ci removes target/ first
+wait
+logs=target/test
+mkdir -p target
+mv "$early" "$logs"
 mv "$log" "$logs/rt-ci.out"
+cat "$logs/compiled.out"
 
-# Runs a command whose last line is 'N passed, M failed', and says how long it took.
-run() { # heading, name, command ..
-  echo "== $1"
-  local began=$SECONDS
-  "${@:3}" > "$logs/$2.out" 2>&1
-  local status=$?
-  cat "$logs/$2.out"
-  echo "($((SECONDS - began)) s)"
-  count "$2" "$status" "$logs/$2.out"
+# Starts a command whose last line is 'N passed, M failed'. As many run at a time as there are processors: no test may need a processor
+# for itself, and each has its own scratch files.
+processors=$(nproc)
+names=()
+headings=()
+start() { # heading, name, command ..
+  while [ "$(jobs -pr | wc -l)" -ge "$processors" ]; do wait -n; done
+  headings+=("$1")
+  names+=("$2")
+  {
+    began=$SECONDS
+    timeout 900 "${@:3}" > "$logs/$2.out" 2>&1
+    echo "$? $((SECONDS - began))" > "$logs/$2.status"
+  } &
 }
 
-compile() { # name, root file, further options of rustc ..
-  rustc -O --edition 2021 -o "$logs/$1" "${@:3}" "$2" || { fail "$2 does not compile"; return 1; }
+# Prints and counts what was started, in that order.
+report() {
+  local i status took
+  wait
+  for i in "${!names[@]}"; do
+    status=1 took=?
+    [ -f "$logs/${names[i]}.status" ] && read -r status took < "$logs/${names[i]}.status"
+    echo "== ${headings[i]}"
+    cat "$logs/${names[i]}.out"
+    echo "($took s)"
+    count "${names[i]}" "$status" "$logs/${names[i]}.out"
+  done
 }
 
-run "each must-fail edit is refused at a fact" edits bash tests/edits.sh
-run "wires, codes and clause numbers are kept apart" types bash tests/types.sh
-run "the table of layers is that of the imports" layers bash tests/layers.sh
-compile reference tests/reference/main.rs && run "the second implementation's own tests" reference "$logs/reference"
-compile runner tests/runner/main.rs &&
-  run "the programs against the second implementation" runner \
-    timeout 900 "$logs/runner" target/bin/frames target/bin/replay target/bin/import_aag docs/FORMAT.md
-run "the program import_aag" import timeout 120 bash tests/import.sh target/bin/import_aag
+frames=target/bin/frames
+replay=target/bin/replay
+import=target/bin/import_aag
 
+# the longest first
+start "replay against the second implementation" replay "$logs/runner" "$frames" "$replay" "$import" replay
 echo "== the static library: rt staticlib marrubigai"
-if rt staticlib marrubigai > "$logs/staticlib.out" 2>&1; then
+linked=(-L target/staticlib -l static=marrubigai)
+if {
+  rt staticlib marrubigai && compile "$logs" library tests/runner/library.rs "${linked[@]}" &&
+    compile "$logs" verilog tests/verilog/main.rs "${linked[@]}"
+} > "$logs/staticlib.out" 2>&1; then
   pass
-  if compile library tests/runner/library.rs -L target/staticlib -l static=marrubigai; then
-    run "the library against the second implementation" library timeout 600 "$logs/library"
-    run "a sample of the library's calls under valgrind" library-valgrind \
-      timeout 600 valgrind --quiet --error-exitcode=99 "$logs/library" sample
-  fi
-  run "the header for C against the library" header bash tests/header.sh
-  run "a search depth by depth with the library and CaDiCaL's" search bash tests/search.sh target/bin/frames target/bin/replay
-  compile verilog tests/verilog/main.rs -L target/staticlib -l static=marrubigai &&
-    run "from Verilog to an imported netlist and a shown run, with yosys and abc" verilog \
-      timeout 600 bash tests/verilog.sh target/bin/frames target/bin/replay target/bin/import_aag "$logs/verilog"
+  start "frames against the second implementation" frames "$logs/runner" "$frames" "$replay" "$import" frames docs/FORMAT.md
+  start "the library against the second implementation" library "$logs/library"
+  start "from Verilog to an imported netlist and a shown run, with yosys and abc" verilog \
+    bash tests/verilog.sh "$frames" "$replay" "$import" "$logs/verilog"
+  start "a sample of the library's calls under valgrind" library-valgrind valgrind --quiet --error-exitcode=99 "$logs/library" sample
+  start "the header for C against the library" header bash tests/header.sh
+  start "a search depth by depth with the library and CaDiCaL's" search bash tests/search.sh "$frames" "$replay"
 else
   cat "$logs/staticlib.out"
-  fail "rt staticlib marrubigai"
+  fail "the static library"
 fi
-
-run "the script that looks for a run and shows it" find bash tests/find.sh target/bin/frames target/bin/replay
-compile waveform tests/waveform/main.rs &&
-  run "the waveform of a run, by GTKWave's converters" waveform "$logs/waveform" target/bin/frames target/bin/replay "$logs/scratch"
-run "the examples' sheets, and what the pages show of them" examples bash tests/examples.sh target/bin/frames target/bin/replay
-compile solvers tests/solvers/main.rs &&
-  run "the formula of frames, with public solvers" solvers "$logs/solvers" target/bin/frames "$logs/scratch" examples
-compile rules tests/rules/main.rs && run "citations and quotes stand in docs/RULES.md" rules "$logs/rules" .
-compile promises tests/promises/main.rs && run "docs/TRUST.md says what the repository has" promises "$logs/promises" check .
-
+start "import_aag against the second implementation" import_aag "$logs/runner" "$frames" "$replay" "$import" import_aag
+start "import_aag as a program" import bash tests/import.sh "$import"
+start "the second implementation's own tests" reference "$logs/reference"
+start "the formula of frames, with public solvers" solvers "$logs/solvers" "$frames" "$logs/solvers-scratch" examples
+start "the script that looks for a run and shows it" find bash tests/find.sh "$frames" "$replay"
+start "the waveform of a run, by GTKWave's converters" waveform "$logs/waveform" "$frames" "$replay" "$logs/waveform-scratch"
+start "the examples' sheets, and what the pages show of them" examples bash tests/examples.sh "$frames" "$replay"
+start "each must-fail edit is refused at a fact" edits bash tests/edits.sh
+start "wires, codes and clause numbers are kept apart" types bash tests/types.sh
+start "the table of layers is that of the imports" layers bash tests/layers.sh
+start "citations and quotes stand in docs/RULES.md" rules "$logs/rules" .
+start "docs/TRUST.md says what the repository has" promises "$logs/promises" check .
+report
 finish

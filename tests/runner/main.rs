@@ -1,6 +1,7 @@
 //! Tests of the programs `frames`, `replay` and `import_aag` against the second implementation, with fixed seeds.
-//! `main FRAMES REPLAY IMPORT PAGE` runs all of them, and the examples of the page; `main FRAMES REPLAY IMPORT fuzz COUNT [SEED]`
-//! runs as many hostile inputs as asked for. The last line is `N passed, M failed`. Started in the repository's folder.
+//! `main FRAMES REPLAY IMPORT frames PAGE` runs those of `frames`, with the examples of the page; `replay` or `import_aag` in place of
+//! `frames PAGE` those of the others; `fuzz COUNT [SEED]` as many hostile inputs as asked for. The last line is `N passed, M failed`.
+//! Started in the repository's folder.
 //! Build: rustc -O --edition 2021 main.rs
 
 mod accepted;
@@ -107,12 +108,11 @@ fn every_number(program: &Program, tally: &mut Tally, due: &[usize]) {
 const OF_FRAMES: [usize; 9] = [0, 1, 2, 3, 4, 5, 6, 7, 17];
 const OF_REPLAY: [usize; 12] = [0, 1, 2, 3, 4, 5, 6, 7, 14, 15, 17, CLAIMED];
 
-fn all(program: &Program, replay: &Replay, import: &Program, page: &Path) -> Report {
+fn of_frames(program: &Program, page: &Path, folder: &Path) -> Report {
     let mut report = Report::default();
     for (name, family) in FAMILIES {
         report.family(name, |tally| family(program, tally));
     }
-    let folder = replay.program.folder();
     report.family("output file at its limit", |tally| {
         faults::file_limit(program, tally, folder)
     });
@@ -122,20 +122,49 @@ fn all(program: &Program, replay: &Replay, import: &Program, page: &Path) -> Rep
     report.family("refusal numbers", |tally| {
         every_number(program, tally, &OF_FRAMES)
     });
+    report
+}
+
+fn of_replay(replay: &Replay) -> Report {
+    let mut report = Report::default();
     for (name, family) in REPLAY_FAMILIES {
-        report.family(&format!("replay: {name}"), |tally| family(replay, tally));
+        report.family(name, |tally| family(replay, tally));
     }
-    report.family("replay: refusal numbers", |tally| {
+    report.family("refusal numbers", |tally| {
         every_number(&replay.program, tally, &OF_REPLAY)
     });
-    report.family("import_aag: tables of imports", |tally| {
-        texts::tables(import, tally)
-    });
-    report.family("import_aag: random texts", |tally| {
+    report
+}
+
+fn of_import(import: &Program) -> Report {
+    let mut report = Report::default();
+    report.family("tables of imports", |tally| texts::tables(import, tally));
+    report.family("random texts", |tally| {
         texts::texts(import, tally, 305, 2_000)
     });
-    report.family("import_aag: refusal numbers", |tally| {
+    report.family("refusal numbers", |tally| {
         every_number(import, tally, &texts::OF_IMPORT)
+    });
+    report
+}
+
+fn hostile(
+    program: &Program,
+    replay: &Replay,
+    import: &Program,
+    count: usize,
+    seed: Option<&&str>,
+) -> Report {
+    let seed = seed.map_or(302, |seed| seed.parse().expect("a seed"));
+    let mut report = Report::default();
+    report.family("hostile inputs", |tally| {
+        fuzz::inputs(program, tally, seed, count)
+    });
+    report.family("replay: hostile inputs and answers", |tally| {
+        fuzz::answers(replay, tally, seed, count)
+    });
+    report.family("import_aag: hostile texts", |tally| {
+        texts::texts(import, tally, seed, count)
     });
     report
 }
@@ -150,25 +179,17 @@ fn main() {
     let replay = Replay::new(absolute(paths[1]), absolute(paths[0]), &folder);
     let import = Program::new(absolute(paths[2]), Path::new("."), |_| Vec::new());
     let report = match rest {
-        [page] => all(&program, &replay, &import, Path::new(page)),
-        ["fuzz", count, seed @ ..] if seed.len() <= 1 => {
-            let seed = seed
-                .first()
-                .map_or(302, |seed| seed.parse().expect("a seed"));
-            let mut report = Report::default();
-            let count = count.parse().expect("how many inputs");
-            report.family("hostile inputs", |tally| {
-                fuzz::inputs(&program, tally, seed, count)
-            });
-            report.family("replay: hostile inputs and answers", |tally| {
-                fuzz::answers(&replay, tally, seed, count)
-            });
-            report.family("import_aag: hostile texts", |tally| {
-                texts::texts(&import, tally, seed, count)
-            });
-            report
-        }
-        _ => panic!("usage: FRAMES REPLAY IMPORT PAGE, or FRAMES REPLAY IMPORT fuzz COUNT [SEED]"),
+        ["frames", page] => of_frames(&program, Path::new(page), &folder),
+        ["replay"] => of_replay(&replay),
+        ["import_aag"] => of_import(&import),
+        ["fuzz", count, seed @ ..] if seed.len() <= 1 => hostile(
+            &program,
+            &replay,
+            &import,
+            count.parse().expect("how many inputs"),
+            seed.first(),
+        ),
+        _ => panic!("usage: FRAMES REPLAY IMPORT, then frames PAGE, replay, import_aag or fuzz COUNT [SEED]"),
     };
     fs::remove_dir_all(&folder).expect("removing the folder");
     report.finish()
