@@ -118,7 +118,8 @@ fn copy_numbers(out: &mut [i32], numbers: &[i32]) -> usize
     i
 }
 
-// Writes a group that is there, after the tests of 10 and 9. It is written aside first: how many numbers it has shows when it is written.
+// Writes a group that is there, after the tests of 10 and 9. How many numbers it has shows when it is written: into a slice without room
+// for every group it is written aside first.
 pub fn write_tested(
     net: Netlist,
     latches: &UnpackedList,
@@ -133,6 +134,9 @@ pub fn write_tested(
 {
     if 2147483647 < clause_variables::frame_base(net, depth + 1) {
         return GroupAnswer::Refused(Refusal::OutOfNumbers, 0);
+    }
+    if 5992 <= out.len() {
+        return GroupAnswer::Written(groups::put_group(out, net, latches, gates, depth, group));
     }
     let mut numbers = [0; 5992];
     let count = groups::put_group(&mut numbers, net, latches, gates, depth, group);

@@ -27,28 +27,46 @@ returns c =
     (variables-fit _ _ _ (c .before .before .pre .0) (c .before .before .pre .1) (c .before .frame-base .ensures ∙ base-lists _ _ _ _)
     (c .if1 .taken))
 
-slice-aggregate-put-group : tie.Need-slice-aggregate-put-group
-slice-aggregate-put-group c = search needs
-
 put-group-requires : tie.Need-put-group-requires
 put-group-requires c κs =
-    let ok = c .before .before .before .pre in
-    let most = numbers-most _ _ _ (ok .0) (ok .1) (ok .2) in
-    (ok .0, ok .1, ok .2, search needs)
-
--- the count is within the numbers written
-within : (c : tie.After-put-group) → c .put-group .result ≤ length (c .put-group .last .0)
-within c =
     let ok = c .before .before .before .before .pre in
     let most = numbers-most _ _ _ (ok .0) (ok .1) (ok .2) in
-    search needs
+    (ok .0, ok .1, ok .2, omega (arith, most, c .before .if2 .taken))
+
+same-length : tie.Need-same-length
+same-length c = search needs
 
 returns-2 : tie.Need-returns-2
 unfolding groupReply withCount contentsAfter
 returns-2 c =
     let start = c .before .before .before .before .before .before in
-    let w = c .before .before .put-group .ensures .0 in
-    let v = write-room _ _ (start .args .group) (length (start .args .out .now)) (start .pre .0) (start .pre .1) ∙ room-short _ _ (omega (arith, c .if2 .taken, w .counted)) in
+    let most = numbers-most _ _ (start .args .group) (start .pre .0) (start .pre .1) (start .pre .2) in
+    let w = c .before .put-group .ensures .0 in
+    let v = write-room _ _ (start .args .group) (length (start .args .out .now)) (start .pre .0) (start .pre .1) ∙ room-enough _ _ (omega (arith, most, c .before .before .before .if2 .taken, c .before .put-group .ensures .1, w .counted)) in
+    (rw (v, w .counted), rw v (w .leaves))
+
+slice-aggregate-put-group : tie.Need-slice-aggregate-put-group
+slice-aggregate-put-group c = search needs
+
+put-group-requires-2 : tie.Need-put-group-requires-2
+put-group-requires-2 c κs =
+    let ok = c .before .before .before .before .pre in
+    let most = numbers-most _ _ _ (ok .0) (ok .1) (ok .2) in
+    (ok .0, ok .1, ok .2, search needs)
+
+-- the count is within the numbers written
+within : (c : tie.After-put-group2) → c .put-group2 .result ≤ length (c .put-group2 .last .0)
+within c =
+    let ok = c .before .before .before .before .before .pre in
+    let most = numbers-most _ _ _ (ok .0) (ok .1) (ok .2) in
+    search needs
+
+returns-3 : tie.Need-returns-3
+unfolding groupReply withCount contentsAfter
+returns-3 c =
+    let start = c .before .before .before .before .before .before .before in
+    let w = c .before .before .put-group2 .ensures .0 in
+    let v = write-room _ _ (start .args .group) (length (start .args .out .now)) (start .pre .0) (start .pre .1) ∙ room-short _ _ (omega (arith, c .if3 .taken, w .counted)) in
     (rw v, rw v)
 
 array-share-prefix-numbers : tie.Need-array-share-prefix-numbers
@@ -59,20 +77,20 @@ slice-aggregate-copy-numbers c = sym (length-take-le _ _ (within (c .before .bef
 
 copy-numbers-requires : tie.Need-copy-numbers-requires
 copy-numbers-requires c κs =
-    let written = c .before .before .before .before .put-group in
+    let written = c .before .before .before .before .put-group2 in
     let e : length (take (written .result) (written .last .0)) ≡ written .result = length-take-le _ _ (within (c .before .before .before .before)) in
-    omega (arith, c .before .before .if2 .left)
+    omega (arith, c .before .before .if3 .left)
 
-same-length : tie.Need-same-length
-same-length c = search needs
+same-length-2 : tie.Need-same-length-2
+same-length-2 c = search needs
 
-returns-3 : tie.Need-returns-3
+returns-4 : tie.Need-returns-4
 unfolding groupReply withCount contentsAfter
-returns-3 c =
-    let start = c .before .before .before .before .before .before .before .before .before .before in
-    let w = c .before .before .before .before .before .before .put-group .ensures .0 in
+returns-4 c =
+    let start = c .before .before .before .before .before .before .before .before .before .before .before in
+    let w = c .before .before .before .before .before .before .put-group2 .ensures .0 in
     let x = rw (wrote-front w) at (c .before .copy-numbers .ensures) in
-    let v = write-room _ _ (start .args .group) (length (start .args .out .now)) (start .pre .0) (start .pre .1) ∙ room-enough _ _ (omega (arith, c .before .before .before .before .if2 .left, w .counted)) in
+    let v = write-room _ _ (start .args .group) (length (start .args .out .now)) (start .pre .0) (start .pre .1) ∙ room-enough _ _ (omega (arith, c .before .before .before .before .if3 .left, w .counted)) in
     (rw (v, x .counted), rw v (x .leaves))
 
 pub write-tested-spec : {M : Type 1} → statement M
@@ -82,11 +100,14 @@ write-tested-spec =
     add-frame-base
     frame-base-requires
     returns
-    slice-aggregate-put-group
     put-group-requires
+    same-length
     returns-2
+    slice-aggregate-put-group
+    put-group-requires-2
+    returns-3
     array-share-prefix-numbers
     slice-aggregate-copy-numbers
     copy-numbers-requires
-    same-length
-    returns-3)
+    same-length-2
+    returns-4)
