@@ -16,7 +16,8 @@ use Rattle.model.proofs.Booleans.{neither-true}
 use Rattle.circuit_step.proofs.Alike.{InputsAlike, RE-alike}
 use Rattle.circuit_step.proofs.Touched.{any-same}
 use Rattle.replay_frame.specs.Replay.{Said, begunFrom, runFrom, wordSaid, startWords, fills, replayed, fedUnclear, feedFault}
-use Rattle.replay_frame.proofs.SaidAlike.{SaidAlike, RE-on, RE-said, fills-said, words-alike}
+use Rattle.replay_frame.proofs.Filling.{RE-on}
+use Rattle.replay_frame.proofs.SaidAlike.{SaidAlike, RE-said, fills-said, words-alike}
 use Rattle.replay_call.specs.Settled.{FaultsSettled}
 
 module _ {c : Netlist} (ok : Accepted c) {y z : Said} (same : (v : ℕ) → y .unclear v ≡ z .unclear v)
