@@ -115,3 +115,9 @@ lineOf c v = gather (lastWire c) (λ w. digitOf (v (1 + w)) ∷ []) ++ lineFeed 
 -- the lines of frames 0 to k
 unfoldable pub traceText : Netlist → Said → ℕ → List ℕ
 traceText c y k = gather (k + 1) (λ i. lineOf c (replayed c y i))
+
+-- The replay bears out the assignment a: every wire of every frame 0 to k is as assigned, and one of these frames breaks the property. Cited by
+-- the promise about right answers (replay_call/specs/RightAnswer)
+pub record BearsOut (c : Netlist) (y : Said) (k : ℕ) (a : Assignment) : Type 0 where
+  pub as-assigned : (i : ℕ) → i ≤ k → (w : ℕ) → 1 ≤ w → w ≤ lastWire c → a (base c i + w) ≡ replayed c y i w
+  pub breaks : firstViolation c y k ≤ k
