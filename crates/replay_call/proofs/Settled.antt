@@ -50,7 +50,7 @@ module _ {c : Netlist} (ok : Accepted c) {y z : Said} (same : (v : ℕ) → y .u
   RE-first words = RE-alike ok (begunFrom c y (startWords c y 1)) (begunFrom c y words) (feedOf c (y .value) 0) (feedOf c (y .value) 0) (λ l h. refl) (λ x h. refl)
 
   -- where no frame before has a fault, they are said alike
-  said-alike : (i : ℕ) → ((j : ℕ) → j < i → feedFault c y j ≡ false) → SaidAlike c y z i
+  pub said-alike : (i : ℕ) → ((j : ℕ) → j < i → feedFault c y j ≡ false) → SaidAlike c y z i
   unfolding wordSaid idleOf
   said-alike i none =
       record {
