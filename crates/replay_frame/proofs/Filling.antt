@@ -25,13 +25,13 @@ use Rattle.model.proofs.Circuit.{code-same, address-same}
 use Rattle.netlist.specs.NetOf.{netOf}
 use Rattle.netlist.specs.declared.Netlist as Record
 use Rattle.circuit_values.specs.WireTable.{entry, HasBelow}
-use Rattle.circuit_step.specs.Held.{Holds, Fed}
+use Rattle.circuit_step.specs.Held.{HoldsState, Fed}
 use Rattle.circuit_step.specs.Touched.{touches, touchedBefore}
 use Rattle.circuit_step.proofs.Held.{code-in, address-in, first-alike, evaluate-lists}
 use Rattle.circuit_step.proofs.Alike.{LatchesAlike, RE-settled, address-settled, RE-alike, address-alike}
 use Rattle.circuit_step.proofs.Touched.{any-same, withWord, state-untouched, run-untouched}
 use Rattle.replay_frame.specs.Replay.{Said, begunFrom, runFrom, isUnknown, fillsFrom, wordSaid, startWords, fills, replayed, replayedState}
-use Rattle.replay_frame.specs.Frames.{marked, Filled, TouchedIs}
+use Rattle.replay_frame.specs.Frames.{touchedAfter, WordFilled, TouchedIs}
 
 -- every address has a place in the table of touched words
 pub address-small : (c : Netlist) → SizesFit c → (v : Values) → addressOf c (port c) v < 4096
@@ -51,7 +51,7 @@ start-unknown word (suc u) h = refl
 
 -- where the start is given, nothing is filled
 pub none-filled : {c : Netlist} {touched inputs latches : List Bool} {word : ℕ} {memory : List ℕ} → c .unknownStart ≡ 0
-    → Filled c touched inputs latches word memory memory false
+    → WordFilled c touched inputs latches word memory memory false
 none-filled {c} e = record { fills-is = rw (start-given (c .initialWord) (c .unknownStart) e); memory-is = refl }
 
 -- where it is unknown, by the table of the first pass
@@ -59,7 +59,7 @@ pub filled-by : {c : Netlist} → WithinLimits c → {inputs latches table : Lis
     → (c .unknownStart ≡ 0 → ⊥) → {touched : List Bool} {word : ℕ} {memory memory′ : List ℕ} {r : Bool}
     → r ≡ (codeValue (entry table) (c .RE) && not (entry touched (addressOf c (port c) (entry table))))
     → memory′ ≡ cond r (set memory (addressOf c (port c) (entry table)) word) memory
-    → Filled c touched inputs latches word memory memory′ r
+    → WordFilled c touched inputs latches word memory memory′ r
 filled-by {c} limits {inputs} {latches} {table} q u {touched} {word} {memory} e m =
     record {
       fills-is = e ∙ rw (start-unknown (c .initialWord) (c .unknownStart) u, code-in c q (c .RE) (limits .codes .RE-fits), address-in limits q);
@@ -68,7 +68,7 @@ filled-by {c} limits {inputs} {latches} {table} q u {touched} {word} {memory} e 
 
 -- the latches of a record have no part in its first pass
 pub filled-lists : (r : Record.Netlist) (latches gates : List ℕ) {touched inputs state : List Bool} {word : ℕ} {memory memory′ : List ℕ} {b : Bool}
-    → Filled (netOf r [] gates) touched inputs state word memory memory′ b → Filled (netOf r latches gates) touched inputs state word memory memory′ b
+    → WordFilled (netOf r [] gates) touched inputs state word memory memory′ b → WordFilled (netOf r latches gates) touched inputs state word memory memory′ b
 unfolding netOf addressOf
 filled-lists r latches gates {touched} {inputs} {state} {word} {memory} {b = b} q =
     let c = netOf r latches gates in
@@ -163,9 +163,9 @@ module _ {c : Netlist} (ok : Accepted c) (y : Said) (i : ℕ) where
       address-alike ok (stateAt c (begunFrom c y (startWords c y (suc i))) (feedOf c (y .value)) i) (replayedState c y i) (feedOf c (y .value) i) (feedOf c (y .value) i)
       latches-on (λ x h. refl)
 
-  module _ {latches inputs touched : List Bool} {memory memory′ : List ℕ} {word : ℕ} {r : Bool} (held : Holds c (replayedState c y i) latches memory word)
+  module _ {latches inputs touched : List Bool} {memory memory′ : List ℕ} {word : ℕ} {r : Bool} (held : HoldsState c (replayedState c y i) latches memory word)
       (fed : Fed c (feedOf c (y .value) i) inputs) (marks : TouchedIs c y i touched)
-      (q : Filled c touched inputs latches (wordSaid c y i) memory memory′ r) where
+      (q : WordFilled c touched inputs latches (wordSaid c y i) memory memory′ r) where
     -- RE and address of the first pass in the table are the frame's
     RE-is : codeValue (evaluate c (entry inputs) (entry latches) (bit 0)) (c .RE) ≡ codeValue (runFrom c y (startWords c y i) i) (c .RE)
     unfolding run
@@ -195,10 +195,10 @@ module _ {c : Netlist} (ok : Accepted c) (y : Said) (i : ℕ) where
     memory-filled = q .memory-is ∙ ap₂ (λ b a. cond b (set memory a (wordSaid c y i)) memory) filled-is address-is
 
     -- and the memory then holds the words of the run that has it filled
-    pub filled-holds : Holds c (stateAt c (begunFrom c y (startWords c y (suc i))) (feedOf c (y .value)) i) latches memory′ word
+    pub filled-holds : HoldsState c (stateAt c (begunFrom c y (startWords c y (suc i))) (feedOf c (y .value)) i) latches memory′ word
     filled-holds = by (fills c y i) refl
       where
-        by : (b : Bool) → fills c y i ≡ b → Holds c (stateAt c (begunFrom c y (startWords c y (suc i))) (feedOf c (y .value)) i) latches memory′ word
+        by : (b : Bool) → fills c y i ≡ b → HoldsState c (stateAt c (begunFrom c y (startWords c y (suc i))) (feedOf c (y .value)) i) latches memory′ word
         by false e = rw (begun-kept e, memory-filled, e) held
         by true e =
             rw (state-filled e, memory-filled, e)
@@ -220,11 +220,11 @@ module _ {c : Netlist} (ok : Accepted c) (y : Said) (i : ℕ) where
         by true = drop-set-lt (2 ^ c .m) memory _ (wordSaid c y i) (address-below c (port c) (runFrom c y (startWords c y i) i))
         by false = refl
 
-  -- the table of touched words, with the frame's marked
-  pub marked-is : {touched values : List Bool} → TouchedIs c y i touched → HasBelow (lastWire c + 1) (replayed c y i) values
-      → TouchedIs c y (i + 1) (marked c (entry values) touched)
-  unfolding marked touchedBefore anyBelow touches
-  marked-is {touched} {values} marks q =
+  -- the table of touched words after the frame
+  pub touchedAfter-is : {touched values : List Bool} → TouchedIs c y i touched → HasBelow (lastWire c + 1) (replayed c y i) values
+      → TouchedIs c y (i + 1) (touchedAfter c (entry values) touched)
+  unfolding touchedAfter touchedBefore anyBelow touches
+  touchedAfter-is {touched} {values} marks q =
       rw (code-in c q (c .RE) (ok .limits .codes .RE-fits), code-in c q (c .WE) (ok .limits .codes .WE-fits), address-in (ok .limits) q)
       (record {
         size = length-of (codeValue (replayed c y i) (c .RE) || codeValue (replayed c y i) (c .WE)) ∙ marks .size;

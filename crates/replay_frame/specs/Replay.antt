@@ -109,12 +109,12 @@ firstViolation c y k = firstWhere (violates c y) (k + 1)
 abbrev pub digitOf : Bool → ℕ
 digitOf b = cond b 49 48
 
-unfoldable pub lineOf : Netlist → Values → List ℕ
-lineOf c v = gather (lastWire c) (λ w. digitOf (v (1 + w)) ∷ []) ++ lineFeed ∷ []
+unfoldable pub frameLine : Netlist → Values → List ℕ
+frameLine c v = gather (lastWire c) (λ w. digitOf (v (1 + w)) ∷ []) ++ lineFeed ∷ []
 
 -- the lines of frames 0 to k
 unfoldable pub traceText : Netlist → Said → ℕ → List ℕ
-traceText c y k = gather (k + 1) (λ i. lineOf c (replayed c y i))
+traceText c y k = gather (k + 1) (λ i. frameLine c (replayed c y i))
 
 -- The replay bears out the assignment a: every wire of every frame 0 to k is as assigned, and one of these frames breaks the property. Cited by
 -- the promise about right answers (replay_call/specs/RightAnswer)
