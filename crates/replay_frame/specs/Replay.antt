@@ -1,7 +1,7 @@
 -- The replay of a solver's answer (RULES Y1, Y5, Y6 and Y11 to Y14): the model's run, fed what the answer says of the inputs, of the
 -- idle word and of the words of an unknown start that are read. Cited by the functions that replay and by what the call promises
 -- (replay_call/specs/ReplayCall).
-use Prim.Native.Nat.{ℕ, zero, suc, _+_, _≤_, _<_}
+use Prim.Native.Nat.{ℕ, zero, suc, _+_, _*_, _≤_, _<_}
 use mathlib.Core.Path.{_≡_}
 use mathlib.Core.Bool.{Bool, true, false, cond, not, _&&_, _||_}
 use mathlib.Core.List.{List, [], _∷_, _++_}
@@ -115,6 +115,10 @@ frameLine c v = gather (lastWire c) (λ w. digitOf (v (1 + w)) ∷ []) ++ lineFe
 -- the lines of frames 0 to k
 unfoldable pub traceText : Netlist → Said → ℕ → List ℕ
 traceText c y k = gather (k + 1) (λ i. frameLine c (replayed c y i))
+
+-- how many bytes these have
+abbrev pub traceLength : Netlist → ℕ → ℕ
+traceLength c k = (k + 1) * (lastWire c + 1)
 
 -- The replay bears out the assignment a: every wire of every frame 0 to k is as assigned, and one of these frames breaks the property. Cited by
 -- the promise about right answers (replay_call/specs/RightAnswer)

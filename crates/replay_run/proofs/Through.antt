@@ -26,11 +26,11 @@ use Rattle.netlist.specs.declared.Netlist as Record
 use Rattle.circuit_values.specs.WireTable.{entry}
 use Rattle.circuit_step.specs.Held.{HoldsState}
 use Rattle.circuit_step.specs.Touched.{touchedBefore}
-use Rattle.replay_frame.specs.Replay.{Said, startWords, replayed, replayedState, feedFault, violates, firstViolation, frameLine, traceText}
+use Rattle.replay_frame.specs.Replay.{Said, startWords, replayed, replayedState, feedFault, violates, firstViolation, frameLine, traceText, traceLength}
 use Rattle.replay_frame.specs.Frames.{TouchedIs, FrameDone}
 use Rattle.replay_frame.specs.declared.FrameVerdict.{FrameVerdict}
 use Rattle.replay_frame.proofs.Replay.{length-line}
-use Rattle.replay_run.specs.Runs.{nextFirst, Shown, traceLength, RunDone}
+use Rattle.replay_run.specs.Runs.{nextFirst, Shown, RunDone}
 use Rattle.replay_run.proofs.Runs.{first-next, delivered-by}
 
 -- the lines of the first i frames
