@@ -1,7 +1,7 @@
 -- Laws of specs/Held.antt: tables that hold a state and a feed have its frame evaluated in them, and its step after that. No contract cites
 -- this file.
 use Prim.Native.Nat.{ℕ, zero, suc, _+_, _*_, _/_, _^_, _≤_, _<_}
-use mathlib.Core.Path.{_≡_, refl, sym, _∙_, ap}
+use mathlib.Core.Path.{_≡_, refl, sym, _∙_}
 use mathlib.Core.Bool.{Bool, true, false, cond, _&&_}
 use mathlib.Core.List.{List, []}
 use mathlib.Core.Logic.{by-cases}
@@ -23,7 +23,7 @@ use Rattle.netlist.specs.NetOf.{netOf}
 use Rattle.netlist.specs.declared.Netlist as Record
 use Rattle.circuit_values.specs.WireTable.{entry, HasBelow}
 use Rattle.circuit_values.proofs.WireTable.{code-below}
-use Rattle.circuit_step.specs.Held.{stateIn, Holds, Fed, written}
+use Rattle.circuit_step.specs.Held.{stateIn, HoldsState, Fed, memoryAfter}
 
 -- a table of equal values
 pub below-same : {b : ℕ} {u v : Values} {table : List Bool} → HasBelow b u table → ((w : ℕ) → w < b → u w ≡ v w) → HasBelow b v table
@@ -71,7 +71,7 @@ unfolding bit odd
 bit-zero t = rw zero-div
 
 module _ {c : Netlist} (limits : WithinLimits c) {s : State} {f : Feed} {latches inputs : List Bool} {memory : List ℕ} {word : ℕ}
-    (held : Holds c s latches memory word) (fed : Fed c f inputs) where
+    (held : HoldsState c s latches memory word) (fed : Fed c f inputs) where
   -- the first pass
   pub first-alike : (w : ℕ) → w ≤ lastWire c → evaluate c (entry inputs) (entry latches) (bit 0) w ≡ firstPass c s f w
   unfolding firstPass
@@ -99,17 +99,17 @@ module _ {c : Netlist} (limits : WithinLimits c) {s : State} {f : Feed} {latches
     frame-alike read e = evaluate-alike (limits .codes) (fed .input-fed) (held .latch-held) (λ t h. e t ∙ read-alike t h)
 
 -- the memory behind the 2^m words stays
-pub behind-written : (c : Netlist) (v : Values) (memory : List ℕ) → drop (2 ^ c .m) (written c v memory) ≡ drop (2 ^ c .m) memory
-unfolding written
-behind-written c v memory = either (codeValue v (c .WE))
+pub behind-memoryAfter : (c : Netlist) (v : Values) (memory : List ℕ) → drop (2 ^ c .m) (memoryAfter c v memory) ≡ drop (2 ^ c .m) memory
+unfolding memoryAfter
+behind-memoryAfter c v memory = either (codeValue v (c .WE))
   where
     either : (b : Bool) → drop (2 ^ c .m) (cond b (set memory (addressOf c (port c) v) (wordWritten c v)) memory) ≡ drop (2 ^ c .m) memory
     either true = drop-set-lt (2 ^ c .m) memory (addressOf c (port c) v) (wordWritten c v) (address-below c (port c) v)
     either false = refl
 
-pub length-written : (c : Netlist) (v : Values) (memory : List ℕ) → length (written c v memory) ≡ length memory
-unfolding written
-length-written c v memory = either (codeValue v (c .WE))
+pub length-memoryAfter : (c : Netlist) (v : Values) (memory : List ℕ) → length (memoryAfter c v memory) ≡ length memory
+unfolding memoryAfter
+length-memoryAfter c v memory = either (codeValue v (c .WE))
   where
     either : (b : Bool) → length (cond b (set memory (addressOf c (port c) v) (wordWritten c v)) memory) ≡ length memory
     either true = length-set memory (addressOf c (port c) v) (wordWritten c v)
@@ -117,16 +117,16 @@ length-written c v memory = either (codeValue v (c .WE))
 
 -- after the write and the step of the latches, the next state is held, with the word that was read
 pub step-holds : {c : Netlist} → WithinLimits c → {s : State} {v : Values} {table : List Bool} → HasBelow (lastWire c + 1) v table
-    → {latches next : List Bool} {memory : List ℕ} {word read : ℕ} → Holds c s latches memory word → length next ≡ 600
+    → {latches next : List Bool} {memory : List ℕ} {word read : ℕ} → HoldsState c s latches memory word → length next ≡ 600
     → ((l : ℕ) → l < c .latches → entry next l ≡ codeValue (entry table) (c .next l))
     → ((t : ℕ) → t < readBits c → bit read t ≡ entry table (readWire c t))
-    → Holds c (step c s v) next (written c (entry table) memory) read
-unfolding step written
+    → HoldsState c (step c s v) next (memoryAfter c (entry table) memory) read
+unfolding step memoryAfter
 step-holds {c} limits {s} {v} {table} q {latches} {next} {memory} held size each reads =
     record {
       latch-size = size;
       latch-held = λ l h. each l h ∙ code-in c q (c .next l) (limits .codes .next-fits l h);
-      memory-size = omega (arith, held .memory-size, length-written c (entry table) memory);
+      memory-size = omega (arith, held .memory-size, length-memoryAfter c (entry table) memory);
       memory-held = λ x h.
           rw (code-in c q (c .WE) (limits .codes .WE-fits), address-in limits q, word-in limits q) (at x h (codeValue v (c .WE)));
       word-held = λ t h. reads t h ∙ q .has (readWire c t) (omega arith);
@@ -143,8 +143,8 @@ step-holds {c} limits {s} {v} {table} q {latches} {next} {memory} held size each
 
 -- the lists of a record have no part in what is held and fed, and the latches none in a frame
 module _ (r : Record.Netlist) (latches gates latches′ gates′ : List ℕ) where
-  pub holds-lists : {s : State} {table : List Bool} {memory : List ℕ} {word : ℕ} → Holds (netOf r latches gates) s table memory word
-      → Holds (netOf r latches′ gates′) s table memory word
+  pub holds-lists : {s : State} {table : List Bool} {memory : List ℕ} {word : ℕ} → HoldsState (netOf r latches gates) s table memory word
+      → HoldsState (netOf r latches′ gates′) s table memory word
   unfolding netOf
   holds-lists q = record { latch-size = q .latch-size; latch-held = q .latch-held; memory-size = q .memory-size; memory-held = q .memory-held; word-held = q .word-held }
 

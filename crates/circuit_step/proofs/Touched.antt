@@ -14,7 +14,7 @@ use Rattle.model.specs.Netlist.{Netlist, port, readWire}
 use Rattle.model.specs.Circuit.{Values, codeValue, State, Feed, Feeds, addressOf, evaluate, readData, firstPass, frame, wordWritten, step, stateAt, run}
 use Rattle.model.specs.Acceptance.{Accepted}
 use Rattle.model.proofs.Search.{none-below}
-use Rattle.model.proofs.Booleans.{neither-true}
+use Rattle.model.proofs.Booleans.{neither-true, cond-same}
 use Rattle.circuit_step.specs.Touched.{touches, touchedBefore}
 use Rattle.circuit_step.proofs.Alike.{RE-settled, address-settled}
 
@@ -38,11 +38,11 @@ or-right false w e = e
 
 module _ (c : Netlist) (v : Values) (x : ℕ) (none : touches c v x ≡ false) where
   -- a frame that does not touch a word neither reads nor writes it
-  not-read : codeValue v (c .RE) ≡ true → addressOf c (port c) v ≡ x → ⊥
+  pub not-read : codeValue v (c .RE) ≡ true → addressOf c (port c) v ≡ x → ⊥
   unfolding touches
   not-read r e = apart _ _ none (rw r) (eq-eqb x (addressOf c (port c) v) (sym e))
 
-  not-written : codeValue v (c .WE) ≡ true → addressOf c (port c) v ≡ x → ⊥
+  pub not-written : codeValue v (c .WE) ≡ true → addressOf c (port c) v ≡ x → ⊥
   unfolding touches
   not-written w e = apart _ _ none (or-right (codeValue v (c .RE)) (codeValue v (c .WE)) w) (eq-eqb x (addressOf c (port c) v) (sym e))
 
@@ -64,17 +64,28 @@ module _ (c : Netlist) (v : Values) (x : ℕ) (none : touches c v x ≡ false) w
           (λ q. rw (ne-eqb y x q))
 
 module _ {c : Netlist} (ok : Accepted c) where
-  -- and the frame reads none of it
-  frame-untouched : (x w : ℕ) (s : State) (f : Feed) → touches c (frame c s f) x ≡ false → frame c (withWord x w s) f ≡ frame c s f
+  -- states that differ in their words alone, and not in the word that the frame of the second reads, have the same frame
+  pub frame-reads : (s r : State) (f : Feed) → s .latch ≡ r .latch → s .held ≡ r .held
+      → (codeValue (frame c r f) (c .RE) ≡ true → s .memory (addressOf c (port c) (frame c r f)) ≡ r .memory (addressOf c (port c) (frame c r f)))
+      → frame c s f ≡ frame c r f
   unfolding frame firstPass readData
-  frame-untouched x w s f none = ap (evaluate c (f .input) (s .latch)) (fun-ext (λ t. read t (codeValue (firstPass c s f) (c .RE)) refl))
+  frame-reads s r f latches held word = ap₂ (evaluate c (f .input)) latches (fun-ext read)
     where
-      read : (t : ℕ) (b : Bool) → codeValue (firstPass c s f) (c .RE) ≡ b
-          → cond b (bit (withWord x w s .memory (addressOf c (port c) (firstPass c s f))) t) (s .held t)
-          ≡ cond b (bit (s .memory (addressOf c (port c) (firstPass c s f))) t) (s .held t)
-      read t false e = refl
-      read t true e =
-          rw (ne-eqb (addressOf c (port c) (firstPass c s f)) x (λ h. not-read c (frame c s f) x none (sym (RE-settled ok s f) ∙ e) (sym (address-settled ok s f) ∙ h)))
+      first : firstPass c s f ≡ firstPass c r f
+      first = ap (λ latch. evaluate c (f .input) latch (λ t. false)) latches
+
+      there : codeValue (firstPass c r f) (c .RE) ≡ true → s .memory (addressOf c (port c) (firstPass c r f)) ≡ r .memory (addressOf c (port c) (firstPass c r f))
+      there e = rw (address-settled ok r f) (word (sym (RE-settled ok r f) ∙ e))
+
+      read : (t : ℕ) → readData c s (firstPass c s f) t ≡ readData c r (firstPass c r f) t
+      read t =
+          ap (λ v. readData c s v t) first
+          ∙ cond-same (codeValue (firstPass c r f) (c .RE)) (λ e. ap (λ x. bit x t) (there e)) (λ e. ap (λ h. h t) held)
+
+  -- so a frame that does not touch a word is the same with another word there
+  frame-untouched : (x w : ℕ) (s : State) (f : Feed) → touches c (frame c s f) x ≡ false → frame c (withWord x w s) f ≡ frame c s f
+  frame-untouched x w s f none =
+      frame-reads (withWord x w s) s f refl refl (λ e. rw (ne-eqb (addressOf c (port c) (frame c s f)) x (not-read c (frame c s f) x none e)))
 
   -- so a run goes on with another word there as it did
   module _ (x w : ℕ) (s : State) (f : Feeds) where
@@ -93,3 +104,14 @@ module _ {c : Netlist} (ok : Accepted c) where
         let each = none-below (λ j. touches c (run c s f j) x) i .0 none in
         ap (λ r. frame c r (f j)) (state-untouched j (none-below (λ j. touches c (run c s f j) x) j .1 (λ l b. each l (omega arith))))
         ∙ frame-untouched x w (stateAt c s f j) (f j) (each j h)
+
+  -- and the word is as the run began with
+  pub word-untouched : (x : ℕ) (s : State) (f : Feeds) (i : ℕ) → touchedBefore c s f i x ≡ false → stateAt c s f i .memory x ≡ s .memory x
+  word-untouched x s f i none =
+      ap (λ r. stateAt c r f i .memory x) (sym own) ∙ ap (λ r. r .memory x) (state-untouched x (s .memory x) s f i none) ∙ rw (eq-eqb x x refl)
+    where
+      with-memory : (ℕ → ℕ) → State
+      with-memory memory = record { latch = s .latch; memory = memory; held = s .held }
+
+      own : withWord x (s .memory x) s ≡ s
+      own = ap with-memory (fun-ext (λ y. by-cases (ℕ-discrete y x) (λ e. rw (eq-eqb y x e, e)) (λ e. rw (ne-eqb y x e))))

@@ -17,7 +17,7 @@ abbrev pub stateIn : List Bool → List ℕ → ℕ → State
 stateIn latches memory held = record { latch = entry latches; memory = λ x. getD memory x 0; held = bit held }
 
 -- they hold the state s: on its latches, its 2^m words and the n bits of the word held; what is behind these is not the circuit's
-pub record Holds (c : Netlist) (s : State) (latches : List Bool) (memory : List ℕ) (held : ℕ) : Type 0 where
+pub record HoldsState (c : Netlist) (s : State) (latches : List Bool) (memory : List ℕ) (held : ℕ) : Type 0 where
   pub latch-size : length latches ≡ mostWires
   pub latch-held : (l : ℕ) → l < c .latches → entry latches l ≡ s .latch l
   pub memory-size : 2 ^ c .m ≤ length memory
@@ -29,8 +29,8 @@ pub record Fed (c : Netlist) (f : Feed) (inputs : List Bool) : Type 0 where
   pub input-fed : (x : ℕ) → x < c .inputs → entry inputs x ≡ f .input x
 
 -- the memory after a frame with the values v (RULES C7)
-unfoldable pub written : Netlist → Values → List ℕ → List ℕ
-written c v memory = cond (codeValue v (c .WE)) (set memory (addressOf c (port c) v) (wordWritten c v)) memory
+unfoldable pub memoryAfter : Netlist → Values → List ℕ → List ℕ
+memoryAfter c v memory = cond (codeValue v (c .WE)) (set memory (addressOf c (port c) v) (wordWritten c v)) memory
 
 -- what a step asks of what it is lent
 pub record StepFits (c : Netlist) (values latches : List Bool) (memory : List ℕ) : Type 0 where
@@ -43,6 +43,6 @@ pub record StepFits (c : Netlist) (values latches : List Bool) (memory : List �
 -- memory behind the 2^m words is as it was
 pub record Stepped (c : Netlist) (inputs latches : List Bool) (memory : List ℕ) (held : ℕ)
     (values′ latches′ : List Bool) (memory′ : List ℕ) (held′ : ℕ) : Type 0 where
-  pub frame-values : (s : State) (f : Feed) → Holds c s latches memory held → Fed c f inputs → HasBelow (lastWire c + 1) (frame c s f) values′
-  pub next-held : (s : State) (f : Feed) → Holds c s latches memory held → Fed c f inputs → Holds c (step c s (frame c s f)) latches′ memory′ held′
+  pub frame-values : (s : State) (f : Feed) → HoldsState c s latches memory held → Fed c f inputs → HasBelow (lastWire c + 1) (frame c s f) values′
+  pub next-held : (s : State) (f : Feed) → HoldsState c s latches memory held → Fed c f inputs → HoldsState c (step c s (frame c s f)) latches′ memory′ held′
   pub behind : drop (2 ^ c .m) memory′ ≡ drop (2 ^ c .m) memory

@@ -16,7 +16,7 @@ ghost use Rattle.model.specs.Circuit.{codeValue, State, Feed, readData, frame};
 ghost use Rattle.model.specs.Acceptance.{WithinLimits};
 ghost use Rattle.netlist.specs.NetOf.{netOf, alone};
 ghost use Rattle.circuit_values.specs.WireTable.{entry, HasBelow};
-ghost use Rattle.circuit_step.specs.Held.{stateIn, Holds, Fed, written, StepFits, Stepped};
+ghost use Rattle.circuit_step.specs.Held.{stateIn, HoldsState, Fed, memoryAfter, StepFits, Stepped};
 
 // The word of the read bits: the memory's at the address where RE is true, and the word held where it is not.
 fn read_word(values: &WireValues, net: Netlist, memory: &[u32], held: u32) -> u32
@@ -42,7 +42,7 @@ fn put_frame(
     held: u32,
 ) -> u32
     requires { ⌜ WithinLimits (netOf net [] (now gates)) × (length (now values) ≡ 601) × (2 ^ net .m ≤ length (now memory)) ⌝ }
-    ensures values { λ _. ⌜ ((s : State) (f : Feed) → Holds (alone net) s (now (state .entry)) (now (memory .entry)) held → Fed (alone net) f (now (inputs .entry))
+    ensures values { λ _. ⌜ ((s : State) (f : Feed) → HoldsState (alone net) s (now (state .entry)) (now (memory .entry)) held → Fed (alone net) f (now (inputs .entry))
         → HasBelow (lastWire (alone net) + 1) (frame (netOf net [] (now (gates .entry))) s f) (now (values .exit))) ⌝ }
     ensures word { λ r. ⌜ ((t : ℕ) → t < net .n → bit r t ≡ entry (now (values .exit)) (readWire (alone net) t)) ⌝ }
 {
@@ -55,7 +55,7 @@ fn put_frame(
 // Writes the word at the address where WE is true.
 fn write_memory(values: &WireValues, net: Netlist, memory: &mut [u32])
     requires { ⌜ WithinLimits (alone net) × (2 ^ net .m ≤ length (now memory)) ⌝ }
-    ensures { λ _. ⌜ now (memory .exit) ≡ written (alone net) (entry (now (values .entry))) (now (memory .entry)) ⌝ }
+    ensures { λ _. ⌜ now (memory .exit) ≡ memoryAfter (alone net) (entry (now (values .entry))) (now (memory .entry)) ⌝ }
 {
     if circuit_values::code_value(values, net.we) {
         let address = circuit_values::address_of(values, net);

@@ -25,6 +25,7 @@ ghost use Rattle.aiger_import.specs.ImportCall.{importVerdictFor, importRecord,
 ghost use Rattle.answer_lines.specs.Written.{AnswerAsWritten};
 ghost use Rattle.replay_frame.specs.Replay.{OneRunTheorem};
 ghost use Rattle.replay_call.specs.Settled.{FaultsSettled};
+ghost use Rattle.replay_call.specs.RightAnswer.{RightAnswerTheorem};
 ghost use Rattle.replay_answer.specs.ReplayAnswer.{replayFor, memoryFor, traceFor};
 ghost use Rattle.call_position.specs.Moves.{moveOf, moveSent, MoveStands};
 ghost use Rattle.call_position.specs.GroupsAt.{groupAtSent, groupAtLeaves, ByFrame};
@@ -183,7 +184,7 @@ pub extern "C" fn marrubigai_replay(
     ensures answer { λ r. ⌜ r ≡ replayFor (netLent net (now (latches .entry)) (now (gates .entry))) (length (now (latches .entry))) (length (now (gates .entry))) depth (now (answer .entry)) (length (now (memory .entry))) (length (now (trace .entry))) ⌝ }
     ensures memory { λ _. ⌜ now (memory .exit) ≡ memoryFor (netLent net (now (latches .entry)) (now (gates .entry))) (length (now (latches .entry))) (length (now (gates .entry))) depth (now (answer .entry)) (now (memory .entry)) (length (now (trace .entry))) ⌝ }
     ensures trace { λ _. ⌜ now (trace .exit) ≡ traceFor (netLent net (now (latches .entry)) (now (gates .entry))) (length (now (latches .entry))) (length (now (gates .entry))) depth (now (answer .entry)) (length (now (memory .entry))) (now (trace .entry)) ⌝ }
-    ensures settled { λ _. ⌜ FaultsSettled × OneRunTheorem ⌝ }
+    ensures settled { λ _. ⌜ FaultsSettled × OneRunTheorem × RightAnswerTheorem ⌝ }
     ensures written { λ _. ⌜ AnswerAsWritten ⌝ }
 {
     let mut latch_codes = [0; 1200];

@@ -13,7 +13,7 @@ ghost use Rattle.model.specs.Wrote.{Wrote};
 ghost use Rattle.model.specs.Acceptance.{SizesFit};
 ghost use Rattle.netlist.specs.NetOf.{netOf, alone};
 ghost use Rattle.answer_scan.specs.Scan.{AnswerRead};
-ghost use Rattle.replay_run.specs.Runs.{traceLength};
+ghost use Rattle.replay_frame.specs.Replay.{traceLength};
 ghost use Rattle.replay_answer.specs.ReplayAnswer.{replayFor, memoryFor, traceFor};
 ghost use Rattle.program_replay.specs.Printed.{isBroken, answerText};
 ghost use Rattle.program_replay.specs.Room.{RoomSuffices};

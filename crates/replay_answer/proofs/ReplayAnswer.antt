@@ -12,7 +12,7 @@ use Rattle.answer_lines.specs.Answer.{Answer, malformed, unsatisfiable, satisfi
 use Rattle.answer_lines.specs.declared.AnswerKind.{AnswerKind}
 use Rattle.answer_lines.specs.declared.AnswerKind.the-variants.{Satisfiable}
 use Rattle.answer_scan.specs.Scan.{AnswerRead}
-use Rattle.replay_frame.specs.Replay.{Said, saidIn, traceText}
+use Rattle.replay_frame.specs.Replay.{Said, saidIn}
 use Rattle.replay_call.specs.ReplayCall.{replayAnswer, replaySent, replayMemory, replayTrace, replayTests, unlessRefused, outcome, wordsLeft, traceAfter}
 use Rattle.replay_call.specs.declared.ReplayAnswer.{ReplayAnswer}
 use Rattle.replay_call.specs.Settled.{saidBy, ReplayAlike}

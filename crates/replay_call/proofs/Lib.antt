@@ -1,3 +1,4 @@
 pub mod ReplayCall
 pub mod Settled
 pub mod TableSuffices
+pub mod RightAnswer

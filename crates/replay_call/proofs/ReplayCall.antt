@@ -22,8 +22,8 @@ use Rattle.netlist_tests.proofs.Acceptance.{passes-accepted}
 use Rattle.call_unpacked.specs.Calls.{testDepth}
 use Rattle.call_unpacked.proofs.Calls.{depth-passes}
 use Rattle.call_lists.specs.Delivered.{delivered}
-use Rattle.replay_frame.specs.Replay.{Said, replayedState, firstViolation, traceText}
-use Rattle.replay_run.specs.Runs.{traceLength, RunFits}
+use Rattle.replay_frame.specs.Replay.{Said, replayedState, firstViolation, traceText, traceLength}
+use Rattle.replay_run.specs.Runs.{RunFits}
 use Rattle.replay_run.proofs.Runs.{delivered-again}
 use Rattle.replay_run.proofs.Through.{length-lines}
 use Rattle.replay_call.specs.ReplayCall.{replayTests, fedFault, runVerdict, unlessRefused, outcome, wordsLeft, traceAfter, ReplaysValues}

@@ -16,7 +16,8 @@ use Rattle.model.proofs.Booleans.{neither-true}
 use Rattle.circuit_step.proofs.Alike.{InputsAlike, RE-alike}
 use Rattle.circuit_step.proofs.Touched.{any-same}
 use Rattle.replay_frame.specs.Replay.{Said, begunFrom, runFrom, wordSaid, startWords, fills, replayed, fedUnclear, feedFault}
-use Rattle.replay_frame.proofs.SaidAlike.{SaidAlike, RE-on, RE-said, fills-said, words-alike}
+use Rattle.replay_frame.proofs.Filling.{RE-on}
+use Rattle.replay_frame.proofs.SaidAlike.{SaidAlike, RE-said, fills-said, words-alike}
 use Rattle.replay_call.specs.Settled.{FaultsSettled}
 
 module _ {c : Netlist} (ok : Accepted c) {y z : Said} (same : (v : ℕ) → y .unclear v ≡ z .unclear v)
@@ -49,7 +50,7 @@ module _ {c : Netlist} (ok : Accepted c) {y z : Said} (same : (v : ℕ) → y .u
   RE-first words = RE-alike ok (begunFrom c y (startWords c y 1)) (begunFrom c y words) (feedOf c (y .value) 0) (feedOf c (y .value) 0) (λ l h. refl) (λ x h. refl)
 
   -- where no frame before has a fault, they are said alike
-  said-alike : (i : ℕ) → ((j : ℕ) → j < i → feedFault c y j ≡ false) → SaidAlike c y z i
+  pub said-alike : (i : ℕ) → ((j : ℕ) → j < i → feedFault c y j ≡ false) → SaidAlike c y z i
   unfolding wordSaid idleOf
   said-alike i none =
       record {

@@ -34,7 +34,7 @@ use Rattle.answer_lines.specs.declared.AnswerKind.{AnswerKind}
 use Rattle.answer_lines.specs.declared.AnswerKind.the-variants.{Malformed, Unsatisfiable, Satisfiable}
 use Rattle.circuit_step.proofs.Alike.{InputsAlike, StatesAlike, states-same}
 use Rattle.circuit_step.proofs.Touched.{any-same}
-use Rattle.replay_frame.specs.Replay.{Said, saidIn, wordSaid, replayed, replayedState, fedUnclear, feedFault, violates, firstViolation, lineOf, traceText}
+use Rattle.replay_frame.specs.Replay.{Said, saidIn, wordSaid, replayed, replayedState, fedUnclear, feedFault, violates, firstViolation, frameLine, traceText}
 use Rattle.replay_frame.proofs.Replay.{line-same}
 use Rattle.replay_frame.proofs.SaidAlike.{SaidAlike, fills-said, words-alike, runs-alike}
 use Rattle.replay_call.specs.ReplayCall.{replayTests, fedFault, runVerdict, outcome, wordsLeft, unlessRefused, replayAnswer, replayReply, replaySent, afterTests, replayMemory, traceAfter, replayTrace}
@@ -99,7 +99,7 @@ module _ {c : Netlist} (ok : Accepted c) (k : ℕ) {y z : Said} (say : SayAlike 
   pub lines-alike : traceText c y k ≡ traceText c z k
   unfolding traceText
   lines-alike =
-      gather-same (k + 1) (λ i. lineOf c (replayed c y i)) (λ i. lineOf c (replayed c z i))
+      gather-same (k + 1) (λ i. frameLine c (replayed c y i)) (λ i. frameLine c (replayed c z i))
       (λ i h. line-same c (λ w l. runs i (omega arith) w (omega arith)))
 
   words : (old : List ℕ)

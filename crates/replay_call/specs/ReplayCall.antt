@@ -21,8 +21,7 @@ use Rattle.call_unpacked.specs.Calls.{testDepth}
 use Rattle.call_lists.specs.Delivered.{delivered}
 use Rattle.answer_lines.specs.declared.AnswerKind.{AnswerKind}
 use Rattle.answer_lines.specs.declared.AnswerKind.the-variants.{Malformed, Unsatisfiable, Satisfiable}
-use Rattle.replay_frame.specs.Replay.{Said, replayedState, feedFault, firstViolation, traceText}
-use Rattle.replay_run.specs.Runs.{traceLength}
+use Rattle.replay_frame.specs.Replay.{Said, replayedState, feedFault, firstViolation, traceText, traceLength}
 use Rattle.replay_call.specs.declared.ReplayAnswer.{ReplayAnswer}
 use Rattle.replay_call.specs.declared.ReplayReply.{ReplayReply}
 use Rattle.replay_call.specs.declared.ReplayAnswer.the-variants.{Broken, ClaimedUnsatisfiable, Refused}

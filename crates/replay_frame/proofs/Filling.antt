@@ -1,7 +1,7 @@
 -- Laws of what a frame fills: the code's table of touched words and its first pass tell it, and the run goes on from the memory filled. No
 -- contract cites this file.
 use Prim.Native.Nat.{ℕ, zero, suc, _+_, _/_, _^_, _≤_, _<_}
-use mathlib.Core.Path.{_≡_, refl, sym, _∙_, ap, ap₂, fun-ext}
+use mathlib.Core.Path.{_≡_, refl, sym, _∙_, ap, ap₂, fun-ext, subst}
 use mathlib.Core.Bool.{Bool, true, false, cond, not, _&&_, _||_, or-false}
 use mathlib.Core.List.{List, []}
 use mathlib.Core.Logic.{by-cases}
@@ -16,7 +16,7 @@ use borrow.Author.Tests.{eq-eqb, ne-eqb}
 use Rattle.model.specs.Bits.{bit}
 use Rattle.model.specs.Search.{anyBelow}
 use Rattle.model.specs.Netlist.{Netlist, startOf, start, port, lastWire}
-use Rattle.model.specs.Circuit.{Values, codeValue, addressOf, evaluate, firstPass, stateAt, run, initial}
+use Rattle.model.specs.Circuit.{Values, codeValue, State, addressOf, evaluate, firstPass, stateAt, run, initial}
 use Rattle.model.specs.Acceptance.{SizesFit, WithinLimits, Accepted}
 use Rattle.model.specs.Claim.{feedOf}
 use Rattle.model.proofs.Booleans.{and-true}
@@ -25,13 +25,13 @@ use Rattle.model.proofs.Circuit.{code-same, address-same}
 use Rattle.netlist.specs.NetOf.{netOf}
 use Rattle.netlist.specs.declared.Netlist as Record
 use Rattle.circuit_values.specs.WireTable.{entry, HasBelow}
-use Rattle.circuit_step.specs.Held.{Holds, Fed}
+use Rattle.circuit_step.specs.Held.{HoldsState, Fed}
 use Rattle.circuit_step.specs.Touched.{touches, touchedBefore}
 use Rattle.circuit_step.proofs.Held.{code-in, address-in, first-alike, evaluate-lists}
-use Rattle.circuit_step.proofs.Alike.{LatchesAlike, RE-settled, address-settled}
+use Rattle.circuit_step.proofs.Alike.{LatchesAlike, RE-settled, address-settled, RE-alike, address-alike}
 use Rattle.circuit_step.proofs.Touched.{any-same, withWord, state-untouched, run-untouched}
 use Rattle.replay_frame.specs.Replay.{Said, begunFrom, runFrom, isUnknown, fillsFrom, wordSaid, startWords, fills, replayed, replayedState}
-use Rattle.replay_frame.specs.Frames.{marked, Filled, TouchedIs}
+use Rattle.replay_frame.specs.Frames.{touchedAfter, WordFilled, TouchedIs}
 
 -- every address has a place in the table of touched words
 pub address-small : (c : Netlist) → SizesFit c → (v : Values) → addressOf c (port c) v < 4096
@@ -51,7 +51,7 @@ start-unknown word (suc u) h = refl
 
 -- where the start is given, nothing is filled
 pub none-filled : {c : Netlist} {touched inputs latches : List Bool} {word : ℕ} {memory : List ℕ} → c .unknownStart ≡ 0
-    → Filled c touched inputs latches word memory memory false
+    → WordFilled c touched inputs latches word memory memory false
 none-filled {c} e = record { fills-is = rw (start-given (c .initialWord) (c .unknownStart) e); memory-is = refl }
 
 -- where it is unknown, by the table of the first pass
@@ -59,7 +59,7 @@ pub filled-by : {c : Netlist} → WithinLimits c → {inputs latches table : Lis
     → (c .unknownStart ≡ 0 → ⊥) → {touched : List Bool} {word : ℕ} {memory memory′ : List ℕ} {r : Bool}
     → r ≡ (codeValue (entry table) (c .RE) && not (entry touched (addressOf c (port c) (entry table))))
     → memory′ ≡ cond r (set memory (addressOf c (port c) (entry table)) word) memory
-    → Filled c touched inputs latches word memory memory′ r
+    → WordFilled c touched inputs latches word memory memory′ r
 filled-by {c} limits {inputs} {latches} {table} q u {touched} {word} {memory} e m =
     record {
       fills-is = e ∙ rw (start-unknown (c .initialWord) (c .unknownStart) u, code-in c q (c .RE) (limits .codes .RE-fits), address-in limits q);
@@ -68,7 +68,7 @@ filled-by {c} limits {inputs} {latches} {table} q u {touched} {word} {memory} e 
 
 -- the latches of a record have no part in its first pass
 pub filled-lists : (r : Record.Netlist) (latches gates : List ℕ) {touched inputs state : List Bool} {word : ℕ} {memory memory′ : List ℕ} {b : Bool}
-    → Filled (netOf r [] gates) touched inputs state word memory memory′ b → Filled (netOf r latches gates) touched inputs state word memory memory′ b
+    → WordFilled (netOf r [] gates) touched inputs state word memory memory′ b → WordFilled (netOf r latches gates) touched inputs state word memory memory′ b
 unfolding netOf addressOf
 filled-lists r latches gates {touched} {inputs} {state} {word} {memory} {b = b} q =
     let c = netOf r latches gates in
@@ -90,10 +90,18 @@ last-not p q false e = refl
 
 module _ {c : Netlist} (ok : Accepted c) (y : Said) (i : ℕ) where
   -- a frame that fills is at a word that no frame before has touched
-  fills-untouched : fills c y i ≡ true
+  pub fills-untouched : fills c y i ≡ true
       → touchedBefore c (begunFrom c y (startWords c y i)) (feedOf c (y .value)) i (addressOf c (port c) (runFrom c y (startWords c y i) i)) ≡ false
   unfolding fillsFrom
   fills-untouched e = last-not (isUnknown (start c)) (codeValue (runFrom c y (startWords c y i) i) (c .RE)) _ e
+
+  -- and reads it
+  pub fills-reads : fills c y i ≡ true → codeValue (runFrom c y (startWords c y i) i) (c .RE) ≡ true
+  unfolding fillsFrom
+  fills-reads e =
+      let read : (codeValue (runFrom c y (startWords c y i) i) (c .RE) && not (touchedBefore c (begunFrom c y (startWords c y i)) (feedOf c (y .value)) i (addressOf c (port c) (runFrom c y (startWords c y i) i)))) ≡ true
+      = and-true (isUnknown (start c)) _ .0 e .1 in
+      and-true (codeValue (runFrom c y (startWords c y i) i) (c .RE)) _ .0 read .0
 
   -- so the memory begun with has another word there, or is the same
   begun-filled : fills c y i ≡ true
@@ -122,23 +130,42 @@ module _ {c : Netlist} (ok : Accepted c) (y : Said) (i : ℕ) where
   touched-on x = any-same i (λ j h. ap (λ v. touches c v x) (runs-on j h))
 
   -- the state in which frame i begins has the word filled
-  state-filled : fills c y i ≡ true → stateAt c (begunFrom c y (startWords c y (suc i))) (feedOf c (y .value)) i
+  pub state-filled : fills c y i ≡ true → stateAt c (begunFrom c y (startWords c y (suc i))) (feedOf c (y .value)) i
       ≡ withWord (addressOf c (port c) (runFrom c y (startWords c y i) i)) (wordSaid c y i) (replayedState c y i)
   state-filled e =
       ap (λ s. stateAt c s (feedOf c (y .value)) i) (begun-filled e)
       ∙ state-untouched ok _ (wordSaid c y i) (begunFrom c y (startWords c y i)) (feedOf c (y .value)) i (fills-untouched e)
 
-  -- and the same latches
-  pub latches-on : LatchesAlike c (stateAt c (begunFrom c y (startWords c y (suc i))) (feedOf c (y .value)) i) (replayedState c y i)
-  latches-on l h = by (fills c y i) refl
+  -- or is the same where nothing is filled
+  pub state-on : (P : State → Type 0)
+      → (fills c y i ≡ true → P (withWord (addressOf c (port c) (runFrom c y (startWords c y i) i)) (wordSaid c y i) (replayedState c y i)))
+      → P (replayedState c y i) → P (stateAt c (begunFrom c y (startWords c y (suc i))) (feedOf c (y .value)) i)
+  state-on P filled kept = by (fills c y i) refl
     where
-      by : (b : Bool) → fills c y i ≡ b → stateAt c (begunFrom c y (startWords c y (suc i))) (feedOf c (y .value)) i .latch l ≡ replayedState c y i .latch l
-      by true e = ap (λ s. s .latch l) (state-filled e)
-      by false e = ap (λ words. stateAt c (begunFrom c y words) (feedOf c (y .value)) i .latch l) (begun-kept e)
+      by : (b : Bool) → fills c y i ≡ b → P (stateAt c (begunFrom c y (startWords c y (suc i))) (feedOf c (y .value)) i)
+      by true e = subst P (sym (state-filled e)) (filled e)
+      by false e = subst (λ words. P (stateAt c (begunFrom c y words) (feedOf c (y .value)) i)) (sym (begun-kept e)) kept
 
-  module _ {latches inputs touched : List Bool} {memory memory′ : List ℕ} {word : ℕ} {r : Bool} (held : Holds c (replayedState c y i) latches memory word)
+  -- with the same latches
+  pub latches-on : LatchesAlike c (stateAt c (begunFrom c y (startWords c y (suc i))) (feedOf c (y .value)) i) (replayedState c y i)
+  latches-on = state-on (λ s. LatchesAlike c s (replayedState c y i)) (λ e l h. refl) (λ l h. refl)
+
+  -- so RE and the address are the same whether or not the frame's own word is filled
+  pub RE-on : codeValue (replayed c y i) (c .RE) ≡ codeValue (runFrom c y (startWords c y i) i) (c .RE)
+  unfolding run
+  RE-on =
+      RE-alike ok (stateAt c (begunFrom c y (startWords c y (suc i))) (feedOf c (y .value)) i) (replayedState c y i) (feedOf c (y .value) i) (feedOf c (y .value) i)
+      latches-on (λ x h. refl)
+
+  pub address-on : addressOf c (port c) (replayed c y i) ≡ addressOf c (port c) (runFrom c y (startWords c y i) i)
+  unfolding run
+  address-on =
+      address-alike ok (stateAt c (begunFrom c y (startWords c y (suc i))) (feedOf c (y .value)) i) (replayedState c y i) (feedOf c (y .value) i) (feedOf c (y .value) i)
+      latches-on (λ x h. refl)
+
+  module _ {latches inputs touched : List Bool} {memory memory′ : List ℕ} {word : ℕ} {r : Bool} (held : HoldsState c (replayedState c y i) latches memory word)
       (fed : Fed c (feedOf c (y .value) i) inputs) (marks : TouchedIs c y i touched)
-      (q : Filled c touched inputs latches (wordSaid c y i) memory memory′ r) where
+      (q : WordFilled c touched inputs latches (wordSaid c y i) memory memory′ r) where
     -- RE and address of the first pass in the table are the frame's
     RE-is : codeValue (evaluate c (entry inputs) (entry latches) (bit 0)) (c .RE) ≡ codeValue (runFrom c y (startWords c y i) i) (c .RE)
     unfolding run
@@ -168,10 +195,10 @@ module _ {c : Netlist} (ok : Accepted c) (y : Said) (i : ℕ) where
     memory-filled = q .memory-is ∙ ap₂ (λ b a. cond b (set memory a (wordSaid c y i)) memory) filled-is address-is
 
     -- and the memory then holds the words of the run that has it filled
-    pub filled-holds : Holds c (stateAt c (begunFrom c y (startWords c y (suc i))) (feedOf c (y .value)) i) latches memory′ word
+    pub filled-holds : HoldsState c (stateAt c (begunFrom c y (startWords c y (suc i))) (feedOf c (y .value)) i) latches memory′ word
     filled-holds = by (fills c y i) refl
       where
-        by : (b : Bool) → fills c y i ≡ b → Holds c (stateAt c (begunFrom c y (startWords c y (suc i))) (feedOf c (y .value)) i) latches memory′ word
+        by : (b : Bool) → fills c y i ≡ b → HoldsState c (stateAt c (begunFrom c y (startWords c y (suc i))) (feedOf c (y .value)) i) latches memory′ word
         by false e = rw (begun-kept e, memory-filled, e) held
         by true e =
             rw (state-filled e, memory-filled, e)
@@ -193,11 +220,11 @@ module _ {c : Netlist} (ok : Accepted c) (y : Said) (i : ℕ) where
         by true = drop-set-lt (2 ^ c .m) memory _ (wordSaid c y i) (address-below c (port c) (runFrom c y (startWords c y i) i))
         by false = refl
 
-  -- the table of touched words, with the frame's marked
-  pub marked-is : {touched values : List Bool} → TouchedIs c y i touched → HasBelow (lastWire c + 1) (replayed c y i) values
-      → TouchedIs c y (i + 1) (marked c (entry values) touched)
-  unfolding marked touchedBefore anyBelow touches
-  marked-is {touched} {values} marks q =
+  -- the table of touched words after the frame
+  pub touchedAfter-is : {touched values : List Bool} → TouchedIs c y i touched → HasBelow (lastWire c + 1) (replayed c y i) values
+      → TouchedIs c y (i + 1) (touchedAfter c (entry values) touched)
+  unfolding touchedAfter touchedBefore anyBelow touches
+  touchedAfter-is {touched} {values} marks q =
       rw (code-in c q (c .RE) (ok .limits .codes .RE-fits), code-in c q (c .WE) (ok .limits .codes .WE-fits), address-in (ok .limits) q)
       (record {
         size = length-of (codeValue (replayed c y i) (c .RE) || codeValue (replayed c y i) (c .WE)) ∙ marks .size;

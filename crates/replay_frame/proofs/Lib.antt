@@ -1,4 +1,5 @@
 pub mod Replay
 pub mod Filling
 pub mod OneRun
+pub mod RightAnswer
 pub mod SaidAlike

@@ -1,20 +1,28 @@
 -- A replay is one run from one memory (`OneRun` in specs/Replay.antt): a frame fills only what no frame before has touched. No contract cites this
 -- file.
-use Prim.Native.Nat.{ℕ, zero, suc, _+_, _^_, _<_}
-use mathlib.Core.Path.{_≡_, refl, sym, _∙_}
-use mathlib.Core.Bool.{Bool, true, false, cond, _&&_}
+use Prim.Native.Nat.{ℕ, zero, suc, _+_, _^_, _≤_, _<_}
+use mathlib.Core.Path.{_≡_, refl, sym, _∙_, ap, ap₂}
+use mathlib.Core.Bool.{Bool, true, false, cond, not, _&&_}
 use mathlib.Core.Logic.{by-cases}
 use native.Mathlib.Decide.{ℕ-discrete}
 use native.Mathlib.Omega.{arith}
 use lib.Dec.{eqb}
 use lib.Pow.{pow-pos}
-use Rattle.model.specs.Netlist.{Netlist, Start, given, unknown, start, port}
-use Rattle.model.specs.Circuit.{addressOf, BeginsAs, Begins}
+use borrow.Author.Tests.{eq-eqb, ne-eqb}
+use Rattle.model.specs.Search.{anyBelow}
+use Rattle.model.specs.Netlist.{Netlist, Start, given, unknown, start, port, readBits, readWire}
+use Rattle.model.specs.Circuit.{codeValue, addressOf, readData, stateAt, run, BeginsAs, Begins, initial}
+use Rattle.model.specs.Variables.{base}
+use Rattle.model.specs.Claim.{feedOf}
 use Rattle.model.specs.Agree.{givenWord}
 use Rattle.model.specs.Acceptance.{Accepted}
-use Rattle.model.proofs.Bits.{fromBits-below}
-use Rattle.replay_frame.specs.Replay.{Said, runFrom, isUnknown, fillsFrom, wordSaid, startWords, fills, replayed, OneRunTheorem}
-use Rattle.replay_frame.proofs.Filling.{runs-on}
+use Rattle.model.proofs.Bits.{fromBits-below, bit-fromBits}
+use Rattle.model.proofs.Booleans.{neither-true}
+use Rattle.model.proofs.Circuit.{frame-is}
+use Rattle.circuit_step.specs.Touched.{touches, touchedBefore}
+use Rattle.circuit_step.proofs.Touched.{any-same, not-read, word-untouched}
+use Rattle.replay_frame.specs.Replay.{Said, begunFrom, runFrom, isUnknown, fillsFrom, wordSaid, startWords, fills, replayed, replayedState, OneRunTheorem}
+use Rattle.replay_frame.proofs.Filling.{runs-on, touched-on, fills-reads, state-filled, RE-on, address-on}
 
 -- a memory of one word
 begins-given : (n : ℕ) (s : Start) → BeginsAs n s (λ x. givenWord s)
@@ -48,5 +56,55 @@ frame-on ok y i (suc n) h =
     (λ e. rw e)
     (λ e. frame-on ok y i n (omega arith) ∙ sym (runs-on ok y n i (omega arith)))
 
+module _ {c : Netlist} (ok : Accepted c) (y : Said) where
+  -- so the words touched before it, and whether it fills one
+  touched-from : (i n : ℕ) → i ≤ n → (x : ℕ) → touchedBefore c (begunFrom c y (startWords c y n)) (feedOf c (y .value)) i x
+      ≡ touchedBefore c (begunFrom c y (startWords c y i)) (feedOf c (y .value)) i x
+  unfolding touchedBefore
+  touched-from i n h x = any-same i (λ j b. ap (λ v. touches c v x) (sym (frame-on ok y j n (omega arith)) ∙ frame-on ok y j i b))
+
+  fills-from : (i n : ℕ) → i < n → fillsFrom c y (startWords c y n) i ≡ fills c y i
+  unfolding fillsFrom
+  fills-from i n h =
+      let same : runFrom c y (startWords c y n) i ≡ replayed c y i = sym (frame-on ok y i n h) in
+      ap (λ b. isUnknown (start c) && b)
+      (ap₂ (λ b t. b && not t)
+      (ap (λ v. codeValue v (c .RE)) same ∙ RE-on ok y i)
+      (touched-from i n (omega arith) (addressOf c (port c) (runFrom c y (startWords c y n) i))
+      ∙ ap (touchedBefore c (begunFrom c y (startWords c y i)) (feedOf c (y .value)) i) (ap (addressOf c (port c)) same ∙ address-on ok y i)))
+
+  -- a frame that fills a word reads what is said
+  reads-said : (i : ℕ) → fills c y i ≡ true → (t : ℕ) → t < readBits c → replayed c y i (readWire c t) ≡ y .value (base c i + readWire c t)
+  unfolding run readData wordSaid
+  reads-said i e t h =
+      frame-is ok (stateAt c (begunFrom c y (startWords c y (suc i))) (feedOf c (y .value)) i) (feedOf c (y .value) i) .at-read t h
+      ∙ rw (RE-on ok y i, fills-reads ok y i e, address-on ok y i, state-filled ok y i e, eq-eqb (addressOf c (port c) (runFrom c y (startWords c y i) i)) _ refl)
+      (bit-fromBits (c .n) (λ t. y .value (base c i + readWire c t)) t h)
+
+  -- a word that no frame touches is begun with as the word given
+  begun-untouched : (n x : ℕ) → touchedBefore c (begunFrom c y (startWords c y n)) (feedOf c (y .value)) n x ≡ false → startWords c y n x ≡ givenWord (start c)
+  unfolding startWords touchedBefore anyBelow
+  begun-untouched zero x none = refl
+  begun-untouched (suc i) x none =
+      let q = neither-true (touchedBefore c (begunFrom c y (startWords c y (suc i))) (feedOf c (y .value)) i x) (touches c (replayed c y i) x) .0 none in
+      kept (fills c y i) refl (q .1) ∙ begun-untouched i x (sym (touched-on ok y i x) ∙ q .0)
+    where
+      kept : (b : Bool) → fills c y i ≡ b → touches c (replayed c y i) x ≡ false
+          → cond (b && eqb x (addressOf c (port c) (runFrom c y (startWords c y i) i))) (wordSaid c y i) (startWords c y i x) ≡ startWords c y i x
+      kept false e none = refl
+      kept true e none =
+          rw (ne-eqb x _ (λ at. not-read c (replayed c y i) x none (RE-on ok y i ∙ fills-reads ok y i e) (address-on ok y i ∙ sym at)))
+
+  word-left : (n x : ℕ) → touchedBefore c (begunFrom c y (startWords c y n)) (feedOf c (y .value)) n x ≡ false → replayedState c y n .memory x ≡ givenWord (start c)
+  unfolding initial
+  word-left n x none = word-untouched ok x (begunFrom c y (startWords c y n)) (feedOf c (y .value)) n none ∙ begun-untouched n x none
+
 pub one-run : OneRunTheorem
-one-run c ok y k = record { begins = begins-at c y (k + 1); frames = λ i h. frame-on ok y i (k + 1) (omega arith) }
+one-run c ok y k =
+    record {
+      begins = begins-at c y (k + 1);
+      frames = λ i h. frame-on ok y i (k + 1) (omega arith);
+      leaves = refl;
+      fills-as-said = λ i h e. reads-said ok y i (sym (fills-from ok y i (k + 1) (omega arith)) ∙ e);
+      untouched = word-left ok y (k + 1);
+    }

@@ -14,14 +14,6 @@ use Rattle.circuit_step.specs.Touched.{touches, touchedBefore}
 use Rattle.circuit_step.proofs.Alike.{InputsAlike, LatchesAlike, RE-alike, address-alike, states-same, run-same}
 use Rattle.circuit_step.proofs.Touched.{any-same}
 use Rattle.replay_frame.specs.Replay.{Said, begunFrom, runFrom, isUnknown, fillsFrom, wordSaid, startWords, fills, replayed, replayedState}
-use Rattle.replay_frame.proofs.Filling.{latches-on}
-
--- RE is the same whether or not the frame's own word is filled
-pub RE-on : {c : Netlist} → Accepted c → (y : Said) (i : ℕ) → codeValue (replayed c y i) (c .RE) ≡ codeValue (runFrom c y (startWords c y i) i) (c .RE)
-unfolding run
-RE-on {c} ok y i =
-    RE-alike ok (stateAt c (begunFrom c y (startWords c y (suc i))) (feedOf c (y .value)) i) (replayedState c y i) (feedOf c (y .value) i) (feedOf c (y .value) i)
-    (latches-on ok y i) (λ x h. refl)
 
 pub record SaidAlike (c : Netlist) (y z : Said) (i : ℕ) : Type 0 where
   pub inputs-said : (j : ℕ) → j < i → InputsAlike c (feedOf c (y .value) j) (feedOf c (z .value) j)

@@ -1,7 +1,7 @@
 -- The replay of a solver's answer (RULES Y1, Y5, Y6 and Y11 to Y14): the model's run, fed what the answer says of the inputs, of the
 -- idle word and of the words of an unknown start that are read. Cited by the functions that replay and by what the call promises
 -- (replay_call/specs/ReplayCall).
-use Prim.Native.Nat.{ℕ, zero, suc, _+_, _≤_}
+use Prim.Native.Nat.{ℕ, zero, suc, _+_, _*_, _≤_, _<_}
 use mathlib.Core.Path.{_≡_}
 use mathlib.Core.Bool.{Bool, true, false, cond, not, _&&_, _||_}
 use mathlib.Core.List.{List, [], _∷_, _++_}
@@ -71,11 +71,18 @@ replayed c y i = runFrom c y (startWords c y (suc i)) i
 abbrev pub replayedState : Netlist → Said → ℕ → State
 replayedState c y i = stateAt c (begunFrom c y (startWords c y i)) (feedOf c (y .value)) i
 
--- The frames 0 to k of the replay are those of the run from one memory that a run may begin with, and the memory that frame k leaves is that
--- run's. Promised by `marrubigai_replay`; the proof is in proofs/OneRun.antt
+-- The frames 0 to k of the replay are those of the run from one memory that a run may begin with, and what frame k leaves is what that run
+-- leaves. A frame of that run that reads a word of an unknown start, which no frame before it reads or writes, reads what is said of its read
+-- bits; a word that no frame reads or writes ends as the initial word or, where the start is unknown, as 0 (RULES Y12). Promised by
+-- `marrubigai_replay`; the proof is in proofs/OneRun.antt
 pub record OneRun (c : Netlist) (y : Said) (k : ℕ) : Type 0 where
   pub begins : Begins c (startWords c y (k + 1))
   pub frames : (i : ℕ) → i ≤ k → replayed c y i ≡ runFrom c y (startWords c y (k + 1)) i
+  pub leaves : replayedState c y (k + 1) ≡ stateAt c (begunFrom c y (startWords c y (k + 1))) (feedOf c (y .value)) (k + 1)
+  pub fills-as-said : (i : ℕ) → i ≤ k → fillsFrom c y (startWords c y (k + 1)) i ≡ true
+      → (t : ℕ) → t < readBits c → replayed c y i (readWire c t) ≡ y .value (base c i + readWire c t)
+  pub untouched : (x : ℕ) → touchedBefore c (begunFrom c y (startWords c y (k + 1))) (feedOf c (y .value)) (k + 1) x ≡ false
+      → replayedState c y (k + 1) .memory x ≡ givenWord (start c)
 
 abbrev pub OneRunTheorem : Type 0
 OneRunTheorem = (c : Netlist) → Accepted c → (y : Said) (k : ℕ) → OneRun c y k
@@ -102,9 +109,19 @@ firstViolation c y k = firstWhere (violates c y) (k + 1)
 abbrev pub digitOf : Bool → ℕ
 digitOf b = cond b 49 48
 
-unfoldable pub lineOf : Netlist → Values → List ℕ
-lineOf c v = gather (lastWire c) (λ w. digitOf (v (1 + w)) ∷ []) ++ lineFeed ∷ []
+unfoldable pub frameLine : Netlist → Values → List ℕ
+frameLine c v = gather (lastWire c) (λ w. digitOf (v (1 + w)) ∷ []) ++ lineFeed ∷ []
 
 -- the lines of frames 0 to k
 unfoldable pub traceText : Netlist → Said → ℕ → List ℕ
-traceText c y k = gather (k + 1) (λ i. lineOf c (replayed c y i))
+traceText c y k = gather (k + 1) (λ i. frameLine c (replayed c y i))
+
+-- how many bytes these have
+abbrev pub traceLength : Netlist → ℕ → ℕ
+traceLength c k = (k + 1) * (lastWire c + 1)
+
+-- The replay bears out the assignment a: every wire of every frame 0 to k is as assigned, and one of these frames breaks the property. Cited by
+-- the promise about right answers (replay_call/specs/RightAnswer)
+pub record BearsOut (c : Netlist) (y : Said) (k : ℕ) (a : Assignment) : Type 0 where
+  pub as-assigned : (i : ℕ) → i ≤ k → (w : ℕ) → 1 ≤ w → w ≤ lastWire c → a (base c i + w) ≡ replayed c y i w
+  pub breaks : firstViolation c y k ≤ k

@@ -20,8 +20,8 @@ ghost use Rattle.model.specs.Claim.{idleOf};
 ghost use Rattle.netlist.specs.NetOf.{netOf, alone};
 ghost use Rattle.circuit_values.specs.WireTable.{entry};
 ghost use Rattle.answer_signs.specs.Signs.{trueIn, unclearIn};
-ghost use Rattle.replay_frame.specs.Replay.{saidIn, wordSaid, fills, digitOf, lineOf};
-ghost use Rattle.replay_frame.specs.Frames.{marked, Filled, FrameFits, FrameDone, FrameJudged};
+ghost use Rattle.replay_frame.specs.Replay.{saidIn, wordSaid, fills, digitOf, frameLine};
+ghost use Rattle.replay_frame.specs.Frames.{touchedAfter, WordFilled, FrameBegins, FrameDone, FrameJudged};
 
 // What a frame of a replay shows: that it is fed something unclear, and that it breaks the property.
 pub struct FrameVerdict {
@@ -92,7 +92,7 @@ fn digit(value: bool) -> u8
 // Writes a frame's line, and answers its length.
 pub fn put_line(out: &mut [u8], values: &WireValues, net: Netlist) -> usize
     requires { ⌜ SizesFit (alone net) × (lastWire (alone net) + 1 ≤ length (now out)) ⌝ }
-    ensures { λ r. ⌜ Wrote (lineOf (alone net) (entry (now (values .entry)))) (now (out .entry)) (now (out .exit)) r ⌝ }
+    ensures { λ r. ⌜ Wrote (frameLine (alone net) (entry (now (values .entry)))) (now (out .entry)) (now (out .exit)) r ⌝ }
 {
     let wires = netlist::wire_count(net) as usize;
     let mut w: usize = 0;
@@ -149,7 +149,7 @@ fn fill_word(
 ) -> bool
     requires { ⌜ WithinLimits (netOf net [] (now gates)) × (length (now values) ≡ 601) × (2 ^ net .m ≤ length (now memory)) × (length (now touched) ≡ 4096)
         × (i ≤ 255) ⌝ }
-    ensures filled { λ r. ⌜ Filled (netOf net [] (now (gates .entry))) (now (touched .entry)) (now (inputs .entry)) (now (state .entry))
+    ensures filled { λ r. ⌜ WordFilled (netOf net [] (now (gates .entry))) (now (touched .entry)) (now (inputs .entry)) (now (state .entry))
         (wordSaid (alone net) (saidIn (now (signs .entry))) i) (now (memory .entry)) (now (memory .exit)) r ⌝ }
     ensures size { λ _. ⌜ length (now (values .exit)) ≡ 601 ⌝ }
 {
@@ -168,7 +168,7 @@ fn fill_word(
 // Marks the word that a frame reads or writes.
 fn mark_touched(values: &WireValues, touched: &mut TouchedWords, net: Netlist)
     requires { ⌜ WithinLimits (alone net) × (length (now touched) ≡ 4096) ⌝ }
-    ensures { λ _. ⌜ now (touched .exit) ≡ marked (alone net) (entry (now (values .entry))) (now (touched .entry)) ⌝ }
+    ensures { λ _. ⌜ now (touched .exit) ≡ touchedAfter (alone net) (entry (now (values .entry))) (now (touched .entry)) ⌝ }
 {
     let reads = circuit_values::code_value(values, net.re);
     if reads | circuit_values::code_value(values, net.we) {
@@ -191,7 +191,7 @@ pub fn step_fed(
     i: u32,
     held: u32,
 ) -> FrameStepped
-    requires { ⌜ FrameFits (netOf net (now latches) (now gates)) (saidIn (now signs)) i (now values) (now inputs) (now state) (now touched) (now memory) held ⌝ }
+    requires { ⌜ FrameBegins (netOf net (now latches) (now gates)) (saidIn (now signs)) i (now values) (now inputs) (now state) (now touched) (now memory) held ⌝ }
     ensures done { λ r. ⌜ FrameDone (netOf net (now (latches .entry)) (now (gates .entry))) (saidIn (now (signs .entry))) i (now (memory .entry))
         (now (values .exit)) (now (inputs .exit)) (now (state .exit)) (now (touched .exit)) (now (memory .exit)) (r .held) ⌝ }
     ensures filled { λ r. ⌜ r .filled ≡ fills (netOf net (now (latches .entry)) (now (gates .entry))) (saidIn (now (signs .entry))) i ⌝ }

@@ -1,11 +1,10 @@
 -- Laws of specs/Runs.antt: what a frame shows and writes by its table, and what a run has left frame by frame. No contract cites this file.
-use Prim.Native.Nat.{ℕ, zero, suc, _+_, _*_, _^_, _≤_, _<_}
+use Prim.Native.Nat.{ℕ, zero, suc, _+_, _^_, _≤_, _<_}
 use mathlib.Core.Path.{_≡_, refl, sym, _∙_, ap, ap₂}
-use mathlib.Core.Bool.{Bool, true, false, cond, not, _&&_, _||_}
+use mathlib.Core.Bool.{Bool, true, false}
 use mathlib.Core.List.{List, [], _∷_, _++_}
 use mathlib.Core.Logic.{by-cases}
 use native.Mathlib.Decide.{ℕ-discrete}
-use native.Mathlib.Numerals.{add-one}
 use native.Mathlib.Omega.{arith}
 use lib.Dec.{eqb}
 use lib.ListN.{length, getD, take, drop, take-append-drop}
@@ -13,20 +12,20 @@ use lib.Seq.{take-suc, drop-append-seam, getD-set-same, getD-set-other}
 use borrow.Author.Tests.{eq-eqb, ne-eqb}
 use Rattle.model.specs.Bits.{bit}
 use Rattle.model.specs.Gather.{gather}
-use Rattle.model.specs.Search.{anyBelow, firstWhere, IsFirst}
+use Rattle.model.specs.Search.{firstWhere, IsFirst}
 use Rattle.model.specs.Wrote.{over, Wrote}
-use Rattle.model.specs.Netlist.{Netlist, startOf, port, readBits, lastWire}
+use Rattle.model.specs.Netlist.{Netlist, startOf, readBits, lastWire}
 use Rattle.model.specs.Agree.{givenWord}
-use Rattle.model.specs.Circuit.{codeValue, initial}
+use Rattle.model.specs.Circuit.{initial}
 use Rattle.model.specs.Acceptance.{WithinLimits}
 use Rattle.model.proofs.Gather.{length-gather}
 use Rattle.model.proofs.Search.{firstWhere-is, first-unique}
 use Rattle.call_lists.specs.Delivered.{delivered}
 use Rattle.call_lists.proofs.Delivered.{length-delivered, delivered-next}
 use Rattle.circuit_values.specs.WireTable.{entry, HasBelow}
-use Rattle.circuit_step.specs.Held.{Holds}
+use Rattle.circuit_step.specs.Held.{HoldsState}
 use Rattle.circuit_step.proofs.Held.{code-in}
-use Rattle.replay_frame.specs.Replay.{Said, fills, replayed, fedUnclear, feedFault, violates, lineOf}
+use Rattle.replay_frame.specs.Replay.{Said, fills, replayed, fedUnclear, feedFault, violates, frameLine}
 use Rattle.replay_frame.specs.Frames.{FrameJudged}
 use Rattle.replay_frame.specs.declared.FrameVerdict.{FrameVerdict}
 use Rattle.replay_frame.proofs.Replay.{length-line, line-same}
@@ -71,7 +70,7 @@ module _ {c : Netlist} (limits : WithinLimits c) (y : Said) (i : ℕ) {table : L
       }
 
   -- its line
-  pub line-by : {old new : List ℕ} {r : ℕ} → Wrote (lineOf c (entry table)) old new r → Wrote (lineOf c (replayed c y i)) old new (lastWire c + 1)
+  pub line-by : {old new : List ℕ} {r : ℕ} → Wrote (frameLine c (entry table)) old new r → Wrote (frameLine c (replayed c y i)) old new (lastWire c + 1)
   line-by {old} w =
       record {
         counted = sym (length-line c (replayed c y i));
@@ -132,7 +131,7 @@ unknown-word word (suc u) h = refl
 -- the initial state is held: every word the same, every latch at its reset, and the idle word
 pub initial-held : (c : Netlist) (latches : List Bool) (old : List ℕ) → 2 ^ c .m ≤ length old → length latches ≡ 600
     → ((l : ℕ) → l < c .latches → entry latches l ≡ eqb (c .reset l) 1) → {idle : ℕ → Bool} {word : ℕ} → ((t : ℕ) → t < readBits c → bit word t ≡ idle t)
-    → (first : ℕ) → Holds c (initial c (λ _. first) idle) latches (delivered (2 ^ c .m) (λ _. first) old) word
+    → (first : ℕ) → HoldsState c (initial c (λ _. first) idle) latches (delivered (2 ^ c .m) (λ _. first) old) word
 unfolding initial
 initial-held c latches old h size each said first =
     record {

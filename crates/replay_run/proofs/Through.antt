@@ -1,8 +1,8 @@
 -- What a run (`run`) has left before frame i: the invariant of its loop. No contract cites this file.
-use Prim.Native.Nat.{ℕ, zero, _+_, _-_, _*_, _^_, _≤_, _<_}
-use mathlib.Core.Path.{_≡_, refl, sym, _∙_, ap, ap₂}
+use Prim.Native.Nat.{ℕ, _+_, _-_, _*_, _^_, _≤_, _<_}
+use mathlib.Core.Path.{_≡_, refl, _∙_, ap₂}
 use mathlib.Core.Bool.{Bool, false, _||_}
-use mathlib.Core.List.{List, [], _∷_, _++_}
+use mathlib.Core.List.{List, []}
 use native.Mathlib.Nat.{mul-le-mul-right, suc-mul}
 use native.Mathlib.Numerals.{add-one}
 use native.Mathlib.Omega.{arith}
@@ -18,36 +18,34 @@ use Rattle.model.specs.Agree.{givenWord}
 use Rattle.model.specs.Acceptance.{SizesFit}
 use Rattle.model.specs.Variables.{base}
 use Rattle.model.proofs.Gather.{length-gather}
-use Rattle.model.proofs.Search.{any-none, any-next}
+use Rattle.model.proofs.Search.{any-next}
 use Rattle.model.proofs.Wrote.{wrote-nothing, wrote-then}
 use Rattle.model.specs.Claim.{idleOf}
 use Rattle.netlist.specs.NetOf.{netOf, alone}
 use Rattle.netlist.specs.declared.Netlist as Record
-use Rattle.call_lists.specs.Delivered.{delivered}
 use Rattle.circuit_values.specs.WireTable.{entry}
-use Rattle.circuit_step.specs.Held.{Holds}
+use Rattle.circuit_step.specs.Held.{HoldsState}
 use Rattle.circuit_step.specs.Touched.{touchedBefore}
-use Rattle.replay_frame.specs.Replay.{Said, startWords, replayed, replayedState, feedFault, violates, firstViolation, lineOf, traceText}
-use Rattle.replay_frame.specs.Frames.{TouchedIs, FrameFits, FrameDone}
+use Rattle.replay_frame.specs.Replay.{Said, startWords, replayed, replayedState, feedFault, violates, firstViolation, frameLine, traceText, traceLength}
+use Rattle.replay_frame.specs.Frames.{TouchedIs, FrameDone}
 use Rattle.replay_frame.specs.declared.FrameVerdict.{FrameVerdict}
 use Rattle.replay_frame.proofs.Replay.{length-line}
-use Rattle.replay_run.specs.Runs.{nextFirst, Shown, traceLength, RunFits, RunDone}
-use Rattle.replay_run.specs.declared.RunVerdict.{RunVerdict}
+use Rattle.replay_run.specs.Runs.{nextFirst, Shown, RunDone}
 use Rattle.replay_run.proofs.Runs.{first-next, delivered-by}
 
 -- the lines of the first i frames
 abbrev pub linesTo : Netlist → Said → ℕ → List ℕ
-linesTo c y i = gather i (λ j. lineOf c (replayed c y j))
+linesTo c y i = gather i (λ j. frameLine c (replayed c y j))
 
 pub length-lines : (c : Netlist) (y : Said) (i : ℕ) → length (linesTo c y i) ≡ i * (lastWire c + 1)
-length-lines c y i = length-gather i (lastWire c + 1) (λ j. lineOf c (replayed c y j)) (λ j h. length-line c (replayed c y j))
+length-lines c y i = length-gather i (lastWire c + 1) (λ j. frameLine c (replayed c y j)) (λ j h. length-line c (replayed c y j))
 
 pub record Through (c : Netlist) (y : Said) (k : ℕ) (old oldTrace memory trace : List ℕ) (values inputs state touched : List Bool)
     (held : ℕ) (fault : Bool) (first at i : ℕ) : Type 0 where
   pub within : i ≤ k + 1
   pub values-size : length values ≡ 601
   pub inputs-size : length inputs ≡ 600
-  pub begins : Holds c (replayedState c y i) state memory held
+  pub begins : HoldsState c (replayedState c y i) state memory held
   pub touched-are : TouchedIs c y i touched
   pub behind : drop (2 ^ c .m) memory ≡ drop (2 ^ c .m) old
   pub memory-length : length memory ≡ length old
@@ -59,7 +57,7 @@ pub record Through (c : Netlist) (y : Said) (k : ℕ) (old oldTrace memory trace
 -- before frame 0
 pub through-none : (r : Record.Netlist) (latches gates : List ℕ) (y : Said) (k : ℕ) (old trace : List ℕ) {values inputs state touched : List Bool} {word : ℕ}
     → SizesFit (netOf r latches gates) → length values ≡ 601 → length inputs ≡ 600 → (length touched ≡ 4096) × ((x : ℕ) → x < 4096 → entry touched x ≡ false)
-    → Holds (netOf r latches []) (initial (netOf r latches []) (λ _. givenWord (start (alone r))) (idleOf (alone r) (y .value))) state old word
+    → HoldsState (netOf r latches []) (initial (netOf r latches []) (λ _. givenWord (start (alone r))) (idleOf (alone r) (y .value))) state old word
     → Through (netOf r latches gates) y k old trace old trace values inputs state touched word false 0 0 0
 unfolding netOf initial idleOf base stateAt startWords touchedBefore gather anyBelow firstWhere firstFrom
 through-none r latches gates y k old trace sizes v n (size, none) held =
@@ -98,7 +96,7 @@ module _ {c : Netlist} {y : Said} {k : ℕ} {old oldTrace memory trace : List �
   -- one frame on
   pub through-next : i ≤ k → {memory′ part : List ℕ} {values′ inputs′ state′ touched′ : List Bool} {r : FrameVerdict} {held′ first′ line : ℕ}
       → FrameDone c y i memory values′ inputs′ state′ touched′ memory′ held′ → length memory′ ≡ length memory
-      → Wrote (lineOf c (replayed c y i)) (midOf at (length trace - at) trace) part (lastWire c + 1)
+      → Wrote (frameLine c (replayed c y i)) (midOf at (length trace - at) trace) part (lastWire c + 1)
       → length (putMid at (length trace - at) trace part) ≡ length trace
       → Shown c y i r → first′ ≡ nextFirst first i (r .broken) → line ≡ lastWire c + 1
       → Through c y k old oldTrace memory′ (putMid at (length trace - at) trace part) values′ inputs′ state′ touched′ held′ (fault || r .fault) first′ (at + line) (i + 1)
@@ -113,7 +111,7 @@ module _ {c : Netlist} {y : Said} {k : ℕ} {old oldTrace memory trace : List �
         behind = done .behind ∙ t .behind;
         memory-length = same ∙ t .memory-length;
         trace-length = kept ∙ t .trace-length;
-        lines = rw (add-one, width) (wrote-then (linesTo c y i) (lineOf c (replayed c y i)) oldTrace trace part at (lastWire c + 1) (t .lines) line);
+        lines = rw (add-one, width) (wrote-then (linesTo c y i) (frameLine c (replayed c y i)) oldTrace trace part at (lastWire c + 1) (t .lines) line);
         fault-found = ap₂ _||_ (t .fault-found) (shown .fault-is) ∙ any-next false (feedFault c y) i;
         first-found = e ∙ ap₂ (λ x b. nextFirst x i b) (t .first-found) (shown .broken-is) ∙ first-next (violates c y) i;
       }
@@ -130,5 +128,5 @@ module _ {c : Netlist} {y : Said} {k : ℕ} {old oldTrace memory trace : List �
         first-is = t .first-found ∙ rw all;
       }
     where
-      ended : Holds c (replayedState c y (k + 1)) state memory held
+      ended : HoldsState c (replayedState c y (k + 1)) state memory held
       ended = rw all at (t .begins)

@@ -1,5 +1,5 @@
 -- A replay through the frames of a depth in what is lent. Cited by the functions that run it and by `replay_call`.
-use Prim.Native.Nat.{ℕ, _+_, _*_, _^_, _≤_}
+use Prim.Native.Nat.{ℕ, _+_, _^_, _≤_}
 use mathlib.Core.Path.{_≡_}
 use mathlib.Core.Bool.{Bool, cond}
 use mathlib.Core.List.{List}
@@ -8,11 +8,11 @@ use lib.ListN.{length}
 use Rattle.model.specs.Limits.{mostDepth}
 use Rattle.model.specs.Search.{anyBelow}
 use Rattle.model.specs.Wrote.{over}
-use Rattle.model.specs.Netlist.{Netlist, lastWire}
+use Rattle.model.specs.Netlist.{Netlist}
 use Rattle.model.specs.Acceptance.{Accepted}
 use Rattle.call_lists.specs.Delivered.{delivered}
 use Rattle.replay_frame.specs.declared.FrameVerdict.{FrameVerdict}
-use Rattle.replay_frame.specs.Replay.{Said, replayedState, feedFault, violates, firstViolation, traceText}
+use Rattle.replay_frame.specs.Replay.{Said, replayedState, feedFault, violates, firstViolation, traceText, traceLength}
 use Rattle.replay_run.specs.declared.RunVerdict.{RunVerdict}
 
 -- the first place where something holds, with place i looked at too; `first` is i where it held at no place before
@@ -23,10 +23,6 @@ nextFirst first i holds = cond holds first (cond (eqb first i) (first + 1) first
 pub record Shown (c : Netlist) (y : Said) (i : ℕ) (r : FrameVerdict) : Type 0 where
   pub fault-is : r .fault ≡ feedFault c y i
   pub broken-is : r .broken ≡ violates c y i
-
--- how many bytes the lines of frames 0 to k have
-abbrev pub traceLength : Netlist → ℕ → ℕ
-traceLength c k = (k + 1) * (lastWire c + 1)
 
 -- what a run asks
 pub record RunFits (c : Netlist) (k : ℕ) (memory trace : List ℕ) : Type 0 where

@@ -22,9 +22,9 @@ ghost use Rattle.netlist.specs.NetOf.{netOf, alone};
 ghost use Rattle.call_lists.specs.Delivered.{delivered};
 ghost use Rattle.answer_signs.specs.Signs.{trueIn};
 ghost use Rattle.circuit_values.specs.WireTable.{entry};
-ghost use Rattle.circuit_step.specs.Held.{Holds};
-ghost use Rattle.replay_frame.specs.Replay.{saidIn, replayed, lineOf, traceText};
-ghost use Rattle.replay_frame.specs.Frames.{FrameFits, FrameDone};
+ghost use Rattle.circuit_step.specs.Held.{HoldsState};
+ghost use Rattle.replay_frame.specs.Replay.{saidIn, replayed, frameLine};
+ghost use Rattle.replay_frame.specs.Frames.{FrameBegins, FrameDone};
 ghost use Rattle.replay_run.specs.Runs.{nextFirst, Shown, RunFits, RunDone};
 
 // What a run shows: whether it is fed something unclear, and the first frame that breaks the property, one past the last if none does.
@@ -112,7 +112,7 @@ fn put_initial(
     signs: &SignTable,
 ) -> u32
     requires { ⌜ SizesFit (alone net) × (length (now state) ≡ 600) × (2 ^ net .m ≤ length (now memory)) ⌝ }
-    ensures held { λ r. ⌜ Holds (netOf net (now (latches .entry)) []) (initial (netOf net (now (latches .entry)) []) (λ _. givenWord (start (alone net))) (idleOf (alone net) (trueIn (now (signs .entry)))))
+    ensures held { λ r. ⌜ HoldsState (netOf net (now (latches .entry)) []) (initial (netOf net (now (latches .entry)) []) (λ _. givenWord (start (alone net))) (idleOf (alone net) (trueIn (now (signs .entry)))))
         (now (state .exit)) (now (memory .exit)) r ⌝ }
     ensures behind { λ _. ⌜ drop (2 ^ net .m) (now (memory .exit)) ≡ drop (2 ^ net .m) (now (memory .entry)) ⌝ }
 {
@@ -150,11 +150,11 @@ fn run_frame(
     i: u32,
     held: u32,
 ) -> FrameRun
-    requires { ⌜ FrameFits (netOf net (now latches) (now gates)) (saidIn (now signs)) i (now values) (now inputs) (now state) (now touched) (now memory) held
+    requires { ⌜ FrameBegins (netOf net (now latches) (now gates)) (saidIn (now signs)) i (now values) (now inputs) (now state) (now touched) (now memory) held
         × (lastWire (alone net) + 1 ≤ length (now out)) ⌝ }
     ensures done { λ r. ⌜ FrameDone (netOf net (now (latches .entry)) (now (gates .entry))) (saidIn (now (signs .entry))) i (now (memory .entry))
         (now (values .exit)) (now (inputs .exit)) (now (state .exit)) (now (touched .exit)) (now (memory .exit)) (r .held) ⌝ }
-    ensures line { λ _. ⌜ Wrote (lineOf (netOf net (now (latches .entry)) (now (gates .entry))) (replayed (netOf net (now (latches .entry)) (now (gates .entry))) (saidIn (now (signs .entry))) i))
+    ensures line { λ _. ⌜ Wrote (frameLine (netOf net (now (latches .entry)) (now (gates .entry))) (replayed (netOf net (now (latches .entry)) (now (gates .entry))) (saidIn (now (signs .entry))) i))
         (now (out .entry)) (now (out .exit)) (lastWire (alone net) + 1) ⌝ }
     ensures judged { λ r. ⌜ Shown (netOf net (now (latches .entry)) (now (gates .entry))) (saidIn (now (signs .entry))) i (r .shown) ⌝ }
 {

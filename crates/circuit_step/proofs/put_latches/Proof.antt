@@ -1,6 +1,6 @@
 -- `circuit_step::put_latches` meets its contract. The loop's invariant: the first l latches are stepped.
 use Prim.Native.Nat.{ℕ, _-_, _≤_, _<_}
-use mathlib.Core.Path.{_≡_, _∙_}
+use mathlib.Core.Path.{_≡_}
 use native.Mathlib.Omega.{arith}
 use lib.ListN.{length, length-set}
 use Rattle.model.specs.Circuit.{codeValue}

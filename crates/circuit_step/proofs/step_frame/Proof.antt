@@ -7,8 +7,8 @@ use Rattle.model.specs.Circuit.{State, Feed, addressOf, wordWritten, frame}
 use Rattle.netlist.specs.NetOf.{netOf}
 use Rattle.netlist.proofs.NetOf.{limits-without-latches, limits-without-gates, limits-alone}
 use Rattle.circuit_values.specs.WireTable.{HasBelow}
-use Rattle.circuit_step.specs.Held.{Holds, Fed, written}
-use Rattle.circuit_step.proofs.Held.{below-same, step-holds, behind-written, holds-lists, fed-lists, frame-lists}
+use Rattle.circuit_step.specs.Held.{HoldsState, Fed, memoryAfter}
+use Rattle.circuit_step.proofs.Held.{below-same, step-holds, behind-memoryAfter, holds-lists, fed-lists, frame-lists}
 use borrow.Author.Needs.{needs}
 use Rattle.circuit_step.proofs.step_frame.Statement.{statement}
 use Rattle.circuit_step.proofs.step_frame.Tie as tie
@@ -34,20 +34,20 @@ same-length : tie.Need-same-length
 same-length c = search needs
 
 returns : tie.Need-returns
-unfolding netOf written addressOf wordWritten
+unfolding netOf memoryAfter addressOf wordWritten
 returns c =
     let writes = c .before .before .before .before .before in
     let start = c .before .before .before .before .before .before .before .before .before .before .before .before .before in
     let a = start .args in
     let d = netOf (a .net) (a .latches .now) (a .gates .now) in
-    let table : (s : State) (f : Feed) → Holds d s (a .state .now) (a .memory .now) (a .held) → Fed d f (a .inputs .now) → HasBelow (lastWire d + 1) (frame d s f) (_)
+    let table : (s : State) (f : Feed) → HoldsState d s (a .state .now) (a .memory .now) (a .held) → Fed d f (a .inputs .now) → HasBelow (lastWire d + 1) (frame d s f) (_)
     = λ s f held fed. below-same (c .before .before .before .before .before .before .before .before .put-frame .ensures .0 s f (holds-lists (a .net) (a .latches .now) (a .gates .now) [] [] held) (fed-lists (a .net) (a .latches .now) (a .gates .now) [] [] fed))
     (λ w h. frame-lists (a .net) (a .latches .now) (a .gates .now) (start .pre .limits) s f w (omega arith)) in
     rw (writes .write-memory .ensures)
     (record {
       frame-values = table;
       next-held = λ s f held fed. step-holds (start .pre .limits) (table s f held fed) held (c .put-latches .ensures .0) (c .put-latches .ensures .1) (c .before .before .before .before .before .before .before .before .put-frame .ensures .1);
-      behind = behind-written d _ (a .memory .now);
+      behind = behind-memoryAfter d _ (a .memory .now);
     })
 
 pub step-frame-spec : {M : Type 1} → statement M

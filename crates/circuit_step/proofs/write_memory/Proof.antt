@@ -5,7 +5,7 @@ use Rattle.model.specs.Netlist.{port}
 use Rattle.model.proofs.Memory.{address-below}
 use Rattle.netlist.specs.NetOf.{netOf, alone}
 use Rattle.circuit_values.specs.WireTable.{entry}
-use Rattle.circuit_step.specs.Held.{written}
+use Rattle.circuit_step.specs.Held.{memoryAfter}
 use borrow.Author.Needs.{needs}
 use Rattle.circuit_step.proofs.write_memory.Statement.{statement}
 use Rattle.circuit_step.proofs.write_memory.Tie as tie
@@ -37,12 +37,12 @@ same-length : tie.Need-same-length
 same-length c = search needs
 
 returns : tie.Need-returns
-unfolding netOf written
+unfolding netOf memoryAfter
 returns c =
     rw (sym (c .before .before .before .code-value .ensures) ∙ c .before .before .if1 .taken, c .before .address-of .ensures, c .word-written .ensures)
 
 returns-2 : tie.Need-returns-2
-unfolding netOf written
+unfolding netOf memoryAfter
 returns-2 c =
     rw (sym (c .before .code-value .ensures) ∙ c .if1 .left)
 

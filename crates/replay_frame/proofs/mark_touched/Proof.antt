@@ -4,7 +4,7 @@ use mathlib.Core.Bool.{_||_}
 use native.Mathlib.Omega.{arith}
 use Rattle.netlist.specs.NetOf.{netOf, alone}
 use Rattle.circuit_values.specs.WireTable.{entry}
-use Rattle.replay_frame.specs.Frames.{marked}
+use Rattle.replay_frame.specs.Frames.{touchedAfter}
 use Rattle.replay_frame.proofs.Filling.{address-small}
 use borrow.Author.Needs.{needs}
 use Rattle.replay_frame.proofs.mark_touched.Statement.{statement}
@@ -33,12 +33,12 @@ element-write-touched c =
     omega (arith, c .address-of .ensures, address-small (alone (start .args .net)) (start .pre .0 .sizes) (entry (start .args .values .now)), start .pre .1)
 
 returns : tie.Need-returns
-unfolding netOf marked
+unfolding netOf touchedAfter
 returns c =
     rw (sym (ap₂ _||_ (c .before .before .before .code-value .ensures) (c .before .before .code-value2 .ensures)) ∙ c .before .if1 .taken, c .address-of .ensures)
 
 returns-2 : tie.Need-returns-2
-unfolding netOf marked
+unfolding netOf touchedAfter
 returns-2 c =
     rw (sym (ap₂ _||_ (c .before .before .code-value .ensures) (c .before .code-value2 .ensures)) ∙ c .if1 .left)
 

@@ -12,10 +12,10 @@ use Rattle.model.proofs.Variables.{base-most}
 use Rattle.netlist.specs.NetOf.{netOf, alone}
 use Rattle.netlist.proofs.NetOf.{sizes-lists, limits-alone, limits-without-latches}
 use Rattle.circuit_values.specs.WireTable.{HasBelow}
-use Rattle.circuit_step.specs.Held.{Holds, Fed}
+use Rattle.circuit_step.specs.Held.{HoldsState, Fed}
 use Rattle.replay_frame.specs.Replay.{saidIn, begunFrom, wordSaid, startWords, replayed}
-use Rattle.replay_frame.specs.Frames.{marked, Filled}
-use Rattle.replay_frame.proofs.Filling.{filled-lists, filled-is, filled-holds, filled-behind, marked-is}
+use Rattle.replay_frame.specs.Frames.{touchedAfter, WordFilled}
+use Rattle.replay_frame.proofs.Filling.{filled-lists, filled-is, filled-holds, filled-behind, touchedAfter-is}
 use borrow.Author.Needs.{needs}
 use Rattle.replay_frame.proofs.step_fed.Statement.{statement}
 use Rattle.replay_frame.proofs.step_fed.Tie as tie
@@ -70,7 +70,7 @@ same-length : tie.Need-same-length
 same-length c = search needs
 
 returns : tie.Need-returns
-unfolding netOf base feedOf run stateAt addressOf wordSaid marked
+unfolding netOf base feedOf run stateAt addressOf wordSaid touchedAfter
 returns c =
     let start = c .before .before .before .before .before .before .before .before .before .before .before .before .before .before .before .before .before .before .before .before .before .before in
     let a = start .args in
@@ -86,16 +86,16 @@ returns c =
       input-fed = λ x h. let e : b .result + 1 + x ≡ base d (a .i) + inputWire d x = omega (arith, b .ensures) in inputs .1 x h ∙ ap (y .value) e;
     }
     in
-    let filled : Filled d (a .touched .now) _ (a .state .now) (wordSaid d y (a .i)) (a .memory .now) _ _
+    let filled : WordFilled d (a .touched .now) _ (a .state .now) (wordSaid d y (a .i)) (a .memory .now) _ _
     = filled-lists (a .net) (a .latches .now) (a .gates .now) (c .before .before .before .before .before .before .before .before .before .before .before .before .fill-word .ensures .0) in
-    let held : Holds d (stateAt d (begunFrom d y (startWords d y (suc (a .i)))) (feedOf d (y .value)) (a .i)) _ _ _
+    let held : HoldsState d (stateAt d (begunFrom d y (startWords d y (suc (a .i)))) (feedOf d (y .value)) (a .i)) _ _ _
     = filled-holds ok y (a .i) (start .pre .begins) fed (start .pre .touched-are) filled in
     let values : HasBelow (lastWire d + 1) (replayed d y (a .i)) _ = stepped .frame-values _ (feedOf d (y .value) (a .i)) held fed in (
       record {
         values-are = values;
         inputs-size = inputs .0;
         next-begins = rw add-one (stepped .next-held _ (feedOf d (y .value) (a .i)) held fed);
-        next-touched = rw (c .mark-touched .ensures) (marked-is ok y (a .i) (start .pre .touched-are) values);
+        next-touched = rw (c .mark-touched .ensures) (touchedAfter-is ok y (a .i) (start .pre .touched-are) values);
         behind = stepped .behind ∙ filled-behind ok y (a .i) (start .pre .begins) fed (start .pre .touched-are) filled;
       },
       filled-is ok y (a .i) (start .pre .begins) fed (start .pre .touched-are) filled,

@@ -3,7 +3,7 @@ use mathlib.Core.List.{[]}
 use Rattle.model.specs.Variables.{base}
 use Rattle.netlist.specs.NetOf.{netOf}
 use Rattle.netlist.proofs.NetOf.{sizes-lists, limits-alone}
-use Rattle.replay_frame.specs.Replay.{saidIn, fedUnclear, lineOf}
+use Rattle.replay_frame.specs.Replay.{saidIn, fedUnclear, frameLine}
 use Rattle.replay_run.proofs.Runs.{shown-by, line-by}
 use borrow.Author.Needs.{needs}
 use Rattle.replay_run.proofs.run_frame.Statement.{statement}
@@ -31,7 +31,7 @@ same-length-2 : tie.Need-same-length-2
 same-length-2 c = search needs
 
 returns : tie.Need-returns
-unfolding netOf lineOf fedUnclear base
+unfolding netOf frameLine fedUnclear base
 returns c =
     let start = c .before .before .before .before .before .before .before .before .before .before .before .before .before .before .before .before .before in
     let a = start .args in
