@@ -14,7 +14,8 @@ use Rattle.answer_lines.specs.declared.Progress.{Progress}
 use Rattle.answer_lines.specs.declared.Progress.the-variants.{NoStatus, Values, Complete, Unsatisfiable, Malformed}
 use Rattle.answer_lines.specs.declared.AnswerKind.{AnswerKind}
 use Rattle.answer_lines.proofs.Values.{behind-none, behind-append}
-use Rattle.answer_scan.specs.Scan.{answerAhead, lineBegun, Holds, Taken, Behind, AnswerRead}
+use Rattle.answer_scan.specs.Scan.{answerAhead, lineBegun, Holds, Taken, Behind}
+use Rattle.answer_scan.specs.AnswerRead.{AnswerRead}
 use Rattle.answer_scan.specs.declared.Position.{Position}
 use Rattle.answer_scan.specs.declared.Scan.{Scan}
 

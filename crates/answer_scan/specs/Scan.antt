@@ -9,11 +9,12 @@ use lib.ListN.{length, take}
 use Rattle.decimal.specs.Digits.{space, lineFeed}
 use Rattle.text_words.specs.Words.{partsAfter, restAfter}
 use Rattle.answer_signs.specs.Signs.{SignsOf}
-use Rattle.answer_lines.specs.Answer.{Answer, malformed, satisfiable, isEmpty, isComment, isMarked, kept, answerIn, kindOf}
+use Rattle.answer_lines.specs.Answer.{Answer, malformed, isEmpty, isComment, isMarked, kept, answerIn}
 use Rattle.answer_lines.specs.Progress.{answerFrom, behind, MarkedAll, OneNumber}
 use Rattle.answer_lines.specs.declared.Progress.{Progress}
 use Rattle.answer_lines.specs.declared.Progress.the-variants.{NoStatus, Values, Complete, Unsatisfiable, Malformed}
 use Rattle.answer_lines.specs.declared.AnswerKind.{AnswerKind}
+pub use Rattle.answer_scan.specs.AnswerRead.{AnswerRead}
 use Rattle.answer_scan.specs.declared.Position.{Position}
 use Rattle.answer_scan.specs.declared.Scan.{Scan}
 
@@ -74,10 +75,6 @@ Starts r = (signs : List ℕ) → SignsOf [] signs → Behind [] r signs
 abbrev pub Reads : Scan → List ℕ → Scan → List ℕ → List ℕ → Type 0
 Reads scan piece r old new = (seen : List ℕ) → Behind seen scan old → Behind (seen ++ piece) r new
 
--- the text's answer: its kind, and where it is satisfiable the signs of its numbers
-pub record AnswerRead (text signs : List ℕ) (kind : AnswerKind) : Type 0 where
-  pub kind-is : kind ≡ kindOf (answerIn text)
-  pub signs-are : (ys : List ℤ) → answerIn text ≡ satisfiable ys → SignsOf ys signs
-
+-- at its end
 abbrev pub Ends : Scan → AnswerKind → Type 0
 Ends scan kind = (seen signs : List ℕ) → Behind seen scan signs → AnswerRead seen signs kind

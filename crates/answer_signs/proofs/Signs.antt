@@ -11,7 +11,8 @@ use lib.Seq.{getD-set-same, getD-set-other}
 use borrow.Author.Tests.{eq-eqb, eqb-true, eqb-false, ne-eqb, lt-ltb}
 use Rattle.model.specs.Bits.{odd}
 use Rattle.text_writer.specs.Signed.{partsOf}
-use Rattle.answer_signs.specs.Signs.{sameNumber, among, assignmentOf, unclear, signsOf, tableSize, SignsOf, withSign, trueIn, unclearIn, TableTells}
+use Rattle.answer_signs.specs.Signs.{sameNumber, among, assignmentOf, unclear, signsOf, tableSize, SignsOf, trueIn, unclearIn}
+use Rattle.answer_signs.specs.Marks.{withSign, TableTells}
 
 pub replicate-zero : (n v : ℕ) → _≡_ {A = ℕ} (getD (replicate n 0) v 0) 0
 replicate-zero zero v = refl

@@ -12,7 +12,7 @@ ghost use lib.ListN.{length};
 ghost use Rattle.model.specs.Wrote.{Wrote};
 ghost use Rattle.model.specs.Acceptance.{SizesFit};
 ghost use Rattle.netlist.specs.NetOf.{netOf, alone};
-ghost use Rattle.answer_scan.specs.Scan.{AnswerRead};
+ghost use Rattle.answer_scan.specs.AnswerRead.{AnswerRead};
 ghost use Rattle.replay_run.specs.Runs.{traceLength};
 ghost use Rattle.replay_answer.specs.ReplayAnswer.{replayFor, memoryFor, traceFor};
 ghost use Rattle.program_replay.specs.Printed.{isBroken, answerText};

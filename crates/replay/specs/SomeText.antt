@@ -3,7 +3,8 @@
 use mathlib.Core.List.{List}
 use Prim.Native.Nat.{ℕ}
 use Rattle.answer_lines.specs.declared.AnswerKind.{AnswerKind}
-use Rattle.answer_scan.specs.Scan.{Behind, AnswerRead}
+use Rattle.answer_scan.specs.AnswerRead.{AnswerRead}
+use Rattle.answer_scan.specs.Scan.{Behind}
 use Rattle.answer_scan.specs.declared.Scan.{Scan}
 
 -- the scan is behind the pieces that were read

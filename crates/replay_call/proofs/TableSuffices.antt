@@ -38,7 +38,7 @@ use Rattle.replay_frame.specs.Replay.{Said, saidIn, wordSaid, replayed, replaye
 use Rattle.replay_frame.proofs.Replay.{line-same}
 use Rattle.replay_frame.proofs.SaidAlike.{SaidAlike, fills-said, words-alike, runs-alike}
 use Rattle.replay_call.specs.ReplayCall.{replayTests, fedFault, runVerdict, outcome, wordsLeft, unlessRefused, replayAnswer, replayReply, replaySent, afterTests, replayMemory, traceAfter, replayTrace}
-use Rattle.replay_call.specs.Settled.{SayAlike, ReplayAlike, saidBy, TableSuffices}
+use Rattle.replay_call.specs.Settled.{ReplayAlike, saidBy, TableSuffices}
 
 -- the first place needs a property below the number alone
 first-same : (n : ℕ) {f g : ℕ → Bool} → ((x : ℕ) → x < n → f x ≡ g x) → firstWhere f n ≡ firstWhere g n
@@ -54,6 +54,11 @@ first-same n {f} {g} same = first-unique moved (firstWhere-is g n)
           none-before = λ x h. sym (same x (omega (arith, q .within))) ∙ q .none-before x h;
           holds-there = λ h. sym (same (firstWhere f n) h) ∙ q .holds-there h;
         }
+
+-- two that say the same of every variable of the file, 1 to B(k + 1) (RULES V6)
+record SayAlike (c : Netlist) (k : ℕ) (y z : Said) : Type 0 where
+  value-alike : (v : ℕ) → v ≤ base c (k + 1) → y .value v ≡ z .value v
+  unclear-alike : (v : ℕ) → v ≤ base c (k + 1) → y .unclear v ≡ z .unclear v
 
 module _ {c : Netlist} (ok : Accepted c) (k : ℕ) {y z : Said} (say : SayAlike c k y z) where
   -- a wire's variable in a frame to k is one of the file's

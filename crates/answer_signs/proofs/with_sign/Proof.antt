@@ -6,7 +6,7 @@ use native.Mathlib.Omega.{arith}
 use borrow.Author.Needs.{needs}
 use borrow.Author.Tests.{eq-eqb, ne-eqb, lt-ltb, le-ltb}
 use Rattle.model.specs.Bits.{odd}
-use Rattle.answer_signs.specs.Signs.{withSign}
+use Rattle.answer_signs.specs.Marks.{withSign}
 use Rattle.answer_signs.proofs.with_sign.Statement.{statement}
 use Rattle.answer_signs.proofs.with_sign.Tie as tie
 
