@@ -43,14 +43,14 @@ fn scan_file(file: i32, signs: &mut SignTable) -> Scan
 {
     let mut piece = io::large_buffer();
     let mut scan = answer_scan::scan_start();
-    let mut left = u64::MAX;
-    while 0 < left {
+    let mut remaining = u64::MAX;
+    while 0 < remaining {
         let count = io::read_full(file, &mut piece);
         scan = answer_scan::scan_bytes(scan, signs, &piece[..count]);
         if count < 65536 {
             return scan;
         }
-        left -= 1;
+        remaining -= 1;
     }
     scan
 }

@@ -10,11 +10,11 @@ use Rattle.replay.proofs.scan_file.Statement.{statement}
 use Rattle.replay.proofs.scan_file.Tie as tie
 
 abbrev Inv-loop : tie.InvT-loop
-Inv-loop file signs₀ piece₀ scan₀ left₀ signs piece scan left =
+Inv-loop file signs₀ piece₀ scan₀ remaining₀ signs piece scan remaining =
     (length piece ≡ 65536) × Holds (scan .position) (scan .line) × BehindSome scan signs
 
 abbrev μ-loop : tie.MeasureT-loop
-μ-loop file signs₀ piece₀ scan₀ left₀ signs piece scan left = left
+μ-loop file signs₀ piece₀ scan₀ remaining₀ signs piece scan remaining = remaining
 
 large-buffer-requires : tie.Need-large-buffer-requires Inv-loop μ-loop
 large-buffer-requires c κs = search needs
@@ -48,8 +48,8 @@ returns c =
     let read = c .before .scan-bytes .ensures in
     (read .0, record { text = at .inv .2 .text ++ _; behind = read .1 (at .inv .2 .text) (at .inv .2 .behind) })
 
-sub-left : tie.Need-sub-left Inv-loop μ-loop
-sub-left c = omega arith
+sub-remaining : tie.Need-sub-remaining Inv-loop μ-loop
+sub-remaining c = omega arith
 
 loop-less : tie.Need-loop-less Inv-loop μ-loop
 loop-less c = omega arith
@@ -79,7 +79,7 @@ scan-file-spec =
     slice-aggregate-scan-bytes
     scan-bytes-requires
     returns
-    sub-left
+    sub-remaining
     loop-less
     loop-again
     returns-2)
