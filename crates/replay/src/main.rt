@@ -14,7 +14,7 @@ ghost use lib.ListN.{length};
 ghost use Rattle.model.specs.Acceptance.{Accepted};
 ghost use Rattle.netlist.specs.NetOf.{netOf};
 ghost use Rattle.answer_signs.specs.Signs.{SignsOf};
-ghost use Rattle.answer_scan.specs.Scan.{Holds};
+ghost use Rattle.answer_scan.specs.Scan.{LineKept};
 ghost use Rattle.replay.specs.SomeText.{BehindSome, ReadSome};
 
 // Writes text to standard output. Where that fails, says so on standard error and answers false.
@@ -38,7 +38,7 @@ fn print_first(reply: ReplayReply) -> bool {
 // file has so many.
 fn scan_file(file: i32, signs: &mut SignTable) -> Scan
     requires { ⌜ SignsOf [] (now signs) ⌝ }
-    ensures holds { λ r. ⌜ Holds (r .position) (r .line) ⌝ }
+    ensures holds { λ r. ⌜ LineKept (r .position) (r .line) ⌝ }
     ensures behind { λ r. ⌜ BehindSome r (now (signs .exit)) ⌝ }
 {
     let mut piece = io::large_buffer();

@@ -4,14 +4,14 @@ use mathlib.Core.List.{[], _++_}
 use native.Mathlib.Omega.{arith}
 use borrow.Author.Needs.{needs}
 use lib.ListN.{length, take}
-use Rattle.answer_scan.specs.Scan.{Holds}
+use Rattle.answer_scan.specs.Scan.{LineKept}
 use Rattle.replay.specs.SomeText.{BehindSome}
 use Rattle.replay.proofs.scan_file.Statement.{statement}
 use Rattle.replay.proofs.scan_file.Tie as tie
 
 abbrev Inv-loop : tie.InvT-loop
 Inv-loop file signs₀ piece₀ scan₀ remaining₀ signs piece scan remaining =
-    (length piece ≡ 65536) × Holds (scan .position) (scan .line) × BehindSome scan signs
+    (length piece ≡ 65536) × LineKept (scan .position) (scan .line) × BehindSome scan signs
 
 abbrev μ-loop : tie.MeasureT-loop
 μ-loop file signs₀ piece₀ scan₀ remaining₀ signs piece scan remaining = remaining
