@@ -1,20 +1,19 @@
 -- What a line makes of the lines ahead, from a line that is read in parts. No contract cites this file.
-use Prim.Native.Nat.{ℕ, _+_, _^_, _≤_, _<_}
+use Prim.Native.Nat.{ℕ}
 use mathlib.Core.Path.{_≡_, refl, sym, subst, ap, _∙_}
 use mathlib.Core.Bool.{Bool, true, false, cond, _&&_}
 use mathlib.Core.List.{List, [], _∷_, _++_, append-nil}
-use native.Mathlib.Omega.{arith}
-use lib.IntN.{ℤ, natAbs}
-use lib.ListN.{length, getD, take, drop}
+use lib.IntN.{ℤ}
+use lib.ListN.{drop}
 use Rattle.decimal.specs.Digits.{space}
 use Rattle.decimal.specs.TextValue.{sameText}
 use Rattle.decimal.specs.SignedValue.{clauseNumberIn}
 use Rattle.decimal.specs.declared.ClauseNumber.{ClauseNumber}
 use Rattle.decimal.specs.declared.ClauseNumber.the-variants.{Value, NotANumber}
 use Rattle.text_words.specs.Words.{wordsOf, Without}
-use Rattle.text_words.proofs.Words.{words-first, words-last}
+use Rattle.text_words.proofs.Words.{words-last}
 use Rattle.answer_signs.specs.Signs.{SignsOf}
-use Rattle.answer_lines.specs.Answer.{Answer, malformed, unsatisfiable, satisfiable, isEmpty, isComment, keptLines, isClauseNumber, numberValue, allClauseNumbers, clauseNumbers, isMarked, isValueLine, lineValues, allValueLines, allValues, isZero, claimed, valuesAnswer, nothingMore, statusAnswer, satisfiableLine, unsatisfiableLine}
+use Rattle.answer_lines.specs.Answer.{Answer, malformed, unsatisfiable, satisfiable, isEmpty, isComment, keptLines, numberValue, allClauseNumbers, clauseNumbers, isMarked, isValueLine, lineValues, allValueLines, allValues, isZero, claimed, valuesAnswer, nothingMore, statusAnswer, satisfiableLine, unsatisfiableLine}
 use Rattle.answer_lines.specs.Progress.{answerFrom, afterNumbers, statusIn, progressBy, numberBy, MarkedAll, NumberRead, LineRead}
 use Rattle.answer_lines.specs.declared.Progress.{Progress}
 use Rattle.answer_lines.specs.declared.Progress.the-variants.{NoStatus, Values, Complete, Unsatisfiable, Malformed}
@@ -74,7 +73,7 @@ module _ (l : List ℕ) (ls : List (List ℕ)) (m : isMarked l ≡ true) (one : 
   last-word : valuesAnswer (l ∷ ls) ≡ all (drop 2 l) [] ls
   last-word = value-line l (drop 2 l ∷ []) ls m (words-last (drop 2 l) one)
 
-  pub last-read : (number : ClauseNumber) → clauseNumberIn (drop 2 l) ≡ number
+  last-read : (number : ClauseNumber) → clauseNumberIn (drop 2 l) ≡ number
       → valuesAnswer (l ∷ ls) ≡ afterNumbers (numberBy number) (answerFrom (progressBy number) ls)
   unfolding afterNumbers answerFrom valuesAnswer allClauseNumbers clauseNumbers
   last-read (Value z) e = by-zero (isZero z) refl
@@ -85,7 +84,7 @@ module _ (l : List ℕ) (ls : List (List ℕ)) (m : isMarked l ≡ true) (one : 
   last-read NotANumber e = last-word ∙ word-none (drop 2 l) [] ls e
 
 -- a status line
-pub status-read : (l : List ℕ) (ls : List (List ℕ)) → statusAnswer (l ∷ ls) ≡ answerFrom (statusIn l) ls
+status-read : (l : List ℕ) (ls : List (List ℕ)) → statusAnswer (l ∷ ls) ≡ answerFrom (statusIn l) ls
 unfolding statusAnswer statusIn answerFrom
 status-read l ls = by-text (sameText l satisfiableLine) (sameText l unsatisfiableLine)
   where

@@ -1,19 +1,19 @@
 -- Laws of specs/Written.antt. No contract cites this file.
 use Prim.Native.Nat.{ℕ, zero, suc, _^_, _<_}
 use mathlib.Core.Path.{_≡_, refl, sym, ap, ap₂, _∙_}
-use mathlib.Core.Bool.{Bool, true, false, _&&_, true≢false, false≢true}
+use mathlib.Core.Bool.{true, false, true≢false, false≢true}
 use mathlib.Core.List.{List, [], _∷_, _++_, map, append-nil}
 use native.Mathlib.Omega.{arith}
 use lib.IntN.{ℤ, pos, negsuc, natAbs}
-use lib.ListN.{length, getD, drop}
+use lib.ListN.{length, drop}
 use Rattle.model.proofs.Booleans.{and-true}
-use Rattle.decimal.specs.Digits.{space, lineFeed, digits, signedDigits}
+use Rattle.decimal.specs.Digits.{space, lineFeed, signedDigits}
 use Rattle.decimal.specs.TextValue.{sameText}
 use Rattle.decimal.specs.SignedValue.{clauseNumberIn}
 use Rattle.decimal.specs.declared.ClauseNumber.{ClauseNumber}
 use Rattle.decimal.specs.declared.ClauseNumber.the-variants.{Value, NotANumber}
 use Rattle.decimal.proofs.SignedValue.{clauseNumberIn-digits, digits-clauseNumberIn}
-use Rattle.text_words.specs.Words.{restAfter, linesOf, wordsOf, spaced, ended, Without}
+use Rattle.text_words.specs.Words.{linesOf, wordsOf, spaced, ended, Without}
 use Rattle.text_words.proofs.Words.{ended-parts, EachWithout, nothing, also, spaced-words, words-spaced, digits-without}
 use Rattle.answer_lines.specs.Answer.{isEmpty, isClauseNumber, numberValue, allClauseNumbers, clauseNumbers, isMarked, isValueLine, lineValues}
 use Rattle.answer_lines.specs.Written.{valueLine, Numbers, AnswerAsWritten}

@@ -1,15 +1,14 @@
 -- A value line that is begun: a number that a space ends, and lines that make the answer malformed however they go on. No contract cites
 -- this file.
-use Prim.Native.Nat.{ℕ, _+_, _^_, _≤_, _<_}
+use Prim.Native.Nat.{ℕ, _≤_}
 use mathlib.Core.Path.{_≡_, refl, sym, ap, _∙_}
 use mathlib.Core.Bool.{Bool, true, false, cond, true≢false, false≢true}
 use mathlib.Core.List.{List, [], _∷_, _++_, append-assoc, append-nil}
 use native.Mathlib.Omega.{arith}
 use lib.Dec.{eqb}
-use lib.IntN.{ℤ, natAbs}
-use lib.ListN.{length, take, drop, length-append, length-drop}
+use lib.ListN.{length, drop, length-append, length-drop}
 use lib.Seq.{take-append-le}
-use Rattle.decimal.specs.Digits.{space, signedDigits}
+use Rattle.decimal.specs.Digits.{space}
 use Rattle.decimal.specs.TextValue.{sameText}
 use Rattle.decimal.specs.SignedValue.{clauseNumberIn}
 use Rattle.decimal.specs.declared.ClauseNumber.{ClauseNumber}
@@ -19,7 +18,7 @@ use Rattle.decimal.proofs.SignedValue.{clauseNumberIn-other}
 use Rattle.literals.proofs.Literal.{fits}
 use Rattle.text_words.specs.Words.{partsAfter, restAfter, wordsOf, Without}
 use Rattle.text_words.proofs.Words.{words-first, parts-append, rest-append, parts-none, rest-all}
-use Rattle.answer_lines.specs.Answer.{Answer, malformed, unsatisfiable, satisfiable, isEmpty, isComment, keptLines, isMarked, isZero, valueMark, valuesAnswer, statusAnswer, satisfiableLine, unsatisfiableLine}
+use Rattle.answer_lines.specs.Answer.{malformed, unsatisfiable, satisfiable, isComment, keptLines, isMarked, isZero, valuesAnswer, statusAnswer, satisfiableLine, unsatisfiableLine}
 use Rattle.answer_lines.specs.Progress.{answerFrom, afterNumbers, progressBy, numberBy, OneNumber}
 use Rattle.answer_lines.specs.declared.Progress.{Progress}
 use Rattle.answer_lines.specs.declared.Progress.the-variants.{NoStatus, Values, Complete, Unsatisfiable, Malformed}

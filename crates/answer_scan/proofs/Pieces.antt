@@ -1,7 +1,7 @@
 -- Texts read one behind the other, and the end of a text. No contract cites this file.
-use Prim.Native.Nat.{ℕ, zero, suc, _+_, _≤_, _<_}
+use Prim.Native.Nat.{ℕ, zero, suc, _<_}
 use mathlib.Core.Path.{_≡_, refl, sym, ap, subst, _∙_}
-use mathlib.Core.Bool.{Bool, true, false, cond}
+use mathlib.Core.Bool.{false}
 use mathlib.Core.List.{List, [], _∷_, _++_, append-assoc, append-nil}
 use native.Mathlib.Omega.{arith}
 use lib.IntN.{ℤ}
@@ -12,11 +12,9 @@ use Rattle.answer_lines.specs.Answer.{Answer, malformed, unsatisfiable, satisfi
 use Rattle.answer_lines.specs.Progress.{answerFrom, afterNumbers, MarkedAll}
 use Rattle.answer_lines.specs.declared.Progress.{Progress}
 use Rattle.answer_lines.specs.declared.Progress.the-variants.{NoStatus, Values, Complete, Unsatisfiable, Malformed}
-use Rattle.answer_lines.specs.declared.AnswerKind.{AnswerKind}
 use Rattle.answer_lines.proofs.Values.{afterNumbers-none, afterNumbers-append}
 use Rattle.answer_scan.specs.Scan.{answerAhead, lineBegun, LineKept, Taken, ScanBehind}
 use Rattle.answer_scan.specs.AnswerRead.{AnswerRead}
-use Rattle.answer_scan.specs.declared.Position.{Position}
 use Rattle.answer_scan.specs.declared.Scan.{Scan}
 
 -- one text, then another

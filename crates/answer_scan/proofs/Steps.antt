@@ -1,5 +1,5 @@
 -- What each byte does to a scan: a number ended, a byte added to the line, a line ended, a comment gone on with. No contract cites this file.
-use Prim.Native.Nat.{ℕ, suc, _+_, _≤_, _<_}
+use Prim.Native.Nat.{ℕ, _+_, _≤_, _<_}
 use mathlib.Core.Path.{_≡_, refl, sym, subst, ap, _∙_}
 use mathlib.Core.Bool.{Bool, true, false, true≢false, false≢true}
 use mathlib.Core.List.{List, [], _∷_, _++_, append-assoc}
@@ -7,13 +7,13 @@ use native.Mathlib.Numerals.{add-one}
 use native.Mathlib.Omega.{arith}
 use lib.Dec.{ltb}
 use lib.IntN.{ℤ}
-use lib.ListN.{length, getD, take, drop, set, length-append, length-drop, length-set, List·getD-append}
+use lib.ListN.{length, take, drop, set, length-append, length-drop, length-set, List·getD-append}
 use lib.Seq.{take-append-le, drop-append-le, getD-append-seam, length-take-le, take-suc-set, take-take}
 use borrow.Author.Tests.{ltb-true, ltb-false}
 use Rattle.decimal.specs.Digits.{space, lineFeed}
 use Rattle.decimal.specs.SignedValue.{clauseNumberIn}
 use Rattle.text_words.specs.Words.{Without}
-use Rattle.answer_lines.specs.Answer.{malformed, isEmpty, isComment, isMarked, keptLines, valuesAnswer}
+use Rattle.answer_lines.specs.Answer.{malformed, isEmpty, isMarked, keptLines, valuesAnswer}
 use Rattle.answer_lines.specs.Progress.{answerFrom, afterNumbers, numberBy, MarkedAll, NumberRead, LineRead, OneNumber}
 use Rattle.answer_lines.specs.declared.Progress.{Progress}
 use Rattle.answer_lines.specs.declared.Progress.the-variants.{NoStatus, Values, Complete, Unsatisfiable, Malformed}
@@ -22,7 +22,7 @@ use Rattle.answer_lines.proofs.Values.{afterNumbers-none}
 use Rattle.answer_lines.proofs.Lines.{same-signs}
 use Rattle.answer_scan.specs.Scan.{answerAhead, isValues, lineBegun, LineKept, Taken, SameAhead, NumberEnded, Addable}
 use Rattle.answer_scan.specs.declared.Position.{Position}
-use Rattle.answer_scan.proofs.Ahead.{ahead-next, ahead-line, ahead-malformed, ahead-dead, ahead-alike, ahead-comment}
+use Rattle.answer_scan.proofs.Ahead.{ahead-next, ahead-line, ahead-malformed, ahead-dead, ahead-alike}
 use Rattle.answer_scan.proofs.Dead.{marked-elsewhere, number-kept, number-dead, long-dead}
 
 -- the position in a malformed answer

@@ -1,16 +1,16 @@
 -- Laws of specs/ReplayCall.antt: which tests a replay passes, and what a run has shown where they pass. No contract cites this file.
 use Prim.Native.Nat.{ℕ, _+_, _*_, _^_, _≤_, _<_}
-use mathlib.Core.Path.{_≡_, refl, sym, _∙_, ap}
+use mathlib.Core.Path.{_≡_, refl, sym, _∙_}
 use mathlib.Core.Bool.{true, false}
-use mathlib.Core.List.{List, _++_}
+use mathlib.Core.List.{List}
 use native.Mathlib.Nat.{mul-le-mul-right}
 use native.Mathlib.Omega.{arith}
 use lib.ListN.{length, take, drop}
 use lib.Seq.{take-append-seam}
 use borrow.Author.Tests.{le-ltb, lt-ltb}
 use Rattle.model.specs.Wrote.{over, Wrote}
-use Rattle.model.specs.Netlist.{Netlist, lastWire}
-use Rattle.refusals.specs.Tests.{refuseIf, _then_}
+use Rattle.model.specs.Netlist.{Netlist}
+use Rattle.refusals.specs.Tests.{_then_}
 use Rattle.refusals.specs.Slices.{testRoom}
 use Rattle.refusals.specs.declared.Refusal.{Refusal}
 use Rattle.refusals.specs.declared.Refusal.the-variants.{NoRoom, NoAnswer, NoViolation}
@@ -117,7 +117,7 @@ module _ (c : Netlist) (y : Said) (k : ℕ) (memory trace : List ℕ) where
       }
 
 -- the lines in front of the buffer that they were written to
-pub lines-front : (c : Netlist) (y : Said) (k : ℕ) (buffer : List ℕ) → take (traceLength c k) (over (traceText c y k) buffer) ≡ traceText c y k
+lines-front : (c : Netlist) (y : Said) (k : ℕ) (buffer : List ℕ) → take (traceLength c k) (over (traceText c y k) buffer) ≡ traceText c y k
 unfolding traceText
 lines-front c y k buffer =
     rw (← length-lines c y (k + 1)) (take-append-seam (traceText c y k) (drop (length (traceText c y k)) buffer))

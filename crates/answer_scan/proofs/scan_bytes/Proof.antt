@@ -1,5 +1,5 @@
 -- `answer_scan::scan_bytes` meets its contract. The loop's invariant: the first i bytes are taken.
-use Prim.Native.Nat.{ℕ, _-_, _≤_}
+use Prim.Native.Nat.{_-_, _≤_}
 use mathlib.Core.Path.{_≡_, refl, sym}
 use mathlib.Core.List.{[], _∷_}
 use native.Mathlib.Numerals.{add-one}

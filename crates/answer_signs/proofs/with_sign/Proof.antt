@@ -1,7 +1,5 @@
 -- `answer_signs::with_sign` meets its contract: each sign has its bit.
 use Prim.Native.Nat.{_%_}
-use mathlib.Core.Path.{_≡_}
-use mathlib.Core.Bool.{true, false}
 use native.Mathlib.Omega.{arith}
 use borrow.Author.Needs.{needs}
 use borrow.Author.Tests.{eq-eqb, ne-eqb, lt-ltb, le-ltb}

@@ -3,7 +3,7 @@ use mathlib.Core.Path.{_≡_, sym, _∙_}
 use mathlib.Core.List.{[], _++_}
 use native.Mathlib.Omega.{arith}
 use borrow.Author.Needs.{needs}
-use lib.ListN.{length, take}
+use lib.ListN.{length}
 use Rattle.answer_scan.specs.Scan.{LineKept}
 use Rattle.replay.specs.SomeText.{BehindSome}
 use Rattle.replay.proofs.scan_file.Statement.{statement}
