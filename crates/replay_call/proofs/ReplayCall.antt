@@ -23,9 +23,9 @@ use Rattle.netlist_tests.proofs.Acceptance.{passes-accepted}
 use Rattle.call_unpacked.specs.Calls.{testDepth}
 use Rattle.call_unpacked.proofs.Calls.{depth-passes, depth-more}
 use Rattle.call_lists.specs.Delivered.{delivered}
+use Rattle.call_lists.proofs.Delivered.{delivered-again}
 use Rattle.replay_frame.specs.Replay.{Said, replayedState, firstViolation, traceText}
 use Rattle.replay_run.specs.Runs.{traceLength, RunFits}
-use Rattle.replay_run.proofs.Runs.{delivered-again}
 use Rattle.replay_run.proofs.Through.{length-lines}
 use Rattle.replay_call.specs.ReplayCall.{replayTests, fedFault, runVerdict, unlessRefused, outcome, wordsLeft, traceAfter, ReplaysValues}
 use Rattle.replay_call.specs.declared.ReplayAnswer.the-variants as answers
