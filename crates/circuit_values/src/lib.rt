@@ -28,9 +28,8 @@ pub fn code_value(values: &WireValues, code: Code) -> bool
     requires { ⌜ code .0 / 2 ≤ 600 ⌝ }
     ensures { λ r. ⌜ r ≡ codeValue (entry (now (values .entry))) (code .0) ⌝ }
 {
-    let x = code.0;
-    let value = values[(x / 2) as usize];
-    if x % 2 == 1 {
+    let value = values[code.wire_index()];
+    if code.is_inverted() {
         return !value;
     }
     value
