@@ -14,7 +14,7 @@ use Rattle.netlist.proofs.WireTable.{below-set}
 use Rattle.circuit_values.specs.WireTable.{GatesHold}
 
 -- the wire at b set to its value
-pub below-next : {b : ℕ} {v : Values} {table : List Bool} → HasBelow b v table → b ≤ 600 → (x : Bool) → x ≡ v b
+below-next : {b : ℕ} {v : Values} {table : List Bool} → HasBelow b v table → b ≤ 600 → (x : Bool) → x ≡ v b
     → HasBelow (b + 1) v (set table b x)
 below-next {b} {table = table} q l x e = below-set table (q .size) b l x e (λ w h away. q .has w (omega arith))
 
