@@ -1,59 +1,58 @@
 -- What a line makes of the lines ahead, from a line that is read in parts. No contract cites this file.
-use Prim.Native.Nat.{ℕ, _+_, _^_, _≤_, _<_}
+use Prim.Native.Nat.{ℕ}
 use mathlib.Core.Path.{_≡_, refl, sym, subst, ap, _∙_}
 use mathlib.Core.Bool.{Bool, true, false, cond, _&&_}
 use mathlib.Core.List.{List, [], _∷_, _++_, append-nil}
-use native.Mathlib.Omega.{arith}
-use lib.IntN.{ℤ, natAbs}
-use lib.ListN.{length, getD, take, drop}
+use lib.IntN.{ℤ}
+use lib.ListN.{drop}
 use Rattle.decimal.specs.Digits.{space}
 use Rattle.decimal.specs.TextValue.{sameText}
 use Rattle.decimal.specs.SignedValue.{clauseNumberIn}
 use Rattle.decimal.specs.declared.ClauseNumber.{ClauseNumber}
 use Rattle.decimal.specs.declared.ClauseNumber.the-variants.{Value, NotANumber}
 use Rattle.text_words.specs.Words.{wordsOf, Without}
-use Rattle.text_words.proofs.Words.{words-first, words-last}
+use Rattle.text_words.proofs.Words.{words-last}
 use Rattle.answer_signs.specs.Signs.{SignsOf}
-use Rattle.answer_lines.specs.Answer.{Answer, malformed, unsatisfiable, satisfiable, isEmpty, isComment, kept, isNumber, valueOf, allNumbers, values, isMarked, isValueLine, lineValues, allValueLines, allValues, isZero, claimed, valuesAnswer, nothingMore, answerOf, satisfiableLine, unsatisfiableLine}
-use Rattle.answer_lines.specs.Progress.{answerFrom, behind, statusIn, progressBy, numberBy, MarkedAll, NumberRead, LineRead}
+use Rattle.answer_lines.specs.Answer.{Answer, malformed, unsatisfiable, satisfiable, isEmpty, isComment, keptLines, numberValue, allClauseNumbers, clauseNumbers, isMarked, isValueLine, lineValues, allValueLines, allValues, isZero, claimed, valuesAnswer, nothingMore, statusAnswer, satisfiableLine, unsatisfiableLine}
+use Rattle.answer_lines.specs.Progress.{answerFrom, afterNumbers, statusIn, progressBy, numberBy, MarkedAll, NumberRead, LineRead}
 use Rattle.answer_lines.specs.declared.Progress.{Progress}
 use Rattle.answer_lines.specs.declared.Progress.the-variants.{NoStatus, Values, Complete, Unsatisfiable, Malformed}
-use Rattle.answer_lines.proofs.Values.{behind-none, claimed-next, claimed-early, claimed-last, claimed-no, values-some}
+use Rattle.answer_lines.proofs.Values.{afterNumbers-none, claimed-next, claimed-early, claimed-last, claimed-no, clauseNumbers-some}
 
 -- a comment and another line
-pub kept-comment : (l : List ℕ) (ls : List (List ℕ)) → isComment l ≡ true → kept (l ∷ ls) ≡ kept ls
-unfolding kept
-kept-comment l ls e = rw e
+pub keptLines-comment : (l : List ℕ) (ls : List (List ℕ)) → isComment l ≡ true → keptLines (l ∷ ls) ≡ keptLines ls
+unfolding keptLines
+keptLines-comment l ls e = rw e
 
-pub kept-other : (l : List ℕ) (ls : List (List ℕ)) → isComment l ≡ false → kept (l ∷ ls) ≡ l ∷ kept ls
-unfolding kept
-kept-other l ls e = rw e
+pub keptLines-other : (l : List ℕ) (ls : List (List ℕ)) → isComment l ≡ false → keptLines (l ∷ ls) ≡ l ∷ keptLines ls
+unfolding keptLines
+keptLines-other l ls e = rw e
 
 -- The line `v` with the words w and ws. By its first word: a number that is not 0 stands before what the others are; a 0 is the last
 -- of all; no number.
 module _ (w : List ℕ) (ws : List (List ℕ)) (ls : List (List ℕ)) where
   -- what the words behind the first, with the lines ahead, make
   abbrev pub others : Answer
-  others = claimed (allNumbers ws && allValueLines ls) (values ws ++ allValues ls)
+  others = claimed (allClauseNumbers ws && allValueLines ls) (clauseNumbers ws ++ allValues ls)
 
   abbrev pub all : Answer
-  all = claimed (allNumbers (w ∷ ws) && allValueLines ls) (values (w ∷ ws) ++ allValues ls)
+  all = claimed (allClauseNumbers (w ∷ ws) && allValueLines ls) (clauseNumbers (w ∷ ws) ++ allValues ls)
 
-  pub word-number : (z : ℤ) → clauseNumberIn w ≡ Value z → isZero z ≡ false → all ≡ behind (z ∷ []) others
-  unfolding allNumbers values
-  word-number z e n = rw e (claimed-next (allNumbers ws && allValueLines ls) z (values ws ++ allValues ls) n)
+  pub word-number : (z : ℤ) → clauseNumberIn w ≡ Value z → isZero z ≡ false → all ≡ afterNumbers (z ∷ []) others
+  unfolding allClauseNumbers clauseNumbers
+  word-number z e n = rw e (claimed-next (allClauseNumbers ws && allValueLines ls) z (clauseNumbers ws ++ allValues ls) n)
 
-  pub word-early : (z : ℤ) → clauseNumberIn w ≡ Value z → isZero z ≡ true → isEmpty (values ws ++ allValues ls) ≡ false → all ≡ malformed
-  unfolding allNumbers values
-  word-early z e n some = rw e (claimed-early (allNumbers ws && allValueLines ls) z (values ws ++ allValues ls) n some)
+  pub word-early : (z : ℤ) → clauseNumberIn w ≡ Value z → isZero z ≡ true → isEmpty (clauseNumbers ws ++ allValues ls) ≡ false → all ≡ malformed
+  unfolding allClauseNumbers clauseNumbers
+  word-early z e n some = rw e (claimed-early (allClauseNumbers ws && allValueLines ls) z (clauseNumbers ws ++ allValues ls) n some)
 
   pub word-none : clauseNumberIn w ≡ NotANumber → all ≡ malformed
-  unfolding allNumbers values
-  word-none e = rw e (claimed-no (valueOf NotANumber ∷ (values ws ++ allValues ls)))
+  unfolding allClauseNumbers clauseNumbers
+  word-none e = rw e (claimed-no (numberValue NotANumber ∷ (clauseNumbers ws ++ allValues ls)))
 
 -- a value line, by its words
 pub value-line : (l : List ℕ) (ws : List (List ℕ)) (ls : List (List ℕ)) → isMarked l ≡ true → wordsOf (drop 2 l) ≡ ws
-    → valuesAnswer (l ∷ ls) ≡ claimed (allNumbers ws && allValueLines ls) (values ws ++ allValues ls)
+    → valuesAnswer (l ∷ ls) ≡ claimed (allClauseNumbers ws && allValueLines ls) (clauseNumbers ws ++ allValues ls)
 unfolding valuesAnswer allValueLines allValues isValueLine lineValues
 value-line l ws ls m e = rw (m, e)
 
@@ -65,28 +64,28 @@ unmarked-line l ls m = rw m (claimed-no (allValues (l ∷ ls)))
 -- a 0 with nothing behind it on its line
 zero-last : (w : List ℕ) (ls : List (List ℕ)) (z : ℤ) → clauseNumberIn w ≡ Value z → isZero z ≡ true
     → all w [] ls ≡ nothingMore (satisfiable []) ls
-zero-last w [] z e n = unfold allNumbers values allValueLines allValues nothingMore in rw e (claimed-last z n)
+zero-last w [] z e n = unfold allClauseNumbers clauseNumbers allValueLines allValues nothingMore in rw e (claimed-last z n)
 zero-last w (l ∷ ls) z e n =
-    word-early w [] (l ∷ ls) z e n (unfold values allValues lineValues in values-some (drop 2 l) (allValues ls)) ∙ unfold nothingMore in refl
+    word-early w [] (l ∷ ls) z e n (unfold clauseNumbers allValues lineValues in clauseNumbers-some (drop 2 l) (allValues ls)) ∙ unfold nothingMore in refl
 
 -- a line with one number
 module _ (l : List ℕ) (ls : List (List ℕ)) (m : isMarked l ≡ true) (one : Without space (drop 2 l)) where
   last-word : valuesAnswer (l ∷ ls) ≡ all (drop 2 l) [] ls
   last-word = value-line l (drop 2 l ∷ []) ls m (words-last (drop 2 l) one)
 
-  pub last-read : (number : ClauseNumber) → clauseNumberIn (drop 2 l) ≡ number
-      → valuesAnswer (l ∷ ls) ≡ behind (numberBy number) (answerFrom (progressBy number) ls)
-  unfolding behind answerFrom valuesAnswer allNumbers values
+  last-read : (number : ClauseNumber) → clauseNumberIn (drop 2 l) ≡ number
+      → valuesAnswer (l ∷ ls) ≡ afterNumbers (numberBy number) (answerFrom (progressBy number) ls)
+  unfolding afterNumbers answerFrom valuesAnswer allClauseNumbers clauseNumbers
   last-read (Value z) e = by-zero (isZero z) refl
     where
-      by-zero : (b : Bool) → isZero z ≡ b → valuesAnswer (l ∷ ls) ≡ behind (cond b [] (z ∷ [])) (answerFrom (cond b Complete Values) ls)
-      by-zero true n = last-word ∙ zero-last (drop 2 l) ls z e n ∙ sym (behind-none (nothingMore (satisfiable []) ls))
+      by-zero : (b : Bool) → isZero z ≡ b → valuesAnswer (l ∷ ls) ≡ afterNumbers (cond b [] (z ∷ [])) (answerFrom (cond b Complete Values) ls)
+      by-zero true n = last-word ∙ zero-last (drop 2 l) ls z e n ∙ sym (afterNumbers-none (nothingMore (satisfiable []) ls))
       by-zero false n = last-word ∙ word-number (drop 2 l) [] ls z e n
   last-read NotANumber e = last-word ∙ word-none (drop 2 l) [] ls e
 
 -- a status line
-pub status-read : (l : List ℕ) (ls : List (List ℕ)) → answerOf (l ∷ ls) ≡ answerFrom (statusIn l) ls
-unfolding answerOf statusIn answerFrom
+status-read : (l : List ℕ) (ls : List (List ℕ)) → statusAnswer (l ∷ ls) ≡ answerFrom (statusIn l) ls
+unfolding statusAnswer statusIn answerFrom
 status-read l ls = by-text (sameText l satisfiableLine) (sameText l unsatisfiableLine)
   where
     by-text : (a b : Bool) → cond a (valuesAnswer ls) (cond b (nothingMore unsatisfiable ls) malformed)
@@ -114,15 +113,15 @@ line-comment {p} {table} l e =
     record {
       numbers = [];
       marked = same-signs table;
-      goes-on = λ ls. ap (answerFrom p) (kept-comment l ls e) ∙ sym (behind-none (answerFrom p (kept ls)));
+      goes-on = λ ls. ap (answerFrom p) (keptLines-comment l ls e) ∙ sym (afterNumbers-none (answerFrom p (keptLines ls)));
     }
 
 module _ (l : List ℕ) (e : isComment l ≡ false) where
   pub line-malformed : {p : Progress} {table : List ℕ} → ((ls : List (List ℕ)) → answerFrom p (l ∷ ls) ≡ malformed)
       → LineRead p l Malformed table table
-  unfolding answerFrom behind
+  unfolding answerFrom afterNumbers
   line-malformed {p} {table} h =
-      record { numbers = []; marked = same-signs table; goes-on = λ ls. ap (answerFrom p) (kept-other l ls e) ∙ h (kept ls) }
+      record { numbers = []; marked = same-signs table; goes-on = λ ls. ap (answerFrom p) (keptLines-other l ls e) ∙ h (keptLines ls) }
 
   pub line-status : {table : List ℕ} → LineRead NoStatus l (statusIn l) table table
   unfolding answerFrom
@@ -130,7 +129,7 @@ module _ (l : List ℕ) (e : isComment l ≡ false) where
       record {
         numbers = [];
         marked = same-signs table;
-        goes-on = λ ls. ap answerOf (kept-other l ls e) ∙ status-read l (kept ls) ∙ sym (behind-none (answerFrom (statusIn l) (kept ls)));
+        goes-on = λ ls. ap statusAnswer (keptLines-other l ls e) ∙ status-read l (keptLines ls) ∙ sym (afterNumbers-none (answerFrom (statusIn l) (keptLines ls)));
       }
 
   pub line-value : {r : Progress} {old new : List ℕ} → isMarked l ≡ true → Without space (drop 2 l)
@@ -140,7 +139,7 @@ module _ (l : List ℕ) (e : isComment l ≡ false) where
       record {
         numbers = numberBy (clauseNumberIn (drop 2 l));
         marked = x .marked;
-        goes-on = λ ls. ap valuesAnswer (kept-other l ls e) ∙ rw (x .progress-is) (last-read l (kept ls) m one (clauseNumberIn (drop 2 l)) refl);
+        goes-on = λ ls. ap valuesAnswer (keptLines-other l ls e) ∙ rw (x .progress-is) (last-read l (keptLines ls) m one (clauseNumberIn (drop 2 l)) refl);
       }
 
 -- a line where none may follow

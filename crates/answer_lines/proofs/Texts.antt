@@ -1,5 +1,5 @@
 -- Texts compared from the left, and what the first bytes of a line say. No contract cites this file.
-use Prim.Native.Nat.{ℕ, suc, _+_, _≤_, _<_}
+use Prim.Native.Nat.{ℕ, _+_, _≤_, _<_}
 use mathlib.Core.Path.{_≡_, refl, sym, ap, _∙_}
 use mathlib.Core.Bool.{Bool, true, false, _&&_}
 use mathlib.Core.List.{List, [], _∷_, _++_}
@@ -8,15 +8,15 @@ use native.Mathlib.Omega.{arith}
 use lib.Dec.{eqb}
 use lib.ListN.{length, getD, take, drop, drop-of-length-le, take-append-drop}
 use lib.Seq.{drop-cons}
-use borrow.Author.Tests.{eq-eqb, eqb-true, ne-eqb}
-use Rattle.model.proofs.Booleans.{not-true-false, and-true}
+use borrow.Author.Tests.{eq-eqb, ne-eqb}
+use Rattle.model.proofs.Booleans.{not-true-false}
 use Rattle.decimal.specs.Digits.{space}
 use Rattle.decimal.specs.TextValue.{sameText}
-use Rattle.decimal.proofs.TextValue.{sameText-true, sameText-refl}
+use Rattle.decimal.proofs.TextValue.{sameText-true}
 use Rattle.answer_lines.specs.Answer.{isComment, commentMark, isMarked, valueMark}
 
 -- texts whose first i bytes are the same
-pub same-next : (a b : List ℕ) (i : ℕ) → i < length a → i < length b
+same-next : (a b : List ℕ) (i : ℕ) → i < length a → i < length b
     → sameText (drop i a) (drop i b) ≡ (eqb (getD a i 0) (getD b i 0) && sameText (drop (i + 1) a) (drop (i + 1) b))
 unfolding sameText
 same-next a b i h k = rw (add-one, drop-cons a i 0 h, drop-cons b i 0 k)

@@ -15,8 +15,8 @@ use Rattle.decimal.specs.declared.ClauseNumber.the-variants.{Value}
 use Rattle.decimal.proofs.Signed.{read-back}
 use Rattle.decimal.proofs.SignedValue.{digits-clauseNumberIn}
 use Rattle.text_words.specs.Words.{wordsOf, partsAfter, restAfter}
-use Rattle.answer_lines.specs.Answer.{Answer, malformed, unsatisfiable, satisfiable, isEmpty, isZero, onlyLastZero, beforeZero, claimed, values}
-use Rattle.answer_lines.specs.Progress.{behind}
+use Rattle.answer_lines.specs.Answer.{Answer, malformed, unsatisfiable, satisfiable, isEmpty, isZero, onlyLastZero, beforeZero, claimed, clauseNumbers}
+use Rattle.answer_lines.specs.Progress.{afterNumbers}
 
 -- a number of a word is 0 where the machine's is
 module _ (s : List ℕ) (z : ℤ) (e : clauseNumberIn s ≡ Value z) where
@@ -32,24 +32,24 @@ word-nonzero (pos (suc x)) n = ne-eqb (suc x) 0 (λ h. omega arith)
 word-nonzero (negsuc x) n = ne-eqb (suc x) 0 (λ h. omega arith)
 
 -- an answer behind none is itself, and numbers stand one behind the other
-pub behind-none : (a : Answer) → behind [] a ≡ a
-unfolding behind
-behind-none malformed = refl
-behind-none unsatisfiable = refl
-behind-none (satisfiable ys) = refl
+pub afterNumbers-none : (a : Answer) → afterNumbers [] a ≡ a
+unfolding afterNumbers
+afterNumbers-none malformed = refl
+afterNumbers-none unsatisfiable = refl
+afterNumbers-none (satisfiable ys) = refl
 
-pub behind-append : (xs ys : List ℤ) (a : Answer) → behind (xs ++ ys) a ≡ behind xs (behind ys a)
-unfolding behind
-behind-append xs ys malformed = refl
-behind-append xs ys unsatisfiable = refl
-behind-append xs ys (satisfiable zs) = ap satisfiable (append-assoc xs ys zs)
+pub afterNumbers-append : (xs ys : List ℤ) (a : Answer) → afterNumbers (xs ++ ys) a ≡ afterNumbers xs (afterNumbers ys a)
+unfolding afterNumbers
+afterNumbers-append xs ys malformed = refl
+afterNumbers-append xs ys unsatisfiable = refl
+afterNumbers-append xs ys (satisfiable zs) = ap satisfiable (append-assoc xs ys zs)
 
 -- a number that is not 0
-pub claimed-next : (b : Bool) (z : ℤ) (zs : List ℤ) → isZero z ≡ false → claimed b (z ∷ zs) ≡ behind (z ∷ []) (claimed b zs)
-unfolding claimed behind onlyLastZero beforeZero
+pub claimed-next : (b : Bool) (z : ℤ) (zs : List ℤ) → isZero z ≡ false → claimed b (z ∷ zs) ≡ afterNumbers (z ∷ []) (claimed b zs)
+unfolding claimed afterNumbers onlyLastZero beforeZero
 claimed-next b z zs e = rw (e) (by-rest (b && onlyLastZero zs))
   where
-    by-rest : (b : Bool) → cond b (satisfiable (z ∷ beforeZero zs)) malformed ≡ behind (z ∷ []) (cond b (satisfiable (beforeZero zs)) malformed)
+    by-rest : (b : Bool) → cond b (satisfiable (z ∷ beforeZero zs)) malformed ≡ afterNumbers (z ∷ []) (cond b (satisfiable (beforeZero zs)) malformed)
     by-rest true = refl
     by-rest false = refl
 
@@ -69,10 +69,10 @@ unfolding claimed
 claimed-no zs = refl
 
 -- a line has one word or more
-pub values-some : (s : List ℕ) (zs : List ℤ) → isEmpty (values (wordsOf s) ++ zs) ≡ false
+pub clauseNumbers-some : (s : List ℕ) (zs : List ℤ) → isEmpty (clauseNumbers (wordsOf s) ++ zs) ≡ false
 unfolding wordsOf
-values-some s zs = by-parts (partsAfter space [] s) (restAfter space [] s)
+clauseNumbers-some s zs = by-parts (partsAfter space [] s) (restAfter space [] s)
   where
-    by-parts : (ws : List (List ℕ)) (w : List ℕ) → isEmpty (values (ws ++ w ∷ []) ++ zs) ≡ false
-    by-parts [] w = unfold values in refl
-    by-parts (x ∷ ws) w = unfold values in refl
+    by-parts : (ws : List (List ℕ)) (w : List ℕ) → isEmpty (clauseNumbers (ws ++ w ∷ []) ++ zs) ≡ false
+    by-parts [] w = unfold clauseNumbers in refl
+    by-parts (x ∷ ws) w = unfold clauseNumbers in refl

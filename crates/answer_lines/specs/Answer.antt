@@ -43,36 +43,36 @@ abbrev pub isComment : List ℕ → Bool
 isComment [] = false
 isComment (x ∷ l) = eqb x commentMark
 
-unfoldable pub kept : List (List ℕ) → List (List ℕ)
-kept [] = []
-kept (l ∷ ls) = cond (isComment l) (kept ls) (l ∷ kept ls)
+unfoldable pub keptLines : List (List ℕ) → List (List ℕ)
+keptLines [] = []
+keptLines (l ∷ ls) = cond (isComment l) (keptLines ls) (l ∷ keptLines ls)
 
 -- whether all words are numbers, and which
-abbrev pub isNumber : ClauseNumber → Bool
-isNumber (Value z) = true
-isNumber NotANumber = false
+abbrev pub isClauseNumber : ClauseNumber → Bool
+isClauseNumber (Value z) = true
+isClauseNumber NotANumber = false
 
-abbrev pub valueOf : ClauseNumber → ℤ
-valueOf (Value z) = z
-valueOf NotANumber = pos 0
+abbrev pub numberValue : ClauseNumber → ℤ
+numberValue (Value z) = z
+numberValue NotANumber = pos 0
 
-unfoldable pub allNumbers : List (List ℕ) → Bool
-allNumbers [] = true
-allNumbers (w ∷ ws) = isNumber (clauseNumberIn w) && allNumbers ws
+unfoldable pub allClauseNumbers : List (List ℕ) → Bool
+allClauseNumbers [] = true
+allClauseNumbers (w ∷ ws) = isClauseNumber (clauseNumberIn w) && allClauseNumbers ws
 
-unfoldable pub values : List (List ℕ) → List ℤ
-values [] = []
-values (w ∷ ws) = valueOf (clauseNumberIn w) ∷ values ws
+unfoldable pub clauseNumbers : List (List ℕ) → List ℤ
+clauseNumbers [] = []
+clauseNumbers (w ∷ ws) = numberValue (clauseNumberIn w) ∷ clauseNumbers ws
 
 -- RULES Q4: "the letter `v` and one or more numbers, a single space before each"; an empty word is no number
 abbrev pub isMarked : List ℕ → Bool
 isMarked l = sameText (take 2 l) valueMark
 
 unfoldable pub isValueLine : List ℕ → Bool
-isValueLine l = isMarked l && allNumbers (wordsOf (drop 2 l))
+isValueLine l = isMarked l && allClauseNumbers (wordsOf (drop 2 l))
 
 unfoldable pub lineValues : List ℕ → List ℤ
-lineValues l = values (wordsOf (drop 2 l))
+lineValues l = clauseNumbers (wordsOf (drop 2 l))
 
 unfoldable pub allValueLines : List (List ℕ) → Bool
 allValueLines [] = true
@@ -106,15 +106,15 @@ unfoldable pub nothingMore : Answer → List (List ℕ) → Answer
 nothingMore a ls = cond (isEmpty ls) a malformed
 
 -- RULES Q3: "The first is the status line"
-unfoldable pub answerOf : List (List ℕ) → Answer
-answerOf [] = malformed
-answerOf (l ∷ ls) =
+unfoldable pub statusAnswer : List (List ℕ) → Answer
+statusAnswer [] = malformed
+statusAnswer (l ∷ ls) =
     cond (sameText l satisfiableLine) (valuesAnswer ls)
     (cond (sameText l unsatisfiableLine) (nothingMore unsatisfiable ls) malformed)
 
 -- RULES Q7: "one that does not end in a line feed"
 unfoldable pub answerIn : List ℕ → Answer
-answerIn s = cond (isEmpty (restAfter lineFeed [] s)) (answerOf (kept (linesOf s))) malformed
+answerIn s = cond (isEmpty (restAfter lineFeed [] s)) (statusAnswer (keptLines (linesOf s))) malformed
 
 -- the answer without its numbers
 abbrev pub kindOf : Answer → AnswerKind

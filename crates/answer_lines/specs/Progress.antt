@@ -12,23 +12,23 @@ use Rattle.decimal.specs.declared.ClauseNumber.{ClauseNumber}
 use Rattle.decimal.specs.declared.ClauseNumber.the-variants.{Value, NotANumber}
 use Rattle.text_words.specs.Words.{Without}
 use Rattle.answer_signs.specs.Signs.{SignsOf}
-use Rattle.answer_lines.specs.Answer.{Answer, malformed, unsatisfiable, satisfiable, satisfiableLine, unsatisfiableLine, isMarked, isZero, valuesAnswer, nothingMore, answerOf, kept}
+use Rattle.answer_lines.specs.Answer.{Answer, malformed, unsatisfiable, satisfiable, satisfiableLine, unsatisfiableLine, isMarked, isZero, valuesAnswer, nothingMore, statusAnswer, keptLines}
 use Rattle.answer_lines.specs.declared.Progress.{Progress}
 use Rattle.answer_lines.specs.declared.Progress.the-variants.{NoStatus, Values, Complete, Unsatisfiable, Malformed}
 
 -- the answer of the lines ahead, comments left out
 unfoldable pub answerFrom : Progress → List (List ℕ) → Answer
-answerFrom NoStatus ls = answerOf ls
+answerFrom NoStatus ls = statusAnswer ls
 answerFrom Values ls = valuesAnswer ls
 answerFrom Complete ls = nothingMore (satisfiable []) ls
 answerFrom Unsatisfiable ls = nothingMore unsatisfiable ls
 answerFrom Malformed ls = malformed
 
 -- an answer behind numbers that were read before
-unfoldable pub behind : List ℤ → Answer → Answer
-behind ys malformed = malformed
-behind ys unsatisfiable = unsatisfiable
-behind ys (satisfiable zs) = satisfiable (ys ++ zs)
+unfoldable pub afterNumbers : List ℤ → Answer → Answer
+afterNumbers ys malformed = malformed
+afterNumbers ys unsatisfiable = unsatisfiable
+afterNumbers ys (satisfiable zs) = satisfiable (ys ++ zs)
 
 -- what the status line makes of an answer
 unfoldable pub statusIn : List ℕ → Progress
@@ -60,4 +60,4 @@ OneNumber l = isMarked l ≡ true → Without space (drop 2 l)
 pub record LineRead (p : Progress) (l : List ℕ) (r : Progress) (old new : List ℕ) : Type 0 where
   pub numbers : List ℤ
   pub marked : MarkedAll numbers old new
-  pub goes-on : (ls : List (List ℕ)) → answerFrom p (kept (l ∷ ls)) ≡ behind numbers (answerFrom r (kept ls))
+  pub goes-on : (ls : List (List ℕ)) → answerFrom p (keptLines (l ∷ ls)) ≡ afterNumbers numbers (answerFrom r (keptLines ls))

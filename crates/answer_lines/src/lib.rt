@@ -2,7 +2,6 @@
 use answer_signs::SignTable;
 use decimal::ClauseNumber;
 ghost use mathlib.Core.Path.{_≡_};
-ghost use lib.ListN.{length};
 ghost use Rattle.decimal.specs.TextValue.{sameText};
 ghost use Rattle.decimal.specs.SignedValue.{clauseNumberIn};
 ghost use Rattle.answer_lines.specs.Answer.{isComment, isMarked};

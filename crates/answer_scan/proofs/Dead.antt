@@ -1,15 +1,14 @@
 -- A value line that is begun: a number that a space ends, and lines that make the answer malformed however they go on. No contract cites
 -- this file.
-use Prim.Native.Nat.{ℕ, _+_, _^_, _≤_, _<_}
+use Prim.Native.Nat.{ℕ, _≤_}
 use mathlib.Core.Path.{_≡_, refl, sym, ap, _∙_}
 use mathlib.Core.Bool.{Bool, true, false, cond, true≢false, false≢true}
 use mathlib.Core.List.{List, [], _∷_, _++_, append-assoc, append-nil}
 use native.Mathlib.Omega.{arith}
 use lib.Dec.{eqb}
-use lib.IntN.{ℤ, natAbs}
-use lib.ListN.{length, take, drop, length-append, length-drop}
+use lib.ListN.{length, drop, length-append, length-drop}
 use lib.Seq.{take-append-le}
-use Rattle.decimal.specs.Digits.{space, signedDigits}
+use Rattle.decimal.specs.Digits.{space}
 use Rattle.decimal.specs.TextValue.{sameText}
 use Rattle.decimal.specs.SignedValue.{clauseNumberIn}
 use Rattle.decimal.specs.declared.ClauseNumber.{ClauseNumber}
@@ -19,23 +18,23 @@ use Rattle.decimal.proofs.SignedValue.{clauseNumberIn-other}
 use Rattle.literals.proofs.Literal.{fits}
 use Rattle.text_words.specs.Words.{partsAfter, restAfter, wordsOf, Without}
 use Rattle.text_words.proofs.Words.{words-first, parts-append, rest-append, parts-none, rest-all}
-use Rattle.answer_lines.specs.Answer.{Answer, malformed, unsatisfiable, satisfiable, isEmpty, isComment, kept, isMarked, isZero, valueMark, valuesAnswer, answerOf, satisfiableLine, unsatisfiableLine}
-use Rattle.answer_lines.specs.Progress.{answerFrom, behind, progressBy, numberBy, OneNumber}
+use Rattle.answer_lines.specs.Answer.{malformed, unsatisfiable, satisfiable, isComment, keptLines, isMarked, isZero, valuesAnswer, statusAnswer, satisfiableLine, unsatisfiableLine}
+use Rattle.answer_lines.specs.Progress.{answerFrom, afterNumbers, progressBy, numberBy, OneNumber}
 use Rattle.answer_lines.specs.declared.Progress.{Progress}
 use Rattle.answer_lines.specs.declared.Progress.the-variants.{NoStatus, Values, Complete, Unsatisfiable, Malformed}
 use Rattle.answer_scan.specs.Scan.{isValues}
 use Rattle.answer_lines.proofs.Texts.{same-lengths, marked-line}
-use Rattle.answer_lines.proofs.Values.{values-some}
-use Rattle.answer_lines.proofs.Lines.{kept-other, all, word-number, word-early, word-none, value-line, unmarked-line, line-too-many}
+use Rattle.answer_lines.proofs.Values.{clauseNumbers-some}
+use Rattle.answer_lines.proofs.Lines.{keptLines-other, all, word-number, word-early, word-none, value-line, unmarked-line, line-too-many}
 
 -- a line with the mark, where no value line may stand
 pub marked-elsewhere : (p : Progress) (w : List ℕ) → isValues p ≡ false → (r : List ℕ) (ls : List (List ℕ))
-    → answerFrom p (kept ((((118 ∷ w) ++ r)) ∷ ls)) ≡ malformed
-unfolding answerFrom kept answerOf sameText
+    → answerFrom p (keptLines ((((118 ∷ w) ++ r)) ∷ ls)) ≡ malformed
+unfolding answerFrom keptLines statusAnswer sameText
 marked-elsewhere NoStatus w n r ls = refl
 marked-elsewhere Values w n r ls = absurd (true≢false n)
-marked-elsewhere Complete w n r ls = line-too-many (satisfiable []) (118 ∷ (w ++ r)) (kept ls)
-marked-elsewhere Unsatisfiable w n r ls = line-too-many unsatisfiable (118 ∷ (w ++ r)) (kept ls)
+marked-elsewhere Complete w n r ls = line-too-many (satisfiable []) (118 ∷ (w ++ r)) (keptLines ls)
+marked-elsewhere Unsatisfiable w n r ls = line-too-many unsatisfiable (118 ∷ (w ++ r)) (keptLines ls)
 marked-elsewhere Malformed w n r ls = refl
 
 -- The line `v w r`: a number that is not 0 stands before what the rest of the line is, and any other word makes the answer malformed.
@@ -47,22 +46,22 @@ module _ (w r : List ℕ) (ls : List (List ℕ)) (one : Without space w) where
   by-words = value-line line (w ∷ wordsOf r) ls (unfold sameText in refl) (words-first w r one)
 
   pub number-kept : (number : ClauseNumber) → clauseNumberIn w ≡ number → isValues (progressBy number) ≡ true
-      → valuesAnswer (line ∷ ls) ≡ behind (numberBy number) (valuesAnswer ((118 ∷ space ∷ r) ∷ ls))
+      → valuesAnswer (line ∷ ls) ≡ afterNumbers (numberBy number) (valuesAnswer ((118 ∷ space ∷ r) ∷ ls))
   number-kept (Value z) e v = by-zero (isZero z) refl v
     where
       by-zero : (b : Bool) → isZero z ≡ b → isValues (cond b Complete Values) ≡ true
-          → valuesAnswer (line ∷ ls) ≡ behind (cond b [] (z ∷ [])) (valuesAnswer ((118 ∷ space ∷ r) ∷ ls))
+          → valuesAnswer (line ∷ ls) ≡ afterNumbers (cond b [] (z ∷ [])) (valuesAnswer ((118 ∷ space ∷ r) ∷ ls))
       by-zero true n v = absurd (false≢true v)
       by-zero false n v =
           by-words ∙ word-number w (wordsOf r) ls z e n
-          ∙ ap (behind (z ∷ [])) (sym (value-line (118 ∷ space ∷ r) (wordsOf r) ls (unfold sameText in refl) refl))
+          ∙ ap (afterNumbers (z ∷ [])) (sym (value-line (118 ∷ space ∷ r) (wordsOf r) ls (unfold sameText in refl) refl))
   number-kept NotANumber e v = absurd (false≢true v)
 
   pub number-dead : (number : ClauseNumber) → clauseNumberIn w ≡ number → isValues (progressBy number) ≡ false → valuesAnswer (line ∷ ls) ≡ malformed
   number-dead (Value z) e v = by-zero (isZero z) refl v
     where
       by-zero : (b : Bool) → isZero z ≡ b → isValues (cond b Complete Values) ≡ false → valuesAnswer (line ∷ ls) ≡ malformed
-      by-zero true n v = by-words ∙ word-early w (wordsOf r) ls z e n (values-some r _)
+      by-zero true n v = by-words ∙ word-early w (wordsOf r) ls z e n (clauseNumbers-some r _)
       by-zero false n v = absurd (true≢false v)
   number-dead NotANumber e v = by-words ∙ word-none w (wordsOf r) ls e
 
@@ -109,8 +108,8 @@ module _ (begun : List ℕ) (long : 16 ≤ length begun) (other : isComment begu
       at [] l e = absurd (omega arith)
       at (x ∷ begun) l e = e
 
-  long-status : (r : List ℕ) (ls : List (List ℕ)) → answerOf ((begun ++ r) ∷ ls) ≡ malformed
-  unfolding answerOf
+  long-status : (r : List ℕ) (ls : List (List ℕ)) → statusAnswer ((begun ++ r) ∷ ls) ≡ malformed
+  unfolding statusAnswer
   long-status r ls =
       rw (
         same-lengths (begun ++ r) satisfiableLine (λ e. omega (arith, sym (length-append begun r) ∙ e)),
@@ -128,12 +127,12 @@ module _ (begun : List ℕ) (long : 16 ≤ length begun) (other : isComment begu
           ∙ word-none (w ++ first-after w r .more) (first-after w r .others) ls (long-word w (first-after w r .more) (rw length-drop (omega arith)))
       by-mark false m = unmarked-line (begun ++ r) ls (rw (take-append-le 2 begun r (omega arith)) m)
 
-  pub long-dead : (p : Progress) (r : List ℕ) (ls : List (List ℕ)) → answerFrom p (kept ((begun ++ r) ∷ ls)) ≡ malformed
-  long-dead p r ls = ap (answerFrom p) (kept-other (begun ++ r) ls (goes-on-other r)) ∙ unfold answerFrom in by-progress p
+  pub long-dead : (p : Progress) (r : List ℕ) (ls : List (List ℕ)) → answerFrom p (keptLines ((begun ++ r) ∷ ls)) ≡ malformed
+  long-dead p r ls = ap (answerFrom p) (keptLines-other (begun ++ r) ls (goes-on-other r)) ∙ unfold answerFrom in by-progress p
     where
-      by-progress : (p : Progress) → answerFrom p ((begun ++ r) ∷ kept ls) ≡ malformed
-      by-progress NoStatus = unfold answerFrom in long-status r (kept ls)
-      by-progress Values = unfold answerFrom in long-values r (kept ls)
-      by-progress Complete = unfold answerFrom in line-too-many (satisfiable []) (begun ++ r) (kept ls)
-      by-progress Unsatisfiable = unfold answerFrom in line-too-many unsatisfiable (begun ++ r) (kept ls)
+      by-progress : (p : Progress) → answerFrom p ((begun ++ r) ∷ keptLines ls) ≡ malformed
+      by-progress NoStatus = unfold answerFrom in long-status r (keptLines ls)
+      by-progress Values = unfold answerFrom in long-values r (keptLines ls)
+      by-progress Complete = unfold answerFrom in line-too-many (satisfiable []) (begun ++ r) (keptLines ls)
+      by-progress Unsatisfiable = unfold answerFrom in line-too-many unsatisfiable (begun ++ r) (keptLines ls)
       by-progress Malformed = unfold answerFrom in refl

@@ -1,5 +1,5 @@
 -- What each byte does to a scan: a number ended, a byte added to the line, a line ended, a comment gone on with. No contract cites this file.
-use Prim.Native.Nat.{ℕ, suc, _+_, _≤_, _<_}
+use Prim.Native.Nat.{ℕ, _+_, _≤_, _<_}
 use mathlib.Core.Path.{_≡_, refl, sym, subst, ap, _∙_}
 use mathlib.Core.Bool.{Bool, true, false, true≢false, false≢true}
 use mathlib.Core.List.{List, [], _∷_, _++_, append-assoc}
@@ -7,22 +7,22 @@ use native.Mathlib.Numerals.{add-one}
 use native.Mathlib.Omega.{arith}
 use lib.Dec.{ltb}
 use lib.IntN.{ℤ}
-use lib.ListN.{length, getD, take, drop, set, length-append, length-drop, length-set, List·getD-append}
+use lib.ListN.{length, take, drop, set, length-append, length-drop, length-set, List·getD-append}
 use lib.Seq.{take-append-le, drop-append-le, getD-append-seam, length-take-le, take-suc-set, take-take}
 use borrow.Author.Tests.{ltb-true, ltb-false}
 use Rattle.decimal.specs.Digits.{space, lineFeed}
 use Rattle.decimal.specs.SignedValue.{clauseNumberIn}
 use Rattle.text_words.specs.Words.{Without}
-use Rattle.answer_lines.specs.Answer.{malformed, isEmpty, isComment, isMarked, kept, valuesAnswer}
-use Rattle.answer_lines.specs.Progress.{answerFrom, behind, numberBy, MarkedAll, NumberRead, LineRead, OneNumber}
+use Rattle.answer_lines.specs.Answer.{malformed, isEmpty, isMarked, keptLines, valuesAnswer}
+use Rattle.answer_lines.specs.Progress.{answerFrom, afterNumbers, numberBy, MarkedAll, NumberRead, LineRead, OneNumber}
 use Rattle.answer_lines.specs.declared.Progress.{Progress}
 use Rattle.answer_lines.specs.declared.Progress.the-variants.{NoStatus, Values, Complete, Unsatisfiable, Malformed}
 use Rattle.answer_lines.proofs.Texts.{marked-line, marked-length}
-use Rattle.answer_lines.proofs.Values.{behind-none}
+use Rattle.answer_lines.proofs.Values.{afterNumbers-none}
 use Rattle.answer_lines.proofs.Lines.{same-signs}
-use Rattle.answer_scan.specs.Scan.{answerAhead, isValues, lineBegun, Holds, Taken, Passed, NumberEnded, Addable}
+use Rattle.answer_scan.specs.Scan.{answerAhead, isValues, lineBegun, LineKept, Taken, SameAhead, NumberEnded, Addable}
 use Rattle.answer_scan.specs.declared.Position.{Position}
-use Rattle.answer_scan.proofs.Ahead.{ahead-next, ahead-line, ahead-malformed, ahead-dead, ahead-alike, ahead-comment}
+use Rattle.answer_scan.proofs.Ahead.{ahead-next, ahead-line, ahead-malformed, ahead-dead, ahead-alike}
 use Rattle.answer_scan.proofs.Dead.{marked-elsewhere, number-kept, number-dead, long-dead}
 
 -- the position in a malformed answer
@@ -35,7 +35,7 @@ module _ (w : List ℕ) where
   begun = 118 ∷ space ∷ w
 
   ended-malformed : (p : Progress) (zs : List ℤ) {old new : List ℕ} → MarkedAll zs old new
-      → ((r : List ℕ) (ls : List (List ℕ)) → answerFrom p (kept (((begun ++ space ∷ []) ++ r) ∷ ls)) ≡ malformed)
+      → ((r : List ℕ) (ls : List (List ℕ)) → answerFrom p (keptLines (((begun ++ space ∷ []) ++ r) ∷ ls)) ≡ malformed)
       → NumberEnded p begun stopped old new
   ended-malformed p zs m dead =
       record {
@@ -47,7 +47,7 @@ module _ (w : List ℕ) where
               goes-on =
                   λ t.
                   ahead-next p begun space t (λ e. omega arith) ∙ ahead-dead p (begun ++ space ∷ []) t refl dead
-                  ∙ unfold behind in sym (ap (behind zs) (ahead-malformed [] t));
+                  ∙ unfold afterNumbers in sym (ap (afterNumbers zs) (ahead-malformed [] t));
             };
       }
 
@@ -57,14 +57,14 @@ module _ (w : List ℕ) where
   module _ (one : Without space w) {q : Progress} {old new : List ℕ} (x : NumberRead (clauseNumberIn w) q old new) where
     -- the line as `number-kept` and `number-dead` have it
     whole : (r : List ℕ) (ls : List (List ℕ))
-        → answerFrom Values (kept (((begun ++ space ∷ []) ++ r) ∷ ls)) ≡ valuesAnswer ((118 ∷ space ∷ (w ++ space ∷ r)) ∷ kept ls)
-    unfolding answerFrom kept
-    whole r ls = ap (λ (l : List ℕ). valuesAnswer ((118 ∷ space ∷ l) ∷ kept ls)) (append-assoc w (space ∷ []) r)
+        → answerFrom Values (keptLines (((begun ++ space ∷ []) ++ r) ∷ ls)) ≡ valuesAnswer ((118 ∷ space ∷ (w ++ space ∷ r)) ∷ keptLines ls)
+    unfolding answerFrom keptLines
+    whole r ls = ap (λ (l : List ℕ). valuesAnswer ((118 ∷ space ∷ l) ∷ keptLines ls)) (append-assoc w (space ∷ []) r)
 
     dead : isValues q ≡ false → NumberEnded Values begun stopped old new
     dead v =
         ended-malformed Values (numberBy (clauseNumberIn w)) (x .marked)
-        (λ r ls. whole r ls ∙ number-dead w r (kept ls) one (clauseNumberIn w) refl (rw (x .progress-is) at v))
+        (λ r ls. whole r ls ∙ number-dead w r (keptLines ls) one (clauseNumberIn w) refl (rw (x .progress-is) at v))
 
     keeps : isValues q ≡ true → NumberEnded Values begun (record { progress = Values; count = 2 }) old new
     keeps v =
@@ -79,8 +79,8 @@ module _ (w : List ℕ) where
                     ahead-next Values begun space t (λ e. omega arith)
                     ∙ ahead-alike Values Values (numberBy (clauseNumberIn w)) (begun ++ space ∷ []) (118 ∷ space ∷ []) t refl refl
                     (λ r ls.
-                    whole r ls ∙ number-kept w r (kept ls) one (clauseNumberIn w) refl (rw (x .progress-is) at v)
-                    ∙ unfold answerFrom kept in refl);
+                    whole r ls ∙ number-kept w r (keptLines ls) one (clauseNumberIn w) refl (rw (x .progress-is) at v)
+                    ∙ unfold answerFrom keptLines in refl);
               };
         }
 
@@ -103,7 +103,7 @@ module _ (l : List ℕ) (m : isMarked l ≡ true) where
 pub one-short : (l : List ℕ) → length l ≤ 2 → OneNumber l
 one-short l h m i k e = omega (arith, rw length-drop at k)
 
-pub holds-short : {at : Position} {line : List ℕ} (r : Position) → Holds at line → r .count ≤ 2 → Holds r line
+pub holds-short : {at : Position} {line : List ℕ} (r : Position) → LineKept at line → r .count ≤ 2 → LineKept r line
 holds-short {at} {line} r h s =
     record {
       full = h .full;
@@ -132,12 +132,12 @@ one-more l x one n m = by-length (ltb (length l) 2) refl
         rw (drop-append-le 2 l (x ∷ []) long)
         (without-next (drop 2 l) (one marked) (λ e. true≢false (sym marked ∙ n e)))
 
-module _ (at : Position) (line : List ℕ) (byte : ℕ) (h : Holds at line) (a : Addable (lineBegun at line) byte) where
+module _ (at : Position) (line : List ℕ) (byte : ℕ) (h : LineKept at line) (a : Addable (lineBegun at line) byte) where
   -- room for it
   added : at .count < 16 → take (at .count + 1) (set line (at .count) byte) ≡ lineBegun at line ++ byte ∷ []
   added l = rw add-one (take-suc-set line (at .count) byte (omega (arith, h .full)))
 
-  pub byte-holds : at .count < 16 → Holds (record { progress = at .progress; count = at .count + 1 }) (set line (at .count) byte)
+  pub byte-holds : at .count < 16 → LineKept (record { progress = at .progress; count = at .count + 1 }) (set line (at .count) byte)
   byte-holds l =
       record {
         full = simp length-set (h .full);
@@ -146,11 +146,11 @@ module _ (at : Position) (line : List ℕ) (byte : ℕ) (h : Holds at line) (a :
       }
 
   pub byte-added : at .count < 16
-      → Passed (at .progress) (lineBegun at line) (byte ∷ []) (at .progress) (take (at .count + 1) (set line (at .count) byte))
+      → SameAhead (at .progress) (lineBegun at line) (byte ∷ []) (at .progress) (take (at .count + 1) (set line (at .count) byte))
   byte-added l t = rw (added l) (ahead-next (at .progress) (lineBegun at line) byte t (a .no-line-feed))
 
   -- none
-  pub byte-too-many : 16 ≤ at .count → Passed (at .progress) (lineBegun at line) (byte ∷ []) Malformed []
+  pub byte-too-many : 16 ≤ at .count → SameAhead (at .progress) (lineBegun at line) (byte ∷ []) Malformed []
   byte-too-many l t =
       let long : 16 ≤ length (lineBegun at line) = omega (arith, length-take-le (at .count) line (omega (arith, h .full, h .within))) in
       ahead-dead (at .progress) (lineBegun at line) (byte ∷ t) (some (lineBegun at line) long)
@@ -161,16 +161,16 @@ module _ (at : Position) (line : List ℕ) (byte : ℕ) (h : Holds at line) (a :
       some (x ∷ l) h = refl
 
 -- nothing taken is nothing marked
-pub passed-taken : {p q : Progress} {begun s next table : List ℕ} → Passed p begun s q next → Taken p begun s q next table table
+pub passed-taken : {p q : Progress} {begun s next table : List ℕ} → SameAhead p begun s q next → Taken p begun s q next table table
 passed-taken {q = q} {next = next} {table = table} x =
-    record { numbers = []; marked = same-signs table; goes-on = λ t. x t ∙ sym (behind-none (answerAhead q next t)) }
+    record { numbers = []; marked = same-signs table; goes-on = λ t. x t ∙ sym (afterNumbers-none (answerAhead q next t)) }
 
 -- a line feed, and a byte of a comment
 pub line-taken : {p q : Progress} {begun old new : List ℕ} → LineRead p begun q old new → Taken p begun (lineFeed ∷ []) q [] old new
 line-taken x = record { numbers = x .numbers; marked = x .marked; goes-on = ahead-line x }
 
 -- what is kept of a line behind a number
-pub number-taken : {p : Progress} {at r : Position} {line old new : List ℕ} → Holds at line → isMarked (lineBegun at line) ≡ true
+pub number-taken : {p : Progress} {at r : Position} {line old new : List ℕ} → LineKept at line → isMarked (lineBegun at line) ≡ true
     → NumberEnded p (lineBegun at line) r old new → Taken p (lineBegun at line) (space ∷ []) (r .progress) (lineBegun r line) old new
 number-taken {p} {at} {r} {line} {old} {new} h m x =
     let kept : 2 ≤ length (take (at .count) line) = marked-length (take (at .count) line) m in

@@ -1,2 +1,3 @@
 -- An answer that is read in pieces. Nothing here imports a law or a proof.
+pub mod AnswerRead
 pub mod Scan

@@ -9,7 +9,7 @@ ghost use mathlib.Core.List.{[], _∷_};
 ghost use Rattle.answer_lines.specs.Answer.{isMarked};
 ghost use Rattle.answer_lines.specs.Written.{AnswerAsWritten};
 ghost use Rattle.answer_lines.specs.Progress.{OneNumber};
-ghost use Rattle.answer_scan.specs.Scan.{lineBegun, isValues, Holds, Passed, Taken, NumberEnded, Addable, Starts, Reads, Ends};
+ghost use Rattle.answer_scan.specs.Scan.{lineBegun, isValues, LineKept, SameAhead, Taken, NumberEnded, Addable, Starts, Reads, Ends};
 
 // How far the answer is read: by whole lines, and how many bytes are kept of the line that is begun.
 pub struct Position {
@@ -25,7 +25,7 @@ pub struct Scan {
 
 // A scan of no text yet.
 pub fn scan_start() -> Scan
-    ensures holds { λ r. ⌜ Holds (r .position) (r .line) ⌝ }
+    ensures holds { λ r. ⌜ LineKept (r .position) (r .line) ⌝ }
     ensures behind { λ r. ⌜ Starts r ⌝ }
 {
     let position = Position {
@@ -77,9 +77,9 @@ fn end_number(signs: &mut SignTable, progress: Progress, begun: &[u8]) -> Positi
 
 // Reads a byte that ends nothing and stands in no comment.
 fn put_byte(line: &mut [u8], at: Position, byte: u8) -> Position
-    requires { ⌜ Holds at (now line) × Addable (lineBegun at (now line)) byte ⌝ }
-    ensures holds { λ r. ⌜ Holds r (now (line .exit)) ⌝ }
-    ensures passed { λ r. ⌜ Passed (at .progress) (lineBegun at (now (line .entry))) (byte ∷ []) (r .progress) (lineBegun r (now (line .exit))) ⌝ }
+    requires { ⌜ LineKept at (now line) × Addable (lineBegun at (now line)) byte ⌝ }
+    ensures holds { λ r. ⌜ LineKept r (now (line .exit)) ⌝ }
+    ensures passed { λ r. ⌜ SameAhead (at .progress) (lineBegun at (now (line .entry))) (byte ∷ []) (r .progress) (lineBegun r (now (line .exit))) ⌝ }
 {
     let count = at.count;
     if count < 16 {
@@ -98,8 +98,8 @@ fn put_byte(line: &mut [u8], at: Position, byte: u8) -> Position
 
 // Reads one byte.
 fn scan_byte(signs: &mut SignTable, line: &mut [u8], at: Position, byte: u8) -> Position
-    requires { ⌜ Holds at (now line) ⌝ }
-    ensures holds { λ r. ⌜ Holds r (now (line .exit)) ⌝ }
+    requires { ⌜ LineKept at (now line) ⌝ }
+    ensures holds { λ r. ⌜ LineKept r (now (line .exit)) ⌝ }
     ensures taken { λ r. ⌜ Taken (at .progress) (lineBegun at (now (line .entry))) (byte ∷ []) (r .progress) (lineBegun r (now (line .exit))) (now (signs .entry)) (now (signs .exit)) ⌝ }
 {
     let progress = at.progress;
@@ -125,8 +125,8 @@ fn scan_byte(signs: &mut SignTable, line: &mut [u8], at: Position, byte: u8) -> 
 
 // Reads one piece more of an answer.
 pub fn scan_bytes(scan: Scan, signs: &mut SignTable, piece: &[u8]) -> Scan
-    requires { ⌜ Holds (scan .position) (scan .line) ⌝ }
-    ensures holds { λ r. ⌜ Holds (r .position) (r .line) ⌝ }
+    requires { ⌜ LineKept (scan .position) (scan .line) ⌝ }
+    ensures holds { λ r. ⌜ LineKept (r .position) (r .line) ⌝ }
     ensures behind { λ r. ⌜ Reads scan (now (piece .entry)) r (now (signs .entry)) (now (signs .exit)) ⌝ }
 {
     let mut line = scan.line;
@@ -141,7 +141,7 @@ pub fn scan_bytes(scan: Scan, signs: &mut SignTable, piece: &[u8]) -> Scan
 
 // What the answer says, behind its last piece.
 pub fn scan_end(scan: Scan) -> AnswerKind
-    requires { ⌜ Holds (scan .position) (scan .line) ⌝ }
+    requires { ⌜ LineKept (scan .position) (scan .line) ⌝ }
     ensures answer { λ r. ⌜ Ends scan r ⌝ }
     ensures written { λ _. ⌜ AnswerAsWritten ⌝ }
 {

@@ -1,17 +1,18 @@
--- Laws of specs/Signs.antt: a table of no signs, one number more, and what a table tells. No contract cites this file.
+-- Laws of specs/Signs.antt and Marks.antt: a table of no signs, one number more, and what a table tells. No contract cites this file.
 use Prim.Native.Nat.{ℕ, zero, suc, _+_, _≤_, _<_}
-use mathlib.Core.Path.{_≡_, refl, sym, ap, ap₂, _∙_}
+use mathlib.Core.Path.{_≡_, refl, sym, ap, _∙_}
 use mathlib.Core.Bool.{Bool, true, false, cond, _||_, Bool·beq}
 use mathlib.Core.List.{List, [], _∷_, _++_}
 use native.Mathlib.Omega.{arith}
-use lib.Dec.{eqb, ltb}
+use lib.Dec.{eqb}
 use lib.IntN.{ℤ, pos, negsuc, negℤ, natAbs}
 use lib.ListN.{length, getD, set, replicate, length-set}
 use lib.Seq.{getD-set-same, getD-set-other}
 use borrow.Author.Tests.{eq-eqb, eqb-true, eqb-false, ne-eqb, lt-ltb}
 use Rattle.model.specs.Bits.{odd}
 use Rattle.text_writer.specs.Signed.{partsOf}
-use Rattle.answer_signs.specs.Signs.{sameNumber, among, assignmentOf, unclear, signsOf, tableSize, SignsOf, withSign, trueIn, unclearIn, TableTells}
+use Rattle.answer_signs.specs.Signs.{sameNumber, among, assignmentOf, unclear, signsOf, tableSize, SignsOf, trueIn, unclearIn}
+use Rattle.answer_signs.specs.Marks.{withSign, TableTells}
 
 pub replicate-zero : (n v : ℕ) → _≡_ {A = ℕ} (getD (replicate n 0) v 0) 0
 replicate-zero zero v = refl
@@ -82,7 +83,7 @@ signs-next : (ys : List ℤ) (z : ℤ) (v : ℕ)
 unfolding signsOf
 signs-next ys z v = rw (among-next (pos v) z ys, among-next (negℤ (pos v)) z ys)
 
-pub signs-same : (ys : List ℤ) (z : ℤ) → 1 ≤ natAbs z
+signs-same : (ys : List ℤ) (z : ℤ) → 1 ≤ natAbs z
     → signsOf (ys ++ z ∷ []) (partsOf z .value) ≡ withSign (partsOf z .sign) (signsOf ys (partsOf z .value))
 unfolding signsOf
 signs-same ys (pos x) l =
@@ -93,7 +94,7 @@ signs-same ys (negsuc x) l =
     ∙ rw (same-minus (suc x) x .0, same-minus (suc x) x .1, eq-eqb (suc x) (suc x) refl)
     (sym (with-minus (among (pos (suc x)) ys) (among (negℤ (pos (suc x))) ys)))
 
-pub signs-other : (ys : List ℤ) (z : ℤ) → 1 ≤ natAbs z → (v : ℕ) → (v ≡ partsOf z .value → ⊥) → signsOf (ys ++ z ∷ []) v ≡ signsOf ys v
+signs-other : (ys : List ℤ) (z : ℤ) → 1 ≤ natAbs z → (v : ℕ) → (v ≡ partsOf z .value → ⊥) → signsOf (ys ++ z ∷ []) v ≡ signsOf ys v
 unfolding signsOf
 signs-other ys (pos x) l v ne =
     signs-next ys (pos x) v

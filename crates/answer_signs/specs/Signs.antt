@@ -2,8 +2,8 @@
 -- crate, by the scan that fills a table and by what a run is fed.
 use Prim.Native.Nat.{ℕ, _+_, _<_}
 use mathlib.Core.Path.{_≡_}
-use mathlib.Core.Bool.{Bool, true, false, cond, _||_, Bool·beq}
-use mathlib.Core.List.{List, [], _∷_, _++_}
+use mathlib.Core.Bool.{Bool, false, cond, _||_, Bool·beq}
+use mathlib.Core.List.{List, [], _∷_}
 use lib.Dec.{eqb, ltb}
 use lib.IntN.{ℤ, pos, negsuc, negℤ}
 use lib.ListN.{length, getD}
@@ -42,14 +42,6 @@ pub record SignsOf (ys : List ℤ) (table : List ℕ) : Type 0 where
   pub full : length table ≡ tableSize
   pub has : (v : ℕ) → v < tableSize → getD table v 0 ≡ signsOf ys v
 
--- the table of any numbers became that of one number more
-abbrev pub Marked : ℤ → List ℕ → List ℕ → Type 0
-Marked z old new = (ys : List ℤ) → SignsOf ys old → SignsOf (ys ++ z ∷ []) new
-
--- an entry with one sign more: plain where `sign` is 0, else negated
-unfoldable pub withSign : ℕ → ℕ → ℕ
-withSign sign entry = cond (eqb sign 0) (entry + cond (odd entry) 0 1) (entry + cond (ltb entry 2) 2 0)
-
 -- the entry of v, 0 past the table; and what it says of v: bit 0; none or both signs
 abbrev pub entryIn : List ℕ → ℕ → ℕ
 entryIn table v = cond (ltb v tableSize) (getD table v 0) 0
@@ -59,8 +51,3 @@ trueIn table v = odd (entryIn table v)
 
 unfoldable pub unclearIn : List ℕ → ℕ → Bool
 unclearIn table v = eqb (entryIn table v) 0 || eqb (entryIn table v) 3
-
--- and it says what the numbers say, of every variable that it has an entry for
-pub record TableTells : Type 0 where
-  pub true-is : (ys : List ℤ) (table : List ℕ) → SignsOf ys table → (v : ℕ) → v < tableSize → trueIn table v ≡ assignmentOf ys v
-  pub unclear-is : (ys : List ℤ) (table : List ℕ) → SignsOf ys table → (v : ℕ) → v < tableSize → unclearIn table v ≡ unclear ys v

@@ -4,7 +4,8 @@ ghost use mathlib.Core.Path.{_≡_};
 ghost use mathlib.Core.List.{[]};
 ghost use Prim.Native.Nat.{_≤_};
 ghost use lib.IntN.{natAbs};
-ghost use Rattle.answer_signs.specs.Signs.{SignsOf, Marked, TableTells, trueIn, unclearIn, withSign};
+ghost use Rattle.answer_signs.specs.Signs.{SignsOf, trueIn, unclearIn};
+ghost use Rattle.answer_signs.specs.Marks.{Marked, withSign, TableTells};
 
 // By variable: bit 0 where it stood plain, bit 1 where it stood negated. The last is the greatest variable that there may be.
 pub type SignTable = [u8; 675842];

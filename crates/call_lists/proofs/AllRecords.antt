@@ -81,7 +81,7 @@ module _ (T : Declared) (L : LL.Laws T) (P : one.Pair T L) where
   abbrev stayed : Stays (signature .params) (ended .kept)
   stayed = (stay-ref (0 ∷ []) tt (plain (λ _. Codes)), (stay-none-slice (1 ∷ []) tt (plain (λ _. row T)) yes, tt))
 
-  abbrev pub list-ty : Ty
+  abbrev list-ty : Ty
   list-ty = sliceTy (tyRef (named 1) imm (pointee (row T .written)))
 
   module _ (#one : Name) where

@@ -25,7 +25,7 @@ module _ (D : Declared) (one : One (row D .mir)) (recordAt : List ℕ → ℕ �
   R = row D
 
   -- the function that makes a record
-  abbrev pub atSignature : Signature
+  abbrev atSignature : Signature
   atSignature =
       record {
         lifetimes = 1;

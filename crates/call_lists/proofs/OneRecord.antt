@@ -59,7 +59,7 @@ module _ (T : Declared) (L : LL.Laws T) where
   abbrev pub τ : Ty
   τ = lone (row T .mir)
 
-  abbrev pub named-τ : Ty
+  abbrev named-τ : Ty
   named-τ = pointee (row T .written)
 
   pub record Reading (st : List Step) (f : T .D → ℕ) (at : ℕ) : Type 2 where

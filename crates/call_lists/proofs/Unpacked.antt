@@ -24,7 +24,7 @@ span-within n = within (ltb n 600) refl
     within false e = let h = ltb-false n 600 e in (omega (arith, h), omega arith)
 
 module _ {X : Type 0} (first second : X → ℕ) where
-  pub length-pairsOf : (xs : List X) → length (pairsOf first second xs) ≡ 2 * length xs
+  length-pairsOf : (xs : List X) → length (pairsOf first second xs) ≡ 2 * length xs
   unfolding pairsOf
   length-pairsOf [] = refl
   length-pairsOf (x ∷ xs) = ap (λ n. suc (suc n)) (length-pairsOf xs) ∙ omega arith

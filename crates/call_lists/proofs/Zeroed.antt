@@ -50,7 +50,7 @@ zeros = replicate 1200 0
 abbrev zeros-val : Val
 zeros-val = arrayVal (replicate 1200 (vint w32 0))
 
-abbrev pub Lies : List ℕ → ℕ → Fml
+abbrev Lies : List ℕ → ℕ → Fml
 Lies zs l = partAt Codes fullShare zs l 0
 
 module _ {M : Type 1} (𝓤 : URA M) (H : Heap 𝓤) (A : Atoms 𝓤) (W : Given 𝓤 H A) where
@@ -62,7 +62,7 @@ module _ {M : Type 1} (𝓤 : URA M) (H : Heap 𝓤) (A : Atoms 𝓤) (W : Given
 module _ {M : Type 1} {𝓤 : URA M} {H : Heap 𝓤} {A : Atoms 𝓤} {K : Type 0} {W : Given 𝓤 H A} {Γ : List (Item 𝓤)}
     {E : Env 𝓤 H} where
   -- a local's place, where its type and its block are known
-  pub local-at : K → {p l : ℕ} {τ : Ty} → _≡_ {A = Spot 𝓤 H} (spotOf 𝓤 H E p) (τ, l, 0) → Finds K W Γ E (place p []) (τ, l, 0)
+  local-at : K → {p l : ℕ} {τ : Ty} → _≡_ {A = Spot 𝓤 H} (spotOf 𝓤 H E p) (τ, l, 0) → Finds K W Γ E (place p []) (τ, l, 0)
   local-at t {p} {l} {τ} e = from t (subst (λ (sp : Spot 𝓤 H). Walks K W Γ E sp [] (τ, l, 0)) (sym e) (stop t))
 
 module _ {M : Type 1} {𝓤 : URA M} {H : Heap 𝓤} {A : Atoms 𝓤} {K : Type 0} {W : Given 𝓤 H A} {Γ : List (Item 𝓤)} {E : Env 𝓤 H}

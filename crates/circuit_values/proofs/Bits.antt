@@ -7,7 +7,6 @@ use native.Mathlib.Numerals.{add-one}
 use native.Mathlib.Omega.{arith}
 use lib.Pow.{shl-exact}
 use Rattle.model.specs.Bits.{fromBits}
-use Rattle.model.proofs.Bits.{fromBits-below}
 
 -- no bit, and one bit more
 pub fromBits-none : (f : ℕ → Bool) → 0 ≡ fromBits 0 f

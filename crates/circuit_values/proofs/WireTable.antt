@@ -1,29 +1,22 @@
--- Laws of specs/WireTable.antt: a table grows by one wire. No contract cites this file.
+-- Laws of tables of values (specs/WireTable.antt, here and of `netlist`): a table grows by one wire. No contract cites this file.
 use Prim.Native.Nat.{ℕ, _+_, _*_, _/_, _≤_, _<_}
 use mathlib.Core.Path.{_≡_, sym, _∙_, ap₂}
 use mathlib.Core.Bool.{Bool, false, _&&_}
 use mathlib.Core.List.{List}
-use mathlib.Core.Logic.{by-cases}
-use native.Mathlib.Decide.{decLt}
 use native.Mathlib.Omega.{arith}
-use lib.ListN.{length, getD, set, length-set}
-use lib.Seq.{getD-set-same, getD-set-other}
+use lib.ListN.{length, set}
 use Rattle.model.specs.Netlist.{Netlist, gateWire}
 use Rattle.model.specs.Circuit.{Values, codeValue}
 use Rattle.model.specs.Acceptance.{WithinLimits}
 use Rattle.model.proofs.Circuit.{code-same}
-use Rattle.circuit_values.specs.WireTable.{entry, HasBelow, GatesHold}
+use Rattle.netlist.specs.WireTable.{entry, HasBelow}
+use Rattle.netlist.proofs.WireTable.{below-set}
+use Rattle.circuit_values.specs.WireTable.{GatesHold}
 
 -- the wire at b set to its value
-pub below-next : {b : ℕ} {v : Values} {table : List Bool} → HasBelow b v table → b ≤ 600 → (x : Bool) → x ≡ v b
+below-next : {b : ℕ} {v : Values} {table : List Bool} → HasBelow b v table → b ≤ 600 → (x : Bool) → x ≡ v b
     → HasBelow (b + 1) v (set table b x)
-below-next {b} {v} {table} q l x e = record { size = length-set table b x ∙ q .size; has = at }
-  where
-    at : (w : ℕ) → w < b + 1 → getD (set table b x) w false ≡ v w
-    at w h =
-        by-cases (decLt w b)
-        (λ m. getD-set-other table b w x false (λ k. omega arith) ∙ q .has w m)
-        (λ m. let here : w ≡ b = omega arith in rw here (getD-set-same table b x false (omega (arith, q .size)) ∙ e))
+below-next {b} {table = table} q l x e = below-set table (q .size) b l x e (λ w h away. q .has w (omega arith))
 
 -- wire 0 alone
 pub below-start : {v : Values} (table : List Bool) → length table ≡ 601 → v 0 ≡ false → HasBelow 1 v (set table 0 false)

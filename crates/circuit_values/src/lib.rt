@@ -14,7 +14,8 @@ ghost use Rattle.model.specs.Netlist.{port, gateWire, lastWire};
 ghost use Rattle.model.specs.Circuit.{Values, codeValue, addressOf, wordWritten, evaluate};
 ghost use Rattle.model.specs.Acceptance.{WithinLimits};
 ghost use Rattle.netlist.specs.NetOf.{netOf, alone};
-ghost use Rattle.circuit_values.specs.WireTable.{entry, HasBelow, GatesHold};
+ghost use Rattle.netlist.specs.WireTable.{entry, HasBelow};
+ghost use Rattle.circuit_values.specs.WireTable.{GatesHold};
 
 // A value for each wire, 600 at most, and for wire 0.
 pub type WireValues = [bool; 601];
@@ -27,9 +28,8 @@ pub fn code_value(values: &WireValues, code: Code) -> bool
     requires { ⌜ code .0 / 2 ≤ 600 ⌝ }
     ensures { λ r. ⌜ r ≡ codeValue (entry (now (values .entry))) (code .0) ⌝ }
 {
-    let x = code.0;
-    let value = values[(x / 2) as usize];
-    if x % 2 == 1 {
+    let value = values[code.wire_index()];
+    if code.is_inverted() {
         return !value;
     }
     value

@@ -4,7 +4,7 @@ ghost use mathlib.Core.Path.{_≡_};
 ghost use mathlib.Core.Bool.{true};
 ghost use Prim.Native.Nat.{_+_, _*_, _/_, _^_, _≤_, _<_};
 ghost use lib.Dec.{ltb};
-ghost use Rattle.model.specs.Bits.{bit};
+ghost use Rattle.model.specs.Bits.{odd, bit};
 ghost use Rattle.model.specs.Clauses.{known, plus, neg};
 ghost use Rattle.model.specs.Variables.{baseOf, pairBaseOf, wireAt, codeAt};
 ghost use Rattle.model.specs.Numbers.{isTrue};
@@ -79,6 +79,13 @@ impl Code {
         ensures { λ r. ⌜ r ≡ self .0 / 2 ⌝ }
     {
         (self.0 / 2) as usize
+    }
+
+    // Whether the code is its wire's inverted: the odd one of the two.
+    pub fn is_inverted(self) -> bool
+        ensures { λ r. ⌜ r ≡ odd (self .0) ⌝ }
+    {
+        self.0 % 2 == 1
     }
 
     // Whether the code is less than both codes of a wire.

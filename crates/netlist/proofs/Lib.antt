@@ -1,4 +1,5 @@
 pub mod Places
 pub mod Faults
 pub mod NetOf
+pub mod WireTable
 pub mod PutNumbers

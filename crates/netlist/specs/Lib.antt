@@ -1,4 +1,5 @@
 pub mod NetOf
 pub mod RecordOf
+pub mod WireTable
 pub mod Places
 pub mod Faults

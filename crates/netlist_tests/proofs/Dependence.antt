@@ -1,16 +1,15 @@
--- Laws of tables of wires (specs/Dependence.antt): a table made entry by entry, of the read bits and of a sweep over the gates.
+-- Laws of tables of wires (specs/WireTable.antt of `netlist`): a table made entry by entry, of the read bits and of a sweep over the gates.
 -- No contract cites this file.
 use Prim.Native.Nat.{ℕ, _+_, _/_, _≤_, _<_}
 use mathlib.Core.Path.{_≡_, refl, sym, _∙_}
 use mathlib.Core.Bool.{Bool, true, false, cond, _&&_}
 use mathlib.Core.Logic.{by-cases}
 use mathlib.Core.List.{List}
-use native.Mathlib.Decide.{ℕ-discrete, decLt}
+use native.Mathlib.Decide.{decLt}
 use native.Mathlib.Numerals.{add-one}
 use native.Mathlib.Omega.{arith}
 use lib.Dec.{eqb, leb, ltb}
-use lib.ListN.{getD, set, replicate, length-set, length-replicate, getD-replicate}
-use lib.Seq.{getD-set-same, getD-set-other}
+use lib.ListN.{set, replicate, length-replicate, getD-replicate}
 use borrow.Author.Tests.{eq-eqb, ne-eqb, le-leb, lt-leb, lt-ltb, le-ltb}
 use Rattle.refusals.specs.declared.Refusal.the-variants.{MemoryLoop}
 use Rattle.refusals.specs.declared.Verdict.the-variants.{Passed}
@@ -18,35 +17,31 @@ use Rattle.refusals.proofs.Tests.{refuseIf-passes, inOrder-passes}
 use Rattle.model.specs.Netlist.{Netlist, readWire, gateWire}
 use Rattle.model.specs.Circuit.{Values, sweep, isRead, dependsOnRead}
 use Rattle.model.specs.Acceptance.{WithinLimits}
+use Rattle.netlist.specs.WireTable.{entry, HasAll}
 use Rattle.netlist.specs.Places.{addressLine, lineAt, HasLine}
 use Rattle.netlist.specs.Faults.{loopFaultBy, loopFault}
 use Rattle.netlist_scan.specs.AnyLine.{anyLine}
 use Rattle.netlist_tests.specs.Record.{testLine, testLines}
-use Rattle.netlist_tests.specs.Dependence.{entry, Table}
 use Rattle.netlist.specs.declared.Line.{Line}
 use Rattle.netlist.specs.declared.Line.the-variants.{Sizes, Memory, Latch, Gate, Address, WriteData, Control}
+use Rattle.netlist.proofs.WireTable.{below-set}
 use Rattle.netlist.proofs.Places.{before-address}
 use Rattle.netlist.proofs.Faults.{Without, no-loop}
 use Rattle.netlist_scan.proofs.AnyLine.{none-in-lines}
 use Rattle.netlist_tests.proofs.Record.{PassedTo, testLines-passes}
 
 -- a table of nothing
-pub table-none : Table (λ w. false) (replicate 601 false)
-table-none = record { size = length-replicate 601 false; has = λ w h. getD-replicate 601 w false false (omega arith) }
+pub table-none : HasAll (λ w. false) (replicate 601 false)
+table-none = record { size = length-replicate 601 false; has = λ w h. getD-replicate 601 w false false h }
 
 -- a table with one entry set
-pub table-set : {f : ℕ → Bool} {flags : List Bool} → Table f flags → (v : ℕ) → v ≤ 600 → (b : Bool)
-    → Table (λ w. cond (eqb w v) b (f w)) (set flags v b)
-table-set {f} {flags} q v h b = record { size = length-set flags v b ∙ q .size; has = λ w k. at w k }
-  where
-    at : (w : ℕ) → w ≤ 600 → getD (set flags v b) w false ≡ cond (eqb w v) b (f w)
-    at w k =
-        by-cases (ℕ-discrete w v)
-        (λ e. rw (eq-eqb w v e, e) (getD-set-same flags v b false (omega (arith, q .size))))
-        (λ e. rw (ne-eqb w v e) (getD-set-other flags v w b false e ∙ q .has w k))
+pub table-set : {f : ℕ → Bool} {flags : List Bool} → HasAll f flags → (v : ℕ) → v ≤ 600 → (b : Bool)
+    → HasAll (λ w. cond (eqb w v) b (f w)) (set flags v b)
+table-set {f} {flags} q v h b =
+    below-set flags (q .size) v h b (rw (eq-eqb v v refl)) (λ w k away. rw (ne-eqb w v away) (q .has w k))
 
 -- a table of the same values
-pub table-same : {f g : ℕ → Bool} {flags : List Bool} → ((w : ℕ) → f w ≡ g w) → Table f flags → Table g flags
+pub table-same : {f g : ℕ → Bool} {flags : List Bool} → ((w : ℕ) → f w ≡ g w) → HasAll f flags → HasAll g flags
 table-same same q = record { size = q .size; has = λ w h. q .has w h ∙ same w }
 
 -- whether a wire is from a on and before b, as a loop over such wires meets it
@@ -79,7 +74,7 @@ unfolding sweep
 sweep-next op c v g w = rw add-one
 
 -- the tests of memory loops by a table are those by the wires themselves: every code is within the table
-pub loopFault-table : {c : Netlist} {flags : List Bool} → Table (dependsOnRead c) flags → WithinLimits c → (x : Line) → HasLine c x
+pub loopFault-table : {c : Netlist} {flags : List Bool} → HasAll (dependsOnRead c) flags → WithinLimits c → (x : Line) → HasLine c x
     → loopFault c x ≡ loopFaultBy (entry flags) c x
 unfolding loopFaultBy
 loopFault-table {c} q h Sizes s = refl
@@ -91,7 +86,7 @@ loopFault-table {c} q h (WriteData t) s = refl
 loopFault-table {c} q h Control s = sym (q .has (c .RE / 2) (omega (arith, h .codes .RE-fits, h .sizes .wires-fit)))
 
 -- no line makes a memory loop where the pass over the lists finds none by such a table
-pub loops-none : {c : Netlist} {flags : List Bool} → Table (dependsOnRead c) flags → WithinLimits c
+pub loops-none : {c : Netlist} {flags : List Bool} → HasAll (dependsOnRead c) flags → WithinLimits c
     → anyLine c (loopFaultBy (entry flags)) ≡ false → testLines c MemoryLoop loopFault ≡ Passed
 unfolding loopFaultBy
 loops-none {c} {flags} q h e =

@@ -12,11 +12,11 @@ ghost use Rattle.model.specs.Circuit.{isRead, dependsOnRead};
 ghost use Rattle.model.specs.Search.{firstWhere};
 ghost use Rattle.model.specs.Acceptance.{SizesFit, WithinLimits};
 ghost use Rattle.netlist.specs.NetOf.{codeOf, netOf, alone};
+ghost use Rattle.netlist.specs.WireTable.{entry, HasAll};
 ghost use Rattle.netlist.specs.Places.{HasLine};
 ghost use Rattle.netlist.specs.Faults.{sizeFault, codeFault, isTied, loopFaultBy};
 ghost use Rattle.netlist_scan.specs.AnyLine.{anyLine};
 ghost use Rattle.netlist_tests.specs.Record.{testLines, testTies, testLoops, testPort, recordVerdict};
-ghost use Rattle.netlist_tests.specs.Dependence.{Table, entry};
 
 // Tests the numbers of lines N and M (refusal 4).
 pub fn test_sizes(net: Netlist) -> Verdict
@@ -107,7 +107,7 @@ fn test_ties(net: Netlist) -> Verdict
 // Makes the table of the read bits.
 fn read_bits(net: Netlist) -> [bool; 601]
     requires { ⌜ SizesFit (alone net) ⌝ }
-    ensures { λ r. ⌜ Table (isRead (alone net)) r ⌝ }
+    ensures { λ r. ⌜ HasAll (isRead (alone net)) r ⌝ }
 {
     let mut flags = [false; 601];
     let last = netlist::first_gate_wire(net).index();
@@ -122,7 +122,7 @@ fn read_bits(net: Netlist) -> [bool; 601]
 // Makes the table of the wires that depend on a read bit, in one pass over the gates.
 fn depends_on_read(net: Netlist, gates: &UnpackedList) -> [bool; 601]
     requires { ⌜ WithinLimits (netOf net [] (now gates)) ⌝ }
-    ensures { λ r. ⌜ Table (dependsOnRead (netOf net [] (now (gates .entry)))) r ⌝ }
+    ensures { λ r. ⌜ HasAll (dependsOnRead (netOf net [] (now (gates .entry)))) r ⌝ }
 {
     let mut flags = read_bits(net);
     let first = netlist::first_gate_wire(net).index();

@@ -35,7 +35,7 @@ joined-snoc f [] g = append-nil (f g)
 joined-snoc f (x ∷ gs) g = ap (λ (t : List ℤ). f x ++ t) (joined-snoc f gs g) ∙ sym (append-assoc (f x) (joined f gs) (f g))
 
 -- the bytes of a group's text
-abbrev pub textSize : Netlist → ℕ → Group → ℕ
+abbrev textSize : Netlist → ℕ → Group → ℕ
 textSize c k g = length (clauseText (numbersOf c k g))
 
 -- Of the groups `due`, the first ones (`printed`) have their text at the start of the buffer, `next` is the first of those that are
@@ -45,7 +45,7 @@ pub record SoFar (c : Netlist) (k : ℕ) (old new : List ℕ) (bytes : ℕ) (nex
   pub remaining : List Group
   pub in-order : due ≡ printed ++ remaining
   pub wrote : Wrote (clauseText (joined (numbersOf c k) printed)) old new bytes
-  pub next-remaining : next ≡ firstGroup remaining
+  next-remaining : next ≡ firstGroup remaining
   pub counted : inPiece c k (length old) due ≡ length printed + fitting (textSize c k) (length old) bytes remaining
 
 -- before the first group is printed
@@ -152,7 +152,7 @@ module _ {c : Netlist} {k : ℕ} {old new : List ℕ} {bytes : ℕ} {next : Next
   last : drop n due ≡ p .remaining
   last = ap (drop n) (p .in-order) ∙ drop-at (p .printed) (p .remaining) n count
 
-  pub all-printed : Printed c k due old new (record { bytes = bytes; next = next })
+  all-printed : Printed c k due old new (record { bytes = bytes; next = next })
   unfolding pieceOf pieceText n
   all-printed =
       record {

@@ -12,11 +12,11 @@ ghost use lib.ListN.{length};
 ghost use Rattle.model.specs.Wrote.{Wrote};
 ghost use Rattle.model.specs.Acceptance.{SizesFit};
 ghost use Rattle.netlist.specs.NetOf.{netOf, alone};
-ghost use Rattle.answer_scan.specs.Scan.{AnswerRead};
+ghost use Rattle.answer_scan.specs.AnswerRead.{AnswerRead};
 ghost use Rattle.replay_frame.specs.Replay.{traceLength};
 ghost use Rattle.replay_answer.specs.ReplayAnswer.{replayFor, memoryFor, traceFor};
 ghost use Rattle.program_replay.specs.Printed.{isBroken, answerText};
-ghost use Rattle.program_replay.specs.Room.{RoomSuffices};
+ghost use Rattle.program_replay.specs.Room.{mostTraceBytes, ReplayRoomSuffices};
 
 // Replays an answer that was read, on lists of 600 records: what is answered and left in the trace is what the exported call answers and leaves,
 // of the text that was read.
@@ -36,7 +36,7 @@ pub fn replay_read(
         → now (memory .exit) ≡ memoryFor (netOf net (now (latches .entry)) (now (gates .entry))) 600 600 depth text (now (memory .entry)) (length (now (trace .entry)))) ⌝ }
     ensures trace { λ _. ⌜ ((text : List ℕ) → AnswerRead text (now (signs .entry)) kind
         → now (trace .exit) ≡ traceFor (netOf net (now (latches .entry)) (now (gates .entry))) 600 600 depth text (length (now (memory .entry))) (now (trace .entry))) ⌝ }
-    ensures room { λ _. ⌜ RoomSuffices ⌝ }
+    ensures room { λ _. ⌜ ReplayRoomSuffices ⌝ }
 {
     replay_call::reply_of(replay_call::replay(
         net,
@@ -81,7 +81,7 @@ pub fn write_answer(out: &mut [u8], reply: ReplayReply) -> usize
 pub fn trace_bytes(reply: ReplayReply, net: Netlist, depth: u32) -> usize
     requires { ⌜ SizesFit (alone net) × (depth ≤ 255) ⌝ }
     ensures bytes { λ r. ⌜ r ≡ cond (isBroken reply) (traceLength (alone net) depth) 0 ⌝ }
-    ensures most { λ r. ⌜ r ≤ 153856 ⌝ }
+    ensures most { λ r. ⌜ r ≤ mostTraceBytes ⌝ }
 {
     if is_broken(reply) {
         return replay_call::trace_length(net, depth);

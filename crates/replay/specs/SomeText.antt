@@ -3,13 +3,14 @@
 use mathlib.Core.List.{List}
 use Prim.Native.Nat.{ℕ}
 use Rattle.answer_lines.specs.declared.AnswerKind.{AnswerKind}
-use Rattle.answer_scan.specs.Scan.{Behind, AnswerRead}
+use Rattle.answer_scan.specs.AnswerRead.{AnswerRead}
+use Rattle.answer_scan.specs.Scan.{ScanBehind}
 use Rattle.answer_scan.specs.declared.Scan.{Scan}
 
 -- the scan is behind the pieces that were read
 pub record BehindSome (scan : Scan) (signs : List ℕ) : Type 0 where
   pub text : List ℕ
-  pub behind : Behind text scan signs
+  pub behind : ScanBehind text scan signs
 
 -- the answer is that of the text which was read
 pub record ReadSome (kind : AnswerKind) (signs : List ℕ) : Type 0 where

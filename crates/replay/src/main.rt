@@ -14,7 +14,7 @@ ghost use lib.ListN.{length};
 ghost use Rattle.model.specs.Acceptance.{Accepted};
 ghost use Rattle.netlist.specs.NetOf.{netOf};
 ghost use Rattle.answer_signs.specs.Signs.{SignsOf};
-ghost use Rattle.answer_scan.specs.Scan.{Holds};
+ghost use Rattle.answer_scan.specs.Scan.{LineKept};
 ghost use Rattle.replay.specs.SomeText.{BehindSome, ReadSome};
 
 // Writes text to standard output. Where that fails, says so on standard error and answers false.
@@ -38,19 +38,19 @@ fn print_first(reply: ReplayReply) -> bool {
 // file has so many.
 fn scan_file(file: i32, signs: &mut SignTable) -> Scan
     requires { ⌜ SignsOf [] (now signs) ⌝ }
-    ensures holds { λ r. ⌜ Holds (r .position) (r .line) ⌝ }
+    ensures holds { λ r. ⌜ LineKept (r .position) (r .line) ⌝ }
     ensures behind { λ r. ⌜ BehindSome r (now (signs .exit)) ⌝ }
 {
     let mut piece = io::large_buffer();
     let mut scan = answer_scan::scan_start();
-    let mut left = u64::MAX;
-    while 0 < left {
+    let mut remaining = u64::MAX;
+    while 0 < remaining {
         let count = io::read_full(file, &mut piece);
         scan = answer_scan::scan_bytes(scan, signs, &piece[..count]);
         if count < 65536 {
             return scan;
         }
-        left -= 1;
+        remaining -= 1;
     }
     scan
 }

@@ -1,30 +1,31 @@
 -- Laws of specs/ReplayCall.antt: which tests a replay passes, and what a run has shown where they pass. No contract cites this file.
 use Prim.Native.Nat.{ℕ, _+_, _*_, _^_, _≤_, _<_}
-use mathlib.Core.Path.{_≡_, refl, sym, _∙_, ap}
+use mathlib.Core.Path.{_≡_, refl, sym, _∙_}
 use mathlib.Core.Bool.{true, false}
-use mathlib.Core.List.{List, _++_}
+use mathlib.Core.List.{List}
 use native.Mathlib.Nat.{mul-le-mul-right}
 use native.Mathlib.Omega.{arith}
 use lib.ListN.{length, take, drop}
 use lib.Seq.{take-append-seam}
 use borrow.Author.Tests.{le-ltb, lt-ltb}
 use Rattle.model.specs.Wrote.{over, Wrote}
-use Rattle.model.specs.Netlist.{Netlist, lastWire}
-use Rattle.refusals.specs.Tests.{refuseIf, _then_}
+use Rattle.model.specs.Netlist.{Netlist}
+use Rattle.refusals.specs.Tests.{_then_}
 use Rattle.refusals.specs.Slices.{testRoom}
 use Rattle.refusals.specs.declared.Refusal.{Refusal}
-use Rattle.refusals.specs.declared.Refusal.the-variants.{Depth, NoRoom, NoAnswer, NoViolation}
+use Rattle.refusals.specs.declared.Refusal.the-variants.{NoRoom, NoAnswer, NoViolation}
+use Rattle.refusals.specs.declared.Verdict.{Verdict}
 use Rattle.refusals.specs.declared.Verdict.the-variants.{Passed, Refused}
 use Rattle.refusals.proofs.Tests.{then-passes}
 use Rattle.refusals.proofs.Slices.{room-enough, room-short, room-shown}
 use Rattle.netlist_tests.specs.Record.{recordVerdict}
 use Rattle.netlist_tests.proofs.Acceptance.{passes-accepted}
 use Rattle.call_unpacked.specs.Calls.{testDepth}
-use Rattle.call_unpacked.proofs.Calls.{depth-passes}
+use Rattle.call_unpacked.proofs.Calls.{depth-passes, depth-more}
 use Rattle.call_lists.specs.Delivered.{delivered}
+use Rattle.call_lists.proofs.Delivered.{delivered-again}
 use Rattle.replay_frame.specs.Replay.{Said, replayedState, firstViolation, traceText, traceLength}
 use Rattle.replay_run.specs.Runs.{RunFits}
-use Rattle.replay_run.proofs.Runs.{delivered-again}
 use Rattle.replay_run.proofs.Through.{length-lines}
 use Rattle.replay_call.specs.ReplayCall.{replayTests, fedFault, runVerdict, unlessRefused, outcome, wordsLeft, traceAfter, ReplaysValues}
 use Rattle.replay_call.specs.declared.ReplayAnswer.the-variants as answers
@@ -34,31 +35,37 @@ pub trace-small : (k w : ℕ) → k ≤ 255 → w ≤ 600 → (k + 1) * (w + 1) 
 trace-small k w d h = omega (arith, mul-le-mul-right {m = k + 1} {n = 256} (w + 1) (omega arith))
 
 module _ (c : Netlist) (latchCount gateCount k words room : ℕ) where
-  -- 4, 3, 5 and 6
-  pub tests-record : {r : Refusal} {p : ℕ} → recordVerdict c latchCount gateCount ≡ Refused r p
+  -- the tests of the record and of the depth, and behind them 9, of the memory and of the trace
+  tests-asked : {v : Verdict} → v ≡ (recordVerdict c latchCount gateCount then testDepth k)
+      → replayTests c latchCount gateCount k words room ≡ v then testRoom (2 ^ c .m) words then testRoom (traceLength c k) room
+  unfolding replayTests
+  tests-asked = depth-more c latchCount gateCount k (testRoom (2 ^ c .m) words then testRoom (traceLength c k) room)
+
+  -- none of the record and of the depth
+  pub asked-passed : recordVerdict c latchCount gateCount ≡ Passed → k ≤ 255 → Passed ≡ (recordVerdict c latchCount gateCount then testDepth k)
+  unfolding testDepth
+  asked-passed h d = sym (then-passes (recordVerdict c latchCount gateCount) (testDepth k) .1 (h, rw (le-ltb 255 k d)))
+
+  -- 4, 3, 5, 6 and 7
+  pub tests-refused : {r : Refusal} {p : ℕ} → Refused r p ≡ (recordVerdict c latchCount gateCount then testDepth k)
       → replayTests c latchCount gateCount k words room ≡ Refused r p
-  unfolding replayTests _then_
-  tests-record h = rw h
+  unfolding _then_
+  tests-refused = tests-asked
 
-  module _ (record-passed : recordVerdict c latchCount gateCount ≡ Passed) where
-    -- 7
-    pub tests-depth : 255 < k → replayTests c latchCount gateCount k words room ≡ Refused Depth 0
-    unfolding replayTests _then_ testDepth
-    tests-depth d = rw (record-passed, lt-ltb 255 k d)
-
+  module _ (asked : Passed ≡ (recordVerdict c latchCount gateCount then testDepth k)) where
     -- 9, of the memory and of the trace
-    pub tests-memory : k ≤ 255 → words < 2 ^ c .m → replayTests c latchCount gateCount k words room ≡ Refused NoRoom 0
-    unfolding replayTests _then_ testDepth
-    tests-memory d l = rw (record-passed, le-ltb 255 k d, room-short (2 ^ c .m) words l)
+    pub tests-memory : words < 2 ^ c .m → replayTests c latchCount gateCount k words room ≡ Refused NoRoom 0
+    unfolding _then_
+    tests-memory l = rw (tests-asked asked, room-short (2 ^ c .m) words l)
 
-    pub tests-trace : k ≤ 255 → 2 ^ c .m ≤ words → room < traceLength c k → replayTests c latchCount gateCount k words room ≡ Refused NoRoom 0
-    unfolding replayTests _then_ testDepth
-    tests-trace d h l = rw (record-passed, le-ltb 255 k d, room-enough (2 ^ c .m) words h, room-short (traceLength c k) room l)
+    pub tests-trace : 2 ^ c .m ≤ words → room < traceLength c k → replayTests c latchCount gateCount k words room ≡ Refused NoRoom 0
+    unfolding _then_
+    tests-trace h l = rw (tests-asked asked, room-enough (2 ^ c .m) words h, room-short (traceLength c k) room l)
 
     -- none
-    pub tests-passed : k ≤ 255 → 2 ^ c .m ≤ words → traceLength c k ≤ room → replayTests c latchCount gateCount k words room ≡ Passed
-    unfolding replayTests _then_ testDepth
-    tests-passed d h l = rw (record-passed, le-ltb 255 k d, room-enough (2 ^ c .m) words h) (room-enough (traceLength c k) room l)
+    pub tests-passed : 2 ^ c .m ≤ words → traceLength c k ≤ room → replayTests c latchCount gateCount k words room ≡ Passed
+    unfolding _then_
+    tests-passed h l = rw (tests-asked asked, room-enough (2 ^ c .m) words h) (room-enough (traceLength c k) room l)
 
 -- what a replay that is not refused before has shown
 pub tests-shown : (c : Netlist) (latchCount gateCount k : ℕ) (memory trace : List ℕ)
@@ -110,7 +117,7 @@ module _ (c : Netlist) (y : Said) (k : ℕ) (memory trace : List ℕ) where
       }
 
 -- the lines in front of the buffer that they were written to
-pub lines-front : (c : Netlist) (y : Said) (k : ℕ) (buffer : List ℕ) → take (traceLength c k) (over (traceText c y k) buffer) ≡ traceText c y k
+lines-front : (c : Netlist) (y : Said) (k : ℕ) (buffer : List ℕ) → take (traceLength c k) (over (traceText c y k) buffer) ≡ traceText c y k
 unfolding traceText
 lines-front c y k buffer =
     rw (← length-lines c y (k + 1)) (take-append-seam (traceText c y k) (drop (length (traceText c y k)) buffer))

@@ -1,15 +1,13 @@
 -- `TableSuffices` of specs/Settled.antt: a replay looks at the variables 1 to B(k + 1) alone. No contract cites this file.
 use Prim.Native.Nat.{ℕ, suc, _+_, _/_, _^_, _≤_, _<_}
 use mathlib.Core.Path.{_≡_, refl, sym, _∙_, ap, ap₂}
-use mathlib.Core.Bool.{Bool, true, false, cond, not, _&&_, _||_}
+use mathlib.Core.Bool.{Bool, not, _&&_, _||_}
 use mathlib.Core.List.{List, [], _∷_}
-use native.Mathlib.Numerals.{add-one}
 use native.Mathlib.Omega.{arith}
 use lib.Dec.{eqb}
 use lib.ListN.{length}
 use lib.IntN.{ℤ}
-use Rattle.model.specs.Search.{anyBelow, firstWhere, IsFirst}
-use Rattle.model.specs.Gather.{gather}
+use Rattle.model.specs.Search.{firstWhere, IsFirst}
 use Rattle.model.specs.Netlist.{Netlist, readBits, inputWire, readWire, lastWire}
 use Rattle.model.specs.Circuit.{codeValue}
 use Rattle.model.specs.Acceptance.{Accepted, IsCode}
@@ -38,7 +36,7 @@ use Rattle.replay_frame.specs.Replay.{Said, saidIn, wordSaid, replayed, replaye
 use Rattle.replay_frame.proofs.Replay.{line-same}
 use Rattle.replay_frame.proofs.SaidAlike.{SaidAlike, fills-said, words-alike, runs-alike}
 use Rattle.replay_call.specs.ReplayCall.{replayTests, fedFault, runVerdict, outcome, wordsLeft, unlessRefused, replayAnswer, replayReply, replaySent, afterTests, replayMemory, traceAfter, replayTrace}
-use Rattle.replay_call.specs.Settled.{SayAlike, ReplayAlike, saidBy, TableSuffices}
+use Rattle.replay_call.specs.Settled.{saidBy, TableSuffices}
 
 -- the first place needs a property below the number alone
 first-same : (n : ℕ) {f g : ℕ → Bool} → ((x : ℕ) → x < n → f x ≡ g x) → firstWhere f n ≡ firstWhere g n
@@ -54,6 +52,11 @@ first-same n {f} {g} same = first-unique moved (firstWhere-is g n)
           none-before = λ x h. sym (same x (omega (arith, q .within))) ∙ q .none-before x h;
           holds-there = λ h. sym (same (firstWhere f n) h) ∙ q .holds-there h;
         }
+
+-- two that say the same of every variable of the file, 1 to B(k + 1) (RULES V6)
+record SayAlike (c : Netlist) (k : ℕ) (y z : Said) : Type 0 where
+  value-alike : (v : ℕ) → v ≤ base c (k + 1) → y .value v ≡ z .value v
+  unclear-alike : (v : ℕ) → v ≤ base c (k + 1) → y .unclear v ≡ z .unclear v
 
 module _ {c : Netlist} (ok : Accepted c) (k : ℕ) {y z : Said} (say : SayAlike c k y z) where
   -- a wire's variable in a frame to k is one of the file's
@@ -96,7 +99,7 @@ module _ {c : Netlist} (ok : Accepted c) (k : ℕ) {y z : Said} (say : SayAlike 
   unfolding firstViolation violates
   first = first-same (k + 1) (λ i h. ap not (codes i (omega arith) (c .P) (ok .limits .codes .P-fits)))
 
-  pub lines-alike : traceText c y k ≡ traceText c z k
+  lines-alike : traceText c y k ≡ traceText c z k
   unfolding traceText
   lines-alike =
       gather-same (k + 1) (λ i. frameLine c (replayed c y i)) (λ i. frameLine c (replayed c z i))
@@ -110,13 +113,13 @@ module _ {c : Netlist} (ok : Accepted c) (k : ℕ) {y z : Said} (say : SayAlike 
       = states-same ok (feedOf c (y .value)) (feedOf c (z .value)) (λ x b. words-alike ok (k + 1) (said-alike (k + 1) (omega arith)) x) (λ r. idles) (k + 1) (λ j l. inputs j (omega arith)) in
       rw (gather-same (2 ^ c .m) (λ t. replayedState c y (k + 1) .memory t ∷ []) (λ t. replayedState c z (k + 1) .memory t ∷ []) (λ t h. rw (states .memory-alike t h)))
 
-  pub outcome-alike : (kind : AnswerKind) → outcome c k kind y ≡ outcome c k kind z
+  outcome-alike : (kind : AnswerKind) → outcome c k kind y ≡ outcome c k kind z
   unfolding outcome runVerdict
   outcome-alike Malformed = refl
   outcome-alike Unsatisfiable = refl
   outcome-alike Satisfiable = rw (faults, first)
 
-  pub left-alike : (kind : AnswerKind) (old : List ℕ) → wordsLeft c k kind y old ≡ wordsLeft c k kind z old
+  left-alike : (kind : AnswerKind) (old : List ℕ) → wordsLeft c k kind y old ≡ wordsLeft c k kind z old
   unfolding wordsLeft
   left-alike Malformed old = refl
   left-alike Unsatisfiable old = refl

@@ -1,6 +1,6 @@
 -- What a replay depends on, as theorems: not on what stands for an unclear variable (RULES Y13), and not on what is said of a variable past
 -- the file's. The first is promised by `marrubigai_replay`, both by `replay_call::replay`; the proofs are in proofs/Settled.antt and TableSuffices.antt.
-use Prim.Native.Nat.{ℕ, _+_, _≤_}
+use Prim.Native.Nat.{ℕ}
 use mathlib.Core.Path.{_≡_}
 use mathlib.Core.Bool.{false}
 use mathlib.Core.List.{List}
@@ -8,7 +8,6 @@ use lib.IntN.{ℤ}
 use Rattle.model.specs.Search.{anyBelow}
 use Rattle.model.specs.Netlist.{Netlist}
 use Rattle.model.specs.Acceptance.{Accepted}
-use Rattle.model.specs.Variables.{base}
 use Rattle.answer_signs.specs.Signs.{assignmentOf, unclear, SignsOf}
 use Rattle.answer_lines.specs.declared.AnswerKind.{AnswerKind}
 use Rattle.replay_frame.specs.Replay.{Said, saidIn, feedFault}
@@ -18,11 +17,6 @@ use Rattle.replay_call.specs.ReplayCall.{replaySent, replayMemory, repla
 abbrev pub FaultsSettled : Type 0
 FaultsSettled = (c : Netlist) → Accepted c → (y z : Said) → ((v : ℕ) → y .unclear v ≡ z .unclear v)
     → ((v : ℕ) → y .unclear v ≡ false → y .value v ≡ z .value v) → (n : ℕ) → anyBelow n (feedFault c y) ≡ anyBelow n (feedFault c z)
-
--- two that say the same of every variable of the file, 1 to B(k + 1) (RULES V6)
-pub record SayAlike (c : Netlist) (k : ℕ) (y z : Said) : Type 0 where
-  pub value-alike : (v : ℕ) → v ≤ base c (k + 1) → y .value v ≡ z .value v
-  pub unclear-alike : (v : ℕ) → v ≤ base c (k + 1) → y .unclear v ≡ z .unclear v
 
 -- the same answer, memory and trace
 pub record ReplayAlike (c : Netlist) (latchCount gateCount k : ℕ) (kind : AnswerKind) (y z : Said) : Type 0 where

@@ -11,7 +11,7 @@ ghost use Prim.Native.Nat.{_≤_};
 ghost use lib.ListN.{length};
 ghost use Rattle.model.specs.Acceptance.{SizesFit};
 ghost use Rattle.netlist.specs.NetOf.{netOf, alone};
-ghost use Rattle.replay_frame.specs.Replay.{saidIn, OneRunTheorem, traceText, traceLength};
+ghost use Rattle.replay_frame.specs.Replay.{saidIn, OneRunTheorem, traceLength};
 ghost use Rattle.replay_run.specs.Runs.{RunFits};
 ghost use Rattle.replay_call.specs.ReplayCall.{ReplaysValues, replayTests, replayReply, replaySent, replayMemory, replayTrace};
 ghost use Rattle.replay_call.specs.Settled.{FaultsSettled, TableSuffices};
@@ -81,12 +81,9 @@ fn test_replay(
 ) -> Verdict
     ensures { λ r. ⌜ r ≡ replayTests (netOf net (now (latches .entry)) (now (gates .entry))) «latch_count» «gate_count» depth words room ⌝ }
 {
-    let record = netlist_tests::test_record(net, latches, latch_count, gates, gate_count);
-    if let Verdict::Refused(_, _) = record {
-        return record;
-    }
-    if 255 < depth {
-        return Verdict::Refused(Refusal::Depth, 0);
+    let asked = call_unpacked::test_depth(net, latches, latch_count, gates, gate_count, depth);
+    if let Verdict::Refused(_, _) = asked {
+        return asked;
     }
     if words < replay_run::word_count(net) {
         return Verdict::Refused(Refusal::NoRoom, 0);

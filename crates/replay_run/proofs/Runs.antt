@@ -21,7 +21,7 @@ use Rattle.model.specs.Acceptance.{WithinLimits}
 use Rattle.model.proofs.Gather.{length-gather}
 use Rattle.model.proofs.Search.{firstWhere-is, first-unique}
 use Rattle.call_lists.specs.Delivered.{delivered}
-use Rattle.call_lists.proofs.Delivered.{length-delivered, delivered-next}
+use Rattle.call_lists.proofs.Delivered.{length-delivered, delivered-at}
 use Rattle.circuit_values.specs.WireTable.{entry, HasBelow}
 use Rattle.circuit_step.specs.Held.{HoldsState}
 use Rattle.circuit_step.proofs.Held.{code-in}
@@ -76,47 +76,6 @@ module _ {c : Netlist} (limits : WithinLimits c) (y : Said) (i : ℕ) {table : L
         counted = sym (length-line c (replayed c y i));
         leaves = w .leaves ∙ ap (λ xs. over xs old) (line-same c (q .has));
       }
-
--- n words in front, and what was behind them
-module _ (f : ℕ → ℕ) where
-  front : (n : ℕ) (new : List ℕ) → n ≤ length new → ((x : ℕ) → x < n → getD new x 0 ≡ f x) → take n new ≡ gather n (λ t. f t ∷ [])
-  unfolding gather
-  front zero new h each = refl
-  front (suc n) new h each =
-      take-suc new n 0 (omega arith) ∙ ap₂ (λ (xs : List ℕ) (x : ℕ). xs ++ x ∷ []) (front n new (omega arith) (λ x b. each x (omega arith))) (each n (omega arith))
-
-  length-front : (n : ℕ) → length (gather n (λ t. f t ∷ [])) ≡ n
-  length-front n = omega (arith, length-gather n 1 (λ t. f t ∷ []) (λ t h. refl))
-
-  pub delivered-by : (n : ℕ) (old new : List ℕ) → n ≤ length new → ((x : ℕ) → x < n → getD new x 0 ≡ f x) → drop n new ≡ drop n old
-      → new ≡ delivered n f old
-  unfolding delivered
-  delivered-by n old new h each behind =
-      sym (take-append-drop n new) ∙ ap₂ _++_ (front n new h each) (behind ∙ ap (λ k. drop k old) (sym (length-front n)))
-
-  pub behind-delivered : (n : ℕ) (old : List ℕ) → drop n (delivered n f old) ≡ drop n old
-  unfolding delivered
-  behind-delivered n old =
-      ap (λ k. drop k (gather n (λ t. f t ∷ []) ++ drop (length (gather n (λ t. f t ∷ []))) old)) (sym (length-front n))
-      ∙ drop-append-seam (gather n (λ t. f t ∷ [])) (drop (length (gather n (λ t. f t ∷ []))) old)
-      ∙ ap (λ k. drop k old) (length-front n)
-
-  pub delivered-at : (n : ℕ) (old : List ℕ) → n ≤ length old → (x : ℕ) → x < n → getD (delivered n f old) x 0 ≡ f x
-  delivered-at zero old l x h = absurd (omega arith)
-  delivered-at (suc n) old l x h =
-      let size : length (delivered n f old) ≡ length old = length-delivered f old n (omega arith) in
-      rw (← delivered-next f old n (omega arith))
-      (by-cases (ℕ-discrete x n)
-      (λ e. rw e (getD-set-same (delivered n f old) n (f n) 0 (omega arith)))
-      (λ e. getD-set-other (delivered n f old) n x (f n) 0 e ∙ delivered-at n old (omega arith) x (omega arith)))
-
--- a memory that is delivered anew
-pub delivered-again : (f g : ℕ → ℕ) (n : ℕ) (old : List ℕ) → n ≤ length old → delivered n f (delivered n g old) ≡ delivered n f old
-delivered-again f g n old h =
-    let size : length (delivered n g old) ≡ length old = length-delivered g old n h in
-    let size′ : length (delivered n f (delivered n g old)) ≡ length (delivered n g old) = length-delivered f (delivered n g old) n (omega arith) in
-    delivered-by f n old (delivered n f (delivered n g old)) (omega arith) (delivered-at f n (delivered n g old) (omega arith))
-    (behind-delivered f n (delivered n g old) ∙ behind-delivered g n old)
 
 -- the word that each is at first, by the record's fields
 pub given-word : (word u : ℕ) → u ≡ 0 → givenWord (startOf word u) ≡ word

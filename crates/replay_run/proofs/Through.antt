@@ -31,7 +31,8 @@ use Rattle.replay_frame.specs.Frames.{TouchedIs, FrameDone}
 use Rattle.replay_frame.specs.declared.FrameVerdict.{FrameVerdict}
 use Rattle.replay_frame.proofs.Replay.{length-line}
 use Rattle.replay_run.specs.Runs.{nextFirst, Shown, RunDone}
-use Rattle.replay_run.proofs.Runs.{first-next, delivered-by}
+use Rattle.call_lists.proofs.Delivered.{delivered-by}
+use Rattle.replay_run.proofs.Runs.{first-next}
 
 -- the lines of the first i frames
 abbrev pub linesTo : Netlist → Said → ℕ → List ℕ

@@ -1,5 +1,5 @@
 -- `answer_lines::same_text` meets its contract. The loop's invariant: the texts are the same if what is left of them is.
-use Prim.Native.Nat.{ℕ, _-_, _≤_}
+use Prim.Native.Nat.{_-_, _≤_}
 use mathlib.Core.Path.{_≡_, refl, sym, _∙_}
 use native.Mathlib.Omega.{arith}
 use lib.ListN.{length, drop}

@@ -1,12 +1,12 @@
 -- `answer_scan::scan_bytes` meets its contract. The loop's invariant: the first i bytes are taken.
-use Prim.Native.Nat.{ℕ, _-_, _≤_}
+use Prim.Native.Nat.{_-_, _≤_}
 use mathlib.Core.Path.{_≡_, refl, sym}
 use mathlib.Core.List.{[], _∷_}
 use native.Mathlib.Numerals.{add-one}
 use native.Mathlib.Omega.{arith}
 use lib.ListN.{length, getD, take}
 use lib.Seq.{take-suc, take-all}
-use Rattle.answer_scan.specs.Scan.{lineBegun, Holds, Taken}
+use Rattle.answer_scan.specs.Scan.{lineBegun, LineKept, Taken}
 use Rattle.answer_scan.proofs.Steps.{passed-taken}
 use Rattle.answer_scan.proofs.Pieces.{taken-then, behind-next}
 use Rattle.answer_scan.proofs.scan_bytes.Statement.{statement}
@@ -14,7 +14,7 @@ use Rattle.answer_scan.proofs.scan_bytes.Tie as tie
 
 abbrev Inv-loop : tie.InvT-loop
 Inv-loop signs₀ piece line₀ position₀ i₀ signs line position i =
-    (i ≤ length piece) × Holds position line
+    (i ≤ length piece) × LineKept position line
     × Taken (position₀ .progress) (lineBegun position₀ line₀) (take i piece) (position .progress) (lineBegun position line) signs₀ signs
 
 abbrev μ-loop : tie.MeasureT-loop

@@ -1,12 +1,10 @@
 -- `answer_signs::with_sign` meets its contract: each sign has its bit.
 use Prim.Native.Nat.{_%_}
-use mathlib.Core.Path.{_≡_}
-use mathlib.Core.Bool.{true, false}
 use native.Mathlib.Omega.{arith}
 use borrow.Author.Needs.{needs}
 use borrow.Author.Tests.{eq-eqb, ne-eqb, lt-ltb, le-ltb}
 use Rattle.model.specs.Bits.{odd}
-use Rattle.answer_signs.specs.Signs.{withSign}
+use Rattle.answer_signs.specs.Marks.{withSign}
 use Rattle.answer_signs.proofs.with_sign.Statement.{statement}
 use Rattle.answer_signs.proofs.with_sign.Tie as tie
 

@@ -9,7 +9,7 @@ use Rattle.model.specs.Circuit.{evaluate}
 use Rattle.model.proofs.Circuit.{evaluate-solves}
 use Rattle.netlist.specs.NetOf.{netOf}
 use Rattle.netlist.proofs.NetOf.{sizes-lists}
-use Rattle.circuit_values.specs.WireTable.{entry}
+use Rattle.netlist.specs.WireTable.{entry}
 use Rattle.circuit_values.proofs.WireTable.{below-start, below-fewer}
 use borrow.Author.Needs.{needs}
 use Rattle.circuit_values.proofs.evaluate.Statement.{statement}

@@ -1,9 +1,9 @@
 -- `circuit_values::put_gates` meets its contract. The loop's invariant: the table has every wire before gate g.
 use Prim.Native.Nat.{_-_, _≤_}
-use mathlib.Core.Path.{_≡_, refl}
+use mathlib.Core.Path.{_≡_}
 use mathlib.Core.List.{[]}
 use native.Mathlib.Omega.{arith}
-use Rattle.netlist.specs.NetOf.{netOf, alone}
+use Rattle.netlist.specs.NetOf.{netOf}
 use Rattle.netlist.proofs.NetOf.{sizes-lists}
 use Rattle.circuit_values.proofs.WireTable.{below-fewer, Worked, worked-none, worked-next}
 use Rattle.circuit_values.proofs.put_gates.Statement.{statement}

@@ -2,7 +2,7 @@
 use Prim.Native.Nat.{_-_, _≤_}
 use mathlib.Core.Path.{_≡_, refl}
 use native.Mathlib.Omega.{arith}
-use Rattle.circuit_values.specs.WireTable.{entry}
+use Rattle.netlist.specs.WireTable.{entry}
 use Rattle.circuit_values.proofs.WireTable.{Grown, grown-none, grown-next}
 use Rattle.circuit_values.proofs.put_sources.Statement.{statement}
 use Rattle.circuit_values.proofs.put_sources.Tie as tie

@@ -9,7 +9,7 @@ use Rattle.netlist.specs.Faults.{loopFaultBy}
 use Rattle.netlist_scan.specs.AnyLine.{anyLine}
 use Rattle.model.specs.Search.{anyBelow}
 use Rattle.model.proofs.Search.{any-none, any-next, any-never}
-use Rattle.netlist_tests.specs.Dependence.{entry}
+use Rattle.netlist.specs.WireTable.{entry}
 use Rattle.netlist_tests.proofs.any_loop.Statement.{statement}
 use Rattle.netlist_tests.proofs.any_loop.Tie as tie
 

@@ -1,12 +1,12 @@
 -- `netlist_tests::depends_on_read` meets its contract. The loop's invariant: the table has the sweep over the first g gates.
-use Prim.Native.Nat.{_+_, _-_, _/_, _≤_}
+use Prim.Native.Nat.{_+_, _-_, _/_, _≤_, _<_}
 use mathlib.Core.Path.{_≡_, refl, ap}
 use mathlib.Core.List.{[]}
 use native.Mathlib.Omega.{arith}
 use Rattle.model.specs.Netlist.{gateWire}
 use Rattle.model.specs.Circuit.{sweep, isRead, eitherWire, dependsOnRead}
 use Rattle.netlist.specs.NetOf.{netOf}
-use Rattle.netlist_tests.specs.Dependence.{Table}
+use Rattle.netlist.specs.WireTable.{HasAll}
 use Rattle.netlist.proofs.NetOf.{sizes-lists}
 use Rattle.netlist_tests.proofs.Dependence.{table-set, table-same, sweep-next}
 use Rattle.netlist_tests.proofs.depends_on_read.Statement.{statement}
@@ -14,7 +14,7 @@ use Rattle.netlist_tests.proofs.depends_on_read.Tie as tie
 
 abbrev Inv-loop : tie.InvT-loop
 Inv-loop net gates flags₀ first g₀ flags g =
-    (g ≤ net .gates) × Table (sweep eitherWire (netOf net [] gates) (isRead (netOf net [] gates)) g) flags
+    (g ≤ net .gates) × HasAll (sweep eitherWire (netOf net [] gates) (isRead (netOf net [] gates)) g) flags
 
 abbrev μ-loop : tie.MeasureT-loop
 μ-loop net gates flags₀ first g₀ flags g = net .gates - g
@@ -104,8 +104,8 @@ loop-again c =
     let g = turn .loop .g in
     let q = turn .loop .inv .1 in
     let own : turn .before .index .result + g ≡ gateWire d g = omega (arith, turn .before .index .ensures, turn .before .before .first-gate-wire .ensures) in
-    let left : d .left g / 2 ≤ 600 = omega (arith, start .pre .codes .left-fits g (c .before .before .before .before .if1 .taken), start .pre .sizes) in
-    let right : d .right g / 2 ≤ 600 = omega (arith, start .pre .codes .right-fits g (c .before .before .before .before .if1 .taken), start .pre .sizes) in (
+    let left : d .left g / 2 < 601 = omega (arith, start .pre .codes .left-fits g (c .before .before .before .before .if1 .taken), start .pre .sizes) in
+    let right : d .right g / 2 < 601 = omega (arith, start .pre .codes .right-fits g (c .before .before .before .before .if1 .taken), start .pre .sizes) in (
       omega arith,
       rw (own, c .before .before .wire-index .ensures, c .wire-index2 .ensures, q .has (d .left g / 2) left, q .has (d .right g / 2) right)
           (table-same (sweep-next eitherWire d (isRead d) g) (table-set q (gateWire d g) (omega (arith, start .pre .sizes)) (eitherWire (sweep eitherWire d (isRead d) g) (d .left g) (d .right g)))),

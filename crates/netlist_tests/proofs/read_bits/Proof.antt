@@ -3,13 +3,13 @@ use Prim.Native.Nat.{_-_, _≤_}
 use mathlib.Core.Bool.{true}
 use native.Mathlib.Omega.{arith}
 use Rattle.netlist.specs.NetOf.{netOf, alone}
-use Rattle.netlist_tests.specs.Dependence.{Table}
+use Rattle.netlist.specs.WireTable.{HasAll}
 use Rattle.netlist_tests.proofs.Dependence.{table-none, table-set, table-same, between, between-none, between-next, between-isRead}
 use Rattle.netlist_tests.proofs.read_bits.Statement.{statement}
 use Rattle.netlist_tests.proofs.read_bits.Tie as tie
 
 abbrev Inv-loop : tie.InvT-loop
-Inv-loop flags₀ last w₀ flags w = (w₀ ≤ w) × (w ≤ last) × Table (between w₀ w) flags
+Inv-loop flags₀ last w₀ flags w = (w₀ ≤ w) × (w ≤ last) × HasAll (between w₀ w) flags
 
 abbrev μ-loop : tie.MeasureT-loop
 μ-loop flags₀ last w₀ flags w = last - w

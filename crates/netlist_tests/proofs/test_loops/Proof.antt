@@ -9,7 +9,7 @@ use Rattle.refusals.specs.declared.Refusal.the-variants.{MemoryLoop}
 use Rattle.netlist.specs.NetOf.{netOf, alone}
 use Rattle.netlist.specs.Places.{lineAt}
 use Rattle.netlist.specs.Faults.{loopFaultBy, loopFault}
-use Rattle.netlist_tests.specs.Dependence.{entry}
+use Rattle.netlist.specs.WireTable.{entry}
 use Rattle.netlist.proofs.NetOf.{sizes-lists, limits-alone, lineAt-lists, loopFaultBy-lists}
 use Rattle.netlist.proofs.Places.{has-lineAt}
 use Rattle.netlist_tests.proofs.Lists.{any-loop-lists}

@@ -3,7 +3,7 @@ use mathlib.Core.Path.{sym, _∙_}
 use native.Mathlib.Omega.{arith}
 use borrow.Author.Needs.{needs}
 use Rattle.model.specs.Netlist.{lastWire}
-use Rattle.netlist.specs.NetOf.{netOf, alone}
+use Rattle.netlist.specs.NetOf.{alone}
 use Rattle.replay_call.proofs.ReplayCall.{trace-small}
 use Rattle.program_replay.proofs.trace_bytes.Statement.{statement}
 use Rattle.program_replay.proofs.trace_bytes.Tie as tie

@@ -1,6 +1,6 @@
 -- `program_replay::write_answer` meets its contract: one of the three texts, none longer than a refusal.
 use Prim.Native.Nat.{ℕ, _^_, _≤_, _<_}
-use mathlib.Core.Path.{_≡_, sym, _∙_}
+use mathlib.Core.Path.{sym, _∙_}
 use mathlib.Core.List.{[], _∷_, _++_}
 use native.Mathlib.Omega.{arith}
 use borrow.Author.Needs.{needs}
@@ -8,9 +8,8 @@ use borrow.Author.Tests.{eq-eqb, ne-eqb}
 use lib.ListN.{length, length-append}
 use Rattle.decimal.specs.Digits.{lineFeed, digits}
 use Rattle.decimal.proofs.Digits.{length-digits-ten}
-use Rattle.dimacs.specs.Text.{refusalText}
 use Rattle.dimacs.proofs.Text.{length-refusalText}
-use Rattle.program_replay.specs.Printed.{isBroken, answerText}
+use Rattle.program_replay.specs.Printed.{answerText}
 use Rattle.program_replay.proofs.write_answer.Statement.{statement}
 use Rattle.program_replay.proofs.write_answer.Tie as tie
 

@@ -3,18 +3,18 @@ use mathlib.Core.Path.{_≡_, sym, _∙_}
 use mathlib.Core.List.{[], _++_}
 use native.Mathlib.Omega.{arith}
 use borrow.Author.Needs.{needs}
-use lib.ListN.{length, take}
-use Rattle.answer_scan.specs.Scan.{Holds}
+use lib.ListN.{length}
+use Rattle.answer_scan.specs.Scan.{LineKept}
 use Rattle.replay.specs.SomeText.{BehindSome}
 use Rattle.replay.proofs.scan_file.Statement.{statement}
 use Rattle.replay.proofs.scan_file.Tie as tie
 
 abbrev Inv-loop : tie.InvT-loop
-Inv-loop file signs₀ piece₀ scan₀ left₀ signs piece scan left =
-    (length piece ≡ 65536) × Holds (scan .position) (scan .line) × BehindSome scan signs
+Inv-loop file signs₀ piece₀ scan₀ remaining₀ signs piece scan remaining =
+    (length piece ≡ 65536) × LineKept (scan .position) (scan .line) × BehindSome scan signs
 
 abbrev μ-loop : tie.MeasureT-loop
-μ-loop file signs₀ piece₀ scan₀ left₀ signs piece scan left = left
+μ-loop file signs₀ piece₀ scan₀ remaining₀ signs piece scan remaining = remaining
 
 large-buffer-requires : tie.Need-large-buffer-requires Inv-loop μ-loop
 large-buffer-requires c κs = search needs
@@ -48,8 +48,8 @@ returns c =
     let read = c .before .scan-bytes .ensures in
     (read .0, record { text = at .inv .2 .text ++ _; behind = read .1 (at .inv .2 .text) (at .inv .2 .behind) })
 
-sub-left : tie.Need-sub-left Inv-loop μ-loop
-sub-left c = omega arith
+sub-remaining : tie.Need-sub-remaining Inv-loop μ-loop
+sub-remaining c = omega arith
 
 loop-less : tie.Need-loop-less Inv-loop μ-loop
 loop-less c = omega arith
@@ -79,7 +79,7 @@ scan-file-spec =
     slice-aggregate-scan-bytes
     scan-bytes-requires
     returns
-    sub-left
+    sub-remaining
     loop-less
     loop-again
     returns-2)

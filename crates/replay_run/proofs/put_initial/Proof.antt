@@ -4,7 +4,8 @@ use mathlib.Core.List.{[]}
 use Rattle.model.specs.Variables.{base}
 use Rattle.model.specs.Claim.{idleOf}
 use Rattle.netlist.specs.NetOf.{netOf}
-use Rattle.replay_run.proofs.Runs.{initial-held, behind-delivered}
+use Rattle.call_lists.proofs.Delivered.{behind-delivered}
+use Rattle.replay_run.proofs.Runs.{initial-held}
 use borrow.Author.Needs.{needs}
 use Rattle.replay_run.proofs.put_initial.Statement.{statement}
 use Rattle.replay_run.proofs.put_initial.Tie as tie
