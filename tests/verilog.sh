@@ -281,19 +281,19 @@ no_names "no text for names" "there is no text" empty 8
 "$import_aag" 3 7 0 < "$work/merged.aag" > "$work/refused.aag"
 no_names "another text for names" "this is no ASCII AIGER text" refused 8
 
-# The page's commands, with Debian's yosys: another version may find another number of gates.
-if yosys -V | grep -q '^Yosys 0\.23 '; then
-  mkdir -p target
-  awk -v commands="$work/commands" -v shown="$work/shown" '
-    /^```/ { plain = !inside && $0 == "```"; inside = !inside; next }
-    plain && /^\$ / { print substr($0, 3) > commands; next }
-    plain { print > shown }' docs/VERILOG.md
-  check "the page has commands" [ "$(wc -l < "$work/commands")" -eq 9 ]
-  # another version of the solver may choose another run
-  shown() { if [ "$(cadical --version)" = sc2021 ]; then cat; else grep -v '^frame\|^ '; fi; }
-  check "the page's commands" diff <(shown < "$work/shown") <(bash "$work/commands" 2>&1 | shown)
-  check "the page's waveform" grep -q '^\$enddefinitions' target/faulty.vcd
-fi
+# The page's commands. Another version of the solver may choose another run, and another yosys may make other gates, or name registers in another
+# order; then what depends on it is not compared.
+mkdir -p target
+awk -v commands="$work/commands" -v shown="$work/shown" '
+  /^```/ { plain = !inside && $0 == "```"; inside = !inside; next }
+  plain && /^\$ / { print substr($0, 3) > commands; next }
+  plain { print > shown }' docs/VERILOG.md
+check "the page has commands" [ "$(wc -l < "$work/commands")" -eq 9 ]
+hidden='^$'
+[ "$(cadical --version)" = sc2021 ] || hidden="$hidden\\|^frame\\|^ "
+yosys -V | grep -q '^Yosys 0\.23 ' || hidden="$hidden\\|^frame\\|^ \\|^aag "
+check "the page's commands" diff <(grep -v "$hidden" "$work/shown") <(bash "$work/commands" 2>&1 | grep -v "$hidden")
+check "the page's waveform" grep -q '^\$enddefinitions' target/faulty.vcd
 
 echo "$passed passed, $failed failed"
 [ "$failed" -eq 0 ]
