@@ -117,6 +117,15 @@ translated reset 1 2 chip 1 2 "$work/reset.v"
 chip '' > "$work/-a b.v"
 translated odd-name 1 2 -- chip 1 2 "$work/-a b.v"
 
+# m and n exchanged fit the same number of outputs: the import takes the text for another chip, and the names tell.
+check "m and n exchanged: imported" same "0 0" "$("$importer" verdict "$work/wires.aag" 2 1 0)"
+check "m and n exchanged: noticed" same "chip: input 5 of 6 is read_data[1], and read_data is due" \
+  "$(awk -v top=chip -v m=2 -v n=1 -f scripts/aag_ports.awk "$work/wires.aag")"
+# A refusal is printed where the sheet should be, and found there.
+"$import_aag" 1 3 0 < "$work/wires.aag" > "$work/refused.sheet"
+check "a refused import: told" same "$work/refused.sheet: this is no sheet but the refusal of an import: 12 (interface)" \
+  "$(bash scripts/find.sh "$work/refused.sheet" 1 2>&1 | head -n 1)"
+
 # What yosys writes by itself: an input that is wired to an output stands behind the read bits, and the import takes that; a register that
 # does not start as 0 has a third number, and that is 11.
 plain() { # name, Verilog
