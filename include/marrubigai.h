@@ -15,8 +15,8 @@
 /* the version of this interface: the first number goes up where a program that was written for the version before has to be changed, the
  * second where something is added; while the first is 0, the second goes up for both */
 #define MARRUBIGAI_VERSION_MAJOR 0
-#define MARRUBIGAI_VERSION_MINOR 6
-#define MARRUBIGAI_VERSION "0.6"
+#define MARRUBIGAI_VERSION_MINOR 7
+#define MARRUBIGAI_VERSION "0.7"
 
 #ifdef __cplusplus
 extern "C" {
@@ -36,7 +36,8 @@ typedef struct {
 typedef struct { marrubigai_code next; uint32_t reset; } marrubigai_latch;
 typedef struct { marrubigai_code left, right; } marrubigai_gate;
 
-/* number is 0 where nothing is refused; what stands beside a refusal is all zeros, but for a running record that is to move on or back. A count is of numbers or bytes written. */
+/* number is 0 where nothing is refused; what stands beside a refusal is all zeros, but for a running record that was not to start, which is as it was
+ * handed in. A count is of numbers or bytes written. */
 typedef struct { uint32_t number, place; size_t count; } marrubigai_count_reply;
 typedef struct { uint32_t number, place, variables, clauses; } marrubigai_heading_reply;
 typedef struct { uint32_t number, place; marrubigai_netlist net; } marrubigai_sheet_reply;
@@ -91,8 +92,9 @@ marrubigai_sheet_reply marrubigai_read(const uint8_t *file, size_t bytes, marrub
 
 /* imports a netlist in ASCII AIGER, for a memory of m address bits and n data bits whose words all start as `word`, or as anything where
  * `unknown` is 1 (`word` then counts for nothing; a number above 1 is refused): the last n inputs of the text are the read bits, in order from
- * bit 0; its outputs are the m address bits, the n write-data bits, write enable, read enable and the property, m + n + 3 in all. Record and lists as where a sheet is read; every latch has reset 0. No order or name of inputs is
- * tested beyond their number: docs/LIBRARY.md says what to look at in a text that a tool has written. */
+ * bit 0; its outputs are the m address bits, the n write-data bits, write enable, read enable and the property, m + n + 3 in all. Record and
+ * lists as where a sheet is read; every latch has reset 0. No order or name of inputs is tested beyond their number: docs/LIBRARY.md says what to
+ * look at in a text that a tool has written. */
 marrubigai_sheet_reply marrubigai_import(const uint8_t *text, size_t bytes, uint32_t m, uint32_t n, uint32_t word, uint32_t unknown,
                                          marrubigai_latch *latches, size_t latch_room, marrubigai_gate *gates, size_t gate_room);
 
@@ -115,7 +117,8 @@ marrubigai_count_reply marrubigai_write_group(marrubigai_netlist net, const marr
                                               uint32_t j, uint32_t i, int32_t *out, size_t room);
 
 /* moves a running record, which the caller keeps: to frame 0 of its depth (START: frame and base are not looked at), one frame on, or back to frame
- * 0. The base is then that of the frame. A refused start answers zeros; another refused move answers the record as it was handed in. */
+ * 0. The base is then that of the frame. A refused start answers zeros; another refused move answers the record as it was handed in, and so does a
+ * number that is no move, which is 8. */
 marrubigai_position_reply marrubigai_move(marrubigai_netlist net, const marrubigai_latch *latches, size_t latch_count,
                                           const marrubigai_gate *gates, size_t gate_count, marrubigai_position position, uint32_t way);
 
@@ -137,7 +140,8 @@ marrubigai_count_reply marrubigai_write_sheet(marrubigai_netlist net, const marr
 /* runs a solver's answer, in the SAT Competition's output form, through the frames 0 to depth. Only the inputs are taken from it, and the read
  * bits of frame 0 where that does not read; from an unknown start also the read bits of a frame that reads a word which no earlier frame read or
  * wrote: they are this word at first, and a word that no frame reads or writes is 0. The chip is stepped with its whole memory, the first 2^m words
- * lent, whatever they hold. `first` is then the first frame that breaks the property, and the trace holds for each frame a line of V digits 0 or 1, wire 1 first: (depth + 1)(V + 1) bytes.
+ * lent, whatever they hold. `first` is then the first frame that breaks the property, and the trace holds for each frame a line of V digits 0 or 1,
+ * wire 1 first: (depth + 1)(V + 1) bytes.
  * Where the answer is `s UNSATISFIABLE`, claimed is 1 and nothing was written. 14 where it is malformed, or gives something that the run is fed no
  * value or both; 15 where the run breaks nothing; 9 where memory or trace are shorter than their need, tested before the answer counts. After 14 the
  * first 2^m words are 0; after 15, and where a frame is answered, they are the chip's after frame `depth`; after any other refusal they are as they

@@ -43,10 +43,28 @@ trap 'rm -rf -- "$work"' EXIT
 cat < "$sheet" > "$work/sheet" || fail "$sheet: it could not be read"
 if [[ -f $names ]]; then cat < "$names" > "$work/names" || fail "$names: it could not be read"; else : > "$work/names"; fi
 
+# The word of a refusal's number, and what to look for.
+explain() { IFS=$'\t' read -r _ word hint < <(grep "^$1"$'\t' "$here/refusals.txt"); }
+
+# Where the file is what `import_aag` prints of a text that it refuses, nothing is asked of `frames`, to which it would be a ragged sheet.
+refused_import() {
+  local number place word="" hint at=""
+  [[ $(head -c 28 "$work/sheet" | LC_ALL=C tr -d '\0') =~ ^refused([ 0-9]{10})([ 0-9]{10})$ ]] || return
+  read -r number place <<< "${BASH_REMATCH[1]} ${BASH_REMATCH[2]}"
+  explain "$number"
+  [[ -n $word ]] || return
+  case $number in
+    11 | 13) at=" at line $place of the text" ;;
+    *) [[ $place = 0 ]] || at=" at line $place of the sheet that it would be" ;;
+  esac
+  fail "$sheet: this is no sheet but the refusal of an import: $number ($word)$at" "$hint"
+}
+refused_import
+
 # A refusal with its word, the line that it names, and what to look for. A byte that cannot be printed is shown as a question mark.
 refused() { # number, place
   local word hint at=""
-  IFS=$'\t' read -r _ word hint < <(grep "^$1"$'\t' "$here/refusals.txt")
+  explain "$1"
   if [[ $2 -gt 0 ]]; then
     at=" at line $2, behind the last"
     if [[ $(wc -c < "$work/sheet") -ge $((32 * $2)) ]]; then

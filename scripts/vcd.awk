@@ -7,11 +7,20 @@ function id_of(signal,   id) { # printable characters, as many as it takes: digi
   return id
 }
 
-# A signal of the codes that follow it in its scope. A name that begins with $ or [ would be taken for a keyword or a range.
-function declare(label, its_codes,   parts, width) {
+# A signal of the codes that follow it in its scope. A name that begins with $ or [ would be taken for a keyword or a range; one that ends in the
+# range of its bits, as sum[6:4], has this range.
+function declare(label, its_codes,   parts, width, range, ends) {
   bits[++signals] = its_codes
   width = split(its_codes, parts, " ")
-  print "$var wire " width " " id_of(signals) " " (label ~ /^[$[]/ ? "_" : "") label (width > 1 ? " [" width - 1 ":0]" : "") " $end"
+  range = width > 1 ? "[" width - 1 ":0]" : ""
+  if (match(label, /[^[]\[[0-9]+:[0-9]+\]$/)) {
+    split(substr(label, RSTART + 2), ends, /[]:]/)
+    if (ends[1] - ends[2] + 1 == width) {
+      range = substr(label, RSTART + 1)
+      label = substr(label, 1, RSTART)
+    }
+  }
+  print "$var wire " width " " id_of(signals) " " (label ~ /^[$[]/ ? "_" : "") label (range == "" ? "" : " " range) " $end"
 }
 
 function scope(label) { print "$scope module " label " $end" }

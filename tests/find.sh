@@ -151,6 +151,25 @@ refused 7 "(depth)" wrong.sheet 256
 refused 7 "(depth)" --least wrong.sheet 256
 refused 7 "(depth)" wrong.sheet 999999999
 
+# what `import_aag` prints of a text that it refuses, kept as a sheet: the place is a line of the text, or of the sheet that was not written
+imported() { # number, place, what is said of the place
+  printf 'refused%10d%10d\n' "$1" "$2" | wrong_sheet
+  check "refusal $1 of an import has a hint" [ -n "$(hint "$1")" ]
+  ends "refusal $1 of an import" 1 "" "wrong.sheet: this is no sheet but the refusal of an import: $1 ($(grep -P "^$1\t" "$here/scripts/refusals.txt" | cut -f 2))$3
+$(hint "$1")" wrong.sheet 1
+}
+imported 11 8 " at line 8 of the text"
+imported 12 0 ""
+imported 13 8 " at line 8 of the text"
+imported 4 1 " at line 1 of the sheet that it would be"
+imported 4 2 " at line 2 of the sheet that it would be"
+imported 17 246 " at line 246 of the sheet that it would be"
+imported 6 3 " at line 3 of the sheet that it would be"
+printf 'refused%10d%10d\n' 99 0 | wrong_sheet
+refused 1 "(ragged)" wrong.sheet 1
+printf 'refused to be read' | wrong_sheet
+refused 1 "(ragged)" wrong.sheet 1
+
 # the words are those of the designers' page
 page_words() { sed -n '/^## Refusals$/,/^## /p' docs/FORMAT.md | sed -n 's/^| \([0-9]*\) | \([a-z ]*\) | .*/\1 \2/p'; }
 check "the words are those of docs/FORMAT.md" same "$(page_words)" "$(cut -f 1,2 --output-delimiter=' ' scripts/refusals.txt)"

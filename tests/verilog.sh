@@ -117,6 +117,15 @@ translated reset 1 2 chip 1 2 "$work/reset.v"
 chip '' > "$work/-a b.v"
 translated odd-name 1 2 -- chip 1 2 "$work/-a b.v"
 
+# m and n exchanged fit the same number of outputs: the import takes the text for another chip, and the names tell.
+check "m and n exchanged: imported" same "0 0" "$("$importer" verdict "$work/wires.aag" 2 1 0)"
+check "m and n exchanged: noticed" same "chip: input 5 of 6 is read_data[1], and read_data is due" \
+  "$(awk -v top=chip -v m=2 -v n=1 -f scripts/aag_ports.awk "$work/wires.aag")"
+# A refusal is printed where the sheet should be, and found there.
+"$import_aag" 1 3 0 < "$work/wires.aag" > "$work/refused.sheet"
+check "a refused import: told" same "$work/refused.sheet: this is no sheet but the refusal of an import: 12 (interface)" \
+  "$(bash scripts/find.sh "$work/refused.sheet" 1 2>&1 | head -n 1)"
+
 # What yosys writes by itself: an input that is wired to an output stands behind the read bits, and the import takes that; a register that
 # does not start as 0 has a third number, and that is 11.
 plain() { # name, Verilog
@@ -200,19 +209,100 @@ check "no yosys" same "yosys is missing: Debian has a package yosys" "$(PATH=$wo
 check "a binary file that cannot be written" same "$work/none/x: it could not be written" \
   "$(bash scripts/verilog_to_aag.sh --aig "$work/none/x" chip 1 2 "$work/chip.v" 2>&1 | tail -n 1)"
 
-# The page's commands, with Debian's yosys: another version may find another number of gates.
-if yosys -V | grep -q '^Yosys 0\.23 '; then
-  mkdir -p target
-  awk -v commands="$work/commands" -v shown="$work/shown" '
-    /^```/ { plain = !inside && $0 == "```"; inside = !inside; next }
-    plain && /^\$ / { print substr($0, 3) > commands; next }
-    plain { print > shown }' docs/VERILOG.md
-  check "the page has commands" [ "$(wc -l < "$work/commands")" -eq 9 ]
-  # another version of the solver may choose another run
-  shown() { if [ "$(cadical --version)" = sc2021 ]; then cat; else grep -v '^frame\|^ '; fi; }
-  check "the page's commands" diff <(shown < "$work/shown") <(bash "$work/commands" 2>&1 | shown)
-  check "the page's waveform" grep -q '^\$enddefinitions' target/faulty.vcd
-fi
+# The names to show a run with (scripts/aag_names.awk). yosys finds that bits 0, 3 and 7 of `last` are 0 and that two pairs of the others are the
+# same register, which then has all their names, that of the port too; of `h` it keeps one bit. All bits of an input are there, read or not.
+names() { awk -v n="$2" -f scripts/aag_names.awk "$work/$1.aag" 2>&1; }
+named() { names "$1" "$2" | cut -d ' ' -f 1 | tr '\n' ' '; }
+code_of() { awk -v at="$2" '$1 == word { print $(2 + at) }' word="$1" "$work/merged.names"; } # word, which of its codes
+cat > "$work/merged.v" <<'verilog'
+module chip (
+    input clock, input go, input large, input [7:0] data,
+    input [7:0] read_data,
+    output [2:0] address, output [7:0] write_data,
+    output write_enable, output read_enable, output property_holds
+);
+  (* keep *) reg [7:0] last = 0;
+  reg [2:0] at = 0;
+  always @(posedge clock) begin last <= large ? 8'd100 : 8'd50; at <= at + 1; end
+  assign address = at;
+  assign write_data = last;
+  assign write_enable = 1;
+  assign read_enable = 1;
+  assign property_holds = !(last == 8'd100 & data[7]);
+endmodule
+verilog
+translated merged 3 8 chip 3 8 "$work/merged.v"
+check "merged registers: the words" same "large data address[2:0] last[2:1] last[6:4] write_data[6:4] " "$(named merged 8)"
+names merged 8 > "$work/merged.names"
+check "merged registers: bits 1 and 4 are one" same "$(code_of 'last[2:1]' 0)" "$(code_of 'last[6:4]' 0)"
+check "merged registers: bits 2 and 6 are one" same "$(code_of 'last[2:1]' 1)" "$(code_of 'last[6:4]' 2)"
+"$import_aag" 3 8 0 < "$work/merged.aag" > "$work/merged.sheet"
+check "merged registers: a run" same 10 "$(bash scripts/find.sh --least --vcd "$work/merged.vcd" "$work/merged.sheet" 2 > "$work/found" 2>&1; echo $?)"
+broken=$(grep 'property broken$' "$work/found")
+check "merged registers: 100 is 2 in bits 2 to 1 and 6 in bits 6 to 4" same "1 2 6 6 100" \
+  "$(awk '{ print $4, $5, $6, $7, $(NF - 5) }' <<< "$broken")"
+check "merged registers: the waveform has the ranges" same "[2:0] [2:1] [6:4] [6:4]" \
+  "$(sed -n '/module words/,/upscope/s/^\$var wire [0-9]* [^ ]* \(address\|last\|write_data\) \(.*\) \$end$/\2/p' "$work/merged.vcd" | tr '\n' ' ' | sed 's/ $//')"
+cat > "$work/dropped.v" <<'verilog'
+module chip (
+    input clock, input [3:0] x,
+    input read_data,
+    output address, output write_data,
+    output write_enable, output read_enable, output property_holds
+);
+  reg [3:0] h = 0;
+  always @(posedge clock) h <= x;
+  assign address = 0;
+  assign write_data = x[0];
+  assign write_enable = 1;
+  assign read_enable = 1;
+  assign property_holds = !(h[3] & read_data);
+endmodule
+verilog
+translated dropped 1 1 chip 1 1 "$work/dropped.v"
+check "registers left out" same "x 4 6 8 10
+read_data 14
+h[3] 12" "$(names dropped 1)"
+# by hand: names parted by spaces, an input that nothing reads in any bit, a bit that is missing between, an index that is none
+printf 'aag 6 3 3 5 0\n2\n4\n6\n8 2\n10 8\n12 10\n0\n12\n1\n1\n7\n' > "$work/by_hand.aag"
+printf 'i0 go\ni1 clock\ni2 read_data\nl0 a[0] b[1]\nl1 a[2] b[2] c\nl2 b[4] d[01]\nc\n' >> "$work/by_hand.aag"
+check "names by hand" same "go 2
+read_data 12
+a[0] 6
+a[2] 8
+b[2:1] 6 8
+b[4] 10
+c 8
+d[01] 10" "$(names by_hand 1)"
+no_names() { # what, message, text, n
+  check "$1" same "aag_names.awk: $2" "$(names "$3" "$4")"
+  names "$3" "$4" > /dev/null
+  check "$1: status" same 1 "$?"
+}
+for n in "" 0 x 20; do no_names "n '$n'" "'$n' is no number of data bits of this text; say it by -v n=8, for eight" merged "$n"; done
+no_names "n too small" "with 7 data bits, input 12 would be read_data[0], and it is read_data[1]" merged 7
+no_names "n too large" "with 9 data bits, input 10 would be read_data[0], and it is data[7]" merged 9
+no_names "n of one bit" "with 1 data bits, input 18 would be read_data, and it is read_data[7]" merged 1
+sed '/^c$/,$d; /^[ilo]/d' "$work/merged.aag" > "$work/nameless.aag"
+no_names "a text without symbols" "with 8 data bits, input 11 would be read_data[0], and it has no name" nameless 8
+: > "$work/empty.aag"
+no_names "no text for names" "there is no text" empty 8
+"$import_aag" 3 7 0 < "$work/merged.aag" > "$work/refused.aag"
+no_names "another text for names" "this is no ASCII AIGER text" refused 8
+
+# The page's commands. Another version of the solver may choose another run, and another yosys may make other gates, or name registers in another
+# order; then what depends on it is not compared.
+mkdir -p target
+awk -v commands="$work/commands" -v shown="$work/shown" '
+  /^```/ { plain = !inside && $0 == "```"; inside = !inside; next }
+  plain && /^\$ / { print substr($0, 3) > commands; next }
+  plain { print > shown }' docs/VERILOG.md
+check "the page has commands" [ "$(wc -l < "$work/commands")" -eq 9 ]
+hidden='^$'
+[ "$(cadical --version)" = sc2021 ] || hidden="$hidden\\|^frame\\|^ "
+yosys -V | grep -q '^Yosys 0\.23 ' || hidden="$hidden\\|^frame\\|^ \\|^aag "
+check "the page's commands" diff <(grep -v "$hidden" "$work/shown") <(bash "$work/commands" 2>&1 | grep -v "$hidden")
+check "the page's waveform" grep -q '^\$enddefinitions' target/faulty.vcd
 
 echo "$passed passed, $failed failed"
 [ "$failed" -eq 0 ]
