@@ -1,5 +1,5 @@
-//! Every refusal with its place at its boundaries, as tables (RULES T1 to T10, T34 to T41, P4; the empty
-//! start field of K7, and K8).
+//! Every refusal with its place at its boundaries, as tables (RULES T1 to T10, T34 to T37, T39 to
+//! T41, T53, T54 and P4; the empty start field of K7, and K8).
 
 use super::check_examples::{accepted, input, of_sizes, FULL_RUN, RICH, UNKNOWN_RICH};
 use super::formula::{frames, group_call, heading, refusal_text, Group};
