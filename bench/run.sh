@@ -5,7 +5,7 @@
 # exported call, which tests its record each time, the heading of depth 255, and the import of ASCII AIGER texts (bench/text.rs); and `replay`
 # (bench/replay.sh). Every figure is the best of several repetitions, all programs and inputs in turn, input from a file, output to /dev/null;
 # the time is the process's processor time (user and system), so that other work on the machine matters little; instructions are counted once,
-# by valgrind. It says which of our own targets (1.25 times, 4 times, 4 MiB, 20%, 0.2 ms, 50 ms) are reached, and fails only where a program
+# by valgrind where it is installed. It says which of our own targets (1.25 times, 4 times, 4 MiB, 20%, 0.2 ms, 50 ms) are reached, and fails only where a program
 # fails or the texts differ.
 # Arguments: repetitions (100; a tenth as many of the slow generator and of the imports), and `worst` for the worst import known as well, which
 # takes a minute; the program is target/bin/frames unless FRAMES names another.
@@ -15,7 +15,7 @@ repetitions=${1:-100}
 worst=${2:-}
 [ -z "$worst" ] || [ "$worst" = worst ] || { echo "arguments: repetitions, worst" >&2; exit 2; }
 frames=${FRAMES:-target/bin/frames}
-for command in cc rustc awk cmp valgrind "$frames"; do
+for command in cc rustc awk cmp "$frames"; do
   command -v "$command" >/dev/null 2>&1 || { echo "$command is missing" >&2; exit 1; }
 done
 
@@ -63,7 +63,7 @@ echo "the three programs print the same; measuring $repetitions times" >&2
 "$work/measure" "$repetitions" "$input" "$work/library" "${fast[@]}" > "$work/fast.out"
 "$work/measure" $(((repetitions + 9) / 10)) "${slow[@]}" > "$work/slow.out"
 headings=$("$work/library" headings < "$input")
-counted() { valgrind --tool=callgrind --callgrind-out-file=/dev/null "$1" < "$work/input.63" 2>&1 > /dev/null | awk '/Collected/ { print $NF }'; }
+counted() { ! command -v valgrind > /dev/null 2>&1 || valgrind --tool=callgrind --callgrind-out-file=/dev/null "$1" < "$work/input.63" 2>&1 > /dev/null | awk '/Collected/ { print $NF }'; }
 instructions="$(counted "$frames") $(counted "$work/optimised")"
 
 awk -v inputs="${inputs[*]}" -v bytes="${bytes[*]}" -v headings="$headings" -v instructions="$instructions" '
@@ -105,7 +105,7 @@ awk -v inputs="${inputs[*]}" -v bytes="${bytes[*]}" -v headings="$headings" -v i
     say(flat >= -20 && flat <= 20, "cost per byte from depth 63 to 255 within 20%, the time of depth 0 taken off", sprintf("%+.0f%%", flat))
     printf "         the same of the optimised generator: %+.0f%%\n", change(optimised, optimised[0], size[0])
     printf "         with the time of depth 0: frames %+.0f%%, the optimised generator %+.0f%%\n", change(time, 0, 0), change(optimised, 0, 0)
-    printf "         instructions for each byte at depth 63: frames %.2f, the optimised generator %.2f\n", executed[1] / size[63], executed[2] / size[63]
+    if (executed[2]) printf "         instructions for each byte at depth 63: frames %.2f, the optimised generator %.2f\n", executed[1] / size[63], executed[2] / size[63]
     say(library <= time[255], "depth 255, all groups through the library, at most the time of frames", sprintf("%.2f (%.2f ms)", library / time[255], library / 1000))
     say(heading[1] < 200 && heading[2] < 200, "a heading of depth 255 in under 0.2 ms", sprintf("%.1f µs, of an unknown start %.1f µs", heading[1], heading[2]))
   }' "$work/fast.out" "$work/slow.out"
