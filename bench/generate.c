@@ -1,5 +1,5 @@
-// What `frames` is measured against: the same text from the same input, without any test of the input; the start word must be given. The clauses are made here;
-// how numbers are written is in the header that OUTPUT names.
+// What `frames` is measured against: the same text from the same input, without any test of the input. The clauses are made here; how numbers
+// are written is in the header that OUTPUT names.
 
 #include <stdint.h>
 #include <stdio.h>
@@ -15,6 +15,7 @@ typedef struct { int next, reset; } Latch;
 
 static int depth, inputs, latches, gates, m, n, wires, first_latch, first_read, first_gate;
 static unsigned start_word;
+static int unknown_start;
 static int write_enable, read_enable, property;
 static Latch latch[MOST_WIRES];
 static Gate gate[MOST_WIRES];
@@ -36,7 +37,7 @@ static void read_input(void) {
     unsigned c = field(line, 2);
     switch (line[0]) {
       case 'N': inputs = a; latches = b; gates = (int)c; break;
-      case 'M': m = a; n = b; start_word = c; break;
+      case 'M': m = a; n = b; start_word = c; unknown_start = line[3 * FIELD] == ' '; break;
       case 'L': latch[latch_lines++] = (Latch){a, b}; break;
       case 'G': gate[gate_lines++] = (Gate){a, b}; break;
       case 'A': address[address_lines++] = a; break;
@@ -99,6 +100,23 @@ static Out wires_group(Out out, int i) {
   return out;
 }
 
+// Z of a frame (RULES G11)
+static int untouched(int i) {
+  int base = frame_base(i);
+  return i == 0 ? literal(read_enable, base) : pair_base(base, 0) + m + 3;
+}
+
+// RULES G32: of these only Z of frame 0 may be a constant
+static Out agreement(Out out, int all_equal, int j, int i) {
+  int zj = untouched(j), zi = untouched(i), earlier = frame_base(j) + first_read, later = frame_base(i) + first_read;
+  if (zj == FALSE) return out;
+  for (int t = 0; t < n; t++) {
+    out = end(put(put(put(keep(put(out, -all_equal), -zj), -zi), -(later + t)), earlier + t));
+    out = end(put(put(put(keep(put(out, -all_equal), -zj), -zi), later + t), -(earlier + t)));
+  }
+  return out;
+}
+
 static Out pair_group(Out out, int j, int i) {
   int reader = frame_base(i), writer = frame_base(j);
   int base = pair_base(reader, j);
@@ -117,17 +135,16 @@ static Out pair_group(Out out, int j, int i) {
   out = and_gate(out, none_since, -valid, newer);
   out = and_gate(out, selected, valid, newer);
   for (int t = 0; t < n; t++) out = equal_if(out, selected, reader + first_read + t, literal(write_data[t], writer));
-  return out;
+  return unknown_start ? agreement(out, all_equal, j, i) : out;
 }
 
 static Out closing_group(Out out, int i) {
-  int base = frame_base(i), re = literal(read_enable, base);
-  int untouched = i == 0 ? re : pair_base(base, 0) + m + 3;
-  for (int t = 0; t < n; t++) out = equal_if(out, untouched, base + first_read + t, start_word >> t & 1 ? TRUE : FALSE);
+  int base = frame_base(i), re = literal(read_enable, base), z = untouched(i);
+  for (int t = 0; t < n && !unknown_start; t++) out = equal_if(out, z, base + first_read + t, start_word >> t & 1 ? TRUE : FALSE);
   for (int t = 0; t < n && i > 0; t++) out = equal_if(out, -re, base + first_read + t, frame_base(i - 1) + first_read + t);
-  if (re == FALSE || untouched == TRUE) return out;
-  if (re == TRUE && untouched == FALSE && i == 0) return empty(out);
-  out = keep(keep(out, -re), untouched);
+  if (re == FALSE || z == TRUE) return out;
+  if (re == TRUE && z == FALSE && i == 0) return empty(out);
+  out = keep(keep(out, -re), z);
   for (int j = 0; j < i; j++) out = put(out, pair_base(base, j) + m + 4);
   return end(out);
 }
@@ -139,7 +156,8 @@ static Out property_group(Out out) {
   return end(out);
 }
 
-// How many clauses are written: of a gate, of an equality, of the pairs and the closings. Any variable stands for all, 2.
+// How many clauses are written: of a gate, of an equality, of the pairs, of the closings, of the agreement that an unknown start asks of the pairs,
+// those with frame 0 for themselves (RULES G34). Any variable stands for all, 2.
 enum { VARIABLE = 2 };
 
 static int kind(int code) { return code < 2 ? literal(code, 0) : VARIABLE; }
@@ -157,11 +175,18 @@ static int pair_clauses(int newer) {
   return count;
 }
 
-static int closing_clauses(int untouched, int later) {
-  int re = kind(read_enable), count = written(-re, untouched, FALSE);
-  for (int t = 0; t < n; t++)
-    count += equal_clauses(untouched, start_word >> t & 1 ? TRUE : FALSE) + (later ? equal_clauses(-re, VARIABLE) : 0);
+static int closing_clauses(int z, int later) {
+  int re = kind(read_enable), count = written(-re, z, FALSE);
+  for (int t = 0; t < n; t++) {
+    if (!unknown_start) count += equal_clauses(z, start_word >> t & 1 ? TRUE : FALSE);
+    if (later) count += equal_clauses(-re, VARIABLE);
+  }
   return count;
+}
+
+static int agreement_clauses(void) {
+  int with_first = kind(read_enable) == FALSE ? 0 : depth;
+  return unknown_start ? 2 * n * (with_first + depth * (depth - 1) / 2) : 0;
 }
 
 static int all_clauses(void) {
@@ -169,7 +194,8 @@ static int all_clauses(void) {
   for (int g = 0; g < gates; g++) gate_clauses += and_clauses(kind(gate[g].left), kind(gate[g].right));
   for (int q = 0; q < latches; q++) latch_clauses += kind(latch[q].next) == VARIABLE ? 2 : 1;
   return 1 + latches + depth * latch_clauses + (depth + 1) * gate_clauses + depth * pair_clauses(re) +
-         depth * (depth - 1) / 2 * pair_clauses(VARIABLE) + closing_clauses(re, 0) + depth * closing_clauses(VARIABLE, 1) + (property != 0);
+         depth * (depth - 1) / 2 * pair_clauses(VARIABLE) + agreement_clauses() + closing_clauses(re, 0) +
+         depth * closing_clauses(VARIABLE, 1) + (property != 0);
 }
 
 int main(void) {

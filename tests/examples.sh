@@ -64,10 +64,14 @@ sed -n '/^\$ .*target\/bin\/frames$/,/^```$/p' README.md | sed '1d;$d' > "$work/
 { printf '%10d\n' 1; cat examples/echo/chip.sheet; } | "$FRAMES" > "$work/printed"
 check "the README's formula" diff "$work/formula" "$work/printed"
 
-# What the demo says is proved is the README's section: its five points, and nothing behind them.
+# What the demo says is proved is the README's section: its points, numbered from 1, as many as docs/TRUST.md says.
 bash scripts/proved.sh > "$work/proved"
 check "what is proved is told" [ $? -eq 0 ]
-check "in five points" [ "$(grep -cE '^[1-5]\. [A-Z]' "$work/proved")" -eq 5 ]
+words=(none one two three four five six seven eight nine ten)
+told=$(sed -n 's/.*README.md#what-is-proved) tells in \([a-z]*\) points.*/\1/p' docs/TRUST.md)
+points=$(grep -cE '^[0-9]+\. ' "$work/proved")
+check "in as many points as docs/TRUST.md says: ${told:-none}" [ "${words[points]:-more}" = "$told" ]
+check "numbered from 1" [ "$(grep -oE '^[0-9]+\. [A-Z]' "$work/proved" | tr -dc '0-9\n')" = "$(seq "$points")" ]
 check "of one section" [ "$(grep -c '^#' "$work/proved")" -eq 0 ]
 
 echo "$passed passed, $failed failed"

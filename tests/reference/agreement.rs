@@ -1,5 +1,5 @@
 //! Demand 3: satisfying assignments and runs that break the property match one another
-//! (RULES A2 to A16), from every starting memory where the start is unknown.
+//! (RULES A2 to A4, A6, A7, A10 and A12 to A16), from every starting memory where the start is unknown.
 
 use std::collections::HashSet;
 

@@ -1,5 +1,5 @@
-//! Every refusal with its place at its boundaries, as tables (RULES T1 to T10, T34 to T41, P4; the empty
-//! start field of K7, and K8).
+//! Every refusal with its place at its boundaries, as tables (RULES T1 to T10, T34 to T37, T39 to
+//! T41, T53, T54 and P4; the empty start field of K7, and K8).
 
 use super::check_examples::{accepted, input, of_sizes, FULL_RUN, RICH, UNKNOWN_RICH};
 use super::formula::{frames, group_call, heading, refusal_text, Group};
@@ -208,6 +208,18 @@ const SHEETS: [(&str, Verdict); 91] = [
     ("N 1 0 0/M 1 1 0/A 2/D 2/C 1 5 5", (MEMORY_LOOP, 5)),
     ("N 1 0 0/M 2 1 0/A 2/A 4/D 2/C 1 4 5", (MEMORY_LOOP, 4)),
     ("N 1 0 0/M 2 1 0/A 4/A 2/D 2/C 1 1 5", (MEMORY_LOOP, 3)),
+    ("N 1 0 0/M 1 1 0/A 2/D 4/C 4 2 4", ACCEPTED),
+    // It comes after every code and after missing and surplus lines.
+    ("N 1 0 0/M 1 1 0/A 4/D 2/C 1 1 6", (CODE, 5)),
+    ("N 1 0 0/M 1 1 0/A 4/D 2", (OUT_OF_ORDER, 5)),
+    ("N 1 0 0/M 1 1 0/A 4/D 2/C 1 1 5/A 0", (OUT_OF_ORDER, 6)),
+    // By wiring through gates, whatever they compute; not through latches.
+    ("N 1 0 1/M 1 1 0/G 4 0/A 6/D 2/C 1 1 5", (MEMORY_LOOP, 4)),
+    ("N 1 0 1/M 1 1 0/G 4 5/A 7/D 2/C 1 1 5", (MEMORY_LOOP, 4)),
+    ("N 1 0 2/M 1 1 0/G 4 0/G 2 7/A 8/D 2/C 1 1 5", (MEMORY_LOOP, 5)),
+    ("N 1 0 2/M 1 1 0/G 4 0/G 2 3/A 8/D 6/C 1 8 5", ACCEPTED),
+    ("N 1 0 2/M 1 1 0/G 4 0/G 6 6/A 2/D 2/C 1 9 5", (MEMORY_LOOP, 7)),
+    ("N 0 1 0/M 1 1 0/L 4 0/A 2/D 4/C 1 2 5", ACCEPTED),
     // Two address bits of one wire, inverted or not: at the first line whose wire an earlier one has.
     ("N 1 0 0/M 2 1 0/A 2/A 2/D 2/C 1 1 5", (TIED_ADDRESS, 4)),
     ("N 1 0 0/M 2 1 0/A 2/A 3/D 2/C 1 1 5", (TIED_ADDRESS, 4)),
@@ -242,18 +254,6 @@ const SHEETS: [(&str, Verdict); 91] = [
     ("N 599 0 0/M 1 1/A 0/D 2/C 1 1 5", ACCEPTED),
     ("N 599 0 0/M 1 2/A 0/D 2/D 2/C 1 1 5", (SIZE, 2)),
     ("M 1 1/A 0/D 2/C 1 1 5", (OUT_OF_ORDER, 1)),
-    ("N 1 0 0/M 1 1 0/A 2/D 4/C 4 2 4", ACCEPTED),
-    // It comes after every code and after missing and surplus lines.
-    ("N 1 0 0/M 1 1 0/A 4/D 2/C 1 1 6", (CODE, 5)),
-    ("N 1 0 0/M 1 1 0/A 4/D 2", (OUT_OF_ORDER, 5)),
-    ("N 1 0 0/M 1 1 0/A 4/D 2/C 1 1 5/A 0", (OUT_OF_ORDER, 6)),
-    // By wiring through gates, whatever they compute; not through latches.
-    ("N 1 0 1/M 1 1 0/G 4 0/A 6/D 2/C 1 1 5", (MEMORY_LOOP, 4)),
-    ("N 1 0 1/M 1 1 0/G 4 5/A 7/D 2/C 1 1 5", (MEMORY_LOOP, 4)),
-    ("N 1 0 2/M 1 1 0/G 4 0/G 2 7/A 8/D 2/C 1 1 5", (MEMORY_LOOP, 5)),
-    ("N 1 0 2/M 1 1 0/G 4 0/G 2 3/A 8/D 6/C 1 8 5", ACCEPTED),
-    ("N 1 0 2/M 1 1 0/G 4 0/G 6 6/A 2/D 2/C 1 9 5", (MEMORY_LOOP, 7)),
-    ("N 0 1 0/M 1 1 0/L 4 0/A 2/D 4/C 1 2 5", ACCEPTED),
 ];
 
 /// RICH with the line at a place replaced: V = 5, so codes go to 11, gate operands to 9.

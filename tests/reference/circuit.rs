@@ -1,4 +1,4 @@
-//! The chip with its whole memory, stepped frame by frame (RULES C2 to C24).
+//! The chip with its whole memory, stepped frame by frame (RULES C2 to C4, C6, C7, C12 and C15 to C24).
 
 use super::netlist::Netlist;
 

@@ -1,6 +1,7 @@
 //! Holds citations and quotes to docs/RULES.md: each paragraph of the page has one label and no label stands twice; every citation
-//! names a rule that is not given up; a phrase in quotes directly behind a label stands in that paragraph, pieces in order around `..`; in the comments
-//! of definitions and code every other quote has its source named; and no file but those that may names the customer's paper.
+//! names a rule that is not given up, and a range of labels spans such rules alone; a phrase in quotes directly behind a label stands
+//! in that paragraph, pieces in order around `..`; in the comments of definitions and code every other quote has its source named; each
+//! file of definitions that docs/TRUST.md lists cites a rule; and no file but those that may names the customer's paper.
 //! Argument: the repository's folder. The last line is the total.
 
 use std::collections::BTreeMap;
@@ -22,6 +23,13 @@ const MAY_NAME_PAPER: [&str; 2] = ["docs/DECISIONS.md", "docs/LANDINGS.md"];
 const SOURCES: [&str; 3] = ["Ganai et al.", "AIGER", "DIMACS"];
 /// A word that the customer coined; it has to stand on the page.
 const COINED: [&str; 2] = ["the customer's", "The customer's"];
+
+/// What stands before the table of the definitions to be believed. Each of its files cites a rule, but those that know nothing of a netlist.
+const DEFINITIONS: &str = "<!-- definitions -->";
+const NO_RULE: [(&str, &str); 2] = [
+    ("crates/model/specs/Gather.antt", "lists one behind another, of whatever numbers"),
+    ("crates/model/specs/Search.antt", "the first of whatever numbers that passes a test"),
+];
 
 /// What stands behind the label of a rule that is given up, before the labels of those that hold instead.
 const GIVEN_UP: &str = ".** Given up for ";
@@ -162,6 +170,15 @@ fn paragraphs(page: &str, tally: &mut Tally) -> Paragraphs {
         for (cited, _) in words.filter(|(cited, _)| cited != own) {
             tally.check(is_rule(&found, cited), || format!("{PAGE}: {cited} is no rule: {text}"));
         }
+        let mut words = text.split(' ').map(|word| word.trim_start_matches('('));
+        while let Some(word) = words.next() {
+            let range = label_at(word).filter(|(_, rest)| rest.is_empty()).zip(words.clone().next().filter(|to| *to == "to"));
+            let last = words.clone().nth(1).and_then(label_at);
+            if let (Some(((first, _), _)), Some((last, _))) = (range, last) {
+                let spans = between(first, last).unwrap_or_default();
+                tally.check(spans.iter().all(|label| is_rule(&found, label)), || format!("{PAGE}: {first} to {last} spans what is no rule: {text}"));
+            }
+        }
     }
     found
 }
@@ -171,10 +188,18 @@ fn is_rule(rules: &Paragraphs, label: &str) -> bool {
     rules.get(label).map_or(false, |text| !text.contains(GIVEN_UP))
 }
 
-/// A citation: where it stands, and its labels, each with the quotes directly behind it and where they begin.
+/// The labels between the two ends of a range; none where the ends are no range.
+fn between(first: &str, last: &str) -> Option<Vec<String>> {
+    let number = |label: &str| label[1..].parse::<u32>().ok();
+    let (from, to) = (number(first)?, number(last)?);
+    (first[..1] == last[..1] && from < to).then(|| (from + 1..to).map(|inner| format!("{}{inner}", &first[..1])).collect())
+}
+
+/// A citation: where it stands, and its labels, each with the quotes directly behind it and where they begin; and its ranges.
 struct Citation<'a> {
     at: usize,
     labels: Vec<(&'a str, Vec<(usize, &'a str)>)>,
+    ranges: Vec<(&'a str, &'a str)>,
 }
 
 fn citations(text: &str) -> Vec<Citation<'_>> {
@@ -184,7 +209,7 @@ fn citations(text: &str) -> Vec<Citation<'_>> {
         if rest.starts_with(".md") || rest.starts_with(|next: char| next.is_alphanumeric() || next == '_') {
             continue;
         }
-        let mut labels = Vec::new();
+        let (mut labels, mut ranges) = (Vec::new(), Vec::new());
         let mut next = rest.strip_prefix(' ').and_then(label_at);
         while let Some((label, behind)) = next {
             rest = behind;
@@ -196,8 +221,11 @@ fn citations(text: &str) -> Vec<Citation<'_>> {
             }
             labels.push((label, quotes));
             next = without(rest, &[", and ", ", ", " and ", " to ", " or "]).and_then(label_at);
+            if let (Some((last, _)), true) = (next, rest.starts_with(" to ")) {
+                ranges.push((label, last));
+            }
         }
-        found.push(Citation { at, labels });
+        found.push(Citation { at, labels, ranges });
     }
     found
 }
@@ -207,6 +235,13 @@ fn cited(path: &str, joined: &Joined, rules: &Paragraphs, tally: &mut Tally) {
     for citation in citations(&joined.text) {
         let place = format!("{path}:{}", joined.line_at(citation.at));
         tally.check(!citation.labels.is_empty(), || format!("{place}: a citation without a label"));
+        for (first, last) in citation.ranges {
+            let inner = between(first, last);
+            tally.check(inner.is_some(), || format!("{place}: {first} to {last} is no range"));
+            for label in inner.unwrap_or_default() {
+                tally.check(is_rule(rules, &label), || format!("{place}: {first} to {last} spans {label}, which is no rule of {PAGE}"));
+            }
+        }
         for (label, quotes) in citation.labels {
             let paragraph = rules.get(label);
             tally.check(is_rule(rules, label), || format!("{place}: {label} is no rule of {PAGE}"));
@@ -271,6 +306,14 @@ fn names_paper(text: &str) -> Option<usize> {
     PAPER.iter().find_map(|name| text.find(name))
 }
 
+/// The files of the table of definitions: a row is `| [crate](folder) | Name (lines), .. |`.
+fn definitions(page: &str) -> Vec<String> {
+    let table = page.split(DEFINITIONS).nth(1).and_then(|rest| rest.split("<!--").next()).unwrap_or("");
+    let rows = table.lines().filter_map(|row| row.strip_prefix("| [")?.split_once(']'));
+    let names = |row: &str| row.split('|').nth(1).unwrap_or("").split(", ").map(|name| name.trim().split(' ').next().unwrap_or("").to_string()).collect::<Vec<_>>();
+    rows.flat_map(|(of, rest)| names(rest).into_iter().map(move |name| format!("crates/{of}/specs/{name}.antt"))).collect()
+}
+
 fn main() {
     let root = match std::env::args().nth(1) {
         Some(root) => root,
@@ -285,6 +328,17 @@ fn main() {
     let mut tally = Tally::default();
     let rules = paragraphs(&page, &mut tally);
     tally.check(!rules.is_empty(), || format!("{PAGE} has no rule"));
+
+    let listed = definitions(&demands);
+    tally.check(!listed.is_empty(), || format!("{DEMANDS} lists no definitions"));
+    for path in &listed {
+        let cites = citations(&whole(&read(path)).text).iter().any(|citation| !citation.labels.is_empty());
+        let excepted = NO_RULE.iter().any(|(general, _)| general == path);
+        tally.check(cites != excepted, || format!("{path}: {}", if cites { "cites a rule, so it is no exception" } else { "cites no rule" }));
+    }
+    for (path, _) in NO_RULE {
+        tally.check(listed.iter().any(|one| one == path), || format!("{path}: an exception, and not listed in {DEMANDS}"));
+    }
 
     let mut paths = Vec::new();
     files(root, "", &mut paths);

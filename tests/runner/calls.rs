@@ -86,7 +86,7 @@ pub fn differ<T: std::fmt::Debug>(about: impl std::fmt::Debug, found: T, expecte
     )
 }
 
-/// The facts about the sheet of the full run (RULES F7 to F15): the pair takes 31 numbers and not 30, and the starred refusals.
+/// The facts about the sheet of the full run (RULES F7 to F9, F14 and F15): the pair takes 31 numbers and not 30, and the starred refusals.
 pub fn stated(library: &Library, tally: &mut Tally) {
     let lists = Lists::new(&accepted(FULL_RUN));
     let pair = parameters(Group::Pair(0, 1));

@@ -86,23 +86,23 @@ impl Library {
         found
     }
 
-    /// One check of a move; the number that it must answer.
+    /// One check of a move; the number and the place that it must answer.
     fn move_agrees(
         &self,
         tally: &mut Tally,
         netlist: &Netlist,
         position: Position,
         way: u32,
-    ) -> u32 {
+    ) -> Verdict {
         let found = self.moved(&Lists::new(netlist), position, way);
         let due = due_move(netlist, position, way);
         tally.check_with((position, way), found == due, || {
             differ(netlist, found, due)
         });
-        due.0 .0
+        due.0
     }
 
-    /// One check of a group call; the number that it must answer.
+    /// One check of a group call; the number and the place that it must answer.
     fn group_at_agrees(
         &self,
         tally: &mut Tally,
@@ -110,15 +110,15 @@ impl Library {
         position: Position,
         of: (u32, u32),
         room: usize,
-    ) -> u32 {
+    ) -> Verdict {
         let found = self.group_at(&Lists::new(netlist), position, of, room);
         let due = position.group(netlist, group_of(position, of), room);
-        let number = due.as_ref().err().map_or(0, |refusal| refusal.number);
+        let verdict = due.as_ref().err().map_or(ACCEPTED, |refusal| (refusal.number, refusal.place));
         let due = Ok(due);
         tally.check_with((position, of, room), found == due, || {
             differ(netlist, &found, &due)
         });
-        number
+        verdict
     }
 }
 
@@ -207,19 +207,24 @@ pub fn walks(library: &Library, tally: &mut Tally) {
     }
 }
 
-/// A depth or a frame: mostly small, so that the tests behind 7 and 8 are often reached.
-fn small_or_limit(random: &mut Random) -> u32 {
-    if random.percent(85) {
-        random.below(5)
-    } else {
-        random.pick(&[254, 255, 256, 257, 65_536, 1 << 31, u32::MAX - 1, u32::MAX])
+/// A depth or a frame: mostly small, so that the tests behind 7 and 8 are often reached; else of any depth, any number, or at a limit.
+fn depth_or_frame(random: &mut Random) -> u32 {
+    match random.below(20) {
+        0..=12 => random.below(5),
+        13..=15 => random.below(MAX_DEPTH + 1),
+        16 | 17 => random.next() as u32 >> random.below(32),
+        _ => random.pick(&[254, 255, 256, 257, 65_536, 1 << 31, u32::MAX - 1, u32::MAX]),
     }
 }
 
-/// A record with any depth, frame and base, the base often the right one or near it.
+/// A record with any depth, frame and base, the frame often within the depth, and the base often the right one or near it.
 pub fn hostile_position(random: &mut Random, netlist: &Netlist) -> Position {
-    let (depth, frame) = (small_or_limit(random), small_or_limit(random));
-    let frame = if random.percent(30) { depth } else { frame };
+    let depth = depth_or_frame(random);
+    let frame = match random.below(10) {
+        0..=2 => depth,
+        3..=5 => random.below(depth.min(MAX_DEPTH) + 1),
+        _ => depth_or_frame(random),
+    };
     let sizes_add_up = [
         netlist.inputs,
         netlist.latch_count,
@@ -281,11 +286,27 @@ fn failing(netlist: &Netlist, position: Position, exists: bool, room: Option<(Fr
     numbers
 }
 
-/// One hostile call: the number that it must answer, and the tests that it fails.
-pub fn any(library: &Library, tally: &mut Tally, random: &mut Random) -> (u32, Vec<u32>) {
+/// The calls on a running record: the moves by their ways, and a group.
+#[derive(Clone, Copy, Debug, PartialEq, Eq, PartialOrd, Ord)]
+pub enum Call {
+    Start,
+    On,
+    Back,
+    NoMove,
+    Group,
+}
+
+/// One hostile call: what it must answer, and the tests that it fails.
+pub fn any(library: &Library, tally: &mut Tally, random: &mut Random) -> (Call, Verdict, Vec<u32>) {
     let mut netlist = netlist(random);
     if random.percent(20) {
         netlist = damaged_record(random, &netlist);
+    }
+    if random.percent(8) {
+        netlist.address[1] = netlist.address[0] ^ random.below(2);
+    }
+    if random.percent(8) {
+        netlist.read_enable = 2 * netlist.inputs.saturating_add(netlist.latch_count).min(599) + 2;
     }
     if random.percent(5) {
         netlist.unknown_start = random.pick(&[0, 1, 2, u32::MAX]);
@@ -294,60 +315,73 @@ pub fn any(library: &Library, tally: &mut Tally, random: &mut Random) -> (u32, V
         netlist.gate_count = random.pick(&LIMITS);
     }
     let position = hostile_position(random, &netlist);
-    if random.percent(40) {
-        let way = random.pick(&[START, ON, ON, ON, BACK, BACK, 3, u32::MAX]);
+    if random.percent(60) {
+        let way = random.pick(&[START, ON, BACK, 3, u32::MAX]);
         let at_zero = Position {
             frame: 0,
             base: 1,
             ..position
         };
-        let failing = match way {
-            START => failing(&netlist, at_zero, true, None),
-            ON => failing(&netlist, position, position.frame < position.depth, None),
-            _ => failing(&netlist, position, way == BACK, None),
+        let (call, failing) = match way {
+            START => (Call::Start, failing(&netlist, at_zero, true, None)),
+            ON => (Call::On, failing(&netlist, position, position.frame < position.depth, None)),
+            BACK => (Call::Back, failing(&netlist, position, true, None)),
+            _ => (Call::NoMove, failing(&netlist, position, false, None)),
         };
-        return (library.move_agrees(tally, &netlist, position, way), failing);
+        return (call, library.move_agrees(tally, &netlist, position, way), failing);
     }
-    let of = (random.below(5), small_or_limit(random));
+    let of = (random.below(5), depth_or_frame(random));
     let room = random.pick(&[0, 0, 20, 60, 600, 6_000]);
     let group = group_of(position, of);
     let exists = !matches!(group, FrameGroup::Pair(j) if j >= position.frame);
     let failing = failing(&netlist, position, exists, Some((group, room)));
-    (library.group_at_agrees(tally, &netlist, position, of, room), failing)
+    (Call::Group, library.group_at_agrees(tally, &netlist, position, of, room), failing)
 }
 
-/// Hostile calls. Each refusal and each pair of failing tests must have come often: of two the earlier is answered.
+/// The tests behind the record's, in their order.
+fn tests(call: Call) -> &'static [u32] {
+    match call {
+        Call::Start => &[DEPTH],
+        Call::On | Call::Back | Call::NoMove => &[DEPTH, NO_SUCH_GROUP, WRONG_BASE],
+        Call::Group => &[DEPTH, NO_SUCH_GROUP, WRONG_BASE, NO_ROOM],
+    }
+}
+
+/// Hostile calls. Of each call each answer, with a place where a line of the record's sheet is at fault, and each pair of failing tests must have
+/// come often: of two the earlier is answered.
 pub fn hostile(library: &Library, tally: &mut Tally) {
     let mut random = Random::new(1202);
-    let mut counts: BTreeMap<u32, usize> = BTreeMap::new();
-    let mut pairs: BTreeMap<[u32; 2], usize> = BTreeMap::new();
-    for _ in 0..60_000 {
-        let (number, failing) = any(library, tally, &mut random);
-        *counts.entry(number).or_default() += 1;
+    let mut answers: BTreeMap<(Call, u32, bool), usize> = BTreeMap::new();
+    let mut orders: BTreeMap<(Call, u32, u32), usize> = BTreeMap::new();
+    for _ in 0..100_000 {
+        let (call, (number, place), failing) = any(library, tally, &mut random);
+        *answers.entry((call, number, place > 0)).or_default() += 1;
         tally.equal("the first failing test", failing.first().copied().unwrap_or(0), number);
         for (at, first) in failing.iter().enumerate() {
             for second in &failing[at + 1..] {
-                *pairs.entry([*first, *second]).or_default() += 1;
+                *orders.entry((call, *first, *second)).or_default() += 1;
             }
         }
     }
     let record = [OUT_OF_ORDER, SIZE, CODE, TIED_ADDRESS, MEMORY_LOOP];
-    for number in record.into_iter().chain([0, DEPTH, NO_SUCH_GROUP, WRONG_BASE, NO_ROOM]) {
-        let count = counts.get(&number).copied().unwrap_or(0);
-        tally.check(("occurrences of", number, count), count >= 20);
+    for call in [Call::Start, Call::On, Call::Back, Call::NoMove, Call::Group] {
+        // No such move is 8 before it can be 16, and never accepted.
+        let never = |number: u32| call == Call::NoMove && [0, WRONG_BASE].contains(&number);
+        let without = tests(call).iter().copied().chain([0]).filter(|number| !never(*number));
+        let due = record.into_iter().map(|number| (number, number != OUT_OF_ORDER)).chain(without.map(|number| (number, false)));
+        for (number, has_place) in due {
+            let count = answers.remove(&(call, number, has_place)).unwrap_or(0);
+            tally.check((call, "answers", number, "at a place", has_place, count), count >= 20);
+        }
+        for (at, second) in tests(call).iter().enumerate() {
+            // What the base and the need are is not said of a record that is refused.
+            let first = record.into_iter().filter(|_| [DEPTH, NO_SUCH_GROUP].contains(second));
+            for first in first.chain(tests(call)[..at].iter().copied()) {
+                let count = orders.remove(&(call, first, *second)).unwrap_or(0);
+                tally.check((call, "fails both", first, *second, count), count >= 20);
+            }
+        }
     }
-    let orders = [
-        [DEPTH, NO_SUCH_GROUP],
-        [DEPTH, WRONG_BASE],
-        [NO_SUCH_GROUP, WRONG_BASE],
-        [WRONG_BASE, NO_ROOM],
-        [CODE, DEPTH],
-        [SIZE, NO_SUCH_GROUP],
-        [TIED_ADDRESS, NO_SUCH_GROUP],
-    ];
-    for order in orders {
-        let count = pairs.get(&order).copied().unwrap_or(0);
-        tally.check(("both fail", order, count), count >= 20);
-    }
-    tally.remark = format!(" (answers {counts:?}; two at once {pairs:?})");
+    tally.check(("no other answer", &answers), answers.is_empty());
+    tally.check(("no other order", &orders), orders.is_empty());
 }
