@@ -66,7 +66,7 @@ reads-in {c} q input latch word has t h =
     sym (has .has (readWire c t) (omega arith) ∙ evaluate-solves c input latch (bit word) q .at-read t h)
 
 -- 0 has no bit
-pub bit-zero : (t : ℕ) → bit 0 t ≡ false
+bit-zero : (t : ℕ) → bit 0 t ≡ false
 unfolding bit odd
 bit-zero t = rw zero-div
 
@@ -107,7 +107,7 @@ behind-memoryAfter c v memory = either (codeValue v (c .WE))
     either true = drop-set-lt (2 ^ c .m) memory (addressOf c (port c) v) (wordWritten c v) (address-below c (port c) v)
     either false = refl
 
-pub length-memoryAfter : (c : Netlist) (v : Values) (memory : List ℕ) → length (memoryAfter c v memory) ≡ length memory
+length-memoryAfter : (c : Netlist) (v : Values) (memory : List ℕ) → length (memoryAfter c v memory) ≡ length memory
 unfolding memoryAfter
 length-memoryAfter c v memory = either (codeValue v (c .WE))
   where

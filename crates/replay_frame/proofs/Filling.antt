@@ -30,7 +30,7 @@ use Rattle.circuit_step.specs.Touched.{touches, touchedBefore}
 use Rattle.circuit_step.proofs.Held.{code-in, address-in, first-alike, evaluate-lists}
 use Rattle.circuit_step.proofs.Alike.{LatchesAlike, RE-settled, address-settled, RE-alike, address-alike}
 use Rattle.circuit_step.proofs.Touched.{any-same, withWord, state-untouched, run-untouched}
-use Rattle.replay_frame.specs.Replay.{Said, begunFrom, runFrom, isUnknown, fillsFrom, wordSaid, startWords, fills, replayed, replayedState}
+use Rattle.replay_frame.specs.Replay.{Said, begunFrom, runFrom, stateFrom, touchedFrom, addressFrom, isUnknown, fillsFrom, wordSaid, startWords, fills, replayed, replayedState}
 use Rattle.replay_frame.specs.Frames.{touchedAfter, WordFilled, TouchedIs}
 
 -- every address has a place in the table of touched words
@@ -90,8 +90,7 @@ last-not p q false e = refl
 
 module _ {c : Netlist} (ok : Accepted c) (y : Said) (i : ℕ) where
   -- a frame that fills is at a word that no frame before has touched
-  pub fills-untouched : fills c y i ≡ true
-      → touchedBefore c (begunFrom c y (startWords c y i)) (feedOf c (y .value)) i (addressOf c (port c) (runFrom c y (startWords c y i) i)) ≡ false
+  pub fills-untouched : fills c y i ≡ true → touchedFrom c y (startWords c y i) i (addressFrom c y (startWords c y i) i) ≡ false
   unfolding fillsFrom
   fills-untouched e = last-not (isUnknown (start c)) (codeValue (runFrom c y (startWords c y i) i) (c .RE)) _ e
 
@@ -99,13 +98,13 @@ module _ {c : Netlist} (ok : Accepted c) (y : Said) (i : ℕ) where
   pub fills-reads : fills c y i ≡ true → codeValue (runFrom c y (startWords c y i) i) (c .RE) ≡ true
   unfolding fillsFrom
   fills-reads e =
-      let read : (codeValue (runFrom c y (startWords c y i) i) (c .RE) && not (touchedBefore c (begunFrom c y (startWords c y i)) (feedOf c (y .value)) i (addressOf c (port c) (runFrom c y (startWords c y i) i)))) ≡ true
+      let read : (codeValue (runFrom c y (startWords c y i) i) (c .RE) && not (touchedFrom c y (startWords c y i) i (addressFrom c y (startWords c y i) i))) ≡ true
       = and-true (isUnknown (start c)) _ .0 e .1 in
       and-true (codeValue (runFrom c y (startWords c y i) i) (c .RE)) _ .0 read .0
 
   -- so the memory begun with has another word there, or is the same
   begun-filled : fills c y i ≡ true
-      → begunFrom c y (startWords c y (suc i)) ≡ withWord (addressOf c (port c) (runFrom c y (startWords c y i) i)) (wordSaid c y i) (begunFrom c y (startWords c y i))
+      → begunFrom c y (startWords c y (suc i)) ≡ withWord (addressFrom c y (startWords c y i) i) (wordSaid c y i) (begunFrom c y (startWords c y i))
   unfolding startWords initial
   begun-filled e = ap (λ words. begunFrom c y words) (fun-ext (λ x. rw e))
 
@@ -124,44 +123,39 @@ module _ {c : Netlist} (ok : Accepted c) (y : Said) (i : ℕ) where
       by false e = ap (λ words. runFrom c y words j) (begun-kept e)
 
   -- and have touched the same words
-  pub touched-on : (x : ℕ) → touchedBefore c (begunFrom c y (startWords c y (suc i))) (feedOf c (y .value)) i x
-      ≡ touchedBefore c (begunFrom c y (startWords c y i)) (feedOf c (y .value)) i x
+  pub touched-on : (x : ℕ) → touchedFrom c y (startWords c y (suc i)) i x ≡ touchedFrom c y (startWords c y i) i x
   unfolding touchedBefore
   touched-on x = any-same i (λ j h. ap (λ v. touches c v x) (runs-on j h))
 
   -- the state in which frame i begins has the word filled
-  pub state-filled : fills c y i ≡ true → stateAt c (begunFrom c y (startWords c y (suc i))) (feedOf c (y .value)) i
-      ≡ withWord (addressOf c (port c) (runFrom c y (startWords c y i) i)) (wordSaid c y i) (replayedState c y i)
+  pub state-filled : fills c y i ≡ true → stateFrom c y (startWords c y (suc i)) i
+      ≡ withWord (addressFrom c y (startWords c y i) i) (wordSaid c y i) (replayedState c y i)
   state-filled e =
       ap (λ s. stateAt c s (feedOf c (y .value)) i) (begun-filled e)
       ∙ state-untouched ok _ (wordSaid c y i) (begunFrom c y (startWords c y i)) (feedOf c (y .value)) i (fills-untouched e)
 
   -- or is the same where nothing is filled
   pub state-on : (P : State → Type 0)
-      → (fills c y i ≡ true → P (withWord (addressOf c (port c) (runFrom c y (startWords c y i) i)) (wordSaid c y i) (replayedState c y i)))
-      → P (replayedState c y i) → P (stateAt c (begunFrom c y (startWords c y (suc i))) (feedOf c (y .value)) i)
+      → (fills c y i ≡ true → P (withWord (addressFrom c y (startWords c y i) i) (wordSaid c y i) (replayedState c y i)))
+      → P (replayedState c y i) → P (stateFrom c y (startWords c y (suc i)) i)
   state-on P filled kept = by (fills c y i) refl
     where
-      by : (b : Bool) → fills c y i ≡ b → P (stateAt c (begunFrom c y (startWords c y (suc i))) (feedOf c (y .value)) i)
+      by : (b : Bool) → fills c y i ≡ b → P (stateFrom c y (startWords c y (suc i)) i)
       by true e = subst P (sym (state-filled e)) (filled e)
-      by false e = subst (λ words. P (stateAt c (begunFrom c y words) (feedOf c (y .value)) i)) (sym (begun-kept e)) kept
+      by false e = subst (λ words. P (stateFrom c y words i)) (sym (begun-kept e)) kept
 
   -- with the same latches
-  pub latches-on : LatchesAlike c (stateAt c (begunFrom c y (startWords c y (suc i))) (feedOf c (y .value)) i) (replayedState c y i)
+  pub latches-on : LatchesAlike c (stateFrom c y (startWords c y (suc i)) i) (replayedState c y i)
   latches-on = state-on (λ s. LatchesAlike c s (replayedState c y i)) (λ e l h. refl) (λ l h. refl)
 
   -- so RE and the address are the same whether or not the frame's own word is filled
   pub RE-on : codeValue (replayed c y i) (c .RE) ≡ codeValue (runFrom c y (startWords c y i) i) (c .RE)
   unfolding run
-  RE-on =
-      RE-alike ok (stateAt c (begunFrom c y (startWords c y (suc i))) (feedOf c (y .value)) i) (replayedState c y i) (feedOf c (y .value) i) (feedOf c (y .value) i)
-      latches-on (λ x h. refl)
+  RE-on = RE-alike ok (stateFrom c y (startWords c y (suc i)) i) (replayedState c y i) (feedOf c (y .value) i) (feedOf c (y .value) i) latches-on (λ x h. refl)
 
-  pub address-on : addressOf c (port c) (replayed c y i) ≡ addressOf c (port c) (runFrom c y (startWords c y i) i)
+  pub address-on : addressOf c (port c) (replayed c y i) ≡ addressFrom c y (startWords c y i) i
   unfolding run
-  address-on =
-      address-alike ok (stateAt c (begunFrom c y (startWords c y (suc i))) (feedOf c (y .value)) i) (replayedState c y i) (feedOf c (y .value) i) (feedOf c (y .value) i)
-      latches-on (λ x h. refl)
+  address-on = address-alike ok (stateFrom c y (startWords c y (suc i)) i) (replayedState c y i) (feedOf c (y .value) i) (feedOf c (y .value) i) latches-on (λ x h. refl)
 
   module _ {latches inputs touched : List Bool} {memory memory′ : List ℕ} {word : ℕ} {r : Bool} (held : HoldsState c (replayedState c y i) latches memory word)
       (fed : Fed c (feedOf c (y .value) i) inputs) (marks : TouchedIs c y i touched)
@@ -174,7 +168,7 @@ module _ {c : Netlist} (ok : Accepted c) (y : Said) (i : ℕ) where
         (first-alike (ok .limits) held fed (c .RE / 2) (omega (arith, ok .limits .codes .RE-fits)))
         ∙ RE-settled ok (replayedState c y i) (feedOf c (y .value) i)
 
-    address-is : addressOf c (port c) (evaluate c (entry inputs) (entry latches) (bit 0)) ≡ addressOf c (port c) (runFrom c y (startWords c y i) i)
+    address-is : addressOf c (port c) (evaluate c (entry inputs) (entry latches) (bit 0)) ≡ addressFrom c y (startWords c y i) i
     unfolding run
     address-is =
         address-same c (port c) (evaluate c (entry inputs) (entry latches) (bit 0)) (firstPass c (replayedState c y i) (feedOf c (y .value) i))
@@ -191,32 +185,32 @@ module _ {c : Netlist} (ok : Accepted c) (y : Said) (i : ℕ) where
         (ap₂ (λ b t. b && not t) RE-is
         (ap (entry touched) address-is ∙ marks .has _ (address-below c (port c) (runFrom c y (startWords c y i) i))))
 
-    memory-filled : memory′ ≡ cond (fills c y i) (set memory (addressOf c (port c) (runFrom c y (startWords c y i) i)) (wordSaid c y i)) memory
+    memory-filled : memory′ ≡ cond (fills c y i) (set memory (addressFrom c y (startWords c y i) i) (wordSaid c y i)) memory
     memory-filled = q .memory-is ∙ ap₂ (λ b a. cond b (set memory a (wordSaid c y i)) memory) filled-is address-is
 
     -- and the memory then holds the words of the run that has it filled
-    pub filled-holds : HoldsState c (stateAt c (begunFrom c y (startWords c y (suc i))) (feedOf c (y .value)) i) latches memory′ word
+    pub filled-holds : HoldsState c (stateFrom c y (startWords c y (suc i)) i) latches memory′ word
     filled-holds = by (fills c y i) refl
       where
-        by : (b : Bool) → fills c y i ≡ b → HoldsState c (stateAt c (begunFrom c y (startWords c y (suc i))) (feedOf c (y .value)) i) latches memory′ word
+        by : (b : Bool) → fills c y i ≡ b → HoldsState c (stateFrom c y (startWords c y (suc i)) i) latches memory′ word
         by false e = rw (begun-kept e, memory-filled, e) held
         by true e =
             rw (state-filled e, memory-filled, e)
             (record {
               latch-size = held .latch-size;
               latch-held = held .latch-held;
-              memory-size = omega (arith, held .memory-size, length-set memory (addressOf c (port c) (runFrom c y (startWords c y i) i)) (wordSaid c y i));
+              memory-size = omega (arith, held .memory-size, length-set memory (addressFrom c y (startWords c y i) i) (wordSaid c y i));
               memory-held = λ x h.
-                  by-cases (ℕ-discrete x (addressOf c (port c) (runFrom c y (startWords c y i) i)))
-                  (λ at. rw (eq-eqb x _ at, at) (getD-set-same memory (addressOf c (port c) (runFrom c y (startWords c y i) i)) (wordSaid c y i) 0 (omega (arith, held .memory-size, address-below c (port c) (runFrom c y (startWords c y i) i)))))
-                  (λ at. rw (ne-eqb x _ at) (getD-set-other memory (addressOf c (port c) (runFrom c y (startWords c y i) i)) x (wordSaid c y i) 0 at ∙ held .memory-held x h));
+                  by-cases (ℕ-discrete x (addressFrom c y (startWords c y i) i))
+                  (λ at. rw (eq-eqb x _ at, at) (getD-set-same memory (addressFrom c y (startWords c y i) i) (wordSaid c y i) 0 (omega (arith, held .memory-size, address-below c (port c) (runFrom c y (startWords c y i) i)))))
+                  (λ at. rw (ne-eqb x _ at) (getD-set-other memory (addressFrom c y (startWords c y i) i) x (wordSaid c y i) 0 at ∙ held .memory-held x h));
               word-held = held .word-held;
             })
 
     pub filled-behind : drop (2 ^ c .m) memory′ ≡ drop (2 ^ c .m) memory
     filled-behind = ap (drop (2 ^ c .m)) memory-filled ∙ by (fills c y i)
       where
-        by : (b : Bool) → drop (2 ^ c .m) (cond b (set memory (addressOf c (port c) (runFrom c y (startWords c y i) i)) (wordSaid c y i)) memory) ≡ drop (2 ^ c .m) memory
+        by : (b : Bool) → drop (2 ^ c .m) (cond b (set memory (addressFrom c y (startWords c y i) i) (wordSaid c y i)) memory) ≡ drop (2 ^ c .m) memory
         by true = drop-set-lt (2 ^ c .m) memory _ (wordSaid c y i) (address-below c (port c) (runFrom c y (startWords c y i) i))
         by false = refl
 

@@ -11,7 +11,7 @@ use lib.Pow.{pow-pos}
 use borrow.Author.Tests.{eq-eqb, ne-eqb}
 use Rattle.model.specs.Search.{anyBelow}
 use Rattle.model.specs.Netlist.{Netlist, Start, given, unknown, start, port, readBits, readWire}
-use Rattle.model.specs.Circuit.{codeValue, addressOf, readData, stateAt, run, BeginsAs, Begins, initial}
+use Rattle.model.specs.Circuit.{codeValue, addressOf, readData, run, BeginsAs, Begins, initial}
 use Rattle.model.specs.Variables.{base}
 use Rattle.model.specs.Claim.{feedOf}
 use Rattle.model.specs.Agree.{givenWord}
@@ -21,7 +21,7 @@ use Rattle.model.proofs.Booleans.{neither-true}
 use Rattle.model.proofs.Circuit.{frame-is}
 use Rattle.circuit_step.specs.Touched.{touches, touchedBefore}
 use Rattle.circuit_step.proofs.Touched.{any-same, not-read, word-untouched}
-use Rattle.replay_frame.specs.Replay.{Said, begunFrom, runFrom, isUnknown, fillsFrom, wordSaid, startWords, fills, replayed, replayedState, OneRunTheorem}
+use Rattle.replay_frame.specs.Replay.{Said, begunFrom, runFrom, stateFrom, touchedFrom, addressFrom, isUnknown, fillsFrom, wordSaid, startWords, fills, replayed, replayedState, OneRunTheorem}
 use Rattle.replay_frame.proofs.Filling.{runs-on, touched-on, fills-reads, state-filled, RE-on, address-on}
 
 -- a memory of one word
@@ -45,7 +45,7 @@ begins-at : (c : Netlist) (y : Said) (i : ℕ) → Begins c (startWords c y i)
 unfolding startWords fillsFrom wordSaid
 begins-at c y zero = begins-given (c .n) (start c)
 begins-at c y (suc i) =
-    begins-filled (c .n) (start c) (λ x. fills c y i && eqb x (addressOf c (port c) (runFrom c y (startWords c y i) i))) (wordSaid c y i) (startWords c y i)
+    begins-filled (c .n) (start c) (λ x. fills c y i && eqb x (addressFrom c y (startWords c y i) i)) (wordSaid c y i) (startWords c y i)
     (begins-at c y i) (fromBits-below (c .n) _) (λ x e. rw e)
 
 -- a frame of the replay stays as it is, whatever the later frames fill
@@ -58,8 +58,7 @@ frame-on ok y i (suc n) h =
 
 module _ {c : Netlist} (ok : Accepted c) (y : Said) where
   -- so the words touched before it, and whether it fills one
-  touched-from : (i n : ℕ) → i ≤ n → (x : ℕ) → touchedBefore c (begunFrom c y (startWords c y n)) (feedOf c (y .value)) i x
-      ≡ touchedBefore c (begunFrom c y (startWords c y i)) (feedOf c (y .value)) i x
+  touched-from : (i n : ℕ) → i ≤ n → (x : ℕ) → touchedFrom c y (startWords c y n) i x ≡ touchedFrom c y (startWords c y i) i x
   unfolding touchedBefore
   touched-from i n h x = any-same i (λ j b. ap (λ v. touches c v x) (sym (frame-on ok y j n (omega arith)) ∙ frame-on ok y j i b))
 
@@ -70,32 +69,32 @@ module _ {c : Netlist} (ok : Accepted c) (y : Said) where
       ap (λ b. isUnknown (start c) && b)
       (ap₂ (λ b t. b && not t)
       (ap (λ v. codeValue v (c .RE)) same ∙ RE-on ok y i)
-      (touched-from i n (omega arith) (addressOf c (port c) (runFrom c y (startWords c y n) i))
-      ∙ ap (touchedBefore c (begunFrom c y (startWords c y i)) (feedOf c (y .value)) i) (ap (addressOf c (port c)) same ∙ address-on ok y i)))
+      (touched-from i n (omega arith) (addressFrom c y (startWords c y n) i)
+      ∙ ap (touchedFrom c y (startWords c y i) i) (ap (addressOf c (port c)) same ∙ address-on ok y i)))
 
   -- a frame that fills a word reads what is said
   reads-said : (i : ℕ) → fills c y i ≡ true → (t : ℕ) → t < readBits c → replayed c y i (readWire c t) ≡ y .value (base c i + readWire c t)
   unfolding run readData wordSaid
   reads-said i e t h =
-      frame-is ok (stateAt c (begunFrom c y (startWords c y (suc i))) (feedOf c (y .value)) i) (feedOf c (y .value) i) .at-read t h
-      ∙ rw (RE-on ok y i, fills-reads ok y i e, address-on ok y i, state-filled ok y i e, eq-eqb (addressOf c (port c) (runFrom c y (startWords c y i) i)) _ refl)
+      frame-is ok (stateFrom c y (startWords c y (suc i)) i) (feedOf c (y .value) i) .at-read t h
+      ∙ rw (RE-on ok y i, fills-reads ok y i e, address-on ok y i, state-filled ok y i e, eq-eqb (addressFrom c y (startWords c y i) i) _ refl)
       (bit-fromBits (c .n) (λ t. y .value (base c i + readWire c t)) t h)
 
   -- a word that no frame touches is begun with as the word given
-  begun-untouched : (n x : ℕ) → touchedBefore c (begunFrom c y (startWords c y n)) (feedOf c (y .value)) n x ≡ false → startWords c y n x ≡ givenWord (start c)
+  begun-untouched : (n x : ℕ) → touchedFrom c y (startWords c y n) n x ≡ false → startWords c y n x ≡ givenWord (start c)
   unfolding startWords touchedBefore anyBelow
   begun-untouched zero x none = refl
   begun-untouched (suc i) x none =
-      let q = neither-true (touchedBefore c (begunFrom c y (startWords c y (suc i))) (feedOf c (y .value)) i x) (touches c (replayed c y i) x) .0 none in
+      let q = neither-true (touchedFrom c y (startWords c y (suc i)) i x) (touches c (replayed c y i) x) .0 none in
       kept (fills c y i) refl (q .1) ∙ begun-untouched i x (sym (touched-on ok y i x) ∙ q .0)
     where
       kept : (b : Bool) → fills c y i ≡ b → touches c (replayed c y i) x ≡ false
-          → cond (b && eqb x (addressOf c (port c) (runFrom c y (startWords c y i) i))) (wordSaid c y i) (startWords c y i x) ≡ startWords c y i x
+          → cond (b && eqb x (addressFrom c y (startWords c y i) i)) (wordSaid c y i) (startWords c y i x) ≡ startWords c y i x
       kept false e none = refl
       kept true e none =
           rw (ne-eqb x _ (λ at. not-read c (replayed c y i) x none (RE-on ok y i ∙ fills-reads ok y i e) (address-on ok y i ∙ sym at)))
 
-  word-left : (n x : ℕ) → touchedBefore c (begunFrom c y (startWords c y n)) (feedOf c (y .value)) n x ≡ false → replayedState c y n .memory x ≡ givenWord (start c)
+  word-left : (n x : ℕ) → touchedFrom c y (startWords c y n) n x ≡ false → replayedState c y n .memory x ≡ givenWord (start c)
   unfolding initial
   word-left n x none = word-untouched ok x (begunFrom c y (startWords c y n)) (feedOf c (y .value)) n none ∙ begun-untouched n x none
 

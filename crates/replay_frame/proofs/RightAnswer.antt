@@ -24,7 +24,7 @@ use Rattle.model.proofs.Claim.{encodes}
 use Rattle.circuit_step.specs.Touched.{touches, touchedBefore}
 use Rattle.circuit_step.proofs.Alike.{RE-alike, address-alike}
 use Rattle.circuit_step.proofs.Touched.{not-written, frame-reads}
-use Rattle.replay_frame.specs.Replay.{Said, begunFrom, runFrom, isUnknown, fillsFrom, wordSaid, startWords, fills, replayed, replayedState, violates, firstViolation, BearsOut}
+use Rattle.replay_frame.specs.Replay.{Said, begunFrom, runFrom, stateFrom, touchedFrom, addressFrom, isUnknown, fillsFrom, wordSaid, startWords, fills, replayed, replayedState, violates, firstViolation, BearsOut}
 use Rattle.replay_frame.proofs.Filling.{fills-untouched, touched-on, state-filled, state-on}
 use Rattle.replay_frame.proofs.OneRun.{one-run}
 
@@ -53,12 +53,12 @@ fromBits-bit m x h = sym (rw (div-eq-of-lt h) (omega arith)) ∙ bits-and-rest m
 -- Up to frame i the replay goes as the run from a memory does: they have the same latches, the same word held and the same words where a frame
 -- has touched them; the other words are in that run as it began with
 record GoesAs (c : Netlist) (y : Said) (memory : ℕ → ℕ) (i : ℕ) : Type 0 where
-  latches-same : replayedState c y i .latch ≡ stateAt c (begunFrom c y memory) (feedOf c (y .value)) i .latch
-  held-same : replayedState c y i .held ≡ stateAt c (begunFrom c y memory) (feedOf c (y .value)) i .held
-  touched-same : (x : ℕ) → touchedBefore c (begunFrom c y (startWords c y i)) (feedOf c (y .value)) i x ≡ true
-      → replayedState c y i .memory x ≡ stateAt c (begunFrom c y memory) (feedOf c (y .value)) i .memory x
-  others-kept : (x : ℕ) → touchedBefore c (begunFrom c y (startWords c y i)) (feedOf c (y .value)) i x ≡ false
-      → stateAt c (begunFrom c y memory) (feedOf c (y .value)) i .memory x ≡ memory x
+  latches-same : replayedState c y i .latch ≡ stateFrom c y memory i .latch
+  held-same : replayedState c y i .held ≡ stateFrom c y memory i .held
+  touched-same : (x : ℕ) → touchedFrom c y (startWords c y i) i x ≡ true
+      → replayedState c y i .memory x ≡ stateFrom c y memory i .memory x
+  others-kept : (x : ℕ) → touchedFrom c y (startWords c y i) i x ≡ false
+      → stateFrom c y memory i .memory x ≡ memory x
 
 -- from an unknown start, a memory whose run agrees with what is said
 module _ {c : Netlist} (ok : Accepted c) (y : Said) (k : ℕ) (free : isUnknown (start c) ≡ true) (memory : ℕ → ℕ) (below : (x : ℕ) → memory x < 2 ^ c .n)
@@ -66,23 +66,23 @@ module _ {c : Netlist} (ok : Accepted c) (y : Said) (k : ℕ) (free : isUnknown 
   module _ (i : ℕ) (d : i ≤ k) (q : GoesAs c y memory i) where
     -- where frame i reads and writes
     abbrev at : ℕ
-    at = addressOf c (port c) (runFrom c y memory i)
+    at = addressFrom c y memory i
 
     abbrev touched : ℕ → Bool
-    touched x = touchedBefore c (begunFrom c y (startWords c y i)) (feedOf c (y .value)) i x
+    touched x = touchedFrom c y (startWords c y i) i x
 
     -- the state in which it begins, its word filled, and that of the run from the memory
     abbrev filled : State
-    filled = stateAt c (begunFrom c y (startWords c y (suc i))) (feedOf c (y .value)) i
+    filled = stateFrom c y (startWords c y (suc i)) i
 
     abbrev own : State
-    own = stateAt c (begunFrom c y memory) (feedOf c (y .value)) i
+    own = stateFrom c y memory i
 
     RE-same : codeValue (runFrom c y (startWords c y i) i) (c .RE) ≡ codeValue (runFrom c y memory i) (c .RE)
     unfolding run
     RE-same = RE-alike ok (replayedState c y i) own (feedOf c (y .value) i) (feedOf c (y .value) i) (λ l h. ap (λ f. f l) (q .latches-same)) (λ x h. refl)
 
-    at-same : addressOf c (port c) (runFrom c y (startWords c y i) i) ≡ at
+    at-same : addressFrom c y (startWords c y i) i ≡ at
     unfolding run
     at-same = address-alike ok (replayedState c y i) own (feedOf c (y .value) i) (feedOf c (y .value) i) (λ l h. ap (λ f. f l) (q .latches-same)) (λ x h. refl)
 
@@ -110,7 +110,7 @@ module _ {c : Netlist} (ok : Accepted c) (y : Said) (k : ℕ) (free : isUnknown 
     filled-touched : (x : ℕ) → touched x ≡ true → filled .memory x ≡ own .memory x
     filled-touched x h =
         state-on ok y i (λ s. s .memory x ≡ own .memory x)
-        (λ e. rw (ne-eqb x (addressOf c (port c) (runFrom c y (startWords c y i) i)) (λ a. true≢false (sym h ∙ ap touched a ∙ fills-untouched ok y i e))) (q .touched-same x h))
+        (λ e. rw (ne-eqb x (addressFrom c y (startWords c y i) i) (λ a. true≢false (sym h ∙ ap touched a ∙ fills-untouched ok y i e))) (q .touched-same x h))
         (q .touched-same x h)
 
     filled-there : codeValue (runFrom c y memory i) (c .RE) ≡ true → filled .memory at ≡ own .memory at
@@ -120,7 +120,7 @@ module _ {c : Netlist} (ok : Accepted c) (y : Said) (k : ℕ) (free : isUnknown 
         by true h = filled-touched at h
         by false h =
             ap (λ s. s .memory at) (state-filled ok y i (fills-there r h))
-            ∙ rw (eq-eqb at (addressOf c (port c) (runFrom c y (startWords c y i) i)) (sym at-same)) (said-is r h ∙ sym (q .others-kept at h))
+            ∙ rw (eq-eqb at (addressFrom c y (startWords c y i) i) (sym at-same)) (said-is r h ∙ sym (q .others-kept at h))
 
     -- and has its values
     same-frame : replayed c y i ≡ runFrom c y memory i
@@ -129,16 +129,16 @@ module _ {c : Netlist} (ok : Accepted c) (y : Said) (k : ℕ) (free : isUnknown 
 
     -- a word that it or a frame before has touched, and that it does not write, is the same before it
     touched-now : (x : ℕ) → (codeValue (runFrom c y memory i) (c .WE) && eqb x at) ≡ false
-        → (touchedBefore c (begunFrom c y (startWords c y (suc i))) (feedOf c (y .value)) i x || touches c (replayed c y i) x) ≡ true
+        → (touchedFrom c y (startWords c y (suc i)) i x || touches c (replayed c y i) x) ≡ true
         → filled .memory x ≡ own .memory x
     unfolding touches
-    touched-now x unwritten h = by (or-true (touchedBefore c (begunFrom c y (startWords c y (suc i))) (feedOf c (y .value)) i x) _ .0 h)
+    touched-now x unwritten h = by (or-true (touchedFrom c y (startWords c y (suc i)) i x) _ .0 h)
       where
         there : eqb x at ≡ true → (codeValue (runFrom c y memory i) (c .RE) ≡ true) ⊎ (codeValue (runFrom c y memory i) (c .WE) ≡ true) → filled .memory x ≡ own .memory x
         there e (inl r) = rw (eqb-true x at e) (filled-there r)
         there e (inr w) = absurd (true≢false (sym (and-true (codeValue (runFrom c y memory i) (c .WE)) (eqb x at) .1 (w, e)) ∙ unwritten))
 
-        by : (touchedBefore c (begunFrom c y (startWords c y (suc i))) (feedOf c (y .value)) i x ≡ true) ⊎ (touches c (replayed c y i) x ≡ true) → filled .memory x ≡ own .memory x
+        by : (touchedFrom c y (startWords c y (suc i)) i x ≡ true) ⊎ (touches c (replayed c y i) x ≡ true) → filled .memory x ≡ own .memory x
         by (inl before) = filled-touched x (sym (touched-on ok y i x) ∙ before)
         by (inr now) =
             let e = and-true (eqb x at) (codeValue (runFrom c y memory i) (c .RE) || codeValue (runFrom c y memory i) (c .WE)) .0 (sym (ap (λ v. touches c v x) same-frame) ∙ now) in
@@ -160,7 +160,7 @@ module _ {c : Netlist} (ok : Accepted c) (y : Said) (k : ℕ) (free : isUnknown 
               ap (λ v. cond (codeValue v (c .WE) && eqb x (addressOf c (port c) v)) (wordWritten c v) (filled .memory x)) same-frame
               ∙ cond-same (codeValue (runFrom c y memory i) (c .WE) && eqb x at) (λ e. refl) (λ e. touched-now x e h);
           others-kept = λ x none.
-              let e = neither-true (touchedBefore c (begunFrom c y (startWords c y (suc i))) (feedOf c (y .value)) i x) (touches c (replayed c y i) x) .0 none in
+              let e = neither-true (touchedFrom c y (startWords c y (suc i)) i x) (touches c (replayed c y i) x) .0 none in
               left-there x (sym (ap (λ v. touches c v x) same-frame) ∙ e .1) (codeValue (runFrom c y memory i) (c .WE)) refl
               ∙ q .others-kept x (sym (touched-on ok y i x) ∙ e .0);
         }

@@ -6,14 +6,14 @@ use mathlib.Core.Bool.{Bool, true, false, cond, not, _&&_, _||_}
 use native.Mathlib.Omega.{arith}
 use lib.Dec.{eqb}
 use Rattle.model.specs.Netlist.{Netlist, start, port, readBits, lastWire}
-use Rattle.model.specs.Circuit.{codeValue, addressOf, stateAt, run, initial}
+use Rattle.model.specs.Circuit.{codeValue, stateAt, run, initial}
 use Rattle.model.specs.Acceptance.{Accepted, IsCode}
 use Rattle.model.specs.Claim.{feedOf, idleOf}
 use Rattle.model.proofs.Circuit.{code-same, address-same}
 use Rattle.circuit_step.specs.Touched.{touches, touchedBefore}
 use Rattle.circuit_step.proofs.Alike.{InputsAlike, LatchesAlike, RE-alike, address-alike, states-same, run-same}
 use Rattle.circuit_step.proofs.Touched.{any-same}
-use Rattle.replay_frame.specs.Replay.{Said, begunFrom, runFrom, isUnknown, fillsFrom, wordSaid, startWords, fills, replayed, replayedState}
+use Rattle.replay_frame.specs.Replay.{Said, runFrom, touchedFrom, addressFrom, isUnknown, fillsFrom, wordSaid, startWords, fills, replayed, replayedState}
 
 pub record SaidAlike (c : Netlist) (y z : Said) (i : ℕ) : Type 0 where
   pub inputs-said : (j : ℕ) → j < i → InputsAlike c (feedOf c (y .value) j) (feedOf c (z .value) j)
@@ -37,8 +37,7 @@ module _ {c : Netlist} (ok : Accepted c) {y z : Said} where
     runs-before j h =
         run-same ok (feedOf c (y .value)) (feedOf c (z .value)) (λ x b. words x) (q .idle-said (omega arith) (startWords c y i)) j (λ l b. q .inputs-said l (omega arith))
 
-    touched-alike : (x : ℕ) → touchedBefore c (begunFrom c y (startWords c y i)) (feedOf c (y .value)) i x
-        ≡ touchedBefore c (begunFrom c z (startWords c z i)) (feedOf c (z .value)) i x
+    touched-alike : (x : ℕ) → touchedFrom c y (startWords c y i) i x ≡ touchedFrom c z (startWords c z i) i x
     unfolding touchedBefore touches
     touched-alike x =
         any-same i (λ j h.
@@ -62,7 +61,7 @@ module _ {c : Netlist} (ok : Accepted c) {y z : Said} where
     unfolding run
     RE-said = RE-alike ok (replayedState c y i) (replayedState c z i) (feedOf c (y .value) i) (feedOf c (z .value) i) (latches-alike i q words) inputs
 
-    address-said : addressOf c (port c) (runFrom c y (startWords c y i) i) ≡ addressOf c (port c) (runFrom c z (startWords c z i) i)
+    address-said : addressFrom c y (startWords c y i) i ≡ addressFrom c z (startWords c z i) i
     unfolding run
     address-said = address-alike ok (replayedState c y i) (replayedState c z i) (feedOf c (y .value) i) (feedOf c (z .value) i) (latches-alike i q words) inputs
 
@@ -71,8 +70,8 @@ module _ {c : Netlist} (ok : Accepted c) {y z : Said} where
     fills-said =
         ap (λ b. isUnknown (start c) && b)
         (ap₂ (λ b t. b && not t) RE-said
-        (touched-alike i q words (addressOf c (port c) (runFrom c y (startWords c y i) i))
-        ∙ ap (touchedBefore c (begunFrom c z (startWords c z i)) (feedOf c (z .value)) i) address-said))
+        (touched-alike i q words (addressFrom c y (startWords c y i) i)
+        ∙ ap (touchedFrom c z (startWords c z i) i) address-said))
 
   -- the words begun with
   pub words-alike : (i : ℕ) → SaidAlike c y z i → (x : ℕ) → startWords c y i x ≡ startWords c z i x
@@ -84,10 +83,10 @@ module _ {c : Netlist} (ok : Accepted c) {y z : Said} where
       (q .words-said i (omega arith)) (before x)
     where
       filled : (b : Bool) → fills c y i ≡ b → fills c y i ≡ fills c z i
-          → addressOf c (port c) (runFrom c y (startWords c y i) i) ≡ addressOf c (port c) (runFrom c z (startWords c z i) i)
+          → addressFrom c y (startWords c y i) i ≡ addressFrom c z (startWords c z i) i
           → (fills c y i ≡ true → wordSaid c y i ≡ wordSaid c z i) → startWords c y i x ≡ startWords c z i x
-          → cond (fills c y i && eqb x (addressOf c (port c) (runFrom c y (startWords c y i) i))) (wordSaid c y i) (startWords c y i x)
-          ≡ cond (fills c z i && eqb x (addressOf c (port c) (runFrom c z (startWords c z i) i))) (wordSaid c z i) (startWords c z i x)
+          → cond (fills c y i && eqb x (addressFrom c y (startWords c y i) i)) (wordSaid c y i) (startWords c y i x)
+          ≡ cond (fills c z i && eqb x (addressFrom c z (startWords c z i) i)) (wordSaid c z i) (startWords c z i x)
       filled true e f a w s = rw (← f, ← a, e, w e, s)
       filled false e f a w s = rw (← f, e) s
 

@@ -9,11 +9,9 @@ use Rattle.model.specs.Limits.{mostWires, mostAddressBits, mostDepth}
 use Rattle.model.specs.Netlist.{Netlist, start, port, lastWire}
 use Rattle.model.specs.Circuit.{Values, codeValue, addressOf, evaluate}
 use Rattle.model.specs.Acceptance.{Accepted}
-use Rattle.model.specs.Claim.{feedOf}
 use Rattle.circuit_values.specs.WireTable.{entry, HasBelow}
 use Rattle.circuit_step.specs.Held.{HoldsState}
-use Rattle.circuit_step.specs.Touched.{touchedBefore}
-use Rattle.replay_frame.specs.Replay.{Said, begunFrom, isUnknown, startWords, replayed, replayedState, fedUnclear}
+use Rattle.replay_frame.specs.Replay.{Said, touchedFrom, isUnknown, startWords, replayed, replayedState, fedUnclear}
 use Rattle.replay_frame.specs.declared.FrameVerdict.{FrameVerdict}
 
 -- the table of the words that are touched, after a frame with the values v
@@ -29,7 +27,7 @@ pub record WordFilled (c : Netlist) (touched inputs latches : List Bool) (word :
 -- the table has the words that the frames before i have touched
 pub record TouchedIs (c : Netlist) (y : Said) (i : ℕ) (touched : List Bool) : Type 0 where
   pub size : length touched ≡ 2 ^ mostAddressBits
-  pub has : (x : ℕ) → x < 2 ^ c .m → entry touched x ≡ touchedBefore c (begunFrom c y (startWords c y i)) (feedOf c (y .value)) i x
+  pub has : (x : ℕ) → x < 2 ^ c .m → entry touched x ≡ touchedFrom c y (startWords c y i) i x
 
 -- what a frame asks: latches, memory and the word held are the state in which it begins
 pub record FrameBegins (c : Netlist) (y : Said) (i : ℕ) (values inputs latches touched : List Bool) (memory : List ℕ) (held : ℕ) : Type 0 where

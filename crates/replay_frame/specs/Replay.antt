@@ -36,6 +36,16 @@ begunFrom c y words = initial c words (idleOf c (y .value))
 abbrev pub runFrom : Netlist → Said → (ℕ → ℕ) → ℕ → Values
 runFrom c y words = run c (begunFrom c y words) (feedOf c (y .value))
 
+-- of that run: the state in which frame i begins, its address, and whether a frame before it reads or writes the word at x
+abbrev pub stateFrom : Netlist → Said → (ℕ → ℕ) → ℕ → State
+stateFrom c y words = stateAt c (begunFrom c y words) (feedOf c (y .value))
+
+abbrev pub addressFrom : Netlist → Said → (ℕ → ℕ) → ℕ → ℕ
+addressFrom c y words i = addressOf c (port c) (runFrom c y words i)
+
+abbrev pub touchedFrom : Netlist → Said → (ℕ → ℕ) → ℕ → ℕ → Bool
+touchedFrom c y words = touchedBefore c (begunFrom c y words) (feedOf c (y .value))
+
 -- whether the start is unknown
 unfoldable pub isUnknown : Start → Bool
 isUnknown (given word) = false
@@ -44,9 +54,7 @@ isUnknown unknown = true
 -- frame i of that run reads a word of an unknown start: one that no frame before it reads or writes (RULES Y12)
 unfoldable pub fillsFrom : Netlist → Said → (ℕ → ℕ) → ℕ → Bool
 fillsFrom c y words i =
-    isUnknown (start c)
-    && (codeValue (runFrom c y words i) (port c .RE)
-    && not (touchedBefore c (begunFrom c y words) (feedOf c (y .value)) i (addressOf c (port c) (runFrom c y words i))))
+    isUnknown (start c) && (codeValue (runFrom c y words i) (port c .RE) && not (touchedFrom c y words i (addressFrom c y words i)))
 
 -- the word of the read bits that are said of frame i
 unfoldable pub wordSaid : Netlist → Said → ℕ → ℕ
@@ -57,7 +65,7 @@ wordSaid c y i = fromBits (readBits c) (λ t. y .value (base c i + readWire c t)
 unfoldable pub startWords : Netlist → Said → ℕ → ℕ → ℕ
 startWords c y zero x = givenWord (start c)
 startWords c y (suc i) x =
-    cond (fillsFrom c y (startWords c y i) i && eqb x (addressOf c (port c) (runFrom c y (startWords c y i) i))) (wordSaid c y i) (startWords c y i x)
+    cond (fillsFrom c y (startWords c y i) i && eqb x (addressFrom c y (startWords c y i) i)) (wordSaid c y i) (startWords c y i x)
 
 -- frame i fills a word
 abbrev pub fills : Netlist → Said → ℕ → Bool
@@ -69,7 +77,7 @@ abbrev pub replayed : Netlist → Said → ℕ → Values
 replayed c y i = runFrom c y (startWords c y (suc i)) i
 
 abbrev pub replayedState : Netlist → Said → ℕ → State
-replayedState c y i = stateAt c (begunFrom c y (startWords c y i)) (feedOf c (y .value)) i
+replayedState c y i = stateFrom c y (startWords c y i) i
 
 -- The frames 0 to k of the replay are those of the run from one memory that a run may begin with, and what frame k leaves is what that run
 -- leaves. A frame of that run that reads a word of an unknown start, which no frame before it reads or writes, reads what is said of its read
@@ -78,10 +86,10 @@ replayedState c y i = stateAt c (begunFrom c y (startWords c y i)) (feedOf c (y 
 pub record OneRun (c : Netlist) (y : Said) (k : ℕ) : Type 0 where
   pub begins : Begins c (startWords c y (k + 1))
   pub frames : (i : ℕ) → i ≤ k → replayed c y i ≡ runFrom c y (startWords c y (k + 1)) i
-  pub leaves : replayedState c y (k + 1) ≡ stateAt c (begunFrom c y (startWords c y (k + 1))) (feedOf c (y .value)) (k + 1)
+  pub leaves : replayedState c y (k + 1) ≡ stateFrom c y (startWords c y (k + 1)) (k + 1)
   pub fills-as-said : (i : ℕ) → i ≤ k → fillsFrom c y (startWords c y (k + 1)) i ≡ true
       → (t : ℕ) → t < readBits c → replayed c y i (readWire c t) ≡ y .value (base c i + readWire c t)
-  pub untouched : (x : ℕ) → touchedBefore c (begunFrom c y (startWords c y (k + 1))) (feedOf c (y .value)) (k + 1) x ≡ false
+  pub untouched : (x : ℕ) → touchedFrom c y (startWords c y (k + 1)) (k + 1) x ≡ false
       → replayedState c y (k + 1) .memory x ≡ givenWord (start c)
 
 abbrev pub OneRunTheorem : Type 0

@@ -35,7 +35,7 @@ use Rattle.call_lists.proofs.Delivered.{delivered-by}
 use Rattle.replay_run.proofs.Runs.{first-next}
 
 -- the lines of the first i frames
-abbrev pub linesTo : Netlist → Said → ℕ → List ℕ
+abbrev linesTo : Netlist → Said → ℕ → List ℕ
 linesTo c y i = gather i (λ j. frameLine c (replayed c y j))
 
 pub length-lines : (c : Netlist) (y : Said) (i : ℕ) → length (linesTo c y i) ≡ i * (lastWire c + 1)
