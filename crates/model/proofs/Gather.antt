@@ -135,6 +135,11 @@ all-getD nothing q i = q
 all-getD (also p r) q zero = p
 all-getD (also p r) q (suc i) = all-getD r q i
 
+pub all-below-length : {A : Type 0} {P : A → Type 0} {xs : List A} (d : A) → All P xs → (i : ℕ) → i < length xs → P (getD xs i d)
+all-below-length d nothing i l = absurd (not-suc-le-zero l)
+all-below-length d (also p r) zero l = p
+all-below-length d (also p r) (suc i) l = all-below-length d r i (omega arith)
+
 -- a weaker one
 pub all-weaken : {A : Type 0} {P Q : A → Type 0} {xs : List A} → ((x : A) → P x → Q x) → All P xs → All Q xs
 all-weaken weaker nothing = nothing
