@@ -1,7 +1,7 @@
 -- What clauses over literals mean: each family of specs/Clauses.antt is true exactly where its equation holds. Nothing here knows a
 -- variable's number. No contract cites this file.
 use Prim.Native.Nat.{ℕ, zero, suc, _<_}
-use mathlib.Core.Path.{_≡_, refl, sym, _∙_, ap, ap₂, subst}
+use mathlib.Core.Path.{_≡_, refl, sym, _∙_, ap, subst}
 use mathlib.Core.Bool.{Bool, true, false, not, _&&_, _||_, Bool·beq, true≢false, false≢true, or-false, or-assoc, and-assoc}
 use mathlib.Core.List.{List, [], _∷_, _++_}
 use mathlib.Core.Logic.{_⊎_, inl, inr, _↔_, Iff·trans, Iff·and, ⊎-elim, ⊎-map}
@@ -14,7 +14,7 @@ use Rattle.model.specs.Clauses.{Literal, known, plus, minus, Clause, neg
 use Rattle.model.specs.Numbers.{Assignment}
 use borrow.Author.Tests.{not-true, not-false}
 use Rattle.model.proofs.Below.{below-suc}
-use Rattle.model.proofs.Gather.{Splits, splits-gather, All, nothing, also}
+use Rattle.model.proofs.Gather.{Splits, splits-gather}
 use Rattle.model.proofs.Booleans.{and-true, or-true, either, not-true-false, beq-true, eq-iff, tables-equal, implies-true, implied-by-all, all-true, equal-if, if-equal}
 
 -- the value of a literal under an assignment
@@ -81,19 +81,6 @@ allHold-none a = (λ h. tt, λ h. refl)
 pub allHold-cons : (a : Assignment) (x : Clause) (xs : List Clause) → AllHold a (x ∷ xs) ↔ ((anyTrue a x ≡ true) × AllHold a xs)
 unfolding everyOf
 allHold-cons a x xs = and-true (anyTrue a x) (allHold a xs)
-
--- two truths that agree on the literals of some clauses make the same of them true
-pub someOf-same : (t t′ : Literal → Bool) (P : Literal → Type 0) → ((l : Literal) → P l → t l ≡ t′ l)
-    → (x : Clause) → All P x → someOf t x ≡ someOf t′ x
-unfolding someOf
-someOf-same t t′ P h [] nothing = refl
-someOf-same t t′ P h (l ∷ x) (also p r) = ap₂ _||_ (h l p) (someOf-same t t′ P h x r)
-
-pub everyOf-same : (t t′ : Literal → Bool) (P : Literal → Type 0) → ((l : Literal) → P l → t l ≡ t′ l)
-    → (xs : List Clause) → All (All P) xs → everyOf t xs ≡ everyOf t′ xs
-unfolding everyOf
-everyOf-same t t′ P h [] nothing = refl
-everyOf-same t t′ P h (x ∷ xs) (also p r) = ap₂ _&&_ (someOf-same t t′ P h x p) (everyOf-same t t′ P h xs r)
 
 -- joined clauses hold where each part does
 pub allHold-splits : (a : Assignment) → Splits (AllHold a)
