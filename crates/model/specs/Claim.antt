@@ -1,4 +1,5 @@
--- Demand 3, the correctness of the encoding in both directions (`Encodes`), and the theorem (`EncodingTheorem`). RULES A2 to A16.
+-- Demand 3, the correctness of the encoding in both directions (`Encodes`), and the theorem (`EncodingTheorem`).
+-- RULES A2 to A4, A6, A7, A10 and A12 to A16.
 --
 -- `Satisfies c k a`: the assignment a makes every clause true that stands in the numbers written for depth k.
 -- First direction: whatever assignment does so, there is a memory that a run may begin with, of the initial word where that is given,
