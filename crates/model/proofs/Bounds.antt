@@ -123,7 +123,7 @@ module _ {P : Literal → Type 0} (keeps : (l : Literal) → P l → P (neg l)) 
       initial-all constants n s i x a ⧺ held-all n i x a ⧺ just (also (keeps _ (a .RE)) (also (a .Z) (all-gather i (selectedOf x) (λ j b. just (a .S j b)))))
 
 -- what each group's clauses have, all groups' clauses joined have
-pub joined-all : {Q : Clause → Type 0} (f : Group → List Clause) (gs : List Group)
+joined-all : {Q : Clause → Type 0} (f : Group → List Clause) (gs : List Group)
     → All (λ g. All Q (f g)) gs → All Q (joinedClauses f gs)
 unfolding joinedClauses
 joined-all f [] nothing = nothing
@@ -144,7 +144,7 @@ cond-has P true p q = p refl
 cond-has P false p q = q refl
 
 -- negation keeps the variable
-pub within-neg : (a b : ℕ) (l : Literal) → Within a b l → Within a b (neg l)
+within-neg : (a b : ℕ) (l : Literal) → Within a b l → Within a b (neg l)
 unfolding neg
 within-neg a b (known x) h = tt
 within-neg a b (plus v) h = h
