@@ -1,6 +1,6 @@
 -- Every literal of every group of depth k is a constant or a variable from 2 to B(k + 1), but for the first clause, (1): so every
 -- number written for depth k is within B(k + 1) of 0, and 0 only as an end mark. No contract cites this file.
-use Prim.Native.Nat.{ℕ, zero, suc, zero-le, _+_, _-_, _*_, _/_, _≤_, _<_}
+use Prim.Native.Nat.{ℕ, zero, suc, zero-le, _+_, _*_, _/_, _≤_, _<_}
 use mathlib.Core.Path.{_≡_, refl, sym, ap, subst}
 use mathlib.Core.Bool.{Bool, true, false, cond}
 use mathlib.Core.List.{List, [], _∷_, _++_}
