@@ -7,15 +7,24 @@ use mathlib.Core.List.{List, [], _∷_, _++_, append-assoc, append-nil}
 use mathlib.Core.Logic.{inl, inr}
 use native.Mathlib.Omega.{arith}
 use native.Mathlib.Nat.{not-suc-le-zero}
-use lib.IntN.{ℤ, pos, negsuc}
+use lib.IntN.{ℤ, pos, negsuc, negℤ}
 use lib.ListN.{length}
-use Rattle.model.specs.Clauses.{known, plus, minus, Clause}
-use Rattle.model.specs.Numbers.{keptOf, kept, isTrue, hasTrue, endOf, writtenClause, written, splitAfter, clausesIn, Assignment, numberTrue, clauseTrue, allTrue}
+use Rattle.model.specs.Clauses.{Literal, known, plus, minus, Clause, neg}
+use Rattle.model.specs.Numbers.{literalNumber, keptOf, kept, isTrue, hasTrue, endOf, writtenClause, written, splitAfter, clausesIn, Assignment, numberTrue, clauseTrue, allTrue}
 use Rattle.model.specs.Claim.{NoConstant}
 use Rattle.model.proofs.Booleans.{or-true, and-true}
 use Rattle.model.proofs.Gather.{Splits, All, nothing, also, just, _⧺_, all-below-length}
 use Rattle.model.proofs.Bounds.{Within, AllLits, orMinusOne, NumberWithin, kept-within, orMinusOne-within, ended}
 use Rattle.model.proofs.Truth.{value, someOf, everyOf}
+
+-- to negate a literal is to turn the sign of its number, constants included (RULES W5)
+pub literalNumber-neg : (l : Literal) → literalNumber (neg l) ≡ negℤ (literalNumber l)
+unfolding neg
+literalNumber-neg (known true) = refl
+literalNumber-neg (known false) = refl
+literalNumber-neg (plus v) = refl
+literalNumber-neg (minus zero) = refl
+literalNumber-neg (minus (suc v)) = refl
 
 -- the clauses that are written, as numbers
 unfoldable pub shown : List Clause → List (List ℤ)
@@ -94,7 +103,7 @@ shown-constants b (x ∷ xs) (also w r) = go (hasTrue x) ⧺ shown-constants b x
     go false = just (orMinusOne-constants b (kept x) (kept-within 2 b x w))
 
 -- all of joined clauses of numbers are true where all of both are
-pub allTrue-append : (a : Assignment) (xs ys : List (List ℤ)) → allTrue a (xs ++ ys) ≡ (allTrue a xs && allTrue a ys)
+allTrue-append : (a : Assignment) (xs ys : List (List ℤ)) → allTrue a (xs ++ ys) ≡ (allTrue a xs && allTrue a ys)
 unfolding allTrue
 allTrue-append a [] ys = refl
 allTrue-append a (x ∷ xs) ys =
