@@ -10,10 +10,9 @@ use native.Mathlib.Omega.{arith}
 use borrow.Author.Tests.{lt-ltb}
 use Rattle.model.specs.Netlist.{Netlist, inputWire, latchWire, readWire, gateWire}
 use Rattle.model.specs.Circuit.{Values, codeValue, Solves}
-use Rattle.model.specs.Network as Network
-use Rattle.model.specs.Network.{networkOf, DefinedBefore, source, gate, Defined, OperandsDefined, straight, Renumbers}
 use Rattle.model.proofs.Circuit.{evaluate-solves}
-use Rattle.model.proofs.Renumbering.{renumbered-obeys, gates-same-value, codes-same-value, solves-obeys}
+use Rattle.model.proofs.Renumbering as Renumbering
+use Rattle.model.proofs.Renumbering.{networkOf, DefinedBefore, source, gate, Defined, OperandsDefined, straight, Renumbers, renumbered-obeys, gates-same-value, codes-same-value, solves-obeys}
 use Rattle.aiger_lines.specs.Parts.{countsIn, linesDue, inputLine, latchLine, gateLine}
 use Rattle.aiger_lines.specs.declared.Counts.{Counts}
 use Rattle.aiger_definitions.specs.Definitions.{numberAt, definedAt}
@@ -30,7 +29,7 @@ pub data Source (s : List ℕ) (v : ℕ) : Type 0 where
 
 -- what is known before gate g's line is defined before the gate
 known-before : (s : List ℕ) (p g v : ℕ) → p ≤ gateLine (countsIn s) g → Known s p v → DefinedBefore (textNetwork s) (Source s) g v
-known-before s p g v b (constant e) = Network.constant e
+known-before s p g v b (constant e) = Renumbering.constant e
 known-before s p g v b (line q l (by-input x c k) e) = source (an-input x c (e ∙ ap (definedAt s) k))
 known-before s p g v b (line q l (by-latch x c k) e) = source (a-latch x c (e ∙ ap (definedAt s) k))
 known-before s p g v b (line q l (by-gate x c k) e) = gate x (omega arith) (e ∙ ap (definedAt s) k)

@@ -1,21 +1,13 @@
--- The two starts of a memory, as a writer tells them: the initial word is given where `unknown_start` is 0. No contract cites this file.
-use Prim.Native.Nat.{ℕ, zero, suc, _*_, _≤_}
-use mathlib.Core.Path.{_≡_, refl}
+-- What only one of the two starts of a memory has, as a writer tells them: the initial word is given where `unknown_start` is 0. No
+-- contract cites this file.
+use Prim.Native.Nat.{ℕ, _*_, _≤_}
+use mathlib.Core.Path.{_≡_}
 use native.Mathlib.Omega.{arith}
-use Rattle.model.specs.Netlist.{given, unknown, startOf}
+use Rattle.model.specs.Netlist.{startOf}
 use Rattle.model.specs.Counts.{whereGiven, whereUnknown}
+pub use Rattle.model.proofs.Start.{start-given, start-unknown}
 
-pub start-given : (word u : ℕ) → u ≡ 0 → startOf word u ≡ given word
-unfolding startOf
-start-given word zero e = refl
-start-given word (suc u) e = absurd (omega arith)
-
-pub start-unknown : (word u : ℕ) → (u ≡ 0 → ⊥) → startOf word u ≡ unknown
-unfolding startOf
-start-unknown word zero h = absurd (h refl)
-start-unknown word (suc u) h = refl
-
--- what only one of them has: all of it, or nothing
+-- all of it, or nothing
 pub given-whole : (word u x : ℕ) → u ≡ 0 → whereGiven (startOf word u) x ≡ x
 unfolding whereGiven
 given-whole word u x e = rw (start-given word u e)

@@ -15,7 +15,7 @@ use mir.ValLaws.{toZ-ofZ, toZ-pos}
 use Rattle.model.specs.Bits.{odd}
 use Rattle.model.specs.Clauses.{known, plus, neg}
 use Rattle.model.specs.Variables.{codeAt}
-use Rattle.model.specs.Numbers.{keptOf, isTrue}
+use Rattle.model.specs.Numbers.{literalNumber, keptOf, isTrue}
 use Rattle.literals.specs.Lit.{literalAt, HasNumber}
 
 -- the machine's number of a variable
@@ -51,7 +51,13 @@ unfolding literalAt isTrue
 isTrue-literalAt (pos v) = refl
 isTrue-literalAt (negsuc v) = refl
 
--- what is written of the literal that a number stands for is that number
+-- the number of the literal that a number stands for is that number
+pub literalNumber-at : (z : ℤ) → literalNumber (literalAt z) ≡ z
+unfolding literalAt
+literalNumber-at (pos v) = refl
+literalNumber-at (negsuc v) = refl
+
+-- which is what is written of it
 pub kept-literalAt : (z : ℤ) → keptOf (literalAt z) ≡ z ∷ []
 unfolding literalAt keptOf
 kept-literalAt (pos v) = refl

@@ -35,7 +35,7 @@ IsTerm True = Unit {0}
 IsTerm False = Unit {0}
 IsTerm (Number l) = IsLit l
 
--- variable b + w, after the constants' variable 1, has a clause number
+-- variable b + w, behind variable 1, has a clause number
 pub record HasNumber (b w : ℕ) : Type 0 where
   pub after : 1 ≤ b
   pub bounded : b + w < 2147483648

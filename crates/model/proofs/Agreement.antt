@@ -25,11 +25,11 @@ pub word-bit : (c : Netlist) (v : Values) (t : ℕ) → t < c .n → bit (wordWr
 unfolding wordWritten
 word-bit c v t b = bit-fromBits (c .n) (λ t. codeValue v (c .writeData t)) t b
 
-pub word-agrees : (c : Netlist) → CodesFit c → (u v : Values) → Same c u v → wordWritten c u ≡ wordWritten c v
+word-agrees : (c : Netlist) → CodesFit c → (u v : Values) → Same c u v → wordWritten c u ≡ wordWritten c v
 unfolding wordWritten
 word-agrees c fit u v h = fromBits-same (c .n) _ _ (λ t b. code-agrees c u v h (c .writeData t) (fit .data-fits t b))
 
-pub address-agrees : (c : Netlist) → CodesFit c → (u v : Values) → Same c u v → addressOf c (port c) u ≡ addressOf c (port c) v
+address-agrees : (c : Netlist) → CodesFit c → (u v : Values) → Same c u v → addressOf c (port c) u ≡ addressOf c (port c) v
 address-agrees c fit u v h = address-same c (port c) u v (λ t b. code-agrees c u v h (c .address t) (fit .address-fits t b))
 
 -- equal addresses are equal bit by bit
@@ -59,7 +59,7 @@ memory-stepped c s f x zero = refl
 memory-stepped c s f x (suc i) =
     cc (memory-stepped c s f x i, and-comm (codeValue (run c s f i) (c .WE)) (eqb x (addressOf c (port c) (run c s f i))))
 
-pub writes-agrees : (c : Netlist) → CodesFit c → (u v : ℕ → Values) (x j : ℕ) → Same c (u j) (v j) → writes c u x j ≡ writes c v x j
+writes-agrees : (c : Netlist) → CodesFit c → (u v : ℕ → Values) (x j : ℕ) → Same c (u j) (v j) → writes c u x j ≡ writes c v x j
 unfolding writes
 writes-agrees c fit u v x j h =
     ap₂ (λ (e : Bool) (y : ℕ). e && eqb x y) (code-agrees c (u j) (v j) h (c .WE) (fit .WE-fits)) (address-agrees c fit (u j) (v j) h)

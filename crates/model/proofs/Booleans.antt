@@ -55,17 +55,17 @@ pub eq-iff : {x y : Bool} → x ≡ y → (x ≡ true) ↔ (y ≡ true)
 eq-iff e = (λ h. sym e ∙ h, λ h. e ∙ h)
 
 -- a test of one Boolean, and of four, passed at all of them: a truth table, computed
-abbrev pub every : (Bool → Bool) → Bool
+abbrev every : (Bool → Bool) → Bool
 every f = f true && f false
 
-pub every-at : (f : Bool → Bool) → every f ≡ true → (x : Bool) → f x ≡ true
+every-at : (f : Bool → Bool) → every f ≡ true → (x : Bool) → f x ≡ true
 every-at f h true = and-true (f true) (f false) .0 h .0
 every-at f h false = and-true (f true) (f false) .0 h .1
 
-abbrev pub every4 : (Bool → Bool → Bool → Bool → Bool) → Bool
+abbrev every4 : (Bool → Bool → Bool → Bool → Bool) → Bool
 every4 f = every (λ p. every (λ q. every (λ r. every (λ s. f p q r s))))
 
-pub every4-at : (f : Bool → Bool → Bool → Bool → Bool) → every4 f ≡ true → (p q r s : Bool) → f p q r s ≡ true
+every4-at : (f : Bool → Bool → Bool → Bool → Bool) → every4 f ≡ true → (p q r s : Bool) → f p q r s ≡ true
 every4-at f h p q r s =
     every-at (λ s. f p q r s)
     (every-at (λ r. every (λ s. f p q r s))

@@ -1,6 +1,6 @@
 -- Every literal of every group of depth k is a constant or a variable from 2 to B(k + 1), but for the first clause, (1): so every
 -- number written for depth k is within B(k + 1) of 0, and 0 only as an end mark. No contract cites this file.
-use Prim.Native.Nat.{ℕ, zero, suc, zero-le, _+_, _-_, _*_, _/_, _≤_, _<_}
+use Prim.Native.Nat.{ℕ, zero, suc, zero-le, _+_, _*_, _/_, _≤_, _<_}
 use mathlib.Core.Path.{_≡_, refl, sym, ap, subst}
 use mathlib.Core.Bool.{Bool, true, false, cond}
 use mathlib.Core.List.{List, [], _∷_, _++_}
@@ -8,7 +8,7 @@ use native.Mathlib.Numerals.{add-one}
 use native.Mathlib.Omega.{arith}
 use borrow.Author.Tests.{eqb-false, ltb-false}
 use lib.Dec.{eqb, ltb}
-use lib.IntN.{pos, natAbs}
+use lib.IntN.{ℤ, pos, negsuc, natAbs}
 use lib.ListN.{length}
 use Rattle.model.specs.Bits.{odd}
 use Rattle.model.specs.Gather.{gather, gatherDown}
@@ -123,7 +123,7 @@ module _ {P : Literal → Type 0} (keeps : (l : Literal) → P l → P (neg l)) 
       initial-all constants n s i x a ⧺ held-all n i x a ⧺ just (also (keeps _ (a .RE)) (also (a .Z) (all-gather i (selectedOf x) (λ j b. just (a .S j b)))))
 
 -- what each group's clauses have, all groups' clauses joined have
-pub joined-all : {Q : Clause → Type 0} (f : Group → List Clause) (gs : List Group)
+joined-all : {Q : Clause → Type 0} (f : Group → List Clause) (gs : List Group)
     → All (λ g. All Q (f g)) gs → All Q (joinedClauses f gs)
 unfolding joinedClauses
 joined-all f [] nothing = nothing
@@ -144,7 +144,7 @@ cond-has P true p q = p refl
 cond-has P false p q = q refl
 
 -- negation keeps the variable
-pub within-neg : (a b : ℕ) (l : Literal) → Within a b l → Within a b (neg l)
+within-neg : (a b : ℕ) (l : Literal) → Within a b l → Within a b (neg l)
 unfolding neg
 within-neg a b (known x) h = tt
 within-neg a b (plus v) h = h
@@ -335,20 +335,34 @@ module _ {c : Netlist} (accepted : Accepted c) (k : ℕ) where
   pub formula-within : AllLits (Within 1 (base c (k + 1))) (joinedClauses (clausesOf c k) (groupOrder k))
   formula-within = first-one-within (base-least c (k + 1)) formula-first
 
--- the end of a clause is within any bound
-endOf-within : (b n : ℕ) → 1 ≤ b → All (λ z. natAbs z ≤ b) (endOf n)
-unfolding endOf
-endOf-within b zero h = also h (just {x = pos 0} zero-le)
-endOf-within b (suc n) h = just {x = pos 0} zero-le
+-- a number within bounds; from 1 on it is no end mark
+abbrev pub NumberWithin : ℕ → ℕ → ℤ → Type 0
+NumberWithin a b z = (a ≤ natAbs z) × (natAbs z ≤ b)
 
--- what is kept of a clause
-kept-most : (b : ℕ) (x : Clause) → All (Within 1 b) x → All (λ z. natAbs z ≤ b) (kept x)
+-- what is kept of literals within bounds is within them
+pub kept-within : (a b : ℕ) (x : Clause) → All (Within a b) x → All (NumberWithin a b) (kept x)
 unfolding kept keptOf
-kept-most b [] nothing = nothing
-kept-most b (known t ∷ x) (also h r) = kept-most b x r
-kept-most b (plus v ∷ x) (also h r) = also (h .1) (kept-most b x r)
-kept-most b (minus zero ∷ x) (also h r) = also (h .1) (kept-most b x r)
-kept-most b (minus (suc v) ∷ x) (also h r) = also (h .1) (kept-most b x r)
+kept-within a b [] nothing = nothing
+kept-within a b (known t ∷ x) (also h r) = kept-within a b x r
+kept-within a b (plus v ∷ x) (also h r) = also h (kept-within a b x r)
+kept-within a b (minus zero ∷ x) (also h r) = also h (kept-within a b x r)
+kept-within a b (minus (suc v) ∷ x) (also h r) = also h (kept-within a b x r)
+
+-- the numbers of a clause that is written, without its end mark: what is kept, or -1 alone
+unfoldable pub orMinusOne : List ℤ → List ℤ
+orMinusOne [] = negsuc 0 ∷ []
+orMinusOne (z ∷ zs) = z ∷ zs
+
+pub orMinusOne-within : (b : ℕ) (zs : List ℤ) → 1 ≤ b → All (NumberWithin 1 b) zs → All (NumberWithin 1 b) (orMinusOne zs)
+unfolding orMinusOne
+orMinusOne-within b [] h nothing = just (omega arith)
+orMinusOne-within b (z ∷ zs) h r = r
+
+-- the end mark stands behind them
+pub ended : (zs : List ℤ) → zs ++ endOf (length zs) ≡ orMinusOne zs ++ pos 0 ∷ []
+unfolding endOf orMinusOne
+ended [] = refl
+ended (z ∷ zs) = refl
 
 -- every number written is within the bound
 pub written-within : (b : ℕ) (xs : List Clause) → 1 ≤ b → AllLits (Within 1 b) xs → All (λ z. natAbs z ≤ b) (written xs)
@@ -358,7 +372,7 @@ written-within b (x ∷ xs) h (also p q) = go (hasTrue x) ⧺ written-within b x
   where
     go : (t : Bool) → All (λ z. natAbs z ≤ b) (cond t [] (kept x ++ endOf (length (kept x))))
     go true = nothing
-    go false = kept-most b x p ⧺ endOf-within b (length (kept x)) h
+    go false = rw (ended (kept x)) (all-weaken (λ z w. w .1) (orMinusOne-within b (kept x) h (kept-within 1 b x p)) ⧺ just {x = pos 0} zero-le)
 
 -- every number written for depth k is within B(k + 1)
 pub formula-numbers-within : {c : Netlist} → Accepted c → (k : ℕ) → All (λ z. natAbs z ≤ base c (k + 1)) (formula c k)

@@ -16,9 +16,9 @@ use Rattle.model.specs.declared.Group.the-variants.{Wires}
 use Rattle.model.proofs.Booleans.{eq-iff, and-true}
 use Rattle.model.proofs.Variables.{base-least}
 use Rattle.model.proofs.Joined.{joinedClauses, formula-written, EachGroup, each-group}
-use Rattle.model.proofs.Bounds.{formula-within}
+use Rattle.model.proofs.Bounds.{orMinusOne, formula-within}
 use Rattle.model.proofs.Truth.{AllHold, InitialHold, allHold-splits}
-use Rattle.model.proofs.Numbers.{orMinusOne, shown, ShownTrue, shownTrue-splits, clausesIn-written, shown-true, shown-same}
+use Rattle.model.proofs.Numbers.{shown, ShownTrue, shownTrue-splits, clausesIn-written, shown-true, shown-same}
 use Rattle.model.proofs.Groups.{pair-holds, closing-holds}
 use Rattle.model.proofs.StartMemory.{Explains, given-explains, start-explains}
 use Rattle.model.proofs.AssignmentToRun.{fed-by-itself, assignment-agrees, assignment-breaks}

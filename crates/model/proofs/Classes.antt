@@ -24,7 +24,8 @@ use Rattle.model.specs.declared.Group.{Group}
 use Rattle.model.specs.declared.Group.the-variants.{Wires, Pair, Closing, Property}
 use Rattle.model.proofs.Gather.{Adds}
 use Rattle.model.proofs.Joined.{joinedClauses, joinedClauses-append}
-use Rattle.model.proofs.Numbers.{orMinusOne, shown, shown-append}
+use Rattle.model.proofs.Bounds.{orMinusOne}
+use Rattle.model.proofs.Numbers.{shown, shown-append}
 use Rattle.model.proofs.Claim.{clausesIn-formula}
 
 -- how many of the clauses are written

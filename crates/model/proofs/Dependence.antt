@@ -30,18 +30,18 @@ depends-read c t h =
     ∙ rw (le-leb (readWire c 0) (readWire c t) (omega arith), lt-ltb (readWire c t) (gateWire c 0) (omega arith))
 
 -- a wire before the read bits depends on none
-pub depends-before : (c : Netlist) (w : ℕ) → w < readWire c 0 → dependsOnRead c w ≡ false
+depends-before : (c : Netlist) (w : ℕ) → w < readWire c 0 → dependsOnRead c w ≡ false
 unfolding isRead
 depends-before c w h = depends-source c w (omega arith) ∙ rw (lt-leb (readWire c 0) w h)
 
 -- a number past the last wire depends on none
-pub depends-past : (c : Netlist) (w : ℕ) → lastWire c < w → dependsOnRead c w ≡ false
+depends-past : (c : Netlist) (w : ℕ) → lastWire c < w → dependsOnRead c w ≡ false
 unfolding isRead
 depends-past c w h =
     depends-source c w (omega arith) ∙ rw (le-leb (readWire c 0) w (omega arith), le-ltb w (gateWire c 0) (omega arith))
 
 -- a gate depends on a read bit if one of its two wires does
-pub depends-gate : (c : Netlist) → CodesFit c → (g : ℕ) → g < c .gates
+depends-gate : (c : Netlist) → CodesFit c → (g : ℕ) → g < c .gates
     → dependsOnRead c (gateWire c g) ≡ (dependsOnRead c (c .left g / 2) || dependsOnRead c (c .right g / 2))
 unfolding dependsOnRead eitherWire
 depends-gate c q g h = sweep-solves eitherWire c (isRead c) eitherWire-of-two q g h

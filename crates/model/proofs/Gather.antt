@@ -2,7 +2,7 @@
 -- No contract cites this file.
 use Prim.Native.Nat.{ℕ, zero, suc, _+_, _*_, _≤_, _<_}
 use mathlib.Core.Path.{_≡_, refl, sym, _∙_, ap, ap₂}
-use mathlib.Core.List.{List, [], _∷_, _++_, map}
+use mathlib.Core.List.{List, [], _∷_, _++_}
 use mathlib.Core.Logic.{_↔_, Iff·rfl, Iff·trans, Iff·and}
 use native.Mathlib.Nat.{suc-mul, zero-mul, not-suc-le-zero}
 use native.Mathlib.Omega.{arith}
@@ -39,21 +39,10 @@ module _ {A : Type 0} {count : List A → ℕ} (adds : Adds count) where
       let before : count (gather n f) ≡ total n = gather-total total start n f (λ t h. grows t (omega arith)) in
       adds .of-both (gather n f) (f n) ∙ omega (arith, grows n (omega arith))
 
-  -- the order of the lists is nothing to a count
-  pub gatherDown-total : (n : ℕ) (f : ℕ → List A) → count (gatherDown n f) ≡ count (gather n f)
-  unfolding gather gatherDown
-  gatherDown-total zero f = refl
-  gatherDown-total (suc n) f =
-      omega (arith, adds .of-both (f n) (gatherDown n f), adds .of-both (gather n f) (f n), gatherDown-total n f)
-
   -- n lists of the same count
   pub gather-count : (n d : ℕ) (f : ℕ → List A) → ((t : ℕ) → t < n → count (f t) ≡ d) → count (gather n f) ≡ n * d
   gather-count n d f each =
       gather-total (λ t. t * d) (zero-mul d) n f (λ t h. omega (arith, suc-mul t d, each t h))
-
-  -- in either order
-  pub gatherDown-count : (n d : ℕ) (f : ℕ → List A) → ((t : ℕ) → t < n → count (f t) ≡ d) → count (gatherDown n f) ≡ n * d
-  gatherDown-count n d f each = gatherDown-total n f ∙ gather-count n d f each
 
   -- n lists of at most a count each
   pub gather-most : (n d : ℕ) (f : ℕ → List A) → ((t : ℕ) → t < n → count (f t) ≤ d) → count (gather n f) ≤ n * d
@@ -67,11 +56,6 @@ module _ {A : Type 0} {count : List A → ℕ} (adds : Adds count) where
 pub length-gather : {A : Type 0} (n d : ℕ) (f : ℕ → List A)
     → ((t : ℕ) → t < n → length (f t) ≡ d) → length (gather n f) ≡ n * d
 length-gather = gather-count length-adds
-
--- in either order
-pub length-gatherDown : {A : Type 0} (n d : ℕ) (f : ℕ → List A)
-    → ((t : ℕ) → t < n → length (f t) ≡ d) → length (gatherDown n f) ≡ n * d
-length-gatherDown = gatherDown-count length-adds
 
 -- what holds of joined lists exactly where it holds of both
 pub record Splits {A : Type 0} (H : List A → Type 0) : Type 0 where
@@ -135,13 +119,12 @@ all-getD nothing q i = q
 all-getD (also p r) q zero = p
 all-getD (also p r) q (suc i) = all-getD r q i
 
+pub all-below-length : {A : Type 0} {P : A → Type 0} {xs : List A} (d : A) → All P xs → (i : ℕ) → i < length xs → P (getD xs i d)
+all-below-length d nothing i l = absurd (not-suc-le-zero l)
+all-below-length d (also p r) zero l = p
+all-below-length d (also p r) (suc i) l = all-below-length d r i (omega arith)
+
 -- a weaker one
 pub all-weaken : {A : Type 0} {P Q : A → Type 0} {xs : List A} → ((x : A) → P x → Q x) → All P xs → All Q xs
 all-weaken weaker nothing = nothing
 all-weaken weaker (also p r) = also (weaker _ p) (all-weaken weaker r)
-
--- of what a function makes of the elements
-pub all-map : {A B : Type 0} {P : A → Type 0} {Q : B → Type 0} (f : A → B) {xs : List A}
-    → ((x : A) → P x → Q (f x)) → All P xs → All Q (map f xs)
-all-map f each nothing = nothing
-all-map f each (also p r) = also (each _ p) (all-map f each r)

@@ -52,11 +52,11 @@ latchClauses-holds c a i l =
     (sameClauses-holds a (wireIn c (i + 1) (latchWire c l)) (codeIn c i (c .next l)))
 
 -- P is false in some frame below n
-pub violationOf-value : (c : Netlist) (a : Assignment) (i : ℕ) → anyTrue a (violationOf c i) ≡ not (codeValue (assigned c a i) (c .P))
+violationOf-value : (c : Netlist) (a : Assignment) (i : ℕ) → anyTrue a (violationOf c i) ≡ not (codeValue (assigned c a i) (c .P))
 unfolding violationOf
 violationOf-value c a i = anyTrue-one a (neg (codeIn c i (c .P))) ∙ value-neg a (codeIn c i (c .P)) ∙ ap not (codeIn-value c a i (c .P))
 
-pub violationOf-holds : (c : Netlist) (a : Assignment) (n : ℕ)
+violationOf-holds : (c : Netlist) (a : Assignment) (n : ℕ)
     → (anyTrue a (gather n (violationOf c)) ≡ true) ↔ ((i : ℕ) × (i < n) × (codeValue (assigned c a i) (c .P) ≡ false))
 violationOf-holds c a n = (
   λ h. let p = anyTrue-gather a n (violationOf c) .0 h in (p .0, p .1, not-true (codeValue (assigned c a (p .0)) (c .P)) (sym (violationOf-value c a (p .0)) ∙ p .2)),

@@ -38,7 +38,7 @@ joinedClauses-append f [] hs = refl
 joinedClauses-append f (g ∷ gs) hs = rw (joinedClauses-append f gs hs, append-assoc (f g))
 
 -- groups written and joined are groups joined and written
-pub joined-written : (f : Group → List Clause) (gs : List Group)
+joined-written : (f : Group → List Clause) (gs : List Group)
     → joined (λ g. written (f g)) gs ≡ written (joinedClauses f gs)
 unfolding joined joinedClauses written
 joined-written f [] = refl

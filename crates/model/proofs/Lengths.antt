@@ -22,17 +22,17 @@ unfolding written
 written-adds = record { of-none = refl; of-both = λ xs ys. rw (written-append xs ys, length-append) }
 
 -- how many clauses a list has, and how many numbers they are written in at most
-pub record Counts (xs : List Clause) (clauses numbers : ℕ) : Type 0 where
+record Counts (xs : List Clause) (clauses numbers : ℕ) : Type 0 where
   pub in-clauses : length xs ≡ clauses
   pub in-numbers : length (written xs) ≤ numbers
 
 -- of two joined lists
 infixl 40 _⊕_
-pub _⊕_ : {xs ys : List Clause} {a b c d : ℕ} → Counts xs a b → Counts ys c d → Counts (xs ++ ys) (a + c) (b + d)
+_⊕_ : {xs ys : List Clause} {a b c d : ℕ} → Counts xs a b → Counts ys c d → Counts (xs ++ ys) (a + c) (b + d)
 _⊕_ {xs} {ys} p q = omega (arith, length-append xs ys, written-adds .of-both xs ys)
 
 -- of n lists that have the same counts
-pub counts-gather : (n a b : ℕ) (f : ℕ → List Clause) → ((t : ℕ) → Counts (f t) a b) → Counts (gather n f) (n * a) (n * b)
+counts-gather : (n a b : ℕ) (f : ℕ → List Clause) → ((t : ℕ) → Counts (f t) a b) → Counts (gather n f) (n * a) (n * b)
 counts-gather n a b f each =
     record {
       in-clauses = gather-count length-adds n a f (λ t h. each t .in-clauses);
@@ -72,7 +72,7 @@ writtenClause-length x h = go (hasTrue x)
     go false = ended-length (kept x) (length x) h (kept-length x)
 
 -- of one such clause
-pub counts-one : (x : Clause) → 1 ≤ length x → Counts (x ∷ []) 1 (length x + 1)
+counts-one : (x : Clause) → 1 ≤ length x → Counts (x ∷ []) 1 (length x + 1)
 unfolding written
 counts-one x h = record { in-clauses = refl; in-numbers = rw (append-nil (writtenClause x)) (writtenClause-length x h) }
 
@@ -99,27 +99,27 @@ counts-each ((l ∷ x) ∷ xs) h =
     }
 
 -- of a gate
-pub and-counts : (g a b : Literal) → Counts (andClauses g a b) 3 10
+and-counts : (g a b : Literal) → Counts (andClauses g a b) 3 10
 unfolding andClauses numbersIn
 and-counts g a b = counts-each (andClauses g a b) tt
 
 -- of two equal literals
-pub same-counts : (q d : Literal) → Counts (sameClauses q d) 2 6
+same-counts : (q d : Literal) → Counts (sameClauses q d) 2 6
 unfolding sameClauses numbersIn
 same-counts q d = counts-each (sameClauses q d) tt
 
 -- of two literals that are equal where a third is true
-pub sameIfClauses-counts : (p a b : Literal) → Counts (sameIfClauses p a b) 2 8
+sameIfClauses-counts : (p a b : Literal) → Counts (sameIfClauses p a b) 2 8
 unfolding sameIfClauses numbersIn
 sameIfClauses-counts p a b = counts-each (sameIfClauses p a b) tt
 
 -- where three others are
-pub sameIfAllClauses-counts : (p q r a b : Literal) → Counts (sameIfAllClauses p q r a b) 2 12
+sameIfAllClauses-counts : (p q r a b : Literal) → Counts (sameIfAllClauses p q r a b) 2 12
 unfolding sameIfAllClauses numbersIn
 sameIfAllClauses-counts p q r a b = counts-each (sameIfAllClauses p q r a b) tt
 
 -- of an address bit
-pub bit-counts : (E e x y : Literal) → Counts (bitClauses E e x y) 4 16
+bit-counts : (E e x y : Literal) → Counts (bitClauses E e x y) 4 16
 unfolding bitClauses numbersIn
 bit-counts E e x y = counts-each (bitClauses E e x y) tt
 
@@ -136,7 +136,7 @@ agreed-counts n unknown x =
     counts-as (counts-gather n 2 12 (agreedClauses x) (λ t. sameIfAllClauses-counts _ _ _ _ _)) (omega arith) (omega arith)
 
 -- of a pair
-pub pair-counts : (m n : ℕ) (s : Start) (x : PairLiterals)
+pair-counts : (m n : ℕ) (s : Start) (x : PairLiterals)
     → Counts (pairClauses m n s x) (4 * m + 2 * n + 10 + whereUnknown s (2 * n)) (17 * m + 8 * n + 32 + whereUnknown s (12 * n))
 unfolding pairClauses addressBitClauses forwardedClauses
 pair-counts m n s x =
@@ -179,12 +179,12 @@ closing-counts n s i x held =
     (omega (arith, someSource-length i x))
 
 -- of the closing of frame 0, and of a later one
-pub closing-counts-first : (n : ℕ) (s : Start) (x : ClosingLiterals)
+closing-counts-first : (n : ℕ) (s : Start) (x : ClosingLiterals)
     → Counts (closingClauses n s 0 x) (whereGiven s (2 * n) + 1) (whereGiven s (8 * n) + 3)
 unfolding heldReads
 closing-counts-first n s x = counts-as (closing-counts n s 0 x counts-none) (omega arith) (omega arith)
 
-pub closing-counts-later : (n : ℕ) (s : Start) (i : ℕ) (x : ClosingLiterals)
+closing-counts-later : (n : ℕ) (s : Start) (i : ℕ) (x : ClosingLiterals)
     → Counts (closingClauses n s (suc i) x) (whereGiven s (2 * n) + 2 * n + 1) (whereGiven s (8 * n) + 8 * n + suc i + 3)
 closing-counts-later n s i x = counts-as (closing-counts n s (suc i) x (held-counts n i x)) (omega arith) (omega arith)
 

@@ -27,6 +27,7 @@ pub mod RunToAssignment
 pub mod Claim
 pub mod Classes
 pub mod Stated
+pub mod Start
 pub mod Agree
 pub mod SameNumbers
 pub mod SameRuns

@@ -13,16 +13,16 @@ unfolding addressOf
 address-below c p v = fromBits-below (c .m) (λ t. codeValue v (p .address t))
 
 -- every word written is below 2^n
-pub wordWritten-below : (c : Netlist) (v : Values) → wordWritten c v < 2 ^ c .n
+wordWritten-below : (c : Netlist) (v : Values) → wordWritten c v < 2 ^ c .n
 unfolding wordWritten
 wordWritten-below c v = fromBits-below (c .n) (λ t. codeValue v (c .writeData t))
 
 -- every word of the memory is below 2^n
-abbrev pub WordsFit : Netlist → State → Type 0
+abbrev WordsFit : Netlist → State → Type 0
 WordsFit c s = (x : ℕ) → s .memory x < 2 ^ c .n
 
 -- after a frame, words below 2^n are still so
-pub step-fits : (c : Netlist) (s : State) (v : Values) → WordsFit c s → WordsFit c (step c s v)
+step-fits : (c : Netlist) (s : State) (v : Values) → WordsFit c s → WordsFit c (step c s v)
 unfolding step
 step-fits c s v h x = written (codeValue v (c .WE) && eqb x (addressOf c (port c) v))
   where
@@ -31,7 +31,7 @@ step-fits c s v h x = written (codeValue v (c .WE) && eqb x (addressOf c (port c
     written false = h x
 
 -- where a run begins with words below 2^n, they are so in every frame
-pub stateAt-fits : (c : Netlist) (s : State) → WordsFit c s → (f : Feeds) (i : ℕ) → WordsFit c (stateAt c s f i)
+stateAt-fits : (c : Netlist) (s : State) → WordsFit c s → (f : Feeds) (i : ℕ) → WordsFit c (stateAt c s f i)
 unfolding stateAt
 stateAt-fits c s h f zero = h
 stateAt-fits c s h f (suc i) = step-fits c (stateAt c s f i) (frame c (stateAt c s f i) (f i)) (stateAt-fits c s h f i)

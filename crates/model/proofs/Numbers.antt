@@ -1,26 +1,30 @@
 -- Clauses written as numbers and split at 0 again: those with a true literal are left out, and of the others what is kept; where
 -- variable 1 is true, an assignment makes them true exactly where it makes all of the clauses true. No contract cites this file.
-use Prim.Native.Nat.{ℕ, zero, suc, zero-le, _≤_, _<_}
+use Prim.Native.Nat.{ℕ, zero, suc, zero-le, _≤_}
 use mathlib.Core.Path.{_≡_, refl, sym, _∙_, ap, ap₂}
 use mathlib.Core.Bool.{Bool, true, false, cond, not, _&&_, _||_, true≢false, false≢true, and-assoc}
 use mathlib.Core.List.{List, [], _∷_, _++_, append-assoc, append-nil}
 use mathlib.Core.Logic.{inl, inr}
 use native.Mathlib.Omega.{arith}
 use native.Mathlib.Nat.{not-suc-le-zero}
-use lib.IntN.{ℤ, pos, negsuc, natAbs}
-use lib.ListN.{length, getD}
-use Rattle.model.specs.Clauses.{Literal, known, plus, minus, Clause}
-use Rattle.model.specs.Numbers.{keptOf, kept, isTrue, hasTrue, endOf, writtenClause, written, splitAfter, clausesIn, Assignment, numberTrue, clauseTrue, allTrue}
+use lib.IntN.{ℤ, pos, negsuc, negℤ}
+use lib.ListN.{length}
+use Rattle.model.specs.Clauses.{Literal, known, plus, minus, Clause, neg}
+use Rattle.model.specs.Numbers.{literalNumber, keptOf, kept, isTrue, hasTrue, endOf, writtenClause, written, splitAfter, clausesIn, Assignment, numberTrue, clauseTrue, allTrue}
 use Rattle.model.specs.Claim.{NoConstant}
 use Rattle.model.proofs.Booleans.{or-true, and-true}
-use Rattle.model.proofs.Gather.{Splits, All, nothing, also, just, _⧺_}
-use Rattle.model.proofs.Bounds.{Within, AllLits}
+use Rattle.model.proofs.Gather.{Splits, All, nothing, also, just, _⧺_, all-below-length}
+use Rattle.model.proofs.Bounds.{Within, AllLits, orMinusOne, NumberWithin, kept-within, orMinusOne-within, ended}
 use Rattle.model.proofs.Truth.{value, someOf, everyOf}
 
--- the numbers of a clause that is written, without its end mark
-unfoldable pub orMinusOne : List ℤ → List ℤ
-orMinusOne [] = negsuc 0 ∷ []
-orMinusOne (z ∷ zs) = z ∷ zs
+-- to negate a literal is to turn the sign of its number, constants included (RULES W5)
+pub literalNumber-neg : (l : Literal) → literalNumber (neg l) ≡ negℤ (literalNumber l)
+unfolding neg
+literalNumber-neg (known true) = refl
+literalNumber-neg (known false) = refl
+literalNumber-neg (plus v) = refl
+literalNumber-neg (minus zero) = refl
+literalNumber-neg (minus (suc v)) = refl
 
 -- the clauses that are written, as numbers
 unfoldable pub shown : List Clause → List (List ℤ)
@@ -31,31 +35,6 @@ pub shown-append : (xs ys : List Clause) → shown (xs ++ ys) ≡ shown xs ++ sh
 unfolding shown
 shown-append [] ys = refl
 shown-append (x ∷ xs) ys = rw (shown-append xs ys, append-assoc (cond (hasTrue x) [] (orMinusOne (kept x) ∷ [])))
-
--- no end mark, and no number above the bound
-abbrev pub NumberWithin : ℕ → ℕ → ℤ → Type 0
-NumberWithin a b z = (a ≤ natAbs z) × (natAbs z ≤ b)
-
--- what is kept of literals within bounds is within them
-pub kept-within : (a b : ℕ) (x : Clause) → All (Within a b) x → All (NumberWithin a b) (kept x)
-unfolding kept keptOf
-kept-within a b [] nothing = nothing
-kept-within a b (known t ∷ x) (also h r) = kept-within a b x r
-kept-within a b (plus v ∷ x) (also h r) = also h (kept-within a b x r)
-kept-within a b (minus zero ∷ x) (also h r) = also h (kept-within a b x r)
-kept-within a b (minus (suc v) ∷ x) (also h r) = also h (kept-within a b x r)
-
--- the numbers of a clause that is written are -1 alone, or what is kept
-pub orMinusOne-within : (b : ℕ) (zs : List ℤ) → 1 ≤ b → All (NumberWithin 1 b) zs → All (NumberWithin 1 b) (orMinusOne zs)
-unfolding orMinusOne
-orMinusOne-within b [] h nothing = just (omega arith)
-orMinusOne-within b (z ∷ zs) h r = r
-
--- its end mark stands behind them
-ended : (zs : List ℤ) → zs ++ endOf (length zs) ≡ orMinusOne zs ++ pos 0 ∷ []
-unfolding endOf orMinusOne
-ended [] = refl
-ended (z ∷ zs) = refl
 
 -- numbers that are no end marks end no clause
 split-numbers : (b : ℕ) (ys : List ℤ) → All (NumberWithin 1 b) ys → (begun zs : List ℤ)
@@ -108,16 +87,11 @@ pub shown-one : (xs : List Clause) → shown ((plus 1 ∷ []) ∷ xs) ≡ (pos 1
 unfolding shown hasTrue isTrue kept keptOf orMinusOne
 shown-one xs = refl
 
--- no number of a clause that is written of literals from 2 on is 1 or -1, but that it may be the single -1
+-- a clause that is written of literals from 2 on is the single -1, or has numbers, none of them 1 or -1
 orMinusOne-constants : (b : ℕ) (zs : List ℤ) → All (NumberWithin 2 b) zs → NoConstant (orMinusOne zs)
 unfolding orMinusOne
 orMinusOne-constants b [] nothing = inl refl
-orMinusOne-constants b (z ∷ zs) r = inr (λ y l. all-below (z ∷ zs) r y l)
-  where
-    all-below : (ys : List ℤ) → All (NumberWithin 2 b) ys → (y : ℕ) → y < length ys → 2 ≤ natAbs (getD ys y (pos 0))
-    all-below [] nothing y l = absurd (not-suc-le-zero l)
-    all-below (x ∷ ys) (also h r) zero l = h .0
-    all-below (x ∷ ys) (also h r) (suc y) l = all-below ys r y (omega arith)
+orMinusOne-constants b (z ∷ zs) r = inr (omega arith, λ y l. all-below-length (pos 0) r y l .0)
 
 pub shown-constants : (b : ℕ) (xs : List Clause) → AllLits (Within 2 b) xs → All NoConstant (shown xs)
 unfolding shown
@@ -129,7 +103,7 @@ shown-constants b (x ∷ xs) (also w r) = go (hasTrue x) ⧺ shown-constants b x
     go false = just (orMinusOne-constants b (kept x) (kept-within 2 b x w))
 
 -- all of joined clauses of numbers are true where all of both are
-pub allTrue-append : (a : Assignment) (xs ys : List (List ℤ)) → allTrue a (xs ++ ys) ≡ (allTrue a xs && allTrue a ys)
+allTrue-append : (a : Assignment) (xs ys : List (List ℤ)) → allTrue a (xs ++ ys) ≡ (allTrue a xs && allTrue a ys)
 unfolding allTrue
 allTrue-append a [] ys = refl
 allTrue-append a (x ∷ xs) ys =

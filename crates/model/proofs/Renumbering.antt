@@ -1,4 +1,4 @@
--- A network under other numbers has the same values (specs/Network.antt). Of a code as of a variable; and in a netlist, by `evaluate`.
+-- A network (specs/Network.antt) under other numbers has the same values. Of a code as of a variable; and in a netlist, by `evaluate`.
 -- No contract cites this file.
 use Prim.Native.Nat.{ℕ, zero, suc, _-_, _/_, _%_, _≤_, _<_}
 use mathlib.Core.Path.{_≡_, ap, ap₂, sym, _∙_}
@@ -10,10 +10,41 @@ use native.Mathlib.Omega.{arith}
 use Rattle.model.specs.Bits.{odd}
 use Rattle.model.specs.Netlist.{Netlist, gateWire, lastWire}
 use Rattle.model.specs.Circuit.{Values, codeValue, evaluate, Solves}
-use Rattle.model.specs.Network.{Network, Obeys, networkOf, DefinedBefore, constant, source, gate, Defined, OperandsDefined, renamed, SameOperands, straight, crossed, Renumbers}
+use Rattle.model.specs.Network.{Network, Obeys, renamed}
 use Rattle.model.specs.Acceptance.{CodesFit}
 use Rattle.model.proofs.Below.{all-below-suc}
 use Rattle.model.proofs.Circuit.{code-same, evaluate-solves}
+
+-- the gates of a netlist, over its wires
+abbrev pub networkOf : Netlist → Network
+networkOf c = record { gates = c .gates; own = gateWire c; left = c .left; right = c .right }
+
+-- what is defined before gate g: variable 0, the sources (inputs, latches, read bits), the variables of earlier gates
+pub data DefinedBefore (h : Network) (Source : ℕ → Type 0) (g x : ℕ) : Type 0 where
+  constant : x ≡ 0 → DefinedBefore h Source g x
+  source : Source x → DefinedBefore h Source g x
+  gate : (e : ℕ) → e < g → x ≡ h .own e → DefinedBefore h Source g x
+
+-- what is defined at all
+abbrev pub Defined : Network → (ℕ → Type 0) → ℕ → Type 0
+Defined h Source x = DefinedBefore h Source (h .gates) x
+
+-- each gate's two variables are defined before it
+pub record OperandsDefined (h : Network) (Source : ℕ → Type 0) : Type 0 where
+  pub left-defined : (g : ℕ) → g < h .gates → DefinedBefore h Source g (h .left g / 2)
+  pub right-defined : (g : ℕ) → g < h .gates → DefinedBefore h Source g (h .right g / 2)
+
+-- a gate's two codes a and b are x and y, in this order or the other
+pub data SameOperands (a b x y : ℕ) : Type 0 where
+  straight : x ≡ a → y ≡ b → SameOperands a b x y
+  crossed : x ≡ b → y ≡ a → SameOperands a b x y
+
+-- k has the gates of h, where variable x has the number ρ x
+pub record Renumbers (ρ : ℕ → ℕ) (h k : Network) : Type 0 where
+  pub zero-kept : ρ 0 ≡ 0
+  pub gates-same : k .gates ≡ h .gates
+  pub own-same : (g : ℕ) → g < h .gates → k .own g ≡ ρ (h .own g)
+  pub operands-same : (g : ℕ) → g < h .gates → SameOperands (renamed ρ (h .left g)) (renamed ρ (h .right g)) (k .left g) (k .right g)
 
 -- a renamed code has the renamed variable, inverted or not as the code
 pub renamed-variable : (ρ : ℕ → ℕ) (x : ℕ) → renamed ρ x / 2 ≡ ρ (x / 2)

@@ -12,12 +12,18 @@ use Rattle.model.specs.Netlist.{Netlist, port, readBits, inputWire, latc
 use Rattle.model.specs.Circuit.{Values, codeValue, sources, evaluate, State, Feed, Feeds, addressOf, readData, firstPass, frame, wordWritten, step, stateAt, run, Begins, initial}
 use Rattle.model.specs.Numbers.{Assignment}
 use Rattle.model.specs.Claim.{Agrees, Breaks}
-use Rattle.model.specs.Agree.{Agree, SameState}
+use Rattle.model.specs.Agree.{Agree}
 use Rattle.model.proofs.Booleans.{cond-same}
 use Rattle.model.proofs.Bits.{fromBits-same}
 use Rattle.model.proofs.Circuit.{code-same, conjunction-of-two}
 use Rattle.model.proofs.Agree.{inputs-same, latches-same, gates-same, m-same, n-same, start-same, lastWire-same, sweep-same}
 use Rattle.model.proofs.SameNumbers.{base-same}
+
+-- two states of a netlist that agree on its latches, on every word and on the read bits held
+pub record SameState (c : Netlist) (s r : State) : Type 0 where
+  pub latch-same : (l : ℕ) → l < c .latches → s .latch l ≡ r .latch l
+  pub memory-same : (x : ℕ) → s .memory x ≡ r .memory x
+  pub held-same : (t : ℕ) → t < readBits c → s .held t ≡ r .held t
 
 -- a state agrees with itself
 pub same-state : (c : Netlist) (s : State) → SameState c s s

@@ -1,17 +1,17 @@
 -- Laws of specs/Search.antt. No contract cites this file.
-use Prim.Native.Nat.{ℕ, zero, suc, _+_, _≤_, _<_, min}
+use Prim.Native.Nat.{ℕ, zero, suc, _+_, _≤_, _<_}
 use mathlib.Core.Path.{_≡_, refl, sym, _∙_}
 use mathlib.Core.Bool.{Bool, true, false, cond, _||_, true≢false, false≢true, or-false, or-assoc}
 use mathlib.Core.Logic.{_⊎_, inl, inr, _↔_, by-cases}
-use native.Mathlib.Nat.{not-suc-le-zero, lt-suc-self, le-step, min-eq-left, min-eq-right}
-use native.Mathlib.Decide.{decLt, decLe}
+use native.Mathlib.Nat.{not-suc-le-zero, lt-suc-self, le-step}
+use native.Mathlib.Decide.{decLt}
 use native.Mathlib.Numerals.{add-one}
 use native.Mathlib.Omega.{arith}
 use lib.Dec.{eqb}
 use borrow.Author.Tests.{eq-eqb, eqb-true}
 use Rattle.model.specs.Search.{anyBelow, firstFrom, firstWhere, IsFirst, seen}
 use Rattle.model.proofs.Below.{below-suc, all-below-suc}
-use Rattle.model.proofs.Booleans.{or-true, neither-true, not-true-false}
+use Rattle.model.proofs.Booleans.{or-true, not-true-false}
 
 -- a loop over the numbers finds b, where that was found before, or that any has a property: at its start, and one number on
 module _ (b : Bool) (has : ℕ → Bool) where
@@ -80,32 +80,6 @@ first-unique {f} {n} {p} {q} a b =
     by-cases (decLt p q) (λ l. absurd (omega (arith, first-least b (a .holds-there (omega (arith, b .within)))))) λ l.
     by-cases (decLt q p) (λ r. absurd (omega (arith, first-least a (b .holds-there (omega (arith, a .within)))))) (λ r. omega arith)
 
--- the first place of either is the smaller of the first places
-module _ {f g : ℕ → Bool} {n p q : ℕ} (a : IsFirst f n p) (b : IsFirst g n q) where
-  pub first-either : IsFirst (λ x. f x || g x) n (min p q)
-  first-either = by-cases (decLe p q) left right
-    where
-      neither : (x : ℕ) → x < p → x < q → (f x || g x) ≡ false
-      neither x l r = neither-true (f x) (g x) .1 (a .none-before x l, b .none-before x r)
-
-      left : p ≤ q → IsFirst (λ x. f x || g x) n (min p q)
-      left h =
-          rw (min-eq-left h)
-          (record {
-            within = a .within;
-            none-before = λ x l. neither x l (omega arith);
-            holds-there = λ l. or-true (f p) (g p) .1 (inl (a .holds-there l));
-          })
-
-      right : (p ≤ q → ⊥) → IsFirst (λ x. f x || g x) n (min p q)
-      right h =
-          rw (min-eq-right {n = q} {m = p} (omega arith))
-          (record {
-            within = b .within;
-            none-before = λ x l. neither x (omega arith) l;
-            holds-there = λ l. or-true (f q) (g q) .1 (inr (b .holds-there l));
-          })
-
 -- a number that was seen stands at an earlier place
 pub seen-at : (f : ℕ → ℕ) (i v : ℕ) → (seen f i v ≡ true) ↔ ((j : ℕ) × (j < i) × (f j ≡ v))
 unfolding seen
@@ -114,14 +88,7 @@ seen-at f i v = (
   λ h. any-below (λ x. eqb (f x) v) i .1 (h .0, h .1, eq-eqb (f (h .0)) v (h .2)),
 )
 
--- Of the places below n where v stands, the first: before i where v was seen before i
-pub seen-first : (f : ℕ → ℕ) (v : ℕ) {n p : ℕ} → IsFirst (λ x. eqb (f x) v) n p → (i : ℕ) → i ≤ n → seen f i v ≡ true → (p < i) × (f p ≡ v)
-seen-first f v {n} {p} a i b h =
-    let found = seen-at f i v .0 h in
-    let least = first-least a (eq-eqb (f (found .0)) v (found .2)) in
-    (omega (arith, found .1), eqb-true (f p) v (a .holds-there (omega (arith, found .1))))
-
--- and the place itself where it was not seen before
+-- one that was not seen before stands at its first place
 pub unseen-first : (f : ℕ → ℕ) (n v i : ℕ) → i < n → f i ≡ v → seen f i v ≡ false → IsFirst (λ x. eqb (f x) v) n i
 unfolding seen
 unseen-first f n v i b e h =

@@ -1,10 +1,9 @@
 -- What else is said of the clauses of a depth (`Stated` of specs/Claim.antt), proved for every accepted netlist. No contract cites
 -- this file.
-use Prim.Native.Nat.{ℕ, zero, suc, zero-le, _+_, _≤_}
+use Prim.Native.Nat.{ℕ, zero, suc, zero-le, _+_, _≤_, _<_}
 use mathlib.Core.Path.{_≡_, ap, subst}
 use mathlib.Core.Bool.{true}
 use mathlib.Core.List.{[]}
-use mathlib.Core.Logic.{inr}
 use native.Mathlib.Nat.{not-suc-le-zero}
 use native.Mathlib.Numerals.{add-one}
 use native.Mathlib.Omega.{arith}
@@ -23,7 +22,7 @@ use Rattle.model.specs.declared.Group.{Group}
 use Rattle.model.specs.declared.Group.the-variants.{Wires, Pair, Closing, Property}
 use Rattle.model.proofs.Booleans.{and-true}
 use Rattle.model.proofs.Memory.{address-below, word-below}
-use Rattle.model.proofs.Gather.{all-getD}
+use Rattle.model.proofs.Gather.{all-getD, all-below-length}
 use Rattle.model.proofs.Numbering.{numbered}
 use Rattle.model.proofs.Lengths.{wires-clauses-first, wires-clauses-later, pair-clauses, closing-clauses-first, closing-clauses-later, property-clauses, wires-numbers-first, wires-numbers-later, pair-numbers, closing-numbers-first, closing-numbers-later, property-numbers}
 use Rattle.model.proofs.Variables.{base-least}
@@ -70,12 +69,12 @@ module _ {c : Netlist} (ok : Accepted c) (k : ℕ) where
       (omega (arith, shown-length (clausesOf c k g), group-clauses c k g))
 
   -- behind the first clause there is no constant
-  no-constant : (x : ℕ) → 1 ≤ x → NoConstant (getD (clausesIn (formula c k)) x [])
+  no-constant : (x : ℕ) → 1 ≤ x → x < length (clausesIn (formula c k)) → NoConstant (getD (clausesIn (formula c k)) x [])
   no-constant zero h = absurd (not-suc-le-zero h)
   no-constant (suc x) h =
       let first = formula-first ok k in
       rw (clausesIn-formula ok k, ap shown (first .is), shown-one (first .rest))
-      (all-getD (shown-constants (base c (k + 1)) (first .rest) (first .others)) (inr (λ y l. absurd (not-suc-le-zero l))) x)
+      (λ l. all-below-length [] (shown-constants (base c (k + 1)) (first .rest) (first .others)) x (omega arith))
 
   stated-depth : Stated c k
   stated-depth =

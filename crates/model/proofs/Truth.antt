@@ -1,7 +1,7 @@
 -- What clauses over literals mean: each family of specs/Clauses.antt is true exactly where its equation holds. Nothing here knows a
 -- variable's number. No contract cites this file.
 use Prim.Native.Nat.{ℕ, zero, suc, _<_}
-use mathlib.Core.Path.{_≡_, refl, sym, _∙_, ap, ap₂, subst}
+use mathlib.Core.Path.{_≡_, refl, sym, _∙_, ap, subst}
 use mathlib.Core.Bool.{Bool, true, false, not, _&&_, _||_, Bool·beq, true≢false, false≢true, or-false, or-assoc, and-assoc}
 use mathlib.Core.List.{List, [], _∷_, _++_}
 use mathlib.Core.Logic.{_⊎_, inl, inr, _↔_, Iff·trans, Iff·and, ⊎-elim, ⊎-map}
@@ -14,7 +14,7 @@ use Rattle.model.specs.Clauses.{Literal, known, plus, minus, Clause, neg
 use Rattle.model.specs.Numbers.{Assignment}
 use borrow.Author.Tests.{not-true, not-false}
 use Rattle.model.proofs.Below.{below-suc}
-use Rattle.model.proofs.Gather.{Splits, splits-gather, All, nothing, also}
+use Rattle.model.proofs.Gather.{Splits, splits-gather}
 use Rattle.model.proofs.Booleans.{and-true, or-true, either, not-true-false, beq-true, eq-iff, tables-equal, implies-true, implied-by-all, all-true, equal-if, if-equal}
 
 -- the value of a literal under an assignment
@@ -35,7 +35,7 @@ everyOf t (x ∷ xs) = someOf t x && everyOf t xs
 abbrev pub anyTrue : Assignment → Clause → Bool
 anyTrue a = someOf (value a)
 
-abbrev pub allHold : Assignment → List Clause → Bool
+abbrev allHold : Assignment → List Clause → Bool
 allHold a = everyOf (value a)
 
 abbrev pub AllHold : Assignment → List Clause → Type 0
@@ -52,18 +52,18 @@ value-neg a (minus v) = not-not (a v)
     not-not false = refl
 
 -- joined
-pub someOf-append : (t : Literal → Bool) (x y : Clause) → someOf t (x ++ y) ≡ (someOf t x || someOf t y)
+someOf-append : (t : Literal → Bool) (x y : Clause) → someOf t (x ++ y) ≡ (someOf t x || someOf t y)
 unfolding someOf
 someOf-append t [] y = refl
 someOf-append t (l ∷ x) y = ap (λ (r : Bool). t l || r) (someOf-append t x y) ∙ sym (or-assoc (t l) (someOf t x) (someOf t y))
 
-pub everyOf-append : (t : Literal → Bool) (xs ys : List Clause) → everyOf t (xs ++ ys) ≡ (everyOf t xs && everyOf t ys)
+everyOf-append : (t : Literal → Bool) (xs ys : List Clause) → everyOf t (xs ++ ys) ≡ (everyOf t xs && everyOf t ys)
 unfolding everyOf
 everyOf-append t [] ys = refl
 everyOf-append t (x ∷ xs) ys =
     ap (λ (r : Bool). someOf t x && r) (everyOf-append t xs ys) ∙ sym (and-assoc (someOf t x) (everyOf t xs) (everyOf t ys))
 
-pub everyOf-splits : (t : Literal → Bool) → Splits (λ xs. everyOf t xs ≡ true)
+everyOf-splits : (t : Literal → Bool) → Splits (λ xs. everyOf t xs ≡ true)
 unfolding everyOf
 everyOf-splits t =
     record { of-none = refl; of-both = λ xs ys. rw (everyOf-append t xs ys) (and-true (everyOf t xs) (everyOf t ys)) }
@@ -81,19 +81,6 @@ allHold-none a = (λ h. tt, λ h. refl)
 pub allHold-cons : (a : Assignment) (x : Clause) (xs : List Clause) → AllHold a (x ∷ xs) ↔ ((anyTrue a x ≡ true) × AllHold a xs)
 unfolding everyOf
 allHold-cons a x xs = and-true (anyTrue a x) (allHold a xs)
-
--- two truths that agree on the literals of some clauses make the same of them true
-pub someOf-same : (t t′ : Literal → Bool) (P : Literal → Type 0) → ((l : Literal) → P l → t l ≡ t′ l)
-    → (x : Clause) → All P x → someOf t x ≡ someOf t′ x
-unfolding someOf
-someOf-same t t′ P h [] nothing = refl
-someOf-same t t′ P h (l ∷ x) (also p r) = ap₂ _||_ (h l p) (someOf-same t t′ P h x r)
-
-pub everyOf-same : (t t′ : Literal → Bool) (P : Literal → Type 0) → ((l : Literal) → P l → t l ≡ t′ l)
-    → (xs : List Clause) → All (All P) xs → everyOf t xs ≡ everyOf t′ xs
-unfolding everyOf
-everyOf-same t t′ P h [] nothing = refl
-everyOf-same t t′ P h (x ∷ xs) (also p r) = ap₂ _&&_ (someOf-same t t′ P h x p) (everyOf-same t t′ P h xs r)
 
 -- joined clauses hold where each part does
 pub allHold-splits : (a : Assignment) → Splits (AllHold a)
@@ -149,7 +136,7 @@ sameClauses-holds a q d =
     test q d = allHold a (sameClauses (known q) (known d))
 
 -- where p is true, x = y
-pub sameIfClauses-holds : (a : Assignment) (p x y : Literal)
+sameIfClauses-holds : (a : Assignment) (p x y : Literal)
     → AllHold a (sameIfClauses p x y) ↔ (value a p ≡ true → value a x ≡ value a y)
 unfolding sameIfClauses neg everyOf someOf value
 sameIfClauses-holds a p x y =
@@ -162,7 +149,7 @@ sameIfClauses-holds a p x y =
     test p x y = allHold a (sameIfClauses (known p) (known x) (known y))
 
 -- where p, q and r are true, x = y
-pub sameIfAllClauses-holds : (a : Assignment) (p q r x y : Literal)
+sameIfAllClauses-holds : (a : Assignment) (p q r x y : Literal)
     → AllHold a (sameIfAllClauses p q r x y)
     ↔ (value a p ≡ true → value a q ≡ true → value a r ≡ true → value a x ≡ value a y)
 unfolding sameIfAllClauses sameIfClauses neg everyOf someOf value
@@ -181,7 +168,7 @@ sameIfAllClauses-holds a p q r x y = Iff·trans (eq-iff table) (Iff·trans (same
     from h e = let all = all-true (value a p) (value a q) (value a r) .0 e in h (all .0) (all .1) (all .2)
 
 -- one address bit: E only where the two bits are equal, e wherever they are
-pub bitClauses-holds : (a : Assignment) (E e x y : Literal)
+bitClauses-holds : (a : Assignment) (E e x y : Literal)
     → AllHold a (bitClauses E e x y)
     ↔ ((value a E ≡ true → value a x ≡ value a y) × (value a x ≡ value a y → value a e ≡ true))
 unfolding bitClauses neg everyOf someOf value
@@ -218,23 +205,23 @@ pub record PairHolds (a : Assignment) (m n : ℕ) (start : Start) (x : PairLiter
   pub agreed : AgreedHold a n start x
 
 -- the literals ¬e: one is true, or every e is
-pub unequalOf-holds : (a : Assignment) (x : PairLiterals) (t : ℕ) → anyTrue a (unequalOf x t) ≡ not (value a (x .e t))
+unequalOf-holds : (a : Assignment) (x : PairLiterals) (t : ℕ) → anyTrue a (unequalOf x t) ≡ not (value a (x .e t))
 unfolding unequalOf
 unequalOf-holds a x t = anyTrue-one a (neg (x .e t)) ∙ value-neg a (x .e t)
 
-pub some-unequalOf : (a : Assignment) (m : ℕ) (x : PairLiterals)
+some-unequalOf : (a : Assignment) (m : ℕ) (x : PairLiterals)
     → (anyTrue a (gather m (unequalOf x)) ≡ true) → ((t : ℕ) → t < m → value a (x .e t) ≡ true) → ⊥
 some-unequalOf a m x h all = go (anyTrue-gather a m (unequalOf x) .0 h)
   where
     go : (t : ℕ) × (t < m) × (anyTrue a (unequalOf x t) ≡ true) → ⊥
     go (t, b, h) = true≢false (sym (all t b) ∙ not-true (value a (x .e t)) (sym (unequalOf-holds a x t) ∙ h))
 
-pub no-unequalOf : (a : Assignment) (m : ℕ) (x : PairLiterals)
+no-unequalOf : (a : Assignment) (m : ℕ) (x : PairLiterals)
     → (anyTrue a (gather m (unequalOf x)) ≡ false) → (t : ℕ) → t < m → value a (x .e t) ≡ true
 no-unequalOf a m x h t b = not-false (value a (x .e t)) (sym (unequalOf-holds a x t) ∙ not-true-false (anyTrue a (unequalOf x t)) λ e. false≢true (sym h ∙ anyTrue-gather a m (unequalOf x) .1 (t, b, e)))
 
 -- (¬e of bits 0 to m - 1, E): E wherever every e is true
-pub allBits-holds : (a : Assignment) (m : ℕ) (x : PairLiterals)
+allBits-holds : (a : Assignment) (m : ℕ) (x : PairLiterals)
     → (anyTrue a (allBits m x) ≡ true) ↔ (((t : ℕ) → t < m → value a (x .e t) ≡ true) → value a (x .E) ≡ true)
 unfolding allBits
 allBits-holds a m x =
@@ -250,18 +237,18 @@ allBits-holds a m x =
     from (inl h) f = inl h
     from (inr h) f = inr (f (no-unequalOf a m x h))
 
-pub addressBitClauses-holds : (a : Assignment) (x : PairLiterals) (t : ℕ)
+addressBitClauses-holds : (a : Assignment) (x : PairLiterals) (t : ℕ)
     → AllHold a (addressBitClauses x t)
     ↔ ((value a (x .E) ≡ true → value a (x .Aj t) ≡ value a (x .Ai t)) × (value a (x .Aj t) ≡ value a (x .Ai t) → value a (x .e t) ≡ true))
 unfolding addressBitClauses
 addressBitClauses-holds a x t = bitClauses-holds a (x .E) (x .e t) (x .Aj t) (x .Ai t)
 
-pub forwardedClauses-holds : (a : Assignment) (x : PairLiterals) (t : ℕ)
+forwardedClauses-holds : (a : Assignment) (x : PairLiterals) (t : ℕ)
     → AllHold a (forwardedClauses x t) ↔ (value a (x .S) ≡ true → value a (x .RD t) ≡ value a (x .WD t))
 unfolding forwardedClauses
 forwardedClauses-holds a x t = Iff·trans (sameIfClauses-holds a _ _ _) (λ h e. let q = h e in (cc), λ h e. let q = h e in (cc))
 
-pub agreedReads-holds : (a : Assignment) (n : ℕ) (start : Start) (x : PairLiterals) → AllHold a (agreedReads n start x) ↔ AgreedHold a n start x
+agreedReads-holds : (a : Assignment) (n : ℕ) (start : Start) (x : PairLiterals) → AllHold a (agreedReads n start x) ↔ AgreedHold a n start x
 unfolding agreedReads AgreedHold agreedClauses
 agreedReads-holds a n (given word) x = allHold-none a
 agreedReads-holds a n unknown x = (
@@ -288,12 +275,12 @@ pub record ClosingHolds (a : Assignment) (n : ℕ) (start : Start) (i : ℕ) (x 
   pub held-where-idle : 0 < i → (t : ℕ) → t < n → value a (x .RE) ≡ false → value a (x .RD t) ≡ value a (x .before t)
   pub source-where-RE : value a (x .RE) ≡ true → (value a (x .Z) ≡ true) ⊎ ((j : ℕ) × (j < i) × (value a (x .S j) ≡ true))
 
-pub initialReadClauses-holds : (a : Assignment) (word : ℕ) (x : ClosingLiterals) (t : ℕ)
+initialReadClauses-holds : (a : Assignment) (word : ℕ) (x : ClosingLiterals) (t : ℕ)
     → AllHold a (initialReadClauses word x t) ↔ (value a (x .Z) ≡ true → value a (x .RD t) ≡ bit word t)
 unfolding initialReadClauses value
 initialReadClauses-holds a word x t = sameIfClauses-holds a (x .Z) (x .RD t) (known (bit word t))
 
-pub initialReads-holds : (a : Assignment) (n : ℕ) (start : Start) (x : ClosingLiterals)
+initialReads-holds : (a : Assignment) (n : ℕ) (start : Start) (x : ClosingLiterals)
     → AllHold a (initialReads n start x) ↔ InitialHold a n start x
 unfolding initialReads InitialHold
 initialReads-holds a n (given word) x = (
@@ -303,14 +290,14 @@ initialReads-holds a n (given word) x = (
 initialReads-holds a n unknown x = allHold-none a
 
 -- (RE ¬RDi RDi−1), (RE RDi ¬RDi−1): where RE is false, the word of the frame before
-pub heldClauses-holds : (a : Assignment) (x : ClosingLiterals) (t : ℕ)
+heldClauses-holds : (a : Assignment) (x : ClosingLiterals) (t : ℕ)
     → AllHold a (heldClauses x t) ↔ (value a (x .RE) ≡ false → value a (x .RD t) ≡ value a (x .before t))
 unfolding heldClauses
 heldClauses-holds a x t =
     Iff·trans (sameIfClauses-holds a _ _ _)
     (λ h e. h (value-neg a (x .RE) ∙ ap not e), λ h e. h (not-true (value a (x .RE)) (sym (value-neg a (x .RE)) ∙ e)))
 
-pub heldReads-holds : (a : Assignment) (n i : ℕ) (x : ClosingLiterals)
+heldReads-holds : (a : Assignment) (n i : ℕ) (x : ClosingLiterals)
     → AllHold a (heldReads n i x)
     ↔ (0 < i → (t : ℕ) → t < n → value a (x .RE) ≡ false → value a (x .RD t) ≡ value a (x .before t))
 unfolding heldReads
@@ -320,12 +307,12 @@ heldReads-holds a n (suc i) x = (
   λ h. allHold-gather a n (heldClauses x) .1 (λ t b. heldClauses-holds a x t .1 (h (omega arith) t b)),
 )
 
-pub selectedOf-holds : (a : Assignment) (x : ClosingLiterals) (j : ℕ) → anyTrue a (selectedOf x j) ≡ value a (x .S j)
+selectedOf-holds : (a : Assignment) (x : ClosingLiterals) (j : ℕ) → anyTrue a (selectedOf x j) ≡ value a (x .S j)
 unfolding selectedOf
 selectedOf-holds a x j = anyTrue-one a (x .S j)
 
 -- the literals S of the frames below i: one is true
-pub someS-holds : (a : Assignment) (i : ℕ) (x : ClosingLiterals)
+someS-holds : (a : Assignment) (i : ℕ) (x : ClosingLiterals)
     → (anyTrue a (gather i (selectedOf x)) ≡ true) ↔ ((j : ℕ) × (j < i) × (value a (x .S j) ≡ true))
 someS-holds a i x = (
   λ h. let p = anyTrue-gather a i (selectedOf x) .0 h in (p .0, p .1, sym (selectedOf-holds a x (p .0)) ∙ p .2),
@@ -333,7 +320,7 @@ someS-holds a i x = (
 )
 
 -- (¬RE Z S(0,i) .. S(i−1,i)): where RE is true, Z or some S is
-pub someSource-holds : (a : Assignment) (i : ℕ) (x : ClosingLiterals)
+someSource-holds : (a : Assignment) (i : ℕ) (x : ClosingLiterals)
     → (anyTrue a (someSource i x) ≡ true)
     ↔ (value a (x .RE) ≡ true → (value a (x .Z) ≡ true) ⊎ ((j : ℕ) × (j < i) × (value a (x .S j) ≡ true)))
 unfolding someSource someOf

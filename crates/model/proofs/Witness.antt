@@ -22,7 +22,7 @@ unfoldable pub frameOf : Netlist → ℕ → ℕ → ℕ
 frameOf c zero v = 0
 frameOf c (suc k) v = cond (ltb (base c (suc k)) v) (suc k) (frameOf c k v)
 
-pub frameOf-at : (c : Netlist) (k i v : ℕ) → i ≤ k → base c i < v → v ≤ base c (suc i) → frameOf c k v ≡ i
+frameOf-at : (c : Netlist) (k i v : ℕ) → i ≤ k → base c i < v → v ≤ base c (suc i) → frameOf c k v ≡ i
 unfolding frameOf
 frameOf-at c zero i v b lo hi = omega arith
 frameOf-at c (suc k) i v b lo hi =
@@ -51,7 +51,7 @@ pub witness-one : (c : Netlist) (k : ℕ) (u : ℕ → Values) → witness c k u
 unfolding witness
 witness-one c k u = refl
 
-pub witness-in : (c : Netlist) (k : ℕ) (u : ℕ → Values) (i x : ℕ) → i ≤ k → 1 ≤ x → base c i + x ≤ base c (suc i)
+witness-in : (c : Netlist) (k : ℕ) (u : ℕ → Values) (i x : ℕ) → i ≤ k → 1 ≤ x → base c i + x ≤ base c (suc i)
     → witness c k u (base c i + x) ≡ valueIn c u i x
 unfolding witness
 witness-in c k u i x b lo hi =
@@ -63,7 +63,7 @@ pub witness-wire : (c : Netlist) (k : ℕ) (u : ℕ → Values) (i w : ℕ) → 
 witness-wire c k u i w b lo hi =
     witness-in c k u i w b lo (omega (arith, base-suc c i)) ∙ (unfold valueIn in rw (le-leb w (lastWire c) hi))
 
-pub witness-pair : (c : Netlist) (k : ℕ) (u : ℕ → Values) (j i x : ℕ) → j < i → i ≤ k → x < stride c
+witness-pair : (c : Netlist) (k : ℕ) (u : ℕ → Values) (j i x : ℕ) → j < i → i ≤ k → x < stride c
     → witness c k u (pairBase c (port c) j i + 1 + x) ≡ pairValue c (port c) u j i x
 unfolding valueIn
 witness-pair c k u j i x below b lo =

@@ -4,8 +4,7 @@
 use Prim.Native.Nat.{ℕ, _<_}
 use mathlib.Core.Path.{_≡_}
 use mathlib.Core.List.{List, [], _∷_}
-use Rattle.model.specs.Netlist.{Netlist, Start, given, unknown, start, readBits}
-use Rattle.model.specs.Circuit.{State}
+use Rattle.model.specs.Netlist.{Netlist, Start, given, unknown, start}
 
 -- the word that is given at the start; one beside an unknown start is ignored
 unfoldable pub givenWord : Start → ℕ
@@ -31,9 +30,3 @@ pub record Agree (c d : Netlist) : Type 0 where
   pub WE-same : c .WE ≡ d .WE
   pub RE-same : c .RE ≡ d .RE
   pub P-same : c .P ≡ d .P
-
--- two states of a netlist that agree on its latches, on every word and on the read bits held
-pub record SameState (c : Netlist) (s r : State) : Type 0 where
-  pub latch-same : (l : ℕ) → l < c .latches → s .latch l ≡ r .latch l
-  pub memory-same : (x : ℕ) → s .memory x ≡ r .memory x
-  pub held-same : (t : ℕ) → t < readBits c → s .held t ≡ r .held t

@@ -1,5 +1,5 @@
--- The sequential circuit with its whole memory, and its runs through time frames (RULES C2 to C24). Cited by the claim,
--- and for dependence on a read bit by the tests of records.
+-- The sequential circuit with its whole memory, and its runs through time frames (RULES C2 to C4, C6, C7, C9, C12 and C15 to C24). Cited by
+-- the claim, and for dependence on a read bit by the tests of records.
 use Prim.Native.Nat.{ℕ, zero, suc, _-_, _/_, _^_, _<_}
 use mathlib.Core.Path.{_≡_}
 use mathlib.Core.Bool.{Bool, false, cond, not, _&&_, _||_}

@@ -1,4 +1,5 @@
--- Demand 3, the correctness of the encoding in both directions (`Encodes`), and the theorem (`EncodingTheorem`). RULES A2 to A16.
+-- Demand 3, the correctness of the encoding in both directions (`Encodes`), and the theorem (`EncodingTheorem`).
+-- RULES A2 to A4, A6, A7, A10 and A12 to A16.
 --
 -- `Satisfies c k a`: the assignment a makes every clause true that stands in the numbers written for depth k.
 -- First direction: whatever assignment does so, there is a memory that a run may begin with, of the initial word where that is given,
@@ -55,14 +56,15 @@ pub record Encodes (c : Netlist) (k : ℕ) : Type 0 where
 abbrev pub EncodingTheorem : Type 0
 EncodingTheorem = (c : Netlist) → Accepted c → (k : ℕ) → Encodes c k
 
--- no number of a clause is 1 or -1, but that it may be the single -1 (RULES G28 and G29)
+-- a clause, as it is written behind the first: the single -1, or at least one number, and none is 1 or -1 (RULES G28 and G29)
 abbrev pub NoConstant : List ℤ → Type 0
-NoConstant zs = (zs ≡ negsuc 0 ∷ []) ⊎ ((y : ℕ) → y < length zs → 2 ≤ natAbs (getD zs y (pos 0)))
+NoConstant zs = (zs ≡ negsuc 0 ∷ []) ⊎ ((1 ≤ length zs) × ((y : ℕ) → y < length zs → 2 ≤ natAbs (getD zs y (pos 0))))
 
 -- What else is said of the clauses of a depth. An assignment is of the variables from 1 to B(k + 1) (RULES A3): no other matters, each of
 -- them is numbered, and every number written is one of them or an end mark. Where no assignment satisfies the clauses, no run breaks
 -- the property: this is what a designer relies on. Where the initial word is given, the memory of the first direction is that word
--- everywhere (RULES A15). A group has at most as many clauses and numbers as RULES G35 and G36 count. A run's memory is 2^m words of n bits
+-- everywhere (RULES A15). Each clause behind the first, (1), is without constants, and one that is left empty is written as -1
+-- (`no-constants`). A group has at most as many clauses and numbers as RULES G35 and G36 count. A run's memory is 2^m words of n bits
 -- (RULES C23): no frame has another address, and no word is longer.
 pub record Stated (c : Netlist) (k : ℕ) : Type 0 where
   pub only-numbered : (a a′ : Assignment) → ((v : ℕ) → 1 ≤ v → v ≤ base c (k + 1) → a v ≡ a′ v) → Satisfies c k a → Satisfies c k a′
@@ -74,7 +76,7 @@ pub record Stated (c : Netlist) (k : ℕ) : Type 0 where
       → Agrees c (initial c (λ x. word) (idleOf c a)) k a (feedOf c a) × Breaks c (initial c (λ x. word) (idleOf c a)) k (feedOf c a)
   pub clauses-counted : (g : Group) → inDepth k g ≡ true → length (clausesIn (numbersOf c k g)) ≤ clauseCount c k g
   pub numbers-counted : (g : Group) → length (numbersOf c k g) ≤ numberCount c k g
-  pub no-constants : (x : ℕ) → 1 ≤ x → NoConstant (getD (clausesIn (formula c k)) x [])
+  pub no-constants : (x : ℕ) → 1 ≤ x → x < length (clausesIn (formula c k)) → NoConstant (getD (clausesIn (formula c k)) x [])
   pub addresses-within : (memory : ℕ → ℕ) (idle : ℕ → Bool) (f : Feeds) (i : ℕ)
       → addressOf c (port c) (run c (initial c memory idle) f i) < 2 ^ c .m
   pub words-within : (memory : ℕ → ℕ) → Begins c memory → (idle : ℕ → Bool) (f : Feeds) (i x : ℕ)

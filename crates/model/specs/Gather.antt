@@ -1,4 +1,5 @@
--- Lists joined for each number below another. Cited by the definitions of clauses and groups, and by those of lists of records.
+-- Lists joined for each number below another: clauses by latch, gate, bit or frame (RULES G3 to G14), groups by frame and, from the last
+-- down, by pair (RULES G15). Cited by the definitions of clauses and groups, and by those of lists of records.
 use Prim.Native.Nat.{ℕ, zero, suc}
 use mathlib.Core.List.{List, [], _++_}
 

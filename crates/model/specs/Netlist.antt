@@ -1,6 +1,7 @@
 -- A netlist with one memory: the record with its lists (RULES W14 to W17, W19 and W20), and the numbers of its wires (RULES W1).
 -- Cited by nearly every other file.
 use Prim.Native.Nat.{ℕ, zero, suc, _+_}
+use mathlib.Core.Bool.{Bool, true, false}
 
 -- What the lists hold are functions, so that an entry past its size has no meaning to ignore: it is never asked for.
 -- A code (the customer's term, RULES W3) is an AIGER literal: 2 × wire, plus 1 for the inverted wire; code 0 is false, code 1 true.
@@ -33,6 +34,12 @@ pub data Start : Type 0 where
   given : ℕ → Start
   unknown : Start
 
+-- whether it is unknown
+unfoldable pub isUnknown : Start → Bool
+isUnknown (given word) = false
+isUnknown unknown = true
+
+-- by the two numbers of a record (RULES W19 and W20)
 unfoldable pub startOf : ℕ → ℕ → Start
 startOf word zero = given word
 startOf word (suc u) = unknown

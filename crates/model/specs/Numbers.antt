@@ -10,11 +10,18 @@ use Rattle.model.specs.Clauses.{Literal, known, plus, minus, Clause}
 use Rattle.model.specs.Groups.{clausesOf, groupOrder}
 use Rattle.model.specs.declared.Group.{Group}
 
--- what is written of a literal: the number of a variable, negative where it is negated; of a constant nothing
+-- a literal as one number: a variable, negative where it is negated; variable 1 is true, so 1 and -1 are the constants (RULES V7)
+abbrev pub literalNumber : Literal → ℤ
+literalNumber (known true) = pos 1
+literalNumber (known false) = negsuc 0
+literalNumber (plus v) = pos v
+literalNumber (minus v) = negℤ (pos v)
+
+-- what is written of a literal: its number; of a constant nothing
 unfoldable pub keptOf : Literal → List ℤ
 keptOf (known b) = []
-keptOf (plus v) = pos v ∷ []
-keptOf (minus v) = negℤ (pos v) ∷ []
+keptOf (plus v) = literalNumber (plus v) ∷ []
+keptOf (minus v) = literalNumber (minus v) ∷ []
 
 -- what is written of a clause's literals
 unfoldable pub kept : Clause → List ℤ

@@ -1,5 +1,5 @@
--- Whether a property holds at any place, the first place where it does, and whether a number stands at an earlier place. Cited by
--- passes over lists (netlist_scan/specs/AnyLine) and by what is said of lines place by place.
+-- Whether a property holds at any place, the first place where it does (RULES Y5, of frames), and whether a number stands at an earlier
+-- place (RULES T17, of wires). Cited by passes over lists (netlist_scan/specs/AnyLine) and by what is said of lines place by place.
 use Prim.Native.Nat.{ℕ, zero, suc, _≤_, _<_}
 use mathlib.Core.Path.{_≡_}
 use mathlib.Core.Bool.{Bool, true, false, cond, _||_}

@@ -1,6 +1,6 @@
 -- A netlist has no fault in any line exactly where it meets the model's limits (specs/Faults.antt and the model's Acceptance).
 -- Cited by the tests of records and by the sheet reader.
-use Prim.Native.Nat.{ℕ, zero, suc, _+_, _-_, _*_, _/_, _^_, _≤_, _<_, zero-le}
+use Prim.Native.Nat.{ℕ, _+_, _-_, _*_, _/_, _^_, _≤_, _<_, zero-le}
 use mathlib.Core.Path.{_≡_, refl, sym, _∙_}
 use mathlib.Core.Bool.{Bool, true, false, not, _||_, true≢false}
 use mathlib.Core.Logic.{_↔_, by-cases}
@@ -14,6 +14,7 @@ use Rattle.model.specs.Netlist.{Netlist, Start, given, unknown, startOf, start,
 use Rattle.model.specs.Search.{seen}
 use Rattle.model.specs.Acceptance.{StartFits, SizesFit, CodesFit, NoTie, NoLoop}
 use Rattle.model.proofs.Search.{seen-at}
+use Rattle.model.proofs.Start.{start-given, start-unknown}
 use Rattle.model.proofs.Booleans.{not-true-false}
 use Rattle.netlist.specs.Faults.{outside, startFault, sizeFault, codeFault, isTied, tieFault, loopFaultBy, loopFault}
 use Rattle.netlist.specs.declared.Line.{Line}
@@ -26,7 +27,7 @@ neither {x = true} p q = (λ h. absurd (true≢false h), λ h. p .1 (h .0))
 neither {x = false} p q = (λ h. (p .0 refl, q .0 h), λ h. q .1 (h .1))
 
 -- a number is within its limits
-pub inside : (low high x : ℕ) → (outside low high x ≡ false) ↔ ((low ≤ x) × (x ≤ high))
+inside : (low high x : ℕ) → (outside low high x ≡ false) ↔ ((low ≤ x) × (x ≤ high))
 inside low high x = neither (ltb-false x low, le-ltb x low) (ltb-false high x, le-ltb high x)
 
 -- a limit that begins at 0 has one side
@@ -34,7 +35,7 @@ pub outside-above : (high x : ℕ) → outside 0 high x ≡ ltb high x
 outside-above high x = rw (le-ltb x 0 zero-le)
 
 -- and is met up to it
-pub at-most : (high x : ℕ) → (outside 0 high x ≡ false) ↔ (x ≤ high)
+at-most : (high x : ℕ) → (outside 0 high x ≡ false) ↔ (x ≤ high)
 at-most high x = (λ h. inside 0 high x .0 h .1, λ h. inside 0 high x .1 (zero-le, h))
 
 -- a word has more than n bits where something is left of it once n bits are shifted out
@@ -61,13 +62,12 @@ start-inside n unknown = (λ h. tt, λ h. refl)
 
 -- the fault by the number that says whether the start is unknown
 pub given-fault : (n word u : ℕ) → u ≡ 0 → startFault n (startOf word u) ≡ outside 0 (2 ^ n - 1) word
-unfolding startFault startOf
-given-fault n word u e = rw e
+unfolding startFault
+given-fault n word u e = rw (start-given word u e)
 
 pub unknown-fault : (n word u : ℕ) → (u ≡ 0 → ⊥) → startFault n (startOf word u) ≡ false
-unfolding startFault startOf
-unknown-fault n word zero h = absurd (h refl)
-unknown-fault n word (suc u) h = refl
+unfolding startFault
+unknown-fault n word u h = rw (start-unknown word u h)
 
 -- the two tests of an order are each other's opposite
 pub leb-not-ltb : (a b : ℕ) → leb a b ≡ not (ltb b a)
@@ -77,7 +77,7 @@ leb-not-ltb a b =
     (λ h. rw (le-leb a b (omega arith), le-ltb b a (omega arith)))
 
 -- a code is within its limit
-pub code-inside : (last x : ℕ) → (ltb (2 * last + 1) x ≡ false) ↔ (x ≤ 2 * last + 1)
+code-inside : (last x : ℕ) → (ltb (2 * last + 1) x ≡ false) ↔ (x ≤ 2 * last + 1)
 code-inside last x = (ltb-false (2 * last + 1) x, le-ltb (2 * last + 1) x)
 
 -- an address code is not tied: an earlier one of its wire is a constant as it is itself

@@ -7,6 +7,7 @@ use literals::Wire;
 ghost use mathlib.Core.Path.{_≡_};
 ghost use Prim.Native.Nat.{_+_, _-_, _^_, _<_};
 ghost use Rattle.model.specs.Netlist.{startOf, latchWire, readWire, gateWire, lastWire};
+ghost use Rattle.model.specs.Agree.{givenWord};
 ghost use Rattle.model.specs.Acceptance.{SizesFit};
 ghost use Rattle.netlist.specs.NetOf.{netOf, alone, putNumbers};
 ghost use Rattle.netlist.specs.RecordOf.{recordOf, noNetlist};
@@ -71,6 +72,16 @@ pub fn put_numbers(list: &mut UnpackedList, index: usize, first: u32, second: u3
 {
     list[2 * index] = first;
     list[2 * index + 1] = second;
+}
+
+// The start word that is given, 0 where the start is unknown.
+pub fn given_word(word: u32, unknown: u32) -> u32
+    ensures { λ r. ⌜ r ≡ givenWord (startOf word unknown) ⌝ }
+{
+    match unknown {
+        0 => word,
+        _ => 0,
+    }
 }
 
 // Whether x is outside the limits `low` to `high`.
