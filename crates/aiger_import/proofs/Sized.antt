@@ -1,15 +1,14 @@
 -- The numbers of a text that is ready to be read (specs/Tables.antt), and lines of it that are ahead. Cited by the functions of this crate.
-use Prim.Native.Nat.{ℕ, _+_, _≤_, _<_}
+use Prim.Native.Nat.{ℕ, _+_, _≤_}
 use mathlib.Core.Path.{_≡_, refl, sym, ap, subst}
 use mathlib.Core.List.{List}
 use native.Mathlib.Omega.{arith}
-use lib.ListN.{length}
 use Rattle.netlist.specs.RecordOf.{recordOf}
 use Rattle.netlist.specs.declared.Netlist.{Netlist}
 use Rattle.aiger_lines.specs.Parts.{countsIn, linesDue, partAt, lineNumbers, malformedAt}
 use Rattle.aiger_lines.specs.Steps.{Behind}
 use Rattle.aiger_lines.specs.declared.Counts.{Counts}
-use Rattle.aiger_lines.proofs.Parts.{width-bounds, well-count}
+use Rattle.aiger_lines.proofs.Parts.{well-few}
 use Rattle.aiger_netlist.proofs.Defined.{WellDefined}
 use Rattle.aiger_netlist.proofs.Codes.{FitsInterface}
 use Rattle.aiger_netlist.proofs.Verdict.{well-defined, fits-interface}
@@ -61,8 +60,5 @@ module _ (s : List ℕ) (r : Netlist) (ready : Ready s r) where
         behind = subst (λ (q : ℕ). Behind s q at) same behind;
         few-numbers = λ x b.
             let p = line + x + 1 in
-            let part = partAt (countsIn s) p in
-            let many : length (lineNumbers s p) ≡ _ =
-            well-count (countsIn s) part (lineNumbers s p) (text-defined .well-formed p (omega arith) (omega (arith, due))) in
-            omega (arith, many, width-bounds part .1);
+            well-few (countsIn s) (partAt (countsIn s) p) (lineNumbers s p) (text-defined .well-formed p (omega arith) (omega (arith, due)));
       }

@@ -1,30 +1,28 @@
 -- Laws of reading line by line (specs/Steps.antt): the line that is read next, and what the lines up to the last sound one give. No
 -- contract cites this file.
-use Prim.Native.Nat.{ℕ, suc, _+_, _-_, _≤_, _<_}
+use Prim.Native.Nat.{ℕ, _+_, _-_, _≤_, _<_}
 use mathlib.Core.Path.{_≡_, refl, sym, ap, _∙_}
 use mathlib.Core.Bool.{Bool, true, false, cond}
 use mathlib.Core.List.{List, [], _∷_}
 use mathlib.Core.Logic.{by-cases}
 use native.Mathlib.Decide.{decLt}
-use native.Mathlib.Numerals.{add-one}
 use native.Mathlib.Omega.{arith}
 use borrow.Author.Tests.{ne-eqb}
 use lib.ListN.{length, getD, take, drop, drop-of-length-le}
 use lib.Seq.{drop-drop, getD-drop}
-use Rattle.model.specs.Search.{IsFirst}
 use Rattle.decimal.specs.Digits.{lineFeed, space}
 use Rattle.decimal.specs.TextValue.{sameText}
 use Rattle.decimal.proofs.TextValue.{numberIn-empty}
 use Rattle.text_words.specs.Words.{linesOf, wordsOf, restAfter, partsAfter}
 use Rattle.aiger_lines.specs.Numbers.{numbersOf, allNumbers, values, wordsAt}
-use Rattle.aiger_lines.specs.Parts.{aag, headerNumbers, lineNumbers, countsIn, countsOf, partAt, linesDue, width, malformed, malformedAt}
+use Rattle.aiger_lines.specs.Parts.{aag, headerNumbers, lineNumbers, countsIn, countsOf, partAt, linesDue, malformed, malformedAt}
 use Rattle.aiger_lines.specs.Steps.{spanTo, firstFive, numbersIn, Holds, Behind, NextLine, SoundTo}
 use Rattle.aiger_lines.specs.declared.Counts.{Counts}
 use Rattle.aiger_lines.specs.declared.Numbers.{Numbers}
 use Rattle.aiger_lines.specs.declared.Part.{Part}
 use Rattle.aiger_lines.specs.declared.Part.the-variants.{Header}
 use Rattle.aiger_lines.proofs.FirstFive.{five-holds}
-use Rattle.aiger_lines.proofs.Parts.{malformed-five, well-five, counts-first-five}
+use Rattle.aiger_lines.proofs.Parts.{malformed-five, counts-first-five}
 use Rattle.aiger_lines.proofs.Steps.{found-within, parts-next, parts-over, words-next, words-over}
 
 -- an empty line, which a missing one is like, has no numbers
@@ -144,14 +142,6 @@ module _ (s : List ℕ) (end : ℕ) (found : end ≡ 0 + spanTo lineFeed (drop 0
       let line = line-missing s 0 0 end (behind-none s) found b in
       record { numbers-are = e ∙ ap firstFive (sym (header-missing s (line .0))); behind = line .1 }
 
--- The sound lines are those before the first malformed one; lines are counted from 1.
-pub sound-first : (s : List ℕ) (r : ℕ) → SoundTo s r → IsFirst (λ x. malformedAt s (suc x)) (linesDue (countsIn s)) r
-sound-first s r sound = record {
-  within = sound .within;
-  none-before = λ q l. sound .sound (suc q) (omega arith) (omega arith);
-  holds-there = λ l. rw add-one at (sound .ends l);
-}
-
 -- What was read of a line: it is malformed where its numbers are
 module _ (s : List ℕ) (p : ℕ) (numbers : Numbers) (next : ℕ) (read : NextLine s p numbers next) where
   pub read-holds : Holds numbers
@@ -162,16 +152,6 @@ module _ (s : List ℕ) (p : ℕ) (numbers : Numbers) (next : ℕ) (read : NextL
   read-malformed =
       sym (malformed-five (countsIn s) (partAt (countsIn s) (p + 1)) (lineNumbers s (p + 1)))
       ∙ ap (λ (n : Numbers). malformed (countsIn s) (partAt (countsIn s) (p + 1)) (numbersIn n)) (sym (read .numbers-are))
-
-  -- and where it is not, they are the line's, as many as its part has
-  pub read-well : malformedAt s (p + 1) ≡ false
-      → (numbers .count ≡ width (partAt (countsIn s) (p + 1))) × ((i : ℕ) → getD (numbers .values) i 0 ≡ getD (lineNumbers s (p + 1)) i 0)
-  unfolding malformedAt
-  read-well well = rw (read .numbers-are) (well-five (countsIn s) (partAt (countsIn s) (p + 1)) (lineNumbers s (p + 1)) well)
-
-  pub read-sound : (r : ℕ) → SoundTo s r → p < r
-      → (numbers .count ≡ width (partAt (countsIn s) (p + 1))) × ((i : ℕ) → getD (numbers .values) i 0 ≡ getD (lineNumbers s (p + 1)) i 0)
-  read-sound r sound l = read-well (sound .sound (p + 1) (omega arith) (omega arith))
 
 -- the counts are those of line 1
 pub counts-read : (s : List ℕ) (numbers : Numbers) (next : ℕ) → NextLine s 0 numbers next → countsOf (numbersIn numbers) ≡ countsIn s
