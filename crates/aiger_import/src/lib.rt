@@ -1,4 +1,5 @@
 // An ASCII AIGER text as a record and unpacked lists, or the refusal that it gets (RULES I1 to I8, I10 and I11, T55).
+use aiger_codes::FirstNumbers;
 use aiger_lines::HeaderLine;
 use netlist::Netlist;
 use netlist::UnpackedList;
@@ -17,7 +18,7 @@ ghost use Rattle.aiger_import.specs.Tables.{Ready, TableFor};
 
 // A table of a text's first numbers by wire, with its outputs behind; and where the lines of its latches and of its gates begin.
 struct TextTable {
-    entries: [u32; 648],
+    entries: FirstNumbers,
     latches: usize,
     gates: usize,
 }
@@ -35,7 +36,7 @@ fn text_table(text: &[u8], header: HeaderLine, sizes: Netlist) -> TextTable
     let latch_line = 1 + counts.inputs as u64;
     let output_line = latch_line + counts.latches as u64;
     let gate_line = output_line + counts.outputs as u64;
-    let mut entries: [u32; 648] = [0; 648];
+    let mut entries: FirstNumbers = [0; 648];
     let reads = aiger_codes::put_firsts(text, 1, header.next, sizes.inputs, 1, &mut entries);
     let latches = aiger_codes::put_firsts(text, read_line, reads, sizes.n, read_wire, &mut entries);
     let outputs = aiger_codes::put_firsts(
