@@ -1,5 +1,5 @@
 -- What is known of a text behind each of its tests, and the verdict on it by which test refuses (ImportVerdict in aiger_netlist). Cited by
--- `import_codes`.
+-- `import_text`.
 use Prim.Native.Nat.{ℕ}
 use mathlib.Core.Path.{_≡_, refl, sym, _∙_, ap, subst}
 use mathlib.Core.Bool.{Bool, true, false, _||_}

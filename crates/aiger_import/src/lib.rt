@@ -91,9 +91,20 @@ fn fill(
     aiger_codes::put_outputs(sizes, &entries)
 }
 
+// The start word that is given, 0 where the start is unknown.
+fn given_word(word: u32, unknown: u32) -> u32
+    ensures { λ r. ⌜ r ≡ importedWord word unknown ⌝ }
+{
+    if unknown == 0 {
+        return word;
+    }
+    0
+}
+
 // Reads a text, for lists that have room for so many records: its record, and its codes into unpacked lists of no codes, which are
-// scratch after a refusal. No text that passes 13 meets 5, so that it need not be tested.
-fn import_codes(
+// scratch after a refusal. Where the start is unknown, the word handed over is left out of the record. No text that passes 13 meets 5, so
+// that it need not be tested.
+pub fn import_text(
     text: &[u8],
     m: u32,
     n: u32,
@@ -105,14 +116,15 @@ fn import_codes(
     gates: &mut UnpackedList,
 ) -> SheetAnswer
     requires { ⌜ (now latches ≡ noCodes) × (now gates ≡ noCodes) ⌝ }
-    ensures { λ r. ⌜ Outcome r (now (latches .exit)) (now (gates .exit)) (importVerdict (now (text .entry)) m n word unknown «latch_room» «gate_room») (aagNet (now (text .entry)) m n word unknown) ⌝ }
+    ensures { λ r. ⌜ Outcome r (now (latches .exit)) (now (gates .exit)) (importVerdict (now (text .entry)) m n (importedWord word unknown) unknown «latch_room» «gate_room») (aagNet (now (text .entry)) m n (importedWord word unknown) unknown) ⌝ }
 {
+    let given = given_word(word, unknown);
     let header = aiger_lines::read_header(text);
     let tested = aiger_tests::test_text(text, header, m, n);
     if let Verdict::Refused(refusal, line) = tested {
         return sheet_steps::refused(refusal, line);
     }
-    let sizes = aiger_codes::text_sizes(header.counts, m, n, word, unknown);
+    let sizes = aiger_codes::text_sizes(header.counts, m, n, given, unknown);
     let sized = netlist_tests::test_sizes(sizes);
     if let Verdict::Refused(refusal, place) = sized {
         return sheet_steps::refused(refusal, place);
@@ -129,43 +141,4 @@ fn import_codes(
         verdict: Verdict::Passed,
         net,
     }
-}
-
-// The start word that is given, 0 where the start is unknown.
-fn given_word(word: u32, unknown: u32) -> u32
-    ensures { λ r. ⌜ r ≡ importedWord word unknown ⌝ }
-{
-    if unknown == 0 {
-        return word;
-    }
-    0
-}
-
-// Reads a text for a start that is given or unknown. Where it is unknown, the word handed over is left out of the record.
-pub fn import_text(
-    text: &[u8],
-    m: u32,
-    n: u32,
-    word: u32,
-    unknown: u32,
-    latch_room: usize,
-    gate_room: usize,
-    latches: &mut UnpackedList,
-    gates: &mut UnpackedList,
-) -> SheetAnswer
-    requires { ⌜ (now latches ≡ noCodes) × (now gates ≡ noCodes) ⌝ }
-    ensures { λ r. ⌜ Outcome r (now (latches .exit)) (now (gates .exit)) (importVerdict (now (text .entry)) m n (importedWord word unknown) unknown «latch_room» «gate_room») (aagNet (now (text .entry)) m n (importedWord word unknown) unknown) ⌝ }
-{
-    let given = given_word(word, unknown);
-    import_codes(
-        text,
-        m,
-        n,
-        given,
-        unknown,
-        latch_room,
-        gate_room,
-        latches,
-        gates,
-    )
 }

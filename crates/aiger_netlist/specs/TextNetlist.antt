@@ -1,6 +1,6 @@
 -- The netlist that an ASCII AIGER text describes (RULES I6 to I8). The caller gives m, n, the start word and whether it is unknown; the text's last n inputs are
 -- the read bits, its outputs are address, write data, WE, RE and P, and each latch starts at 0. Variables become wires in the order of
--- their lines. Cited by `import_codes`, aiger_import/specs/ImportCall, specs/ImportVerdict and
+-- their lines. Cited by `import_text`, aiger_import/specs/ImportCall, specs/ImportVerdict and
 -- specs/Imported.
 use Prim.Native.Nat.{ℕ, _+_, _-_}
 use mathlib.Core.Bool.{cond}
