@@ -3,39 +3,28 @@
 use Prim.Native.Nat.{ℕ, zero, suc, _-_, _^_, _<_}
 use mathlib.Core.Path.{_≡_, refl, sym, ap, ap₂, _∙_}
 use mathlib.Core.Bool.{Bool, true, false, cond, false≢true}
-use mathlib.Core.List.{List, [], _∷_, _++_, map, append-assoc}
+use mathlib.Core.List.{List, [], _∷_, _++_, map}
 use native.Mathlib.Omega.{arith}
-use lib.Dec.{eqb, leb}
-use lib.ListN.{length, getD, take, length-append}
-use lib.Seq.{take-at}
-use borrow.Author.Tests.{leb-true}
+use lib.Dec.{eqb}
+use lib.ListN.{length, getD}
 use Rattle.model.proofs.Booleans.{and-true}
 use Rattle.decimal.specs.Digits.{digits, space, lineFeed}
 use Rattle.decimal.specs.TextValue.{numberIn, sameText}
 use Rattle.decimal.specs.declared.Number.{Number}
 use Rattle.decimal.specs.declared.Number.the-variants.{Value, NotANumber}
-use Rattle.decimal.proofs.TextValue.{isDigit, allDigits, allDigits-digits, sameText-refl, sameText-true, numberIn-digits, digits-numberIn}
-use Rattle.text_words.specs.Words.{linesOf, wordsOf, ended, Without}
-use Rattle.text_words.proofs.Words.{parts-first, parts-none, words-first, words-last, words-joined, snoc-same, digits-without}
+use Rattle.decimal.proofs.TextValue.{sameText-refl, sameText-true, numberIn-digits, digits-numberIn}
+use Rattle.text_words.specs.Words.{linesOf, wordsOf, spaced, Without}
+use Rattle.text_words.proofs.Words.{parts-first, parts-none, words-first, EachWithout, nothing, also, spaced-words, words-spaced, digits-without}
 use Rattle.aiger_lines.specs.Numbers.{isNumber, valueOf, allNumbers, values, numbersOf, wordsAt}
 use Rattle.aiger_lines.specs.Parts.{aag, headerNumbers, lineNumbers}
 use Rattle.aiger_lines.specs.Written.{numbersText, lineText, ReadAsWritten}
 
--- the words of a text of numbers are their digits
-words-text : (x : ℕ) (xs : List ℕ) → wordsOf (numbersText (x ∷ xs)) ≡ map digits (x ∷ xs)
-unfolding numbersText
-words-text x [] = words-last (digits x) (digits-without x)
-words-text x (y ∷ xs) =
-    words-first (digits x) (numbersText (y ∷ xs)) (digits-without x) ∙ ap (λ (ws : List (List ℕ)). digits x ∷ ws) (words-text y xs)
+-- no number has a space among its digits
+each-without : (xs : List ℕ) → EachWithout space (map digits xs)
+each-without [] = nothing
+each-without (x ∷ xs) = also (digits-without x) (each-without xs)
 
-joined-text : (x : ℕ) (xs : List ℕ) → ended space (map digits (x ∷ xs)) ≡ numbersText (x ∷ xs) ++ space ∷ []
-unfolding numbersText ended
-joined-text x [] = refl
-joined-text x (y ∷ xs) =
-    ap (λ (t : List ℕ). digits x ++ space ∷ t) (joined-text y xs)
-    ∙ sym (append-assoc (digits x) (space ∷ numbersText (y ∷ xs)) (space ∷ []))
-
--- what they are read as
+-- what digits are read as
 numbers-digits : (xs : List ℕ) → ((i : ℕ) → getD xs i 0 < 2 ^ 32) → (allNumbers (map digits xs) ≡ true) × (values (map digits xs) ≡ xs)
 unfolding allNumbers values
 numbers-digits [] h = (refl, refl)
@@ -56,36 +45,26 @@ digits-numbers (w ∷ ws) h =
     of-number (Value x) e h = sym (digits-numberIn w x e .0)
     of-number NotANumber e h = absurd (false≢true h)
 
--- where there are any numbers, all words are
-all-of-some : (ws : List (List ℕ)) → 0 < length (numbersOf ws) → (allNumbers ws ≡ true) × (numbersOf ws ≡ values ws)
+-- words of which there are numbers are the digits of these
+number-words : (ws : List (List ℕ)) → 0 < length (numbersOf ws) → map digits (numbersOf ws) ≡ ws
 unfolding numbersOf
-all-of-some ws = by-test (allNumbers ws)
+number-words ws = by-test (allNumbers ws) refl
   where
-    by-test : (b : Bool) → 0 < length (cond b (values ws) []) → (b ≡ true) × (cond b (values ws) [] ≡ values ws)
-    by-test true l = (refl, refl)
-    by-test false l = absurd (omega arith)
-
--- words that are numbers, joined, are the text of the numbers
-joined-numbers : (ws : List (List ℕ)) → 0 < length (numbersOf ws) → ended space ws ≡ numbersText (numbersOf ws) ++ space ∷ []
-joined-numbers ws l =
-    let all = all-of-some ws l in
-    of-list (numbersOf ws) l (ap (map digits) (all .1) ∙ digits-numbers ws (all .0))
-  where
-    of-list : (xs : List ℕ) → 0 < length xs → map digits xs ≡ ws → ended space ws ≡ numbersText xs ++ space ∷ []
-    of-list [] l e = absurd (omega arith)
-    of-list (x ∷ xs) l e = ap (ended space) (sym e) ∙ joined-text x xs
+    by-test : (b : Bool) → allNumbers ws ≡ b → 0 < length (cond b (values ws) []) → map digits (cond b (values ws) []) ≡ ws
+    by-test true e l = digits-numbers ws e
+    by-test false e l = absurd (omega arith)
 
 -- a line and its numbers are one
 numbers-line : (s : List ℕ) → 0 < length (numbersOf (wordsOf s)) → s ≡ numbersText (numbersOf (wordsOf s))
-numbers-line s l =
-    snoc-same s (numbersText (numbersOf (wordsOf s))) space (sym (words-joined s) ∙ joined-numbers (wordsOf s) l)
+unfolding numbersText
+numbers-line s l = sym (ap spaced (number-words (wordsOf s) l) ∙ spaced-words s)
 
 line-numbers : (xs : List ℕ) → 0 < length xs → ((i : ℕ) → getD xs i 0 < 2 ^ 32) → numbersOf (wordsOf (numbersText xs)) ≡ xs
-unfolding numbersOf
+unfolding numbersOf numbersText
 line-numbers [] l h = absurd (omega arith)
 line-numbers (x ∷ xs) l h =
     let read = numbers-digits (x ∷ xs) h in
-    rw (words-text x xs, read .0) (read .1)
+    rw (words-spaced (digits x) (map digits xs) (each-without (x ∷ xs)), read .0) (read .1)
 
 -- so are line 1 and the header's
 aag-without : Without space aag
@@ -94,23 +73,21 @@ aag-without (suc zero) l h = omega arith
 aag-without (suc (suc zero)) l h = omega arith
 aag-without (suc (suc (suc i))) l h = omega arith
 
-of-words :
-    (s : List ℕ) (ws : List (List ℕ)) → ended space ws ≡ s ++ space ∷ [] → 0 < length (headerNumbers ws) →
-    s ≡ aag ++ space ∷ numbersText (headerNumbers ws)
-unfolding ended
-of-words s [] e l = absurd (omega arith)
-of-words s (w ∷ ws) e l = by-word (sameText w aag) refl l
+of-words : (ws : List (List ℕ)) → 0 < length (headerNumbers ws) → spaced ws ≡ aag ++ space ∷ numbersText (headerNumbers ws)
+unfolding spaced numbersText numbersOf allNumbers values
+of-words [] l = absurd (omega arith)
+of-words (w ∷ ws) l = by-word ws (sameText w aag) refl l
   where
-    by-word : (b : Bool) → sameText w aag ≡ b → 0 < length (cond b (numbersOf ws) []) → s ≡ aag ++ space ∷ numbersText (cond b (numbersOf ws) [])
-    by-word true q l =
-        snoc-same s (aag ++ space ∷ numbersText (numbersOf ws)) space
-        (sym e ∙ ap (λ (v : List ℕ). v ++ space ∷ ended space ws) (sameText-true w aag q)
-        ∙ ap (λ (t : List ℕ). aag ++ space ∷ t) (joined-numbers ws l)
-        ∙ sym (append-assoc aag (space ∷ numbersText (numbersOf ws)) (space ∷ [])))
-    by-word false q l = absurd (omega arith)
+    by-word : (ws : List (List ℕ)) (b : Bool) → sameText w aag ≡ b → 0 < length (cond b (numbersOf ws) [])
+        → spaced (w ∷ ws) ≡ aag ++ space ∷ numbersText (cond b (numbersOf ws) [])
+    by-word [] true q l = absurd (omega arith)
+    by-word [] false q l = absurd (omega arith)
+    by-word (x ∷ ws) true q l =
+        ap₂ (λ (a b : List ℕ). a ++ space ∷ b) (sameText-true w aag q) (ap spaced (sym (number-words (x ∷ ws) l)))
+    by-word (x ∷ ws) false q l = absurd (omega arith)
 
 header-line : (s : List ℕ) → 0 < length (headerNumbers (wordsOf s)) → s ≡ aag ++ space ∷ numbersText (headerNumbers (wordsOf s))
-header-line s = of-words s (wordsOf s) (words-joined s)
+header-line s l = sym (spaced-words s) ∙ of-words (wordsOf s) l
 
 line-header : (xs : List ℕ) → 0 < length xs → ((i : ℕ) → getD xs i 0 < 2 ^ 32) → headerNumbers (wordsOf (aag ++ space ∷ numbersText xs)) ≡ xs
 line-header xs l h = ap headerNumbers (words-first aag (numbersText xs) aag-without) ∙ rw (sameText-refl aag) (line-numbers xs l h)

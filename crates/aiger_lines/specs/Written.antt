@@ -3,18 +3,16 @@
 use Prim.Native.Nat.{ℕ, _-_, _^_, _<_}
 use mathlib.Core.Path.{_≡_}
 use mathlib.Core.Bool.{cond}
-use mathlib.Core.List.{List, [], _∷_, _++_}
+use mathlib.Core.List.{List, [], _∷_, _++_, map}
 use lib.Dec.{eqb}
 use lib.ListN.{length, getD}
 use Rattle.decimal.specs.Digits.{digits, space, lineFeed}
-use Rattle.text_words.specs.Words.{linesOf, Without}
+use Rattle.text_words.specs.Words.{linesOf, spaced, Without}
 use Rattle.aiger_lines.specs.Parts.{aag, lineNumbers}
 
 -- the digits of the numbers, with single spaces between
 unfoldable pub numbersText : List ℕ → List ℕ
-numbersText [] = []
-numbersText (x ∷ []) = digits x
-numbersText (x ∷ y ∷ xs) = digits x ++ space ∷ numbersText (y ∷ xs)
+numbersText xs = spaced (map digits xs)
 
 -- line p with these numbers: line 1 begins with `aag`
 unfoldable pub lineText : ℕ → List ℕ → List ℕ

@@ -102,7 +102,7 @@ unfolding wordsOf
 words-last s w = rw (parts-none space [] s w, rest-all space [] s w)
 
 -- a line is its words joined, each with a space behind it but the last
-pub words-joined : (s : List ℕ) → ended space (wordsOf s) ≡ s ++ space ∷ []
+words-joined : (s : List ℕ) → ended space (wordsOf s) ≡ s ++ space ∷ []
 unfolding wordsOf ended
 words-joined s =
     ended-append space (partsAfter space [] s) (restAfter space [] s ∷ [])
@@ -110,7 +110,7 @@ words-joined s =
     ∙ ap (λ (x : List ℕ). x ++ space ∷ []) (ended-parts space [] s)
 
 -- texts are the same where they are with one byte more
-pub snoc-same : (a b : List ℕ) (c : ℕ) → a ++ c ∷ [] ≡ b ++ c ∷ [] → a ≡ b
+snoc-same : (a b : List ℕ) (c : ℕ) → a ++ c ∷ [] ≡ b ++ c ∷ [] → a ≡ b
 snoc-same a b c h =
     let l : length a ≡ length b = omega (arith, length-append a (c ∷ []), length-append b (c ∷ []), ap length h) in
     sym (take-at a (c ∷ []) (length a) refl) ∙ ap (take (length a)) h ∙ take-at b (c ∷ []) (length a) (sym l)
