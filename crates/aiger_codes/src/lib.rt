@@ -12,7 +12,7 @@ ghost use Rattle.netlist.specs.RecordOf.{recordOf};
 ghost use Rattle.aiger_netlist.specs.TextNetlist.{textSizes};
 ghost use Rattle.aiger_lines.specs.Steps.{Behind};
 ghost use Rattle.aiger_codes.specs.WireTable.{wireFound};
-ghost use Rattle.aiger_codes.specs.Filling.{LinesAhead, firstsBehind, entryOf, putFrom, Filled, codesBehind, NoCodes, ListFilled};
+ghost use Rattle.aiger_codes.specs.Filling.{LinesAhead, firstsBehind, entryOf, putFrom, TableFilled, codesBehind, NoCodes, ListFilled};
 ghost use Rattle.aiger_codes.specs.Outputs.{outputCode, Coded, withControl, AddressPut, DataPut, OutputsPut};
 
 // The first numbers of a text's lines: the constant's, then by wire, of which there are at most 600, and behind these at most 47 outputs.
@@ -75,7 +75,7 @@ pub fn put_firsts(
 ) -> usize
     requires { ⌜ LinesAhead (now text) line at count × (first + count ≤ 648) × (length (now table) ≡ 648) ⌝ }
     ensures next { λ r. ⌜ Behind (now (text .entry)) (line + count) r ⌝ }
-    ensures table { λ _. ⌜ Filled 648 (putFrom first count (firstsBehind (now (text .entry)) line) (entryOf (now (table .entry)))) (now (table .exit)) ⌝ }
+    ensures table { λ _. ⌜ TableFilled 648 (putFrom first count (firstsBehind (now (text .entry)) line) (entryOf (now (table .entry)))) (now (table .exit)) ⌝ }
 {
     let mut next = at;
     let mut x: u32 = 0;

@@ -8,13 +8,13 @@ use native.Mathlib.Omega.{arith}
 use lib.ListN.{getD}
 use borrow.Author.Tests.{ne-eqb}
 use Rattle.model.specs.Search.{anyBelow, seen}
-use Rattle.aiger_lines.specs.Parts.{lineNumbers, countsIn, partAt, defines, malformedAt}
+use Rattle.aiger_lines.specs.Parts.{numbersOnLine, countsIn, partAt, defines, malformedAt}
 use Rattle.aiger_lines.specs.Steps.{firstFive}
 use Rattle.aiger_lines.specs.declared.Part.{Part}
 use Rattle.aiger_lines.specs.declared.Part.the-variants.{Header, Input, Latch, Output, Gate}
 use Rattle.aiger_lines.proofs.FirstFive.{five-value}
 use Rattle.aiger_lines.proofs.Parts.{well-few}
-use Rattle.aiger_lines.proofs.Written.{lineNumbers-fit}
+use Rattle.aiger_lines.proofs.Written.{numbersOnLine-fit}
 use Rattle.aiger_definitions.specs.Definitions.{definedAt}
 use Rattle.aiger_definitions.specs.Blocks.{variablesOf, variablesAt, usesOf, faultIn}
 use Rattle.aiger_definitions.specs.declared.Variables.{Variables}
@@ -30,18 +30,18 @@ variables-same Output xs ys e = rw (e 0)
 variables-same Gate xs ys e = rw (e 0, e 1, e 2)
 
 pub variables-read : (s : List ℕ) (p : ℕ) → malformedAt s p ≡ false
-    → variablesOf (partAt (countsIn s) p) (firstFive (lineNumbers s p) .values) ≡ variablesAt s p
+    → variablesOf (partAt (countsIn s) p) (firstFive (numbersOnLine s p) .values) ≡ variablesAt s p
 unfolding variablesAt malformedAt
 variables-read s p h =
-    variables-same (partAt (countsIn s) p) (firstFive (lineNumbers s p) .values) (lineNumbers s p)
-    (λ k. five-value (lineNumbers s p) k (well-few (countsIn s) (partAt (countsIn s) p) (lineNumbers s p) h))
+    variables-same (partAt (countsIn s) p) (firstFive (numbersOnLine s p) .values) (numbersOnLine s p)
+    (λ k. five-value (numbersOnLine s p) k (well-few (countsIn s) (partAt (countsIn s) p) (numbersOnLine s p) h))
 
 -- the one that is defined
 pub defined-is : (s : List ℕ) (p : ℕ) → variablesAt s p .defined ≡ definedAt s p
 unfolding variablesAt definedAt
 defined-is s p = at (partAt (countsIn s) p)
   where
-    at : (part : Part) → variablesOf part (lineNumbers s p) .defined ≡ cond (defines part) (getD (lineNumbers s p) 0 0 / 2) 0
+    at : (part : Part) → variablesOf part (numbersOnLine s p) .defined ≡ cond (defines part) (getD (numbersOnLine s p) 0 0 / 2) 0
     at Header = refl
     at Input = refl
     at Latch = refl
@@ -81,7 +81,7 @@ variables-small Gate xs h =
 pub uses-small : (look : Look) (s : List ℕ) (p : ℕ)
     → (usesOf look (variablesAt s p) .first < 4294967296) × (usesOf look (variablesAt s p) .second < 4294967296)
 unfolding variablesAt
-uses-small look s p = at look (variables-small (partAt (countsIn s) p) (lineNumbers s p) (lineNumbers-fit s p))
+uses-small look s p = at look (variables-small (partAt (countsIn s) p) (numbersOnLine s p) (numbersOnLine-fit s p))
   where
     at : (look : Look) {v : Variables} → Small v → (usesOf look v .first < 4294967296) × (usesOf look v .second < 4294967296)
     at Repeats h = (h .defined-small, h .defined-small)

@@ -14,7 +14,7 @@ ghost use Rattle.sheet_steps.specs.Lists.{Holds};
 ghost use Rattle.sheet_steps.specs.Steps.{Outcome};
 ghost use Rattle.sheet_parse.specs.Progress.{noCodes};
 ghost use Rattle.aiger_import.specs.ImportCall.{importedWord};
-ghost use Rattle.aiger_import.specs.Tables.{Ready, TableFor};
+ghost use Rattle.aiger_import.specs.Tables.{TextReady, TableFor};
 
 // A table of a text's first numbers by wire, with its outputs behind; and where the lines of its latches and of its gates begin.
 struct TextTable {
@@ -25,7 +25,7 @@ struct TextTable {
 
 // Makes the table: inputs, read bits, latches, outputs and gates, in the order of their lines.
 fn text_table(text: &[u8], header: HeaderLine, sizes: Netlist) -> TextTable
-    requires { ⌜ HeaderRead (now text) (header .counts) (header .next) × Ready (now text) sizes ⌝ }
+    requires { ⌜ HeaderRead (now text) (header .counts) (header .next) × TextReady (now text) sizes ⌝ }
     ensures { λ r. ⌜ TableFor (now (text .entry)) sizes (r .entries) (r .latches) (r .gates) ⌝ }
 {
     let counts = header.counts;
@@ -71,7 +71,7 @@ fn fill(
     latches: &mut UnpackedList,
     gates: &mut UnpackedList,
 ) -> Netlist
-    requires { ⌜ HeaderRead (now text) (header .counts) (header .next) × Ready (now text) sizes × (now latches ≡ noCodes) × (now gates ≡ noCodes) ⌝ }
+    requires { ⌜ HeaderRead (now text) (header .counts) (header .next) × TextReady (now text) sizes × (now latches ≡ noCodes) × (now gates ≡ noCodes) ⌝ }
     ensures { λ r. ⌜ Holds r (now (latches .exit)) (now (gates .exit)) (aagNet (now (text .entry)) (sizes .m) (sizes .n) (sizes .«initial_word») (sizes .«unknown_start»)) ⌝ }
 {
     let counts = header.counts;

@@ -15,7 +15,7 @@ use Rattle.model.proofs.Booleans.{neither-true, not-true-false}
 use Rattle.decimal.specs.TextValue.{sameText}
 use Rattle.decimal.proofs.TextValue.{sameText-true}
 use Rattle.aiger_lines.specs.Parts.{aag, countsFrom, countsOf, width, hasLiterals, defines, literalLimit, anyAbove, notDefinable, malformed}
-use Rattle.aiger_lines.specs.Steps.{firstFive, numbersIn, Holds}
+use Rattle.aiger_lines.specs.Steps.{firstFive, numbersHeld, HoldsNumbers}
 use Rattle.aiger_lines.specs.declared.Counts.{Counts}
 use Rattle.aiger_lines.specs.declared.Numbers.{Numbers}
 use Rattle.aiger_lines.specs.declared.Part.{Part}
@@ -42,23 +42,23 @@ aag-third (x ∷ y ∷ z ∷ []) l a b = rw (eq-eqb x 97 a, eq-eqb y 97 b) (last
 aag-third (x ∷ y ∷ z ∷ w ∷ ws) l a b = absurd (omega arith)
 
 -- five numbers are the header's counts
-pub counts-five : (xs : Numbers) → Holds xs → xs .count ≡ 5 → countsOf (numbersIn xs) ≡ countsFrom (xs .values)
-unfolding countsOf numbersIn
+pub counts-five : (xs : Numbers) → HoldsNumbers xs → xs .count ≡ 5 → countsOf (numbersHeld xs) ≡ countsFrom (xs .values)
+unfolding countsOf numbersHeld
 counts-five xs h e =
     rw (e, take-all 5 (xs .values) (omega arith), eq-eqb (length (xs .values)) 5 (h .length-is))
 
-pub counts-other : (xs : Numbers) → Holds xs → (xs .count ≡ 5 → ⊥) → countsOf (numbersIn xs) ≡ countsFrom []
+pub counts-other : (xs : Numbers) → HoldsNumbers xs → (xs .count ≡ 5 → ⊥) → countsOf (numbersHeld xs) ≡ countsFrom []
 unfolding countsOf
-counts-other xs h n = rw (ne-eqb (length (numbersIn xs)) 5 (λ e. n (sym (in-length xs h) ∙ e)))
+counts-other xs h n = rw (ne-eqb (length (numbersHeld xs)) 5 (λ e. n (sym (in-length xs h) ∙ e)))
 
 -- more than five are none
-pub counts-first-five : (xs : List ℕ) → countsOf (numbersIn (firstFive xs)) ≡ countsOf xs
+pub counts-first-five : (xs : List ℕ) → countsOf (numbersHeld (firstFive xs)) ≡ countsOf xs
 unfolding countsOf
 counts-first-five xs = by-cases (decLt 5 (length xs)) more (λ n. ap countsOf (five-in xs (omega arith)))
   where
-    more : 5 < length xs → countsOf (numbersIn (firstFive xs)) ≡ countsOf xs
+    more : 5 < length xs → countsOf (numbersHeld (firstFive xs)) ≡ countsOf xs
     more l =
-        ap (λ (n : Numbers). countsOf (numbersIn n)) (five-many xs l) ∙ ap countsOf (five-in [] (omega arith))
+        ap (λ (n : Numbers). countsOf (numbersHeld n)) (five-many xs l) ∙ ap countsOf (five-in [] (omega arith))
         ∙ rw (ne-eqb (length xs) 5 (λ e. omega arith))
 
 -- a number above a limit is here, or is still to be found, or there is none
@@ -99,17 +99,17 @@ module _ (h : Counts) (part : Part) (xs : List ℕ) (count : length xs ≡ width
   malformed-defined e = rw (eq-eqb (length xs) (width part) count, e)
 
 -- more than five numbers are malformed as none are
-pub malformed-five : (h : Counts) (part : Part) (xs : List ℕ) → malformed h part (numbersIn (firstFive xs)) ≡ malformed h part xs
+pub malformed-five : (h : Counts) (part : Part) (xs : List ℕ) → malformed h part (numbersHeld (firstFive xs)) ≡ malformed h part xs
 malformed-five h part xs = by-cases (decLt 5 (length xs)) more few
   where
-    more : 5 < length xs → malformed h part (numbersIn (firstFive xs)) ≡ malformed h part xs
+    more : 5 < length xs → malformed h part (numbersHeld (firstFive xs)) ≡ malformed h part xs
     more l =
-        ap (λ (n : Numbers). malformed h part (numbersIn n)) (five-many xs l)
+        ap (λ (n : Numbers). malformed h part (numbersHeld n)) (five-many xs l)
         ∙ ap (malformed h part) (five-in [] (omega arith))
         ∙ malformed-count h part [] (λ e. omega (arith, width-bounds part .0))
         ∙ sym (malformed-count h part xs (λ e. omega (arith, width-bounds part .1)))
 
-    few : (5 < length xs → ⊥) → malformed h part (numbersIn (firstFive xs)) ≡ malformed h part xs
+    few : (5 < length xs → ⊥) → malformed h part (numbersHeld (firstFive xs)) ≡ malformed h part xs
     few n = ap (malformed h part) (five-in xs (omega arith))
 
 -- What a line that is not malformed has: the count that is due, and where it defines a literal, an even one above 1.

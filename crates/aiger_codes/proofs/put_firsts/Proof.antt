@@ -3,7 +3,7 @@ use Prim.Native.Nat.{ℕ, _+_, _-_, _≤_}
 use mathlib.Core.Path.{_≡_, refl, sym, subst}
 use native.Mathlib.Omega.{arith}
 use Rattle.aiger_lines.specs.Steps.{Behind}
-use Rattle.aiger_codes.specs.Filling.{firstsBehind, entryOf, putFrom, Filled}
+use Rattle.aiger_codes.specs.Filling.{firstsBehind, entryOf, putFrom, TableFilled}
 use Rattle.aiger_codes.proofs.Filling.{five-long, firsts-none, firsts-next}
 use Rattle.aiger_codes.proofs.put_firsts.Statement.{statement}
 use Rattle.aiger_codes.proofs.put_firsts.Tie as tie
@@ -11,7 +11,7 @@ use Rattle.aiger_codes.proofs.put_firsts.Tie as tie
 abbrev Inv-loop : tie.InvT-loop
 Inv-loop text line at count first table₀ next₀ x₀ table next x =
     (x ≤ count) × (Behind text (line + x) next ×
-    Filled 648 (putFrom first x (firstsBehind text line) (entryOf table₀)) table)
+    TableFilled 648 (putFrom first x (firstsBehind text line) (entryOf table₀)) table)
 
 abbrev μ-loop : tie.MeasureT-loop
 μ-loop text line at count first table₀ next₀ x₀ table next x = count - x
