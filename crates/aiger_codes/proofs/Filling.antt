@@ -14,13 +14,13 @@ use Rattle.model.specs.Network.{renamed}
 use Rattle.netlist.specs.NetOf.{firstAt, secondAt, putNumbers}
 use Rattle.netlist.specs.RecordOf.{upTo}
 use Rattle.netlist.proofs.PutNumbers.{length-putNumbers, firstAt-putNumbers, secondAt-putNumbers}
-use Rattle.aiger_lines.specs.Parts.{lineNumbers}
+use Rattle.aiger_lines.specs.Parts.{numbersOnLine}
 use Rattle.aiger_lines.specs.Steps.{firstFive}
 use Rattle.aiger_lines.specs.declared.Numbers.{Numbers}
 use Rattle.aiger_lines.proofs.FirstFive.{five-value, five-holds}
 use Rattle.aiger_definitions.specs.Definitions.{numberAt}
 use Rattle.aiger_codes.specs.WireTable.{wireFound}
-use Rattle.aiger_codes.specs.Filling.{firstsBehind, entryOf, putFrom, Filled, codesBehind, NoCodes, ListFilled}
+use Rattle.aiger_codes.specs.Filling.{firstsBehind, entryOf, putFrom, TableFilled, codesBehind, NoCodes, ListFilled}
 
 module _ (first : ℕ) (f old : ℕ → ℕ) where
   -- inside, and outside
@@ -48,14 +48,14 @@ module _ (first : ℕ) (f old : ℕ → ℕ) where
       at l = by-cases (ℕ-discrete w (first + count)) (λ e. absurd (other e)) (λ e. omega arith)
 
   module _ (size : ℕ) (table : List ℕ) where
-    pub filled-none : length table ≡ size → ((w : ℕ) → w < size → getD table w 0 ≡ old w) → Filled size (putFrom first 0 f old) table
+    pub filled-none : length table ≡ size → ((w : ℕ) → w < size → getD table w 0 ≡ old w) → TableFilled size (putFrom first 0 f old) table
     filled-none full same = record { full = full; has = λ w b. same w b ∙ sym (none w) }
       where
         none : (w : ℕ) → putFrom first 0 f old w ≡ old w
         none w = by-cases (decLt w first) (put-before 0 w) (λ l. put-behind 0 w (omega arith))
 
-    pub filled-next : (count x : ℕ) → first + count < size → x ≡ f count → Filled size (putFrom first count f old) table
-        → Filled size (putFrom first (count + 1) f old) (set table (first + count) x)
+    pub filled-next : (count x : ℕ) → first + count < size → x ≡ f count → TableFilled size (putFrom first count f old) table
+        → TableFilled size (putFrom first (count + 1) f old) (set table (first + count) x)
     filled-next count x b e filled =
         record { full = length-set table (first + count) x ∙ filled .full; has = has }
       where
@@ -75,18 +75,18 @@ five-long xs e = ap (λ (n : Numbers). length (n .values)) e ∙ five-holds xs .
 
 -- the table before any line, and with the first number of one line more
 module _ (s : List ℕ) (line first : ℕ) (old table : List ℕ) where
-  pub firsts-none : length table ≡ 648 → old ≡ table → Filled 648 (putFrom first 0 (firstsBehind s line) (entryOf old)) table
+  pub firsts-none : length table ≡ 648 → old ≡ table → TableFilled 648 (putFrom first 0 (firstsBehind s line) (entryOf old)) table
   unfolding entryOf
   firsts-none full same = filled-none first (firstsBehind s line) (entryOf old) 648 table full (λ w b. rw same)
 
-  pub firsts-next : (x : ℕ) (numbers : Numbers) → numbers ≡ firstFive (lineNumbers s (line + x + 1)) → length (lineNumbers s (line + x + 1)) ≤ 5
+  pub firsts-next : (x : ℕ) (numbers : Numbers) → numbers ≡ firstFive (numbersOnLine s (line + x + 1)) → length (numbersOnLine s (line + x + 1)) ≤ 5
       → first + x < 648
-      → Filled 648 (putFrom first x (firstsBehind s line) (entryOf old)) table
-      → Filled 648 (putFrom first (x + 1) (firstsBehind s line) (entryOf old)) (set table (first + x) (getD (numbers .values) 0 0))
+      → TableFilled 648 (putFrom first x (firstsBehind s line) (entryOf old)) table
+      → TableFilled 648 (putFrom first (x + 1) (firstsBehind s line) (entryOf old)) (set table (first + x) (getD (numbers .values) 0 0))
   unfolding firstsBehind
   firsts-next x numbers e few b filled =
       filled-next first (firstsBehind s line) (entryOf old) 648 table x (getD (numbers .values) 0 0) b
-      (ap (λ (xs : Numbers). getD (xs .values) 0 0) e ∙ five-value (lineNumbers s (line + x + 1)) 0 few) filled
+      (ap (λ (xs : Numbers). getD (xs .values) 0 0) e ∙ five-value (numbersOnLine s (line + x + 1)) 0 few) filled
 
 -- one number more of those below a size
 pub upTo-next : (h : ℕ → ℕ) (count x : ℕ) → cond (eqb count x) (h count) (upTo count h x) ≡ upTo (count + 1) h x
@@ -122,8 +122,8 @@ module _ (f g : ℕ → ℕ) where
 
 -- the codes of one line more
 module _ (s : List ℕ) (line : ℕ) (table list : List ℕ) where
-  pub codes-next : (x : ℕ) (numbers : Numbers) (left right : ℕ) → numbers ≡ firstFive (lineNumbers s (line + x + 1))
-      → length (lineNumbers s (line + x + 1)) ≤ 5 → x < 600
+  pub codes-next : (x : ℕ) (numbers : Numbers) (left right : ℕ) → numbers ≡ firstFive (numbersOnLine s (line + x + 1))
+      → length (numbersOnLine s (line + x + 1)) ≤ 5 → x < 600
       → left ≡ renamed (wireFound table) (getD (numbers .values) 1 0) → right ≡ renamed (wireFound table) (getD (numbers .values) 2 0)
       → ListFilled x (codesBehind s line table 1) (codesBehind s line table 2) list
       → ListFilled (x + 1) (codesBehind s line table 1) (codesBehind s line table 2) (putNumbers x left right list)
@@ -134,4 +134,4 @@ module _ (s : List ℕ) (line : ℕ) (table list : List ℕ) where
       at : (i : ℕ) → renamed (wireFound table) (getD (numbers .values) i 0) ≡ renamed (wireFound table) (numberAt s (line + x + 1) i)
       at i =
           ap (λ (xs : Numbers). renamed (wireFound table) (getD (xs .values) i 0)) e
-          ∙ ap (renamed (wireFound table)) (five-value (lineNumbers s (line + x + 1)) i few)
+          ∙ ap (renamed (wireFound table)) (five-value (numbersOnLine s (line + x + 1)) i few)

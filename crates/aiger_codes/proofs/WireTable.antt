@@ -11,11 +11,11 @@ use borrow.Author.Tests.{lt-ltb, le-ltb, eq-eqb, ne-eqb}
 use Rattle.model.specs.Search.{IsFirst}
 use Rattle.model.specs.Netlist.{Netlist, inputWire, latchWire, readWire, gateWire, lastWire}
 use Rattle.model.proofs.Search.{firstWhere-is, first-unique}
-use Rattle.aiger_lines.specs.Parts.{countsIn, linesDue, inputLine, latchLine, gateLine}
+use Rattle.aiger_lines.specs.Parts.{countsIn, linesDue, textInputLine, textLatchLine, textGateLine}
 use Rattle.aiger_lines.specs.declared.Counts.{Counts}
 use Rattle.aiger_definitions.specs.Definitions.{definedAt}
-use Rattle.aiger_netlist.specs.TextNetlist.{textSizes, wireOf, wireIn}
-use Rattle.aiger_codes.specs.WireTable.{lineOf, variableAt, WireTable, wireFound}
+use Rattle.aiger_netlist.specs.TextNetlist.{textSizes, wireOf, wireOfVariable}
+use Rattle.aiger_codes.specs.WireTable.{lineOfWire, variableAt, WireTable, wireFound}
 use Rattle.aiger_netlist.proofs.Lines.{Defining, by-input, by-latch, by-gate, wire-input, wire-read, wire-latch, wire-gate}
 use Rattle.aiger_netlist.proofs.Defined.{WellDefined, Known, constant, line, wire-defined}
 use Rattle.aiger_netlist.proofs.Codes.{FitsInterface, wire-zero}
@@ -40,20 +40,20 @@ module _ (table : List ℕ) (v : ℕ) where
 
 -- the line of each wire
 module _ (h : Counts) (c : Netlist) where
-  line-input : (x : ℕ) → x < c .inputs → lineOf h c (inputWire c x) ≡ inputLine h x
-  unfolding lineOf
+  line-input : (x : ℕ) → x < c .inputs → lineOfWire h c (inputWire c x) ≡ textInputLine h x
+  unfolding lineOfWire
   line-input x b =
       let e : inputWire c x - inputWire c 0 ≡ x = omega arith in
       rw (lt-ltb (inputWire c x) (latchWire c 0) (omega arith), e)
 
-  line-latch : (l : ℕ) → l < c .latches → lineOf h c (latchWire c l) ≡ latchLine h l
-  unfolding lineOf
+  line-latch : (l : ℕ) → l < c .latches → lineOfWire h c (latchWire c l) ≡ textLatchLine h l
+  unfolding lineOfWire
   line-latch l b =
       let e : latchWire c l - latchWire c 0 ≡ l = omega arith in
       rw (le-ltb (latchWire c l) (latchWire c 0) (omega arith), lt-ltb (latchWire c l) (readWire c 0) (omega arith), e)
 
-  line-read : (t : ℕ) → t < c .n → lineOf h c (readWire c t) ≡ inputLine h (c .inputs + t)
-  unfolding lineOf
+  line-read : (t : ℕ) → t < c .n → lineOfWire h c (readWire c t) ≡ textInputLine h (c .inputs + t)
+  unfolding lineOfWire
   line-read t b =
       let e : readWire c t - readWire c 0 ≡ t = omega arith in
       rw (
@@ -63,8 +63,8 @@ module _ (h : Counts) (c : Netlist) where
         e,
       )
 
-  line-gate : (g : ℕ) → lineOf h c (gateWire c g) ≡ gateLine h g
-  unfolding lineOf
+  line-gate : (g : ℕ) → lineOfWire h c (gateWire c g) ≡ textGateLine h g
+  unfolding lineOfWire
   line-gate g =
       let e : gateWire c g - gateWire c 0 ≡ g = omega arith in
       rw (
@@ -78,7 +78,7 @@ module _ (h : Counts) (c : Netlist) where
 pub record LineAndWire (h : Counts) (c : Netlist) (p w : ℕ) : Type 0 where
   pub defines : Defining h p
   pub wire-is : wireOf h c p ≡ w
-  pub line-is : lineOf h c w ≡ p
+  pub line-is : lineOfWire h c w ≡ p
   pub wire-some : 1 ≤ w
   pub wire-most : w ≤ lastWire c
 
@@ -86,7 +86,7 @@ module _ (h : Counts) (m n word unknown : ℕ) (enough : n ≤ h .inputs) where
   abbrev c : Netlist
   c = textSizes h m n word unknown
 
-  both-input : (x : ℕ) → x < h .inputs - n → LineAndWire h c (inputLine h x) (inputWire c x)
+  both-input : (x : ℕ) → x < h .inputs - n → LineAndWire h c (textInputLine h x) (inputWire c x)
   both-input x b =
       record {
         defines = by-input x (omega arith) refl;
@@ -96,7 +96,7 @@ module _ (h : Counts) (m n word unknown : ℕ) (enough : n ≤ h .inputs) where
         wire-most = omega arith;
       }
 
-  both-read : (t : ℕ) → t < n → LineAndWire h c (inputLine h (h .inputs - n + t)) (readWire c t)
+  both-read : (t : ℕ) → t < n → LineAndWire h c (textInputLine h (h .inputs - n + t)) (readWire c t)
   both-read t b =
       let e : h .inputs - n + t - (h .inputs - n) ≡ t = omega arith in
       record {
@@ -107,7 +107,7 @@ module _ (h : Counts) (m n word unknown : ℕ) (enough : n ≤ h .inputs) where
         wire-most = omega arith;
       }
 
-  both-latch : (l : ℕ) → l < h .latches → LineAndWire h c (latchLine h l) (latchWire c l)
+  both-latch : (l : ℕ) → l < h .latches → LineAndWire h c (textLatchLine h l) (latchWire c l)
   both-latch l b =
       record {
         defines = by-latch l b refl;
@@ -117,7 +117,7 @@ module _ (h : Counts) (m n word unknown : ℕ) (enough : n ≤ h .inputs) where
         wire-most = omega arith;
       }
 
-  both-gate : (g : ℕ) → g < h .gates → LineAndWire h c (gateLine h g) (gateWire c g)
+  both-gate : (g : ℕ) → g < h .gates → LineAndWire h c (textGateLine h g) (gateWire c g)
   both-gate g b =
       record {
         defines = by-gate g b refl;
@@ -140,15 +140,15 @@ module _ (h : Counts) (m n word unknown : ℕ) (enough : n ≤ h .inputs) where
   pub wire-both : (w : ℕ) → 1 ≤ w → w ≤ lastWire c → (p : ℕ) × LineAndWire h c p w
   wire-both w a b =
       by-cases (decLt w (latchWire c 0))
-      (λ i. let e : w ≡ inputWire c (w - 1) = omega arith in rw e (inputLine h (w - 1), both-input (w - 1) (omega arith))) λ i.
+      (λ i. let e : w ≡ inputWire c (w - 1) = omega arith in rw e (textInputLine h (w - 1), both-input (w - 1) (omega arith))) λ i.
       by-cases (decLt w (readWire c 0))
       (λ l. let e : w ≡ latchWire c (w - latchWire c 0) = omega arith in
-      rw e (latchLine h (w - latchWire c 0), both-latch (w - latchWire c 0) (omega arith))) λ l.
+      rw e (textLatchLine h (w - latchWire c 0), both-latch (w - latchWire c 0) (omega arith))) λ l.
       by-cases (decLt w (gateWire c 0))
       (λ r. let e : w ≡ readWire c (w - readWire c 0) = omega arith in
-      rw e (inputLine h (h .inputs - n + (w - readWire c 0)), both-read (w - readWire c 0) (omega arith))) λ r.
+      rw e (textInputLine h (h .inputs - n + (w - readWire c 0)), both-read (w - readWire c 0) (omega arith))) λ r.
       let e : w ≡ gateWire c (w - gateWire c 0) = omega arith in
-      rw e (gateLine h (w - gateWire c 0), both-gate (w - gateWire c 0) (omega arith))
+      rw e (textGateLine h (w - gateWire c 0), both-gate (w - gateWire c 0) (omega arith))
 
 module _ (s : List ℕ) (ok : WellDefined s) (m n word unknown : ℕ) (fits : FitsInterface (countsIn s) m n) (table : List ℕ)
     (has : WireTable s (textSizes (countsIn s) m n word unknown) table) (small : lastWire (textSizes (countsIn s) m n word unknown) ≤ 600) where
@@ -156,35 +156,35 @@ module _ (s : List ℕ) (ok : WellDefined s) (m n word unknown : ℕ) (fits : Fi
   net = textSizes (countsIn s) m n word unknown
 
   -- a wire is that of the variable which the table has at it
-  wire-at : (w v : ℕ) → w ≤ lastWire net → variableAt table w ≡ v → wireIn s net v ≡ w
-  wire-at zero v b e = ap (wireIn s net) (sym e ∙ has .at-zero) ∙ wire-zero s net
+  wire-at : (w v : ℕ) → w ≤ lastWire net → variableAt table w ≡ v → wireOfVariable s net v ≡ w
+  wire-at zero v b e = ap (wireOfVariable s net) (sym e ∙ has .at-zero) ∙ wire-zero s net
   wire-at (suc w) v b e =
       let found = wire-both (countsIn s) m n word unknown (fits .inputs-enough) (suc w) (omega arith) b in
       let there = found .1 in
       let variable : v ≡ definedAt s (found .0) = sym e ∙ has .at-wire (suc w) (omega arith) b ∙ ap (definedAt s) (there .line-is) in
-      ap (wireIn s net) variable ∙ wire-defined s ok net (there .defines) ∙ there .wire-is
+      ap (wireOfVariable s net) variable ∙ wire-defined s ok net (there .defines) ∙ there .wire-is
 
   -- and the table has a known variable at its wire
-  variable-at : (v : ℕ) → Known s (linesDue (countsIn s) + 1) v → (wireIn s net v ≤ lastWire net) × (variableAt table (wireIn s net v) ≡ v)
+  variable-at : (v : ℕ) → Known s (linesDue (countsIn s) + 1) v → (wireOfVariable s net v ≤ lastWire net) × (variableAt table (wireOfVariable s net v) ≡ v)
   variable-at v (constant e) = rw (e, wire-zero s net) (omega arith, has .at-zero)
   variable-at v (line q l d e) =
       let found = line-both (countsIn s) m n word unknown (fits .inputs-enough) d in
       let there = found .1 in
-      let wire : wireIn s net v ≡ found .0 = ap (wireIn s net) e ∙ wire-defined s ok net d ∙ there .wire-is in
+      let wire : wireOfVariable s net v ≡ found .0 = ap (wireOfVariable s net) e ∙ wire-defined s ok net d ∙ there .wire-is in
       rw wire (
         there .wire-most,
         has .at-wire (found .0) (there .wire-some) (there .wire-most) ∙ ap (definedAt s) (there .line-is) ∙ sym e,
       )
 
-  pub wire-found : (v : ℕ) → Known s (linesDue (countsIn s) + 1) v → wireFound table v ≡ wireIn s net v
+  pub wire-found : (v : ℕ) → Known s (linesDue (countsIn s) + 1) v → wireFound table v ≡ wireOfVariable s net v
   unfolding wireFound
   wire-found v k =
       first-unique (firstWhere-is (λ w. eqb (variableAt table w) v) 601)
       (record {
         within = omega (arith, here .0);
         none-before = λ w b. ne-eqb (variableAt table w) v (λ e. omega (arith, here .0, wire-at w v (omega (arith, here .0)) e));
-        holds-there = λ b. eq-eqb (variableAt table (wireIn s net v)) v (here .1);
+        holds-there = λ b. eq-eqb (variableAt table (wireOfVariable s net v)) v (here .1);
       })
     where
-      here : (wireIn s net v ≤ lastWire net) × (variableAt table (wireIn s net v) ≡ v)
+      here : (wireOfVariable s net v ≤ lastWire net) × (variableAt table (wireOfVariable s net v) ≡ v)
       here = variable-at v k

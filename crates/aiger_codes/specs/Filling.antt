@@ -8,7 +8,7 @@ use lib.ListN.{length, getD}
 use Rattle.model.specs.Network.{renamed}
 use Rattle.netlist.specs.NetOf.{firstAt, secondAt}
 use Rattle.netlist.specs.RecordOf.{upTo}
-use Rattle.aiger_lines.specs.Parts.{lineNumbers}
+use Rattle.aiger_lines.specs.Parts.{numbersOnLine}
 use Rattle.aiger_lines.specs.Steps.{Behind}
 use Rattle.aiger_definitions.specs.Definitions.{numberAt}
 use Rattle.aiger_codes.specs.WireTable.{wireFound}
@@ -18,7 +18,7 @@ pub record LinesAhead (s : List ℕ) (line at count : ℕ) : Type 0 where
   pub some-line : 1 ≤ line
   pub small : line + count < 2 ^ 40
   pub behind : Behind s line at
-  pub few-numbers : (x : ℕ) → x < count → length (lineNumbers s (line + x + 1)) ≤ 5
+  pub few-numbers : (x : ℕ) → x < count → length (numbersOnLine s (line + x + 1)) ≤ 5
 
 -- the first number of the line that stands x lines behind the first `line`
 unfoldable pub firstsBehind : List ℕ → ℕ → ℕ → ℕ
@@ -32,7 +32,7 @@ unfoldable pub putFrom : ℕ → ℕ → (ℕ → ℕ) → (ℕ → ℕ) → ℕ
 putFrom first count f old w = cond (leb first w && ltb w (first + count)) (f (w - first)) (old w)
 
 -- a table of so many entries that has f of each
-pub record Filled (size : ℕ) (f : ℕ → ℕ) (table : List ℕ) : Type 0 where
+pub record TableFilled (size : ℕ) (f : ℕ → ℕ) (table : List ℕ) : Type 0 where
   pub full : length table ≡ size
   pub has : (w : ℕ) → w < size → getD table w 0 ≡ f w
 

@@ -9,16 +9,16 @@ use lib.ListN.{getD}
 use Rattle.model.specs.Limits.{mostWires}
 use Rattle.model.specs.Search.{firstWhere}
 use Rattle.model.specs.Netlist.{Netlist, inputWire, latchWire, readWire, gateWire, lastWire}
-use Rattle.aiger_lines.specs.Parts.{countsIn, inputLine, latchLine, gateLine}
+use Rattle.aiger_lines.specs.Parts.{countsIn, textInputLine, textLatchLine, textGateLine}
 use Rattle.aiger_lines.specs.declared.Counts.{Counts}
 use Rattle.aiger_definitions.specs.Definitions.{definedAt}
 
 -- the line that defines wire w: the inverse of `wireOf`
-unfoldable pub lineOf : Counts → Netlist → ℕ → ℕ
-lineOf h c w =
-    cond (ltb w (latchWire c 0)) (inputLine h (w - inputWire c 0))
-    (cond (ltb w (readWire c 0)) (latchLine h (w - latchWire c 0))
-    (cond (ltb w (gateWire c 0)) (inputLine h (c .inputs + (w - readWire c 0))) (gateLine h (w - gateWire c 0))))
+unfoldable pub lineOfWire : Counts → Netlist → ℕ → ℕ
+lineOfWire h c w =
+    cond (ltb w (latchWire c 0)) (textInputLine h (w - inputWire c 0))
+    (cond (ltb w (readWire c 0)) (textLatchLine h (w - latchWire c 0))
+    (cond (ltb w (gateWire c 0)) (textInputLine h (c .inputs + (w - readWire c 0))) (textGateLine h (w - gateWire c 0))))
 
 -- the variable at a wire
 abbrev pub variableAt : List ℕ → ℕ → ℕ
@@ -26,7 +26,7 @@ variableAt table w = getD table w 0 / 2
 
 pub record WireTable (s : List ℕ) (c : Netlist) (table : List ℕ) : Type 0 where
   pub at-zero : variableAt table 0 ≡ 0
-  pub at-wire : (w : ℕ) → 1 ≤ w → w ≤ lastWire c → variableAt table w ≡ definedAt s (lineOf (countsIn s) c w)
+  pub at-wire : (w : ℕ) → 1 ≤ w → w ≤ lastWire c → variableAt table w ≡ definedAt s (lineOfWire (countsIn s) c w)
 
 -- the first wire at which a table has the variable v
 unfoldable pub wireFound : List ℕ → ℕ → ℕ

@@ -1,6 +1,7 @@
 // The netlist of an ASCII AIGER text as tables, a record and unpacked lists (RULES I6 to I8): its sizes, and its codes under other numbers.
 use aiger_lines::Counts;
 use literals::Code;
+use literals::Wire;
 use netlist::Netlist;
 use netlist::UnpackedList;
 ghost use mathlib.Core.Path.{_≡_};
@@ -11,30 +12,33 @@ ghost use Rattle.netlist.specs.RecordOf.{recordOf};
 ghost use Rattle.aiger_netlist.specs.TextNetlist.{textSizes};
 ghost use Rattle.aiger_lines.specs.Steps.{Behind};
 ghost use Rattle.aiger_codes.specs.WireTable.{wireFound};
-ghost use Rattle.aiger_codes.specs.Filling.{LinesAhead, firstsBehind, entryOf, putFrom, Filled, codesBehind, NoCodes, ListFilled};
+ghost use Rattle.aiger_codes.specs.Filling.{LinesAhead, firstsBehind, entryOf, putFrom, TableFilled, codesBehind, NoCodes, ListFilled};
 ghost use Rattle.aiger_codes.specs.Outputs.{outputCode, Coded, withControl, AddressPut, DataPut, OutputsPut};
 
+// The first numbers of a text's lines: the constant's, then by wire, of which there are at most 600, and behind these at most 47 outputs.
+pub type FirstNumbers = [u32; 648];
+
 // The first wire at which a table has a variable; 601 where it has it at none.
-fn wire_of(table: &[u32; 648], variable: u32) -> u32
-    ensures { λ r. ⌜ (r ≡ wireFound (now (table .entry)) variable) × (r ≤ 601) ⌝ }
+fn wire_of(table: &FirstNumbers, variable: u32) -> Wire
+    ensures { λ r. ⌜ (r .0 ≡ wireFound (now (table .entry)) variable) × (r .0 ≤ 601) ⌝ }
 {
     let mut w: u32 = 0;
     while w < 601 {
         let at = w as usize;
         if table[at] / 2 == variable {
-            return w;
+            return Wire(w);
         }
         w += 1;
     }
-    w
+    Wire(w)
 }
 
 // A literal of the text as a code: its variable's wire by a table, inverted or not as the literal.
-pub fn code_of(table: &[u32; 648], literal: u32) -> u32
-    ensures { λ r. ⌜ r ≡ renamed (wireFound (now (table .entry))) literal ⌝ }
+fn code_of(table: &FirstNumbers, literal: u32) -> Code
+    ensures { λ r. ⌜ r .0 ≡ renamed (wireFound (now (table .entry))) literal ⌝ }
 {
-    let w = wire_of(table, literal / 2);
-    2 * w + literal % 2
+    let wire = wire_of(table, literal / 2);
+    Code(2 * wire.0 + literal % 2)
 }
 
 // The record of a text's sizes, with no codes. The last n inputs are the read bits.
@@ -67,11 +71,11 @@ pub fn put_firsts(
     at: usize,
     count: u32,
     first: usize,
-    table: &mut [u32; 648],
+    table: &mut FirstNumbers,
 ) -> usize
     requires { ⌜ LinesAhead (now text) line at count × (first + count ≤ 648) × (length (now table) ≡ 648) ⌝ }
     ensures next { λ r. ⌜ Behind (now (text .entry)) (line + count) r ⌝ }
-    ensures table { λ _. ⌜ Filled 648 (putFrom first count (firstsBehind (now (text .entry)) line) (entryOf (now (table .entry)))) (now (table .exit)) ⌝ }
+    ensures table { λ _. ⌜ TableFilled 648 (putFrom first count (firstsBehind (now (text .entry)) line) (entryOf (now (table .entry)))) (now (table .exit)) ⌝ }
 {
     let mut next = at;
     let mut x: u32 = 0;
@@ -93,7 +97,7 @@ pub fn put_codes(
     line: u64,
     at: usize,
     count: u32,
-    table: &[u32; 648],
+    table: &FirstNumbers,
     list: &mut UnpackedList,
 )
     requires { ⌜ LinesAhead (now text) line at count × (count ≤ 600) × NoCodes (now list) ⌝ }
@@ -106,14 +110,14 @@ pub fn put_codes(
         let numbers = read.numbers;
         let left = code_of(table, numbers.values[1]);
         let right = code_of(table, numbers.values[2]);
-        netlist::put_numbers(list, x as usize, left, right);
+        netlist::put_numbers(list, x as usize, left.0, right.0);
         next = read.next;
         x += 1;
     }
 }
 
 // Puts the first m outputs of a table into a record that has no address codes yet.
-fn put_address(net: Netlist, table: &[u32; 648]) -> Netlist
+fn put_address(net: Netlist, table: &FirstNumbers) -> Netlist
     requires { ⌜ (net .m ≤ 12) × Coded 12 0 (λ o. 0) (net .address) ⌝ }
     ensures { λ r. ⌜ AddressPut net (now (table .entry)) r ⌝ }
 {
@@ -121,14 +125,14 @@ fn put_address(net: Netlist, table: &[u32; 648]) -> Netlist
     let mut t: u32 = 0;
     while t < net.m {
         let at = t as usize;
-        next.address[at].0 = code_of(table, table[601 + at]);
+        next.address[at] = code_of(table, table[601 + at]);
         t += 1;
     }
     next
 }
 
 // Puts the n outputs behind them into a record that has no write-data codes yet.
-fn put_data(net: Netlist, table: &[u32; 648]) -> Netlist
+fn put_data(net: Netlist, table: &FirstNumbers) -> Netlist
     requires { ⌜ (net .m ≤ 12) × (net .n ≤ 32) × Coded 32 0 (λ o. 0) (net .«write_data») ⌝ }
     ensures { λ r. ⌜ DataPut net (now (table .entry)) r ⌝ }
 {
@@ -137,30 +141,27 @@ fn put_data(net: Netlist, table: &[u32; 648]) -> Netlist
     let mut t: u32 = 0;
     while t < net.n {
         let at = t as usize;
-        next.write_data[at].0 = code_of(table, table[first + at]);
+        next.write_data[at] = code_of(table, table[first + at]);
         t += 1;
     }
     next
 }
 
 // Puts the last three outputs into a record: WE, RE and P.
-fn put_control(net: Netlist, table: &[u32; 648]) -> Netlist
+fn put_control(net: Netlist, table: &FirstNumbers) -> Netlist
     requires { ⌜ (net .m ≤ 12) × (net .n ≤ 32) ⌝ }
     ensures { λ r. ⌜ r ≡ withControl net (outputCode (now (table .entry)) (net .m + net .n)) (outputCode (now (table .entry)) (net .m + net .n + 1)) (outputCode (now (table .entry)) (net .m + net .n + 2)) ⌝ }
 {
     let first = 601 + net.m as usize + net.n as usize;
-    let we = code_of(table, table[first]);
-    let re = code_of(table, table[first + 1]);
-    let p = code_of(table, table[first + 2]);
     let mut next = net;
-    next.we.0 = we;
-    next.re.0 = re;
-    next.p.0 = p;
+    next.we = code_of(table, table[first]);
+    next.re = code_of(table, table[first + 1]);
+    next.p = code_of(table, table[first + 2]);
     next
 }
 
 // Puts all outputs of a table into a record that has no codes yet.
-pub fn put_outputs(net: Netlist, table: &[u32; 648]) -> Netlist
+pub fn put_outputs(net: Netlist, table: &FirstNumbers) -> Netlist
     requires { ⌜ (net .m ≤ 12) × (net .n ≤ 32) × Coded 12 0 (λ o. 0) (net .address) × Coded 32 0 (λ o. 0) (net .«write_data») ⌝ }
     ensures { λ r. ⌜ OutputsPut net (now (table .entry)) r ⌝ }
 {

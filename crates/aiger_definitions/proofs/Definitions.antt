@@ -13,7 +13,7 @@ use lib.ListN.{getD}
 use borrow.Author.Tests.{eq-eqb, ne-eqb, eqb-true, eqb-false, lt-ltb, le-ltb, not-true}
 use Rattle.model.specs.Search.{seen, IsFirst}
 use Rattle.model.proofs.Booleans.{and-true, or-true, not-true-false}
-use Rattle.aiger_lines.specs.Parts.{lineNumbers, countsIn, linesDue, partAt}
+use Rattle.aiger_lines.specs.Parts.{numbersOnLine, countsIn, linesDue, partAt}
 use Rattle.aiger_lines.specs.declared.Part.{Part}
 use Rattle.aiger_lines.specs.declared.Part.the-variants.{Header, Input, Latch, Output, Gate}
 use Rattle.aiger_definitions.specs.Definitions.{definedAt, definesAgain, isUndefined, undefinedIn, undefinedAt}
@@ -133,7 +133,7 @@ module _ (s : List ℕ) (x : ℕ) where
   undefined-either = by (partAt (countsIn s) (x + 1))
     where
       xs : List ℕ
-      xs = lineNumbers s (x + 1)
+      xs = numbersOnLine s (x + 1)
 
       before : ℕ → Bool
       before v = Bool·beq (seen (definedAt s) (x + 1) v) false

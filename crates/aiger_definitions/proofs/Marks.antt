@@ -14,7 +14,7 @@ use lib.Seq.{getD-set-same, getD-set-other}
 use borrow.Author.Tests.{eq-eqb, ne-eqb, le-leb, lt-leb, lt-ltb, leb-true, ltb-true}
 use Rattle.model.specs.Search.{anyBelow, seen}
 use Rattle.model.proofs.Booleans.{and-true}
-use Rattle.aiger_definitions.specs.Blocks.{Marks, marked, isFound, nearest}
+use Rattle.aiger_definitions.specs.Blocks.{Marks, withMark, isFound, nearest}
 
 -- what stands at a place below p + 1: below p, or at p
 pub seen-next : (f : ℕ → ℕ) (p v : ℕ) → seen f (p + 1) v ≡ (seen f p v || eqb (f p) v)
@@ -44,9 +44,9 @@ cleared-more marks i l none x k =
     (λ e. rw e (getD-set-same marks i false false l))
     (λ n. getD-set-other marks i x false false n ∙ none x (omega arith))
 
-pub length-marked : (base v : ℕ) (marks : List Bool) → length (marked base v marks) ≡ length marks
-unfolding marked
-length-marked base v marks = here (leb base v)
+pub length-withMark : (base v : ℕ) (marks : List Bool) → length (withMark base v marks) ≡ length marks
+unfolding withMark
+length-withMark base v marks = here (leb base v)
   where
     here : (b : Bool) → length (cond b (set marks (v - base) true) marks) ≡ length marks
     here true = length-set marks (v - base) true
@@ -54,9 +54,9 @@ length-marked base v marks = here (leb base v)
 
 module _ {f : ℕ → ℕ} {p base : ℕ} {marks : List Bool} (m : Marks f p base marks) where
   -- one mark more, where one number more was seen
-  pub marks-marked : (q d : ℕ) → ((v : ℕ) → seen f q v ≡ (seen f p v || eqb d v)) → Marks f q base (marked base d marks)
-  unfolding marked
-  marks-marked q d step = by-cases (decLe base d) inside below
+  pub marks-withMark : (q d : ℕ) → ((v : ℕ) → seen f q v ≡ (seen f p v || eqb d v)) → Marks f q base (withMark base d marks)
+  unfolding withMark
+  marks-withMark q d step = by-cases (decLe base d) inside below
     where
       at : base ≤ d → (x : ℕ) → x < length marks → getD (set marks (d - base) true) x false ≡ seen f q (base + x)
       at b x l =

@@ -11,12 +11,12 @@ use Rattle.model.proofs.Search.{seen-at}
 use Rattle.aiger_lines.specs.Steps.{HeaderRead}
 use Rattle.aiger_lines.specs.declared.HeaderLine.{HeaderLine}
 use Rattle.aiger_definitions.specs.Definitions.{definedAt}
-use Rattle.aiger_definitions.specs.Blocks.{variablesAt, usesOf, reach, faultIn, Marks, marked, nearest, lookedAt, Judged, SoundLines, Ready}
+use Rattle.aiger_definitions.specs.Blocks.{variablesAt, usesOf, reach, faultIn, Marks, withMark, nearest, lookedAt, Judged, SoundLines, BlockReady}
 use Rattle.aiger_definitions.specs.declared.Found.{Found}
 use Rattle.aiger_definitions.specs.declared.Uses.{Uses}
 use Rattle.aiger_definitions.specs.declared.Look.{Look}
 use Rattle.aiger_definitions.specs.declared.Look.the-variants.{Repeats, Operands, Others}
-use Rattle.aiger_definitions.proofs.Marks.{seen-next, seen-again, marks-none, marks-marked, nearest-above}
+use Rattle.aiger_definitions.proofs.Marks.{seen-next, seen-again, marks-none, marks-withMark, nearest-above}
 use Rattle.aiger_definitions.proofs.Blocks.{judged-next, judged-none}
 use Rattle.aiger_definitions.proofs.LineVariables.{defined-is, nothing-defined, header-faultless}
 
@@ -51,7 +51,7 @@ module _ (look : Look) (s : List ℕ) (lines base : ℕ) where
       record { from = omega arith; to = some; marks-are = m; judged = judged-none (λ v k. header-faultless look s lines v (omega arith)); above = l }
 
   pub pass-next : {line : ℕ} {marks : List Bool} {found : Found} → Passed look s lines base line marks found → 0 < length marks → line < lines
-      → Passed look s lines base (line + 1) (marked base (variablesAt s (line + 1) .defined) marks)
+      → Passed look s lines base (line + 1) (withMark base (variablesAt s (line + 1) .defined) marks)
       (lookedAt marks base line (usesOf look (variablesAt s (line + 1))) found)
   unfolding faultIn
   pass-next {line} {marks} {found} p some l =
@@ -60,7 +60,7 @@ module _ (look : Look) (s : List ℕ) (lines base : ℕ) where
         to = omega arith;
         marks-are =
             rw (defined-is s (line + 1))
-            (marks-marked (p .marks-are) (reach look lines (line + 1)) (definedAt s (line + 1)) (reach-next look s lines line l));
+            (marks-withMark (p .marks-are) (reach look lines (line + 1)) (definedAt s (line + 1)) (reach-next look s lines line l));
         judged = judged-next (usesOf look (variablesAt s (line + 1))) found (p .marks-are) l (λ v. refl) (p .judged);
         above = looked-above marks base line (usesOf look (variablesAt s (line + 1))) found some (p .above);
       }
@@ -81,7 +81,7 @@ marks-cleared : (s : List ℕ) (base : ℕ) {marks : List Bool} → 1 ≤ base �
 marks-cleared s base b none = marks-none none (λ v l. nothing-defined s v (omega arith))
 
 -- so a block is looked at with a cleared table
-pub cleared-ready : (s : List ℕ) (header : HeaderLine) (lines base : ℕ) (old marks : List Bool) → Ready s header lines base old
+pub cleared-ready : (s : List ℕ) (header : HeaderLine) (lines base : ℕ) (old marks : List Bool) → BlockReady s header lines base old
     → length marks ≡ length old → ((x : ℕ) → x < length old → getD marks x false ≡ false)
     → HeaderRead s (header .counts) (header .next) × SoundLines s lines × (1 ≤ base) × (base < 4294967296) × (0 < length marks)
     × Marks (definedAt s) 2 base marks

@@ -2,13 +2,13 @@
 -- place after the other. No contract cites this file.
 use Prim.Native.Nat.{ℕ, zero, suc, _+_, _/_, _≤_, _<_}
 use mathlib.Core.Path.{_≡_, refl, sym, ap, _∙_}
-use mathlib.Core.Bool.{Bool, true, false, not, _&&_, _||_, true≢false}
+use mathlib.Core.Bool.{false, not, _||_}
 use mathlib.Core.Logic.{inl, inr, by-cases}
 use mathlib.Core.List.{List}
 use native.Mathlib.Decide.{decLt}
 use native.Mathlib.Numerals.{add-one}
 use native.Mathlib.Omega.{arith}
-use lib.Dec.{eqb, ltb}
+use lib.Dec.{eqb}
 use borrow.Author.Tests.{ne-eqb, lt-ltb, not-false}
 use Rattle.model.specs.Search.{anyBelow, seen, IsFirst}
 use Rattle.model.proofs.Booleans.{or-true, neither-true}
@@ -17,11 +17,6 @@ use Rattle.aiger_lines.specs.Parts.{countsIn, linesDue, partAt, malformedAt}
 use Rattle.aiger_lines.specs.Steps.{SoundTo}
 use Rattle.aiger_lines.specs.declared.Part.the-variants.{Latch, Output, Gate}
 use Rattle.aiger_definitions.specs.Definitions.{numberAt, definedAt, definesAgain, isUndefined, neverDefined, undefinedAt}
-
--- no fault at all
-pub none-at : (f : ℕ → Bool) {n : ℕ} → IsFirst (λ x. f (suc x)) n n → (p : ℕ) → 1 ≤ p → p ≤ n → f p ≡ false
-none-at f first zero l k = absurd (omega arith)
-none-at f first (suc q) l k = first .none-before q (omega arith)
 
 -- RULES T11: the first line that is not well-formed or defines a variable again
 pub first-not-aiger : (s : List ℕ) {sound r : ℕ} → SoundTo s sound → IsFirst (λ x. definesAgain s (suc x)) sound r

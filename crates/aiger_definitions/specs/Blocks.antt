@@ -8,7 +8,7 @@ use mathlib.Core.List.{List}
 use lib.Dec.{eqb, ltb, leb}
 use lib.ListN.{length, getD, set}
 use Rattle.model.specs.Search.{seen}
-use Rattle.aiger_lines.specs.Parts.{lineNumbers, countsIn, partAt, malformedAt}
+use Rattle.aiger_lines.specs.Parts.{numbersOnLine, countsIn, partAt, malformedAt}
 use Rattle.aiger_lines.specs.Steps.{Behind, HeaderRead}
 use Rattle.aiger_lines.specs.declared.HeaderLine.{HeaderLine}
 use Rattle.aiger_lines.specs.declared.Part.{Part}
@@ -32,7 +32,7 @@ variablesOf Output xs = record { defined = 0; left = 0; right = 0; other = getD 
 variablesOf Gate xs = record { defined = getD xs 0 0 / 2; left = getD xs 1 0 / 2; right = getD xs 2 0 / 2; other = 0 }
 
 unfoldable pub variablesAt : List ℕ → ℕ → Variables
-variablesAt s p = variablesOf (partAt (countsIn s) p) (lineNumbers s p)
+variablesAt s p = variablesOf (partAt (countsIn s) p) (numbersOnLine s p)
 
 -- line p + 1 was read
 pub record VariablesRead (s : List ℕ) (p : ℕ) (variables : Variables) (next : ℕ) : Type 0 where
@@ -72,8 +72,8 @@ pub record Marks (f : ℕ → ℕ) (p base : ℕ) (marks : List Bool) : Type 0 w
   pub has : (x : ℕ) → x < length marks → getD marks x false ≡ seen f p (base + x)
 
 -- one mark more
-unfoldable pub marked : ℕ → ℕ → List Bool → List Bool
-marked base v marks = cond (leb base v) (set marks (v - base) true) marks
+unfoldable pub withMark : ℕ → ℕ → List Bool → List Bool
+withMark base v marks = cond (leb base v) (set marks (v - base) true) marks
 
 -- whether a variable lies in the block and its mark is the one looked for
 unfoldable pub isFound : List Bool → ℕ → ℕ → Bool → Bool
@@ -106,6 +106,6 @@ abbrev pub JudgedBlock : (ℕ → ℕ → Bool) → ℕ → ℕ → Found → Ty
 JudgedBlock fault n base found = Judged fault n base n (found .first) (found .next) × (base < found .next)
 
 -- what a block is looked at with: the header, well-formed lines, a block of variables from 1 on, a table of its marks
-abbrev pub Ready : List ℕ → HeaderLine → ℕ → ℕ → List Bool → Type 0
-Ready s header lines base marks =
+abbrev pub BlockReady : List ℕ → HeaderLine → ℕ → ℕ → List Bool → Type 0
+BlockReady s header lines base marks =
     HeaderRead s (header .counts) (header .next) × SoundLines s lines × (1 ≤ base) × (base < 4294967296) × (0 < length marks)

@@ -6,13 +6,13 @@ use mathlib.Core.List.{List}
 use lib.Dec.{eqb, ltb}
 use lib.ListN.{getD}
 use Rattle.model.specs.Search.{seen}
-use Rattle.aiger_lines.specs.Parts.{lineNumbers, countsIn, linesDue, partAt, defines}
+use Rattle.aiger_lines.specs.Parts.{numbersOnLine, countsIn, linesDue, partAt, defines}
 use Rattle.aiger_lines.specs.declared.Part.{Part}
 use Rattle.aiger_lines.specs.declared.Part.the-variants.{Header, Input, Latch, Output, Gate}
 
--- number k on line p, both counted as in lineNumbers; 0 where there is none
+-- number k on line p, both counted as in numbersOnLine; 0 where there is none
 abbrev pub numberAt : List ℕ → ℕ → ℕ → ℕ
-numberAt s p k = getD (lineNumbers s p) k 0
+numberAt s p k = getD (numbersOnLine s p) k 0
 
 -- the variable that line p defines; 0, which no line may define, where it defines none
 unfoldable pub definedAt : List ℕ → ℕ → ℕ

@@ -13,7 +13,7 @@ ghost use Rattle.model.specs.Search.{IsFirst};
 ghost use Rattle.aiger_lines.specs.Parts.{countsIn, linesDue, malformedAt};
 ghost use Rattle.aiger_lines.specs.Steps.{Behind, HeaderRead, SoundTo};
 ghost use Rattle.aiger_definitions.specs.Definitions.{definedAt, definesAgain, undefinedAt};
-ghost use Rattle.aiger_definitions.specs.Blocks.{variablesOf, VariablesRead, SoundLines, usesOf, reach, faultIn, faultOf, Marks, marked, isFound, nearest, lookedAt, Judged, JudgedBlock, Ready};
+ghost use Rattle.aiger_definitions.specs.Blocks.{variablesOf, VariablesRead, SoundLines, usesOf, reach, faultIn, faultOf, Marks, withMark, isFound, nearest, lookedAt, Judged, JudgedBlock, BlockReady};
 
 // The variables on a line: the one that it defines, a gate's operands, and the one that any line may define; 0 where there is none.
 struct Variables {
@@ -142,7 +142,7 @@ fn clear(marks: &mut [bool])
 
 // Marks a variable that lies in the block from `base` on.
 fn mark(marks: &mut [bool], base: u64, v: u64)
-    ensures { λ _. ⌜ now (marks .exit) ≡ marked base v (now (marks .entry)) ⌝ }
+    ensures { λ _. ⌜ now (marks .exit) ≡ withMark base v (now (marks .entry)) ⌝ }
 {
     if base <= v {
         let x = (v - base) as usize;
@@ -270,7 +270,7 @@ fn repeat_in_block(
     base: u64,
     marks: &mut [bool],
 ) -> Found
-    requires { ⌜ Ready (now text) header lines base (now marks) ⌝ }
+    requires { ⌜ BlockReady (now text) header lines base (now marks) ⌝ }
     ensures judged { λ r. ⌜ JudgedBlock (faultOf Fault.Repeated (now (text .entry)) lines) lines base r ⌝ }
     ensures size { λ _. ⌜ length (now (marks .exit)) ≡ length (now (marks .entry)) ⌝ }
 {
@@ -286,7 +286,7 @@ fn undefined_in_block(
     base: u64,
     marks: &mut [bool],
 ) -> Found
-    requires { ⌜ Ready (now text) header lines base (now marks) ⌝ }
+    requires { ⌜ BlockReady (now text) header lines base (now marks) ⌝ }
     ensures judged { λ r. ⌜ JudgedBlock (faultOf Fault.Undefined (now (text .entry)) lines) lines base r ⌝ }
     ensures size { λ _. ⌜ length (now (marks .exit)) ≡ length (now (marks .entry)) ⌝ }
 {
@@ -308,7 +308,7 @@ fn fault_in_block(
     marks: &mut [bool],
     fault: Fault,
 ) -> Found
-    requires { ⌜ Ready (now text) header lines base (now marks) ⌝ }
+    requires { ⌜ BlockReady (now text) header lines base (now marks) ⌝ }
     ensures judged { λ r. ⌜ JudgedBlock (faultOf fault (now (text .entry)) lines) lines base r ⌝ }
     ensures size { λ _. ⌜ length (now (marks .exit)) ≡ length (now (marks .entry)) ⌝ }
 {

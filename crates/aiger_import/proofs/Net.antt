@@ -17,7 +17,7 @@ use Rattle.netlist.specs.declared.Netlist.{Netlist}
 use Rattle.sheet_steps.specs.Lists.{Holds}
 use Rattle.sheet_parse.specs.Progress.{noCodes}
 use Rattle.sheet_parse.proofs.InProgress.{no-code, no-code-of}
-use Rattle.aiger_lines.specs.Parts.{countsIn, linesDue, latchLine, outputLine, gateLine, lineNumbers, malformedAt}
+use Rattle.aiger_lines.specs.Parts.{countsIn, linesDue, textLatchLine, textOutputLine, textGateLine, numbersOnLine, malformedAt}
 use Rattle.aiger_lines.specs.declared.Counts.{Counts}
 use Rattle.aiger_lines.specs.declared.Part.the-variants.{Latch}
 use Rattle.aiger_lines.proofs.Parts.{well-count}
@@ -31,7 +31,7 @@ use Rattle.aiger_codes.specs.WireTable.{wireFound}
 use Rattle.aiger_codes.specs.Filling.{codesBehind, NoCodes, ListFilled}
 use Rattle.aiger_codes.specs.Outputs.{outputCode, Coded, withAddress, withData, withControl, OutputsPut}
 use Rattle.aiger_codes.proofs.WireTable.{wire-found}
-use Rattle.aiger_import.specs.Tables.{sizesIn, Ready, TableFor}
+use Rattle.aiger_import.specs.Tables.{sizesOfText, TextReady, TableFor}
 use Rattle.aiger_import.proofs.Sized.{text-defined, text-fits, sized}
 
 -- lists and a record of no codes
@@ -50,12 +50,12 @@ later : (s : List ℕ) (p q v : ℕ) → Known s p v → p < q → Known s q v
 later s p q v (constant e) b = constant e
 later s p q v (line l a d e) b = line l (omega arith) d e
 
-module _ (s : List ℕ) (r : Netlist) (ready : Ready s r) where
+module _ (s : List ℕ) (r : Netlist) (ready : TextReady s r) where
   abbrev h : Counts
   h = countsIn s
 
   abbrev c : M.Netlist
-  c = sizesIn s r
+  c = sizesOfText s r
 
   pub no-outputs : Coded 12 0 (λ o. 0) (r .address) × Coded 32 0 (λ o. 0) (r .«write_data»)
   unfolding recordOf gather
@@ -78,14 +78,14 @@ module _ (s : List ℕ) (r : Netlist) (ready : Ready s r) where
     output o b = ap (renamed (wireFound table)) (has .outputs o b) ∙ found (outputAt s o) (output-known s (text-defined s r ready) o b)
 
     -- a latch's line has no third number
-    no-third : (l : ℕ) → l < h .latches → numberAt s (latchLine h l) 2 ≡ 0
+    no-third : (l : ℕ) → l < h .latches → numberAt s (textLatchLine h l) 2 ≡ 0
     unfolding malformedAt
     no-third l b =
-        let p = latchLine h l in
-        let many : length (lineNumbers s p) ≡ 2 =
-        well-count h Latch (lineNumbers s p)
+        let p = textLatchLine h l in
+        let many : length (numbersOnLine s p) ≡ 2 =
+        well-count h Latch (numbersOnLine s p)
         (rw (part-latch h l b) at (text-defined s r ready .well-formed p (omega arith) (omega arith))) in
-        List·getD-eq-default (lineNumbers s p) 0 (omega (arith, many))
+        List·getD-eq-default (numbersOnLine s p) 0 (omega (arith, many))
 
     zero-code : renamed (wireFound table) 0 ≡ 0
     unfolding renamed
@@ -100,7 +100,7 @@ module _ (s : List ℕ) (r : Netlist) (ready : Ready s r) where
       next-is =
           fun-ext (latchList .firsts) ∙ rw (← sized s r ready h refl .latches-are)
           (upTo-same (h .latches) (codesBehind s (1 + h .inputs) table 1) (λ l. codeFrom s c (nextAt s l)) (λ l b.
-          let p : 1 + h .inputs + l + 1 ≡ latchLine h l = omega arith in
+          let p : 1 + h .inputs + l + 1 ≡ textLatchLine h l = omega arith in
           rw p (found (nextAt s l) (next-known s (text-defined s r ready) l b))))
 
       reset-is : secondAt latches ≡ (λ l. 0)
@@ -110,27 +110,27 @@ module _ (s : List ℕ) (r : Netlist) (ready : Ready s r) where
           latchList .seconds l
           ∙ by-cases (decLt l (r .latches))
           (λ b.
-          let p : 1 + h .inputs + l + 1 ≡ latchLine h l = omega arith in
+          let p : 1 + h .inputs + l + 1 ≡ textLatchLine h l = omega arith in
           rw (lt-ltb l (r .latches) b, p, no-third l (omega (arith, sized s r ready h refl))) zero-code)
           (λ b. rw (le-ltb l (r .latches) (omega arith))))
 
-      left-is : firstAt gates ≡ upTo (h .gates) (λ g. codeFrom s c (numberAt s (gateLine h g) 1))
+      left-is : firstAt gates ≡ upTo (h .gates) (λ g. codeFrom s c (numberAt s (textGateLine h g) 1))
       unfolding codesBehind
       left-is =
           fun-ext (gateList .firsts) ∙ rw (← sized s r ready h refl .gates-are)
-          (upTo-same (h .gates) (codesBehind s (1 + h .inputs + h .latches + h .outputs) table 1) (λ g. codeFrom s c (numberAt s (gateLine h g) 1))
+          (upTo-same (h .gates) (codesBehind s (1 + h .inputs + h .latches + h .outputs) table 1) (λ g. codeFrom s c (numberAt s (textGateLine h g) 1))
           (λ g b.
-          let p : 1 + h .inputs + h .latches + h .outputs + g + 1 ≡ gateLine h g = omega arith in
-          rw p (found (numberAt s (gateLine h g) 1) (later s (gateLine h g) (linesDue h + 1) _ (left-known s (text-defined s r ready) g b) (omega arith)))))
+          let p : 1 + h .inputs + h .latches + h .outputs + g + 1 ≡ textGateLine h g = omega arith in
+          rw p (found (numberAt s (textGateLine h g) 1) (later s (textGateLine h g) (linesDue h + 1) _ (left-known s (text-defined s r ready) g b) (omega arith)))))
 
-      right-is : secondAt gates ≡ upTo (h .gates) (λ g. codeFrom s c (numberAt s (gateLine h g) 2))
+      right-is : secondAt gates ≡ upTo (h .gates) (λ g. codeFrom s c (numberAt s (textGateLine h g) 2))
       unfolding codesBehind
       right-is =
           fun-ext (gateList .seconds) ∙ rw (← sized s r ready h refl .gates-are)
-          (upTo-same (h .gates) (codesBehind s (1 + h .inputs + h .latches + h .outputs) table 2) (λ g. codeFrom s c (numberAt s (gateLine h g) 2))
+          (upTo-same (h .gates) (codesBehind s (1 + h .inputs + h .latches + h .outputs) table 2) (λ g. codeFrom s c (numberAt s (textGateLine h g) 2))
           (λ g b.
-          let p : 1 + h .inputs + h .latches + h .outputs + g + 1 ≡ gateLine h g = omega arith in
-          rw p (found (numberAt s (gateLine h g) 2) (later s (gateLine h g) (linesDue h + 1) _ (right-known s (text-defined s r ready) g b) (omega arith)))))
+          let p : 1 + h .inputs + h .latches + h .outputs + g + 1 ≡ textGateLine h g = omega arith in
+          rw p (found (numberAt s (textGateLine h g) 2) (later s (textGateLine h g) (linesDue h + 1) _ (right-known s (text-defined s r ready) g b) (omega arith)))))
 
       module _ (net : Netlist) (put : OutputsPut r table net) where
         -- the record, by the sizes

@@ -1,20 +1,19 @@
 -- The numbers of a text that is ready to be read (specs/Tables.antt), and lines of it that are ahead. Cited by the functions of this crate.
-use Prim.Native.Nat.{ℕ, _+_, _≤_, _<_}
+use Prim.Native.Nat.{ℕ, _+_, _≤_}
 use mathlib.Core.Path.{_≡_, refl, sym, ap, subst}
 use mathlib.Core.List.{List}
 use native.Mathlib.Omega.{arith}
-use lib.ListN.{length}
 use Rattle.netlist.specs.RecordOf.{recordOf}
 use Rattle.netlist.specs.declared.Netlist.{Netlist}
-use Rattle.aiger_lines.specs.Parts.{countsIn, linesDue, partAt, lineNumbers, malformedAt}
+use Rattle.aiger_lines.specs.Parts.{countsIn, linesDue, partAt, numbersOnLine, malformedAt}
 use Rattle.aiger_lines.specs.Steps.{Behind}
 use Rattle.aiger_lines.specs.declared.Counts.{Counts}
-use Rattle.aiger_lines.proofs.Parts.{width-bounds, well-count}
+use Rattle.aiger_lines.proofs.Parts.{well-few}
 use Rattle.aiger_netlist.proofs.Defined.{WellDefined}
 use Rattle.aiger_netlist.proofs.Codes.{FitsInterface}
 use Rattle.aiger_netlist.proofs.Verdict.{well-defined, fits-interface}
 use Rattle.aiger_codes.specs.Filling.{LinesAhead}
-use Rattle.aiger_import.specs.Tables.{sizesIn, Ready}
+use Rattle.aiger_import.specs.Tables.{sizesOfText, TextReady}
 
 -- the header's counts by the record's numbers, and the limits of these
 pub record Sized (h : Counts) (r : Netlist) : Type 0 where
@@ -26,7 +25,7 @@ pub record Sized (h : Counts) (r : Netlist) : Type 0 where
   pub n-most : r .n ≤ 32
   pub wires-fit : r .inputs + r .latches + r .n + r .gates ≤ 600
 
-module _ (s : List ℕ) (r : Netlist) (ready : Ready s r) where
+module _ (s : List ℕ) (r : Netlist) (ready : TextReady s r) where
   pub text-defined : WellDefined s
   text-defined = well-defined s (r .m) (r .n) (ready .text-passes)
 
@@ -37,9 +36,9 @@ module _ (s : List ℕ) (r : Netlist) (ready : Ready s r) where
   unfolding recordOf
   sized h e =
       let is = ready .sizes-are in
-      let inputs : r .inputs ≡ sizesIn s r .inputs = ap (λ (x : Netlist). x .inputs) is in
-      let latches : r .latches ≡ sizesIn s r .latches = ap (λ (x : Netlist). x .latches) is in
-      let gates : r .gates ≡ sizesIn s r .gates = ap (λ (x : Netlist). x .gates) is in
+      let inputs : r .inputs ≡ sizesOfText s r .inputs = ap (λ (x : Netlist). x .inputs) is in
+      let latches : r .latches ≡ sizesOfText s r .latches = ap (λ (x : Netlist). x .latches) is in
+      let gates : r .gates ≡ sizesOfText s r .gates = ap (λ (x : Netlist). x .gates) is in
       rw e (record {
         inputs-are = omega (arith, inputs, text-fits .inputs-enough);
         latches-are = sym latches;
@@ -61,8 +60,5 @@ module _ (s : List ℕ) (r : Netlist) (ready : Ready s r) where
         behind = subst (λ (q : ℕ). Behind s q at) same behind;
         few-numbers = λ x b.
             let p = line + x + 1 in
-            let part = partAt (countsIn s) p in
-            let many : length (lineNumbers s p) ≡ _ =
-            well-count (countsIn s) part (lineNumbers s p) (text-defined .well-formed p (omega arith) (omega (arith, due))) in
-            omega (arith, many, width-bounds part .1);
+            well-few (countsIn s) (partAt (countsIn s) p) (numbersOnLine s p) (text-defined .well-formed p (omega arith) (omega (arith, due)));
       }

@@ -8,23 +8,23 @@ use native.Mathlib.Omega.{arith}
 use lib.ListN.{length, getD}
 use Rattle.model.specs.Netlist as M
 use Rattle.netlist.specs.declared.Netlist.{Netlist}
-use Rattle.aiger_lines.specs.Parts.{countsIn, inputLine, latchLine, outputLine, gateLine}
+use Rattle.aiger_lines.specs.Parts.{countsIn, textInputLine, textLatchLine, textOutputLine, textGateLine}
 use Rattle.aiger_lines.specs.Steps.{Behind}
 use Rattle.aiger_lines.specs.declared.Counts.{Counts}
 use Rattle.aiger_definitions.specs.Definitions.{numberAt, definedAt}
 use Rattle.aiger_netlist.specs.TextNetlist.{wireOf}
 use Rattle.aiger_netlist.specs.TextValues.{outputAt}
 use Rattle.aiger_netlist.proofs.Lines.{Defining, by-input, by-latch, by-gate, defining-defines, wire-input, wire-read, wire-latch, wire-gate}
-use Rattle.aiger_codes.specs.WireTable.{lineOf, variableAt, WireTable}
-use Rattle.aiger_codes.specs.Filling.{firstsBehind, entryOf, putFrom, Filled}
+use Rattle.aiger_codes.specs.WireTable.{lineOfWire, variableAt, WireTable}
+use Rattle.aiger_codes.specs.Filling.{firstsBehind, entryOf, putFrom, TableFilled}
 use Rattle.aiger_codes.proofs.WireTable.{wire-both}
 use Rattle.aiger_codes.proofs.Filling.{put-inside, put-before, put-behind}
-use Rattle.aiger_import.specs.Tables.{sizesIn, Ready, TableFor}
+use Rattle.aiger_import.specs.Tables.{sizesOfText, TextReady, TableFor}
 use Rattle.aiger_import.proofs.Sized.{Sized, sized, text-fits}
 
 -- what one part puts there, and what it leaves
 module _ (s : List ℕ) (line first count : ℕ) (old : List ℕ) {new : List ℕ}
-    (filled : Filled 648 (putFrom first count (firstsBehind s line) (entryOf old)) new) where
+    (filled : TableFilled 648 (putFrom first count (firstsBehind s line) (entryOf old)) new) where
   there : (x w p : ℕ) → x < count → w ≡ first + x → w < 648 → p ≡ line + x + 1 → getD new w 0 ≡ numberAt s p 0
   unfolding firstsBehind
   there x w p b at within e =
@@ -41,21 +41,21 @@ module _ (s : List ℕ) (line first count : ℕ) (old : List ℕ) {new : List �
   unfolding entryOf
   behind w within l = filled .has w within ∙ put-behind first (firstsBehind s line) (entryOf old) count w l
 
-module _ (s : List ℕ) (r : Netlist) (ready : Ready s r) (t₀ t₁ t₂ t₃ t₄ t₅ : List ℕ) where
+module _ (s : List ℕ) (r : Netlist) (ready : TextReady s r) (t₀ t₁ t₂ t₃ t₄ t₅ : List ℕ) where
   abbrev h : Counts
   h = countsIn s
 
   abbrev c : M.Netlist
-  c = sizesIn s r
+  c = sizesOfText s r
 
   -- inputs, read bits, latches, outputs, gates
   pub record Parts (h : Counts) : Type 0 where
     pub none : getD t₀ 0 0 ≡ 0
-    pub inputs : Filled 648 (putFrom 1 (r .inputs) (firstsBehind s 1) (entryOf t₀)) t₁
-    pub reads : Filled 648 (putFrom (1 + r .inputs + r .latches) (r .n) (firstsBehind s (1 + r .inputs)) (entryOf t₁)) t₂
-    pub latches : Filled 648 (putFrom (1 + r .inputs) (r .latches) (firstsBehind s (1 + h .inputs)) (entryOf t₂)) t₃
-    pub outputs : Filled 648 (putFrom 601 (h .outputs) (firstsBehind s (1 + h .inputs + h .latches)) (entryOf t₃)) t₄
-    pub gates : Filled 648 (putFrom (1 + r .inputs + r .latches + r .n) (r .gates) (firstsBehind s (1 + h .inputs + h .latches + h .outputs))
+    pub inputs : TableFilled 648 (putFrom 1 (r .inputs) (firstsBehind s 1) (entryOf t₀)) t₁
+    pub reads : TableFilled 648 (putFrom (1 + r .inputs + r .latches) (r .n) (firstsBehind s (1 + r .inputs)) (entryOf t₁)) t₂
+    pub latches : TableFilled 648 (putFrom (1 + r .inputs) (r .latches) (firstsBehind s (1 + h .inputs)) (entryOf t₂)) t₃
+    pub outputs : TableFilled 648 (putFrom 601 (h .outputs) (firstsBehind s (1 + h .inputs + h .latches)) (entryOf t₃)) t₄
+    pub gates : TableFilled 648 (putFrom (1 + r .inputs + r .latches + r .n) (r .gates) (firstsBehind s (1 + h .inputs + h .latches + h .outputs))
         (entryOf t₄)) t₅
 
   module _ (parts : Parts h) where
@@ -78,35 +78,35 @@ module _ (s : List ℕ) (r : Netlist) (ready : Ready s r) (t₀ t₁ t₂ t₃ t
     at-zero : getD t₅ 0 0 ≡ 0
     at-zero = early 0 (omega arith) ∙ before s 1 1 (r .inputs) t₀ (parts .inputs) 0 (omega arith) (omega arith) ∙ parts .none
 
-    at-input : (x : ℕ) → x < r .inputs → getD t₅ (1 + x) 0 ≡ numberAt s (inputLine h x) 0
+    at-input : (x : ℕ) → x < r .inputs → getD t₅ (1 + x) 0 ≡ numberAt s (textInputLine h x) 0
     at-input x b =
         early (1 + x) (omega arith)
-        ∙ there s 1 1 (r .inputs) t₀ (parts .inputs) x (1 + x) (inputLine h x) b refl (omega (arith, is)) (omega arith)
+        ∙ there s 1 1 (r .inputs) t₀ (parts .inputs) x (1 + x) (textInputLine h x) b refl (omega (arith, is)) (omega arith)
 
-    at-latch : (l : ℕ) → l < r .latches → getD t₅ (1 + r .inputs + l) 0 ≡ numberAt s (latchLine h l) 0
+    at-latch : (l : ℕ) → l < r .latches → getD t₅ (1 + r .inputs + l) 0 ≡ numberAt s (textLatchLine h l) 0
     at-latch l b =
         below (1 + r .inputs + l) (omega arith)
-        ∙ there s (1 + h .inputs) (1 + r .inputs) (r .latches) t₂ (parts .latches) l (1 + r .inputs + l) (latchLine h l) b refl (omega (arith, is))
+        ∙ there s (1 + h .inputs) (1 + r .inputs) (r .latches) t₂ (parts .latches) l (1 + r .inputs + l) (textLatchLine h l) b refl (omega (arith, is))
         (omega arith)
 
-    at-read : (t : ℕ) → t < r .n → getD t₅ (1 + r .inputs + r .latches + t) 0 ≡ numberAt s (inputLine h (r .inputs + t)) 0
+    at-read : (t : ℕ) → t < r .n → getD t₅ (1 + r .inputs + r .latches + t) 0 ≡ numberAt s (textInputLine h (r .inputs + t)) 0
     at-read t b =
         let w = 1 + r .inputs + r .latches + t in
         below w (omega arith)
         ∙ behind s (1 + h .inputs) (1 + r .inputs) (r .latches) t₂ (parts .latches) w (omega (arith, is)) (omega arith)
-        ∙ there s (1 + r .inputs) (1 + r .inputs + r .latches) (r .n) t₁ (parts .reads) t w (inputLine h (r .inputs + t)) b refl
+        ∙ there s (1 + r .inputs) (1 + r .inputs + r .latches) (r .n) t₁ (parts .reads) t w (textInputLine h (r .inputs + t)) b refl
         (omega (arith, is)) (omega arith)
 
-    at-gate : (g : ℕ) → g < r .gates → getD t₅ (1 + r .inputs + r .latches + r .n + g) 0 ≡ numberAt s (gateLine h g) 0
+    at-gate : (g : ℕ) → g < r .gates → getD t₅ (1 + r .inputs + r .latches + r .n + g) 0 ≡ numberAt s (textGateLine h g) 0
     at-gate g b =
         there s (1 + h .inputs + h .latches + h .outputs) (1 + r .inputs + r .latches + r .n) (r .gates) t₄ (parts .gates) g
-        (1 + r .inputs + r .latches + r .n + g) (gateLine h g) b refl (omega (arith, is)) (omega arith)
+        (1 + r .inputs + r .latches + r .n + g) (textGateLine h g) b refl (omega (arith, is)) (omega arith)
 
     at-output : (o : ℕ) → o < h .outputs → getD t₅ (601 + o) 0 ≡ outputAt s o
     at-output o b =
         behind s (1 + h .inputs + h .latches + h .outputs) (1 + r .inputs + r .latches + r .n) (r .gates) t₄ (parts .gates) (601 + o)
         (omega (arith, is)) (omega (arith, is))
-        ∙ there s (1 + h .inputs + h .latches) 601 (h .outputs) t₃ (parts .outputs) o (601 + o) (outputLine h o) b refl (omega (arith, is))
+        ∙ there s (1 + h .inputs + h .latches) 601 (h .outputs) t₃ (parts .outputs) o (601 + o) (textOutputLine h o) b refl (omega (arith, is))
         (omega arith)
 
     -- a line that defines has its first number at its wire
@@ -117,7 +117,7 @@ module _ (s : List ℕ) (r : Netlist) (ready : Ready s r) (t₀ t₁ t₂ t₃ t
         let wire : M.readWire c (x - c .inputs) ≡ 1 + r .inputs + r .latches + (x - r .inputs) = omega (arith, is) in
         let back : r .inputs + (x - r .inputs) ≡ x = omega (arith, is) in
         rw (e, wire-read h c (omega arith) x (omega arith) b, wire)
-        (at-read (x - r .inputs) (omega (arith, is)) ∙ ap (λ (y : ℕ). numberAt s (inputLine h y) 0) back)
+        (at-read (x - r .inputs) (omega (arith, is)) ∙ ap (λ (y : ℕ). numberAt s (textInputLine h y) 0) back)
     at-line (by-latch l b e) =
         let wire : M.latchWire c l ≡ 1 + r .inputs + l = omega (arith, is) in
         rw (e, wire-latch h c (omega arith) l b, wire) (at-latch l (omega (arith, is)))

@@ -1,5 +1,5 @@
 -- What is known of a text behind each of its tests, and the verdict on it by which test refuses (ImportVerdict in aiger_netlist). Cited by
--- `import_codes`.
+-- `import_text`.
 use Prim.Native.Nat.{ℕ}
 use mathlib.Core.Path.{_≡_, refl, sym, _∙_, ap, subst}
 use mathlib.Core.Bool.{Bool, true, false, _||_}
@@ -33,7 +33,7 @@ use Rattle.aiger_netlist.specs.TextNetlist.{textSizes, netOfCodes, aagNet}
 use Rattle.aiger_netlist.specs.ImportVerdict.{textVerdict, importVerdict}
 use Rattle.aiger_netlist.proofs.Codes.{text-codes-fit, no-code-fault}
 use Rattle.aiger_netlist.proofs.Verdict.{well-defined, fits-interface}
-use Rattle.aiger_import.specs.Tables.{Ready}
+use Rattle.aiger_import.specs.Tables.{TextReady}
 
 module _ (s : List ℕ) (m n word unknown : ℕ) where
   -- sizes are tested alike, whatever the codes
@@ -61,7 +61,7 @@ module _ (s : List ℕ) (m n word unknown : ℕ) where
       fit : SizesFit (aagNet s m n word unknown)
       fit = sizes-fit (aagNet s m n word unknown) .0 (testLines-passes (aagNet s m n word unknown) Size sizeFault .0 sized)
 
-      pub ready : Ready s r
+      pub ready : TextReady s r
       unfolding recordOf netOfCodes
       ready =
           rw of-text (record {

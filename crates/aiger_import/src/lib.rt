@@ -1,4 +1,5 @@
 // An ASCII AIGER text as a record and unpacked lists, or the refusal that it gets (RULES I1 to I8, I10 and I11, T55).
+use aiger_codes::FirstNumbers;
 use aiger_lines::HeaderLine;
 use netlist::Netlist;
 use netlist::UnpackedList;
@@ -13,18 +14,18 @@ ghost use Rattle.sheet_steps.specs.Lists.{Holds};
 ghost use Rattle.sheet_steps.specs.Steps.{Outcome};
 ghost use Rattle.sheet_parse.specs.Progress.{noCodes};
 ghost use Rattle.aiger_import.specs.ImportCall.{importedWord};
-ghost use Rattle.aiger_import.specs.Tables.{Ready, TableFor};
+ghost use Rattle.aiger_import.specs.Tables.{TextReady, TableFor};
 
 // A table of a text's first numbers by wire, with its outputs behind; and where the lines of its latches and of its gates begin.
 struct TextTable {
-    entries: [u32; 648],
+    entries: FirstNumbers,
     latches: usize,
     gates: usize,
 }
 
 // Makes the table: inputs, read bits, latches, outputs and gates, in the order of their lines.
 fn text_table(text: &[u8], header: HeaderLine, sizes: Netlist) -> TextTable
-    requires { ⌜ HeaderRead (now text) (header .counts) (header .next) × Ready (now text) sizes ⌝ }
+    requires { ⌜ HeaderRead (now text) (header .counts) (header .next) × TextReady (now text) sizes ⌝ }
     ensures { λ r. ⌜ TableFor (now (text .entry)) sizes (r .entries) (r .latches) (r .gates) ⌝ }
 {
     let counts = header.counts;
@@ -35,7 +36,7 @@ fn text_table(text: &[u8], header: HeaderLine, sizes: Netlist) -> TextTable
     let latch_line = 1 + counts.inputs as u64;
     let output_line = latch_line + counts.latches as u64;
     let gate_line = output_line + counts.outputs as u64;
-    let mut entries: [u32; 648] = [0; 648];
+    let mut entries: FirstNumbers = [0; 648];
     let reads = aiger_codes::put_firsts(text, 1, header.next, sizes.inputs, 1, &mut entries);
     let latches = aiger_codes::put_firsts(text, read_line, reads, sizes.n, read_wire, &mut entries);
     let outputs = aiger_codes::put_firsts(
@@ -70,7 +71,7 @@ fn fill(
     latches: &mut UnpackedList,
     gates: &mut UnpackedList,
 ) -> Netlist
-    requires { ⌜ HeaderRead (now text) (header .counts) (header .next) × Ready (now text) sizes × (now latches ≡ noCodes) × (now gates ≡ noCodes) ⌝ }
+    requires { ⌜ HeaderRead (now text) (header .counts) (header .next) × TextReady (now text) sizes × (now latches ≡ noCodes) × (now gates ≡ noCodes) ⌝ }
     ensures { λ r. ⌜ Holds r (now (latches .exit)) (now (gates .exit)) (aagNet (now (text .entry)) (sizes .m) (sizes .n) (sizes .«initial_word») (sizes .«unknown_start»)) ⌝ }
 {
     let counts = header.counts;
@@ -90,9 +91,20 @@ fn fill(
     aiger_codes::put_outputs(sizes, &entries)
 }
 
+// The start word that is given, 0 where the start is unknown.
+fn given_word(word: u32, unknown: u32) -> u32
+    ensures { λ r. ⌜ r ≡ importedWord word unknown ⌝ }
+{
+    if unknown == 0 {
+        return word;
+    }
+    0
+}
+
 // Reads a text, for lists that have room for so many records: its record, and its codes into unpacked lists of no codes, which are
-// scratch after a refusal. No text that passes 13 meets 5, so that it need not be tested.
-fn import_codes(
+// scratch after a refusal. Where the start is unknown, the word handed over is left out of the record. No text that passes 13 meets 5, so
+// that it need not be tested.
+pub fn import_text(
     text: &[u8],
     m: u32,
     n: u32,
@@ -104,14 +116,15 @@ fn import_codes(
     gates: &mut UnpackedList,
 ) -> SheetAnswer
     requires { ⌜ (now latches ≡ noCodes) × (now gates ≡ noCodes) ⌝ }
-    ensures { λ r. ⌜ Outcome r (now (latches .exit)) (now (gates .exit)) (importVerdict (now (text .entry)) m n word unknown «latch_room» «gate_room») (aagNet (now (text .entry)) m n word unknown) ⌝ }
+    ensures { λ r. ⌜ Outcome r (now (latches .exit)) (now (gates .exit)) (importVerdict (now (text .entry)) m n (importedWord word unknown) unknown «latch_room» «gate_room») (aagNet (now (text .entry)) m n (importedWord word unknown) unknown) ⌝ }
 {
+    let given = given_word(word, unknown);
     let header = aiger_lines::read_header(text);
     let tested = aiger_tests::test_text(text, header, m, n);
     if let Verdict::Refused(refusal, line) = tested {
         return sheet_steps::refused(refusal, line);
     }
-    let sizes = aiger_codes::text_sizes(header.counts, m, n, word, unknown);
+    let sizes = aiger_codes::text_sizes(header.counts, m, n, given, unknown);
     let sized = netlist_tests::test_sizes(sizes);
     if let Verdict::Refused(refusal, place) = sized {
         return sheet_steps::refused(refusal, place);
@@ -128,43 +141,4 @@ fn import_codes(
         verdict: Verdict::Passed,
         net,
     }
-}
-
-// The start word that is given, 0 where the start is unknown.
-fn given_word(word: u32, unknown: u32) -> u32
-    ensures { λ r. ⌜ r ≡ importedWord word unknown ⌝ }
-{
-    if unknown == 0 {
-        return word;
-    }
-    0
-}
-
-// Reads a text for a start that is given or unknown. Where it is unknown, the word handed over is left out of the record.
-pub fn import_text(
-    text: &[u8],
-    m: u32,
-    n: u32,
-    word: u32,
-    unknown: u32,
-    latch_room: usize,
-    gate_room: usize,
-    latches: &mut UnpackedList,
-    gates: &mut UnpackedList,
-) -> SheetAnswer
-    requires { ⌜ (now latches ≡ noCodes) × (now gates ≡ noCodes) ⌝ }
-    ensures { λ r. ⌜ Outcome r (now (latches .exit)) (now (gates .exit)) (importVerdict (now (text .entry)) m n (importedWord word unknown) unknown «latch_room» «gate_room») (aagNet (now (text .entry)) m n (importedWord word unknown) unknown) ⌝ }
-{
-    let given = given_word(word, unknown);
-    import_codes(
-        text,
-        m,
-        n,
-        given,
-        unknown,
-        latch_room,
-        gate_room,
-        latches,
-        gates,
-    )
 }

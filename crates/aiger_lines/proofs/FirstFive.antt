@@ -12,30 +12,30 @@ use lib.ListN.{length, getD, take, drop, set, replicate, length-append, length-r
 use lib.Seq.{getD-take, length-take-le, take-suc-set, drop-set-lt, drop-drop, take-at}
 use Rattle.decimal.specs.TextValue.{numberIn}
 use Rattle.decimal.specs.declared.Number.the-variants.{Value, NotANumber}
-use Rattle.aiger_lines.specs.Numbers.{allNumbers, values, numbersOf}
-use Rattle.aiger_lines.specs.Steps.{firstFive, numbersIn, Holds}
+use Rattle.aiger_lines.specs.Numbers.{allUnsigned, unsignedValues, wordNumbers}
+use Rattle.aiger_lines.specs.Steps.{firstFive, numbersHeld, HoldsNumbers}
 use Rattle.aiger_lines.specs.declared.Numbers.{Numbers}
 
 -- the numbers xs, and behind them those that words are; none where one of the words is no number
 unfoldable pub gathered : List ℕ → List (List ℕ) → List ℕ
-gathered xs ws = cond (allNumbers ws) (xs ++ values ws) []
+gathered xs ws = cond (allUnsigned ws) (xs ++ unsignedValues ws) []
 
-pub gathered-all : (ws : List (List ℕ)) → gathered [] ws ≡ numbersOf ws
-unfolding gathered numbersOf
+pub gathered-all : (ws : List (List ℕ)) → gathered [] ws ≡ wordNumbers ws
+unfolding gathered wordNumbers
 gathered-all ws = refl
 
 pub gathered-end : (xs : List ℕ) → gathered xs [] ≡ xs
-unfolding gathered allNumbers values
+unfolding gathered allUnsigned unsignedValues
 gathered-end xs = append-nil xs
 
 -- one word more
 module _ (xs : List ℕ) (w : List ℕ) (ws : List (List ℕ)) where
   pub gathered-next : (x : ℕ) → numberIn w ≡ Value x → gathered xs (w ∷ ws) ≡ gathered (xs ++ x ∷ []) ws
-  unfolding gathered allNumbers values
+  unfolding gathered allUnsigned unsignedValues
   gathered-next x e = rw (e, append-assoc)
 
   pub gathered-other : numberIn w ≡ NotANumber → gathered xs (w ∷ ws) ≡ []
-  unfolding gathered allNumbers
+  unfolding gathered allUnsigned
   gathered-other e = rw e
 
 -- up to five numbers; more are none
@@ -49,11 +49,11 @@ five-many xs l = rw (lt-ltb 5 (length xs) l)
 
 -- a sixth word: none, be it a number or not
 pub gathered-many : (xs : List ℕ) (w : List ℕ) (ws : List (List ℕ)) → 5 ≤ length xs → firstFive (gathered xs (w ∷ ws)) ≡ firstFive []
-unfolding gathered values
-gathered-many xs w ws l = by-test (allNumbers (w ∷ ws))
+unfolding gathered unsignedValues
+gathered-many xs w ws l = by-test (allUnsigned (w ∷ ws))
   where
-    by-test : (b : Bool) → firstFive (cond b (xs ++ values (w ∷ ws)) []) ≡ firstFive []
-    by-test true = five-many (xs ++ values (w ∷ ws)) (rw length-append (omega arith))
+    by-test : (b : Bool) → firstFive (cond b (xs ++ unsignedValues (w ∷ ws)) []) ≡ firstFive []
+    by-test true = five-many (xs ++ unsignedValues (w ∷ ws)) (rw length-append (omega arith))
     by-test false = refl
 
 -- The array as it is filled: behind the first `count` values there are zeros.
@@ -73,24 +73,24 @@ module _ (count : ℕ) (vs : List ℕ) (five : length vs ≡ 5) where
       (ap (λ (t : List ℕ). record { count = count; values = t }) (ap (λ (t : List ℕ). take count vs ++ t) (sym z) ∙ take-append-drop count vs))
 
 -- what the array holds
-pub five-holds : (xs : List ℕ) → Holds (firstFive xs)
+pub five-holds : (xs : List ℕ) → HoldsNumbers (firstFive xs)
 five-holds xs =
     by-cases (decLt 5 (length xs))
     (λ l. rw (five-many xs l, five-few [] (omega arith)) (record { most = omega arith; length-is = refl }))
     (λ l. rw (five-few xs (omega arith))
     (record { most = omega arith; length-is = rw (length-append, length-replicate) (omega arith) }))
 
-pub five-in : (xs : List ℕ) → length xs ≤ 5 → numbersIn (firstFive xs) ≡ xs
-unfolding numbersIn
+pub five-in : (xs : List ℕ) → length xs ≤ 5 → numbersHeld (firstFive xs) ≡ xs
+unfolding numbersHeld
 five-in xs l = rw (five-few xs l) (take-at xs (replicate (5 - length xs) 0) (length xs) refl)
 
 -- the numbers in an array
-pub in-length : (xs : Numbers) → Holds xs → length (numbersIn xs) ≡ xs .count
-unfolding numbersIn
+pub in-length : (xs : Numbers) → HoldsNumbers xs → length (numbersHeld xs) ≡ xs .count
+unfolding numbersHeld
 in-length xs h = length-take-le (xs .count) (xs .values) (omega arith)
 
-pub in-at : (xs : Numbers) (i : ℕ) → i < xs .count → getD (numbersIn xs) i 0 ≡ getD (xs .values) i 0
-unfolding numbersIn
+pub in-at : (xs : Numbers) (i : ℕ) → i < xs .count → getD (numbersHeld xs) i 0 ≡ getD (xs .values) i 0
+unfolding numbersHeld
 in-at xs i l = getD-take (xs .count) (xs .values) i 0 l
 
 zeros : (n i : ℕ) → _≡_ {A = ℕ} (getD (replicate n 0) i 0) 0

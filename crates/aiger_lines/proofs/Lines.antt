@@ -1,35 +1,33 @@
 -- Laws of reading line by line (specs/Steps.antt): the line that is read next, and what the lines up to the last sound one give. No
 -- contract cites this file.
-use Prim.Native.Nat.{ℕ, suc, _+_, _-_, _≤_, _<_}
+use Prim.Native.Nat.{ℕ, _+_, _-_, _≤_, _<_}
 use mathlib.Core.Path.{_≡_, refl, sym, ap, _∙_}
 use mathlib.Core.Bool.{Bool, true, false, cond}
 use mathlib.Core.List.{List, [], _∷_}
 use mathlib.Core.Logic.{by-cases}
 use native.Mathlib.Decide.{decLt}
-use native.Mathlib.Numerals.{add-one}
 use native.Mathlib.Omega.{arith}
 use borrow.Author.Tests.{ne-eqb}
 use lib.ListN.{length, getD, take, drop, drop-of-length-le}
 use lib.Seq.{drop-drop, getD-drop}
-use Rattle.model.specs.Search.{IsFirst}
 use Rattle.decimal.specs.Digits.{lineFeed, space}
 use Rattle.decimal.specs.TextValue.{sameText}
 use Rattle.decimal.proofs.TextValue.{numberIn-empty}
 use Rattle.text_words.specs.Words.{linesOf, wordsOf, restAfter, partsAfter}
-use Rattle.aiger_lines.specs.Numbers.{numbersOf, allNumbers, values, wordsAt}
-use Rattle.aiger_lines.specs.Parts.{aag, headerNumbers, lineNumbers, countsIn, countsOf, partAt, linesDue, width, malformed, malformedAt}
-use Rattle.aiger_lines.specs.Steps.{spanTo, firstFive, numbersIn, Holds, Behind, NextLine, SoundTo}
+use Rattle.aiger_lines.specs.Numbers.{wordNumbers, allUnsigned, unsignedValues, wordsAt}
+use Rattle.aiger_lines.specs.Parts.{aag, headerNumbers, numbersOnLine, countsIn, countsOf, partAt, linesDue, malformed, malformedAt}
+use Rattle.aiger_lines.specs.Steps.{spanTo, firstFive, numbersHeld, HoldsNumbers, Behind, NextLine, SoundTo}
 use Rattle.aiger_lines.specs.declared.Counts.{Counts}
 use Rattle.aiger_lines.specs.declared.Numbers.{Numbers}
 use Rattle.aiger_lines.specs.declared.Part.{Part}
 use Rattle.aiger_lines.specs.declared.Part.the-variants.{Header}
 use Rattle.aiger_lines.proofs.FirstFive.{five-holds}
-use Rattle.aiger_lines.proofs.Parts.{malformed-five, well-five, counts-first-five}
+use Rattle.aiger_lines.proofs.Parts.{malformed-five, counts-first-five}
 use Rattle.aiger_lines.proofs.Steps.{found-within, parts-next, parts-over, words-next, words-over}
 
 -- an empty line, which a missing one is like, has no numbers
-numbers-empty : numbersOf (wordsOf []) ≡ []
-unfolding numbersOf wordsOf allNumbers partsAfter restAfter
+numbers-empty : wordNumbers (wordsOf []) ≡ []
+unfolding wordNumbers wordsOf allUnsigned partsAfter restAfter
 numbers-empty = rw (numberIn-empty [] refl)
 
 header-empty : headerNumbers (wordsOf []) ≡ []
@@ -80,20 +78,20 @@ behind-none s = record { within = omega arith; rest = refl }
 -- the numbers of line p + 1 are those of its words
 pub numbers-line :
     (s : List ℕ) (p : ℕ) → 1 ≤ p → (line : List ℕ) → getD (linesOf s) p [] ≡ line →
-    lineNumbers s (p + 1) ≡ numbersOf (wordsOf line)
-unfolding lineNumbers wordsAt
+    numbersOnLine s (p + 1) ≡ wordNumbers (wordsOf line)
+unfolding numbersOnLine wordsAt
 numbers-line s p l line e =
     let place : p + 1 - 1 ≡ p = omega arith in
     rw (ne-eqb (p + 1) 1 (λ q. omega arith), place, e)
 
-pub numbers-missing : (s : List ℕ) (p : ℕ) → 1 ≤ p → getD (linesOf s) p [] ≡ [] → lineNumbers s (p + 1) ≡ []
+pub numbers-missing : (s : List ℕ) (p : ℕ) → 1 ≤ p → getD (linesOf s) p [] ≡ [] → numbersOnLine s (p + 1) ≡ []
 numbers-missing s p l e = numbers-line s p l [] e ∙ numbers-empty
 
-pub header-numbers : (s : List ℕ) (line : List ℕ) → getD (linesOf s) 0 [] ≡ line → lineNumbers s 1 ≡ headerNumbers (wordsOf line)
-unfolding lineNumbers wordsAt
+pub header-numbers : (s : List ℕ) (line : List ℕ) → getD (linesOf s) 0 [] ≡ line → numbersOnLine s 1 ≡ headerNumbers (wordsOf line)
+unfolding numbersOnLine wordsAt
 header-numbers s line e = rw e
 
-pub header-missing : (s : List ℕ) → getD (linesOf s) 0 [] ≡ [] → lineNumbers s 1 ≡ []
+pub header-missing : (s : List ℕ) → getD (linesOf s) 0 [] ≡ [] → numbersOnLine s 1 ≡ []
 header-missing s e = header-numbers s [] e ∙ header-empty
 
 -- The header's word is looked for: a space is found at `end`, or there is none.
@@ -104,14 +102,14 @@ module _ (line : List ℕ) (end : ℕ) (found : end ≡ 0 + spanTo space (drop 0
       rw whole at (words-next line 0 end (omega arith) found l)
 
   pub header-read : end < length line → sameText (take end line) aag ≡ true
-      → headerNumbers (wordsOf line) ≡ numbersOf (wordsOf (drop (end + 1) line))
+      → headerNumbers (wordsOf line) ≡ wordNumbers (wordsOf (drop (end + 1) line))
   header-read l e = ap headerNumbers (header-word l) ∙ rw e
 
   pub header-other : end < length line → sameText (take end line) aag ≡ false → headerNumbers (wordsOf line) ≡ []
   header-other l e = ap headerNumbers (header-word l) ∙ rw e
 
   pub header-alone : length line ≤ end → headerNumbers (wordsOf line) ≡ []
-  unfolding numbersOf allNumbers values
+  unfolding wordNumbers allUnsigned unsignedValues
   header-alone l = ap headerNumbers (words-over line 0 end (omega arith) found l) ∙ cond-none (sameText (take (end - 0) line) aag)
     where
       cond-none : (b : Bool) → _≡_ {A = List ℕ} (cond b [] []) []
@@ -120,7 +118,7 @@ module _ (line : List ℕ) (end : ℕ) (found : end ≡ 0 + spanTo space (drop 0
 
 -- Line p + 1 was looked for and read.
 module _ (s : List ℕ) (p at end : ℕ) (behind : Behind s p at) (found : end ≡ at + spanTo lineFeed (drop at s)) (numbers : Numbers) where
-  pub next-found : 1 ≤ p → end < length s → numbers ≡ firstFive (numbersOf (wordsOf (take (end - at) (drop at s))))
+  pub next-found : 1 ≤ p → end < length s → numbers ≡ firstFive (wordNumbers (wordsOf (take (end - at) (drop at s))))
       → NextLine s p numbers (end + 1)
   next-found l b e =
       let line = line-found s p at end behind found b in
@@ -144,40 +142,22 @@ module _ (s : List ℕ) (end : ℕ) (found : end ≡ 0 + spanTo lineFeed (drop 0
       let line = line-missing s 0 0 end (behind-none s) found b in
       record { numbers-are = e ∙ ap firstFive (sym (header-missing s (line .0))); behind = line .1 }
 
--- The sound lines are those before the first malformed one; lines are counted from 1.
-pub sound-first : (s : List ℕ) (r : ℕ) → SoundTo s r → IsFirst (λ x. malformedAt s (suc x)) (linesDue (countsIn s)) r
-sound-first s r sound = record {
-  within = sound .within;
-  none-before = λ q l. sound .sound (suc q) (omega arith) (omega arith);
-  holds-there = λ l. rw add-one at (sound .ends l);
-}
-
 -- What was read of a line: it is malformed where its numbers are
 module _ (s : List ℕ) (p : ℕ) (numbers : Numbers) (next : ℕ) (read : NextLine s p numbers next) where
-  pub read-holds : Holds numbers
-  read-holds = rw (read .numbers-are) (five-holds (lineNumbers s (p + 1)))
+  pub read-holds : HoldsNumbers numbers
+  read-holds = rw (read .numbers-are) (five-holds (numbersOnLine s (p + 1)))
 
-  pub read-malformed : malformedAt s (p + 1) ≡ malformed (countsIn s) (partAt (countsIn s) (p + 1)) (numbersIn numbers)
+  pub read-malformed : malformedAt s (p + 1) ≡ malformed (countsIn s) (partAt (countsIn s) (p + 1)) (numbersHeld numbers)
   unfolding malformedAt
   read-malformed =
-      sym (malformed-five (countsIn s) (partAt (countsIn s) (p + 1)) (lineNumbers s (p + 1)))
-      ∙ ap (λ (n : Numbers). malformed (countsIn s) (partAt (countsIn s) (p + 1)) (numbersIn n)) (sym (read .numbers-are))
-
-  -- and where it is not, they are the line's, as many as its part has
-  pub read-well : malformedAt s (p + 1) ≡ false
-      → (numbers .count ≡ width (partAt (countsIn s) (p + 1))) × ((i : ℕ) → getD (numbers .values) i 0 ≡ getD (lineNumbers s (p + 1)) i 0)
-  unfolding malformedAt
-  read-well well = rw (read .numbers-are) (well-five (countsIn s) (partAt (countsIn s) (p + 1)) (lineNumbers s (p + 1)) well)
-
-  pub read-sound : (r : ℕ) → SoundTo s r → p < r
-      → (numbers .count ≡ width (partAt (countsIn s) (p + 1))) × ((i : ℕ) → getD (numbers .values) i 0 ≡ getD (lineNumbers s (p + 1)) i 0)
-  read-sound r sound l = read-well (sound .sound (p + 1) (omega arith) (omega arith))
+      sym (malformed-five (countsIn s) (partAt (countsIn s) (p + 1)) (numbersOnLine s (p + 1)))
+      ∙ ap (λ (n : Numbers). malformed (countsIn s) (partAt (countsIn s) (p + 1)) (numbersHeld n)) (sym (read .numbers-are))
 
 -- the counts are those of line 1
-pub counts-read : (s : List ℕ) (numbers : Numbers) (next : ℕ) → NextLine s 0 numbers next → countsOf (numbersIn numbers) ≡ countsIn s
+pub counts-read : (s : List ℕ) (numbers : Numbers) (next : ℕ) → NextLine s 0 numbers next → countsOf (numbersHeld numbers) ≡ countsIn s
 unfolding countsIn
 counts-read s numbers next read =
-    ap (λ (n : Numbers). countsOf (numbersIn n)) (read .numbers-are) ∙ counts-first-five (lineNumbers s 1)
+    ap (λ (n : Numbers). countsOf (numbersHeld n)) (read .numbers-are) ∙ counts-first-five (numbersOnLine s 1)
 
 -- line 1 is the header's
 pub header-part : (h : Counts) → partAt h 1 ≡ Header
@@ -188,11 +168,11 @@ header-part h = refl
 module _ (s : List ℕ) (counts : Counts) (counts-are : counts ≡ countsIn s) where
   pub line-malformed :
       (p : ℕ) (numbers : Numbers) (next : ℕ) → NextLine s p numbers next → (part : Part) → part ≡ partAt counts (p + 1) →
-      malformedAt s (p + 1) ≡ malformed counts part (numbersIn numbers)
+      malformedAt s (p + 1) ≡ malformed counts part (numbersHeld numbers)
   line-malformed p numbers next read part e = rw (e, counts-are) (read-malformed s p numbers next read)
 
   pub header-malformed :
-      (numbers : Numbers) (next : ℕ) → NextLine s 0 numbers next → malformedAt s 1 ≡ malformed counts Header (numbersIn numbers)
+      (numbers : Numbers) (next : ℕ) → NextLine s 0 numbers next → malformedAt s 1 ≡ malformed counts Header (numbersHeld numbers)
   header-malformed numbers next read = line-malformed 0 numbers next read Header (sym (header-part counts))
 
 -- One line after another is found sound: lines 1 to `line` are, and the next begins at byte `at`.

@@ -1,5 +1,5 @@
 -- Laws of specs/Parts.antt: the header's word and counts, and what a well-formed line has. No contract cites this file.
-use Prim.Native.Nat.{ℕ, zero, suc, _+_, _%_, _≤_, _<_}
+use Prim.Native.Nat.{ℕ, _+_, _%_, _≤_, _<_}
 use mathlib.Core.Path.{_≡_, refl, sym, ap, _∙_}
 use mathlib.Core.Bool.{Bool, true, false, not, _&&_, _||_}
 use mathlib.Core.List.{List, [], _∷_}
@@ -15,12 +15,12 @@ use Rattle.model.proofs.Booleans.{neither-true, not-true-false}
 use Rattle.decimal.specs.TextValue.{sameText}
 use Rattle.decimal.proofs.TextValue.{sameText-true}
 use Rattle.aiger_lines.specs.Parts.{aag, countsFrom, countsOf, width, hasLiterals, defines, literalLimit, anyAbove, notDefinable, malformed}
-use Rattle.aiger_lines.specs.Steps.{firstFive, numbersIn, Holds}
+use Rattle.aiger_lines.specs.Steps.{firstFive, numbersHeld, HoldsNumbers}
 use Rattle.aiger_lines.specs.declared.Counts.{Counts}
 use Rattle.aiger_lines.specs.declared.Numbers.{Numbers}
 use Rattle.aiger_lines.specs.declared.Part.{Part}
 use Rattle.aiger_lines.specs.declared.Part.the-variants.{Header, Input, Latch, Output, Gate}
-use Rattle.aiger_lines.proofs.FirstFive.{five-many, five-few, five-in, five-value, in-length}
+use Rattle.aiger_lines.proofs.FirstFive.{five-many, five-in, in-length}
 
 -- the word `aag`, byte by byte
 pub aag-length : (w : List ℕ) → (length w ≡ 3 → ⊥) → sameText w aag ≡ false
@@ -42,23 +42,23 @@ aag-third (x ∷ y ∷ z ∷ []) l a b = rw (eq-eqb x 97 a, eq-eqb y 97 b) (last
 aag-third (x ∷ y ∷ z ∷ w ∷ ws) l a b = absurd (omega arith)
 
 -- five numbers are the header's counts
-pub counts-five : (xs : Numbers) → Holds xs → xs .count ≡ 5 → countsOf (numbersIn xs) ≡ countsFrom (xs .values)
-unfolding countsOf numbersIn
+pub counts-five : (xs : Numbers) → HoldsNumbers xs → xs .count ≡ 5 → countsOf (numbersHeld xs) ≡ countsFrom (xs .values)
+unfolding countsOf numbersHeld
 counts-five xs h e =
     rw (e, take-all 5 (xs .values) (omega arith), eq-eqb (length (xs .values)) 5 (h .length-is))
 
-pub counts-other : (xs : Numbers) → Holds xs → (xs .count ≡ 5 → ⊥) → countsOf (numbersIn xs) ≡ countsFrom []
+pub counts-other : (xs : Numbers) → HoldsNumbers xs → (xs .count ≡ 5 → ⊥) → countsOf (numbersHeld xs) ≡ countsFrom []
 unfolding countsOf
-counts-other xs h n = rw (ne-eqb (length (numbersIn xs)) 5 (λ e. n (sym (in-length xs h) ∙ e)))
+counts-other xs h n = rw (ne-eqb (length (numbersHeld xs)) 5 (λ e. n (sym (in-length xs h) ∙ e)))
 
 -- more than five are none
-pub counts-first-five : (xs : List ℕ) → countsOf (numbersIn (firstFive xs)) ≡ countsOf xs
+pub counts-first-five : (xs : List ℕ) → countsOf (numbersHeld (firstFive xs)) ≡ countsOf xs
 unfolding countsOf
 counts-first-five xs = by-cases (decLt 5 (length xs)) more (λ n. ap countsOf (five-in xs (omega arith)))
   where
-    more : 5 < length xs → countsOf (numbersIn (firstFive xs)) ≡ countsOf xs
+    more : 5 < length xs → countsOf (numbersHeld (firstFive xs)) ≡ countsOf xs
     more l =
-        ap (λ (n : Numbers). countsOf (numbersIn n)) (five-many xs l) ∙ ap countsOf (five-in [] (omega arith))
+        ap (λ (n : Numbers). countsOf (numbersHeld n)) (five-many xs l) ∙ ap countsOf (five-in [] (omega arith))
         ∙ rw (ne-eqb (length xs) 5 (λ e. omega arith))
 
 -- a number above a limit is here, or is still to be found, or there is none
@@ -99,51 +99,37 @@ module _ (h : Counts) (part : Part) (xs : List ℕ) (count : length xs ≡ width
   malformed-defined e = rw (eq-eqb (length xs) (width part) count, e)
 
 -- more than five numbers are malformed as none are
-pub malformed-five : (h : Counts) (part : Part) (xs : List ℕ) → malformed h part (numbersIn (firstFive xs)) ≡ malformed h part xs
+pub malformed-five : (h : Counts) (part : Part) (xs : List ℕ) → malformed h part (numbersHeld (firstFive xs)) ≡ malformed h part xs
 malformed-five h part xs = by-cases (decLt 5 (length xs)) more few
   where
-    more : 5 < length xs → malformed h part (numbersIn (firstFive xs)) ≡ malformed h part xs
+    more : 5 < length xs → malformed h part (numbersHeld (firstFive xs)) ≡ malformed h part xs
     more l =
-        ap (λ (n : Numbers). malformed h part (numbersIn n)) (five-many xs l)
+        ap (λ (n : Numbers). malformed h part (numbersHeld n)) (five-many xs l)
         ∙ ap (malformed h part) (five-in [] (omega arith))
         ∙ malformed-count h part [] (λ e. omega (arith, width-bounds part .0))
         ∙ sym (malformed-count h part xs (λ e. omega (arith, width-bounds part .1)))
 
-    few : (5 < length xs → ⊥) → malformed h part (numbersIn (firstFive xs)) ≡ malformed h part xs
+    few : (5 < length xs → ⊥) → malformed h part (numbersHeld (firstFive xs)) ≡ malformed h part xs
     few n = ap (malformed h part) (five-in xs (omega arith))
 
--- What a line that is not malformed has: the count that is due, no literal above 2M + 1, and where it defines one, an even one above 1.
-pub anyAbove-none : (limit : ℕ) (xs : List ℕ) → anyAbove limit xs ≡ false → (i : ℕ) → getD xs i 0 ≤ limit
-unfolding anyAbove
-anyAbove-none limit [] h i = omega arith
-anyAbove-none limit (x ∷ xs) h zero = ltb-false limit x (neither-true (ltb limit x) (anyAbove limit xs) .0 h .0)
-anyAbove-none limit (x ∷ xs) h (suc i) = anyAbove-none limit xs (neither-true (ltb limit x) (anyAbove limit xs) .0 h .1) i
-
+-- What a line that is not malformed has: the count that is due, and where it defines a literal, an even one above 1.
 module _ (h : Counts) (part : Part) (xs : List ℕ) (well : malformed h part xs ≡ false) where
-  tests : (not (eqb (length xs) (width part)) ≡ false) × ((hasLiterals part && anyAbove (literalLimit h) xs) ≡ false)
-      × ((defines part && notDefinable (getD xs 0 0)) ≡ false)
+  tests : (not (eqb (length xs) (width part)) ≡ false) × ((defines part && notDefinable (getD xs 0 0)) ≡ false)
   unfolding malformed
   tests =
       let a =
       neither-true (not (eqb (length xs) (width part)) || (hasLiterals part && anyAbove (literalLimit h) xs))
       (defines part && notDefinable (getD xs 0 0)) .0 well in
-      let b = neither-true (not (eqb (length xs) (width part))) (hasLiterals part && anyAbove (literalLimit h) xs) .0 (a .0) in
-      (b .0, b .1, a .1)
+      (neither-true (not (eqb (length xs) (width part))) (hasLiterals part && anyAbove (literalLimit h) xs) .0 (a .0) .0, a .1)
 
   pub well-count : length xs ≡ width part
   well-count = eqb-true (length xs) (width part) (not-false _ (tests .0))
 
-  pub well-literals : hasLiterals part ≡ true → (i : ℕ) → getD xs i 0 ≤ literalLimit h
-  well-literals l = anyAbove-none (literalLimit h) xs (rw l at (tests .1))
+  pub well-few : length xs ≤ 5
+  well-few = omega (arith, well-count, width-bounds part .1)
 
   pub well-defined : defines part ≡ true → (2 ≤ getD xs 0 0) × (getD xs 0 0 % 2 ≡ 0)
   well-defined d =
-      let both = neither-true (ltb (getD xs 0 0) 2) (eqb (getD xs 0 0 % 2) 1) .0 (rw d at (tests .2)) in
+      let both = neither-true (ltb (getD xs 0 0) 2) (eqb (getD xs 0 0 % 2) 1) .0 (rw d at (tests .1)) in
       let odd : getD xs 0 0 % 2 ≡ 1 → ⊥ = eqb-false (getD xs 0 0 % 2) 1 (both .1) in
       (ltb-false (getD xs 0 0) 2 (both .0), omega arith)
-
-  -- and the array holds its numbers
-  pub well-five : (firstFive xs .count ≡ width part) × ((i : ℕ) → getD (firstFive xs .values) i 0 ≡ getD xs i 0)
-  well-five =
-      let few : length xs ≤ 5 = omega (arith, well-count, width-bounds part .1) in
-      (rw (five-few xs few) well-count, λ i. five-value xs i few)

@@ -12,7 +12,7 @@ use Rattle.decimal.specs.Digits.{space}
 use Rattle.decimal.specs.TextValue.{numberIn}
 use Rattle.decimal.specs.declared.Number.the-variants.{Value, NotANumber}
 use Rattle.text_words.specs.Words.{wordsOf}
-use Rattle.aiger_lines.specs.Numbers.{numbersOf}
+use Rattle.aiger_lines.specs.Numbers.{wordNumbers}
 use Rattle.aiger_lines.specs.Steps.{spanTo, firstFive}
 use Rattle.aiger_lines.proofs.Steps.{words-next, words-over}
 use Rattle.aiger_lines.proofs.FirstFive.{gathered, gathered-all, gathered-end, gathered-next, gathered-other, gathered-many, fill-zeros, fill-taken, filled}
@@ -23,7 +23,7 @@ pub record Reading (line values : List ℕ) (count at : ℕ) : Type 0 where
   pub most : count ≤ 5
   pub five : length values ≡ 5
   pub zeros : drop count values ≡ replicate (5 - count) 0
-  pub numbers : gathered (take count values) (wordsOf (drop at line)) ≡ numbersOf (wordsOf line)
+  pub numbers : gathered (take count values) (wordsOf (drop at line)) ≡ wordNumbers (wordsOf line)
 
 pub starts : (line : List ℕ) → Reading line (replicate 5 0) 0 0
 starts line = record { within = omega arith; most = omega arith; five = refl; zeros = refl; numbers = gathered-all (wordsOf line) }
@@ -44,13 +44,13 @@ module _ (line values : List ℕ) (count at end : ℕ) (reading : Reading line v
       (λ l. ([], words-over line at end (reading .within) found (omega arith)))
 
   -- it is no number
-  pub stops : numberIn word ≡ NotANumber → firstFive [] ≡ firstFive (numbersOf (wordsOf line))
+  pub stops : numberIn word ≡ NotANumber → firstFive [] ≡ firstFive (wordNumbers (wordsOf line))
   stops e =
       ap firstFive
       (sym (gathered-other before word (some-words .0) e) ∙ ap (gathered before) (sym (some-words .1)) ∙ reading .numbers)
 
   -- it is a sixth
-  pub too-many : 5 ≤ count → firstFive [] ≡ firstFive (numbersOf (wordsOf line))
+  pub too-many : 5 ≤ count → firstFive [] ≡ firstFive (wordNumbers (wordsOf line))
   too-many l =
       let n : length before ≡ count = length-take-le count values (omega arith) in
       sym (gathered-many before word (some-words .0) (omega arith))
@@ -58,7 +58,7 @@ module _ (line values : List ℕ) (count at end : ℕ) (reading : Reading line v
 
   module _ (x : ℕ) (e : numberIn word ≡ Value x) (room : count < 5) where
     -- it is the last
-    pub ends : length line ≤ end → record { count = count + 1; values = set values count x } ≡ firstFive (numbersOf (wordsOf line))
+    pub ends : length line ≤ end → record { count = count + 1; values = set values count x } ≡ firstFive (wordNumbers (wordsOf line))
     ends l =
         sym
         (filled (count + 1) (set values count x) (length-set values count x ∙ reading .five) (omega arith)

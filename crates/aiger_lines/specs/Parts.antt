@@ -1,12 +1,12 @@
--- Which line of an ASCII AIGER text has which part, by the header's counts, and when a line is well-formed (the AIGER
--- report of 2007). Cited by the functions of this crate and by all that is said of such a text.
+-- Which line of an ASCII AIGER text has which part, by the header's counts, and when a line is well-formed (RULES I1, I3 and I4).
+-- Cited by the functions of this crate and by all that is said of such a text.
 use Prim.Native.Nat.{ℕ, _+_, _*_, _%_}
 use mathlib.Core.Bool.{Bool, true, false, cond, not, _&&_, _||_}
 use mathlib.Core.List.{List, [], _∷_}
 use lib.Dec.{eqb, ltb}
 use lib.ListN.{length, getD}
 use Rattle.decimal.specs.TextValue.{sameText}
-use Rattle.aiger_lines.specs.Numbers.{numbersOf, wordsAt}
+use Rattle.aiger_lines.specs.Numbers.{wordNumbers, wordsAt}
 use Rattle.aiger_lines.specs.declared.Counts.{Counts}
 use Rattle.aiger_lines.specs.declared.Part.{Part}
 use Rattle.aiger_lines.specs.declared.Part.the-variants.{Header, Input, Latch, Output, Gate}
@@ -18,13 +18,13 @@ aag = 97 ∷ 97 ∷ 103 ∷ []
 -- the numbers behind `aag`
 abbrev pub headerNumbers : List (List ℕ) → List ℕ
 headerNumbers [] = []
-headerNumbers (w ∷ ws) = cond (sameText w aag) (numbersOf ws) []
+headerNumbers (w ∷ ws) = cond (sameText w aag) (wordNumbers ws) []
 
 -- the numbers on line p: none where the text has no such line, or where a word is no number
-unfoldable pub lineNumbers : List ℕ → ℕ → List ℕ
-lineNumbers s p = cond (eqb p 1) (headerNumbers (wordsAt s p)) (numbersOf (wordsAt s p))
+unfoldable pub numbersOnLine : List ℕ → ℕ → List ℕ
+numbersOnLine s p = cond (eqb p 1) (headerNumbers (wordsAt s p)) (wordNumbers (wordsAt s p))
 
--- the header's counts, M I L O A; all 0 where line 1 is no header
+-- RULES I3: the header's counts, M I L O A; all 0 where line 1 is no header
 abbrev pub countsFrom : List ℕ → Counts
 countsFrom xs =
     record { largest = getD xs 0 0; inputs = getD xs 1 0; latches = getD xs 2 0; outputs = getD xs 3 0; gates = getD xs 4 0 }
@@ -33,20 +33,20 @@ unfoldable pub countsOf : List ℕ → Counts
 countsOf xs = countsFrom (cond (eqb (length xs) 5) xs [])
 
 unfoldable pub countsIn : List ℕ → Counts
-countsIn s = countsOf (lineNumbers s 1)
+countsIn s = countsOf (numbersOnLine s 1)
 
--- the places of the lines: the header, inputs, latches, outputs, gates
-abbrev pub inputLine : Counts → ℕ → ℕ
-inputLine h x = 2 + x
+-- RULES I3: the places of the lines: the header, inputs, latches, outputs, gates
+abbrev pub textInputLine : Counts → ℕ → ℕ
+textInputLine h x = 2 + x
 
-abbrev pub latchLine : Counts → ℕ → ℕ
-latchLine h l = 2 + h .inputs + l
+abbrev pub textLatchLine : Counts → ℕ → ℕ
+textLatchLine h l = 2 + h .inputs + l
 
-abbrev pub outputLine : Counts → ℕ → ℕ
-outputLine h o = 2 + h .inputs + h .latches + o
+abbrev pub textOutputLine : Counts → ℕ → ℕ
+textOutputLine h o = 2 + h .inputs + h .latches + o
 
-abbrev pub gateLine : Counts → ℕ → ℕ
-gateLine h g = 2 + h .inputs + h .latches + h .outputs + g
+abbrev pub textGateLine : Counts → ℕ → ℕ
+textGateLine h g = 2 + h .inputs + h .latches + h .outputs + g
 
 -- how many lines there are
 abbrev pub linesDue : Counts → ℕ
@@ -55,12 +55,12 @@ linesDue h = 1 + h .inputs + h .latches + h .outputs + h .gates
 -- what the line at a place is
 unfoldable pub partAt : Counts → ℕ → Part
 partAt h p =
-    cond (ltb p (inputLine h 0)) Header
-    (cond (ltb p (latchLine h 0)) Input
-    (cond (ltb p (outputLine h 0)) Latch
-    (cond (ltb p (gateLine h 0)) Output Gate)))
+    cond (ltb p (textInputLine h 0)) Header
+    (cond (ltb p (textLatchLine h 0)) Input
+    (cond (ltb p (textOutputLine h 0)) Latch
+    (cond (ltb p (textGateLine h 0)) Output Gate)))
 
--- how many numbers it has
+-- RULES I3: how many numbers it has
 abbrev pub width : Part → ℕ
 width Header = 5
 width Input = 1
@@ -95,8 +95,8 @@ anyAbove limit (x ∷ xs) = ltb limit x || anyAbove limit xs
 abbrev pub notDefinable : ℕ → Bool
 notDefinable x = ltb x 2 || eqb (x % 2) 1
 
--- a line of a part with these numbers is not well-formed: too few or too many of them, a literal above 2M + 1, or a defined one
--- that is odd or below 2
+-- RULES I4: a line of a part with these numbers is not well-formed: too few or too many of them, a literal above 2M + 1, or a defined
+-- one that is odd or below 2
 unfoldable pub malformed : Counts → Part → List ℕ → Bool
 malformed h part xs =
     not (eqb (length xs) (width part))
@@ -104,4 +104,4 @@ malformed h part xs =
     || (defines part && notDefinable (getD xs 0 0))
 
 unfoldable pub malformedAt : List ℕ → ℕ → Bool
-malformedAt s p = malformed (countsIn s) (partAt (countsIn s) p) (lineNumbers s p)
+malformedAt s p = malformed (countsIn s) (partAt (countsIn s) p) (numbersOnLine s p)

@@ -6,7 +6,7 @@ use mathlib.Core.List.{List, [], _∷_, _++_}
 use lib.Dec.{eqb, ltb}
 use lib.ListN.{length, take, drop, replicate}
 use Rattle.text_words.specs.Words.{linesOf}
-use Rattle.aiger_lines.specs.Parts.{lineNumbers, countsIn, linesDue, malformedAt}
+use Rattle.aiger_lines.specs.Parts.{numbersOnLine, countsIn, linesDue, malformedAt}
 use Rattle.aiger_lines.specs.declared.Counts.{Counts}
 use Rattle.aiger_lines.specs.declared.Numbers.{Numbers}
 
@@ -23,11 +23,11 @@ firstFive xs =
     (record { count = length xs; values = xs ++ replicate (5 - length xs) 0 })
 
 -- the numbers in such an array
-unfoldable pub numbersIn : Numbers → List ℕ
-numbersIn xs = take (xs .count) (xs .values)
+unfoldable pub numbersHeld : Numbers → List ℕ
+numbersHeld xs = take (xs .count) (xs .values)
 
 -- an array of five, of which `count` are numbers
-pub record Holds (xs : Numbers) : Type 0 where
+pub record HoldsNumbers (xs : Numbers) : Type 0 where
   pub most : xs .count ≤ 5
   pub length-is : length (xs .values) ≡ 5
 
@@ -38,7 +38,7 @@ pub record Behind (s : List ℕ) (p at : ℕ) : Type 0 where
 
 -- line p + 1 was read
 pub record NextLine (s : List ℕ) (p : ℕ) (numbers : Numbers) (next : ℕ) : Type 0 where
-  pub numbers-are : numbers ≡ firstFive (lineNumbers s (p + 1))
+  pub numbers-are : numbers ≡ firstFive (numbersOnLine s (p + 1))
   pub behind : Behind s (p + 1) next
 
 -- so was line 1

@@ -7,10 +7,10 @@ ghost use Prim.Native.Nat.{_+_, _≤_};
 ghost use lib.ListN.{length, drop};
 ghost use Rattle.decimal.specs.TextValue.{sameText};
 ghost use Rattle.text_words.specs.Words.{wordsOf};
-ghost use Rattle.aiger_lines.specs.Numbers.{numbersOf};
+ghost use Rattle.aiger_lines.specs.Numbers.{wordNumbers};
 ghost use Rattle.aiger_lines.specs.Parts.{aag, headerNumbers, countsOf, partAt, linesDue, width, hasLiterals, defines, literalLimit, anyAbove, notDefinable, malformed};
-ghost use Rattle.aiger_lines.specs.Written.{ReadAsWritten};
-ghost use Rattle.aiger_lines.specs.Steps.{spanTo, firstFive, numbersIn, Holds, Behind, NextLine, HeaderRead, SoundTo};
+ghost use Rattle.aiger_lines.specs.Written.{TextAsWritten};
+ghost use Rattle.aiger_lines.specs.Steps.{spanTo, firstFive, numbersHeld, HoldsNumbers, Behind, NextLine, HeaderRead, SoundTo};
 
 // The header's counts: the largest variable (the report's M), inputs, latches, outputs, gates.
 pub struct Counts {
@@ -75,8 +75,8 @@ fn no_numbers() -> Numbers
 
 // The numbers that the words of a line are.
 fn read_numbers(line: &[u8]) -> Numbers
-    ensures numbers { λ r. ⌜ r ≡ firstFive (numbersOf (wordsOf (now (line .entry)))) ⌝ }
-    ensures written { λ _. ⌜ ReadAsWritten ⌝ }
+    ensures numbers { λ r. ⌜ r ≡ firstFive (wordNumbers (wordsOf (now (line .entry)))) ⌝ }
+    ensures written { λ _. ⌜ TextAsWritten ⌝ }
 {
     let mut values: [u32; 5] = [0; 5];
     let mut count: usize = 0;
@@ -166,8 +166,8 @@ pub fn next_line(text: &[u8], line: u64, at: usize) -> NumberLine
 
 // The counts that five numbers are, all 0 where there are not five.
 fn counts_of(numbers: Numbers) -> Counts
-    requires { ⌜ Holds numbers ⌝ }
-    ensures { λ r. ⌜ r ≡ countsOf (numbersIn numbers) ⌝ }
+    requires { ⌜ HoldsNumbers numbers ⌝ }
+    ensures { λ r. ⌜ r ≡ countsOf (numbersHeld numbers) ⌝ }
 {
     if numbers.count == 5 {
         return Counts {
@@ -269,8 +269,8 @@ pub fn defines(part: Part) -> bool
 
 // Whether any of the numbers is above a limit.
 fn any_above(limit: u64, numbers: Numbers) -> bool
-    requires { ⌜ Holds numbers ⌝ }
-    ensures { λ r. ⌜ r ≡ anyAbove limit (numbersIn numbers) ⌝ }
+    requires { ⌜ HoldsNumbers numbers ⌝ }
+    ensures { λ r. ⌜ r ≡ anyAbove limit (numbersHeld numbers) ⌝ }
 {
     let mut i = 0;
     while i < numbers.count {
@@ -284,8 +284,8 @@ fn any_above(limit: u64, numbers: Numbers) -> bool
 
 // Whether a line of a part has a literal above 2M + 1.
 fn has_high_literal(counts: Counts, part: Part, numbers: Numbers) -> bool
-    requires { ⌜ Holds numbers ⌝ }
-    ensures { λ r. ⌜ r ≡ (hasLiterals part && anyAbove (literalLimit counts) (numbersIn numbers)) ⌝ }
+    requires { ⌜ HoldsNumbers numbers ⌝ }
+    ensures { λ r. ⌜ r ≡ (hasLiterals part && anyAbove (literalLimit counts) (numbersHeld numbers)) ⌝ }
 {
     if has_literals(part) {
         return any_above(2 * (counts.largest as u64) + 1, numbers);
@@ -308,8 +308,8 @@ fn has_wrong_definition(part: Part, literal: u32) -> bool
 
 // Whether a line of a part with these numbers is not well-formed.
 fn is_malformed(counts: Counts, part: Part, numbers: Numbers) -> bool
-    requires { ⌜ Holds numbers ⌝ }
-    ensures { λ r. ⌜ r ≡ malformed counts part (numbersIn numbers) ⌝ }
+    requires { ⌜ HoldsNumbers numbers ⌝ }
+    ensures { λ r. ⌜ r ≡ malformed counts part (numbersHeld numbers) ⌝ }
 {
     if numbers.count == width(part) {
         if has_high_literal(counts, part, numbers) {

@@ -16,10 +16,10 @@ use Rattle.netlist.specs.Faults.{codeFault}
 use Rattle.netlist.proofs.Faults.{codes-fit}
 use Rattle.netlist_tests.specs.Record.{testLines}
 use Rattle.netlist_tests.proofs.Record.{testLines-passes}
-use Rattle.aiger_lines.specs.Parts.{countsIn, linesDue, inputLine, latchLine, gateLine}
+use Rattle.aiger_lines.specs.Parts.{countsIn, linesDue, textInputLine, textLatchLine, textGateLine}
 use Rattle.aiger_lines.specs.declared.Counts.{Counts}
 use Rattle.aiger_definitions.specs.Definitions.{numberAt, definedAt}
-use Rattle.aiger_netlist.specs.TextNetlist.{textSizes, wireOf, wireIn, codeFrom, netOfCodes, aagNet}
+use Rattle.aiger_netlist.specs.TextNetlist.{textSizes, wireOf, wireOfVariable, codeFrom, netOfCodes, aagNet}
 use Rattle.aiger_netlist.specs.TextValues.{nextAt, outputAt}
 use Rattle.aiger_netlist.proofs.Lines.{Defining, by-input, by-latch, by-gate, wire-input, wire-read, wire-latch, wire-gate}
 use Rattle.aiger_netlist.proofs.Defined.{WellDefined, Known, constant, line, wire-defined, next-known, output-known, left-known, right-known}
@@ -30,8 +30,8 @@ pub record FitsInterface (h : Counts) (m n : ℕ) : Type 0 where
   pub outputs-due : h .outputs ≡ m + n + 3
 
 -- the constant keeps its number
-pub wire-zero : (s : List ℕ) (c : Netlist) → wireIn s c 0 ≡ 0
-unfolding wireIn
+pub wire-zero : (s : List ℕ) (c : Netlist) → wireOfVariable s c 0 ≡ 0
+unfolding wireOfVariable
 wire-zero s c = refl
 
 module _ (s : List ℕ) (ok : WellDefined s) (m n word unknown : ℕ) (fits : FitsInterface (countsIn s) m n) where
@@ -42,7 +42,7 @@ module _ (s : List ℕ) (ok : WellDefined s) (m n word unknown : ℕ) (fits : Fi
   sizes = textSizes (countsIn s) m n word unknown
 
   -- what a line before gate g's defines has a wire below the gate's
-  wire-below : (g : ℕ) {q : ℕ} → q < gateLine (countsIn s) g → Defining (countsIn s) q → wireOf (countsIn s) sizes q < gateWire sizes g
+  wire-below : (g : ℕ) {q : ℕ} → q < textGateLine (countsIn s) g → Defining (countsIn s) q → wireOf (countsIn s) sizes q < gateWire sizes g
   wire-below g before (by-input x b e) =
       by-cases (decLt x (countsIn s .inputs - n))
       (λ l. rw (e, wire-input (countsIn s) sizes (omega arith) x l) (omega arith))
@@ -51,11 +51,11 @@ module _ (s : List ℕ) (ok : WellDefined s) (m n word unknown : ℕ) (fits : Fi
   wire-below g before (by-gate e b k) = rw (k, wire-gate (countsIn s) sizes (omega arith) e) (omega arith)
 
   -- so a code whose variable is known before gate g has a code below twice its wire
-  code-below : (p g x : ℕ) → p ≤ gateLine (countsIn s) g → Known s p (x / 2) → codeFrom s sizes x < 2 * gateWire sizes g
+  code-below : (p g x : ℕ) → p ≤ textGateLine (countsIn s) g → Known s p (x / 2) → codeFrom s sizes x < 2 * gateWire sizes g
   unfolding renamed
   code-below p g x b k = let w = below k in omega (arith, w)
     where
-      below : Known s p (x / 2) → wireIn s sizes (x / 2) < gateWire sizes g
+      below : Known s p (x / 2) → wireOfVariable s sizes (x / 2) < gateWire sizes g
       below (constant e) = rw (e, wire-zero s sizes) (omega arith)
       below (line q l d e) = rw (e, wire-defined s ok sizes d) (wire-below g (omega arith) d)
 
@@ -72,10 +72,10 @@ module _ (s : List ℕ) (ok : WellDefined s) (m n word unknown : ℕ) (fits : Fi
         reset-fits = λ l b. omega arith;
         left-fits = λ g b.
             rw (lt-ltb g (countsIn s .gates) b)
-            (code-below (gateLine (countsIn s) g) g (numberAt s (gateLine (countsIn s) g) 1) (omega arith) (left-known s ok g b));
+            (code-below (textGateLine (countsIn s) g) g (numberAt s (textGateLine (countsIn s) g) 1) (omega arith) (left-known s ok g b));
         right-fits = λ g b.
             rw (lt-ltb g (countsIn s .gates) b)
-            (code-below (gateLine (countsIn s) g) g (numberAt s (gateLine (countsIn s) g) 2) (omega arith) (right-known s ok g b));
+            (code-below (textGateLine (countsIn s) g) g (numberAt s (textGateLine (countsIn s) g) 2) (omega arith) (right-known s ok g b));
         address-fits = λ t b. rw (lt-ltb t m b) (code-fits (outputAt s t) (output-known s ok t (omega arith)));
         data-fits = λ t b. rw (lt-ltb t n b) (code-fits (outputAt s (m + t)) (output-known s ok (m + t) (omega arith)));
         WE-fits = code-fits (outputAt s (m + n)) (output-known s ok (m + n) (omega arith));

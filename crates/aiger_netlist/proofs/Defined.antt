@@ -12,11 +12,11 @@ use borrow.Author.Tests.{ne-eqb}
 use Rattle.model.specs.Netlist.{Netlist}
 use Rattle.model.proofs.Booleans.{either}
 use Rattle.model.proofs.Search.{firstWhere-is, first-unique}
-use Rattle.aiger_lines.specs.Parts.{countsIn, linesDue, latchLine, outputLine, gateLine, lineNumbers, partAt, defines, malformedAt}
+use Rattle.aiger_lines.specs.Parts.{countsIn, linesDue, textLatchLine, textOutputLine, textGateLine, numbersOnLine, partAt, defines, malformedAt}
 use Rattle.aiger_lines.proofs.Parts.{well-defined}
 use Rattle.aiger_definitions.specs.Definitions.{numberAt, definedAt, definesAgain, isUndefined, undefinedAt}
 use Rattle.aiger_definitions.proofs.Places.{defined-first, defined-before, latch-defined, output-defined, gate-defined}
-use Rattle.aiger_netlist.specs.TextNetlist.{wireOf, definingLine, wireIn}
+use Rattle.aiger_netlist.specs.TextNetlist.{wireOf, definingLine, wireOfVariable}
 use Rattle.aiger_netlist.specs.TextValues.{nextAt, outputAt}
 use Rattle.aiger_netlist.proofs.Lines.{Defining, part-latch, part-output, part-gate, defining, defining-due, defining-defines}
 
@@ -56,7 +56,7 @@ module _ (s : List ℕ) (ok : WellDefined s) where
   defined-some {p} d =
       let place = defining-due (countsIn s) d in
       let is = defining-defines (countsIn s) d in
-      let literal = well-defined (countsIn s) (partAt (countsIn s) p) (lineNumbers s p) (ok .well-formed p (place .0) (place .1)) is in
+      let literal = well-defined (countsIn s) (partAt (countsIn s) p) (numbersOnLine s p) (ok .well-formed p (place .0) (place .1)) is in
       rw is (omega (arith, literal .0))
 
   -- and no other line defines it, so that the line is found by it
@@ -67,8 +67,8 @@ module _ (s : List ℕ) (ok : WellDefined s) where
       (defined-first s (linesDue (countsIn s)) p (definedAt s p) (ok .defined-once) (defining-due (countsIn s) d .1) (defined-some d) refl)
 
   -- and has its wire
-  pub wire-defined : (c : Netlist) {p : ℕ} → Defining (countsIn s) p → wireIn s c (definedAt s p) ≡ wireOf (countsIn s) c p
-  unfolding wireIn
+  pub wire-defined : (c : Netlist) {p : ℕ} → Defining (countsIn s) p → wireOfVariable s c (definedAt s p) ≡ wireOf (countsIn s) c p
+  unfolding wireOfVariable
   wire-defined c {p} d =
       let some = ne-eqb (definedAt s p) 0 (λ e. let none : 1 ≤ 0 = rw e at (defined-some d) in omega arith) in
       rw (some, defining-line d)
@@ -77,25 +77,25 @@ module _ (s : List ℕ) (ok : WellDefined s) where
   pub next-known : (l : ℕ) → l < countsIn s .latches
       → Known s (linesDue (countsIn s) + 1) (nextAt s l / 2)
   next-known l b =
-      let p = latchLine (countsIn s) l in
+      let p = textLatchLine (countsIn s) l in
       known s (linesDue (countsIn s) + 1) (nextAt s l) (omega arith)
       (latch-defined s p (ok .none-undefined p (omega arith) (omega arith)) (part-latch (countsIn s) l b))
 
   pub output-known : (o : ℕ) → o < countsIn s .outputs → Known s (linesDue (countsIn s) + 1) (outputAt s o / 2)
   output-known o b =
-      let p = outputLine (countsIn s) o in
+      let p = textOutputLine (countsIn s) o in
       known s (linesDue (countsIn s) + 1) (outputAt s o) (omega arith)
       (output-defined s p (ok .none-undefined p (omega arith) (omega arith)) (part-output (countsIn s) o b))
 
   module _ (g : ℕ) (b : g < countsIn s .gates) where
-    operands : (isUndefined s (gateLine (countsIn s) g) (numberAt s (gateLine (countsIn s) g) 1) ≡ false)
-        × (isUndefined s (gateLine (countsIn s) g) (numberAt s (gateLine (countsIn s) g) 2) ≡ false)
+    operands : (isUndefined s (textGateLine (countsIn s) g) (numberAt s (textGateLine (countsIn s) g) 1) ≡ false)
+        × (isUndefined s (textGateLine (countsIn s) g) (numberAt s (textGateLine (countsIn s) g) 2) ≡ false)
     operands =
-        let p = gateLine (countsIn s) g in
+        let p = textGateLine (countsIn s) g in
         gate-defined s p (ok .none-undefined p (omega arith) (omega arith)) (part-gate (countsIn s) g)
 
-    pub left-known : Known s (gateLine (countsIn s) g) (numberAt s (gateLine (countsIn s) g) 1 / 2)
-    left-known = known s (gateLine (countsIn s) g) (numberAt s (gateLine (countsIn s) g) 1) (omega arith) (operands .0)
+    pub left-known : Known s (textGateLine (countsIn s) g) (numberAt s (textGateLine (countsIn s) g) 1 / 2)
+    left-known = known s (textGateLine (countsIn s) g) (numberAt s (textGateLine (countsIn s) g) 1) (omega arith) (operands .0)
 
-    pub right-known : Known s (gateLine (countsIn s) g) (numberAt s (gateLine (countsIn s) g) 2 / 2)
-    right-known = known s (gateLine (countsIn s) g) (numberAt s (gateLine (countsIn s) g) 2) (omega arith) (operands .1)
+    pub right-known : Known s (textGateLine (countsIn s) g) (numberAt s (textGateLine (countsIn s) g) 2 / 2)
+    right-known = known s (textGateLine (countsIn s) g) (numberAt s (textGateLine (countsIn s) g) 2) (omega arith) (operands .1)

@@ -15,7 +15,7 @@ use Rattle.netlist_tests.specs.Record.{recordVerdict}
 use Rattle.netlist_tests.proofs.Acceptance.{passes-accepted}
 use Rattle.call_unpacked.proofs.Calls.{calls-encode-for}
 use Rattle.aiger_lines.specs.Parts.{countsIn}
-use Rattle.aiger_netlist.specs.TextNetlist.{textSizes, wireIn, aagNet}
+use Rattle.aiger_netlist.specs.TextNetlist.{textSizes, wireOfVariable, aagNet}
 use Rattle.aiger_netlist.specs.ImportVerdict.{importVerdict}
 use Rattle.aiger_netlist.specs.TextValues.{valuesOf, SameValues}
 use Rattle.aiger_netlist.specs.Imported.{Imported}
@@ -73,7 +73,7 @@ module _ (s : List ℕ) (m n word unknown : ℕ) (d : Netlist) (latchCount gateC
         not-refused = not-refused;
         agrees = q;
         has-values = λ input latch. (
-          λ x. valuesOf c input latch (wireIn s (textSizes (countsIn s) m n word unknown) x),
+          λ x. valuesOf c input latch (wireOfVariable s (textSizes (countsIn s) m n word unknown) x),
           text-values s ok m n word unknown fits input latch,
         );
         same-values = λ input latch v text. values-same s c d q input latch v (text-same-values s ok m n word unknown fits input latch v text);

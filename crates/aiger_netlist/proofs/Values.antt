@@ -13,10 +13,10 @@ use Rattle.model.specs.Circuit.{Values, codeValue, Solves}
 use Rattle.model.proofs.Circuit.{evaluate-solves}
 use Rattle.model.proofs.Renumbering as Renumbering
 use Rattle.model.proofs.Renumbering.{networkOf, DefinedBefore, source, gate, Defined, OperandsDefined, straight, Renumbers, renumbered-obeys, gates-same-value, codes-same-value, solves-obeys}
-use Rattle.aiger_lines.specs.Parts.{countsIn, linesDue, inputLine, latchLine, gateLine}
+use Rattle.aiger_lines.specs.Parts.{countsIn, linesDue, textInputLine, textLatchLine, textGateLine}
 use Rattle.aiger_lines.specs.declared.Counts.{Counts}
 use Rattle.aiger_definitions.specs.Definitions.{numberAt, definedAt}
-use Rattle.aiger_netlist.specs.TextNetlist.{textSizes, wireIn, codeFrom, netOfCodes, aagNet}
+use Rattle.aiger_netlist.specs.TextNetlist.{textSizes, wireOfVariable, codeFrom, netOfCodes, aagNet}
 use Rattle.aiger_netlist.specs.TextValues.{inputVariable, latchVariable, gateVariable, nextAt, outputAt, textNetwork, TextValues, valuesOf, SameValues}
 use Rattle.aiger_netlist.proofs.Lines.{Defining, by-input, by-latch, by-gate, wire-input, wire-read, wire-latch, wire-gate}
 use Rattle.aiger_netlist.proofs.Defined.{WellDefined, Known, constant, line, wire-defined, next-known, output-known, left-known, right-known}
@@ -28,7 +28,7 @@ pub data Source (s : List ℕ) (v : ℕ) : Type 0 where
   a-latch : (l : ℕ) → l < countsIn s .latches → v ≡ latchVariable s l → Source s v
 
 -- what is known before gate g's line is defined before the gate
-known-before : (s : List ℕ) (p g v : ℕ) → p ≤ gateLine (countsIn s) g → Known s p v → DefinedBefore (textNetwork s) (Source s) g v
+known-before : (s : List ℕ) (p g v : ℕ) → p ≤ textGateLine (countsIn s) g → Known s p v → DefinedBefore (textNetwork s) (Source s) g v
 known-before s p g v b (constant e) = Renumbering.constant e
 known-before s p g v b (line q l (by-input x c k) e) = source (an-input x c (e ∙ ap (definedAt s) k))
 known-before s p g v b (line q l (by-latch x c k) e) = source (a-latch x c (e ∙ ap (definedAt s) k))
@@ -39,8 +39,8 @@ module _ (s : List ℕ) (ok : WellDefined s) where
   pub operands-defined : OperandsDefined (textNetwork s) (Source s)
   operands-defined =
       record {
-        left-defined = λ g b. known-before s (gateLine (countsIn s) g) g _ (omega arith) (left-known s ok g b);
-        right-defined = λ g b. known-before s (gateLine (countsIn s) g) g _ (omega arith) (right-known s ok g b);
+        left-defined = λ g b. known-before s (textGateLine (countsIn s) g) g _ (omega arith) (left-known s ok g b);
+        right-defined = λ g b. known-before s (textGateLine (countsIn s) g) g _ (omega arith) (right-known s ok g b);
       }
 
   -- and other codes are at all
@@ -55,21 +55,21 @@ module _ (s : List ℕ) (ok : WellDefined s) where
     net = aagNet s m n word unknown
 
     -- the wires of inputs, read bits, latches and gates
-    input-wire : (x : ℕ) → x < countsIn s .inputs - n → wireIn s sizes (inputVariable s x) ≡ inputWire sizes x
+    input-wire : (x : ℕ) → x < countsIn s .inputs - n → wireOfVariable s sizes (inputVariable s x) ≡ inputWire sizes x
     input-wire x b = wire-defined s ok sizes (by-input x (omega arith) refl) ∙ wire-input (countsIn s) sizes (omega arith) x b
 
     read-wire : (x : ℕ) → countsIn s .inputs - n ≤ x → x < countsIn s .inputs
-        → wireIn s sizes (inputVariable s x) ≡ readWire sizes (x - (countsIn s .inputs - n))
+        → wireOfVariable s sizes (inputVariable s x) ≡ readWire sizes (x - (countsIn s .inputs - n))
     read-wire x a b = wire-defined s ok sizes (by-input x b refl) ∙ wire-read (countsIn s) sizes (omega arith) x a b
 
-    latch-wire : (l : ℕ) → l < countsIn s .latches → wireIn s sizes (latchVariable s l) ≡ latchWire sizes l
+    latch-wire : (l : ℕ) → l < countsIn s .latches → wireOfVariable s sizes (latchVariable s l) ≡ latchWire sizes l
     latch-wire l b = wire-defined s ok sizes (by-latch l b refl) ∙ wire-latch (countsIn s) sizes (omega arith) l b
 
-    gate-wire : (g : ℕ) → g < countsIn s .gates → wireIn s sizes (gateVariable s g) ≡ gateWire sizes g
+    gate-wire : (g : ℕ) → g < countsIn s .gates → wireOfVariable s sizes (gateVariable s g) ≡ gateWire sizes g
     gate-wire g b = wire-defined s ok sizes (by-gate g b refl) ∙ wire-gate (countsIn s) sizes (omega arith) g
 
     -- the netlist's gates are the text's, renumbered
-    pub renumbers : Renumbers (wireIn s sizes) (textNetwork s) (networkOf net)
+    pub renumbers : Renumbers (wireOfVariable s sizes) (textNetwork s) (networkOf net)
     unfolding netOfCodes
     renumbers =
         record {
@@ -87,7 +87,7 @@ module _ (s : List ℕ) (ok : WellDefined s) where
       solved = evaluate-solves net input latch (λ t. input (net .inputs + t)) (text-codes-fit s ok m n word unknown fits)
 
       -- in the netlist inputs and latches are as given, read bits as the inputs that follow
-      input-value : (x : ℕ) → x < countsIn s .inputs → w (wireIn s sizes (inputVariable s x)) ≡ input x
+      input-value : (x : ℕ) → x < countsIn s .inputs → w (wireOfVariable s sizes (inputVariable s x)) ≡ input x
       unfolding netOfCodes
       input-value x b =
           by-cases (decLt x (countsIn s .inputs - n))
@@ -97,12 +97,12 @@ module _ (s : List ℕ) (ok : WellDefined s) where
           ap w (read-wire x (omega arith) b)
           ∙ solved .at-read (x - (countsIn s .inputs - n)) (omega (arith, fits .inputs-enough)) ∙ ap input back)
 
-      latch-value : (l : ℕ) → l < countsIn s .latches → w (wireIn s sizes (latchVariable s l)) ≡ latch l
+      latch-value : (l : ℕ) → l < countsIn s .latches → w (wireOfVariable s sizes (latchVariable s l)) ≡ latch l
       unfolding netOfCodes
       latch-value l b = ap w (latch-wire l b) ∙ solved .at-latch l b
 
       -- so there are values of the text
-      pub text-values : TextValues s input latch (λ x. w (wireIn s sizes x))
+      pub text-values : TextValues s input latch (λ x. w (wireOfVariable s sizes x))
       text-values =
           record {
             gates-obeyed = renumbered-obeys renumbers (solves-obeys solved);
@@ -112,7 +112,7 @@ module _ (s : List ℕ) (ok : WellDefined s) where
 
       -- and whatever they are, the netlist has the same
       module _ (v : Values) (text : TextValues s input latch v) where
-        sources-same : (x : ℕ) → Source s x → v x ≡ w (wireIn s sizes x)
+        sources-same : (x : ℕ) → Source s x → v x ≡ w (wireOfVariable s sizes x)
         sources-same x (an-input y b e) = rw e (text .at-input y b ∙ sym (input-value y b))
         sources-same x (a-latch l b e) = rw e (text .at-latch l b ∙ sym (latch-value l b))
 
@@ -121,7 +121,7 @@ module _ (s : List ℕ) (ok : WellDefined s) where
             sym (codes-same-value renumbers operands-defined (text .gates-obeyed) (solves-obeys solved) sources-same x
             (known-defined (x / 2) k))
 
-        gate-value : (g : ℕ) → g < countsIn s .gates → w (wireIn s sizes (gateVariable s g)) ≡ v (gateVariable s g)
+        gate-value : (g : ℕ) → g < countsIn s .gates → w (wireOfVariable s sizes (gateVariable s g)) ≡ v (gateVariable s g)
         gate-value g b =
             sym (gates-same-value renumbers operands-defined (text .gates-obeyed) (solves-obeys solved) sources-same (gateVariable s g)
             (gate g b refl))

@@ -1,7 +1,6 @@
 -- The netlist that an ASCII AIGER text describes (RULES I6 to I8). The caller gives m, n, the start word and whether it is unknown; the text's last n inputs are
 -- the read bits, its outputs are address, write data, WE, RE and P, and each latch starts at 0. Variables become wires in the order of
--- their lines. Cited by `import_codes`, aiger_import/specs/ImportCall, specs/ImportVerdict and
--- specs/Imported.
+-- their lines. Cited by `import_text`, aiger_import/specs/ImportCall, specs/ImportVerdict and specs/Imported.
 use Prim.Native.Nat.{ℕ, _+_, _-_}
 use mathlib.Core.Bool.{cond}
 use mathlib.Core.List.{List}
@@ -10,7 +9,7 @@ use Rattle.model.specs.Search.{firstWhere}
 use Rattle.model.specs.Netlist.{Netlist, inputWire, latchWire, readWire, gateWire}
 use Rattle.model.specs.Network.{renamed}
 use Rattle.netlist.specs.RecordOf.{withoutCodes, upTo}
-use Rattle.aiger_lines.specs.Parts.{countsIn, linesDue, inputLine, latchLine, outputLine, gateLine}
+use Rattle.aiger_lines.specs.Parts.{countsIn, linesDue, textInputLine, textLatchLine, textOutputLine, textGateLine}
 use Rattle.aiger_lines.specs.declared.Counts.{Counts}
 use Rattle.aiger_definitions.specs.Definitions.{numberAt, definedAt}
 
@@ -21,21 +20,21 @@ textSizes h m n word unknown = withoutCodes (h .inputs - n) (h .latches) (h .gat
 -- the wire of what line p defines, in a netlist of the sizes c: an input, a read bit, a latch or a gate
 unfoldable pub wireOf : Counts → Netlist → ℕ → ℕ
 wireOf h c p =
-    cond (ltb p (inputLine h (c .inputs))) (inputWire c (p - inputLine h 0))
-    (cond (ltb p (latchLine h 0)) (readWire c (p - inputLine h (c .inputs)))
-    (cond (ltb p (outputLine h 0)) (latchWire c (p - latchLine h 0)) (gateWire c (p - gateLine h 0))))
+    cond (ltb p (textInputLine h (c .inputs))) (inputWire c (p - textInputLine h 0))
+    (cond (ltb p (textLatchLine h 0)) (readWire c (p - textInputLine h (c .inputs)))
+    (cond (ltb p (textOutputLine h 0)) (latchWire c (p - textLatchLine h 0)) (gateWire c (p - textGateLine h 0))))
 
 -- the line, of those due, that defines the variable v
 unfoldable pub definingLine : List ℕ → ℕ → ℕ
 definingLine s v = firstWhere (λ p. eqb (definedAt s p) v) (linesDue (countsIn s) + 1)
 
 -- the wire of the variable v; the constant stays 0
-unfoldable pub wireIn : List ℕ → Netlist → ℕ → ℕ
-wireIn s c v = cond (eqb v 0) 0 (wireOf (countsIn s) c (definingLine s v))
+unfoldable pub wireOfVariable : List ℕ → Netlist → ℕ → ℕ
+wireOfVariable s c v = cond (eqb v 0) 0 (wireOf (countsIn s) c (definingLine s v))
 
 -- a code of the text as a code of the netlist
 abbrev pub codeFrom : List ℕ → Netlist → ℕ → ℕ
-codeFrom s c x = renamed (wireIn s c) x
+codeFrom s c x = renamed (wireOfVariable s c) x
 
 -- the netlist of the sizes c, where `code p i` is the code for number i of line p. Outputs: m address codes, n write-data codes, WE, RE, P
 unfoldable pub netOfCodes : Counts → Netlist → (ℕ → ℕ → ℕ) → Netlist
@@ -48,15 +47,15 @@ netOfCodes h c code =
       n = c .n;
       initialWord = c .initialWord;
       unknownStart = c .unknownStart;
-      next = upTo (c .latches) (λ l. code (latchLine h l) 1);
+      next = upTo (c .latches) (λ l. code (textLatchLine h l) 1);
       reset = λ l. 0;
-      left = upTo (c .gates) (λ g. code (gateLine h g) 1);
-      right = upTo (c .gates) (λ g. code (gateLine h g) 2);
-      address = upTo (c .m) (λ t. code (outputLine h t) 0);
-      writeData = upTo (c .n) (λ t. code (outputLine h (c .m + t)) 0);
-      WE = code (outputLine h (c .m + c .n)) 0;
-      RE = code (outputLine h (c .m + c .n + 1)) 0;
-      P = code (outputLine h (c .m + c .n + 2)) 0;
+      left = upTo (c .gates) (λ g. code (textGateLine h g) 1);
+      right = upTo (c .gates) (λ g. code (textGateLine h g) 2);
+      address = upTo (c .m) (λ t. code (textOutputLine h t) 0);
+      writeData = upTo (c .n) (λ t. code (textOutputLine h (c .m + t)) 0);
+      WE = code (textOutputLine h (c .m + c .n)) 0;
+      RE = code (textOutputLine h (c .m + c .n + 1)) 0;
+      P = code (textOutputLine h (c .m + c .n + 2)) 0;
     }
 
 abbrev pub aagNet : List ℕ → ℕ → ℕ → ℕ → ℕ → Netlist

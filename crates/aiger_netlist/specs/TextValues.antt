@@ -7,25 +7,25 @@ use mathlib.Core.List.{List}
 use Rattle.model.specs.Netlist.{Netlist, inputWire, latchWire, readWire, gateWire}
 use Rattle.model.specs.Circuit.{Values, codeValue, evaluate}
 use Rattle.model.specs.Network.{Network, Obeys}
-use Rattle.aiger_lines.specs.Parts.{countsIn, inputLine, latchLine, outputLine, gateLine}
+use Rattle.aiger_lines.specs.Parts.{countsIn, textInputLine, textLatchLine, textOutputLine, textGateLine}
 use Rattle.aiger_definitions.specs.Definitions.{numberAt, definedAt}
 
 -- the variables of inputs, latches and gates
 abbrev pub inputVariable : List ℕ → ℕ → ℕ
-inputVariable s x = definedAt s (inputLine (countsIn s) x)
+inputVariable s x = definedAt s (textInputLine (countsIn s) x)
 
 abbrev pub latchVariable : List ℕ → ℕ → ℕ
-latchVariable s l = definedAt s (latchLine (countsIn s) l)
+latchVariable s l = definedAt s (textLatchLine (countsIn s) l)
 
 abbrev pub gateVariable : List ℕ → ℕ → ℕ
-gateVariable s g = definedAt s (gateLine (countsIn s) g)
+gateVariable s g = definedAt s (textGateLine (countsIn s) g)
 
 -- the next codes of latches, and the outputs
 abbrev pub nextAt : List ℕ → ℕ → ℕ
-nextAt s l = numberAt s (latchLine (countsIn s) l) 1
+nextAt s l = numberAt s (textLatchLine (countsIn s) l) 1
 
 abbrev pub outputAt : List ℕ → ℕ → ℕ
-outputAt s o = numberAt s (outputLine (countsIn s) o) 0
+outputAt s o = numberAt s (textOutputLine (countsIn s) o) 0
 
 -- the gates
 abbrev pub textNetwork : List ℕ → Network
@@ -33,8 +33,8 @@ textNetwork s =
     record {
       gates = countsIn s .gates;
       own = gateVariable s;
-      left = λ g. numberAt s (gateLine (countsIn s) g) 1;
-      right = λ g. numberAt s (gateLine (countsIn s) g) 2;
+      left = λ g. numberAt s (textGateLine (countsIn s) g) 1;
+      right = λ g. numberAt s (textGateLine (countsIn s) g) 2;
     }
 
 -- values of the text's variables, where its inputs and latches are as given

@@ -14,7 +14,7 @@ use Rattle.call_lists.specs.declared.Gate.{Gate}
 use Rattle.sheet_reader.proofs.Delivery.{Fits, newLatches, newGates, agrees, latches-are, gates-are, latches-length, gates-length}
 use Rattle.call_replies.specs.declared.SheetReply.{SheetReply}
 use Rattle.call_replies.specs.Replies.{sheetNumbers}
-use Rattle.aiger_lines.specs.Written.{ReadAsWritten}
+use Rattle.aiger_lines.specs.Written.{TextAsWritten}
 use Rattle.aiger_lines.proofs.Written.{read-as-written}
 use Rattle.aiger_netlist.specs.TextNetlist.{aagNet}
 use Rattle.aiger_netlist.specs.ImportVerdict.{importVerdict}
@@ -38,7 +38,7 @@ module _ (s : List ℕ) (m n word unknown : ℕ) (latches : List Latch) (gates :
       × ((newLatches ≡ importLatches s m n word unknown latches gates)
       × ((newGates ≡ importGates s m n word unknown latches gates)
       × ((reply .number ≡ 0 → TextDelivered s m n word unknown (reply .net) newLatches newGates)
-      × ReadAsWritten)))
+      × TextAsWritten)))
 
   module _ (sheet : SheetAnswer) (latchList gateList : List ℕ)
       (outcome : Outcome sheet latchList gateList (importVerdict s m n (importedWord word unknown) unknown (length latches) (length gates)) (aagNet s m n (importedWord word unknown) unknown)) where

@@ -20,7 +20,7 @@ ghost use Rattle.dimacs.specs.Text.{headerText, clauseText, NumberPrinted, refu
 ghost use Rattle.dimacs.specs.PrintCalls.{printSent, printLeaves, fillLeaves};
 ghost use Rattle.sheet_parse.specs.LineAnswers.{lineAnswer, linesRead};
 ghost use Rattle.sheet_reader.specs.ReadCall.{readVerdict, readRecord, latchesAfter, gatesAfter, SheetDelivered};
-ghost use Rattle.aiger_lines.specs.Written.{ReadAsWritten};
+ghost use Rattle.aiger_lines.specs.Written.{TextAsWritten};
 ghost use Rattle.aiger_import.specs.ImportCall.{importVerdictFor, importRecord, importLatches, importGates, TextDelivered};
 ghost use Rattle.answer_lines.specs.Written.{AnswerAsWritten};
 ghost use Rattle.replay_frame.specs.Replay.{OneRunTheorem};
@@ -104,7 +104,7 @@ pub extern "C" fn marrubigai_import(
     ensures latches { λ _. ⌜ now (latches .exit) ≡ importLatches (now (text .entry)) m n word unknown (now (latches .entry)) (now (gates .entry)) ⌝ }
     ensures gates { λ _. ⌜ now (gates .exit) ≡ importGates (now (text .entry)) m n word unknown (now (latches .entry)) (now (gates .entry)) ⌝ }
     ensures accepted { λ r. ⌜ (r .number ≡ 0 → TextDelivered (now (text .entry)) m n word unknown (r .net) (now (latches .exit)) (now (gates .exit))) ⌝ }
-    ensures written { λ _. ⌜ ReadAsWritten ⌝ }
+    ensures written { λ _. ⌜ TextAsWritten ⌝ }
 {
     let mut latch_codes = sheet_tests::no_codes();
     let mut gate_codes = sheet_tests::no_codes();

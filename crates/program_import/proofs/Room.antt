@@ -16,7 +16,7 @@ use Rattle.netlist_tests.proofs.Record.{testLines-passes}
 use Rattle.netlist_tests.proofs.Acceptance.{lists-long}
 use Rattle.aiger_netlist.specs.TextNetlist.{aagNet}
 use Rattle.aiger_netlist.specs.ImportVerdict.{importVerdict}
-use Rattle.program_import.specs.Printed.{RoomSuffices}
+use Rattle.program_import.specs.Printed.{ImportRoomSuffices}
 
 -- where the sizes pass, no list of so many records is short
 long-enough : (c : Netlist) (latchRoom gateRoom : ℕ) → 600 ≤ latchRoom → 600 ≤ gateRoom → testLines c Size sizeFault ≡ Passed
@@ -25,7 +25,7 @@ long-enough c latchRoom gateRoom l g e =
     let sizes = sizes-fit c .0 (testLines-passes c Size sizeFault .0 e) in
     lists-long c latchRoom gateRoom .1 (omega (arith, sizes .latches-fit), omega (arith, sizes .gates-fit))
 
-pub room-suffices : RoomSuffices
+pub room-suffices : ImportRoomSuffices
 unfolding importVerdict _then_
 room-suffices s m n word unknown latchRoom gateRoom l g = by-sizes (testLines (aagNet s m n word unknown) Size sizeFault) refl
   where

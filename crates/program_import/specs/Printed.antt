@@ -24,6 +24,6 @@ importText s m n word unknown =
     sheetOrRefusal (importVerdict s m n (importedWord word unknown) unknown mostWires mostWires) (aagNet s m n (importedWord word unknown) unknown)
 
 -- they are long enough: the verdict is that of an import into lists of any greater length, so that 9 does not occur
-abbrev pub RoomSuffices : Type 0
-RoomSuffices = (s : List ℕ) (m n word unknown latchRoom gateRoom : ℕ) → mostWires ≤ latchRoom → mostWires ≤ gateRoom
+abbrev pub ImportRoomSuffices : Type 0
+ImportRoomSuffices = (s : List ℕ) (m n word unknown latchRoom gateRoom : ℕ) → mostWires ≤ latchRoom → mostWires ≤ gateRoom
     → importVerdict s m n word unknown mostWires mostWires ≡ importVerdict s m n word unknown latchRoom gateRoom

@@ -64,17 +64,10 @@ module _ (e : ℕ) where
   parts-first s t w =
       parts-append [] s (e ∷ t) ∙ rw (parts-none [] s w, rest-all [] s w, eq-eqb e e refl)
 
-  -- Parts without e, joined, are the parts of what they are joined to; and nothing is behind them.
+  -- parts of which none has e
   pub data EachWithout : List (List ℕ) → Type 0 where
     nothing : EachWithout []
     also : {x : List ℕ} {xs : List (List ℕ)} → Without e x → EachWithout xs → EachWithout (x ∷ xs)
-
-  pub parts-ended : (xs : List (List ℕ)) (t : List ℕ) → EachWithout xs → partsAfter e [] (ended e xs ++ t) ≡ xs ++ partsAfter e [] t
-  unfolding ended
-  parts-ended [] t nothing = refl
-  parts-ended (x ∷ xs) t (also w ws) =
-      ap (partsAfter e []) (append-assoc x (e ∷ ended e xs) t) ∙ parts-first x (ended e xs ++ t) w
-      ∙ ap (λ (ys : List (List ℕ)). x ∷ ys) (parts-ended xs t ws)
 
   ended-append : (xs ys : List (List ℕ)) → ended e (xs ++ ys) ≡ ended e xs ++ ended e ys
   unfolding ended
@@ -109,7 +102,7 @@ unfolding wordsOf
 words-last s w = rw (parts-none space [] s w, rest-all space [] s w)
 
 -- a line is its words joined, each with a space behind it but the last
-pub words-joined : (s : List ℕ) → ended space (wordsOf s) ≡ s ++ space ∷ []
+words-joined : (s : List ℕ) → ended space (wordsOf s) ≡ s ++ space ∷ []
 unfolding wordsOf ended
 words-joined s =
     ended-append space (partsAfter space [] s) (restAfter space [] s ∷ [])
@@ -117,7 +110,7 @@ words-joined s =
     ∙ ap (λ (x : List ℕ). x ++ space ∷ []) (ended-parts space [] s)
 
 -- texts are the same where they are with one byte more
-pub snoc-same : (a b : List ℕ) (c : ℕ) → a ++ c ∷ [] ≡ b ++ c ∷ [] → a ≡ b
+snoc-same : (a b : List ℕ) (c : ℕ) → a ++ c ∷ [] ≡ b ++ c ∷ [] → a ≡ b
 snoc-same a b c h =
     let l : length a ≡ length b = omega (arith, length-append a (c ∷ []), length-append b (c ∷ []), ap length h) in
     sym (take-at a (c ∷ []) (length a) refl) ∙ ap (take (length a)) h ∙ take-at b (c ∷ []) (length a) (sym l)

@@ -1,6 +1,6 @@
--- A text as lines, and a line as words: the parts that one byte ends. By these a text that comes in pieces has the lines and words of
--- the whole, and the parts of a text are its only ones: laws in proofs/Words.antt. A text is a list of bytes. Cited by what reads
--- a text of lines.
+-- A text as lines, and a line as words: the parts that one byte ends (RULES I1, I2 and Q1). By these a text that comes in pieces has the
+-- lines and words of the whole, and the parts of a text are its only ones: laws in proofs/Words.antt. A text is a list of bytes. Cited by
+-- what reads a text of lines.
 use Prim.Native.Nat.{ℕ, _<_}
 use mathlib.Core.Path.{_≡_}
 use mathlib.Core.Bool.{cond}
@@ -19,11 +19,11 @@ unfoldable pub restAfter : ℕ → List ℕ → List ℕ → List ℕ
 restAfter e begun [] = begun
 restAfter e begun (x ∷ s) = cond (eqb x e) (restAfter e [] s) (restAfter e (begun ++ x ∷ []) s)
 
--- the lines of a text, each ended by a line feed; what stands behind the last line feed is no line
+-- RULES I1 and Q1: the lines of a text, each ended by a line feed; what stands behind the last line feed is no line
 abbrev pub linesOf : List ℕ → List (List ℕ)
 linesOf s = partsAfter lineFeed [] s
 
--- the words of a line: what single spaces separate. Two spaces in a row, or one at an end, make an empty word
+-- RULES I2: the words of a line, what single spaces separate. Two spaces in a row, or one at an end, make an empty word
 unfoldable pub wordsOf : List ℕ → List (List ℕ)
 wordsOf s = partsAfter space [] s ++ restAfter space [] s ∷ []
 

@@ -36,11 +36,11 @@ element-copy-out-code-of c = omega arith
 code-of-requires : tie.Need-code-of-requires Inv-loop μ-loop
 code-of-requires c κs = tt
 
-mul-next : tie.Need-mul-next Inv-loop μ-loop
-mul-next c = omega arith
+mul-t13 : tie.Need-mul-t13 Inv-loop μ-loop
+mul-t13 c = omega arith
 
-way-write-given-next : tie.Need-way-write-given-next Inv-loop μ-loop
-way-write-given-next c = omega (arith, c .before .before .before .before .loop .inv .1 .1 .full)
+element-set-from-next : tie.Need-element-set-from-next Inv-loop μ-loop
+element-set-from-next c = omega (arith, c .before .before .before .before .loop .inv .1 .1 .full)
 
 add-t : tie.Need-add-t Inv-loop μ-loop
 add-t c = omega arith
@@ -51,13 +51,13 @@ loop-less c = omega arith
 loop-again : tie.Need-loop-again Inv-loop μ-loop
 unfolding outputCode
 loop-again c =
-    let a = c .before .before .before .before .before .before .args in
-    let at = c .before .before .before .before .before .loop in
-    let code = c .before .code-of in (
+    let a = c .before .before .before .before .before .args in
+    let at = c .before .before .before .before .loop in
+    let code = c .code-of in (
       omega arith,
       (
-        ap (λ (r : Netlist). withAddress r (set (at .next .address) (at .t) (record { 0 = code .result }))) (at .inv .1 .0),
-        coded-next 12 (outputCode (a .table .now)) (at .next .address) (at .t) (code .result) (omega arith) (code .ensures) (at .inv .1 .1),
+        ap (λ (r : Netlist). withAddress r (set (at .next .address) (at .t) (code .result))) (at .inv .1 .0),
+        coded-next 12 (outputCode (a .table .now)) (at .next .address) (at .t) (code .result .0) (omega arith) (code .ensures) (at .inv .1 .1),
       ),
     )
 
@@ -80,8 +80,8 @@ put-address-spec =
     mul-code-of
     element-copy-out-code-of
     code-of-requires
-    mul-next
-    way-write-given-next
+    mul-t13
+    element-set-from-next
     add-t
     loop-less
     loop-again

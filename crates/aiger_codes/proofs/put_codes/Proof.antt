@@ -16,7 +16,6 @@ Inv-loop text line at count table list₀ next₀ x₀ list next x =
 abbrev μ-loop : tie.MeasureT-loop
 μ-loop text line at count table list₀ next₀ x₀ list next x = count - x
 
--- src/lib.rt:95:5
 loop-holds : tie.Need-loop-holds Inv-loop μ-loop
 loop-holds c =
     let a = c .before .args in
@@ -29,51 +28,39 @@ loop-holds c =
       ),
     )
 
--- src/lib.rt:96:56
 cast-next-line : tie.Need-cast-next-line Inv-loop μ-loop
 cast-next-line c = omega arith
 
--- src/lib.rt:96:49
 add-next-line : tie.Need-add-next-line Inv-loop μ-loop
 add-next-line c = omega arith
 
--- src/lib.rt:96:13
 next-line-requires : tie.Need-next-line-requires Inv-loop μ-loop
 next-line-requires c κs = (omega (arith, c .before .before .before .pre .0 .some-line), c .before .loop .inv .1 .0)
 
--- src/lib.rt:98:35
 element-copy-out-code-of : tie.Need-element-copy-out-code-of Inv-loop μ-loop
 element-copy-out-code-of c = omega (arith, five-long _ (c .before .next-line .ensures .numbers-are))
 
--- src/lib.rt:98:13
 code-of-requires : tie.Need-code-of-requires Inv-loop μ-loop
 code-of-requires c κs = search needs
 
--- src/lib.rt:99:36
 element-copy-out-code-of-2 : tie.Need-element-copy-out-code-of-2 Inv-loop μ-loop
 element-copy-out-code-of-2 c = omega (arith, five-long _ (c .before .before .before .next-line .ensures .numbers-are))
 
--- src/lib.rt:99:13
 code-of-requires-2 : tie.Need-code-of-requires-2 Inv-loop μ-loop
 code-of-requires-2 c κs = search needs
 
--- src/lib.rt:100:36
 cast-put-numbers : tie.Need-cast-put-numbers Inv-loop μ-loop
 cast-put-numbers c = omega arith
 
--- src/lib.rt:100:9
 put-numbers-requires : tie.Need-put-numbers-requires Inv-loop μ-loop
 put-numbers-requires c κs = search needs
 
--- src/lib.rt:102:9
 add-x : tie.Need-add-x Inv-loop μ-loop
 add-x c = omega arith
 
--- src/lib.rt:95:5
 loop-less : tie.Need-loop-less Inv-loop μ-loop
 loop-less c = omega arith
 
--- src/lib.rt:95:5
 loop-again : tie.Need-loop-again Inv-loop μ-loop
 loop-again c =
     let a = c .before .before .before .before .before .before .before .before .before .before .before .args in
@@ -90,7 +77,6 @@ loop-again c =
       ),
     )
 
--- src/lib.rt:89:1
 returns : tie.Need-returns Inv-loop μ-loop
 returns c =
     let at = c .before .loop in

@@ -54,12 +54,12 @@ code-of-requires-3 c κs = search needs
 
 returns : tie.Need-returns
 returns c =
-    let net = c .before .before .before .before .before .before .before .before .before .before .before .args .net in
-    let table = c .before .before .before .before .before .before .before .before .before .before .before .args .table .now in
+    let net = c .before .before .before .before .before .before .before .before .args .net in
+    let table = c .before .before .before .before .before .before .before .before .args .table .now in
     rw (
-      c .before .before .before .before .before .before .before .code-of .ensures ∙ output-at table (net .m + net .n) _ (omega arith),
-      c .before .before .before .before .before .code-of2 .ensures ∙ output-at table (net .m + net .n + 1) _ (omega arith),
-      c .before .before .before .code-of3 .ensures ∙ output-at table (net .m + net .n + 2) _ (omega arith),
+      c .before .before .before .before .code-of .ensures ∙ output-at table (net .m + net .n) _ (omega arith),
+      c .before .before .code-of2 .ensures ∙ output-at table (net .m + net .n + 1) _ (omega arith),
+      c .code-of3 .ensures ∙ output-at table (net .m + net .n + 2) _ (omega arith),
     )
 
 pub put-control-spec : {M : Type 1} → statement M

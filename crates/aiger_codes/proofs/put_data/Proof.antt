@@ -43,11 +43,11 @@ element-copy-out-code-of c = omega arith
 code-of-requires : tie.Need-code-of-requires Inv-loop μ-loop
 code-of-requires c κs = tt
 
-mul-next : tie.Need-mul-next Inv-loop μ-loop
-mul-next c = omega arith
+mul-t15 : tie.Need-mul-t15 Inv-loop μ-loop
+mul-t15 c = omega arith
 
-way-write-given-next : tie.Need-way-write-given-next Inv-loop μ-loop
-way-write-given-next c = omega (arith, c .before .before .before .before .loop .inv .1 .1 .full)
+element-set-from-next : tie.Need-element-set-from-next Inv-loop μ-loop
+element-set-from-next c = omega (arith, c .before .before .before .before .loop .inv .1 .1 .full)
 
 add-t : tie.Need-add-t Inv-loop μ-loop
 add-t c = omega arith
@@ -57,13 +57,13 @@ loop-less c = omega arith
 
 loop-again : tie.Need-loop-again Inv-loop μ-loop
 loop-again c =
-    let a = c .before .before .before .before .before .before .before .args in
-    let at = c .before .before .before .before .before .loop in
-    let code = c .before .code-of in (
+    let a = c .before .before .before .before .before .before .args in
+    let at = c .before .before .before .before .loop in
+    let code = c .code-of in (
       omega arith,
       (
-        ap (λ (r : Netlist). withData r (set (at .next .«write_data») (at .t) (record { 0 = code .result }))) (at .inv .1 .0),
-        coded-next 32 (λ x. outputCode (a .table .now) (a .net .m + x)) (at .next .«write_data») (at .t) (code .result) (omega arith) (code .ensures ∙ output-at (a .table .now) (a .net .m + at .t) _ (omega arith)) (at .inv .1 .1),
+        ap (λ (r : Netlist). withData r (set (at .next .«write_data») (at .t) (code .result))) (at .inv .1 .0),
+        coded-next 32 (λ x. outputCode (a .table .now) (a .net .m + x)) (at .next .«write_data») (at .t) (code .result .0) (omega arith) (code .ensures ∙ output-at (a .table .now) (a .net .m + at .t) _ (omega arith)) (at .inv .1 .1),
       ),
     )
 
@@ -88,8 +88,8 @@ put-data-spec =
     mul-code-of
     element-copy-out-code-of
     code-of-requires
-    mul-next
-    way-write-given-next
+    mul-t15
+    element-set-from-next
     add-t
     loop-less
     loop-again

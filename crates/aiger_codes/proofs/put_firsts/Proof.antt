@@ -3,7 +3,7 @@ use Prim.Native.Nat.{ℕ, _+_, _-_, _≤_}
 use mathlib.Core.Path.{_≡_, refl, sym, subst}
 use native.Mathlib.Omega.{arith}
 use Rattle.aiger_lines.specs.Steps.{Behind}
-use Rattle.aiger_codes.specs.Filling.{firstsBehind, entryOf, putFrom, Filled}
+use Rattle.aiger_codes.specs.Filling.{firstsBehind, entryOf, putFrom, TableFilled}
 use Rattle.aiger_codes.proofs.Filling.{five-long, firsts-none, firsts-next}
 use Rattle.aiger_codes.proofs.put_firsts.Statement.{statement}
 use Rattle.aiger_codes.proofs.put_firsts.Tie as tie
@@ -11,12 +11,11 @@ use Rattle.aiger_codes.proofs.put_firsts.Tie as tie
 abbrev Inv-loop : tie.InvT-loop
 Inv-loop text line at count first table₀ next₀ x₀ table next x =
     (x ≤ count) × (Behind text (line + x) next ×
-    Filled 648 (putFrom first x (firstsBehind text line) (entryOf table₀)) table)
+    TableFilled 648 (putFrom first x (firstsBehind text line) (entryOf table₀)) table)
 
 abbrev μ-loop : tie.MeasureT-loop
 μ-loop text line at count first table₀ next₀ x₀ table next x = count - x
 
--- src/lib.rt:70:5
 loop-holds : tie.Need-loop-holds Inv-loop μ-loop
 loop-holds c =
     let a = c .before .args in
@@ -29,46 +28,36 @@ loop-holds c =
       ),
     )
 
--- src/lib.rt:71:56
 cast-next-line : tie.Need-cast-next-line Inv-loop μ-loop
 cast-next-line c = omega arith
 
--- src/lib.rt:71:49
 add-next-line : tie.Need-add-next-line Inv-loop μ-loop
 add-next-line c = omega arith
 
--- src/lib.rt:71:13
 next-line-requires : tie.Need-next-line-requires Inv-loop μ-loop
 next-line-requires c κs = (omega (arith, c .before .before .before .pre .0 .some-line), c .before .loop .inv .1 .0)
 
--- src/lib.rt:73:25
 cast-w : tie.Need-cast-w Inv-loop μ-loop
 cast-w c = omega arith
 
--- src/lib.rt:73:17
 add-w : tie.Need-add-w Inv-loop μ-loop
 add-w c = omega arith
 
--- src/lib.rt:74:20
 element-copy-out-table : tie.Need-element-copy-out-table Inv-loop μ-loop
 element-copy-out-table c = omega (arith, five-long _ (c .before .next-line .ensures .numbers-are))
 
 mul-table : tie.Need-mul-table Inv-loop μ-loop
 mul-table c = omega arith
 
--- src/lib.rt:74:9
 element-write-table : tie.Need-element-write-table Inv-loop μ-loop
 element-write-table c = omega arith
 
--- src/lib.rt:76:9
 add-x : tie.Need-add-x Inv-loop μ-loop
 add-x c = omega arith
 
--- src/lib.rt:70:5
 loop-less : tie.Need-loop-less Inv-loop μ-loop
 loop-less c = omega arith
 
--- src/lib.rt:70:5
 loop-again : tie.Need-loop-again Inv-loop μ-loop
 loop-again c =
     let a = c .before .before .before .before .before .before .args in
@@ -84,7 +73,6 @@ loop-again c =
       ),
     )
 
--- src/lib.rt:63:1
 returns : tie.Need-returns Inv-loop μ-loop
 returns c =
     let at = c .before .loop in

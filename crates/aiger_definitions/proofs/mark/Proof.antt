@@ -2,7 +2,7 @@
 use mathlib.Core.Path.{sym}
 use borrow.Author.Tests.{lt-leb, le-leb}
 use lib.Seq.{set-out}
-use Rattle.aiger_definitions.specs.Blocks.{marked}
+use Rattle.aiger_definitions.specs.Blocks.{withMark}
 use borrow.Author.Needs.{needs}
 use Rattle.aiger_definitions.proofs.mark.Statement.{statement}
 use Rattle.aiger_definitions.proofs.mark.Tie as tie
@@ -14,15 +14,15 @@ same-length : tie.Need-same-length
 same-length c = search needs
 
 returns : tie.Need-returns
-unfolding marked
+unfolding withMark
 returns c = rw (le-leb _ _ (c .before .if1 .taken))
 
 returns-2 : tie.Need-returns-2
-unfolding marked
+unfolding withMark
 returns-2 c = rw (le-leb _ _ (c .before .if1 .taken)) (sym (set-out _ _ _ (c .if2 .left)))
 
 returns-3 : tie.Need-returns-3
-unfolding marked
+unfolding withMark
 returns-3 c = rw (lt-leb _ _ (c .if1 .left))
 
 pub mark-spec : {M : Type 1} → statement M

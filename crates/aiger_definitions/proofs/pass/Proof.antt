@@ -6,7 +6,7 @@ use borrow.Author.Needs.{needs}
 use lib.ListN.{length}
 use Rattle.aiger_lines.specs.Parts.{countsIn}
 use Rattle.aiger_lines.specs.Steps.{Behind}
-use Rattle.aiger_definitions.proofs.Marks.{length-marked}
+use Rattle.aiger_definitions.proofs.Marks.{length-withMark}
 use Rattle.aiger_definitions.proofs.Passes.{Passed, pass-starts, pass-next, all-marked}
 use Rattle.aiger_definitions.proofs.pass.Statement.{statement}
 use Rattle.aiger_definitions.proofs.pass.Tie as tie
@@ -60,7 +60,7 @@ loop-again c =
           (pass-next (a .look) (a .text .now) (a .lines) (a .base) (at .inv .0) some (c .before .before .before .before .before .before .before .before .before .loop-test .taken)),
       read .behind,
       at .inv .2,
-      rw after (length-marked (a .base) _ (at .marks) ∙ at .inv .3),
+      rw after (length-withMark (a .base) _ (at .marks) ∙ at .inv .3),
     )
 
 same-length : tie.Need-same-length Inv-loop μ-loop

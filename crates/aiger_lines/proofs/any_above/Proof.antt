@@ -5,14 +5,14 @@ use native.Mathlib.Omega.{arith}
 use borrow.Author.Needs.{needs}
 use lib.ListN.{drop}
 use Rattle.aiger_lines.specs.Parts.{anyAbove}
-use Rattle.aiger_lines.specs.Steps.{numbersIn}
+use Rattle.aiger_lines.specs.Steps.{numbersHeld}
 use Rattle.aiger_lines.proofs.FirstFive.{in-length, in-at}
 use Rattle.aiger_lines.proofs.Parts.{above-here, above-later, above-none}
 use Rattle.aiger_lines.proofs.any_above.Statement.{statement}
 use Rattle.aiger_lines.proofs.any_above.Tie as tie
 
 abbrev Inv-loop : tie.InvT-loop
-Inv-loop limit numbers i₀ i = (i ≤ numbers .count) × (anyAbove limit (drop i (numbersIn numbers)) ≡ anyAbove limit (numbersIn numbers))
+Inv-loop limit numbers i₀ i = (i ≤ numbers .count) × (anyAbove limit (drop i (numbersHeld numbers)) ≡ anyAbove limit (numbersHeld numbers))
 
 abbrev μ-loop : tie.MeasureT-loop
 μ-loop limit numbers i₀ i = numbers .count - i
@@ -35,7 +35,7 @@ returns c =
     let numbers = start .args .t2 in
     let count = in-length numbers (start .pre) in
     let at = c .before .before .before .loop in
-    sym (above-here (start .args .limit) (numbersIn numbers) (at .i) (omega (arith, count)) (omega (arith, in-at numbers (at .i) (omega arith))))
+    sym (above-here (start .args .limit) (numbersHeld numbers) (at .i) (omega (arith, count)) (omega (arith, in-at numbers (at .i) (omega arith))))
     ∙ at .inv .1
 
 add-i : tie.Need-add-i Inv-loop μ-loop
@@ -51,7 +51,7 @@ loop-again c =
     let count = in-length numbers (start .pre) in
     let at = c .before .before .before .loop in (
       omega arith,
-      sym (above-later (start .args .limit) (numbersIn numbers) (at .i) (omega (arith, count)) (omega (arith, in-at numbers (at .i) (omega arith))))
+      sym (above-later (start .args .limit) (numbersHeld numbers) (at .i) (omega (arith, count)) (omega (arith, in-at numbers (at .i) (omega arith))))
           ∙ at .inv .1,
     )
 
@@ -61,7 +61,7 @@ returns-2 c =
     let numbers = start .args .t2 in
     let count = in-length numbers (start .pre) in
     let at = c .before .loop in
-    sym (above-none (start .args .limit) (numbersIn numbers) (at .i) (omega (arith, count)))
+    sym (above-none (start .args .limit) (numbersHeld numbers) (at .i) (omega (arith, count)))
     ∙ at .inv .1
 
 pub any-above-spec : {M : Type 1} → statement M

@@ -7,7 +7,7 @@ use borrow.Author.Needs.{needs}
 use lib.ListN.{length, drop, length-drop}
 use lib.Seq.{length-take-le, take-all}
 use Rattle.text_words.specs.Words.{wordsOf}
-use Rattle.aiger_lines.specs.Numbers.{numbersOf}
+use Rattle.aiger_lines.specs.Numbers.{wordNumbers}
 use Rattle.aiger_lines.specs.Steps.{firstFive}
 use Rattle.aiger_lines.proofs.Lines.{header-read, header-other, header-alone}
 use Rattle.aiger_lines.proofs.header_numbers.Statement.{statement}
@@ -42,7 +42,7 @@ returns c =
     let line = c .before .before .before .before .before .before .before .before .args .line .now in
     let end = c .before .before .before .before .before .before .find in
     c .read-numbers .ensures .0
-    ∙ ap (λ (t : List ℕ). firstFive (numbersOf (wordsOf t)))
+    ∙ ap (λ (t : List ℕ). firstFive (wordNumbers (wordsOf t)))
     (take-all (length line - (end .result + 1)) (drop (end .result + 1) line) (rw length-drop (omega arith)))
     ∙ ap firstFive
     (sym (header-read line (end .result) (end .ensures) (omega arith) (sym (c .before .before .before .is-aag .ensures) ∙ c .before .before .if2 .taken)))

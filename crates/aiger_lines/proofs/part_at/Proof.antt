@@ -2,7 +2,7 @@
 use native.Mathlib.Omega.{arith}
 use borrow.Author.Needs.{needs}
 use borrow.Author.Tests.{lt-ltb, le-ltb}
-use Rattle.aiger_lines.specs.Parts.{inputLine, latchLine, outputLine, gateLine, partAt}
+use Rattle.aiger_lines.specs.Parts.{textInputLine, textLatchLine, textOutputLine, textGateLine, partAt}
 use Rattle.aiger_lines.proofs.part_at.Statement.{statement}
 use Rattle.aiger_lines.proofs.part_at.Tie as tie
 
@@ -28,15 +28,15 @@ returns : tie.Need-returns
 unfolding partAt
 returns c =
     let x = c .before .before .before .before .args in
-    rw (lt-ltb (x .place) (inputLine (x .counts) 0) (omega arith))
+    rw (lt-ltb (x .place) (textInputLine (x .counts) 0) (omega arith))
 
 returns-2 : tie.Need-returns-2
 unfolding partAt
 returns-2 c =
     let x = c .before .before .before .before .before .args in
     rw (
-      le-ltb (x .place) (inputLine (x .counts) 0) (omega arith),
-      lt-ltb (x .place) (latchLine (x .counts) 0) (omega arith),
+      le-ltb (x .place) (textInputLine (x .counts) 0) (omega arith),
+      lt-ltb (x .place) (textLatchLine (x .counts) 0) (omega arith),
     )
 
 returns-3 : tie.Need-returns-3
@@ -44,9 +44,9 @@ unfolding partAt
 returns-3 c =
     let x = c .before .before .before .before .before .before .args in
     rw (
-      le-ltb (x .place) (inputLine (x .counts) 0) (omega arith),
-      le-ltb (x .place) (latchLine (x .counts) 0) (omega arith),
-      lt-ltb (x .place) (outputLine (x .counts) 0) (omega arith),
+      le-ltb (x .place) (textInputLine (x .counts) 0) (omega arith),
+      le-ltb (x .place) (textLatchLine (x .counts) 0) (omega arith),
+      lt-ltb (x .place) (textOutputLine (x .counts) 0) (omega arith),
     )
 
 returns-4 : tie.Need-returns-4
@@ -54,10 +54,10 @@ unfolding partAt
 returns-4 c =
     let x = c .before .before .before .before .before .before .before .args in
     rw (
-      le-ltb (x .place) (inputLine (x .counts) 0) (omega arith),
-      le-ltb (x .place) (latchLine (x .counts) 0) (omega arith),
-      le-ltb (x .place) (outputLine (x .counts) 0) (omega arith),
-      lt-ltb (x .place) (gateLine (x .counts) 0) (omega arith),
+      le-ltb (x .place) (textInputLine (x .counts) 0) (omega arith),
+      le-ltb (x .place) (textLatchLine (x .counts) 0) (omega arith),
+      le-ltb (x .place) (textOutputLine (x .counts) 0) (omega arith),
+      lt-ltb (x .place) (textGateLine (x .counts) 0) (omega arith),
     )
 
 returns-5 : tie.Need-returns-5
@@ -65,10 +65,10 @@ unfolding partAt
 returns-5 c =
     let x = c .before .before .before .before .before .before .before .args in
     rw (
-      le-ltb (x .place) (inputLine (x .counts) 0) (omega arith),
-      le-ltb (x .place) (latchLine (x .counts) 0) (omega arith),
-      le-ltb (x .place) (outputLine (x .counts) 0) (omega arith),
-      le-ltb (x .place) (gateLine (x .counts) 0) (omega arith),
+      le-ltb (x .place) (textInputLine (x .counts) 0) (omega arith),
+      le-ltb (x .place) (textLatchLine (x .counts) 0) (omega arith),
+      le-ltb (x .place) (textOutputLine (x .counts) 0) (omega arith),
+      le-ltb (x .place) (textGateLine (x .counts) 0) (omega arith),
     )
 
 pub part-at-spec : {M : Type 1} → statement M

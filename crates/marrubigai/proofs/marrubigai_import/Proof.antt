@@ -67,7 +67,7 @@ use Rattle.call_lists.proofs.deliver.deliver_latches.Met as latches-thm
 use Rattle.call_lists.proofs.deliver.deliver_gates.Symbol as gates-def
 use Rattle.call_lists.proofs.deliver.deliver_gates.Symbol.{name as #deliver-gates}
 use Rattle.call_lists.proofs.deliver.deliver_gates.Met as gates-thm
-use Rattle.aiger_lines.specs.Written.{ReadAsWritten}
+use Rattle.aiger_lines.specs.Written.{TextAsWritten}
 use Rattle.aiger_netlist.specs.TextNetlist.{aagNet}
 use Rattle.aiger_netlist.specs.ImportVerdict.{importVerdict}
 use Rattle.aiger_import.specs.ImportCall.{importedWord, importVerdictFor, importRecord, importLatches, importGates, TextDelivered}
@@ -275,7 +275,7 @@ module _ {M : Type 1} (𝓤 : URA M) (H : Heap 𝓤) (A : Atoms 𝓤) (W : Given
         (sent ≡ sheetNumbers (importVerdictFor (now text) m n word unknown (now x) (now y)) (importRecord (now text) m n word unknown (now x) (now y)))
         ((newLatches sheet xs ≡ importLatches (now text) m n word unknown (now x) (now y))
         ∷ (newGates sheet ys ≡ importGates (now text) m n word unknown (now x) (now y))
-        ∷ (sent .number ≡ 0 → TextDelivered (now text) m n word unknown (sent .net) (newLatches sheet xs) (newGates sheet ys)) ∷ ReadAsWritten
+        ∷ (sent .number ≡ 0 → TextDelivered (now text) m n word unknown (sent .net) (newLatches sheet xs) (newGates sheet ys)) ∷ TextAsWritten
         ∷ [])) $
         says ! (answers (now text) m n word unknown (now x) (now y) sheet xs ys e) $
         nothing ! $ move ! (4 ∷ 0 ∷ []) $ join ! $ move ! (3 ∷ 0 ∷ []) $ join ! $ move ! (2 ∷ 0 ∷ []) $ join ! $ frame ! $
