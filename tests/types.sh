@@ -76,7 +76,7 @@ apart() { # files
       rest = code
       while (match(rest, /Number\(/)) {
         rest = substr(rest, RSTART + RLENGTH)
-        verdict(inside || file == "crates/clause_writer/src/lib.rt" && rest ~ /^l\) => put_number\(out, l\)/ ||
+        verdict(inside || file == "crates/clause_writer/src/lib.rt" && rest ~ /^l\) => put_lit\(out, l\)/ ||
           file == "crates/call_position/src/lib.rt" && rest ~ /^l\) => l\.0,/, "a term of a clause number")
       }
     }
