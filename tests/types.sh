@@ -15,7 +15,7 @@ cd "$(dirname "$0")/.." || exit 2
 allowed='
 # a literal becomes a number of a clause, or a call answers it
 crates/clause_writer/src/lib.rt let x = a.0
-crates/clause_writer/src/lib.rt Term::True => 0, Term::False => 0, Term::Number(l) => put_number(out, l),
+crates/clause_writer/src/lib.rt Term::True => 0, Term::False => 0, Term::Number(l) => put_lit(out, l),
 crates/call_position/src/lib.rt Term::True => 1, Term::False => -1, Term::Number(l) => l.0,
 # wires are numbered from a count of them, and the variable of a read bit is looked up among signs
 crates/netlist/src/lib.rt Wire(wire_count(net))

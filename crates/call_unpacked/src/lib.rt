@@ -99,7 +99,7 @@ pub fn test_group(
     if let Verdict::Refused(_, _) = asked {
         return asked;
     }
-    if !group_order::order::is_in_depth(depth, group) {
+    if !group_order::is_in_depth(depth, group) {
         return Verdict::Refused(Refusal::NoSuchGroup, 0);
     }
     Verdict::Passed

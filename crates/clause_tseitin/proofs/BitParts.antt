@@ -1,7 +1,7 @@
 -- The clauses of an address bit are those of two equalities. No contract cites this file.
 use mathlib.Core.Path.{_≡_, refl}
-use mathlib.Core.Bool.{Bool, true, false, not}
-use mathlib.Core.List.{List, _++_}
+use mathlib.Core.Bool.{true, false}
+use mathlib.Core.List.{_++_}
 use Rattle.model.specs.Clauses.{Literal, known, plus, minus, neg, sameIfClauses, bitClauses}
 
 neg-neg : (a : Literal) → neg (neg a) ≡ a

@@ -48,7 +48,8 @@ fn put_and_numbers(out: &mut [i32], g: Lit, a: Lit, b: Lit) -> usize
     j + put_three_numbers(&mut out[j..], g, a.negated(), b.negated())
 }
 
-// The clauses of a gate g = a ∧ b. Most of a formula is of numbers: constants are asked for once a gate, here and below.
+// The clauses of a gate g = a ∧ b. Most of a formula is of numbers: here, in `put_same_if` and in `put_bit` constants
+// are asked for once, and not in each clause.
 pub fn put_and(out: &mut [i32], g: Term, a: Term, b: Term) -> usize
     requires { ⌜ IsTerm g × IsTerm a × IsTerm b × (10 ≤ length (now out)) ⌝ }
     ensures { λ r. ⌜ Wrote (written (andClauses (literalOf g) (literalOf a) (literalOf b)))

@@ -1,6 +1,7 @@
 // Clauses as numbers in a borrowed slice (RULES G20, "written at the start of what is left of the slice, behind
 // the numbers already written"). Each function writes from the start of what it is lent and answers how many numbers that was. Here
-// alone constants are dropped (RULES G28 and G29): a clause with a true literal is not written, and of the others no false one.
+// constants are dropped (RULES G28 and G29): a clause with a true literal is not written, and of the others no false one. Only of a
+// clause of any length its group asks first whether a literal is true (`put_some_source`, `put_property`).
 use literals::Lit;
 use literals::Term;
 ghost use mathlib.Core.List.{[], _∷_};
@@ -31,7 +32,7 @@ fn put_minus_one(out: &mut [i32]) -> usize
 }
 
 // One literal of a clause, a variable's.
-fn put_number(out: &mut [i32], a: Lit) -> usize
+fn put_lit(out: &mut [i32], a: Lit) -> usize
     requires { ⌜ IsLit a × (1 ≤ length (now out)) ⌝ }
     ensures { λ r. ⌜ Wrote (keptOf (literalAt (a .0))) (now (out .entry)) (now (out .exit)) r × (r ≤ 1) ⌝ }
 {
@@ -48,7 +49,7 @@ pub fn put_literal(out: &mut [i32], a: Term) -> usize
     match a {
         Term::True => 0,
         Term::False => 0,
-        Term::Number(l) => put_number(out, l),
+        Term::Number(l) => put_lit(out, l),
     }
 }
 
@@ -94,8 +95,8 @@ pub fn put_two_numbers(out: &mut [i32], a: Lit, b: Lit) -> usize
     requires { ⌜ IsLit a × IsLit b × (3 ≤ length (now out)) ⌝ }
     ensures { λ r. ⌜ Wrote (written ((literalAt (a .0) ∷ literalAt (b .0) ∷ []) ∷ [])) (now (out .entry)) (now (out .exit)) r × (r ≤ 3) ⌝ }
 {
-    let i = put_number(out, a);
-    let j = i + put_number(&mut out[i..], b);
+    let i = put_lit(out, a);
+    let j = i + put_lit(&mut out[i..], b);
     j + put_mark(&mut out[j..])
 }
 
@@ -105,7 +106,7 @@ pub fn put_three_numbers(out: &mut [i32], a: Lit, b: Lit, c: Lit) -> usize
     ensures { λ r. ⌜ Wrote (written ((literalAt (a .0) ∷ literalAt (b .0) ∷ literalAt (c .0) ∷ []) ∷ []))
         (now (out .entry)) (now (out .exit)) r × (r ≤ 4) ⌝ }
 {
-    let i = put_number(out, a);
+    let i = put_lit(out, a);
     i + put_two_numbers(&mut out[i..], b, c)
 }
 

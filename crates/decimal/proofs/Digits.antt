@@ -12,7 +12,7 @@ use borrow.Author.Tests.{lt-ltb, le-ltb, ltb-true, ltb-false}
 use Rattle.decimal.specs.Digits.{digit, digitsWithin, digits, field}
 
 -- a number is below ten, or has a tenth
-pub below-ten : (x : ℕ) → (x < 10) ⊎ (10 ≤ x)
+below-ten : (x : ℕ) → (x < 10) ⊎ (10 ≤ x)
 below-ten x = by-test (ltb x 10) refl
   where
     by-test : (b : Bool) → ltb x 10 ≡ b → (x < 10) ⊎ (10 ≤ x)

@@ -21,7 +21,7 @@ pub from-zero : (z : ℤ) → leZ (pos 0) z ≡ true → T (nonNeg z)
 from-zero (pos n) h = tt
 from-zero (negsuc n) h = absurd (false≢true h)
 
-pub below-zero : (z : ℤ) → leZ (pos 0) z ≡ false → pos 0 -ℤ z ≡ pos (natAbs z)
+below-zero : (z : ℤ) → leZ (pos 0) z ≡ false → pos 0 -ℤ z ≡ pos (natAbs z)
 below-zero (pos n) h = absurd (omega (arith, leb-false 0 n h))
 below-zero (negsuc n) h = ap pos (zero-add (suc n))
 

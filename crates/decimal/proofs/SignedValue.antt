@@ -33,7 +33,7 @@ digits-unsigned : (x : ℕ) → getD (digits x) 0 0 ≡ minus → ⊥
 digits-unsigned x e = omega (arith, first-is-digit x)
 
 -- the value of a number's digits is the number
-signedValue-digits : (z : ℤ) → signedValue (signedDigits z) ≡ z
+pub signedValue-digits : (z : ℤ) → signedValue (signedDigits z) ≡ z
 unfolding signedDigits
 signedValue-digits (pos x) = unsigned-value (digits x) (digits-unsigned x) ∙ ap pos (valueAfter-digits x)
 signedValue-digits (negsuc x) = unfold signedValue in rw (valueAfter-digits (suc x))

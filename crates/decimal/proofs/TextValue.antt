@@ -61,6 +61,19 @@ allDigits-digits =
     by-tenths (λ x. allDigits (digits x) ≡ true) (λ x s. rw (digits-single x s, isDigit-digit x s))
     (λ x g h. rw (digits-snoc x g, allDigits-append, h, isDigit-digit (x % 10) (omega arith)))
 
+-- each by itself
+pub digit-at : (x i : ℕ) → i < length (digits x) → (48 ≤ getD (digits x) i 0) × (getD (digits x) i 0 ≤ 57)
+unfolding allDigits isDigit
+digit-at x i h = go (digits x) i h (allDigits-digits x)
+  where
+    go : (s : List ℕ) (i : ℕ) → i < length s → allDigits s ≡ true → (48 ≤ getD s i 0) × (getD s i 0 ≤ 57)
+    go [] i l h = absurd (omega arith)
+    go (c ∷ s) zero l h =
+        let first = and-true (isDigit c) (allDigits s) .0 h .0 in
+        let both = and-true (leb 48 c) (leb c 57) .0 first in
+        (leb-true 48 c (both .0), leb-true c 57 (both .1))
+    go (c ∷ s) (suc i) l h = go s i (omega arith) (and-true (isDigit c) (allDigits s) .0 h .1)
+
 -- one byte more behind a text
 valueAfter-snoc : (v : ℕ) (s : List ℕ) (c : ℕ) → valueAfter v (s ++ c ∷ []) ≡ valueAfter v s * 10 + (c - 48)
 unfolding valueAfter
@@ -86,7 +99,7 @@ first-is-digit zero = rw (digits-single 0 (omega arith)) (omega arith)
 first-is-digit (suc x) = omega (arith, first-digit (suc x) (omega arith))
 
 -- no number has a digit 0 before others
-pub no-leading-zero : (x : ℕ) → getD (digits x) 0 0 ≡ 48 → length (digits x) ≡ 1
+no-leading-zero : (x : ℕ) → getD (digits x) 0 0 ≡ 48 → length (digits x) ≡ 1
 no-leading-zero zero h = rw (digits-single 0 (omega arith))
 no-leading-zero (suc x) h = absurd (omega (arith, first-digit (suc x) (omega arith)))
 
@@ -103,7 +116,7 @@ digits-valueAfter v (c ∷ s) p h =
     digits-valueAfter (v * 10 + (c - 48)) s (omega arith) (q .1) ∙ rw (digits-behind v (c - 48) p (omega arith), e, append-assoc)
 
 -- a text of digits with no leading zero is the digits of its value
-pub digits-value : (s : List ℕ) → 0 < length s → allDigits s ≡ true → (1 < length s → getD s 0 0 ≡ 48 → ⊥) → digits (valueAfter 0 s) ≡ s
+digits-value : (s : List ℕ) → 0 < length s → allDigits s ≡ true → (1 < length s → getD s 0 0 ≡ 48 → ⊥) → digits (valueAfter 0 s) ≡ s
 unfolding valueAfter allDigits isDigit
 digits-value [] n h z = absurd (omega arith)
 digits-value (c ∷ s) n h z = first s (and-true (isDigit c) (allDigits s) .0 h .1) z
@@ -150,7 +163,7 @@ digits-numberIn s x h =
     by-test false b p q h = let z : _≡_ {A = ℕ} 0 1 = cc in absurd (omega arith)
 
 -- a text that is no number's is read as none
-pub numberIn-other : (s : List ℕ) → ((x : ℕ) → x < 2 ^ 32 → s ≡ digits x → ⊥) → numberIn s ≡ NotANumber
+numberIn-other : (s : List ℕ) → ((x : ℕ) → x < 2 ^ 32 → s ≡ digits x → ⊥) → numberIn s ≡ NotANumber
 numberIn-other s none = by-answer (numberIn s) refl
   where
     by-answer : (r : Number) → numberIn s ≡ r → numberIn s ≡ NotANumber

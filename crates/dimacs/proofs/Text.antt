@@ -9,11 +9,11 @@ use lib.Dec.{ltb}
 use lib.IntN.{ℤ, pos, negsuc}
 use lib.ListN.{length, length-append, getD, take, drop, take-append-drop}
 use lib.Seq.{take-suc}
-use lib.Signed.{mag}
 use mir.Syntax.{w32}
 use mir.Val.{SFits, toZ, ofZ}
 use Rattle.decimal.proofs.Digits.{digits-single, digits-behind, length-digits-ten, length-field}
-use Rattle.decimal.proofs.TextValue.{first-digit}
+use Rattle.decimal.proofs.TextValue.{digit-at, first-digit}
+use Rattle.decimal.proofs.SignedValue.{signedValue-digits}
 use Rattle.decimal.proofs.Signed.{length-signedDigits, read-back}
 use Rattle.decimal.specs.Digits.{digit, space, minus, lineFeed, digits, field, signedDigits}
 use Rattle.model.proofs.Gather.{All, nothing, also}
@@ -37,10 +37,6 @@ unfolding refusalText
 length-refusalText n p f g =
     omega
     (arith, length-append (refused ++ field n ++ field p) (lineFeed ∷ []), length-append (refused ++ field n) (field p), length-append refused (field n), length-field n f, length-field p g)
-
--- a number of a slice as a machine reads it
-pub element-is : (zs : List ℤ) (i : ℕ) → mag (getD zs i (pos 0)) < 2 ^ 31 → toZ w32 (ofZ w32 (getD zs i (pos 0))) ≡ getD zs i (pos 0)
-element-is zs i h = read-back (getD zs i (pos 0)) (record { sfits = h })
 
 -- the end mark, and any other number, as a machine tells them, by their bits
 pub numberText-zero : (z : ℤ) → SFits w32 z → ofZ w32 z ≡ 0 → numberText z ≡ digit 0 ∷ lineFeed ∷ []
@@ -71,7 +67,7 @@ clauseText-next zs i h =
     ap clauseText (take-suc zs i (pos 0) h) ∙ clauseText-append (take i zs) (getD zs i (pos 0) ∷ []) ∙ ap (λ (t : List ℕ). clauseText (take i zs) ++ t) (clauseText-single (getD zs i (pos 0)))
 
 -- the text of the first numbers is no longer than that of all
-pub length-clauseText-take : (zs : List ℤ) (i : ℕ) → length (clauseText (take i zs)) ≤ length (clauseText zs)
+length-clauseText-take : (zs : List ℤ) (i : ℕ) → length (clauseText (take i zs)) ≤ length (clauseText zs)
 length-clauseText-take zs i =
     let e : length (clauseText (take i zs ++ drop i zs)) ≡ length (clauseText (take i zs)) + length (clauseText (drop i zs)) =
     ap length (clauseText-append (take i zs) (drop i zs)) ∙ length-append (clauseText (take i zs)) (clauseText (drop i zs)) in
@@ -87,7 +83,7 @@ clauseText-room zs i h =
     omega (arith, length-clauseText-take zs (suc i))
 
 -- a number of 32 bits takes at most twelve bytes with the one behind it
-pub length-numberText : (z : ℤ) → SFits w32 z → length (numberText z) ≤ 12
+length-numberText : (z : ℤ) → SFits w32 z → length (numberText z) ≤ 12
 length-numberText z f = omega (arith, length-append (signedDigits z) (behind z ∷ []), length-signedDigits z f)
 
 -- n numbers of 32 bits take at most 12 n bytes
@@ -123,6 +119,8 @@ unfolding signedDigits
 number-printed =
     record {
       printed = clauseText-single;
+      value = signedValue-digits;
+      only-digits = digit-at;
       minus-below = λ x. refl;
       no-leading-zero = λ x. first-digit (suc x) (omega arith);
       zero-alone = digits-single 0 (omega arith);

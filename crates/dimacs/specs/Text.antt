@@ -1,11 +1,12 @@
 -- The bytes that `frames` prints (RULES P2 and P3): header, clauses, refusal. A text is a list of
 -- bytes. Cited by every function that writes one.
-use Prim.Native.Nat.{ℕ, zero, suc, _<_}
+use Prim.Native.Nat.{ℕ, zero, suc, _≤_, _<_}
 use mathlib.Core.Path.{_≡_}
 use mathlib.Core.List.{List, [], _∷_, _++_}
 use lib.IntN.{ℤ, pos, negsuc}
-use lib.ListN.{getD}
+use lib.ListN.{length, getD}
 use Rattle.decimal.specs.Digits.{space, minus, lineFeed, digits, field, signedDigits}
+use Rattle.decimal.specs.SignedValue.{signedValue}
 
 -- the bytes of `p cnf` and a space
 abbrev pub problem : List ℕ
@@ -42,10 +43,12 @@ pub record OtherNumbers : Type 0 where
   pub not-ended : clauseText (pos 7 ∷ []) ≡ 55 ∷ space ∷ []
   pub least : clauseText (negsuc 2147483647 ∷ []) ≡ 45 ∷ 50 ∷ 49 ∷ 52 ∷ 55 ∷ 52 ∷ 56 ∷ 51 ∷ 54 ∷ 52 ∷ 56 ∷ space ∷ []
 
--- RULES L10: a number's decimal is what is printed of it where it stands among clauses, up to the byte behind it; a minus stands only
--- below zero, there are no leading zeros, and zero is `0`
+-- RULES L10: a number's decimal is what is printed of it where it stands among clauses, up to the byte behind it; its digits have the
+-- number's value, a minus stands only below zero, there are no leading zeros, and zero is `0`
 pub record NumberPrinted : Type 0 where
   pub printed : (z : ℤ) → clauseText (z ∷ []) ≡ signedDigits z ++ behind z ∷ []
+  pub value : (z : ℤ) → signedValue (signedDigits z) ≡ z
+  pub only-digits : (x i : ℕ) → i < length (signedDigits (pos x)) → (48 ≤ getD (signedDigits (pos x)) i 0) × (getD (signedDigits (pos x)) i 0 ≤ 57)
   pub minus-below : (x : ℕ) → signedDigits (negsuc x) ≡ minus ∷ signedDigits (pos (suc x))
   pub no-leading-zero : (x : ℕ) → 48 < getD (signedDigits (pos (suc x))) 0 0
   pub zero-alone : signedDigits (pos 0) ≡ 48 ∷ []

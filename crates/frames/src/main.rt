@@ -1,6 +1,6 @@
 // The program (RULES P1 to P7): a depth line and a sheet on standard input, the formula as DIMACS text
 // or one refusal on standard output. What is read and what is printed is in the crates below; here are only input and output.
-use group_order::order::Next;
+use group_order::Next;
 use netlist::Netlist;
 use netlist::UnpackedList;
 ghost use Prim.Native.Nat.{_≤_};
@@ -40,7 +40,7 @@ fn print_clauses(net: Netlist, latches: &UnpackedList, gates: &UnpackedList, dep
     let mut numbers = [0; 5992];
     let mut table = [0; 40000];
     text_writer::fill_table(&mut table);
-    let mut next = group_order::order::first_group(depth);
+    let mut next = group_order::first_group(depth);
     while let Next::Then(group) = next {
         let piece = program_output::print_groups(
             &mut text,

@@ -14,8 +14,8 @@ use Rattle.model.specs.declared.Group.{Group}
 use Rattle.model.specs.declared.Group.the-variants.{Wires, Pair, Closing, Property}
 use Rattle.group_order.proofs.InOrder.{in-order, not-in-order}
 use Rattle.group_order.specs.Next.{firstGroup, remainingAfter, remainingFrom}
-use Rattle.group_order.specs.declared.order.Next.{Next}
-use Rattle.group_order.specs.declared.order.Next.the-variants.{Then, End}
+use Rattle.group_order.specs.declared.Next.{Next}
+use Rattle.group_order.specs.declared.Next.the-variants.{Then, End}
 
 -- the wires of frame 0 come first, whatever stands behind the frames
 frames-first : (n : ℕ) (ys : List Group) → firstGroup (gather (suc n) frameGroups ++ ys) ≡ Then (Wires 0)

@@ -4,8 +4,8 @@ use Prim.Native.Nat.{ℕ, _+_, _-_, _*_}
 use mathlib.Core.List.{List, [], _∷_}
 use Rattle.model.specs.declared.Group.{Group}
 use Rattle.model.specs.declared.Group.the-variants.{Wires, Pair, Closing, Property}
-use Rattle.group_order.specs.declared.order.Next.{Next}
-use Rattle.group_order.specs.declared.order.Next.the-variants.{Then, End}
+use Rattle.group_order.specs.declared.Next.{Next}
+use Rattle.group_order.specs.declared.Next.the-variants.{Then, End}
 
 abbrev pub firstGroup : List Group → Next
 firstGroup [] = End

@@ -1,7 +1,7 @@
 -- What the loops over the data bits write, from the numbers and literals that they hold: bit by bit the model's clauses; and the
 -- parts of a pair's clauses. No contract cites this file.
 use Prim.Native.Nat.{ℕ, _+_}
-use mathlib.Core.Path.{_≡_, refl, _∙_, ap}
+use mathlib.Core.Path.{_≡_, _∙_, ap}
 use mathlib.Core.List.{List, [], _++_, append-assoc}
 use native.Mathlib.Nat.{add-zero}
 use lib.IntN.{ℤ}

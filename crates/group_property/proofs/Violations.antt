@@ -11,7 +11,7 @@ use Rattle.model.specs.Bits.{odd}
 use Rattle.model.specs.Netlist.{lastWire}
 use Rattle.model.specs.Gather.{gather}
 use Rattle.model.specs.Clauses.{known, plus, minus, neg}
-use Rattle.model.specs.Variables.{stride, baseOf, base, codeAt}
+use Rattle.model.specs.Variables.{stride, baseOf, base, codeAt, codeIn}
 use Rattle.model.specs.Groups.{violationOf}
 use Rattle.model.specs.Numbers.{keptOf, kept, isTrue, hasTrue}
 use Rattle.literals.specs.declared.Code.{Code}
@@ -43,10 +43,10 @@ violated-same b d x = go (ltb x 2) (odd x)
     go false true = refl
     go false false = refl
 
--- so the clause has a true literal if ¬P is true in some frame
-pub violations-true : (net : Netlist) (k b : ℕ) {v : Bool} → isTrue (neg (codeAt b (net .p .0))) ≡ v
+-- so the clause has a true literal if ¬P is true in frame 0
+pub violations-true : (net : Netlist) (k : ℕ) {v : Bool} → isTrue (neg (codeIn (alone net) 0 (net .p .0))) ≡ v
     → hasTrue (gather (k + 1) (violationOf (alone net))) ≡ v
 unfolding violationOf netOf
-violations-true net k b {v} h =
+violations-true net k {v} h =
     rw (add-one k)
-    (hasTrue-gather k (violationOf (alone net)) v (λ i. hasTrue-one (neg (codeAt (base (alone net) i) (net .p .0))) ∙ violated-same (base (alone net) i) b (net .p .0) ∙ h))
+    (hasTrue-gather k (violationOf (alone net)) v (λ i. hasTrue-one (neg (codeAt (base (alone net) i) (net .p .0))) ∙ violated-same (base (alone net) i) (base (alone net) 0) (net .p .0) ∙ h))

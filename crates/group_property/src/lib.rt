@@ -1,10 +1,14 @@
 // The clause of the property (RULES G14): P is false in some frame from 0 to k.
 use netlist::Netlist;
+ghost use mathlib.Core.Path.{_≡_};
 ghost use Prim.Native.Nat.{_+_, _≤_};
 ghost use lib.ListN.{length};
 ghost use Rattle.model.specs.Gather.{gather};
+ghost use Rattle.model.specs.Acceptance.{WithinLimits};
+ghost use Rattle.model.specs.Clauses.{neg};
+ghost use Rattle.model.specs.Variables.{codeIn};
 ghost use Rattle.model.specs.Groups.{violationOf};
-ghost use Rattle.model.specs.Numbers.{kept, numbersOf};
+ghost use Rattle.model.specs.Numbers.{isTrue, kept, numbersOf};
 ghost use Rattle.model.specs.declared.Group.the-variants.{Property};
 ghost use Rattle.netlist.specs.NetOf.{alone};
 ghost use Rattle.clause_variables.specs.FrameFits.{FrameFits};
@@ -28,13 +32,21 @@ fn put_violations(out: &mut [i32], net: Netlist, k: u32) -> usize
     at
 }
 
-// The clause, with its end mark. P is a constant in every frame or in none.
+// Whether P is the constant false, and so ¬P true in every frame.
+fn is_always_violated(net: Netlist) -> bool
+    requires { ⌜ WithinLimits (alone net) ⌝ }
+    ensures { λ r. ⌜ r ≡ isTrue (neg (codeIn (alone net) 0 (net .p .0))) ⌝ }
+{
+    let property = net.p.in_frame(clause_variables::frame_base(net, 0));
+    property.negated().is_true()
+}
+
+// The clause, with its end mark.
 pub fn put_property(out: &mut [i32], net: Netlist, k: u32) -> usize
     requires { ⌜ FrameFits (alone net) k × (k + 2 ≤ length (now out)) ⌝ }
     ensures { λ r. ⌜ Wrote (numbersOf (alone net) k Property) (now (out .entry)) (now (out .exit)) r × (r ≤ k + 2) ⌝ }
 {
-    let property = net.p.in_frame(clause_variables::frame_base(net, 0));
-    if property.negated().is_true() {
+    if is_always_violated(net) {
         return 0;
     }
     let a = put_violations(out, net, k);

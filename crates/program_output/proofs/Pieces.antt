@@ -18,8 +18,8 @@ use Rattle.model.proofs.Gather.{All, all-at}
 use Rattle.model.proofs.Joined.{order-inDepth}
 use Rattle.model.proofs.Wrote.{wrote-nothing, wrote-then}
 use Rattle.group_order.specs.Next.{firstGroup}
-use Rattle.group_order.specs.declared.order.Next.{Next}
-use Rattle.group_order.specs.declared.order.Next.the-variants.{Then, End}
+use Rattle.group_order.specs.declared.Next.{Next}
+use Rattle.group_order.specs.declared.Next.the-variants.{Then, End}
 use Rattle.dimacs.specs.Text.{clauseText}
 use Rattle.dimacs.proofs.Text.{clauseText-append}
 use Rattle.program_output.specs.declared.Piece.{Piece}

@@ -1,5 +1,5 @@
 // The text of all groups of a depth, piece by piece through buffers of fixed size (RULES P2).
-use group_order::order::Next;
+use group_order::Next;
 use model::Group;
 use netlist::Netlist;
 use netlist::UnpackedList;
@@ -103,7 +103,7 @@ pub fn print_groups(
                 depth,
                 due,
             );
-        next = group_order::order::next_group(depth, due);
+        next = group_order::next_group(depth, due);
     }
     Piece { bytes, next }
 }

@@ -9,8 +9,7 @@ use native.Mathlib.Decide.{le-ind, decLt}
 use native.Mathlib.Omega.{arith}
 use lib.Dec.{ltb}
 use borrow.Author.Tests.{lt-ltb, le-ltb}
-use Rattle.model.specs.Search.{firstWhere, IsFirst}
-use Rattle.model.proofs.Search.{firstWhere-is}
+use Rattle.model.specs.Search.{IsFirst}
 use Rattle.refusals.specs.Tests.{refuseIf, _then_, inOrder}
 use Rattle.refusals.specs.declared.Refusal.{Refusal}
 use Rattle.refusals.specs.declared.Verdict.{Verdict}
@@ -90,7 +89,3 @@ module _ (f : ℕ → Bool) (r : Refusal) (n : ℕ) where
 
       passes : (k : ℕ) → k ≤ q → inOrder (λ p. refuseIf (f p) r p) k ≡ Passed
       passes k b = inOrder-passes (λ p. refuseIf (f p) r p) k .1 (λ p l m. refuseIf-passes (f p) r p .1 (at p l (omega arith)))
-
-  pub inOrder-firstWhere : inOrder (λ p. refuseIf (f p) r p) n
-      ≡ refuseIf (ltb (firstWhere (λ x. f (suc x)) n) n) r (suc (firstWhere (λ x. f (suc x)) n))
-  inOrder-firstWhere = inOrder-first (firstWhere-is (λ x. f (suc x)) n)

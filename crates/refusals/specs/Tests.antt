@@ -1,6 +1,5 @@
--- Chains of tests (RULES T32): the first that refuses decides. Cited by every order of tests: of a record
--- (netlist_tests/specs/Record), a call (call_unpacked/specs/Calls), a line (sheet_steps/specs/LineFaults and Steps, sheet_parse/specs/FileTests), a sheet
--- (sheet_tests/specs/Sheet), the depth line (sheet_lines/specs/Depth) and the program's input (program_input/specs/Input).
+-- Chains of tests (RULES T32): the first that refuses decides. Cited by every order of tests: of
+-- records, of calls, of lines, sheets and other texts, and of a program's input.
 use Prim.Native.Nat.{ℕ, zero, suc}
 use mathlib.Core.Bool.{Bool, cond}
 use Rattle.refusals.specs.declared.Refusal.{Refusal}

@@ -53,7 +53,7 @@ filled-table old new l w =
     w .leaves ∙ rw (all, drop-length old) (append-nil (tableBelow 10000))
 
 -- byte d of x's digits stands at 4x + d
-pub tableBelow-at : (n x d : ℕ) → x < n → d < 4 → getD (tableBelow n) (x * 4 + d) 0 ≡ getD (fourDigits x) d 0
+tableBelow-at : (n x d : ℕ) → x < n → d < 4 → getD (tableBelow n) (x * 4 + d) 0 ≡ getD (fourDigits x) d 0
 unfolding tableBelow
 tableBelow-at zero x d h b = absurd (omega arith)
 tableBelow-at (suc n) x d h b =

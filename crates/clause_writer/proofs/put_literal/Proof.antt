@@ -16,8 +16,8 @@ enum-told-2 c = search needs
 enum-known-a : tie.Need-enum-known-a
 enum-known-a c = search needs
 
-put-number-requires : tie.Need-put-number-requires
-put-number-requires c κs = search (needs, number-is-lit)
+put-lit-requires : tie.Need-put-lit-requires
+put-lit-requires c κs = search (needs, number-is-lit)
 
 returns : tie.Need-returns
 unfolding literalOf keptOf
@@ -32,7 +32,7 @@ same-length c = search needs
 
 returns-3 : tie.Need-returns-3
 unfolding literalOf
-returns-3 c = rw (c .before .before .before .before .a .given .1) (c .before .put-number .ensures)
+returns-3 c = rw (c .before .before .before .before .a .given .1) (c .before .put-lit .ensures)
 
 pub put-literal-spec : {M : Type 1} → statement M
 put-literal-spec =
@@ -41,7 +41,7 @@ put-literal-spec =
     enum-told
     enum-told-2
     enum-known-a
-    put-number-requires
+    put-lit-requires
     returns
     returns-2
     same-length

@@ -4,8 +4,8 @@ use Rattle.clause_writer.proofs.Wrote.{wrote-then, written-three-number
 use Rattle.clause_writer.proofs.put_three_numbers.Statement.{statement}
 use Rattle.clause_writer.proofs.put_three_numbers.Tie as tie
 
-put-number-requires : tie.Need-put-number-requires
-put-number-requires c κs = search needs
+put-lit-requires : tie.Need-put-lit-requires
+put-lit-requires c κs = search needs
 
 mul-put-two-numbers : tie.Need-mul-put-two-numbers
 mul-put-two-numbers c = search needs
@@ -30,13 +30,13 @@ same-length c = search needs
 
 returns : tie.Need-returns
 returns c =
-    (rw written-three-numbers (wrote-then (c .before .before .before .before .put-number .ensures .0) (c .before .put-two-numbers .ensures .0)), search needs)
+    (rw written-three-numbers (wrote-then (c .before .before .before .before .put-lit .ensures .0) (c .before .put-two-numbers .ensures .0)), search needs)
 
 pub put-three-numbers-spec : {M : Type 1} → statement M
 put-three-numbers-spec =
     tie.close
     (tie.spec
-    put-number-requires
+    put-lit-requires
     mul-put-two-numbers
     sub-put-two-numbers
     part-put-two-numbers-start

@@ -4,23 +4,23 @@ use Rattle.clause_writer.proofs.Wrote.{wrote-then, written-two-numbers}
 use Rattle.clause_writer.proofs.put_two_numbers.Statement.{statement}
 use Rattle.clause_writer.proofs.put_two_numbers.Tie as tie
 
-put-number-requires : tie.Need-put-number-requires
-put-number-requires c κs = search needs
+put-lit-requires : tie.Need-put-lit-requires
+put-lit-requires c κs = search needs
 
-mul-put-number : tie.Need-mul-put-number
-mul-put-number c = search needs
+mul-put-lit : tie.Need-mul-put-lit
+mul-put-lit c = search needs
 
-sub-put-number : tie.Need-sub-put-number
-sub-put-number c = search needs
+sub-put-lit : tie.Need-sub-put-lit
+sub-put-lit c = search needs
 
-part-put-number-start : tie.Need-part-put-number-start
-part-put-number-start c = search needs
+part-put-lit-start : tie.Need-part-put-lit-start
+part-put-lit-start c = search needs
 
-part-put-number-end : tie.Need-part-put-number-end
-part-put-number-end c = search needs
+part-put-lit-end : tie.Need-part-put-lit-end
+part-put-lit-end c = search needs
 
-put-number-requires-2 : tie.Need-put-number-requires-2
-put-number-requires-2 c κs = search needs
+put-lit-requires-2 : tie.Need-put-lit-requires-2
+put-lit-requires-2 c κs = search needs
 
 add-j : tie.Need-add-j
 add-j c = search needs
@@ -48,20 +48,20 @@ same-length c = search needs
 
 returns : tie.Need-returns
 returns c =
-    let first = c .before .before .before .before .before .before .before .put-number .ensures .0 in
-    let second = c .before .before .before .before .put-number2 .ensures .0 in
+    let first = c .before .before .before .before .before .before .before .put-lit .ensures .0 in
+    let second = c .before .before .before .before .put-lit2 .ensures .0 in
     (rw written-two-numbers (wrote-then (wrote-then first second) (c .before .put-mark .ensures .0)), search needs)
 
 pub put-two-numbers-spec : {M : Type 1} → statement M
 put-two-numbers-spec =
     tie.close
     (tie.spec
-    put-number-requires
-    mul-put-number
-    sub-put-number
-    part-put-number-start
-    part-put-number-end
-    put-number-requires-2
+    put-lit-requires
+    mul-put-lit
+    sub-put-lit
+    part-put-lit-start
+    part-put-lit-end
+    put-lit-requires-2
     add-j
     mul-put-mark
     sub-put-mark

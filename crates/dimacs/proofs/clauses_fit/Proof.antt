@@ -11,8 +11,9 @@ use lib.IntN.{ℤ, pos}
 use lib.ListN.{length, length-append, getD, take}
 use lib.Seq.{take-all}
 use Rattle.decimal.specs.Digits.{signedDigits}
+use Rattle.decimal.proofs.Signed.{read-back}
 use Rattle.dimacs.specs.Text.{behind, numberText, clauseText}
-use Rattle.dimacs.proofs.Text.{element-is, clauseText-next, clauseText-room}
+use Rattle.dimacs.proofs.Text.{clauseText-next, clauseText-room}
 use Rattle.dimacs.proofs.clauses_fit.Statement.{statement}
 use Rattle.dimacs.proofs.clauses_fit.Tie as tie
 
@@ -33,7 +34,7 @@ need c =
     let numbers : List ℤ = c .before .before .before .before .args .numbers .now in
     let z : ℤ = getD numbers (at .i) (pos 0) in
     let counted : c .number-length .result ≡ length (signedDigits z) =
-    c .number-length .ensures .0 ∙ ap (λ (z : ℤ). length (signedDigits z)) (element-is numbers (at .i) (c .before .number-length-arg .given)) in
+    c .number-length .ensures .0 ∙ ap (λ (z : ℤ). length (signedDigits z)) (read-back (getD numbers (at .i) (pos 0)) (record { sfits = c .before .number-length-arg .given })) in
     omega (arith, counted, length-append (signedDigits z) (behind z ∷ []))
 
 loop-holds : tie.Need-loop-holds Inv-loop μ-loop

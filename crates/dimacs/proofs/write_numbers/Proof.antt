@@ -1,5 +1,5 @@
 -- `dimacs::write_numbers` meets its contract. The loop's invariant: the text of the first i numbers is written.
-use Prim.Native.Nat.{ℕ, _+_, _-_, _≤_}
+use Prim.Native.Nat.{_+_, _-_, _≤_}
 use mathlib.Core.Path.{_≡_, refl, _∙_}
 use mathlib.Core.List.{List, _++_}
 use native.Mathlib.Numerals.{add-one}
@@ -10,8 +10,9 @@ use lib.ListN.{length, getD, take}
 use lib.Seq.{take-all}
 use Rattle.model.specs.Wrote.{Wrote}
 use Rattle.text_writer.specs.Extends.{Extends}
+use Rattle.decimal.proofs.Signed.{read-back}
 use Rattle.dimacs.specs.Text.{numberText, clauseText}
-use Rattle.dimacs.proofs.Text.{element-is, clauseText-next, clauseText-room}
+use Rattle.dimacs.proofs.Text.{clauseText-next, clauseText-room}
 use Rattle.dimacs.proofs.write_numbers.Statement.{statement}
 use Rattle.dimacs.proofs.write_numbers.Tie as tie
 
@@ -49,7 +50,7 @@ next c =
     let start = turn .before .before .before .before in
     let numbers : List ℤ = start .args .numbers .now in
     let told : Extends (numberText (getD numbers (at .i) (pos 0))) (at .at) (at .out) (c .write-number .last .0) (c .write-number .result) =
-    rw (element-is numbers (at .i) (c .before .write-number-arg2 .given)) at (c .write-number .ensures) in
+    rw (read-back (getD numbers (at .i) (pos 0)) (record { sfits = c .before .write-number-arg2 .given })) at (c .write-number .ensures) in
     told (clauseText (take (at .i) numbers)) (start .args .out .now) (at .inv .2)
 
 mul-write-number : tie.Need-mul-write-number Inv-loop μ-loop
@@ -62,7 +63,7 @@ write-number-requires : tie.Need-write-number-requires Inv-loop μ-loop
 write-number-requires c κs =
     let at = c .before .before .before .loop in
     let start = c .before .before .before .before .before .before in
-    (start .pre .0, rw (element-is (start .args .numbers .now) (at .i) (c .write-number-arg2 .given)) (omega (arith, room (c .before .before))))
+    (start .pre .0, rw (read-back (getD (start .args .numbers .now) (at .i) (pos 0)) (record { sfits = c .write-number-arg2 .given })) (omega (arith, room (c .before .before))))
 
 add-i : tie.Need-add-i Inv-loop μ-loop
 add-i c = omega arith

@@ -1,35 +1,23 @@
 -- `group_property::put_property` meets its contract.
 use Prim.Native.Nat.{_+_}
+use mathlib.Core.Path.{sym, _∙_}
 use native.Mathlib.Omega.{arith}
 use borrow.Author.Needs.{needs}
 use Rattle.model.specs.Groups.{clausesOf}
 use Rattle.model.specs.Numbers.{numbersOf}
-use Rattle.netlist.specs.NetOf.{netOf}
-use Rattle.clause_variables.proofs.Room.{numbered}
 use Rattle.clause_writer.proofs.Wrote.{clause-ended, clause-left-out, end-most}
 use Rattle.group_property.proofs.Violations.{violations-true}
 use Rattle.group_property.proofs.put_property.Statement.{statement}
 use Rattle.group_property.proofs.put_property.Tie as tie
 
-frame-base-requires : tie.Need-frame-base-requires
-frame-base-requires c κs = search needs
-
-in-frame-requires : tie.Need-in-frame-requires
-unfolding netOf
-in-frame-requires c κs = search (needs, numbered)
-
-negated-requires : tie.Need-negated-requires
-negated-requires c κs = search needs
-
-is-true-requires : tie.Need-is-true-requires
-is-true-requires c κs = search needs
+is-always-violated-requires : tie.Need-is-always-violated-requires
+is-always-violated-requires c κs = search needs
 
 returns : tie.Need-returns
 unfolding numbersOf clausesOf
 returns c =
-    let a = c .before .before .before .before .before .args in
-    let tested = rw (c .before .is-true .ensures, c .before .before .negated .ensures .0, c .before .before .before .in-frame .ensures .0) at (c .if1 .taken) in
-    (clause-left-out _ _ (violations-true (a .net) (a .k) _ tested), search needs)
+    let a = c .before .before .args in
+    (clause-left-out _ _ (violations-true (a .net) (a .k) (sym (c .before .is-always-violated .ensures) ∙ c .if1 .taken)), search needs)
 
 put-violations-requires : tie.Need-put-violations-requires
 put-violations-requires c κs = search needs
@@ -58,11 +46,11 @@ same-length c = search needs
 returns-2 : tie.Need-returns-2
 unfolding numbersOf clausesOf
 returns-2 c =
-    let a = c .before .before .before .before .before .before .before .before .before .before .before .args in
-    let tested = rw (c .before .before .before .before .before .before .before .is-true .ensures, c .before .before .before .before .before .before .before .before .negated .ensures .0, c .before .before .before .before .before .before .before .before .before .in-frame .ensures .0) at (c .before .before .before .before .before .before .if1 .left) in
+    let a = c .before .before .before .before .before .before .before .before .args in
+    let tested = sym (c .before .before .before .before .before .before .before .is-always-violated .ensures) ∙ c .before .before .before .before .before .before .if1 .left in
     let all = c .before .before .before .before .put-violations .ensures in
     let end = c .before .put-end .ensures .0 in (
-      clause-ended _ (violations-true (a .net) (a .k) _ tested) (all .0) end,
+      clause-ended _ (violations-true (a .net) (a .k) tested) (all .0) end,
       omega (arith, end-most {most = a .k + 1} end (all .1) (omega arith)),
     )
 
@@ -70,10 +58,7 @@ pub put-property-spec : {M : Type 1} → statement M
 put-property-spec =
     tie.close
     (tie.spec
-    frame-base-requires
-    in-frame-requires
-    negated-requires
-    is-true-requires
+    is-always-violated-requires
     returns
     put-violations-requires
     mul-put-end

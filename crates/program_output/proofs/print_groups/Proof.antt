@@ -12,8 +12,8 @@ use Rattle.model.specs.Groups.{groupOrder}
 use Rattle.model.specs.declared.Group.{Group}
 use Rattle.netlist.specs.NetOf.{netOf}
 use Rattle.group_order.specs.Next.{firstGroup, remainingFrom}
-use Rattle.group_order.specs.declared.order.Next.{Next}
-use Rattle.group_order.specs.declared.order.Next.the-variants.{Then}
+use Rattle.group_order.specs.declared.Next.{Next}
+use Rattle.group_order.specs.declared.Next.the-variants.{Then}
 use Rattle.program_output.proofs.Pieces.{SoFar, nothing-yet, orderHas-due, one-more, all-full, all-end}
 use Rattle.program_output.proofs.print_groups.Statement.{statement}
 use Rattle.program_output.proofs.print_groups.Tie as tie

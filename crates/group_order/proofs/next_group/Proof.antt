@@ -6,8 +6,8 @@ use borrow.Author.Needs.{needs}
 use borrow.Author.Tests.{eq-eqb, ne-eqb, lt-ltb, le-ltb, not-true, not-false}
 use Rattle.model.specs.Groups.{inDepth}
 use Rattle.group_order.proofs.Successor.{follows, none-follows}
-use Rattle.group_order.proofs.order.next_group.Statement.{statement}
-use Rattle.group_order.proofs.order.next_group.Tie as tie
+use Rattle.group_order.proofs.next_group.Statement.{statement}
+use Rattle.group_order.proofs.next_group.Tie as tie
 
 is-in-depth-requires : tie.Need-is-in-depth-requires
 is-in-depth-requires c κs = search needs

@@ -1,8 +1,8 @@
 -- `group_order::is_in_depth` meets its contract: each arm is the definition at its kind.
 use Rattle.model.specs.Groups.{inDepth}
 use borrow.Author.Needs.{needs}
-use Rattle.group_order.proofs.order.is_in_depth.Statement.{statement}
-use Rattle.group_order.proofs.order.is_in_depth.Tie as tie
+use Rattle.group_order.proofs.is_in_depth.Statement.{statement}
+use Rattle.group_order.proofs.is_in_depth.Tie as tie
 
 enum-known-group : tie.Need-enum-known-group
 enum-known-group c = search needs

@@ -1,8 +1,8 @@
--- `group_order::order::first_group` meets its contract.
+-- `group_order::first_group` meets its contract.
 use mathlib.Core.Path.{sym}
 use Rattle.group_order.proofs.Successor.{order-first}
-use Rattle.group_order.proofs.order.first_group.Statement.{statement}
-use Rattle.group_order.proofs.order.first_group.Tie as tie
+use Rattle.group_order.proofs.first_group.Statement.{statement}
+use Rattle.group_order.proofs.first_group.Tie as tie
 
 returns : tie.Need-returns
 returns c = sym (order-first (c .args .depth))
