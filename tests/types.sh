@@ -24,8 +24,6 @@ crates/replay_frame/src/lib.rt let read = netlist::first_read_wire(net).0
 # a caller asks about a code
 crates/call_position/src/lib.rt if Code(code).is_above(netlist::last_wire(net))
 crates/call_position/src/lib.rt number: 0, place: 0, literal: number_of(Code(code).in_frame(position.base)),
-# a value is read off a table of wires
-crates/circuit_values/src/lib.rt let x = code.0
 # what a sheet has is stored
 crates/sheet_steps/src/lib.rt next.address[at].0 = first
 crates/sheet_steps/src/lib.rt next.write_data[at].0 = first
@@ -34,13 +32,11 @@ crates/sheet_steps/src/lib.rt next.re.0 = second
 crates/sheet_steps/src/lib.rt next.p.0 = third
 crates/sheet_steps/src/lib.rt netlist::put_numbers(latches, l as usize, first, second)
 crates/sheet_steps/src/lib.rt netlist::put_numbers(gates, g as usize, first, second)
-# what a text of AIGER has is stored
-crates/aiger_codes/src/lib.rt next.address[at].0 = code_of(table, table[601 + at])
-crates/aiger_codes/src/lib.rt next.write_data[at].0 = code_of(table, table[first + at])
-crates/aiger_codes/src/lib.rt next.we.0 = we
-crates/aiger_codes/src/lib.rt next.re.0 = re
-crates/aiger_codes/src/lib.rt next.p.0 = p
-crates/aiger_codes/src/lib.rt netlist::put_numbers(list, x as usize, left, right)
+# a literal of a text of AIGER becomes the code of the wire that a table has for it, and is stored
+crates/aiger_codes/src/lib.rt return Wire(w)
+crates/aiger_codes/src/lib.rt Wire(w)
+crates/aiger_codes/src/lib.rt Code(2 * wire.0 + literal % 2)
+crates/aiger_codes/src/lib.rt netlist::put_numbers(list, x as usize, left.0, right.0)
 # what a list of records has is stored, and delivered
 crates/netlist/src/lib.rt list[2 * index] = first
 crates/netlist/src/lib.rt list[2 * index + 1] = second
