@@ -3,7 +3,7 @@
 use Prim.Native.Nat.{ℕ, zero, suc, _<_}
 use mathlib.Core.Path.{_≡_, refl, sym, _∙_, ap, ap₂, fun-ext}
 use mathlib.Core.Bool.{Bool, true, false, cond, _&&_, _||_, true≢false}
-use mathlib.Core.Logic.{by-cases}
+use mathlib.Core.Logic.{inr, by-cases}
 use native.Mathlib.Decide.{ℕ-discrete}
 use native.Mathlib.Omega.{arith}
 use lib.Dec.{eqb}
@@ -14,7 +14,7 @@ use Rattle.model.specs.Netlist.{Netlist, port, readWire}
 use Rattle.model.specs.Circuit.{Values, codeValue, State, Feed, Feeds, addressOf, evaluate, readData, firstPass, frame, wordWritten, step, stateAt, run}
 use Rattle.model.specs.Acceptance.{Accepted}
 use Rattle.model.proofs.Search.{none-below}
-use Rattle.model.proofs.Booleans.{neither-true, cond-same}
+use Rattle.model.proofs.Booleans.{or-true, neither-true, cond-same}
 use Rattle.circuit_step.specs.Touched.{touches, touchedBefore}
 use Rattle.circuit_step.proofs.Alike.{RE-settled, address-settled}
 
@@ -32,10 +32,6 @@ withWord x w s = record { latch = s .latch; memory = λ y. cond (eqb y x) w (s .
 apart : (b q : Bool) → (b && q) ≡ false → q ≡ true → b ≡ true → ⊥
 apart b q e h k = true≢false (sym (rw (h, k)) ∙ e)
 
-or-right : (r w : Bool) → w ≡ true → (r || w) ≡ true
-or-right true w e = refl
-or-right false w e = e
-
 module _ (c : Netlist) (v : Values) (x : ℕ) (none : touches c v x ≡ false) where
   -- a frame that does not touch a word neither reads nor writes it
   pub not-read : codeValue v (c .RE) ≡ true → addressOf c (port c) v ≡ x → ⊥
@@ -44,7 +40,7 @@ module _ (c : Netlist) (v : Values) (x : ℕ) (none : touches c v x ≡ false) w
 
   pub not-written : codeValue v (c .WE) ≡ true → addressOf c (port c) v ≡ x → ⊥
   unfolding touches
-  not-written w e = apart _ _ none (or-right (codeValue v (c .RE)) (codeValue v (c .WE)) w) (eq-eqb x (addressOf c (port c) v) (sym e))
+  not-written w e = apart _ _ none (or-true (codeValue v (c .RE)) (codeValue v (c .WE)) .1 (inr w)) (eq-eqb x (addressOf c (port c) v) (sym e))
 
   -- a step leaves the word
   step-untouched : (w : ℕ) (s : State) → step c (withWord x w s) v ≡ withWord x w (step c s v)

@@ -4,7 +4,7 @@ use Prim.Native.Nat.{ℕ, zero, suc, _+_, _/_, _^_, _≤_, _<_}
 use mathlib.Core.Path.{_≡_, refl, sym, _∙_, ap, ap₂, fun-ext, subst}
 use mathlib.Core.Bool.{Bool, true, false, cond, not, _&&_, _||_, or-false}
 use mathlib.Core.List.{List, []}
-use mathlib.Core.Logic.{by-cases}
+use mathlib.Core.Logic.{inr, by-cases}
 use native.Mathlib.Decide.{ℕ-discrete}
 use native.Mathlib.Numerals.{add-one}
 use native.Mathlib.Omega.{arith}
@@ -19,7 +19,7 @@ use Rattle.model.specs.Netlist.{Netlist, startOf, start, port, lastWire}
 use Rattle.model.specs.Circuit.{Values, codeValue, State, addressOf, evaluate, firstPass, stateAt, run, initial}
 use Rattle.model.specs.Acceptance.{SizesFit, WithinLimits, Accepted}
 use Rattle.model.specs.Claim.{feedOf}
-use Rattle.model.proofs.Booleans.{and-true}
+use Rattle.model.proofs.Booleans.{and-true, or-true}
 use Rattle.model.proofs.Memory.{address-below}
 use Rattle.model.proofs.Circuit.{code-same, address-same}
 use Rattle.netlist.specs.NetOf.{netOf}
@@ -78,10 +78,6 @@ filled-lists r latches gates {touched} {inputs} {state} {word} {memory} {b = b} 
       fills-is = q .fills-is ∙ ap (λ v. isUnknown (start c) && (codeValue v (c .RE) && not (entry touched (addressOf c (port c) v)))) same;
       memory-is = q .memory-is ∙ ap (λ v. cond b (set memory (addressOf c (port c) v) word) memory) same;
     }
-
-or-last : (b : Bool) → (b || true) ≡ true
-or-last true = refl
-or-last false = refl
 
 -- the last of three conditions that hold is that something does not
 last-not : (p q r : Bool) → (p && (q && not r)) ≡ true → r ≡ false
@@ -235,7 +231,7 @@ module _ {c : Netlist} (ok : Accepted c) (y : Said) (i : ℕ) where
           ≡ (entry touched (addressOf c (port c) (replayed c y i)) || b)
       there true =
           getD-set-same touched (addressOf c (port c) (replayed c y i)) true false (omega (arith, marks .size, address-small c (ok .limits .sizes) (replayed c y i)))
-          ∙ sym (or-last (entry touched (addressOf c (port c) (replayed c y i))))
+          ∙ sym (or-true (entry touched (addressOf c (port c) (replayed c y i))) true .1 (inr refl))
       there false = sym (or-false _)
 
       elsewhere : (x : ℕ) → (x ≡ addressOf c (port c) (replayed c y i) → ⊥) → (b : Bool)
