@@ -28,13 +28,20 @@ function write_of(frame, at) {
   return "writes " word(write_data, frame) " at " at
 }
 
+function shown(w, frame) { return is_idle(codes[w], frame) ? "-" : word(codes[w], frame) } # of the word w
+function column(w, text) { return sprintf("  %" width[w] "s", text) }
+
 END {
   line = "frame"
-  for (w = 1; w <= names; w++) line = line "  " name[w]
+  for (w = 1; w <= names; w++) {
+    width[w] = length(name[w])
+    for (i = 0; i <= depth; i++) if (width[w] < length(shown(w, i))) width[w] = length(shown(w, i))
+    line = line column(w, name[w])
+  }
   print line "  memory"
   for (i = 0; i <= depth; i++) {
     line = sprintf("%5d", i)
-    for (w = 1; w <= names; w++) line = line sprintf("  %" length(name[w]) "s", is_idle(codes[w], i) ? "-" : word(codes[w], i))
+    for (w = 1; w <= names; w++) line = line column(w, shown(w, i))
     at = word(address, i)
     read = read_of(i, at)
     written = write_of(i, at)

@@ -281,7 +281,7 @@ answered "an idle frame's bits are not the start" $'s SATISFIABLE\nv 3 0' 1 "" "
 } > "$work/sheets/wide.sheet"
 printf 'read%s\n' "$(for wire in $(seq 32); do printf ' %d' $((2 * wire)); done)" > "$work/sheets/wide.names"
 ends "a word of 32 bits" 10 "wide.sheet: a run breaks the property, first in frame 0:
-frame  read  memory
+frame        read  memory
     0  4294967295  reads 4294967295 at 0 (start word)  <- property broken" "" wide.sheet 0
 
 # The waveform's file: written where a run is shown and nowhere else.
@@ -313,6 +313,13 @@ check "a run by hand" same "frame  data  read  memory
     0     0     0  reads 0 at 0 (start word), writes 0 at 0
     1     1     0  writes 1 at 0
     2     0     1  reads 1 at 0 (written in frame 1)  <- property broken" "$(cat "$work/out")"
+printf 'x 2 4 1 6\nread 8\n' > "$work/names"
+trace sheet run > "$work/out"
+check "a value wider than its name" same "frame   x  read  memory
+    0   7     0  reads 0 at 0 (start word), writes 0 at 0
+    1  13     0  writes 1 at 0
+    2   6     1  reads 1 at 0 (written in frame 1)  <- property broken" "$(cat "$work/out")"
+printf 'data 6\nread 8\n' > "$work/names"
 check_fails() { # what, message, sheet, run, depth
   trace "${@:3}" > "$work/out" 2> "$work/err"
   check "$1: status" same 1 $?
