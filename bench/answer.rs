@@ -2,33 +2,14 @@
 //! `whole` has all variables, `feed` the inputs and read bits alone, which are all that `replay` may take. `run DEPTH ANSWER` prints what
 //! the second implementation makes of that file at that depth.
 
-// The second implementation, shared and not copied.
-#[allow(dead_code)]
-#[path = "../tests/reference/answer.rs"]
-mod answer;
-#[allow(dead_code)]
-#[path = "../tests/reference/circuit.rs"]
-mod circuit;
-#[allow(dead_code)]
-#[path = "../tests/reference/formula.rs"]
-mod formula;
-#[allow(dead_code)]
-#[path = "../tests/reference/netlist.rs"]
-mod netlist;
-#[allow(dead_code)]
-#[path = "../tests/reference/random.rs"]
-mod random;
-#[allow(dead_code)]
-#[path = "../tests/reference/refusal.rs"]
-mod refusal;
-#[allow(dead_code)]
-#[path = "../tests/reference/sheet.rs"]
-mod sheet;
+#[path = "../tests/runner/reference.rs"]
+mod reference;
 
 use std::io::{Read, Write};
 
-use formula::frame_base;
-use netlist::{Netlist, MAX_DEPTH};
+use reference::formula::frame_base;
+use reference::netlist::{Netlist, MAX_DEPTH};
+use reference::{answer, random, sheet};
 
 /// How long a line of values may be.
 const COLUMNS: usize = 78;

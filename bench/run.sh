@@ -5,8 +5,8 @@
 # exported call, which tests its record each time, the heading of depth 255, and the import of ASCII AIGER texts (bench/text.rs); and `replay`
 # (bench/replay.sh). Every figure is the best of several repetitions, all programs and inputs in turn, input from a file, output to /dev/null;
 # the time is the process's processor time (user and system), so that other work on the machine matters little; instructions are counted once,
-# by valgrind where it is installed. It says which of our own targets (1.25 times, 4 times, 4 MiB, 20%, 0.2 ms, 50 ms) are reached, and fails only where a program
-# fails or the texts differ.
+# by valgrind where it is installed. It says which of our own targets (1.25 times, 4 times, 4 MiB, 20%, 0.2 ms, 50 ms) are reached, and
+# fails only where a program fails or the texts differ.
 # Arguments: repetitions (100; a tenth as many of the slow generator and of the imports), and `worst` for the worst import known as well, which
 # takes a minute; the program is target/bin/frames unless FRAMES names another.
 set -euo pipefail
@@ -63,7 +63,10 @@ echo "the three programs print the same; measuring $repetitions times" >&2
 "$work/measure" "$repetitions" "$input" "$work/library" "${fast[@]}" > "$work/fast.out"
 "$work/measure" $(((repetitions + 9) / 10)) "${slow[@]}" > "$work/slow.out"
 headings=$("$work/library" headings < "$input")
-counted() { ! command -v valgrind > /dev/null 2>&1 || valgrind --tool=callgrind --callgrind-out-file=/dev/null "$1" < "$work/input.63" 2>&1 > /dev/null | awk '/Collected/ { print $NF }'; }
+counted() {
+  ! command -v valgrind > /dev/null 2>&1 ||
+    valgrind --tool=callgrind --callgrind-out-file=/dev/null "$1" < "$work/input.63" 2>&1 > /dev/null | awk '/Collected/ { print $NF }'
+}
 instructions="$(counted "$frames") $(counted "$work/optimised")"
 
 awk -v inputs="${inputs[*]}" -v bytes="${bytes[*]}" -v headings="$headings" -v instructions="$instructions" '

@@ -7,16 +7,7 @@ FRAMES=$(readlink -f "$1")
 REPLAY=$(readlink -f "$2")
 export FRAMES REPLAY
 cd "$(dirname "$0")/.." || exit 2
-passed=0
-failed=0
-check() { # what, command ..
-  local name=$1
-  shift
-  if "$@"; then passed=$((passed + 1)); else failed=$((failed + 1)); echo "FAILED: $name"; fi
-}
-
-work=$(mktemp -d)
-trap 'rm -rf "$work"' EXIT
+. tests/check.sh
 
 files() { (cd "$1" && find . -name '*.sheet' -o -name '*.names' | sort); }
 check "the builder compiles" rustc -O --edition 2021 -o "$work/build" examples/build/main.rs
@@ -74,5 +65,4 @@ check "in as many points as docs/TRUST.md says: ${told:-none}" [ "${words[points
 check "numbered from 1" [ "$(grep -oE '^[0-9]+\. [A-Z]' "$work/proved" | tr -dc '0-9\n')" = "$(seq "$points")" ]
 check "of one section" [ "$(grep -c '^#' "$work/proved")" -eq 0 ]
 
-echo "$passed passed, $failed failed"
-[ "$failed" -eq 0 ]
+finish

@@ -8,16 +8,8 @@ frames=$(readlink -f "$1")
 replay=$(readlink -f "$2")
 cd "$(dirname "$0")/.." || exit 2
 here=$PWD
-passed=0
-failed=0
-check() { # what, command ..
-  local name=$1
-  shift
-  if "$@"; then passed=$((passed + 1)); else failed=$((failed + 1)); echo "FAILED: $name"; fi
-}
+. tests/check.sh
 
-work=$(mktemp -d)
-trap 'rm -rf "$work"' EXIT
 mkdir "$work/sheets"
 
 # Runs the script in the folder of the sheets.
@@ -37,9 +29,6 @@ ends() { # what, status, printed, said, arguments ..
   check "$what: said" same "$said" "$(head -c ${#said} "$work/err")"
   check "$what: something is said exactly where nothing is printed" same "$([ -s "$work/out" ])$?" "$([ ! -s "$work/err" ])$?"
 }
-same() { [ "$1" = "$2" ] || { diff <(printf '%s\n' "$1") <(printf '%s\n' "$2"); return 1; } }
-
-line() { printf "%s%10s%10s%10s\n" "$1" "${2-}" "${3-}" "${4-}"; }
 
 # One bit at address 0, which every frame reads and to which it writes the input. The property breaks where a 1 is read and the input is
 # false (the gate), so that one run alone breaks it in frame 1, whatever solver is asked.
@@ -345,5 +334,4 @@ not_this "a first frame that is not the first" '2\n1100\n1011\n0101\n'
 not_this "a first frame behind the last" '3\n1100\n1010\n0101\n'
 not_this "a first frame that is no number" 'x\n1100\n1010\n0101\n'
 
-echo "$passed passed, $failed failed"
-[ "$failed" -eq 0 ]
+finish

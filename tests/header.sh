@@ -3,31 +3,27 @@
 # calls each function (tests/header). After `rt staticlib marrubigai`.
 set -u
 cd "$(dirname "$0")/.." || exit 2
-passed=0
-failed=0
-work=$(mktemp -d)
-trap 'rm -rf "$work"' EXIT
+. tests/check.sh
 
 exported() { sed -n 's/^pub extern "C" fn \([a-z_]*\)(.*/\1/p' crates/marrubigai/src/*.rt | sort; }
 called() { grep -oE 'marrubigai_[a-z_]+\(' "$1" | tr -d '(' | sort -u; }
-same() { # what, list, list
-  if [ "$2" = "$3" ]; then passed=$((passed + 1)); else failed=$((failed + 1)); echo "FAILED: $1"; diff <(echo "$2") <(echo "$3"); fi
-}
-same "the header declares the exported functions" "$(exported)" "$(called include/marrubigai.h)"
-same "the test calls the exported functions" "$(exported)" "$(called tests/header/main.c)"
-same "the runner declares each of them once" "$(exported)" "$(grep -hoE 'fn marrubigai_[a-z_]+' tests/runner/*.rs | sed 's/^fn //' | sort)"
+check "the header declares the exported functions" same "$(exported)" "$(called include/marrubigai.h)"
+check "the test calls the exported functions" same "$(exported)" "$(called tests/header/main.c)"
+check "the runner declares each of them once" same "$(exported)" "$(grep -hoE 'fn marrubigai_[a-z_]+' tests/runner/*.rs | sed 's/^fn //' | sort)"
 
 # The header's refusals are the rows of the library's page, MARRUBIGAI_ and the word; the test has each of them.
 rows() {
   sed -n '/^## Refusals$/,$p' docs/LIBRARY.md | sed -n 's/^| \([0-9][0-9]*\) \([a-z ]*\) |.*/\2=\1/p' | tr 'a-z ' 'A-Z_' | sed 's/=/ = /'
 }
 refusals() { sed -n '/^enum marrubigai_refusal {$/,/^};$/s/^  MARRUBIGAI_\([A-Z_]* = [0-9]*\).*/\1/p' include/marrubigai.h; }
-same "the header's refusals are those of docs/LIBRARY.md" "PASSED = 0
+check "the header's refusals are those of docs/LIBRARY.md" same "PASSED = 0
 $(rows)" "$(refusals)"
-same "the test has each refusal" "$(refusals | sed 's/ =.*//' | sort)" \
+check "the test has each refusal" same "$(refusals | sed 's/ =.*//' | sort)" \
   "$(grep -oE 'MARRUBIGAI_[A-Z_]+' tests/header/main.c | sed 's/MARRUBIGAI_//' | grep -xF "$(refusals | sed 's/ =.*//')" | sort -u)"
 
-if cc -std=c11 -pedantic -Wall -Wextra -Werror -O -o "$work/header" tests/header/main.c -L target/staticlib -lmarrubigai; then
+check "tests/header/main.c compiles with the header" \
+  cc -std=c11 -pedantic -Wall -Wextra -Werror -O -o "$work/header" tests/header/main.c -L target/staticlib -lmarrubigai
+if [ -x "$work/header" ]; then
   "$work/header" > "$work/out"
   status=$?
   sed '$d' "$work/out"
@@ -35,9 +31,6 @@ if cc -std=c11 -pedantic -Wall -Wextra -Werror -O -o "$work/header" tests/header
   [ "$status" -eq 0 ] || [ "$less" -gt 0 ] || less=1
   passed=$((passed + more))
   failed=$((failed + less))
-else
-  failed=$((failed + 1))
-  echo "FAILED: tests/header/main.c does not compile with the header"
 fi
 
 # a program in C++ finds the functions by their names too
@@ -48,11 +41,7 @@ int main() {
   return marrubigai_put_refusal(text, sizeof text, MARRUBIGAI_NO_ROOM, 0).count == MARRUBIGAI_LINE_BYTES ? 0 : 1;
 }
 END
-if g++ -std=c++11 -pedantic -Wall -Wextra -Werror -Iinclude -o "$work/call" "$work/call.cpp" -L target/staticlib -lmarrubigai && "$work/call"; then
-  passed=$((passed + 1))
-else
-  failed=$((failed + 1))
-  echo "FAILED: a program in C++ that calls the library"
-fi
-echo "$passed passed, $failed failed"
-[ "$failed" -eq 0 ]
+check "a program in C++ compiles with the header" \
+  g++ -std=c++11 -pedantic -Wall -Wextra -Werror -Iinclude -o "$work/call" "$work/call.cpp" -L target/staticlib -lmarrubigai
+check "it calls the library" "$work/call"
+finish

@@ -5,19 +5,8 @@
 set -u
 program=$(readlink -f "$1")
 cd "$(dirname "$0")/.." || exit 2
-passed=0
-failed=0
-check() { # what, command ..
-  local name=$1
-  shift
-  if "$@"; then passed=$((passed + 1)); else failed=$((failed + 1)); echo "FAILED: $name"; fi
-}
-same() { [ "$1" = "$2" ] || { diff <(printf '%s\n' "$1") <(printf '%s\n' "$2"); return 1; } }
+. tests/check.sh
 
-work=$(mktemp -d)
-trap 'rm -rf "$work"' EXIT
-
-line() { printf "%s%10s%10s%10s\n" "$1" "${2-}" "${3-}" "${4-}"; }
 refusal() { printf "refused%10d%10d" "$1" "$2"; }
 
 # The program prints this on standard output, and what it says on standard error begins with this.
@@ -69,5 +58,4 @@ prints "no standard input" "$(refusal 11 1)" "" 1 1 0 <&-
 prints "a folder" "$(refusal 11 1)" "" 1 1 0 < "$work"
 check "a full device" same "import_aag: writing failed, the output is not whole" "$(printf "$chip" | "$program" 1 1 0 2>&1 > /dev/full)"
 
-echo "$passed passed, $failed failed"
-[ "$failed" -eq 0 ]
+finish

@@ -9,16 +9,7 @@ export FRAMES REPLAY
 cd "$(dirname "$0")/.." || exit 2
 page=docs/LIBRARY.md
 source=examples/search/search.c
-passed=0
-failed=0
-check() { # what, command ..
-  local name=$1
-  shift
-  if "$@"; then passed=$((passed + 1)); else failed=$((failed + 1)); echo "FAILED: $name"; fi
-}
-
-work=$(mktemp -d)
-trap 'rm -rf "$work"' EXIT
+. tests/check.sh
 
 block() { # what stands behind the opening fence
   awk -v kind="$1" '/^```/ { inside = !inside; wanted = $0 == "```" kind; next } inside && wanted' "$page"
@@ -26,7 +17,7 @@ block() { # what stands behind the opening fence
 check "the page shows the program" diff <(block c) "$source"
 rm -f target/search
 check "the page's line compiles it" bash -ec "$(block sh)"
-[ -x target/search ] || { echo "$passed passed, $failed failed"; exit 1; }
+[ -x target/search ] || finish
 check "it compiles without a warning" cc -std=c11 -pedantic -Wall -Wextra -Werror -O -Iinclude -c -o "$work/search.o" "$source"
 
 # each command of the page's transcript, with what it prints
@@ -48,7 +39,6 @@ for sheet in examples/*/*.sheet; do
 done
 
 # a property that is broken in a frame only when it is due: a latch chain of four, so that frame 4 is the first; and constants
-line() { printf "%s%10s%10s%10s\n" "$1" "${2-}" "${3-}" "${4-}"; }
 { line N 0 4 0; line M 1 1 0; line L 1 0; line L 2 0; line L 4 0; line L 6 0; line A 0; line D 0; line C 0 0 9; } > "$work/chain.sheet"
 { line N 0 0 0; line M 1 1 0; line A 0; line D 0; line C 0 0 0; } > "$work/false.sheet"
 { line N 0 1 0; line M 1 1 0; line L 0 0; line A 0; line D 0; line C 0 3 0; } > "$work/reading.sheet" # RE is an inverted latch
@@ -79,5 +69,4 @@ for _ in $(seq 616); do line C 0 0 1; done > "$work/long.sheet"
 ends "a sheet that is too long" 1 "" "$work/long.sheet" 1
 said "a sheet that is too long" "refused 1 at 0"
 
-echo "$passed passed, $failed failed"
-[ "$failed" -eq 0 ]
+finish

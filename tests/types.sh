@@ -167,8 +167,7 @@ apart() { # files
     }' "$@"
 }
 
-work=$(mktemp -d)
-trap 'rm -rf "$work"' EXIT
+. tests/check.sh
 whole=1
 apart $(find crates -name '*.rt' | sort) > "$work/found"
 status=$?
@@ -181,15 +180,11 @@ if [ "$status" -ne 0 ] && [ "${failed:-0}" -eq 0 ]; then
 fi
 
 whole=
+is_refused() { ! (cd "$work" && apart "$1" > /dev/null); }
 refused() { # a function that the rules must refuse, in place of a crate's file
   mkdir -p "$work/${2%/*}"
   echo "$1" > "$work/$2"
-  if (cd "$work" && apart "$2" > /dev/null); then
-    failed=$((failed + 1))
-    echo "FAILED: not refused: $1"
-  else
-    passed=$((passed + 1))
-  fi
+  check "not refused: $1" is_refused "$2"
 }
 while IFS= read -r wrong; do
   [ -z "$wrong" ] || refused "$wrong" crates/group_wires/src/lib.rt
@@ -235,5 +230,4 @@ refused 'fn f(b: u32, gates: &UnpackedList, at: usize) -> Term { let left = gate
 refused 'impl Wire { fn of(code: Code) -> Wire { Wire(code.0 / 2) } }' crates/literals/src/lib.rt
 refused 'impl Code { fn wire(self) -> Wire { Wire::of(self.0 / 2) } }' crates/literals/src/lib.rt
 refused 'impl Lit { fn wire(x: u32) -> u32 { Wire(x).0 } }' crates/literals/src/lib.rt
-echo "$passed passed, $failed failed"
-[ "$failed" -eq 0 ]
+finish

@@ -11,17 +11,7 @@ REPLAY=$(readlink -f "$2")
 import_aag=$(readlink -f "$3")
 importer=$(readlink -f "$4")
 cd "$(dirname "$0")/.." || exit 2
-passed=0
-failed=0
-check() { # what, command ..
-  local name=$1
-  shift
-  if "$@"; then passed=$((passed + 1)); else failed=$((failed + 1)); echo "FAILED: $name"; fi
-}
-same() { [ "$1" = "$2" ] || { diff <(printf '%s\n' "$1") <(printf '%s\n' "$2"); return 1; } }
-
-work=$(mktemp -d)
-trap 'rm -rf "$work"' EXIT
+. tests/check.sh
 
 # What abc says of two files, of which one may be BLIF and one AIGER: equal, different, or something else that it said.
 compared() { # file, file
@@ -304,5 +294,4 @@ yosys -V | grep -q '^Yosys 0\.23 ' || hidden="$hidden\\|^frame\\|^ \\|^aag "
 check "the page's commands" diff <(grep -v "$hidden" "$work/shown") <(bash "$work/commands" 2>&1 | grep -v "$hidden")
 check "the page's waveform" grep -q '^\$enddefinitions' target/faulty.vcd
 
-echo "$passed passed, $failed failed"
-[ "$failed" -eq 0 ]
+finish

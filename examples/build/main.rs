@@ -1,11 +1,11 @@
 //! Writes the sheet of each example, and the names of its wires, below the folder given.
 //! Build: rustc -O --edition 2021 main.rs
 
+mod cartons;
 mod chip;
 mod echo;
 mod fifth_revision;
 mod fourth_revision;
-mod last_scan;
 // The second implementation's record and sheet, shared and not copied.
 #[allow(dead_code)]
 #[path = "../../tests/reference/netlist.rs"]

@@ -1,7 +1,8 @@
 //! The sixth revision: a scan writes a carton's size, a count reads it and adds it to the total. Nothing clears the memory when the
 //! chip powers up, and a count of a carton that was never scanned adds the word that happens to be there.
 
-use super::chip::{number, widen, Bit, Chip, Word, FALSE};
+use super::cartons::{add_to_total, counter, Inputs};
+use super::chip::{number, Bit, Chip, Word, FALSE};
 
 /// What the memory holds before the first frame, and whether the chip minds it.
 #[derive(Clone, Copy, PartialEq, Eq)]
@@ -13,28 +14,17 @@ pub enum Memory {
 }
 
 pub fn chip(memory: Memory) -> Chip {
-    let inputs = [("scan", 1), ("count", 1), ("large", 1), ("carton", 3)];
     let flags: &[(&str, u32)] = match memory {
         Memory::Flagged => &[("flags", 8)],
         Memory::Unknown | Memory::Cleared => &[],
     };
-    let mut c = Chip::new(
-        &inputs,
-        &[&[("total", 10), ("scanned", 1)], flags].concat(),
-        [3, 8, 0],
-    );
+    let (mut c, inputs) = counter(&[&[("total", 10), ("scanned", 1)], flags].concat());
+    let Inputs { scan, count, carton, size } = inputs;
     if memory != Memory::Cleared {
         c.leave_start_unknown();
     }
-    let (scan, count, large, carton) = (
-        c.bit("scan"),
-        c.bit("count"),
-        c.bit("large"),
-        c.word("carton"),
-    );
 
-    // A scan writes the carton's size, fifty or a hundred; a count without a scan reads it.
-    let size = c.choose(large, &number(100, 8), &number(50, 8));
+    // A scan writes the carton's size; a count without a scan reads it.
     let counting = c.and(count, !scan);
     c.connect_memory(&carton, counting, scan, &size);
     let read = c.read_data();
@@ -45,19 +35,15 @@ pub fn chip(memory: Memory) -> Chip {
     } else {
         read
     };
-    let total = c.word("total");
-    let sum = c.add(&total, &widen(&operand, total.len()));
-    c.next_if(counting, "total", &sum);
+    add_to_total(&mut c, counting, &operand);
 
     // P: as long as no carton was scanned, the total is 0.
-    let scanned = c.bit("scanned");
+    let (scanned, total) = (c.bit("scanned"), c.word("total"));
     c.next_if(scan, "scanned", &[scan]);
     let zero = c.equal(&total, &number(0, 10));
     let property = c.or(scanned, zero);
     c.property(property);
 
-    c.name("size", &size);
-    c.name("operand", &operand);
     c.show(&[
         "scan", "count", "carton", "size", "operand", "scanned", "total",
     ]);

@@ -24,12 +24,8 @@ const SOURCES: [&str; 3] = ["Ganai et al.", "AIGER", "DIMACS"];
 /// A word that the customer coined; it has to stand on the page.
 const COINED: [&str; 2] = ["the customer's", "The customer's"];
 
-/// What stands before the table of the definitions to be believed. Each of its files cites a rule, but those that know nothing of a netlist.
+/// What stands before the table of the definitions to be believed, each file of which cites a rule.
 const DEFINITIONS: &str = "<!-- definitions -->";
-const NO_RULE: [(&str, &str); 2] = [
-    ("crates/model/specs/Gather.antt", "lists one behind another, of whatever numbers"),
-    ("crates/model/specs/Search.antt", "the first of whatever numbers that passes a test"),
-];
 
 /// What stands behind the label of a rule that is given up, before the labels of those that hold instead.
 const GIVEN_UP: &str = ".** Given up for ";
@@ -310,7 +306,8 @@ fn names_paper(text: &str) -> Option<usize> {
 fn definitions(page: &str) -> Vec<String> {
     let table = page.split(DEFINITIONS).nth(1).and_then(|rest| rest.split("<!--").next()).unwrap_or("");
     let rows = table.lines().filter_map(|row| row.strip_prefix("| [")?.split_once(']'));
-    let names = |row: &str| row.split('|').nth(1).unwrap_or("").split(", ").map(|name| name.trim().split(' ').next().unwrap_or("").to_string()).collect::<Vec<_>>();
+    let name = |entry: &str| entry.trim().split(' ').next().unwrap_or("").to_string();
+    let names = |row: &str| row.split('|').nth(1).unwrap_or("").split(", ").map(name).collect::<Vec<_>>();
     rows.flat_map(|(of, rest)| names(rest).into_iter().map(move |name| format!("crates/{of}/specs/{name}.antt"))).collect()
 }
 
@@ -333,11 +330,7 @@ fn main() {
     tally.check(!listed.is_empty(), || format!("{DEMANDS} lists no definitions"));
     for path in &listed {
         let cites = citations(&whole(&read(path)).text).iter().any(|citation| !citation.labels.is_empty());
-        let excepted = NO_RULE.iter().any(|(general, _)| general == path);
-        tally.check(cites != excepted, || format!("{path}: {}", if cites { "cites a rule, so it is no exception" } else { "cites no rule" }));
-    }
-    for (path, _) in NO_RULE {
-        tally.check(listed.iter().any(|one| one == path), || format!("{path}: an exception, and not listed in {DEMANDS}"));
+        tally.check(cites, || format!("{path}: cites no rule"));
     }
 
     let mut paths = Vec::new();

@@ -61,49 +61,48 @@ pub struct Library {
     claims: RefCell<Counts>,
 }
 
-type Family = (&'static str, fn(&Library, &mut Tally));
+/// A name, its checks, and whether they are part of a sample.
+type Family = (&'static str, fn(&Library, &mut Tally), bool);
 
 const FAMILIES: [Family; 38] = [
-    ("facts of the full run", calls::stated),
-    ("table of group calls", calls::table_of_calls),
-    ("table of records", calls::table_of_records),
-    ("rooms of groups", calls::rooms),
-    ("lengths of lists", calls::list_lengths),
-    ("joined groups", calls::formulas),
-    ("tables of running records", positions::tables),
-    ("running records through all frames", positions::walks),
-    ("hostile running records", positions::hostile),
-    ("tables of literals", literals::tables),
-    ("groups put together from literals", literals::groups),
-    ("tables of sheets", reads::tables),
-    ("rooms of lists", reads::rooms),
-    ("damaged sheets", reads::damaged),
-    ("lines of sheets", reads::lines),
-    ("tables of written sheets", written_sheets::tables),
-    ("sheets written and read back", written_sheets::round_trips),
-    ("sheets read and written back", written_sheets::damaged_sheets),
-    ("rooms of sheets", written_sheets::rooms),
-    ("tables of imports", imports::tables),
-    ("imports, sets of faults", imports::fault_sets),
-    ("imports, predicted faults", imports::predicted_faults),
-    ("imports, rooms of lists", imports::rooms),
-    ("imports, m, n and start word", imports::memories),
-    ("imports, counts far beyond the text", imports::counts),
-    ("imports, damaged texts", imports::damaged),
-    ("imports, ends of texts", imports::ends),
-    ("texts at their limits", prints::limits),
-    ("numbers from the right", prints::filled),
-    ("random texts", prints::random),
-    ("joined texts", prints::joined),
-    ("replays by hand", replay_calls::by_hand),
-    ("replays with sets of faults", replay_calls::fault_sets),
-    ("replays of random answers", replay_calls::random_answers),
-    ("replays of damaged answers", replay_calls::damaged),
-    ("rooms and lists of replays", replay_calls::rooms),
-    ("the largest replay", replay_calls::largest),
-    ("hostile calls", |library, tally| {
-        fuzz_exports::calls(library, tally, 701, 200_000)
-    }),
+    ("facts of the full run", calls::stated, true),
+    ("table of group calls", calls::table_of_calls, true),
+    ("table of records", calls::table_of_records, true),
+    ("rooms of groups", calls::rooms, false),
+    ("lengths of lists", calls::list_lengths, false),
+    ("joined groups", calls::formulas, false),
+    ("tables of running records", positions::tables, true),
+    ("running records through all frames", positions::walks, false),
+    ("hostile running records", positions::hostile, false),
+    ("tables of literals", literals::tables, true),
+    ("groups put together from literals", literals::groups, false),
+    ("tables of sheets", reads::tables, true),
+    ("rooms of lists", reads::rooms, false),
+    ("damaged sheets", reads::damaged, false),
+    ("lines of sheets", reads::lines, true),
+    ("tables of written sheets", written_sheets::tables, true),
+    ("sheets written and read back", written_sheets::round_trips, false),
+    ("sheets read and written back", written_sheets::damaged_sheets, false),
+    ("rooms of sheets", written_sheets::rooms, false),
+    ("tables of imports", imports::tables, false),
+    ("imports, sets of faults", imports::fault_sets, false),
+    ("imports, predicted faults", imports::predicted_faults, false),
+    ("imports, rooms of lists", imports::rooms, false),
+    ("imports, m, n and start word", imports::memories, false),
+    ("imports, counts far beyond the text", imports::counts, false),
+    ("imports, damaged texts", imports::damaged, false),
+    ("imports, ends of texts", imports::ends, true),
+    ("texts at their limits", prints::limits, true),
+    ("numbers from the right", prints::filled, false),
+    ("random texts", prints::random, false),
+    ("joined texts", prints::joined, false),
+    ("replays by hand", replay_calls::by_hand, true),
+    ("replays with sets of faults", replay_calls::fault_sets, false),
+    ("replays of random answers", replay_calls::random_answers, false),
+    ("replays of damaged answers", replay_calls::damaged, false),
+    ("rooms and lists of replays", replay_calls::rooms, false),
+    ("the largest replay", replay_calls::largest, false),
+    ("hostile calls", |library, tally| fuzz_exports::calls(library, tally, 701, 200_000), false),
 ];
 
 /// Each function, and the numbers that the tests must have made it answer: all that it has. 10 has none.
@@ -154,11 +153,14 @@ fn main() {
     let words: Vec<&str> = words.iter().map(String::as_str).collect();
     let library = Library::default();
     let mut report = Report::default();
+    let families = |report: &mut Report, wanted: fn(bool) -> bool| {
+        for (name, family, _) in FAMILIES.into_iter().filter(|(_, _, sampled)| wanted(*sampled)) {
+            report.family(name, |tally| family(&library, tally));
+        }
+    };
     match words[..] {
         [] => {
-            for (name, family) in FAMILIES {
-                report.family(name, |tally| family(&library, tally));
-            }
+            families(&mut report, |_| true);
             report.family("refusal numbers", |tally| every_number(&library, tally));
         }
         ["fuzz", count, ref seed @ ..] if seed.len() <= 1 => {
@@ -171,35 +173,7 @@ fn main() {
             });
         }
         ["sample"] => {
-            report.family("facts of the full run", |tally| {
-                calls::stated(&library, tally)
-            });
-            report.family("table of group calls", |tally| {
-                calls::table_of_calls(&library, tally)
-            });
-            report.family("table of records", |tally| {
-                calls::table_of_records(&library, tally)
-            });
-            report.family("tables of running records", |tally| {
-                positions::tables(&library, tally)
-            });
-            report.family("tables of literals", |tally| {
-                literals::tables(&library, tally)
-            });
-            report.family("tables of sheets", |tally| reads::tables(&library, tally));
-            report.family("lines of sheets", |tally| reads::lines(&library, tally));
-            report.family("tables of written sheets", |tally| {
-                written_sheets::tables(&library, tally)
-            });
-            report.family("imports, ends of texts", |tally| {
-                imports::ends(&library, tally)
-            });
-            report.family("texts at their limits", |tally| {
-                prints::limits(&library, tally)
-            });
-            report.family("replays by hand", |tally| {
-                replay_calls::by_hand(&library, tally)
-            });
+            families(&mut report, |sampled| sampled);
             report.family("hostile calls", |tally| {
                 fuzz_exports::calls(&library, tally, 703, 1_000)
             });

@@ -1,5 +1,5 @@
-//! The second implementation's modules, shared and not copied: its definitions, its random netlists
-//! and its tables of refusals.
+//! The second implementation's modules, shared and not copied, for every program that uses one: its definitions, its random netlists and
+//! its tables of refusals.
 #![allow(dead_code)]
 
 #[path = "../reference/agreement.rs"]

@@ -7,6 +7,7 @@ mod cadical;
 mod cases;
 mod judge;
 mod programs;
+#[path = "../runner/reference.rs"]
 mod reference;
 mod stories;
 mod wrong;

@@ -4,6 +4,7 @@
 //! Build: rustc -O --edition 2021 main.rs
 
 mod cases;
+#[path = "../runner/reference.rs"]
 mod reference;
 mod vcd;
 
