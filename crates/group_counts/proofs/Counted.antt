@@ -4,7 +4,7 @@ use Prim.Native.Nat.{ℕ, zero, suc, _+_, _-_, _*_, _/_, _^_, _≤_, _<_}
 use mathlib.Core.Path.{_≡_, refl, sym, ap, _∙_}
 use mathlib.Core.Bool.{true}
 use mathlib.Core.List.{List, [], _∷_, _++_}
-use native.Mathlib.Nat.{mul-le-mul, mul-add}
+use native.Mathlib.Nat.{mul-le-mul}
 use native.Mathlib.Omega.{arith}
 use borrow.Author.Tests.{leb-true}
 use lib.IntN.{ℤ, pos, negsuc}
@@ -23,9 +23,9 @@ use Rattle.model.specs.Wrote.{Wrote}
 use Rattle.model.specs.declared.Group.{Group}
 use Rattle.model.specs.declared.Group.the-variants.{Wires, Pair, Closing, Property}
 use Rattle.model.proofs.Bounds.{wires-within, pairs-within, closing-within, property-within, all-within-one}
-use Rattle.model.proofs.Numbers.{shown, clausesIn-written}
+use Rattle.model.proofs.Numbers.{clausesIn-written}
 use Rattle.model.proofs.Variables.{base-least}
-use Rattle.model.proofs.Classes.{shownCount, formula-count, given-count}
+use Rattle.model.proofs.Classes.{shownCount, formula-count}
 use Rattle.group_counts.specs.PairCounts.{groupCount, pairCounts}
 
 -- the end mark, and any other number, as a machine tells them, by their bits
@@ -139,24 +139,13 @@ pairs-shown ok (suc i) =
     )
     (omega arith)
 
--- where the initial word is given, by two pairs alone
-pub given-counted : {c : Netlist} → Accepted c → (word : ℕ) → start c ≡ given word → (k near far : ℕ) → near ≡ groupCount c (Pair 0 1)
-    → far ≡ groupCount c (Pair 0 2) → k * near + (k * (k + 1) / 2 - k) * far ≡ pairCounts c k
-unfolding clausesOf
-given-counted {c} ok word e k near far en ef =
-    rw (en, ef, pair-shown ok 255 0 1 (omega arith) (omega arith), pair-shown ok 255 0 2 (omega arith) (omega arith), pairs-shown ok k)
-    (cancel _ k _ _ _ _ _ _ _ _ (sym (given-count ok word e k) ∙ formula-count ok k))
-  where
-    cancel : (f k w p l o x y z q : ℕ) → f + k * (w + p + l) + o + q ≡ f + k * (w + l) + x + y + z + q → k * p + o ≡ x + y + z
-    cancel f k w p l o x y z q e = let parted = simp mul-add at e in omega arith
-
--- where it is not, of a depth above 0
-pub unknown-counted : (c : Netlist) (k first later far : ℕ) → 1 ≤ k → first ≡ groupCount c (Pair 0 1)
+-- of a depth above 0, by one pair of each class
+pub some-counted : (c : Netlist) (k first later far : ℕ) → 1 ≤ k → first ≡ groupCount c (Pair 0 1)
     → later ≡ groupCount c (Pair 1 2) + groupCount c (Pair 0 2) → far ≡ groupCount c (Pair 1 3)
     → first + (k - 1) * later + ((k - 1) * (k - 1 + 1) / 2 - (k - 1)) * far ≡ pairCounts c k
 unfolding pairCounts
-unknown-counted c zero first later far h ef el er = absurd (omega arith)
-unknown-counted c (suc i) first later far h ef el er =
+some-counted c zero first later far h ef el er = absurd (omega arith)
+some-counted c (suc i) first later far h ef el er =
     let last : suc i - 1 ≡ i = omega arith in
     rw (last, ef, el, er)
 

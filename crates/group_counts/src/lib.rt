@@ -89,23 +89,6 @@ fn other_pairs(k: u32) -> u32
     k * (k + 1) / 2 - k
 }
 
-// The clauses of all pairs of a depth where the initial word is given: one pair of each frame is with the frame before it.
-fn count_given_pairs(
-    numbers: &mut [i32],
-    net: Netlist,
-    latches: &UnpackedList,
-    gates: &UnpackedList,
-    depth: u32,
-) -> u32
-    requires { ⌜ Accepted (netOf net (now latches) (now gates)) × (net .«unknown_start» ≡ 0) × (depth ≤ 255) × (5992 ≤ length (now numbers)) ⌝ }
-    ensures { λ r. ⌜ (r ≡ pairCounts (netOf net (now (latches .entry)) (now (gates .entry))) depth) × (r ≤ 782315520) ⌝ }
-    ensures scratch { λ _. ⌜ length (now (numbers .exit)) ≡ length (now (numbers .entry)) ⌝ }
-{
-    let near = count_group(numbers, net, latches, gates, 255, Group::Pair(0, 1));
-    let far = count_group(numbers, net, latches, gates, 255, Group::Pair(0, 2));
-    product(depth, near) + product(other_pairs(depth), far)
-}
-
 // Those of the pairs of a frame above 1 that are like no pair of frame 1: with the frame before it, and with frame 0.
 fn count_later_pairs(
     numbers: &mut [i32],
@@ -122,9 +105,9 @@ fn count_later_pairs(
     near + count_group(numbers, net, latches, gates, 255, Group::Pair(0, 2))
 }
 
-// The clauses of all pairs of a depth above 0 where the start is unknown: those with frame 0, whose Z may be a constant, are a class of
-// their own.
-fn count_unknown_pairs(
+// The clauses of all pairs of a depth above 0. Those with frame 0, whose Z is RE and may be a constant, are classes of their own: of a given
+// start they are like the others, and are counted alike.
+fn count_some_pairs(
     numbers: &mut [i32],
     net: Netlist,
     latches: &UnpackedList,
@@ -154,13 +137,10 @@ fn count_pairs(
     ensures { λ r. ⌜ (r ≡ pairCounts (netOf net (now (latches .entry)) (now (gates .entry))) depth) × (r ≤ 782321512) ⌝ }
     ensures scratch { λ _. ⌜ length (now (numbers .exit)) ≡ length (now (numbers .entry)) ⌝ }
 {
-    if net.unknown_start == 0 {
-        return count_given_pairs(numbers, net, latches, gates, depth);
-    }
     if depth == 0 {
         return 0;
     }
-    count_unknown_pairs(numbers, net, latches, gates, depth)
+    count_some_pairs(numbers, net, latches, gates, depth)
 }
 
 // The clauses of all groups of a depth.

@@ -1,12 +1,12 @@
 -- Groups that have equally many clauses. Which clauses of a group are written depends on which of its literals are constants alone: so
 -- it is the same for the wires of all later frames, for all pairs of neighbouring frames, for all other pairs and for the closings of
--- all later frames; only where the start is unknown are the pairs with frame 0, whose Z is RE, a class of their own. The clauses of a depth
--- are counted by one group of each class. No contract cites this file.
+-- all later frames, but that the pairs with frame 0, whose Z is RE, are classes of their own. The clauses of a depth are counted by one
+-- group of each class. No contract cites this file.
 use Prim.Native.Nat.{ℕ, zero, suc, _+_, _-_, _*_, _/_, _≤_, _<_}
 use mathlib.Core.Path.{_≡_, refl, sym, _∙_, ap, ap₂}
 use mathlib.Core.Bool.{Bool, true, false, cond, _||_, or-assoc}
 use mathlib.Core.List.{List, [], _∷_, _++_, map, append-nil, map-append}
-use native.Mathlib.Nat.{add-mul, mul-add, suc-mul, mul-suc}
+use native.Mathlib.Nat.{add-mul, suc-mul, mul-suc}
 use native.Mathlib.Numerals.{add-one}
 use native.Mathlib.Omega.{arith}
 use borrow.Author.Tests.{ne-eqb, eq-eqb}
@@ -157,7 +157,7 @@ bit-alike : {E e x y E′ e′ x′ y′ : Literal} → Like E E′ → Like e e
 unfolding bitClauses
 bit-alike E e x y = search (alike-cons, alike-none, literal, no-literal, like-neg) depth 14
 
--- the literals of two pairs, but for Z of the earlier frame
+-- the literals of two pairs
 record PairLike (x y : PairLiterals) : Type 0 where
   E : Like (x .E) (y .E)
   e : (t : ℕ) → Like (x .e t) (y .e t)
@@ -170,22 +170,18 @@ record PairLike (x y : PairLiterals) : Type 0 where
   WD : (t : ℕ) → Like (x .WD t) (y .WD t)
   Ai : (t : ℕ) → Like (x .Ai t) (y .Ai t)
   RD : (t : ℕ) → Like (x .RD t) (y .RD t)
+  Zj : Like (x .Zj) (y .Zj)
   Zi : Like (x .Zi) (y .Zi)
   RDj : (t : ℕ) → Like (x .RDj t) (y .RDj t)
 
--- that Z counts where the start is unknown
-abbrev ZjLike : Start → PairLiterals → PairLiterals → Type 0
-ZjLike (given word) x y = Unit {0}
-ZjLike unknown x y = Like (x .Zj) (y .Zj)
-
-agreed-alike : (n : ℕ) (s : Start) (x y : PairLiterals) → PairLike x y → ZjLike s x y → Alike (agreedReads n s x) (agreedReads n s y)
+agreed-alike : (n : ℕ) (s : Start) (x y : PairLiterals) → PairLike x y → Alike (agreedReads n s x) (agreedReads n s y)
 unfolding agreedReads agreedClauses
-agreed-alike n (given word) x y h z = alike-none
-agreed-alike n unknown x y h z = alike-gather n _ _ (λ t. sameIfAll-alike (h .E) z (h .Zi) (h .RD t) (h .RDj t))
+agreed-alike n (given word) x y h = alike-none
+agreed-alike n unknown x y h = alike-gather n _ _ (λ t. sameIfAll-alike (h .E) (h .Zj) (h .Zi) (h .RD t) (h .RDj t))
 
-pair-alike : (m n : ℕ) (s : Start) (x y : PairLiterals) → PairLike x y → ZjLike s x y → Alike (pairClauses m n s x) (pairClauses m n s y)
+pair-alike : (m n : ℕ) (s : Start) (x y : PairLiterals) → PairLike x y → Alike (pairClauses m n s x) (pairClauses m n s y)
 unfolding pairClauses addressBitClauses allBits unequalOf forwardedClauses
-pair-alike m n s x y h z =
+pair-alike m n s x y h =
     alike-gather m _ _ (λ t. bit-alike (h .E) (h .e t) (h .Aj t) (h .Ai t))
     ⧺ alike-cons
     (likeAll-then (likeAll-gather m _ _ (λ t. literal (like-neg (h .e t)) no-literal)) (literal (h .E) no-literal))
@@ -194,7 +190,7 @@ pair-alike m n s x y h z =
     ⧺ and-alike (h .PS) (like-neg (h .s)) (h .N)
     ⧺ and-alike (h .S) (h .s) (h .N)
     ⧺ alike-gather n _ _ (λ t. sameIf-alike (h .S) (h .RD t) (h .WD t))
-    ⧺ agreed-alike n s x y h z
+    ⧺ agreed-alike n s x y h
 
 -- a code in any two frames
 code-like : (b d x : ℕ) → Like (codeAt b x) (codeAt d x)
@@ -222,18 +218,8 @@ never-zero : (i j : ℕ) → eqb 0 (suc i) ≡ eqb 0 (suc j)
 never-zero i j = ne-eqb 0 (suc i) (λ e. omega arith) ∙ sym (ne-eqb 0 (suc j) (λ e. omega arith))
 
 module _ (c : Netlist) (k : ℕ) where
-  -- of an unknown start: both earlier frames are frame 0, or neither is
-  abbrev SameFirst : Start → ℕ → ℕ → Type 0
-  SameFirst (given word) j l = Unit {0}
-  SameFirst unknown j l = eqb 0 j ≡ eqb 0 l
-
-  same-first : (s : Start) (j i l h : ℕ) → SameFirst s j l → ZjLike s (pairLiterals c (port c) j i) (pairLiterals c (port c) l h)
-  unfolding pairLiterals
-  same-first (given word) j i l h z = tt
-  same-first unknown j i l h z = noneSince-like c (port c) 0 j 0 l z
-
-  -- pairs of neighbouring frames are alike, and so are all others
-  pairs-alike : (j i l h : ℕ) → eqb j (suc i) ≡ eqb l (suc h) → eqb (j + 1) (suc i) ≡ eqb (l + 1) (suc h) → SameFirst (start c) j l
+  -- pairs of neighbouring frames are alike, and so are all others, where both earlier frames are frame 0 or neither is
+  pairs-alike : (j i l h : ℕ) → eqb j (suc i) ≡ eqb l (suc h) → eqb (j + 1) (suc i) ≡ eqb (l + 1) (suc h) → eqb 0 j ≡ eqb 0 l
       → Alike (clausesOf c k (Pair j (suc i))) (clausesOf c k (Pair l (suc h)))
   unfolding clausesOf pairLiterals selected readBit wireAt
   pairs-alike j i l h e f z =
@@ -250,31 +236,21 @@ module _ (c : Netlist) (k : ℕ) where
         WD = λ t. code-like _ _ _;
         Ai = λ t. code-like _ _ _;
         RD = λ t. like-plus _ _;
+        Zj = noneSince-like c (port c) 0 j 0 l z;
         Zi = noneSince-like c (port c) 0 (suc i) 0 (suc h) (never-zero i h);
         RDj = λ t. like-plus _ _;
       })
-      (same-first (start c) j (suc i) l (suc h) z)
 
-  neighbours-count : (j l : ℕ) → SameFirst (start c) j l → shownCount (clausesOf c k (Pair j (suc j))) ≡ shownCount (clausesOf c k (Pair l (suc l)))
+  neighbours-count : (j l : ℕ) → eqb 0 j ≡ eqb 0 l → shownCount (clausesOf c k (Pair j (suc j))) ≡ shownCount (clausesOf c k (Pair l (suc l)))
   neighbours-count j l z =
       alike-count (pairs-alike j j l l (ne-eqb j (suc j) (λ e. omega arith) ∙ sym (ne-eqb l (suc l) (λ e. omega arith)))
       (eq-eqb (j + 1) (suc j) (omega arith) ∙ sym (eq-eqb (l + 1) (suc l) (omega arith))) z)
 
-  others-count : (j i l h : ℕ) → j < i → l < h → SameFirst (start c) j l
+  others-count : (j i l h : ℕ) → j < i → l < h → eqb 0 j ≡ eqb 0 l
       → shownCount (clausesOf c k (Pair j (suc i))) ≡ shownCount (clausesOf c k (Pair l (suc h)))
   others-count j i l h a b z =
       alike-count (pairs-alike j i l h (ne-eqb j (suc i) (λ e. omega arith) ∙ sym (ne-eqb l (suc h) (λ e. omega arith)))
       (ne-eqb (j + 1) (suc i) (λ e. omega arith) ∙ sym (ne-eqb (l + 1) (suc h) (λ e. omega arith))) z)
-
-  -- two later frames
-  both-later : (s : Start) (j l : ℕ) → SameFirst s (suc j) (suc l)
-  both-later (given word) j l = tt
-  both-later unknown j l = never-zero j l
-
-  -- the same frame
-  one-frame : (s : Start) (j : ℕ) → SameFirst s j j
-  one-frame (given word) j = tt
-  one-frame unknown j = refl
 
   -- the wires of later frames
   wires-alike : (i j : ℕ) → Alike (clausesOf c k (Wires (suc i))) (clausesOf c k (Wires (suc j)))
@@ -355,12 +331,12 @@ module _ (c : Netlist) (k : ℕ) where
   down-count : (i n : ℕ) → n ≤ i → count (gatherDown (suc n) (pairOf (suc (suc i)))) ≡ n * of (Pair 1 3) + of (Pair 0 2)
   unfolding gatherDown pairOf
   down-count i zero h =
-      count-one (Pair 0 (suc (suc i))) ∙ others-count 0 (suc i) 0 1 (omega arith) (omega arith) (one-frame (start c) 0) ∙ omega arith
+      count-one (Pair 0 (suc (suc i))) ∙ others-count 0 (suc i) 0 1 (omega arith) (omega arith) refl ∙ omega arith
   down-count i (suc n) h =
       count-adds .of-both (Pair (suc n) (suc (suc i)) ∷ []) (gatherDown (suc n) (pairOf (suc (suc i))))
       ∙ rw (
         count-one (Pair (suc n) (suc (suc i))),
-        others-count (suc n) (suc i) 1 2 (omega arith) (omega arith) (both-later (start c) n 0),
+        others-count (suc n) (suc i) 1 2 (omega arith) (omega arith) (never-zero n 0),
         down-count i n (omega arith),
       ) (omega (arith, suc-mul n (of (Pair 1 3))))
 
@@ -373,7 +349,7 @@ module _ (c : Netlist) (k : ℕ) where
   unfolding gatherDown pairOf
   pairs-count-later i =
       count-adds .of-both (Pair (suc i) (suc (suc i)) ∷ []) (gatherDown (suc i) (pairOf (suc (suc i))))
-      ∙ ap₂ _+_ (count-one (Pair (suc i) (suc (suc i))) ∙ neighbours-count (suc i) 1 (both-later (start c) i 0)) (down-count i i (omega arith))
+      ∙ ap₂ _+_ (count-one (Pair (suc i) (suc (suc i))) ∙ neighbours-count (suc i) 1 (never-zero i 0)) (down-count i i (omega arith))
 
   -- of frame 0, and of a later frame
   first-count : count (frameGroups 0) ≡ of (Wires 0) + of (Closing 0)
@@ -445,28 +421,3 @@ formula-count {c} ok k =
     ap length (clausesIn-formula ok k)
     ∙ count-adds c k .of-both (gather (k + 1) frameGroups) (Property ∷ [])
     ∙ rw (add-one k, all-count c k k, count-one c k Property)
-
--- where the initial word is given, the pairs with frame 0 are like the others
-pub given-pairs : (c : Netlist) (k word : ℕ) → start c ≡ given word
-    → (shownCount (clausesOf c k (Pair 1 2)) ≡ shownCount (clausesOf c k (Pair 0 1)))
-    × (shownCount (clausesOf c k (Pair 1 3)) ≡ shownCount (clausesOf c k (Pair 0 2)))
-given-pairs c k word e = (neighbours-count c k 1 0 (rw e tt), others-count c k 1 2 0 1 (omega arith) (omega arith) (rw e tt))
-
-pub given-count : {c : Netlist} → Accepted c → (word : ℕ) → start c ≡ given word → (k : ℕ)
-    → length (clausesIn (formula c k))
-    ≡ shownCount (clausesOf c k (Wires 0)) + shownCount (clausesOf c k (Closing 0))
-    + k * (shownCount (clausesOf c k (Wires 1)) + shownCount (clausesOf c k (Pair 0 1)) + shownCount (clausesOf c k (Closing 1)))
-    + (k * (k + 1) / 2 - k) * shownCount (clausesOf c k (Pair 0 2)) + shownCount (clausesOf c k Property)
-unfolding others
-given-count {c} ok word e k =
-    let same = given-pairs c k word e in
-    rw (formula-count ok k, same .0, same .1) (sums k (of c k (Wires 1)) (of c k (Closing 1)) (of c k (Pair 0 1)) (of c k (Pair 0 2))
-    (of c k (Wires 0) + of c k (Closing 0)) (of c k Property))
-  where
-    sums : (k w l p o f q : ℕ)
-        → f + k * (w + l) + (k - (k - 1)) * p + (k - 1) * (p + o) + others (k - 1) * o + q ≡ f + k * (w + p + l) + others k * o + q
-    sums zero w l p o f q = omega arith
-    sums (suc i) w l p o f q =
-        let last : suc i - 1 ≡ i = omega arith in
-        let one : suc i - i ≡ 1 = omega arith in
-        rw (last, one, others-suc i) (simp (add-mul, suc-mul, mul-add) (omega arith))

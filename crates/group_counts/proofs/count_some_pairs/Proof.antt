@@ -1,9 +1,9 @@
--- `group_counts::count_unknown_pairs` meets its contract: four classes of pairs.
+-- `group_counts::count_some_pairs` meets its contract: four classes of pairs.
 use Rattle.model.specs.Groups.{inDepth}
-use Rattle.group_counts.proofs.Counted.{unknown-counted}
+use Rattle.group_counts.proofs.Counted.{some-counted}
 use borrow.Author.Needs.{needs}
-use Rattle.group_counts.proofs.count_unknown_pairs.Statement.{statement}
-use Rattle.group_counts.proofs.count_unknown_pairs.Tie as tie
+use Rattle.group_counts.proofs.count_some_pairs.Statement.{statement}
+use Rattle.group_counts.proofs.count_some_pairs.Tie as tie
 
 count-group-requires : tie.Need-count-group-requires
 unfolding inDepth
@@ -44,14 +44,14 @@ returns c =
     let second = c .before .before .product .ensures in (
       (
         rw (first .0, second .0, c .before .other-pairs .ensures .0)
-            (unknown-counted _ (c .before .before .before .before .before .before .before .before .before .before .before .before .args .depth) _ _ _ (p .1) (c .before .before .before .before .before .before .before .before .before .before .count-group .ensures .0 .0) (c .before .before .before .before .before .before .before .count-later-pairs .ensures .0 .0) (c .before .before .before .before .count-group2 .ensures .0 .0)),
+            (some-counted _ (c .before .before .before .before .before .before .before .before .before .before .before .before .args .depth) _ _ _ (p .1) (c .before .before .before .before .before .before .before .before .before .before .count-group .ensures .0 .0) (c .before .before .before .before .before .before .before .count-later-pairs .ensures .0 .0) (c .before .before .before .before .count-group2 .ensures .0 .0)),
         search needs,
       ),
       search needs,
     )
 
-pub count-unknown-pairs-spec : {M : Type 1} → statement M
-count-unknown-pairs-spec =
+pub count-some-pairs-spec : {M : Type 1} → statement M
+count-some-pairs-spec =
     tie.close
     (tie.spec
     count-group-requires
