@@ -1,17 +1,17 @@
 -- Laws of specs/Filling.antt: one entry more, and one record more. Cited by the functions that fill.
 use Prim.Native.Nat.{ℕ, _+_, _-_, _*_, _≤_, _<_}
-use mathlib.Core.Path.{_≡_, refl, sym, _∙_, ap}
-use mathlib.Core.Bool.{Bool, true, false, cond, _&&_}
+use mathlib.Core.Path.{_≡_, sym, _∙_, ap}
+use mathlib.Core.Bool.{cond}
 use mathlib.Core.List.{List}
 use mathlib.Core.Logic.{by-cases}
 use native.Mathlib.Decide.{decLt, ℕ-discrete}
 use native.Mathlib.Omega.{arith}
-use lib.Dec.{eqb, ltb, leb}
+use lib.Dec.{eqb}
 use lib.ListN.{length, getD, set, length-set}
 use lib.Seq.{getD-set-same, getD-set-other}
 use borrow.Author.Tests.{lt-ltb, le-ltb, lt-leb, le-leb, eq-eqb, ne-eqb}
 use Rattle.model.specs.Network.{renamed}
-use Rattle.netlist.specs.NetOf.{firstAt, secondAt, putNumbers}
+use Rattle.netlist.specs.NetOf.{putNumbers}
 use Rattle.netlist.specs.RecordOf.{upTo}
 use Rattle.netlist.proofs.PutNumbers.{length-putNumbers, firstAt-putNumbers, secondAt-putNumbers}
 use Rattle.aiger_lines.specs.Parts.{numbersOnLine}
@@ -48,13 +48,13 @@ module _ (first : ℕ) (f old : ℕ → ℕ) where
       at l = by-cases (ℕ-discrete w (first + count)) (λ e. absurd (other e)) (λ e. omega arith)
 
   module _ (size : ℕ) (table : List ℕ) where
-    pub filled-none : length table ≡ size → ((w : ℕ) → w < size → getD table w 0 ≡ old w) → TableFilled size (putFrom first 0 f old) table
+    filled-none : length table ≡ size → ((w : ℕ) → w < size → getD table w 0 ≡ old w) → TableFilled size (putFrom first 0 f old) table
     filled-none full same = record { full = full; has = λ w b. same w b ∙ sym (none w) }
       where
         none : (w : ℕ) → putFrom first 0 f old w ≡ old w
         none w = by-cases (decLt w first) (put-before 0 w) (λ l. put-behind 0 w (omega arith))
 
-    pub filled-next : (count x : ℕ) → first + count < size → x ≡ f count → TableFilled size (putFrom first count f old) table
+    filled-next : (count x : ℕ) → first + count < size → x ≡ f count → TableFilled size (putFrom first count f old) table
         → TableFilled size (putFrom first (count + 1) f old) (set table (first + count) x)
     filled-next count x b e filled =
         record { full = length-set table (first + count) x ∙ filled .full; has = has }
@@ -99,7 +99,7 @@ upTo-next h count x =
 
 -- one record more of an unpacked list
 module _ (f g : ℕ → ℕ) where
-  pub list-next : (count x y : ℕ) (list : List ℕ) → count < 600 → x ≡ f count → y ≡ g count → ListFilled count f g list
+  list-next : (count x y : ℕ) (list : List ℕ) → count < 600 → x ≡ f count → y ≡ g count → ListFilled count f g list
       → ListFilled (count + 1) f g (putNumbers count x y list)
   list-next count x y list b e k filled =
       record {

@@ -1,16 +1,12 @@
 -- Laws of specs/Outputs.antt: one code more. Cited by the functions that put outputs into a record.
 use Prim.Native.Nat.{ℕ, _+_, _<_}
 use mathlib.Core.Path.{_≡_, _∙_, ap, fun-ext}
-use mathlib.Core.Bool.{cond}
 use mathlib.Core.List.{List}
 use native.Mathlib.Omega.{arith}
-use lib.Dec.{eqb}
-use lib.ListN.{length, getD, set, length-set}
+use lib.ListN.{getD, set, length-set}
 use borrow.Author.Tests.{le-ltb}
 use Rattle.model.specs.Network.{renamed}
 use Rattle.literals.specs.declared.Code.{Code}
-use Rattle.netlist.specs.NetOf.{codeOf}
-use Rattle.netlist.specs.RecordOf.{upTo}
 use Rattle.sheet_steps.proofs.Steps.{code-set}
 use Rattle.netlist.specs.declared.Netlist.{Netlist}
 use Rattle.aiger_codes.specs.WireTable.{wireFound}

@@ -1,14 +1,13 @@
 -- A variable that is known has its wire in a table of variables by wire (specs/WireTable.antt). Cited by the function that looks it up.
 use Prim.Native.Nat.{ℕ, zero, suc, _+_, _-_, _≤_, _<_}
 use mathlib.Core.Path.{_≡_, refl, sym, _∙_, ap}
-use mathlib.Core.Bool.{Bool, false}
+use mathlib.Core.Bool.{false}
 use mathlib.Core.List.{List}
 use mathlib.Core.Logic.{by-cases}
 use native.Mathlib.Decide.{decLt}
 use native.Mathlib.Omega.{arith}
 use lib.Dec.{eqb}
 use borrow.Author.Tests.{lt-ltb, le-ltb, eq-eqb, ne-eqb}
-use Rattle.model.specs.Search.{IsFirst}
 use Rattle.model.specs.Netlist.{Netlist, inputWire, latchWire, readWire, gateWire, lastWire}
 use Rattle.model.proofs.Search.{firstWhere-is, first-unique}
 use Rattle.aiger_lines.specs.Parts.{countsIn, linesDue, textInputLine, textLatchLine, textGateLine}
@@ -128,7 +127,7 @@ module _ (h : Counts) (m n word unknown : ℕ) (enough : n ≤ h .inputs) where
       }
 
   -- of a line
-  pub line-both : {p : ℕ} → Defining h p → (w : ℕ) × LineAndWire h c p w
+  line-both : {p : ℕ} → Defining h p → (w : ℕ) × LineAndWire h c p w
   line-both (by-input x b e) =
       by-cases (decLt x (h .inputs - n)) (λ l. rw e (inputWire c x, both-input x l)) λ l.
       let back : h .inputs - n + (x - (h .inputs - n)) ≡ x = omega arith in

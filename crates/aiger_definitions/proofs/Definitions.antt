@@ -3,7 +3,7 @@
 use Prim.Native.Nat.{ℕ, suc, _+_, _/_, _≤_, _<_}
 use mathlib.Core.Path.{_≡_, refl, sym, ap, _∙_}
 use mathlib.Core.Bool.{Bool, true, false, not, _&&_, _||_, Bool·beq, true≢false, or-self, or-false}
-use mathlib.Core.Logic.{_⊎_, inl, inr, by-cases, ⊎-elim}
+use mathlib.Core.Logic.{inl, inr, by-cases, ⊎-elim}
 use mathlib.Core.List.{List}
 use native.Mathlib.Decide.{decLt}
 use native.Mathlib.Numerals.{add-one}
@@ -24,7 +24,7 @@ use Rattle.aiger_definitions.specs.declared.Look.the-variants.{Repeats, 
 use Rattle.aiger_definitions.proofs.LineVariables.{uses-small, defined-is}
 
 -- A property of lines that is a fault in some variable: its first line is the first with a fault
-pub judged-first : {fault : ℕ → ℕ → Bool} (f : ℕ → Bool) {n r : ℕ}
+judged-first : {fault : ℕ → ℕ → Bool} (f : ℕ → Bool) {n r : ℕ}
     → ((x v : ℕ) → 1 ≤ v → fault x v ≡ true → f (x + 1) ≡ true)
     → ((x : ℕ) → f (x + 1) ≡ true → (v : ℕ) × (1 ≤ v) × (v < 4294967296) × (fault x v ≡ true))
     → Judged fault n 1 n r 4294967296 → IsFirst (λ x. f (suc x)) n r
@@ -85,12 +85,12 @@ abbrev hitsOf : Look → List ℕ → ℕ → ℕ → Bool
 hitsOf look s lines x =
     hits (test look s lines x) (usesOf look (variablesAt s (x + 1)) .first) || hits (test look s lines x) (usesOf look (variablesAt s (x + 1)) .second)
 
-pub fault-hits : (look : Look) (s : List ℕ) (lines x v : ℕ) → 1 ≤ v → faultIn look s lines x v ≡ true → hitsOf look s lines x ≡ true
+fault-hits : (look : Look) (s : List ℕ) (lines x v : ℕ) → 1 ≤ v → faultIn look s lines x v ≡ true → hitsOf look s lines x ≡ true
 unfolding faultIn
 fault-hits look s lines x v l h =
     uses-hits (test look s lines x) (usesOf look (variablesAt s (x + 1)) .first) (usesOf look (variablesAt s (x + 1)) .second) v l h
 
-pub hits-fault : (look : Look) (s : List ℕ) (lines x : ℕ) → hitsOf look s lines x ≡ true
+hits-fault : (look : Look) (s : List ℕ) (lines x : ℕ) → hitsOf look s lines x ≡ true
     → (v : ℕ) × (1 ≤ v) × (v < 4294967296) × (faultIn look s lines x v ≡ true)
 unfolding faultIn
 hits-fault look s lines x h =
@@ -106,7 +106,7 @@ same-false : (b : Bool) → Bool·beq b false ≡ not b
 same-false true = refl
 same-false false = refl
 
-pub again-hits : (s : List ℕ) (lines x : ℕ) → hitsOf Repeats s lines x ≡ definesAgain s (x + 1)
+again-hits : (s : List ℕ) (lines x : ℕ) → hitsOf Repeats s lines x ≡ definesAgain s (x + 1)
 unfolding definesAgain
 again-hits s lines x =
     rw (defined-is s (x + 1), same-true (seen (definedAt s) (x + 1) (definedAt s (x + 1))))
@@ -128,7 +128,7 @@ module _ (s : List ℕ) (x : ℕ) where
   unfolding isUndefined
   undefined-hits look y e = rw (e, above-one y, same-false (seen (definedAt s) (reach look (due s) x) (y / 2)))
 
-  pub undefined-either : (hitsOf Operands s (due s) x || hitsOf Others s (due s) x) ≡ undefinedAt s (x + 1)
+  undefined-either : (hitsOf Operands s (due s) x || hitsOf Others s (due s) x) ≡ undefinedAt s (x + 1)
   unfolding undefinedAt variablesAt
   undefined-either = by (partAt (countsIn s) (x + 1))
     where

@@ -1,7 +1,7 @@
 -- The record and the lists that are filled by a table stand for the netlist of the text (specs/Tables.antt, and TextNetlist in
 -- aiger_netlist). Cited by `fill`.
-use Prim.Native.Nat.{ℕ, _+_, _*_, _/_, _<_}
-use mathlib.Core.Path.{_≡_, refl, sym, _∙_, ap, fun-ext}
+use Prim.Native.Nat.{ℕ, _+_, _/_, _<_}
+use mathlib.Core.Path.{_≡_, refl, _∙_, ap, fun-ext}
 use mathlib.Core.List.{List}
 use mathlib.Core.Logic.{by-cases}
 use native.Mathlib.Decide.{decLt}
@@ -17,7 +17,7 @@ use Rattle.netlist.specs.declared.Netlist.{Netlist}
 use Rattle.sheet_steps.specs.Lists.{Holds}
 use Rattle.sheet_parse.specs.Progress.{noCodes}
 use Rattle.sheet_parse.proofs.InProgress.{no-code, no-code-of}
-use Rattle.aiger_lines.specs.Parts.{countsIn, linesDue, textLatchLine, textOutputLine, textGateLine, numbersOnLine, malformedAt}
+use Rattle.aiger_lines.specs.Parts.{countsIn, linesDue, textLatchLine, textGateLine, numbersOnLine, malformedAt}
 use Rattle.aiger_lines.specs.declared.Counts.{Counts}
 use Rattle.aiger_lines.specs.declared.Part.the-variants.{Latch}
 use Rattle.aiger_lines.proofs.Parts.{well-count}

@@ -5,7 +5,7 @@ use mathlib.Core.List.{List}
 use mathlib.Core.Logic.{by-cases}
 use native.Mathlib.Decide.{decLt}
 use native.Mathlib.Omega.{arith}
-use lib.ListN.{length, getD}
+use lib.ListN.{getD}
 use Rattle.model.specs.Netlist as M
 use Rattle.netlist.specs.declared.Netlist.{Netlist}
 use Rattle.aiger_lines.specs.Parts.{countsIn, textInputLine, textLatchLine, textOutputLine, textGateLine}
@@ -15,7 +15,7 @@ use Rattle.aiger_definitions.specs.Definitions.{numberAt, definedAt}
 use Rattle.aiger_netlist.specs.TextNetlist.{wireOf}
 use Rattle.aiger_netlist.specs.TextValues.{outputAt}
 use Rattle.aiger_netlist.proofs.Lines.{Defining, by-input, by-latch, by-gate, defining-defines, wire-input, wire-read, wire-latch, wire-gate}
-use Rattle.aiger_codes.specs.WireTable.{lineOfWire, variableAt, WireTable}
+use Rattle.aiger_codes.specs.WireTable.{WireTable}
 use Rattle.aiger_codes.specs.Filling.{firstsBehind, entryOf, putFrom, TableFilled}
 use Rattle.aiger_codes.proofs.WireTable.{wire-both}
 use Rattle.aiger_codes.proofs.Filling.{put-inside, put-before, put-behind}

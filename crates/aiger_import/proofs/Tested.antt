@@ -2,10 +2,9 @@
 -- `import_text`.
 use Prim.Native.Nat.{ℕ}
 use mathlib.Core.Path.{_≡_, refl, sym, _∙_, ap, subst}
-use mathlib.Core.Bool.{Bool, true, false, _||_}
+use mathlib.Core.Bool.{true, false, _||_}
 use mathlib.Core.List.{List, []}
 use lib.Dec.{ltb}
-use Rattle.model.specs.Netlist as M
 use Rattle.model.specs.Acceptance.{SizesFit, WithinLimits}
 use Rattle.model.proofs.Agree.{sizesFit-same}
 use Rattle.refusals.specs.Tests.{_then_}

@@ -39,7 +39,7 @@ module _ (xs : List ℕ) (w : List ℕ) (ws : List (List ℕ)) where
   gathered-other e = rw e
 
 -- up to five numbers; more are none
-pub five-few : (xs : List ℕ) → length xs ≤ 5 → firstFive xs ≡ record { count = length xs; values = xs ++ replicate (5 - length xs) 0 }
+five-few : (xs : List ℕ) → length xs ≤ 5 → firstFive xs ≡ record { count = length xs; values = xs ++ replicate (5 - length xs) 0 }
 unfolding firstFive
 five-few xs l = rw (le-ltb 5 (length xs) l)
 

@@ -54,13 +54,13 @@ module _ (s : List ℕ) (p at end : ℕ) (behind : Behind s p at) (found : end �
     sym (drop-drop 1 p (linesOf s)) ∙ ap (drop 1) (behind .rest ∙ e),
   )
 
-  pub line-found : end < length s → (getD (linesOf s) p [] ≡ take (end - at) (drop at s)) × Behind s (p + 1) (end + 1)
+  line-found : end < length s → (getD (linesOf s) p [] ≡ take (end - at) (drop at s)) × Behind s (p + 1) (end + 1)
   line-found l =
       let parts = parts-next lineFeed s at end (behind .within) found l in
       let here = line-here (partsAfter lineFeed [] (drop (end + 1) s)) (take (end - at) (drop at s)) parts in
       (here .0, record { within = omega arith; rest = here .1 })
 
-  pub line-missing : length s ≤ end → (getD (linesOf s) p [] ≡ []) × Behind s (p + 1) end
+  line-missing : length s ≤ end → (getD (linesOf s) p [] ≡ []) × Behind s (p + 1) end
   line-missing l =
       let none : drop p (linesOf s) ≡ [] = behind .rest ∙ parts-over lineFeed s at end (behind .within) found l in
       let last : end ≡ length s = omega (arith, found-within lineFeed s at end (behind .within) found .1) in (
@@ -72,11 +72,11 @@ module _ (s : List ℕ) (p at end : ℕ) (behind : Behind s p at) (found : end �
       )
 
 -- Nothing is read yet.
-pub behind-none : (s : List ℕ) → Behind s 0 0
+behind-none : (s : List ℕ) → Behind s 0 0
 behind-none s = record { within = omega arith; rest = refl }
 
 -- the numbers of line p + 1 are those of its words
-pub numbers-line :
+numbers-line :
     (s : List ℕ) (p : ℕ) → 1 ≤ p → (line : List ℕ) → getD (linesOf s) p [] ≡ line →
     numbersOnLine s (p + 1) ≡ wordNumbers (wordsOf line)
 unfolding numbersOnLine wordsAt
@@ -84,14 +84,14 @@ numbers-line s p l line e =
     let place : p + 1 - 1 ≡ p = omega arith in
     rw (ne-eqb (p + 1) 1 (λ q. omega arith), place, e)
 
-pub numbers-missing : (s : List ℕ) (p : ℕ) → 1 ≤ p → getD (linesOf s) p [] ≡ [] → numbersOnLine s (p + 1) ≡ []
+numbers-missing : (s : List ℕ) (p : ℕ) → 1 ≤ p → getD (linesOf s) p [] ≡ [] → numbersOnLine s (p + 1) ≡ []
 numbers-missing s p l e = numbers-line s p l [] e ∙ numbers-empty
 
-pub header-numbers : (s : List ℕ) (line : List ℕ) → getD (linesOf s) 0 [] ≡ line → numbersOnLine s 1 ≡ headerNumbers (wordsOf line)
+header-numbers : (s : List ℕ) (line : List ℕ) → getD (linesOf s) 0 [] ≡ line → numbersOnLine s 1 ≡ headerNumbers (wordsOf line)
 unfolding numbersOnLine wordsAt
 header-numbers s line e = rw e
 
-pub header-missing : (s : List ℕ) → getD (linesOf s) 0 [] ≡ [] → numbersOnLine s 1 ≡ []
+header-missing : (s : List ℕ) → getD (linesOf s) 0 [] ≡ [] → numbersOnLine s 1 ≡ []
 header-missing s e = header-numbers s [] e ∙ header-empty
 
 -- The header's word is looked for: a space is found at `end`, or there is none.
@@ -147,7 +147,7 @@ module _ (s : List ℕ) (p : ℕ) (numbers : Numbers) (next : ℕ) (read : NextL
   pub read-holds : HoldsNumbers numbers
   read-holds = rw (read .numbers-are) (five-holds (numbersOnLine s (p + 1)))
 
-  pub read-malformed : malformedAt s (p + 1) ≡ malformed (countsIn s) (partAt (countsIn s) (p + 1)) (numbersHeld numbers)
+  read-malformed : malformedAt s (p + 1) ≡ malformed (countsIn s) (partAt (countsIn s) (p + 1)) (numbersHeld numbers)
   unfolding malformedAt
   read-malformed =
       sym (malformed-five (countsIn s) (partAt (countsIn s) (p + 1)) (numbersOnLine s (p + 1)))
@@ -160,7 +160,7 @@ counts-read s numbers next read =
     ap (λ (n : Numbers). countsOf (numbersHeld n)) (read .numbers-are) ∙ counts-first-five (numbersOnLine s 1)
 
 -- line 1 is the header's
-pub header-part : (h : Counts) → partAt h 1 ≡ Header
+header-part : (h : Counts) → partAt h 1 ≡ Header
 unfolding partAt
 header-part h = refl
 

@@ -255,7 +255,7 @@ fn has_literals(part: Part) -> bool
 }
 
 // Whether the first of them is one that it defines.
-pub fn defines(part: Part) -> bool
+fn defines(part: Part) -> bool
     ensures { λ r. ⌜ r ≡ defines part ⌝ }
 {
     match part {

@@ -1,7 +1,7 @@
 -- Where a text passes 11 to 13, every code of its netlist is within its limits, so that 5 is never met (specs/TextNetlist.antt;
 -- RULES T5 and T55). No contract cites this file.
-use Prim.Native.Nat.{ℕ, _+_, _-_, _*_, _/_, _%_, _≤_, _<_}
-use mathlib.Core.Path.{_≡_, refl, _∙_, ap}
+use Prim.Native.Nat.{ℕ, _+_, _-_, _*_, _/_, _≤_, _<_}
+use mathlib.Core.Path.{_≡_, refl}
 use mathlib.Core.List.{List}
 use mathlib.Core.Logic.{by-cases}
 use native.Mathlib.Decide.{decLt}
@@ -9,16 +9,16 @@ use native.Mathlib.Omega.{arith}
 use borrow.Author.Tests.{lt-ltb}
 use Rattle.model.specs.Netlist.{Netlist, gateWire, lastWire}
 use Rattle.model.specs.Network.{renamed}
-use Rattle.model.specs.Acceptance.{IsCode, CodesFit}
+use Rattle.model.specs.Acceptance.{CodesFit}
 use Rattle.refusals.specs.declared.Refusal.the-variants.{CodeOutside}
 use Rattle.refusals.specs.declared.Verdict.the-variants.{Passed}
 use Rattle.netlist.specs.Faults.{codeFault}
 use Rattle.netlist.proofs.Faults.{codes-fit}
 use Rattle.netlist_tests.specs.Record.{testLines}
 use Rattle.netlist_tests.proofs.Record.{testLines-passes}
-use Rattle.aiger_lines.specs.Parts.{countsIn, linesDue, textInputLine, textLatchLine, textGateLine}
+use Rattle.aiger_lines.specs.Parts.{countsIn, linesDue, textGateLine}
 use Rattle.aiger_lines.specs.declared.Counts.{Counts}
-use Rattle.aiger_definitions.specs.Definitions.{numberAt, definedAt}
+use Rattle.aiger_definitions.specs.Definitions.{numberAt}
 use Rattle.aiger_netlist.specs.TextNetlist.{textSizes, wireOf, wireOfVariable, codeFrom, netOfCodes, aagNet}
 use Rattle.aiger_netlist.specs.TextValues.{nextAt, outputAt}
 use Rattle.aiger_netlist.proofs.Lines.{Defining, by-input, by-latch, by-gate, wire-input, wire-read, wire-latch, wire-gate}

@@ -41,7 +41,7 @@ defines-some s p some = at (either (defines (partAt (countsIn s) p)))
     at (inr e) = let none : 1 ≤ 0 = rw e at some in absurd (omega arith)
 
 -- a code that is not undefined
-pub known : (s : List ℕ) (p x : ℕ) → p ≤ linesDue (countsIn s) + 1 → isUndefined s p x ≡ false → Known s p (x / 2)
+known : (s : List ℕ) (p x : ℕ) → p ≤ linesDue (countsIn s) + 1 → isUndefined s p x ≡ false → Known s p (x / 2)
 known s p x due e =
     by-cases (decLt x 2) (λ l. constant (omega arith)) λ l.
     let before = defined-before s p x e (omega arith) in
@@ -51,7 +51,7 @@ known s p x due e =
 
 module _ (s : List ℕ) (ok : WellDefined s) where
   -- what a line defines is above 0
-  pub defined-some : {p : ℕ} → Defining (countsIn s) p → 1 ≤ definedAt s p
+  defined-some : {p : ℕ} → Defining (countsIn s) p → 1 ≤ definedAt s p
   unfolding definedAt malformedAt
   defined-some {p} d =
       let place = defining-due (countsIn s) d in
@@ -60,7 +60,7 @@ module _ (s : List ℕ) (ok : WellDefined s) where
       rw is (omega (arith, literal .0))
 
   -- and no other line defines it, so that the line is found by it
-  pub defining-line : {p : ℕ} → Defining (countsIn s) p → definingLine s (definedAt s p) ≡ p
+  defining-line : {p : ℕ} → Defining (countsIn s) p → definingLine s (definedAt s p) ≡ p
   unfolding definingLine
   defining-line {p} d =
       first-unique (firstWhere-is (λ q. eqb (definedAt s q) (definedAt s p)) (linesDue (countsIn s) + 1))

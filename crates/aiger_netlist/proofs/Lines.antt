@@ -1,7 +1,7 @@
 -- Which line has which part, which lines define a variable, and the wires of what they define (specs/TextNetlist.antt, and Parts in
 -- aiger_lines). No contract cites this file.
-use Prim.Native.Nat.{ℕ, _+_, _-_, _≤_, _<_}
-use mathlib.Core.Path.{_≡_, refl}
+use Prim.Native.Nat.{ℕ, _-_, _≤_, _<_}
+use mathlib.Core.Path.{_≡_}
 use mathlib.Core.Bool.{true, false≢true}
 use mathlib.Core.Logic.{by-cases}
 use native.Mathlib.Decide.{decLt}

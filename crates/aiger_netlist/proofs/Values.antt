@@ -13,17 +13,16 @@ use Rattle.model.specs.Circuit.{Values, codeValue, Solves}
 use Rattle.model.proofs.Circuit.{evaluate-solves}
 use Rattle.model.proofs.Renumbering as Renumbering
 use Rattle.model.proofs.Renumbering.{networkOf, DefinedBefore, source, gate, Defined, OperandsDefined, straight, Renumbers, renumbered-obeys, gates-same-value, codes-same-value, solves-obeys}
-use Rattle.aiger_lines.specs.Parts.{countsIn, linesDue, textInputLine, textLatchLine, textGateLine}
-use Rattle.aiger_lines.specs.declared.Counts.{Counts}
-use Rattle.aiger_definitions.specs.Definitions.{numberAt, definedAt}
+use Rattle.aiger_lines.specs.Parts.{countsIn, linesDue, textGateLine}
+use Rattle.aiger_definitions.specs.Definitions.{definedAt}
 use Rattle.aiger_netlist.specs.TextNetlist.{textSizes, wireOfVariable, codeFrom, netOfCodes, aagNet}
 use Rattle.aiger_netlist.specs.TextValues.{inputVariable, latchVariable, gateVariable, nextAt, outputAt, textNetwork, TextValues, valuesOf, SameValues}
-use Rattle.aiger_netlist.proofs.Lines.{Defining, by-input, by-latch, by-gate, wire-input, wire-read, wire-latch, wire-gate}
+use Rattle.aiger_netlist.proofs.Lines.{by-input, by-latch, by-gate, wire-input, wire-read, wire-latch, wire-gate}
 use Rattle.aiger_netlist.proofs.Defined.{WellDefined, Known, constant, line, wire-defined, next-known, output-known, left-known, right-known}
 use Rattle.aiger_netlist.proofs.Codes.{FitsInterface, wire-zero, text-codes-fit}
 
 -- the variables of inputs and of latches
-pub data Source (s : List ℕ) (v : ℕ) : Type 0 where
+data Source (s : List ℕ) (v : ℕ) : Type 0 where
   an-input : (x : ℕ) → x < countsIn s .inputs → v ≡ inputVariable s x → Source s v
   a-latch : (l : ℕ) → l < countsIn s .latches → v ≡ latchVariable s l → Source s v
 
@@ -36,7 +35,7 @@ known-before s p g v b (line q l (by-gate x c k) e) = gate x (omega arith) (e �
 
 module _ (s : List ℕ) (ok : WellDefined s) where
   -- a gate's operands are, before it
-  pub operands-defined : OperandsDefined (textNetwork s) (Source s)
+  operands-defined : OperandsDefined (textNetwork s) (Source s)
   operands-defined =
       record {
         left-defined = λ g b. known-before s (textGateLine (countsIn s) g) g _ (omega arith) (left-known s ok g b);
@@ -69,7 +68,7 @@ module _ (s : List ℕ) (ok : WellDefined s) where
     gate-wire g b = wire-defined s ok sizes (by-gate g b refl) ∙ wire-gate (countsIn s) sizes (omega arith) g
 
     -- the netlist's gates are the text's, renumbered
-    pub renumbers : Renumbers (wireOfVariable s sizes) (textNetwork s) (networkOf net)
+    renumbers : Renumbers (wireOfVariable s sizes) (textNetwork s) (networkOf net)
     unfolding netOfCodes
     renumbers =
         record {

@@ -1,12 +1,11 @@
 -- Laws of specs/Printed.antt: lists of 600 records are long enough. Cited by `write_import`.
 use Prim.Native.Nat.{ℕ, _≤_}
-use mathlib.Core.Path.{_≡_, refl, sym, _∙_, ap}
+use mathlib.Core.Path.{_≡_, refl}
 use mathlib.Core.Bool.{false}
-use mathlib.Core.List.{List}
 use native.Mathlib.Omega.{arith}
 use Rattle.model.specs.Netlist.{Netlist}
-use Rattle.refusals.specs.Tests.{refuseIf, _then_}
-use Rattle.refusals.specs.declared.Refusal.the-variants.{Size, CodeOutside, NoRoom}
+use Rattle.refusals.specs.Tests.{_then_}
+use Rattle.refusals.specs.declared.Refusal.the-variants.{Size}
 use Rattle.refusals.specs.declared.Verdict.{Verdict}
 use Rattle.refusals.specs.declared.Verdict.the-variants.{Passed, Refused}
 use Rattle.netlist.specs.Faults.{sizeFault}

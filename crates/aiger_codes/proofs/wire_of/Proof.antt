@@ -1,7 +1,6 @@
 -- `aiger_codes::wire_of` meets its contract. The loop's invariant: no wire before w has the variable.
 use Prim.Native.Nat.{_-_, _≤_}
 use native.Mathlib.Omega.{arith}
-use borrow.Author.Needs.{needs}
 use Rattle.aiger_codes.proofs.WireTable.{NotBefore, found-at, not-before-next}
 use Rattle.aiger_codes.proofs.wire_of.Statement.{statement}
 use Rattle.aiger_codes.proofs.wire_of.Tie as tie

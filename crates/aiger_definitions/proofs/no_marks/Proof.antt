@@ -1,6 +1,4 @@
 -- `aiger_definitions::no_marks` meets its contract. The length is cited: counting the marks one by one takes seconds.
-use Prim.Native.Nat.{ℕ}
-use mathlib.Core.Path.{sym}
 use mathlib.Core.Bool.{Bool, false}
 use lib.ListN.{length-replicate}
 use Rattle.aiger_definitions.proofs.no_marks.Statement.{statement}

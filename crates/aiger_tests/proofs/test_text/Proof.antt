@@ -1,7 +1,6 @@
 -- `aiger_tests::test_text` meets its contract: each test refuses at the first line concerned, and the next one is made where none is.
 use Prim.Native.Nat.{_≤_}
 use mathlib.Core.Path.{_≡_, sym, _∙_, ap}
-use mathlib.Core.Bool.{true, false}
 use native.Mathlib.Omega.{arith}
 use borrow.Author.Needs.{needs}
 use Rattle.aiger_lines.specs.Parts.{countsIn, linesDue}

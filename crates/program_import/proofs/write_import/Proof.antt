@@ -1,5 +1,4 @@
 -- `program_import::write_import` meets its contract: the refusal, or the sheet of what was imported, which is no longer than the longest.
-use Prim.Native.Nat.{_^_, _<_, _≤_}
 use mathlib.Core.Path.{_≡_, sym, _∙_, subst}
 use mathlib.Core.List.{[]}
 use native.Mathlib.Omega.{arith}
