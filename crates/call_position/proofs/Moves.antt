@@ -19,7 +19,7 @@ use Rattle.call_position.specs.Positions.{Stands}
 use Rattle.call_position.specs.Moves.{testMove, moveVerdict, movedTo, keptAt, withPosition, moveSent, MoveStands}
 use Rattle.call_position.specs.declared.Position.{Position}
 use Rattle.call_position.specs.declared.Move.{Move}
-use Rattle.call_position.specs.declared.Move.the-variants.{Start, On, Back, Unknown}
+use Rattle.call_position.specs.declared.Move.the-variants.{Start, On, Back, NoMove}
 use Rattle.call_position.proofs.Positions.{frame-shown, testFrame-lists}
 
 -- lists have no part in the tests of a move and in where it leads
@@ -29,14 +29,14 @@ module _ (net : Netlist) (latches gates : List ℕ) (p : Position) where
   testMove-lists Start = refl
   testMove-lists On = testFrame-lists net latches gates p (p .frame + 1)
   testMove-lists Back = testFrame-lists net latches gates p (p .frame)
-  testMove-lists Unknown = refl
+  testMove-lists NoMove = refl
 
   pub movedTo-lists : (way : Move) → movedTo (alone net) p way ≡ movedTo (netOf net latches gates) p way
   unfolding movedTo
   movedTo-lists Start = rw (base-lists net latches gates 0)
   movedTo-lists On = rw (base-lists net latches gates (p .frame + 1))
   movedTo-lists Back = rw (base-lists net latches gates 0)
-  movedTo-lists Unknown = refl
+  movedTo-lists NoMove = refl
 
 module _ (c : M.Netlist) (latchCount gateCount : ℕ) (p : Position) where
   -- the verdict of a move from those of its parts
@@ -51,7 +51,7 @@ module _ (c : M.Netlist) (latchCount gateCount : ℕ) (p : Position) where
   moved-stands Start h = record { there = omega arith; stored = refl }
   moved-stands On h = record { there = frame-shown c p (p .frame + 1) h .0; stored = refl }
   moved-stands Back h = record { there = omega arith; stored = refl }
-  moved-stands Unknown h = absurd (refused-not-passed h)
+  moved-stands NoMove h = absurd (refused-not-passed h)
 
   pub move-stands : (way : Move) → MoveStands c (moveSent c latchCount gateCount p way)
   unfolding moveSent withPosition moveVerdict

@@ -1,4 +1,4 @@
-// A running record (RULES R1 to R8): a depth, a frame of it and the frame's stored base, which the caller keeps and hands in. Its moves,
+// A running record (RULES R1 to R9): a depth, a frame of it and the frame's stored base, which the caller keeps and hands in. Its moves,
 // the groups of its frame and the literals of its frame.
 use call_replies::CountReply;
 use call_unpacked::GroupAnswer;
@@ -33,12 +33,12 @@ pub struct Position {
     pub base: u32,
 }
 
-// A move. A start looks at the record's depth alone.
+// A move (RULES R9). A start looks at the record's depth alone.
 pub enum Move {
     Start,
     On,
     Back,
-    Unknown,
+    NoMove,
 }
 
 // What is sent back of a move: number and place (0 where it is not refused), and the record.
@@ -65,7 +65,7 @@ fn move_of(way: u32) -> Move
         0 => Move::Start,
         1 => Move::On,
         2 => Move::Back,
-        _ => Move::Unknown,
+        _ => Move::NoMove,
     }
 }
 
@@ -111,7 +111,7 @@ fn test_move(net: Netlist, position: Position, way: Move) -> Verdict
         Move::Start => Verdict::Passed,
         Move::On => test_next(net, position),
         Move::Back => test_frame(net, position),
-        Move::Unknown => Verdict::Refused(Refusal::NoSuchGroup, 0),
+        Move::NoMove => Verdict::Refused(Refusal::NoSuchGroup, 0),
     }
 }
 
@@ -148,7 +148,7 @@ fn moved(net: Netlist, position: Position, way: Move) -> Position
         Move::Start => first(position.depth),
         Move::On => next(net, position),
         Move::Back => first(position.depth),
-        Move::Unknown => position,
+        Move::NoMove => position,
     }
 }
 
@@ -164,7 +164,7 @@ fn kept(position: Position, way: Move) -> Position
         },
         Move::On => position,
         Move::Back => position,
-        Move::Unknown => position,
+        Move::NoMove => position,
     }
 }
 

@@ -1,7 +1,7 @@
 -- Laws of specs/Calls.antt: which tests a call passes, and demand 3 of the calls. No contract cites this file.
 use Prim.Native.Nat.{ℕ, _+_, _≤_, _<_}
-use mathlib.Core.Path.{_≡_, refl, sym, _∙_, ap}
-use mathlib.Core.Bool.{true, false, not}
+use mathlib.Core.Path.{_≡_, refl, _∙_, ap}
+use mathlib.Core.Bool.{true, not}
 use mathlib.Core.List.{List}
 use native.Mathlib.Omega.{arith}
 use lib.Dec.{ltb}
@@ -20,7 +20,7 @@ use Rattle.model.proofs.Gather.{all-weaken}
 use Rattle.model.proofs.Joined.{joined-same, order-inDepth}
 use Rattle.model.proofs.Claim.{encodes}
 use Rattle.model.proofs.Stated.{stated}
-use Rattle.refusals.specs.Tests.{refuseIf, _then_}
+use Rattle.refusals.specs.Tests.{_then_}
 use Rattle.refusals.specs.declared.Refusal.the-variants.{NoSuchGroup}
 use Rattle.refusals.specs.declared.Verdict.{Verdict}
 use Rattle.refusals.specs.declared.Verdict.the-variants.{Passed, Refused}

@@ -1,6 +1,6 @@
 -- What the calls over a record answer and leave (RULES T40, T41, T43 and G21 to G23). The right-hand sides of
--- the public contracts, and the subject of the claim about them. Cited by the calls in `call_unpacked` and
--- `calls`, by calls/specs, sheet_reader/specs/ReadCall, `call_replies` and call_replies/specs.
+-- the public contracts, and the subject of the claim about them. Cited by the calls over records, those through a running record, the
+-- reading of a sheet, the import, the replay, and the replies in numbers.
 use Prim.Native.Nat.{ℕ, _+_, _≤_}
 use mathlib.Core.Path.{_≡_}
 use mathlib.Core.Bool.{true, not}

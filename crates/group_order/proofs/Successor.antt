@@ -106,7 +106,7 @@ order-linked k =
     (refl, tt)
 
 -- wherever a group stands in the order of the whole, its successor comes next
-pub successor-next : (k : ℕ) (g : Group) (xs ys : List Group) → groupOrder k ≡ xs ++ g ∷ ys → successor k g ≡ firstGroup ys
+successor-next : (k : ℕ) (g : Group) (xs ys : List Group) → groupOrder k ≡ xs ++ g ∷ ys → successor k g ≡ firstGroup ys
 successor-next k g xs ys h =
     linked-at k End xs g ys (subst (Linked k End) h (order-linked k)) ∙ first-end ys
   where

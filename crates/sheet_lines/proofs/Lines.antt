@@ -9,7 +9,7 @@ use borrow.Author.Tests.{eq-eqb, ne-eqb, eqb-true}
 use lib.Dec.{eqb}
 use lib.ListN.{length, getD, take, drop, take-append-drop, drop-of-length-le, length-append, length-take, length-drop}
 use lib.Seq.{drop-cons, drop-drop, take-at, drop-at, getD-at}
-use Rattle.decimal.specs.Digits.{lineFeed, field, emptyField}
+use Rattle.decimal.specs.Digits.{lineFeed}
 use Rattle.decimal.proofs.Digits.{length-field}
 use Rattle.model.proofs.Booleans.{and-true}
 use Rattle.sheet_fields.specs.Fields.{fieldOf}
@@ -17,7 +17,7 @@ use Rattle.sheet_fields.specs.declared.Field.{Field}
 use Rattle.sheet_fields.specs.declared.Field.the-variants.{Empty, Filled, Misprinted}
 use Rattle.sheet_fields.proofs.Fields.{fieldOf-field, fieldOf-empty, field-fieldOf, empty-fieldOf}
 use Rattle.sheet_lines.specs.Letters.{Content, mustBeEmpty, mustBeFilled, mayBeEmpty, contentNumber, letterOf, kindOf, isKnown, contentOf}
-use Rattle.sheet_lines.specs.Lines.{fieldIn, asWanted, allAsWanted, valueOf, leftEmpty, lineWith, lineOf, printedField, fieldText, lineText, ReadAsWritten}
+use Rattle.sheet_lines.specs.Lines.{fieldIn, asWanted, allAsWanted, valueOf, leftEmpty, lineWith, lineOf, printedField, fieldText, lineText, LinesAsWritten}
 use Rattle.sheet_lines.specs.declared.Kind.{Kind}
 use Rattle.sheet_lines.specs.declared.Kind.the-variants.{Sizes, Memory, Latch, Gate, Address, WriteData, Control, Unknown}
 use Rattle.sheet_lines.specs.declared.ParsedLine.the-variants.{Misprint, Read}
@@ -279,5 +279,5 @@ lineOf-lineText k a b c e h x y z =
     (wanted-written (contentOf k 2) e c))
 
 -- both
-pub read-as-written : ReadAsWritten
-read-as-written = record { read→text = lineText-lineOf; text→read = lineOf-lineText }
+pub lines-as-written : LinesAsWritten
+lines-as-written = record { read→text = lineText-lineOf; text→read = lineOf-lineText }

@@ -78,7 +78,7 @@ lineText k a b c e =
     ++ lineFeed ∷ []
 
 -- the two are one: what is read as a line is its text, and its text is read as the line, with 0 where a field is empty
-pub record ReadAsWritten : Type 0 where
+pub record LinesAsWritten : Type 0 where
   pub read→text : (s : List ℕ) (k : Kind) (a b c e : ℕ) → lineOf s ≡ Read k a b c e → s ≡ lineText k a b c e
   pub text→read : (k : Kind) (a b c e : ℕ) → isKnown k ≡ true → a < 2 ^ 32 → b < 2 ^ 32 → c < 2 ^ 32
       → lineOf (lineText k a b c e)

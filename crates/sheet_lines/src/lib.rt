@@ -3,7 +3,7 @@ ghost use mathlib.Core.Path.{_≡_};
 ghost use Prim.Native.Nat.{_<_};
 ghost use Rattle.refusals.specs.Refusal.{replyOf};
 ghost use Rattle.sheet_lines.specs.Letters.{letterOf, kindOf, rowOf, contentNumber, contentOf, ContentsAsPrinted};
-ghost use Rattle.sheet_lines.specs.Lines.{asWanted, valueOf, leftEmpty, lineWith, lineOf, ReadAsWritten};
+ghost use Rattle.sheet_lines.specs.Lines.{asWanted, valueOf, leftEmpty, lineWith, lineOf, LinesAsWritten};
 ghost use Rattle.sheet_lines.specs.Depth.{depthField, fieldVerdict, depthVerdict, withDepth, depthLine};
 use refusals::Refusal;
 use refusals::Verdict;
@@ -39,15 +39,22 @@ pub struct DepthLine {
     pub depth: u32,
 }
 
-// Which fields are empty, 0, filled, 1, and which may be either, 2, in the order of the table in RULES S5.
+// What a field is to be (RULES S12).
+const MUST_BE_EMPTY: u8 = 0;
+
+pub const MUST_BE_FILLED: u8 = 1;
+
+pub const MAY_BE_EMPTY: u8 = 2;
+
+// Of each field, in the order of the table in RULES S5.
 const CONTENTS: [[u8; 3]; 7] = [
-    [1, 1, 1], // N
-    [1, 1, 2], // M
-    [1, 1, 0], // L
-    [1, 1, 0], // G
-    [1, 0, 0], // A
-    [1, 0, 0], // D
-    [1, 1, 1], // C
+    [MUST_BE_FILLED, MUST_BE_FILLED, MUST_BE_FILLED], // N
+    [MUST_BE_FILLED, MUST_BE_FILLED, MAY_BE_EMPTY], // M
+    [MUST_BE_FILLED, MUST_BE_FILLED, MUST_BE_EMPTY], // L
+    [MUST_BE_FILLED, MUST_BE_FILLED, MUST_BE_EMPTY], // G
+    [MUST_BE_FILLED, MUST_BE_EMPTY, MUST_BE_EMPTY], // A
+    [MUST_BE_FILLED, MUST_BE_EMPTY, MUST_BE_EMPTY], // D
+    [MUST_BE_FILLED, MUST_BE_FILLED, MUST_BE_FILLED], // C
 ];
 
 // The letter decides which line it is.
@@ -122,8 +129,8 @@ fn is_wanted(kind: Kind, column: usize, field: Field) -> bool
 {
     let content = content_of(kind, column);
     match field {
-        Field::Empty => content != 1,
-        Field::Filled(_) => content != 0,
+        Field::Empty => content != MUST_BE_FILLED,
+        Field::Filled(_) => content != MUST_BE_EMPTY,
         Field::Misprinted => false,
     }
 }
@@ -144,7 +151,7 @@ fn left_empty(kind: Kind, third: Field) -> u32
     requires { ⌜ rowOf kind < 7 ⌝ }
     ensures { λ r. ⌜ r ≡ leftEmpty (contentOf kind 2) third ⌝ }
 {
-    if content_of(kind, 2) == 2 {
+    if content_of(kind, 2) == MAY_BE_EMPTY {
         return match third {
             Field::Empty => 1,
             Field::Filled(_) => 0,
@@ -182,7 +189,7 @@ fn line_with(kind: Kind, first: Field, second: Field, third: Field) -> ParsedLin
 // What 32 bytes are read as. The fields are held to the letter on the line, whichever line is due.
 pub fn read_line(line: &[u8]) -> ParsedLine
     ensures line { λ r. ⌜ r ≡ lineOf (now (line .entry)) ⌝ }
-    ensures written { λ _. ⌜ ReadAsWritten ⌝ }
+    ensures written { λ _. ⌜ LinesAsWritten ⌝ }
 {
     if line.len() == 32 {
         if line[31] == b'\n' {

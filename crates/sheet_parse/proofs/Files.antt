@@ -1,4 +1,4 @@
--- The netlist as far as a line (specs/Progress.antt) and the netlist of the whole file (specs/Files.antt): one line more, the faults
+-- The netlist as far as a line and the netlist of the whole file (specs/Files.antt): one line more, the faults
 -- of the last line, and the last line of all. No contract cites this file.
 use Prim.Native.Nat.{ℕ, _+_, _-_, _*_, _%_, _≤_, _<_}
 use mathlib.Core.Path.{_≡_, refl, sym, _∙_, ap, fun-ext}
@@ -8,9 +8,10 @@ use mathlib.Core.List.{List}
 use native.Mathlib.Decide.{ℕ-discrete, decLt, decLe}
 use native.Mathlib.Nat.{add-zero}
 use native.Mathlib.Omega.{arith}
-use lib.Dec.{eqb, ltb}
+use lib.Dec.{eqb, ltb, leb}
 use lib.ListN.{length, drop-of-length-le}
 use borrow.Author.Tests.{ltb-false, eqb-true, eqb-false, not-false, lt-ltb, le-ltb, le-leb, lt-leb}
+use Rattle.model.specs.Netlist.{Netlist}
 use Rattle.model.specs.Agree.{SameSizes}
 use Rattle.model.proofs.Booleans.{neither-true}
 use Rattle.netlist.specs.Places.{latchLine, gateLine, addressLine, dataLine, controlLine, lineAt}
@@ -24,8 +25,15 @@ use Rattle.sheet_parse.specs.Files.{lineCount, lineIn, firstNumber, seco
 use Rattle.sheet_parse.specs.FileTests.{ragged}
 use Rattle.sheet_steps.specs.LineIndex.{lineIndex}
 use Rattle.sheet_steps.specs.Steps.{numberAfter, stored}
-use Rattle.sheet_parse.specs.Progress.{linesTo, netTo}
 use Rattle.sheet_steps.proofs.Places.{rowOfLine, sizeOfRow, placeOf, InRow, sameLine-here, sameLine-elsewhere, sameLine-none, lineAt-known, past-known}
+
+-- the lines up to place p; those behind say nothing yet
+abbrev pub linesTo : List ℕ → ℕ → ℕ → ParsedLine
+linesTo file p q = cond (leb q p) (lineIn file q) Misprint
+
+-- the netlist as far as line p
+unfoldable pub netTo : List ℕ → ℕ → Netlist
+netTo file p = netOfLines (sizesIn file) (linesTo file p)
 
 module _ (file : List ℕ) where
   -- a line that is read, and one that is not yet

@@ -26,11 +26,11 @@ use Rattle.sheet_steps.proofs.Records.{verdict-is, holds, outcome-kept, outcome
 use Rattle.sheet_parse.specs.Files.{lineCount, lineIn, firstNumber, secondNumber, thirdNumber, sizesIn, netOfLines, netIn}
 use Rattle.sheet_parse.specs.FileTests.{testLineIn}
 use Rattle.sheet_parse.specs.LineAnswers.{hasLine, linesRead, lineAfter}
-use Rattle.sheet_parse.specs.Progress.{linesTo, netTo, noCodes, noProgress, passes, answerVerdict, answerNet, moreAfter}
+use Rattle.sheet_parse.specs.Progress.{noCodes, noProgress, passes, answerVerdict, answerNet, moreAfter}
 use Rattle.sheet_parse.specs.declared.LineAnswer.the-variants as Answer
 use Rattle.sheet_parse.specs.declared.LineAfter.{LineAfter}
 use Rattle.sheet_parse.specs.declared.Progress.{Progress}
-use Rattle.sheet_parse.proofs.Files.{linesTo-unread, netTo-all, WholeLines}
+use Rattle.sheet_parse.proofs.Files.{linesTo, netTo, linesTo-unread, netTo-all, WholeLines}
 use Rattle.sheet_parse.proofs.LineAnswers.{line-there, line-none, after-none, after-misprint, after-read}
 use Rattle.sheet_parse.proofs.LineTests.{ReadTo, test-misprint, sizesKnown-to, outcome-next, next-passes, next-refuses}
 

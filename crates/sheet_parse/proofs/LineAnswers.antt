@@ -13,7 +13,7 @@ use Rattle.model.proofs.Booleans.{and-true}
 use Rattle.refusals.specs.declared.Refusal.the-variants as Refusal
 use Rattle.sheet_lines.specs.declared.Kind.{Kind}
 use Rattle.sheet_lines.specs.declared.ParsedLine.the-variants.{Misprint, Read}
-use Rattle.sheet_parse.specs.declared.LineAnswer.the-variants.{Line, Refused, NoLine}
+use Rattle.sheet_parse.specs.declared.LineAnswer.the-variants.{Line, Refused}
 use Rattle.sheet_parse.specs.Files.{lineCount, lineIn}
 use Rattle.sheet_parse.specs.LineAnswers.{hasLine, answerOf, lineAnswer, linesRead, noLineAfter, lineAfter}
 use Rattle.sheet_parse.proofs.Files.{WholeLines}

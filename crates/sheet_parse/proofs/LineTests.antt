@@ -38,10 +38,9 @@ use Rattle.sheet_parse.specs.FileTests.{misprinted, isOf, notDue, testLi
 use Rattle.sheet_steps.specs.LineFaults.{faultsAt}
 use Rattle.sheet_steps.specs.Steps.{stepNet, stepVerdict, SizesKnown, Outcome}
 use Rattle.sheet_steps.specs.Lists.{Holds}
-use Rattle.sheet_parse.specs.Progress.{netTo}
 use Rattle.sheet_steps.proofs.Places.{placeOf, place-lineAt}
 use Rattle.sheet_steps.proofs.Records.{outcome-same}
-use Rattle.sheet_parse.proofs.Files.{stored-next, lineAt-in, controlLine-in, sizes-to, due-to, past-to, sizeFault-to, codeFault-to}
+use Rattle.sheet_parse.proofs.Files.{netTo, stored-next, lineAt-in, controlLine-in, sizes-to, due-to, past-to, sizeFault-to, codeFault-to}
 
 -- within the last line and of the kind due, or else past it or unlike
 not-within : (q k : ℕ) (b : Bool) → not (leb q k && b) ≡ (ltb k q || not b)
@@ -90,7 +89,7 @@ pub record NoFault (c : M.Netlist) (file : List ℕ) (q : ℕ) : Type 0 where
   pub size : sizeFault c (lineAt c q) ≡ false
   pub code : codeFault c (lineAt c q) ≡ false
 
-pub no-fault : (c : M.Netlist) (file : List ℕ) (q : ℕ) → testLineIn c file q ≡ Passed → NoFault c file q
+no-fault : (c : M.Netlist) (file : List ℕ) (q : ℕ) → testLineIn c file q ≡ Passed → NoFault c file q
 unfolding testLineIn faultsAt _then_
 no-fault c file q e =
     let a = then-passes (refuseIf (misprinted (lineIn file q)) Word.Misprint q) (order then size then code) .0 e in

@@ -1,31 +1,19 @@
--- How far a file is read: the netlist as far as a line, and what one answer more does. Cited by the functions that go through a
+-- How far a file is read: what is there before the first line, and what one answer more does. Cited by the functions that go through a
 -- file line by line, by those that lend them lists, and by `no_codes`.
 use Prim.Native.Nat.{ℕ}
-use mathlib.Core.Bool.{Bool, true, false, cond}
+use mathlib.Core.Bool.{Bool, true, false}
 use mathlib.Core.List.{List}
-use lib.Dec.{leb}
 use lib.ListN.{replicate}
 use Rattle.refusals.specs.declared.Verdict.{Verdict}
 use Rattle.refusals.specs.declared.Verdict.the-variants.{Passed, Refused}
 use Rattle.model.specs.Netlist.{Netlist}
 use Rattle.netlist.specs.RecordOf.{noNetlist}
-use Rattle.sheet_lines.specs.declared.ParsedLine.{ParsedLine}
-use Rattle.sheet_lines.specs.declared.ParsedLine.the-variants.{Misprint}
 use Rattle.sheet_steps.specs.Records.{sheetAnswer}
 use Rattle.sheet_steps.specs.Steps.{stepNet, stepVerdict}
 use Rattle.sheet_steps.specs.declared.SheetAnswer.{SheetAnswer}
-use Rattle.sheet_parse.specs.Files.{lineIn, sizesIn, netOfLines}
 use Rattle.sheet_parse.specs.declared.LineAnswer.{LineAnswer}
 use Rattle.sheet_parse.specs.declared.LineAnswer.the-variants as Answer
 use Rattle.sheet_parse.specs.declared.Progress.{Progress}
-
--- the lines up to place p; those behind say nothing yet
-abbrev pub linesTo : List ℕ → ℕ → ℕ → ParsedLine
-linesTo file p q = cond (leb q p) (lineIn file q) Misprint
-
--- the netlist as far as line p
-unfoldable pub netTo : List ℕ → ℕ → Netlist
-netTo file p = netOfLines (sizesIn file) (linesTo file p)
 
 -- before the first line: 600 records of two codes each, all 0, and a record that is all zeros
 unfoldable pub noCodes : List ℕ

@@ -15,7 +15,7 @@ use Rattle.call_lists.specs.Delivered.{delivered}
 use Rattle.call_lists.proofs.Delivered.{length-delivered}
 
 -- what stands at an index of gathered lists that are d long
-pub getD-gather : {A : Type 0} (n d : ℕ) (f : ℕ → List A) → ((t : ℕ) → length (f t) ≡ d) → (l k i : ℕ) → l < n → k < d
+getD-gather : {A : Type 0} (n d : ℕ) (f : ℕ → List A) → ((t : ℕ) → length (f t) ≡ d) → (l k i : ℕ) → l < n → k < d
     → i ≡ l * d + k
     → (rest : List A) (z : A) → getD (gather n f ++ rest) i z ≡ getD (f l) k z
 unfolding gather
@@ -39,7 +39,7 @@ getD-gather-alone n d f each l k i h b e z =
     ap (λ (xs : List _). getD xs i z) (sym (append-nil (gather n f))) ∙ getD-gather n d f each l k i h b e [] z
 
 -- the two numbers of a record, unpacked
-pub getD-pairs : {X : Type 0} (first second : X → ℕ) (xs : List X) (l : ℕ) (d : X) → l < length xs
+getD-pairs : {X : Type 0} (first second : X → ℕ) (xs : List X) (l : ℕ) (d : X) → l < length xs
     → (getD (pairsOf first second xs) (2 * l) 0 ≡ first (getD xs l d)) ×
     (getD (pairsOf first second xs) (2 * l + 1) 0 ≡ second (getD xs l d))
 unfolding pairsOf

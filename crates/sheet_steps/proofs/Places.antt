@@ -29,7 +29,7 @@ abbrev pub rowOfLine : Line → ℕ
 rowOfLine x = rowOf (kindDue x)
 
 -- the place of the first line in a row, and how many lines a row has
-abbrev pub firstInRow : Netlist → ℕ → ℕ
+abbrev firstInRow : Netlist → ℕ → ℕ
 firstInRow c row =
     getD (1 ∷ 2 ∷ 3 ∷ (3 + c .latches) ∷ (3 + c .latches + c .gates) ∷ (3 + c .latches + c .gates + c .m) ∷ controlLine c ∷ []) row 0
 
@@ -53,11 +53,11 @@ inRow-of-hasLine c (Address t) h = h
 inRow-of-hasLine c (WriteData t) h = h
 inRow-of-hasLine c Control h = omega arith
 
-pub inRow-at : (c : Netlist) (p : ℕ) → InRow c (lineAt c p)
+inRow-at : (c : Netlist) (p : ℕ) → InRow c (lineAt c p)
 inRow-at c p = inRow-of-hasLine c (lineAt c p) (has-lineAt c p)
 
 -- the line at a line's place is the line
-pub lineAt-place : (c : Netlist) (x : Line) → InRow c x → lineAt c (placeOf c x) ≡ x
+lineAt-place : (c : Netlist) (x : Line) → InRow c x → lineAt c (placeOf c x) ≡ x
 lineAt-place c Sizes h = at-sizes c 1 (omega arith)
 lineAt-place c Memory h = at-memory c 2 refl
 lineAt-place c (Latch l) h = at-latch c (3 + l) l h refl

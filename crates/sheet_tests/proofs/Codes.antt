@@ -19,16 +19,14 @@ use Rattle.netlist.specs.Faults.{codeFault}
 use Rattle.netlist.specs.declared.Netlist.{Netlist}
 use Rattle.netlist.proofs.Places.{every-place}
 use Rattle.netlist.proofs.Faults.{Without, codes-fit}
-use Rattle.netlist_tests.specs.Record.{testPort, listsShort, recordVerdict}
-use Rattle.netlist_tests.proofs.Acceptance.{lists-long, port-passes, passes-accepted}
+use Rattle.netlist_tests.specs.Record.{testPort, listsShort}
+use Rattle.netlist_tests.proofs.Acceptance.{lists-long, port-passes}
 use Rattle.sheet_steps.specs.Lists.{Holds}
-use Rattle.sheet_steps.specs.declared.SheetAnswer.{SheetAnswer}
 use Rattle.sheet_steps.proofs.Records.{holds}
 use Rattle.sheet_parse.specs.Files.{lineCount, netIn}
 use Rattle.sheet_parse.specs.FileTests.{ragged, testLineIn}
 use Rattle.sheet_parse.proofs.LineTests.{line-passed, sizes-passed}
 use Rattle.sheet_tests.specs.Sheet.{endVerdict, fileVerdict, sheetVerdict}
-use Rattle.sheet_tests.specs.Codes.{CodesRead}
 
 -- the file's netlist, where all tests of the file pass
 module _ (file : List ℕ) (passed : fileVerdict file ≡ Passed) where
@@ -110,9 +108,3 @@ module _ (file : List ℕ) (latchRoom gateRoom : ℕ) where
       let parts = then-passes (fileVerdict file) _ .0 e in
       let long = lists-long (netIn file) latchRoom gateRoom .0 (refuseIf-passes short NoRoom 0 .0 (parts .1)) in
       (accepted-in file (parts .0), long .0, long .1)
-
-  -- and what it says of the record and the lists: no test of records refuses them
-  pub passed-record : {sheet : SheetAnswer} (latches gates : List ℕ) → CodesRead file latchRoom gateRoom sheet latches gates
-      → sheetVerdict file latchRoom gateRoom ≡ Passed → recordVerdict (netOf (sheet .net) latches gates) latchRoom gateRoom ≡ Passed
-  passed-record latches gates codes e =
-      rw (holds codes e .net-is) (passes-accepted (netIn file) latchRoom gateRoom .1 (passed-sheet e))

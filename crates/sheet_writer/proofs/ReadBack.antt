@@ -1,31 +1,28 @@
 -- The sheet of an accepted netlist passes every test of sheets, and is read as a netlist that agrees (specs/WriteCall.antt). No contract cites
 -- this file.
-use Prim.Native.Nat.{ℕ, _+_, _*_, _%_, _≤_}
-use mathlib.Core.Path.{_≡_, refl, sym, _∙_, ap}
-use mathlib.Core.Bool.{Bool, true, false, not, _&&_}
+use Prim.Native.Nat.{ℕ, _%_, _≤_}
+use mathlib.Core.Path.{_≡_, _∙_}
+use mathlib.Core.Bool.{false}
 use mathlib.Core.List.{List}
 use native.Mathlib.Omega.{arith}
-use lib.Dec.{eqb, ltb, leb}
 use lib.ListN.{length}
 use borrow.Author.Tests.{eq-eqb, ne-eqb, le-ltb, le-leb}
 use Rattle.model.specs.Netlist.{Netlist}
 use Rattle.model.specs.Acceptance.{Accepted}
 use Rattle.model.specs.Agree.{Agree}
 use Rattle.model.proofs.Agree.{accepted-same, latches-same, gates-same}
-use Rattle.refusals.specs.Tests.{refuseIf, _then_, inOrder}
-use Rattle.refusals.specs.declared.Refusal.the-variants.{Ragged, Misprint, OutOfOrder, Size, CodeOutside}
+use Rattle.refusals.specs.Tests.{inOrder}
 use Rattle.refusals.specs.declared.Verdict.the-variants.{Passed}
-use Rattle.refusals.proofs.Tests.{refuseIf-passes, passed-then, inOrder-passes}
+use Rattle.refusals.proofs.Tests.{passed-then, inOrder-passes}
 use Rattle.netlist.specs.Places.{controlLine, lineAt}
 use Rattle.netlist.specs.Faults.{sizeFault, codeFault}
 use Rattle.netlist.proofs.Places.{every-place}
 use Rattle.netlist.proofs.Faults.{Without, sizes-fit, codes-fit}
-use Rattle.netlist_tests.specs.Record.{listsShort}
 use Rattle.netlist_tests.proofs.Acceptance.{lists-long, port-passes}
 use Rattle.sheet_steps.specs.LineFaults.{faultsAt}
 use Rattle.sheet_steps.proofs.Places.{lineAt-known}
-use Rattle.sheet_parse.specs.Files.{lineCount, lineIn, netIn}
-use Rattle.sheet_parse.specs.FileTests.{ragged, misprinted, isOf, notDue, testLineIn}
+use Rattle.sheet_parse.specs.Files.{lineCount, netIn}
+use Rattle.sheet_parse.specs.FileTests.{ragged, notDue, testLineIn}
 use Rattle.sheet_tests.specs.Sheet.{endVerdict, fileVerdict, sheetVerdict}
 use Rattle.sheet_tests.proofs.Verdicts.{file-lines, end-whole}
 use Rattle.sheet_tests.proofs.Codes.{sheet-passed}

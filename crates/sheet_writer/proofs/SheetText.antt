@@ -4,14 +4,12 @@ use Prim.Native.Nat.{ℕ, zero, suc, _+_, _-_, _*_, _^_, _≤_, _<_}
 use mathlib.Core.Path.{_≡_, refl, sym, _∙_, ap, subst}
 use mathlib.Core.Bool.{true, false, cond, _&&_, _||_, true≢false}
 use mathlib.Core.Logic.{by-cases}
-use mathlib.Core.List.{List}
 use native.Mathlib.Decide.{ℕ-discrete}
 use native.Mathlib.Omega.{arith}
 use lib.Dec.{eqb}
-use lib.ListN.{length, take, drop}
+use lib.ListN.{length}
 use lib.Pow.{pow-mono}
 use borrow.Author.Tests.{ne-eqb, lt-ltb}
-use Rattle.model.specs.Gather.{gather}
 use Rattle.model.specs.Netlist.{Netlist, given, startOf, start}
 use Rattle.model.specs.Acceptance.{StartFits, WithinLimits}
 use Rattle.model.specs.Agree.{givenWord, Agree}
@@ -25,9 +23,9 @@ use Rattle.sheet_fields.specs.declared.Field.the-variants.{Empty, Filled}
 use Rattle.sheet_lines.specs.Letters.{rowOf, Content, mustBeEmpty, mustBeFilled, mayBeEmpty, contentNumber, contentOf}
 use Rattle.sheet_lines.specs.Lines.{lineOf, printedField, lineText}
 use Rattle.sheet_lines.specs.declared.ParsedLine.{ParsedLine}
-use Rattle.sheet_lines.specs.declared.ParsedLine.the-variants.{Misprint, Read}
+use Rattle.sheet_lines.specs.declared.ParsedLine.the-variants.{Read}
 use Rattle.sheet_lines.specs.declared.Kind.the-variants.{Sizes, Memory, Latch, Gate, Address, WriteData, Control}
-use Rattle.sheet_lines.proofs.Lines.{read-as-written, lineOf-length}
+use Rattle.sheet_lines.proofs.Lines.{lines-as-written, lineOf-length}
 use Rattle.sheet_steps.specs.Due.{kindDue}
 use Rattle.sheet_parse.specs.FileTests.{misprinted, isOf}
 use Rattle.sheet_parse.specs.Files.{lineIn, sizesIn, netOfLines, netIn}
@@ -105,28 +103,28 @@ module _ (c : Netlist) (fits : WithinLimits c) where
       ≡ Read Memory (c .m) (c .n) (givenWord (startOf (c .initialWord) unknown)) unknown
   unfolding lineText contentOf startOf givenWord
   memory-read zero e =
-      read-as-written .text→read Memory (c .m) (c .n) (c .initialWord) 0 refl (omega (arith, fits .sizes)) (omega (arith, fits .sizes))
+      lines-as-written .text→read Memory (c .m) (c .n) (c .initialWord) 0 refl (omega (arith, fits .sizes)) (omega (arith, fits .sizes))
       (word-fits (c .initialWord) (rw e))
   memory-read (suc unknown) e =
       let one : unknown ≡ 0 = omega (arith, fits .sizes .unknown-fits) in
-      rw one (read-as-written .text→read Memory (c .m) (c .n) 0 1 refl (omega (arith, fits .sizes)) (omega (arith, fits .sizes)) (omega arith))
+      rw one (lines-as-written .text→read Memory (c .m) (c .n) 0 1 refl (omega (arith, fits .sizes)) (omega (arith, fits .sizes)) (omega arith))
 
   -- a line of the netlist is read as what it says
   pub printed-read : (x : Line) → HasLine c x → lineOf (printedText (printedLine c x)) ≡ readAs c x
   unfolding printedLine printedText contentOf
   printed-read Due.Sizes h =
-      read-as-written .text→read Sizes (c .inputs) (c .latches) (c .gates) 0 refl (omega (arith, fits .sizes)) (omega (arith, fits .sizes)) (omega (arith, fits .sizes))
+      lines-as-written .text→read Sizes (c .inputs) (c .latches) (c .gates) 0 refl (omega (arith, fits .sizes)) (omega (arith, fits .sizes)) (omega (arith, fits .sizes))
   printed-read Due.Memory h = memory-read (c .unknownStart) refl
   printed-read (Due.Latch l) h =
-      read-as-written .text→read Latch (c .next l) (c .reset l) 0 0 refl (omega (arith, fits .codes .next-fits l h, fits .sizes .wires-fit)) (omega (arith, fits .codes .reset-fits l h)) (omega arith)
+      lines-as-written .text→read Latch (c .next l) (c .reset l) 0 0 refl (omega (arith, fits .codes .next-fits l h, fits .sizes .wires-fit)) (omega (arith, fits .codes .reset-fits l h)) (omega arith)
   printed-read (Due.Gate g) h =
-      read-as-written .text→read Gate (c .left g) (c .right g) 0 0 refl (omega (arith, fits .codes .left-fits g h, fits .sizes)) (omega (arith, fits .codes .right-fits g h, fits .sizes)) (omega arith)
+      lines-as-written .text→read Gate (c .left g) (c .right g) 0 0 refl (omega (arith, fits .codes .left-fits g h, fits .sizes)) (omega (arith, fits .codes .right-fits g h, fits .sizes)) (omega arith)
   printed-read (Due.Address t) h =
-      read-as-written .text→read Address (c .address t) 0 0 0 refl (omega (arith, fits .codes .address-fits t h, fits .sizes .wires-fit)) (omega arith) (omega arith)
+      lines-as-written .text→read Address (c .address t) 0 0 0 refl (omega (arith, fits .codes .address-fits t h, fits .sizes .wires-fit)) (omega arith) (omega arith)
   printed-read (Due.WriteData t) h =
-      read-as-written .text→read WriteData (c .writeData t) 0 0 0 refl (omega (arith, fits .codes .data-fits t h, fits .sizes .wires-fit)) (omega arith) (omega arith)
+      lines-as-written .text→read WriteData (c .writeData t) 0 0 0 refl (omega (arith, fits .codes .data-fits t h, fits .sizes .wires-fit)) (omega arith) (omega arith)
   printed-read Due.Control h =
-      read-as-written .text→read Control (c .WE) (c .RE) (c .P) 0 refl (omega (arith, fits .codes .WE-fits, fits .sizes .wires-fit)) (omega (arith, fits .codes .RE-fits, fits .sizes .wires-fit)) (omega (arith, fits .codes .P-fits, fits .sizes .wires-fit))
+      lines-as-written .text→read Control (c .WE) (c .RE) (c .P) 0 refl (omega (arith, fits .codes .WE-fits, fits .sizes .wires-fit)) (omega (arith, fits .codes .RE-fits, fits .sizes .wires-fit)) (omega (arith, fits .codes .P-fits, fits .sizes .wires-fit))
 
   -- so it has 32 bytes
   length-printed : (x : Line) → HasLine c x → length (printedText (printedLine c x)) ≡ 32

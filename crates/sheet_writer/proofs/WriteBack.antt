@@ -1,15 +1,13 @@
 -- A sheet that is accepted is the sheet of the netlist that it is read as (specs/WriteCall.antt). No contract cites this file.
 use Prim.Native.Nat.{ℕ, _+_, _-_, _*_, _≤_, _<_}
 use mathlib.Core.Path.{_≡_, refl, sym, _∙_, ap}
-use mathlib.Core.Bool.{Bool, true, false, not, _&&_, true≢false, false≢true}
+use mathlib.Core.Bool.{true, false≢true}
 use mathlib.Core.List.{List}
 use native.Mathlib.Nat.{add-zero}
 use native.Mathlib.Omega.{arith}
-use lib.Dec.{eqb, leb}
+use lib.Dec.{leb}
 use lib.ListN.{getD, length, take, drop}
 use borrow.Author.Tests.{eqb-true, lt-ltb, not-false}
-use Rattle.model.specs.Gather.{gather}
-use Rattle.model.specs.Netlist.{Netlist}
 use Rattle.model.proofs.Booleans.{and-true}
 use Rattle.model.proofs.Gather.{gathers-same}
 use Rattle.refusals.specs.declared.Refusal.the-variants.{Ragged}
@@ -20,13 +18,13 @@ use Rattle.netlist.specs.declared.Line.{Line}
 use Rattle.netlist.specs.declared.Line.the-variants as Due
 use Rattle.netlist.proofs.Places.{has-lineAt}
 use Rattle.sheet_lines.specs.Letters.{rowOf, contentOf}
-use Rattle.sheet_lines.specs.Lines.{lineOf, lineText}
+use Rattle.sheet_lines.specs.Lines.{lineText}
 use Rattle.sheet_lines.specs.declared.Kind.{Kind}
 use Rattle.sheet_lines.specs.declared.Kind.the-variants.{Sizes, Memory, Latch, Gate, Address, WriteData, Control, Unknown}
 use Rattle.sheet_lines.specs.declared.ParsedLine.{ParsedLine}
 use Rattle.sheet_lines.specs.declared.ParsedLine.the-variants.{Misprint, Read}
 use Rattle.sheet_lines.proofs.Letters.{kinds}
-use Rattle.sheet_lines.proofs.Lines.{read-as-written}
+use Rattle.sheet_lines.proofs.Lines.{lines-as-written}
 use Rattle.sheet_steps.specs.Due.{kindDue}
 use Rattle.sheet_steps.proofs.Places.{placeOf, place-lineAt}
 use Rattle.sheet_parse.specs.Files.{lineCount, lineIn, sizesIn, netOfLines, netIn}
@@ -103,7 +101,7 @@ module _ (file : List ℕ) where
         let line = of-kind (kindDue due) (lineIn file (p + 1)) kind in
         let place : placeOf c due ≡ p + 1 = place-lineAt c (p + 1) (omega arith) (omega arith) in
         text-of-line due (has-lineAt c (p + 1)) (line .x) (line .y) (line .z) (line .empty) (ap (lineIn file) place ∙ line .is)
-        ∙ sym (read-as-written .read→text (take 32 (drop (32 * (p + 1 - 1)) file)) (kindDue due) (line .x) (line .y) (line .z) (line .empty) (line .is))
+        ∙ sym (lines-as-written .read→text (take 32 (drop (32 * (p + 1 - 1)) file)) (kindDue due) (line .x) (line .y) (line .z) (line .empty) (line .is))
         ∙ ap (λ q. take 32 (drop (32 * q) file)) back
 
     pub written-back : sheetText (netIn file) ≡ file

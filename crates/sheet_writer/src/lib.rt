@@ -7,6 +7,8 @@ use netlist::UnpackedList;
 use refusals::Refusal;
 use refusals::Verdict;
 use sheet_lines::Kind;
+use sheet_lines::MAY_BE_EMPTY;
+use sheet_lines::MUST_BE_FILLED;
 use text_writer::write_byte;
 use text_writer::write_word;
 ghost use mathlib.Core.Path.{_≡_};
@@ -120,7 +122,7 @@ fn is_printed(kind: Kind, column: usize, empty: u32) -> bool
     ensures { λ r. ⌜ ((x : ℕ) → printedField (contentOf kind column) empty x ≡ cond r (Filled x) Empty) ⌝ }
 {
     let content = sheet_lines::content_of(kind, column);
-    (content == 1) | ((content == 2) & (empty == 0))
+    (content == MUST_BE_FILLED) | ((content == MAY_BE_EMPTY) & (empty == 0))
 }
 
 // Writes ten columns: a number, or spaces.

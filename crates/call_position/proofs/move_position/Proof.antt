@@ -4,12 +4,10 @@ use mathlib.Core.List.{[]}
 use Prim.Native.Nat.{_≤_}
 use Rattle.model.specs.Acceptance.{SizesFit}
 use Rattle.refusals.specs.Tests.{_then_}
-use Rattle.refusals.specs.declared.Verdict.{Verdict}
-use Rattle.refusals.specs.declared.Verdict.the-variants.{Passed}
 use Rattle.netlist.specs.NetOf.{netOf, alone}
 use Rattle.netlist.proofs.NetOf.{sizes-lists}
 use Rattle.call_unpacked.proofs.Calls.{depth-shown}
-use Rattle.call_position.specs.Moves.{moveOf, testMove, moveVerdict, withPosition, moveSent}
+use Rattle.call_position.specs.Moves.{moveOf, moveVerdict, withPosition, moveSent}
 use Rattle.call_position.proofs.Moves.{testMove-lists, movedTo-lists, move-tested}
 use borrow.Author.Needs.{needs}
 use Rattle.call_position.proofs.move_position.Statement.{statement}

@@ -1,5 +1,5 @@
 -- `call_unpacked::test_depth` meets its contract: the first test that refuses answers.
-use mathlib.Core.Path.{_≡_, sym, _∙_}
+use mathlib.Core.Path.{sym, _∙_}
 use borrow.Author.Tests.{le-ltb, lt-ltb}
 use borrow.Author.Needs.{needs}
 use Rattle.refusals.specs.Tests.{_then_}

@@ -1,5 +1,5 @@
 -- `call_unpacked::write_group` meets its contract: the tests up to 8, then what is left of the call.
-use mathlib.Core.Path.{_≡_, sym, _∙_}
+use mathlib.Core.Path.{sym, _∙_}
 use lib.ListN.{length}
 use Rattle.refusals.specs.Tests.{_then_}
 use Rattle.refusals.specs.Slices.{withCount, contentsAfter}

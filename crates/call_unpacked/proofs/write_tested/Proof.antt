@@ -1,5 +1,5 @@
 -- `call_unpacked::write_tested` meets its contract: 10 is never met; the group is written aside, then the room and the copy.
-use Prim.Native.Nat.{ℕ, _≤_}
+use Prim.Native.Nat.{_≤_}
 use mathlib.Core.Path.{_≡_, sym, _∙_}
 use native.Mathlib.Omega.{arith}
 use mathlib.Core.List.{[]}

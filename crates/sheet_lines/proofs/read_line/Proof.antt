@@ -3,7 +3,7 @@ use mathlib.Core.Path.{sym, _∙_}
 use native.Mathlib.Omega.{arith}
 use borrow.Author.Needs.{needs}
 use Rattle.sheet_lines.specs.Lines.{fieldIn}
-use Rattle.sheet_lines.proofs.Lines.{lineOf-fields, lineOf-length, lineOf-no-feed, read-as-written}
+use Rattle.sheet_lines.proofs.Lines.{lineOf-fields, lineOf-length, lineOf-no-feed, lines-as-written}
 use Rattle.sheet_lines.proofs.read_line.Statement.{statement}
 use Rattle.sheet_lines.proofs.read_line.Tie as tie
 
@@ -67,15 +67,15 @@ returns c =
       c .line-with .ensures
           ∙ rw (kind .ensures, first .ensures, second .ensures, third .ensures)
           (sym (lineOf-fields line (omega (arith, passed .before .before .before)) (omega (arith, passed .before)))),
-      read-as-written,
+      lines-as-written,
     )
 
 returns-2 : tie.Need-returns-2
 returns-2 c =
-    (sym (lineOf-no-feed (c .before .before .before .before .args .line .now) (c .before .before .if1 .taken) (c .if2 .left)), read-as-written)
+    (sym (lineOf-no-feed (c .before .before .before .before .args .line .now) (c .before .before .if1 .taken) (c .if2 .left)), lines-as-written)
 
 returns-3 : tie.Need-returns-3
-returns-3 c = (sym (lineOf-length (c .before .before .args .line .now) (c .if1 .left)), read-as-written)
+returns-3 c = (sym (lineOf-length (c .before .before .args .line .now) (c .if1 .left)), lines-as-written)
 
 pub read-line-spec : {M : Type 1} → statement M
 read-line-spec =
