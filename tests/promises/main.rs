@@ -1,6 +1,7 @@
 //! What is promised and what must be believed, read off the repository: the public functions with the definitions that their
 //! contracts cite, the files in which those definitions stand, the wrong programs and definitions that are refused, and the C
 //! functions whose contracts the check assumes. `print` prints it as docs/TRUST.md has it, `write` puts it there, and `check` holds the page to it.
+//! `check` also wants each definition in specs/ reached by the contract of some function: what only proofs need stands beside them.
 //! The last line of `check` is the total.
 //! Arguments: print, write or check; the repository's folder. The check's own output is read from target/log (after `rt ci` or `rt check`).
 
@@ -30,6 +31,13 @@ fn is_shown(of: &str, it: &Public) -> bool {
 
 /// The crates whose functions the programs are put together from; what they promise must be believed too.
 const PROGRAM: [&str; 4] = ["program_input", "program_output", "program_replay", "program_import"];
+
+/// Definitions that no contract reaches, and why they stand in specs/.
+const UNREACHED: [(&str, &str); 3] = [
+    ("model/EncodingTheorem", "the theorem at every depth, of which contracts promise those up to 255"),
+    ("model/StatedTheorem", "likewise"),
+    ("model/Solves", "what the laws of two crates say of a frame's values"),
+];
 
 struct Repository(PathBuf);
 
@@ -65,6 +73,13 @@ impl Repository {
         found
     }
 
+    fn folders(&self, folder: &str) -> Vec<String> {
+        let entries = fs::read_dir(self.0.join(folder)).expect("a folder");
+        let mut found: Vec<String> = entries.map(|entry| entry.expect("an entry").file_name().to_string_lossy().into_owned()).collect();
+        found.sort();
+        found
+    }
+
     /// The public functions of some crates.
     fn functions_of(&self, crates: &[&str], shown: fn(&str, &Public) -> bool) -> Vec<Public> {
         let mut all = Vec::new();
@@ -94,6 +109,85 @@ impl Repository {
         }
         reached
     }
+}
+
+/// What separates words, of code and of definitions.
+fn words(text: &str) -> BTreeSet<&str> {
+    text.split(|c: char| c.is_whitespace() || "(){}[];,.⌜⌝".contains(c)).collect()
+}
+
+/// A text without its comments.
+fn code(text: &str) -> String {
+    let lines = text.lines().filter(|line| !line.trim_start().starts_with("--") && !line.trim_start().starts_with("//"));
+    lines.map(|line| line.split(" -- ").next().unwrap_or("")).collect::<Vec<_>>().join("\n")
+}
+
+/// Where the names of a file come from that are definitions of ours: imported by name, or all of a module that has another name there.
+fn sources(text: &str, own: &str, modules: &BTreeMap<Module, Vec<(String, String)>>) -> BTreeMap<String, Module> {
+    let mut found = BTreeMap::new();
+    for line in text.lines().filter(|line| line.starts_with("use Rattle·") || line.starts_with("ghost use Rattle·")) {
+        if let Some((module, names)) = import(line, own) {
+            let whole = modules.get(&module).into_iter().flatten().map(|(name, _)| name.clone());
+            let names = if names.is_empty() { whole.collect() } else { names };
+            found.extend(names.into_iter().map(|name| (name, module.clone())));
+        }
+    }
+    found
+}
+
+/// The definitions of a file of specs/, each with its text: it begins at a line that says so and ends where the next begins.
+fn defined(text: &str) -> Vec<(String, String)> {
+    let mut found: Vec<(String, String)> = Vec::new();
+    for line in code(text).lines().filter(|line| !line.starts_with("use ")) {
+        if ["unfoldable ", "abbrev ", "pub ", "record ", "data "].iter().any(|start| line.starts_with(start)) {
+            let name = line.split(' ').find(|word| !["unfoldable", "abbrev", "pub", "record", "data"].contains(word));
+            found.push((name.unwrap_or("").to_string(), String::new()));
+        }
+        if let Some((_, body)) = found.last_mut() {
+            *body += line;
+            body.push('\n');
+        }
+    }
+    found
+}
+
+/// The definitions of specs/ that no contract reaches, as crate/name.
+fn unreached(repository: &Repository) -> BTreeSet<String> {
+    let mut modules = BTreeMap::new();
+    let (mut texts, mut reached, mut next) = (BTreeMap::new(), BTreeSet::new(), Vec::new());
+    for of in repository.folders("crates") {
+        for path in repository.files(&format!("crates/{of}/specs"), ".antt") {
+            let module = Path::new(&path).file_stem().expect("a name").to_string_lossy().into_owned();
+            let text = repository.read(&path);
+            if module != "Lib" {
+                modules.insert((of.clone(), module.clone()), defined(&text));
+                texts.insert((of.clone(), module), text);
+            }
+        }
+    }
+    for of in repository.folders("crates") {
+        for path in repository.files(&format!("crates/{of}/src"), ".rt") {
+            let text = repository.read(&path);
+            let contracts: String = text.split('⌜').skip(1).filter_map(|rest| rest.split('⌝').next()).collect::<Vec<_>>().join(" ");
+            let sources = sources(&text, &of, &modules);
+            next.extend(words(&contracts).into_iter().filter_map(|word| Some((sources.get(word)?.clone(), word.to_string()))));
+        }
+    }
+    while let Some((module, name)) = next.pop() {
+        let known = modules.get(&module).map(Vec::as_slice).unwrap_or(&[]);
+        // what is no definition's own name is a constructor of one of the file
+        let wanted = |(own, body): &&(String, String)| *own == name || (!known.iter().any(|(other, _)| *other == name) && words(body).contains(name.as_str()));
+        for (own, body) in known.iter().filter(wanted) {
+            if reached.insert((module.clone(), own.clone())) {
+                let sources = sources(&texts[&module], &module.0, &modules);
+                let here = known.iter().map(|(other, _)| (other.clone(), module.clone()));
+                let all: BTreeMap<String, Module> = sources.into_iter().chain(here).collect();
+                next.extend(words(body).into_iter().filter_map(|word| Some((all.get(word)?.clone(), word.to_string()))));
+            }
+        }
+    }
+    let all = modules.iter().flat_map(|(module, known)| known.iter().map(move |(name, _)| (module.clone(), name.clone())));
+    all.filter(|one| !reached.contains(one)).map(|((of, _), name)| format!("{of}/{name}")).collect()
 }
 
 fn path_of((of, module): &Module) -> String {
@@ -275,14 +369,9 @@ fn stands_for<'a>(edit: &str, line: &'a str) -> Result<(&'a str, usize), String>
 fn edits_blocks(repository: &Repository, functions: &[Public]) -> ([String; 2], Vec<String>) {
     let mut count: BTreeMap<String, usize> = BTreeMap::new();
     let mut short = Vec::new();
-    let mut crates: Vec<String> = fs::read_dir(repository.0.join("crates"))
-        .expect("crates")
-        .map(|entry| entry.expect("a crate").file_name().to_string_lossy().into_owned())
-        .collect();
-    crates.sort();
     let mut programs = String::from("| wrong program | of | edit |\n|---|---|---|\n");
     let mut definitions = String::from("| wrong definition or promise | of | edit |\n|---|---|---|\n");
-    for of in crates {
+    for of in repository.folders("crates") {
         for path in repository.files(&format!("crates/{of}/must-fail"), ".edit") {
             let edit = repository.read(&path);
             let says = edit.lines().next().unwrap_or("").trim_start_matches("# ");
@@ -398,6 +487,13 @@ fn main() {
     }
     for what in short {
         check(what, false);
+    }
+    let unreached = unreached(&repository);
+    for name in &unreached {
+        check(format!("{name} is reached by no contract: it belongs to proofs/"), UNREACHED.iter().any(|(known, _)| known == name));
+    }
+    for (name, _) in UNREACHED {
+        check(format!("{name} is reached, so it is no exception"), unreached.contains(name));
     }
     println!("{passed} passed, {failed} failed");
     if failed > 0 {
