@@ -91,16 +91,6 @@ fn fill(
     aiger_codes::put_outputs(sizes, &entries)
 }
 
-// The start word that is given, 0 where the start is unknown.
-fn given_word(word: u32, unknown: u32) -> u32
-    ensures { λ r. ⌜ r ≡ importedWord word unknown ⌝ }
-{
-    if unknown == 0 {
-        return word;
-    }
-    0
-}
-
 // Reads a text, for lists that have room for so many records: its record, and its codes into unpacked lists of no codes, which are
 // scratch after a refusal. Where the start is unknown, the word handed over is left out of the record. No text that passes 13 meets 5, so
 // that it need not be tested.
@@ -118,7 +108,7 @@ pub fn import_text(
     requires { ⌜ (now latches ≡ noCodes) × (now gates ≡ noCodes) ⌝ }
     ensures { λ r. ⌜ Outcome r (now (latches .exit)) (now (gates .exit)) (importVerdict (now (text .entry)) m n (importedWord word unknown) unknown «latch_room» «gate_room») (aagNet (now (text .entry)) m n (importedWord word unknown) unknown) ⌝ }
 {
-    let given = given_word(word, unknown);
+    let given = netlist::given_word(word, unknown);
     let header = aiger_lines::read_header(text);
     let tested = aiger_tests::test_text(text, header, m, n);
     if let Verdict::Refused(refusal, line) = tested {

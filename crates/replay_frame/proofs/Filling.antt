@@ -15,11 +15,12 @@ use lib.Seq.{getD-set-same, getD-set-other, drop-set-lt}
 use borrow.Author.Tests.{eq-eqb, ne-eqb}
 use Rattle.model.specs.Bits.{bit}
 use Rattle.model.specs.Search.{anyBelow}
-use Rattle.model.specs.Netlist.{Netlist, startOf, start, port, lastWire}
+use Rattle.model.specs.Netlist.{Netlist, isUnknown, start, port, lastWire}
 use Rattle.model.specs.Circuit.{Values, codeValue, State, addressOf, evaluate, firstPass, stateAt, run, initial}
 use Rattle.model.specs.Acceptance.{SizesFit, WithinLimits, Accepted}
 use Rattle.model.specs.Claim.{feedOf}
 use Rattle.model.proofs.Booleans.{and-true, or-true}
+use Rattle.model.proofs.Start.{given-is-known, unknown-is-unknown}
 use Rattle.model.proofs.Memory.{address-below}
 use Rattle.model.proofs.Circuit.{code-same, address-same}
 use Rattle.netlist.specs.NetOf.{netOf}
@@ -30,7 +31,7 @@ use Rattle.circuit_step.specs.Touched.{touches, touchedBefore}
 use Rattle.circuit_step.proofs.Held.{code-in, address-in, first-alike, evaluate-lists}
 use Rattle.circuit_step.proofs.Alike.{LatchesAlike, RE-settled, address-settled, RE-alike, address-alike}
 use Rattle.circuit_step.proofs.Touched.{any-same, withWord, state-untouched, run-untouched}
-use Rattle.replay_frame.specs.Replay.{Said, begunFrom, runFrom, stateFrom, touchedFrom, addressFrom, isUnknown, fillsFrom, wordSaid, startWords, fills, replayed, replayedState}
+use Rattle.replay_frame.specs.Replay.{Said, begunFrom, runFrom, stateFrom, touchedFrom, addressFrom, fillsFrom, wordSaid, startWords, fills, replayed, replayedState}
 use Rattle.replay_frame.specs.Frames.{touchedAfter, WordFilled, TouchedIs}
 
 -- every address has a place in the table of touched words
@@ -39,20 +40,10 @@ address-small c sizes v =
     let most : 2 ^ c .m ≤ 2 ^ 12 = pow-mono {i = c .m} {j = 12} (sizes .m-most) in
     omega (arith, most, address-below c (port c) v)
 
--- whether the start is unknown, by the record's field
-start-given : (word u : ℕ) → u ≡ 0 → isUnknown (startOf word u) ≡ false
-unfolding isUnknown startOf
-start-given word u e = rw e
-
-start-unknown : (word u : ℕ) → (u ≡ 0 → ⊥) → isUnknown (startOf word u) ≡ true
-unfolding isUnknown startOf
-start-unknown word zero h = absurd (h refl)
-start-unknown word (suc u) h = refl
-
 -- where the start is given, nothing is filled
 pub none-filled : {c : Netlist} {touched inputs latches : List Bool} {word : ℕ} {memory : List ℕ} → c .unknownStart ≡ 0
     → WordFilled c touched inputs latches word memory memory false
-none-filled {c} e = record { fills-is = rw (start-given (c .initialWord) (c .unknownStart) e); memory-is = refl }
+none-filled {c} e = record { fills-is = rw (given-is-known (c .initialWord) (c .unknownStart) e); memory-is = refl }
 
 -- where it is unknown, by the table of the first pass
 pub filled-by : {c : Netlist} → WithinLimits c → {inputs latches table : List Bool} → HasBelow (lastWire c + 1) (evaluate c (entry inputs) (entry latches) (bit 0)) table
@@ -62,7 +53,7 @@ pub filled-by : {c : Netlist} → WithinLimits c → {inputs latches table : Lis
     → WordFilled c touched inputs latches word memory memory′ r
 filled-by {c} limits {inputs} {latches} {table} q u {touched} {word} {memory} e m =
     record {
-      fills-is = e ∙ rw (start-unknown (c .initialWord) (c .unknownStart) u, code-in c q (c .RE) (limits .codes .RE-fits), address-in limits q);
+      fills-is = e ∙ rw (unknown-is-unknown (c .initialWord) (c .unknownStart) u, code-in c q (c .RE) (limits .codes .RE-fits), address-in limits q);
       memory-is = m ∙ rw (address-in limits q);
     }
 

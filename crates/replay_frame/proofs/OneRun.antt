@@ -10,7 +10,7 @@ use lib.Dec.{eqb}
 use lib.Pow.{pow-pos}
 use borrow.Author.Tests.{eq-eqb, ne-eqb}
 use Rattle.model.specs.Search.{anyBelow}
-use Rattle.model.specs.Netlist.{Netlist, Start, given, unknown, start, port, readBits, readWire}
+use Rattle.model.specs.Netlist.{Netlist, Start, given, unknown, isUnknown, start, port, readBits, readWire}
 use Rattle.model.specs.Circuit.{codeValue, addressOf, readData, run, BeginsAs, Begins, initial}
 use Rattle.model.specs.Variables.{base}
 use Rattle.model.specs.Claim.{feedOf}
@@ -21,7 +21,7 @@ use Rattle.model.proofs.Booleans.{neither-true}
 use Rattle.model.proofs.Circuit.{frame-is}
 use Rattle.circuit_step.specs.Touched.{touches, touchedBefore}
 use Rattle.circuit_step.proofs.Touched.{any-same, not-read, word-untouched}
-use Rattle.replay_frame.specs.Replay.{Said, begunFrom, runFrom, stateFrom, touchedFrom, addressFrom, isUnknown, fillsFrom, wordSaid, startWords, fills, replayed, replayedState, OneRunTheorem}
+use Rattle.replay_frame.specs.Replay.{Said, begunFrom, runFrom, stateFrom, touchedFrom, addressFrom, fillsFrom, wordSaid, startWords, fills, replayed, replayedState, OneRunTheorem}
 use Rattle.replay_frame.proofs.Filling.{runs-on, touched-on, fills-reads, state-filled, RE-on, address-on}
 
 -- a memory of one word

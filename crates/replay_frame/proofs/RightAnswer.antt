@@ -11,7 +11,7 @@ use lib.Dec.{eqb}
 use borrow.Author.Tests.{eq-eqb, ne-eqb, eqb-true}
 use Rattle.model.specs.Bits.{odd, bit, fromBits}
 use Rattle.model.specs.Search.{anyBelow}
-use Rattle.model.specs.Netlist.{Netlist, Start, given, unknown, start, port, readBits, readWire}
+use Rattle.model.specs.Netlist.{Netlist, Start, given, unknown, isUnknown, start, port, readBits, readWire}
 use Rattle.model.specs.Circuit.{codeValue, State, addressOf, readData, wordWritten, step, stateAt, run, BeginsAs, Begins, initial}
 use Rattle.model.specs.Variables.{base}
 use Rattle.model.specs.Acceptance.{Accepted}
@@ -24,7 +24,7 @@ use Rattle.model.proofs.Claim.{encodes}
 use Rattle.circuit_step.specs.Touched.{touches, touchedBefore}
 use Rattle.circuit_step.proofs.Alike.{RE-alike, address-alike}
 use Rattle.circuit_step.proofs.Touched.{not-written, frame-reads}
-use Rattle.replay_frame.specs.Replay.{Said, begunFrom, runFrom, stateFrom, touchedFrom, addressFrom, isUnknown, fillsFrom, wordSaid, startWords, fills, replayed, replayedState, violates, firstViolation, BearsOut}
+use Rattle.replay_frame.specs.Replay.{Said, begunFrom, runFrom, stateFrom, touchedFrom, addressFrom, fillsFrom, wordSaid, startWords, fills, replayed, replayedState, violates, firstViolation, BearsOut}
 use Rattle.replay_frame.proofs.Filling.{fills-untouched, touched-on, state-filled, state-on}
 use Rattle.replay_frame.proofs.OneRun.{one-run}
 

@@ -5,7 +5,7 @@ use mathlib.Core.Path.{_≡_, refl, _∙_, ap, ap₂}
 use mathlib.Core.Bool.{Bool, true, false, cond, not, _&&_, _||_}
 use native.Mathlib.Omega.{arith}
 use lib.Dec.{eqb}
-use Rattle.model.specs.Netlist.{Netlist, start, port, readBits, lastWire}
+use Rattle.model.specs.Netlist.{Netlist, isUnknown, start, port, readBits, lastWire}
 use Rattle.model.specs.Circuit.{codeValue, stateAt, run, initial}
 use Rattle.model.specs.Acceptance.{Accepted, IsCode}
 use Rattle.model.specs.Claim.{feedOf, idleOf}
@@ -13,7 +13,7 @@ use Rattle.model.proofs.Circuit.{code-same, address-same}
 use Rattle.circuit_step.specs.Touched.{touches, touchedBefore}
 use Rattle.circuit_step.proofs.Alike.{InputsAlike, LatchesAlike, RE-alike, address-alike, states-same, run-same}
 use Rattle.circuit_step.proofs.Touched.{any-same}
-use Rattle.replay_frame.specs.Replay.{Said, runFrom, touchedFrom, addressFrom, isUnknown, fillsFrom, wordSaid, startWords, fills, replayed, replayedState}
+use Rattle.replay_frame.specs.Replay.{Said, runFrom, touchedFrom, addressFrom, fillsFrom, wordSaid, startWords, fills, replayed, replayedState}
 
 pub record SaidAlike (c : Netlist) (y z : Said) (i : ℕ) : Type 0 where
   pub inputs-said : (j : ℕ) → j < i → InputsAlike c (feedOf c (y .value) j) (feedOf c (z .value) j)

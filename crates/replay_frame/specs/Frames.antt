@@ -6,12 +6,12 @@ use mathlib.Core.List.{List}
 use lib.ListN.{length, set, drop}
 use Rattle.model.specs.Bits.{bit}
 use Rattle.model.specs.Limits.{mostWires, mostAddressBits, mostDepth}
-use Rattle.model.specs.Netlist.{Netlist, start, port, lastWire}
+use Rattle.model.specs.Netlist.{Netlist, isUnknown, start, port, lastWire}
 use Rattle.model.specs.Circuit.{Values, codeValue, addressOf, evaluate}
 use Rattle.model.specs.Acceptance.{Accepted}
 use Rattle.circuit_values.specs.WireTable.{entry, HasBelow}
 use Rattle.circuit_step.specs.Held.{HoldsState}
-use Rattle.replay_frame.specs.Replay.{Said, touchedFrom, isUnknown, startWords, replayed, replayedState, fedUnclear}
+use Rattle.replay_frame.specs.Replay.{Said, touchedFrom, startWords, replayed, replayedState, fedUnclear}
 use Rattle.replay_frame.specs.declared.FrameVerdict.{FrameVerdict}
 
 -- the table of the words that are touched, after a frame with the values v

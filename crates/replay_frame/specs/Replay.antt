@@ -9,7 +9,7 @@ use lib.Dec.{eqb}
 use Rattle.model.specs.Search.{anyBelow, firstWhere}
 use Rattle.model.specs.Gather.{gather}
 use Rattle.model.specs.Bits.{fromBits}
-use Rattle.model.specs.Netlist.{Netlist, Start, given, unknown, start, port, readBits, inputWire, readWire, lastWire}
+use Rattle.model.specs.Netlist.{Netlist, isUnknown, start, port, readBits, inputWire, readWire, lastWire}
 use Rattle.model.specs.Circuit.{Values, codeValue, State, addressOf, stateAt, run, Begins, initial}
 use Rattle.model.specs.Acceptance.{Accepted}
 use Rattle.model.specs.Agree.{givenWord}
@@ -45,11 +45,6 @@ addressFrom c y words i = addressOf c (port c) (runFrom c y words i)
 
 abbrev pub touchedFrom : Netlist → Said → (ℕ → ℕ) → ℕ → ℕ → Bool
 touchedFrom c y words = touchedBefore c (begunFrom c y words) (feedOf c (y .value))
-
--- whether the start is unknown
-unfoldable pub isUnknown : Start → Bool
-isUnknown (given word) = false
-isUnknown unknown = true
 
 -- frame i of that run reads a word of an unknown start: one that no frame before it reads or writes (RULES Y12)
 unfoldable pub fillsFrom : Netlist → Said → (ℕ → ℕ) → ℕ → Bool

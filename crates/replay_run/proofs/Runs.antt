@@ -77,16 +77,6 @@ module _ {c : Netlist} (limits : WithinLimits c) (y : Said) (i : ℕ) {table : L
         leaves = w .leaves ∙ ap (λ xs. over xs old) (line-same c (q .has));
       }
 
--- the word that each is at first, by the record's fields
-pub given-word : (word u : ℕ) → u ≡ 0 → givenWord (startOf word u) ≡ word
-unfolding givenWord startOf
-given-word word u e = rw e
-
-pub unknown-word : (word u : ℕ) → (u ≡ 0 → ⊥) → givenWord (startOf word u) ≡ 0
-unfolding givenWord startOf
-unknown-word word zero h = absurd (h refl)
-unknown-word word (suc u) h = refl
-
 -- the initial state is held: every word the same, every latch at its reset, and the idle word
 pub initial-held : (c : Netlist) (latches : List Bool) (old : List ℕ) → 2 ^ c .m ≤ length old → length latches ≡ 600
     → ((l : ℕ) → l < c .latches → entry latches l ≡ eqb (c .reset l) 1) → {idle : ℕ → Bool} {word : ℕ} → ((t : ℕ) → t < readBits c → bit word t ≡ idle t)

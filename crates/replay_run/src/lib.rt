@@ -93,16 +93,6 @@ fn put_resets(state: &mut SourceValues, net: Netlist, latches: &UnpackedList)
     }
 }
 
-// The word that each is at first: the one given, or 0 where the start is unknown.
-fn start_word(net: Netlist) -> u32
-    ensures { λ r. ⌜ r ≡ givenWord (start (alone net)) ⌝ }
-{
-    if net.unknown_start == 0 {
-        return net.initial_word;
-    }
-    0
-}
-
 // Puts latches and memory into the state in which frame 0 begins, and answers the word held there, the idle word.
 fn put_initial(
     state: &mut SourceValues,
@@ -116,7 +106,11 @@ fn put_initial(
         (now (state .exit)) (now (memory .exit)) r ⌝ }
     ensures behind { λ _. ⌜ drop (2 ^ net .m) (now (memory .exit)) ≡ drop (2 ^ net .m) (now (memory .entry)) ⌝ }
 {
-    fill_words(memory, word_count(net), start_word(net));
+    fill_words(
+        memory,
+        word_count(net),
+        netlist::given_word(net.initial_word, net.unknown_start),
+    );
     put_resets(state, net, latches);
     replay_frame::idle_word(net, signs)
 }

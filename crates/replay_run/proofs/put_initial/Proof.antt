@@ -13,8 +13,8 @@ use Rattle.replay_run.proofs.put_initial.Tie as tie
 word-count-requires : tie.Need-word-count-requires
 word-count-requires c κs = search needs
 
-start-word-requires : tie.Need-start-word-requires
-start-word-requires c κs = search needs
+given-word-requires : tie.Need-given-word-requires
+given-word-requires c κs = search needs
 
 fill-words-requires : tie.Need-fill-words-requires
 fill-words-requires c κs = search needs
@@ -34,7 +34,7 @@ returns c =
     let start = c .before .before .before .before .before .before .before .before .before .before in
     let a = start .args in
     let d = netOf (a .net) (a .latches .now) [] in
-    let first = c .before .before .before .before .before .before .start-word in
+    let first = c .before .before .before .before .before .before .given-word in
     rw (c .before .before .before .before .before .fill-words .ensures, c .before .before .before .before .before .before .before .word-count .ensures, ← first .ensures) (
       initial-held d _ (a .memory .now) (start .pre .2) (c .before .put-resets .ensures .0) (c .before .put-resets .ensures .1) (c .idle-word .ensures) (first .result),
       behind-delivered (λ _. first .result) (2 ^ d .m) (a .memory .now),
@@ -43,4 +43,4 @@ returns c =
 pub put-initial-spec : {M : Type 1} → statement M
 put-initial-spec =
     tie.close
-    (tie.spec word-count-requires start-word-requires fill-words-requires put-resets-requires idle-word-requires same-length returns)
+    (tie.spec word-count-requires given-word-requires fill-words-requires put-resets-requires idle-word-requires same-length returns)
