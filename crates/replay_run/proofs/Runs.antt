@@ -1,24 +1,20 @@
 -- Laws of specs/Runs.antt: what a frame shows and writes by its table, and what a run has left frame by frame. No contract cites this file.
-use Prim.Native.Nat.{ℕ, zero, suc, _+_, _^_, _≤_, _<_}
-use mathlib.Core.Path.{_≡_, refl, sym, _∙_, ap, ap₂}
+use Prim.Native.Nat.{ℕ, _+_, _^_, _≤_, _<_}
+use mathlib.Core.Path.{_≡_, refl, sym, _∙_, ap}
 use mathlib.Core.Bool.{Bool, true, false}
-use mathlib.Core.List.{List, [], _∷_, _++_}
+use mathlib.Core.List.{List}
 use mathlib.Core.Logic.{by-cases}
 use native.Mathlib.Decide.{ℕ-discrete}
 use native.Mathlib.Omega.{arith}
 use lib.Dec.{eqb}
-use lib.ListN.{length, getD, take, drop, take-append-drop}
-use lib.Seq.{take-suc, drop-append-seam, getD-set-same, getD-set-other}
+use lib.ListN.{length}
 use borrow.Author.Tests.{eq-eqb, ne-eqb}
 use Rattle.model.specs.Bits.{bit}
-use Rattle.model.specs.Gather.{gather}
 use Rattle.model.specs.Search.{firstWhere, IsFirst}
 use Rattle.model.specs.Wrote.{over, Wrote}
-use Rattle.model.specs.Netlist.{Netlist, startOf, readBits, lastWire}
-use Rattle.model.specs.Agree.{givenWord}
+use Rattle.model.specs.Netlist.{Netlist, readBits, lastWire}
 use Rattle.model.specs.Circuit.{initial}
 use Rattle.model.specs.Acceptance.{WithinLimits}
-use Rattle.model.proofs.Gather.{length-gather}
 use Rattle.model.proofs.Search.{firstWhere-is, first-unique}
 use Rattle.call_lists.specs.Delivered.{delivered}
 use Rattle.call_lists.proofs.Delivered.{length-delivered, delivered-at}

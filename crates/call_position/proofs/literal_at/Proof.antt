@@ -1,5 +1,5 @@
 -- `call_position::literal_at` meets its contract: the tests, then the code in the frame.
-use mathlib.Core.Path.{_≡_, sym, _∙_}
+use mathlib.Core.Path.{sym, _∙_}
 use mir.Syntax.{w32}
 use mir.ValLaws.{toZ-ofZ}
 use Rattle.literals.proofs.Literal.{fits}

@@ -16,7 +16,7 @@ use base.Fml.{Lft, GName, Share, Fml, ftrue, fat, fres, flft, flent}
 use prog.Memory.{Memory}
 use prog.Routine.{Routine}
 use prog.Wp.{Heap, Calls, Loops, WpFn, Tables}
-use ghost.Atoms.{Atoms, sem}
+use ghost.Atoms.{Atoms}
 use contract.Lifetimes.{Lfts, Shares}
 use contract.Monad.{Fun, fact}
 use contract.Running.{givenOf, tables, tablesOf}
@@ -82,7 +82,6 @@ use Rattle.aiger_import.proofs.import_text.Symbol as codes-def
 use Rattle.aiger_import.proofs.import_text.Symbol.{name as #import-text}
 use Rattle.aiger_import.proofs.import_text.Met as codes-thm
 use Rattle.call_replies.specs.Replies.{sheetNumbers}
-use Rattle.call_replies.specs.declared.SheetReply.{SheetReply}
 use Rattle.call_replies.proofs.SheetReply as R
 use Rattle.call_replies.proofs.SheetReply.Laws as R′
 use Rattle.marrubigai.proofs.NumbersCall as numbers

@@ -15,7 +15,7 @@ use ghost.Atoms.{Atoms, sem}
 use contract.Lifetimes.{Lfts, Shares}
 use contract.Monad.{Fun, fact}
 use contract.Running.{givenOf, tables, tablesOf}
-use types.Kit.{Given, Item, ‵, raw, _⊛_, given, ⋆, some, later, _$_, _∵_, !, qed, by, move, keep, drop, use1, split, join, learn, pick, rewrite, fsplit, fjoin, feqL, check, show, suffices, frame, await, updating, now as at-once, done}
+use types.Kit.{Given, Item, ‵, raw, _⊛_, given, ⋆, some, later, _$_, _∵_, !, qed, by, move, keep, drop, use1, split, join, learn, pick, fsplit, fjoin, feqL, check, show, suffices, frame, await, updating, now as at-once, done}
 use types.Part.{whole, sub, look-in, agg}
 use types.Run.{look, init, stop, hop, fld, from, load, addr, and-then, no-more, assigns, land, returns, enter, alloc1, alloc0, params1, pass1, pass0}
 use sound.WpLaws.{FmC, fmOf, WpFn-mono}
@@ -53,7 +53,6 @@ use Rattle.sheet_reader.proofs.read.Symbol as read-def
 use Rattle.sheet_reader.proofs.read.Symbol.{name as #read}
 use Rattle.sheet_reader.proofs.read.Met as read-thm
 use Rattle.call_replies.specs.Replies.{sheetNumbers}
-use Rattle.call_replies.specs.declared.SheetReply.{SheetReply}
 use Rattle.marrubigai.proofs.SheetReplies.{replies}
 use Rattle.call_replies.proofs.SheetReply as R
 use Rattle.call_replies.proofs.SheetReply.Laws as R′
