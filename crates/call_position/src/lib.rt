@@ -16,6 +16,7 @@ ghost use lib.ListN.{length};
 ghost use Rattle.model.specs.Netlist as M;
 ghost use Rattle.model.specs.Acceptance.{SizesFit};
 ghost use Rattle.model.specs.Variables.{base};
+ghost use Rattle.model.specs.Numbers.{literalNumber};
 ghost use Rattle.literals.specs.Lit.{literalOf, IsTerm};
 ghost use Rattle.netlist.specs.NetOf.{netOf, alone};
 ghost use Rattle.call_unpacked.specs.Calls.{groupReply};
@@ -23,7 +24,7 @@ ghost use Rattle.call_replies.specs.Replies.{groupOf, countNumbers};
 ghost use Rattle.call_position.specs.Positions.{testBase, testFrame, atFrame};
 ghost use Rattle.call_position.specs.Moves.{moveOf, testMove, movedTo, keptAt, withPosition, moveSent};
 ghost use Rattle.call_position.specs.GroupsAt.{groupAtSent, groupAtLeaves};
-ghost use Rattle.call_position.specs.Literals.{literalNumber, literalVerdict, withLiteral, literalSent};
+ghost use Rattle.call_position.specs.Literals.{literalVerdict, withLiteral, literalSent, InverseNegated};
 
 // A running record: where a caller that goes frame by frame stands.
 #[repr(C)]
@@ -318,7 +319,8 @@ fn test_literal(net: Netlist, position: Position, code: u32) -> Verdict
 
 // The literal of a code in the record's frame.
 pub fn literal_at(net: Netlist, position: Position, code: u32) -> LiteralReply
-    ensures { λ r. ⌜ r ≡ literalSent (alone net) position code ⌝ }
+    ensures answer { λ r. ⌜ r ≡ literalSent (alone net) position code ⌝ }
+    ensures inverse { λ r. ⌜ InverseNegated (alone net) position code r ⌝ }
 {
     if let Verdict::Refused(refusal, place) = test_literal(net, position, code) {
         return no_literal(refusal, place);

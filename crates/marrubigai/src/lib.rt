@@ -29,7 +29,7 @@ ghost use Rattle.replay_call.specs.RightAnswer.{RightAnswerTheorem};
 ghost use Rattle.replay_answer.specs.ReplayAnswer.{replayFor, memoryFor, traceFor};
 ghost use Rattle.call_position.specs.Moves.{moveOf, moveSent, MoveStands};
 ghost use Rattle.call_position.specs.GroupsAt.{groupAtSent, groupAtLeaves, ByFrame};
-ghost use Rattle.call_position.specs.Literals.{literalSent};
+ghost use Rattle.call_position.specs.Literals.{literalSent, InverseNegated};
 ghost use Rattle.netlist.specs.NetOf.{alone};
 ghost use Rattle.sheet_writer.specs.WriteCall.{writeSent, writeLeaves, SheetWritten};
 ghost use Rattle.call_replies.specs.Replies.{groupOf, countNumbers, headingNumbers, sheetNumbers, lineNumbers};
@@ -267,7 +267,8 @@ pub extern "C" fn marrubigai_write_group_at(
 // `call_position::literal_at`.
 #[no_mangle]
 pub extern "C" fn marrubigai_literal_at(net: Netlist, position: Position, code: u32) -> LiteralReply
-    ensures { λ r. ⌜ r ≡ literalSent (alone net) position code ⌝ }
+    ensures answer { λ r. ⌜ r ≡ literalSent (alone net) position code ⌝ }
+    ensures inverse { λ r. ⌜ InverseNegated (alone net) position code r ⌝ }
 {
     call_position::literal_at(net, position, code)
 }

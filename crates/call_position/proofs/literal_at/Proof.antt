@@ -5,7 +5,7 @@ use mir.ValLaws.{toZ-ofZ}
 use Rattle.literals.proofs.Literal.{fits}
 use Rattle.clause_variables.proofs.Room.{code-numbered}
 use Rattle.call_position.specs.Literals.{withLiteral, literalSent}
-use Rattle.call_position.proofs.Literals.{literal-shown}
+use Rattle.call_position.proofs.Literals.{literal-shown, sent-negated}
 use borrow.Author.Needs.{needs}
 use Rattle.call_position.proofs.literal_at.Statement.{statement}
 use Rattle.call_position.proofs.literal_at.Tie as tie
@@ -21,7 +21,9 @@ no-literal-requires c κs = search needs
 
 returns : tie.Need-returns
 unfolding literalSent withLiteral
-returns c = rw (c .no-literal .ensures, sym (c .before .before .before .before .test-literal .ensures) ∙ c .before .before .refusal .given .1)
+returns c =
+    let verdict = sym (c .before .before .before .before .test-literal .ensures) ∙ c .before .before .refusal .given .1 in
+    sent-negated _ _ _ (rw (c .no-literal .ensures, verdict))
 
 enum-told : tie.Need-enum-told
 enum-told c = search needs
@@ -40,7 +42,8 @@ returns-2 c =
     let passed = sym (c .before .before .before .before .test-literal .ensures) ∙ c .before .before .enum-told .given .1 in
     let shown = literal-shown _ _ _ passed in
     let z = c .number-of .result in
-    rw (toZ-ofZ w32 z (fits z (c .number-of .ensures .1)), c .number-of .ensures .0, c .before .in-frame .ensures .0, passed, shown .2)
+    sent-negated _ _ _
+    (rw (toZ-ofZ w32 z (fits z (c .number-of .ensures .1)), c .number-of .ensures .0, c .before .in-frame .ensures .0, passed, shown .2))
 
 pub literal-at-spec : {M : Type 1} → statement M
 literal-at-spec =

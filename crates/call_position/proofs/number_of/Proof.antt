@@ -4,9 +4,7 @@ use native.Mathlib.Omega.{arith}
 use mir.Syntax.{w32}
 use mir.ValLaws.{toZ-ofZ}
 use Rattle.literals.specs.Lit.{literalOf}
-use Rattle.literals.proofs.Literal.{fits}
-use Rattle.call_position.specs.Literals.{literalNumber}
-use Rattle.call_position.proofs.Literals.{literalNumber-at}
+use Rattle.literals.proofs.Literal.{literalNumber-at, fits}
 use borrow.Author.Needs.{needs}
 use Rattle.call_position.proofs.number_of.Statement.{statement}
 use Rattle.call_position.proofs.number_of.Tie as tie
@@ -21,11 +19,11 @@ enum-known-term : tie.Need-enum-known-term
 enum-known-term c = search needs
 
 returns : tie.Need-returns
-unfolding literalNumber literalOf
+unfolding literalOf
 returns c = (rw (c .enum-told .given .1), omega arith)
 
 returns-2 : tie.Need-returns-2
-unfolding literalNumber literalOf
+unfolding literalOf
 returns-2 c = (rw (c .enum-told2 .given .1), omega arith)
 
 returns-3 : tie.Need-returns-3
