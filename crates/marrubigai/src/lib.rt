@@ -16,7 +16,7 @@ ghost use lib.ListN.{length};
 ghost use Rattle.call_lists.specs.Lent.{netLent};
 ghost use Rattle.calls.specs.LentCalls.{headingFor, groupFor, numbersAfter};
 ghost use Rattle.decimal.specs.Digits.{signedDigits};
-ghost use Rattle.dimacs.specs.Text.{headerText, clauseText, NumberPrinted, refusalText};
+ghost use Rattle.dimacs.specs.Text.{headerText, clauseText, OtherNumbers, NumberPrinted, refusalText};
 ghost use Rattle.dimacs.specs.PrintCalls.{printSent, printLeaves, fillLeaves};
 ghost use Rattle.sheet_parse.specs.LineAnswers.{lineAnswer, linesRead};
 ghost use Rattle.sheet_reader.specs.ReadCall.{readVerdict, readRecord, latchesAfter, gatesAfter, SheetDelivered};
@@ -147,6 +147,7 @@ pub extern "C" fn marrubigai_put_header(out: &mut [u8], variables: u32, clauses:
 pub extern "C" fn marrubigai_put_clauses(out: &mut [u8], numbers: &[i32]) -> CountReply
     ensures answer { λ r. ⌜ r ≡ countNumbers (printSent (clauseText (now (numbers .entry))) (length (now (out .entry)))) ⌝ }
     ensures borrowed { λ _. ⌜ now (out .exit) ≡ printLeaves (clauseText (now (numbers .entry))) (now (out .entry)) ⌝ }
+    ensures others { λ _. ⌜ OtherNumbers ⌝ }
 {
     call_replies::print_numbers(dimacs::put_clauses(out, numbers))
 }

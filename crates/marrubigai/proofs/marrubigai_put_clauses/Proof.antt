@@ -17,7 +17,7 @@ same-length c = search needs
 returns : tie.Need-returns
 returns c =
     let put = c .before .before .before .put-clauses in
-    (c .print-numbers .ensures ∙ ap countNumbers (put .ensures .0), put .ensures .1 .0)
+    (c .print-numbers .ensures ∙ ap countNumbers (put .ensures .0), put .ensures .1)
 
 pub marrubigai-put-clauses-spec : {M : Type 1} → statement M
 marrubigai-put-clauses-spec =
