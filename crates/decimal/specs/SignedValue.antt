@@ -1,5 +1,5 @@
 -- The clause number (RULES W4) that a word stands for: reading as the inverse of `signedDigits`. The 0 that ends a clause is read too.
--- Cited by `read_clause_number`.
+-- Cited by `read_clause_number` and by dimacs/specs/Text.
 use Prim.Native.Nat.{ℕ, _^_}
 use mathlib.Core.Bool.{cond, _&&_}
 use mathlib.Core.List.{List, [], _∷_}
