@@ -1,4 +1,4 @@
--- What the two unpacked lists hold, with the record or beside a verdict (RULES W16, T44). Cited by the functions that store a line, `read_sheet` and
+-- What the two unpacked lists hold, with the record or beside a verdict (RULES W16, W17). Cited by the functions that store a line, `read_sheet` and
 -- `read_input`, and sheet_steps/specs/Steps, which passes on what holds.
 use Prim.Native.Nat.{ℕ}
 use mathlib.Core.Path.{_≡_}
