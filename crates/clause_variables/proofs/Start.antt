@@ -5,7 +5,7 @@ use mathlib.Core.Path.{_≡_}
 use native.Mathlib.Omega.{arith}
 use Rattle.model.specs.Netlist.{startOf}
 use Rattle.model.specs.Counts.{whereGiven, whereUnknown}
-pub use Rattle.model.proofs.Start.{start-given, start-unknown}
+use Rattle.model.proofs.Start.{start-given, start-unknown}
 
 -- all of it, or nothing
 pub given-whole : (word u x : ℕ) → u ≡ 0 → whereGiven (startOf word u) x ≡ x

@@ -20,7 +20,7 @@ use Rattle.netlist.specs.NetOf.{netOf, alone}
 use Rattle.netlist.specs.declared.Netlist.{Netlist}
 use Rattle.clause_variables.specs.declared.Port as R
 use Rattle.clause_variables.specs.PortOf.{portOf}
-use Rattle.clause_variables.proofs.Start.{start-given, start-unknown}
+use Rattle.model.proofs.Start.{start-given, start-unknown}
 use Rattle.model.proofs.Gather.{gather-same}
 use Rattle.clause_writer.proofs.Wrote.{kept-one}
 use Rattle.clause_writer.proofs.Turns.{written-gather, kept-gather, none-gather}

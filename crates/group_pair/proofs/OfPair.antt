@@ -17,7 +17,7 @@ use Rattle.clause_variables.specs.declared.Port.{Port}
 use Rattle.clause_variables.specs.PortOf.{portOf}
 use Rattle.clause_writer.proofs.Turns.{written-gather}
 use Rattle.clause_variables.specs.OfPair.{ofPair}
-use Rattle.clause_variables.proofs.Start.{start-given, start-unknown}
+use Rattle.model.proofs.Start.{start-given, start-unknown}
 use Rattle.group_pair_select.specs.SelectClauses.{selectClauses, pairSelectClauses}
 use Rattle.group_pair.specs.PairParts.{comparisonClauses, gatedDataClauses}
 
