@@ -1,5 +1,5 @@
--- A number's sign put into a table of signs, and that the table says what its numbers say (RULES Q5 and Q6). Cited by the functions of this crate, and
--- by no public contract.
+-- A number's sign put into a table of signs, and that the table says what its numbers say (RULES Q5 and Q6). Cited by the functions of this crate,
+-- and by no public contract.
 use Prim.Native.Nat.{ℕ, _+_, _<_}
 use mathlib.Core.Path.{_≡_}
 use mathlib.Core.Bool.{cond}
