@@ -14,7 +14,7 @@ use Rattle.answer_lines.specs.Progress.{answerFrom, afterNumbers, MarkedAll, On
 use Rattle.answer_lines.specs.declared.Progress.{Progress}
 use Rattle.answer_lines.specs.declared.Progress.the-variants.{NoStatus, Values, Complete, Unsatisfiable, Malformed}
 use Rattle.answer_lines.specs.declared.AnswerKind.{AnswerKind}
-pub use Rattle.answer_scan.specs.AnswerRead.{AnswerRead}
+use Rattle.answer_scan.specs.AnswerRead.{AnswerRead}
 use Rattle.answer_scan.specs.declared.Position.{Position}
 use Rattle.answer_scan.specs.declared.Scan.{Scan}
 

@@ -21,7 +21,7 @@ use Rattle.model.proofs.Memory.{address-below}
 use Rattle.model.proofs.Circuit.{evaluate-solves, solutions-agree, code-same, address-same, readData-same}
 use Rattle.netlist.specs.NetOf.{netOf}
 use Rattle.netlist.specs.declared.Netlist as Record
-use Rattle.circuit_values.specs.WireTable.{entry, HasBelow}
+use Rattle.netlist.specs.WireTable.{entry, HasBelow}
 use Rattle.circuit_values.proofs.WireTable.{code-below}
 use Rattle.circuit_step.specs.Held.{stateIn, HoldsState, Fed, memoryAfter}
 

@@ -10,7 +10,7 @@ use Rattle.model.specs.Bits.{bit}
 use Rattle.model.specs.Netlist.{Netlist, port, readBits, lastWire}
 use Rattle.model.specs.Circuit.{Values, codeValue, State, Feed, addressOf, frame, wordWritten, step}
 use Rattle.model.specs.Acceptance.{WithinLimits}
-use Rattle.circuit_values.specs.WireTable.{entry, HasBelow}
+use Rattle.netlist.specs.WireTable.{entry, HasBelow}
 
 -- the state that the lent latches and memory hold with the word held
 abbrev pub stateIn : List Bool → List ℕ → ℕ → State

@@ -15,7 +15,7 @@ ghost use Rattle.model.specs.Netlist.{readWire, lastWire};
 ghost use Rattle.model.specs.Circuit.{codeValue, State, Feed, readData, frame};
 ghost use Rattle.model.specs.Acceptance.{WithinLimits};
 ghost use Rattle.netlist.specs.NetOf.{netOf, alone};
-ghost use Rattle.circuit_values.specs.WireTable.{entry, HasBelow};
+ghost use Rattle.netlist.specs.WireTable.{entry, HasBelow};
 ghost use Rattle.circuit_step.specs.Held.{stateIn, HoldsState, Fed, memoryAfter, StepFits, Stepped};
 
 // The word of the read bits: the memory's at the address where RE is true, and the word held where it is not.

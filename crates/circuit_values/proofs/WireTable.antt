@@ -1,4 +1,4 @@
--- Laws of tables of values (specs/WireTable.antt, here and of `netlist`): a table grows by one wire. No contract cites this file.
+-- Laws of tables of values (specs/WireTable.antt of `netlist`, specs/Gates.antt): a table grows by one wire. No contract cites this file.
 use Prim.Native.Nat.{ℕ, _+_, _*_, _/_, _≤_, _<_}
 use mathlib.Core.Path.{_≡_, sym, _∙_, ap₂}
 use mathlib.Core.Bool.{Bool, false, _&&_}
@@ -11,7 +11,7 @@ use Rattle.model.specs.Acceptance.{WithinLimits}
 use Rattle.model.proofs.Circuit.{code-same}
 use Rattle.netlist.specs.WireTable.{entry, HasBelow}
 use Rattle.netlist.proofs.WireTable.{below-set}
-use Rattle.circuit_values.specs.WireTable.{GatesHold}
+use Rattle.circuit_values.specs.Gates.{GatesHold}
 
 -- the wire at b set to its value
 below-next : {b : ℕ} {v : Values} {table : List Bool} → HasBelow b v table → b ≤ 600 → (x : Bool) → x ≡ v b

@@ -1,2 +1,2 @@
 -- Tables of a frame's values. Nothing here imports a law or a proof.
-pub mod WireTable
+pub mod Gates

@@ -15,7 +15,7 @@ ghost use Rattle.model.specs.Circuit.{Values, codeValue, addressOf, wordWritten
 ghost use Rattle.model.specs.Acceptance.{WithinLimits};
 ghost use Rattle.netlist.specs.NetOf.{netOf, alone};
 ghost use Rattle.netlist.specs.WireTable.{entry, HasBelow};
-ghost use Rattle.circuit_values.specs.WireTable.{GatesHold};
+ghost use Rattle.circuit_values.specs.Gates.{GatesHold};
 
 // A value for each wire, 600 at most, and for wire 0.
 pub type WireValues = [bool; 601];

@@ -11,7 +11,7 @@ use Rattle.refusals.specs.declared.Verdict.the-variants.{Passed, Refused}
 use Rattle.answer_lines.specs.Answer.{Answer, malformed, unsatisfiable, satisfiable, answerIn, kindOf}
 use Rattle.answer_lines.specs.declared.AnswerKind.{AnswerKind}
 use Rattle.answer_lines.specs.declared.AnswerKind.the-variants.{Satisfiable}
-use Rattle.answer_scan.specs.Scan.{AnswerRead}
+use Rattle.answer_scan.specs.AnswerRead.{AnswerRead}
 use Rattle.replay_frame.specs.Replay.{Said, saidIn}
 use Rattle.replay_call.specs.ReplayCall.{replayAnswer, replaySent, replayMemory, replayTrace, replayTests, unlessRefused, outcome, wordsLeft, traceAfter}
 use Rattle.replay_call.specs.declared.ReplayAnswer.{ReplayAnswer}

@@ -10,7 +10,7 @@ ghost use mathlib.Core.List.{[]};
 ghost use lib.ListN.{length};
 ghost use Rattle.netlist.specs.NetOf.{netOf};
 ghost use Rattle.answer_signs.specs.Signs.{SignsOf};
-ghost use Rattle.answer_scan.specs.Scan.{AnswerRead};
+ghost use Rattle.answer_scan.specs.AnswerRead.{AnswerRead};
 ghost use Rattle.replay_answer.specs.ReplayAnswer.{replayFor, memoryFor, traceFor};
 
 // Reads an answer into a table of no signs.

@@ -25,7 +25,7 @@ use Rattle.model.proofs.Memory.{address-below}
 use Rattle.model.proofs.Circuit.{code-same, address-same}
 use Rattle.netlist.specs.NetOf.{netOf}
 use Rattle.netlist.specs.declared.Netlist as Record
-use Rattle.circuit_values.specs.WireTable.{entry, HasBelow}
+use Rattle.netlist.specs.WireTable.{entry, HasBelow}
 use Rattle.circuit_step.specs.Held.{HoldsState, Fed}
 use Rattle.circuit_step.specs.Touched.{touches, touchedBefore}
 use Rattle.circuit_step.proofs.Held.{code-in, address-in, first-alike, evaluate-lists}

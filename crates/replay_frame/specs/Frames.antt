@@ -9,7 +9,7 @@ use Rattle.model.specs.Limits.{mostWires, mostAddressBits, mostDepth}
 use Rattle.model.specs.Netlist.{Netlist, isUnknown, start, port, lastWire}
 use Rattle.model.specs.Circuit.{Values, codeValue, addressOf, evaluate}
 use Rattle.model.specs.Acceptance.{Accepted}
-use Rattle.circuit_values.specs.WireTable.{entry, HasBelow}
+use Rattle.netlist.specs.WireTable.{entry, HasBelow}
 use Rattle.circuit_step.specs.Held.{HoldsState}
 use Rattle.replay_frame.specs.Replay.{Said, touchedFrom, startWords, replayed, replayedState, fedUnclear}
 use Rattle.replay_frame.specs.declared.FrameVerdict.{FrameVerdict}

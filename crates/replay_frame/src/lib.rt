@@ -18,7 +18,7 @@ ghost use Rattle.model.specs.Circuit.{codeValue, addressOf};
 ghost use Rattle.model.specs.Acceptance.{SizesFit, WithinLimits};
 ghost use Rattle.model.specs.Claim.{idleOf};
 ghost use Rattle.netlist.specs.NetOf.{netOf, alone};
-ghost use Rattle.circuit_values.specs.WireTable.{entry};
+ghost use Rattle.netlist.specs.WireTable.{entry};
 ghost use Rattle.answer_signs.specs.Signs.{trueIn, unclearIn};
 ghost use Rattle.replay_frame.specs.Replay.{saidIn, wordSaid, fills, digitOf, frameLine};
 ghost use Rattle.replay_frame.specs.Frames.{touchedAfter, WordFilled, FrameBegins, FrameDone, FrameJudged};

@@ -18,7 +18,7 @@ use Rattle.model.specs.Acceptance.{WithinLimits}
 use Rattle.model.proofs.Search.{firstWhere-is, first-unique}
 use Rattle.call_lists.specs.Delivered.{delivered}
 use Rattle.call_lists.proofs.Delivered.{length-delivered, delivered-at}
-use Rattle.circuit_values.specs.WireTable.{entry, HasBelow}
+use Rattle.netlist.specs.WireTable.{entry, HasBelow}
 use Rattle.circuit_step.specs.Held.{HoldsState}
 use Rattle.circuit_step.proofs.Held.{code-in}
 use Rattle.replay_frame.specs.Replay.{Said, fills, replayed, fedUnclear, feedFault, violates, frameLine}

@@ -23,7 +23,7 @@ use Rattle.model.proofs.Wrote.{wrote-nothing, wrote-then}
 use Rattle.model.specs.Claim.{idleOf}
 use Rattle.netlist.specs.NetOf.{netOf, alone}
 use Rattle.netlist.specs.declared.Netlist as Record
-use Rattle.circuit_values.specs.WireTable.{entry}
+use Rattle.netlist.specs.WireTable.{entry}
 use Rattle.circuit_step.specs.Held.{HoldsState}
 use Rattle.circuit_step.specs.Touched.{touchedBefore}
 use Rattle.replay_frame.specs.Replay.{Said, startWords, replayed, replayedState, feedFault, violates, firstViolation, frameLine, traceText, traceLength}

@@ -21,7 +21,7 @@ ghost use Rattle.model.specs.Claim.{idleOf};
 ghost use Rattle.netlist.specs.NetOf.{netOf, alone};
 ghost use Rattle.call_lists.specs.Delivered.{delivered};
 ghost use Rattle.answer_signs.specs.Signs.{trueIn};
-ghost use Rattle.circuit_values.specs.WireTable.{entry};
+ghost use Rattle.netlist.specs.WireTable.{entry};
 ghost use Rattle.circuit_step.specs.Held.{HoldsState};
 ghost use Rattle.replay_frame.specs.Replay.{saidIn, replayed, frameLine};
 ghost use Rattle.replay_frame.specs.Frames.{FrameBegins, FrameDone};

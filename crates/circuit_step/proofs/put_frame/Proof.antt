@@ -4,7 +4,7 @@ use native.Mathlib.Omega.{arith}
 use Rattle.model.specs.Circuit.{addressOf, readData}
 use Rattle.netlist.specs.NetOf.{netOf}
 use Rattle.netlist.proofs.NetOf.{limits-alone}
-use Rattle.circuit_values.specs.WireTable.{entry}
+use Rattle.netlist.specs.WireTable.{entry}
 use Rattle.circuit_step.proofs.Held.{below-same, frame-alike, reads-in, holds-lists, fed-lists}
 use borrow.Author.Needs.{needs}
 use Rattle.circuit_step.proofs.put_frame.Statement.{statement}

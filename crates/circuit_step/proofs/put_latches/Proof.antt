@@ -5,7 +5,7 @@ use native.Mathlib.Omega.{arith}
 use lib.ListN.{length, length-set}
 use Rattle.model.specs.Circuit.{codeValue}
 use Rattle.netlist.specs.NetOf.{firstAt, netOf}
-use Rattle.circuit_values.specs.WireTable.{entry}
+use Rattle.netlist.specs.WireTable.{entry}
 use Rattle.circuit_step.proofs.Held.{set-next}
 use Rattle.circuit_step.proofs.put_latches.Statement.{statement}
 use Rattle.circuit_step.proofs.put_latches.Tie as tie

@@ -5,7 +5,7 @@ use Rattle.model.specs.Netlist.{port}
 use Rattle.model.specs.Circuit.{readData}
 use Rattle.model.proofs.Memory.{address-below}
 use Rattle.netlist.specs.NetOf.{netOf, alone}
-use Rattle.circuit_values.specs.WireTable.{entry}
+use Rattle.netlist.specs.WireTable.{entry}
 use borrow.Author.Needs.{needs}
 use Rattle.circuit_step.proofs.read_word.Statement.{statement}
 use Rattle.circuit_step.proofs.read_word.Tie as tie

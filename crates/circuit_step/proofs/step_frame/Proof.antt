@@ -6,7 +6,7 @@ use Rattle.model.specs.Netlist.{lastWire}
 use Rattle.model.specs.Circuit.{State, Feed, addressOf, wordWritten, frame}
 use Rattle.netlist.specs.NetOf.{netOf}
 use Rattle.netlist.proofs.NetOf.{limits-without-latches, limits-without-gates, limits-alone}
-use Rattle.circuit_values.specs.WireTable.{HasBelow}
+use Rattle.netlist.specs.WireTable.{HasBelow}
 use Rattle.circuit_step.specs.Held.{HoldsState, Fed, memoryAfter}
 use Rattle.circuit_step.proofs.Held.{below-same, step-holds, behind-memoryAfter, holds-lists, fed-lists, frame-lists}
 use borrow.Author.Needs.{needs}

@@ -4,7 +4,7 @@ use native.Mathlib.Omega.{arith}
 use Rattle.model.specs.Netlist.{port}
 use Rattle.model.proofs.Memory.{address-below}
 use Rattle.netlist.specs.NetOf.{netOf, alone}
-use Rattle.circuit_values.specs.WireTable.{entry}
+use Rattle.netlist.specs.WireTable.{entry}
 use Rattle.circuit_step.specs.Held.{memoryAfter}
 use borrow.Author.Needs.{needs}
 use Rattle.circuit_step.proofs.write_memory.Statement.{statement}

@@ -6,7 +6,7 @@ use native.Mathlib.Omega.{arith}
 use lib.ListN.{length, length-set}
 use Rattle.model.specs.Netlist.{lastWire}
 use Rattle.netlist.specs.NetOf.{netOf, alone}
-use Rattle.circuit_values.specs.WireTable.{entry}
+use Rattle.netlist.specs.WireTable.{entry}
 use Rattle.call_lists.specs.Delivered.{delivered}
 use Rattle.call_lists.proofs.Delivered.{delivered-none, delivered-next}
 use Rattle.replay_frame.specs.Replay.{digitOf}

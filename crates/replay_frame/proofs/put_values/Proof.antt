@@ -3,7 +3,7 @@ use Prim.Native.Nat.{ℕ, _+_, _-_, _≤_, _<_}
 use mathlib.Core.Path.{_≡_}
 use native.Mathlib.Omega.{arith}
 use lib.ListN.{length, length-set}
-use Rattle.circuit_values.specs.WireTable.{entry}
+use Rattle.netlist.specs.WireTable.{entry}
 use Rattle.circuit_step.proofs.Held.{set-next}
 use Rattle.answer_signs.specs.Signs.{trueIn}
 use Rattle.replay_frame.proofs.put_values.Statement.{statement}

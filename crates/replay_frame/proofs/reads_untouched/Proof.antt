@@ -2,7 +2,7 @@
 use mathlib.Core.Path.{sym, _∙_}
 use native.Mathlib.Omega.{arith}
 use Rattle.netlist.specs.NetOf.{netOf, alone}
-use Rattle.circuit_values.specs.WireTable.{entry}
+use Rattle.netlist.specs.WireTable.{entry}
 use Rattle.replay_frame.proofs.Filling.{address-small}
 use borrow.Author.Needs.{needs}
 use Rattle.replay_frame.proofs.reads_untouched.Statement.{statement}

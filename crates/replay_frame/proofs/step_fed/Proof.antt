@@ -11,7 +11,7 @@ use Rattle.model.specs.Claim.{feedOf}
 use Rattle.model.proofs.Variables.{base-most}
 use Rattle.netlist.specs.NetOf.{netOf, alone}
 use Rattle.netlist.proofs.NetOf.{sizes-lists, limits-alone, limits-without-latches}
-use Rattle.circuit_values.specs.WireTable.{HasBelow}
+use Rattle.netlist.specs.WireTable.{HasBelow}
 use Rattle.circuit_step.specs.Held.{HoldsState, Fed}
 use Rattle.replay_frame.specs.Replay.{saidIn, begunFrom, wordSaid, startWords, replayed}
 use Rattle.replay_frame.specs.Frames.{touchedAfter, WordFilled}

@@ -5,7 +5,7 @@ use native.Mathlib.Omega.{arith}
 use lib.Dec.{eqb}
 use lib.ListN.{length, length-set}
 use Rattle.netlist.specs.NetOf.{secondAt, netOf}
-use Rattle.circuit_values.specs.WireTable.{entry}
+use Rattle.netlist.specs.WireTable.{entry}
 use Rattle.circuit_step.proofs.Held.{set-next}
 use Rattle.replay_run.proofs.put_resets.Statement.{statement}
 use Rattle.replay_run.proofs.put_resets.Tie as tie

@@ -1,11 +1,9 @@
--- What a table of a frame's values is filled by, in wire order. Cited by the functions that fill and read it, here and, with what is passed on, in
--- `circuit_step`, `replay_frame` and `replay_run`.
+-- What a table of a frame's values is filled by, in wire order. Cited by the functions that fill it.
 use Prim.Native.Nat.{ℕ, _<_}
 use mathlib.Core.Path.{_≡_}
 use mathlib.Core.Bool.{_&&_}
 use Rattle.model.specs.Netlist.{Netlist, gateWire}
 use Rattle.model.specs.Circuit.{Values, codeValue}
-pub use Rattle.netlist.specs.WireTable.{entry, HasBelow}
 
 -- values in which every gate is the AND of its two codes (RULES W2)
 pub record GatesHold (c : Netlist) (v : Values) : Type 0 where
