@@ -16,7 +16,7 @@ use Rattle.model.specs.Netlist.{Netlist, Start, given, unknown, start, p
 use Rattle.model.specs.Clauses.{Literal, known, plus, minus, Clause, neg, andClauses, sameClauses, sameIfClauses, sameIfAllClauses, bitClauses, PairLiterals, addressBitClauses, unequalOf, allBits, forwardedClauses, agreedClauses, agreedReads, pairClauses, ClosingLiterals, initialReadClauses, initialReads, heldClauses, heldReads, selectedOf, someSource, closingClauses}
 use Rattle.model.specs.Variables.{stride, base, pairBase, wireAt, codeAt, wireIn, codeIn, noneSince, selected, readBit, pairLiterals, closingLiterals}
 use Rattle.model.specs.Acceptance.{Accepted, IsCode}
-use Rattle.model.specs.Groups.{gateClauses, resetClauses, latchClauses, stateClauses, violationOf, clausesOf, pairOf, frameGroups, groupOrder}
+use Rattle.model.specs.Groups.{gateClauses, resetClauses, latchClauses, violationOf, clausesOf, pairOf, frameGroups, groupOrder}
 use Rattle.model.specs.Numbers.{keptOf, kept, hasTrue, endOf, writtenClause, written, formula}
 use Rattle.model.specs.declared.Group.{Group}
 use Rattle.model.specs.declared.Group.the-variants.{Wires, Pair, Closing, Property}
@@ -242,7 +242,7 @@ module _ {c : Netlist} (accepted : Accepted c) (k : ℕ) where
 
   -- the wires of frame 0: the first clause, then the others
   wires-first : FirstOne (base c (k + 1)) (clausesOf c k (Wires 0))
-  unfolding clausesOf stateClauses
+  unfolding clausesOf
   wires-first =
       record {
         rest = gather (c .latches) (resetClauses c) ++ gather (c .gates) (gateClauses c 0);
@@ -252,7 +252,7 @@ module _ {c : Netlist} (accepted : Accepted c) (k : ℕ) where
 
   -- those of a later frame
   wires-later : (i : ℕ) → i < k → AllLits (Bounded c k) (clausesOf c k (Wires (suc i)))
-  unfolding clausesOf stateClauses
+  unfolding clausesOf
   wires-later i h = all-gather (c .latches) (latchClauses c i) (λ l b. latch-within i l h b) ⧺ gates-within (suc i) h
 
   -- the wires of frame i

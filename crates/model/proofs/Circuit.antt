@@ -5,7 +5,7 @@ use mathlib.Core.Bool.{Bool, false, _&&_, true≢false}
 use native.Mathlib.Omega.{arith}
 use borrow.Author.Tests.{lt-ltb, le-ltb}
 use Rattle.model.specs.Netlist.{Netlist, Port, port, readBits, inputWire, latchWire, readWire, gateWire, lastWire}
-use Rattle.model.specs.Circuit.{Values, codeValue, sources, conjunction, evaluate, Solves, dependsOnRead, State, Feed, addressOf, readData, firstPass, frame}
+use Rattle.model.specs.Circuit.{Values, codeValue, sources, conjunction, evaluate, Solves, dependsOnRead, State, addressOf, readData, firstPass, frame}
 use Rattle.model.specs.Acceptance.{Accepted, CodesFit, IsCode}
 use Rattle.model.proofs.Bits.{fromBits-same}
 use Rattle.model.proofs.Sweep.{OfTwoWires, sweep-outside, sweep-solves, wire-induction}
@@ -115,16 +115,16 @@ unfolding readData
 readData-same c s u v a e t = rw (a, e)
 
 -- a frame as equations, without the two passes
-pub record IsFrame (c : Netlist) (s : State) (f : Feed) (v : Values) : Type 0 where
+pub record IsFrame (c : Netlist) (s : State) (f : ℕ → Bool) (v : Values) : Type 0 where
   pub at-zero : v 0 ≡ false
-  pub at-input : (x : ℕ) → x < c .inputs → v (inputWire c x) ≡ f .input x
+  pub at-input : (x : ℕ) → x < c .inputs → v (inputWire c x) ≡ f x
   pub at-latch : (l : ℕ) → l < c .latches → v (latchWire c l) ≡ s .latch l
   pub at-read : (t : ℕ) → t < readBits c → v (readWire c t) ≡ readData c s v t
   pub at-gate : (g : ℕ) → g < c .gates → v (gateWire c g) ≡ (codeValue v (c .left g) && codeValue v (c .right g))
 
 -- what is read is settled before any read bit is
-read-settled : {c : Netlist} → Accepted c → (s : State) (f : Feed) → {read other : ℕ → Bool} {u v : Values}
-    → Solves c (f .input) (s .latch) read u → Solves c (f .input) (s .latch) other v → (t : ℕ) → readData c s u t ≡ readData c s v t
+read-settled : {c : Netlist} → Accepted c → (s : State) (f : ℕ → Bool) → {read other : ℕ → Bool} {u v : Values}
+    → Solves c f (s .latch) read u → Solves c f (s .latch) other v → (t : ℕ) → readData c s u t ≡ readData c s v t
 read-settled {c} h s f {u} {v} p q =
     readData-same c s u v
     (address-same c (port c) u v (λ t l. settled (c .address t) (h .limits .codes .address-fits t l) (h .noLoop .address-free t l)))
@@ -134,18 +134,18 @@ read-settled {c} h s f {u} {v} p q =
     settled x l free = code-same u v x (independent-agree (h .limits .codes) p q (x / 2) (omega arith) free)
 
 -- the first pass is a solution with all read bits false
-firstPass-solves : {c : Netlist} → CodesFit c → (s : State) (f : Feed) → Solves c (f .input) (s .latch) (λ t. false) (firstPass c s f)
+firstPass-solves : {c : Netlist} → CodesFit c → (s : State) (f : ℕ → Bool) → Solves c f (s .latch) (λ t. false) (firstPass c s f)
 unfolding firstPass
-firstPass-solves {c} q s f = evaluate-solves c (f .input) (s .latch) (λ t. false) q
+firstPass-solves {c} q s f = evaluate-solves c f (s .latch) (λ t. false) q
 
 -- the second pass is a solution with what the first pass reads
-frame-solves : {c : Netlist} → CodesFit c → (s : State) (f : Feed)
-    → Solves c (f .input) (s .latch) (readData c s (firstPass c s f)) (frame c s f)
+frame-solves : {c : Netlist} → CodesFit c → (s : State) (f : ℕ → Bool)
+    → Solves c f (s .latch) (readData c s (firstPass c s f)) (frame c s f)
 unfolding frame
-frame-solves {c} q s f = evaluate-solves c (f .input) (s .latch) (readData c s (firstPass c s f)) q
+frame-solves {c} q s f = evaluate-solves c f (s .latch) (readData c s (firstPass c s f)) q
 
 -- the two passes solve a frame's equations
-pub frame-is : {c : Netlist} → Accepted c → (s : State) (f : Feed) → IsFrame c s f (frame c s f)
+pub frame-is : {c : Netlist} → Accepted c → (s : State) (f : ℕ → Bool) → IsFrame c s f (frame c s f)
 frame-is {c} h s f =
     record {
       at-zero = q .at-zero;
@@ -155,15 +155,15 @@ frame-is {c} h s f =
       at-gate = q .at-gate;
     }
   where
-    q : Solves c (f .input) (s .latch) (readData c s (firstPass c s f)) (frame c s f)
+    q : Solves c f (s .latch) (readData c s (firstPass c s f)) (frame c s f)
     q = frame-solves (h .limits .codes) s f
 
 -- every solution of a frame's equations has the values of the two passes
-pub frame-unique : {c : Netlist} → Accepted c → (s : State) (f : Feed) (v : Values) → IsFrame c s f v
+pub frame-unique : {c : Netlist} → Accepted c → (s : State) (f : ℕ → Bool) (v : Values) → IsFrame c s f v
     → (w : ℕ) → w ≤ lastWire c → v w ≡ frame c s f w
 frame-unique {c} h s f v q w b =
     solutions-agree (h .limits .codes) (λ x. Unit {0}) (λ g l k. (tt, tt))
     (λ t l k. read-settled h s f p (firstPass-solves (h .limits .codes) s f) t) p (frame-solves (h .limits .codes) s f) w b tt
   where
-    p : Solves c (f .input) (s .latch) (readData c s v) v
+    p : Solves c f (s .latch) (readData c s v) v
     p = record { at-zero = q .at-zero; at-input = q .at-input; at-latch = q .at-latch; at-read = q .at-read; at-gate = q .at-gate }

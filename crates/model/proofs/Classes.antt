@@ -18,7 +18,7 @@ use Rattle.model.specs.Gather.{gather, gatherDown}
 use Rattle.model.specs.Acceptance.{Accepted}
 use Rattle.model.specs.Clauses.{Literal, known, plus, minus, Clause, neg, andClauses, sameClauses, sameIfClauses, sameIfAllClauses, bitClauses, PairLiterals, addressBitClauses, unequalOf, allBits, forwardedClauses, agreedClauses, agreedReads, pairClauses, initialReadClauses, initialReads, heldClauses, heldReads, selectedOf, someSource, closingClauses}
 use Rattle.model.specs.Variables.{wireAt, codeAt, codeIn, noneSince, selected, readBit, pairLiterals, closingLiterals}
-use Rattle.model.specs.Groups.{gateClauses, latchClauses, stateClauses, clausesOf, pairOf, frameGroups, groupOrder}
+use Rattle.model.specs.Groups.{gateClauses, latchClauses, clausesOf, pairOf, frameGroups, groupOrder}
 use Rattle.model.specs.Numbers.{isTrue, hasTrue, kept, formula, clausesIn}
 use Rattle.model.specs.declared.Group.{Group}
 use Rattle.model.specs.declared.Group.the-variants.{Wires, Pair, Closing, Property}
@@ -254,7 +254,7 @@ module _ (c : Netlist) (k : ℕ) where
 
   -- the wires of later frames
   wires-alike : (i j : ℕ) → Alike (clausesOf c k (Wires (suc i))) (clausesOf c k (Wires (suc j)))
-  unfolding clausesOf stateClauses latchClauses gateClauses wireAt
+  unfolding clausesOf latchClauses gateClauses wireAt
   wires-alike i j =
       alike-gather (c .latches) _ _ (λ l. same-alike (like-plus _ _) (code-like _ _ _))
       ⧺ alike-gather (c .gates) _ _ (λ g. and-alike (like-plus _ _) (code-like _ _ _) (code-like _ _ _))

@@ -1,46 +1,41 @@
--- From a run that breaks the property to the assignment that makes all clauses true: the witness of its frames.
--- No contract cites this file.
-use Prim.Native.Nat.{ℕ, zero, suc, _-_, _*_, _<_, _≤_}
+-- From a run, whatever state it begins in, to an assignment whose frames hold: the witness of its frames. No contract cites this file.
+use Prim.Native.Nat.{ℕ, zero, suc, zero-le, _-_, _*_, _<_, _≤_}
 use mathlib.Core.Path.{_≡_, sym, _∙_, ap, ap₂}
 use mathlib.Core.Bool.{Bool, true, false, cond, _&&_}
-use native.Mathlib.Numerals.{add-one}
 use native.Mathlib.Nat.{le-of-suc-le, le-trans, not-suc-le-zero, zero-add}
 use native.Mathlib.Omega.{arith}
 use borrow.Author.Tests.{eqb-true}
 use Rattle.model.specs.Bits.{bit}
-use Rattle.model.specs.Netlist.{Netlist, Start, given, unknown, start, port, latchWire, readWire, gateWire}
-use Rattle.model.specs.Circuit.{Values, codeValue, State, Feeds, addressOf, readData, wordWritten, step, stateAt, run, BeginsAs, Begins, initial}
+use Rattle.model.specs.Netlist.{Netlist, Start, given, unknown, port, latchWire, readWire, gateWire}
+use Rattle.model.specs.Circuit.{Values, codeValue, State, Feeds, addressOf, readData, wordWritten, step, stateAt, run, Begins}
 use Rattle.model.specs.Acceptance.{Accepted, IsCode}
 use Rattle.model.specs.Variables.{codeIn, readBit, pairLiterals, closingLiterals}
-use Rattle.model.specs.Groups.{clausesOf}
-use Rattle.model.specs.declared.Group.the-variants.{Wires}
 use Rattle.model.specs.Numbers.{Assignment}
 use Rattle.model.specs.Claim.{Agrees, Breaks}
 use Rattle.model.proofs.Circuit.{IsFrame, frame-is}
-use Rattle.model.proofs.Truth.{value, AllHold, AgreedHold, InitialHold}
+use Rattle.model.proofs.Truth.{value, AgreedHold, InitialHold}
 use Rattle.model.proofs.InFrame.{assigned, assigned-zero, assigned-wire, readBit-value, codeIn-value}
 use Rattle.model.proofs.Forwarding.{stepped}
-use Rattle.model.proofs.Joined.{EachGroup}
 use Rattle.model.proofs.Agreement.{Same, code-agrees, hits, memory-stepped}
 use Rattle.model.proofs.WitnessedReads.{HasRead, read-start, pair-witnessed, closing-witnessed}
-use Rattle.model.proofs.Witness.{witness, witness-one, witness-wire, witness-values}
-use Rattle.model.proofs.Groups.{wires-hold, state-first-holds, state-later-holds, gateClauses-holds, resetClauses-holds, latchClauses-holds, pair-holds, closing-holds, property-holds}
+use Rattle.model.proofs.Witness.{witness, witness-wire, witness-values}
+use Rattle.model.proofs.Groups.{FramesHold, Violated}
 
-module _ (c : Netlist) (ok : Accepted c) (memory : ℕ → ℕ) (idle : ℕ → Bool) (f : Feeds) (k : ℕ) where
-  -- the run's frames, and their witness
+module _ (c : Netlist) (ok : Accepted c) (s : State) (f : Feeds) (k : ℕ) where
+  -- the run's frames and states, and their witness
   abbrev u : ℕ → Values
-  u = run c (initial c memory idle) f
+  u = run c s f
 
   abbrev state : ℕ → State
-  state = stateAt c (initial c memory idle) f
+  state = stateAt c s f
 
   abbrev a : Assignment
   a = witness c k u
 
   -- each frame meets its equations
-  frame-at : (i : ℕ) → IsFrame c (stateAt c (initial c memory idle) f i) (f i) (u i)
+  frame-at : (i : ℕ) → IsFrame c (state i) (f i) (u i)
   unfolding run
-  frame-at i = frame-is ok (stateAt c (initial c memory idle) f i) (f i)
+  frame-at i = frame-is ok (state i) (f i)
 
   -- the witness agrees with the run
   same : (i : ℕ) → i ≤ k → Same c (assigned c a i) (u i)
@@ -55,7 +50,7 @@ module _ (c : Netlist) (ok : Accepted c) (memory : ℕ → ℕ) (idle : ℕ → 
   bit-value : (i : ℕ) → i ≤ k → (t : ℕ) → t < c .n → value a (readBit c (port c) i t) ≡ u i (readWire c t)
   bit-value i d t b = readBit-value c (port c) a i t ∙ rw (zero-add t) (same i d (readWire c t) (omega arith))
 
-  -- the clauses of a frame's gates and latches hold, as the frame's equations do
+  -- a frame's gates and latches are as assigned
   gate-holds : (i : ℕ) → i ≤ k → (g : ℕ) → g < c .gates
       → assigned c a i (gateWire c g) ≡ (codeValue (assigned c a i) (c .left g) && codeValue (assigned c a i) (c .right g))
   gate-holds i d g b =
@@ -65,35 +60,24 @@ module _ (c : Netlist) (ok : Accepted c) (memory : ℕ → ℕ) (idle : ℕ → 
       agrees : (x : ℕ) → x < 2 * gateWire c g → codeValue (assigned c a i) x ≡ codeValue (u i) x
       agrees x l = code-agrees c (assigned c a i) (u i) (same i d) x (omega arith)
 
-  wires-at : (i : ℕ) → i ≤ k → AllHold a (clausesOf c k (Wires i))
-  unfolding stateAt initial step run
-  wires-at zero d =
-      wires-hold c a k 0 .1 (
-        state-first-holds c a .1 (
-          witness-one c k u,
-          λ l b. resetClauses-holds c a l .1 (same 0 d (latchWire c l) (omega arith) ∙ frame-at 0 .at-latch l b),
-        ),
-        λ g b. gateClauses-holds c a 0 g .1 (gate-holds 0 d g b),
-      )
-  wires-at (suc i) d =
-      wires-hold c a k (suc i) .1 (
-        state-later-holds c a i .1
-            (λ l b. latchClauses-holds c a i l .1
-            (ap (λ (x : ℕ). assigned c a x (latchWire c l)) (add-one i)
-            ∙ same (suc i) d (latchWire c l) (omega arith)
-            ∙ frame-at (suc i) .at-latch l b
-            ∙ sym (code-agrees c (assigned c a i) (u i) (same i (le-of-suc-le d)) (c .next l) (ok .limits .codes .next-fits l b)))),
-        λ g b. gateClauses-holds c a (suc i) g .1 (gate-holds (suc i) d g b),
-      )
+  pub first-latch : (l : ℕ) → l < c .latches → assigned c a 0 (latchWire c l) ≡ s .latch l
+  unfolding stateAt
+  first-latch l b = same 0 zero-le (latchWire c l) (omega arith) ∙ frame-at 0 .at-latch l b
+
+  latch-holds : (i : ℕ) → suc i ≤ k → (l : ℕ) → l < c .latches → assigned c a (suc i) (latchWire c l) ≡ codeValue (assigned c a i) (c .next l)
+  unfolding stateAt step run
+  latch-holds i d l b =
+      same (suc i) d (latchWire c l) (omega arith) ∙ frame-at (suc i) .at-latch l b
+      ∙ sym (code-agrees c (assigned c a i) (u i) (same i (le-of-suc-le d)) (c .next l) (ok .limits .codes .next-fits l b))
 
   -- where frame i reads, its read bits are the word that the writes before it leave
   read-bit : (i : ℕ) → codeValue (u i) (c .RE) ≡ true → (t : ℕ) → t < c .n
-      → u i (readWire c t) ≡ bit (stepped (memory (addressOf c (port c) (u i))) (hits c (port c) u i) (λ j. wordWritten c (u j)) i) t
-  unfolding readData initial hits
+      → u i (readWire c t) ≡ bit (stepped (s .memory (addressOf c (port c) (u i))) (hits c (port c) u i) (λ j. wordWritten c (u j)) i) t
+  unfolding readData hits
   read-bit i r t b =
       frame-at i .at-read t b
       ∙ ap (λ (x : Bool). cond x (bit (state i .memory (addressOf c (port c) (u i))) t) (state i .held t)) r
-      ∙ ap (λ (w : ℕ). bit w t) (memory-stepped c (initial c memory idle) f (addressOf c (port c) (u i)) i)
+      ∙ ap (λ (w : ℕ). bit w t) (memory-stepped c s f (addressOf c (port c) (u i)) i)
 
   -- where a later frame does not, its read bits are those of the frame before
   held-bit : (i : ℕ) → codeValue (u (suc i)) (c .RE) ≡ false → (t : ℕ) → t < c .n → u (suc i) (readWire c t) ≡ u i (readWire c t)
@@ -111,7 +95,7 @@ module _ (c : Netlist) (ok : Accepted c) (memory : ℕ → ℕ) (idle : ℕ → 
       rw last (bit-value (suc i) d t b ∙ held-bit i r t b ∙ sym (bit-value i (le-of-suc-le d) t b))
 
   -- the witness has frame i's read
-  read-at : (i : ℕ) → i ≤ k → HasRead c (port c) u a i (memory (addressOf c (port c) (u i)))
+  read-at : (i : ℕ) → i ≤ k → HasRead c (port c) u a i (s .memory (addressOf c (port c) (u i)))
   read-at i d =
       record {
         address-codes = ok .limits .codes .address-fits;
@@ -123,32 +107,37 @@ module _ (c : Netlist) (ok : Accepted c) (memory : ℕ → ℕ) (idle : ℕ → 
       }
 
   -- reads of one address that both reach the start agree: they are of one word
-  agreed-at : (s : Start) (j i : ℕ) → j < i → i ≤ k → AgreedHold a (c .n) s (pairLiterals c (port c) j i)
+  agreed-at : (start : Start) (j i : ℕ) → j < i → i ≤ k → AgreedHold a (c .n) start (pairLiterals c (port c) j i)
   unfolding AgreedHold pairLiterals
   agreed-at (given word) j i l d = tt
   agreed-at unknown j i l d = λ t b e zj zi.
       read-start (ok .limits .codes) (read-at i d) zi t b
-      ∙ ap (λ (x : ℕ). bit (memory x) t) (eqb-true _ _ (sym (witness-values c k u j i l d .E-is) ∙ e))
+      ∙ ap (λ (x : ℕ). bit (s .memory x) t) (eqb-true _ _ (sym (witness-values c k u j i l d .E-is) ∙ e))
       ∙ sym (read-start (ok .limits .codes) (read-at j (omega arith)) zj t b)
 
   -- from a given start it is the initial word
-  initial-at : (s : Start) → BeginsAs (c .n) s memory → (i : ℕ) → i ≤ k → InitialHold a (c .n) s (closingLiterals c (port c) i)
-  unfolding InitialHold BeginsAs closingLiterals
+  initial-at : (start : Start) → Begins (c .n) start (s .memory) → (i : ℕ) → i ≤ k → InitialHold a (c .n) start (closingLiterals c (port c) i)
+  unfolding InitialHold Begins closingLiterals
   initial-at (given word) begins i d = λ t b z. read-start (ok .limits .codes) (read-at i d) z t b ∙ rw (begins _)
   initial-at unknown begins i d = tt
 
-  -- so does every group, where the run breaks the property
-  pub run-groups : Begins c memory → Breaks c (initial c memory idle) k f → EachGroup c k (AllHold a)
-  unfolding Breaks
-  run-groups begins h =
+  -- so the frames hold from any start that its memory is one of
+  pub frames-hold : (start : Start) → Begins (c .n) start (s .memory) → FramesHold c start k a
+  frames-hold start begins =
       record {
-        wires = wires-at;
-        pairs = λ j i l d. pair-holds c a k j i .1 (pair-witnessed (ok .limits .codes) (read-at i d) j l (agreed-at (start c) j i l d));
-        closings = λ i d. closing-holds c a k i .1 (closing-witnessed (ok .limits .codes) (read-at i d) (initial-at (start c) begins i d));
-        property = property-holds c a k .1 (h .0, omega (arith, h .1), code-agrees c (assigned c a (h .0)) (u (h .0)) (same (h .0) (h .1)) (c .P) (ok .limits .codes .P-fits) ∙ h .2);
+        gates = gate-holds;
+        latches = latch-holds;
+        pairs = λ j i l d. pair-witnessed (ok .limits .codes) (read-at i d) j l (agreed-at start j i l d);
+        closings = λ i d. closing-witnessed (ok .limits .codes) (read-at i d) (initial-at start begins i d);
       }
 
+  -- where the run breaks the property, P is false as assigned
+  pub run-violated : Breaks c s k f → Violated c k a
+  unfolding Breaks
+  run-violated h =
+      (h .0, omega (arith, h .1), code-agrees c (assigned c a (h .0)) (u (h .0)) (same (h .0) (h .1)) (c .P) (ok .limits .codes .P-fits) ∙ h .2)
+
   -- and the witness agrees with the run
-  pub run-agrees : Agrees c (initial c memory idle) k a f
+  pub run-agrees : Agrees c s k a f
   unfolding Agrees
   run-agrees i d w lo hi = witness-wire c k u i w d lo hi

@@ -6,7 +6,7 @@ use mathlib.Core.List.{List, [], _∷_, _++_}
 use Rattle.model.specs.Netlist.{Netlist, Start, given, unknown, start, port}
 use Rattle.model.specs.Clauses.{Clause, Literal, PairLiterals, ClosingLiterals, addressBitClauses, unequalOf, allBits, forwardedClauses, agreedClauses, agreedReads, pairClauses, initialReadClauses, initialReads, heldClauses, heldReads, selectedOf, someSource, closingClauses, plus, neg, andClauses}
 use Rattle.model.specs.Variables.{base, pairBase, noneSince, selected, readBit, pairLiterals, closingLiterals}
-use Rattle.model.specs.Groups.{gateClauses, resetClauses, latchClauses, stateClauses, violationOf, clausesOf}
+use Rattle.model.specs.Groups.{gateClauses, resetClauses, latchClauses, violationOf, clausesOf}
 use Rattle.model.specs.Numbers.{written, numbersOf}
 use Rattle.model.specs.declared.Group.{Group}
 use Rattle.model.specs.declared.Group.the-variants.{Wires, Pair, Closing, Property}
@@ -35,10 +35,11 @@ module _ (c d : Netlist) (q : Agree c d) where
   unfolding latchClauses
   latch-same i l b = rw (q .next-same l b, base-same i, base-same (i + 1), inputs-same c d q)
 
-  state-same : (i : ℕ) → stateClauses c i ≡ stateClauses d i
-  unfolding stateClauses
-  state-same zero = ap (λ (xs : List Clause). (plus 1 ∷ []) ∷ xs) (gathers-same (latches-same c d q) reset-same)
-  state-same (suc i) = gathers-same (latches-same c d q) (latch-same i)
+  wires-same : (k i : ℕ) → clausesOf c k (Wires i) ≡ clausesOf d k (Wires i)
+  unfolding clausesOf
+  wires-same k zero =
+      ap₂ (λ (xs ys : List Clause). (plus 1 ∷ []) ∷ xs ++ ys) (gathers-same (latches-same c d q) reset-same) (gathers-same (gates-same c d q) (gate-same 0))
+  wires-same k (suc i) = ap₂ _++_ (gathers-same (latches-same c d q) (latch-same i)) (gathers-same (gates-same c d q) (gate-same (suc i)))
 
   none-same : (j i : ℕ) → noneSince c (port c) j i ≡ noneSince d (port d) j i
   unfolding noneSince
@@ -158,7 +159,7 @@ module _ (c d : Netlist) (q : Agree c d) where
 
   pub clauses-same : (k : ℕ) (g : Group) → clausesOf c k g ≡ clausesOf d k g
   unfolding clausesOf
-  clauses-same k (Wires i) = ap₂ _++_ (state-same i) (gathers-same (gates-same c d q) (gate-same i))
+  clauses-same k (Wires i) = wires-same k i
   clauses-same k (Pair j i) = pair-same j i
   clauses-same k (Closing i) = closing-same i
   clauses-same k Property = ap (λ (x : Clause). x ∷ []) (gather-same (k + 1) (violationOf c) (violationOf d) (λ i b. violated-same i))

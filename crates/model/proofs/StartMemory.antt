@@ -1,16 +1,16 @@
--- The memory that a run begins with to show an assignment that makes all clauses true: the initial word everywhere; or, where that is
--- unknown, at each address what the first frame has read there that reaches the start. No contract cites this file.
+-- The memory that a run begins with to show an assignment whose frames hold: the initial word everywhere; or, where that is unknown, at
+-- each address what the first frame has read there that reaches the start. No contract cites this file.
 use Prim.Native.Nat.{ℕ, _+_, _<_, _≤_}
 use mathlib.Core.Path.{_≡_, refl, sym, _∙_, ap}
-use mathlib.Core.Bool.{Bool, true, _&&_}
+use mathlib.Core.Bool.{Bool, true, false, _&&_, true≢false}
 use mathlib.Core.Logic.{⊎-elim}
 use native.Mathlib.Nat.{eq-or-lt-of-le}
 use native.Mathlib.Omega.{arith}
 use lib.Dec.{eqb}
 use borrow.Author.Tests.{eqb-true, eq-eqb}
 use Rattle.model.specs.Bits.{bit, fromBits}
-use Rattle.model.specs.Netlist.{Netlist, Start, given, unknown, port}
-use Rattle.model.specs.Circuit.{addressOf, BeginsAs}
+use Rattle.model.specs.Netlist.{Netlist, Start, given, unknown, isUnknown, port}
+use Rattle.model.specs.Circuit.{addressOf, Begins}
 use Rattle.model.specs.Variables.{noneSince, readBit, pairLiterals, closingLiterals}
 use Rattle.model.specs.Numbers.{Assignment}
 use Rattle.model.specs.Search.{firstWhere, IsFirst}
@@ -43,11 +43,13 @@ module _ (c : Netlist) (a : Assignment) where
   firstRead k x = fromBits (c .n) (λ t. value a (readBit c (port c) (firstWhere (reads x) (k + 1)) t))
 
   module _ (k : ℕ) where
-    -- from a given start
-    pub given-explains : (word : ℕ)
-        → ((i : ℕ) → i ≤ k → InitialHold a (c .n) (given word) (closingLiterals c (port c) i)) → Explains k (λ x. word)
-    unfolding InitialHold closingLiterals
-    given-explains word closings i d z t b = closings i d t b z
+    -- from a given start, any that a run may begin with
+    pub given-explains : (s : Start) → isUnknown s ≡ false → ((i : ℕ) → i ≤ k → InitialHold a (c .n) s (closingLiterals c (port c) i))
+        → (memory : ℕ → ℕ) → Begins (c .n) s memory → Explains k memory
+    unfolding InitialHold Begins isUnknown closingLiterals
+    given-explains (given word) e closings memory begins = λ i d z t b.
+        closings i d t b z ∙ ap (λ (w : ℕ). bit w t) (sym (begins (at i)))
+    given-explains unknown e closings memory begins = absurd (true≢false e)
 
     -- from an unknown one: reads of one address that reach it agree, so all of them are what the first is
     unknown-explains : ((j i : ℕ) → j < i → i ≤ k → PairHolds a (c .m) (c .n) unknown (pairLiterals c (port c) j i)) → Explains k (firstRead k)
@@ -76,7 +78,7 @@ module _ (c : Netlist) (a : Assignment) where
     -- there is one, whatever the start
     pub start-explains : (s : Start) → ((j i : ℕ) → j < i → i ≤ k → PairHolds a (c .m) (c .n) s (pairLiterals c (port c) j i))
         → ((i : ℕ) → i ≤ k → InitialHold a (c .n) s (closingLiterals c (port c) i))
-        → (memory : ℕ → ℕ) × BeginsAs (c .n) s memory × Explains k memory
-    unfolding BeginsAs firstRead
-    start-explains (given word) pairs closings = ((λ x. word), (λ x. refl), given-explains word closings)
+        → (memory : ℕ → ℕ) × Begins (c .n) s memory × Explains k memory
+    unfolding Begins isUnknown firstRead
+    start-explains (given word) pairs closings = ((λ x. word), (λ x. refl), given-explains (given word) refl closings (λ x. word) (λ x. refl))
     start-explains unknown pairs closings = (firstRead k, (λ x. fromBits-below (c .n) _), unknown-explains pairs)

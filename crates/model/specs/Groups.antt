@@ -23,18 +23,14 @@ resetClauses c l = (cond (eqb (c .reset l) 1) (wireIn c 0 (latchWire c l)) (neg 
 unfoldable pub latchClauses : Netlist → ℕ → ℕ → List Clause
 latchClauses c i l = sameClauses (wireIn c (i + 1) (latchWire c l)) (codeIn c i (c .next l))
 
--- the latches of frame i; in frame 0 also (1), by which variable 1 is true
-unfoldable pub stateClauses : Netlist → ℕ → List Clause
-stateClauses c zero = (plus 1 ∷ []) ∷ gather (c .latches) (resetClauses c)
-stateClauses c (suc i) = gather (c .latches) (latchClauses c i)
-
 -- ¬P of frame i (RULES G14)
 unfoldable pub violationOf : Netlist → ℕ → List Literal
 violationOf c i = neg (codeIn c i (c .P)) ∷ []
 
--- the clauses of a group at depth k
+-- the clauses of a group at depth k; the wires of frame 0 begin with (1), by which variable 1 is true
 unfoldable pub clausesOf : Netlist → ℕ → Group → List Clause
-clausesOf c k (Wires i) = stateClauses c i ++ gather (c .gates) (gateClauses c i)
+clausesOf c k (Wires zero) = (plus 1 ∷ []) ∷ gather (c .latches) (resetClauses c) ++ gather (c .gates) (gateClauses c 0)
+clausesOf c k (Wires (suc i)) = gather (c .latches) (latchClauses c i) ++ gather (c .gates) (gateClauses c (suc i))
 clausesOf c k (Pair j i) = pairClauses (c .m) (c .n) (start c) (pairLiterals c (port c) j i)
 clausesOf c k (Closing i) = closingClauses (c .n) (start c) i (closingLiterals c (port c) i)
 clausesOf c k Property = gather (k + 1) (violationOf c) ∷ []
