@@ -1,4 +1,4 @@
-//! Self-test of the second implementation, which is written from the customer's papers (K1 to K9 included), not from
+//! Self-test of the second implementation, which is written from the customer's papers (K1 to K10 included), not from
 //! the code: each family of checks prints one line, the last line is the total. Build: rustc -O --edition 2021 main.rs
 
 mod agreement;
@@ -9,6 +9,7 @@ mod answer_calls;
 mod check_aiger;
 mod check_answers;
 mod check_examples;
+mod check_ports;
 mod check_position;
 mod check_random;
 mod check_random_answers;
@@ -30,7 +31,7 @@ use tally::{Report, Tally};
 
 type Family = (&'static str, fn(&mut Tally));
 
-const FAMILIES: [Family; 44] = [
+const FAMILIES: [Family; 53] = [
     ("full runs, byte for byte", check_examples::full_runs),
     ("a run of the chip, by hand", check_examples::memory_run),
     (
@@ -99,6 +100,15 @@ const FAMILIES: [Family; 44] = [
         "answers of K2, all assignments",
         check_random_answers::assignments,
     ),
+    ("T sheets, byte for byte", check_ports::texts),
+    ("T sheets, refusals", check_ports::sheets),
+    ("records of T sheets, refusals", check_ports::records),
+    ("group calls by port", check_ports::group_calls),
+    ("positions by port", check_ports::positions),
+    ("runs of two ports, by hand", check_ports::memory_runs),
+    ("replays of two ports, by hand", check_ports::replays),
+    ("T sheets written back", check_ports::written_back),
+    ("largest sizes of two ports", check_ports::largest_sizes),
 ];
 
 fn main() {
