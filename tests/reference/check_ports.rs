@@ -19,8 +19,8 @@ use super::netlist::{Gate, Kind, Latch, Netlist, FIRST_PORT, SECOND_PORT};
 use super::position::{start, FrameGroup};
 use super::refusal::*;
 use super::sheet::{
-    expand, read_line_knowing, read_sheet_knowing, write_back, write_depth, write_sheet, Known,
-    LINE_BYTES,
+    expand, read_line, read_line_knowing, read_sheet_knowing, write_back, write_depth, write_sheet,
+    Known, KNOWN, LINE_BYTES, MAX_SHEET_BYTES,
 };
 use super::Tally;
 
@@ -610,7 +610,20 @@ fn letters(tally: &mut Tally) {
         let line = expand(short);
         tally.equal(short, read_line_knowing(Known::TwoPorts, &line), expected);
         tally.equal(short, read_line_knowing(Known::OnePort, &line), None);
+        let known = read_line_knowing(KNOWN, &line);
+        tally.equal((short, "as known"), read_line(&line), known);
     }
+    tally.equal("limit", MAX_SHEET_BYTES, KNOWN.max_sheet_bytes());
+    tally.equal(
+        "limit of one port",
+        Known::OnePort.max_sheet_bytes(),
+        19_680,
+    );
+    tally.equal(
+        "limit of two ports",
+        Known::TwoPorts.max_sheet_bytes(),
+        20_064,
+    );
     for short in [
         "N 1 2 3", "M 1 2 3", "L 1 2", "G 1 2", "A 1", "D 1", "C 1 2 3", "? 1",
     ] {
@@ -861,6 +874,9 @@ pub fn group_calls(tally: &mut Tally) {
         check_call(tally, &netlist, depth, asked, expected);
         if port == FIRST_PORT {
             let room = expected.unwrap_or(0);
+            let counted = Formula::new(&netlist, depth, Fault::None).counts(group);
+            let same = counted == counts(&netlist, depth, asked);
+            tally.check((depth, group, "counts"), expected.is_err() || same);
             let found = group_call(&netlist, depth, group, room);
             tally.check(
                 (depth, group),

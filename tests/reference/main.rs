@@ -13,6 +13,7 @@ mod check_ports;
 mod check_position;
 mod check_random;
 mod check_random_answers;
+mod check_random_ports;
 mod check_refusals;
 mod circuit;
 mod formula;
@@ -31,7 +32,7 @@ use tally::{Report, Tally};
 
 type Family = (&'static str, fn(&mut Tally));
 
-const FAMILIES: [Family; 53] = [
+const FAMILIES: [Family; 68] = [
     ("full runs, byte for byte", check_examples::full_runs),
     ("a run of the chip, by hand", check_examples::memory_run),
     (
@@ -109,6 +110,42 @@ const FAMILIES: [Family; 53] = [
     ("replays of two ports, by hand", check_ports::replays),
     ("T sheets written back", check_ports::written_back),
     ("largest sizes of two ports", check_ports::largest_sizes),
+    ("round trip of T sheets", check_random_ports::round_trip),
+    (
+        "damaged records of T sheets",
+        check_random_ports::damaged_records,
+    ),
+    ("damaged T sheets", check_random_ports::damaged_sheets),
+    (
+        "damaged bytes of T sheets",
+        check_random_ports::damaged_bytes,
+    ),
+    ("numbering of two ports", check_random_ports::numbering),
+    ("groups of two ports", check_random_ports::groups),
+    (
+        "headings and texts of two ports",
+        check_random_ports::headings,
+    ),
+    ("ports against one port", check_random_ports::ports_alike),
+    (
+        "demand 3 of two ports, all assignments",
+        check_random_ports::demand_3,
+    ),
+    (
+        "demand 3 of two ports, sets of constants",
+        check_random_ports::constant_sets,
+    ),
+    (
+        "demand 3 of two ports, single feeds",
+        check_random_ports::single_feeds,
+    ),
+    ("faults of two ports are caught", check_random_ports::faults),
+    ("positions of two ports, random", check_random_ports::walks),
+    ("answers of two ports", check_random_ports::answers),
+    (
+        "answers of two ports, all assignments",
+        check_random_ports::assignments,
+    ),
 ];
 
 fn main() {
