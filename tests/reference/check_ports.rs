@@ -1223,6 +1223,16 @@ pub fn largest_sizes(tally: &mut Tally) {
             .fold(most, i64::max);
     }
     tally.equal("largest number of variables", most, 1_198_081);
+    // Inputs have no clauses, and some wire must be there that no read bit reaches.
+    let mut most = [0, 0];
+    for (m, n) in (1..=12).flat_map(|m| (1..=32).map(move |n| (m, n))) {
+        for latches in 1..=600 - 2 * n {
+            let counts = counts_of_sizes([latches, 600 - 2 * n - latches], [m, n]);
+            most = [0, 1].map(|it| most[it].max(counts[it]));
+        }
+    }
+    tally.equal("largest counts", most, [WIDEST_CLAUSES, WIDEST_NUMBERS]);
+    tally.equal("largest counts", most, [8_425_089, 33_735_679]);
     let widest = without_constants([0, 1, 535], [12, 32]);
     let mut most_clauses = without_constants([0, 0, 536], [12, 32]);
     most_clauses.gates[0] = Gate { left: 0, right: 0 };
@@ -1269,6 +1279,22 @@ pub fn largest_sizes(tally: &mut Tally) {
         tally.equal("numbers at the largest sizes", found, numbers);
         tally.equal("largest variable written", largest, 1_198_081);
     }
+}
+
+/// Clauses and numbers at depth 255 of a T netlist without inputs and constants.
+fn counts_of_sizes([latches, gates]: [i64; 2], [m, n]: [i64; 2]) -> [i64; 2] {
+    let pairs = [4 * m + 2 * n + 10, 17 * m + 8 * n + 32];
+    // Of the clauses with a start bit half are left; the last clauses have i + 3 numbers.
+    let closings = [
+        256 * (n + 1) + 255 * 2 * n,
+        256 * (3 * n + 3) + 255 * 8 * n + 32_640,
+    ];
+    let wires = [
+        1 + latches + 255 * 2 * latches + 256 * 3 * gates,
+        2 + 2 * latches + 255 * 6 * latches + 256 * 10 * gates,
+    ];
+    let property = [1, 257];
+    [0, 1].map(|it| 2 * 32_640 * pairs[it] + 2 * closings[it] + wires[it] + property[it])
 }
 
 /// At depth 255 and the largest sizes, 32,640 pairs for each port: 122 clauses and 492 numbers each.

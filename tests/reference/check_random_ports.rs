@@ -584,25 +584,17 @@ fn port_exchange(netlist: &Netlist, depth: u32) -> Vec<i32> {
     variables
 }
 
-/// Tiny T netlists with a depth of at most 2, the same for every caller. At depth 2 the widths are small
-/// enough that all assignments can be listed.
+/// Tiny T netlists with a depth of at most 2, the same for every caller. I and n are at most 2, so each
+/// case has at most 2^10 runs.
 fn tiny_cases(count: usize) -> Vec<(Netlist, u32)> {
     let mut random = Random::new(47);
-    let mut cases = Vec::new();
-    while cases.len() < count {
-        let netlist = tiny_two_ports(&mut random);
-        let depth = random.below(3);
-        let small = netlist.address_width == 1 && netlist.data_width == 1;
-        if depth < 2 || small || netlist.inputs == 0 {
-            cases.push((netlist, depth));
-        }
-    }
-    cases
+    let case = |_| (tiny_two_ports(&mut random), random.below(3));
+    (0..count).map(case).collect()
 }
 
 /// Both halves of demand 3 on all assignments and all runs of tiny T netlists.
 pub fn demand_3(tally: &mut Tally) {
-    let cases = tiny_cases(1000);
+    let cases = tiny_cases(3000);
     let [mut satisfiable, mut unsatisfiable, mut models] = [0; 3];
     for (index, (netlist, depth)) in cases.iter().enumerate() {
         let found = compare(netlist, *depth, Fault::None);
@@ -993,8 +985,7 @@ pub fn assignments(tally: &mut Tally) {
     );
 }
 
-/// The largest sheets by hand of this file are those of `check_ports`; here every damage of one byte of
-/// a small T sheet is told apart by what it can be.
+/// Every byte of small T sheets replaced by others: the refusal is one that the byte's place can cause.
 pub fn damaged_bytes(tally: &mut Tally) {
     let mut counts = [0; 18];
     for short in [CONSTANT_READS, TWO_READS, TWO_RICH] {

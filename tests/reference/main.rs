@@ -1,5 +1,6 @@
-//! Self-test of the second implementation, which is written from the customer's papers (K1 to K10 included), not from
-//! the code: each family of checks prints one line, the last line is the total. Build: rustc -O --edition 2021 main.rs
+//! Self-test of the second implementation, which is written from the customer's papers (K1 to K10
+//! included), not from the code: each family of checks prints one line, the last line is the total.
+//! Build: rustc -O --edition 2021 main.rs
 
 mod agreement;
 mod aiger;
