@@ -1,14 +1,14 @@
 // The library for C and Rust: each public call under its plain name (include/marrubigai.h).
-use call_lists::Gate;
-use call_lists::Latch;
+use call_lists::GateEntry;
+use call_lists::LatchEntry;
 use call_position::LiteralReply;
 use call_position::Position;
 use call_position::PositionReply;
-use call_replies::CountReply;
-use call_replies::HeadingReply;
 use call_replies::LineReply;
 use call_replies::SheetReply;
+use call_unpacked::HeadingReply;
 use netlist::Netlist;
+use refusals::CountReply;
 use replay_call::ReplayReply;
 use sheet_parse::SheetReader;
 ghost use mathlib.Core.Path.{_≡_};
@@ -23,7 +23,7 @@ ghost use Rattle.sheet_reader.specs.ReadCall.{readVerdict, readRecord, latchesA
 ghost use Rattle.aiger_lines.specs.Written.{TextAsWritten};
 ghost use Rattle.aiger_import.specs.ImportCall.{importVerdictFor, importRecord, importLatches, importGates, TextDelivered};
 ghost use Rattle.answer_lines.specs.Written.{AnswerAsWritten};
-ghost use Rattle.replay_frame.specs.Replay.{OneRunTheorem};
+ghost use Rattle.replay_frame.specs.Replay.{OneRunTheorem, RoomTheorem};
 ghost use Rattle.replay_call.specs.Settled.{FaultsSettled};
 ghost use Rattle.replay_call.specs.RightAnswer.{RightAnswerTheorem};
 ghost use Rattle.replay_answer.specs.ReplayAnswer.{replayFor, memoryFor, traceFor};
@@ -32,21 +32,21 @@ ghost use Rattle.call_position.specs.GroupsAt.{groupAtSent, groupAtLeaves, ByFr
 ghost use Rattle.call_position.specs.Literals.{literalSent, InverseNegated};
 ghost use Rattle.netlist.specs.NetOf.{alone};
 ghost use Rattle.sheet_writer.specs.WriteCall.{writeSent, writeLeaves, SheetWritten};
-ghost use Rattle.call_replies.specs.Replies.{groupOf, countNumbers, headingNumbers, sheetNumbers, lineNumbers};
+ghost use Rattle.call_replies.specs.Replies.{groupOf, sheetNumbers, lineNumbers};
 
 // `calls::write_group`. The kind is 0 for the wires of frame i, 1 for the pair (j, i), 2 for the closing of frame i, 3 for the property.
 #[no_mangle]
 pub extern "C" fn marrubigai_write_group(
     net: Netlist,
-    latches: &[Latch],
-    gates: &[Gate],
+    latches: &[LatchEntry],
+    gates: &[GateEntry],
     depth: u32,
     kind: u32,
     j: u32,
     i: u32,
     out: &mut [i32],
 ) -> CountReply
-    ensures answer { λ r. ⌜ r ≡ countNumbers (groupFor net (now (latches .entry)) (now (gates .entry)) depth (groupOf kind j i) (length (now (out .entry)))) ⌝ }
+    ensures answer { λ r. ⌜ r ≡ groupFor net (now (latches .entry)) (now (gates .entry)) depth (groupOf kind j i) (length (now (out .entry))) ⌝ }
     ensures borrowed { λ r. ⌜ now (out .exit) ≡ numbersAfter net (now (latches .entry)) (now (gates .entry)) depth (groupOf kind j i) (now (out .entry)) ⌝ }
 {
     call_replies::group_numbers(calls::write_group(
@@ -63,11 +63,11 @@ pub extern "C" fn marrubigai_write_group(
 #[no_mangle]
 pub extern "C" fn marrubigai_heading(
     net: Netlist,
-    latches: &[Latch],
-    gates: &[Gate],
+    latches: &[LatchEntry],
+    gates: &[GateEntry],
     depth: u32,
 ) -> HeadingReply
-    ensures { λ r. ⌜ r ≡ headingNumbers (headingFor net (now (latches .entry)) (now (gates .entry)) depth) ⌝ }
+    ensures { λ r. ⌜ r ≡ headingFor net (now (latches .entry)) (now (gates .entry)) depth ⌝ }
 {
     call_replies::heading_numbers(calls::heading(net, latches, gates, depth))
 }
@@ -76,8 +76,8 @@ pub extern "C" fn marrubigai_heading(
 #[no_mangle]
 pub extern "C" fn marrubigai_read(
     file: &[u8],
-    latches: &mut [Latch],
-    gates: &mut [Gate],
+    latches: &mut [LatchEntry],
+    gates: &mut [GateEntry],
 ) -> SheetReply
     ensures reply { λ r. ⌜ r ≡ sheetNumbers (readVerdict (now (file .entry)) (now (latches .entry)) (now (gates .entry))) (readRecord (now (file .entry)) (now (latches .entry)) (now (gates .entry))) ⌝ }
     ensures latches { λ _. ⌜ now (latches .exit) ≡ latchesAfter (now (file .entry)) (now (latches .entry)) (now (gates .entry)) ⌝ }
@@ -97,8 +97,8 @@ pub extern "C" fn marrubigai_import(
     n: u32,
     word: u32,
     unknown: u32,
-    latches: &mut [Latch],
-    gates: &mut [Gate],
+    latches: &mut [LatchEntry],
+    gates: &mut [GateEntry],
 ) -> SheetReply
     ensures reply { λ r. ⌜ r ≡ sheetNumbers (importVerdictFor (now (text .entry)) m n word unknown (now (latches .entry)) (now (gates .entry))) (importRecord (now (text .entry)) m n word unknown (now (latches .entry)) (now (gates .entry))) ⌝ }
     ensures latches { λ _. ⌜ now (latches .exit) ≡ importLatches (now (text .entry)) m n word unknown (now (latches .entry)) (now (gates .entry)) ⌝ }
@@ -136,7 +136,7 @@ pub extern "C" fn marrubigai_next_line(file: &[u8], line: u32) -> LineReply
 // `dimacs::put_header`.
 #[no_mangle]
 pub extern "C" fn marrubigai_put_header(out: &mut [u8], variables: u32, clauses: u32) -> CountReply
-    ensures answer { λ r. ⌜ r ≡ countNumbers (printSent (headerText variables clauses) (length (now (out .entry)))) ⌝ }
+    ensures answer { λ r. ⌜ r ≡ printSent (headerText variables clauses) (length (now (out .entry))) ⌝ }
     ensures borrowed { λ _. ⌜ now (out .exit) ≡ printLeaves (headerText variables clauses) (now (out .entry)) ⌝ }
 {
     call_replies::print_numbers(dimacs::put_header(out, variables, clauses))
@@ -145,7 +145,7 @@ pub extern "C" fn marrubigai_put_header(out: &mut [u8], variables: u32, clauses:
 // `dimacs::put_clauses`.
 #[no_mangle]
 pub extern "C" fn marrubigai_put_clauses(out: &mut [u8], numbers: &[i32]) -> CountReply
-    ensures answer { λ r. ⌜ r ≡ countNumbers (printSent (clauseText (now (numbers .entry))) (length (now (out .entry)))) ⌝ }
+    ensures answer { λ r. ⌜ r ≡ printSent (clauseText (now (numbers .entry))) (length (now (out .entry))) ⌝ }
     ensures borrowed { λ _. ⌜ now (out .exit) ≡ printLeaves (clauseText (now (numbers .entry))) (now (out .entry)) ⌝ }
     ensures others { λ _. ⌜ OtherNumbers ⌝ }
 {
@@ -155,7 +155,7 @@ pub extern "C" fn marrubigai_put_clauses(out: &mut [u8], numbers: &[i32]) -> Cou
 // `dimacs::put_refusal`.
 #[no_mangle]
 pub extern "C" fn marrubigai_put_refusal(out: &mut [u8], number: u32, place: u32) -> CountReply
-    ensures answer { λ r. ⌜ r ≡ countNumbers (printSent (refusalText number place) (length (now (out .entry)))) ⌝ }
+    ensures answer { λ r. ⌜ r ≡ printSent (refusalText number place) (length (now (out .entry))) ⌝ }
     ensures borrowed { λ _. ⌜ now (out .exit) ≡ printLeaves (refusalText number place) (now (out .entry)) ⌝ }
 {
     call_replies::print_numbers(dimacs::put_refusal(out, number, place))
@@ -164,7 +164,7 @@ pub extern "C" fn marrubigai_put_refusal(out: &mut [u8], number: u32, place: u32
 // `dimacs::put_number`.
 #[no_mangle]
 pub extern "C" fn marrubigai_put_number(out: &mut [u8], number: i32) -> CountReply
-    ensures answer { λ r. ⌜ r ≡ countNumbers (printSent (signedDigits number) (length (now (out .entry)))) ⌝ }
+    ensures answer { λ r. ⌜ r ≡ printSent (signedDigits number) (length (now (out .entry))) ⌝ }
     ensures borrowed { λ _. ⌜ now (out .exit) ≡ fillLeaves (signedDigits number) (now (out .entry)) ⌝ }
     ensures printed { λ _. ⌜ NumberPrinted ⌝ }
 {
@@ -175,8 +175,8 @@ pub extern "C" fn marrubigai_put_number(out: &mut [u8], number: i32) -> CountRep
 #[no_mangle]
 pub extern "C" fn marrubigai_replay(
     net: Netlist,
-    latches: &[Latch],
-    gates: &[Gate],
+    latches: &[LatchEntry],
+    gates: &[GateEntry],
     depth: u32,
     answer: &[u8],
     memory: &mut [u32],
@@ -185,7 +185,7 @@ pub extern "C" fn marrubigai_replay(
     ensures answer { λ r. ⌜ r ≡ replayFor (netLent net (now (latches .entry)) (now (gates .entry))) (length (now (latches .entry))) (length (now (gates .entry))) depth (now (answer .entry)) (length (now (memory .entry))) (length (now (trace .entry))) ⌝ }
     ensures memory { λ _. ⌜ now (memory .exit) ≡ memoryFor (netLent net (now (latches .entry)) (now (gates .entry))) (length (now (latches .entry))) (length (now (gates .entry))) depth (now (answer .entry)) (now (memory .entry)) (length (now (trace .entry))) ⌝ }
     ensures trace { λ _. ⌜ now (trace .exit) ≡ traceFor (netLent net (now (latches .entry)) (now (gates .entry))) (length (now (latches .entry))) (length (now (gates .entry))) depth (now (answer .entry)) (length (now (memory .entry))) (now (trace .entry)) ⌝ }
-    ensures settled { λ _. ⌜ FaultsSettled × OneRunTheorem × RightAnswerTheorem ⌝ }
+    ensures settled { λ _. ⌜ FaultsSettled × OneRunTheorem × RoomTheorem × RightAnswerTheorem ⌝ }
     ensures written { λ _. ⌜ AnswerAsWritten ⌝ }
 {
     let mut latch_codes = [0; 1200];
@@ -210,8 +210,8 @@ pub extern "C" fn marrubigai_replay(
 #[no_mangle]
 pub extern "C" fn marrubigai_move(
     net: Netlist,
-    latches: &[Latch],
-    gates: &[Gate],
+    latches: &[LatchEntry],
+    gates: &[GateEntry],
     position: Position,
     way: u32,
 ) -> PositionReply
@@ -237,14 +237,14 @@ pub extern "C" fn marrubigai_move(
 #[no_mangle]
 pub extern "C" fn marrubigai_write_group_at(
     net: Netlist,
-    latches: &[Latch],
-    gates: &[Gate],
+    latches: &[LatchEntry],
+    gates: &[GateEntry],
     position: Position,
     kind: u32,
     j: u32,
     out: &mut [i32],
 ) -> CountReply
-    ensures answer { λ r. ⌜ r ≡ countNumbers (groupAtSent (netLent net (now (latches .entry)) (now (gates .entry))) (length (now (latches .entry))) (length (now (gates .entry))) position (groupOf kind j (position .frame)) (length (now (out .entry)))) ⌝ }
+    ensures answer { λ r. ⌜ r ≡ groupAtSent (netLent net (now (latches .entry)) (now (gates .entry))) (length (now (latches .entry))) (length (now (gates .entry))) position (groupOf kind j (position .frame)) (length (now (out .entry))) ⌝ }
     ensures borrowed { λ r. ⌜ now (out .exit) ≡ groupAtLeaves (netLent net (now (latches .entry)) (now (gates .entry))) (length (now (latches .entry))) (length (now (gates .entry))) position (groupOf kind j (position .frame)) (now (out .entry)) ⌝ }
     ensures by_frame { λ r. ⌜ ByFrame (netLent net (now (latches .entry)) (now (gates .entry))) (length (now (latches .entry))) (length (now (gates .entry))) position (groupOf kind j (position .frame)) (now (out .entry)) ⌝ }
 {
@@ -278,11 +278,11 @@ pub extern "C" fn marrubigai_literal_at(net: Netlist, position: Position, code: 
 #[no_mangle]
 pub extern "C" fn marrubigai_write_sheet(
     net: Netlist,
-    latches: &[Latch],
-    gates: &[Gate],
+    latches: &[LatchEntry],
+    gates: &[GateEntry],
     out: &mut [u8],
 ) -> CountReply
-    ensures answer { λ r. ⌜ r ≡ countNumbers (writeSent (netLent net (now (latches .entry)) (now (gates .entry))) (length (now (latches .entry))) (length (now (gates .entry))) (length (now (out .entry)))) ⌝ }
+    ensures answer { λ r. ⌜ r ≡ writeSent (netLent net (now (latches .entry)) (now (gates .entry))) (length (now (latches .entry))) (length (now (gates .entry))) (length (now (out .entry))) ⌝ }
     ensures borrowed { λ _. ⌜ now (out .exit) ≡ writeLeaves (netLent net (now (latches .entry)) (now (gates .entry))) (length (now (latches .entry))) (length (now (gates .entry))) (now (out .entry)) ⌝ }
     ensures written { λ _. ⌜ SheetWritten ⌝ }
 {

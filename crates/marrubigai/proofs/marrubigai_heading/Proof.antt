@@ -1,6 +1,6 @@
 -- `marrubigai::marrubigai_heading` meets its contract: a walk of its MIR, by hand, over `calls::heading` and `heading_numbers`.
 -- Everything that it is passed goes on to the first.
-use mathlib.Core.Path.{_≡_, refl, _∙_, ap}
+use mathlib.Core.Path.{_≡_, refl, _∙_}
 use Prim.Native.Nat.{ℕ, _<_, _^_}
 use mathlib.Core.List.{List, [], _∷_}
 use lib.ListN.{length}
@@ -37,10 +37,10 @@ use denote.Exit.{yes}
 use Rattle.netlist.specs.declared.Netlist.{Netlist}
 use Rattle.netlist.proofs.Netlist as N
 use Rattle.netlist.proofs.Netlist.Laws as N′
-use Rattle.call_lists.specs.declared.Latch.{Latch}
-use Rattle.call_lists.specs.declared.Gate.{Gate}
-use Rattle.call_lists.proofs.Latch as L
-use Rattle.call_lists.proofs.Gate as G
+use Rattle.call_lists.specs.declared.LatchEntry.{LatchEntry}
+use Rattle.call_lists.specs.declared.GateEntry.{GateEntry}
+use Rattle.call_lists.proofs.LatchEntry as L
+use Rattle.call_lists.proofs.GateEntry as G
 use Rattle.hand_proofs.proofs.Walk.{calls-told, _&_, cell, frees-all, meets-of}
 use Rattle.call_unpacked.specs.Calls.{headingReply}
 use Rattle.model.specs.Acceptance.{PathTheorem}
@@ -48,14 +48,13 @@ use Rattle.calls.specs.Starred.{Starred}
 use Rattle.call_unpacked.specs.declared.HeadingAnswer.{HeadingAnswer}
 use Rattle.call_unpacked.proofs.HeadingAnswer as Answer
 use Rattle.call_unpacked.proofs.HeadingAnswer.Laws as Answer′
-use Rattle.calls.specs.LentCalls.{headingFor, Claim, AcceptedTheorem}
+use Rattle.calls.specs.LentCalls.{headingFor, HeadingClaim, AcceptedTheorem}
 use Rattle.calls.proofs.heading as inner
 use Rattle.calls.proofs.heading.Symbol as inner-def
 use Rattle.calls.proofs.heading.Symbol.{name as #inner}
 use Rattle.calls.proofs.heading.Met as inner-thm
-use Rattle.call_replies.specs.Replies.{headingNumbers}
-use Rattle.call_replies.proofs.HeadingReply as Reply
-use Rattle.call_replies.proofs.HeadingReply.Laws as Reply′
+use Rattle.call_unpacked.proofs.HeadingReply as Reply
+use Rattle.call_unpacked.proofs.HeadingReply.Laws as Reply′
 use Rattle.call_replies.proofs.heading_numbers as numbers
 use Rattle.call_replies.proofs.heading_numbers.Symbol as numbers-def
 use Rattle.call_replies.proofs.heading_numbers.Symbol.{name as #numbers}
@@ -78,7 +77,7 @@ module _ {M : Type 1} (𝓤 : URA M) (H : Heap 𝓤) (A : Atoms 𝓤) (W : Given
   abbrev Numbers : Contract 𝓤
   Numbers = tripleOf 𝓤 H A numbers.signature (numbers.spec 𝓤 H A mem run)
 
-  module _ (κ₀ κ₁ : Lft) (q₀ q₁ : Share) (net : Netlist) (ls : RefT (List Latch)) (gs : RefT (List Gate)) (k : ℕ) where
+  module _ (κ₀ κ₁ : Lft) (q₀ q₁ : Share) (net : Netlist) (ls : RefT (List LatchEntry)) (gs : RefT (List GateEntry)) (k : ℕ) where
     abbrev v : Val
     v = LL.val N.the-type N′.the-laws net
 
@@ -89,7 +88,7 @@ module _ {M : Type 1} (𝓤 : URA M) (H : Heap 𝓤) (A : Atoms 𝓤) (W : Given
     vg = sliceVal (gs .ptr) (length (gs .now))
 
     abbrev Arg : Type 0
-    Arg = Netlist × (RefT (List Latch) × (RefT (List Gate) × (ℕ × Unit {0})))
+    Arg = Netlist × (RefT (List LatchEntry) × (RefT (List GateEntry) × (ℕ × Unit {0})))
 
     abbrev a : Arg
     a = (net, (ls, (gs, (k, tt))))
@@ -102,7 +101,7 @@ module _ {M : Type 1} (𝓤 : URA M) (H : Heap 𝓤) (A : Atoms 𝓤) (W : Given
 
     -- what else `calls::heading` says, which is of no answer
     abbrev Claimed : SProp 𝓤
-    Claimed = sep 𝓤 (fact 𝓤 (Claim net (ls .now) (gs .now) k)) (sep 𝓤 (fact 𝓤 PathTheorem) (sep 𝓤 (fact 𝓤 AcceptedTheorem) (fact 𝓤 Starred)))
+    Claimed = sep 𝓤 (fact 𝓤 (HeadingClaim net (ls .now) (gs .now) k)) (sep 𝓤 (fact 𝓤 PathTheorem) (sep 𝓤 (fact 𝓤 AcceptedTheorem) (fact 𝓤 Starred)))
 
     abbrev Post : Val → SProp 𝓤
     Post = walkOf 𝓤 H A f.ended stayed (f.clauses 𝓤 H A mem run) .post (((κ₀, (κ₁, tt)), (q₀, (q₁, tt)), tt, a, vals), tt)
@@ -137,7 +136,7 @@ module _ {M : Type 1} (𝓤 : URA M) (H : Heap 𝓤) (A : Atoms 𝓤) (W : Given
           calls-told ! fm numbers.ended (numbers.clauses 𝓤 H A mem run) known-numbers (tt, tt, tt, (r, tt), (w ∷ [], tt)) tt
           (id⊢ 𝓤 (emp 𝓤))
           (and-then ! (load ! (from ! (stop !)) (look ! 3 refl)) (no-more !)) (λ w′ r′ ws′.
-          heard ! (r′ ≡ headingNumbers (headingReply r)) (λ is. move ! (1 ∷ []) $
+          heard ! (r′ ≡ headingReply r) (λ is. move ! (1 ∷ []) $
           peeks ! Reply.the-row (Is Reply.the-row) (shows 𝓤 H A Reply.the-row) r′ (w′ ∷ []) (λ is-reply.
           land ! (from ! (stop !)) (init ! 15 refl (LL.lawful Reply.the-type Reply′.the-laws 𝓤 H A W .typed r′
           (w′ ∷ []) is-reply .0)) $ returns ! (look ! 15 refl) $
@@ -146,7 +145,7 @@ module _ {M : Type 1} (𝓤 : URA M) (H : Heap 𝓤) (A : Atoms 𝓤) (W : Given
           -- [the reply; …; …; …; the tokens]
           suffices ! _ (ends-at 𝓤 H A f.ended stayed (f.clauses 𝓤 H A mem run) W
           (((κ₀, (κ₁, tt)), (q₀, (q₁, tt)), tt, a, vals), tt) w′ r′ (tt, (tt, (tt, (tt, tt)))) (tt, (tt, (tt, (tt, tt))))) $
-          says ! (is ∙ ap headingNumbers answered) $
+          says ! (is ∙ answered) $
           nothing ! $ nothing ! $ fjoin ! $ nothing ! $ fjoin ! $ nothing ! $ fjoin ! $ nothing ! $ fjoin ! $
           move ! (5 ∷ 0 ∷ 1 ∷ []) $ frame ! $ frame ! $ keep ! (0 ∷ []) $ done !))))))))))))
 

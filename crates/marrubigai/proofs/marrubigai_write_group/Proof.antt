@@ -1,6 +1,6 @@
 -- `marrubigai::marrubigai_write_group` meets its contract: a walk of its MIR, by hand, over `group_of`, `calls::write_group` and
 -- `group_numbers`. Everything that it is passed goes on.
-use mathlib.Core.Path.{_≡_, refl, _∙_, ap}
+use mathlib.Core.Path.{_≡_, refl, _∙_}
 use Prim.Native.Nat.{ℕ, _<_, _^_}
 use mathlib.Core.List.{List, [], _∷_}
 use lib.IntN.{ℤ}
@@ -42,10 +42,10 @@ use Rattle.model.proofs.Group.Laws as K′
 use Rattle.netlist.specs.declared.Netlist.{Netlist}
 use Rattle.netlist.proofs.Netlist as N
 use Rattle.netlist.proofs.Netlist.Laws as N′
-use Rattle.call_lists.specs.declared.Latch.{Latch}
-use Rattle.call_lists.specs.declared.Gate.{Gate}
-use Rattle.call_lists.proofs.Latch as L
-use Rattle.call_lists.proofs.Gate as G
+use Rattle.call_lists.specs.declared.LatchEntry.{LatchEntry}
+use Rattle.call_lists.specs.declared.GateEntry.{GateEntry}
+use Rattle.call_lists.proofs.LatchEntry as L
+use Rattle.call_lists.proofs.GateEntry as G
 use Rattle.hand_proofs.proofs.Walk.{both, calls-told, _&_, cell, frees-all, meets-of}
 use Rattle.call_unpacked.specs.Calls.{groupReply}
 use Rattle.call_unpacked.specs.declared.GroupAnswer.{GroupAnswer}
@@ -56,9 +56,9 @@ use Rattle.calls.proofs.write_group as inner
 use Rattle.calls.proofs.write_group.Symbol as inner-def
 use Rattle.calls.proofs.write_group.Symbol.{name as #inner}
 use Rattle.calls.proofs.write_group.Met as inner-thm
-use Rattle.call_replies.specs.Replies.{groupOf, countNumbers}
-use Rattle.call_replies.proofs.CountReply as Reply
-use Rattle.call_replies.proofs.CountReply.Laws as Reply′
+use Rattle.call_replies.specs.Replies.{groupOf}
+use Rattle.refusals.proofs.CountReply as Reply
+use Rattle.refusals.proofs.CountReply.Laws as Reply′
 use Rattle.call_replies.proofs.group_of as group
 use Rattle.call_replies.proofs.group_of.Symbol as group-def
 use Rattle.call_replies.proofs.group_of.Symbol.{name as #group}
@@ -106,7 +106,7 @@ module _ {M : Type 1} (𝓤 : URA M) (H : Heap 𝓤) (A : Atoms 𝓤) (W : Given
   abbrev Numbers : Contract 𝓤
   Numbers = tripleOf 𝓤 H A numbers.signature (numbers.spec 𝓤 H A mem run)
 
-  module _ (κ₀ κ₁ κ₂ : Lft) (q₀ q₁ q₂ : Share) (net : Netlist) (ls : RefT (List Latch)) (gs : RefT (List Gate)) (k kind j i : ℕ)
+  module _ (κ₀ κ₁ κ₂ : Lft) (q₀ q₁ q₂ : Share) (net : Netlist) (ls : RefT (List LatchEntry)) (gs : RefT (List GateEntry)) (k kind j i : ℕ)
       (out : RefT (List ℤ)) where
     abbrev v : Val
     v = LL.val N.the-type N′.the-laws net
@@ -121,7 +121,7 @@ module _ {M : Type 1} (𝓤 : URA M) (H : Heap 𝓤) (A : Atoms 𝓤) (W : Given
     vo = sliceVal (out .ptr) (length (out .now))
 
     abbrev Arg : Type 0
-    Arg = Netlist × (RefT (List Latch) × (RefT (List Gate) × (ℕ × (ℕ × (ℕ × (ℕ × (RefT (List ℤ) × Unit {0})))))))
+    Arg = Netlist × (RefT (List LatchEntry) × (RefT (List GateEntry) × (ℕ × (ℕ × (ℕ × (ℕ × (RefT (List ℤ) × Unit {0})))))))
 
     abbrev a : Arg
     a = (net, (ls, (gs, (k, (kind, (j, (i, (out, tt))))))))
@@ -226,7 +226,7 @@ module _ {M : Type 1} (𝓤 : URA M) (H : Heap 𝓤) (A : Atoms 𝓤) (W : Given
           nothing ! $ move ! (1 ∷ 0 ∷ []) $ fjoin ! $ nothing ! $ join ! $
           calls-told ! fm numbers.ended (numbers.clauses 𝓤 H A mem run) known-numbers (tt, tt, tt, (r₁, tt), (w₁ ∷ [], tt)) tt
           (id⊢ 𝓤 (emp 𝓤)) (and-then ! (load ! (from ! (stop !)) (look ! 12 refl)) (no-more !)) (λ w₂ r₂ ws₂.
-          heard ! (r₂ ≡ countNumbers (groupReply r₁)) (λ is. move ! (1 ∷ []) $
+          heard ! (r₂ ≡ groupReply r₁) (λ is. move ! (1 ∷ []) $
           peeks ! Reply.the-row (Is Reply.the-row) (shows 𝓤 H A Reply.the-row) r₂ (w₂ ∷ []) (λ is-reply.
           land ! (from ! (stop !)) (init ! 32 refl (LL.lawful Reply.the-type Reply′.the-laws 𝓤 H A W .typed r₂
           (w₂ ∷ []) is-reply .0)) $ returns ! (look ! 32 refl) $
@@ -241,7 +241,7 @@ module _ {M : Type 1} (𝓤 : URA M) (H : Heap 𝓤) (A : Atoms 𝓤) (W : Given
           move ! (3 ∷ 4 ∷ []) $ fjoin ! $ nothing ! $ fjoin ! $ nothing ! $ fjoin ! $ nothing ! $ fjoin ! $ nothing ! $ fjoin ! $
           nothing ! $ fjoin ! $ nothing ! $ fjoin ! $ nothing ! $ fjoin ! $
           move ! (0 ∷ 1 ∷ []) $ join ! $ move ! (3 ∷ 0 ∷ []) $ join ! $ frame ! $ keep ! [] $
-          by ! (both 𝓤 (factI 𝓤 _ (emp 𝓤) (is ∙ ap countNumbers answered)) (factI 𝓤 _ (emp 𝓤) leaves))))))))))))))))))))))))))
+          by ! (both 𝓤 (factI 𝓤 _ (emp 𝓤) (is ∙ answered)) (factI 𝓤 _ (emp 𝓤) leaves))))))))))))))))))))))))))
 
 marrubigai-write-group-meets : {M : Type 1} (𝓤 : URA M) (H : Heap 𝓤) (A : Atoms 𝓤) (W : Given 𝓤 H A) (mem : Memory → SProp 𝓤)
     (run : Routine → Fun 𝓤) (𝓣 : Tables 𝓤 H)

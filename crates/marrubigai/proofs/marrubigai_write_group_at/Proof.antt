@@ -42,12 +42,12 @@ use Rattle.netlist.proofs.Netlist as N
 use Rattle.netlist.proofs.Netlist.Laws as N′
 use Rattle.call_lists.specs.Unpacked.{latchCodes, gateCodes}
 use Rattle.model.specs.Wrote.{over}
-use Rattle.call_lists.specs.declared.Latch.{Latch}
-use Rattle.call_lists.specs.declared.Gate.{Gate}
-use Rattle.call_lists.proofs.Latch as L
-use Rattle.call_lists.proofs.Latch.Laws as L′
-use Rattle.call_lists.proofs.Gate as G
-use Rattle.call_lists.proofs.Gate.Laws as G′
+use Rattle.call_lists.specs.declared.LatchEntry.{LatchEntry}
+use Rattle.call_lists.specs.declared.GateEntry.{GateEntry}
+use Rattle.call_lists.proofs.LatchEntry as L
+use Rattle.call_lists.proofs.LatchEntry.Laws as L′
+use Rattle.call_lists.proofs.GateEntry as G
+use Rattle.call_lists.proofs.GateEntry.Laws as G′
 use Rattle.call_lists.proofs.Records.{latchPair, gatePair}
 use Rattle.hand_proofs.proofs.Walk.{both, calls-told, _&_, cell, frees-all, meets-of}
 use Rattle.call_lists.proofs.Zeroed.{zeros, unpacks, lends, takes-back}
@@ -59,10 +59,10 @@ use Rattle.call_lists.proofs.unpack.unpack_gates as gates
 use Rattle.call_lists.proofs.unpack.unpack_gates.Symbol as gates-def
 use Rattle.call_lists.proofs.unpack.unpack_gates.Symbol.{name as #gates}
 use Rattle.call_lists.proofs.unpack.unpack_gates.Met as gates-thm
-use Rattle.call_replies.specs.Replies.{groupOf, countNumbers}
-use Rattle.call_replies.specs.declared.CountReply.{CountReply}
-use Rattle.call_replies.proofs.CountReply as Reply
-use Rattle.call_replies.proofs.CountReply.Laws as Reply′
+use Rattle.call_replies.specs.Replies.{groupOf}
+use Rattle.refusals.specs.declared.CountReply.{CountReply}
+use Rattle.refusals.proofs.CountReply as Reply
+use Rattle.refusals.proofs.CountReply.Laws as Reply′
 use Rattle.call_position.specs.GroupsAt.{groupAtSent, groupAtLeaves}
 use Rattle.call_position.specs.declared.Position.{Position}
 use Rattle.call_position.proofs.Position as P
@@ -105,7 +105,7 @@ module _ {M : Type 1} (𝓤 : URA M) (H : Heap 𝓤) (A : Atoms 𝓤) (W : Given
   abbrev Inner : Contract 𝓤
   Inner = tripleOf 𝓤 H A inner.signature (inner.spec 𝓤 H A mem run)
 
-  module _ (κ₀ κ₁ κ₂ : Lft) (q₀ q₁ q₂ : Share) (net : Netlist) (ls : RefT (List Latch)) (gs : RefT (List Gate)) (p : Position)
+  module _ (κ₀ κ₁ κ₂ : Lft) (q₀ q₁ q₂ : Share) (net : Netlist) (ls : RefT (List LatchEntry)) (gs : RefT (List GateEntry)) (p : Position)
       (kind j : ℕ) (out : RefT (List ℤ)) where
     abbrev v : Val
     v = LL.val N.the-type N′.the-laws net
@@ -123,7 +123,7 @@ module _ {M : Type 1} (𝓤 : URA M) (H : Heap 𝓤) (A : Atoms 𝓤) (W : Given
     vo = sliceVal (out .ptr) (length (out .now))
 
     abbrev Arg : Type 0
-    Arg = Netlist × (RefT (List Latch) × (RefT (List Gate) × (Position × (ℕ × (ℕ × (RefT (List ℤ) × Unit {0}))))))
+    Arg = Netlist × (RefT (List LatchEntry) × (RefT (List GateEntry) × (Position × (ℕ × (ℕ × (RefT (List ℤ) × Unit {0}))))))
 
     abbrev a : Arg
     a = (net, (ls, (gs, (p, (kind, (j, (out, tt)))))))
@@ -140,7 +140,7 @@ module _ {M : Type 1} (𝓤 : URA M) (H : Heap 𝓤) (A : Atoms 𝓤) (W : Given
 
     -- what the call over unpacked lists says
     abbrev Answered : CountReply → Type 0
-    Answered r = r ≡ countNumbers (groupAtSent (netOf net zl zg) (length (ls .now)) (length (gs .now)) p (groupOf kind j (p .frame)) (length (out .now)))
+    Answered r = r ≡ groupAtSent (netOf net zl zg) (length (ls .now)) (length (gs .now)) p (groupOf kind j (p .frame)) (length (out .now))
 
     abbrev Leaves : List ℤ → Type 0
     Leaves zs = zs ≡ groupAtLeaves (netOf net zl zg) (length (ls .now)) (length (gs .now)) p (groupOf kind j (p .frame)) (out .now)
@@ -258,8 +258,8 @@ module _ {M : Type 1} (𝓤 : URA M) (H : Heap 𝓤) (A : Atoms 𝓤) (W : Given
           fjoin ! $ move ! (6 ∷ 0 ∷ []) $ fjoin ! $ move ! (6 ∷ 0 ∷ []) $ fjoin ! $ move ! (3 ∷ 0 ∷ []) $ fjoin ! $ move ! (3 ∷ 0 ∷ []) $ fjoin ! $
           move ! (4 ∷ 0 ∷ []) $ fjoin ! $
           move ! (0 ∷ 2 ∷ []) $ join ! $ move ! (1 ∷ 0 ∷ []) $ join ! $ frame ! $ keep ! [] $
-          by ! (both 𝓤 (factI 𝓤 _ (emp 𝓤) (answered ∙ ap (λ c. countNumbers (groupAtSent c (length (ls .now)) (length (gs .now)) p
-          (groupOf kind j (p .frame)) (length (out .now)))) same-net))
+          by ! (both 𝓤 (factI 𝓤 _ (emp 𝓤) (answered ∙ ap (λ c. groupAtSent c (length (ls .now)) (length (gs .now)) p
+          (groupOf kind j (p .frame)) (length (out .now))) same-net))
           (both 𝓤 (factI 𝓤 _ (emp 𝓤) (leaves ∙ ap (λ c. groupAtLeaves c (length (ls .now)) (length (gs .now)) p
           (groupOf kind j (p .frame)) (out .now)) same-net))
           (factI 𝓤 _ (emp 𝓤) (by-frame _ _ _ p (groupOf kind j (p .frame)) (out .now)))))))))))))))))))))))))))))))
