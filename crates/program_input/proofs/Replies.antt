@@ -5,6 +5,7 @@ use mathlib.Core.List.{List}
 use native.Mathlib.Omega.{arith}
 use lib.ListN.{length, take, drop, length-drop}
 use lib.Seq.{take-all}
+use Rattle.model.proofs.Claim.{encodes}
 use Rattle.refusals.specs.Tests.{_then_}
 use Rattle.refusals.specs.declared.Refusal.{Refusal}
 use Rattle.refusals.specs.declared.Verdict.{Verdict}
@@ -35,15 +36,20 @@ behind-depth s = take-all (length s - 11) (drop 11 s) (rw length-drop (omega ari
 
 -- an input that is not refused: its depth and its sheet have passed their tests
 pub input-taken : (s : List ℕ) (r : Input) (latches gates : List ℕ) → r ≡ inputAnswer s
-    → ListsBeside (inputVerdict s) (r .net) latches gates (netIn (drop 11 s)) → r .number ≡ 0 → InputTaken r latches gates
+    → ListsBeside (inputVerdict s) (r .net) latches gates (netIn (drop 11 s)) → r .number ≡ 0 → InputTaken s r latches gates
 unfolding inputAnswer depthBeside inputVerdict
 input-taken s r latches gates e lists none =
     let passed : inputVerdict s ≡ Passed = reply-passed _ (sym (ap (λ (i : Input). i .number) e) ∙ none) in
     let parts = then-passes (depthVerdict s) (sheetIn (drop 11 s)) .0 passed in
     let held : Holds (r .net) latches gates (netIn (drop 11 s)) =
     subst (λ (v : Verdict). ListsBeside v (r .net) latches gates (netIn (drop 11 s))) passed lists in
+    let accepted = passed-sheet (drop 11 s) 600 600 (parts .1) .0 in
     let depth : r .depth ≡ depthLine s .depth = ap (λ (i : Input). i .depth) e ∙ rw passed in
     record {
-      accepted = rw (held .net-is) (passed-sheet (drop 11 s) 600 600 (parts .1) .0);
+      passed = passed;
+      net-is = held .net-is;
+      accepted = accepted;
+      encodes = encodes (netIn (drop 11 s)) accepted;
+      depth-is = depth;
       depth-most = omega (arith, depth, passed-most s (parts .0));
     }

@@ -17,14 +17,14 @@ print-refusal-requires c κs = search needs
 
 print-header-requires : tie.Need-print-header-requires
 print-header-requires c κs =
-    let taken = c .before .before .before .before .read-input .ensures .1 .1 (c .before .before .if1 .left) in
-    (taken .accepted, taken .depth-most)
+    let taken = c .before .before .before .before .read-input .ensures .1 .0 (c .before .before .if1 .left) in
+    (rw (taken .net-is) (taken .accepted), taken .depth-most)
 
 print-clauses-requires : tie.Need-print-clauses-requires
 print-clauses-requires c κs =
     let decided = c .before .before .before .before .before .before in
-    let taken = decided .before .before .read-input .ensures .1 .1 (decided .if1 .left) in
-    (taken .accepted, taken .depth-most)
+    let taken = decided .before .before .read-input .ensures .1 .0 (decided .if1 .left) in
+    (rw (taken .net-is) (taken .accepted), taken .depth-most)
 
 returns : tie.Need-returns
 returns c = search needs

@@ -18,8 +18,8 @@ print-first-requires c κs = search needs
 replay-file-requires : tie.Need-replay-file-requires
 replay-file-requires c κs =
     let decided = c .before .before in
-    let taken = decided .before .before .read-input .ensures .1 .1 (decided .if1 .left) in
-    (taken .accepted, taken .depth-most)
+    let taken = decided .before .before .read-input .ensures .1 .0 (decided .if1 .left) in
+    (rw (taken .net-is) (taken .accepted), taken .depth-most)
 
 returns : tie.Need-returns
 returns c = search needs
