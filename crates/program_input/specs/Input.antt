@@ -1,5 +1,5 @@
 -- What the program makes of its input (RULES P1, "a depth line of eleven bytes, .. then the sheet", P4, "The depth is tested
--- first", and P6). Cited by the functions of `program_input`.
+-- first", and P6), and what is printed for it (RULES P3). Cited by the functions of `program_input`, and by what prints.
 use Prim.Native.Nat.{ℕ, _≤_}
 use mathlib.Core.Path.{_≡_}
 use mathlib.Core.List.{List}
@@ -16,6 +16,7 @@ use Rattle.refusals.specs.declared.Verdict.{Verdict}
 use Rattle.refusals.specs.declared.Verdict.the-variants.{Passed, Refused}
 use Rattle.netlist.specs.NetOf.{netOf}
 use Rattle.netlist.specs.declared.Netlist.{Netlist}
+use Rattle.dimacs.specs.Text.{refusalText}
 use Rattle.sheet_lines.specs.Depth.{depthVerdict, depthLine}
 use Rattle.sheet_steps.specs.Records.{recordBeside}
 use Rattle.sheet_parse.specs.Files.{netIn}
@@ -56,6 +57,14 @@ pub record InputTaken (s : List ℕ) (r : Input) (latches gates : List ℕ) : Ty
   pub encodes : (k : ℕ) → Encodes (netIn (drop 11 s)) k
   pub depth-is : r .depth ≡ depthLine s .depth
   pub depth-most : r .depth ≤ mostDepth
+
+-- what a program prints for an input: its text of the sheet's netlist and the depth, or the refusal (RULES P3)
+unfoldable pub textOrRefusal : Verdict → List ℕ → List ℕ
+textOrRefusal Passed text = text
+textOrRefusal (Refused r p) text = refusalText (refusalNumber r) p
+
+unfoldable pub textFor : (M.Netlist → ℕ → List ℕ) → List ℕ → List ℕ
+textFor text s = textOrRefusal (inputVerdict s) (text (netIn (drop 11 s)) (depthLine s .depth))
 
 -- RULES P6: "Only 1 to 7 and 17 occur in `frames`"
 abbrev pub OnlyInputRefusals : Type 0

@@ -1,7 +1,7 @@
 -- Laws of specs/Printed.antt: what is printed for an input that is taken or refused, and that pieces printed one after the other are all of it.
 -- Cited by the functions of `frames` that print.
 use Prim.Native.Nat.{ℕ, _+_, _-_, _*_, _≤_}
-use mathlib.Core.Path.{_≡_, refl, sym, _∙_, ap}
+use mathlib.Core.Path.{_≡_, sym, _∙_, ap}
 use mathlib.Core.List.{List, [], _++_, append-assoc, append-nil}
 use native.Mathlib.Nat.{mul-le-mul}
 use native.Mathlib.Omega.{arith}
@@ -11,40 +11,29 @@ use Rattle.model.specs.Netlist.{Netlist}
 use Rattle.model.specs.Numbers.{formula}
 use Rattle.model.specs.declared.Group.{Group}
 use Rattle.model.specs.Groups.{groupOrder}
-use Rattle.refusals.specs.Refusal.{replyOf}
-use Rattle.refusals.specs.declared.Verdict.{Verdict}
-use Rattle.refusals.specs.declared.Verdict.the-variants.{Passed, Refused}
 use Rattle.netlist.specs.NetOf.{netOf}
 use Rattle.group_order.specs.Next.{firstGroup, remainingFrom}
 use Rattle.group_order.specs.declared.Next.{Next}
 use Rattle.group_order.specs.declared.Next.the-variants.{Then, End}
 use Rattle.group_order.proofs.Successor.{order-first}
 use Rattle.dimacs.specs.Text.{clauseText, refusalText}
-use Rattle.program_input.specs.Input.{inputVerdict, inputAnswer, InputTaken}
+use Rattle.program_input.specs.Input.{inputAnswer, InputTaken}
+use Rattle.program_input.proofs.Replies.{taken-text, refused-text}
 use Rattle.program_input.specs.declared.Input.{Input}
-use Rattle.program_output.specs.Printed.{formulaHeader, formulaOrRefusal, framesText}
+use Rattle.program_output.specs.Printed.{formulaHeader, formulaText, framesText}
 use Rattle.program_output.specs.Pieces.{TextDue, Continues}
 use Rattle.program_output.specs.declared.Piece.{Piece}
 use Rattle.program_output.proofs.Pieces.{all-due, nothing-due}
 
--- an input that is taken
-pub taken-text : {s : List ℕ} {r : Input} {latches gates : List ℕ} → InputTaken s r latches gates
+-- an input that is taken, and one that is refused
+pub taken-frames : {s : List ℕ} {r : Input} {latches gates : List ℕ} → InputTaken s r latches gates
     → let c = netOf (r .net) latches gates in framesText s ≡ formulaHeader c (r .depth) ++ clauseText (formula c (r .depth))
-unfolding framesText formulaOrRefusal
-taken-text t = rw (t .passed, t .net-is, t .depth-is)
+unfolding framesText formulaText
+taken-frames t = taken-text formulaText t
 
--- one that is refused
-refusal-of : (v : Verdict) (c : Netlist) (k : ℕ) → (replyOf v .number ≡ 0 → ⊥) → formulaOrRefusal v c k ≡ refusalText (replyOf v .number) (replyOf v .place)
-unfolding formulaOrRefusal
-refusal-of Passed c k h = absurd (h refl)
-refusal-of (Refused r p) c k h = refl
-
-pub refused-text : (s : List ℕ) (r : Input) → r ≡ inputAnswer s → (r .number ≡ 0 → ⊥) → framesText s ≡ refusalText (r .number) (r .place)
-unfolding framesText inputAnswer
-refused-text s r e h =
-    let number = ap (λ (i : Input). i .number) e in
-    let place = ap (λ (i : Input). i .place) e in
-    refusal-of (inputVerdict s) _ _ (λ none. h (number ∙ none)) ∙ rw (number, place)
+pub refused-frames : (s : List ℕ) (r : Input) → r ≡ inputAnswer s → (r .number ≡ 0 → ⊥) → framesText s ≡ refusalText (r .number) (r .place)
+unfolding framesText
+refused-frames s r e h = refused-text formulaText s r e h
 
 -- a part stands in a text behind what is before it
 pub stands : {whole : List ℕ} {sent : ℕ} (before part behind : List ℕ) → whole ≡ before ++ (part ++ behind) → length before ≡ sent

@@ -3,7 +3,7 @@ use mathlib.Core.Path.{sym}
 use mathlib.Core.Bool.{true≢false}
 use native.Mathlib.Omega.{arith}
 use borrow.Author.Needs.{needs}
-use Rattle.program_output.proofs.Printed.{refused-text}
+use Rattle.program_output.proofs.Printed.{refused-frames}
 use Rattle.frames.proofs.print_answer.Statement.{statement}
 use Rattle.frames.proofs.print_answer.Tie as tie
 
@@ -18,7 +18,7 @@ read-input-requires c κs = search needs
 
 print-refusal-requires : tie.Need-print-refusal-requires
 print-refusal-requires c κs =
-    (refused-text _ _ (c .before .before .before .read-input .ensures .0) (λ none. omega arith), c .before .before .before .before .before .before .before .before .before .pre)
+    (refused-frames _ _ (c .before .before .before .read-input .ensures .0) (λ none. omega arith), c .before .before .before .before .before .before .before .before .before .pre)
 
 returns : tie.Need-returns
 returns c = search needs

@@ -15,7 +15,7 @@ use Rattle.group_order.specs.declared.Next.the-variants.{Then}
 use Rattle.program_output.specs.Printed.{framesText}
 use Rattle.program_output.specs.Pieces.{Continues}
 use Rattle.program_output.proofs.Pieces.{due-orderHas}
-use Rattle.program_output.proofs.Printed.{taken-text, PrintedSo, header-printed, piece-stands, piece-printed, all-printed, first-remaining}
+use Rattle.program_output.proofs.Printed.{taken-frames, PrintedSo, header-printed, piece-stands, piece-printed, all-printed, first-remaining}
 use Rattle.frames.proofs.print_clauses.Statement.{statement}
 use Rattle.frames.proofs.print_clauses.Tie as tie
 
@@ -44,7 +44,7 @@ loop-holds c =
       search needs,
       search needs,
       filled-table _ _ (search needs) (filled .ensures),
-      header-printed (taken-text taken) (start .pre .1) (c .first-group .ensures),
+      header-printed (taken-frames taken) (start .pre .1) (c .first-group .ensures),
       omega (arith, start .pre .2, first-remaining (start .args .taken .depth) (c .first-group .result) (taken .depth-most) (c .first-group .ensures)),
     )
 

@@ -10,7 +10,7 @@ use Rattle.model.specs.Numbers.{formula}
 use Rattle.netlist.specs.NetOf.{netOf}
 use Rattle.dimacs.specs.Text.{clauseText}
 use Rattle.group_counts.proofs.Counted.{wrote-front}
-use Rattle.program_output.proofs.Printed.{taken-text, first-stands}
+use Rattle.program_output.proofs.Printed.{taken-frames, first-stands}
 use Rattle.frames.proofs.print_header.Statement.{statement}
 use Rattle.frames.proofs.print_header.Tie as tie
 
@@ -40,7 +40,7 @@ write-next-requires c κs =
     let a = start .args in
     let clauses = clauseText (formula (netOf (a .taken .net) (a .latches .now) (a .gates .now)) (a .taken .depth)) in
     let printed = c .before .before .before in (
-      first-stands _ clauses (taken-text (start .pre .0) ∙ ap (λ (t : List ℕ). t ++ clauses) (sym (wrote-front (printed .print-header .ensures .0)))) (start .pre .1),
+      first-stands _ clauses (taken-frames (start .pre .0) ∙ ap (λ (t : List ℕ). t ++ clauses) (sym (wrote-front (printed .print-header .ensures .0)))) (start .pre .1),
       omega (arith, start .pre .1, counted printed),
     )
 
