@@ -3,28 +3,20 @@ use Prim.Native.Nat.{ℕ, _≤_}
 use mathlib.Core.Path.{_≡_}
 use mathlib.Core.List.{List}
 use Rattle.model.specs.Limits.{mostWires}
-use Rattle.model.specs.Netlist.{Netlist}
-use Rattle.refusals.specs.Refusal.{refusalNumber}
 use Rattle.refusals.specs.declared.Refusal.the-variants.{CodeOutside}
-use Rattle.refusals.specs.declared.Verdict.{Verdict}
-use Rattle.refusals.specs.declared.Verdict.the-variants.{Passed, Refused}
+use Rattle.refusals.specs.declared.Verdict.the-variants.{Passed}
 use Rattle.netlist.specs.Faults.{codeFault}
 use Rattle.netlist_tests.specs.Record.{testLines}
-use Rattle.dimacs.specs.Text.{refusalText}
 use Rattle.aiger_netlist.specs.TextNetlist.{aagNet}
 use Rattle.aiger_netlist.specs.ImportVerdict.{textVerdict, importVerdict}
 use Rattle.aiger_import.specs.ImportCall.{importedWord}
 use Rattle.sheet_writer.specs.SheetText.{sheetText}
+use Rattle.program_input.specs.Input.{textOrRefusal}
 
--- the netlist's sheet, or the refusal
-unfoldable pub sheetOrRefusal : Verdict → Netlist → List ℕ
-sheetOrRefusal Passed c = sheetText c
-sheetOrRefusal (Refused r p) c = refusalText (refusalNumber r) p
-
--- lists of 600 records each are the program's own
+-- the netlist's sheet, or the refusal; lists of 600 records each are the program's own
 unfoldable pub importText : List ℕ → ℕ → ℕ → ℕ → ℕ → List ℕ
 importText s m n word unknown =
-    sheetOrRefusal (importVerdict s m n (importedWord word unknown) unknown mostWires mostWires) (aagNet s m n (importedWord word unknown) unknown)
+    textOrRefusal (importVerdict s m n (importedWord word unknown) unknown mostWires mostWires) (sheetText (aagNet s m n (importedWord word unknown) unknown))
 
 -- they are long enough: the verdict is that of an import into lists of any greater length, so that 9 does not occur
 abbrev pub ImportRoomSuffices : Type 0

@@ -20,7 +20,8 @@ use Rattle.group_order.specs.declared.Next.the-variants.{Then, End}
 use Rattle.group_counts.proofs.Counted.{wrote-front}
 use Rattle.dimacs.specs.Text.{clauseText}
 use Rattle.dimacs.proofs.Text.{clauseText-append}
-use Rattle.program_output.specs.Pieces.{OrderHas, TextDue, Continues}
+use Rattle.program_output.specs.Pieces.{TextDue, Continues}
+use Rattle.program_output.specs.Order.{OrderHas}
 
 -- a group that stands in the order of the whole is a group of the depth
 pub orderHas-inDepth : (k : ℕ) (g : Group) → OrderHas k g → inDepth k g ≡ true

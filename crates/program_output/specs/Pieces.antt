@@ -1,8 +1,7 @@
--- The text of all groups of a depth, piece by piece in the order of the whole (RULES P2 and G15): what is still due. Cited by `print_group`
--- and `print_groups`.
+-- The text of all groups of a depth, piece by piece in the order of the whole (RULES P2 and G15): what is still due. Cited by `print_groups`.
 use Prim.Native.Nat.{ℕ}
 use mathlib.Core.Path.{_≡_}
-use mathlib.Core.List.{List, _∷_, _++_}
+use mathlib.Core.List.{List, _++_}
 use lib.ListN.{take}
 use Rattle.model.specs.Netlist.{Netlist}
 use Rattle.model.specs.Groups.{groupOrder}
@@ -12,12 +11,6 @@ use Rattle.group_order.specs.Next.{firstGroup}
 use Rattle.group_order.specs.declared.Next.{Next}
 use Rattle.dimacs.specs.Text.{clauseText}
 use Rattle.program_output.specs.declared.Piece.{Piece}
-
--- the order of the whole has this group, between those before and those behind
-pub record OrderHas (k : ℕ) (group : Group) : Type 0 where
-  pub before : List Group
-  pub behind : List Group
-  pub order : groupOrder k ≡ before ++ group ∷ behind
 
 -- `text` is still due: that of the last groups of the order of the whole, of which `next` is the first
 pub record TextDue (c : Netlist) (k : ℕ) (next : Next) (text : List ℕ) : Type 0 where

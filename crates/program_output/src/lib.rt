@@ -16,7 +16,8 @@ ghost use Rattle.dimacs.specs.Text.{headerText, clauseText};
 ghost use Rattle.group_order.specs.Next.{remainingAfter, remainingFrom};
 ghost use Rattle.group_order.specs.declared.Next.the-variants.{Then};
 ghost use Rattle.program_output.specs.Printed.{formulaHeader};
-ghost use Rattle.program_output.specs.Pieces.{OrderHas, TextDue, Continues};
+ghost use Rattle.program_output.specs.Pieces.{TextDue, Continues};
+ghost use Rattle.program_output.specs.Order.{OrderHas};
 
 // The first `bytes` bytes of a buffer are text to be printed; the group after those printed.
 pub struct Piece {

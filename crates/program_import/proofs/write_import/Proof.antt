@@ -14,7 +14,8 @@ use Rattle.aiger_netlist.specs.ImportVerdict.{importVerdict}
 use Rattle.aiger_netlist.proofs.Verdict.{import-passed}
 use Rattle.aiger_import.specs.ImportCall.{importedWord}
 use Rattle.sheet_writer.proofs.SheetText.{length-sheetText}
-use Rattle.program_import.specs.Printed.{sheetOrRefusal, importText}
+use Rattle.program_input.specs.Input.{textOrRefusal}
+use Rattle.program_import.specs.Printed.{importText}
 use Rattle.program_import.proofs.Room.{room-suffices, no-code-outside}
 use Rattle.program_import.proofs.write_import.Statement.{statement}
 use Rattle.program_import.proofs.write_import.Tie as tie
@@ -43,7 +44,7 @@ same-length : tie.Need-same-length
 same-length c = search needs
 
 returns : tie.Need-returns
-unfolding importText sheetOrRefusal
+unfolding importText textOrRefusal
 returns c =
     let told = c .before .before .before .before .before .before .verdict .given in
     let number = c .before .before .before .number in
@@ -75,7 +76,7 @@ same-length-2 : tie.Need-same-length-2
 same-length-2 c = search needs
 
 returns-2 : tie.Need-returns-2
-unfolding importText sheetOrRefusal
+unfolding importText textOrRefusal
 returns-2 c =
     let told = c .before .before .before .before .before .before in
     let fit = limits told .sizes in
