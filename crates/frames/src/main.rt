@@ -1,15 +1,25 @@
 // The program (RULES P1 to P7): a depth line and a sheet on standard input, the formula as DIMACS text
 // or one refusal on standard output. What is read and what is printed is in the crates below; here are only input and output.
 use group_order::Next;
-use netlist::Netlist;
 use netlist::UnpackedList;
-ghost use Prim.Native.Nat.{_≤_};
-ghost use Rattle.model.specs.Acceptance.{Accepted};
+use program_input::Input;
+ghost use Prim.Native.Nat.{_+_, _^_, _≤_, _<_};
+ghost use mathlib.Core.Path.{_≡_};
+ghost use mathlib.Core.Bool.{true};
+ghost use lib.ListN.{length, take, drop};
 ghost use Rattle.netlist.specs.NetOf.{netOf};
+ghost use Rattle.dimacs.specs.Text.{refusalText};
+ghost use Rattle.program_input.specs.Input.{InputTaken};
+ghost use Rattle.program_output.specs.Printed.{formulaHeader, framesText};
 
-// Writes text to standard output. Where that fails, says so on standard error and answers false: the header's count of clauses
-// tells that what came before is not whole.
-fn write_text(text: &[u8]) -> bool {
+// Writes to standard output the text that is next, behind the `sent` bytes that were written before, and counts it: nothing else writes there, and
+// the input is lent only for what is asked of the text. Where writing fails, says so on standard error and answers false: the header's count of
+// clauses tells that what came before is not whole.
+fn write_next(input: &[u8], sent: &mut usize, text: &[u8]) -> bool
+    requires { ⌜ (now text ≡ take (length (now text)) (drop (now sent) (framesText (now input)))) × (now sent + length (now text) < 2 ^ 64) ⌝ }
+    ensures { λ _. ⌜ now (sent .exit) ≡ now (sent .entry) + length (now (text .entry)) ⌝ }
+{
+    *sent += text.len();
     let whole = io::write_all(1, text);
     if !whole {
         io::write_all(2, b"frames: writing failed, the output is not whole\n");
@@ -17,29 +27,51 @@ fn write_text(text: &[u8]) -> bool {
     whole
 }
 
-fn print_refusal(number: u32, place: u32) {
-    let mut text = [0; 28];
-    let bytes = dimacs::write_refusal(&mut text, number, place);
-    write_text(&text[..bytes]);
-}
-
-// Answers whether the header could be written.
-fn print_header(net: Netlist, latches: &UnpackedList, gates: &UnpackedList, depth: u32) -> bool
-    requires { ⌜ Accepted (netOf net (now latches) (now gates)) × (depth ≤ 255) ⌝ }
+// Prints a refusal, which is all.
+fn print_refusal(input: &[u8], sent: &mut usize, number: u32, place: u32) -> bool
+    requires { ⌜ (framesText (now input) ≡ refusalText number place) × (now sent ≡ 0) ⌝ }
+    ensures { λ _. ⌜ now (sent .exit) ≡ length (framesText (now (input .entry))) ⌝ }
 {
     let mut text = [0; 28];
-    let bytes = program_output::print_header(&mut text, net, latches, gates, depth);
-    write_text(&text[..bytes])
+    let bytes = dimacs::write_refusal(&mut text, number, place);
+    write_next(input, sent, &text[..bytes])
 }
 
-// Prints all groups of an accepted netlist in the order of the whole.
-fn print_clauses(net: Netlist, latches: &UnpackedList, gates: &UnpackedList, depth: u32)
-    requires { ⌜ Accepted (netOf net (now latches) (now gates)) × (depth ≤ 255) ⌝ }
+// Prints the header, with which the output begins.
+fn print_header(
+    input: &[u8],
+    sent: &mut usize,
+    taken: Input,
+    latches: &UnpackedList,
+    gates: &UnpackedList,
+) -> bool
+    requires { ⌜ InputTaken (now input) taken (now latches) (now gates) × (now sent ≡ 0) ⌝ }
+    ensures { λ _. ⌜ (now (sent .exit) ≡ length (formulaHeader (netOf (taken .net) (now (latches .entry)) (now (gates .entry))) (taken .depth)))
+        × (now (sent .exit) ≤ 28) ⌝ }
+{
+    let mut text = [0; 28];
+    let bytes = program_output::print_header(&mut text, taken.net, latches, gates, taken.depth);
+    write_next(input, sent, &text[..bytes])
+}
+
+// Prints all groups in the order of the whole, behind the header. Where no write has failed, that is all.
+fn print_clauses(
+    input: &[u8],
+    sent: &mut usize,
+    taken: Input,
+    latches: &UnpackedList,
+    gates: &UnpackedList,
+) -> bool
+    requires { ⌜ InputTaken (now input) taken (now latches) (now gates)
+        × (now sent ≡ length (formulaHeader (netOf (taken .net) (now latches) (now gates)) (taken .depth))) × (now sent ≤ 28) ⌝ }
+    ensures { λ r. ⌜ (r ≡ true → now (sent .exit) ≡ length (framesText (now (input .entry)))) ⌝ }
 {
     let mut text = [0; 131072];
     let mut numbers = [0; 5992];
     let mut table = [0; 40000];
     text_writer::fill_table(&mut table);
+    let net = taken.net;
+    let depth = taken.depth;
     let mut next = group_order::first_group(depth);
     while let Next::Then(group) = next {
         let piece = program_output::print_groups(
@@ -53,27 +85,35 @@ fn print_clauses(net: Netlist, latches: &UnpackedList, gates: &UnpackedList, dep
             group,
         );
         let bytes = piece.bytes;
-        if !write_text(&text[..bytes]) {
-            return;
+        if !write_next(input, sent, &text[..bytes]) {
+            return false;
         }
         next = piece.next;
     }
+    true
 }
 
-fn print_answer(bytes: &[u8]) {
+// Prints what is due for an input, all of it where no write has failed.
+fn print_answer(input: &[u8], sent: &mut usize) -> bool
+    requires { ⌜ now sent ≡ 0 ⌝ }
+    ensures { λ r. ⌜ (r ≡ true → now (sent .exit) ≡ length (framesText (now (input .entry)))) ⌝ }
+{
     let mut latches = sheet_tests::no_codes();
     let mut gates = sheet_tests::no_codes();
-    let input = program_input::read_input(bytes, &mut latches, &mut gates);
-    if input.number != 0 {
-        print_refusal(input.number, input.place);
-    } else if print_header(input.net, &latches, &gates, input.depth) {
-        print_clauses(input.net, &latches, &gates, input.depth);
+    let taken = program_input::read_input(input, &mut latches, &mut gates);
+    if taken.number != 0 {
+        return print_refusal(input, sent, taken.number, taken.place);
     }
+    if !print_header(input, sent, taken, &latches, &gates) {
+        return false;
+    }
+    print_clauses(input, sent, taken, &latches, &gates)
 }
 
 // One byte more than the longest input that is accepted, so that a longer one is seen to be too long.
 fn main() {
     let mut bytes = [0; 19692];
     let count = io::read_full(0, &mut bytes);
-    print_answer(&bytes[..count]);
+    let mut sent = 0;
+    print_answer(&bytes[..count], &mut sent);
 }

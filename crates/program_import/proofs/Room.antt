@@ -1,4 +1,4 @@
--- Laws of specs/Printed.antt: lists of 600 records are long enough. Cited by `write_import`.
+-- Laws of specs/Printed.antt: lists of 600 records are long enough, and 5 does not occur. Cited by `write_import`.
 use Prim.Native.Nat.{ℕ, _≤_}
 use mathlib.Core.Path.{_≡_, refl}
 use mathlib.Core.Bool.{false}
@@ -15,7 +15,9 @@ use Rattle.netlist_tests.proofs.Record.{testLines-passes}
 use Rattle.netlist_tests.proofs.Acceptance.{lists-long}
 use Rattle.aiger_netlist.specs.TextNetlist.{aagNet}
 use Rattle.aiger_netlist.specs.ImportVerdict.{importVerdict}
-use Rattle.program_import.specs.Printed.{ImportRoomSuffices}
+use Rattle.aiger_netlist.proofs.Codes.{no-code-fault}
+use Rattle.aiger_netlist.proofs.Verdict.{well-defined, fits-interface}
+use Rattle.program_import.specs.Printed.{ImportRoomSuffices, NoCodeOutside}
 
 -- where the sizes pass, no list of so many records is short
 long-enough : (c : Netlist) (latchRoom gateRoom : ℕ) → 600 ≤ latchRoom → 600 ≤ gateRoom → testLines c Size sizeFault ≡ Passed
@@ -32,3 +34,7 @@ room-suffices s m n word unknown latchRoom gateRoom l g = by-sizes (testLines (a
     by-sizes Passed e =
         rw (long-enough (aagNet s m n word unknown) 600 600 (omega arith) (omega arith) e, long-enough (aagNet s m n word unknown) latchRoom gateRoom l g e)
     by-sizes (Refused r p) e = rw e
+
+-- and a text that passes its own tests has no code outside
+pub no-code-outside : NoCodeOutside
+no-code-outside s m n word unknown e = no-code-fault s (well-defined s m n e) m n word unknown (fits-interface s m n e)

@@ -1,29 +1,28 @@
--- What `import_aag` prints for a text s with its caller's numbers (RULES P3 and P20), and that its room suffices. Cited by `write_import`.
+-- What `import_aag` prints for a text s with its caller's numbers (RULES P3 and P20), that its room suffices, and that 5 does not occur. Cited by `write_import`.
 use Prim.Native.Nat.{ℕ, _≤_}
 use mathlib.Core.Path.{_≡_}
 use mathlib.Core.List.{List}
 use Rattle.model.specs.Limits.{mostWires}
-use Rattle.model.specs.Netlist.{Netlist}
-use Rattle.refusals.specs.Refusal.{refusalNumber}
-use Rattle.refusals.specs.declared.Verdict.{Verdict}
-use Rattle.refusals.specs.declared.Verdict.the-variants.{Passed, Refused}
-use Rattle.dimacs.specs.Text.{refusalText}
+use Rattle.refusals.specs.declared.Refusal.the-variants.{CodeOutside}
+use Rattle.refusals.specs.declared.Verdict.the-variants.{Passed}
+use Rattle.netlist.specs.Faults.{codeFault}
+use Rattle.netlist_tests.specs.Record.{testLines}
 use Rattle.aiger_netlist.specs.TextNetlist.{aagNet}
-use Rattle.aiger_netlist.specs.ImportVerdict.{importVerdict}
+use Rattle.aiger_netlist.specs.ImportVerdict.{textVerdict, importVerdict}
 use Rattle.aiger_import.specs.ImportCall.{importedWord}
 use Rattle.sheet_writer.specs.SheetText.{sheetText}
+use Rattle.program_input.specs.Input.{textOrRefusal}
 
--- the netlist's sheet, or the refusal
-unfoldable pub sheetOrRefusal : Verdict → Netlist → List ℕ
-sheetOrRefusal Passed c = sheetText c
-sheetOrRefusal (Refused r p) c = refusalText (refusalNumber r) p
-
--- lists of 600 records each are the program's own
+-- the netlist's sheet, or the refusal; lists of 600 records each are the program's own
 unfoldable pub importText : List ℕ → ℕ → ℕ → ℕ → ℕ → List ℕ
 importText s m n word unknown =
-    sheetOrRefusal (importVerdict s m n (importedWord word unknown) unknown mostWires mostWires) (aagNet s m n (importedWord word unknown) unknown)
+    textOrRefusal (importVerdict s m n (importedWord word unknown) unknown mostWires mostWires) (sheetText (aagNet s m n (importedWord word unknown) unknown))
 
 -- they are long enough: the verdict is that of an import into lists of any greater length, so that 9 does not occur
 abbrev pub ImportRoomSuffices : Type 0
 ImportRoomSuffices = (s : List ℕ) (m n word unknown latchRoom gateRoom : ℕ) → mostWires ≤ latchRoom → mostWires ≤ gateRoom
     → importVerdict s m n word unknown mostWires mostWires ≡ importVerdict s m n word unknown latchRoom gateRoom
+
+-- RULES T55: "No text that passes 13 meets 5"
+abbrev pub NoCodeOutside : Type 0
+NoCodeOutside = (s : List ℕ) (m n word unknown : ℕ) → textVerdict s m n ≡ Passed → testLines (aagNet s m n word unknown) CodeOutside codeFault ≡ Passed

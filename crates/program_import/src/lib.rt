@@ -3,7 +3,7 @@ use refusals::Verdict;
 ghost use Prim.Native.Nat.{_≤_};
 ghost use lib.ListN.{length};
 ghost use Rattle.model.specs.Wrote.{Wrote};
-ghost use Rattle.program_import.specs.Printed.{importText, ImportRoomSuffices};
+ghost use Rattle.program_import.specs.Printed.{importText, ImportRoomSuffices, NoCodeOutside};
 
 // Imports a text for a start word, or for an unknown start where `unknown` is 1, and writes its sheet or the refusal into a slice that has room
 // for the longest.
@@ -12,6 +12,7 @@ pub fn write_import(out: &mut [u8], text: &[u8], m: u32, n: u32, word: u32, unkn
     ensures text { λ r. ⌜ Wrote (importText (now (text .entry)) m n word unknown) (now (out .entry)) (now (out .exit)) r ⌝ }
     ensures most { λ r. ⌜ r ≤ 19680 ⌝ }
     ensures room { λ _. ⌜ ImportRoomSuffices ⌝ }
+    ensures codes { λ _. ⌜ NoCodeOutside ⌝ }
 {
     let mut latches = sheet_tests::no_codes();
     let mut gates = sheet_tests::no_codes();

@@ -1,17 +1,22 @@
--- What the program makes of its input (RULES P1, "a depth line of eleven bytes, .. then the sheet", and P4, "The depth is tested
--- first"). Cited by the functions of `program_input`.
+-- What the program makes of its input (RULES P1, "a depth line of eleven bytes, .. then the sheet", P4, "The depth is tested
+-- first", and P6), and what is printed for it (RULES P3). Cited by the functions of `program_input`, and by what prints.
 use Prim.Native.Nat.{ℕ, _≤_}
+use mathlib.Core.Path.{_≡_}
 use mathlib.Core.List.{List}
+use mathlib.Core.Logic.{_⊎_}
 use lib.ListN.{drop}
 use Rattle.model.specs.Limits.{mostWires, mostDepth}
 use Rattle.model.specs.Acceptance.{Accepted}
 use Rattle.model.specs.Netlist as M
-use Rattle.refusals.specs.Refusal.{replyOf}
+use Rattle.model.specs.Claim.{Encodes}
+use Rattle.refusals.specs.Refusal.{refusalNumber, replyOf}
 use Rattle.refusals.specs.Tests.{_then_}
+use Rattle.refusals.specs.declared.Refusal.{Refusal}
 use Rattle.refusals.specs.declared.Verdict.{Verdict}
 use Rattle.refusals.specs.declared.Verdict.the-variants.{Passed, Refused}
 use Rattle.netlist.specs.NetOf.{netOf}
 use Rattle.netlist.specs.declared.Netlist.{Netlist}
+use Rattle.dimacs.specs.Text.{refusalText}
 use Rattle.sheet_lines.specs.Depth.{depthVerdict, depthLine}
 use Rattle.sheet_steps.specs.Records.{recordBeside}
 use Rattle.sheet_parse.specs.Files.{netIn}
@@ -43,7 +48,24 @@ inputBeside v k c = withDepthAndRecord v k (recordBeside v c)
 unfoldable pub inputAnswer : List ℕ → Input
 inputAnswer s = inputBeside (inputVerdict s) (depthLine s .depth) (netIn (drop 11 s))
 
--- an input that is not refused: an accepted netlist, and a depth within its limit
-pub record InputTaken (r : Input) (latches gates : List ℕ) : Type 0 where
-  pub accepted : Accepted (netOf (r .net) latches gates)
+-- an input s that is not refused: what stands in the record and the lists is the sheet's netlist, which is accepted and of which demand 3
+-- holds at every depth; and the depth is the depth line's
+pub record InputTaken (s : List ℕ) (r : Input) (latches gates : List ℕ) : Type 0 where
+  pub passed : inputVerdict s ≡ Passed
+  pub net-is : netOf (r .net) latches gates ≡ netIn (drop 11 s)
+  pub accepted : Accepted (netIn (drop 11 s))
+  pub encodes : (k : ℕ) → Encodes (netIn (drop 11 s)) k
+  pub depth-is : r .depth ≡ depthLine s .depth
   pub depth-most : r .depth ≤ mostDepth
+
+-- what a program prints for an input: its text of the sheet's netlist and the depth, or the refusal (RULES P3)
+unfoldable pub textOrRefusal : Verdict → List ℕ → List ℕ
+textOrRefusal Passed text = text
+textOrRefusal (Refused r p) text = refusalText (refusalNumber r) p
+
+unfoldable pub textFor : (M.Netlist → ℕ → List ℕ) → List ℕ → List ℕ
+textFor text s = textOrRefusal (inputVerdict s) (text (netIn (drop 11 s)) (depthLine s .depth))
+
+-- RULES P6: "Only 1 to 7 and 17 occur in `frames`"
+abbrev pub OnlyInputRefusals : Type 0
+OnlyInputRefusals = (s : List ℕ) (r : Refusal) (p : ℕ) → inputVerdict s ≡ Refused r p → (refusalNumber r ≤ 7) ⊎ (refusalNumber r ≡ 17)

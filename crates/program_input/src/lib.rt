@@ -1,13 +1,12 @@
-// The program's input: a depth line and a sheet (RULES P1, P4 and P5).
+// The program's input: a depth line and a sheet (RULES P1 and P4 to P6).
 use netlist::Netlist;
 use netlist::UnpackedList;
 use refusals::Verdict;
 ghost use mathlib.Core.Path.{_≡_};
-ghost use lib.ListN.{drop};
 ghost use Rattle.sheet_steps.specs.Lists.{ListsBeside};
 ghost use Rattle.sheet_parse.specs.Files.{netIn};
 ghost use Rattle.sheet_parse.specs.Progress.{noCodes};
-ghost use Rattle.program_input.specs.Input.{sheetIn, inputVerdict, depthBeside, withDepthAndRecord, inputBeside, inputAnswer, InputTaken};
+ghost use Rattle.program_input.specs.Input.{sheetIn, depthBeside, withDepthAndRecord, inputBeside, inputAnswer, InputTaken, OnlyInputRefusals};
 
 // What an input is read as: a refusal's number and place (both 0 where it is taken), the depth, and the sheet's record. The depth and
 // the record are all zeros at a refusal.
@@ -63,8 +62,8 @@ fn read_sheet(
 pub fn read_input(input: &[u8], latches: &mut UnpackedList, gates: &mut UnpackedList) -> Input
     requires { ⌜ (now latches ≡ noCodes) × (now gates ≡ noCodes) ⌝ }
     ensures answer { λ r. ⌜ r ≡ inputAnswer (now (input .entry)) ⌝ }
-    ensures lists { λ r. ⌜ ListsBeside (inputVerdict (now (input .entry))) (r .net) (now (latches .exit)) (now (gates .exit)) (netIn (drop 11 (now (input .entry)))) ⌝ }
-    ensures taken { λ r. ⌜ (r .number ≡ 0 → InputTaken r (now (latches .exit)) (now (gates .exit))) ⌝ }
+    ensures taken { λ r. ⌜ (r .number ≡ 0 → InputTaken (now (input .entry)) r (now (latches .exit)) (now (gates .exit))) ⌝ }
+    ensures refusals { λ _. ⌜ OnlyInputRefusals ⌝ }
 {
     let line = sheet_lines::read_depth(input);
     let verdict = line.verdict;

@@ -1,18 +1,15 @@
 -- Laws of specs/Pieces.antt: nothing printed yet, one group more, and the whole piece. No contract cites this file.
-use Prim.Native.Nat.{ℕ, _+_, _-_, _≤_, _<_}
+use Prim.Native.Nat.{ℕ, _+_, _-_}
 use mathlib.Core.Path.{_≡_, refl, sym, _∙_, ap, subst}
 use mathlib.Core.Bool.{true}
 use mathlib.Core.List.{List, [], _∷_, _++_, append-assoc, append-nil}
 use lib.IntN.{ℤ}
-use lib.ListN.{length, take, drop, length-append, take-append-drop}
-use lib.Seq.{take-at, drop-at}
-use native.Mathlib.Omega.{arith}
-use borrow.Author.Tests.{le-leb, lt-leb}
+use lib.ListN.{length}
 use borrow.Rule.Slice.PartMut.{midOf, putMid}
 use Rattle.model.specs.Netlist.{Netlist}
 use Rattle.model.specs.Groups.{groupOrder, inDepth}
 use Rattle.model.specs.Numbers.{numbersOf, joined}
-use Rattle.model.specs.Wrote.{over, Wrote}
+use Rattle.model.specs.Wrote.{Wrote}
 use Rattle.model.specs.declared.Group.{Group}
 use Rattle.model.proofs.Gather.{All, all-at}
 use Rattle.model.proofs.Joined.{order-inDepth}
@@ -20,45 +17,52 @@ use Rattle.model.proofs.Wrote.{wrote-nothing, wrote-then}
 use Rattle.group_order.specs.Next.{firstGroup}
 use Rattle.group_order.specs.declared.Next.{Next}
 use Rattle.group_order.specs.declared.Next.the-variants.{Then, End}
+use Rattle.group_counts.proofs.Counted.{wrote-front}
 use Rattle.dimacs.specs.Text.{clauseText}
 use Rattle.dimacs.proofs.Text.{clauseText-append}
-use Rattle.program_output.specs.declared.Piece.{Piece}
-use Rattle.program_output.specs.Pieces.{OrderHas, fitting, inPiece, pieceText, pieceOf, Printed, Continues}
+use Rattle.program_output.specs.Pieces.{TextDue, Continues}
+use Rattle.program_output.specs.Order.{OrderHas}
 
 -- a group that stands in the order of the whole is a group of the depth
 pub orderHas-inDepth : (k : ℕ) (g : Group) → OrderHas k g → inDepth k g ≡ true
 orderHas-inDepth k g s = all-at (s .before) g (s .behind) (subst (All (λ x. inDepth k x ≡ true)) (s .order) (order-inDepth k))
 
-joined-snoc : (f : Group → List ℤ) (gs : List Group) (g : Group) → joined f (gs ++ g ∷ []) ≡ joined f gs ++ f g
+joined-append : (f : Group → List ℤ) (gs hs : List Group) → joined f (gs ++ hs) ≡ joined f gs ++ joined f hs
 unfolding joined
-joined-snoc f [] g = append-nil (f g)
-joined-snoc f (x ∷ gs) g = ap (λ (t : List ℤ). f x ++ t) (joined-snoc f gs g) ∙ sym (append-assoc (f x) (joined f gs) (f g))
+joined-append f [] hs = refl
+joined-append f (g ∷ gs) hs = ap (λ (t : List ℤ). f g ++ t) (joined-append f gs hs) ∙ sym (append-assoc (f g) (joined f gs) (joined f hs))
 
--- the bytes of a group's text
-abbrev textSize : Netlist → ℕ → Group → ℕ
-textSize c k g = length (clauseText (numbersOf c k g))
+-- the text of groups
+abbrev textOf : Netlist → ℕ → List Group → List ℕ
+textOf c k gs = clauseText (joined (numbersOf c k) gs)
 
--- Of the groups `due`, the first ones (`printed`) have their text at the start of the buffer, `next` is the first of those that are
--- remaining, and as many of them are still to be printed as go behind that text
+textOf-append : (c : Netlist) (k : ℕ) (gs hs : List Group) → textOf c k (gs ++ hs) ≡ textOf c k gs ++ textOf c k hs
+textOf-append c k gs hs =
+    ap clauseText (joined-append (numbersOf c k) gs hs) ∙ clauseText-append (joined (numbersOf c k) gs) (joined (numbersOf c k) hs)
+
+textOf-one : (c : Netlist) (k : ℕ) (g : Group) → textOf c k (g ∷ []) ≡ clauseText (numbersOf c k g)
+unfolding joined
+textOf-one c k g = ap clauseText (append-nil (numbersOf c k g))
+
+-- Of the groups `due`, the first ones (`printed`) have their text at the start of the buffer, and `next` is the first of those that remain
 pub record SoFar (c : Netlist) (k : ℕ) (old new : List ℕ) (bytes : ℕ) (next : Next) (due : List Group) : Type 0 where
   pub printed : List Group
   pub remaining : List Group
   pub in-order : due ≡ printed ++ remaining
-  pub wrote : Wrote (clauseText (joined (numbersOf c k) printed)) old new bytes
+  pub wrote : Wrote (textOf c k printed) old new bytes
   next-remaining : next ≡ firstGroup remaining
-  pub counted : inPiece c k (length old) due ≡ length printed + fitting (textSize c k) (length old) bytes remaining
 
 -- before the first group is printed
 pub nothing-yet : (c : Netlist) (k : ℕ) (old : List ℕ) (next : Next) (from : List Group) → next ≡ firstGroup from
     → SoFar c k old old 0 next from
-unfolding clauseText joined inPiece
+unfolding clauseText joined
 nothing-yet c k old next from h =
-    record { printed = []; remaining = from; in-order = refl; wrote = wrote-nothing old; next-remaining = h; counted = omega arith }
+    record { printed = []; remaining = from; in-order = refl; wrote = wrote-nothing old; next-remaining = h }
 
 -- what remains begins with the group that is next
-record Remaining (g : Group) (gs : List Group) : Type 0 where
-  behind : List Group
-  begins : gs ≡ g ∷ behind
+pub record Remaining (g : Group) (gs : List Group) : Type 0 where
+  pub behind : List Group
+  pub begins : gs ≡ g ∷ behind
 
 groupOr : Group → Next → Group
 groupOr g (Then h) = h
@@ -68,7 +72,7 @@ isThen : Next → Type 0
 isThen (Then g) = Unit {0}
 isThen End = ⊥
 
-remaining-begins : (g : Group) (gs : List Group) → Then g ≡ firstGroup gs → Remaining g gs
+pub remaining-begins : (g : Group) (gs : List Group) → Then g ≡ firstGroup gs → Remaining g gs
 unfolding isThen groupOr
 remaining-begins g [] h = absurd (subst isThen h tt)
 remaining-begins g (x ∷ gs) h =
@@ -78,18 +82,6 @@ none-remains : (gs : List Group) → End ≡ firstGroup gs → gs ≡ []
 unfolding isThen
 none-remains [] h = refl
 none-remains (g ∷ gs) h = absurd (subst isThen (sym h) tt)
-
--- one more group where there is room, and none where there is not
-module _ (size : Group → ℕ) (room bytes : ℕ) where
-  fitting-more : (n : ℕ) (g : Group) (gs : List Group) → bytes + 71904 ≤ room → n ≡ size g
-      → fitting size room bytes (g ∷ gs) ≡ 1 + fitting size room (bytes + n) gs
-  unfolding fitting
-  fitting-more n g gs h e = rw (le-leb (bytes + 71904) room h, e)
-
-  fitting-full : (gs : List Group) → room < bytes + 71904 → fitting size room bytes gs ≡ 0
-  unfolding fitting
-  fitting-full [] h = refl
-  fitting-full (g ∷ gs) h = rw (lt-leb (bytes + 71904) room h)
 
 module _ {c : Netlist} {k : ℕ} {old mid : List ℕ} {bytes : ℕ} {due : Group} (before from : List Group)
     (order : groupOrder k ≡ before ++ from) (p : SoFar c k old mid bytes (Then due) from) where
@@ -109,93 +101,59 @@ module _ {c : Netlist} {k : ℕ} {old mid : List ℕ} {bytes : ℕ} {due : Group
       }
 
   -- its text behind that of the others
-  pub one-more : (part : List ℕ) (n : ℕ) (next : Next) → bytes + 71904 ≤ length old
+  pub one-more : (part : List ℕ) (n : ℕ) (next : Next)
       → Wrote (clauseText (numbersOf c k due)) (midOf bytes (length mid - bytes) mid) part n
       → ((xs ys : List Group) → groupOrder k ≡ xs ++ due ∷ ys → next ≡ firstGroup ys)
       → SoFar c k old (putMid bytes (length mid - bytes) mid part) (bytes + n) next from
   unfolding orderHas-due
-  one-more part n next room w follows =
+  one-more part n next w follows =
       record {
         printed = p .printed ++ due ∷ [];
         remaining = rest .behind;
         in-order = whole ∙ sym (append-assoc (p .printed) (due ∷ []) (rest .behind));
         wrote =
             subst (λ (t : List ℕ). Wrote t old (putMid bytes (length mid - bytes) mid part) (bytes + n)) (sym text)
-            (wrote-then (clauseText (joined (numbersOf c k) (p .printed))) (clauseText (numbersOf c k due)) old mid part bytes n (p .wrote) w);
+            (wrote-then (textOf c k (p .printed)) (clauseText (numbersOf c k due)) old mid part bytes n (p .wrote) w);
         next-remaining = follows (orderHas-due .before) (orderHas-due .behind) (orderHas-due .order);
-        counted =
-            let step : fitting (textSize c k) (length old) bytes (p .remaining) ≡ 1 + fitting (textSize c k) (length old) (bytes + n) (rest .behind) =
-            ap (fitting (textSize c k) (length old) bytes) (rest .begins)
-            ∙ fitting-more (textSize c k) (length old) bytes n due (rest .behind) room (w .counted) in
-            simp length-append (omega (arith, p .counted));
       }
     where
-      text : clauseText (joined (numbersOf c k) (p .printed ++ due ∷ []))
-          ≡ clauseText (joined (numbersOf c k) (p .printed)) ++ clauseText (numbersOf c k due)
+      text : textOf c k (p .printed ++ due ∷ []) ≡ textOf c k (p .printed) ++ clauseText (numbersOf c k due)
       text =
-          ap clauseText (joined-snoc (numbersOf c k) (p .printed) due)
-          ∙ clauseText-append (joined (numbersOf c k) (p .printed)) (numbersOf c k due)
+          textOf-append c k (p .printed) (due ∷ [])
+          ∙ ap (λ (t : List ℕ). textOf c k (p .printed) ++ t) (textOf-one c k due)
 
--- the groups that are printed where none goes behind them: those of the piece
-module _ {c : Netlist} {k : ℕ} {old new : List ℕ} {bytes : ℕ} {next : Next} {due : List Group} (p : SoFar c k old new bytes next due)
-    (none : fitting (textSize c k) (length old) bytes (p .remaining) ≡ 0) where
-  n : ℕ
-  n = inPiece c k (length old) due
+-- where the groups so far are the piece: of the text that was due, it is the beginning
+pub piece-continues : {c : Netlist} {k : ℕ} {old new text : List ℕ} {bytes : ℕ} {next first : Next} (d : TextDue c k first text)
+    → SoFar c k old new bytes next (d .groups) → Continues c k text new (record { bytes = bytes; next = next })
+piece-continues {c} {k} d p =
+    record {
+      rest = textOf c k (p .remaining);
+      text-is =
+          d .text-is ∙ ap (textOf c k) (p .in-order) ∙ textOf-append c k (p .printed) (p .remaining)
+          ∙ ap (λ (t : List ℕ). t ++ textOf c k (p .remaining)) (sym (wrote-front (p .wrote)));
+      rest-due =
+          record {
+            before = d .before ++ p .printed;
+            groups = p .remaining;
+            order =
+                d .order ∙ ap (λ (t : List Group). d .before ++ t) (p .in-order)
+                ∙ sym (append-assoc (d .before) (p .printed) (p .remaining));
+            next-is = p .next-remaining;
+            text-is = refl;
+          };
+    }
 
-  count : length (p .printed) ≡ n
-  unfolding n
-  count = omega (arith, p .counted)
+-- at the start all groups are due
+pub all-due : (c : Netlist) (k : ℕ) (next : Next) → next ≡ firstGroup (groupOrder k) → TextDue c k next (textOf c k (groupOrder k))
+all-due c k next h = record { before = []; groups = groupOrder k; order = refl; next-is = h; text-is = refl }
 
-  first : take n due ≡ p .printed
-  first = ap (take n) (p .in-order) ∙ take-at (p .printed) (p .remaining) n count
+-- the group that is next stands in the order of the whole
+pub due-orderHas : {c : Netlist} {k : ℕ} {g : Group} {text : List ℕ} → TextDue c k (Then g) text → OrderHas k g
+due-orderHas {c} {k} {g} d =
+    let first = remaining-begins g (d .groups) (d .next-is) in
+    record { before = d .before; behind = first .behind; order = d .order ∙ ap (λ (t : List Group). d .before ++ t) (first .begins) }
 
-  last : drop n due ≡ p .remaining
-  last = ap (drop n) (p .in-order) ∙ drop-at (p .printed) (p .remaining) n count
-
-  all-printed : Printed c k due old new (record { bytes = bytes; next = next })
-  unfolding pieceOf pieceText n
-  all-printed =
-      record {
-        piece-is =
-            λ i. record {
-              bytes = (p .wrote .counted ∙ ap (λ (gs : List Group). length (clauseText (joined (numbersOf c k) gs))) (sym first)) i;
-              next = (p .next-remaining ∙ ap firstGroup (sym last)) i;
-            };
-        text-is = p .wrote .leaves ∙ ap (λ (gs : List Group). over (clauseText (joined (numbersOf c k) gs)) old) (sym first);
-      }
-
--- none goes there where less than 71,904 bytes remain
-pub all-full : {c : Netlist} {k : ℕ} {old new : List ℕ} {bytes : ℕ} {next : Next} {due : List Group}
-    → SoFar c k old new bytes next due → length old < bytes + 71904
-    → Printed c k due old new (record { bytes = bytes; next = next })
-all-full {c} {k} {old} {new} {bytes} p h = all-printed p (fitting-full (textSize c k) (length old) bytes (p .remaining) h)
-
--- or where no group remains
-pub all-end : {c : Netlist} {k : ℕ} {old new : List ℕ} {bytes : ℕ} {due : List Group}
-    → SoFar c k old new bytes End due → Printed c k due old new (record { bytes = bytes; next = End })
-unfolding fitting
-all-end {c} {k} {old} {new} {bytes} p = all-printed p (ap (fitting (textSize c k) (length old) bytes) (none-remains (p .remaining) (p .next-remaining)))
-
--- the order of the whole has the group that comes next, if there is one
-abbrev pub OrderHasNext : ℕ → Next → Type 0
-OrderHasNext k (Then g) = OrderHas k g
-OrderHasNext k End = Unit {0}
-
--- groups that stand in the order of the whole, behind others: their first
-pub orderHas-first : (k : ℕ) (before gs : List Group) (next : Next) → groupOrder k ≡ before ++ gs → next ≡ firstGroup gs → OrderHasNext k next
-orderHas-first k before gs (Then g) o h =
-    let first = remaining-begins g gs h in
-    record { before = before; behind = first .behind; order = o ∙ ap (λ (t : List Group). before ++ t) (first .begins) }
-orderHas-first k before gs End o h = tt
-
--- what comes after a piece stands there
-pub orderHas-next : (c : Netlist) (k : ℕ) (group : Group) (old new : List ℕ) (piece : Piece)
-    → OrderHas k group → Continues c k group old new piece → OrderHasNext k (piece .next)
-unfolding pieceOf
-orderHas-next c k group old new piece s p =
-    let due = group ∷ s .behind in
-    let n = inPiece c k (length old) due in
-    let printed = p (s .before) (s .behind) (s .order) .piece-is in
-    orderHas-first k (s .before ++ take n due) (drop n due) (piece .next)
-    (s .order ∙ ap (λ (t : List Group). s .before ++ t) (sym (take-append-drop n due)) ∙ sym (append-assoc (s .before) (take n due) (drop n due)))
-    (ap (λ (r : Piece). r .next) printed)
+-- at the end nothing is due
+pub nothing-due : {c : Netlist} {k : ℕ} {text : List ℕ} → TextDue c k End text → text ≡ []
+unfolding clauseText joined
+nothing-due {c} {k} d = d .text-is ∙ ap (textOf c k) (none-remains (d .groups) (d .next-is))

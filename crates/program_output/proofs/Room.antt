@@ -16,7 +16,7 @@ use Rattle.literals.proofs.Literal.{fits}
 use Rattle.dimacs.specs.Text.{clauseText}
 use Rattle.dimacs.proofs.Text.{length-clauseText}
 use Rattle.group_counts.proofs.Counted.{numbers-most}
-use Rattle.program_output.specs.Pieces.{OrderHas}
+use Rattle.program_output.specs.Order.{OrderHas}
 use Rattle.program_output.proofs.Pieces.{orderHas-inDepth}
 use Rattle.model.proofs.Stated.{stated}
 

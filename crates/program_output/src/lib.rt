@@ -1,10 +1,11 @@
-// The text of all groups of a depth, piece by piece through buffers of fixed size (RULES P2).
+// What `frames` prints (RULES P2 and P3): the header, and the text of all groups of a depth, piece by piece through buffers of fixed size.
 use group_order::Next;
 use model::Group;
 use netlist::Netlist;
 use netlist::UnpackedList;
 ghost use mathlib.Core.Path.{_≡_};
-ghost use Prim.Native.Nat.{_≤_};
+ghost use mathlib.Core.List.{List};
+ghost use Prim.Native.Nat.{ℕ, _≤_};
 ghost use lib.ListN.{length};
 ghost use Rattle.model.specs.Acceptance.{Accepted};
 ghost use Rattle.model.specs.Numbers.{numbersOf};
@@ -13,7 +14,10 @@ ghost use Rattle.netlist.specs.NetOf.{netOf};
 ghost use Rattle.text_writer.specs.Table.{TableOrNone};
 ghost use Rattle.dimacs.specs.Text.{headerText, clauseText};
 ghost use Rattle.group_order.specs.Next.{remainingAfter, remainingFrom};
-ghost use Rattle.program_output.specs.Pieces.{formulaHeader, OrderHas, Continues};
+ghost use Rattle.group_order.specs.declared.Next.the-variants.{Then};
+ghost use Rattle.program_output.specs.Printed.{formulaHeader};
+ghost use Rattle.program_output.specs.Pieces.{TextDue, Continues};
+ghost use Rattle.program_output.specs.Order.{OrderHas};
 
 // The first `bytes` bytes of a buffer are text to be printed; the group after those printed.
 pub struct Piece {
@@ -80,7 +84,8 @@ pub fn print_groups(
 ) -> Piece
     requires { ⌜ Accepted (netOf net (now latches) (now gates)) × (depth ≤ 255) × OrderHas depth group
         × TableOrNone (now table) × (5992 ≤ length (now numbers)) × (71904 ≤ length (now text)) ⌝ }
-    ensures text { λ r. ⌜ Continues (netOf net (now (latches .entry)) (now (gates .entry))) depth group (now (text .entry)) (now (text .exit)) r ⌝ }
+    ensures text { λ r. ⌜ ((due : List ℕ) → TextDue (netOf net (now (latches .entry)) (now (gates .entry))) depth (Then group) due
+        → Continues (netOf net (now (latches .entry)) (now (gates .entry))) depth due (now (text .exit)) r) ⌝ }
     ensures ends { λ r. ⌜ remainingFrom depth (r .next) ≤ remainingAfter depth group ⌝ }
     ensures within { λ r. ⌜ r .bytes ≤ length (now (text .entry)) ⌝ }
     ensures scratch { λ _. ⌜ length (now (numbers .exit)) ≡ length (now (numbers .entry)) ⌝ }

@@ -1,4 +1,4 @@
--- What a program that lends the largest memory and trace knows (RULES P15, "Only 1 to 7, 14, 15 and 17 occur in `replay`"). Promised by `replay_read`.
+-- What a program that lends the largest memory and trace knows (RULES P15, "Only 1 to 7, 14, 15 and 17 occur in `replay`"). Promised by `write_replay`.
 use Prim.Native.Nat.{ℕ, _+_, _*_, _^_, _≤_}
 use mathlib.Core.Path.{_≡_}
 use Rattle.model.specs.Limits.{mostWires, mostAddressBits, mostDepth}

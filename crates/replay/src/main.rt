@@ -4,33 +4,56 @@
 use answer_lines::AnswerKind;
 use answer_scan::Scan;
 use answer_signs::SignTable;
-use netlist::Netlist;
 use netlist::UnpackedList;
-use replay_call::ReplayReply;
-ghost use Prim.Native.Nat.{_≤_};
+use program_input::Input;
+ghost use Prim.Native.Nat.{ℕ, _≤_};
 ghost use mathlib.Core.Path.{_≡_};
-ghost use mathlib.Core.List.{[]};
-ghost use lib.ListN.{length};
-ghost use Rattle.model.specs.Acceptance.{Accepted};
-ghost use Rattle.netlist.specs.NetOf.{netOf};
+ghost use mathlib.Core.List.{List, []};
+ghost use lib.ListN.{length, take};
+ghost use Rattle.dimacs.specs.Text.{refusalText};
 ghost use Rattle.answer_signs.specs.Signs.{SignsOf};
-ghost use Rattle.answer_scan.specs.Scan.{LineKept};
-ghost use Rattle.replay.specs.SomeText.{BehindSome, ReadSome};
+ghost use Rattle.answer_scan.specs.Scan.{LineKept, Reads};
+ghost use Rattle.program_input.specs.Input.{InputTaken};
+ghost use Rattle.program_replay.specs.Printed.{replayText};
+ghost use Rattle.replay.specs.SomeText.{BehindSome, ReadSome, PrintedSome};
 
-// Writes text to standard output. Where that fails, says so on standard error and answers false.
-fn write_text(text: &[u8]) -> bool {
-    let whole = io::write_all(1, text);
-    if !whole {
+// Writes to standard output all that is printed for an input and an answer, in one piece; the input is lent only for what is asked of the text.
+// Where writing fails, says so on standard error.
+fn write_text(input: &[u8], text: &[u8])
+    requires { ⌜ PrintedSome (now input) (now text) ⌝ }
+{
+    if !io::write_all(1, text) {
         io::write_all(2, b"replay: writing failed, the output is not whole\n");
     }
-    whole
 }
 
-// Prints the first line, and answers whether it could be written.
-fn print_first(reply: ReplayReply) -> bool {
+// Prints the refusal of an input, whatever the answer.
+fn print_refusal(input: &[u8], number: u32, place: u32)
+    requires { ⌜ ((answer : List ℕ) → replayText (now input) answer ≡ refusalText number place) ⌝ }
+{
     let mut text = [0; 28];
-    let bytes = program_replay::write_answer(&mut text, reply);
-    write_text(&text[..bytes])
+    let bytes = dimacs::write_refusal(&mut text, number, place);
+    write_text(input, &text[..bytes]);
+}
+
+// What was read of a file: the scan behind it, and how many bytes the last piece has.
+struct Scanned {
+    scan: Scan,
+    bytes: usize,
+}
+
+// Reads a piece of an open file into a buffer, until it is full or the file ends, and scans all that was read.
+fn scan_piece(file: i32, piece: &mut [u8], scan: Scan, signs: &mut SignTable) -> Scanned
+    requires { ⌜ LineKept (scan .position) (scan .line) ⌝ }
+    ensures holds { λ r. ⌜ LineKept (r .scan .position) (r .scan .line) ⌝ }
+    ensures behind { λ r. ⌜ Reads scan (take (r .bytes) (now (piece .exit))) (r .scan) (now (signs .entry)) (now (signs .exit)) ⌝ }
+    ensures within { λ r. ⌜ r .bytes ≤ length (now (piece .exit)) ⌝ }
+{
+    let bytes = io::read_full(file, piece);
+    Scanned {
+        scan: answer_scan::scan_bytes(scan, signs, &piece[..bytes]),
+        bytes,
+    }
 }
 
 // Reads all of an open file, piece by piece, into a table of no signs: the scan is behind the text that was read. A piece that is not full is
@@ -45,11 +68,11 @@ fn scan_file(file: i32, signs: &mut SignTable) -> Scan
     let mut scan = answer_scan::scan_start();
     let mut remaining = u64::MAX;
     while 0 < remaining {
-        let count = io::read_full(file, &mut piece);
-        scan = answer_scan::scan_bytes(scan, signs, &piece[..count]);
-        if count < 65536 {
-            return scan;
+        let read = scan_piece(file, &mut piece, scan, signs);
+        if read.bytes < 65536 {
+            return read.scan;
         }
+        scan = read.scan;
         remaining -= 1;
     }
     scan
@@ -67,64 +90,54 @@ fn read_answer(signs: &mut SignTable) -> AnswerKind
     answer_scan::scan_end(scan_file(file, signs))
 }
 
-// The memory: as many words as the longest address has.
-fn no_words() -> [u32; 4096]
-    ensures { λ r. ⌜ length r ≡ 4096 ⌝ }
+// The output: the first line has at most 28 bytes, the lines of all frames 153,856.
+fn no_output() -> [u8; 153884]
+    ensures { λ r. ⌜ length r ≡ 153884 ⌝ }
 {
-    [0; 4096]
+    [0; 153884]
 }
 
 // Replays an answer, and prints what comes of it.
 fn print_replay(
-    net: Netlist,
+    input: &[u8],
+    taken: Input,
     latches: &UnpackedList,
     gates: &UnpackedList,
-    depth: u32,
     kind: AnswerKind,
     signs: &SignTable,
 )
-    requires { ⌜ Accepted (netOf net (now latches) (now gates)) × (depth ≤ 255) ⌝ }
+    requires { ⌜ InputTaken (now input) taken (now latches) (now gates) × ReadSome kind (now signs) ⌝ }
 {
-    let mut memory = no_words();
-    let mut trace = replay_call::no_lines();
-    let reply = program_replay::replay_read(
-        net,
+    let mut text = no_output();
+    let bytes = program_replay::write_replay(
+        &mut text,
+        taken.net,
         latches,
         gates,
-        depth,
+        taken.depth,
         kind,
         signs,
-        &mut memory,
-        &mut trace,
     );
-    let bytes = program_replay::trace_bytes(reply, net, depth);
-    if print_first(reply) {
-        write_text(&trace[..bytes]);
-    }
+    write_text(input, &text[..bytes]);
 }
 
 // Reads the answer, and replays it.
-fn replay_file(net: Netlist, latches: &UnpackedList, gates: &UnpackedList, depth: u32)
-    requires { ⌜ Accepted (netOf net (now latches) (now gates)) × (depth ≤ 255) ⌝ }
+fn replay_file(input: &[u8], taken: Input, latches: &UnpackedList, gates: &UnpackedList)
+    requires { ⌜ InputTaken (now input) taken (now latches) (now gates) ⌝ }
 {
     let mut signs = answer_signs::no_signs();
     let kind = read_answer(&mut signs);
-    print_replay(net, latches, gates, depth, kind, &signs);
+    print_replay(input, taken, latches, gates, kind, &signs);
 }
 
-fn print_answer(bytes: &[u8]) {
+fn print_answer(input: &[u8]) {
     let mut latches = sheet_tests::no_codes();
     let mut gates = sheet_tests::no_codes();
-    let input = program_input::read_input(bytes, &mut latches, &mut gates);
-    if input.number != 0 {
-        print_first(ReplayReply {
-            number: input.number,
-            place: input.place,
-            claimed: 0,
-            first: 0,
-        });
+    let taken = program_input::read_input(input, &mut latches, &mut gates);
+    if taken.number != 0 {
+        print_refusal(input, taken.number, taken.place);
     } else {
-        replay_file(input.net, &latches, &gates, input.depth);
+        replay_file(input, taken, &latches, &gates);
     }
 }
 

@@ -1,5 +1,9 @@
--- `frames::print_answer` meets its contract: an input without a refusal is an accepted netlist.
+-- `frames::print_answer` meets its contract: the refusal is all that is printed, or the header and the clauses are.
+use mathlib.Core.Path.{sym}
+use mathlib.Core.Bool.{true≢false}
+use native.Mathlib.Omega.{arith}
 use borrow.Author.Needs.{needs}
+use Rattle.program_output.proofs.Printed.{refused-frames}
 use Rattle.frames.proofs.print_answer.Statement.{statement}
 use Rattle.frames.proofs.print_answer.Tie as tie
 
@@ -13,24 +17,22 @@ read-input-requires : tie.Need-read-input-requires
 read-input-requires c κs = search needs
 
 print-refusal-requires : tie.Need-print-refusal-requires
-print-refusal-requires c κs = search needs
-
-print-header-requires : tie.Need-print-header-requires
-print-header-requires c κs =
-    let taken = c .before .before .before .before .read-input .ensures .1 .1 (c .before .before .if1 .left) in
-    (taken .accepted, taken .depth-most)
-
-print-clauses-requires : tie.Need-print-clauses-requires
-print-clauses-requires c κs =
-    let decided = c .before .before .before .before .before .before in
-    let taken = decided .before .before .read-input .ensures .1 .1 (decided .if1 .left) in
-    (taken .accepted, taken .depth-most)
+print-refusal-requires c κs =
+    (refused-frames _ _ (c .before .before .before .read-input .ensures .0) (λ none. omega arith), c .before .before .before .before .before .before .before .before .before .pre)
 
 returns : tie.Need-returns
 returns c = search needs
 
+print-header-requires : tie.Need-print-header-requires
+print-header-requires c κs = (c .before .before .before .before .before .read-input .ensures .1 .0 (c .before .before .before .if1 .left), c .before .before .before .before .before .before .before .before .before .before .before .pre)
+
 returns-2 : tie.Need-returns-2
-returns-2 c = search needs
+returns-2 c = λ e. absurd (true≢false (sym e))
+
+print-clauses-requires : tie.Need-print-clauses-requires
+print-clauses-requires c κs =
+    let header = c .before .before .before .before .print-header .ensures in
+    (c .before .before .before .before .before .before .before .before .before .before .read-input .ensures .1 .0 (c .before .before .before .before .before .before .before .before .if1 .left), header .0, header .1)
 
 returns-3 : tie.Need-returns-3
 returns-3 c = search needs
@@ -43,8 +45,8 @@ print-answer-spec =
     no-codes-requires-2
     read-input-requires
     print-refusal-requires
-    print-header-requires
-    print-clauses-requires
     returns
+    print-header-requires
     returns-2
+    print-clauses-requires
     returns-3)

@@ -14,8 +14,9 @@ use Rattle.aiger_netlist.specs.ImportVerdict.{importVerdict}
 use Rattle.aiger_netlist.proofs.Verdict.{import-passed}
 use Rattle.aiger_import.specs.ImportCall.{importedWord}
 use Rattle.sheet_writer.proofs.SheetText.{length-sheetText}
-use Rattle.program_import.specs.Printed.{sheetOrRefusal, importText}
-use Rattle.program_import.proofs.Room.{room-suffices}
+use Rattle.program_input.specs.Input.{textOrRefusal}
+use Rattle.program_import.specs.Printed.{importText}
+use Rattle.program_import.proofs.Room.{room-suffices, no-code-outside}
 use Rattle.program_import.proofs.write_import.Statement.{statement}
 use Rattle.program_import.proofs.write_import.Tie as tie
 
@@ -43,13 +44,13 @@ same-length : tie.Need-same-length
 same-length c = search needs
 
 returns : tie.Need-returns
-unfolding importText sheetOrRefusal
+unfolding importText textOrRefusal
 returns c =
     let told = c .before .before .before .before .before .before .verdict .given in
     let number = c .before .before .before .number in
     let v = sym (verdict-is (c .before .before .before .before .before .before .before .before .import-text .ensures)) ∙ told .1 in
     let w = rw (number .ensures) at (c .before .before .write-refusal .ensures) in
-    (rw v w, (omega (arith, c .before .before .write-refusal .ensures .counted, length-refusalText (number .result) (told .0 .1 .0) (search needs) (search needs)), room-suffices))
+    (rw v w, (omega (arith, c .before .before .write-refusal .ensures .counted, length-refusalText (number .result) (told .0 .1 .0) (search needs) (search needs)), (room-suffices, no-code-outside)))
 
 enum-told : tie.Need-enum-told
 enum-told c = search needs
@@ -75,12 +76,12 @@ same-length-2 : tie.Need-same-length-2
 same-length-2 c = search needs
 
 returns-2 : tie.Need-returns-2
-unfolding importText sheetOrRefusal
+unfolding importText textOrRefusal
 returns-2 c =
     let told = c .before .before .before .before .before .before in
     let fit = limits told .sizes in
     let w = rw (holds (told .before .before .import-text .ensures) (passed told) .net-is) at (c .before .before .put-sheet .ensures) in
-    (rw (passed told) w, (omega (arith, w .counted, length-sheetText _ (limits told), fit .wires-fit, fit .m-most), room-suffices))
+    (rw (passed told) w, (omega (arith, w .counted, length-sheetText _ (limits told), fit .wires-fit, fit .m-most), (room-suffices, no-code-outside)))
 
 pub write-import-spec : {M : Type 1} → statement M
 write-import-spec =

@@ -14,7 +14,7 @@ use Rattle.netlist.specs.NetOf.{netOf}
 use Rattle.group_order.specs.Next.{firstGroup, remainingFrom}
 use Rattle.group_order.specs.declared.Next.{Next}
 use Rattle.group_order.specs.declared.Next.the-variants.{Then}
-use Rattle.program_output.proofs.Pieces.{SoFar, nothing-yet, orderHas-due, one-more, all-full, all-end}
+use Rattle.program_output.proofs.Pieces.{SoFar, nothing-yet, orderHas-due, one-more, piece-continues}
 use Rattle.program_output.proofs.print_groups.Statement.{statement}
 use Rattle.program_output.proofs.print_groups.Tie as tie
 
@@ -120,7 +120,7 @@ loop-again c =
       printed .kept .1 .0 ∙ at .inv .2,
       λ before from o h.
           one-more before from o (rw (told .before .next .given .1) at (at .inv .3 before from o h)) (printed .last .0) (printed .result)
-          (c .next-group .result) (omega (arith, room told, at .inv .1)) (printed .ensures .0 .0) (c .next-group .ensures .0),
+          (c .next-group .result) (printed .ensures .0 .0) (c .next-group .ensures .0),
       inr (omega (
         arith,
         c .next-group .ensures .1,
@@ -137,9 +137,8 @@ same-length-2 c = search needs
 returns : tie.Need-returns Inv-loop μ-loop
 returns c =
     let start = c .before .before .before .before in
-    let at = c .before .loop in
-    let full : length (start .args .text .now) < at .bytes + 71904 = omega (arith, start .pre .5) in (
-      λ before behind o. all-full (at .inv .3 before (start .args .group ∷ behind) o refl) full,
+    let at = c .before .loop in (
+      λ text d. piece-continues d (at .inv .3 (d .before) (d .groups) (d .order) (d .next-is)),
       (
         omega (arith, fewer (start .args .depth) (at .bytes) (at .next) (Then (start .args .group)) (at .inv .4) (omega arith)),
         (omega (arith, at .inv .0, at .inv .1), at .inv .2),
@@ -154,10 +153,9 @@ same-length-4 c = search needs
 
 returns-2 : tie.Need-returns-2 Inv-loop μ-loop
 returns-2 c =
-    let start = c .before .before .before .before .before .before in
     let at = c .before .before .before .loop in
     rw (c .enum-told .given .1) (
-      λ before behind o. all-end (rw (c .enum-told .given .1) at (at .inv .3 before (start .args .group ∷ behind) o refl)),
+      λ text d. piece-continues d (rw (c .enum-told .given .1) at (at .inv .3 (d .before) (d .groups) (d .order) (d .next-is))),
       (omega arith, (omega (arith, at .inv .0, at .inv .1), at .inv .2)),
     )
 

@@ -5,7 +5,7 @@ use mathlib.Core.List.{[]}
 use native.Mathlib.Omega.{arith}
 use borrow.Author.Needs.{needs}
 use Rattle.netlist.proofs.NetOf.{sizes-lists, base-lists}
-use Rattle.program_output.specs.Pieces.{formulaHeader}
+use Rattle.program_output.specs.Printed.{formulaHeader}
 use Rattle.program_output.proofs.print_header.Statement.{statement}
 use Rattle.program_output.proofs.print_header.Tie as tie
 

@@ -2,7 +2,6 @@
 use mathlib.Core.Path.{_∙_}
 use Rattle.replay_answer.proofs.ReplayAnswer.{replay-is, memory-is, trace-is}
 use borrow.Author.Needs.{needs}
-use Rattle.program_replay.proofs.Room.{room-suffices}
 use Rattle.program_replay.proofs.replay_read.Statement.{statement}
 use Rattle.program_replay.proofs.replay_read.Tie as tie
 
@@ -22,7 +21,7 @@ returns : tie.Need-returns
 returns c =
     let told = c .before .before .before .before .before .replay .ensures in (
       (λ text read. c .reply-of .ensures ∙ told .0 ∙ replay-is _ _ _ _ read _ _),
-      ((λ text read. told .1 .0 ∙ memory-is _ _ _ _ read _ _), ((λ text read. told .1 .1 .0 ∙ trace-is _ _ _ _ read _ _), room-suffices)),
+      ((λ text read. told .1 .0 ∙ memory-is _ _ _ _ read _ _), (λ text read. told .1 .1 .0 ∙ trace-is _ _ _ _ read _ _)),
     )
 
 pub replay-read-spec : {M : Type 1} → statement M

@@ -1,5 +1,7 @@
--- `replay::print_answer` meets its contract: an input without a refusal is an accepted netlist.
+-- `replay::print_answer` meets its contract: an input is refused whatever the answer, or taken.
+use native.Mathlib.Omega.{arith}
 use borrow.Author.Needs.{needs}
+use Rattle.program_replay.proofs.Printed.{refused-replay}
 use Rattle.replay.proofs.print_answer.Statement.{statement}
 use Rattle.replay.proofs.print_answer.Tie as tie
 
@@ -12,14 +14,11 @@ no-codes-requires-2 c κs = search needs
 read-input-requires : tie.Need-read-input-requires
 read-input-requires c κs = search needs
 
-print-first-requires : tie.Need-print-first-requires
-print-first-requires c κs = search needs
+print-refusal-requires : tie.Need-print-refusal-requires
+print-refusal-requires c κs = λ answer. refused-replay _ _ answer (c .before .before .read-input .ensures .0) (λ none. omega arith)
 
 replay-file-requires : tie.Need-replay-file-requires
-replay-file-requires c κs =
-    let decided = c .before .before in
-    let taken = decided .before .before .read-input .ensures .1 .1 (decided .if1 .left) in
-    (taken .accepted, taken .depth-most)
+replay-file-requires c κs = c .before .before .before .before .read-input .ensures .1 .0 (c .before .before .if1 .left)
 
 returns : tie.Need-returns
 returns c = search needs
@@ -34,7 +33,7 @@ print-answer-spec =
     no-codes-requires
     no-codes-requires-2
     read-input-requires
-    print-first-requires
+    print-refusal-requires
     replay-file-requires
     returns
     returns-2)

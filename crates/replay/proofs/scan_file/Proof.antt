@@ -3,7 +3,7 @@ use mathlib.Core.Path.{_≡_, sym, _∙_}
 use mathlib.Core.List.{[], _++_}
 use native.Mathlib.Omega.{arith}
 use borrow.Author.Needs.{needs}
-use lib.ListN.{length}
+use lib.ListN.{length, take}
 use Rattle.answer_scan.specs.Scan.{LineKept}
 use Rattle.replay.specs.SomeText.{BehindSome}
 use Rattle.replay.proofs.scan_file.Statement.{statement}
@@ -27,26 +27,23 @@ loop-holds c =
     let started = c .scan-start .ensures in
     (sym (c .before .large-buffer .ensures), started .0, record { text = []; behind = started .1 _ (c .before .before .pre) })
 
-slice-aggregate-read-full : tie.Need-slice-aggregate-read-full Inv-loop μ-loop
-slice-aggregate-read-full c = sym (c .before .before .loop .inv .0)
+slice-aggregate-scan-piece : tie.Need-slice-aggregate-scan-piece Inv-loop μ-loop
+slice-aggregate-scan-piece c = sym (c .before .before .loop .inv .0)
 
-read-full-requires : tie.Need-read-full-requires Inv-loop μ-loop
-read-full-requires c κs = search needs
+scan-piece-requires : tie.Need-scan-piece-requires Inv-loop μ-loop
+scan-piece-requires c κs = c .before .before .before .loop .inv .1
 
-array-share-prefix-piece : tie.Need-array-share-prefix-piece Inv-loop μ-loop
-array-share-prefix-piece c = c .before .before .read-full .ensures .0
-
-slice-aggregate-scan-bytes : tie.Need-slice-aggregate-scan-bytes Inv-loop μ-loop
-slice-aggregate-scan-bytes c = c .before .before .before .read-full .ensures .1
-
-scan-bytes-requires : tie.Need-scan-bytes-requires Inv-loop μ-loop
-scan-bytes-requires c κs = c .before .before .before .before .before .before .loop .inv .1
+-- the scan is behind one piece more
+one-more : (c : tie.After-scan-piece Inv-loop μ-loop) → BehindSome (c .scan-piece .result .scan) (c .scan-piece .last .1 .1 .1 .0)
+one-more c =
+    let so-far = c .before .before .before .before .loop .inv .2 in
+    record {
+      text = so-far .text ++ take (c .scan-piece .result .bytes) (c .scan-piece .last .1 .0);
+      behind = c .scan-piece .ensures .1 .0 (so-far .text) (so-far .behind);
+    }
 
 returns : tie.Need-returns Inv-loop μ-loop
-returns c =
-    let at = c .before .before .before .before .before .before .before .before .loop in
-    let read = c .before .scan-bytes .ensures in
-    (read .0, record { text = at .inv .2 .text ++ _; behind = read .1 (at .inv .2 .text) (at .inv .2 .behind) })
+returns c = (c .before .before .before .before .scan-piece .ensures .0, one-more (c .before .before .before .before))
 
 sub-remaining : tie.Need-sub-remaining Inv-loop μ-loop
 sub-remaining c = omega arith
@@ -56,10 +53,8 @@ loop-less c = omega arith
 
 loop-again : tie.Need-loop-again Inv-loop μ-loop
 loop-again c =
-    let at = c .before .before .before .before .before .before .before .before .loop in
-    let read = c .before .scan-bytes .ensures in
-    let full = c .before .before .before .before .before .read-full in
-    (full .kept .1 .0 ∙ at .inv .0, read .0, record { text = at .inv .2 .text ++ _; behind = read .1 (at .inv .2 .text) (at .inv .2 .behind) })
+    let read = c .before .before .before .before in
+    (read .scan-piece .kept .1 .0 ∙ c .before .before .before .before .before .before .before .before .loop .inv .0, read .scan-piece .ensures .0, one-more read)
 
 returns-2 : tie.Need-returns-2 Inv-loop μ-loop
 returns-2 c = (c .before .loop .inv .1, c .before .loop .inv .2)
@@ -73,11 +68,8 @@ scan-file-spec =
     large-buffer-requires
     scan-start-requires
     loop-holds
-    slice-aggregate-read-full
-    read-full-requires
-    array-share-prefix-piece
-    slice-aggregate-scan-bytes
-    scan-bytes-requires
+    slice-aggregate-scan-piece
+    scan-piece-requires
     returns
     sub-remaining
     loop-less

@@ -1,0 +1,117 @@
+-- Which refusals an input can meet (RULES P6): those that its tests have, and 9 not, as 600 records are enough for every sheet that passes the
+-- others. Cited by `read_input`.
+use Prim.Native.Nat.{ℕ, zero, suc, _+_, _≤_}
+use mathlib.Core.Path.{_≡_, refl, subst}
+use mathlib.Core.Bool.{Bool, true, false, not}
+use mathlib.Core.List.{List}
+use mathlib.Core.Logic.{_⊎_, inl, inr}
+use lib.Dec.{ltb}
+use lib.ListN.{drop}
+use native.Mathlib.Omega.{arith}
+use Rattle.model.specs.Limits.{mostDepth}
+use Rattle.model.specs.Netlist.{Netlist}
+use Rattle.refusals.specs.Refusal.{refusalNumber}
+use Rattle.refusals.specs.Tests.{refuseIf, _then_, inOrder}
+use Rattle.refusals.specs.declared.Refusal.{Refusal}
+use Rattle.refusals.specs.declared.Refusal.the-variants.{Ragged, Misprint, OutOfOrder, Size, CodeOutside, MemoryLoop, Depth, NoRoom, TiedAddress}
+use Rattle.refusals.specs.declared.Verdict.{Verdict}
+use Rattle.refusals.specs.declared.Verdict.the-variants.{Passed, Refused}
+use Rattle.netlist.specs.Faults.{sizeFault, codeFault, tieFault, loopFault}
+use Rattle.netlist.specs.Places.{lineAt, controlLine}
+use Rattle.netlist.specs.declared.Line.{Line}
+use Rattle.netlist_tests.specs.Record.{testLine, testLines, listsShort, testPort}
+use Rattle.netlist_tests.proofs.Acceptance.{lists-long}
+use Rattle.sheet_lines.specs.Letters.{mustBeFilled}
+use Rattle.sheet_lines.specs.Lines.{asWanted, valueOf}
+use Rattle.sheet_lines.specs.Depth.{depthField, fieldVerdict, depthVerdict}
+use Rattle.sheet_steps.specs.LineFaults.{faultsAt}
+use Rattle.sheet_parse.specs.Files.{lineIn, lineCount, netIn}
+use Rattle.sheet_parse.specs.FileTests.{ragged, misprinted, notDue, testLineIn}
+use Rattle.sheet_tests.specs.Sheet.{endVerdict, fileVerdict, sheetVerdict}
+use Rattle.sheet_tests.proofs.Codes.{accepted-in}
+use Rattle.program_input.specs.Input.{sheetIn, inputVerdict, OnlyInputRefusals}
+
+-- a refusal of 1 to 7 or 17; and a verdict that has no other
+abbrev Due : Refusal → Type 0
+Due r = (refusalNumber r ≤ 7) ⊎ (refusalNumber r ≡ 17)
+
+abbrev Only : Verdict → Type 0
+Only Passed = Unit {0}
+Only (Refused r p) = Due r
+
+only-if : (b : Bool) (r : Refusal) (p : ℕ) → Due r → Only (refuseIf b r p)
+only-if true r p h = h
+only-if false r p h = tt
+
+only-then : (v w : Verdict) → Only v → (v ≡ Passed → Only w) → Only (v then w)
+unfolding _then_
+only-then Passed w a b = b refl
+only-then (Refused r p) w a b = a
+
+only-in-order : (test : ℕ → Verdict) → ((p : ℕ) → Only (test p)) → (n : ℕ) → Only (inOrder test n)
+unfolding inOrder
+only-in-order test h zero = tt
+only-in-order test h (suc n) = only-then (inOrder test n) (test (suc n)) (only-in-order test h n) (λ e. h (suc n))
+
+only-depth : (s : List ℕ) → Only (depthVerdict s)
+unfolding depthVerdict fieldVerdict
+only-depth s =
+    let f = depthField s in
+    only-then (refuseIf (not (asWanted mustBeFilled f)) Misprint 0) (refuseIf (ltb mostDepth (valueOf f)) Depth 0)
+    (only-if (not (asWanted mustBeFilled f)) Misprint 0 (inl (omega arith)))
+    (λ e. only-if (ltb mostDepth (valueOf f)) Depth 0 (inl (omega arith)))
+
+only-lines : (c : Netlist) (r : Refusal) (fault : Netlist → Line → Bool) → Due r → Only (testLines c r fault)
+unfolding testLines
+only-lines c r fault h = only-in-order (testLine c r fault) (λ p. only-if (fault c (lineAt c p)) r p h) (controlLine c)
+
+only-port : (c : Netlist) → Only (testPort c)
+only-port c =
+    only-then (testLines c TiedAddress tieFault) (testLines c MemoryLoop loopFault)
+    (only-lines c TiedAddress tieFault (inr refl)) (λ e. only-lines c MemoryLoop loopFault (inl (omega arith)))
+
+only-line : (c : Netlist) (file : List ℕ) (p : ℕ) → Only (testLineIn c file p)
+unfolding testLineIn faultsAt
+only-line c file p =
+    only-then (refuseIf (misprinted (lineIn file p)) Misprint p) (refuseIf (notDue c file p) OutOfOrder p then faultsAt c (lineAt c p) p)
+    (only-if (misprinted (lineIn file p)) Misprint p (inl (omega arith)))
+    (λ e. only-then (refuseIf (notDue c file p) OutOfOrder p) (faultsAt c (lineAt c p) p)
+    (only-if (notDue c file p) OutOfOrder p (inl (omega arith)))
+    (λ e. only-then (refuseIf (sizeFault c (lineAt c p)) Size p) (refuseIf (codeFault c (lineAt c p)) CodeOutside p)
+    (only-if (sizeFault c (lineAt c p)) Size p (inl (omega arith)))
+    (λ e. only-if (codeFault c (lineAt c p)) CodeOutside p (inl (omega arith)))))
+
+module _ (file : List ℕ) where
+  lines : Verdict
+  lines = inOrder (testLineIn (netIn file) file) (lineCount file)
+
+  only-end : Only (endVerdict (netIn file) (lineCount file))
+  unfolding endVerdict
+  only-end =
+      let missing = ltb (lineCount file) (controlLine (netIn file)) in
+      only-then (refuseIf missing OutOfOrder (lineCount file + 1)) (testPort (netIn file))
+      (only-if missing OutOfOrder (lineCount file + 1) (inl (omega arith))) (λ e. only-port (netIn file))
+
+  only-file : Only (fileVerdict file)
+  unfolding fileVerdict lines
+  only-file =
+      only-then (refuseIf (ragged file) Ragged 0) (lines then endVerdict (netIn file) (lineCount file))
+      (only-if (ragged file) Ragged 0 (inl (omega arith)))
+      (λ e. only-then lines (endVerdict (netIn file) (lineCount file))
+      (only-in-order (testLineIn (netIn file) file) (only-line (netIn file) file) (lineCount file)) (λ e. only-end))
+
+  long-enough : fileVerdict file ≡ Passed → listsShort (netIn file) 600 600 ≡ false
+  long-enough e =
+      let fit = accepted-in file e .limits .sizes in
+      lists-long (netIn file) 600 600 .1 (omega (arith, fit .latches-fit), omega (arith, fit .gates-fit))
+
+  only-sheet : Only (sheetIn file)
+  unfolding sheetVerdict
+  only-sheet =
+      only-then (fileVerdict file) (refuseIf (listsShort (netIn file) 600 600) NoRoom 0) only-file
+      (λ e. rw (long-enough e) tt)
+
+pub only-refusals : OnlyInputRefusals
+unfolding inputVerdict
+only-refusals s r p e =
+    subst Only e (only-then (depthVerdict s) (sheetIn (drop 11 s)) (only-depth s) (λ h. only-sheet (drop 11 s)))
