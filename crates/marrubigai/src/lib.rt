@@ -13,8 +13,11 @@ use replay_call::ReplayReply;
 use sheet_parse::SheetReader;
 ghost use mathlib.Core.Path.{_≡_};
 ghost use lib.ListN.{length};
+ghost use Rattle.model.specs.Acceptance.{PathTheorem};
+ghost use Rattle.model.specs.Claim.{EncodingTheorem, StatedTheorem};
 ghost use Rattle.call_lists.specs.Lent.{netLent};
-ghost use Rattle.calls.specs.LentCalls.{headingFor, groupFor, numbersAfter};
+ghost use Rattle.calls.specs.LentCalls.{headingFor, groupFor, numbersAfter, Claim, AcceptedTheorem};
+ghost use Rattle.calls.specs.Starred.{Starred};
 ghost use Rattle.decimal.specs.Digits.{signedDigits};
 ghost use Rattle.dimacs.specs.Text.{headerText, clauseText, OtherNumbers, NumberPrinted, refusalText};
 ghost use Rattle.dimacs.specs.PrintCalls.{printSent, printLeaves, fillLeaves};
@@ -59,7 +62,7 @@ pub extern "C" fn marrubigai_write_group(
     ))
 }
 
-// `calls::heading`.
+// `calls::heading`, with all its promises: a caller may have filled the record by itself.
 #[no_mangle]
 pub extern "C" fn marrubigai_heading(
     net: Netlist,
@@ -67,7 +70,12 @@ pub extern "C" fn marrubigai_heading(
     gates: &[Gate],
     depth: u32,
 ) -> HeadingReply
-    ensures { λ r. ⌜ r ≡ headingNumbers (headingFor net (now (latches .entry)) (now (gates .entry)) depth) ⌝ }
+    ensures answer { λ r. ⌜ r ≡ headingNumbers (headingFor net (now (latches .entry)) (now (gates .entry)) depth) ⌝ }
+    ensures claim { λ r. ⌜ Claim net (now (latches .entry)) (now (gates .entry)) depth ⌝ }
+    ensures paths { λ r. ⌜ PathTheorem ⌝ }
+    ensures accepted { λ r. ⌜ AcceptedTheorem ⌝ }
+    ensures theorems { λ r. ⌜ EncodingTheorem × StatedTheorem ⌝ }
+    ensures starred { λ r. ⌜ Starred ⌝ }
 {
     call_replies::heading_numbers(calls::heading(net, latches, gates, depth))
 }
