@@ -8,6 +8,7 @@ use call_replies::CountReply;
 use call_replies::HeadingReply;
 use call_replies::LineReply;
 use call_replies::SheetReply;
+use literals::Code;
 use netlist::Netlist;
 use replay_call::ReplayReply;
 use sheet_parse::SheetReader;
@@ -275,9 +276,9 @@ pub extern "C" fn marrubigai_write_group_at(
 
 // `call_position::literal_at`.
 #[no_mangle]
-pub extern "C" fn marrubigai_literal_at(net: Netlist, position: Position, code: u32) -> LiteralReply
-    ensures answer { λ r. ⌜ r ≡ literalSent (alone net) position code ⌝ }
-    ensures inverse { λ r. ⌜ InverseNegated (alone net) position code r ⌝ }
+pub extern "C" fn marrubigai_literal_at(net: Netlist, position: Position, code: Code) -> LiteralReply
+    ensures answer { λ r. ⌜ r ≡ literalSent (alone net) position (code .0) ⌝ }
+    ensures inverse { λ r. ⌜ InverseNegated (alone net) position (code .0) r ⌝ }
 {
     call_position::literal_at(net, position, code)
 }
