@@ -5,17 +5,24 @@ use call_position::LiteralReply;
 use call_position::Position;
 use call_position::PositionReply;
 use call_replies::CountReply;
+use call_replies::GroupReply;
 use call_replies::HeadingReply;
 use call_replies::LineReply;
 use call_replies::SheetReply;
+use call_replies::VersionReply;
+use group_order::Next;
 use literals::Code;
+use model::Group;
 use netlist::Netlist;
 use replay_call::ReplayReply;
 use sheet_parse::SheetReader;
 ghost use mathlib.Core.Path.{_≡_};
+ghost use mathlib.Core.List.{List, _∷_, _++_};
 ghost use lib.ListN.{length};
 ghost use Rattle.model.specs.Acceptance.{PathTheorem};
 ghost use Rattle.model.specs.Claim.{EncodingTheorem, StatedTheorem};
+ghost use Rattle.model.specs.Groups.{groupOrder};
+ghost use Rattle.group_order.specs.Next.{firstGroup};
 ghost use Rattle.call_lists.specs.Lent.{netLent};
 ghost use Rattle.calls.specs.LentCalls.{headingFor, groupFor, numbersAfter, Claim, AcceptedTheorem};
 ghost use Rattle.calls.specs.Starred.{Starred};
@@ -36,7 +43,15 @@ ghost use Rattle.call_position.specs.GroupsAt.{groupAtSent, groupAtLeaves, ByFr
 ghost use Rattle.call_position.specs.Literals.{literalSent, InverseNegated};
 ghost use Rattle.netlist.specs.NetOf.{alone};
 ghost use Rattle.sheet_writer.specs.WriteCall.{writeSent, writeLeaves, SheetWritten};
-ghost use Rattle.call_replies.specs.Replies.{groupOf, countNumbers, headingNumbers, sheetNumbers, lineNumbers};
+ghost use Rattle.call_replies.specs.Replies.{groupOf, nextNumbers, countNumbers, headingNumbers, sheetNumbers, lineNumbers, headerVersion};
+
+// The version of include/marrubigai.h that the library is built for.
+#[no_mangle]
+pub extern "C" fn marrubigai_version() -> VersionReply
+    ensures { λ r. ⌜ r ≡ headerVersion ⌝ }
+{
+    call_replies::version()
+}
 
 // `calls::write_group`. The kind is 0 for the wires of frame i, 1 for the pair (j, i), 2 for the closing of frame i, 3 for the property.
 #[no_mangle]
@@ -61,6 +76,16 @@ pub extern "C" fn marrubigai_write_group(
         call_replies::group_of(kind, j, i),
         out,
     ))
+}
+
+// `group_order::next_group`: the group that follows one in the order of the whole at this depth, which begins with the wires of frame 0.
+#[no_mangle]
+pub extern "C" fn marrubigai_next_group(depth: u32, kind: u32, j: u32, i: u32) -> GroupReply
+    ensures follows { λ r. ⌜ ((xs ys : List Group) → groupOrder depth ≡ xs ++ groupOf kind j i ∷ ys → r ≡ nextNumbers (firstGroup ys)) ⌝ }
+    ensures absent { λ r. ⌜ (((xs ys : List Group) → groupOrder depth ≡ xs ++ groupOf kind j i ∷ ys → ⊥) → r ≡ nextNumbers Next.End) ⌝ }
+    ensures begins { λ r. ⌜ firstGroup (groupOrder depth) ≡ Next.Then (groupOf 0 0 0) ⌝ }
+{
+    call_replies::next_numbers(group_order::next_group(depth, call_replies::group_of(kind, j, i)))
 }
 
 // `calls::heading`, with all its promises: a caller may have filled the record by itself.
@@ -276,7 +301,11 @@ pub extern "C" fn marrubigai_write_group_at(
 
 // `call_position::literal_at`.
 #[no_mangle]
-pub extern "C" fn marrubigai_literal_at(net: Netlist, position: Position, code: Code) -> LiteralReply
+pub extern "C" fn marrubigai_literal_at(
+    net: Netlist,
+    position: Position,
+    code: Code,
+) -> LiteralReply
     ensures answer { λ r. ⌜ r ≡ literalSent (alone net) position (code .0) ⌝ }
     ensures inverse { λ r. ⌜ InverseNegated (alone net) position (code .0) r ⌝ }
 {
