@@ -15,7 +15,7 @@ use prog.Wp.{Heap, Calls, Loops, WpFn, Tables}
 use ghost.Atoms.{Atoms}
 use contract.Monad.{Fun, fact}
 use contract.Running.{givenOf, tables, tablesOf}
-use types.Kit.{Given, ‵, raw, _⊛_, _$_, _∵_, !, qed, move, keep, drop, use1, split, join, fjoin, suffices, frame, done}
+use types.Kit.{Given, ‵, raw, _⊛_, _$_, _∵_, !, qed, move, keep, use1, join, fjoin, suffices, frame, done}
 use types.Run.{look, init, stop, from, load, and-then, no-more, land, returns, enter, alloc1, alloc0, params1, pass1, pass0}
 use sound.WpLaws.{FmC, fmOf}
 use denote.RattleType.{owns}

@@ -1,5 +1,4 @@
 -- `program_import::line_end` meets its contract.
-use mathlib.Core.Path.{refl}
 use native.Mathlib.Omega.{arith}
 use borrow.Author.Tests.{eq-eqb, ne-eqb}
 use Rattle.decimal.specs.Digits.{lineFeed}
