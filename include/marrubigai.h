@@ -2,9 +2,13 @@
  * places of refusals, and a program that searches depth by depth; the contracts stand in crates/marrubigai/src. Every function takes any
  * numbers, tests them first, and after a refusal has changed nothing that it was lent, but for the memory of marrubigai_replay.
  *
+ * The library has no state of its own: any call may run in any thread, at the same time as any other. A call keeps what it needs on its
+ * thread's stack (enum marrubigai_stack says how much) and allocates nothing.
+ *
  * A slice is a pointer and how many elements it has. Nothing can test these two, so they are the caller's to get right:
  *   - The pointer is that of an array of at least so many elements, which nothing else writes to during the call.
- *   - At length 0 nothing is read or written through it, but it is still an element's address and not NULL: any array's will do.
+ *   - At length 0 nothing is read or written through it, but it is still an element's address and not NULL: any array's will do. (GCC and
+ *     Clang warn of a NULL that they see, and of an answer that is not looked at.)
  *   - What a function writes to (a pointer without const) overlaps nothing else that the same call is lent. */
 #ifndef MARRUBIGAI_H
 #define MARRUBIGAI_H
@@ -15,12 +19,28 @@
 /* the version of this interface: the first number goes up where a program that was written for the version before has to be changed, the
  * second where something is added; while the first is 0, the second goes up for both */
 #define MARRUBIGAI_VERSION_MAJOR 0
-#define MARRUBIGAI_VERSION_MINOR 7
-#define MARRUBIGAI_VERSION "0.7"
+#define MARRUBIGAI_VERSION_MINOR 8
+#define MARRUBIGAI_VERSION "0.8"
+
+#if defined(__GNUC__) /* Clang says so too */
+#define MARRUBIGAI_ANSWERS __attribute__((warn_unused_result))
+#define MARRUBIGAI_LENT __attribute__((warn_unused_result, nonnull))
+#else
+#define MARRUBIGAI_ANSWERS
+#define MARRUBIGAI_LENT
+#endif
 
 #ifdef __cplusplus
 extern "C" {
 #endif
+
+/* limits: what is above them is refused; the least m and n is 1 */
+enum marrubigai_limit {
+  MARRUBIGAI_MOST_DEPTH = 255,
+  MARRUBIGAI_MOST_ADDRESS_BITS = 12, /* m */
+  MARRUBIGAI_MOST_DATA_BITS = 32,    /* n */
+  MARRUBIGAI_MOST_WIRES = 600        /* inputs, latches and gates each, and with the n read bits all together */
+};
 
 /* 2 x wire, plus 1 for the inverted wire; 0 is false, 1 is true */
 typedef uint32_t marrubigai_code;
@@ -29,15 +49,15 @@ typedef struct {
   uint32_t inputs, latches, gates;
   uint32_t m, n, initial_word; /* address width, data width, what every word starts as */
   uint32_t unknown_start; /* 0, or 1: each word starts as anything, each by itself, and initial_word is not looked at; above 1 is refused */
-  marrubigai_code address[12], write_data[32]; /* bit 0 first; entries past the widths are ignored */
+  marrubigai_code address[MARRUBIGAI_MOST_ADDRESS_BITS], write_data[MARRUBIGAI_MOST_DATA_BITS]; /* bit 0 first; those past the widths are ignored */
   marrubigai_code we, re, p; /* write enable, read enable, property */
 } marrubigai_netlist;
 
 typedef struct { marrubigai_code next; uint32_t reset; } marrubigai_latch;
 typedef struct { marrubigai_code left, right; } marrubigai_gate;
 
-/* number is 0 where nothing is refused; what stands beside a refusal is all zeros, but for a running record that was not to start, which is as it was
- * handed in. A count is of numbers or bytes written. */
+/* number is 0 where nothing is refused; what stands beside a refusal is all zeros, but for two: a running record that was not to start is as it was
+ * handed in, and `line` beside a misprint is the line's number. A count is of numbers or bytes written. */
 typedef struct { uint32_t number, place; size_t count; } marrubigai_count_reply;
 typedef struct { uint32_t number, place, variables, clauses; } marrubigai_heading_reply;
 typedef struct { uint32_t number, place; marrubigai_netlist net; } marrubigai_sheet_reply;
@@ -46,6 +66,8 @@ typedef struct { uint32_t depth, frame, base; } marrubigai_position; /* a runnin
 typedef struct { uint32_t number, place; marrubigai_position position; } marrubigai_position_reply;
 typedef struct { uint32_t number, place; int32_t literal; } marrubigai_literal_reply;
 typedef struct { uint32_t number, place, claimed, first; } marrubigai_replay_reply; /* claimed: 1 where the answer claims to be unsatisfiable */
+typedef struct { uint32_t end, kind, j, i; } marrubigai_group_reply; /* end: 1 where no group follows, and the others are then 0 */
+typedef struct { uint32_t major, minor; } marrubigai_version_reply;
 
 /* a refusal's number */
 enum marrubigai_refusal {
@@ -80,62 +102,100 @@ enum marrubigai_room {
   MARRUBIGAI_SHEET_BYTES = 19680, /* no sheet has more */
   MARRUBIGAI_LIST_ROOM = 600,     /* latches or gates */
   MARRUBIGAI_GROUP_ROOM = 5992,   /* numbers of a group */
-  MARRUBIGAI_LINE_BYTES = 28,     /* a header, or a refusal */
+  MARRUBIGAI_HEADER_BYTES = 28,   /* what put_header writes, or put_refusal */
   MARRUBIGAI_NUMBER_BYTES = 12,   /* clauses as text: for each number */
   MARRUBIGAI_MEMORY_WORDS = 4096, /* words of a memory */
   MARRUBIGAI_TRACE_BYTES = 153856 /* the lines of a run */
 };
 
+/* bytes of stack that are enough for a call, as it was measured */
+enum marrubigai_stack {
+  MARRUBIGAI_CALL_STACK = 65536,   /* any but the next two */
+  MARRUBIGAI_IMPORT_STACK = 327680,
+  MARRUBIGAI_REPLAY_STACK = 917504
+};
+
+/* a refusal's word; "passed" for 0, and "unknown" for what is no refusal's number */
+static inline const char *marrubigai_refusal_word(uint32_t number) {
+  switch (number) {
+    case MARRUBIGAI_PASSED: return "passed";
+    case MARRUBIGAI_RAGGED: return "ragged";
+    case MARRUBIGAI_MISPRINT: return "misprint";
+    case MARRUBIGAI_OUT_OF_ORDER: return "out of order";
+    case MARRUBIGAI_SIZE: return "size";
+    case MARRUBIGAI_CODE: return "code";
+    case MARRUBIGAI_MEMORY_LOOP: return "memory loop";
+    case MARRUBIGAI_DEPTH: return "depth";
+    case MARRUBIGAI_NO_SUCH_GROUP: return "no such group";
+    case MARRUBIGAI_NO_ROOM: return "no room";
+    case MARRUBIGAI_OUT_OF_NUMBERS: return "out of numbers";
+    case MARRUBIGAI_NOT_AIGER: return "not aiger";
+    case MARRUBIGAI_INTERFACE: return "interface";
+    case MARRUBIGAI_UNDEFINED: return "undefined";
+    case MARRUBIGAI_NO_ANSWER: return "no answer";
+    case MARRUBIGAI_NO_VIOLATION: return "no violation";
+    case MARRUBIGAI_WRONG_BASE: return "wrong base";
+    case MARRUBIGAI_TIED_ADDRESS: return "tied address";
+    default: return "unknown";
+  }
+}
+
+/* the version of the header that the library was built for: where it is not that of this header, the archive is another's */
+MARRUBIGAI_ANSWERS marrubigai_version_reply marrubigai_version(void);
+
 /* reads a sheet: its record, and its latches and gates into the first elements of the lists */
-marrubigai_sheet_reply marrubigai_read(const uint8_t *file, size_t bytes, marrubigai_latch *latches, size_t latch_room,
-                                       marrubigai_gate *gates, size_t gate_room);
+MARRUBIGAI_LENT marrubigai_sheet_reply marrubigai_read(const uint8_t *file, size_t bytes, marrubigai_latch *latches, size_t latch_room,
+    marrubigai_gate *gates, size_t gate_room);
 
 /* imports a netlist in ASCII AIGER, for a memory of m address bits and n data bits whose words all start as `word`, or as anything where
  * `unknown` is 1 (`word` then counts for nothing; a number above 1 is refused): the last n inputs of the text are the read bits, in order from
  * bit 0; its outputs are the m address bits, the n write-data bits, write enable, read enable and the property, m + n + 3 in all. Record and
  * lists as where a sheet is read; every latch has reset 0. No order or name of inputs is tested beyond their number: docs/LIBRARY.md says what to
- * look at in a text that a tool has written. */
-marrubigai_sheet_reply marrubigai_import(const uint8_t *text, size_t bytes, uint32_t m, uint32_t n, uint32_t word, uint32_t unknown,
-                                         marrubigai_latch *latches, size_t latch_room, marrubigai_gate *gates, size_t gate_room);
+ * look at in a text that a tool has written.
+ * Its time: the text is gone through for each block of 262,144 variables that its lines name, 8,192 blocks at most. 1 MB as tools write it, with
+ * the variables 1 to M, takes some 10 ms; 1 MB with variables all over the 2^31, the worst known, took 45 s. */
+MARRUBIGAI_LENT marrubigai_sheet_reply marrubigai_import(const uint8_t *text, size_t bytes, uint32_t m, uint32_t n, uint32_t word,
+    uint32_t unknown, marrubigai_latch *latches, size_t latch_room, marrubigai_gate *gates, size_t gate_room);
 
 /* the line behind the first `line` lines of a sheet: its letter, its fields (0 where one is empty), 1 as `empty` where it is an M line whose
  * start word is left empty, and how many lines are read with it, one more. Where it is misprinted, 2 with its place, line + 1, and it is read
- * too. Where there is none (missing, cut short, or behind 615 lines, the most that a sheet has), number and letter are 0 and the line number is
- * `line` itself. */
-marrubigai_line_reply marrubigai_next_line(const uint8_t *file, size_t bytes, uint32_t line);
+ * too: letter and fields are 0, and `line` is the place. Where there is none (missing, cut short, or behind 615 lines, the most that a sheet
+ * has), number and letter are 0 and the line number is `line` itself. */
+MARRUBIGAI_LENT marrubigai_line_reply marrubigai_next_line(const uint8_t *file, size_t bytes, uint32_t line);
 
 /* how many variables and clauses the formula of a depth has */
-marrubigai_heading_reply marrubigai_heading(marrubigai_netlist net, const marrubigai_latch *latches, size_t latch_count,
-                                            const marrubigai_gate *gates, size_t gate_count, uint32_t depth);
+MARRUBIGAI_LENT marrubigai_heading_reply marrubigai_heading(marrubigai_netlist net, const marrubigai_latch *latches, size_t latch_count,
+    const marrubigai_gate *gates, size_t gate_count, uint32_t depth);
 
 /* writes the clauses of one group, each ended by 0, and answers how many numbers that is: wires or closing of frame i, pair (j, i),
- * or the property; j counts only for a pair, and i not for the property. The order of the whole: for each frame wires, pairs from
- * j = i - 1 down to 0, closing; then the property. Only the property's numbers depend on the depth: not P of frames 0 to depth, and 0.
- * Constants are left out: where P is code 0 there are none, where it is code 1 they are -1 and 0. */
-marrubigai_count_reply marrubigai_write_group(marrubigai_netlist net, const marrubigai_latch *latches, size_t latch_count,
-                                              const marrubigai_gate *gates, size_t gate_count, uint32_t depth, uint32_t kind,
-                                              uint32_t j, uint32_t i, int32_t *out, size_t room);
+ * or the property; j counts only for a pair, and i not for the property. Only the property's numbers depend on the depth: not P of frames
+ * 0 to depth, and 0. Constants are left out: where P is code 0 there are none, where it is code 1 they are -1 and 0. */
+MARRUBIGAI_LENT marrubigai_count_reply marrubigai_write_group(marrubigai_netlist net, const marrubigai_latch *latches, size_t latch_count,
+    const marrubigai_gate *gates, size_t gate_count, uint32_t depth, uint32_t kind, uint32_t j, uint32_t i, int32_t *out, size_t room);
+
+/* the group that follows one in the order of the whole at a depth, which begins with the wires of frame 0: kind MARRUBIGAI_WIRES, j 0 and i 0.
+ * Behind the property, and behind what is no group of the depth, comes the end. j counts only for a pair, and i not for the property. */
+MARRUBIGAI_ANSWERS marrubigai_group_reply marrubigai_next_group(uint32_t depth, uint32_t kind, uint32_t j, uint32_t i);
 
 /* moves a running record, which the caller keeps: to frame 0 of its depth (START: frame and base are not looked at), one frame on, or back to frame
  * 0. The base is then that of the frame. A refused start answers zeros; another refused move answers the record as it was handed in, and so does a
  * number that is no move, which is 8. */
-marrubigai_position_reply marrubigai_move(marrubigai_netlist net, const marrubigai_latch *latches, size_t latch_count,
-                                          const marrubigai_gate *gates, size_t gate_count, marrubigai_position position, uint32_t way);
+MARRUBIGAI_LENT marrubigai_position_reply marrubigai_move(marrubigai_netlist net, const marrubigai_latch *latches, size_t latch_count,
+    const marrubigai_gate *gates, size_t gate_count, marrubigai_position position, uint32_t way);
 
 /* the group of a running record's frame: what marrubigai_write_group writes and answers for its depth and frame, after the test of its base */
-marrubigai_count_reply marrubigai_write_group_at(marrubigai_netlist net, const marrubigai_latch *latches, size_t latch_count,
-                                                 const marrubigai_gate *gates, size_t gate_count, marrubigai_position position,
-                                                 uint32_t kind, uint32_t j, int32_t *out, size_t room);
+MARRUBIGAI_LENT marrubigai_count_reply marrubigai_write_group_at(marrubigai_netlist net, const marrubigai_latch *latches, size_t latch_count,
+    const marrubigai_gate *gates, size_t gate_count, marrubigai_position position, uint32_t kind, uint32_t j, int32_t *out, size_t room);
 
 /* the literal of a code in a running record's frame, as it stands in clauses: a variable's number, negative where it is inverted; 1 where the
  * code is true, -1 where it is false. That of the code `net.p ^ 1` is the literal of not-P. The lists have no part in it. */
-marrubigai_literal_reply marrubigai_literal_at(marrubigai_netlist net, marrubigai_position position, marrubigai_code code);
+MARRUBIGAI_ANSWERS marrubigai_literal_reply marrubigai_literal_at(marrubigai_netlist net, marrubigai_position position, marrubigai_code code);
 
 /* writes the one sheet that stands for a record with its lists, and answers its length, 32 x (latches + gates + m + n + 3) bytes: 9 where the
  * buffer is shorter. marrubigai_read of it gives the same record and lists in all entries that are used, and a sheet that was read is written
  * as the same bytes. */
-marrubigai_count_reply marrubigai_write_sheet(marrubigai_netlist net, const marrubigai_latch *latches, size_t latch_count,
-                                              const marrubigai_gate *gates, size_t gate_count, uint8_t *out, size_t room);
+MARRUBIGAI_LENT marrubigai_count_reply marrubigai_write_sheet(marrubigai_netlist net, const marrubigai_latch *latches, size_t latch_count,
+    const marrubigai_gate *gates, size_t gate_count, uint8_t *out, size_t room);
 
 /* runs a solver's answer, in the SAT Competition's output form, through the frames 0 to depth. Only the inputs are taken from it, and the read
  * bits of frame 0 where that does not read; from an unknown start also the read bits of a frame that reads a word which no earlier frame read or
@@ -145,22 +205,22 @@ marrubigai_count_reply marrubigai_write_sheet(marrubigai_netlist net, const marr
  * Where the answer is `s UNSATISFIABLE`, claimed is 1 and nothing was written. 14 where it is malformed, or gives something that the run is fed no
  * value or both; 15 where the run breaks nothing; 9 where memory or trace are shorter than their need, tested before the answer counts. After 14 the
  * first 2^m words are 0; after 15, and where a frame is answered, they are the chip's after frame `depth`; after any other refusal they are as they
- * were. It needs some 1 MiB of stack, which a thread may not have. */
-marrubigai_replay_reply marrubigai_replay(marrubigai_netlist net, const marrubigai_latch *latches, size_t latch_count,
-                                          const marrubigai_gate *gates, size_t gate_count, uint32_t depth, const uint8_t *answer,
-                                          size_t bytes, uint32_t *memory, size_t words, uint8_t *trace, size_t trace_room);
+ * were. */
+MARRUBIGAI_LENT marrubigai_replay_reply marrubigai_replay(marrubigai_netlist net, const marrubigai_latch *latches, size_t latch_count,
+    const marrubigai_gate *gates, size_t gate_count, uint32_t depth, const uint8_t *answer, size_t bytes, uint32_t *memory, size_t words,
+    uint8_t *trace, size_t trace_room);
 
 /* the text of the program `frames`: DIMACS' problem line, numbers that a group call wrote with a clause a line, and a refusal, its
  * number and place in ten columns each. Each answers how many bytes it wrote; 9 where the buffer is shorter than the text.
  * put_clauses prints any number in decimal, INT32_MIN too, which is no clause number, and ends a line behind each 0. */
-marrubigai_count_reply marrubigai_put_header(uint8_t *out, size_t room, uint32_t variables, uint32_t clauses);
-marrubigai_count_reply marrubigai_put_clauses(uint8_t *out, size_t room, const int32_t *numbers, size_t count);
-marrubigai_count_reply marrubigai_put_refusal(uint8_t *out, size_t room, uint32_t number, uint32_t place);
+MARRUBIGAI_LENT marrubigai_count_reply marrubigai_put_header(uint8_t *out, size_t room, uint32_t variables, uint32_t clauses);
+MARRUBIGAI_LENT marrubigai_count_reply marrubigai_put_clauses(uint8_t *out, size_t room, const int32_t *numbers, size_t count);
+MARRUBIGAI_LENT marrubigai_count_reply marrubigai_put_refusal(uint8_t *out, size_t room, uint32_t number, uint32_t place);
 
 /* prints one number in decimal, as put_clauses does, from the right into the end of the buffer: its last byte is the buffer's, and those
  * before it stay as they were. Any number, INT32_MIN too, whose 11 bytes are the most; 0 is one byte. It answers how many bytes it filled;
  * 9 where the buffer is shorter. */
-marrubigai_count_reply marrubigai_put_number(uint8_t *out, size_t room, int32_t number);
+MARRUBIGAI_LENT marrubigai_count_reply marrubigai_put_number(uint8_t *out, size_t room, int32_t number);
 
 #ifdef __cplusplus
 }

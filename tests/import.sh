@@ -48,11 +48,33 @@ for wrong in "" " 1" 1x 01 -1 +1 1.0 4294967296 11111111111; do
 done
 prints "the largest numbers" "$(refusal 12 0)" "" 4294967295 4294967295 4294967295 < <(printf "$chip")
 
-# A text of exactly 4 MiB is read, and one byte more is too much, whatever it is.
-padded() { printf "$chip"; head -c "$(($1 - $(printf "$chip" | wc -c)))" /dev/zero; }
-prints "4 MiB" "$(sheet 0)" "" 1 1 0 < <(padded 4194304)
-prints "a byte more" "" "import_aag: the text has more than 4194304 bytes" 1 1 0 < <(padded 4194305)
-prints "far more" "" "import_aag: the text has more than 4194304 bytes" 1 1 0 < <(head -c 20000000 /dev/zero)
+# A text is judged by its first 4 MiB, whatever stands behind them. Only where a line that is due is not whole within them is there a message.
+most=4194304
+cut="import_aag: not all lines of the text are within its first $most bytes"
+bytes() { printf "$1" | wc -c; }
+padded() { printf "$chip"; head -c "$(($1 - $(bytes "$chip")))" /dev/zero; }
+prints "4 MiB" "$(sheet 0)" "" 1 1 0 < <(padded $most)
+prints "a byte more" "$(sheet 0)" "" 1 1 0 < <(padded $((most + 1)))
+prints "far more" "$(sheet 0)" "" 1 1 0 < <(padded 20000000)
+prints "no line feed in far more" "" "$cut" 1 1 0 < <(head -c 20000000 /dev/zero)
+prints "none in 4 MiB" "$(refusal 11 1)" "" 1 1 0 < <(head -c $most /dev/zero)
+prints "a fault on the first line of far more" "$(refusal 11 1)" "" 1 1 0 < <(printf 'aag x\n'; head -c 20000000 /dev/zero)
+prints "an undefined literal, and far more" "$(refusal 13 8)" "" 1 1 0 < <(printf 'aag 3 2 0 5 0\n2\n4\n0\n2\n1\n1\n6\n'; head -c 5000000 /dev/zero)
+# Inputs of eleven bytes a line fill the text up to a line that ends with byte 4 MiB, or behind it: 381,297 lines of them and two shorter.
+inputs() { awk -v n="$1" 'BEGIN { for (x = 0; x < n; x++) printf "%d\n", 2000000000 + 2 * x }'; }
+header='aag 2000000000 381299 0 0 0\n'
+rest=$((most - $(bytes "$header") - 381297 * 11))
+filled() { # how many bytes the last two lines have, and what stands behind them
+  printf "$header"
+  inputs 381297
+  printf '2\n%*s\n' "$(($1 - 3))" "" | tr ' ' 4
+  printf "${2-}"
+}
+prints "a last line that ends with byte 4 MiB" "$(refusal 12 0)" "" 1 1 0 < <(filled $rest)
+prints "and a byte behind it" "$(refusal 12 0)" "" 1 1 0 < <(filled $rest x)
+prints "its line feed is the first byte behind" "" "$cut" 1 1 0 < <(filled $((rest + 1)))
+prints "a text of 4 MiB that ends before it" "$(refusal 11 381300)" "" 1 1 0 < <(filled $((rest + 1)) | head -c $most)
+prints "a fault before the line that is cut" "$(refusal 11 381299)" "" 1 1 0 < <(filled $((rest + 1)) | sed '381299s/2/3/')
 
 prints "no standard input" "$(refusal 11 1)" "" 1 1 0 <&-
 prints "a folder" "$(refusal 11 1)" "" 1 1 0 < "$work"

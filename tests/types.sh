@@ -4,6 +4,7 @@
 #   `number`, which answers the clause number that a term is; inside, each is made by its own methods alone;
 # - outside `literals` none is made but the code 0 and a code of a list that is read; no number is taken out of one or put into one, no term
 #   made of a clause number or taken apart, no number of a list read but as a code, none put into a list: but in the statements `allowed`;
+# - no parameter and no field that is called a code or a wire is a plain number, in an exported function either;
 # - a list of codes bears one of the names `lists`, so that its numbers are seen;
 # - `index()` and `wire_index()` are taken in two crates alone, where the number stays a place in a table: no function answers it, nothing makes
 #   a u32 of it; a wire is moved on by `.offset(` with the counts that are in use; and a variable of a pair is made where no statement is allowed;
@@ -17,13 +18,11 @@ allowed='
 crates/clause_writer/src/lib.rt let x = a.0
 crates/clause_writer/src/lib.rt Term::True => 0, Term::False => 0, Term::Number(l) => put_lit(out, l),
 crates/call_position/src/lib.rt Term::True => 1, Term::False => -1, Term::Number(l) => l.0,
+crates/call_position/src/lib.rt number: 0, place: 0, literal: number_of(code.in_frame(position.base)),
 # wires are numbered from a count of them, and the variable of a read bit is looked up among signs
 crates/netlist/src/lib.rt Wire(wire_count(net))
 crates/netlist/src/lib.rt Wire(1 + net.inputs)
 crates/replay_frame/src/lib.rt let read = netlist::first_read_wire(net).0
-# a caller asks about a code
-crates/call_position/src/lib.rt if Code(code).is_above(netlist::last_wire(net))
-crates/call_position/src/lib.rt number: 0, place: 0, literal: number_of(Code(code).in_frame(position.base)),
 # what a sheet has is stored
 crates/sheet_steps/src/lib.rt next.address[at].0 = first
 crates/sheet_steps/src/lib.rt next.write_data[at].0 = first
@@ -140,6 +139,7 @@ apart() { # files
       signatures()
       if (inside) constructors()
       else { statements(); named(); places() }
+      verdict(code !~ /[^A-Za-z0-9_](code|wire|next|left|right|we|re|p): u32[^0-9]/, "a code or a wire as a plain number")
       verdict(code !~ /(Wire|Code|Lit) (as |\{ ?0)/ && code !~ /= (literals::)?(Wire|Code|Lit) ?;/, "one of the types by another name")
     }
     BEGIN {
@@ -197,6 +197,8 @@ fn f(net: Netlist) -> Wire { first_read_wire(net).offset(net.we.wire_index() as 
 fn f(w: Wire) -> bool { let x = w.index(); is_above(Code(x as u32)) }
 fn f(w: Wire) -> bool { let mut codes = [0; 1]; codes[0] = w.0; is_above(Code(codes[0])) }
 fn f(x: u32) -> Code { Code(x) }
+pub extern "C" fn f(net: Netlist, code: u32) -> LiteralReply { g(net) }
+pub struct Latch { pub next: u32, pub reset: u32 }
 fn f(x: i32) -> Lit { Lit(x) }
 fn f(w: Wire) -> u32 { let Wire(x) = w; x }
 fn f(t: Term) -> Wire { first().offset(1) }

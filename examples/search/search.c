@@ -48,10 +48,13 @@ static void add_group(CCaDiCaL *solver, marrubigai_position position, uint32_t k
   for (size_t t = 0; t < reply.count; t++) ccadical_add(solver, numbers[t]); // each clause ends in 0, as the solver wants it
 }
 
+// the groups of the record's frame: from its wires on, in the order of the whole
 static void add_frame(CCaDiCaL *solver, marrubigai_position position) {
-  add_group(solver, position, MARRUBIGAI_WIRES, 0);
-  for (uint32_t j = position.frame; j > 0; j--) add_group(solver, position, MARRUBIGAI_PAIR, j - 1);
-  add_group(solver, position, MARRUBIGAI_CLOSING, 0);
+  marrubigai_group_reply group = {.kind = MARRUBIGAI_WIRES, .i = position.frame};
+  while (group.kind != MARRUBIGAI_PROPERTY && group.i == position.frame) {
+    add_group(solver, position, group.kind, group.j);
+    group = marrubigai_next_group(position.depth, group.kind, group.j, group.i);
+  }
 }
 
 // not P of the record's frame: also where P is a constant, as variable 1 is true

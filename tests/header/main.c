@@ -69,6 +69,14 @@ FIELD(marrubigai_replay_reply, number, 0);
 FIELD(marrubigai_replay_reply, place, 4);
 FIELD(marrubigai_replay_reply, claimed, 8);
 FIELD(marrubigai_replay_reply, first, 12);
+SIZE(marrubigai_group_reply, 16);
+FIELD(marrubigai_group_reply, end, 0);
+FIELD(marrubigai_group_reply, kind, 4);
+FIELD(marrubigai_group_reply, j, 8);
+FIELD(marrubigai_group_reply, i, 12);
+SIZE(marrubigai_version_reply, 8);
+FIELD(marrubigai_version_reply, major, 0);
+FIELD(marrubigai_version_reply, minor, 4);
 
 #define TEXT(number) #number
 #define VERSION(major, minor) TEXT(major) "." TEXT(minor)
@@ -615,8 +623,8 @@ static void rooms(void) {
   check("the longest sheet written", marrubigai_write_sheet(most_lines, latches, 0, most_gates, 599, sheet, sizeof sheet).count ==
                                          MARRUBIGAI_SHEET_BYTES);
   check("a longer one is", marrubigai_read(sheet, sizeof sheet, latches, 0, gates, 0).number == MARRUBIGAI_RAGGED);
-  check("the longest header", marrubigai_put_header(text, MARRUBIGAI_LINE_BYTES, UINT32_MAX, UINT32_MAX).count == MARRUBIGAI_LINE_BYTES);
-  check("a refusal", marrubigai_put_refusal(text, MARRUBIGAI_LINE_BYTES, UINT32_MAX, UINT32_MAX).count == MARRUBIGAI_LINE_BYTES);
+  check("the longest header", marrubigai_put_header(text, MARRUBIGAI_HEADER_BYTES, UINT32_MAX, UINT32_MAX).count == MARRUBIGAI_HEADER_BYTES);
+  check("a refusal", marrubigai_put_refusal(text, MARRUBIGAI_HEADER_BYTES, UINT32_MAX, UINT32_MAX).count == MARRUBIGAI_HEADER_BYTES);
   check("the longest number, and one byte behind it", marrubigai_put_number(text, MARRUBIGAI_NUMBER_BYTES, INT32_MIN).count + 1 == MARRUBIGAI_NUMBER_BYTES);
   static uint32_t words[MARRUBIGAI_MEMORY_WORDS];
   static uint8_t longest_trace[MARRUBIGAI_TRACE_BYTES];
@@ -633,9 +641,67 @@ static void rooms(void) {
   check("the longest number", marrubigai_put_clauses(text, MARRUBIGAI_NUMBER_BYTES, longest, 1).count == MARRUBIGAI_NUMBER_BYTES);
 }
 
-int main(void) {
+static int follows(uint32_t depth, uint32_t kind, uint32_t j, uint32_t i, marrubigai_group_reply expected) {
+  marrubigai_group_reply reply = marrubigai_next_group(depth, kind, j, i);
+  return reply.end == expected.end && reply.kind == expected.kind && reply.j == expected.j && reply.i == expected.i;
+}
+
+static void orders(void) {
+  static const marrubigai_group_reply end = {.end = 1};
+  check("behind the wires of frame 0 comes its closing",
+        follows(2, MARRUBIGAI_WIRES, 0, 0, (marrubigai_group_reply){0, MARRUBIGAI_CLOSING, 0, 0}));
+  check("then the wires of frame 1", follows(2, MARRUBIGAI_CLOSING, 0, 0, (marrubigai_group_reply){0, MARRUBIGAI_WIRES, 0, 1}));
+  check("behind the wires of frame 2 comes the pair (1, 2)",
+        follows(2, MARRUBIGAI_WIRES, 9, 2, (marrubigai_group_reply){0, MARRUBIGAI_PAIR, 1, 2}));
+  check("then (0, 2)", follows(2, MARRUBIGAI_PAIR, 1, 2, (marrubigai_group_reply){0, MARRUBIGAI_PAIR, 0, 2}));
+  check("then its closing", follows(2, MARRUBIGAI_PAIR, 0, 2, (marrubigai_group_reply){0, MARRUBIGAI_CLOSING, 0, 2}));
+  check("then the property", follows(2, MARRUBIGAI_CLOSING, 9, 2, (marrubigai_group_reply){0, MARRUBIGAI_PROPERTY, 0, 0}));
+  check("then the end", follows(2, MARRUBIGAI_PROPERTY, 9, 9, end));
+  check("behind a frame over the depth there is none", follows(2, MARRUBIGAI_WIRES, 0, 3, end));
+  check("nor behind a pair of a frame with itself", follows(2, MARRUBIGAI_PAIR, 2, 2, end));
+  check("nor behind what is no kind", follows(2, 4, 0, 0, end));
+  // the walk of the program that prints a formula: each group is there, and their clauses are those of the heading
+  uint32_t clauses = 0, groups = 0;
+  marrubigai_group_reply group = {0, MARRUBIGAI_WIRES, 0, 0};
+  int32_t numbers[64];
+  while (!group.end && groups < 100) {
+    marrubigai_count_reply reply =
+        marrubigai_write_group(CHIP, latches, 0, gates, 0, 1, group.kind, group.j, group.i, numbers, COUNT(numbers));
+    for (size_t t = 0; t < reply.count; t++) clauses += numbers[t] == 0;
+    groups += reply.number == MARRUBIGAI_PASSED;
+    group = marrubigai_next_group(1, group.kind, group.j, group.i);
+  }
+  check("depth 1 has six groups, and 15 clauses in them", groups == 6 && clauses == 15);
+}
+
+// what the header calls a limit is the last that is taken
+static void limits(void) {
+  check("the largest depth", marrubigai_heading(CHIP, latches, 0, gates, 0, MARRUBIGAI_MOST_DEPTH).number == MARRUBIGAI_PASSED);
+  check("one more", marrubigai_heading(CHIP, latches, 0, gates, 0, MARRUBIGAI_MOST_DEPTH + 1).number == MARRUBIGAI_DEPTH);
+  marrubigai_netlist net = {.m = MARRUBIGAI_MOST_ADDRESS_BITS, .n = MARRUBIGAI_MOST_DATA_BITS};
+  net.inputs = MARRUBIGAI_MOST_WIRES - MARRUBIGAI_MOST_DATA_BITS;
+  check("the largest record", marrubigai_heading(net, latches, 0, gates, 0, 0).number == MARRUBIGAI_PASSED);
+  marrubigai_netlist wider = net, longer = net, larger = net, most = net;
+  wider.n = MARRUBIGAI_MOST_DATA_BITS + 1;
+  wider.inputs = 0;
+  longer.m = MARRUBIGAI_MOST_ADDRESS_BITS + 1;
+  larger.inputs++;
+  most.inputs = MARRUBIGAI_MOST_WIRES + 1;
+  check("one data bit more", answers_heading(marrubigai_heading(wider, latches, 0, gates, 0, 0), MARRUBIGAI_SIZE, 2, 0, 0));
+  check("one address bit more", answers_heading(marrubigai_heading(longer, latches, 0, gates, 0, 0), MARRUBIGAI_SIZE, 2, 0, 0));
+  check("one wire more", answers_heading(marrubigai_heading(larger, latches, 0, gates, 0, 0), MARRUBIGAI_SIZE, 2, 0, 0));
+  check("more inputs than wires", answers_heading(marrubigai_heading(most, latches, 0, gates, 0, 0), MARRUBIGAI_SIZE, 1, 0, 0));
+}
+
+int main(int count, char **arguments) {
+  if (count == 2 && strcmp(arguments[1], "words") == 0) { // for the script that compares them with the page
+    for (uint32_t number = 0; number < 32; number++) printf("%u %s\n", (unsigned)number, marrubigai_refusal_word(number));
+    return 0;
+  }
   check("the version's text has its numbers",
         strcmp(MARRUBIGAI_VERSION, VERSION(MARRUBIGAI_VERSION_MAJOR, MARRUBIGAI_VERSION_MINOR)) == 0);
+  check("the library is built for this header", marrubigai_version().major == MARRUBIGAI_VERSION_MAJOR &&
+                                                    marrubigai_version().minor == MARRUBIGAI_VERSION_MINOR);
   reading();
   importing();
   lines();
@@ -646,6 +712,8 @@ int main(void) {
   printing();
   sheets();
   rooms();
+  orders();
+  limits();
   printf("%d passed, %d failed\n", passed, failed);
   return failed != 0;
 }

@@ -1,7 +1,7 @@
 //! Group and heading calls through the static library: answers, contents, what is left untouched, and
 //! refusals 3 to 9 of records and calls.
 
-use super::exports::{parameters, Answer, Lists};
+use super::exports::{next_group, parameters, version, Answer, Lists};
 use super::reference::check_examples::{accepted, of_sizes, FULL_RUN, RICH};
 use super::reference::check_refusals::{Verdict, ACCEPTED, GROUP_CALLS, RECORDS};
 use super::reference::formula::{group_call, heading, Fault, Formula, Group};
@@ -239,6 +239,45 @@ pub fn list_lengths(library: &Library, tally: &mut Tally) {
             }
         }
     }
+}
+
+/// The group behind a group is that of the second implementation's order; behind what is no group of the depth there is none.
+pub fn order_agrees(tally: &mut Tally, groups: &[Group], depth: u32, of: (u32, u32, u32)) {
+    let same = |group: &Group| match (of.0, *group) {
+        (0, Group::Wires(i)) | (2, Group::Closing(i)) => i == of.2,
+        (1, Group::Pair(j, i)) => (j, i) == (of.1, of.2),
+        (3, Group::Property) => true,
+        _ => false,
+    };
+    let at = groups.iter().position(same);
+    let due = at.and_then(|at| groups.get(at + 1).copied());
+    tally.equal(("behind", depth, of), next_group(depth, of), Ok(due));
+}
+
+/// The walk from the wires of frame 0 on is the order of the whole; the version is the header's.
+pub fn orders(_: &Library, tally: &mut Tally) {
+    tally.equal("the version", version(), (0, 8));
+    let netlist = accepted(FULL_RUN);
+    let mut random = Random::new(504);
+    for depth in [0, 1, 2, 3, 7, 254, 255] {
+        let groups = Formula::new(&netlist, depth, Fault::None).groups();
+        let mut walked = vec![Group::Wires(0)];
+        while let Ok(Some(next)) = next_group(depth, parameters(walked[walked.len() - 1])) {
+            walked.push(next);
+            if walked.len() > groups.len() {
+                break;
+            }
+        }
+        tally.equal(("the walk", depth), walked == groups, true);
+        for _ in 0..400 {
+            let mut number = || random.pick(&[0, 1, 2, 3, 4, depth, depth + 1, u32::MAX]);
+            let of = (number(), number(), number());
+            order_agrees(tally, &groups, depth, of);
+        }
+    }
+    // a depth that every call refuses has an order too
+    tally.equal("the last frame of all", next_group(u32::MAX, (2, 0, u32::MAX)), Ok(Some(Group::Property)));
+    tally.equal("a frame before it", next_group(u32::MAX, (2, 0, u32::MAX - 1)), Ok(Some(Group::Wires(u32::MAX))));
 }
 
 /// The joined groups of random records and of the largest are the second implementation's formula.

@@ -114,7 +114,27 @@ struct LineReply {
     line: u32,
 }
 
+#[repr(C)]
+#[derive(Clone, Copy, Debug, PartialEq, Eq)]
+struct GroupReply {
+    end: u32,
+    kind: u32,
+    j: u32,
+    i: u32,
+}
+
+#[repr(C)]
+#[derive(Clone, Copy, Debug, PartialEq, Eq)]
+struct VersionReply {
+    major: u32,
+    minor: u32,
+}
+
 extern "C" {
+    fn marrubigai_version() -> VersionReply;
+
+    fn marrubigai_next_group(depth: u32, kind: u32, j: u32, i: u32) -> GroupReply;
+
     fn marrubigai_write_group(
         net: Record,
         latches: *const LatchRecord,
@@ -336,6 +356,27 @@ pub fn parameters(group: Group) -> (u32, u32, u32) {
         Group::Pair(j, i) => (1, j, i),
         Group::Closing(i) => (2, u32::MAX, i),
         Group::Property => (3, u32::MAX, u32::MAX),
+    }
+}
+
+/// The version of the header that the library is built for.
+pub fn version() -> (u32, u32) {
+    // SAFETY: nothing is lent.
+    let reply = unsafe { marrubigai_version() };
+    (reply.major, reply.minor)
+}
+
+/// Kind, j and i of the group that follows one in the order of a depth, `None` at the end; what does not apply must be 0.
+pub fn next_group(depth: u32, (kind, j, i): (u32, u32, u32)) -> Result<Option<Group>, &'static str> {
+    // SAFETY: nothing is lent.
+    let reply = unsafe { marrubigai_next_group(depth, kind, j, i) };
+    match (reply.end, reply.kind, reply.j, reply.i) {
+        (0, 0, 0, i) => Ok(Some(Group::Wires(i))),
+        (0, 1, j, i) => Ok(Some(Group::Pair(j, i))),
+        (0, 2, 0, i) => Ok(Some(Group::Closing(i))),
+        (0, 3, 0, 0) => Ok(Some(Group::Property)),
+        (1, 0, 0, 0) => Ok(None),
+        _ => Err("no group and no end"),
     }
 }
 

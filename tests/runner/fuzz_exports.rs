@@ -2,12 +2,14 @@
 
 use super::mutate::{change_bytes, netlist, sheet, LIMITS};
 use super::reference::answer_calls::{marks, Call as ReplayCall};
+use super::reference::check_examples::{accepted, FULL_RUN};
+use super::reference::formula::{Fault, Formula};
 use super::reference::netlist::{Gate, Latch, Netlist};
 use super::reference::random::{damaged_record, tie, Random};
 use super::reference::random_aiger::{damaged_call, draft_of, Call as ImportCall, Numbering};
 use super::reference::random_answers::{random_draft, written, written_unsatisfiable, CALL_FAULTS};
 use super::reference::Tally;
-use super::{literals, positions, prints, Library};
+use super::{calls, literals, positions, prints, Library};
 
 /// A record with its lists, with up to three of its numbers replaced and its lists lengthened or cut.
 fn record(random: &mut Random) -> Netlist {
@@ -174,8 +176,9 @@ fn change_header(random: &mut Random, text: &mut Vec<u8>) {
 
 pub fn calls(library: &Library, tally: &mut Tally, seed: u64, count: usize) {
     let mut random = Random::new(seed);
+    let any = accepted(FULL_RUN); // the order of the groups is that of every netlist
     for _ in 0..count {
-        match random.below(16) {
+        match random.below(17) {
             0 => {
                 let file = sheet(&mut random);
                 let line = small_or_limit(&mut random);
@@ -215,6 +218,16 @@ pub fn calls(library: &Library, tally: &mut Tally, seed: u64, count: usize) {
             14 => {
                 let netlist = record(&mut random);
                 literals::any(library, tally, &mut random, &netlist);
+            }
+            15 => {
+                let depth = random.below(6);
+                let of = (
+                    small_or_limit(&mut random),
+                    small_or_limit(&mut random),
+                    small_or_limit(&mut random),
+                );
+                let groups = Formula::new(&any, depth, Fault::None).groups();
+                calls::order_agrees(tally, &groups, depth, of);
             }
             _ => {
                 let netlist = record(&mut random);

@@ -297,8 +297,8 @@ fn no_literal(refusal: Refusal, place: u32) -> LiteralReply
 }
 
 // The tests of a literal call. It looks at no list, so none is lent.
-fn test_literal(net: Netlist, position: Position, code: u32) -> Verdict
-    ensures { λ r. ⌜ r ≡ literalVerdict (alone net) position code ⌝ }
+fn test_literal(net: Netlist, position: Position, code: Code) -> Verdict
+    ensures { λ r. ⌜ r ≡ literalVerdict (alone net) position (code .0) ⌝ }
 {
     let sizes = netlist_tests::test_sizes(net);
     if let Verdict::Refused(_, _) = sizes {
@@ -311,16 +311,16 @@ fn test_literal(net: Netlist, position: Position, code: u32) -> Verdict
     if let Verdict::Refused(_, _) = place {
         return place;
     }
-    if Code(code).is_above(netlist::last_wire(net)) {
+    if code.is_above(netlist::last_wire(net)) {
         return Verdict::Refused(Refusal::CodeOutside, 0);
     }
     Verdict::Passed
 }
 
 // The literal of a code in the record's frame.
-pub fn literal_at(net: Netlist, position: Position, code: u32) -> LiteralReply
-    ensures answer { λ r. ⌜ r ≡ literalSent (alone net) position code ⌝ }
-    ensures inverse { λ r. ⌜ InverseNegated (alone net) position code r ⌝ }
+pub fn literal_at(net: Netlist, position: Position, code: Code) -> LiteralReply
+    ensures answer { λ r. ⌜ r ≡ literalSent (alone net) position (code .0) ⌝ }
+    ensures inverse { λ r. ⌜ InverseNegated (alone net) position (code .0) r ⌝ }
 {
     if let Verdict::Refused(refusal, place) = test_literal(net, position, code) {
         return no_literal(refusal, place);
@@ -328,6 +328,6 @@ pub fn literal_at(net: Netlist, position: Position, code: u32) -> LiteralReply
     LiteralReply {
         number: 0,
         place: 0,
-        literal: number_of(Code(code).in_frame(position.base)),
+        literal: number_of(code.in_frame(position.base)),
     }
 }

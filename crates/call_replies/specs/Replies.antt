@@ -1,4 +1,4 @@
--- What the numbers of an exported function stand for: a group for three numbers, and the fields of a reply (RULES L4 and L5). Cited by
+-- What the numbers of an exported function stand for: a group for three numbers, and the fields of a reply (RULES L4 to L6 and L12). Cited by
 -- the functions of `call_replies` and by the exported functions.
 use Prim.Native.Nat.{ℕ}
 use mathlib.Core.Bool.{cond}
@@ -8,8 +8,12 @@ use Rattle.model.specs.declared.Group.the-variants.{Wires, Pair, Closing, Prope
 use Rattle.refusals.specs.Refusal.{replyOf}
 use Rattle.refusals.specs.declared.Verdict.{Verdict}
 use Rattle.netlist.specs.declared.Netlist.{Netlist}
+use Rattle.group_order.specs.declared.Next.{Next}
+use Rattle.group_order.specs.declared.Next.the-variants.{Then, End}
 use Rattle.sheet_parse.specs.LineAnswers.{lineSent}
 use Rattle.sheet_parse.specs.declared.LineAnswer.{LineAnswer}
+use Rattle.call_replies.specs.declared.GroupReply.{GroupReply}
+use Rattle.call_replies.specs.declared.VersionReply.{VersionReply}
 use Rattle.call_replies.specs.declared.SheetReply.{SheetReply}
 use Rattle.call_replies.specs.declared.LineReply.{LineReply}
 
@@ -17,6 +21,21 @@ use Rattle.call_replies.specs.declared.LineReply.{LineReply}
 unfoldable pub groupOf : ℕ → ℕ → ℕ → Group
 groupOf kind j i =
     cond (eqb kind 0) (Wires i) (cond (eqb kind 1) (Pair j i) (cond (eqb kind 2) (Closing i) (cond (eqb kind 3) Property (Pair i i))))
+
+-- the three numbers of a group, and of what comes next in the order
+unfoldable pub groupNumbers : Group → GroupReply
+groupNumbers (Wires i) = record { end = 0; kind = 0; j = 0; i = i }
+groupNumbers (Pair j i) = record { end = 0; kind = 1; j = j; i = i }
+groupNumbers (Closing i) = record { end = 0; kind = 2; j = 0; i = i }
+groupNumbers Property = record { end = 0; kind = 3; j = 0; i = 0 }
+
+unfoldable pub nextNumbers : Next → GroupReply
+nextNumbers (Then g) = groupNumbers g
+nextNumbers End = record { end = 1; kind = 0; j = 0; i = 0 }
+
+-- the version of the header (RULES L12)
+unfoldable pub headerVersion : VersionReply
+headerVersion = record { major = 0; minor = 8 }
 
 unfoldable pub sheetNumbers : Verdict → Netlist → SheetReply
 sheetNumbers verdict net = record { number = replyOf verdict .number; place = replyOf verdict .place; net = net }

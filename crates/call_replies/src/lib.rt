@@ -3,6 +3,7 @@ use call_unpacked::GroupAnswer;
 use call_unpacked::HeadingAnswer;
 use call_unpacked::HeadingReply;
 use dimacs::PrintAnswer;
+use group_order::Next;
 use model::Group;
 use netlist::Netlist;
 use refusals::CountReply;
@@ -14,7 +15,7 @@ ghost use mathlib.Core.Path.{_≡_};
 ghost use Rattle.refusals.specs.Slices.{withCount};
 ghost use Rattle.call_unpacked.specs.Calls.{groupReply, headingReply};
 ghost use Rattle.dimacs.specs.PrintCalls.{printReply};
-ghost use Rattle.call_replies.specs.Replies.{groupOf, sheetNumbers, withoutFields, lineNumbers};
+ghost use Rattle.call_replies.specs.Replies.{groupOf, groupNumbers, nextNumbers, sheetNumbers, withoutFields, lineNumbers, headerVersion};
 
 // The group that three numbers stand for. Another kind is no group: a pair of a frame with itself, which no depth has.
 pub fn group_of(kind: u32, j: u32, i: u32) -> Group
@@ -27,6 +28,75 @@ pub fn group_of(kind: u32, j: u32, i: u32) -> Group
         3 => Group::Property,
         _ => Group::Pair(i, i),
     }
+}
+
+// What is sent back of the order of the groups: the group as three numbers, or that there is none (`end` is 1, and the numbers are 0).
+#[repr(C)]
+pub struct GroupReply {
+    pub end: u32,
+    pub kind: u32,
+    pub j: u32,
+    pub i: u32,
+}
+
+// A group as three numbers. What its kind does not have is 0.
+fn numbers_of(group: Group) -> GroupReply
+    ensures { λ r. ⌜ r ≡ groupNumbers group ⌝ }
+{
+    match group {
+        Group::Wires(i) => GroupReply {
+            end: 0,
+            kind: 0,
+            j: 0,
+            i,
+        },
+        Group::Pair(j, i) => GroupReply {
+            end: 0,
+            kind: 1,
+            j,
+            i,
+        },
+        Group::Closing(i) => GroupReply {
+            end: 0,
+            kind: 2,
+            j: 0,
+            i,
+        },
+        Group::Property => GroupReply {
+            end: 0,
+            kind: 3,
+            j: 0,
+            i: 0,
+        },
+    }
+}
+
+// What comes next in the order, in numbers.
+pub fn next_numbers(next: Next) -> GroupReply
+    ensures { λ r. ⌜ r ≡ nextNumbers next ⌝ }
+{
+    match next {
+        Next::Then(group) => numbers_of(group),
+        Next::End => GroupReply {
+            end: 1,
+            kind: 0,
+            j: 0,
+            i: 0,
+        },
+    }
+}
+
+// The version of the header for C that the library is built for.
+#[repr(C)]
+pub struct VersionReply {
+    pub major: u32,
+    pub minor: u32,
+}
+
+pub fn version() -> VersionReply
+    ensures { λ r. ⌜ r ≡ headerVersion ⌝ }
+{
+    VersionReply { major: 0, minor: 8 }
 }
 
 // So many were written.

@@ -25,7 +25,7 @@ fn number_at(i: usize) -> Number {
     decimal::read_number(&word[..count])
 }
 
-// One byte more than the longest text that is read, so that a longer one is seen to be too long.
+// One byte more than are judged of a text, so that a longer one is seen to be longer.
 fn no_text() -> [u8; 4194305]
     ensures { λ r. ⌜ length r ≡ 4194305 ⌝ }
 {
@@ -39,9 +39,17 @@ fn no_sheet() -> [u8; 19680]
     [0; 19680]
 }
 
+// Prints what is made of the text read. Where that is nothing, says so on standard error.
 fn print_import(text: &[u8], m: u32, n: u32, word: u32, unknown: u32) {
     let mut sheet = no_sheet();
-    let bytes = program_import::write_import(&mut sheet, text, m, n, word, unknown);
+    let bytes = program_import::write_output(&mut sheet, text, m, n, word, unknown);
+    if bytes == 0 {
+        io::write_all(
+            2,
+            b"import_aag: not all lines of the text are within its first 4194304 bytes\n",
+        );
+        return;
+    }
     write_text(&sheet[..bytes]);
 }
 
@@ -49,10 +57,6 @@ fn print_import(text: &[u8], m: u32, n: u32, word: u32, unknown: u32) {
 fn import(m: u32, n: u32, word: u32, unknown: u32) {
     let mut text = no_text();
     let count = io::read_full(0, &mut text);
-    if 4194304 < count {
-        io::write_all(2, b"import_aag: the text has more than 4194304 bytes\n");
-        return;
-    }
     print_import(&text[..count], m, n, word, unknown);
 }
 

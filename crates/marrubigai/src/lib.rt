@@ -4,17 +4,28 @@ use call_lists::LatchEntry;
 use call_position::LiteralReply;
 use call_position::Position;
 use call_position::PositionReply;
+use call_replies::GroupReply;
 use call_replies::LineReply;
 use call_replies::SheetReply;
+use call_replies::VersionReply;
 use call_unpacked::HeadingReply;
+use group_order::Next;
+use literals::Code;
+use model::Group;
 use netlist::Netlist;
 use refusals::CountReply;
 use replay_call::ReplayReply;
 use sheet_parse::SheetReader;
 ghost use mathlib.Core.Path.{_≡_};
+ghost use mathlib.Core.List.{List, _∷_, _++_};
 ghost use lib.ListN.{length};
+ghost use Rattle.model.specs.Acceptance.{PathTheorem};
+ghost use Rattle.model.specs.Claim.{EncodingTheorem, StatedTheorem};
+ghost use Rattle.model.specs.Groups.{groupOrder};
+ghost use Rattle.group_order.specs.Next.{firstGroup};
 ghost use Rattle.call_lists.specs.Lent.{netLent};
-ghost use Rattle.calls.specs.LentCalls.{headingFor, groupFor, numbersAfter};
+ghost use Rattle.calls.specs.LentCalls.{headingFor, groupFor, numbersAfter, HeadingClaim, AcceptedTheorem};
+ghost use Rattle.calls.specs.Starred.{Starred};
 ghost use Rattle.decimal.specs.Digits.{signedDigits};
 ghost use Rattle.dimacs.specs.Text.{headerText, clauseText, OtherNumbers, NumberPrinted, refusalText};
 ghost use Rattle.dimacs.specs.PrintCalls.{printSent, printLeaves, fillLeaves};
@@ -32,7 +43,15 @@ ghost use Rattle.call_position.specs.GroupsAt.{groupAtSent, groupAtLeaves, ByFr
 ghost use Rattle.call_position.specs.Literals.{literalSent, InverseNegated};
 ghost use Rattle.netlist.specs.NetOf.{alone};
 ghost use Rattle.sheet_writer.specs.WriteCall.{writeSent, writeLeaves, SheetWritten};
-ghost use Rattle.call_replies.specs.Replies.{groupOf, sheetNumbers, lineNumbers};
+ghost use Rattle.call_replies.specs.Replies.{groupOf, nextNumbers, sheetNumbers, lineNumbers, headerVersion};
+
+// The version of include/marrubigai.h that the library is built for.
+#[no_mangle]
+pub extern "C" fn marrubigai_version() -> VersionReply
+    ensures { λ r. ⌜ r ≡ headerVersion ⌝ }
+{
+    call_replies::version()
+}
 
 // `calls::write_group`. The kind is 0 for the wires of frame i, 1 for the pair (j, i), 2 for the closing of frame i, 3 for the property.
 #[no_mangle]
@@ -59,7 +78,17 @@ pub extern "C" fn marrubigai_write_group(
     ))
 }
 
-// `calls::heading`.
+// `group_order::next_group`: the group that follows one in the order of the whole at this depth, which begins with the wires of frame 0.
+#[no_mangle]
+pub extern "C" fn marrubigai_next_group(depth: u32, kind: u32, j: u32, i: u32) -> GroupReply
+    ensures follows { λ r. ⌜ ((xs ys : List Group) → groupOrder depth ≡ xs ++ groupOf kind j i ∷ ys → r ≡ nextNumbers (firstGroup ys)) ⌝ }
+    ensures absent { λ r. ⌜ (((xs ys : List Group) → groupOrder depth ≡ xs ++ groupOf kind j i ∷ ys → ⊥) → r ≡ nextNumbers Next.End) ⌝ }
+    ensures begins { λ r. ⌜ firstGroup (groupOrder depth) ≡ Next.Then (groupOf 0 0 0) ⌝ }
+{
+    call_replies::next_numbers(group_order::next_group(depth, call_replies::group_of(kind, j, i)))
+}
+
+// `calls::heading`, with all its promises: a caller may have filled the record by itself.
 #[no_mangle]
 pub extern "C" fn marrubigai_heading(
     net: Netlist,
@@ -67,7 +96,12 @@ pub extern "C" fn marrubigai_heading(
     gates: &[GateEntry],
     depth: u32,
 ) -> HeadingReply
-    ensures { λ r. ⌜ r ≡ headingFor net (now (latches .entry)) (now (gates .entry)) depth ⌝ }
+    ensures answer { λ r. ⌜ r ≡ headingFor net (now (latches .entry)) (now (gates .entry)) depth ⌝ }
+    ensures claim { λ r. ⌜ HeadingClaim net (now (latches .entry)) (now (gates .entry)) depth ⌝ }
+    ensures paths { λ r. ⌜ PathTheorem ⌝ }
+    ensures accepted { λ r. ⌜ AcceptedTheorem ⌝ }
+    ensures theorems { λ r. ⌜ EncodingTheorem × StatedTheorem ⌝ }
+    ensures starred { λ r. ⌜ Starred ⌝ }
 {
     call_replies::heading_numbers(calls::heading(net, latches, gates, depth))
 }
@@ -267,9 +301,13 @@ pub extern "C" fn marrubigai_write_group_at(
 
 // `call_position::literal_at`.
 #[no_mangle]
-pub extern "C" fn marrubigai_literal_at(net: Netlist, position: Position, code: u32) -> LiteralReply
-    ensures answer { λ r. ⌜ r ≡ literalSent (alone net) position code ⌝ }
-    ensures inverse { λ r. ⌜ InverseNegated (alone net) position code r ⌝ }
+pub extern "C" fn marrubigai_literal_at(
+    net: Netlist,
+    position: Position,
+    code: Code,
+) -> LiteralReply
+    ensures answer { λ r. ⌜ r ≡ literalSent (alone net) position (code .0) ⌝ }
+    ensures inverse { λ r. ⌜ InverseNegated (alone net) position (code .0) r ⌝ }
 {
     call_position::literal_at(net, position, code)
 }

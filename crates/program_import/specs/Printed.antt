@@ -1,10 +1,17 @@
--- What `import_aag` prints for a text s with its caller's numbers (RULES P3 and P20), that its room suffices, and that 5 does not occur. Cited by `write_import`.
+-- What `import_aag` prints for a text s with its caller's numbers (RULES P3, P20 and P21), that its room suffices, and that 5 does not occur. Cited
+-- by `write_output`.
 use Prim.Native.Nat.{ℕ, _≤_}
 use mathlib.Core.Path.{_≡_}
-use mathlib.Core.List.{List}
+use mathlib.Core.Bool.{Bool, false, cond, _&&_}
+use mathlib.Core.List.{List, []}
+use lib.Dec.{eqb, ltb}
+use lib.ListN.{length, take}
 use Rattle.model.specs.Limits.{mostWires}
+use Rattle.refusals.specs.Refusal.{refusalNumber}
 use Rattle.refusals.specs.declared.Refusal.the-variants.{CodeOutside}
-use Rattle.refusals.specs.declared.Verdict.the-variants.{Passed}
+use Rattle.refusals.specs.declared.Verdict.{Verdict}
+use Rattle.refusals.specs.declared.Verdict.the-variants.{Passed, Refused}
+use Rattle.text_words.specs.Words.{linesOf}
 use Rattle.netlist.specs.Faults.{codeFault}
 use Rattle.netlist_tests.specs.Record.{testLines}
 use Rattle.aiger_netlist.specs.TextNetlist.{aagNet}
@@ -18,7 +25,24 @@ unfoldable pub importText : List ℕ → ℕ → ℕ → ℕ → ℕ → List �
 importText s m n word unknown =
     textOrRefusal (importVerdict s m n (importedWord word unknown) unknown mostWires mostWires) (sheetText (aagNet s m n (importedWord word unknown) unknown))
 
--- they are long enough: the verdict is that of an import into lists of any greater length, so that 9 does not occur
+-- whether an import stops at a line that the text does not have whole: 11 at a place behind its last line
+unfoldable pub stopsAtEnd : List ℕ → Verdict → Bool
+stopsAtEnd s Passed = false
+stopsAtEnd s (Refused r p) = eqb (refusalNumber r) 11 && ltb (length (linesOf s)) p
+
+-- what is printed of the text s, `more` where it is the beginning of a longer one: nothing, where what stands behind s could change it
+unfoldable pub printedText : Bool → List ℕ → ℕ → ℕ → ℕ → ℕ → List ℕ
+printedText more s m n word unknown =
+    cond (more && stopsAtEnd s (importVerdict s m n (importedWord word unknown) unknown mostWires mostWires)) [] (importText s m n word unknown)
+
+-- RULES P21: the first 4 MiB of what is read are judged
+abbrev pub mostText : ℕ
+mostText = 4194304
+
+unfoldable pub importOutput : List ℕ → ℕ → ℕ → ℕ → ℕ → List ℕ
+importOutput s m n word unknown = printedText (ltb mostText (length s)) (take mostText s) m n word unknown
+
+-- the lists of 600 records are long enough: the verdict is that of an import into lists of any greater length, so that 9 does not occur
 abbrev pub ImportRoomSuffices : Type 0
 ImportRoomSuffices = (s : List ℕ) (m n word unknown latchRoom gateRoom : ℕ) → mostWires ≤ latchRoom → mostWires ≤ gateRoom
     → importVerdict s m n word unknown mostWires mostWires ≡ importVerdict s m n word unknown latchRoom gateRoom

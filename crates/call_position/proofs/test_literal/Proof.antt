@@ -54,7 +54,7 @@ is-above-requires c κs = search needs
 -- only the test of the code is left
 left : (c : tie.After-is-above) →
     let a = c .before .before .before .before .before .before .before .before .before .before .args in
-    literalVerdict (alone (a .net)) (a .position) (a .code) ≡ refuseIf (c .is-above .result) CodeOutside 0
+    literalVerdict (alone (a .net)) (a .position) (a .code .0) ≡ refuseIf (c .is-above .result) CodeOutside 0
 unfolding literalVerdict _then_ testDepth
 left c =
     rw (sym (c .before .before .before .before .before .before .before .before .before .test-sizes .ensures) ∙ c .before .before .before .before .before .before .before .enum-told2 .given .1, le-ltb 255 _ (c .before .before .before .before .before .if1 .left), sym (c .before .before .before .before .test-frame .ensures) ∙ c .before .before .enum-told4 .given .1, c .is-above .ensures, c .before .last-wire .ensures)

@@ -1,5 +1,5 @@
 -- `calls::heading` meets its contract: a walk of its MIR, by hand. Both lists are unpacked into local arrays, which are lent to
--- the call over unpacked lists. Demand 3, the paths of refusal 6 and the starred facts are laws of what that call answers.
+-- the call over unpacked lists. Demand 3 and its theorems, the paths of refusal 6 and the starred facts are laws of what that call answers.
 use mathlib.Core.Path.{_≡_, refl, _∙_, ap}
 use Prim.Native.Nat.{ℕ, _<_, _^_}
 use mathlib.Core.List.{List, [], _∷_}
@@ -43,6 +43,8 @@ use Rattle.netlist.proofs.Netlist.Laws as N′
 use Rattle.call_lists.specs.Unpacked.{latchCodes, gateCodes}
 use Rattle.model.specs.Wrote.{over}
 use Rattle.model.proofs.Dependence.{paths}
+use Rattle.model.proofs.Claim.{encodes}
+use Rattle.model.proofs.Stated.{stated as stated-of}
 use Rattle.netlist_tests.proofs.Acceptance.{passes-accepted}
 use Rattle.call_lists.specs.declared.LatchEntry.{LatchEntry}
 use Rattle.call_lists.specs.declared.GateEntry.{GateEntry}
@@ -218,7 +220,8 @@ module _ {M : Type 1} (𝓤 : URA M) (H : Heap 𝓤) (A : Atoms 𝓤) (W : Given
           by ! (both 𝓤 (factI 𝓤 _ (emp 𝓤) (is ∙ ap (λ c. headingSent c (length (ls .now)) (length (gs .now)) k)
           (netOf-unpacked net (latchCodes (ls .now)) (gateCodes (gs .now)))))
           (both 𝓤 (factI 𝓤 _ (emp 𝓤) (calls-encode _ _ _ _))
-          (both 𝓤 (factI 𝓤 _ (emp 𝓤) paths) (both 𝓤 (factI 𝓤 _ (emp 𝓤) passes-accepted) (factI 𝓤 _ (emp 𝓤) starred))))))))))))))))))))))))
+          (both 𝓤 (factI 𝓤 _ (emp 𝓤) paths) (both 𝓤 (factI 𝓤 _ (emp 𝓤) passes-accepted)
+          (both 𝓤 (factI 𝓤 _ (emp 𝓤) (encodes, stated-of)) (factI 𝓤 _ (emp 𝓤) starred)))))))))))))))))))))))))
 
 heading-meets : {M : Type 1} (𝓤 : URA M) (H : Heap 𝓤) (A : Atoms 𝓤) (W : Given 𝓤 H A) (mem : Memory → SProp 𝓤)
     (run : Routine → Fun 𝓤) (𝓣 : Tables 𝓤 H)

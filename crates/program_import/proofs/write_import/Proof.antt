@@ -1,4 +1,4 @@
--- `program_import::write_import` meets its contract: the refusal, or the sheet of what was imported, which is no longer than the longest.
+-- `program_import::write_import` meets its contract: the refusal, if any, or the sheet of what was imported, which is no longer than the longest.
 use mathlib.Core.Path.{_≡_, sym, _∙_, subst}
 use mathlib.Core.List.{[]}
 use native.Mathlib.Omega.{arith}
@@ -8,15 +8,12 @@ use Rattle.refusals.specs.declared.Verdict.the-variants.{Passed}
 use Rattle.netlist.specs.NetOf.{netOf, alone}
 use Rattle.netlist.proofs.NetOf.{sizes-lists}
 use Rattle.sheet_steps.proofs.Records.{verdict-is, holds}
-use Rattle.dimacs.proofs.Text.{length-refusalText}
 use Rattle.aiger_netlist.specs.TextNetlist.{aagNet}
 use Rattle.aiger_netlist.specs.ImportVerdict.{importVerdict}
 use Rattle.aiger_netlist.proofs.Verdict.{import-passed}
 use Rattle.aiger_import.specs.ImportCall.{importedWord}
 use Rattle.sheet_writer.proofs.SheetText.{length-sheetText}
-use Rattle.program_input.specs.Input.{textOrRefusal}
-use Rattle.program_import.specs.Printed.{importText}
-use Rattle.program_import.proofs.Room.{room-suffices, no-code-outside}
+use Rattle.program_import.proofs.Cut.{printed-passed, printed-refused}
 use Rattle.program_import.proofs.write_import.Statement.{statement}
 use Rattle.program_import.proofs.write_import.Tie as tie
 
@@ -35,22 +32,19 @@ enum-known-verdict c = search needs
 number-requires : tie.Need-number-requires
 number-requires c κs = search needs
 
-write-refusal-requires : tie.Need-write-refusal-requires
-write-refusal-requires c κs =
-    let place = c .before .before .before .verdict .given .0 .1 .0 in
-    omega (arith, length-refusalText (c .number .result) place (search needs) (search needs))
+write-refused-requires : tie.Need-write-refused-requires
+write-refused-requires c κs = omega (arith, c .before .before .before .before .before .before .before .before .before .before .before .before .pre)
 
 same-length : tie.Need-same-length
 same-length c = search needs
 
 returns : tie.Need-returns
-unfolding importText textOrRefusal
 returns c =
     let told = c .before .before .before .before .before .before .verdict .given in
-    let number = c .before .before .before .number in
+    let a = c .before .before .before .before .before .before .before .before .before .before .before .before .before .before .before .args in
     let v = sym (verdict-is (c .before .before .before .before .before .before .before .before .import-text .ensures)) ∙ told .1 in
-    let w = rw (number .ensures) at (c .before .before .write-refusal .ensures) in
-    (rw v w, (omega (arith, c .before .before .write-refusal .ensures .counted, length-refusalText (number .result) (told .0 .1 .0) (search needs) (search needs)), (room-suffices, no-code-outside)))
+    let w = rw (c .before .before .before .number .ensures) at (c .before .before .write-refused .ensures) in
+    (rw (printed-refused (a .more) (a .text .now) (a .m) (a .n) (a .word) (a .unknown) _ _ v) (w .0), omega (arith, w .1))
 
 enum-told : tie.Need-enum-told
 enum-told c = search needs
@@ -76,12 +70,14 @@ same-length-2 : tie.Need-same-length-2
 same-length-2 c = search needs
 
 returns-2 : tie.Need-returns-2
-unfolding importText textOrRefusal
 returns-2 c =
     let told = c .before .before .before .before .before .before in
+    let a = c .before .before .before .before .before .before .before .before .before .before .before .before .before .before .before .args in
     let fit = limits told .sizes in
-    let w = rw (holds (told .before .before .import-text .ensures) (passed told) .net-is) at (c .before .before .put-sheet .ensures) in
-    (rw (passed told) w, (omega (arith, w .counted, length-sheetText _ (limits told), fit .wires-fit, fit .m-most), (room-suffices, no-code-outside)))
+    let w = rw (holds (told .before .before .import-text .ensures) (passed told) .net-is) at (c .before .before .put-sheet .ensures) in (
+      rw (printed-passed (a .more) (a .text .now) (a .m) (a .n) (a .word) (a .unknown) (passed told)) w,
+      omega (arith, w .counted, length-sheetText _ (limits told), fit .wires-fit, fit .m-most),
+    )
 
 pub write-import-spec : {M : Type 1} → statement M
 write-import-spec =
@@ -92,7 +88,7 @@ write-import-spec =
     import-text-requires
     enum-known-verdict
     number-requires
-    write-refusal-requires
+    write-refused-requires
     same-length
     returns
     enum-told

@@ -1,0 +1,48 @@
+-- Laws of specs/Printed.antt: what is printed by the verdict, and of what was read of a text. No contract cites this file.
+use Prim.Native.Nat.{ℕ, _≤_, _<_}
+use mathlib.Core.Path.{_≡_, refl, ap₂}
+use mathlib.Core.Bool.{Bool, true, false, cond, _&&_}
+use mathlib.Core.List.{List, []}
+use lib.Dec.{eqb, ltb}
+use lib.ListN.{length, take}
+use lib.Seq.{take-all}
+use borrow.Author.Tests.{le-ltb, lt-ltb}
+use Rattle.refusals.specs.Refusal.{refusalNumber}
+use Rattle.refusals.specs.declared.Refusal.{Refusal}
+use Rattle.refusals.specs.declared.Verdict.the-variants.{Passed, Refused}
+use Rattle.dimacs.specs.Text.{refusalText}
+use Rattle.text_words.specs.Words.{linesOf}
+use Rattle.aiger_netlist.specs.TextNetlist.{aagNet}
+use Rattle.aiger_netlist.specs.ImportVerdict.{importVerdict}
+use Rattle.aiger_import.specs.ImportCall.{importedWord}
+use Rattle.sheet_writer.specs.SheetText.{sheetText}
+use Rattle.program_input.specs.Input.{textOrRefusal}
+use Rattle.program_import.specs.Printed.{importText, stopsAtEnd, printedText, mostText, importOutput}
+
+-- no text is cut whose import does not stop
+uncut : (more : Bool) (xs : List ℕ) → cond (more && false) [] xs ≡ xs
+uncut true xs = refl
+uncut false xs = refl
+
+module _ (more : Bool) (s : List ℕ) (m n word unknown : ℕ) where
+  pub printed-passed : importVerdict s m n (importedWord word unknown) unknown 600 600 ≡ Passed
+      → printedText more s m n word unknown ≡ sheetText (aagNet s m n (importedWord word unknown) unknown)
+  unfolding printedText stopsAtEnd importText textOrRefusal
+  printed-passed e = rw e (uncut more (sheetText (aagNet s m n (importedWord word unknown) unknown)))
+
+  pub printed-refused : (r : Refusal) (p : ℕ) → importVerdict s m n (importedWord word unknown) unknown 600 600 ≡ Refused r p
+      → printedText more s m n word unknown
+      ≡ cond (more && (eqb (refusalNumber r) 11 && ltb (length (linesOf s)) p)) [] (refusalText (refusalNumber r) p)
+  unfolding printedText stopsAtEnd importText textOrRefusal
+  printed-refused r p e = rw e
+
+module _ (s : List ℕ) (m n word unknown : ℕ) where
+  -- what is read whole, and what is not
+  pub output-whole : length s ≤ mostText → importOutput s m n word unknown ≡ printedText false s m n word unknown
+  unfolding importOutput
+  output-whole h =
+      ap₂ (λ (b : Bool) (t : List ℕ). printedText b t m n word unknown) (le-ltb mostText (length s) h) (take-all mostText s h)
+
+  pub output-cut : mostText < length s → importOutput s m n word unknown ≡ printedText true (take mostText s) m n word unknown
+  unfolding importOutput
+  output-cut h = ap₂ (λ (b : Bool) (t : List ℕ). printedText b t m n word unknown) (lt-ltb mostText (length s) h) refl
