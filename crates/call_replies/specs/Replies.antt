@@ -10,12 +10,9 @@ use Rattle.refusals.specs.declared.Verdict.{Verdict}
 use Rattle.netlist.specs.declared.Netlist.{Netlist}
 use Rattle.group_order.specs.declared.Next.{Next}
 use Rattle.group_order.specs.declared.Next.the-variants.{Then, End}
-use Rattle.sheet_parse.specs.LineAnswers.{lineSent}
-use Rattle.sheet_parse.specs.declared.LineAnswer.{LineAnswer}
 use Rattle.call_replies.specs.declared.GroupReply.{GroupReply}
 use Rattle.call_replies.specs.declared.VersionReply.{VersionReply}
 use Rattle.call_replies.specs.declared.SheetReply.{SheetReply}
-use Rattle.call_replies.specs.declared.LineReply.{LineReply}
 
 -- Another kind than 0 to 3 is no group. A pair of a frame with itself is none at any depth, so it gets refusal 8.
 unfoldable pub groupOf : ℕ → ℕ → ℕ → Group
@@ -39,22 +36,3 @@ headerVersion = record { major = 0; minor = 8 }
 
 unfoldable pub sheetNumbers : Verdict → Netlist → SheetReply
 sheetNumbers verdict net = record { number = replyOf verdict .number; place = replyOf verdict .place; net = net }
-
--- what is answered of a line, and how many are read with it: where it is refused, and where there is none, letter and fields are 0
-abbrev pub withoutFields : ℕ → ℕ → ℕ → LineReply
-withoutFields number place line =
-    record { number = number; place = place; letter = 0; first = 0; second = 0; third = 0; empty = 0; line = line }
-
-unfoldable pub lineNumbers : LineAnswer → ℕ → LineReply
-lineNumbers answer line =
-    let sent = lineSent answer in
-    record {
-      number = sent .number;
-      place = sent .place;
-      letter = sent .letter;
-      first = sent .first;
-      second = sent .second;
-      third = sent .third;
-      empty = sent .empty;
-      line = line;
-    }

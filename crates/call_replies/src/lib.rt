@@ -10,12 +10,14 @@ use refusals::CountReply;
 use refusals::Refusal;
 use refusals::Verdict;
 use sheet_parse::LineAnswer;
+use sheet_parse::LineReply;
 use sheet_steps::SheetAnswer;
 ghost use mathlib.Core.Path.{_≡_};
 ghost use Rattle.refusals.specs.Slices.{withCount};
 ghost use Rattle.call_unpacked.specs.Calls.{groupReply, headingReply};
 ghost use Rattle.dimacs.specs.PrintCalls.{printReply};
-ghost use Rattle.call_replies.specs.Replies.{groupOf, groupNumbers, nextNumbers, sheetNumbers, withoutFields, lineNumbers, headerVersion};
+ghost use Rattle.sheet_parse.specs.LineAnswers.{withoutFields, lineSent};
+ghost use Rattle.call_replies.specs.Replies.{groupOf, groupNumbers, nextNumbers, sheetNumbers, headerVersion};
 
 // The group that three numbers stand for. Another kind is no group: a pair of a frame with itself, which no depth has.
 pub fn group_of(kind: u32, j: u32, i: u32) -> Group
@@ -183,20 +185,6 @@ pub fn sheet_numbers(sheet: SheetAnswer) -> SheetReply
     }
 }
 
-// What is sent back of a line: number and place (0 where it is not refused), its letter, its fields, whether the third is empty and may
-// be filled, and how many lines are read with it. An empty field is 0; letter and fields are 0 beside a refusal, and where there is no line.
-#[repr(C)]
-pub struct LineReply {
-    pub number: u32,
-    pub place: u32,
-    pub letter: u8,
-    pub first: u32,
-    pub second: u32,
-    pub third: u32,
-    pub empty: u32,
-    pub line: u32,
-}
-
 // What is sent back where no line is read.
 fn without_fields(number: u32, place: u32, line: u32) -> LineReply
     ensures { λ r. ⌜ r ≡ withoutFields number place line ⌝ }
@@ -215,7 +203,7 @@ fn without_fields(number: u32, place: u32, line: u32) -> LineReply
 
 // A line's.
 pub fn line_numbers(answer: LineAnswer, line: u32) -> LineReply
-    ensures { λ r. ⌜ r ≡ lineNumbers answer line ⌝ }
+    ensures { λ r. ⌜ r ≡ lineSent answer line ⌝ }
 {
     match answer {
         LineAnswer::Line {

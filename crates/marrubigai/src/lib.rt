@@ -5,7 +5,6 @@ use call_position::LiteralReply;
 use call_position::Position;
 use call_position::PositionReply;
 use call_replies::GroupReply;
-use call_replies::LineReply;
 use call_replies::SheetReply;
 use call_replies::VersionReply;
 use call_unpacked::HeadingReply;
@@ -15,6 +14,7 @@ use model::Group;
 use netlist::Netlist;
 use refusals::CountReply;
 use replay_call::ReplayReply;
+use sheet_parse::LineReply;
 use sheet_parse::SheetReader;
 ghost use mathlib.Core.Path.{_≡_};
 ghost use mathlib.Core.List.{List, _∷_, _++_};
@@ -29,7 +29,7 @@ ghost use Rattle.calls.specs.Starred.{Starred};
 ghost use Rattle.decimal.specs.Digits.{signedDigits};
 ghost use Rattle.dimacs.specs.Text.{headerText, clauseText, OtherNumbers, NumberPrinted, refusalText};
 ghost use Rattle.dimacs.specs.PrintCalls.{printSent, printLeaves, fillLeaves};
-ghost use Rattle.sheet_parse.specs.LineAnswers.{lineAnswer, linesRead};
+ghost use Rattle.sheet_parse.specs.LineAnswers.{lineAnswer, lineSent, linesRead};
 ghost use Rattle.sheet_reader.specs.ReadCall.{readVerdict, readRecord, latchesAfter, gatesAfter, SheetDelivered};
 ghost use Rattle.aiger_lines.specs.Written.{TextAsWritten};
 ghost use Rattle.aiger_import.specs.ImportCall.{importVerdictFor, importRecord, importLatches, importGates, TextDelivered};
@@ -43,7 +43,7 @@ ghost use Rattle.call_position.specs.GroupsAt.{groupAtSent, groupAtLeaves, ByFr
 ghost use Rattle.call_position.specs.Literals.{literalSent, InverseNegated};
 ghost use Rattle.netlist.specs.NetOf.{alone};
 ghost use Rattle.sheet_writer.specs.WriteCall.{writeSent, writeLeaves, SheetWritten};
-ghost use Rattle.call_replies.specs.Replies.{groupOf, nextNumbers, sheetNumbers, lineNumbers, headerVersion};
+ghost use Rattle.call_replies.specs.Replies.{groupOf, nextNumbers, sheetNumbers, headerVersion};
 
 // The version of include/marrubigai.h that the library is built for.
 #[no_mangle]
@@ -161,7 +161,7 @@ pub extern "C" fn marrubigai_import(
 // `SheetReader::next_line`, of the reader that has read so many lines of the file.
 #[no_mangle]
 pub extern "C" fn marrubigai_next_line(file: &[u8], line: u32) -> LineReply
-    ensures { λ r. ⌜ r ≡ lineNumbers (lineAnswer (now (file .entry)) line) (linesRead (now (file .entry)) line) ⌝ }
+    ensures { λ r. ⌜ r ≡ lineSent (lineAnswer (now (file .entry)) line) (linesRead (now (file .entry)) line) ⌝ }
 {
     let next = SheetReader { file, line }.next_line();
     call_replies::line_numbers(next.line, next.reader.line)

@@ -14,6 +14,7 @@ use Rattle.sheet_lines.specs.declared.ParsedLine.the-variants.{Misprint, Read}
 use Rattle.sheet_parse.specs.declared.LineAnswer.{LineAnswer}
 use Rattle.sheet_parse.specs.declared.LineAnswer.the-variants.{Line, Refused, NoLine}
 use Rattle.sheet_parse.specs.declared.LineAfter.{LineAfter}
+use Rattle.sheet_parse.specs.declared.LineReply.{LineReply}
 use Rattle.sheet_parse.specs.Files.{lineIn}
 
 -- whether there is a line behind the first `line`: 32 bytes of the file, and no sheet has more than 615 lines (RULES S6)
@@ -29,22 +30,17 @@ answerOf (Read kind first second third empty) place = Line kind first second thi
 unfoldable pub lineAnswer : List ℕ → ℕ → LineAnswer
 lineAnswer file line = cond (hasLine file line) (answerOf (lineIn file (line + 1)) (line + 1)) NoLine
 
--- an answer in the rules' numbers: a refusal's number and place, the line's letter and its numbers; all else is 0
-pub record LineSent : Type 0 where
-  pub number : ℕ
-  pub place : ℕ
-  pub letter : ℕ
-  pub first : ℕ
-  pub second : ℕ
-  pub third : ℕ
-  pub empty : ℕ
+-- an answer in the rules' numbers: a refusal's number and place, the line's letter and its numbers, and how many lines are read with it; where it
+-- is refused, and where there is none, letter and fields are 0
+abbrev pub withoutFields : ℕ → ℕ → ℕ → LineReply
+withoutFields number place line =
+    record { number = number; place = place; letter = 0; first = 0; second = 0; third = 0; empty = 0; line = line }
 
-unfoldable pub lineSent : LineAnswer → LineSent
-lineSent (Line kind first second third empty) =
-    record { number = 0; place = 0; letter = letterOf kind; first = first; second = second; third = third; empty = empty }
-lineSent (Refused refusal place) =
-    record { number = refusalNumber refusal; place = place; letter = 0; first = 0; second = 0; third = 0; empty = 0 }
-lineSent NoLine = record { number = 0; place = 0; letter = 0; first = 0; second = 0; third = 0; empty = 0 }
+unfoldable pub lineSent : LineAnswer → ℕ → LineReply
+lineSent (Line kind first second third empty) line =
+    record { number = 0; place = 0; letter = letterOf kind; first = first; second = second; third = third; empty = empty; line = line }
+lineSent (Refused refusal place) line = withoutFields (refusalNumber refusal) place line
+lineSent NoLine line = withoutFields 0 0 line
 
 unfoldable pub linesRead : List ℕ → ℕ → ℕ
 linesRead file line = cond (hasLine file line) (line + 1) line

@@ -13,10 +13,24 @@ ghost use Rattle.netlist.specs.NetOf.{netOf, alone};
 ghost use Rattle.sheet_steps.specs.Steps.{Outcome, SizesKnown};
 ghost use Rattle.sheet_steps.specs.Lists.{FullLength};
 ghost use Rattle.sheet_parse.specs.Files.{lineIn};
-ghost use Rattle.sheet_parse.specs.LineAnswers.{hasLine, answerOf, lineAnswer, lineSent, noLineAfter, lineAfter};
+ghost use Rattle.sheet_parse.specs.LineAnswers.{hasLine, answerOf, lineAnswer, lineSent, linesRead, noLineAfter, lineAfter};
 ghost use Rattle.sheet_parse.specs.NextLine.{nextLine};
 ghost use Rattle.sheet_parse.specs.FileTests.{ragged};
 ghost use Rattle.sheet_parse.specs.Progress.{noProgress, progressWith, answerVerdict, answerNet, moreAfter};
+
+// What is sent back of a line: number and place (0 where it is not refused), its letter, its fields, whether the third is empty and may
+// be filled, and how many lines are read with it. An empty field is 0; letter and fields are 0 beside a refusal, and where there is no line.
+#[repr(C)]
+pub struct LineReply {
+    pub number: u32,
+    pub place: u32,
+    pub letter: u8,
+    pub first: u32,
+    pub second: u32,
+    pub third: u32,
+    pub empty: u32,
+    pub line: u32,
+}
 
 // What is answered of a line: its kind, three numbers, 0 where a field is empty, and 1 where its third field may be filled and is empty;
 // a refusal with its place; or that there is none.
@@ -126,7 +140,7 @@ pub struct NextLine<'a> {
 impl<'a> SheetReader<'a> {
     // The next line, and the reader behind it: moved on where there is a line, be it misprinted or not, and else unmoved.
     pub fn next_line(self) -> NextLine<'a>
-        ensures { λ r. ⌜ (r ≡ nextLine (self .entry)) × (lineSent (r .line) ≡ lineSent (lineAnswer (now (self .entry .file)) (self .entry .line))) ⌝ }
+        ensures { λ r. ⌜ (r ≡ nextLine (self .entry)) × (lineSent (r .line) (r .reader .line) ≡ lineSent (lineAnswer (now (self .entry .file)) (self .entry .line)) (linesRead (now (self .entry .file)) (self .entry .line))) ⌝ }
     {
         let after = line_after(self.file, self.line);
         NextLine {

@@ -1,7 +1,6 @@
 -- `call_replies::line_numbers` meets its contract: each arm knows its answer.
 use borrow.Author.Needs.{needs}
 use Rattle.sheet_parse.specs.LineAnswers.{lineSent}
-use Rattle.call_replies.specs.Replies.{lineNumbers}
 use Rattle.call_replies.proofs.line_numbers.Statement.{statement}
 use Rattle.call_replies.proofs.line_numbers.Tie as tie
 
@@ -27,15 +26,15 @@ without-fields-requires-2 : tie.Need-without-fields-requires-2
 without-fields-requires-2 c κs = search needs
 
 returns : tie.Need-returns
-unfolding lineNumbers lineSent
+unfolding lineSent
 returns c = rw (c .before .before .answer .given .1, c .letter-of .ensures)
 
 returns-2 : tie.Need-returns-2
-unfolding lineNumbers lineSent
+unfolding lineSent
 returns-2 c = rw (c .before .before .before .answer2 .given .1, c .without-fields .ensures, c .before .number .ensures)
 
 returns-3 : tie.Need-returns-3
-unfolding lineNumbers lineSent
+unfolding lineSent
 returns-3 c = rw (c .before .enum-told .given .1, c .without-fields2 .ensures)
 
 pub line-numbers-spec : {M : Type 1} → statement M

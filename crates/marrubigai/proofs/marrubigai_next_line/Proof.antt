@@ -55,9 +55,8 @@ use Rattle.sheet_parse.proofs.SheetReader.next_line as next
 use Rattle.sheet_parse.proofs.SheetReader.next_line.Symbol as next-def
 use Rattle.sheet_parse.proofs.SheetReader.next_line.Symbol.{name as #next}
 use Rattle.sheet_parse.proofs.SheetReader.next_line.Met as next-thm
-use Rattle.call_replies.specs.Replies.{lineNumbers}
-use Rattle.call_replies.proofs.LineReply as Reply
-use Rattle.call_replies.proofs.LineReply.Laws as Reply′
+use Rattle.sheet_parse.proofs.LineReply as Reply
+use Rattle.sheet_parse.proofs.LineReply.Laws as Reply′
 use Rattle.call_replies.proofs.line_numbers as numbers
 use Rattle.call_replies.proofs.line_numbers.Symbol as numbers-def
 use Rattle.call_replies.proofs.line_numbers.Symbol.{name as #numbers}
@@ -145,7 +144,7 @@ module _ {M : Type 1} (𝓤 : URA M) (H : Heap 𝓤) (A : Atoms 𝓤) (W : Given
           nothing ! $ move ! (1 ∷ 0 ∷ []) $ fjoin ! $ move ! (15 ∷ 0 ∷ []) $ join ! $
           calls-told ! fm next.ended (next.clauses 𝓤 H A mem run) known-next ((κ, tt), (q, tt), tt, (r, tt), (mach ∷ [], tt)) tt
           (id⊢ 𝓤 (emp 𝓤)) (and-then ! (load ! (from ! (stop !)) (look ! 5 refl)) (no-more !)) (λ w x ws.
-          heard ! ((x ≡ nextLine r) × (lineSent (x .line) ≡ lineSent (lineAnswer (now (r .file)) (r .line)))) (λ e. move ! (1 ∷ []) $
+          heard ! ((x ≡ nextLine r) × (lineSent (x .line) (x .reader .line) ≡ lineSent (lineAnswer (now (r .file)) (r .line)) (linesRead (now (r .file)) (r .line)))) (λ e. move ! (1 ∷ []) $
           rewrite ! 0 (λ (y : NextLine). ‵ (N.the-row α .own y (w ∷ []))) (e .0) refl $
           -- [what the answer owns; …; the token; _6; …]
           peeks ! (N.the-row α) (Is (N.the-row α)) (shows 𝓤 H A (N.the-row α)) (nextLine r) (w ∷ []) (λ is-next.
@@ -171,7 +170,7 @@ module _ {M : Type 1} (𝓤 : URA M) (H : Heap 𝓤) (A : Atoms 𝓤) (W : Given
           (tt, tt, tt, (line, (number, tt)), (lineVal ∷ [], (vint w32 number ∷ [], tt))) tt (id⊢ 𝓤 (emp 𝓤))
           (and-then ! (load ! (from ! (stop !)) (look ! 5 refl))
           (and-then ! (load ! (from ! (stop !)) (look ! 3 refl)) (no-more !))) (λ w′ y ws′.
-          heard ! (y ≡ lineNumbers line number) (λ is. move ! (1 ∷ []) $
+          heard ! (y ≡ lineSent line number) (λ is. move ! (1 ∷ []) $
           peeks ! Reply.the-row (Is Reply.the-row) (shows 𝓤 H A Reply.the-row) y (w′ ∷ []) (λ is-reply.
           land ! (from ! (stop !)) (init ! 17 refl (LL.lawful Reply.the-type Reply′.the-laws 𝓤 H A W .typed y
           (w′ ∷ []) is-reply .0)) $ returns ! (look ! 17 refl) $

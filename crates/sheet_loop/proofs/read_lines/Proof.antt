@@ -257,7 +257,7 @@ module _ {M : Type 1} (𝓤 : URA M) (H : Heap 𝓤) (A : Atoms 𝓤) (W : Given
         calls-told ! (fmOf 𝓤 H (W .laws) 𝓣) next.ended (next.clauses 𝓤 H A mem run) known-next
         ((κ₀, tt), (q₀, tt), tt, (reader p, tt), (T′.lowered (reader p) ∷ [], tt)) tt (id⊢ 𝓤 (emp 𝓤))
         (and-then ! (load ! (from ! (stop !)) (look ! 14 refl)) (no-more !)) (λ w y ws.
-        heard ! ((y ≡ nextLine (reader p)) × (lineSent (y .line) ≡ lineSent (lineAnswer (now file) p))) (λ told. move ! (1 ∷ []) $
+        heard ! ((y ≡ nextLine (reader p)) × (lineSent (y .line) (y .reader .line) ≡ lineSent (lineAnswer (now file) p) (linesRead (now file) p))) (λ told. move ! (1 ∷ []) $
         rewrite ! 0 (λ (z : NextLine). ‵ (N.the-row α .own z (w ∷ []))) (told .0) refl $
         -- [the answer; …; the file's token; latches; its token; gates; its token; the progress; _12; …]
         peeks ! (N.the-row α) (Is (N.the-row α)) (shows 𝓤 H A (N.the-row α)) (nextLine (reader p)) (w ∷ []) (λ is-next.
