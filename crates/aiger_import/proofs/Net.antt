@@ -40,7 +40,7 @@ unfolding noCodes
 lists-none e = rw e (record { full = length-replicate {A = ℕ} 1200 0; none = no-code })
 
 -- below a size, f and g are the same
-upTo-same : (size : ℕ) (f g : ℕ → ℕ) → ((x : ℕ) → x < size → f x ≡ g x) → upTo size f ≡ upTo size g
+pub upTo-same : (size : ℕ) (f g : ℕ → ℕ) → ((x : ℕ) → x < size → f x ≡ g x) → upTo size f ≡ upTo size g
 upTo-same size f g same =
     fun-ext (λ x.
     by-cases (decLt x size) (λ l. rw (lt-ltb x size l) (same x l)) (λ l. rw (le-ltb x size (omega arith))))

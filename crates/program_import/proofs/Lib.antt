@@ -1,3 +1,4 @@
 pub mod Room
 pub mod Lines
 pub mod Cut
+pub mod Prefix

@@ -3,7 +3,7 @@
 use Prim.Native.Nat.{ℕ, _≤_}
 use mathlib.Core.Path.{_≡_}
 use mathlib.Core.Bool.{Bool, false, cond, _&&_}
-use mathlib.Core.List.{List, []}
+use mathlib.Core.List.{List, [], _++_}
 use lib.Dec.{eqb, ltb}
 use lib.ListN.{length, take}
 use Rattle.model.specs.Limits.{mostWires}
@@ -41,6 +41,12 @@ mostText = 4194304
 
 unfoldable pub importOutput : List ℕ → ℕ → ℕ → ℕ → ℕ → List ℕ
 importOutput s m n word unknown = printedText (ltb mostText (length s)) (take mostText s) m n word unknown
+
+-- so it is what would be printed of the whole text, however it goes on: what stands behind them changes nothing, but where nothing is printed
+abbrev pub PrefixSuffices : Type 0
+PrefixSuffices = (s rest : List ℕ) (m n word unknown : ℕ) → length s ≤ mostText
+    → stopsAtEnd s (importVerdict s m n (importedWord word unknown) unknown mostWires mostWires) ≡ false
+    → importText (s ++ rest) m n word unknown ≡ importText s m n word unknown
 
 -- the lists of 600 records are long enough: the verdict is that of an import into lists of any greater length, so that 9 does not occur
 abbrev pub ImportRoomSuffices : Type 0

@@ -9,7 +9,7 @@ ghost use lib.ListN.{length};
 ghost use Rattle.model.specs.Wrote.{Wrote};
 ghost use Rattle.dimacs.specs.Text.{refusalText};
 ghost use Rattle.text_words.specs.Words.{linesOf};
-ghost use Rattle.program_import.specs.Printed.{printedText, importOutput, ImportRoomSuffices, NoCodeOutside};
+ghost use Rattle.program_import.specs.Printed.{printedText, importOutput, PrefixSuffices, ImportRoomSuffices, NoCodeOutside};
 
 // One line more, where a byte is a line feed.
 fn line_end(x: u8) -> usize
@@ -101,6 +101,7 @@ pub fn write_output(out: &mut [u8], read: &[u8], m: u32, n: u32, word: u32, unkn
     ensures most { λ r. ⌜ r ≤ 19680 ⌝ }
     ensures room { λ _. ⌜ ImportRoomSuffices ⌝ }
     ensures codes { λ _. ⌜ NoCodeOutside ⌝ }
+    ensures prefix { λ _. ⌜ PrefixSuffices ⌝ }
 {
     if read.len() <= 4194304 {
         return write_import(out, read, false, m, n, word, unknown);
