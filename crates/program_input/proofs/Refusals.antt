@@ -1,7 +1,7 @@
 -- Which refusals an input can meet (RULES P6): those that its tests have, and 9 not, as 600 records are enough for every sheet that passes the
 -- others. Cited by `read_input`.
 use Prim.Native.Nat.{ℕ, zero, suc, _+_, _≤_}
-use mathlib.Core.Path.{_≡_, refl, subst}
+use mathlib.Core.Path.{_≡_, refl, sym, _∙_, subst}
 use mathlib.Core.Bool.{Bool, true, false, not}
 use mathlib.Core.List.{List}
 use mathlib.Core.Logic.{_⊎_, inl, inr}
@@ -29,7 +29,8 @@ use Rattle.sheet_parse.specs.Files.{lineIn, lineCount, netIn}
 use Rattle.sheet_parse.specs.FileTests.{ragged, misprinted, notDue, testLineIn}
 use Rattle.sheet_tests.specs.Sheet.{endVerdict, fileVerdict, sheetVerdict}
 use Rattle.sheet_tests.proofs.Codes.{accepted-in}
-use Rattle.program_input.specs.Input.{sheetIn, inputVerdict, OnlyInputRefusals}
+use Rattle.program_input.specs.Input.{sheetIn, OnlyInputRefusals}
+use Rattle.program_input.proofs.Replies.{depth-decides, sheet-decides}
 
 -- a refusal of 1 to 7 or 17; and a verdict that has no other
 abbrev Due : Refusal → Type 0
@@ -112,6 +113,8 @@ module _ (file : List ℕ) where
       (λ e. rw (long-enough e) tt)
 
 pub only-refusals : OnlyInputRefusals
-unfolding inputVerdict
-only-refusals s r p e =
-    subst Only e (only-then (depthVerdict s) (sheetIn (drop 11 s)) (only-depth s) (λ h. only-sheet (drop 11 s)))
+only-refusals s r p e = by-depth (depthVerdict s) refl
+  where
+    by-depth : (v : Verdict) → depthVerdict s ≡ v → Due r
+    by-depth Passed h = subst Only (sym (sheet-decides s h) ∙ e) (only-sheet (drop 11 s))
+    by-depth (Refused q x) h = subst Only (sym (depth-decides s h) ∙ e) (subst Only h (only-depth s))

@@ -12,7 +12,7 @@ use Rattle.program_input.specs.Input.{textFor}
 unfoldable pub formulaHeader : Netlist → ℕ → List ℕ
 formulaHeader c k = headerText (base c (k + 1)) (length (clausesIn (formula c k)))
 
--- "then one clause a line"
+-- the clauses behind it. RULES P2: "then one clause a line"
 unfoldable pub formulaText : Netlist → ℕ → List ℕ
 formulaText c k = formulaHeader c k ++ clauseText (formula c k)
 

@@ -6,8 +6,8 @@ use netlist::UnpackedList;
 use replay_call::ReplayReply;
 ghost use mathlib.Core.Path.{_≡_};
 ghost use mathlib.Core.Bool.{cond};
-ghost use mathlib.Core.List.{List};
-ghost use Prim.Native.Nat.{ℕ, _≤_};
+ghost use mathlib.Core.List.{List, _++_};
+ghost use Prim.Native.Nat.{ℕ, _+_, _≤_};
 ghost use lib.ListN.{length};
 ghost use Rattle.model.specs.Wrote.{Wrote};
 ghost use Rattle.model.specs.Acceptance.{SizesFit, Accepted};
@@ -95,6 +95,15 @@ fn no_words() -> [u32; 4096]
     [0; 4096]
 }
 
+// Writes one text, and another behind it.
+fn write_both(out: &mut [u8], first: &[u8], second: &[u8]) -> usize
+    requires { ⌜ length (now first) + length (now second) ≤ length (now out) ⌝ }
+    ensures { λ r. ⌜ Wrote (now (first .entry) ++ now (second .entry)) (now (out .entry)) (now (out .exit)) r ⌝ }
+{
+    let count = text_writer::write_word(out, first);
+    count + text_writer::write_word(&mut out[count..], second)
+}
+
 // Replays an answer that was read, and writes all that is printed of it into a slice that has room for the longest.
 pub fn write_replay(
     out: &mut [u8],
@@ -124,6 +133,7 @@ pub fn write_replay(
         &mut trace,
     );
     let bytes = trace_bytes(reply, net, depth);
-    let first = write_answer(out, reply);
-    first + text_writer::write_word(&mut out[first..], &trace[..bytes])
+    let mut line = [0; 28];
+    let first = write_answer(&mut line, reply);
+    write_both(out, &line[..first], &trace[..bytes])
 }

@@ -1,17 +1,16 @@
 -- `program_replay::write_replay` meets its contract: the first line, and so much of the trace behind it.
-use Prim.Native.Nat.{ℕ, _+_, _-_}
-use mathlib.Core.Path.{_≡_, sym, subst}
-use mathlib.Core.List.{List, []}
+use Prim.Native.Nat.{ℕ}
+use mathlib.Core.Path.{_≡_, sym, _∙_, ap, subst}
+use mathlib.Core.List.{List, [], _++_}
 use native.Mathlib.Omega.{arith}
 use borrow.Author.Needs.{needs}
-use borrow.Rule.Slice.PartMut.{mid-len, putMid}
-use lib.ListN.{length, take}
+use lib.ListN.{take, length-append}
 use lib.Seq.{length-take-le}
 use Rattle.model.specs.Wrote.{Wrote}
-use Rattle.model.proofs.Wrote.{wrote-then}
 use Rattle.netlist.specs.NetOf.{netOf}
 use Rattle.netlist.proofs.NetOf.{sizes-lists}
-use Rattle.program_replay.specs.Printed.{answerText}
+use Rattle.group_counts.proofs.Counted.{wrote-front}
+use Rattle.program_replay.specs.Printed.{replayedText}
 use Rattle.program_replay.proofs.Room.{room-suffices}
 use Rattle.program_replay.proofs.Printed.{replayed-text}
 use Rattle.program_replay.proofs.write_replay.Statement.{statement}
@@ -38,38 +37,34 @@ trace-bytes-requires c κs =
     let a = start .args in
     (sizes-lists (a .net) (a .latches .now) (a .gates .now) [] [] (start .pre .0 .limits .sizes), start .pre .1)
 
+slice-aggregate-write-answer : tie.Need-slice-aggregate-write-answer
+slice-aggregate-write-answer c = search needs
+
 write-answer-requires : tie.Need-write-answer-requires
 write-answer-requires c κs = search needs
 
-sub-write-word : tie.Need-sub-write-word
-sub-write-word c = search needs
+array-share-prefix-line : tie.Need-array-share-prefix-line
+array-share-prefix-line c = search needs
 
-part-write-word-start : tie.Need-part-write-word-start
-part-write-word-start c = search needs
-
-part-write-word-end : tie.Need-part-write-word-end
-part-write-word-end c = search needs
+slice-aggregate-write-both : tie.Need-slice-aggregate-write-both
+slice-aggregate-write-both c = sym (length-take-le _ _ (search needs))
 
 array-share-prefix-trace : tie.Need-array-share-prefix-trace
 array-share-prefix-trace c = search needs
 
--- so many bytes of the trace
-counted : (c : tie.After-write-word-arg) → length (take (c .before .before .before .before .before .trace-bytes .result) (c .before .before .before .before .before .before .before .before .replay-read .last .1 .1 .1 .1 .1 .1 .1 .0)) ≡ c .before .before .before .before .before .trace-bytes .result
-counted c = length-take-le _ _ (array-share-prefix-trace c)
+slice-aggregate-write-both-2 : tie.Need-slice-aggregate-write-both-2
+slice-aggregate-write-both-2 c = sym (length-take-le _ _ (search needs))
 
-slice-aggregate-write-word : tie.Need-slice-aggregate-write-word
-slice-aggregate-write-word c = sym (counted (c .before))
-
-write-word-requires : tie.Need-write-word-requires
-write-word-requires c κs =
-    let first = c .before .before .before .before .write-answer in
-    let out : List ℕ = first .last .0 in
-    rw (mid-len (first .result) (length out) out (omega arith))
-    (omega (arith, counted (c .before), c .before .before .before .before .before .before .trace-bytes .ensures .1, first .ensures .1, first .kept .0, c .before .before .before .before .before .before .before .before .before .before .before .before .before .before .before .pre .2))
-
-add-result : tie.Need-add-result
-add-result c =
-    omega (arith, c .before .before .write-word .ensures .counted, counted (c .before .before .before .before), c .before .before .before .before .before .before .before .before .before .trace-bytes .ensures .1, c .before .before .before .before .before .before .before .write-answer .ensures .1)
+write-both-requires : tie.Need-write-both-requires
+write-both-requires c κs =
+    omega (
+      arith,
+      slice-aggregate-write-both (c .before),
+      slice-aggregate-write-both-2 c,
+      c .before .before .before .before .write-answer .ensures .1,
+      c .before .before .before .before .before .before .trace-bytes .ensures .1,
+      c .before .before .before .before .before .before .before .before .before .before .before .before .before .before .before .pre .2,
+    )
 
 same-length : tie.Need-same-length
 same-length c = search needs
@@ -79,20 +74,30 @@ unfolding netOf
 returns c =
     let start = c .before .before .before .before .before .before .before .before .before .before .before .before .before .before .before .before .before .before in
     let a = start .args in
+    let net = netOf (a .net) (a .latches .now) (a .gates .now) in
     let read = c .before .before .before .before .before .before .before .before .before .before .before .before .replay-read in
-    let first = c .before .before .before .before .before .before .before .write-answer in
-    let last = c .before .before .write-word in
+    let line = c .before .before .before .before .before .before .before .write-answer in
+    let both = c .before .before .write-both in
     let bytes = c .before .before .before .before .before .before .before .before .before .trace-bytes in
+    let lines : List ℕ = read .last .1 .1 .1 .1 .1 .1 .1 .0 in
     let lent = c .before .before .before .before .before .before .before .before .before .before .before .before .before .before .before .no-lines .ensures in
     let words = c .before .before .before .before .before .before .before .before .before .before .before .before .before .before .before .before .no-words .ensures in (
       λ text t.
-          subst (λ (x : List ℕ). Wrote x (a .out .now) (putMid (first .result) (length (first .last .0) - first .result) (first .last .0) (last .last .0)) (first .result + last .result))
-          (replayed-text (netOf (a .net) (a .latches .now) (a .gates .now)) (a .depth) text (c .before .before .before .before .before .before .before .before .before .before .before .before .before .before .before .no-lines .result) (read .result) (read .last .1 .1 .1 .1 .1 .1 .1 .0) (bytes .result)
-          (start .pre .0) (start .pre .1) lent (rw (words, lent) at (read .ensures .0 text t)) (rw words at (read .ensures .1 .1 text t)) (bytes .ensures .0))
-          (wrote-then (answerText (read .result)) (take (bytes .result) (read .last .1 .1 .1 .1 .1 .1 .1 .0)) (a .out .now) (first .last .0) (last .last .0) (first .result) (last .result)
-          (first .ensures .0) (last .ensures)),
+          let printed : take (line .result) (line .last .0) ++ take (bytes .result) lines ≡ replayedText net (a .depth) text =
+          ap (λ (x : List ℕ). x ++ take (bytes .result) lines) (wrote-front (line .ensures .0))
+          ∙ replayed-text net (a .depth) text (c .before .before .before .before .before .before .before .before .before .before .before .before .before .before .before .no-lines .result) (read .result) lines (bytes .result)
+          (start .pre .0) (start .pre .1) lent (rw (words, lent) at (read .ensures .0 text t)) (rw words at (read .ensures .1 .1 text t)) (bytes .ensures .0) in
+          subst (λ (x : List ℕ). Wrote x (a .out .now) (both .last .0) (both .result)) printed (both .ensures),
       (
-        omega (arith, last .ensures .counted, counted (c .before .before .before .before), bytes .ensures .1, first .ensures .1),
+        omega (
+          arith,
+          both .ensures .counted,
+          length-append (take (line .result) (line .last .0)) (take (bytes .result) lines),
+          slice-aggregate-write-both (c .before .before .before .before),
+          slice-aggregate-write-both-2 (c .before .before .before),
+          line .ensures .1,
+          bytes .ensures .1,
+        ),
         room-suffices,
       ),
     )
@@ -107,13 +112,12 @@ write-replay-spec =
     slice-aggregate-replay-read-2
     replay-read-requires
     trace-bytes-requires
+    slice-aggregate-write-answer
     write-answer-requires
-    sub-write-word
-    part-write-word-start
-    part-write-word-end
+    array-share-prefix-line
+    slice-aggregate-write-both
     array-share-prefix-trace
-    slice-aggregate-write-word
-    write-word-requires
-    add-result
+    slice-aggregate-write-both-2
+    write-both-requires
     same-length
     returns)
