@@ -34,10 +34,9 @@ fn is_shown(of: &str, it: &Public) -> bool {
 const PROGRAM: [&str; 4] = ["program_input", "program_output", "program_replay", "program_import"];
 
 /// Definitions that no contract reaches, and why they stand in specs/.
-const UNREACHED: [(&str, &str); 3] = [
+const UNREACHED: [(&str, &str); 2] = [
     ("model/EncodingTheorem", "the theorem at every depth, of which contracts promise those up to 255"),
     ("model/StatedTheorem", "likewise"),
-    ("model/Solves", "what the laws of two crates say of a frame's values"),
 ];
 
 struct Repository(PathBuf);

@@ -9,8 +9,8 @@ use native.Mathlib.Decide.{decLt}
 use native.Mathlib.Omega.{arith}
 use borrow.Author.Tests.{lt-ltb}
 use Rattle.model.specs.Netlist.{Netlist, inputWire, latchWire, readWire, gateWire}
-use Rattle.model.specs.Circuit.{Values, codeValue, Solves}
-use Rattle.model.proofs.Circuit.{evaluate-solves}
+use Rattle.model.specs.Circuit.{Values, codeValue}
+use Rattle.model.proofs.Circuit.{Solves, evaluate-solves}
 use Rattle.model.proofs.Renumbering as Renumbering
 use Rattle.model.proofs.Renumbering.{networkOf, DefinedBefore, source, gate, Defined, OperandsDefined, straight, Renumbers, renumbered-obeys, gates-same-value, codes-same-value, solves-obeys}
 use Rattle.aiger_lines.specs.Parts.{countsIn, linesDue, textGateLine}

@@ -23,7 +23,7 @@ ghost use Rattle.sheet_reader.specs.ReadCall.{readVerdict, readRecord, latchesA
 ghost use Rattle.aiger_lines.specs.Written.{TextAsWritten};
 ghost use Rattle.aiger_import.specs.ImportCall.{importVerdictFor, importRecord, importLatches, importGates, TextDelivered};
 ghost use Rattle.answer_lines.specs.Written.{AnswerAsWritten};
-ghost use Rattle.replay_frame.specs.Replay.{OneRunTheorem};
+ghost use Rattle.replay_frame.specs.Replay.{OneRunTheorem, RoomTheorem};
 ghost use Rattle.replay_call.specs.Settled.{FaultsSettled};
 ghost use Rattle.replay_call.specs.RightAnswer.{RightAnswerTheorem};
 ghost use Rattle.replay_answer.specs.ReplayAnswer.{replayFor, memoryFor, traceFor};
@@ -185,7 +185,7 @@ pub extern "C" fn marrubigai_replay(
     ensures answer { λ r. ⌜ r ≡ replayFor (netLent net (now (latches .entry)) (now (gates .entry))) (length (now (latches .entry))) (length (now (gates .entry))) depth (now (answer .entry)) (length (now (memory .entry))) (length (now (trace .entry))) ⌝ }
     ensures memory { λ _. ⌜ now (memory .exit) ≡ memoryFor (netLent net (now (latches .entry)) (now (gates .entry))) (length (now (latches .entry))) (length (now (gates .entry))) depth (now (answer .entry)) (now (memory .entry)) (length (now (trace .entry))) ⌝ }
     ensures trace { λ _. ⌜ now (trace .exit) ≡ traceFor (netLent net (now (latches .entry)) (now (gates .entry))) (length (now (latches .entry))) (length (now (gates .entry))) depth (now (answer .entry)) (length (now (memory .entry))) (now (trace .entry)) ⌝ }
-    ensures settled { λ _. ⌜ FaultsSettled × OneRunTheorem × RightAnswerTheorem ⌝ }
+    ensures settled { λ _. ⌜ FaultsSettled × OneRunTheorem × RoomTheorem × RightAnswerTheorem ⌝ }
     ensures written { λ _. ⌜ AnswerAsWritten ⌝ }
 {
     let mut latch_codes = [0; 1200];

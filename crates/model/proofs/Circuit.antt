@@ -5,7 +5,7 @@ use mathlib.Core.Bool.{Bool, false, _&&_, true≢false}
 use native.Mathlib.Omega.{arith}
 use borrow.Author.Tests.{lt-ltb, le-ltb}
 use Rattle.model.specs.Netlist.{Netlist, Port, port, readBits, inputWire, latchWire, readWire, gateWire, lastWire}
-use Rattle.model.specs.Circuit.{Values, codeValue, sources, conjunction, evaluate, Solves, dependsOnRead, State, addressOf, readData, firstPass, frame}
+use Rattle.model.specs.Circuit.{Values, codeValue, sources, conjunction, evaluate, dependsOnRead, State, addressOf, readData, firstPass, frame}
 use Rattle.model.specs.Acceptance.{Accepted, CodesFit, IsCode}
 use Rattle.model.proofs.Bits.{fromBits-same}
 use Rattle.model.proofs.Sweep.{OfTwoWires, sweep-outside, sweep-solves, wire-induction}
@@ -20,6 +20,14 @@ code-same u v x h = rw h
 pub conjunction-of-two : OfTwoWires conjunction
 unfolding conjunction
 conjunction-of-two u v a b h k = ap₂ _&&_ (code-same u v a h) (code-same u v b k)
+
+-- the values of all wires as equations, with inputs, latches and read bits given
+pub record Solves (c : Netlist) (input latch read : ℕ → Bool) (v : Values) : Type 0 where
+  pub at-zero : v 0 ≡ false
+  pub at-input : (x : ℕ) → x < c .inputs → v (inputWire c x) ≡ input x
+  pub at-latch : (l : ℕ) → l < c .latches → v (latchWire c l) ≡ latch l
+  pub at-read : (t : ℕ) → t < readBits c → v (readWire c t) ≡ read t
+  pub at-gate : (g : ℕ) → g < c .gates → v (gateWire c g) ≡ (codeValue v (c .left g) && codeValue v (c .right g))
 
 module _ (c : Netlist) (input latch read : ℕ → Bool) where
   -- wire 0 is false

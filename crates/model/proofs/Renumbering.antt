@@ -9,11 +9,11 @@ use native.Mathlib.Nat.{le-refl, le-of-suc-le, not-suc-le-zero}
 use native.Mathlib.Omega.{arith}
 use Rattle.model.specs.Bits.{odd}
 use Rattle.model.specs.Netlist.{Netlist, gateWire, lastWire}
-use Rattle.model.specs.Circuit.{Values, codeValue, evaluate, Solves}
+use Rattle.model.specs.Circuit.{Values, codeValue, evaluate}
 use Rattle.model.specs.Network.{Network, Obeys, renamed}
 use Rattle.model.specs.Acceptance.{CodesFit}
 use Rattle.model.proofs.Below.{all-below-suc}
-use Rattle.model.proofs.Circuit.{code-same, evaluate-solves}
+use Rattle.model.proofs.Circuit.{code-same, Solves, evaluate-solves}
 
 -- the gates of a netlist, over its wires
 abbrev pub networkOf : Netlist → Network

@@ -10,8 +10,7 @@ use native.Mathlib.Omega.{arith}
 use borrow.Author.Tests.{leb-true, ltb-true}
 use lib.Dec.{leb, ltb}
 use lib.ListN.{length, getD}
-use Rattle.model.specs.Netlist.{Netlist, port}
-use Rattle.model.specs.Circuit.{run}
+use Rattle.model.specs.Netlist.{Netlist}
 use Rattle.model.specs.Acceptance.{Accepted}
 use Rattle.model.specs.Variables.{base}
 use Rattle.model.specs.Groups.{clausesOf, inDepth}
@@ -21,7 +20,6 @@ use Rattle.model.specs.Claim.{NoConstant, Stated, StatedTheorem}
 use Rattle.model.specs.declared.Group.{Group}
 use Rattle.model.specs.declared.Group.the-variants.{Wires, Pair, Closing, Property}
 use Rattle.model.proofs.Booleans.{and-true}
-use Rattle.model.proofs.Memory.{address-below, word-below}
 use Rattle.model.proofs.Gather.{all-getD, all-below-length}
 use Rattle.model.proofs.Numbering.{numbered}
 use Rattle.model.proofs.Lengths.{wires-clauses-first, wires-clauses-later, pair-clauses, closing-clauses-first, closing-clauses-later, property-clauses, wires-numbers-first, wires-numbers-later, pair-numbers, closing-numbers-first, closing-numbers-later, property-numbers}
@@ -86,8 +84,6 @@ module _ {c : Netlist} (ok : Accepted c) (k : ℕ) where
         clauses-counted = clauses-in-group;
         numbers-counted = group-numbers c k;
         no-constants = no-constant;
-        addresses-within = λ s f i. address-below c (port c) (run c s f i);
-        words-within = word-below c ok;
       }
 
 pub stated : StatedTheorem

@@ -36,14 +36,6 @@ conjunction v a b = codeValue v a && codeValue v b
 unfoldable pub evaluate : Netlist → (ℕ → Bool) → (ℕ → Bool) → (ℕ → Bool) → Values
 evaluate c input latch read = sweep conjunction c (sources c input latch read) (c .gates)
 
--- the same as equations, with inputs, latches and read bits given
-pub record Solves (c : Netlist) (input latch read : ℕ → Bool) (v : Values) : Type 0 where
-  pub at-zero : v 0 ≡ false
-  pub at-input : (x : ℕ) → x < c .inputs → v (inputWire c x) ≡ input x
-  pub at-latch : (l : ℕ) → l < c .latches → v (latchWire c l) ≡ latch l
-  pub at-read : (t : ℕ) → t < readBits c → v (readWire c t) ≡ read t
-  pub at-gate : (g : ℕ) → g < c .gates → v (gateWire c g) ≡ (codeValue v (c .left g) && codeValue v (c .right g))
-
 -- Whether a wire depends on a read bit: by wiring through gates, whatever the gates compute, and not through latches.
 -- The same sweep over the gates, from the read bits. RULES C9.
 unfoldable pub isRead : Netlist → ℕ → Bool

@@ -10,15 +10,15 @@
 -- Without the first a solver's answer could be no run of the chip; without the second a fault could go unfound.
 -- The theorem says so of every accepted netlist and every depth; its proof is `encodes` in proofs/Claim.antt. Cited by the contracts of
 -- `heading` and `read`.
-use Prim.Native.Nat.{ℕ, _+_, _^_, _≤_, _<_}
+use Prim.Native.Nat.{ℕ, _+_, _≤_, _<_}
 use mathlib.Core.Path.{_≡_}
 use mathlib.Core.Bool.{Bool, true, false}
 use mathlib.Core.List.{List, [], _∷_}
 use mathlib.Core.Logic.{_⊎_}
 use lib.IntN.{ℤ, pos, negsuc, natAbs}
 use lib.ListN.{length, getD}
-use Rattle.model.specs.Netlist.{Netlist, isUnknown, start, port, readBits, inputWire, readWire, lastWire}
-use Rattle.model.specs.Circuit.{State, Feeds, codeValue, addressOf, stateAt, run, Starts}
+use Rattle.model.specs.Netlist.{Netlist, isUnknown, start, readBits, inputWire, readWire, lastWire}
+use Rattle.model.specs.Circuit.{State, Feeds, codeValue, run, Starts}
 use Rattle.model.specs.Acceptance.{Accepted}
 use Rattle.model.specs.Variables.{base, Numbered}
 use Rattle.model.specs.Groups.{inDepth}
@@ -68,8 +68,7 @@ NoConstant zs = (zs ≡ negsuc 0 ∷ []) ⊎ ((1 ≤ length zs) × ((y : ℕ) �
 -- What else is said of the clauses of a depth. An assignment is of the variables from 1 to B(k + 1) (RULES A3): no other matters, each of
 -- them is numbered, and every number written is one of them or an end mark. Where no assignment satisfies the clauses, no run breaks
 -- the property: this is what a designer relies on. Each clause behind the first, (1), is without constants, and one that is left empty is
--- written as -1 (`no-constants`). A group has at most as many clauses and numbers as RULES G35 and G36 count. A run's memory is 2^m words of n bits
--- (RULES C23): no frame has another address, and no word is longer.
+-- written as -1 (`no-constants`). A group has at most as many clauses and numbers as RULES G35 and G36 count.
 pub record Stated (c : Netlist) (k : ℕ) : Type 0 where
   pub only-numbered : (a a′ : Assignment) → ((v : ℕ) → 1 ≤ v → v ≤ base c (k + 1) → a v ≡ a′ v) → Satisfies c k a → Satisfies c k a′
   pub all-numbered : (v : ℕ) → 1 ≤ v → v ≤ base c (k + 1) → Numbered c k v
@@ -78,8 +77,6 @@ pub record Stated (c : Netlist) (k : ℕ) : Type 0 where
   pub clauses-counted : (g : Group) → inDepth k g ≡ true → length (clausesIn (numbersOf c k g)) ≤ clauseCount c k g
   pub numbers-counted : (g : Group) → length (numbersOf c k g) ≤ numberCount c k g
   pub no-constants : (x : ℕ) → 1 ≤ x → x < length (clausesIn (formula c k)) → NoConstant (getD (clausesIn (formula c k)) x [])
-  pub addresses-within : (s : State) (f : Feeds) (i : ℕ) → addressOf c (port c) (run c s f i) < 2 ^ c .m
-  pub words-within : (s : State) → Starts c s → (f : Feeds) (i x : ℕ) → stateAt c s f i .memory x < 2 ^ c .n
 
 -- likewise: `stated` in proofs/Stated.antt
 abbrev pub StatedTheorem : Type 0

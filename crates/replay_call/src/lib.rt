@@ -11,7 +11,7 @@ ghost use Prim.Native.Nat.{_≤_};
 ghost use lib.ListN.{length};
 ghost use Rattle.model.specs.Acceptance.{SizesFit};
 ghost use Rattle.netlist.specs.NetOf.{netOf, alone};
-ghost use Rattle.replay_frame.specs.Replay.{saidIn, OneRunTheorem, traceLength};
+ghost use Rattle.replay_frame.specs.Replay.{saidIn, OneRunTheorem, RoomTheorem, traceLength};
 ghost use Rattle.replay_run.specs.Runs.{RunFits};
 ghost use Rattle.replay_call.specs.ReplayCall.{ReplaysValues, replayTests, replayReply, replaySent, replayMemory, replayTrace};
 ghost use Rattle.replay_call.specs.Settled.{FaultsSettled, TableSuffices};
@@ -149,7 +149,7 @@ pub fn replay(
         (now (memory .entry)) (length (now (trace .entry))) ⌝ }
     ensures trace { λ _. ⌜ now (trace .exit) ≡ replayTrace (netOf net (now (latches .entry)) (now (gates .entry))) «latch_count» «gate_count» depth kind (saidIn (now (signs .entry)))
         (length (now (memory .entry))) (now (trace .entry)) ⌝ }
-    ensures settled { λ _. ⌜ FaultsSettled × TableSuffices × OneRunTheorem × RightAnswerTheorem ⌝ }
+    ensures settled { λ _. ⌜ FaultsSettled × TableSuffices × OneRunTheorem × RoomTheorem × RightAnswerTheorem ⌝ }
 {
     let words = memory.len();
     let room = trace.len();

@@ -19,9 +19,10 @@ use Rattle.model.specs.Acceptance.{Accepted}
 use Rattle.model.proofs.Bits.{fromBits-below, bit-fromBits}
 use Rattle.model.proofs.Booleans.{neither-true}
 use Rattle.model.proofs.Circuit.{frame-is}
+use Rattle.model.proofs.Memory.{address-below, word-below}
 use Rattle.circuit_step.specs.Touched.{touches, touchedBefore}
 use Rattle.circuit_step.proofs.Touched.{any-same, not-read, word-untouched}
-use Rattle.replay_frame.specs.Replay.{Said, begunFrom, runFrom, stateFrom, touchedFrom, addressFrom, fillsFrom, wordSaid, startWords, fills, replayed, replayedState, OneRunTheorem}
+use Rattle.replay_frame.specs.Replay.{Said, begunFrom, runFrom, stateFrom, touchedFrom, addressFrom, fillsFrom, wordSaid, startWords, fills, replayed, replayedState, OneRunTheorem, RoomTheorem}
 use Rattle.replay_frame.proofs.Filling.{runs-on, touched-on, fills-reads, state-filled, RE-on, address-on}
 
 -- a memory of one word
@@ -113,3 +114,6 @@ one-run c ok y k =
       fills-as-said = λ i h e. reads-said ok y i (sym (fills-from ok y i (k + 1) (omega arith)) ∙ e);
       untouched = word-left ok y (k + 1);
     }
+
+pub room-enough : RoomTheorem
+room-enough c ok s f i = (address-below c (port c) (run c s f i), λ starts. word-below c ok s starts f i)

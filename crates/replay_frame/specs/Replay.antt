@@ -1,7 +1,7 @@
 -- The replay of a solver's answer (RULES Y1, Y5, Y6 and Y11 to Y14): the model's run, fed what the answer says of the inputs, of the
 -- idle word and of the words of an unknown start that are read. Cited by the functions that replay and by what the call promises
 -- (replay_call/specs/ReplayCall).
-use Prim.Native.Nat.{ℕ, zero, suc, _+_, _*_, _≤_, _<_}
+use Prim.Native.Nat.{ℕ, zero, suc, _+_, _*_, _^_, _≤_, _<_}
 use mathlib.Core.Path.{_≡_}
 use mathlib.Core.Bool.{Bool, true, false, cond, not, _&&_, _||_}
 use mathlib.Core.List.{List, [], _∷_, _++_}
@@ -10,7 +10,7 @@ use Rattle.model.specs.Search.{anyBelow, firstWhere}
 use Rattle.model.specs.Gather.{gather}
 use Rattle.model.specs.Bits.{fromBits}
 use Rattle.model.specs.Netlist.{Netlist, isUnknown, start, port, readBits, inputWire, readWire, lastWire}
-use Rattle.model.specs.Circuit.{Values, codeValue, State, addressOf, stateAt, run, Starts}
+use Rattle.model.specs.Circuit.{Values, codeValue, State, Feeds, addressOf, stateAt, run, Starts}
 use Rattle.model.specs.Acceptance.{Accepted}
 use Rattle.model.specs.Agree.{givenWord}
 use Rattle.model.specs.Variables.{base}
@@ -90,6 +90,12 @@ pub record OneRun (c : Netlist) (y : Said) (k : ℕ) : Type 0 where
 
 abbrev pub OneRunTheorem : Type 0
 OneRunTheorem = (c : Netlist) → Accepted c → (y : Said) (k : ℕ) → OneRun c y k
+
+-- Room: a run's memory is 2^m words of n bits (RULES C23). No frame has another address, and no word is longer. Promised by
+-- `marrubigai_replay`, to which 2^m words are lent; the proof is in proofs/OneRun.antt
+abbrev pub RoomTheorem : Type 0
+RoomTheorem = (c : Netlist) → Accepted c → (s : State) (f : Feeds) (i : ℕ)
+    → (addressOf c (port c) (run c s f i) < 2 ^ c .m) × (Starts c s → (x : ℕ) → stateAt c s f i .memory x < 2 ^ c .n)
 
 -- RULES Y13: an input of frame i is unclear; or a read bit where RE is false in frame 0, with the values v of the frame that is stepped, or
 -- where the frame fills a word

@@ -67,7 +67,7 @@ use Rattle.replay_answer.proofs.replay.Symbol as inner-def
 use Rattle.replay_answer.proofs.replay.Symbol.{name as #inner}
 use Rattle.replay_answer.proofs.replay.Met as inner-thm
 use Rattle.answer_lines.proofs.Written.{as-written}
-use Rattle.replay_frame.proofs.OneRun.{one-run}
+use Rattle.replay_frame.proofs.OneRun.{one-run, room-enough}
 use Rattle.replay_call.proofs.Settled.{faults-settled}
 use Rattle.replay_call.proofs.RightAnswer.{right-answer}
 use Rattle.calls.proofs.Lent.{netOf-unpacked}
@@ -284,7 +284,7 @@ module _ {M : Type 1} (𝓤 : URA M) (H : Heap 𝓤) (A : Atoms 𝓤) (W : Given
           (memory .now) (length (trace .now))) same-net))
           (both 𝓤 (factI 𝓤 _ (emp 𝓤) (traces ∙ ap (λ c. traceFor c (length (ls .now)) (length (gs .now)) k (answer .now)
           (length (memory .now)) (trace .now)) same-net))
-          (both 𝓤 (factI 𝓤 _ (emp 𝓤) (faults-settled, one-run, right-answer)) (factI 𝓤 _ (emp 𝓤) as-written)))))))))))))))))))))))))))))))))))
+          (both 𝓤 (factI 𝓤 _ (emp 𝓤) (faults-settled, one-run, room-enough, right-answer)) (factI 𝓤 _ (emp 𝓤) as-written)))))))))))))))))))))))))))))))))))
         where
           same-net : netOf net zl zg ≡ netOf net (latchCodes (ls .now)) (gateCodes (gs .now))
           same-net = netOf-unpacked net (latchCodes (ls .now)) (gateCodes (gs .now))

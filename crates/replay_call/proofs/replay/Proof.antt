@@ -4,7 +4,7 @@ use mathlib.Core.List.{[]}
 use native.Mathlib.Omega.{arith}
 use Rattle.netlist.specs.NetOf.{netOf}
 use Rattle.netlist.proofs.NetOf.{sizes-lists}
-use Rattle.replay_frame.proofs.OneRun.{one-run}
+use Rattle.replay_frame.proofs.OneRun.{one-run, room-enough}
 use Rattle.replay_call.specs.ReplayCall.{replayReply, replaySent, replayAnswer, replayMemory, replayTrace, unlessRefused, afterTests, traceAfter, outcome, wordsLeft}
 use Rattle.replay_call.proofs.ReplayCall.{tests-shown}
 use Rattle.replay_call.proofs.Settled.{faults-settled}
@@ -23,7 +23,7 @@ enum-known-refusal c = search needs
 returns : tie.Need-returns
 unfolding replayReply replaySent replayAnswer replayMemory replayTrace unlessRefused afterTests traceAfter outcome wordsLeft
 returns c =
-    let v = sym (c .before .before .before .test-replay .ensures) ∙ c .before .refusal .given .1 in (rw v, (rw v, (rw v, (faults-settled, table-suffices, one-run, right-answer))))
+    let v = sym (c .before .before .before .test-replay .ensures) ∙ c .before .refusal .given .1 in (rw v, (rw v, (rw v, (faults-settled, table-suffices, one-run, room-enough, right-answer))))
 
 enum-told : tie.Need-enum-told
 enum-told c = search needs
@@ -53,7 +53,7 @@ returns-2 : tie.Need-returns-2
 unfolding netOf replayReply replaySent replayAnswer replayMemory replayTrace unlessRefused afterTests traceAfter outcome wordsLeft
 returns-2 c =
     let v = sym (c .before .before .before .before .before .before .before .before .before .test-replay .ensures) ∙ c .before .before .before .before .before .before .before .enum-told .given .1 in
-    let kind = c .before .before .before .before .before .enum-told2 .given .1 in (rw (v, kind), (rw (v, kind, c .before .before .fill-words .ensures, c .before .before .before .word-count .ensures), (rw (v, kind), (faults-settled, table-suffices, one-run, right-answer))))
+    let kind = c .before .before .before .before .before .enum-told2 .given .1 in (rw (v, kind), (rw (v, kind, c .before .before .fill-words .ensures, c .before .before .before .word-count .ensures), (rw (v, kind), (faults-settled, table-suffices, one-run, room-enough, right-answer))))
 
 enum-told-3 : tie.Need-enum-told-3
 enum-told-3 c = search needs
@@ -62,7 +62,7 @@ returns-3 : tie.Need-returns-3
 unfolding replayReply replaySent replayAnswer replayMemory replayTrace unlessRefused afterTests traceAfter outcome wordsLeft
 returns-3 c =
     let v = sym (c .before .before .before .before .test-replay .ensures) ∙ c .before .before .enum-told .given .1 in
-    let kind = c .enum-told3 .given .1 in (rw (v, kind), (rw (v, kind), (rw (v, kind), (faults-settled, table-suffices, one-run, right-answer))))
+    let kind = c .enum-told3 .given .1 in (rw (v, kind), (rw (v, kind), (rw (v, kind), (faults-settled, table-suffices, one-run, room-enough, right-answer))))
 
 enum-told-4 : tie.Need-enum-told-4
 enum-told-4 c = search needs
@@ -86,7 +86,7 @@ returns-4 c =
     let v = sym (c .before .before .before .before .before .before .before .before .before .before .before .test-replay .ensures) ∙ c .before .before .before .before .before .before .before .before .before .enum-told .given .1 in
     let kind = c .before .before .before .before .before .before .before .enum-told4 .given .1 in
     let ran = c .before .before .before .before .replay-values .ensures in
-    (rw (v, kind, ran .answers), (rw (v, kind) (ran .memory-left), (rw (v, kind) (ran .trace-left ∙ rw (ran .answers)), (faults-settled, table-suffices, one-run, right-answer))))
+    (rw (v, kind, ran .answers), (rw (v, kind) (ran .memory-left), (rw (v, kind) (ran .trace-left ∙ rw (ran .answers)), (faults-settled, table-suffices, one-run, room-enough, right-answer))))
 
 pub replay-spec : {M : Type 1} → statement M
 replay-spec =
