@@ -117,7 +117,7 @@ unfoldable pub answerIn : List ℕ → Answer
 answerIn s = cond (isEmpty (restAfter lineFeed [] s)) (statusAnswer (keptLines (linesOf s))) malformed
 
 -- the answer without its numbers
-abbrev pub kindOf : Answer → AnswerKind
-kindOf malformed = kinds.Malformed
-kindOf unsatisfiable = kinds.Unsatisfiable
-kindOf (satisfiable ys) = kinds.Satisfiable
+abbrev pub answerKind : Answer → AnswerKind
+answerKind malformed = kinds.Malformed
+answerKind unsatisfiable = kinds.Unsatisfiable
+answerKind (satisfiable ys) = kinds.Satisfiable

@@ -8,7 +8,7 @@ use lib.IntN.{ℤ}
 use lib.ListN.{length, take}
 use Rattle.text_words.specs.Words.{partsAfter, restAfter}
 use Rattle.answer_signs.specs.Signs.{SignsOf}
-use Rattle.answer_lines.specs.Answer.{Answer, malformed, unsatisfiable, satisfiable, isEmpty, keptLines, statusAnswer, valuesAnswer, allValueLines, allValues, claimed, onlyLastZero, nothingMore, answerIn, kindOf}
+use Rattle.answer_lines.specs.Answer.{Answer, malformed, unsatisfiable, satisfiable, isEmpty, keptLines, statusAnswer, valuesAnswer, allValueLines, allValues, claimed, onlyLastZero, nothingMore, answerIn, answerKind}
 use Rattle.answer_lines.specs.Progress.{answerFrom, afterNumbers, MarkedAll}
 use Rattle.answer_lines.specs.declared.Progress.{Progress}
 use Rattle.answer_lines.specs.declared.Progress.the-variants.{NoStatus, Values, Complete, Unsatisfiable, Malformed}
@@ -65,8 +65,8 @@ module _ {seen signs : List ℕ} (scan : Scan) (b : ScanBehind seen scan signs) 
   whole = ap answerIn (sym (append-nil seen)) ∙ b .goes-on []
 
   -- an answer with no numbers, and the one with those that were read
-  without : (a : Answer) → answerIn seen ≡ a → ((ys : List ℤ) → a ≡ satisfiable ys → ⊥) → AnswerRead seen signs (kindOf a)
-  without a e n = record { kind-is = ap kindOf (sym e); signs-are = λ ys s. absurd (n ys (sym e ∙ s)) }
+  without : (a : Answer) → answerIn seen ≡ a → ((ys : List ℤ) → a ≡ satisfiable ys → ⊥) → AnswerRead seen signs (answerKind a)
+  without a e n = record { kind-is = ap answerKind (sym e); signs-are = λ ys s. absurd (n ys (sym e ∙ s)) }
 
   none : (ys : List ℤ) → malformed ≡ satisfiable ys → ⊥
   none ys e = let z : _≡_ {A = ℕ} 0 1 = cc in omega arith
@@ -75,7 +75,7 @@ module _ {seen signs : List ℕ} (scan : Scan) (b : ScanBehind seen scan signs) 
   none-either ys e = let z : _≡_ {A = ℕ} 0 1 = cc in omega arith
 
   -- a line is begun
-  pub end-begun : LineKept (scan .position) (scan .line) → 0 < scan .position .count → AnswerRead seen signs (kindOf malformed)
+  pub end-begun : LineKept (scan .position) (scan .line) → 0 < scan .position .count → AnswerRead seen signs (answerKind malformed)
   end-begun h l = without malformed (whole ∙ ap (afterNumbers (b .numbers)) unended ∙ unfold afterNumbers in refl) none
     where
       some : (n : ℕ) (line : List ℕ) → 0 < n → length line ≡ 16 → isEmpty (take n line) ≡ false
@@ -92,26 +92,26 @@ module _ {seen signs : List ℕ} (scan : Scan) (b : ScanBehind seen scan signs) 
     closed p e = whole ∙ ap (afterNumbers (b .numbers)) (unfold answerAhead partsAfter restAfter keptLines in rw (z, e))
 
     -- more lines are due, or it is malformed already
-    end-nothing : (p : Progress) → scan .position .progress ≡ p → answerFrom p [] ≡ malformed → AnswerRead seen signs (kindOf malformed)
+    end-nothing : (p : Progress) → scan .position .progress ≡ p → answerFrom p [] ≡ malformed → AnswerRead seen signs (answerKind malformed)
     end-nothing p e m = without malformed (closed p e ∙ ap (afterNumbers (b .numbers)) m ∙ unfold afterNumbers in refl) none
 
-    pub end-no-status : scan .position .progress ≡ NoStatus → AnswerRead seen signs (kindOf malformed)
+    pub end-no-status : scan .position .progress ≡ NoStatus → AnswerRead seen signs (answerKind malformed)
     end-no-status e = end-nothing NoStatus e (unfold answerFrom statusAnswer in refl)
 
-    pub end-values : scan .position .progress ≡ Values → AnswerRead seen signs (kindOf malformed)
+    pub end-values : scan .position .progress ≡ Values → AnswerRead seen signs (answerKind malformed)
     end-values e = end-nothing Values e (unfold answerFrom valuesAnswer allValueLines allValues claimed onlyLastZero in refl)
 
-    pub end-malformed : scan .position .progress ≡ Malformed → AnswerRead seen signs (kindOf malformed)
+    pub end-malformed : scan .position .progress ≡ Malformed → AnswerRead seen signs (answerKind malformed)
     end-malformed e = end-nothing Malformed e (unfold answerFrom in refl)
 
-    pub end-unsatisfiable : scan .position .progress ≡ Unsatisfiable → AnswerRead seen signs (kindOf unsatisfiable)
+    pub end-unsatisfiable : scan .position .progress ≡ Unsatisfiable → AnswerRead seen signs (answerKind unsatisfiable)
     end-unsatisfiable e = without unsatisfiable (closed Unsatisfiable e ∙ unfold answerFrom nothingMore afterNumbers in refl) none-either
 
-    pub end-satisfiable : scan .position .progress ≡ Complete → AnswerRead seen signs (kindOf (satisfiable []))
+    pub end-satisfiable : scan .position .progress ≡ Complete → AnswerRead seen signs (answerKind (satisfiable []))
     end-satisfiable e =
         let is : answerIn seen ≡ satisfiable (b .numbers) =
         closed Complete e ∙ unfold answerFrom nothingMore afterNumbers in ap satisfiable (append-nil (b .numbers)) in
         record {
-          kind-is = ap kindOf (sym is);
+          kind-is = ap answerKind (sym is);
           signs-are = λ ys s. subst (λ (zs : List ℤ). SignsOf zs signs) (cc (sym is ∙ s)) (b .signs-are);
         }

@@ -5,10 +5,10 @@ use mathlib.Core.Path.{_≡_}
 use mathlib.Core.List.{List}
 use lib.IntN.{ℤ}
 use Rattle.answer_signs.specs.Signs.{SignsOf}
-use Rattle.answer_lines.specs.Answer.{satisfiable, answerIn, kindOf}
+use Rattle.answer_lines.specs.Answer.{satisfiable, answerIn, answerKind}
 use Rattle.answer_lines.specs.declared.AnswerKind.{AnswerKind}
 
 -- the text's answer: its kind, and where it is satisfiable the signs of its numbers
 pub record AnswerRead (text signs : List ℕ) (kind : AnswerKind) : Type 0 where
-  pub kind-is : kind ≡ kindOf (answerIn text)
+  pub kind-is : kind ≡ answerKind (answerIn text)
   pub signs-are : (ys : List ℤ) → answerIn text ≡ satisfiable ys → SignsOf ys signs

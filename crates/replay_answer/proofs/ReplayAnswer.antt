@@ -8,7 +8,7 @@ use lib.ListN.{length}
 use Rattle.model.specs.Netlist.{Netlist}
 use Rattle.refusals.specs.declared.Verdict.{Verdict}
 use Rattle.refusals.specs.declared.Verdict.the-variants.{Passed, Refused}
-use Rattle.answer_lines.specs.Answer.{Answer, malformed, unsatisfiable, satisfiable, answerIn, kindOf}
+use Rattle.answer_lines.specs.Answer.{Answer, malformed, unsatisfiable, satisfiable, answerIn, answerKind}
 use Rattle.answer_lines.specs.declared.AnswerKind.{AnswerKind}
 use Rattle.answer_lines.specs.declared.AnswerKind.the-variants.{Satisfiable}
 use Rattle.answer_scan.specs.AnswerRead.{AnswerRead}
@@ -33,24 +33,24 @@ module _ (c : Netlist) (latchCount gateCount k : ℕ) where
 
   -- only a satisfiable answer's numbers count
   sent-same : (a : Answer) (y : Said) → AnswersAlike a y → (words room : ℕ)
-      → replaySent c latchCount gateCount k (kindOf a) y words room
-      ≡ replaySent c latchCount gateCount k (kindOf a) (saidOf a) words room
+      → replaySent c latchCount gateCount k (answerKind a) y words room
+      ≡ replaySent c latchCount gateCount k (answerKind a) (saidOf a) words room
   unfolding replaySent replayAnswer outcome saidOf
   sent-same malformed y h words room = refl
   sent-same unsatisfiable y h words room = refl
   sent-same (satisfiable ys) y h words room = h ys refl .same-sent words room
 
   memory-same : (a : Answer) (y : Said) → AnswersAlike a y → (old : List ℕ) (room : ℕ)
-      → replayMemory c latchCount gateCount k (kindOf a) y old room
-      ≡ replayMemory c latchCount gateCount k (kindOf a) (saidOf a) old room
+      → replayMemory c latchCount gateCount k (answerKind a) y old room
+      ≡ replayMemory c latchCount gateCount k (answerKind a) (saidOf a) old room
   unfolding replayMemory wordsLeft saidOf
   memory-same malformed y h old room = refl
   memory-same unsatisfiable y h old room = refl
   memory-same (satisfiable ys) y h old room = h ys refl .same-memory old room
 
   traces-same : (a : Answer) (y : Said) → AnswersAlike a y → (words : ℕ) (old : List ℕ)
-      → replayTrace c latchCount gateCount k (kindOf a) y words old
-      ≡ replayTrace c latchCount gateCount k (kindOf a) (saidOf a) words old
+      → replayTrace c latchCount gateCount k (answerKind a) y words old
+      ≡ replayTrace c latchCount gateCount k (answerKind a) (saidOf a) words old
   unfolding replayTrace replayAnswer outcome traceAfter saidOf
   traces-same malformed y h words old = trace-same (replayTests c latchCount gateCount k words (length old)) _ _ _ old refl
   traces-same unsatisfiable y h words old = trace-same (replayTests c latchCount gateCount k words (length old)) _ _ _ old refl
