@@ -15,14 +15,14 @@ use Rattle.decimal.specs.TextValue.{sameText}
 use Rattle.decimal.proofs.TextValue.{numberIn-empty}
 use Rattle.text_words.specs.Words.{linesOf, wordsOf, restAfter, partsAfter}
 use Rattle.aiger_lines.specs.Numbers.{wordNumbers, allUnsigned, unsignedValues, wordsAt}
-use Rattle.aiger_lines.specs.Parts.{aag, headerNumbers, numbersOnLine, countsIn, countsOf, partAt, linesDue, malformed, malformedAt}
+use Rattle.aiger_lines.specs.Parts.{aag, headerNumbers, numbersOnLine, countsIn, countsOf, partAt, linesDue, malformedLine, malformedAt}
 use Rattle.aiger_lines.specs.Steps.{spanTo, firstFive, numbersHeld, HoldsNumbers, Behind, NextLine, SoundTo}
 use Rattle.aiger_lines.specs.declared.Counts.{Counts}
 use Rattle.aiger_lines.specs.declared.Numbers.{Numbers}
 use Rattle.aiger_lines.specs.declared.Part.{Part}
 use Rattle.aiger_lines.specs.declared.Part.the-variants.{Header}
 use Rattle.aiger_lines.proofs.FirstFive.{five-holds}
-use Rattle.aiger_lines.proofs.Parts.{malformed-five, counts-first-five}
+use Rattle.aiger_lines.proofs.Parts.{malformedLine-five, counts-first-five}
 use Rattle.aiger_lines.proofs.Steps.{found-within, parts-next, parts-over, words-next, words-over}
 
 -- an empty line, which a missing one is like, has no numbers
@@ -147,11 +147,11 @@ module _ (s : List ℕ) (p : ℕ) (numbers : Numbers) (next : ℕ) (read : NextL
   pub read-holds : HoldsNumbers numbers
   read-holds = rw (read .numbers-are) (five-holds (numbersOnLine s (p + 1)))
 
-  read-malformed : malformedAt s (p + 1) ≡ malformed (countsIn s) (partAt (countsIn s) (p + 1)) (numbersHeld numbers)
+  read-malformed : malformedAt s (p + 1) ≡ malformedLine (countsIn s) (partAt (countsIn s) (p + 1)) (numbersHeld numbers)
   unfolding malformedAt
   read-malformed =
-      sym (malformed-five (countsIn s) (partAt (countsIn s) (p + 1)) (numbersOnLine s (p + 1)))
-      ∙ ap (λ (n : Numbers). malformed (countsIn s) (partAt (countsIn s) (p + 1)) (numbersHeld n)) (sym (read .numbers-are))
+      sym (malformedLine-five (countsIn s) (partAt (countsIn s) (p + 1)) (numbersOnLine s (p + 1)))
+      ∙ ap (λ (n : Numbers). malformedLine (countsIn s) (partAt (countsIn s) (p + 1)) (numbersHeld n)) (sym (read .numbers-are))
 
 -- the counts are those of line 1
 pub counts-read : (s : List ℕ) (numbers : Numbers) (next : ℕ) → NextLine s 0 numbers next → countsOf (numbersHeld numbers) ≡ countsIn s
@@ -168,11 +168,11 @@ header-part h = refl
 module _ (s : List ℕ) (counts : Counts) (counts-are : counts ≡ countsIn s) where
   pub line-malformed :
       (p : ℕ) (numbers : Numbers) (next : ℕ) → NextLine s p numbers next → (part : Part) → part ≡ partAt counts (p + 1) →
-      malformedAt s (p + 1) ≡ malformed counts part (numbersHeld numbers)
+      malformedAt s (p + 1) ≡ malformedLine counts part (numbersHeld numbers)
   line-malformed p numbers next read part e = rw (e, counts-are) (read-malformed s p numbers next read)
 
   pub header-malformed :
-      (numbers : Numbers) (next : ℕ) → NextLine s 0 numbers next → malformedAt s 1 ≡ malformed counts Header (numbersHeld numbers)
+      (numbers : Numbers) (next : ℕ) → NextLine s 0 numbers next → malformedAt s 1 ≡ malformedLine counts Header (numbersHeld numbers)
   header-malformed numbers next read = line-malformed 0 numbers next read Header (sym (header-part counts))
 
 -- One line after another is found sound: lines 1 to `line` are, and the next begins at byte `at`.

@@ -14,7 +14,7 @@ use lib.Seq.{drop-cons, take-all}
 use Rattle.model.proofs.Booleans.{neither-true, not-true-false}
 use Rattle.decimal.specs.TextValue.{sameText}
 use Rattle.decimal.proofs.TextValue.{sameText-true}
-use Rattle.aiger_lines.specs.Parts.{aag, countsFrom, countsOf, width, hasLiterals, defines, literalLimit, anyAbove, notDefinable, malformed}
+use Rattle.aiger_lines.specs.Parts.{aag, countsFrom, countsOf, width, hasLiterals, defines, literalLimit, anyAbove, notDefinable, malformedLine}
 use Rattle.aiger_lines.specs.Steps.{firstFive, numbersHeld, HoldsNumbers}
 use Rattle.aiger_lines.specs.declared.Counts.{Counts}
 use Rattle.aiger_lines.specs.declared.Numbers.{Numbers}
@@ -84,38 +84,38 @@ width-bounds Output = (omega arith, omega arith)
 width-bounds Gate = (omega arith, omega arith)
 
 -- another count of numbers is malformed
-pub malformed-count : (h : Counts) (part : Part) (xs : List ℕ) → (length xs ≡ width part → ⊥) → malformed h part xs ≡ true
-unfolding malformed
-malformed-count h part xs n = rw (ne-eqb (length xs) (width part) n)
+pub malformedLine-count : (h : Counts) (part : Part) (xs : List ℕ) → (length xs ≡ width part → ⊥) → malformedLine h part xs ≡ true
+unfolding malformedLine
+malformedLine-count h part xs n = rw (ne-eqb (length xs) (width part) n)
 
 -- with the count that is due, the literals decide
 module _ (h : Counts) (part : Part) (xs : List ℕ) (count : length xs ≡ width part) where
-  pub malformed-high : (hasLiterals part && anyAbove (literalLimit h) xs) ≡ true → malformed h part xs ≡ true
-  unfolding malformed
-  malformed-high e = rw (eq-eqb (length xs) (width part) count, e)
+  pub malformedLine-high : (hasLiterals part && anyAbove (literalLimit h) xs) ≡ true → malformedLine h part xs ≡ true
+  unfolding malformedLine
+  malformedLine-high e = rw (eq-eqb (length xs) (width part) count, e)
 
-  pub malformed-defined : (hasLiterals part && anyAbove (literalLimit h) xs) ≡ false → malformed h part xs ≡ (defines part && notDefinable (getD xs 0 0))
-  unfolding malformed
-  malformed-defined e = rw (eq-eqb (length xs) (width part) count, e)
+  pub malformedLine-defined : (hasLiterals part && anyAbove (literalLimit h) xs) ≡ false → malformedLine h part xs ≡ (defines part && notDefinable (getD xs 0 0))
+  unfolding malformedLine
+  malformedLine-defined e = rw (eq-eqb (length xs) (width part) count, e)
 
 -- more than five numbers are malformed as none are
-pub malformed-five : (h : Counts) (part : Part) (xs : List ℕ) → malformed h part (numbersHeld (firstFive xs)) ≡ malformed h part xs
-malformed-five h part xs = by-cases (decLt 5 (length xs)) more few
+pub malformedLine-five : (h : Counts) (part : Part) (xs : List ℕ) → malformedLine h part (numbersHeld (firstFive xs)) ≡ malformedLine h part xs
+malformedLine-five h part xs = by-cases (decLt 5 (length xs)) more few
   where
-    more : 5 < length xs → malformed h part (numbersHeld (firstFive xs)) ≡ malformed h part xs
+    more : 5 < length xs → malformedLine h part (numbersHeld (firstFive xs)) ≡ malformedLine h part xs
     more l =
-        ap (λ (n : Numbers). malformed h part (numbersHeld n)) (five-many xs l)
-        ∙ ap (malformed h part) (five-in [] (omega arith))
-        ∙ malformed-count h part [] (λ e. omega (arith, width-bounds part .0))
-        ∙ sym (malformed-count h part xs (λ e. omega (arith, width-bounds part .1)))
+        ap (λ (n : Numbers). malformedLine h part (numbersHeld n)) (five-many xs l)
+        ∙ ap (malformedLine h part) (five-in [] (omega arith))
+        ∙ malformedLine-count h part [] (λ e. omega (arith, width-bounds part .0))
+        ∙ sym (malformedLine-count h part xs (λ e. omega (arith, width-bounds part .1)))
 
-    few : (5 < length xs → ⊥) → malformed h part (numbersHeld (firstFive xs)) ≡ malformed h part xs
-    few n = ap (malformed h part) (five-in xs (omega arith))
+    few : (5 < length xs → ⊥) → malformedLine h part (numbersHeld (firstFive xs)) ≡ malformedLine h part xs
+    few n = ap (malformedLine h part) (five-in xs (omega arith))
 
 -- What a line that is not malformed has: the count that is due, and where it defines a literal, an even one above 1.
-module _ (h : Counts) (part : Part) (xs : List ℕ) (well : malformed h part xs ≡ false) where
+module _ (h : Counts) (part : Part) (xs : List ℕ) (well : malformedLine h part xs ≡ false) where
   tests : (not (eqb (length xs) (width part)) ≡ false) × ((defines part && notDefinable (getD xs 0 0)) ≡ false)
-  unfolding malformed
+  unfolding malformedLine
   tests =
       let a =
       neither-true (not (eqb (length xs) (width part)) || (hasLiterals part && anyAbove (literalLimit h) xs))

@@ -97,11 +97,11 @@ notDefinable x = ltb x 2 || eqb (x % 2) 1
 
 -- RULES I4: a line of a part with these numbers is not well-formed: too few or too many of them, a literal above 2M + 1, or a defined
 -- one that is odd or below 2
-unfoldable pub malformed : Counts → Part → List ℕ → Bool
-malformed h part xs =
+unfoldable pub malformedLine : Counts → Part → List ℕ → Bool
+malformedLine h part xs =
     not (eqb (length xs) (width part))
     || (hasLiterals part && anyAbove (literalLimit h) xs)
     || (defines part && notDefinable (getD xs 0 0))
 
 unfoldable pub malformedAt : List ℕ → ℕ → Bool
-malformedAt s p = malformed (countsIn s) (partAt (countsIn s) p) (numbersOnLine s p)
+malformedAt s p = malformedLine (countsIn s) (partAt (countsIn s) p) (numbersOnLine s p)

@@ -8,7 +8,7 @@ ghost use lib.ListN.{length, drop};
 ghost use Rattle.decimal.specs.TextValue.{sameText};
 ghost use Rattle.text_words.specs.Words.{wordsOf};
 ghost use Rattle.aiger_lines.specs.Numbers.{wordNumbers};
-ghost use Rattle.aiger_lines.specs.Parts.{aag, headerNumbers, countsOf, partAt, linesDue, width, hasLiterals, defines, literalLimit, anyAbove, notDefinable, malformed};
+ghost use Rattle.aiger_lines.specs.Parts.{aag, headerNumbers, countsOf, partAt, linesDue, width, hasLiterals, defines, literalLimit, anyAbove, notDefinable, malformedLine};
 ghost use Rattle.aiger_lines.specs.Written.{TextAsWritten};
 ghost use Rattle.aiger_lines.specs.Steps.{spanTo, firstFive, numbersHeld, HoldsNumbers, Behind, NextLine, HeaderRead, SoundTo};
 
@@ -309,7 +309,7 @@ fn has_wrong_definition(part: Part, literal: u32) -> bool
 // Whether a line of a part with these numbers is not well-formed.
 fn is_malformed(counts: Counts, part: Part, numbers: Numbers) -> bool
     requires { ⌜ HoldsNumbers numbers ⌝ }
-    ensures { λ r. ⌜ r ≡ malformed counts part (numbersHeld numbers) ⌝ }
+    ensures { λ r. ⌜ r ≡ malformedLine counts part (numbersHeld numbers) ⌝ }
 {
     if numbers.count == width(part) {
         if has_high_literal(counts, part, numbers) {

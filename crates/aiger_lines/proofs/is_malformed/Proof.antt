@@ -8,7 +8,7 @@ use borrow.Author.Needs.{needs}
 use Rattle.aiger_lines.specs.Parts.{width, defines, notDefinable}
 use Rattle.aiger_lines.specs.Steps.{numbersHeld}
 use Rattle.aiger_lines.proofs.FirstFive.{in-length, in-at}
-use Rattle.aiger_lines.proofs.Parts.{width-bounds, malformed-count, malformed-high, malformed-defined}
+use Rattle.aiger_lines.proofs.Parts.{width-bounds, malformedLine-count, malformedLine-high, malformedLine-defined}
 use Rattle.aiger_lines.proofs.is_malformed.Statement.{statement}
 use Rattle.aiger_lines.proofs.is_malformed.Tie as tie
 
@@ -24,7 +24,7 @@ returns c =
     let numbers = start .args .t3 in
     let count = in-length numbers (start .pre) ∙ c .before .before .if1 .taken ∙ c .before .before .before .width .ensures in
     let high = sym (c .before .has-high-literal .ensures) ∙ c .if2 .taken in
-    sym (malformed-high (start .args .counts) (start .args .part) (numbersHeld numbers) count high)
+    sym (malformedLine-high (start .args .counts) (start .args .part) (numbersHeld numbers) count high)
 
 element-copy-out-has-wrong-definition : tie.Need-element-copy-out-has-wrong-definition
 element-copy-out-has-wrong-definition c = search needs
@@ -42,14 +42,14 @@ returns-2 c =
     let some = in-at numbers 0 (omega (arith, in-length numbers (start .pre), width-bounds (start .args .part))) in
     c .has-wrong-definition .ensures
     ∙ ap (λ (x : ℕ). defines (start .args .part) && notDefinable x) (sym some)
-    ∙ sym (malformed-defined (start .args .counts) (start .args .part) (numbersHeld numbers) count low)
+    ∙ sym (malformedLine-defined (start .args .counts) (start .args .part) (numbersHeld numbers) count low)
 
 returns-3 : tie.Need-returns-3
 returns-3 c =
     let start = c .before .before in
     let numbers = start .args .t3 in
     sym
-    (malformed-count (start .args .counts) (start .args .part) (numbersHeld numbers)
+    (malformedLine-count (start .args .counts) (start .args .part) (numbersHeld numbers)
     (λ e. c .if1 .left (sym (in-length numbers (start .pre)) ∙ e ∙ sym (c .before .width .ensures))))
 
 pub is-malformed-spec : {M : Type 1} → statement M
