@@ -16,7 +16,7 @@ use Rattle.decimal.proofs.TextValue.{numberIn-empty}
 use Rattle.text_words.specs.Words.{linesOf, wordsOf, restAfter, partsAfter}
 use Rattle.aiger_lines.specs.Numbers.{wordNumbers, allUnsigned, unsignedValues, wordsAt}
 use Rattle.aiger_lines.specs.Parts.{aag, headerNumbers, numbersOnLine, countsIn, countsOf, partAt, linesDue, malformedLine, malformedAt}
-use Rattle.aiger_lines.specs.Steps.{spanTo, firstFive, numbersHeld, HoldsNumbers, Behind, NextLine, SoundTo}
+use Rattle.aiger_lines.specs.Steps.{spanTo, firstFive, numbersHeld, HoldsNumbers, Behind, NumbersRead, SoundTo}
 use Rattle.aiger_lines.specs.declared.Counts.{Counts}
 use Rattle.aiger_lines.specs.declared.Numbers.{Numbers}
 use Rattle.aiger_lines.specs.declared.Part.{Part}
@@ -119,31 +119,31 @@ module _ (line : List ℕ) (end : ℕ) (found : end ≡ 0 + spanTo space (drop 0
 -- Line p + 1 was looked for and read.
 module _ (s : List ℕ) (p at end : ℕ) (behind : Behind s p at) (found : end ≡ at + spanTo lineFeed (drop at s)) (numbers : Numbers) where
   pub next-found : 1 ≤ p → end < length s → numbers ≡ firstFive (wordNumbers (wordsOf (take (end - at) (drop at s))))
-      → NextLine s p numbers (end + 1)
+      → NumbersRead s p numbers (end + 1)
   next-found l b e =
       let line = line-found s p at end behind found b in
       record { numbers-are = e ∙ ap firstFive (sym (numbers-line s p l (take (end - at) (drop at s)) (line .0))); behind = line .1 }
 
-  pub next-missing : 1 ≤ p → length s ≤ end → numbers ≡ firstFive [] → NextLine s p numbers end
+  pub next-missing : 1 ≤ p → length s ≤ end → numbers ≡ firstFive [] → NumbersRead s p numbers end
   next-missing l b e =
       let line = line-missing s p at end behind found b in
       record { numbers-are = e ∙ ap firstFive (sym (numbers-missing s p l (line .0))); behind = line .1 }
 
 -- So was line 1.
 module _ (s : List ℕ) (end : ℕ) (found : end ≡ 0 + spanTo lineFeed (drop 0 s)) (numbers : Numbers) where
-  pub first-found : end < length s → numbers ≡ firstFive (headerNumbers (wordsOf (take end s))) → NextLine s 0 numbers (end + 1)
+  pub first-found : end < length s → numbers ≡ firstFive (headerNumbers (wordsOf (take end s))) → NumbersRead s 0 numbers (end + 1)
   first-found b e =
       let line = line-found s 0 0 end (behind-none s) found b in
       let whole : end - 0 ≡ end = omega arith in
       record { numbers-are = e ∙ ap firstFive (sym (header-numbers s (take end s) (rw whole at (line .0)))); behind = line .1 }
 
-  pub first-missing : length s ≤ end → numbers ≡ firstFive [] → NextLine s 0 numbers end
+  pub first-missing : length s ≤ end → numbers ≡ firstFive [] → NumbersRead s 0 numbers end
   first-missing b e =
       let line = line-missing s 0 0 end (behind-none s) found b in
       record { numbers-are = e ∙ ap firstFive (sym (header-missing s (line .0))); behind = line .1 }
 
 -- What was read of a line: it is malformed where its numbers are
-module _ (s : List ℕ) (p : ℕ) (numbers : Numbers) (next : ℕ) (read : NextLine s p numbers next) where
+module _ (s : List ℕ) (p : ℕ) (numbers : Numbers) (next : ℕ) (read : NumbersRead s p numbers next) where
   pub read-holds : HoldsNumbers numbers
   read-holds = rw (read .numbers-are) (five-holds (numbersOnLine s (p + 1)))
 
@@ -154,7 +154,7 @@ module _ (s : List ℕ) (p : ℕ) (numbers : Numbers) (next : ℕ) (read : NextL
       ∙ ap (λ (n : Numbers). malformedLine (countsIn s) (partAt (countsIn s) (p + 1)) (numbersHeld n)) (sym (read .numbers-are))
 
 -- the counts are those of line 1
-pub counts-read : (s : List ℕ) (numbers : Numbers) (next : ℕ) → NextLine s 0 numbers next → countsOf (numbersHeld numbers) ≡ countsIn s
+pub counts-read : (s : List ℕ) (numbers : Numbers) (next : ℕ) → NumbersRead s 0 numbers next → countsOf (numbersHeld numbers) ≡ countsIn s
 unfolding countsIn
 counts-read s numbers next read =
     ap (λ (n : Numbers). countsOf (numbersHeld n)) (read .numbers-are) ∙ counts-first-five (numbersOnLine s 1)
@@ -167,12 +167,12 @@ header-part h = refl
 -- the same by the counts and the part that were found
 module _ (s : List ℕ) (counts : Counts) (counts-are : counts ≡ countsIn s) where
   pub line-malformed :
-      (p : ℕ) (numbers : Numbers) (next : ℕ) → NextLine s p numbers next → (part : Part) → part ≡ partAt counts (p + 1) →
+      (p : ℕ) (numbers : Numbers) (next : ℕ) → NumbersRead s p numbers next → (part : Part) → part ≡ partAt counts (p + 1) →
       malformedAt s (p + 1) ≡ malformedLine counts part (numbersHeld numbers)
   line-malformed p numbers next read part e = rw (e, counts-are) (read-malformed s p numbers next read)
 
   pub header-malformed :
-      (numbers : Numbers) (next : ℕ) → NextLine s 0 numbers next → malformedAt s 1 ≡ malformedLine counts Header (numbersHeld numbers)
+      (numbers : Numbers) (next : ℕ) → NumbersRead s 0 numbers next → malformedAt s 1 ≡ malformedLine counts Header (numbersHeld numbers)
   header-malformed numbers next read = line-malformed 0 numbers next read Header (sym (header-part counts))
 
 -- One line after another is found sound: lines 1 to `line` are, and the next begins at byte `at`.

@@ -37,7 +37,7 @@ pub record Behind (s : List ℕ) (p at : ℕ) : Type 0 where
   pub rest : drop p (linesOf s) ≡ linesOf (drop at s)
 
 -- line p + 1 was read
-pub record NextLine (s : List ℕ) (p : ℕ) (numbers : Numbers) (next : ℕ) : Type 0 where
+pub record NumbersRead (s : List ℕ) (p : ℕ) (numbers : Numbers) (next : ℕ) : Type 0 where
   pub numbers-are : numbers ≡ firstFive (numbersOnLine s (p + 1))
   pub behind : Behind s (p + 1) next
 

@@ -10,7 +10,7 @@ ghost use Rattle.text_words.specs.Words.{wordsOf};
 ghost use Rattle.aiger_lines.specs.Numbers.{wordNumbers};
 ghost use Rattle.aiger_lines.specs.Parts.{aag, headerNumbers, countsOf, partAt, linesDue, width, hasLiterals, defines, literalLimit, anyAbove, notDefinable, malformedLine};
 ghost use Rattle.aiger_lines.specs.Written.{TextAsWritten};
-ghost use Rattle.aiger_lines.specs.Steps.{spanTo, firstFive, numbersHeld, HoldsNumbers, Behind, NextLine, HeaderRead, SoundTo};
+ghost use Rattle.aiger_lines.specs.Steps.{spanTo, firstFive, numbersHeld, HoldsNumbers, Behind, NumbersRead, HeaderRead, SoundTo};
 
 // The header's counts: the largest variable (the report's M), inputs, latches, outputs, gates.
 pub struct Counts {
@@ -131,7 +131,7 @@ fn header_numbers(line: &[u8]) -> Numbers
 
 // Line 1.
 fn first_line(text: &[u8]) -> NumberLine
-    ensures { λ r. ⌜ NextLine (now (text .entry)) 0 (r .numbers) (r .next) ⌝ }
+    ensures { λ r. ⌜ NumbersRead (now (text .entry)) 0 (r .numbers) (r .next) ⌝ }
 {
     let length = find(text, 0, b'\n');
     if length < text.len() {
@@ -149,7 +149,7 @@ fn first_line(text: &[u8]) -> NumberLine
 // The line behind the first `line` lines, which begins at byte `at`; `line` is not 0.
 pub fn next_line(text: &[u8], line: u64, at: usize) -> NumberLine
     requires { ⌜ (1 ≤ line) × Behind (now text) line at ⌝ }
-    ensures { λ r. ⌜ NextLine (now (text .entry)) line (r .numbers) (r .next) ⌝ }
+    ensures { λ r. ⌜ NumbersRead (now (text .entry)) line (r .numbers) (r .next) ⌝ }
 {
     let end = find(text, at, b'\n');
     if end < text.len() {
