@@ -13,11 +13,11 @@ use Rattle.decimal.specs.declared.ClauseNumber.the-variants.{Value, NotANumber}
 use Rattle.text_words.specs.Words.{wordsOf, Without}
 use Rattle.text_words.proofs.Words.{words-last}
 use Rattle.answer_signs.specs.Signs.{SignsOf}
-use Rattle.answer_lines.specs.Answer.{Answer, malformed, unsatisfiable, satisfiable, isEmpty, isComment, keptLines, numberValue, allClauseNumbers, clauseNumbers, isMarked, isValueLine, lineValues, allValueLines, allValues, isZero, claimed, valuesAnswer, nothingMore, statusAnswer, satisfiableLine, unsatisfiableLine}
+use Rattle.answer_lines.specs.Answer.{Answer, malformed, unsatisfiable, satisfiable, isEmpty, isComment, keptLines, numberValue, allClauseNumbers, clauseNumbers, isMarked, isValueLine, lineValues, allValueLines, allValues, isZero, answerOfValues, valuesAnswer, nothingMore, statusAnswer, satisfiableLine, unsatisfiableLine}
 use Rattle.answer_lines.specs.Progress.{answerFrom, afterNumbers, statusIn, progressBy, numberBy, MarkedAll, NumberRead, LineRead}
 use Rattle.answer_lines.specs.declared.Progress.{Progress}
 use Rattle.answer_lines.specs.declared.Progress.the-variants.{NoStatus, Values, Complete, Unsatisfiable, Malformed}
-use Rattle.answer_lines.proofs.Values.{afterNumbers-none, claimed-next, claimed-early, claimed-last, claimed-no, clauseNumbers-some}
+use Rattle.answer_lines.proofs.Values.{afterNumbers-none, answerOfValues-next, answerOfValues-early, answerOfValues-last, answerOfValues-no, clauseNumbers-some}
 
 -- a comment and another line
 pub keptLines-comment : (l : List ℕ) (ls : List (List ℕ)) → isComment l ≡ true → keptLines (l ∷ ls) ≡ keptLines ls
@@ -33,38 +33,38 @@ keptLines-other l ls e = rw e
 module _ (w : List ℕ) (ws : List (List ℕ)) (ls : List (List ℕ)) where
   -- what the words behind the first, with the lines ahead, make
   abbrev pub others : Answer
-  others = claimed (allClauseNumbers ws && allValueLines ls) (clauseNumbers ws ++ allValues ls)
+  others = answerOfValues (allClauseNumbers ws && allValueLines ls) (clauseNumbers ws ++ allValues ls)
 
   abbrev pub all : Answer
-  all = claimed (allClauseNumbers (w ∷ ws) && allValueLines ls) (clauseNumbers (w ∷ ws) ++ allValues ls)
+  all = answerOfValues (allClauseNumbers (w ∷ ws) && allValueLines ls) (clauseNumbers (w ∷ ws) ++ allValues ls)
 
   pub word-number : (z : ℤ) → clauseNumberIn w ≡ Value z → isZero z ≡ false → all ≡ afterNumbers (z ∷ []) others
   unfolding allClauseNumbers clauseNumbers
-  word-number z e n = rw e (claimed-next (allClauseNumbers ws && allValueLines ls) z (clauseNumbers ws ++ allValues ls) n)
+  word-number z e n = rw e (answerOfValues-next (allClauseNumbers ws && allValueLines ls) z (clauseNumbers ws ++ allValues ls) n)
 
   pub word-early : (z : ℤ) → clauseNumberIn w ≡ Value z → isZero z ≡ true → isEmpty (clauseNumbers ws ++ allValues ls) ≡ false → all ≡ malformed
   unfolding allClauseNumbers clauseNumbers
-  word-early z e n some = rw e (claimed-early (allClauseNumbers ws && allValueLines ls) z (clauseNumbers ws ++ allValues ls) n some)
+  word-early z e n some = rw e (answerOfValues-early (allClauseNumbers ws && allValueLines ls) z (clauseNumbers ws ++ allValues ls) n some)
 
   pub word-none : clauseNumberIn w ≡ NotANumber → all ≡ malformed
   unfolding allClauseNumbers clauseNumbers
-  word-none e = rw e (claimed-no (numberValue NotANumber ∷ (clauseNumbers ws ++ allValues ls)))
+  word-none e = rw e (answerOfValues-no (numberValue NotANumber ∷ (clauseNumbers ws ++ allValues ls)))
 
 -- a value line, by its words
 pub value-line : (l : List ℕ) (ws : List (List ℕ)) (ls : List (List ℕ)) → isMarked l ≡ true → wordsOf (drop 2 l) ≡ ws
-    → valuesAnswer (l ∷ ls) ≡ claimed (allClauseNumbers ws && allValueLines ls) (clauseNumbers ws ++ allValues ls)
+    → valuesAnswer (l ∷ ls) ≡ answerOfValues (allClauseNumbers ws && allValueLines ls) (clauseNumbers ws ++ allValues ls)
 unfolding valuesAnswer allValueLines allValues isValueLine lineValues
 value-line l ws ls m e = rw (m, e)
 
 -- no value line
 pub unmarked-line : (l : List ℕ) (ls : List (List ℕ)) → isMarked l ≡ false → valuesAnswer (l ∷ ls) ≡ malformed
 unfolding valuesAnswer allValueLines isValueLine
-unmarked-line l ls m = rw m (claimed-no (allValues (l ∷ ls)))
+unmarked-line l ls m = rw m (answerOfValues-no (allValues (l ∷ ls)))
 
 -- a 0 with nothing behind it on its line
 zero-last : (w : List ℕ) (ls : List (List ℕ)) (z : ℤ) → clauseNumberIn w ≡ Value z → isZero z ≡ true
     → all w [] ls ≡ nothingMore (satisfiable []) ls
-zero-last w [] z e n = unfold allClauseNumbers clauseNumbers allValueLines allValues nothingMore in rw e (claimed-last z n)
+zero-last w [] z e n = unfold allClauseNumbers clauseNumbers allValueLines allValues nothingMore in rw e (answerOfValues-last z n)
 zero-last w (l ∷ ls) z e n =
     word-early w [] (l ∷ ls) z e n (unfold clauseNumbers allValues lineValues in clauseNumbers-some (drop 2 l) (allValues ls)) ∙ unfold nothingMore in refl
 

@@ -15,7 +15,7 @@ use Rattle.decimal.specs.declared.ClauseNumber.the-variants.{Value}
 use Rattle.decimal.proofs.Signed.{read-back}
 use Rattle.decimal.proofs.SignedValue.{digits-clauseNumberIn}
 use Rattle.text_words.specs.Words.{wordsOf, partsAfter, restAfter}
-use Rattle.answer_lines.specs.Answer.{Answer, malformed, unsatisfiable, satisfiable, isEmpty, isZero, onlyLastZero, beforeZero, claimed, clauseNumbers}
+use Rattle.answer_lines.specs.Answer.{Answer, malformed, unsatisfiable, satisfiable, isEmpty, isZero, onlyLastZero, beforeZero, answerOfValues, clauseNumbers}
 use Rattle.answer_lines.specs.Progress.{afterNumbers}
 
 -- a number of a word is 0 where the machine's is
@@ -45,28 +45,28 @@ afterNumbers-append xs ys unsatisfiable = refl
 afterNumbers-append xs ys (satisfiable zs) = ap satisfiable (append-assoc xs ys zs)
 
 -- a number that is not 0
-pub claimed-next : (b : Bool) (z : ℤ) (zs : List ℤ) → isZero z ≡ false → claimed b (z ∷ zs) ≡ afterNumbers (z ∷ []) (claimed b zs)
-unfolding claimed afterNumbers onlyLastZero beforeZero
-claimed-next b z zs e = rw (e) (by-rest (b && onlyLastZero zs))
+pub answerOfValues-next : (b : Bool) (z : ℤ) (zs : List ℤ) → isZero z ≡ false → answerOfValues b (z ∷ zs) ≡ afterNumbers (z ∷ []) (answerOfValues b zs)
+unfolding answerOfValues afterNumbers onlyLastZero beforeZero
+answerOfValues-next b z zs e = rw (e) (by-rest (b && onlyLastZero zs))
   where
     by-rest : (b : Bool) → cond b (satisfiable (z ∷ beforeZero zs)) malformed ≡ afterNumbers (z ∷ []) (cond b (satisfiable (beforeZero zs)) malformed)
     by-rest true = refl
     by-rest false = refl
 
 -- a 0 with a number behind it
-pub claimed-early : (b : Bool) (z : ℤ) (zs : List ℤ) → isZero z ≡ true → isEmpty zs ≡ false → claimed b (z ∷ zs) ≡ malformed
-unfolding claimed onlyLastZero
-claimed-early true z zs e some = rw (e, some)
-claimed-early false z zs e some = refl
+pub answerOfValues-early : (b : Bool) (z : ℤ) (zs : List ℤ) → isZero z ≡ true → isEmpty zs ≡ false → answerOfValues b (z ∷ zs) ≡ malformed
+unfolding answerOfValues onlyLastZero
+answerOfValues-early true z zs e some = rw (e, some)
+answerOfValues-early false z zs e some = refl
 
 -- a 0 alone
-pub claimed-last : (z : ℤ) → isZero z ≡ true → claimed true (z ∷ []) ≡ satisfiable []
-unfolding claimed onlyLastZero beforeZero
-claimed-last z e = rw e
+pub answerOfValues-last : (z : ℤ) → isZero z ≡ true → answerOfValues true (z ∷ []) ≡ satisfiable []
+unfolding answerOfValues onlyLastZero beforeZero
+answerOfValues-last z e = rw e
 
-pub claimed-no : (zs : List ℤ) → claimed false zs ≡ malformed
-unfolding claimed
-claimed-no zs = refl
+pub answerOfValues-no : (zs : List ℤ) → answerOfValues false zs ≡ malformed
+unfolding answerOfValues
+answerOfValues-no zs = refl
 
 -- a line has one word or more
 pub clauseNumbers-some : (s : List ℕ) (zs : List ℤ) → isEmpty (clauseNumbers (wordsOf s) ++ zs) ≡ false

@@ -95,11 +95,11 @@ beforeZero [] = []
 beforeZero (z ∷ zs) = cond (isZero z) [] (z ∷ beforeZero zs)
 
 -- what stands behind `s SATISFIABLE`: whether its lines are value lines, and their numbers
-unfoldable pub claimed : Bool → List ℤ → Answer
-claimed lines zs = cond (lines && onlyLastZero zs) (satisfiable (beforeZero zs)) malformed
+unfoldable pub answerOfValues : Bool → List ℤ → Answer
+answerOfValues lines zs = cond (lines && onlyLastZero zs) (satisfiable (beforeZero zs)) malformed
 
 unfoldable pub valuesAnswer : List (List ℕ) → Answer
-valuesAnswer ls = claimed (allValueLines ls) (allValues ls)
+valuesAnswer ls = answerOfValues (allValueLines ls) (allValues ls)
 
 -- RULES Q3: "No line follows `s UNSATISFIABLE`"
 unfoldable pub nothingMore : Answer → List (List ℕ) → Answer

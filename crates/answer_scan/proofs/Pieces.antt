@@ -8,7 +8,7 @@ use lib.IntN.{ℤ}
 use lib.ListN.{length, take}
 use Rattle.text_words.specs.Words.{partsAfter, restAfter}
 use Rattle.answer_signs.specs.Signs.{SignsOf}
-use Rattle.answer_lines.specs.Answer.{Answer, malformed, unsatisfiable, satisfiable, isEmpty, keptLines, statusAnswer, valuesAnswer, allValueLines, allValues, claimed, onlyLastZero, nothingMore, answerIn, answerKind}
+use Rattle.answer_lines.specs.Answer.{Answer, malformed, unsatisfiable, satisfiable, isEmpty, keptLines, statusAnswer, valuesAnswer, allValueLines, allValues, answerOfValues, onlyLastZero, nothingMore, answerIn, answerKind}
 use Rattle.answer_lines.specs.Progress.{answerFrom, afterNumbers, MarkedAll}
 use Rattle.answer_lines.specs.declared.Progress.{Progress}
 use Rattle.answer_lines.specs.declared.Progress.the-variants.{NoStatus, Values, Complete, Unsatisfiable, Malformed}
@@ -99,7 +99,7 @@ module _ {seen signs : List ℕ} (scan : Scan) (b : ScanBehind seen scan signs) 
     end-no-status e = end-nothing NoStatus e (unfold answerFrom statusAnswer in refl)
 
     pub end-values : scan .position .progress ≡ Values → AnswerRead seen signs (answerKind malformed)
-    end-values e = end-nothing Values e (unfold answerFrom valuesAnswer allValueLines allValues claimed onlyLastZero in refl)
+    end-values e = end-nothing Values e (unfold answerFrom valuesAnswer allValueLines allValues answerOfValues onlyLastZero in refl)
 
     pub end-malformed : scan .position .progress ≡ Malformed → AnswerRead seen signs (answerKind malformed)
     end-malformed e = end-nothing Malformed e (unfold answerFrom in refl)
