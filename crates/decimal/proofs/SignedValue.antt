@@ -13,7 +13,7 @@ use mir.Syntax.{w32}
 use mir.Val.{SFits, toZ, ofZ}
 use mir.ValLaws.{toZ-ofZ, toZ-pos}
 use borrow.Author.Tests.{lt-ltb, ltb-true, ne-eqb}
-use Rattle.decimal.specs.Digits.{minus, digits, signedDigits}
+use Rattle.decimal.specs.Digits.{minusSign, digits, signedDigits}
 use Rattle.decimal.specs.TextValue.{sameText, valueAfter, numberIn}
 use Rattle.decimal.specs.SignedValue.{signedValue, clauseNumberIn}
 use Rattle.decimal.specs.declared.Number.{Number}
@@ -24,12 +24,12 @@ use Rattle.decimal.proofs.Digits.{length-digits-some}
 use Rattle.decimal.proofs.TextValue.{sameText-refl, sameText-true, valueAfter-digits, first-is-digit, numberIn-digits, digits-numberIn}
 
 -- a text that does not begin with a minus is one without a sign
-unsigned-value : (s : List ℕ) → (getD s 0 0 ≡ minus → ⊥) → signedValue s ≡ pos (valueAfter 0 s)
+unsigned-value : (s : List ℕ) → (getD s 0 0 ≡ minusSign → ⊥) → signedValue s ≡ pos (valueAfter 0 s)
 unfolding signedValue valueAfter
 unsigned-value [] n = refl
-unsigned-value (c ∷ s) n = rw (ne-eqb c minus n)
+unsigned-value (c ∷ s) n = rw (ne-eqb c minusSign n)
 
-digits-unsigned : (x : ℕ) → getD (digits x) 0 0 ≡ minus → ⊥
+digits-unsigned : (x : ℕ) → getD (digits x) 0 0 ≡ minusSign → ⊥
 digits-unsigned x e = omega (arith, first-is-digit x)
 
 -- the value of a number's digits is the number
@@ -77,14 +77,14 @@ clauseNumberIn-empty s l = clauseNumberIn-other s by-sign
     by-sign (negsuc x) h e = omega (arith, ap length e)
 
 -- a text with a minus in front, by what is behind it
-module _ (s : List ℕ) (some : 0 < length s) (sign : getD s 0 0 ≡ minus) where
+module _ (s : List ℕ) (some : 0 < length s) (sign : getD s 0 0 ≡ minusSign) where
   abbrev behind : List ℕ
   behind = take (length s - 1) (drop 1 s)
 
-  behind-minus : s ≡ minus ∷ behind
+  behind-minus : s ≡ minusSign ∷ behind
   behind-minus = at s some sign
     where
-      at : (s : List ℕ) → 0 < length s → getD s 0 0 ≡ minus → s ≡ minus ∷ take (length s - 1) (drop 1 s)
+      at : (s : List ℕ) → 0 < length s → getD s 0 0 ≡ minusSign → s ≡ minusSign ∷ take (length s - 1) (drop 1 s)
       at [] l e = absurd (omega arith)
       at (c ∷ t) l e = rw (take-all (suc (length t) - 1) t (omega arith), e)
 
@@ -103,11 +103,11 @@ module _ (s : List ℕ) (some : 0 < length s) (sign : getD s 0 0 ≡ minus) wher
   unfolding signedDigits
   clauseNumberIn-minus zero e l h = absurd (omega arith)
   clauseNumberIn-minus (suc x) e l h =
-      ap clauseNumberIn (behind-minus ∙ ap (λ (t : List ℕ). minus ∷ t) (digits-numberIn behind (suc x) e .0))
+      ap clauseNumberIn (behind-minus ∙ ap (λ (t : List ℕ). minusSign ∷ t) (digits-numberIn behind (suc x) e .0))
       ∙ clauseNumberIn-digits (negsuc x) h
 
 -- a text with none
-pub clauseNumberIn-unsigned-other : (s : List ℕ) → (getD s 0 0 ≡ minus → ⊥)
+pub clauseNumberIn-unsigned-other : (s : List ℕ) → (getD s 0 0 ≡ minusSign → ⊥)
     → ((x : ℕ) → x < 2 ^ 31 → numberIn s ≡ number.Value x → ⊥) → clauseNumberIn s ≡ NotANumber
 unfolding signedDigits
 clauseNumberIn-unsigned-other s sign none = clauseNumberIn-other s by-sign

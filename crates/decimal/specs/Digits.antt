@@ -14,8 +14,8 @@ digit d = 48 + d
 abbrev pub space : ℕ
 space = 32
 
-abbrev pub minus : ℕ
-minus = 45
+abbrev pub minusSign : ℕ
+minusSign = 45
 
 abbrev pub lineFeed : ℕ
 lineFeed = 10
@@ -40,4 +40,4 @@ emptyField = replicate 10 space
 -- a clause number: a minus only below zero
 unfoldable pub signedDigits : ℤ → List ℕ
 signedDigits (pos x) = digits x
-signedDigits (negsuc x) = minus ∷ digits (suc x)
+signedDigits (negsuc x) = minusSign ∷ digits (suc x)

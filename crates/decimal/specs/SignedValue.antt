@@ -5,7 +5,7 @@ use mathlib.Core.Bool.{cond, _&&_}
 use mathlib.Core.List.{List, [], _∷_}
 use lib.Dec.{eqb, ltb}
 use lib.IntN.{ℤ, pos, negℤ, natAbs}
-use Rattle.decimal.specs.Digits.{minus, signedDigits}
+use Rattle.decimal.specs.Digits.{minusSign, signedDigits}
 use Rattle.decimal.specs.TextValue.{sameText, valueAfter}
 use Rattle.decimal.specs.declared.ClauseNumber.{ClauseNumber}
 use Rattle.decimal.specs.declared.ClauseNumber.the-variants.{Value, NotANumber}
@@ -13,7 +13,7 @@ use Rattle.decimal.specs.declared.ClauseNumber.the-variants.{Value, NotA
 -- the value of a text's bytes taken as digits, below zero behind a minus
 unfoldable pub signedValue : List ℕ → ℤ
 signedValue [] = pos 0
-signedValue (c ∷ s) = cond (eqb c minus) (negℤ (pos (valueAfter 0 s))) (pos (valueAfter 0 (c ∷ s)))
+signedValue (c ∷ s) = cond (eqb c minusSign) (negℤ (pos (valueAfter 0 s))) (pos (valueAfter 0 (c ∷ s)))
 
 -- the number of 31 bits and a sign whose `signedDigits` the text is. Its value is the only number whose digits it can be
 unfoldable pub clauseNumberIn : List ℕ → ClauseNumber

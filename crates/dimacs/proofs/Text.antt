@@ -15,7 +15,7 @@ use Rattle.decimal.proofs.Digits.{digits-single, digits-behind, length-digits-t
 use Rattle.decimal.proofs.TextValue.{digit-at, first-digit}
 use Rattle.decimal.proofs.SignedValue.{signedValue-digits}
 use Rattle.decimal.proofs.Signed.{length-signedDigits, read-back}
-use Rattle.decimal.specs.Digits.{digit, space, minus, lineFeed, digits, field, signedDigits}
+use Rattle.decimal.specs.Digits.{digit, space, minusSign, lineFeed, digits, field, signedDigits}
 use Rattle.model.proofs.Gather.{All, nothing, also}
 use Rattle.dimacs.specs.Text.{problem, refused, headerText, refusalText, behind, numberText, clauseText, OtherNumbers, NumberPrinted}
 
@@ -110,7 +110,7 @@ other-numbers =
     record {
       end-alone = ap (λ (ds : List ℕ). (ds ++ lineFeed ∷ []) ++ []) (digits-single 0 (omega arith));
       not-ended = ap (λ (ds : List ℕ). (ds ++ space ∷ []) ++ []) (digits-single 7 (omega arith));
-      least = ap (λ (ds : List ℕ). ((minus ∷ ds) ++ space ∷ []) ++ []) digits-least;
+      least = ap (λ (ds : List ℕ). ((minusSign ∷ ds) ++ space ∷ []) ++ []) digits-least;
     }
 
 -- the decimal of any number

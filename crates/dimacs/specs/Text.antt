@@ -5,7 +5,7 @@ use mathlib.Core.Path.{_≡_}
 use mathlib.Core.List.{List, [], _∷_, _++_}
 use lib.IntN.{ℤ, pos, negsuc}
 use lib.ListN.{length, getD}
-use Rattle.decimal.specs.Digits.{space, minus, lineFeed, digits, field, signedDigits}
+use Rattle.decimal.specs.Digits.{space, minusSign, lineFeed, digits, field, signedDigits}
 use Rattle.decimal.specs.SignedValue.{signedValue}
 
 -- the bytes of `p cnf` and a space
@@ -49,7 +49,7 @@ pub record NumberPrinted : Type 0 where
   pub printed : (z : ℤ) → clauseText (z ∷ []) ≡ signedDigits z ++ behind z ∷ []
   pub value : (z : ℤ) → signedValue (signedDigits z) ≡ z
   pub only-digits : (x i : ℕ) → i < length (signedDigits (pos x)) → (48 ≤ getD (signedDigits (pos x)) i 0) × (getD (signedDigits (pos x)) i 0 ≤ 57)
-  pub minus-below : (x : ℕ) → signedDigits (negsuc x) ≡ minus ∷ signedDigits (pos (suc x))
+  pub minus-below : (x : ℕ) → signedDigits (negsuc x) ≡ minusSign ∷ signedDigits (pos (suc x))
   pub no-leading-zero : (x : ℕ) → 48 < getD (signedDigits (pos (suc x))) 0 0
   pub zero-alone : signedDigits (pos 0) ≡ 48 ∷ []
 

@@ -11,7 +11,7 @@ use lib.IntN.{ℤ, pos, negsuc, natAbs}
 use lib.ListN.{length, length-append, set}
 use lib.Seq.{drop-set-lt}
 use lib.Signed.{ltZ, leZ}
-use Rattle.decimal.specs.Digits.{minus, digits, signedDigits}
+use Rattle.decimal.specs.Digits.{minusSign, digits, signedDigits}
 use Rattle.model.specs.Wrote.{Wrote}
 use Rattle.decimal.proofs.Digits.{length-digits-some}
 use Rattle.model.proofs.Wrote.{wrote-then}
@@ -49,7 +49,7 @@ unfolding signedDigits
 signedDigits-plain (pos n) h = refl
 signedDigits-plain (negsuc n) h = absurd (omega (arith, h))
 
-pub signedDigits-minus : (z : ℤ) → 0 < partsOf z .sign → signedDigits z ≡ minus ∷ digits (partsOf z .value)
+pub signedDigits-minus : (z : ℤ) → 0 < partsOf z .sign → signedDigits z ≡ minusSign ∷ digits (partsOf z .value)
 unfolding signedDigits
 signedDigits-minus (pos n) h = absurd (omega (arith, h))
 signedDigits-minus (negsuc n) h = refl
@@ -62,15 +62,15 @@ wrote-over text start new i x count h w =
 -- a minus, and then the digits, before a text, into the rest behind the sign's bytes: where there is no sign they stand over the minus
 pub wrote-signed :
     (z : ℤ) (t old part : List ℕ) (i j : ℕ) → i < length old →
-    Wrote (digits (partsOf z .value) ++ t) (midOf (i + partsOf z .sign) (length (set old i minus) - (i + partsOf z .sign)) (set old i minus)) part j →
-    Extends (signedDigits z ++ t) i old (putMid (i + partsOf z .sign) (length (set old i minus) - (i + partsOf z .sign)) (set old i minus) part) (i + partsOf z .sign + j)
+    Wrote (digits (partsOf z .value) ++ t) (midOf (i + partsOf z .sign) (length (set old i minusSign) - (i + partsOf z .sign)) (set old i minusSign)) part j →
+    Extends (signedDigits z ++ t) i old (putMid (i + partsOf z .sign) (length (set old i minusSign) - (i + partsOf z .sign)) (set old i minusSign) part) (i + partsOf z .sign + j)
 unfolding signedDigits
 wrote-signed (pos n) t old part i j h v seen start w =
     let all : List ℕ = digits n ++ t in
     let inside : i < length (seen ++ all) = omega (arith, w .counted, length-append seen all, length-append (digits n) t, length-digits-some n) in
     rw (add-zero i)
-    (wrote-over (seen ++ all) start _ i minus _ inside
-    (wrote-then seen all (set start i minus) (set old i minus) part i j (wrote-set minus seen start old i h w) (rw (add-zero i) at v)))
+    (wrote-over (seen ++ all) start _ i minusSign _ inside
+    (wrote-then seen all (set start i minusSign) (set old i minusSign) part i j (wrote-set minusSign seen start old i h w) (rw (add-zero i) at v)))
 wrote-signed (negsuc n) t old part i j h v seen start w =
-    rw (append-assoc seen (minus ∷ []) (digits (suc n) ++ t))
-    at (wrote-then (seen ++ minus ∷ []) (digits (suc n) ++ t) start (set old i minus) part (i + 1) j (wrote-next minus seen start old i h w) v)
+    rw (append-assoc seen (minusSign ∷ []) (digits (suc n) ++ t))
+    at (wrote-then (seen ++ minusSign ∷ []) (digits (suc n) ++ t) start (set old i minusSign) part (i + 1) j (wrote-next minusSign seen start old i h w) v)

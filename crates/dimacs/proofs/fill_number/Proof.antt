@@ -5,7 +5,7 @@ use mathlib.Core.List.{_∷_}
 use native.Mathlib.Omega.{arith}
 use borrow.Author.Needs.{needs}
 use lib.ListN.{length}
-use Rattle.decimal.specs.Digits.{minus, digits, signedDigits}
+use Rattle.decimal.specs.Digits.{minusSign, digits, signedDigits}
 use Rattle.decimal.proofs.Filled.{filled-before}
 use Rattle.decimal.proofs.Signed.{read-back, length-signedDigits}
 use Rattle.text_writer.specs.Signed.{partsOf}
@@ -76,9 +76,9 @@ returns-2 c =
     let e = sym (parts-are (filled .before .before)) in
     let sign-is : partsOf (start .args .z) .sign ≡ filled .before .before .parts-of .result .sign = ap (λ (p : Parts). p .sign) e in
     let some : 0 < partsOf (start .args .z) .sign = omega (arith, sign-is, c .if1 .left) in
-    let text : signedDigits (start .args .z) ≡ minus ∷ digits (filled .before .before .parts-of .result .value) =
-    signedDigits-minus (start .args .z) some ∙ ap (λ (p : Parts). minus ∷ digits (p .value)) e in
-    rw text (filled-before (filled .fill-digits .ensures) minus (byte-left c))
+    let text : signedDigits (start .args .z) ≡ minusSign ∷ digits (filled .before .before .parts-of .result .value) =
+    signedDigits-minus (start .args .z) some ∙ ap (λ (p : Parts). minusSign ∷ digits (p .value)) e in
+    rw text (filled-before (filled .fill-digits .ensures) minusSign (byte-left c))
 
 pub fill-number-spec : {M : Type 1} → statement M
 fill-number-spec =

@@ -7,7 +7,7 @@ use borrow.Author.Needs.{needs}
 use borrow.Rule.Slice.PartMut.{mid-len, same-len-mid}
 use lib.IntN.{ℤ}
 use lib.ListN.{length, length-append, set, length-set}
-use Rattle.decimal.specs.Digits.{digits, space, minus, signedDigits}
+use Rattle.decimal.specs.Digits.{digits, space, minusSign, signedDigits}
 use Rattle.decimal.proofs.Signed.{read-back}
 use Rattle.text_writer.specs.Signed.{partsOf}
 use Rattle.text_writer.proofs.Signed.{length-parts, wrote-signed}
@@ -50,7 +50,7 @@ write-spaced-requires : tie.Need-write-spaced-requires
 write-spaced-requires c κs =
     let at = c .before in
     let start = at .before .before .before in
-    let signed : List ℕ = set (start .args .out .now) (start .args .at) minus in
+    let signed : List ℕ = set (start .args .out .now) (start .args .at) minusSign in
     (start .pre .0, rw (mid-len (start .args .at + at .parts-of .result .sign) (length signed) signed (omega arith), length-set) (omega (arith, room at)))
 
 add-result : tie.Need-add-result
@@ -63,10 +63,10 @@ same-length c =
     let at = c .before .before .before .before in
     let start = at .before .before .before in
     let old : List ℕ = start .args .out .now in
-    let signed : List ℕ = set old (start .args .at) minus in
+    let signed : List ℕ = set old (start .args .at) minusSign in
     let first : ℕ = start .args .at + at .parts-of .result .sign in
     let written = c .before .before .write-spaced in
-    same-len-mid first (length signed - first) signed (written .last .0) (written .kept .0) ∙ length-set old (start .args .at) minus
+    same-len-mid first (length signed - first) signed (written .last .0) (written .kept .0) ∙ length-set old (start .args .at) minusSign
 
 returns : tie.Need-returns
 returns c =
