@@ -1,5 +1,5 @@
 -- Numbers as decimal text, in reading order. Nothing here imports a law or a proof.
 pub mod Digits
-pub mod Filled
+pub mod WroteAtEnd
 pub mod TextValue
 pub mod SignedValue

@@ -3,7 +3,7 @@ ghost use mathlib.Core.Path.{_≡_};
 ghost use Prim.Native.Nat.{_≤_};
 ghost use lib.ListN.{length, replicate};
 ghost use Rattle.decimal.specs.Digits.{digits, space, field};
-ghost use Rattle.decimal.specs.Filled.{Filled};
+ghost use Rattle.decimal.specs.WroteAtEnd.{WroteAtEnd};
 ghost use Rattle.decimal.specs.TextValue.{numberIn};
 ghost use Rattle.decimal.specs.SignedValue.{clauseNumberIn};
 ghost use Rattle.model.specs.Wrote.{Wrote};
@@ -99,7 +99,7 @@ pub fn digit_count(x: u32) -> usize
 // Fills a number's digits from the right into the end of a slice, in one pass, and answers how many they are.
 pub fn fill_digits(out: &mut [u8], x: u32) -> usize
     requires { ⌜ length (digits x) ≤ length (now out) ⌝ }
-    ensures { λ r. ⌜ Filled (digits x) (now (out .entry)) (now (out .exit)) r ⌝ }
+    ensures { λ r. ⌜ WroteAtEnd (digits x) (now (out .entry)) (now (out .exit)) r ⌝ }
 {
     let mut at = out.len();
     let mut rest = x;

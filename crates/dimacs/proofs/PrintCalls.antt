@@ -8,7 +8,7 @@ use Rattle.refusals.specs.Slices.{withCount, contentsAfter}
 use Rattle.refusals.specs.declared.Refusal.the-variants.{NoRoom}
 use Rattle.refusals.proofs.Slices.{room-enough, room-short}
 use Rattle.model.specs.Wrote.{Wrote}
-use Rattle.decimal.specs.Filled.{Filled}
+use Rattle.decimal.specs.WroteAtEnd.{WroteAtEnd}
 use Rattle.dimacs.specs.PrintCalls.{printReply, printSent, printLeaves, filledAfter, fillLeaves}
 use Rattle.dimacs.specs.declared.PrintAnswer.the-variants.{Written, Refused}
 
@@ -24,7 +24,7 @@ written text old new count kept w =
 
 -- a text that was filled from the right: the same answer, and it stands behind what was there
 pub filled :
-    (text old new : List ℕ) (count : ℕ) → length text ≤ length old → Filled text old new count →
+    (text old new : List ℕ) (count : ℕ) → length text ≤ length old → WroteAtEnd text old new count →
     (printReply (Written count) ≡ printSent text (length old)) × (new ≡ fillLeaves text old)
 unfolding printReply printSent fillLeaves withCount filledAfter
 filled text old new count room f =

@@ -4,7 +4,7 @@ use Prim.Native.Nat.{ℕ}
 use mathlib.Core.List.{List}
 use lib.ListN.{length}
 use Rattle.refusals.specs.Slices.{testRoom, CountReply, withCount, contentsAfter}
-use Rattle.decimal.specs.Filled.{atEnd}
+use Rattle.decimal.specs.WroteAtEnd.{atEnd}
 use Rattle.refusals.specs.declared.Verdict.{Verdict}
 use Rattle.refusals.specs.declared.Verdict.the-variants.{Passed, Refused}
 use Rattle.dimacs.specs.declared.PrintAnswer.{PrintAnswer}

@@ -8,7 +8,7 @@ ghost use Rattle.text_writer.specs.Table.{TableOrNone};
 ghost use Rattle.text_writer.specs.Extends.{Extends};
 ghost use Rattle.dimacs.specs.Text.{headerText, numberText, clauseText, OtherNumbers, NumberPrinted, refusalText};
 ghost use Rattle.decimal.specs.Digits.{signedDigits};
-ghost use Rattle.decimal.specs.Filled.{Filled};
+ghost use Rattle.decimal.specs.WroteAtEnd.{WroteAtEnd};
 ghost use Rattle.dimacs.specs.PrintCalls.{printReply, printSent, printLeaves, fillLeaves};
 use decimal::digit_count;
 use decimal::fill_digits;
@@ -148,7 +148,7 @@ fn number_fits(room: usize, z: i32) -> bool
 // Fills a number from the right into the end of a slice that has room for it: its digits, and a minus before them only below zero.
 fn fill_number(out: &mut [u8], z: i32) -> usize
     requires { ⌜ length (signedDigits z) ≤ length (now out) ⌝ }
-    ensures { λ r. ⌜ Filled (signedDigits z) (now (out .entry)) (now (out .exit)) r ⌝ }
+    ensures { λ r. ⌜ WroteAtEnd (signedDigits z) (now (out .entry)) (now (out .exit)) r ⌝ }
 {
     let parts = parts_of(z);
     let count = fill_digits(out, parts.value);

@@ -7,9 +7,9 @@ use native.Mathlib.Omega.{arith}
 use borrow.Author.Needs.{needs}
 use lib.ListN.{length, length-append, set, length-set}
 use Rattle.decimal.specs.Digits.{digit, digits}
-use Rattle.decimal.specs.Filled.{atEnd}
+use Rattle.decimal.specs.WroteAtEnd.{atEnd}
 use Rattle.decimal.proofs.Digits.{digits-single, digits-snoc, length-digits-some}
-use Rattle.decimal.proofs.Filled.{endingAt, endingAt-end, endingAt-nothing, endingAt-write}
+use Rattle.decimal.proofs.WroteAtEnd.{endingAt, endingAt-end, endingAt-nothing, endingAt-write}
 use Rattle.decimal.proofs.fill_digits.Statement.{statement}
 use Rattle.decimal.proofs.fill_digits.Tie as tie
 

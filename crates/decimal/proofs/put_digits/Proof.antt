@@ -5,7 +5,7 @@ use borrow.Author.Needs.{needs}
 use lib.ListN.{length, take}
 use lib.Seq.{length-take-le}
 use Rattle.decimal.specs.Digits.{digits}
-use Rattle.decimal.proofs.Filled.{filled-all}
+use Rattle.decimal.proofs.WroteAtEnd.{filled-all}
 use Rattle.decimal.proofs.put_digits.Statement.{statement}
 use Rattle.decimal.proofs.put_digits.Tie as tie
 

@@ -6,9 +6,9 @@ use borrow.Author.Needs.{needs}
 use lib.ListN.{length, take, drop, replicate}
 use lib.Seq.{take-append-seam, drop-append-seam}
 use Rattle.decimal.specs.Digits.{digits, space, field}
-use Rattle.decimal.specs.Filled.{atEnd}
+use Rattle.decimal.specs.WroteAtEnd.{atEnd}
 use Rattle.decimal.proofs.Digits.{length-digits-ten, length-field}
-use Rattle.decimal.proofs.Filled.{field-filled}
+use Rattle.decimal.proofs.WroteAtEnd.{field-filled}
 use Rattle.decimal.proofs.put_field.Statement.{statement}
 use Rattle.decimal.proofs.put_field.Tie as tie
 

@@ -6,7 +6,7 @@ use native.Mathlib.Omega.{arith}
 use borrow.Author.Needs.{needs}
 use lib.ListN.{length}
 use Rattle.decimal.specs.Digits.{minusSign, digits, signedDigits}
-use Rattle.decimal.proofs.Filled.{filled-before}
+use Rattle.decimal.proofs.WroteAtEnd.{filled-before}
 use Rattle.decimal.proofs.Signed.{read-back, length-signedDigits}
 use Rattle.text_writer.specs.Signed.{partsOf}
 use Rattle.text_writer.specs.declared.Parts.{Parts}

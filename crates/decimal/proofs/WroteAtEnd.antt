@@ -1,4 +1,4 @@
--- Laws of specs/Filled.antt: a text filled byte by byte, the last first. No contract cites this file.
+-- Laws of specs/WroteAtEnd.antt: a text filled byte by byte, the last first. No contract cites this file.
 use Prim.Native.Nat.{ℕ, zero, suc, _+_, _-_, _≤_, _<_}
 use mathlib.Core.Path.{_≡_, refl, sym, ap, _∙_}
 use mathlib.Core.List.{List, [], _∷_, _++_, append-assoc, append-nil}
@@ -6,7 +6,7 @@ use native.Mathlib.Omega.{arith}
 use lib.ListN.{length, length-append, take, drop, drop-of-length-le, replicate, set, take-append-drop}
 use lib.Seq.{lt-length-set, length-take-le, append-snoc, drop-cons, drop-set-lt, getD-set-same, take-set-le, take-set-lt, take-suc-set, set-append-left}
 use Rattle.decimal.specs.Digits.{space, digits, field}
-use Rattle.decimal.specs.Filled.{atEnd, Filled}
+use Rattle.decimal.specs.WroteAtEnd.{atEnd, WroteAtEnd}
 
 -- a text that ends before the byte i of what was there, everything else untouched
 abbrev pub endingAt : ℕ → List ℕ → List ℕ → List ℕ
@@ -40,7 +40,7 @@ endingAt-write i d text out some h =
     (append-assoc start text (d ∷ drop i out)
     ∙ ap (λ (s : List ℕ). start ++ s) (sym (append-snoc text d (drop i out))) ∙ sym (append-assoc start (text ++ d ∷ []) (drop i out)))
 
-module _ {text old mid : List ℕ} {r : ℕ} (f : Filled text old mid r) where
+module _ {text old mid : List ℕ} {r : ℕ} (f : WroteAtEnd text old mid r) where
   -- a text as long as the slice is all of it
   pub filled-all : length text ≡ length old → mid ≡ text
   filled-all long =
@@ -48,7 +48,7 @@ module _ {text old mid : List ℕ} {r : ℕ} (f : Filled text old mid r) where
       f .leaves ∙ rw none
 
   -- one byte more, before the text
-  pub filled-before : (a : ℕ) → r < length old → Filled (a ∷ text) old (set mid (length mid - r - 1) a) (r + 1)
+  pub filled-before : (a : ℕ) → r < length old → WroteAtEnd (a ∷ text) old (set mid (length mid - r - 1) a) (r + 1)
   filled-before a h =
       let k : ℕ = length old - length text - 1 in
       let next : length old - length text ≡ suc k = omega (arith, f .counted) in

@@ -10,6 +10,6 @@ abbrev pub atEnd : List ℕ → List ℕ → List ℕ
 atEnd text old = take (length old - length text) old ++ text
 
 -- that, and the answer is the text's length
-pub record Filled (text old new : List ℕ) (count : ℕ) : Type 0 where
+pub record WroteAtEnd (text old new : List ℕ) (count : ℕ) : Type 0 where
   pub counted : count ≡ length text
   pub leaves : new ≡ atEnd text old
