@@ -19,21 +19,21 @@ use Rattle.call_position.specs.Positions.{Stands}
 use Rattle.call_position.specs.Moves.{testMove, moveVerdict, movedTo, keptAt, withPosition, moveSent, MoveStands}
 use Rattle.call_position.specs.declared.Position.{Position}
 use Rattle.call_position.specs.declared.Move.{Move}
-use Rattle.call_position.specs.declared.Move.the-variants.{Start, On, Back, NoMove}
+use Rattle.call_position.specs.declared.Move.the-variants.{Begin, On, Back, NoMove}
 use Rattle.call_position.proofs.Positions.{frame-shown, testFrame-lists}
 
 -- lists have no part in the tests of a move and in where it leads
 module _ (net : Netlist) (latches gates : List ℕ) (p : Position) where
   pub testMove-lists : (way : Move) → testMove (alone net) p way ≡ testMove (netOf net latches gates) p way
   unfolding testMove
-  testMove-lists Start = refl
+  testMove-lists Begin = refl
   testMove-lists On = testFrame-lists net latches gates p (p .frame + 1)
   testMove-lists Back = testFrame-lists net latches gates p (p .frame)
   testMove-lists NoMove = refl
 
   pub movedTo-lists : (way : Move) → movedTo (alone net) p way ≡ movedTo (netOf net latches gates) p way
   unfolding movedTo
-  movedTo-lists Start = rw (base-lists net latches gates 0)
+  movedTo-lists Begin = rw (base-lists net latches gates 0)
   movedTo-lists On = rw (base-lists net latches gates (p .frame + 1))
   movedTo-lists Back = rw (base-lists net latches gates 0)
   movedTo-lists NoMove = refl
@@ -48,7 +48,7 @@ module _ (c : M.Netlist) (latchCount gateCount : ℕ) (p : Position) where
   -- a move that is not refused leads to a frame of the depth, with that frame's base
   moved-stands : (way : Move) → testMove c p way ≡ Passed → Stands c (movedTo c p way)
   unfolding movedTo testMove
-  moved-stands Start h = record { there = omega arith; stored = refl }
+  moved-stands Begin h = record { there = omega arith; stored = refl }
   moved-stands On h = record { there = frame-shown c p (p .frame + 1) h .0; stored = refl }
   moved-stands Back h = record { there = omega arith; stored = refl }
   moved-stands NoMove h = absurd (refused-not-passed h)

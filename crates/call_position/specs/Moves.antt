@@ -15,16 +15,16 @@ use Rattle.call_position.specs.Positions.{atFrame, testFrame, Stands}
 use Rattle.call_position.specs.declared.Position.{Position}
 use Rattle.call_position.specs.declared.PositionReply.{PositionReply}
 use Rattle.call_position.specs.declared.Move.{Move}
-use Rattle.call_position.specs.declared.Move.the-variants.{Start, On, Back, NoMove}
+use Rattle.call_position.specs.declared.Move.the-variants.{Begin, On, Back, NoMove}
 
 -- RULES R9: "0 is a start, 1 is on, 2 is back. Any other number is no move"
 unfoldable pub moveOf : ℕ → Move
-moveOf way = cond (eqb way 0) Start (cond (eqb way 1) On (cond (eqb way 2) Back NoMove))
+moveOf way = cond (eqb way 0) Begin (cond (eqb way 1) On (cond (eqb way 2) Back NoMove))
 
 -- 8 and 16 of a move: moving on wants the frame behind the record's, going back the record's own; what is no move
 -- (RULES R9) is 8
 unfoldable pub testMove : Netlist → Position → Move → Verdict
-testMove c p Start = Passed
+testMove c p Begin = Passed
 testMove c p On = testFrame c p (p .frame + 1)
 testMove c p Back = testFrame c p (p .frame)
 testMove c p NoMove = Refused NoSuchGroup 0
@@ -35,13 +35,13 @@ moveVerdict c latchCount gateCount p way = recordVerdict c latchCount gateCount 
 
 -- where a move leads (RULES R2 to R4), and what is handed back of one that is refused (RULES R5 and R9)
 unfoldable pub movedTo : Netlist → Position → Move → Position
-movedTo c p Start = atFrame c (p .depth) 0
+movedTo c p Begin = atFrame c (p .depth) 0
 movedTo c p On = atFrame c (p .depth) (p .frame + 1)
 movedTo c p Back = atFrame c (p .depth) 0
 movedTo c p NoMove = p
 
 unfoldable pub keptAt : Position → Move → Position
-keptAt p Start = record { depth = 0; frame = 0; base = 0 }
+keptAt p Begin = record { depth = 0; frame = 0; base = 0 }
 keptAt p On = p
 keptAt p Back = p
 keptAt p NoMove = p

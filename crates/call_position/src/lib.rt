@@ -36,7 +36,7 @@ pub struct Position {
 
 // A move (RULES R9). A start looks at the record's depth alone.
 pub enum Move {
-    Start,
+    Begin,
     On,
     Back,
     NoMove,
@@ -63,7 +63,7 @@ fn move_of(way: u32) -> Move
     ensures { λ r. ⌜ r ≡ moveOf way ⌝ }
 {
     match way {
-        0 => Move::Start,
+        0 => Move::Begin,
         1 => Move::On,
         2 => Move::Back,
         _ => Move::NoMove,
@@ -109,7 +109,7 @@ fn test_move(net: Netlist, position: Position, way: Move) -> Verdict
     ensures { λ r. ⌜ r ≡ testMove (alone net) position way ⌝ }
 {
     match way {
-        Move::Start => Verdict::Passed,
+        Move::Begin => Verdict::Passed,
         Move::On => test_next(net, position),
         Move::Back => test_frame(net, position),
         Move::NoMove => Verdict::Refused(Refusal::NoSuchGroup, 0),
@@ -146,7 +146,7 @@ fn moved(net: Netlist, position: Position, way: Move) -> Position
     ensures { λ r. ⌜ r ≡ movedTo (alone net) position way ⌝ }
 {
     match way {
-        Move::Start => first(position.depth),
+        Move::Begin => first(position.depth),
         Move::On => next(net, position),
         Move::Back => first(position.depth),
         Move::NoMove => position,
@@ -158,7 +158,7 @@ fn kept(position: Position, way: Move) -> Position
     ensures { λ r. ⌜ r ≡ keptAt position way ⌝ }
 {
     match way {
-        Move::Start => Position {
+        Move::Begin => Position {
             depth: 0,
             frame: 0,
             base: 0,
