@@ -30,8 +30,8 @@ abbrev pub numbersAfter : Netlist → List Latch → List Gate → ℕ → Group
 numbersAfter net latches gates k g old = groupLeaves (netLent net latches gates) (length latches) (length gates) k g old
 
 -- demand 3, for every accepted record and every depth from 0 to 255
-abbrev pub Claim : Netlist → List Latch → List Gate → ℕ → Type 0
-Claim net latches gates k =
+abbrev pub HeadingClaim : Netlist → List Latch → List Gate → ℕ → Type 0
+HeadingClaim net latches gates k =
     recordVerdict (netLent net latches gates) (length latches) (length gates) ≡ Passed → k ≤ mostDepth
     → CallsEncode (netLent net latches gates) (netLent net latches gates) (length latches) (length gates) k
 

@@ -11,12 +11,12 @@ ghost use lib.ListN.{length};
 ghost use Rattle.model.specs.Acceptance.{PathTheorem};
 ghost use Rattle.calls.specs.Starred.{Starred};
 ghost use Rattle.call_unpacked.specs.Calls.{groupReply, headingReply};
-ghost use Rattle.calls.specs.LentCalls.{headingFor, groupFor, numbersAfter, Claim, AcceptedTheorem};
+ghost use Rattle.calls.specs.LentCalls.{headingFor, groupFor, numbersAfter, HeadingClaim, AcceptedTheorem};
 
 // The heading of a depth, RULES G23: "the variables that are numbered .. and the clauses that are really written".
 pub fn heading(net: Netlist, latches: &[Latch], gates: &[Gate], depth: u32) -> HeadingAnswer
     ensures answer { λ r. ⌜ headingReply r ≡ headingFor net (now (latches .entry)) (now (gates .entry)) depth ⌝ }
-    ensures claim { λ r. ⌜ Claim net (now (latches .entry)) (now (gates .entry)) depth ⌝ }
+    ensures claim { λ r. ⌜ HeadingClaim net (now (latches .entry)) (now (gates .entry)) depth ⌝ }
     ensures paths { λ r. ⌜ PathTheorem ⌝ }
     ensures accepted { λ r. ⌜ AcceptedTheorem ⌝ }
     ensures starred { λ r. ⌜ Starred ⌝ }

@@ -48,7 +48,7 @@ use Rattle.calls.specs.Starred.{Starred}
 use Rattle.call_unpacked.specs.declared.HeadingAnswer.{HeadingAnswer}
 use Rattle.call_unpacked.proofs.HeadingAnswer as Answer
 use Rattle.call_unpacked.proofs.HeadingAnswer.Laws as Answer′
-use Rattle.calls.specs.LentCalls.{headingFor, Claim, AcceptedTheorem}
+use Rattle.calls.specs.LentCalls.{headingFor, HeadingClaim, AcceptedTheorem}
 use Rattle.calls.proofs.heading as inner
 use Rattle.calls.proofs.heading.Symbol as inner-def
 use Rattle.calls.proofs.heading.Symbol.{name as #inner}
@@ -102,7 +102,7 @@ module _ {M : Type 1} (𝓤 : URA M) (H : Heap 𝓤) (A : Atoms 𝓤) (W : Given
 
     -- what else `calls::heading` says, which is of no answer
     abbrev Claimed : SProp 𝓤
-    Claimed = sep 𝓤 (fact 𝓤 (Claim net (ls .now) (gs .now) k)) (sep 𝓤 (fact 𝓤 PathTheorem) (sep 𝓤 (fact 𝓤 AcceptedTheorem) (fact 𝓤 Starred)))
+    Claimed = sep 𝓤 (fact 𝓤 (HeadingClaim net (ls .now) (gs .now) k)) (sep 𝓤 (fact 𝓤 PathTheorem) (sep 𝓤 (fact 𝓤 AcceptedTheorem) (fact 𝓤 Starred)))
 
     abbrev Post : Val → SProp 𝓤
     Post = walkOf 𝓤 H A f.ended stayed (f.clauses 𝓤 H A mem run) .post (((κ₀, (κ₁, tt)), (q₀, (q₁, tt)), tt, a, vals), tt)
