@@ -8,7 +8,8 @@ use Rattle.model.specs.Netlist.{Netlist}
 use Rattle.model.specs.Numbers.{numbersOf}
 use Rattle.model.specs.declared.Group.{Group}
 use Rattle.refusals.specs.Tests.{_then_}
-use Rattle.refusals.specs.Slices.{CountReply, withCount, contentsAfter}
+use Rattle.refusals.specs.Slices.{withCount, contentsAfter}
+use Rattle.refusals.specs.declared.CountReply.{CountReply}
 use Rattle.refusals.specs.declared.Verdict.{Verdict}
 use Rattle.netlist_tests.specs.Record.{recordVerdict}
 use Rattle.call_unpacked.specs.Calls.{testDepth, testGroup, writeVerdict, groupSent, groupLeaves}

@@ -1,12 +1,12 @@
 // A running record (RULES R1 to R9): a depth, a frame of it and the frame's stored base, which the caller keeps and hands in. Its moves,
 // the groups of its frame and the literals of its frame.
-use call_replies::CountReply;
 use call_unpacked::GroupAnswer;
 use literals::Code;
 use literals::Term;
 use model::Group;
 use netlist::Netlist;
 use netlist::UnpackedList;
+use refusals::CountReply;
 use refusals::Refusal;
 use refusals::Verdict;
 ghost use mathlib.Core.Path.{_≡_};
@@ -20,7 +20,7 @@ ghost use Rattle.model.specs.Numbers.{literalNumber};
 ghost use Rattle.literals.specs.Lit.{literalOf, IsTerm};
 ghost use Rattle.netlist.specs.NetOf.{netOf, alone};
 ghost use Rattle.call_unpacked.specs.Calls.{groupReply};
-ghost use Rattle.call_replies.specs.Replies.{groupOf, countNumbers};
+ghost use Rattle.call_replies.specs.Replies.{groupOf};
 ghost use Rattle.call_position.specs.Positions.{testBase, testFrame, atFrame};
 ghost use Rattle.call_position.specs.Moves.{moveOf, testMove, movedTo, keptAt, withPosition, moveSent};
 ghost use Rattle.call_position.specs.GroupsAt.{groupAtSent, groupAtLeaves};
@@ -257,7 +257,7 @@ pub fn write_group_at(
     j: u32,
     out: &mut [i32],
 ) -> CountReply
-    ensures answer { λ r. ⌜ r ≡ countNumbers (groupAtSent (netOf net (now (latches .entry)) (now (gates .entry))) «latch_count» «gate_count» position (groupOf kind j (position .frame)) (length (now (out .entry)))) ⌝ }
+    ensures answer { λ r. ⌜ r ≡ groupAtSent (netOf net (now (latches .entry)) (now (gates .entry))) «latch_count» «gate_count» position (groupOf kind j (position .frame)) (length (now (out .entry))) ⌝ }
     ensures borrowed { λ r. ⌜ now (out .exit) ≡ groupAtLeaves (netOf net (now (latches .entry)) (now (gates .entry))) «latch_count» «gate_count» position (groupOf kind j (position .frame)) (now (out .entry)) ⌝ }
 {
     call_replies::group_numbers(group_at(

@@ -6,14 +6,10 @@ use lib.Dec.{eqb}
 use Rattle.model.specs.declared.Group.{Group}
 use Rattle.model.specs.declared.Group.the-variants.{Wires, Pair, Closing, Property}
 use Rattle.refusals.specs.Refusal.{replyOf}
-use Rattle.refusals.specs.Slices as Slices
 use Rattle.refusals.specs.declared.Verdict.{Verdict}
 use Rattle.netlist.specs.declared.Netlist.{Netlist}
 use Rattle.sheet_parse.specs.LineAnswers.{lineSent}
 use Rattle.sheet_parse.specs.declared.LineAnswer.{LineAnswer}
-use Rattle.call_unpacked.specs.Calls as Calls
-use Rattle.call_replies.specs.declared.CountReply.{CountReply}
-use Rattle.call_replies.specs.declared.HeadingReply.{HeadingReply}
 use Rattle.call_replies.specs.declared.SheetReply.{SheetReply}
 use Rattle.call_replies.specs.declared.LineReply.{LineReply}
 
@@ -21,12 +17,6 @@ use Rattle.call_replies.specs.declared.LineReply.{LineReply}
 unfoldable pub groupOf : ℕ → ℕ → ℕ → Group
 groupOf kind j i =
     cond (eqb kind 0) (Wires i) (cond (eqb kind 1) (Pair j i) (cond (eqb kind 2) (Closing i) (cond (eqb kind 3) Property (Pair i i))))
-
-unfoldable pub countNumbers : Slices.CountReply → CountReply
-countNumbers r = record { number = r .number; place = r .place; count = r .count }
-
-unfoldable pub headingNumbers : Calls.HeadingReply → HeadingReply
-headingNumbers r = record { number = r .number; place = r .place; variables = r .variables; clauses = r .clauses }
 
 unfoldable pub sheetNumbers : Verdict → Netlist → SheetReply
 sheetNumbers verdict net = record { number = replyOf verdict .number; place = replyOf verdict .place; net = net }

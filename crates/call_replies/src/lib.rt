@@ -1,9 +1,11 @@
 // Groups and answers as numbers, for C and Rust: an exported function can neither take nor return an enum.
 use call_unpacked::GroupAnswer;
 use call_unpacked::HeadingAnswer;
+use call_unpacked::HeadingReply;
 use dimacs::PrintAnswer;
 use model::Group;
 use netlist::Netlist;
+use refusals::CountReply;
 use refusals::Refusal;
 use refusals::Verdict;
 use sheet_parse::LineAnswer;
@@ -12,25 +14,7 @@ ghost use mathlib.Core.Path.{_≡_};
 ghost use Rattle.refusals.specs.Slices.{withCount};
 ghost use Rattle.call_unpacked.specs.Calls.{groupReply, headingReply};
 ghost use Rattle.dimacs.specs.PrintCalls.{printReply};
-ghost use Rattle.call_replies.specs.Replies.{groupOf, countNumbers, headingNumbers, sheetNumbers, withoutFields, lineNumbers};
-
-// What is sent back of a call that writes into a slice: number (0 where it is not refused), place, and how many numbers or bytes
-// were written.
-#[repr(C)]
-pub struct CountReply {
-    pub number: u32,
-    pub place: u32,
-    pub count: usize,
-}
-
-// What is sent back of a heading call.
-#[repr(C)]
-pub struct HeadingReply {
-    pub number: u32,
-    pub place: u32,
-    pub variables: u32,
-    pub clauses: u32,
-}
+ghost use Rattle.call_replies.specs.Replies.{groupOf, sheetNumbers, withoutFields, lineNumbers};
 
 // The group that three numbers stand for. Another kind is no group: a pair of a frame with itself, which no depth has.
 pub fn group_of(kind: u32, j: u32, i: u32) -> Group
@@ -47,7 +31,7 @@ pub fn group_of(kind: u32, j: u32, i: u32) -> Group
 
 // So many were written.
 fn written(count: usize) -> CountReply
-    ensures { λ r. ⌜ r ≡ countNumbers (withCount Verdict.Passed count) ⌝ }
+    ensures { λ r. ⌜ r ≡ withCount Verdict.Passed count ⌝ }
 {
     CountReply {
         number: 0,
@@ -58,7 +42,7 @@ fn written(count: usize) -> CountReply
 
 // None were: the call is refused.
 fn refused(refusal: Refusal, place: u32) -> CountReply
-    ensures { λ r. ⌜ r ≡ countNumbers (withCount (Verdict.Refused refusal place) 0) ⌝ }
+    ensures { λ r. ⌜ r ≡ withCount (Verdict.Refused refusal place) 0 ⌝ }
 {
     CountReply {
         number: refusals::number(refusal),
@@ -69,7 +53,7 @@ fn refused(refusal: Refusal, place: u32) -> CountReply
 
 // A group call's answer in numbers.
 pub fn group_numbers(answer: GroupAnswer) -> CountReply
-    ensures { λ r. ⌜ r ≡ countNumbers (groupReply answer) ⌝ }
+    ensures { λ r. ⌜ r ≡ groupReply answer ⌝ }
 {
     match answer {
         GroupAnswer::Written(count) => written(count),
@@ -79,7 +63,7 @@ pub fn group_numbers(answer: GroupAnswer) -> CountReply
 
 // That of a call that prints.
 pub fn print_numbers(answer: PrintAnswer) -> CountReply
-    ensures { λ r. ⌜ r ≡ countNumbers (printReply answer) ⌝ }
+    ensures { λ r. ⌜ r ≡ printReply answer ⌝ }
 {
     match answer {
         PrintAnswer::Written(count) => written(count),
@@ -89,7 +73,7 @@ pub fn print_numbers(answer: PrintAnswer) -> CountReply
 
 // A heading call's.
 pub fn heading_numbers(answer: HeadingAnswer) -> HeadingReply
-    ensures { λ r. ⌜ r ≡ headingNumbers (headingReply answer) ⌝ }
+    ensures { λ r. ⌜ r ≡ headingReply answer ⌝ }
 {
     match answer {
         HeadingAnswer::Heading { variables, clauses } => HeadingReply {

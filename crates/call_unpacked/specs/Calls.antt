@@ -17,7 +17,8 @@ use Rattle.model.specs.Claim.{Encodes, Stated}
 use Rattle.model.specs.declared.Group.{Group}
 use Rattle.refusals.specs.Refusal.{refusalNumber}
 use Rattle.refusals.specs.Tests.{refuseIf, _then_}
-use Rattle.refusals.specs.Slices.{testRoom, CountReply, withCount, contentsAfter}
+use Rattle.refusals.specs.Slices.{testRoom, withCount, contentsAfter}
+use Rattle.refusals.specs.declared.CountReply.{CountReply}
 use Rattle.refusals.specs.declared.Refusal.the-variants.{Depth, NoSuchGroup, OutOfNumbers}
 use Rattle.refusals.specs.declared.Verdict.{Verdict}
 use Rattle.refusals.specs.declared.Verdict.the-variants.{Passed, Refused}
@@ -25,6 +26,7 @@ use Rattle.netlist.specs.Places.{controlLine}
 use Rattle.netlist_tests.specs.Record.{recordVerdict}
 use Rattle.call_unpacked.specs.declared.GroupAnswer.{GroupAnswer}
 use Rattle.call_unpacked.specs.declared.GroupAnswer.the-variants.{Written}
+use Rattle.call_unpacked.specs.declared.HeadingReply.{HeadingReply}
 use Rattle.call_unpacked.specs.declared.HeadingAnswer.{HeadingAnswer}
 use Rattle.call_unpacked.specs.declared.HeadingAnswer.the-variants.{Heading}
 
@@ -52,13 +54,6 @@ groupVerdict c latchCount gateCount k g room =
 -- RULES T41: a heading call has no group and writes nothing, so no 8 and no 9
 unfoldable pub headingVerdict : Netlist → ℕ → ℕ → ℕ → Verdict
 headingVerdict c latchCount gateCount k = recordVerdict c latchCount gateCount then testDepth k then testNumbers c k
-
--- what is sent back of a heading call: the refusal's number and place, both 0 where nothing is refused, and the heading
-pub record HeadingReply : Type 0 where
-  pub number : ℕ
-  pub place : ℕ
-  pub variables : ℕ
-  pub clauses : ℕ
 
 -- a verdict, with the heading beside it. RULES T43: "A count, a heading .. is all zeros"
 unfoldable pub withHeading : Verdict → ℕ → ℕ → HeadingReply

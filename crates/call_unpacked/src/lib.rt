@@ -31,6 +31,15 @@ pub enum HeadingAnswer {
     Refused(Refusal, u32),
 }
 
+// What is sent back of a heading call: number and place (0 where it is not refused), and the heading.
+#[repr(C)]
+pub struct HeadingReply {
+    pub number: u32,
+    pub place: u32,
+    pub variables: u32,
+    pub clauses: u32,
+}
+
 // The tests of the record with its lists, and of the depth: with these each call about a depth begins.
 pub fn test_depth(
     net: Netlist,

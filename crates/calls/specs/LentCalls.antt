@@ -10,14 +10,15 @@ use Rattle.model.specs.Limits.{mostDepth}
 use Rattle.model.specs.Netlist as model
 use Rattle.model.specs.Acceptance.{Accepted}
 use Rattle.model.specs.declared.Group.{Group}
-use Rattle.refusals.specs.Slices.{CountReply}
+use Rattle.refusals.specs.declared.CountReply.{CountReply}
 use Rattle.refusals.specs.declared.Verdict.the-variants.{Passed}
 use Rattle.netlist.specs.declared.Netlist.{Netlist}
 use Rattle.netlist_tests.specs.Record.{recordVerdict}
 use Rattle.call_lists.specs.Lent.{netLent}
 use Rattle.call_lists.specs.declared.Latch.{Latch}
 use Rattle.call_lists.specs.declared.Gate.{Gate}
-use Rattle.call_unpacked.specs.Calls.{groupSent, groupLeaves, HeadingReply, headingSent, CallsEncode}
+use Rattle.call_unpacked.specs.declared.HeadingReply.{HeadingReply}
+use Rattle.call_unpacked.specs.Calls.{groupSent, groupLeaves, headingSent, CallsEncode}
 
 abbrev pub headingFor : Netlist → List Latch → List Gate → ℕ → HeadingReply
 headingFor net latches gates k = headingSent (netLent net latches gates) (length latches) (length gates) k

@@ -3,7 +3,8 @@
 use Prim.Native.Nat.{ℕ}
 use mathlib.Core.List.{List}
 use lib.ListN.{length}
-use Rattle.refusals.specs.Slices.{testRoom, CountReply, withCount, contentsAfter}
+use Rattle.refusals.specs.Slices.{testRoom, withCount, contentsAfter}
+use Rattle.refusals.specs.declared.CountReply.{CountReply}
 use Rattle.decimal.specs.WroteAtEnd.{atEnd}
 use Rattle.refusals.specs.declared.Verdict.{Verdict}
 use Rattle.refusals.specs.declared.Verdict.the-variants.{Passed, Refused}

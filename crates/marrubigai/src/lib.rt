@@ -4,11 +4,11 @@ use call_lists::Latch;
 use call_position::LiteralReply;
 use call_position::Position;
 use call_position::PositionReply;
-use call_replies::CountReply;
-use call_replies::HeadingReply;
 use call_replies::LineReply;
 use call_replies::SheetReply;
+use call_unpacked::HeadingReply;
 use netlist::Netlist;
+use refusals::CountReply;
 use replay_call::ReplayReply;
 use sheet_parse::SheetReader;
 ghost use mathlib.Core.Path.{_≡_};
@@ -32,7 +32,7 @@ ghost use Rattle.call_position.specs.GroupsAt.{groupAtSent, groupAtLeaves, ByFr
 ghost use Rattle.call_position.specs.Literals.{literalSent, InverseNegated};
 ghost use Rattle.netlist.specs.NetOf.{alone};
 ghost use Rattle.sheet_writer.specs.WriteCall.{writeSent, writeLeaves, SheetWritten};
-ghost use Rattle.call_replies.specs.Replies.{groupOf, countNumbers, headingNumbers, sheetNumbers, lineNumbers};
+ghost use Rattle.call_replies.specs.Replies.{groupOf, sheetNumbers, lineNumbers};
 
 // `calls::write_group`. The kind is 0 for the wires of frame i, 1 for the pair (j, i), 2 for the closing of frame i, 3 for the property.
 #[no_mangle]
@@ -46,7 +46,7 @@ pub extern "C" fn marrubigai_write_group(
     i: u32,
     out: &mut [i32],
 ) -> CountReply
-    ensures answer { λ r. ⌜ r ≡ countNumbers (groupFor net (now (latches .entry)) (now (gates .entry)) depth (groupOf kind j i) (length (now (out .entry)))) ⌝ }
+    ensures answer { λ r. ⌜ r ≡ groupFor net (now (latches .entry)) (now (gates .entry)) depth (groupOf kind j i) (length (now (out .entry))) ⌝ }
     ensures borrowed { λ r. ⌜ now (out .exit) ≡ numbersAfter net (now (latches .entry)) (now (gates .entry)) depth (groupOf kind j i) (now (out .entry)) ⌝ }
 {
     call_replies::group_numbers(calls::write_group(
@@ -67,7 +67,7 @@ pub extern "C" fn marrubigai_heading(
     gates: &[Gate],
     depth: u32,
 ) -> HeadingReply
-    ensures { λ r. ⌜ r ≡ headingNumbers (headingFor net (now (latches .entry)) (now (gates .entry)) depth) ⌝ }
+    ensures { λ r. ⌜ r ≡ headingFor net (now (latches .entry)) (now (gates .entry)) depth ⌝ }
 {
     call_replies::heading_numbers(calls::heading(net, latches, gates, depth))
 }
@@ -136,7 +136,7 @@ pub extern "C" fn marrubigai_next_line(file: &[u8], line: u32) -> LineReply
 // `dimacs::put_header`.
 #[no_mangle]
 pub extern "C" fn marrubigai_put_header(out: &mut [u8], variables: u32, clauses: u32) -> CountReply
-    ensures answer { λ r. ⌜ r ≡ countNumbers (printSent (headerText variables clauses) (length (now (out .entry)))) ⌝ }
+    ensures answer { λ r. ⌜ r ≡ printSent (headerText variables clauses) (length (now (out .entry))) ⌝ }
     ensures borrowed { λ _. ⌜ now (out .exit) ≡ printLeaves (headerText variables clauses) (now (out .entry)) ⌝ }
 {
     call_replies::print_numbers(dimacs::put_header(out, variables, clauses))
@@ -145,7 +145,7 @@ pub extern "C" fn marrubigai_put_header(out: &mut [u8], variables: u32, clauses:
 // `dimacs::put_clauses`.
 #[no_mangle]
 pub extern "C" fn marrubigai_put_clauses(out: &mut [u8], numbers: &[i32]) -> CountReply
-    ensures answer { λ r. ⌜ r ≡ countNumbers (printSent (clauseText (now (numbers .entry))) (length (now (out .entry)))) ⌝ }
+    ensures answer { λ r. ⌜ r ≡ printSent (clauseText (now (numbers .entry))) (length (now (out .entry))) ⌝ }
     ensures borrowed { λ _. ⌜ now (out .exit) ≡ printLeaves (clauseText (now (numbers .entry))) (now (out .entry)) ⌝ }
     ensures others { λ _. ⌜ OtherNumbers ⌝ }
 {
@@ -155,7 +155,7 @@ pub extern "C" fn marrubigai_put_clauses(out: &mut [u8], numbers: &[i32]) -> Cou
 // `dimacs::put_refusal`.
 #[no_mangle]
 pub extern "C" fn marrubigai_put_refusal(out: &mut [u8], number: u32, place: u32) -> CountReply
-    ensures answer { λ r. ⌜ r ≡ countNumbers (printSent (refusalText number place) (length (now (out .entry)))) ⌝ }
+    ensures answer { λ r. ⌜ r ≡ printSent (refusalText number place) (length (now (out .entry))) ⌝ }
     ensures borrowed { λ _. ⌜ now (out .exit) ≡ printLeaves (refusalText number place) (now (out .entry)) ⌝ }
 {
     call_replies::print_numbers(dimacs::put_refusal(out, number, place))
@@ -164,7 +164,7 @@ pub extern "C" fn marrubigai_put_refusal(out: &mut [u8], number: u32, place: u32
 // `dimacs::put_number`.
 #[no_mangle]
 pub extern "C" fn marrubigai_put_number(out: &mut [u8], number: i32) -> CountReply
-    ensures answer { λ r. ⌜ r ≡ countNumbers (printSent (signedDigits number) (length (now (out .entry)))) ⌝ }
+    ensures answer { λ r. ⌜ r ≡ printSent (signedDigits number) (length (now (out .entry))) ⌝ }
     ensures borrowed { λ _. ⌜ now (out .exit) ≡ fillLeaves (signedDigits number) (now (out .entry)) ⌝ }
     ensures printed { λ _. ⌜ NumberPrinted ⌝ }
 {
@@ -244,7 +244,7 @@ pub extern "C" fn marrubigai_write_group_at(
     j: u32,
     out: &mut [i32],
 ) -> CountReply
-    ensures answer { λ r. ⌜ r ≡ countNumbers (groupAtSent (netLent net (now (latches .entry)) (now (gates .entry))) (length (now (latches .entry))) (length (now (gates .entry))) position (groupOf kind j (position .frame)) (length (now (out .entry)))) ⌝ }
+    ensures answer { λ r. ⌜ r ≡ groupAtSent (netLent net (now (latches .entry)) (now (gates .entry))) (length (now (latches .entry))) (length (now (gates .entry))) position (groupOf kind j (position .frame)) (length (now (out .entry))) ⌝ }
     ensures borrowed { λ r. ⌜ now (out .exit) ≡ groupAtLeaves (netLent net (now (latches .entry)) (now (gates .entry))) (length (now (latches .entry))) (length (now (gates .entry))) position (groupOf kind j (position .frame)) (now (out .entry)) ⌝ }
     ensures by_frame { λ r. ⌜ ByFrame (netLent net (now (latches .entry)) (now (gates .entry))) (length (now (latches .entry))) (length (now (gates .entry))) position (groupOf kind j (position .frame)) (now (out .entry)) ⌝ }
 {
@@ -282,7 +282,7 @@ pub extern "C" fn marrubigai_write_sheet(
     gates: &[Gate],
     out: &mut [u8],
 ) -> CountReply
-    ensures answer { λ r. ⌜ r ≡ countNumbers (writeSent (netLent net (now (latches .entry)) (now (gates .entry))) (length (now (latches .entry))) (length (now (gates .entry))) (length (now (out .entry)))) ⌝ }
+    ensures answer { λ r. ⌜ r ≡ writeSent (netLent net (now (latches .entry)) (now (gates .entry))) (length (now (latches .entry))) (length (now (gates .entry))) (length (now (out .entry))) ⌝ }
     ensures borrowed { λ _. ⌜ now (out .exit) ≡ writeLeaves (netLent net (now (latches .entry)) (now (gates .entry))) (length (now (latches .entry))) (length (now (gates .entry))) (now (out .entry)) ⌝ }
     ensures written { λ _. ⌜ SheetWritten ⌝ }
 {

@@ -8,18 +8,13 @@ use Rattle.model.specs.Wrote.{over}
 use Rattle.refusals.specs.Refusal.{refusalNumber}
 use Rattle.refusals.specs.Tests.{refuseIf}
 use Rattle.refusals.specs.declared.Refusal.the-variants.{NoRoom}
+use Rattle.refusals.specs.declared.CountReply.{CountReply}
 use Rattle.refusals.specs.declared.Verdict.{Verdict}
 use Rattle.refusals.specs.declared.Verdict.the-variants.{Passed, Refused}
 
 -- RULES T9: "a lent slice or list that is to be written is shorter than the exact need. Place 0"
 unfoldable pub testRoom : ℕ → ℕ → Verdict
 testRoom need room = refuseIf (ltb room need) NoRoom 0
-
--- the refusal's number and place, both 0 where nothing is refused, and how many were written
-pub record CountReply : Type 0 where
-  pub number : ℕ
-  pub place : ℕ
-  pub count : ℕ
 
 -- a verdict, with the count beside it. RULES T43: "A count .. that is returned beside them is all zeros"
 unfoldable pub withCount : Verdict → ℕ → CountReply

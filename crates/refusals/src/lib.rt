@@ -35,6 +35,15 @@ pub struct Reply {
     pub place: u32,
 }
 
+// What is sent back of a call that writes into a slice: number (0 where it is not refused), place, and how many numbers or bytes
+// were written.
+#[repr(C)]
+pub struct CountReply {
+    pub number: u32,
+    pub place: u32,
+    pub count: usize,
+}
+
 // The number of a word of the table.
 pub fn number(refusal: Refusal) -> u32
     ensures { λ n. ⌜ n ≡ refusalNumber refusal ⌝ }

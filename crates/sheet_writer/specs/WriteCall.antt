@@ -7,7 +7,8 @@ use lib.ListN.{length}
 use Rattle.model.specs.Netlist.{Netlist}
 use Rattle.model.specs.Agree.{Agree}
 use Rattle.refusals.specs.Tests.{_then_}
-use Rattle.refusals.specs.Slices.{testRoom, CountReply, withCount, contentsAfter}
+use Rattle.refusals.specs.Slices.{testRoom, withCount, contentsAfter}
+use Rattle.refusals.specs.declared.CountReply.{CountReply}
 use Rattle.refusals.specs.declared.Verdict.{Verdict}
 use Rattle.refusals.specs.declared.Verdict.the-variants.{Passed}
 use Rattle.netlist_tests.specs.Record.{recordVerdict}

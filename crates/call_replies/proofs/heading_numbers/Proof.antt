@@ -1,6 +1,5 @@
 -- `call_replies::heading_numbers` meets its contract: each arm knows its answer.
 use Rattle.call_unpacked.specs.Calls.{headingReply, withHeading}
-use Rattle.call_replies.specs.Replies.{headingNumbers}
 use borrow.Author.Needs.{needs}
 use Rattle.call_replies.proofs.heading_numbers.Statement.{statement}
 use Rattle.call_replies.proofs.heading_numbers.Tie as tie
@@ -15,11 +14,11 @@ number-requires : tie.Need-number-requires
 number-requires c κs = search needs
 
 returns : tie.Need-returns
-unfolding headingNumbers headingReply withHeading
+unfolding headingReply withHeading
 returns c = rw (c .before .answer .given .1)
 
 returns-2 : tie.Need-returns-2
-unfolding headingNumbers headingReply withHeading
+unfolding headingReply withHeading
 returns-2 c = rw (c .before .before .answer2 .given .1, c .number .ensures)
 
 pub heading-numbers-spec : {M : Type 1} → statement M

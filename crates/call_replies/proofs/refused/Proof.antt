@@ -1,7 +1,6 @@
 -- `call_replies::refused` meets its contract: it is the definition.
 use borrow.Author.Needs.{needs}
 use Rattle.refusals.specs.Slices.{withCount}
-use Rattle.call_replies.specs.Replies.{countNumbers}
 use Rattle.call_replies.proofs.refused.Statement.{statement}
 use Rattle.call_replies.proofs.refused.Tie as tie
 
@@ -9,7 +8,7 @@ number-requires : tie.Need-number-requires
 number-requires c κs = search needs
 
 returns : tie.Need-returns
-unfolding countNumbers withCount
+unfolding withCount
 returns c = rw (c .number .ensures)
 
 pub refused-spec : {M : Type 1} → statement M

@@ -53,9 +53,8 @@ use Rattle.calls.proofs.heading as inner
 use Rattle.calls.proofs.heading.Symbol as inner-def
 use Rattle.calls.proofs.heading.Symbol.{name as #inner}
 use Rattle.calls.proofs.heading.Met as inner-thm
-use Rattle.call_replies.specs.Replies.{headingNumbers}
-use Rattle.call_replies.proofs.HeadingReply as Reply
-use Rattle.call_replies.proofs.HeadingReply.Laws as Reply′
+use Rattle.call_unpacked.proofs.HeadingReply as Reply
+use Rattle.call_unpacked.proofs.HeadingReply.Laws as Reply′
 use Rattle.call_replies.proofs.heading_numbers as numbers
 use Rattle.call_replies.proofs.heading_numbers.Symbol as numbers-def
 use Rattle.call_replies.proofs.heading_numbers.Symbol.{name as #numbers}
@@ -137,7 +136,7 @@ module _ {M : Type 1} (𝓤 : URA M) (H : Heap 𝓤) (A : Atoms 𝓤) (W : Given
           calls-told ! fm numbers.ended (numbers.clauses 𝓤 H A mem run) known-numbers (tt, tt, tt, (r, tt), (w ∷ [], tt)) tt
           (id⊢ 𝓤 (emp 𝓤))
           (and-then ! (load ! (from ! (stop !)) (look ! 3 refl)) (no-more !)) (λ w′ r′ ws′.
-          heard ! (r′ ≡ headingNumbers (headingReply r)) (λ is. move ! (1 ∷ []) $
+          heard ! (r′ ≡ headingReply r) (λ is. move ! (1 ∷ []) $
           peeks ! Reply.the-row (Is Reply.the-row) (shows 𝓤 H A Reply.the-row) r′ (w′ ∷ []) (λ is-reply.
           land ! (from ! (stop !)) (init ! 15 refl (LL.lawful Reply.the-type Reply′.the-laws 𝓤 H A W .typed r′
           (w′ ∷ []) is-reply .0)) $ returns ! (look ! 15 refl) $
@@ -146,7 +145,7 @@ module _ {M : Type 1} (𝓤 : URA M) (H : Heap 𝓤) (A : Atoms 𝓤) (W : Given
           -- [the reply; …; …; …; the tokens]
           suffices ! _ (ends-at 𝓤 H A f.ended stayed (f.clauses 𝓤 H A mem run) W
           (((κ₀, (κ₁, tt)), (q₀, (q₁, tt)), tt, a, vals), tt) w′ r′ (tt, (tt, (tt, (tt, tt)))) (tt, (tt, (tt, (tt, tt))))) $
-          says ! (is ∙ ap headingNumbers answered) $
+          says ! (is ∙ answered) $
           nothing ! $ nothing ! $ fjoin ! $ nothing ! $ fjoin ! $ nothing ! $ fjoin ! $ nothing ! $ fjoin ! $
           move ! (5 ∷ 0 ∷ 1 ∷ []) $ frame ! $ frame ! $ keep ! (0 ∷ []) $ done !))))))))))))
 

@@ -6,7 +6,6 @@ use borrow.Author.Needs.{needs}
 use Rattle.decimal.specs.Digits.{signedDigits}
 use Rattle.decimal.proofs.Signed.{read-back}
 use Rattle.dimacs.specs.PrintCalls.{printSent, fillLeaves}
-use Rattle.call_replies.specs.Replies.{countNumbers}
 use Rattle.marrubigai.proofs.marrubigai_put_number.Statement.{statement}
 use Rattle.marrubigai.proofs.marrubigai_put_number.Tie as tie
 
@@ -25,7 +24,7 @@ returns c =
     let start = c .before .before .before .before .before .before in
     let e = read-back (start .args .number) (start .fits .number) in
     let old = start .args .out .now in (
-      c .print-numbers .ensures ∙ ap countNumbers (put .ensures .0) ∙ ap (λ (z : ℤ). countNumbers (printSent (signedDigits z) (length old))) e,
+      c .print-numbers .ensures ∙ put .ensures .0 ∙ ap (λ (z : ℤ). printSent (signedDigits z) (length old)) e,
       (put .ensures .1 .0 ∙ ap (λ (z : ℤ). fillLeaves (signedDigits z) old) e, put .ensures .1 .1),
     )
 

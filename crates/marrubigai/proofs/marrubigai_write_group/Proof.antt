@@ -56,9 +56,9 @@ use Rattle.calls.proofs.write_group as inner
 use Rattle.calls.proofs.write_group.Symbol as inner-def
 use Rattle.calls.proofs.write_group.Symbol.{name as #inner}
 use Rattle.calls.proofs.write_group.Met as inner-thm
-use Rattle.call_replies.specs.Replies.{groupOf, countNumbers}
-use Rattle.call_replies.proofs.CountReply as Reply
-use Rattle.call_replies.proofs.CountReply.Laws as Reply′
+use Rattle.call_replies.specs.Replies.{groupOf}
+use Rattle.refusals.proofs.CountReply as Reply
+use Rattle.refusals.proofs.CountReply.Laws as Reply′
 use Rattle.call_replies.proofs.group_of as group
 use Rattle.call_replies.proofs.group_of.Symbol as group-def
 use Rattle.call_replies.proofs.group_of.Symbol.{name as #group}
@@ -226,7 +226,7 @@ module _ {M : Type 1} (𝓤 : URA M) (H : Heap 𝓤) (A : Atoms 𝓤) (W : Given
           nothing ! $ move ! (1 ∷ 0 ∷ []) $ fjoin ! $ nothing ! $ join ! $
           calls-told ! fm numbers.ended (numbers.clauses 𝓤 H A mem run) known-numbers (tt, tt, tt, (r₁, tt), (w₁ ∷ [], tt)) tt
           (id⊢ 𝓤 (emp 𝓤)) (and-then ! (load ! (from ! (stop !)) (look ! 12 refl)) (no-more !)) (λ w₂ r₂ ws₂.
-          heard ! (r₂ ≡ countNumbers (groupReply r₁)) (λ is. move ! (1 ∷ []) $
+          heard ! (r₂ ≡ groupReply r₁) (λ is. move ! (1 ∷ []) $
           peeks ! Reply.the-row (Is Reply.the-row) (shows 𝓤 H A Reply.the-row) r₂ (w₂ ∷ []) (λ is-reply.
           land ! (from ! (stop !)) (init ! 32 refl (LL.lawful Reply.the-type Reply′.the-laws 𝓤 H A W .typed r₂
           (w₂ ∷ []) is-reply .0)) $ returns ! (look ! 32 refl) $
@@ -241,7 +241,7 @@ module _ {M : Type 1} (𝓤 : URA M) (H : Heap 𝓤) (A : Atoms 𝓤) (W : Given
           move ! (3 ∷ 4 ∷ []) $ fjoin ! $ nothing ! $ fjoin ! $ nothing ! $ fjoin ! $ nothing ! $ fjoin ! $ nothing ! $ fjoin ! $
           nothing ! $ fjoin ! $ nothing ! $ fjoin ! $ nothing ! $ fjoin ! $
           move ! (0 ∷ 1 ∷ []) $ join ! $ move ! (3 ∷ 0 ∷ []) $ join ! $ frame ! $ keep ! [] $
-          by ! (both 𝓤 (factI 𝓤 _ (emp 𝓤) (is ∙ ap countNumbers answered)) (factI 𝓤 _ (emp 𝓤) leaves))))))))))))))))))))))))))
+          by ! (both 𝓤 (factI 𝓤 _ (emp 𝓤) (is ∙ answered)) (factI 𝓤 _ (emp 𝓤) leaves))))))))))))))))))))))))))
 
 marrubigai-write-group-meets : {M : Type 1} (𝓤 : URA M) (H : Heap 𝓤) (A : Atoms 𝓤) (W : Given 𝓤 H A) (mem : Memory → SProp 𝓤)
     (run : Routine → Fun 𝓤) (𝓣 : Tables 𝓤 H)

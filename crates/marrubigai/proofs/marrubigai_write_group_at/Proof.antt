@@ -59,10 +59,10 @@ use Rattle.call_lists.proofs.unpack.unpack_gates as gates
 use Rattle.call_lists.proofs.unpack.unpack_gates.Symbol as gates-def
 use Rattle.call_lists.proofs.unpack.unpack_gates.Symbol.{name as #gates}
 use Rattle.call_lists.proofs.unpack.unpack_gates.Met as gates-thm
-use Rattle.call_replies.specs.Replies.{groupOf, countNumbers}
-use Rattle.call_replies.specs.declared.CountReply.{CountReply}
-use Rattle.call_replies.proofs.CountReply as Reply
-use Rattle.call_replies.proofs.CountReply.Laws as Reply′
+use Rattle.call_replies.specs.Replies.{groupOf}
+use Rattle.refusals.specs.declared.CountReply.{CountReply}
+use Rattle.refusals.proofs.CountReply as Reply
+use Rattle.refusals.proofs.CountReply.Laws as Reply′
 use Rattle.call_position.specs.GroupsAt.{groupAtSent, groupAtLeaves}
 use Rattle.call_position.specs.declared.Position.{Position}
 use Rattle.call_position.proofs.Position as P
@@ -140,7 +140,7 @@ module _ {M : Type 1} (𝓤 : URA M) (H : Heap 𝓤) (A : Atoms 𝓤) (W : Given
 
     -- what the call over unpacked lists says
     abbrev Answered : CountReply → Type 0
-    Answered r = r ≡ countNumbers (groupAtSent (netOf net zl zg) (length (ls .now)) (length (gs .now)) p (groupOf kind j (p .frame)) (length (out .now)))
+    Answered r = r ≡ groupAtSent (netOf net zl zg) (length (ls .now)) (length (gs .now)) p (groupOf kind j (p .frame)) (length (out .now))
 
     abbrev Leaves : List ℤ → Type 0
     Leaves zs = zs ≡ groupAtLeaves (netOf net zl zg) (length (ls .now)) (length (gs .now)) p (groupOf kind j (p .frame)) (out .now)
@@ -258,8 +258,8 @@ module _ {M : Type 1} (𝓤 : URA M) (H : Heap 𝓤) (A : Atoms 𝓤) (W : Given
           fjoin ! $ move ! (6 ∷ 0 ∷ []) $ fjoin ! $ move ! (6 ∷ 0 ∷ []) $ fjoin ! $ move ! (3 ∷ 0 ∷ []) $ fjoin ! $ move ! (3 ∷ 0 ∷ []) $ fjoin ! $
           move ! (4 ∷ 0 ∷ []) $ fjoin ! $
           move ! (0 ∷ 2 ∷ []) $ join ! $ move ! (1 ∷ 0 ∷ []) $ join ! $ frame ! $ keep ! [] $
-          by ! (both 𝓤 (factI 𝓤 _ (emp 𝓤) (answered ∙ ap (λ c. countNumbers (groupAtSent c (length (ls .now)) (length (gs .now)) p
-          (groupOf kind j (p .frame)) (length (out .now)))) same-net))
+          by ! (both 𝓤 (factI 𝓤 _ (emp 𝓤) (answered ∙ ap (λ c. groupAtSent c (length (ls .now)) (length (gs .now)) p
+          (groupOf kind j (p .frame)) (length (out .now))) same-net))
           (both 𝓤 (factI 𝓤 _ (emp 𝓤) (leaves ∙ ap (λ c. groupAtLeaves c (length (ls .now)) (length (gs .now)) p
           (groupOf kind j (p .frame)) (out .now)) same-net))
           (factI 𝓤 _ (emp 𝓤) (by-frame _ _ _ p (groupOf kind j (p .frame)) (out .now)))))))))))))))))))))))))))))))

@@ -68,9 +68,8 @@ use Rattle.sheet_writer.proofs.write_sheet as inner
 use Rattle.sheet_writer.proofs.write_sheet.Symbol as inner-def
 use Rattle.sheet_writer.proofs.write_sheet.Symbol.{name as #inner}
 use Rattle.sheet_writer.proofs.write_sheet.Met as inner-thm
-use Rattle.call_replies.specs.Replies.{countNumbers}
-use Rattle.call_replies.proofs.CountReply as Reply
-use Rattle.call_replies.proofs.CountReply.Laws as Reply′
+use Rattle.refusals.proofs.CountReply as Reply
+use Rattle.refusals.proofs.CountReply.Laws as Reply′
 use Rattle.call_replies.proofs.print_numbers as numbers
 use Rattle.call_replies.proofs.print_numbers.Symbol as numbers-def
 use Rattle.call_replies.proofs.print_numbers.Symbol.{name as #numbers}
@@ -229,7 +228,7 @@ module _ {M : Type 1} (𝓤 : URA M) (H : Heap 𝓤) (A : Atoms 𝓤) (W : Given
           nothing ! $ move ! (1 ∷ 0 ∷ []) $ fjoin ! $ nothing ! $ join ! $
           calls-told ! fm numbers.ended (numbers.clauses 𝓤 H A mem run) known-numbers (tt, tt, tt, (r, tt), (w ∷ [], tt)) tt
           (id⊢ 𝓤 (emp 𝓤)) (and-then ! (load ! (from ! (stop !)) (look ! 29 refl)) (no-more !)) (λ w₂ r₂ ws₂.
-          heard ! (r₂ ≡ countNumbers (printReply r)) (λ is. move ! (1 ∷ []) $
+          heard ! (r₂ ≡ printReply r) (λ is. move ! (1 ∷ []) $
           peeks ! Reply.the-row (Is Reply.the-row) (shows 𝓤 H A Reply.the-row) r₂ (w₂ ∷ []) (λ is-reply.
           land ! (from ! (stop !)) (init ! 44 refl (LL.lawful Reply.the-type Reply′.the-laws 𝓤 H A W .typed r₂
           (w₂ ∷ []) is-reply .0)) $
@@ -248,7 +247,7 @@ module _ {M : Type 1} (𝓤 : URA M) (H : Heap 𝓤) (A : Atoms 𝓤) (W : Given
           move ! (7 ∷ 0 ∷ []) $ join ! $ move ! (8 ∷ 0 ∷ []) $ join ! $ move ! (4 ∷ 5 ∷ []) $ fjoin ! $ move ! (5 ∷ 0 ∷ []) $
           fjoin ! $ move ! (5 ∷ 0 ∷ []) $ fjoin ! $ move ! (6 ∷ 0 ∷ []) $ fjoin ! $
           move ! (0 ∷ 2 ∷ []) $ join ! $ move ! (1 ∷ 0 ∷ []) $ join ! $ frame ! $ keep ! [] $
-          by ! (both 𝓤 (factI 𝓤 _ (emp 𝓤) (is ∙ ap countNumbers (answered ∙ ap (λ c. writeSent c (length (ls .now))
+          by ! (both 𝓤 (factI 𝓤 _ (emp 𝓤) (is ∙ (answered ∙ ap (λ c. writeSent c (length (ls .now))
           (length (gs .now)) (length (out .now))) same-net)))
           (both 𝓤 (factI 𝓤 _ (emp 𝓤) (leaves ∙ ap (λ c. writeLeaves c (length (ls .now)) (length (gs .now)) (out .now)) same-net))
           (factI 𝓤 _ (emp 𝓤) written)))))))))))))))))))))))))))))))
