@@ -10,8 +10,8 @@ use Rattle.netlist.specs.declared.Netlist.{Netlist}
 use Rattle.sheet_steps.specs.Records.{recordBeside}
 use Rattle.call_lists.specs.ListsBeside.{latchesBeside, gatesBeside}
 use Rattle.call_lists.specs.Lent.{netLent}
-use Rattle.call_lists.specs.declared.Latch.{Latch}
-use Rattle.call_lists.specs.declared.Gate.{Gate}
+use Rattle.call_lists.specs.declared.LatchEntry.{LatchEntry}
+use Rattle.call_lists.specs.declared.GateEntry.{GateEntry}
 use Rattle.aiger_netlist.specs.TextNetlist.{aagNet}
 use Rattle.aiger_netlist.specs.ImportVerdict.{importVerdict}
 use Rattle.aiger_netlist.specs.Imported.{Imported}
@@ -21,18 +21,18 @@ abbrev pub importedWord : ℕ → ℕ → ℕ
 importedWord word unknown = givenWord (startOf word unknown)
 
 -- the verdict, the record and both lists, for lent lists `latches` and `gates`
-unfoldable pub importVerdictFor : List ℕ → ℕ → ℕ → ℕ → ℕ → List Latch → List Gate → Verdict
+unfoldable pub importVerdictFor : List ℕ → ℕ → ℕ → ℕ → ℕ → List LatchEntry → List GateEntry → Verdict
 importVerdictFor s m n word unknown latches gates = importVerdict s m n (importedWord word unknown) unknown (length latches) (length gates)
 
-unfoldable pub importRecord : List ℕ → ℕ → ℕ → ℕ → ℕ → List Latch → List Gate → Netlist
+unfoldable pub importRecord : List ℕ → ℕ → ℕ → ℕ → ℕ → List LatchEntry → List GateEntry → Netlist
 importRecord s m n word unknown latches gates = recordBeside (importVerdictFor s m n word unknown latches gates) (aagNet s m n (importedWord word unknown) unknown)
 
-unfoldable pub importLatches : List ℕ → ℕ → ℕ → ℕ → ℕ → List Latch → List Gate → List Latch
+unfoldable pub importLatches : List ℕ → ℕ → ℕ → ℕ → ℕ → List LatchEntry → List GateEntry → List LatchEntry
 importLatches s m n word unknown latches gates = latchesBeside (importVerdictFor s m n word unknown latches gates) (aagNet s m n (importedWord word unknown) unknown) latches
 
-unfoldable pub importGates : List ℕ → ℕ → ℕ → ℕ → ℕ → List Latch → List Gate → List Gate
+unfoldable pub importGates : List ℕ → ℕ → ℕ → ℕ → ℕ → List LatchEntry → List GateEntry → List GateEntry
 importGates s m n word unknown latches gates = gatesBeside (importVerdictFor s m n word unknown latches gates) (aagNet s m n (importedWord word unknown) unknown) gates
 
 -- what holds of the record r and the lists that are left where nothing is refused
-abbrev pub TextDelivered : List ℕ → ℕ → ℕ → ℕ → ℕ → Netlist → List Latch → List Gate → Type 0
+abbrev pub TextDelivered : List ℕ → ℕ → ℕ → ℕ → ℕ → Netlist → List LatchEntry → List GateEntry → Type 0
 TextDelivered s m n word unknown r latches gates = Imported s m n (importedWord word unknown) unknown (netLent r latches gates) (length latches) (length gates)

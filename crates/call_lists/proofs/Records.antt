@@ -5,12 +5,12 @@ use mir.Syntax.{field}
 use types.Part.{whole, sub}
 use types.Run.{stop, fld}
 use Rattle.call_lists.specs.Unpacking.{noGate, noLatch}
-use Rattle.call_lists.specs.declared.Gate.{Gate}
-use Rattle.call_lists.specs.declared.Latch.{Latch}
-use Rattle.call_lists.proofs.Gate as G
-use Rattle.call_lists.proofs.Gate.Laws as G′
-use Rattle.call_lists.proofs.Latch as L
-use Rattle.call_lists.proofs.Latch.Laws as L′
+use Rattle.call_lists.specs.declared.GateEntry.{GateEntry}
+use Rattle.call_lists.specs.declared.LatchEntry.{LatchEntry}
+use Rattle.call_lists.proofs.GateEntry as G
+use Rattle.call_lists.proofs.GateEntry.Laws as G′
+use Rattle.call_lists.proofs.LatchEntry as L
+use Rattle.call_lists.proofs.LatchEntry.Laws as L′
 use Rattle.call_lists.proofs.OneRecord.{Pair}
 
 abbrev pub gatePair : Pair G.the-type G′.the-laws
@@ -18,8 +18,8 @@ gatePair = record {
   copies = G′.the-copy;
   size-is = refl;
   none = noGate;
-  first = λ (g : Gate). g .left .0;
-  second = λ (g : Gate). g .right .0;
+  first = λ (g : GateEntry). g .left .0;
+  second = λ (g : GateEntry). g .right .0;
   fits = λ x is. (is .1 .1 .0 .1 .1 .0 .1, is .1 .1 .1 .0 .1 .1 .0 .1);
   st₁ = field 0 ∷ field 0 ∷ [];
   st₂ = field 1 ∷ field 0 ∷ [];
@@ -34,8 +34,8 @@ latchPair = record {
   copies = L′.the-copy;
   size-is = refl;
   none = noLatch;
-  first = λ (l : Latch). l .next .0;
-  second = λ (l : Latch). l .reset;
+  first = λ (l : LatchEntry). l .next .0;
+  second = λ (l : LatchEntry). l .reset;
   fits = λ x is. (is .1 .1 .0 .1 .1 .0 .1, is .1 .1 .1 .0 .1);
   st₁ = field 0 ∷ field 0 ∷ [];
   st₂ = field 1 ∷ [];

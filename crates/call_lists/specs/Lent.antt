@@ -5,8 +5,8 @@ use Rattle.model.specs.Netlist as M
 use Rattle.netlist.specs.NetOf.{netOf}
 use Rattle.netlist.specs.declared.Netlist.{Netlist}
 use Rattle.call_lists.specs.Unpacked.{latchCodes, gateCodes}
-use Rattle.call_lists.specs.declared.Latch.{Latch}
-use Rattle.call_lists.specs.declared.Gate.{Gate}
+use Rattle.call_lists.specs.declared.LatchEntry.{LatchEntry}
+use Rattle.call_lists.specs.declared.GateEntry.{GateEntry}
 
-abbrev pub netLent : Netlist → List Latch → List Gate → M.Netlist
+abbrev pub netLent : Netlist → List LatchEntry → List GateEntry → M.Netlist
 netLent net latches gates = netOf net (latchCodes latches) (gateCodes gates)

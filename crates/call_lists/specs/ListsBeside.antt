@@ -6,19 +6,19 @@ use Rattle.model.specs.Netlist.{Netlist}
 use Rattle.refusals.specs.Slices.{contentsAfter}
 use Rattle.refusals.specs.declared.Verdict.{Verdict}
 use Rattle.call_lists.specs.Delivered.{firstRecords}
-use Rattle.call_lists.specs.declared.Latch.{Latch}
-use Rattle.call_lists.specs.declared.Gate.{Gate}
+use Rattle.call_lists.specs.declared.LatchEntry.{LatchEntry}
+use Rattle.call_lists.specs.declared.GateEntry.{GateEntry}
 
 -- a latch and a gate of a netlist, as records
-abbrev pub latchOf : Netlist → ℕ → Latch
+abbrev pub latchOf : Netlist → ℕ → LatchEntry
 latchOf c l = record { next = record { 0 = c .next l }; reset = c .reset l }
 
-abbrev pub gateOf : Netlist → ℕ → Gate
+abbrev pub gateOf : Netlist → ℕ → GateEntry
 gateOf c g = record { left = record { 0 = c .left g }; right = record { 0 = c .right g } }
 
 -- the netlist's latches and gates in front, and everything behind as it was; at a refusal all as it was
-unfoldable pub latchesBeside : Verdict → Netlist → List Latch → List Latch
+unfoldable pub latchesBeside : Verdict → Netlist → List LatchEntry → List LatchEntry
 latchesBeside v c old = contentsAfter v (firstRecords (c .latches) (latchOf c)) old
 
-unfoldable pub gatesBeside : Verdict → Netlist → List Gate → List Gate
+unfoldable pub gatesBeside : Verdict → Netlist → List GateEntry → List GateEntry
 gatesBeside v c old = contentsAfter v (firstRecords (c .gates) (gateOf c)) old

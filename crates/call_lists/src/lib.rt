@@ -6,13 +6,13 @@ pub mod deliver;
 pub mod unpack;
 
 #[repr(C)]
-pub struct Gate {
+pub struct GateEntry {
     pub left: Code,
     pub right: Code,
 }
 
 #[repr(C)]
-pub struct Latch {
+pub struct LatchEntry {
     pub next: Code,
     pub reset: u32,
 }

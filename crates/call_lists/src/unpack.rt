@@ -1,7 +1,7 @@
 // From a lent list of records to the codes that everything else works on. The limits (RULES W7) leave no list that counts more than
 // 600 records, so later ones are not looked at.
-use crate::Gate;
-use crate::Latch;
+use crate::GateEntry;
+use crate::LatchEntry;
 use netlist::UnpackedList;
 ghost use mathlib.Core.Path.{_≡_};
 ghost use Prim.Native.Nat.{_<_};
@@ -19,7 +19,7 @@ pub(crate) fn span(count: usize) -> usize
 }
 
 // Reads gate g and hands its two codes on.
-fn unpack_gate(codes: &mut UnpackedList, gates: &[Gate], g: usize)
+fn unpack_gate(codes: &mut UnpackedList, gates: &[GateEntry], g: usize)
     requires { ⌜ (g < length (now gates)) × (g < 600) ⌝ }
     ensures { λ _. ⌜ now (codes .exit) ≡ putNumbers g (getD (now (gates .entry)) g noGate .left .0) (getD (now (gates .entry)) g noGate .right .0) (now (codes .entry)) ⌝ }
 {
@@ -28,7 +28,7 @@ fn unpack_gate(codes: &mut UnpackedList, gates: &[Gate], g: usize)
 }
 
 // Reads latch l and hands its next code and its reset on.
-fn unpack_latch(codes: &mut UnpackedList, latches: &[Latch], l: usize)
+fn unpack_latch(codes: &mut UnpackedList, latches: &[LatchEntry], l: usize)
     requires { ⌜ (l < length (now latches)) × (l < 600) ⌝ }
     ensures { λ _. ⌜ now (codes .exit) ≡ putNumbers l (getD (now (latches .entry)) l noLatch .next .0) (getD (now (latches .entry)) l noLatch .reset) (now (codes .entry)) ⌝ }
 {
@@ -37,7 +37,7 @@ fn unpack_latch(codes: &mut UnpackedList, latches: &[Latch], l: usize)
 }
 
 // Unpacks a list of gates, into the first numbers of `codes`.
-pub fn unpack_gates(codes: &mut UnpackedList, gates: &[Gate])
+pub fn unpack_gates(codes: &mut UnpackedList, gates: &[GateEntry])
     ensures { λ _. ⌜ now (codes .exit) ≡ over (gateCodes (now (gates .entry))) (now (codes .entry)) ⌝ }
 {
     let end = span(gates.len());
@@ -49,7 +49,7 @@ pub fn unpack_gates(codes: &mut UnpackedList, gates: &[Gate])
 }
 
 // The same of a list of latches.
-pub fn unpack_latches(codes: &mut UnpackedList, latches: &[Latch])
+pub fn unpack_latches(codes: &mut UnpackedList, latches: &[LatchEntry])
     ensures { λ _. ⌜ now (codes .exit) ≡ over (latchCodes (now (latches .entry))) (now (codes .entry)) ⌝ }
 {
     let end = span(latches.len());

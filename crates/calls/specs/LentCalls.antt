@@ -15,23 +15,23 @@ use Rattle.refusals.specs.declared.Verdict.the-variants.{Passed}
 use Rattle.netlist.specs.declared.Netlist.{Netlist}
 use Rattle.netlist_tests.specs.Record.{recordVerdict}
 use Rattle.call_lists.specs.Lent.{netLent}
-use Rattle.call_lists.specs.declared.Latch.{Latch}
-use Rattle.call_lists.specs.declared.Gate.{Gate}
+use Rattle.call_lists.specs.declared.LatchEntry.{LatchEntry}
+use Rattle.call_lists.specs.declared.GateEntry.{GateEntry}
 use Rattle.call_unpacked.specs.declared.HeadingReply.{HeadingReply}
 use Rattle.call_unpacked.specs.Calls.{groupSent, groupLeaves, headingSent, CallsEncode}
 
-abbrev pub headingFor : Netlist → List Latch → List Gate → ℕ → HeadingReply
+abbrev pub headingFor : Netlist → List LatchEntry → List GateEntry → ℕ → HeadingReply
 headingFor net latches gates k = headingSent (netLent net latches gates) (length latches) (length gates) k
 
 -- for a slice of `room` numbers, and the contents after of a slice that held `old`
-abbrev pub groupFor : Netlist → List Latch → List Gate → ℕ → Group → ℕ → CountReply
+abbrev pub groupFor : Netlist → List LatchEntry → List GateEntry → ℕ → Group → ℕ → CountReply
 groupFor net latches gates k g room = groupSent (netLent net latches gates) (length latches) (length gates) k g room
 
-abbrev pub numbersAfter : Netlist → List Latch → List Gate → ℕ → Group → List ℤ → List ℤ
+abbrev pub numbersAfter : Netlist → List LatchEntry → List GateEntry → ℕ → Group → List ℤ → List ℤ
 numbersAfter net latches gates k g old = groupLeaves (netLent net latches gates) (length latches) (length gates) k g old
 
 -- demand 3, for every accepted record and every depth from 0 to 255
-abbrev pub HeadingClaim : Netlist → List Latch → List Gate → ℕ → Type 0
+abbrev pub HeadingClaim : Netlist → List LatchEntry → List GateEntry → ℕ → Type 0
 HeadingClaim net latches gates k =
     recordVerdict (netLent net latches gates) (length latches) (length gates) ≡ Passed → k ≤ mostDepth
     → CallsEncode (netLent net latches gates) (netLent net latches gates) (length latches) (length gates) k

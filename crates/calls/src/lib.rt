@@ -1,7 +1,7 @@
 // The public calls over a record and the lists that the caller lends (RULES T40 and T41). Each unpacks the lists and
 // leaves the rest to a call over unpacked lists.
-use call_lists::Gate;
-use call_lists::Latch;
+use call_lists::GateEntry;
+use call_lists::LatchEntry;
 use call_unpacked::GroupAnswer;
 use call_unpacked::HeadingAnswer;
 use model::Group;
@@ -14,7 +14,12 @@ ghost use Rattle.call_unpacked.specs.Calls.{groupReply, headingReply};
 ghost use Rattle.calls.specs.LentCalls.{headingFor, groupFor, numbersAfter, HeadingClaim, AcceptedTheorem};
 
 // The heading of a depth, RULES G23: "the variables that are numbered .. and the clauses that are really written".
-pub fn heading(net: Netlist, latches: &[Latch], gates: &[Gate], depth: u32) -> HeadingAnswer
+pub fn heading(
+    net: Netlist,
+    latches: &[LatchEntry],
+    gates: &[GateEntry],
+    depth: u32,
+) -> HeadingAnswer
     ensures answer { λ r. ⌜ headingReply r ≡ headingFor net (now (latches .entry)) (now (gates .entry)) depth ⌝ }
     ensures claim { λ r. ⌜ HeadingClaim net (now (latches .entry)) (now (gates .entry)) depth ⌝ }
     ensures paths { λ r. ⌜ PathTheorem ⌝ }
@@ -39,8 +44,8 @@ pub fn heading(net: Netlist, latches: &[Latch], gates: &[Gate], depth: u32) -> H
 // writes nothing.
 pub fn write_group(
     net: Netlist,
-    latches: &[Latch],
-    gates: &[Gate],
+    latches: &[LatchEntry],
+    gates: &[GateEntry],
     depth: u32,
     group: Group,
     out: &mut [i32],

@@ -9,8 +9,8 @@ use Rattle.refusals.proofs.Table.{reply-passed}
 use Rattle.sheet_steps.specs.declared.SheetAnswer.{SheetAnswer}
 use Rattle.sheet_steps.specs.Steps.{Outcome}
 use Rattle.sheet_steps.proofs.Records.{verdict-is, record-is}
-use Rattle.call_lists.specs.declared.Latch.{Latch}
-use Rattle.call_lists.specs.declared.Gate.{Gate}
+use Rattle.call_lists.specs.declared.LatchEntry.{LatchEntry}
+use Rattle.call_lists.specs.declared.GateEntry.{GateEntry}
 use Rattle.sheet_reader.proofs.Delivery.{Fits, newLatches, newGates, agrees, latches-are, gates-are, latches-length, gates-length}
 use Rattle.call_replies.specs.declared.SheetReply.{SheetReply}
 use Rattle.call_replies.specs.Replies.{sheetNumbers}
@@ -22,7 +22,7 @@ use Rattle.aiger_netlist.proofs.Verdict.{import-passed}
 use Rattle.aiger_netlist.proofs.Imported.{imported}
 use Rattle.aiger_import.specs.ImportCall.{importedWord, importVerdictFor, importRecord, importLatches, importGates, TextDelivered}
 
-module _ (s : List ℕ) (m n word unknown : ℕ) (latches : List Latch) (gates : List Gate) where
+module _ (s : List ℕ) (m n word unknown : ℕ) (latches : List LatchEntry) (gates : List GateEntry) where
   pub text-fits : Fits (importVerdict s m n (importedWord word unknown) unknown (length latches) (length gates)) (aagNet s m n (importedWord word unknown) unknown) latches gates
   text-fits =
       record {
@@ -32,7 +32,7 @@ module _ (s : List ℕ) (m n word unknown : ℕ) (latches : List Latch) (gates :
       }
 
   -- what the exported function promises, together
-  abbrev pub Answers : SheetReply → List Latch → List Gate → Type 0
+  abbrev pub Answers : SheetReply → List LatchEntry → List GateEntry → Type 0
   Answers reply newLatches newGates =
       (reply ≡ sheetNumbers (importVerdictFor s m n word unknown latches gates) (importRecord s m n word unknown latches gates))
       × ((newLatches ≡ importLatches s m n word unknown latches gates)

@@ -1,6 +1,6 @@
 // The library for C and Rust: each public call under its plain name (include/marrubigai.h).
-use call_lists::Gate;
-use call_lists::Latch;
+use call_lists::GateEntry;
+use call_lists::LatchEntry;
 use call_position::LiteralReply;
 use call_position::Position;
 use call_position::PositionReply;
@@ -38,8 +38,8 @@ ghost use Rattle.call_replies.specs.Replies.{groupOf, sheetNumbers, lineNumbers
 #[no_mangle]
 pub extern "C" fn marrubigai_write_group(
     net: Netlist,
-    latches: &[Latch],
-    gates: &[Gate],
+    latches: &[LatchEntry],
+    gates: &[GateEntry],
     depth: u32,
     kind: u32,
     j: u32,
@@ -63,8 +63,8 @@ pub extern "C" fn marrubigai_write_group(
 #[no_mangle]
 pub extern "C" fn marrubigai_heading(
     net: Netlist,
-    latches: &[Latch],
-    gates: &[Gate],
+    latches: &[LatchEntry],
+    gates: &[GateEntry],
     depth: u32,
 ) -> HeadingReply
     ensures { λ r. ⌜ r ≡ headingFor net (now (latches .entry)) (now (gates .entry)) depth ⌝ }
@@ -76,8 +76,8 @@ pub extern "C" fn marrubigai_heading(
 #[no_mangle]
 pub extern "C" fn marrubigai_read(
     file: &[u8],
-    latches: &mut [Latch],
-    gates: &mut [Gate],
+    latches: &mut [LatchEntry],
+    gates: &mut [GateEntry],
 ) -> SheetReply
     ensures reply { λ r. ⌜ r ≡ sheetNumbers (readVerdict (now (file .entry)) (now (latches .entry)) (now (gates .entry))) (readRecord (now (file .entry)) (now (latches .entry)) (now (gates .entry))) ⌝ }
     ensures latches { λ _. ⌜ now (latches .exit) ≡ latchesAfter (now (file .entry)) (now (latches .entry)) (now (gates .entry)) ⌝ }
@@ -97,8 +97,8 @@ pub extern "C" fn marrubigai_import(
     n: u32,
     word: u32,
     unknown: u32,
-    latches: &mut [Latch],
-    gates: &mut [Gate],
+    latches: &mut [LatchEntry],
+    gates: &mut [GateEntry],
 ) -> SheetReply
     ensures reply { λ r. ⌜ r ≡ sheetNumbers (importVerdictFor (now (text .entry)) m n word unknown (now (latches .entry)) (now (gates .entry))) (importRecord (now (text .entry)) m n word unknown (now (latches .entry)) (now (gates .entry))) ⌝ }
     ensures latches { λ _. ⌜ now (latches .exit) ≡ importLatches (now (text .entry)) m n word unknown (now (latches .entry)) (now (gates .entry)) ⌝ }
@@ -175,8 +175,8 @@ pub extern "C" fn marrubigai_put_number(out: &mut [u8], number: i32) -> CountRep
 #[no_mangle]
 pub extern "C" fn marrubigai_replay(
     net: Netlist,
-    latches: &[Latch],
-    gates: &[Gate],
+    latches: &[LatchEntry],
+    gates: &[GateEntry],
     depth: u32,
     answer: &[u8],
     memory: &mut [u32],
@@ -210,8 +210,8 @@ pub extern "C" fn marrubigai_replay(
 #[no_mangle]
 pub extern "C" fn marrubigai_move(
     net: Netlist,
-    latches: &[Latch],
-    gates: &[Gate],
+    latches: &[LatchEntry],
+    gates: &[GateEntry],
     position: Position,
     way: u32,
 ) -> PositionReply
@@ -237,8 +237,8 @@ pub extern "C" fn marrubigai_move(
 #[no_mangle]
 pub extern "C" fn marrubigai_write_group_at(
     net: Netlist,
-    latches: &[Latch],
-    gates: &[Gate],
+    latches: &[LatchEntry],
+    gates: &[GateEntry],
     position: Position,
     kind: u32,
     j: u32,
@@ -278,8 +278,8 @@ pub extern "C" fn marrubigai_literal_at(net: Netlist, position: Position, code: 
 #[no_mangle]
 pub extern "C" fn marrubigai_write_sheet(
     net: Netlist,
-    latches: &[Latch],
-    gates: &[Gate],
+    latches: &[LatchEntry],
+    gates: &[GateEntry],
     out: &mut [u8],
 ) -> CountReply
     ensures answer { λ r. ⌜ r ≡ writeSent (netLent net (now (latches .entry)) (now (gates .entry))) (length (now (latches .entry))) (length (now (gates .entry))) (length (now (out .entry))) ⌝ }

@@ -21,8 +21,8 @@ use Rattle.sheet_steps.specs.declared.SheetAnswer.{SheetAnswer}
 use Rattle.sheet_steps.specs.Records.{recordBeside}
 use Rattle.sheet_steps.specs.Steps.{Outcome}
 use Rattle.sheet_steps.proofs.Records.{record-is, holds}
-use Rattle.call_lists.specs.declared.Latch.{Latch}
-use Rattle.call_lists.specs.declared.Gate.{Gate}
+use Rattle.call_lists.specs.declared.LatchEntry.{LatchEntry}
+use Rattle.call_lists.specs.declared.GateEntry.{GateEntry}
 use Rattle.call_lists.specs.Unpacked.{latchCodes, gateCodes}
 use Rattle.call_lists.specs.Lent.{netLent}
 use Rattle.call_lists.specs.RecordAt.{latchAt, gateAt}
@@ -32,7 +32,7 @@ use Rattle.call_lists.proofs.Delivered.{delivered-none, length-delivered}
 use Rattle.sheet_reader.proofs.Lists.{getD-gather-alone, delivered-pairs}
 
 -- an accepted netlist, its record, and its latches and gates delivered into lists
-module _ (c : M.Netlist) (accepted : Accepted c) (latches : List Latch) (gates : List Gate)
+module _ (c : M.Netlist) (accepted : Accepted c) (latches : List LatchEntry) (gates : List GateEntry)
     (long-latches : c .latches ≤ length latches) (long-gates : c .gates ≤ length gates) where
   pub agree : Agree c (netOf (recordOf c) (latchCodes (delivered (c .latches) (latchOf c) latches))
       (gateCodes (delivered (c .gates) (gateOf c) gates)))
@@ -41,9 +41,9 @@ module _ (c : M.Netlist) (accepted : Accepted c) (latches : List Latch) (gates :
       let sizes = accepted .limits .sizes in
       let wide = sizes .m-most in
       let deep = sizes .n-most in
-      let latch = delivered-pairs (λ (l : Latch). l .next .0) (λ (l : Latch). l .reset) (c .latches) (latchOf c) latches
+      let latch = delivered-pairs (λ (l : LatchEntry). l .next .0) (λ (l : LatchEntry). l .reset) (c .latches) (latchOf c) latches
       (sizes .latches-fit) long-latches in
-      let gate = delivered-pairs (λ (g : Gate). g .left .0) (λ (g : Gate). g .right .0) (c .gates) (gateOf c) gates
+      let gate = delivered-pairs (λ (g : GateEntry). g .left .0) (λ (g : GateEntry). g .right .0) (c .gates) (gateOf c) gates
       (sizes .gates-fit) long-gates in
       record {
         sizes-same = refl;
@@ -77,12 +77,12 @@ module _ (c : M.Netlist) (accepted : Accepted c) (latches : List Latch) (gates :
       )
 
 -- what is delivered beside a verdict v, which passes only an accepted netlist and lists that are long enough
-pub record Fits (v : Verdict) (c : M.Netlist) (latches : List Latch) (gates : List Gate) : Type 0 where
+pub record Fits (v : Verdict) (c : M.Netlist) (latches : List LatchEntry) (gates : List GateEntry) : Type 0 where
   pub accepted : v ≡ Passed → Accepted c
   pub latches-long : v ≡ Passed → c .latches ≤ length latches
   pub gates-long : v ≡ Passed → c .gates ≤ length gates
 
-module _ {v : Verdict} {c : M.Netlist} (latches : List Latch) (gates : List Gate) (fits : Fits v c latches gates) (sheet : SheetAnswer)
+module _ {v : Verdict} {c : M.Netlist} (latches : List LatchEntry) (gates : List GateEntry) (fits : Fits v c latches gates) (sheet : SheetAnswer)
     (latchList gateList : List ℕ) (outcome : Outcome sheet latchList gateList v c) where
   -- what is to be delivered: no more than 600 records, and no more than there is room for
   abbrev pub Deliverable : Type 0
@@ -99,10 +99,10 @@ module _ {v : Verdict} {c : M.Netlist} (latches : List Latch) (gates : List Gate
           rw (record-is outcome, e) ((sizes .latches-fit, fits .latches-long e), (sizes .gates-fit, fits .gates-long e))
       by-verdict (Refused r p) e = rw (record-is outcome, e) ((omega arith, omega arith), (omega arith, omega arith))
 
-  abbrev pub newLatches : List Latch
+  abbrev pub newLatches : List LatchEntry
   newLatches = delivered (sheet .net .latches) (latchAt latchList) latches
 
-  abbrev pub newGates : List Gate
+  abbrev pub newGates : List GateEntry
   newGates = delivered (sheet .net .gates) (gateAt gateList) gates
 
   -- where nothing is refused: the record and the netlist's own latches and gates

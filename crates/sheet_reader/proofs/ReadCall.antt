@@ -16,13 +16,13 @@ use Rattle.sheet_parse.specs.Files.{netIn}
 use Rattle.sheet_tests.specs.Sheet.{sheetVerdict}
 use Rattle.sheet_tests.specs.Codes.{CodesRead}
 use Rattle.sheet_tests.proofs.Codes.{passed-sheet}
-use Rattle.call_lists.specs.declared.Latch.{Latch}
-use Rattle.call_lists.specs.declared.Gate.{Gate}
+use Rattle.call_lists.specs.declared.LatchEntry.{LatchEntry}
+use Rattle.call_lists.specs.declared.GateEntry.{GateEntry}
 use Rattle.call_unpacked.proofs.Calls.{calls-encode-for}
 use Rattle.sheet_reader.specs.ReadCall.{readVerdict, readRecord, latchesAfter, gatesAfter, SheetDelivered}
 use Rattle.sheet_reader.proofs.Delivery.{Fits, newLatches, newGates, agrees, none-refused, latches-are, gates-are}
 
-module _ (file : List ℕ) (latches : List Latch) (gates : List Gate) where
+module _ (file : List ℕ) (latches : List LatchEntry) (gates : List GateEntry) where
   pub sheet-fits : Fits (sheetVerdict file (length latches) (length gates)) (netIn file) latches gates
   sheet-fits =
       record {
@@ -32,7 +32,7 @@ module _ (file : List ℕ) (latches : List Latch) (gates : List Gate) where
       }
 
   -- what `read` promises, together
-  abbrev pub Reads : SheetAnswer → List Latch → List Gate → Type 0
+  abbrev pub Reads : SheetAnswer → List LatchEntry → List GateEntry → Type 0
   Reads sheet newLatches newGates =
       (replyOf (sheet .verdict) ≡ replyOf (readVerdict file latches gates))
       × ((sheet .net ≡ readRecord file latches gates)

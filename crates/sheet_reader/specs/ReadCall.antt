@@ -15,30 +15,30 @@ use Rattle.netlist_tests.specs.Record.{recordVerdict}
 use Rattle.sheet_parse.specs.Files.{netIn}
 use Rattle.sheet_tests.specs.Sheet.{sheetVerdict}
 use Rattle.sheet_steps.specs.Records.{recordBeside}
-use Rattle.call_lists.specs.declared.Latch.{Latch}
-use Rattle.call_lists.specs.declared.Gate.{Gate}
+use Rattle.call_lists.specs.declared.LatchEntry.{LatchEntry}
+use Rattle.call_lists.specs.declared.GateEntry.{GateEntry}
 use Rattle.call_lists.specs.Lent.{netLent}
 use Rattle.call_lists.specs.ListsBeside.{latchesBeside, gatesBeside}
 use Rattle.call_unpacked.specs.Calls.{CallsEncode}
 
 -- the verdict, the record and both lists, for lent lists `latches` and `gates`
-unfoldable pub readVerdict : List ℕ → List Latch → List Gate → Verdict
+unfoldable pub readVerdict : List ℕ → List LatchEntry → List GateEntry → Verdict
 readVerdict file latches gates = sheetVerdict file (length latches) (length gates)
 
-unfoldable pub readRecord : List ℕ → List Latch → List Gate → Netlist
+unfoldable pub readRecord : List ℕ → List LatchEntry → List GateEntry → Netlist
 readRecord file latches gates = recordBeside (readVerdict file latches gates) (netIn file)
 
-unfoldable pub latchesAfter : List ℕ → List Latch → List Gate → List Latch
+unfoldable pub latchesAfter : List ℕ → List LatchEntry → List GateEntry → List LatchEntry
 latchesAfter file latches gates = latchesBeside (readVerdict file latches gates) (netIn file) latches
 
-unfoldable pub gatesAfter : List ℕ → List Latch → List Gate → List Gate
+unfoldable pub gatesAfter : List ℕ → List LatchEntry → List GateEntry → List GateEntry
 gatesAfter file latches gates = gatesBeside (readVerdict file latches gates) (netIn file) gates
 
 -- What holds of the record and the lists that `read` leaves where it refuses nothing. RULES A1: "A sheet is accepted if it passes every
 -- test of sheets, and a record with its lists if it passes every test of records"; here both pass. Demands 2 and 3 hold of both: the
 -- variables and every group's numbers are those of the sheet's netlist, and the numbers that the group calls over record and lists
 -- leave, joined, are the formula of the sheet's netlist, of which demand 3 holds.
-pub record SheetDelivered (file : List ℕ) (r : Netlist) (latches : List Latch) (gates : List Gate) : Type 0 where
+pub record SheetDelivered (file : List ℕ) (r : Netlist) (latches : List LatchEntry) (gates : List GateEntry) : Type 0 where
   pub not-refused : recordVerdict (netLent r latches gates) (length latches) (length gates) ≡ Passed
   pub variables-same : (i : ℕ) → base (netLent r latches gates) i ≡ base (netIn file) i
   pub numbers-same : (k : ℕ) (g : Group) → numbersOf (netLent r latches gates) k g ≡ numbersOf (netIn file) k g

@@ -1,6 +1,6 @@
 // `read` into lent lists of records (RULES T45). It takes the lists apart and leaves the work to functions over plain slices.
-use call_lists::Gate;
-use call_lists::Latch;
+use call_lists::GateEntry;
+use call_lists::LatchEntry;
 use sheet_steps::SheetAnswer;
 ghost use mathlib.Core.Path.{_≡_};
 ghost use Rattle.model.specs.Acceptance.{PathTheorem};
@@ -9,7 +9,7 @@ ghost use Rattle.sheet_reader.specs.ReadCall.{readVerdict, readRecord, l
 
 // Reads a sheet: its record, and its latches and gates into the lent lists. Nothing lent is written before the last test has passed:
 // a refusal's record is all zeros, so nothing of it is delivered.
-pub fn read(file: &[u8], latches: &mut [Latch], gates: &mut [Gate]) -> SheetAnswer
+pub fn read(file: &[u8], latches: &mut [LatchEntry], gates: &mut [GateEntry]) -> SheetAnswer
     ensures reply { λ r. ⌜ replyOf (r .verdict) ≡ replyOf (readVerdict (now (file .entry)) (now (latches .entry)) (now (gates .entry))) ⌝ }
     ensures record { λ r. ⌜ r .net ≡ readRecord (now (file .entry)) (now (latches .entry)) (now (gates .entry)) ⌝ }
     ensures latches { λ _. ⌜ now (latches .exit) ≡ latchesAfter (now (file .entry)) (now (latches .entry)) (now (gates .entry)) ⌝ }

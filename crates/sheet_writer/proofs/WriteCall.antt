@@ -13,8 +13,8 @@ use Rattle.sheet_steps.specs.Records.{recordBeside}
 use Rattle.sheet_parse.specs.Files.{netIn}
 use Rattle.sheet_tests.specs.Sheet.{sheetVerdict}
 use Rattle.sheet_tests.proofs.Codes.{passed-sheet, passed-file}
-use Rattle.call_lists.specs.declared.Latch.{Latch}
-use Rattle.call_lists.specs.declared.Gate.{Gate}
+use Rattle.call_lists.specs.declared.LatchEntry.{LatchEntry}
+use Rattle.call_lists.specs.declared.GateEntry.{GateEntry}
 use Rattle.call_lists.specs.Delivered.{delivered}
 use Rattle.call_lists.specs.ListsBeside.{latchesBeside, gatesBeside}
 use Rattle.sheet_reader.specs.ReadCall.{readVerdict, readRecord, latchesAfter, gatesAfter}
@@ -42,7 +42,7 @@ agree-then c d e p q =
     }
 
 -- what is read into lent lists agrees with what the file says
-module _ (file : List ℕ) (latches : List Latch) (gates : List Gate) where
+module _ (file : List ℕ) (latches : List LatchEntry) (gates : List GateEntry) where
   agrees-lent : sheetVerdict file (length latches) (length gates) ≡ Passed → Agree (netIn file) (netRead file latches gates)
   unfolding readVerdict readRecord latchesAfter gatesAfter recordBeside latchesBeside gatesBeside contentsAfter delivered
   agrees-lent passed =

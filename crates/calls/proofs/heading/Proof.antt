@@ -44,12 +44,12 @@ use Rattle.call_lists.specs.Unpacked.{latchCodes, gateCodes}
 use Rattle.model.specs.Wrote.{over}
 use Rattle.model.proofs.Dependence.{paths}
 use Rattle.netlist_tests.proofs.Acceptance.{passes-accepted}
-use Rattle.call_lists.specs.declared.Latch.{Latch}
-use Rattle.call_lists.specs.declared.Gate.{Gate}
-use Rattle.call_lists.proofs.Latch as L
-use Rattle.call_lists.proofs.Latch.Laws as L′
-use Rattle.call_lists.proofs.Gate as G
-use Rattle.call_lists.proofs.Gate.Laws as G′
+use Rattle.call_lists.specs.declared.LatchEntry.{LatchEntry}
+use Rattle.call_lists.specs.declared.GateEntry.{GateEntry}
+use Rattle.call_lists.proofs.LatchEntry as L
+use Rattle.call_lists.proofs.LatchEntry.Laws as L′
+use Rattle.call_lists.proofs.GateEntry as G
+use Rattle.call_lists.proofs.GateEntry.Laws as G′
 use Rattle.call_lists.proofs.Records.{latchPair, gatePair}
 use Rattle.hand_proofs.proofs.Walk.{both, calls-told, _&_, cell, frees-all, meets-of}
 use Rattle.call_lists.proofs.Zeroed.{zeros, unpacks, lends, takes-back}
@@ -97,7 +97,7 @@ module _ {M : Type 1} (𝓤 : URA M) (H : Heap 𝓤) (A : Atoms 𝓤) (W : Given
   abbrev Inner : Contract 𝓤
   Inner = tripleOf 𝓤 H A inner.signature (inner.spec 𝓤 H A mem run)
 
-  module _ (κ₀ κ₁ : Lft) (q₀ q₁ : Share) (net : Netlist) (ls : RefT (List Latch)) (gs : RefT (List Gate)) (k : ℕ) where
+  module _ (κ₀ κ₁ : Lft) (q₀ q₁ : Share) (net : Netlist) (ls : RefT (List LatchEntry)) (gs : RefT (List GateEntry)) (k : ℕ) where
     abbrev v : Val
     v = LL.val N.the-type N′.the-laws net
 
@@ -108,7 +108,7 @@ module _ {M : Type 1} (𝓤 : URA M) (H : Heap 𝓤) (A : Atoms 𝓤) (W : Given
     vg = sliceVal (gs .ptr) (length (gs .now))
 
     abbrev Arg : Type 0
-    Arg = Netlist × (RefT (List Latch) × (RefT (List Gate) × (ℕ × Unit {0})))
+    Arg = Netlist × (RefT (List LatchEntry) × (RefT (List GateEntry) × (ℕ × Unit {0})))
 
     abbrev a : Arg
     a = (net, (ls, (gs, (k, tt))))

@@ -37,10 +37,10 @@ use denote.Exit.{yes}
 use Rattle.netlist.specs.declared.Netlist.{Netlist}
 use Rattle.netlist.proofs.Netlist as N
 use Rattle.netlist.proofs.Netlist.Laws as N′
-use Rattle.call_lists.specs.declared.Latch.{Latch}
-use Rattle.call_lists.specs.declared.Gate.{Gate}
-use Rattle.call_lists.proofs.Latch as L
-use Rattle.call_lists.proofs.Gate as G
+use Rattle.call_lists.specs.declared.LatchEntry.{LatchEntry}
+use Rattle.call_lists.specs.declared.GateEntry.{GateEntry}
+use Rattle.call_lists.proofs.LatchEntry as L
+use Rattle.call_lists.proofs.GateEntry as G
 use Rattle.hand_proofs.proofs.Walk.{calls-told, _&_, cell, frees-all, meets-of}
 use Rattle.call_unpacked.specs.Calls.{headingReply}
 use Rattle.model.specs.Acceptance.{PathTheorem}
@@ -77,7 +77,7 @@ module _ {M : Type 1} (𝓤 : URA M) (H : Heap 𝓤) (A : Atoms 𝓤) (W : Given
   abbrev Numbers : Contract 𝓤
   Numbers = tripleOf 𝓤 H A numbers.signature (numbers.spec 𝓤 H A mem run)
 
-  module _ (κ₀ κ₁ : Lft) (q₀ q₁ : Share) (net : Netlist) (ls : RefT (List Latch)) (gs : RefT (List Gate)) (k : ℕ) where
+  module _ (κ₀ κ₁ : Lft) (q₀ q₁ : Share) (net : Netlist) (ls : RefT (List LatchEntry)) (gs : RefT (List GateEntry)) (k : ℕ) where
     abbrev v : Val
     v = LL.val N.the-type N′.the-laws net
 
@@ -88,7 +88,7 @@ module _ {M : Type 1} (𝓤 : URA M) (H : Heap 𝓤) (A : Atoms 𝓤) (W : Given
     vg = sliceVal (gs .ptr) (length (gs .now))
 
     abbrev Arg : Type 0
-    Arg = Netlist × (RefT (List Latch) × (RefT (List Gate) × (ℕ × Unit {0})))
+    Arg = Netlist × (RefT (List LatchEntry) × (RefT (List GateEntry) × (ℕ × Unit {0})))
 
     abbrev a : Arg
     a = (net, (ls, (gs, (k, tt))))

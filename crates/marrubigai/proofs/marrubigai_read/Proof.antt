@@ -41,10 +41,10 @@ use Rattle.refusals.specs.Refusal.{replyOf}
 use Rattle.sheet_steps.specs.declared.SheetAnswer.{SheetAnswer}
 use Rattle.sheet_steps.proofs.SheetAnswer as S
 use Rattle.sheet_steps.proofs.SheetAnswer.Laws as S′
-use Rattle.call_lists.specs.declared.Latch.{Latch}
-use Rattle.call_lists.specs.declared.Gate.{Gate}
-use Rattle.call_lists.proofs.Latch as La
-use Rattle.call_lists.proofs.Gate as Ga
+use Rattle.call_lists.specs.declared.LatchEntry.{LatchEntry}
+use Rattle.call_lists.specs.declared.GateEntry.{GateEntry}
+use Rattle.call_lists.proofs.LatchEntry as La
+use Rattle.call_lists.proofs.GateEntry as Ga
 use Rattle.sheet_reader.specs.ReadCall.{readVerdict, readRecord, latchesAfter, gatesAfter, SheetDelivered}
 use Rattle.sheet_reader.proofs.ReadCall.{Reads}
 use Rattle.sheet_reader.proofs.Facts.{Facts, gathered, spread}
@@ -78,7 +78,7 @@ module _ {M : Type 1} (𝓤 : URA M) (H : Heap 𝓤) (A : Atoms 𝓤) (mem : Mem
 
 module _ {M : Type 1} (𝓤 : URA M) (H : Heap 𝓤) (A : Atoms 𝓤) (W : Given 𝓤 H A) (mem : Memory → SProp 𝓤)
     (run : Routine → Fun 𝓤) where
-  module _ (κs : Lfts 3) (qs : Shares 3) (file : RefT (List ℕ)) (x : RefT (List Latch)) (y : RefT (List Gate)) where
+  module _ (κs : Lfts 3) (qs : Shares 3) (file : RefT (List ℕ)) (x : RefT (List LatchEntry)) (y : RefT (List GateEntry)) where
     abbrev a : Args export.signature κs
     a = (file, (x, (y, tt)))
 
@@ -111,7 +111,7 @@ module _ {M : Type 1} (𝓤 : URA M) (H : Heap 𝓤) (A : Atoms 𝓤) (W : Given
 
     -- what it answers, and what it leaves in the lists
     abbrev Answer : Type 0
-    Answer = SheetAnswer × (List Latch × List Gate)
+    Answer = SheetAnswer × (List LatchEntry × List GateEntry)
 
     abbrev Says : Answer → Type 0
     Says o = Reads (now file) (now x) (now y) (o .0) (o .1 .0) (o .1 .1)

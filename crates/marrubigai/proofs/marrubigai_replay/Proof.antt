@@ -41,12 +41,12 @@ use Rattle.netlist.proofs.Netlist as N
 use Rattle.netlist.proofs.Netlist.Laws as N′
 use Rattle.call_lists.specs.Unpacked.{latchCodes, gateCodes}
 use Rattle.model.specs.Wrote.{over}
-use Rattle.call_lists.specs.declared.Latch.{Latch}
-use Rattle.call_lists.specs.declared.Gate.{Gate}
-use Rattle.call_lists.proofs.Latch as L
-use Rattle.call_lists.proofs.Latch.Laws as L′
-use Rattle.call_lists.proofs.Gate as G
-use Rattle.call_lists.proofs.Gate.Laws as G′
+use Rattle.call_lists.specs.declared.LatchEntry.{LatchEntry}
+use Rattle.call_lists.specs.declared.GateEntry.{GateEntry}
+use Rattle.call_lists.proofs.LatchEntry as L
+use Rattle.call_lists.proofs.LatchEntry.Laws as L′
+use Rattle.call_lists.proofs.GateEntry as G
+use Rattle.call_lists.proofs.GateEntry.Laws as G′
 use Rattle.call_lists.proofs.Records.{latchPair, gatePair}
 use Rattle.hand_proofs.proofs.Walk.{both, calls-told, _&_, cell, frees-all, meets-of}
 use Rattle.call_lists.proofs.Zeroed.{zeros, unpacks, lends, takes-back}
@@ -106,7 +106,7 @@ module _ {M : Type 1} (𝓤 : URA M) (H : Heap 𝓤) (A : Atoms 𝓤) (W : Given
   abbrev Inner : Contract 𝓤
   Inner = tripleOf 𝓤 H A inner.signature (inner.spec 𝓤 H A mem run)
 
-  module _ (κ₀ κ₁ κ₂ κ₃ κ₄ : Lft) (q₀ q₁ q₂ q₃ q₄ : Share) (net : Netlist) (ls : RefT (List Latch)) (gs : RefT (List Gate)) (k : ℕ)
+  module _ (κ₀ κ₁ κ₂ κ₃ κ₄ : Lft) (q₀ q₁ q₂ q₃ q₄ : Share) (net : Netlist) (ls : RefT (List LatchEntry)) (gs : RefT (List GateEntry)) (k : ℕ)
       (answer memory trace : RefT (List ℕ)) where
     abbrev v : Val
     v = LL.val N.the-type N′.the-laws net
@@ -127,7 +127,7 @@ module _ {M : Type 1} (𝓤 : URA M) (H : Heap 𝓤) (A : Atoms 𝓤) (W : Given
     vt = sliceVal (trace .ptr) (length (trace .now))
 
     abbrev Arg : Type 0
-    Arg = Netlist × (RefT (List Latch) × (RefT (List Gate) × (ℕ × (RefT (List ℕ) × (RefT (List ℕ) × (RefT (List ℕ) × Unit {0}))))))
+    Arg = Netlist × (RefT (List LatchEntry) × (RefT (List GateEntry) × (ℕ × (RefT (List ℕ) × (RefT (List ℕ) × (RefT (List ℕ) × Unit {0}))))))
 
     abbrev a : Arg
     a = (net, (ls, (gs, (k, (answer, (memory, (trace, tt)))))))

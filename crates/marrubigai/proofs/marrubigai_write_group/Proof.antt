@@ -42,10 +42,10 @@ use Rattle.model.proofs.Group.Laws as K′
 use Rattle.netlist.specs.declared.Netlist.{Netlist}
 use Rattle.netlist.proofs.Netlist as N
 use Rattle.netlist.proofs.Netlist.Laws as N′
-use Rattle.call_lists.specs.declared.Latch.{Latch}
-use Rattle.call_lists.specs.declared.Gate.{Gate}
-use Rattle.call_lists.proofs.Latch as L
-use Rattle.call_lists.proofs.Gate as G
+use Rattle.call_lists.specs.declared.LatchEntry.{LatchEntry}
+use Rattle.call_lists.specs.declared.GateEntry.{GateEntry}
+use Rattle.call_lists.proofs.LatchEntry as L
+use Rattle.call_lists.proofs.GateEntry as G
 use Rattle.hand_proofs.proofs.Walk.{both, calls-told, _&_, cell, frees-all, meets-of}
 use Rattle.call_unpacked.specs.Calls.{groupReply}
 use Rattle.call_unpacked.specs.declared.GroupAnswer.{GroupAnswer}
@@ -106,7 +106,7 @@ module _ {M : Type 1} (𝓤 : URA M) (H : Heap 𝓤) (A : Atoms 𝓤) (W : Given
   abbrev Numbers : Contract 𝓤
   Numbers = tripleOf 𝓤 H A numbers.signature (numbers.spec 𝓤 H A mem run)
 
-  module _ (κ₀ κ₁ κ₂ : Lft) (q₀ q₁ q₂ : Share) (net : Netlist) (ls : RefT (List Latch)) (gs : RefT (List Gate)) (k kind j i : ℕ)
+  module _ (κ₀ κ₁ κ₂ : Lft) (q₀ q₁ q₂ : Share) (net : Netlist) (ls : RefT (List LatchEntry)) (gs : RefT (List GateEntry)) (k kind j i : ℕ)
       (out : RefT (List ℤ)) where
     abbrev v : Val
     v = LL.val N.the-type N′.the-laws net
@@ -121,7 +121,7 @@ module _ {M : Type 1} (𝓤 : URA M) (H : Heap 𝓤) (A : Atoms 𝓤) (W : Given
     vo = sliceVal (out .ptr) (length (out .now))
 
     abbrev Arg : Type 0
-    Arg = Netlist × (RefT (List Latch) × (RefT (List Gate) × (ℕ × (ℕ × (ℕ × (ℕ × (RefT (List ℤ) × Unit {0})))))))
+    Arg = Netlist × (RefT (List LatchEntry) × (RefT (List GateEntry) × (ℕ × (ℕ × (ℕ × (ℕ × (RefT (List ℤ) × Unit {0})))))))
 
     abbrev a : Arg
     a = (net, (ls, (gs, (k, (kind, (j, (i, (out, tt))))))))

@@ -42,12 +42,12 @@ use Rattle.netlist.proofs.Netlist as N
 use Rattle.netlist.proofs.Netlist.Laws as N′
 use Rattle.call_lists.specs.Unpacked.{latchCodes, gateCodes}
 use Rattle.model.specs.Wrote.{over}
-use Rattle.call_lists.specs.declared.Latch.{Latch}
-use Rattle.call_lists.specs.declared.Gate.{Gate}
-use Rattle.call_lists.proofs.Latch as L
-use Rattle.call_lists.proofs.Latch.Laws as L′
-use Rattle.call_lists.proofs.Gate as G
-use Rattle.call_lists.proofs.Gate.Laws as G′
+use Rattle.call_lists.specs.declared.LatchEntry.{LatchEntry}
+use Rattle.call_lists.specs.declared.GateEntry.{GateEntry}
+use Rattle.call_lists.proofs.LatchEntry as L
+use Rattle.call_lists.proofs.LatchEntry.Laws as L′
+use Rattle.call_lists.proofs.GateEntry as G
+use Rattle.call_lists.proofs.GateEntry.Laws as G′
 use Rattle.call_lists.proofs.Records.{latchPair, gatePair}
 use Rattle.hand_proofs.proofs.Walk.{both, calls-told, _&_, cell, frees-all, meets-of}
 use Rattle.call_lists.proofs.Zeroed.{zeros, unpacks, lends, takes-back}
@@ -104,7 +104,7 @@ module _ {M : Type 1} (𝓤 : URA M) (H : Heap 𝓤) (A : Atoms 𝓤) (W : Given
   abbrev Numbers : Contract 𝓤
   Numbers = tripleOf 𝓤 H A numbers.signature (numbers.spec 𝓤 H A mem run)
 
-  module _ (κ₀ κ₁ κ₂ : Lft) (q₀ q₁ q₂ : Share) (net : Netlist) (ls : RefT (List Latch)) (gs : RefT (List Gate))
+  module _ (κ₀ κ₁ κ₂ : Lft) (q₀ q₁ q₂ : Share) (net : Netlist) (ls : RefT (List LatchEntry)) (gs : RefT (List GateEntry))
       (out : RefT (List ℕ)) where
     abbrev v : Val
     v = LL.val N.the-type N′.the-laws net
@@ -119,7 +119,7 @@ module _ {M : Type 1} (𝓤 : URA M) (H : Heap 𝓤) (A : Atoms 𝓤) (W : Given
     vo = sliceVal (out .ptr) (length (out .now))
 
     abbrev Arg : Type 0
-    Arg = Netlist × (RefT (List Latch) × (RefT (List Gate) × (RefT (List ℕ) × Unit {0})))
+    Arg = Netlist × (RefT (List LatchEntry) × (RefT (List GateEntry) × (RefT (List ℕ) × Unit {0})))
 
     abbrev a : Arg
     a = (net, (ls, (gs, (out, tt))))

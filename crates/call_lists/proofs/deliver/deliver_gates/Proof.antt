@@ -6,8 +6,8 @@ use denote.Memory.{pointee}
 use denote.Triple.Spec.{tripleOf}
 use denote.Triple.Table.{entered, cited}
 use Rattle.call_lists.specs.RecordAt.{gateAt}
-use Rattle.call_lists.proofs.Gate as T
-use Rattle.call_lists.proofs.Gate.Laws as T′
+use Rattle.call_lists.proofs.GateEntry as T
+use Rattle.call_lists.proofs.GateEntry.Laws as T′
 use Rattle.call_lists.proofs.DeliverContract.{MakesRecord}
 use Rattle.call_lists.proofs.DeliverLoop.{delivers-meets}
 use Rattle.call_lists.proofs.deliver.gate_at.Symbol as at-def

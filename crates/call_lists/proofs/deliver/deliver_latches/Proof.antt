@@ -6,8 +6,8 @@ use denote.Memory.{pointee}
 use denote.Triple.Spec.{tripleOf}
 use denote.Triple.Table.{entered, cited}
 use Rattle.call_lists.specs.RecordAt.{latchAt}
-use Rattle.call_lists.proofs.Latch as T
-use Rattle.call_lists.proofs.Latch.Laws as T′
+use Rattle.call_lists.proofs.LatchEntry as T
+use Rattle.call_lists.proofs.LatchEntry.Laws as T′
 use Rattle.call_lists.proofs.DeliverContract.{MakesRecord}
 use Rattle.call_lists.proofs.DeliverLoop.{delivers-meets}
 use Rattle.call_lists.proofs.deliver.latch_at.Symbol as at-def

@@ -2,8 +2,8 @@
 use contract.Running.{givenOf, tables, tablesOf}
 use denote.Triple.Spec.{tripleOf}
 use denote.Triple.Table.{entered, cited}
-use Rattle.call_lists.proofs.Latch as L
-use Rattle.call_lists.proofs.Latch.Laws as L′
+use Rattle.call_lists.proofs.LatchEntry as L
+use Rattle.call_lists.proofs.LatchEntry.Laws as L′
 use Rattle.call_lists.proofs.OneRecord as one
 use Rattle.call_lists.proofs.Records.{latchPair}
 use Rattle.netlist.proofs.put_numbers as put

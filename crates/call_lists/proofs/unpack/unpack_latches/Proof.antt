@@ -3,8 +3,8 @@ use contract.Running.{givenOf, tables, tablesOf}
 use denote.Triple.Spec.{tripleOf}
 use denote.Triple.Table.{entered, cited}
 use Rattle.call_lists.specs.Unpacked.{latchCodes}
-use Rattle.call_lists.proofs.Latch as L
-use Rattle.call_lists.proofs.Latch.Laws as L′
+use Rattle.call_lists.proofs.LatchEntry as L
+use Rattle.call_lists.proofs.LatchEntry.Laws as L′
 use Rattle.call_lists.proofs.AllRecords as all
 use Rattle.call_lists.proofs.Records.{latchPair}
 use Rattle.call_lists.proofs.unpack.unpack_latch as put
