@@ -1,6 +1,6 @@
 -- A function that unpacks the records of a lent slice, for every record of two numbers: its MIR, its contract, and the walk
 -- between them, over any function that does one record (`OneRecord`). `unpack_gates` and `unpack_latches` are this function at
--- `Gate` and at `Latch`. Between two turns it owns its `&mut` whole; for a turn it lends it on, and has it back with one record more.
+-- `GateEntry` and at `LatchEntry`. Between two turns it owns its `&mut` whole; for a turn it lends it on, and has it back with one record more.
 --     Turn             where a turn of the loop begins.        I         what it has then
 --     turns-by         a turn from there: the next one begins, or the loop is left
 use mathlib.Core.Path.{_≡_, refl, sym, _∙_, ap, subst}

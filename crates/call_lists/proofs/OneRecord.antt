@@ -1,5 +1,5 @@
 -- A function that reads record i of a lent slice and hands its two numbers to `put_numbers`, for every record of two numbers: its
--- MIR, its contract, and the walk between them. `unpack_gate` and `unpack_latch` are this function at `Gate` and at `Latch`.
+-- MIR, its contract, and the walk between them. `unpack_gate` and `unpack_latch` are this function at `GateEntry` and at `LatchEntry`.
 --     Reading st f     the place `st` of a local record holds the number f of the record
 --     Pair             what the walk needs of a record of two numbers
 use mathlib.Core.Path.{_≡_, refl, sym, _∙_, ap, subst}

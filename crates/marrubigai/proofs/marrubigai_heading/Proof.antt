@@ -1,6 +1,6 @@
 -- `marrubigai::marrubigai_heading` meets its contract: a walk of its MIR, by hand, over `calls::heading` and `heading_numbers`.
 -- Everything that it is passed goes on to the first.
-use mathlib.Core.Path.{_≡_, refl, _∙_, ap}
+use mathlib.Core.Path.{_≡_, refl, _∙_}
 use Prim.Native.Nat.{ℕ, _<_, _^_}
 use mathlib.Core.List.{List, [], _∷_}
 use lib.ListN.{length}

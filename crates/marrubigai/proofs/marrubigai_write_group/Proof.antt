@@ -1,6 +1,6 @@
 -- `marrubigai::marrubigai_write_group` meets its contract: a walk of its MIR, by hand, over `group_of`, `calls::write_group` and
 -- `group_numbers`. Everything that it is passed goes on.
-use mathlib.Core.Path.{_≡_, refl, _∙_, ap}
+use mathlib.Core.Path.{_≡_, refl, _∙_}
 use Prim.Native.Nat.{ℕ, _<_, _^_}
 use mathlib.Core.List.{List, [], _∷_}
 use lib.IntN.{ℤ}

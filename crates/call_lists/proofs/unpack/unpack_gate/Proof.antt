@@ -1,4 +1,4 @@
--- `call_lists::unpack::unpack_gate` meets its contract: it is `OneRecord`'s function at `Gate`.
+-- `call_lists::unpack::unpack_gate` meets its contract: it is `OneRecord`'s function at `GateEntry`.
 use contract.Running.{givenOf, tables, tablesOf}
 use denote.Triple.Spec.{tripleOf}
 use denote.Triple.Table.{entered, cited}

@@ -1,4 +1,4 @@
--- `call_lists::unpack::unpack_gates` meets its contract: it is `AllRecords`' function at `Gate`.
+-- `call_lists::unpack::unpack_gates` meets its contract: it is `AllRecords`' function at `GateEntry`.
 use contract.Running.{givenOf, tables, tablesOf}
 use denote.Triple.Spec.{tripleOf}
 use denote.Triple.Table.{entered, cited}

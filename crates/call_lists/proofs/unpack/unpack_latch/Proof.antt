@@ -1,4 +1,4 @@
--- `call_lists::unpack::unpack_latch` meets its contract: it is `OneRecord`'s function at `Latch`.
+-- `call_lists::unpack::unpack_latch` meets its contract: it is `OneRecord`'s function at `LatchEntry`.
 use contract.Running.{givenOf, tables, tablesOf}
 use denote.Triple.Spec.{tripleOf}
 use denote.Triple.Table.{entered, cited}

@@ -1,4 +1,4 @@
--- `call_lists::unpack::unpack_latches` meets its contract: it is `AllRecords`' function at `Latch`.
+-- `call_lists::unpack::unpack_latches` meets its contract: it is `AllRecords`' function at `LatchEntry`.
 use contract.Running.{givenOf, tables, tablesOf}
 use denote.Triple.Spec.{tripleOf}
 use denote.Triple.Table.{entered, cited}
