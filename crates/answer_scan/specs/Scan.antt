@@ -70,8 +70,8 @@ pub record ScanBehind (seen : List ℕ) (scan : Scan) (signs : List ℕ) : Type 
       → answerIn (seen ++ t) ≡ afterNumbers numbers (answerAhead (scan .position .progress) (lineBegun (scan .position) (scan .line)) t)
 
 -- at the start, with a table of no signs; behind one piece more, however the text is cut
-abbrev pub Starts : Scan → Type 0
-Starts r = (signs : List ℕ) → SignsOf [] signs → ScanBehind [] r signs
+abbrev pub ReadsNothing : Scan → Type 0
+ReadsNothing r = (signs : List ℕ) → SignsOf [] signs → ScanBehind [] r signs
 
 abbrev pub Reads : Scan → List ℕ → Scan → List ℕ → List ℕ → Type 0
 Reads scan piece r old new = (seen : List ℕ) → ScanBehind seen scan old → ScanBehind (seen ++ piece) r new

@@ -9,7 +9,7 @@ ghost use mathlib.Core.List.{[], _∷_};
 ghost use Rattle.answer_lines.specs.Answer.{isMarked};
 ghost use Rattle.answer_lines.specs.Written.{AnswerAsWritten};
 ghost use Rattle.answer_lines.specs.Progress.{OneNumber};
-ghost use Rattle.answer_scan.specs.Scan.{lineBegun, isValues, LineKept, SameAhead, Taken, NumberEnded, Addable, Starts, Reads, Ends};
+ghost use Rattle.answer_scan.specs.Scan.{lineBegun, isValues, LineKept, SameAhead, Taken, NumberEnded, Addable, ReadsNothing, Reads, Ends};
 
 // How far the answer is read: by whole lines, and how many bytes are kept of the line that is begun.
 pub struct Position {
@@ -26,7 +26,7 @@ pub struct Scan {
 // A scan of no text yet.
 pub fn scan_start() -> Scan
     ensures holds { λ r. ⌜ LineKept (r .position) (r .line) ⌝ }
-    ensures behind { λ r. ⌜ Starts r ⌝ }
+    ensures behind { λ r. ⌜ ReadsNothing r ⌝ }
 {
     let position = Position {
         progress: Progress::NoStatus,
