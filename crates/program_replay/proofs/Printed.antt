@@ -15,7 +15,7 @@ use Rattle.refusals.specs.Refusal.{refusalNumber}
 use Rattle.refusals.proofs.Table.{refusalNumber-some}
 use Rattle.netlist.specs.NetOf.{netOf}
 use Rattle.dimacs.specs.Text.{refusalText}
-use Rattle.answer_lines.specs.Answer.{answerIn, kindOf}
+use Rattle.answer_lines.specs.Answer.{answerIn, answerKind}
 use Rattle.replay_frame.specs.Replay.{Said, traceText, traceLength}
 use Rattle.replay_run.proofs.Through.{length-lines}
 use Rattle.replay_call.specs.ReplayCall.{unlessRefused, outcome, replayAnswer, replayReply, replaySent, traceAfter, replayTrace}
@@ -49,7 +49,7 @@ pub replayed-text : (c : Netlist) (k : ℕ) (t old : List ℕ) (reply : ReplayRe
 unfolding replayedText answerThen replayFor traceFor replaySent replayTrace replayAnswer unlessRefused
 replayed-text c k t old reply trace bytes accepted d long replies leaves counted =
     let y = saidOf (answerIn t) in
-    let a = outcome c k (kindOf (answerIn t)) y in
+    let a = outcome c k (answerKind (answerIn t)) y in
     let passed = room-suffices c accepted k d in
     let reply-is : reply ≡ replayReply a = replies ∙ rw passed in
     let trace-is : trace ≡ traceAfter a (traceText c y k) old = leaves ∙ rw (long, passed) in
