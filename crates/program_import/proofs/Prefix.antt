@@ -26,7 +26,7 @@ use Rattle.decimal.proofs.TextValue.{numberIn-empty}
 use Rattle.text_words.specs.Words.{linesOf, wordsOf, partsAfter, restAfter}
 use Rattle.text_words.proofs.Words.{parts-append}
 use Rattle.aiger_lines.specs.Numbers.{allUnsigned, wordNumbers, wordsAt}
-use Rattle.aiger_lines.specs.Parts.{headerNumbers, numbersOnLine, countsOf, countsIn, linesDue, partAt, malformed, malformedAt, textLatchLine, textOutputLine, textGateLine}
+use Rattle.aiger_lines.specs.Parts.{headerNumbers, numbersOnLine, countsOf, countsIn, linesDue, partAt, malformedLine, malformedAt, textLatchLine, textOutputLine, textGateLine}
 use Rattle.aiger_lines.specs.declared.Counts.{Counts}
 use Rattle.aiger_lines.specs.declared.Part.{Part}
 use Rattle.aiger_lines.specs.declared.Part.the-variants.{Header, Input, Latch, Output, Gate}
@@ -35,7 +35,8 @@ use Rattle.aiger_netlist.specs.TextNetlist.{textSizes, definingLine, wireOfVari
 use Rattle.aiger_netlist.specs.ImportVerdict.{placeOf, notAiger, firstLine, wrongInterface, textVerdict, importVerdict}
 use Rattle.aiger_import.specs.ImportCall.{importedWord}
 use Rattle.aiger_import.proofs.Net.{upTo-same}
-use Rattle.program_import.specs.Printed.{sheetOrRefusal, importText, stopsAtEnd, PrefixSuffices}
+use Rattle.program_input.specs.Input.{textOrRefusal}
+use Rattle.program_import.specs.Printed.{importText, stopsAtEnd, PrefixSuffices}
 
 -- ---- searches that see the same
 any-same : (n : ℕ) {f g : ℕ → Bool} → ((k : ℕ) → k < n → f k ≡ g k) → anyBelow n f ≡ anyBelow n g
@@ -167,7 +168,7 @@ module _ (s t : List ℕ) (q : ℕ) (some-line : 1 ≤ q) (same : (p : ℕ) → 
         (first-passes _ (firstLine s undefinedAt Undefined) (rest-passes (firstLine s notAiger NotAiger) _ e))
 
     printed-same : (m n word unknown : ℕ) → importText t m n word unknown ≡ importText s m n word unknown
-    unfolding importText sheetOrRefusal importVerdict _then_
+    unfolding importText textOrRefusal importVerdict _then_
     printed-same m n word unknown = by-verdict (textVerdict s m n) refl
       where
         by-verdict : (v : Verdict) → textVerdict s m n ≡ v → importText t m n word unknown ≡ importText s m n word unknown
@@ -184,10 +185,10 @@ no-numbers p = rw (numberIn-empty [] refl) (either-way (eqb p 1))
     either-way false = refl
 
 missing-malformed : (s : List ℕ) (p : ℕ) → length (linesOf s) < p → malformedAt s p ≡ true
-unfolding malformedAt malformed numbersOnLine wordsAt
+unfolding malformedAt malformedLine numbersOnLine wordsAt
 missing-malformed s p l = rw (List·getD-eq-default (linesOf s) [] {n = p - 1} (omega arith), no-numbers p) (none (partAt (countsIn s) p))
   where
-    none : (part : Part) → malformed (countsIn s) part [] ≡ true
+    none : (part : Part) → malformedLine (countsIn s) part [] ≡ true
     none Header = refl
     none Input = refl
     none Latch = refl
@@ -240,7 +241,7 @@ module _ (s rest : List ℕ) (m n word unknown : ℕ) where
   -- a whole line is refused
   refused-same : (k x : ℕ) → 1 ≤ k → k ≤ length (linesOf s) → k ≤ linesDue (countsIn s) → inOrder (tests s) k ≡ Refused NotAiger x
       → printed (s ++ rest) ≡ printed s
-  unfolding importText sheetOrRefusal importVerdict textVerdict _then_
+  unfolding importText textOrRefusal importVerdict textVerdict _then_
   refused-same k x some l due e =
       let same = same-to k some l in
       let there = tests-same k (λ p h. ap (λ (b : Bool). refuseIf b NotAiger (placeOf p)) (notAiger-same s (s ++ rest) k some same p h)) ∙ e in
