@@ -17,10 +17,11 @@ use Rattle.call_replies.specs.declared.HeadingReply.{HeadingReply}
 use Rattle.call_replies.specs.declared.SheetReply.{SheetReply}
 use Rattle.call_replies.specs.declared.LineReply.{LineReply}
 
--- Another kind than 0 to 3 is no group. A pair of a frame with itself is none at any depth, so it gets refusal 8.
+-- A pair and a closing are those of port 1. Another kind than 0 to 3 is no group: a pair of a frame with itself is none at any depth, so it
+-- gets refusal 8.
 unfoldable pub groupOf : ℕ → ℕ → ℕ → Group
 groupOf kind j i =
-    cond (eqb kind 0) (Wires i) (cond (eqb kind 1) (Pair j i) (cond (eqb kind 2) (Closing i) (cond (eqb kind 3) Property (Pair i i))))
+    cond (eqb kind 0) (Wires i) (cond (eqb kind 1) (Pair j i 1) (cond (eqb kind 2) (Closing i 1) (cond (eqb kind 3) Property (Pair i i 1))))
 
 unfoldable pub countNumbers : Slices.CountReply → CountReply
 countNumbers r = record { number = r .number; place = r .place; count = r .count }

@@ -32,16 +32,16 @@ pub struct HeadingReply {
     pub clauses: u32,
 }
 
-// The group that three numbers stand for. Another kind is no group: a pair of a frame with itself, which no depth has.
+// The group that three numbers stand for, at the first port. Another kind is no group: a pair of a frame with itself, which no depth has.
 pub fn group_of(kind: u32, j: u32, i: u32) -> Group
     ensures { λ r. ⌜ r ≡ groupOf kind j i ⌝ }
 {
     match kind {
         0 => Group::Wires(i),
-        1 => Group::Pair(j, i),
-        2 => Group::Closing(i),
+        1 => Group::Pair(j, i, 1),
+        2 => Group::Closing(i, 1),
         3 => Group::Property,
-        _ => Group::Pair(i, i),
+        _ => Group::Pair(i, i, 1),
     }
 }
 

@@ -13,6 +13,7 @@ use Rattle.model.specs.Acceptance.{Accepted}
 use Rattle.model.specs.Variables.{base, readBit, closingLiterals}
 use Rattle.model.specs.Numbers.{Assignment}
 use Rattle.model.specs.Claim.{feedOf, idleOf, Agrees, Breaks}
+use Rattle.model.proofs.Ports.{first-port}
 use Rattle.model.proofs.Below.{all-below-suc}
 use Rattle.model.proofs.Circuit.{IsFrame, frame-unique}
 use Rattle.model.proofs.Truth.{value, AllHold}
@@ -39,7 +40,7 @@ module _ (c : Netlist) (a : Assignment) where
   u = assigned c a
 
   abbrev at : ℕ → ℕ
-  at i = addressOf c (port c) (u i)
+  at i = addressOf c (port c 1) (u i)
 
   module _ (k : ℕ) (holds : EachGroup c k (AllHold a)) (memory : ℕ → ℕ) (explains : Explains c a k memory) where
     -- where RE is true, the read bits assigned are the word that the writes assigned leave
@@ -47,7 +48,7 @@ module _ (c : Netlist) (a : Assignment) where
         → u i (readWire c t) ≡ bit (wordBefore c u (memory (at i)) (at i) i) t
     read-at i d r t b =
         rw (zero-add t) at (
-        word-read c (port c) a i (λ j l. pair-holds c a k j i .0 (holds .pairs j i l d)) (memory (at i)) (explains i d) r t b
+        word-read c (port c 1) a i (λ j l. pair-holds c a k 1 j i .0 (holds .pairs 1 (first-port c) j i l d)) (memory (at i)) (explains i d) r t b
         )
 
     -- where RE is false, the read bits assigned to a later frame are those of the frame before
@@ -56,10 +57,10 @@ module _ (c : Netlist) (a : Assignment) where
     unfolding closingLiterals
     held-at i d r t b =
         let last : suc i - 1 ≡ i = omega arith in
-        let held = closing-holds c a k (suc i) .0 (holds .closings (suc i) d) .held-where-idle (omega arith) t b in
+        let held = closing-holds c a k 1 (suc i) .0 (holds .closings 1 (first-port c) (suc i) d) .held-where-idle (omega arith) t b in
         rw (zero-add t) at (
-        sym (readBit-value c (port c) a (suc i) t) ∙ held (codeIn-value c a (suc i) (c .RE) ∙ r)
-        ∙ ap (λ (j : ℕ). value a (readBit c (port c) j t)) last ∙ readBit-value c (port c) a i t
+        sym (readBit-value c (port c 1) a (suc i) t) ∙ held (codeIn-value c a (suc i) (c .RE) ∙ r)
+        ∙ ap (λ (j : ℕ). value a (readBit c (port c 1) j t)) last ∙ readBit-value c (port c 1) a i t
         )
 
     module _ (ok : Accepted c) {idle : ℕ → Bool} {f : Feeds} (fed : FedAs c k a idle f) where

@@ -6,7 +6,8 @@ use native.Mathlib.Omega.{arith}
 use borrow.Author.Tests.{lt-ltb, le-ltb}
 use Rattle.model.specs.Netlist.{Netlist, Port, port, readBits, inputWire, latchWire, readWire, gateWire, lastWire}
 use Rattle.model.specs.Circuit.{Values, codeValue, sources, conjunction, evaluate, Solves, dependsOnRead, State, Feed, addressOf, readData, firstPass, frame}
-use Rattle.model.specs.Acceptance.{Accepted, CodesFit, IsCode}
+use Rattle.model.specs.Acceptance.{Accepted, CodesFit, IsCode, NoLoop}
+use Rattle.model.proofs.Ports.{first-port}
 use Rattle.model.proofs.Bits.{fromBits-same}
 use Rattle.model.proofs.Sweep.{OfTwoWires, sweep-outside, sweep-solves, wire-induction}
 use Rattle.model.proofs.Dependence.{depends-read, independent-gate}
@@ -109,8 +110,8 @@ unfolding addressOf
 address-same c p u v h = fromBits-same (c .m) (λ t. codeValue u (p .address t)) (λ t. codeValue v (p .address t)) h
 
 -- what is read follows from the address and RE
-pub readData-same : (c : Netlist) (s : State) (u v : Values) → addressOf c (port c) u ≡ addressOf c (port c) v
-    → codeValue u (port c .RE) ≡ codeValue v (port c .RE) → (t : ℕ) → readData c s u t ≡ readData c s v t
+pub readData-same : (c : Netlist) (s : State) (u v : Values) → addressOf c (port c 1) u ≡ addressOf c (port c 1) v
+    → codeValue u (port c 1 .RE) ≡ codeValue v (port c 1 .RE) → (t : ℕ) → readData c s u t ≡ readData c s v t
 unfolding readData
 readData-same c s u v a e t = rw (a, e)
 
@@ -127,9 +128,12 @@ read-settled : {c : Netlist} → Accepted c → (s : State) (f : Feed) → {read
     → Solves c (f .input) (s .latch) read u → Solves c (f .input) (s .latch) other v → (t : ℕ) → readData c s u t ≡ readData c s v t
 read-settled {c} h s f {u} {v} p q =
     readData-same c s u v
-    (address-same c (port c) u v (λ t l. settled (c .address t) (h .limits .codes .address-fits t l) (h .noLoop .address-free t l)))
-    (settled (c .RE) (h .limits .codes .RE-fits) (h .noLoop .RE-free))
+    (address-same c (port c 1) u v (λ t l. settled (c .address t) (h .limits .codes .address-fits t l) (free .address-free t l)))
+    (settled (c .RE) (h .limits .codes .RE-fits) (free .RE-free))
   where
+    free : NoLoop c (port c 1)
+    free = h .noLoop 1 (first-port c)
+
     settled : (x : ℕ) → IsCode c x → dependsOnRead c (x / 2) ≡ false → codeValue u x ≡ codeValue v x
     settled x l free = code-same u v x (independent-agree (h .limits .codes) p q (x / 2) (omega arith) free)
 

@@ -4,7 +4,7 @@ use mathlib.Core.Path.{_≡_, sym, _∙_, ap, subst}
 use mathlib.Core.Bool.{Bool, true, false, _||_, or-false}
 use mathlib.Core.List.{List}
 use mathlib.Core.Logic.{_↔_, Iff·trans}
-use Rattle.model.specs.Netlist.{Netlist, Start, given, start, port}
+use Rattle.model.specs.Netlist.{Netlist, Start, given, start, ports, port}
 use Rattle.model.specs.Circuit.{Feeds, run, Begins, initial}
 use Rattle.model.specs.Acceptance.{Accepted}
 use Rattle.model.specs.Clauses.{Clause}
@@ -14,6 +14,7 @@ use Rattle.model.specs.Numbers.{keptOf, kept, isTrue, hasTrue, Assignmen
 use Rattle.model.specs.Claim.{Satisfies, feedOf, idleOf, Agrees, Breaks, Encodes, EncodingTheorem}
 use Rattle.model.specs.declared.Group.the-variants.{Wires}
 use Rattle.model.proofs.Booleans.{eq-iff, and-true}
+use Rattle.model.proofs.Ports.{first-port}
 use Rattle.model.proofs.Variables.{base-least}
 use Rattle.model.proofs.Joined.{joinedClauses, formula-written, EachGroup, each-group}
 use Rattle.model.proofs.Bounds.{orMinusOne, formula-within}
@@ -28,7 +29,7 @@ use Rattle.model.proofs.RunToAssignment.{run-groups, run-agrees}
 module _ {c : Netlist} (ok : Accepted c) (k : ℕ) where
   -- all clauses of depth k
   abbrev all : List Clause
-  all = joinedClauses (clausesOf c k) (groupOrder k)
+  all = joinedClauses (clausesOf c k) (groupOrder (ports c) k)
 
   -- the clauses in the numbers of depth k are those that are written
   pub clausesIn-formula : clausesIn (formula c k) ≡ shown all
@@ -70,8 +71,8 @@ module _ {c : Netlist} (ok : Accepted c) (k : ℕ) where
       record {
         assignment→run = λ a h.
             let groups = groups-of a h in
-            let shown = start-explains c a k (start c) (λ j i l d. pair-holds c a k j i .0 (groups .pairs j i l d))
-            (λ i d. closing-holds c a k i .0 (groups .closings i d) .initial-where-Z) in
+            let shown = start-explains c a k (start c) (λ j i l d. pair-holds c a k 1 j i .0 (groups .pairs 1 (first-port c) j i l d))
+            (λ i d. closing-holds c a k 1 i .0 (groups .closings 1 (first-port c) i d) .initial-where-Z) in
             let run = run-of a groups (shown .0) (shown .2) in
             (shown .0, shown .1, run .0, run .1);
         run→assignment = λ memory begins idle f h.
@@ -87,8 +88,8 @@ module _ {c : Netlist} (ok : Accepted c) (k : ℕ) where
       let groups = groups-of a h in
       run-of a groups (λ x. word)
       (given-explains c a k word (λ i d.
-      subst (λ (s : Start). InitialHold a (c .n) s (closingLiterals c (port c) i)) e
-      (closing-holds c a k i .0 (groups .closings i d) .initial-where-Z)))
+      subst (λ (s : Start). InitialHold a (c .n) s (closingLiterals c (port c 1) i)) e
+      (closing-holds c a k 1 i .0 (groups .closings 1 (first-port c) i d) .initial-where-Z)))
 
   -- only variables 1 to B(k + 1) matter
   pub satisfies-same : (a a′ : Assignment) → ((v : ℕ) → 1 ≤ v → v ≤ base c (k + 1) → a v ≡ a′ v) → Satisfies c k a → Satisfies c k a′

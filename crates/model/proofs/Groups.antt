@@ -83,15 +83,15 @@ pub state-later-holds : (c : Netlist) (a : Assignment) (i : ℕ)
 unfolding stateClauses
 state-later-holds c a i = allHold-gather a (c .latches) (latchClauses c i)
 
-pub pair-holds : (c : Netlist) (a : Assignment) (k j i : ℕ)
-    → AllHold a (clausesOf c k (Pair j i)) ↔ PairHolds a (c .m) (c .n) (start c) (pairLiterals c (port c) j i)
+pub pair-holds : (c : Netlist) (a : Assignment) (k p j i : ℕ)
+    → AllHold a (clausesOf c k (Pair j i p)) ↔ PairHolds a (c .m) (c .n) (start c) (pairLiterals c (port c p) j i)
 unfolding clausesOf
-pair-holds c a k j i = pairClauses-holds a (c .m) (c .n) (start c) (pairLiterals c (port c) j i)
+pair-holds c a k p j i = pairClauses-holds a (c .m) (c .n) (start c) (pairLiterals c (port c p) j i)
 
-pub closing-holds : (c : Netlist) (a : Assignment) (k i : ℕ)
-    → AllHold a (clausesOf c k (Closing i)) ↔ ClosingHolds a (c .n) (start c) i (closingLiterals c (port c) i)
+pub closing-holds : (c : Netlist) (a : Assignment) (k p i : ℕ)
+    → AllHold a (clausesOf c k (Closing i p)) ↔ ClosingHolds a (c .n) (start c) i (closingLiterals c (port c p) i)
 unfolding clausesOf
-closing-holds c a k i = closingClauses-holds a (c .n) (start c) i (closingLiterals c (port c) i)
+closing-holds c a k p i = closingClauses-holds a (c .n) (start c) i (closingLiterals c (port c p) i)
 
 pub property-holds : (c : Netlist) (a : Assignment) (k : ℕ)
     → AllHold a (clausesOf c k Property) ↔ ((i : ℕ) × (i < k + 1) × (codeValue (assigned c a i) (c .P) ≡ false))

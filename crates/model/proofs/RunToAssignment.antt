@@ -52,8 +52,8 @@ module _ (c : Netlist) (ok : Accepted c) (memory : ℕ → ℕ) (idle : ℕ → 
   code-value i d x fits = codeIn-value c a i x ∙ code-agrees c (assigned c a i) (u i) (same i d) x fits
 
   -- so has a read bit's literal
-  bit-value : (i : ℕ) → i ≤ k → (t : ℕ) → t < c .n → value a (readBit c (port c) i t) ≡ u i (readWire c t)
-  bit-value i d t b = readBit-value c (port c) a i t ∙ rw (zero-add t) (same i d (readWire c t) (omega arith))
+  bit-value : (i : ℕ) → i ≤ k → (t : ℕ) → t < c .n → value a (readBit c (port c 1) i t) ≡ u i (readWire c t)
+  bit-value i d t b = readBit-value c (port c 1) a i t ∙ rw (zero-add t) (same i d (readWire c t) (omega arith))
 
   -- the clauses of a frame's gates and latches hold, as the frame's equations do
   gate-holds : (i : ℕ) → i ≤ k → (g : ℕ) → g < c .gates
@@ -88,22 +88,22 @@ module _ (c : Netlist) (ok : Accepted c) (memory : ℕ → ℕ) (idle : ℕ → 
 
   -- where frame i reads, its read bits are the word that the writes before it leave
   read-bit : (i : ℕ) → codeValue (u i) (c .RE) ≡ true → (t : ℕ) → t < c .n
-      → u i (readWire c t) ≡ bit (stepped (memory (addressOf c (port c) (u i))) (hits c (port c) u i) (λ j. wordWritten c (u j)) i) t
+      → u i (readWire c t) ≡ bit (stepped (memory (addressOf c (port c 1) (u i))) (hits c (port c 1) u i) (λ j. wordWritten c (u j)) i) t
   unfolding readData initial hits
   read-bit i r t b =
       frame-at i .at-read t b
-      ∙ ap (λ (x : Bool). cond x (bit (state i .memory (addressOf c (port c) (u i))) t) (state i .held t)) r
-      ∙ ap (λ (w : ℕ). bit w t) (memory-stepped c (initial c memory idle) f (addressOf c (port c) (u i)) i)
+      ∙ ap (λ (x : Bool). cond x (bit (state i .memory (addressOf c (port c 1) (u i))) t) (state i .held t)) r
+      ∙ ap (λ (w : ℕ). bit w t) (memory-stepped c (initial c memory idle) f (addressOf c (port c 1) (u i)) i)
 
   -- where a later frame does not, its read bits are those of the frame before
   held-bit : (i : ℕ) → codeValue (u (suc i)) (c .RE) ≡ false → (t : ℕ) → t < c .n → u (suc i) (readWire c t) ≡ u i (readWire c t)
   unfolding readData stateAt step run
   held-bit i r t b =
       frame-at (suc i) .at-read t b
-      ∙ ap (λ (x : Bool). cond x (bit (state (suc i) .memory (addressOf c (port c) (u (suc i)))) t) (state (suc i) .held t)) r
+      ∙ ap (λ (x : Bool). cond x (bit (state (suc i) .memory (addressOf c (port c 1) (u (suc i)))) t) (state (suc i) .held t)) r
 
   held-at : (i : ℕ) → i ≤ k → 0 < i → codeValue (u i) (c .RE) ≡ false → (t : ℕ) → t < c .n
-      → value a (readBit c (port c) i t) ≡ value a (closingLiterals c (port c) i .before t)
+      → value a (readBit c (port c 1) i t) ≡ value a (closingLiterals c (port c 1) i .before t)
   unfolding closingLiterals
   held-at zero d l r t b = absurd (not-suc-le-zero l)
   held-at (suc i) d l r t b =
@@ -111,7 +111,7 @@ module _ (c : Netlist) (ok : Accepted c) (memory : ℕ → ℕ) (idle : ℕ → 
       rw last (bit-value (suc i) d t b ∙ held-bit i r t b ∙ sym (bit-value i (le-of-suc-le d) t b))
 
   -- the witness has frame i's read
-  read-at : (i : ℕ) → i ≤ k → HasRead c (port c) u a i (memory (addressOf c (port c) (u i)))
+  read-at : (i : ℕ) → i ≤ k → HasRead c (port c 1) u a i (memory (addressOf c (port c 1) (u i)))
   read-at i d =
       record {
         address-codes = ok .limits .codes .address-fits;
@@ -123,7 +123,7 @@ module _ (c : Netlist) (ok : Accepted c) (memory : ℕ → ℕ) (idle : ℕ → 
       }
 
   -- reads of one address that both reach the start agree: they are of one word
-  agreed-at : (s : Start) (j i : ℕ) → j < i → i ≤ k → AgreedHold a (c .n) s (pairLiterals c (port c) j i)
+  agreed-at : (s : Start) (j i : ℕ) → j < i → i ≤ k → AgreedHold a (c .n) s (pairLiterals c (port c 1) j i)
   unfolding AgreedHold pairLiterals
   agreed-at (given word) j i l d = tt
   agreed-at unknown j i l d = λ t b e zj zi.
@@ -132,7 +132,7 @@ module _ (c : Netlist) (ok : Accepted c) (memory : ℕ → ℕ) (idle : ℕ → 
       ∙ sym (read-start (ok .limits .codes) (read-at j (omega arith)) zj t b)
 
   -- from a given start it is the initial word
-  initial-at : (s : Start) → BeginsAs (c .n) s memory → (i : ℕ) → i ≤ k → InitialHold a (c .n) s (closingLiterals c (port c) i)
+  initial-at : (s : Start) → BeginsAs (c .n) s memory → (i : ℕ) → i ≤ k → InitialHold a (c .n) s (closingLiterals c (port c 1) i)
   unfolding InitialHold BeginsAs closingLiterals
   initial-at (given word) begins i d = λ t b z. read-start (ok .limits .codes) (read-at i d) z t b ∙ rw (begins _)
   initial-at unknown begins i d = tt
@@ -143,8 +143,8 @@ module _ (c : Netlist) (ok : Accepted c) (memory : ℕ → ℕ) (idle : ℕ → 
   run-groups begins h =
       record {
         wires = wires-at;
-        pairs = λ j i l d. pair-holds c a k j i .1 (pair-witnessed (ok .limits .codes) (read-at i d) j l (agreed-at (start c) j i l d));
-        closings = λ i d. closing-holds c a k i .1 (closing-witnessed (ok .limits .codes) (read-at i d) (initial-at (start c) begins i d));
+        pairs = λ p b j i l d. pair-holds c a k p j i .1 (pair-witnessed (ok .limits .codes) (read-at i d) j l (agreed-at (start c) j i l d));
+        closings = λ p b i d. closing-holds c a k p i .1 (closing-witnessed (ok .limits .codes) (read-at i d) (initial-at (start c) begins i d));
         property = property-holds c a k .1 (h .0, omega (arith, h .1), code-agrees c (assigned c a (h .0)) (u (h .0)) (same (h .0) (h .1)) (c .P) (ok .limits .codes .P-fits) ∙ h .2);
       }
 

@@ -19,7 +19,7 @@ module _ (c d : Netlist) (q : Agree c d) where
   unfolding base
   base-same i = rw (lastWire-same c d q, m-same c d q)
 
-  pairBase-same : (j i : ℕ) → pairBase c (port c) j i ≡ pairBase d (port d) j i
+  pairBase-same : (j i : ℕ) → pairBase c (port c 1) j i ≡ pairBase d (port d 1) j i
   unfolding pairBase
   pairBase-same j i = rw (lastWire-same c d q, m-same c d q)
 
@@ -40,24 +40,24 @@ module _ (c d : Netlist) (q : Agree c d) where
   state-same zero = ap (λ (xs : List Clause). (plus 1 ∷ []) ∷ xs) (gathers-same (latches-same c d q) reset-same)
   state-same (suc i) = gathers-same (latches-same c d q) (latch-same i)
 
-  none-same : (j i : ℕ) → noneSince c (port c) j i ≡ noneSince d (port d) j i
+  none-same : (j i : ℕ) → noneSince c (port c 1) j i ≡ noneSince d (port d 1) j i
   unfolding noneSince
   none-same j i = rw (pairBase-same j i, base-same i, q .RE-same, m-same c d q)
 
-  selected-same : (j i : ℕ) → selected c (port c) j i ≡ selected d (port d) j i
+  selected-same : (j i : ℕ) → selected c (port c 1) j i ≡ selected d (port d 1) j i
   unfolding selected
   selected-same j i = rw (pairBase-same j i, m-same c d q)
 
-  readBit-same : (i t : ℕ) → readBit c (port c) i t ≡ readBit d (port d) i t
+  readBit-same : (i t : ℕ) → readBit c (port c 1) i t ≡ readBit d (port d 1) i t
   unfolding readBit
   readBit-same i t = rw (base-same i, inputs-same c d q, latches-same c d q)
 
   module _ (j i : ℕ) where
     abbrev x : PairLiterals
-    x = pairLiterals c (port c) j i
+    x = pairLiterals c (port c 1) j i
 
     abbrev y : PairLiterals
-    y = pairLiterals d (port d) j i
+    y = pairLiterals d (port d 1) j i
 
     bit-same : (t : ℕ) → t < c .m → addressBitClauses x t ≡ addressBitClauses y t
     unfolding addressBitClauses pairLiterals
@@ -114,10 +114,10 @@ module _ (c d : Netlist) (q : Agree c d) where
 
   module _ (i : ℕ) where
     abbrev u : ClosingLiterals
-    u = closingLiterals c (port c) i
+    u = closingLiterals c (port c 1) i
 
     abbrev v : ClosingLiterals
-    v = closingLiterals d (port d) i
+    v = closingLiterals d (port d 1) i
 
     initial-bit-same : (word t : ℕ) → t < c .n → initialReadClauses word u t ≡ initialReadClauses word v t
     unfolding initialReadClauses closingLiterals
@@ -142,15 +142,15 @@ module _ (c d : Netlist) (q : Agree c d) where
         ap₂ (λ (r : Literal) (zs : Clause). neg r ∷ zs) (rw (base-same i, q .RE-same))
         (ap₂ (λ (z : Literal) (ss : Clause). z ∷ ss) (none-same 0 i) (gather-same i (selectedOf u) (selectedOf v) source-same))
 
-  held-same : (i : ℕ) → heldReads (c .n) i (closingLiterals c (port c) i) ≡ heldReads (d .n) i (closingLiterals d (port d) i)
+  held-same : (i : ℕ) → heldReads (c .n) i (closingLiterals c (port c 1) i) ≡ heldReads (d .n) i (closingLiterals d (port d 1) i)
   unfolding heldReads
   held-same zero = refl
   held-same (suc i) = gathers-same (n-same c d q) (held-bit-same (suc i))
 
-  closing-same : (i : ℕ) → closingClauses (c .n) (start c) i (closingLiterals c (port c) i) ≡ closingClauses (d .n) (start d) i (closingLiterals d (port d) i)
+  closing-same : (i : ℕ) → closingClauses (c .n) (start c) i (closingLiterals c (port c 1) i) ≡ closingClauses (d .n) (start d) i (closingLiterals d (port d 1) i)
   unfolding closingClauses
   closing-same i =
-      ap₂ (λ (a : List Clause) (s : Clause). a ++ s ∷ []) (ap₂ _++_ (initial-same i (start c) ∙ ap (λ (s : Start). initialReads (d .n) s (closingLiterals d (port d) i)) (start-same c d q)) (held-same i)) (some-same i)
+      ap₂ (λ (a : List Clause) (s : Clause). a ++ s ∷ []) (ap₂ _++_ (initial-same i (start c) ∙ ap (λ (s : Start). initialReads (d .n) s (closingLiterals d (port d 1) i)) (start-same c d q)) (held-same i)) (some-same i)
 
   violated-same : (i : ℕ) → violationOf c i ≡ violationOf d i
   unfolding violationOf
@@ -159,8 +159,8 @@ module _ (c d : Netlist) (q : Agree c d) where
   pub clauses-same : (k : ℕ) (g : Group) → clausesOf c k g ≡ clausesOf d k g
   unfolding clausesOf
   clauses-same k (Wires i) = ap₂ _++_ (state-same i) (gathers-same (gates-same c d q) (gate-same i))
-  clauses-same k (Pair j i) = pair-same j i
-  clauses-same k (Closing i) = closing-same i
+  clauses-same k (Pair j i p) = pair-same j i
+  clauses-same k (Closing i p) = closing-same i
   clauses-same k Property = ap (λ (x : Clause). x ∷ []) (gather-same (k + 1) (violationOf c) (violationOf d) (λ i b. violated-same i))
 
   pub numbers-same : (k : ℕ) (g : Group) → numbersOf c k g ≡ numbersOf d k g

@@ -52,8 +52,8 @@ port-within c p j i v h r =
     simp (pairBase-base, base-suc) (omega (arith, suc-mul j (stride c)))
 
 -- at the netlist's own port all of them
-pub pair-within : (c : Netlist) (j i : ℕ) → j < i → pairBase c (port c) j i + stride c ≤ base c (suc i)
-pair-within c j i h = port-within c (port c) j i (stride c) h (omega arith)
+pub pair-within : (c : Netlist) (j i : ℕ) → j < i → pairBase c (port c 1) j i + stride c ≤ base c (suc i)
+pair-within c j i h = port-within c (port c 1) j i (stride c) h (omega arith)
 
 -- the most (RULES V6): depth 255, 600 wires and addresses of 12 bits
 pub base-most : (c : Netlist) → SizesFit c → (i : ℕ) → i ≤ 256 → base c i ≤ 675841

@@ -33,7 +33,7 @@ frameOf-at c (suc k) i v b lo hi =
 -- the variables of a pair at a port, counted from 0: E, e of each bit, s, PS, S
 unfoldable pub pairValue : Netlist → Port → (ℕ → Values) → ℕ → ℕ → ℕ → Bool
 pairValue c p u j i x =
-    cond (eqb x 0) (eqb (addressOf c p (u i)) (addressOf c (port c) (u j)))
+    cond (eqb x 0) (eqb (addressOf c p (u i)) (addressOf c (port c 1) (u j)))
     (cond (ltb x (c .m + 1)) (Bool·beq (codeValue (u j) (c .address (x - 1))) (codeValue (u i) (p .address (x - 1))))
     (cond (eqb x (c .m + 1)) (hits c p u i j)
     (cond (eqb x (c .m + 2)) (nones c p u i j) (hits c p u i j && nones c p u i (suc j)))))
@@ -41,7 +41,7 @@ pairValue c p u j i x =
 -- a variable of frame i, counted from its base
 unfoldable pub valueIn : Netlist → (ℕ → Values) → ℕ → ℕ → Bool
 valueIn c u i x =
-    cond (leb x (lastWire c)) (u i x) (pairValue c (port c) u ((x - lastWire c - 1) / stride c) i ((x - lastWire c - 1) % stride c))
+    cond (leb x (lastWire c)) (u i x) (pairValue c (port c 1) u ((x - lastWire c - 1) / stride c) i ((x - lastWire c - 1) % stride c))
 
 -- the assignment that frames with the values u give, up to frame k
 unfoldable pub witness : Netlist → ℕ → (ℕ → Values) → Assignment
@@ -64,11 +64,11 @@ witness-wire c k u i w b lo hi =
     witness-in c k u i w b lo (omega (arith, base-suc c i)) ∙ (unfold valueIn in rw (le-leb w (lastWire c) hi))
 
 witness-pair : (c : Netlist) (k : ℕ) (u : ℕ → Values) (j i x : ℕ) → j < i → i ≤ k → x < stride c
-    → witness c k u (pairBase c (port c) j i + 1 + x) ≡ pairValue c (port c) u j i x
+    → witness c k u (pairBase c (port c 1) j i + 1 + x) ≡ pairValue c (port c 1) u j i x
 unfolding valueIn
 witness-pair c k u j i x below b lo =
     let y : ℕ = lastWire c + 1 + (j * stride c + x) in
-    let e : pairBase c (port c) j i + 1 + x ≡ base c i + y = omega (arith, pairBase-base c (port c) j i) in
+    let e : pairBase c (port c 1) j i + 1 + x ≡ base c i + y = omega (arith, pairBase-base c (port c 1) j i) in
     let within : base c i + y ≤ base c (suc i) = omega (arith, pair-within c j i below) in
     let r : y - lastWire c - 1 ≡ j * stride c + x = omega arith in
     let q : (j * stride c + x) / stride c ≡ j = mul-add-div-right (omega arith) j x ∙ ap (λ (z : ℕ). j + z) (div-eq-of-lt lo) ∙ add-zero j in
@@ -78,46 +78,46 @@ witness-pair c k u j i x below b lo =
 
 -- what each variable of a pair is in the witness
 module _ (c : Netlist) (k : ℕ) (u : ℕ → Values) (j i : ℕ) (below : j < i) (b : i ≤ k) where
-  pair-variable : (v x : ℕ) → v ≡ pairBase c (port c) j i + 1 + x → x < stride c → witness c k u v ≡ pairValue c (port c) u j i x
+  pair-variable : (v x : ℕ) → v ≡ pairBase c (port c 1) j i + 1 + x → x < stride c → witness c k u v ≡ pairValue c (port c 1) u j i x
   pair-variable v x e l = ap (witness c k u) e ∙ witness-pair c k u j i x below b l
 
-  witness-E : witness c k u (pairBase c (port c) j i + 1) ≡ eqb (addressOf c (port c) (u i)) (addressOf c (port c) (u j))
+  witness-E : witness c k u (pairBase c (port c 1) j i + 1) ≡ eqb (addressOf c (port c 1) (u i)) (addressOf c (port c 1) (u j))
   unfolding pairValue
-  witness-E = pair-variable (pairBase c (port c) j i + 1) 0 (omega arith) (omega arith)
+  witness-E = pair-variable (pairBase c (port c 1) j i + 1) 0 (omega arith) (omega arith)
 
   witness-e : (t : ℕ) → t < c .m
-      → witness c k u (pairBase c (port c) j i + 2 + t) ≡ Bool·beq (codeValue (u j) (c .address t)) (codeValue (u i) (c .address t))
+      → witness c k u (pairBase c (port c 1) j i + 2 + t) ≡ Bool·beq (codeValue (u j) (c .address t)) (codeValue (u i) (c .address t))
   unfolding pairValue
   witness-e t l =
-      pair-variable (pairBase c (port c) j i + 2 + t) (1 + t) (omega arith) (omega arith)
+      pair-variable (pairBase c (port c 1) j i + 2 + t) (1 + t) (omega arith) (omega arith)
       ∙ rw (ne-eqb (1 + t) 0 (λ e. omega arith), lt-ltb (1 + t) (c .m + 1) (omega arith), add-sub-cancel-left 1 t)
 
-  witness-s : witness c k u (pairBase c (port c) j i + c .m + 2) ≡ hits c (port c) u i j
+  witness-s : witness c k u (pairBase c (port c 1) j i + c .m + 2) ≡ hits c (port c 1) u i j
   unfolding pairValue
   witness-s =
-      pair-variable (pairBase c (port c) j i + c .m + 2) (c .m + 1) (omega arith) (omega arith)
+      pair-variable (pairBase c (port c 1) j i + c .m + 2) (c .m + 1) (omega arith) (omega arith)
       ∙ rw (ne-eqb (c .m + 1) 0 (λ e. omega arith), le-ltb (c .m + 1) (c .m + 1) (le-refl _), eq-eqb (c .m + 1) (c .m + 1) refl)
 
-  witness-PS : witness c k u (pairBase c (port c) j i + c .m + 3) ≡ nones c (port c) u i j
+  witness-PS : witness c k u (pairBase c (port c 1) j i + c .m + 3) ≡ nones c (port c 1) u i j
   unfolding pairValue
   witness-PS =
-      pair-variable (pairBase c (port c) j i + c .m + 3) (c .m + 2) (omega arith) (omega arith)
+      pair-variable (pairBase c (port c 1) j i + c .m + 3) (c .m + 2) (omega arith) (omega arith)
       ∙ rw (ne-eqb (c .m + 2) 0 (λ e. omega arith), le-ltb (c .m + 2) (c .m + 1) (omega arith), ne-eqb (c .m + 2) (c .m + 1) (λ e. omega arith), eq-eqb (c .m + 2) (c .m + 2) refl)
 
-  witness-S : witness c k u (pairBase c (port c) j i + c .m + 4) ≡ (hits c (port c) u i j && nones c (port c) u i (suc j))
+  witness-S : witness c k u (pairBase c (port c 1) j i + c .m + 4) ≡ (hits c (port c 1) u i j && nones c (port c 1) u i (suc j))
   unfolding pairValue
   witness-S =
-      pair-variable (pairBase c (port c) j i + c .m + 4) (c .m + 3) (omega arith) (omega arith)
+      pair-variable (pairBase c (port c 1) j i + c .m + 4) (c .m + 3) (omega arith) (omega arith)
       ∙ rw (ne-eqb (c .m + 3) 0 (λ e. omega arith), le-ltb (c .m + 3) (c .m + 1) (omega arith), ne-eqb (c .m + 3) (c .m + 1) (λ e. omega arith), ne-eqb (c .m + 3) (c .m + 2) (λ e. omega arith))
 
   -- as the frames give them
-  pub witness-values : PairValues c (port c) u (witness c k u) j i
+  pub witness-values : PairValues c (port c 1) u (witness c k u) j i
   unfolding pairLiterals selected value
   witness-values =
       record {
         E-is = witness-E;
         e-is = witness-e;
         s-is = witness-s;
-        PS-is = ap (value (witness c k u)) (noneSince-earlier c (port c) j i below) ∙ witness-PS;
+        PS-is = ap (value (witness c k u)) (noneSince-earlier c (port c 1) j i below) ∙ witness-PS;
         S-is = witness-S;
       }

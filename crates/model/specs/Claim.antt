@@ -17,7 +17,7 @@ use mathlib.Core.List.{List, [], _∷_}
 use mathlib.Core.Logic.{_⊎_}
 use lib.IntN.{ℤ, pos, negsuc, natAbs}
 use lib.ListN.{length, getD}
-use Rattle.model.specs.Netlist.{Netlist, given, start, port, inputWire, readWire, lastWire}
+use Rattle.model.specs.Netlist.{Netlist, given, start, ports, port, inputWire, readWire, lastWire}
 use Rattle.model.specs.Circuit.{State, Feeds, codeValue, addressOf, stateAt, run, Begins, initial}
 use Rattle.model.specs.Acceptance.{Accepted}
 use Rattle.model.specs.Variables.{base, Numbered}
@@ -74,11 +74,11 @@ pub record Stated (c : Netlist) (k : ℕ) : Type 0 where
       → (memory : ℕ → ℕ) → Begins c memory → (idle : ℕ → Bool) (f : Feeds) → Breaks c (initial c memory idle) k f → ⊥
   pub given→run : (word : ℕ) → start c ≡ given word → (a : Assignment) → Satisfies c k a
       → Agrees c (initial c (λ x. word) (idleOf c a)) k a (feedOf c a) × Breaks c (initial c (λ x. word) (idleOf c a)) k (feedOf c a)
-  pub clauses-counted : (g : Group) → inDepth k g ≡ true → length (clausesIn (numbersOf c k g)) ≤ clauseCount c k g
+  pub clauses-counted : (g : Group) → inDepth (ports c) k g ≡ true → length (clausesIn (numbersOf c k g)) ≤ clauseCount c k g
   pub numbers-counted : (g : Group) → length (numbersOf c k g) ≤ numberCount c k g
   pub no-constants : (x : ℕ) → 1 ≤ x → x < length (clausesIn (formula c k)) → NoConstant (getD (clausesIn (formula c k)) x [])
   pub addresses-within : (memory : ℕ → ℕ) (idle : ℕ → Bool) (f : Feeds) (i : ℕ)
-      → addressOf c (port c) (run c (initial c memory idle) f i) < 2 ^ c .m
+      → addressOf c (port c 1) (run c (initial c memory idle) f i) < 2 ^ c .m
   pub words-within : (memory : ℕ → ℕ) → Begins c memory → (idle : ℕ → Bool) (f : Feeds) (i x : ℕ)
       → stateAt c (initial c memory idle) f i .memory x < 2 ^ c .n
 

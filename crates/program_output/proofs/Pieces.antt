@@ -9,7 +9,7 @@ use lib.Seq.{take-at, drop-at}
 use native.Mathlib.Omega.{arith}
 use borrow.Author.Tests.{le-leb, lt-leb}
 use borrow.Rule.Slice.PartMut.{midOf, putMid}
-use Rattle.model.specs.Netlist.{Netlist}
+use Rattle.model.specs.Netlist.{Netlist, ports}
 use Rattle.model.specs.Groups.{groupOrder, inDepth}
 use Rattle.model.specs.Numbers.{numbersOf, joined}
 use Rattle.model.specs.Wrote.{over, Wrote}
@@ -26,8 +26,9 @@ use Rattle.program_output.specs.declared.Piece.{Piece}
 use Rattle.program_output.specs.Pieces.{OrderHas, fitting, inPiece, pieceText, pieceOf, Printed, Continues}
 
 -- a group that stands in the order of the whole is a group of the depth
-pub orderHas-inDepth : (k : ℕ) (g : Group) → OrderHas k g → inDepth k g ≡ true
-orderHas-inDepth k g s = all-at (s .before) g (s .behind) (subst (All (λ x. inDepth k x ≡ true)) (s .order) (order-inDepth k))
+pub orderHas-inDepth : (c : Netlist) (k : ℕ) (g : Group) → OrderHas c k g → inDepth (ports c) k g ≡ true
+orderHas-inDepth c k g s =
+    all-at (s .before) g (s .behind) (subst (All (λ x. inDepth (ports c) k x ≡ true)) (s .order) (order-inDepth (ports c) k))
 
 joined-snoc : (f : Group → List ℤ) (gs : List Group) (g : Group) → joined f (gs ++ g ∷ []) ≡ joined f gs ++ f g
 unfolding joined
@@ -92,7 +93,7 @@ module _ (size : Group → ℕ) (room bytes : ℕ) where
   fitting-full (g ∷ gs) h = rw (lt-leb (bytes + 71904) room h)
 
 module _ {c : Netlist} {k : ℕ} {old mid : List ℕ} {bytes : ℕ} {due : Group} (before from : List Group)
-    (order : groupOrder k ≡ before ++ from) (p : SoFar c k old mid bytes (Then due) from) where
+    (order : groupOrder (ports c) k ≡ before ++ from) (p : SoFar c k old mid bytes (Then due) from) where
   rest : Remaining due (p .remaining)
   rest = remaining-begins due (p .remaining) (p .next-remaining)
 
@@ -100,7 +101,7 @@ module _ {c : Netlist} {k : ℕ} {old mid : List ℕ} {bytes : ℕ} {due : Group
   whole = p .in-order ∙ ap (λ (t : List Group). p .printed ++ t) (rest .begins)
 
   -- the group that is next stands in the order of the whole
-  pub orderHas-due : OrderHas k due
+  pub orderHas-due : OrderHas c k due
   orderHas-due =
       record {
         before = before ++ p .printed;
@@ -111,7 +112,7 @@ module _ {c : Netlist} {k : ℕ} {old mid : List ℕ} {bytes : ℕ} {due : Group
   -- its text behind that of the others
   pub one-more : (part : List ℕ) (n : ℕ) (next : Next) → bytes + 71904 ≤ length old
       → Wrote (clauseText (numbersOf c k due)) (midOf bytes (length mid - bytes) mid) part n
-      → ((xs ys : List Group) → groupOrder k ≡ xs ++ due ∷ ys → next ≡ firstGroup ys)
+      → ((xs ys : List Group) → groupOrder (ports c) k ≡ xs ++ due ∷ ys → next ≡ firstGroup ys)
       → SoFar c k old (putMid bytes (length mid - bytes) mid part) (bytes + n) next from
   unfolding orderHas-due
   one-more part n next room w follows =
@@ -177,25 +178,26 @@ unfolding fitting
 all-end {c} {k} {old} {new} {bytes} p = all-printed p (ap (fitting (textSize c k) (length old) bytes) (none-remains (p .remaining) (p .next-remaining)))
 
 -- the order of the whole has the group that comes next, if there is one
-abbrev pub OrderHasNext : ℕ → Next → Type 0
-OrderHasNext k (Then g) = OrderHas k g
-OrderHasNext k End = Unit {0}
+abbrev pub OrderHasNext : Netlist → ℕ → Next → Type 0
+OrderHasNext c k (Then g) = OrderHas c k g
+OrderHasNext c k End = Unit {0}
 
 -- groups that stand in the order of the whole, behind others: their first
-pub orderHas-first : (k : ℕ) (before gs : List Group) (next : Next) → groupOrder k ≡ before ++ gs → next ≡ firstGroup gs → OrderHasNext k next
-orderHas-first k before gs (Then g) o h =
+pub orderHas-first : (c : Netlist) (k : ℕ) (before gs : List Group) (next : Next)
+    → groupOrder (ports c) k ≡ before ++ gs → next ≡ firstGroup gs → OrderHasNext c k next
+orderHas-first c k before gs (Then g) o h =
     let first = remaining-begins g gs h in
     record { before = before; behind = first .behind; order = o ∙ ap (λ (t : List Group). before ++ t) (first .begins) }
-orderHas-first k before gs End o h = tt
+orderHas-first c k before gs End o h = tt
 
 -- what comes after a piece stands there
 pub orderHas-next : (c : Netlist) (k : ℕ) (group : Group) (old new : List ℕ) (piece : Piece)
-    → OrderHas k group → Continues c k group old new piece → OrderHasNext k (piece .next)
+    → OrderHas c k group → Continues c k group old new piece → OrderHasNext c k (piece .next)
 unfolding pieceOf
 orderHas-next c k group old new piece s p =
     let due = group ∷ s .behind in
     let n = inPiece c k (length old) due in
     let printed = p (s .before) (s .behind) (s .order) .piece-is in
-    orderHas-first k (s .before ++ take n due) (drop n due) (piece .next)
+    orderHas-first c k (s .before ++ take n due) (drop n due) (piece .next)
     (s .order ∙ ap (λ (t : List Group). s .before ++ t) (sym (take-append-drop n due)) ∙ sym (append-assoc (s .before) (take n due) (drop n due)))
     (ap (λ (r : Piece). r .next) printed)

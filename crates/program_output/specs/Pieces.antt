@@ -6,7 +6,7 @@ use mathlib.Core.Bool.{cond}
 use mathlib.Core.List.{List, [], _∷_, _++_}
 use lib.Dec.{leb}
 use lib.ListN.{length, take, drop}
-use Rattle.model.specs.Netlist.{Netlist}
+use Rattle.model.specs.Netlist.{Netlist, ports}
 use Rattle.model.specs.Groups.{groupOrder}
 use Rattle.model.specs.Variables.{base}
 use Rattle.model.specs.Numbers.{numbersOf, joined, formula, clausesIn}
@@ -21,10 +21,10 @@ unfoldable pub formulaHeader : Netlist → ℕ → List ℕ
 formulaHeader c k = headerText (base c (k + 1)) (length (clausesIn (formula c k)))
 
 -- the order of the whole has this group, between those before and those behind
-pub record OrderHas (k : ℕ) (group : Group) : Type 0 where
+pub record OrderHas (c : Netlist) (k : ℕ) (group : Group) : Type 0 where
   pub before : List Group
   pub behind : List Group
-  pub order : groupOrder k ≡ before ++ group ∷ behind
+  pub order : groupOrder (ports c) k ≡ before ++ group ∷ behind
 
 -- A buffer of `room` bytes takes groups in order, another one as long as 71,904 bytes are free: no group's text is longer. How many
 -- of the groups `due` that are, behind `bytes` bytes of text, where a group's text has `size` bytes
@@ -52,4 +52,4 @@ pub record Printed (c : Netlist) (k : ℕ) (due : List Group) (old new : List �
 -- so it is of `group` and all behind it, wherever it stands in the order of the whole
 abbrev pub Continues : Netlist → ℕ → Group → List ℕ → List ℕ → Piece → Type 0
 Continues c k group old new piece =
-    (before behind : List Group) → groupOrder k ≡ before ++ group ∷ behind → Printed c k (group ∷ behind) old new piece
+    (before behind : List Group) → groupOrder (ports c) k ≡ before ++ group ∷ behind → Printed c k (group ∷ behind) old new piece

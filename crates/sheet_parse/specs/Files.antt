@@ -40,9 +40,16 @@ emptyThird (Read k x y z e) = e
 -- the sizes in lines N and M, with no codes
 unfoldable pub sizesIn : List ℕ → Netlist
 sizesIn file =
-    withoutCodes (firstNumber (lineIn file sizesLine)) (secondNumber (lineIn file sizesLine)) (thirdNumber (lineIn file sizesLine))
-    (firstNumber (lineIn file memoryLine)) (secondNumber (lineIn file memoryLine)) (thirdNumber (lineIn file memoryLine))
-    (emptyThird (lineIn file memoryLine))
+    withoutCodes
+    (record {
+      inputs = firstNumber (lineIn file sizesLine);
+      latches = secondNumber (lineIn file sizesLine);
+      gates = thirdNumber (lineIn file sizesLine);
+      m = firstNumber (lineIn file memoryLine);
+      n = secondNumber (lineIn file memoryLine);
+      initialWord = thirdNumber (lineIn file memoryLine);
+      unknownStart = emptyThird (lineIn file memoryLine);
+    })
 
 -- the netlist whose numbers stand in the given lines, at the places that the sizes s have
 unfoldable pub netOfLines : Netlist → (ℕ → ParsedLine) → Netlist

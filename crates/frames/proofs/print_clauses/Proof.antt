@@ -7,6 +7,8 @@ use native.Mathlib.Omega.{arith}
 use borrow.Author.Needs.{needs}
 use lib.ListN.{length}
 use lib.Seq.{length-take-le}
+use Rattle.model.specs.Netlist.{ports}
+use Rattle.netlist.specs.NetOf.{netOf, alone}
 use Rattle.text_writer.specs.Table.{tableBelow}
 use Rattle.text_writer.proofs.Table.{filled-table}
 use Rattle.group_order.specs.Next.{remainingFrom}
@@ -16,10 +18,10 @@ use Rattle.frames.proofs.print_clauses.Tie as tie
 
 abbrev Inv-loop : tie.InvT-loop
 Inv-loop net latches gates depth text₀ numbers₀ table next₀ text numbers next =
-    (length text ≡ 131072) × (length numbers ≡ 5992) × (table ≡ tableBelow 10000) × OrderHasNext depth next
+    (length text ≡ 131072) × (length numbers ≡ 5992) × (table ≡ tableBelow 10000) × OrderHasNext (netOf net latches gates) depth next
 
 abbrev μ-loop : tie.MeasureT-loop
-μ-loop net latches gates depth text₀ numbers₀ table next₀ text numbers next = remainingFrom depth next
+μ-loop net latches gates depth text₀ numbers₀ table next₀ text numbers next = remainingFrom (ports (alone net)) depth next
 
 slice-aggregate-fill-table : tie.Need-slice-aggregate-fill-table Inv-loop μ-loop
 slice-aggregate-fill-table c = search needs
@@ -33,7 +35,7 @@ first-group-requires c κs = search needs
 loop-holds : tie.Need-loop-holds Inv-loop μ-loop
 loop-holds c =
     let filled = c .before .before .fill-table in
-    (search needs, search needs, filled-table _ _ (search needs) (filled .ensures), orderHas-first _ [] _ _ refl (c .first-group .ensures))
+    (search needs, search needs, filled-table _ _ (search needs) (filled .ensures), orderHas-first _ _ [] _ _ refl (c .first-group .ensures _))
 
 enum-known-next : tie.Need-enum-known-next Inv-loop μ-loop
 enum-known-next c = search needs
