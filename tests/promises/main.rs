@@ -1,6 +1,7 @@
 //! What is promised and what must be believed, read off the repository: the public functions with the definitions that their
-//! contracts cite, the files in which those definitions stand, the wrong programs and definitions that are refused, and the C
-//! functions whose contracts the check assumes. `print` prints it as docs/TRUST.md has it, `write` puts it there, and `check` holds the page to it.
+//! contracts cite, the files in which those definitions stand, which of them each demand needs, the wrong programs and definitions that are
+//! refused, and the C functions whose contracts the check assumes. `print` prints it as docs/TRUST.md has it, `write` puts it there, and `check`
+//! holds the page to it.
 //! `check` also wants each definition in specs/ reached by the contract of some function: what only proofs need stands beside them.
 //! The last line of `check` is the total.
 //! Arguments: print, write or check; the repository's folder. The check's own output is read from target/log (after `rt ci` or `rt check`).
@@ -151,43 +152,147 @@ fn defined(text: &str) -> Vec<(String, String)> {
     found
 }
 
-/// The definitions of specs/ that no contract reaches, as crate/name.
-fn unreached(repository: &Repository) -> BTreeSet<String> {
-    let mut modules = BTreeMap::new();
-    let (mut texts, mut reached, mut next) = (BTreeMap::new(), BTreeSet::new(), Vec::new());
-    for of in repository.folders("crates") {
-        for path in repository.files(&format!("crates/{of}/specs"), ".antt") {
-            let module = Path::new(&path).file_stem().expect("a name").to_string_lossy().into_owned();
-            let text = repository.read(&path);
-            if module != "Lib" {
-                modules.insert((of.clone(), module.clone()), defined(&text));
-                texts.insert((of.clone(), module), text);
+/// A definition: its file and its name.
+type Definition = (Module, String);
+
+/// All definitions of specs/ by their files, and the files' texts.
+struct Definitions {
+    known: BTreeMap<Module, Vec<(String, String)>>,
+    texts: BTreeMap<Module, String>,
+}
+
+impl Definitions {
+    fn of(repository: &Repository) -> Definitions {
+        let (mut known, mut texts) = (BTreeMap::new(), BTreeMap::new());
+        for of in repository.folders("crates") {
+            for path in repository.files(&format!("crates/{of}/specs"), ".antt") {
+                let module = Path::new(&path).file_stem().expect("a name").to_string_lossy().into_owned();
+                let text = repository.read(&path);
+                if module != "Lib" {
+                    known.insert((of.clone(), module.clone()), defined(&text));
+                    texts.insert((of.clone(), module), text);
+                }
             }
         }
+        Definitions { known, texts }
     }
-    for of in repository.folders("crates") {
-        for path in repository.files(&format!("crates/{of}/src"), ".rt") {
-            let text = repository.read(&path);
-            let contracts: String = text.split('⌜').skip(1).filter_map(|rest| rest.split('⌝').next()).collect::<Vec<_>>().join(" ");
-            let sources = sources(&text, &of, &modules);
-            next.extend(words(&contracts).into_iter().filter_map(|word| Some((sources.get(word)?.clone(), word.to_string()))));
-        }
-    }
-    while let Some((module, name)) = next.pop() {
-        let known = modules.get(&module).map(Vec::as_slice).unwrap_or(&[]);
-        // what is no definition's own name is a constructor of one of the file
-        let wanted = |(own, body): &&(String, String)| *own == name || (!known.iter().any(|(other, _)| *other == name) && words(body).contains(name.as_str()));
-        for (own, body) in known.iter().filter(wanted) {
-            if reached.insert((module.clone(), own.clone())) {
-                let sources = sources(&texts[&module], &module.0, &modules);
-                let here = known.iter().map(|(other, _)| (other.clone(), module.clone()));
-                let all: BTreeMap<String, Module> = sources.into_iter().chain(here).collect();
-                next.extend(words(body).into_iter().filter_map(|word| Some((all.get(word)?.clone(), word.to_string()))));
+
+    /// The definitions that the contracts of all functions cite.
+    fn cited(&self, repository: &Repository) -> Vec<Definition> {
+        let mut found = Vec::new();
+        for of in repository.folders("crates") {
+            for path in repository.files(&format!("crates/{of}/src"), ".rt") {
+                let text = repository.read(&path);
+                let contracts: String = text.split('⌜').skip(1).filter_map(|rest| rest.split('⌝').next()).collect::<Vec<_>>().join(" ");
+                let sources = sources(&text, &of, &self.known);
+                found.extend(words(&contracts).into_iter().filter_map(|word| Some((sources.get(word)?.clone(), word.to_string()))));
             }
         }
+        found
     }
-    let all = modules.iter().flat_map(|(module, known)| known.iter().map(move |(name, _)| (module.clone(), name.clone())));
-    all.filter(|one| !reached.contains(one)).map(|((of, _), name)| format!("{of}/{name}")).collect()
+
+    /// The definitions that these reach, themselves included; what is not to be opened is not reached.
+    fn reached(&self, mut next: Vec<Definition>, shut: &[Definition]) -> BTreeSet<Definition> {
+        let mut reached = BTreeSet::new();
+        while let Some((module, name)) = next.pop() {
+            let known = self.known.get(&module).map(Vec::as_slice).unwrap_or(&[]);
+            // what is no definition's own name is a constructor of one of the file
+            let wanted = |(own, body): &&(String, String)| *own == name || (!known.iter().any(|(other, _)| *other == name) && words(body).contains(name.as_str()));
+            for (own, body) in known.iter().filter(wanted) {
+                let one = (module.clone(), own.clone());
+                if !shut.contains(&one) && reached.insert(one) {
+                    let sources = sources(&self.texts[&module], &module.0, &self.known);
+                    let here = known.iter().map(|(other, _)| (other.clone(), module.clone()));
+                    let all: BTreeMap<String, Module> = sources.into_iter().chain(here).collect();
+                    next.extend(words(body).into_iter().filter_map(|word| Some((all.get(word)?.clone(), word.to_string()))));
+                }
+            }
+        }
+        reached
+    }
+
+    /// A definition by its place, crate/file/name.
+    fn at(&self, place: &str) -> Definition {
+        let parts: Vec<&str> = place.split('/').collect();
+        let one = ((parts[0].to_string(), parts[1].to_string()), parts[2].to_string());
+        let is_there = self.known.get(&one.0).map_or(false, |known| known.iter().any(|(name, _)| *name == one.1));
+        assert!(is_there, "no definition {place}");
+        one
+    }
+
+    /// How many lines of a file these definitions have, comments, imports and blanks left out.
+    fn lines(&self, module: &Module, of: &BTreeSet<Definition>) -> usize {
+        let here = self.known[module].iter().filter(|(name, _)| of.contains(&(module.clone(), name.clone())));
+        here.map(|(_, body)| body.lines().filter(|line| !line.trim().is_empty()).count()).sum()
+    }
+
+    /// The definitions of specs/ that no contract reaches, as crate/name.
+    fn unreached(&self, repository: &Repository) -> BTreeSet<String> {
+        let reached = self.reached(self.cited(repository), &[]);
+        let all = self.known.iter().flat_map(|(module, known)| known.iter().map(move |(name, _)| (module.clone(), name.clone())));
+        all.filter(|one| !reached.contains(one)).map(|((of, _), name)| format!("{of}/{name}")).collect()
+    }
+}
+
+/// A reader's way to one promise.
+struct ReadersPath {
+    promise: &'static str,
+    /// where it begins
+    from: &'static [&'static str],
+    /// what it speaks of without saying what it is, so that a reader need not open it
+    shut: &'static [&'static str],
+}
+
+/// The ways in their order: each is told less what the ones before it have.
+const PATHS: [ReadersPath; 5] = [
+    ReadersPath {
+        promise: "demand 3 of a record",
+        from: &["model/Claim/Encodes", "model/Acceptance/Accepted"],
+        shut: &["model/Numbers/formula"],
+    },
+    ReadersPath {
+        promise: "demand 3 of a sheet, besides",
+        from: &["sheet_parse/Files/netIn"],
+        shut: &[],
+    },
+    ReadersPath {
+        promise: "demand 2, besides",
+        from: &["model/Numbers/formula", "call_unpacked/Calls/groupLeaves", "call_unpacked/Calls/headingSent"],
+        shut: &["call_unpacked/Calls/groupVerdict", "call_unpacked/Calls/headingVerdict"],
+    },
+    ReadersPath {
+        promise: "demand 1 of the calls over a record, besides",
+        from: &["call_unpacked/Calls/groupVerdict", "call_unpacked/Calls/headingVerdict", "calls/LentCalls/groupFor", "calls/LentCalls/headingFor"],
+        shut: &[],
+    },
+    ReadersPath {
+        promise: "demand 1 of a sheet, besides",
+        from: &["sheet_tests/Sheet/sheetVerdict"],
+        shut: &[],
+    },
+];
+
+/// A row for each way, with the files whose definitions it needs and the lines of these.
+fn paths_block(definitions: &Definitions) -> String {
+    let mut text = String::from("| promise | begins with | definitions to read (lines) | lines |\n|---|---|---|---|\n");
+    let mut before = BTreeSet::new();
+    for path in &PATHS {
+        let places = |names: &[&str]| names.iter().map(|place| definitions.at(place)).collect::<Vec<_>>();
+        let reached = definitions.reached(places(path.from), &places(path.shut));
+        let new: BTreeSet<Definition> = reached.difference(&before).cloned().collect();
+        let mut by_crate: BTreeMap<&str, Vec<String>> = BTreeMap::new();
+        let mut sum = 0;
+        for module in new.iter().map(|(module, _)| module).collect::<BTreeSet<_>>() {
+            let lines = definitions.lines(module, &new);
+            sum += lines;
+            by_crate.entry(&module.0).or_default().push(format!("{} ({lines})", module.1));
+        }
+        let files: Vec<String> = by_crate.iter().map(|(of, files)| format!("[{of}](../crates/{of}/specs): {}", files.join(", "))).collect();
+        let begins: Vec<String> = path.from.iter().filter_map(|place| place.rsplit('/').next()).map(|name| format!("`{name}`")).collect();
+        text += &format!("| {} | {} | {} | {sum} |\n", path.promise, begins.join(" "), files.join("; "));
+        before.extend(reached);
+    }
+    text
 }
 
 fn path_of((of, module): &Module) -> String {
@@ -295,7 +400,8 @@ fn definitions_block<'a>(repository: &Repository, functions: impl Iterator<Item 
     let reached = repository.reached(cited.map(|(_, module)| module.clone()).collect());
     let mut by_crate: BTreeMap<&str, Vec<(&str, usize)>> = BTreeMap::new();
     for module in &reached {
-        let lines = repository.read(&path_of(module)).lines().count();
+        let text = code(&repository.read(&path_of(module)));
+        let lines = text.lines().filter(|line| !line.trim().is_empty() && !line.starts_with("use ")).count();
         by_crate.entry(&module.0).or_default().push((&module.1, lines));
     }
     let mut text = String::from("| crate | definitions (lines) |\n|---|---|\n");
@@ -305,7 +411,7 @@ fn definitions_block<'a>(repository: &Repository, functions: impl Iterator<Item 
         sum += modules.iter().map(|(_, lines)| lines).sum::<usize>();
         text += &format!("| [{of}](../crates/{of}/specs) | {} |\n", names.join(", "));
     }
-    text + &format!("\n{} files, {sum} lines, comments included.\n", reached.len())
+    text + &format!("\n{} files, {sum} lines, without comments, imports and blanks.\n", reached.len())
 }
 
 /// What an edit makes wrong.
@@ -444,8 +550,10 @@ fn main() {
     let functions = repository.functions_of(&SHOWN, is_shown);
     let program = repository.functions_of(&PROGRAM, |_, _| true);
     let ([programs, definitions], short) = edits_blocks(&repository, &functions);
+    let all = Definitions::of(&repository);
     let blocks = [
         ("functions", functions_block(&functions)),
+        ("paths", paths_block(&all)),
         ("definitions", definitions_block(&repository, functions.iter().chain(&program))),
         ("assumed", axioms_block(&repository)),
         ("wrong programs", programs),
@@ -488,7 +596,7 @@ fn main() {
     for what in short {
         check(what, false);
     }
-    let unreached = unreached(&repository);
+    let unreached = all.unreached(&repository);
     for name in &unreached {
         check(format!("{name} is reached by no contract: it belongs to proofs/"), UNREACHED.iter().any(|(known, _)| known == name));
     }

@@ -1,9 +1,10 @@
 //! Demand 3: satisfying assignments and runs that break the property match one another
-//! (RULES A2 to A4, A6, A7, A10 and A12 to A16), from every starting memory where the start is unknown.
+//! (RULES A2 to A4, A6, A7, A10 and A12 to A16), from every starting memory where the start is unknown,
+//! with an idle word for each port (K10).
 
 use std::collections::HashSet;
 
-use super::circuit::{value, word, Feed, Run, Values};
+use super::circuit::{feed_of_words, value, word, Feed, Run, Values};
 use super::formula::{frame_base, Fault, Formula, Group};
 use super::netlist::Netlist;
 use super::solver::{satisfies, Solver};
@@ -32,14 +33,14 @@ pub fn variable(netlist: &Netlist, frame: usize, wire: usize) -> usize {
 
 /// What an assignment feeds: input variables, and read-bit variables as idle words.
 pub fn feeds_of_model(netlist: &Netlist, depth: u32, model: &[bool]) -> Vec<Feed> {
-    let first_read_bit = netlist.first_read_bit() as usize;
     let of_frame = |frame: usize| {
-        let wire_value = |wire: usize| model[variable(netlist, frame, wire)];
-        let read_bit = |bit: usize| u32::from(wire_value(first_read_bit + bit)) << bit;
-        Feed {
-            inputs: (1..=netlist.inputs as usize).map(wire_value).collect(),
-            idle_word: (0..netlist.data_width as usize).map(read_bit).sum(),
-        }
+        let wire_value = |wire: u32| model[variable(netlist, frame, wire as usize)];
+        let read_word = |port: u32| {
+            let bits = netlist.read_bits(port).map(wire_value).enumerate();
+            bits.map(|(bit, value)| u32::from(value) << bit).sum()
+        };
+        let inputs = (1..=netlist.inputs).map(wire_value).collect();
+        feed_of_words(netlist, inputs, read_word)
     };
     (0..=depth as usize).map(of_frame).collect()
 }
@@ -51,22 +52,26 @@ pub fn agrees(netlist: &Netlist, model: &[bool], run: &Run) -> bool {
     })
 }
 
-/// Every feed of frames 0 to depth. There are 2^(n + (depth + 1) I), so only for tiny sizes.
+/// Every feed of frames 0 to depth. There are 2^(n + (depth + 1) I), and 2^n times as many with two
+/// ports, so only for tiny sizes.
 pub fn all_feeds(netlist: &Netlist, depth: u32) -> impl Iterator<Item = Vec<Feed>> {
     let (inputs, width) = (netlist.inputs, netlist.data_width);
-    let of_frame = move |bits: u64, idle_word: u32| Feed {
-        inputs: (0..inputs).map(|bit| (bits >> bit) & 1 == 1).collect(),
-        idle_word,
+    let idle_bits = netlist.port_count() * width;
+    let two_ports = netlist.has_two_ports();
+    let of_frame = move |bits: u64, idle: u64| {
+        let word = |bits: u64| (bits & ((1 << width) - 1)) as u32;
+        Feed {
+            inputs: (0..inputs).map(|bit| (bits >> bit) & 1 == 1).collect(),
+            idle_word: word(idle),
+            second_idle_word: if two_ports { word(idle >> width) } else { 0 },
+        }
     };
-    let all = 0..1u64 << (width + inputs * (depth + 1));
+    let all = 0..1u64 << (idle_bits + inputs * (depth + 1));
     all.map(move |bits| {
-        // Above frame 0 the idle word is the inverted one, so that a chip that takes it there shows.
-        let idle_word = |frame: u32| {
-            let word = if frame == 0 { bits } else { !bits };
-            (word & ((1 << width) - 1)) as u32
-        };
+        // Above frame 0 idle words are the inverted ones, so that a chip that takes them there shows.
+        let idle = |frame: u32| if frame == 0 { bits } else { !bits };
         (0..=depth)
-            .map(|frame| of_frame(bits >> (width + frame * inputs), idle_word(frame)))
+            .map(|frame| of_frame(bits >> (idle_bits + frame * inputs), idle(frame)))
             .collect()
     })
 }
@@ -175,7 +180,7 @@ pub fn propagation_follows_run(netlist: &Netlist, feeds: &[Feed]) -> bool {
 }
 
 /// The word that each address of an unknown start must begin with for this run: what its first reader
-/// read, if no frame wrote before that. With it the frame of that reader.
+/// read, if no frame wrote before that. With it the frame of that reader. A T sheet's start is known.
 pub fn first_reads(netlist: &Netlist, run: &Run) -> Vec<Option<(usize, u32)>> {
     let mut first = vec![None; 1 << netlist.address_width];
     let mut settled = vec![!netlist.has_unknown_start(); first.len()];
@@ -190,20 +195,24 @@ pub fn first_reads(netlist: &Netlist, run: &Run) -> Vec<Option<(usize, u32)>> {
     first
 }
 
-/// The literals that fix a feed: all inputs, the read bits of frame 0 where RE is false there, and
-/// those of the frames that settle a word of an unknown start.
+/// The literals that fix a feed: all inputs, the read bits of frame 0 of each port whose RE is false
+/// there, and those of the frames that settle a word of an unknown start.
 pub fn feed_literals(netlist: &Netlist, run: &Run) -> Vec<i32> {
     let mut literals = Vec::new();
     let first_reads = first_reads(netlist, run);
     let settles = |frame: usize| first_reads.iter().flatten().any(|it| it.0 == frame);
     for (frame, values) in run.frames.iter().enumerate() {
-        let inputs = 1..netlist.first_latch() as usize;
-        let read_bits = netlist.first_read_bit() as usize..netlist.first_gate() as usize;
-        let idle = frame == 0 && !value(values, netlist.read_enable);
-        let needed = idle || settles(frame);
-        for wire in inputs.chain(read_bits.filter(|_| needed)) {
-            let number = variable(netlist, frame, wire) as i32;
-            literals.push(if values[wire] { number } else { -number });
+        let mut wires: Vec<u32> = (1..netlist.first_latch()).collect();
+        for port in netlist.ports() {
+            let idle = frame == 0 && !value(values, netlist.read_enable_of(port));
+            if idle || settles(frame) {
+                wires.extend(netlist.read_bits(port));
+            }
+        }
+        for wire in wires {
+            let number = variable(netlist, frame, wire as usize) as i32;
+            let holds = values[wire as usize];
+            literals.push(if holds { number } else { -number });
         }
     }
     literals

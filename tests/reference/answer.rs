@@ -1,13 +1,13 @@
 //! K2: a solver's answer in the SAT Competition output form, and the run of the chip that it feeds; the
-//! words of an unknown start as K7 has them.
+//! words of an unknown start as K7 has them, and the idle words of two ports (K10).
 
 use std::collections::HashSet;
 
-use super::circuit::{Circuit, Feed, Run, Values};
+use super::circuit::{feed_of_words, Circuit, Feed, Run, Values};
 use super::formula::{frame_base, refusal_text};
-use super::netlist::{Netlist, MAX_ADDRESS_WIDTH, MAX_DEPTH};
+use super::netlist::{Netlist, FIRST_PORT, MAX_ADDRESS_WIDTH, MAX_DEPTH};
 use super::refusal::{require, Refusal, BAD_ANSWER, DEPTH, NOTHING_BREAKS, NO_ROOM};
-use super::sheet::{read_depth, read_sheet};
+use super::sheet::{read_depth, read_sheet_knowing, Known, KNOWN};
 
 /// A well-formed answer.
 #[derive(Clone, Debug, PartialEq, Eq)]
@@ -73,14 +73,19 @@ fn feeds_of_answer(netlist: &Netlist, depth: u32, literals: &[i32]) -> Option<Ve
         };
         let bits = |wires: std::ops::Range<u32>| wires.map(bit).collect::<Option<Vec<bool>>>();
         let inputs = bits(1..netlist.first_latch())?;
-        let mut idle_word = 0;
-        if circuit.takes_fed_word(&inputs) {
-            let read_bits = bits(netlist.first_read_bit()..netlist.first_gate())?;
-            for (weight, bit) in read_bits.into_iter().enumerate() {
-                idle_word |= u32::from(bit) << weight;
+        let mut idle_words = Vec::new();
+        for port in netlist.ports() {
+            let mut idle_word = 0;
+            if circuit.port_takes_fed_word(port, &inputs) {
+                let read_bits = bits(netlist.read_bits(port))?;
+                for (weight, bit) in read_bits.into_iter().enumerate() {
+                    idle_word |= u32::from(bit) << weight;
+                }
             }
+            idle_words.push(idle_word);
         }
-        let feed = Feed { inputs, idle_word };
+        let word_of = |port: u32| idle_words[(port - FIRST_PORT) as usize];
+        let feed = feed_of_words(netlist, inputs, word_of);
         circuit.step(&feed);
         feeds.push(feed);
     }
@@ -154,13 +159,18 @@ pub fn replay_call(
 /// What the program prints for this standard input and this content of the file `answer`, which is
 /// empty where the file can't be opened.
 pub fn replay(input: &[u8], answer: &[u8]) -> Vec<u8> {
-    replay_text(input, answer).unwrap_or_else(refusal_text)
+    replay_knowing(KNOWN, input, answer)
 }
 
-fn replay_text(input: &[u8], answer: &[u8]) -> Result<Vec<u8>, Refusal> {
+/// The same with the sheets that there are.
+pub fn replay_knowing(known: Known, input: &[u8], answer: &[u8]) -> Vec<u8> {
+    replay_text(known, input, answer).unwrap_or_else(refusal_text)
+}
+
+fn replay_text(known: Known, input: &[u8], answer: &[u8]) -> Result<Vec<u8>, Refusal> {
     let (depth, sheet) = read_depth(input)?;
     // The program has room for every accepted sheet and its run, so 9 does not occur.
-    let netlist = read_sheet(sheet, usize::MAX, usize::MAX)?;
+    let netlist = read_sheet_knowing(known, sheet, usize::MAX, usize::MAX)?;
     let mut memory = vec![0; 1 << MAX_ADDRESS_WIDTH];
     let mut trace = vec![0; trace_size(&netlist, depth)];
     match replay_call(&netlist, depth, answer, &mut memory, &mut trace)? {

@@ -327,10 +327,7 @@ pub fn full_runs(tally: &mut Tally) {
     }
     let netlist = accepted(FULL_RUN);
     for (first, second, first_break) in [(true, false, Some(1)), (false, true, None)] {
-        let feeds = [first, second].map(|bit| Feed {
-            inputs: vec![bit],
-            idle_word: 1,
-        });
+        let feeds = [first, second].map(|bit| Feed::new(vec![bit], 1));
         let run = Run::new(&netlist, &feeds);
         tally.equal("first frame that breaks", run.first_break, first_break);
     }
@@ -430,10 +427,7 @@ pub fn unknown_memory_run(tally: &mut Tally) {
 }
 
 fn feed_of((inputs, idle_word, _): &([u8; 5], u32, bool)) -> Feed {
-    Feed {
-        inputs: inputs.map(|bit| bit == 1).to_vec(),
-        idle_word: *idle_word,
-    }
+    Feed::new(inputs.map(|bit| bit == 1).to_vec(), *idle_word)
 }
 
 pub fn memory_run(tally: &mut Tally) {

@@ -174,29 +174,29 @@ pub fn numbering(tally: &mut Tally) {
 }
 
 /// Clauses and numbers that are really there.
-fn counted(numbers: &[i32]) -> [i64; 2] {
+pub fn counted(numbers: &[i32]) -> [i64; 2] {
     let clauses = numbers.iter().filter(|number| **number == 0).count();
     [clauses as i64, numbers.len() as i64]
 }
 
 /// Whether every group of a formula has the clauses and numbers counted for it.
-fn lengths_hold(netlist: &Netlist, depth: u32, fault: Fault) -> bool {
+pub fn lengths_hold(netlist: &Netlist, depth: u32, fault: Fault) -> bool {
     let formula = Formula::new(netlist, depth, fault);
     formula
-        .groups()
+        .port_groups()
         .into_iter()
-        .all(|group| counted(&formula.group(group)) == formula.counts(group))
+        .all(|asked| counted(&formula.port_group(asked)) == formula.port_counts(asked))
 }
 
 /// Whether all groups of a formula together have the clauses of its heading.
-fn heading_holds(netlist: &Netlist, depth: u32, fault: Fault) -> bool {
+pub fn heading_holds(netlist: &Netlist, depth: u32, fault: Fault) -> bool {
     let formula = Formula::new(netlist, depth, fault);
     counted(&formula.numbers())[0] == formula.clause_total()
 }
 
 /// What K4 leaves of clauses with constants in them: variable 1 stands for no wire, so a number 1
 /// is a true literal and -1 a false one.
-fn without_constants(numbers: &[i32]) -> Vec<i32> {
+pub fn without_constants(numbers: &[i32]) -> Vec<i32> {
     let mut left = Vec::new();
     for clause in numbers.split_inclusive(|number| *number == 0) {
         if clause.contains(&1) {
@@ -328,7 +328,7 @@ pub fn headings(tally: &mut Tally) {
 }
 
 /// DIMACS CNF text: the heading, then one clause a line, single spaces.
-fn dimacs(heading: Heading, numbers: &[i32]) -> String {
+pub fn dimacs(heading: Heading, numbers: &[i32]) -> String {
     let mut text = format!("p cnf {} {}\n", heading.variables, heading.clauses);
     for clause in numbers.split_inclusive(|number| *number == 0) {
         let words: Vec<String> = clause.iter().map(i32::to_string).collect();

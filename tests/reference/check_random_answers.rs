@@ -223,14 +223,14 @@ pub fn two_faults(tally: &mut Tally) {
 }
 
 /// All runs of a small chip from all its starts, each with the numbers that it needs.
-struct Runs {
+pub struct Runs {
     netlist: Netlist,
     depth: u32,
-    runs: Vec<(Vec<i32>, Run)>,
+    pub runs: Vec<(Vec<i32>, Run)>,
 }
 
 impl Runs {
-    fn new(netlist: Netlist, depth: u32) -> Runs {
+    pub fn new(netlist: Netlist, depth: u32) -> Runs {
         let mut known = HashSet::new();
         let mut runs = Vec::new();
         for memory in all_memories(&netlist) {
@@ -251,7 +251,7 @@ impl Runs {
 
     /// What an answer must do: of all runs, the one for which each number that it needs is given and
     /// its opposite is not. No step of a chip is looked at.
-    fn outcome(&self, call: &Call) -> Outcome {
+    pub fn outcome(&self, call: &Call) -> Outcome {
         let numbers = match scan(&call.answer) {
             None => return call.bad_answer(),
             Some(Answer::Unsatisfiable) => return call.untouched(Ok(Claim::Unsatisfiable)),
@@ -270,7 +270,7 @@ impl Runs {
         }
     }
 
-    fn call(&self, answer: Vec<u8>) -> Call {
+    pub fn call(&self, answer: Vec<u8>) -> Call {
         Call::new(&self.netlist, self.depth, answer, [1, 1])
     }
 }
@@ -410,7 +410,7 @@ pub fn assignments(tally: &mut Tally) {
 }
 
 /// What is to be printed for an assignment that makes all clauses true, by its variables alone.
-fn assigned_text(netlist: &Netlist, depth: u32, model: &[bool]) -> Vec<u8> {
+pub fn assigned_text(netlist: &Netlist, depth: u32, model: &[bool]) -> Vec<u8> {
     let code_value = |frame: usize, code: u32| match code {
         0 | 1 => code == 1,
         _ => model[variable(netlist, frame, code as usize / 2)] == (code % 2 == 0),
@@ -431,7 +431,7 @@ fn assigned_text(netlist: &Netlist, depth: u32, model: &[bool]) -> Vec<u8> {
 }
 
 /// Whether an answer of these numbers replays to a break; it must replay.
-fn answer_breaks(netlist: &Netlist, depth: u32, literals: &[i32]) -> bool {
+pub fn answer_breaks(netlist: &Netlist, depth: u32, literals: &[i32]) -> bool {
     let words: Vec<String> = literals.iter().chain(&[0]).map(i32::to_string).collect();
     let answer = satisfiable(&words.join(" "));
     let mut memory = vec![0; 1 << netlist.address_width];

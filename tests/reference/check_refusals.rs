@@ -5,7 +5,9 @@ use super::check_examples::{accepted, input, of_sizes, FULL_RUN, RICH, UNKNOWN_R
 use super::formula::{frames, group_call, heading, refusal_text, Group};
 use super::netlist::{Gate, Latch, Netlist};
 use super::refusal::*;
-use super::sheet::{expand, read_sheet, write_depth, write_sheet, FIELDS, FIELD_BYTES, LINE_BYTES};
+use super::sheet::{
+    expand, read_sheet, write_depth, write_sheet, Known, FIELDS, FIELD_BYTES, KNOWN, LINE_BYTES,
+};
 use super::Tally;
 
 /// Number and place, with (0, 0) where nothing is refused.
@@ -15,6 +17,14 @@ pub type Verdict = (u32, u32);
 pub type Row = (String, Vec<u8>, Verdict);
 
 pub const ACCEPTED: Verdict = (0, 0);
+
+/// The verdict before K10, or the one since, by what the programs know.
+const fn by_known(before: Verdict, since: Verdict) -> Verdict {
+    match KNOWN {
+        Known::OnePort => before,
+        Known::TwoPorts => since,
+    }
+}
 
 pub fn verdict<T>(result: Result<T, Refusal>) -> Verdict {
     match result {
@@ -128,7 +138,7 @@ fn filled_and_empty_fields() -> Vec<Row> {
     rows
 }
 
-/// Every byte as the letter of line 1, whose three fields are filled: M and C want that too and
+/// Every byte as the letter of line 1, whose three fields are filled: M, C and T want that too and
 /// are only out of order; the other letters do not.
 fn letters() -> Vec<Row> {
     let row = |letter: u8| {
@@ -137,6 +147,7 @@ fn letters() -> Vec<Row> {
         let expected = match letter {
             b'N' => ACCEPTED,
             b'M' | b'C' => (OUT_OF_ORDER, 1),
+            b'T' => by_known((MISPRINT, 1), (OUT_OF_ORDER, 1)),
             _ => (MISPRINT, 1),
         };
         (format!("letter {letter}"), sheet, expected)
@@ -173,9 +184,9 @@ const SHEETS: [(&str, Verdict); 91] = [
     ("N 1 1 1/M 2 2 2/L 10 1/A 2 7/A 4/A 3/D 10/D 8/C 11 5 9", (MISPRINT, 4)),
     ("N 1 0 0/C 1 1/A 0/D 2/C 1 1 5", (MISPRINT, 2)),
     // Letters of later kinds are unknown, and letters are upper case.
-    ("N 1 0 0/T 1 1 0", (MISPRINT, 2)),
-    ("N 1 0 0/M 1 1 0/B 0", (MISPRINT, 3)),
-    ("N 1 0 0/M 1 1 0/R 0", (MISPRINT, 3)),
+    ("N 1 0 0/T 1 1 0", by_known((MISPRINT, 2), (OUT_OF_ORDER, 3))),
+    ("N 1 0 0/M 1 1 0/B 0", by_known((MISPRINT, 3), (OUT_OF_ORDER, 3))),
+    ("N 1 0 0/M 1 1 0/R 0", by_known((MISPRINT, 3), (OUT_OF_ORDER, 3))),
     ("N 1 0 0/m 1 1 0", (MISPRINT, 2)),
     // Line by line: an earlier line's refusal comes first, whatever its number.
     ("N 601 0 0/M 1 1", (SIZE, 1)),
@@ -362,7 +373,7 @@ pub fn sheets(tally: &mut Tally) {
     }
 }
 
-/// The largest sheet: 615 lines, 19,680 bytes.
+/// The largest M sheet: 615 lines, 19,680 bytes.
 pub fn largest_sheet() -> Vec<u8> {
     write_sheet(&of_sizes([0, 300, 268], [12, 32]))
 }
@@ -390,7 +401,7 @@ pub fn length_rows() -> Vec<Row> {
         (
             "a line over",
             [&largest[..], &last_line].concat(),
-            (RAGGED, 0),
+            by_known((RAGGED, 0), (OUT_OF_ORDER, 616)),
         ),
         (
             "615 lines, 5 due",
@@ -708,7 +719,7 @@ pub fn input_rows() -> Vec<Row> {
         (
             "a line over",
             with(&[&largest[..], &[b'?'; 32]].concat()),
-            (RAGGED, 0),
+            by_known((RAGGED, 0), (MISPRINT, 616)),
         ),
         ("misprint", input(255, "N 1 0 0/?"), (MISPRINT, 2)),
         ("missing line", input(255, "N 1 0 0"), (OUT_OF_ORDER, 2)),

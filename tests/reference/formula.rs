@@ -1,16 +1,17 @@
 //! The formula of the unrolling to depth k: numbers of variables, groups of clauses, group calls,
 //! heading, and the text of `frames`. RULES V2 to V6, G1 to G15, T40 to T43, P2 and P3; the
-//! closing as K3 has it, what is written of every group as K4 has it, and unknown starts (K7).
+//! closing as K3 has it, what is written of every group as K4 has it, unknown starts (K7), and the
+//! groups of a second port (K10).
 
 use std::io::Write;
-use std::ops::Neg;
+use std::ops::{Neg, RangeInclusive};
 
-use super::netlist::{Netlist, MAX_DEPTH};
+use super::netlist::{Netlist, FIRST_PORT, MAX_DEPTH, SECOND_PORT};
 use super::refusal::{require, Refusal, DEPTH, NO_ROOM, NO_SUCH_GROUP, OUT_OF_NUMBERS};
-use super::sheet::{read_depth, read_sheet, write_field};
+use super::sheet::{read_depth, read_sheet_knowing, write_field, Known, KNOWN};
 
-/// Deliberate mistakes of a generator (RULES M1 to M5, two on K3, some on K4, the last on K7). They
-/// show that the checks notice them; `None` is the formula of the rules.
+/// Deliberate mistakes of a generator (RULES M1 to M5, two on K3, some on K4, some on K7, the last on
+/// K10). They show that the checks notice them; `None` is the formula of the rules.
 #[derive(Clone, Copy, Debug, PartialEq, Eq)]
 pub enum Fault {
     None,
@@ -60,6 +61,24 @@ pub enum Fault {
     AgreementWithoutLater,
     /// An unknown start is a start word of 0.
     UnknownStartsZero,
+    /// The second port compares its own address of frame j, not the one that writes.
+    SecondAddressWrites,
+    /// The second port compares the first address of frame i.
+    SecondPortReadsFirst,
+    /// The second port is enabled by the first port's RE.
+    FirstReadEnable,
+    /// The second port holds the first port's word.
+    FirstWordHeld,
+    /// The second port's Z is the first port's.
+    FirstUntouched,
+    /// The second port's N above the newest pair is the first port's PS.
+    FirstPending,
+    /// The second port has no groups.
+    SecondPortOmitted,
+    /// The second port is numbered behind all pairs of the first port in its frame.
+    SecondPortBehind,
+    /// All pairs of a frame come before those of the second port, as do the closings.
+    PortByPort,
 }
 
 #[derive(Clone, Copy, Debug, PartialEq, Eq)]
@@ -69,6 +88,29 @@ pub enum Group {
     Pair(u32, u32),
     Closing(u32),
     Property,
+}
+
+/// A group as it is asked for. Wires and property take no port; theirs is not looked at.
+#[derive(Clone, Copy, Debug, PartialEq, Eq)]
+pub struct PortGroup {
+    pub port: u32,
+    pub group: Group,
+}
+
+impl PortGroup {
+    pub fn first(group: Group) -> PortGroup {
+        PortGroup {
+            port: FIRST_PORT,
+            group,
+        }
+    }
+
+    pub fn second(group: Group) -> PortGroup {
+        PortGroup {
+            port: SECOND_PORT,
+            group,
+        }
+    }
 }
 
 #[derive(Clone, Copy, Debug, PartialEq, Eq)]
@@ -81,36 +123,48 @@ pub struct Heading {
 pub fn frame_base(netlist: &Netlist, frame: u32) -> i64 {
     let i = i64::from(frame);
     let wires = i64::from(netlist.wire_count());
-    1 + i * wires + pair_size(netlist) * i * (i - 1) / 2
+    1 + i * wires + pair_step(netlist) * i * (i - 1) / 2
 }
 
-/// Q of the pair (j, i): its variables are numbered from Q + 1.
+/// Q of the pair (j, i) of the first port: its variables are numbered from Q + 1.
 pub fn pair_base(netlist: &Netlist, j: u32, i: u32) -> i64 {
-    let wires = i64::from(netlist.wire_count());
-    frame_base(netlist, i) + wires + i64::from(j) * pair_size(netlist)
+    pair_base_of(netlist, FIRST_PORT, j, i)
 }
 
-/// Variables of one pair: E, m times e, s, PS and S.
+/// Q of the pair (j, i) of a port; the second port's variables come straight after the first port's.
+pub fn pair_base_of(netlist: &Netlist, port: u32, j: u32, i: u32) -> i64 {
+    let wires = i64::from(netlist.wire_count());
+    let first = frame_base(netlist, i) + wires + i64::from(j) * pair_step(netlist);
+    first + i64::from(port - FIRST_PORT) * pair_size(netlist)
+}
+
+/// By how much Q grows with j: the variables of one pair of every port.
+fn pair_step(netlist: &Netlist) -> i64 {
+    i64::from(netlist.port_count()) * pair_size(netlist)
+}
+
+/// Variables of one pair of one port: E, m times e, s, PS and S.
 pub fn pair_size(netlist: &Netlist) -> i64 {
     i64::from(netlist.address_width) + 4
 }
 
-/// Clauses of a group. Those of the property do not depend on the depth.
+/// Clauses of a group, of the first port. Those of the property do not depend on the depth.
 pub fn clause_count(netlist: &Netlist, group: Group) -> i64 {
-    counts(netlist, 0, group)[0]
+    counts(netlist, 0, PortGroup::first(group))[0]
 }
 
-/// Numbers of a group with end marks: the exact need of its slice.
+/// Numbers of a group with end marks, of the first port: the exact need of its slice.
 pub fn number_count(netlist: &Netlist, depth: u32, group: Group) -> i64 {
-    counts(netlist, depth, group)[1]
+    counts(netlist, depth, PortGroup::first(group))[1]
 }
 
-/// Clauses and numbers of a group, by which of its codes are constants; nothing is written here.
-fn counts(netlist: &Netlist, depth: u32, group: Group) -> [i64; 2] {
-    match group {
+/// Clauses and numbers of a group of a port, by which of its codes are constants; nothing is written
+/// here.
+pub fn counts(netlist: &Netlist, depth: u32, asked: PortGroup) -> [i64; 2] {
+    match asked.group {
         Group::Wires(frame) => wires_counts(netlist, frame),
-        Group::Pair(j, i) => pair_counts(netlist, j, i),
-        Group::Closing(i) => closing_counts(netlist, i64::from(i)),
+        Group::Pair(j, i) => pair_counts(netlist, asked.port, j, i),
+        Group::Closing(i) => closing_counts(netlist, asked.port, i64::from(i)),
         Group::Property => match constant(netlist.property) {
             None => [1, i64::from(depth) + 2],
             Some(true) => [1, 2],
@@ -159,25 +213,36 @@ fn wires_counts(netlist: &Netlist, frame: u32) -> [i64; 2] {
     total([first, latches, total(gates)])
 }
 
+/// The four clauses of an address bit, by the bits that are compared.
+fn address_counts(left: Option<bool>, right: Option<bool>) -> [i64; 2] {
+    match (left, right) {
+        (None, None) => [4, 16],
+        // One clause with E and one with e have a true literal, the others lose a false one.
+        (None, Some(_)) | (Some(_), None) => [2, 6],
+        // Of two equal constants only e is left; of two different ones only the negated E.
+        (Some(_), Some(_)) => [1, 2],
+    }
+}
+
 /// N is RE where j = i - 1, else a variable; Zj is RE where j = 0, else a variable, as Zi always is.
-fn pair_counts(netlist: &Netlist, j: u32, i: u32) -> [i64; 2] {
-    let of_address_bit = |code: &u32| match constant(*code) {
-        None => [4, 16],
-        Some(_) => [1, 2],
-    };
+fn pair_counts(netlist: &Netlist, port: u32, j: u32, i: u32) -> [i64; 2] {
     let of_data_bit = |code: &u32| match constant(*code) {
         None => [2, 8],
         Some(_) => [1, 3],
     };
-    let newer = constant(netlist.read_enable).filter(|_| i.checked_sub(1) == Some(j));
-    let earlier = constant(netlist.read_enable).filter(|_| j == 0);
+    let read_enable = constant(netlist.read_enable_of(port));
+    let newer = read_enable.filter(|_| i.checked_sub(1) == Some(j));
+    let earlier = read_enable.filter(|_| j == 0);
     let agreement = match (netlist.has_unknown_start(), earlier) {
         (false, _) | (true, Some(false)) => [0, 0],
         (true, Some(true)) => [2, 10],
         (true, None) => [2, 12],
     };
+    // The writing address is the first port's.
+    let compared = netlist.address_codes().iter();
+    let compared = compared.zip(netlist.address_codes_of(port));
     total([
-        total(netlist.address_codes().iter().map(of_address_bit)),
+        total(compared.map(|(j, i)| address_counts(constant(*j), constant(*i)))),
         [1, i64::from(netlist.address_width) + 2],
         gate_counts(None, constant(netlist.write_enable)),
         times(2, gate_counts(None, newer)),
@@ -188,8 +253,8 @@ fn pair_counts(netlist: &Netlist, j: u32, i: u32) -> [i64; 2] {
 
 /// Of the two clauses with a start bit one has a true literal; an unknown start has none. In frame 0 Z
 /// is RE.
-fn closing_counts(netlist: &Netlist, i: i64) -> [i64; 2] {
-    let [start, hold, last] = match (constant(netlist.read_enable), i) {
+fn closing_counts(netlist: &Netlist, port: u32, i: i64) -> [i64; 2] {
+    let [start, hold, last] = match (constant(netlist.read_enable_of(port)), i) {
         (None, 0) => [[1, 3], [0, 0], [1, 3]],
         (None, _) => [[1, 3], [2, 8], [1, i + 3]],
         (Some(true), 0) => [[1, 2], [0, 0], [0, 0]],
@@ -202,7 +267,7 @@ fn closing_counts(netlist: &Netlist, i: i64) -> [i64; 2] {
     total([times(given, start), times(n, hold), last])
 }
 
-/// The closed form of K3 and K7, which counts constants too: no group has more clauses.
+/// The closed form of K3 and K7, which counts constants too: no group of either port has more clauses.
 pub fn clause_bound(netlist: &Netlist, group: Group) -> i64 {
     let [latches, gates, m, n] = sizes(netlist);
     let unknown = netlist.has_unknown_start();
@@ -219,7 +284,7 @@ pub fn clause_bound(netlist: &Netlist, group: Group) -> i64 {
     }
 }
 
-/// The closed form of K3 and K7, which counts constants too: no group has more numbers.
+/// The closed form of K3 and K7, which counts constants too: no group of either port has more numbers.
 pub fn number_bound(netlist: &Netlist, depth: u32, group: Group) -> i64 {
     let [latches, gates, m, n] = sizes(netlist);
     let unknown = netlist.has_unknown_start();
@@ -370,52 +435,100 @@ impl<'a> Formula<'a> {
             Fault::OwnFrameWrite => i64::from(self.depth + 1),
             _ => 0,
         };
-        frame_base(self.netlist, self.depth + 1) + own_pairs * pair_size(self.netlist)
+        frame_base(self.netlist, self.depth + 1) + own_pairs * pair_step(self.netlist)
     }
 
-    /// Clauses and numbers counted for a group before it is written.
+    /// Clauses and numbers counted for a group, of the first port, before it is written.
     pub fn counts(&self, group: Group) -> [i64; 2] {
-        let counted = match (self.fault, group) {
+        self.port_counts(PortGroup::first(group))
+    }
+
+    /// Clauses and numbers counted for a group of a port before it is written.
+    pub fn port_counts(&self, asked: PortGroup) -> [i64; 2] {
+        let group = match (self.fault, asked.group) {
             (Fault::NewestPairCounted, Group::Pair(_, i)) => Group::Pair(i - 1, i),
-            _ => group,
+            (_, group) => group,
         };
-        counts(self.netlist, self.depth, counted)
+        counts(self.netlist, self.depth, PortGroup { group, ..asked })
     }
 
     /// The clauses of the heading.
     pub fn clause_total(&self) -> i64 {
-        let groups = self.groups().into_iter();
-        groups.map(|group| self.counts(group)[0]).sum()
+        let ports = match self.fault {
+            // The groups left out are counted.
+            Fault::SecondPortOmitted => self.netlist.ports(),
+            _ => self.written_ports(),
+        };
+        let groups = self.groups_of_ports(ports).into_iter();
+        groups.map(|asked| self.port_counts(asked)[0]).sum()
     }
 
-    /// All groups in the order of the whole.
+    /// All groups of the first port in their order, with wires and property: all there are in an M
+    /// sheet.
     pub fn groups(&self) -> Vec<Group> {
+        let groups = self.groups_of_ports(FIRST_PORT..=FIRST_PORT);
+        groups.into_iter().map(|asked| asked.group).collect()
+    }
+
+    /// All groups in the order of the whole: each pair and closing of the first port is followed by
+    /// that of the second.
+    pub fn port_groups(&self) -> Vec<PortGroup> {
+        self.groups_of_ports(self.written_ports())
+    }
+
+    fn written_ports(&self) -> RangeInclusive<u32> {
+        match self.fault {
+            Fault::SecondPortOmitted => FIRST_PORT..=FIRST_PORT,
+            _ => self.netlist.ports(),
+        }
+    }
+
+    fn groups_of_ports(&self, ports: RangeInclusive<u32>) -> Vec<PortGroup> {
         let mut groups = Vec::new();
         for i in 0..=self.depth {
-            groups.push(Group::Wires(i));
-            groups.extend((0..self.writers(i)).rev().map(|j| Group::Pair(j, i)));
-            groups.push(Group::Closing(i));
+            groups.push(PortGroup::first(Group::Wires(i)));
+            let pairs = (0..self.writers(i)).rev().map(|j| Group::Pair(j, i));
+            let of_memory: Vec<Group> = pairs.chain([Group::Closing(i)]).collect();
+            let of_port = |port: u32| {
+                let groups = of_memory.iter();
+                groups.map(move |group| PortGroup {
+                    port,
+                    group: *group,
+                })
+            };
+            match self.fault {
+                Fault::PortByPort => groups.extend(ports.clone().flat_map(of_port)),
+                _ => groups.extend(of_memory.iter().flat_map(|group| {
+                    let group = *group;
+                    ports.clone().map(move |port| PortGroup { port, group })
+                })),
+            }
         }
-        groups.push(Group::Property);
+        groups.push(PortGroup::first(Group::Property));
         groups
     }
 
-    /// The clauses of one group.
+    /// The clauses of one group, of the first port.
     pub fn group(&self, group: Group) -> Vec<i32> {
-        match group {
+        self.port_group(PortGroup::first(group))
+    }
+
+    /// The clauses of one group of a port.
+    pub fn port_group(&self, asked: PortGroup) -> Vec<i32> {
+        match asked.group {
             Group::Wires(i) => self.wires(i),
-            Group::Pair(j, i) => self.pair(j, i),
-            Group::Closing(i) => self.closing(i),
+            Group::Pair(j, i) => self.pair(asked.port, j, i),
+            Group::Closing(i) => self.closing(asked.port, i),
             Group::Property => self.property(),
         }
     }
 
     /// The clauses of all groups, joined.
     pub fn numbers(&self) -> Vec<i32> {
-        let groups = self.groups();
+        let groups = self.port_groups();
         groups
             .into_iter()
-            .flat_map(|group| self.group(group))
+            .flat_map(|asked| self.port_group(asked))
             .collect()
     }
 
@@ -440,12 +553,17 @@ impl<'a> Formula<'a> {
         }
     }
 
-    fn pair_variables(&self, j: u32, i: u32) -> PairVariables {
-        let base = if j < i {
-            pair_base(self.netlist, j, i)
+    fn pair_variables(&self, port: u32, j: u32, i: u32) -> PairVariables {
+        let base = if self.fault == Fault::SecondPortBehind {
+            let before = i64::from((port - FIRST_PORT) * i + j);
+            let pairs = frame_base(self.netlist, i) + i64::from(self.netlist.wire_count());
+            pairs + before * pair_size(self.netlist)
+        } else if j < i {
+            pair_base_of(self.netlist, port, j, i)
         } else {
             let end = frame_base(self.netlist, self.depth + 1);
-            end + i64::from(i) * pair_size(self.netlist)
+            let first = end + i64::from(i) * pair_step(self.netlist);
+            first + i64::from(port - FIRST_PORT) * pair_size(self.netlist)
         };
         let m = i64::from(self.netlist.address_width);
         PairVariables {
@@ -492,12 +610,12 @@ impl<'a> Formula<'a> {
         }
     }
 
-    fn pair(&self, j: u32, i: u32) -> Vec<i32> {
-        let pair = self.pair_variables(j, i);
+    fn pair(&self, port: u32, j: u32, i: u32) -> Vec<i32> {
+        let pair = self.pair_variables(port, j, i);
         let mut clauses = Clauses::new(self.fault);
-        self.address_clauses(&mut clauses, &pair, j, i);
-        self.select_clauses(&mut clauses, &pair, j, i);
-        let read_data = self.netlist.read_data_codes();
+        self.address_clauses(&mut clauses, &pair, port, j, i);
+        self.select_clauses(&mut clauses, &pair, port, j, i);
+        let read_data = self.netlist.read_data_codes_of(port);
         for (read, write) in read_data.iter().zip(self.netlist.write_data_codes()) {
             let (read, write) = (self.literal(*read, i), self.literal(*write, j));
             clauses.equal_if(pair.selected, read, write);
@@ -508,9 +626,9 @@ impl<'a> Formula<'a> {
         clauses.numbers
     }
 
-    /// Where both frames read the start of one address, both read the same word.
+    /// Where both frames read the start of one address, both read the same word. An M sheet's alone.
     fn agreement_clauses(&self, clauses: &mut Clauses, pair: &PairVariables, j: u32, i: u32) {
-        let (zj, zi) = (self.untouched(j), self.untouched(i));
+        let (zj, zi) = (self.untouched(FIRST_PORT, j), self.untouched(FIRST_PORT, i));
         let conditions = match self.fault {
             Fault::AgreementOmitted | Fault::UnknownStartsZero => return,
             Fault::AgreementOfNeighbours if j + 1 < i => return,
@@ -526,10 +644,25 @@ impl<'a> Formula<'a> {
         }
     }
 
-    /// Four clauses for each address bit, bit by bit, then the clause that ends in E.
-    fn address_clauses(&self, clauses: &mut Clauses, pair: &PairVariables, j: u32, i: u32) {
-        for (code, e) in self.netlist.address_codes().iter().zip(&pair.equal) {
-            let (aj, ai) = (self.literal(*code, j), self.literal(*code, i));
+    /// Four clauses for each address bit, bit by bit, then the clause that ends in E. The first address
+    /// of frame j is the one that writes, the port's address of frame i the one that reads.
+    fn address_clauses(
+        &self,
+        clauses: &mut Clauses,
+        pair: &PairVariables,
+        port: u32,
+        j: u32,
+        i: u32,
+    ) {
+        let [writing, reading] = match self.fault {
+            Fault::SecondAddressWrites => [port, port],
+            Fault::SecondPortReadsFirst => [FIRST_PORT, FIRST_PORT],
+            _ => [FIRST_PORT, port],
+        };
+        let writing = self.netlist.address_codes_of(writing).iter();
+        let reading = self.netlist.address_codes_of(reading);
+        for ((written, read), e) in writing.zip(reading).zip(&pair.equal) {
+            let (aj, ai) = (self.literal(*written, j), self.literal(*read, i));
             clauses.clause(&[-pair.all_equal, aj, -ai]);
             clauses.clause(&[-pair.all_equal, -aj, ai]);
             clauses.clause(&[*e, aj, ai]);
@@ -543,44 +676,68 @@ impl<'a> Formula<'a> {
         clauses.clause(&last);
     }
 
-    fn select_clauses(&self, clauses: &mut Clauses, pair: &PairVariables, j: u32, i: u32) {
+    fn select_clauses(
+        &self,
+        clauses: &mut Clauses,
+        pair: &PairVariables,
+        port: u32,
+        j: u32,
+        i: u32,
+    ) {
         let enable_frame = match self.fault {
             Fault::ReaderWriteEnable => i,
             _ => j,
         };
         let write_enable = self.literal(self.netlist.write_enable, enable_frame);
-        let newer = self.pending_before(j, i);
+        let newer = self.pending_before(port, j, i);
         clauses.gate(pair.matches, pair.all_equal, write_enable);
         clauses.gate(pair.pending, -pair.matches, newer);
         clauses.gate(pair.selected, pair.matches, newer);
     }
 
+    /// RE of a port in a frame.
+    fn read_enable(&self, port: u32, i: u32) -> Literal {
+        let port = match self.fault {
+            Fault::FirstReadEnable => FIRST_PORT,
+            _ => port,
+        };
+        self.literal(self.netlist.read_enable_of(port), i)
+    }
+
     /// N of the pair (j, i): PS of the next newer pair, or RE of frame i at the newest.
-    fn pending_before(&self, j: u32, i: u32) -> Literal {
+    fn pending_before(&self, port: u32, j: u32, i: u32) -> Literal {
         let neighbour = match self.fault {
             Fault::OldestWrite => j.checked_sub(1),
             _ => Some(j + 1).filter(|newer| *newer < self.writers(i)),
         };
+        let pending_port = match self.fault {
+            Fault::FirstPending => FIRST_PORT,
+            _ => port,
+        };
         match neighbour {
-            Some(other) => self.pair_variables(other, i).pending,
-            None => self.literal(self.netlist.read_enable, i),
+            Some(other) => self.pair_variables(pending_port, other, i).pending,
+            None => self.read_enable(port, i),
         }
     }
 
     /// Z of frame i: PS of the pair (0, i), or RE when there is no pair.
-    fn untouched(&self, i: u32) -> Literal {
+    fn untouched(&self, port: u32, i: u32) -> Literal {
+        let port = match self.fault {
+            Fault::FirstUntouched => FIRST_PORT,
+            _ => port,
+        };
         match (self.writers(i), self.fault) {
-            (0, _) => self.literal(self.netlist.read_enable, i),
-            (writers, Fault::OldestWrite) => self.pair_variables(writers - 1, i).pending,
-            _ => self.pair_variables(0, i).pending,
+            (0, _) => self.read_enable(port, i),
+            (writers, Fault::OldestWrite) => self.pair_variables(port, writers - 1, i).pending,
+            _ => self.pair_variables(port, 0, i).pending,
         }
     }
 
-    fn closing(&self, i: u32) -> Vec<i32> {
+    fn closing(&self, port: u32, i: u32) -> Vec<i32> {
         let mut clauses = Clauses::new(self.fault);
-        let read_enable = self.literal(self.netlist.read_enable, i);
-        let untouched = self.untouched(i);
-        for (bit, code) in self.netlist.read_data_codes().iter().enumerate() {
+        let read_enable = self.read_enable(port, i);
+        let untouched = self.untouched(port, i);
+        for (bit, code) in self.netlist.read_data_codes_of(port).iter().enumerate() {
             let read = self.literal(*code, i);
             let given = !self.netlist.has_unknown_start();
             let start_bit = given && (self.netlist.start_word >> bit) & 1 == 1;
@@ -596,15 +753,15 @@ impl<'a> Formula<'a> {
                 clauses.clause(&[read_enable, -read]);
             }
         }
-        self.hold_clauses(&mut clauses, i);
+        self.hold_clauses(&mut clauses, port, i);
         let mut last = vec![-read_enable, untouched];
-        last.extend((0..self.writers(i)).map(|j| self.pair_variables(j, i).selected));
+        last.extend((0..self.writers(i)).map(|j| self.pair_variables(port, j, i).selected));
         clauses.clause(&last);
         clauses.numbers
     }
 
-    /// Above frame 0: where RE is false, the read bits are those of the frame before.
-    fn hold_clauses(&self, clauses: &mut Clauses, i: u32) {
+    /// Above frame 0: where the port's RE is false, its read bits are those of the frame before.
+    fn hold_clauses(&self, clauses: &mut Clauses, port: u32, i: u32) {
         if i == 0 || self.fault == Fault::IdleReadsFree {
             return;
         }
@@ -612,9 +769,14 @@ impl<'a> Formula<'a> {
             Fault::HolderReadEnable => i - 1,
             _ => i,
         };
-        let idle = -self.literal(self.netlist.read_enable, enable_frame);
-        for code in self.netlist.read_data_codes() {
-            clauses.equal_if(idle, self.literal(code, i), self.literal(code, i - 1));
+        let held_port = match self.fault {
+            Fault::FirstWordHeld => FIRST_PORT,
+            _ => port,
+        };
+        let idle = -self.read_enable(port, enable_frame);
+        let held = self.netlist.read_data_codes_of(held_port);
+        for (code, held) in self.netlist.read_data_codes_of(port).iter().zip(held) {
+            clauses.equal_if(idle, self.literal(*code, i), self.literal(held, i - 1));
         }
     }
 
@@ -629,7 +791,8 @@ impl<'a> Formula<'a> {
     }
 }
 
-/// A variable's literal. The largest variable is 675,841 (RULES V6).
+/// A variable's literal. The largest variable of an M sheet is 675,841 (RULES V6), that of a T sheet
+/// 1,198,081.
 fn number(variable: i64) -> Literal {
     Literal::Number(i32::try_from(variable).expect("a variable number within the bound"))
 }
@@ -640,30 +803,43 @@ pub fn variables_fit(variables: i64) -> bool {
     variables <= i64::from(i32::MAX)
 }
 
-fn group_exists(group: Group, depth: u32) -> bool {
-    match group {
-        Group::Wires(i) | Group::Closing(i) => i <= depth,
-        Group::Pair(j, i) => i <= depth && j < i,
+/// Whether there is this group of an accepted netlist: the port, the frame and the pair.
+pub fn group_exists(netlist: &Netlist, depth: u32, asked: PortGroup) -> bool {
+    let has_port = netlist.ports().contains(&asked.port);
+    match asked.group {
+        Group::Wires(i) => i <= depth,
+        Group::Closing(i) => has_port && i <= depth,
+        Group::Pair(j, i) => has_port && i <= depth && j < i,
         Group::Property => true,
     }
 }
 
-/// A group call with a lent slice of `room` numbers: the record's tests, then 7, 8, 10, 9. The
-/// result is what is written; its length is the count.
+/// A group call for the first port with a lent slice of `room` numbers: the record's tests, then 7, 8,
+/// 10, 9. The result is what is written; its length is the count.
 pub fn group_call(
     netlist: &Netlist,
     depth: u32,
     group: Group,
     room: usize,
 ) -> Result<Vec<i32>, Refusal> {
+    port_group_call(netlist, depth, PortGroup::first(group), room)
+}
+
+/// The same for a port; one that the netlist does not have is 8.
+pub fn port_group_call(
+    netlist: &Netlist,
+    depth: u32,
+    asked: PortGroup,
+    room: usize,
+) -> Result<Vec<i32>, Refusal> {
     netlist.check()?;
     require(depth <= MAX_DEPTH, DEPTH, 0)?;
-    require(group_exists(group, depth), NO_SUCH_GROUP, 0)?;
+    require(group_exists(netlist, depth, asked), NO_SUCH_GROUP, 0)?;
     let formula = Formula::new(netlist, depth, Fault::None);
     require(variables_fit(formula.variable_count()), OUT_OF_NUMBERS, 0)?;
-    let need = number_count(netlist, depth, group);
+    let need = counts(netlist, depth, asked)[1];
     require(room as u64 >= need as u64, NO_ROOM, 0)?;
-    Ok(formula.group(group))
+    Ok(formula.port_group(asked))
 }
 
 /// The heading call: the record's tests, then 7 and 10.
@@ -679,18 +855,23 @@ pub fn heading(netlist: &Netlist, depth: u32) -> Result<Heading, Refusal> {
 
 /// What `frames` prints for this standard input.
 pub fn frames(input: &[u8]) -> Vec<u8> {
-    formula_text(input).unwrap_or_else(refusal_text)
+    frames_knowing(KNOWN, input)
 }
 
-fn formula_text(input: &[u8]) -> Result<Vec<u8>, Refusal> {
+/// The same with the sheets that there are.
+pub fn frames_knowing(known: Known, input: &[u8]) -> Vec<u8> {
+    formula_text(known, input).unwrap_or_else(refusal_text)
+}
+
+fn formula_text(known: Known, input: &[u8]) -> Result<Vec<u8>, Refusal> {
     let (depth, sheet) = read_depth(input)?;
     // The program's lists have room for every accepted sheet, so 9 does not occur.
-    let netlist = read_sheet(sheet, usize::MAX, usize::MAX)?;
+    let netlist = read_sheet_knowing(known, sheet, usize::MAX, usize::MAX)?;
     let Heading { variables, clauses } = heading(&netlist, depth)?;
     let mut text = header_text(variables, clauses);
     let formula = Formula::new(&netlist, depth, Fault::None);
-    for group in formula.groups() {
-        text.extend(clauses_text(&formula.group(group)));
+    for asked in formula.port_groups() {
+        text.extend(clauses_text(&formula.port_group(asked)));
     }
     Ok(text)
 }

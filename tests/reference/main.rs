@@ -1,5 +1,6 @@
-//! Self-test of the second implementation, which is written from the customer's papers (K1 to K9 included), not from
-//! the code: each family of checks prints one line, the last line is the total. Build: rustc -O --edition 2021 main.rs
+//! Self-test of the second implementation, which is written from the customer's papers (K1 to K10
+//! included), not from the code: each family of checks prints one line, the last line is the total.
+//! Build: rustc -O --edition 2021 main.rs
 
 mod agreement;
 mod aiger;
@@ -9,9 +10,11 @@ mod answer_calls;
 mod check_aiger;
 mod check_answers;
 mod check_examples;
+mod check_ports;
 mod check_position;
 mod check_random;
 mod check_random_answers;
+mod check_random_ports;
 mod check_refusals;
 mod circuit;
 mod formula;
@@ -30,7 +33,7 @@ use tally::{Report, Tally};
 
 type Family = (&'static str, fn(&mut Tally));
 
-const FAMILIES: [Family; 44] = [
+const FAMILIES: [Family; 68] = [
     ("full runs, byte for byte", check_examples::full_runs),
     ("a run of the chip, by hand", check_examples::memory_run),
     (
@@ -98,6 +101,51 @@ const FAMILIES: [Family; 44] = [
     (
         "answers of K2, all assignments",
         check_random_answers::assignments,
+    ),
+    ("T sheets, byte for byte", check_ports::texts),
+    ("T sheets, refusals", check_ports::sheets),
+    ("records of T sheets, refusals", check_ports::records),
+    ("group calls by port", check_ports::group_calls),
+    ("positions by port", check_ports::positions),
+    ("runs of two ports, by hand", check_ports::memory_runs),
+    ("replays of two ports, by hand", check_ports::replays),
+    ("T sheets written back", check_ports::written_back),
+    ("largest sizes of two ports", check_ports::largest_sizes),
+    ("round trip of T sheets", check_random_ports::round_trip),
+    (
+        "damaged records of T sheets",
+        check_random_ports::damaged_records,
+    ),
+    ("damaged T sheets", check_random_ports::damaged_sheets),
+    (
+        "damaged bytes of T sheets",
+        check_random_ports::damaged_bytes,
+    ),
+    ("numbering of two ports", check_random_ports::numbering),
+    ("groups of two ports", check_random_ports::groups),
+    (
+        "headings and texts of two ports",
+        check_random_ports::headings,
+    ),
+    ("ports against one port", check_random_ports::ports_alike),
+    (
+        "demand 3 of two ports, all assignments",
+        check_random_ports::demand_3,
+    ),
+    (
+        "demand 3 of two ports, sets of constants",
+        check_random_ports::constant_sets,
+    ),
+    (
+        "demand 3 of two ports, single feeds",
+        check_random_ports::single_feeds,
+    ),
+    ("faults of two ports are caught", check_random_ports::faults),
+    ("positions of two ports, random", check_random_ports::walks),
+    ("answers of two ports", check_random_ports::answers),
+    (
+        "answers of two ports, all assignments",
+        check_random_ports::assignments,
     ),
 ];
 

@@ -1,5 +1,8 @@
-//! The netlist with one single-port memory, and the tests of a record.
-//! RULES W1 to W18, C8, C9, T39 and T54; the unknown start of K7 and the tied address bits of K8.
+//! The netlist with one memory, and the tests of a record.
+//! RULES W1 to W18, C8, C9, T39 and T54; the unknown start of K7, the tied address bits of K8 and the
+//! second read port of K10.
+
+use std::ops::{Range, RangeInclusive};
 
 use super::refusal::{require, Refusal, CODE, MEMORY_LOOP, OUT_OF_ORDER, SIZE, TIED_ADDRESS};
 
@@ -34,11 +37,17 @@ pub struct Netlist {
     /// 0 where the start word is given, 1 where every word begins as anything: the start word is
     /// then neither tested nor used.
     pub unknown_start: u32,
+    /// 0 for the record of an M sheet, 1 for that of a T sheet, which has a second read port; another
+    /// number is refused.
+    pub two_ports: u32,
     pub address: [u32; MAX_ADDRESS_WIDTH as usize],
     pub write_data: [u32; MAX_DATA_WIDTH as usize],
     pub write_enable: u32,
     pub read_enable: u32,
     pub property: u32,
+    /// The second port's address and RE: unused where there is one port.
+    pub second_address: [u32; MAX_ADDRESS_WIDTH as usize],
+    pub second_read_enable: u32,
     pub latches: Vec<Latch>,
     pub gates: Vec<Gate>,
 }
@@ -48,17 +57,43 @@ pub struct Netlist {
 pub enum Kind {
     Sizes,
     Memory,
+    /// Line 2 of a T sheet.
+    TwoPortMemory,
     Latch,
     Gate,
     Address,
     WriteData,
+    /// Of a T sheet alone, as is the second RE.
+    SecondAddress,
+    SecondReadEnable,
     Control,
 }
 
+/// The ports as K10 numbers them.
+pub const FIRST_PORT: u32 = 1;
+pub const SECOND_PORT: u32 = 2;
+
 impl Netlist {
-    /// V. Meaningful once I, L and A are known to be within their limits.
+    /// V. Meaningful once I, L, A and n are known to be within their limits.
     pub fn wire_count(&self) -> u32 {
-        self.inputs + self.latch_count + self.data_width + self.gate_count
+        self.inputs + self.latch_count + self.port_count() * self.data_width + self.gate_count
+    }
+
+    pub fn has_two_ports(&self) -> bool {
+        self.two_ports == 1
+    }
+
+    pub fn port_count(&self) -> u32 {
+        if self.has_two_ports() {
+            SECOND_PORT
+        } else {
+            FIRST_PORT
+        }
+    }
+
+    /// The ports there are, first port first.
+    pub fn ports(&self) -> RangeInclusive<u32> {
+        FIRST_PORT..=self.port_count()
     }
 
     /// Meaningful once line 2 is known to be within its limits.
@@ -74,8 +109,14 @@ impl Netlist {
         self.first_latch() + self.latch_count
     }
 
+    /// The wires of a port's read bits, bit 0 first.
+    pub fn read_bits(&self, port: u32) -> Range<u32> {
+        let first = self.first_read_bit() + (port - FIRST_PORT) * self.data_width;
+        first..first + self.data_width
+    }
+
     pub fn first_gate(&self) -> u32 {
-        self.first_read_bit() + self.data_width
+        self.first_read_bit() + self.port_count() * self.data_width
     }
 
     pub fn address_codes(&self) -> &[u32] {
@@ -86,22 +127,44 @@ impl Netlist {
         &self.write_data[..self.data_width as usize]
     }
 
-    /// The codes of the read-data wires, bit 0 first.
+    /// The codes of the first port's read-data wires, bit 0 first.
     pub fn read_data_codes(&self) -> Vec<u32> {
-        (self.first_read_bit()..self.first_gate())
-            .map(|wire| 2 * wire)
-            .collect()
+        self.read_data_codes_of(FIRST_PORT)
+    }
+
+    /// The codes of a port's read-data wires, bit 0 first.
+    pub fn read_data_codes_of(&self, port: u32) -> Vec<u32> {
+        self.read_bits(port).map(|wire| 2 * wire).collect()
+    }
+
+    /// The address codes by which a port reads.
+    pub fn address_codes_of(&self, port: u32) -> &[u32] {
+        match port {
+            FIRST_PORT => self.address_codes(),
+            _ => &self.second_address[..self.address_width as usize],
+        }
+    }
+
+    pub fn read_enable_of(&self, port: u32) -> u32 {
+        match port {
+            FIRST_PORT => self.read_enable,
+            _ => self.second_read_enable,
+        }
     }
 
     /// How many lines of each kind the sheet of this record has.
-    fn line_counts(&self) -> [(Kind, u32); 7] {
+    fn line_counts(&self) -> [(Kind, u32); 10] {
+        let second = u32::from(self.has_two_ports());
         [
             (Kind::Sizes, 1),
-            (Kind::Memory, 1),
+            (Kind::Memory, 1 - second),
+            (Kind::TwoPortMemory, second),
             (Kind::Latch, self.latch_count),
             (Kind::Gate, self.gate_count),
             (Kind::Address, self.address_width),
             (Kind::WriteData, self.data_width),
+            (Kind::SecondAddress, second * self.address_width),
+            (Kind::SecondReadEnable, second),
             (Kind::Control, 1),
         ]
     }
@@ -148,7 +211,7 @@ impl Netlist {
             None => return Ok(()),
         };
         let number = match kind {
-            Kind::Sizes | Kind::Memory => SIZE,
+            Kind::Sizes | Kind::Memory | Kind::TwoPortMemory => SIZE,
             _ => CODE,
         };
         require(self.line_in_limits(kind, index), number, place)
@@ -157,11 +220,13 @@ impl Netlist {
     fn line_in_limits(&self, kind: Kind, index: usize) -> bool {
         match kind {
             Kind::Sizes => self.counts_in_limits(),
-            Kind::Memory => self.memory_in_limits(),
+            Kind::Memory | Kind::TwoPortMemory => self.memory_in_limits(),
             Kind::Latch => self.latch_in_limits(self.latches[index]),
             Kind::Gate => self.gate_in_limits(self.gates[index], index as u32),
             Kind::Address => self.is_code(self.address[index]),
             Kind::WriteData => self.is_code(self.write_data[index]),
+            Kind::SecondAddress => self.is_code(self.second_address[index]),
+            Kind::SecondReadEnable => self.is_code(self.second_read_enable),
             Kind::Control => [self.write_enable, self.read_enable, self.property]
                 .iter()
                 .all(|code| self.is_code(*code)),
@@ -174,18 +239,20 @@ impl Netlist {
             .all(|count| *count <= MAX_WIRES)
     }
 
-    /// The M line's numbers, and V, which is tested at this line (RULES T36).
+    /// The numbers of the M or T line, and V, which is tested at this line (RULES T36).
     fn memory_in_limits(&self) -> bool {
         (1..=MAX_ADDRESS_WIDTH).contains(&self.address_width)
             && (1..=MAX_DATA_WIDTH).contains(&self.data_width)
             && self.start_in_limits()
             && self.wire_count() <= MAX_WIRES
+            && self.two_ports <= 1
     }
 
+    /// A T sheet's start word must be given.
     fn start_in_limits(&self) -> bool {
         match self.unknown_start {
             0 => u64::from(self.start_word) < 1u64 << self.data_width,
-            flag => flag == 1,
+            flag => flag == 1 && !self.has_two_ports(),
         }
     }
 
@@ -222,25 +289,42 @@ impl Netlist {
         depends
     }
 
-    /// Refusal 17: at the first A line whose wire an earlier one has. Constants are no wires.
+    /// The kind of lines that have a port's address.
+    fn address_kind(port: u32) -> Kind {
+        match port {
+            FIRST_PORT => Kind::Address,
+            _ => Kind::SecondAddress,
+        }
+    }
+
+    /// Refusal 17: at the first A line whose wire an earlier A line has, else at the first B line whose
+    /// wire an earlier B line has. Constants are no wires.
     pub fn check_ties(&self) -> Result<(), Refusal> {
-        let codes = self.address_codes();
-        for (index, code) in codes.iter().enumerate() {
-            let mut earlier = codes[..index].iter();
-            let tied = *code > 1 && earlier.any(|other| other / 2 == code / 2);
-            let place = self.place_of(Kind::Address, index);
-            require(!tied, TIED_ADDRESS, place)?;
+        for port in self.ports() {
+            let codes = self.address_codes_of(port);
+            for (index, code) in codes.iter().enumerate() {
+                let mut earlier = codes[..index].iter();
+                let tied = *code > 1 && earlier.any(|other| other / 2 == code / 2);
+                let place = self.place_of(Netlist::address_kind(port), index);
+                require(!tied, TIED_ADDRESS, place)?;
+            }
         }
         Ok(())
     }
 
-    /// Refusal 6: at the first A line concerned, else at the C line.
+    /// Refusal 6: at the first A or B line concerned, else at the R line, else at the C line.
     pub fn check_loop(&self) -> Result<(), Refusal> {
         let depends = self.read_dependence();
         let is_free = |code: u32| !depends[code as usize / 2];
-        for (index, code) in self.address_codes().iter().enumerate() {
-            let place = self.place_of(Kind::Address, index);
-            require(is_free(*code), MEMORY_LOOP, place)?;
+        for port in self.ports() {
+            for (index, code) in self.address_codes_of(port).iter().enumerate() {
+                let place = self.place_of(Netlist::address_kind(port), index);
+                require(is_free(*code), MEMORY_LOOP, place)?;
+            }
+        }
+        if self.has_two_ports() {
+            let place = self.place_of(Kind::SecondReadEnable, 0);
+            require(is_free(self.second_read_enable), MEMORY_LOOP, place)?;
         }
         let place = self.place_of(Kind::Control, 0);
         require(is_free(self.read_enable), MEMORY_LOOP, place)

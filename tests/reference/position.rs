@@ -1,7 +1,7 @@
-//! K5: a running record of depth, frame and the frame's base.
+//! K5: a running record of depth, frame and the frame's base; its groups by port as K10 has them.
 
-use super::formula::{frame_base, group_call, Group};
-use super::netlist::{Netlist, MAX_DEPTH};
+use super::formula::{frame_base, group_exists, port_group_call, Group, PortGroup};
+use super::netlist::{Netlist, FIRST_PORT, MAX_DEPTH};
 use super::refusal::{require, Refusal, DEPTH, NO_SUCH_GROUP, WRONG_BASE};
 
 /// As it is handed in: nothing of it is tested before a call does.
@@ -74,19 +74,29 @@ impl Position {
         }
     }
 
-    /// A group through the position, with a lent slice of `room` numbers: the record's tests, 7, 8,
-    /// 16, 10, 9.
+    /// A group of the first port through the position, with a lent slice of `room` numbers: the record's
+    /// tests, 7, 8, 16, 10, 9.
     pub fn group(
         &self,
         netlist: &Netlist,
         group: FrameGroup,
         room: usize,
     ) -> Result<Vec<i32>, Refusal> {
-        let exists = match group {
-            FrameGroup::Pair(j) => j < self.frame,
-            _ => true,
-        };
+        self.port_group(netlist, FIRST_PORT, group, room)
+    }
+
+    /// The same for a port; one that the netlist does not have is 8.
+    pub fn port_group(
+        &self,
+        netlist: &Netlist,
+        port: u32,
+        group: FrameGroup,
+        room: usize,
+    ) -> Result<Vec<i32>, Refusal> {
+        let group = self.numbered(group);
+        let asked = PortGroup { port, group };
+        let exists = group_exists(netlist, self.depth, asked);
         self.check(netlist, exists)?;
-        group_call(netlist, self.depth, self.numbered(group), room)
+        port_group_call(netlist, self.depth, asked, room)
     }
 }

@@ -46,14 +46,24 @@ impl Random {
     }
 }
 
-/// A netlist small enough for `agreement::compare`.
+/// A netlist with one port, small enough for `agreement::compare`.
 pub fn tiny_netlist(random: &mut Random) -> Netlist {
+    tiny_netlist_of(random, 0)
+}
+
+/// The same with two ports.
+pub fn tiny_two_ports(random: &mut Random) -> Netlist {
+    tiny_netlist_of(random, 1)
+}
+
+fn tiny_netlist_of(random: &mut Random, two_ports: u32) -> Netlist {
     let sizes = Netlist {
         inputs: random.below(3),
         latch_count: random.below(3),
         gate_count: random.below(6),
         address_width: random.between(1, 2),
         data_width: random.between(1, 2),
+        two_ports,
         ..Netlist::default()
     };
     let mut netlist = fill(random, sizes);
@@ -65,16 +75,27 @@ pub fn tiny_netlist(random: &mut Random) -> Netlist {
     netlist
 }
 
-/// A netlist of any shape within the limits.
+/// A netlist with one port, of any shape within the limits.
 pub fn wide_netlist(random: &mut Random) -> Netlist {
+    wide_netlist_of(random, 0)
+}
+
+/// The same with two ports.
+pub fn wide_two_ports(random: &mut Random) -> Netlist {
+    wide_netlist_of(random, 1)
+}
+
+fn wide_netlist_of(random: &mut Random, two_ports: u32) -> Netlist {
     let data_width = extreme_or_between(random, 1, MAX_DATA_WIDTH);
-    let [inputs, latch_count, gate_count] = split_wires(random, MAX_WIRES - data_width);
+    let most = MAX_WIRES - (1 + two_ports) * data_width;
+    let [inputs, latch_count, gate_count] = split_wires(random, most);
     let sizes = Netlist {
         inputs,
         latch_count,
         gate_count,
         address_width: extreme_or_between(random, 1, MAX_ADDRESS_WIDTH),
         data_width,
+        two_ports,
         ..Netlist::default()
     };
     fill(random, sizes)
@@ -108,11 +129,14 @@ pub fn enable_often(random: &mut Random, netlist: &mut Netlist) {
     if random.percent(30) {
         netlist.read_enable = 1;
     }
+    if netlist.has_two_ports() && random.percent(30) {
+        netlist.second_read_enable = 1;
+    }
 }
 
 /// Fills start, codes and lists of an empty netlist that has its sizes. `clean` collects the wires that
 /// no read bit reaches (0 for the constants), from which address codes and RE are taken; no two address
-/// bits have the same wire.
+/// bits of a port have the same wire.
 pub fn fill(random: &mut Random, mut netlist: Netlist) -> Netlist {
     let mut clean: Vec<u32> = (0..netlist.first_read_bit()).collect();
     for index in 0..netlist.gate_count {
@@ -129,21 +153,50 @@ pub fn fill(random: &mut Random, mut netlist: Netlist) -> Netlist {
         netlist.latches.push(Latch { next, reset });
     }
     netlist.start_word = random_word(random, netlist.data_width);
-    if random.percent(UNKNOWN_STARTS) {
+    if !netlist.has_two_ports() && random.percent(UNKNOWN_STARTS) {
         (netlist.start_word, netlist.unknown_start) = (0, 1);
     }
-    let mut untied = clean.clone();
-    for code in &mut netlist.address[..netlist.address_width as usize] {
-        *code = clean_code(random, &untied);
-        untied.retain(|wire| *wire == 0 || *wire != *code / 2);
-    }
+    let address_width = netlist.address_width as usize;
+    fill_address(random, &clean, &mut netlist.address[..address_width]);
     for code in &mut netlist.write_data[..netlist.data_width as usize] {
         *code = any_code(random, wires);
     }
     netlist.write_enable = any_code(random, wires);
     netlist.read_enable = clean_code(random, &clean);
     netlist.property = any_code(random, wires);
+    if netlist.has_two_ports() {
+        fill_address(random, &clean, &mut netlist.second_address[..address_width]);
+        netlist.second_read_enable = clean_code(random, &clean);
+        share_address(random, &mut netlist);
+    }
     netlist
+}
+
+fn fill_address(random: &mut Random, clean: &[u32], codes: &mut [u32]) {
+    let mut untied = clean.to_vec();
+    for code in codes {
+        *code = clean_code(random, &untied);
+        untied.retain(|wire| *wire == 0 || *wire != *code / 2);
+    }
+}
+
+/// Gives the second port the first port's address, often, or its RE, or one bit of the address: no tie,
+/// and there both ports read one word.
+fn share_address(random: &mut Random, netlist: &mut Netlist) {
+    match random.below(10) {
+        0..=2 => netlist.second_address = netlist.address,
+        3 => netlist.second_read_enable = netlist.read_enable,
+        4 => {
+            (netlist.second_address, netlist.second_read_enable) =
+                (netlist.address, netlist.read_enable)
+        }
+        5 => {
+            let bit = random.index(netlist.address_width as usize);
+            netlist.second_address = netlist.address;
+            netlist.second_address[bit] ^= 1;
+        }
+        _ => {}
+    }
 }
 
 fn random_gate(random: &mut Random, clean: &[u32], wire: u32) -> Gate {
@@ -225,10 +278,12 @@ fn depends(netlist: &Netlist, code: u32) -> bool {
 pub fn random_feeds(random: &mut Random, netlist: &Netlist, depth: u32) -> Vec<Feed> {
     let mut feeds = Vec::new();
     for _ in 0..=depth {
-        feeds.push(Feed {
-            inputs: (0..netlist.inputs).map(|_| random.percent(50)).collect(),
-            idle_word: random_word(random, netlist.data_width),
-        });
+        let inputs = (0..netlist.inputs).map(|_| random.percent(50)).collect();
+        let mut feed = Feed::new(inputs, random_word(random, netlist.data_width));
+        if netlist.has_two_ports() {
+            feed.second_idle_word = random_word(random, netlist.data_width);
+        }
+        feeds.push(feed);
     }
     feeds
 }
@@ -243,12 +298,15 @@ pub fn damaged_record(random: &mut Random, netlist: &Netlist) -> Netlist {
         tie(random, &mut damaged);
         return damaged;
     }
-    let entry = match random.below(6) {
+    let entries = if netlist.has_two_ports() { 8 } else { 6 };
+    let entry = match random.below(entries) {
         0 => damaged.latches.first_mut().map(|latch| &mut latch.reset),
         1 => damaged.latches.last_mut().map(|latch| &mut latch.next),
         2 => damaged.gates.last_mut().map(|gate| &mut gate.left),
         3 => damaged.gates.first_mut().map(|gate| &mut gate.right),
         4 => Some(&mut damaged.address[random.index(netlist.address_width as usize)]),
+        6 => Some(&mut damaged.second_address[random.index(netlist.address_width as usize)]),
+        7 => Some(&mut damaged.second_read_enable),
         _ => Some(&mut damaged.read_enable),
     };
     if let Some(entry) = entry {
@@ -257,11 +315,17 @@ pub fn damaged_record(random: &mut Random, netlist: &Netlist) -> Netlist {
     damaged
 }
 
-/// Puts the wire of one address bit on another, if there are two, often inverted.
+/// Puts the wire of one address bit on another of the same port, if there are two, often inverted.
 pub fn tie(random: &mut Random, netlist: &mut Netlist) {
     let bits = netlist.address_width as usize;
     let (from, to) = (random.index(bits), random.index(bits));
-    netlist.address[to] = netlist.address[from] ^ random.below(2);
+    let second = netlist.has_two_ports() && random.percent(50);
+    let codes = if second {
+        &mut netlist.second_address
+    } else {
+        &mut netlist.address
+    };
+    codes[to] = codes[from] ^ random.below(2);
 }
 
 /// A sheet after one or two random changes; it may still be an accepted sheet.
@@ -282,9 +346,10 @@ pub fn damaged_sheet(random: &mut Random, sheet: &[u8]) -> Vec<u8> {
     damaged
 }
 
-/// Puts the line of one address bit in place of another's, often with its code inverted.
+/// Puts the line of one address bit in place of another's, often with its code inverted. Of a T sheet
+/// both addresses are taken: a line of the other one is out of order.
 fn tie_lines(random: &mut Random, sheet: &mut [u8]) {
-    let is_address = |at: &usize| sheet[*at] == b'A';
+    let is_address = |at: &usize| [b'A', b'B'].contains(&sheet[*at]);
     let lines: Vec<usize> = (0..sheet.len())
         .step_by(LINE_BYTES)
         .filter(is_address)

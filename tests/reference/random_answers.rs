@@ -12,7 +12,9 @@ use super::answer_calls::{Call, Outcome};
 use super::circuit::Run;
 use super::formula::frame_base;
 use super::netlist::Netlist;
-use super::random::{random_feeds, tiny_netlist, wide_netlist, Random};
+use super::random::{
+    random_feeds, tiny_netlist, tiny_two_ports, wide_netlist, wide_two_ports, Random,
+};
 use super::refusal::{
     Refusal, CODE, DEPTH, MEMORY_LOOP, NO_ROOM, OUT_OF_ORDER, SIZE, TIED_ADDRESS,
 };
@@ -267,6 +269,21 @@ pub fn small_chip(random: &mut Random) -> (Netlist, u32) {
 /// A random run of a random small chip, and the numbers of an answer of any shape that feeds it.
 pub fn random_draft(random: &mut Random) -> Draft {
     let (netlist, depth) = small_chip(random);
+    draft_of(random, netlist, depth)
+}
+
+/// The same of a chip with two ports.
+pub fn two_port_draft(random: &mut Random) -> Draft {
+    let (netlist, depth) = if random.percent(80) {
+        (tiny_two_ports(random), random.below(7))
+    } else {
+        (wide_two_ports(random), random.below(4))
+    };
+    draft_of(random, netlist, depth)
+}
+
+/// A random run of a chip, and the numbers of an answer of any shape that feeds it.
+pub fn draft_of(random: &mut Random, netlist: Netlist, depth: u32) -> Draft {
     let run = Run::new(&netlist, &random_feeds(random, &netlist, depth));
     let mut draft = Draft::new(&netlist, depth, run);
     for (_, change) in UNSEEN {
@@ -703,7 +720,10 @@ pub const CALL_FAULTS: [CallFault; 8] = [
             return None;
         }
         netlist.address[later] = code ^ random.below(2);
-        let lines_behind = netlist.address_width + netlist.data_width - later as u32;
+        let mut lines_behind = netlist.address_width + netlist.data_width - later as u32;
+        if netlist.has_two_ports() {
+            lines_behind += netlist.address_width + 1;
+        }
         fault(TIED_ADDRESS, netlist.line_count() - lines_behind)
     }),
     ("memory loop", |random, call| {
@@ -733,7 +753,12 @@ fn fault(number: u32, place: u32) -> Option<Refusal> {
 
 /// What it is, a call with any answer that the program may find, and what it must do.
 pub fn answer_case(random: &mut Random) -> (&'static str, Call, Outcome) {
-    let mut draft = random_draft(random);
+    let draft = random_draft(random);
+    answer_case_of(random, draft)
+}
+
+/// The same for a given draft.
+pub fn answer_case_of(random: &mut Random, mut draft: Draft) -> (&'static str, Call, Outcome) {
     let kind = random.below(100);
     let mut name = "a run";
     let mut feeds = true;
@@ -769,7 +794,13 @@ pub fn answer_case(random: &mut Random) -> (&'static str, Call, Outcome) {
 
 /// The same with one fault, or two, of the call beside its answer.
 pub fn call_case(random: &mut Random) -> (&'static str, Call, Outcome) {
-    let (mut name, mut call, mut outcome) = answer_case(random);
+    let draft = random_draft(random);
+    call_case_of(random, draft)
+}
+
+/// The same for a given draft.
+pub fn call_case_of(random: &mut Random, draft: Draft) -> (&'static str, Call, Outcome) {
+    let (mut name, mut call, mut outcome) = answer_case_of(random, draft);
     let mut kinds = [
         random.index(CALL_FAULTS.len()),
         random.index(CALL_FAULTS.len()),

@@ -1,12 +1,42 @@
 //! Sheets: reading, the depth line before a sheet, and writing.
-//! RULES S1 to S10, T34 to T37, T53, P1 and P4; the empty start field of K7, 17 of K8, and K9.
+//! RULES S1 to S10, T34 to T37, T53, P1 and P4; the empty start field of K7, 17 of K8, K9, and the T
+//! sheets of K10.
 
 use super::netlist::{Gate, Kind, Latch, Netlist, MAX_DEPTH};
 use super::refusal::{require, Refusal, DEPTH, MISPRINT, NO_ROOM, OUT_OF_ORDER, RAGGED};
 
+/// Which sheets there are.
+#[derive(Clone, Copy, Debug, PartialEq, Eq)]
+pub enum Known {
+    /// M sheets alone, as before K10: T, B and R are unknown letters.
+    OnePort,
+    /// M and T sheets.
+    TwoPorts,
+}
+
+/// What the programs under test know. This is the one place that changes with K10's landing: all
+/// functions and rows that do not say which sheets there are go by it.
+pub const KNOWN: Known = Known::OnePort;
+
+impl Known {
+    /// The limit of refusal 1: as many lines as any sheet has, 615 or 627.
+    pub const fn max_sheet_bytes(self) -> usize {
+        match self {
+            Known::OnePort => 19_680,
+            Known::TwoPorts => 20_064,
+        }
+    }
+
+    fn letters(self) -> &'static [LetterRow] {
+        match self {
+            Known::OnePort => &LETTERS[..OLD_LETTERS],
+            Known::TwoPorts => &LETTERS,
+        }
+    }
+}
+
 pub const LINE_BYTES: usize = 32;
-/// 615 lines, the most that any sheet has.
-pub const MAX_SHEET_BYTES: usize = 19_680;
+pub const MAX_SHEET_BYTES: usize = KNOWN.max_sheet_bytes();
 pub const FIELD_BYTES: usize = 10;
 pub const FIELDS: usize = 3;
 /// Ten columns and a line feed.
@@ -17,13 +47,18 @@ pub const DEPTH_LINE_BYTES: usize = FIELD_BYTES + 1;
 enum Want {
     Number,
     Empty,
-    /// The start word, which may be left out (K7).
+    /// The start word, which may be left out (K7; K10 refuses that later, by its own number).
     Either,
 }
 
 use Want::{Either, Empty, Number};
 
-const LETTERS: [(u8, Kind, [Want; FIELDS]); 7] = [
+type LetterRow = (u8, Kind, [Want; FIELDS]);
+
+/// How many letters there were before K10; the others stand behind them.
+const OLD_LETTERS: usize = 7;
+
+const LETTERS: [LetterRow; 10] = [
     (b'N', Kind::Sizes, [Number, Number, Number]),
     (b'M', Kind::Memory, [Number, Number, Either]),
     (b'L', Kind::Latch, [Number, Number, Empty]),
@@ -31,6 +66,9 @@ const LETTERS: [(u8, Kind, [Want; FIELDS]); 7] = [
     (b'A', Kind::Address, [Number, Empty, Empty]),
     (b'D', Kind::WriteData, [Number, Empty, Empty]),
     (b'C', Kind::Control, [Number, Number, Number]),
+    (b'T', Kind::TwoPortMemory, [Number, Number, Either]),
+    (b'B', Kind::SecondAddress, [Number, Empty, Empty]),
+    (b'R', Kind::SecondReadEnable, [Number, Empty, Empty]),
 ];
 
 /// The number in a field; none for an empty field and for everything that is not a number.
@@ -50,7 +88,12 @@ fn read_number(field: &[u8]) -> Option<u32> {
 /// The kind and the fields of a line, none for an empty field; none at all for a misprint.
 /// The fields are judged by the letter on the line, whichever line is due.
 pub fn read_line(line: &[u8]) -> Option<(Kind, [Option<u32>; FIELDS])> {
-    let (_, kind, wants) = *LETTERS.iter().find(|row| row.0 == line[0])?;
+    read_line_knowing(KNOWN, line)
+}
+
+/// The same with the sheets that there are.
+pub fn read_line_knowing(known: Known, line: &[u8]) -> Option<(Kind, [Option<u32>; FIELDS])> {
+    let (_, kind, wants) = *known.letters().iter().find(|row| row.0 == line[0])?;
     let (fields, end) = line[1..].split_at(FIELDS * FIELD_BYTES);
     let mut numbers = [None; FIELDS];
     for (index, field) in fields.chunks(FIELD_BYTES).enumerate() {
@@ -73,7 +116,8 @@ fn store(netlist: &mut Netlist, kind: Kind, index: usize, fields: [Option<u32>; 
             netlist.latch_count = second;
             netlist.gate_count = third;
         }
-        Kind::Memory => {
+        Kind::Memory | Kind::TwoPortMemory => {
+            netlist.two_ports = u32::from(kind == Kind::TwoPortMemory);
             netlist.address_width = first;
             netlist.data_width = second;
             netlist.start_word = third;
@@ -89,6 +133,8 @@ fn store(netlist: &mut Netlist, kind: Kind, index: usize, fields: [Option<u32>; 
         }),
         Kind::Address => netlist.address[index] = first,
         Kind::WriteData => netlist.write_data[index] = first,
+        Kind::SecondAddress => netlist.second_address[index] = first,
+        Kind::SecondReadEnable => netlist.second_read_enable = first,
         Kind::Control => {
             netlist.write_enable = first;
             netlist.read_enable = second;
@@ -97,16 +143,22 @@ fn store(netlist: &mut Netlist, kind: Kind, index: usize, fields: [Option<u32>; 
     }
 }
 
+/// Whether a line of one kind may stand where another is due. Until line 2 is read, the netlist has one
+/// port and M is due there: T may stand instead.
+fn may_stand(kind: Kind, due: Kind) -> bool {
+    kind == due || (kind, due) == (Kind::TwoPortMemory, Kind::Memory)
+}
+
 /// One line's tests: 2, 3, then 4 or 5. The line is stored before its limits are tested.
-fn take_line(netlist: &mut Netlist, line: &[u8], place: u32) -> Result<(), Refusal> {
+fn take_line(known: Known, netlist: &mut Netlist, line: &[u8], place: u32) -> Result<(), Refusal> {
     let misprint = Refusal {
         number: MISPRINT,
         place,
     };
-    let (kind, fields) = read_line(line).ok_or(misprint)?;
+    let (kind, fields) = read_line_knowing(known, line).ok_or(misprint)?;
     let due = netlist.line_at(place);
     let index = match due {
-        Some((kind_due, index)) if kind_due == kind => index,
+        Some((kind_due, index)) if may_stand(kind, kind_due) => index,
         _ => return require(false, OUT_OF_ORDER, place),
     };
     store(netlist, kind, index, fields);
@@ -116,16 +168,27 @@ fn take_line(netlist: &mut Netlist, line: &[u8], place: u32) -> Result<(), Refus
 /// Reads a sheet for a caller that lends a latch list and a gate list of these lengths.
 /// On success the netlist's lists are the records that the lent lists would begin with.
 pub fn read_sheet(file: &[u8], latch_room: usize, gate_room: usize) -> Result<Netlist, Refusal> {
+    read_sheet_knowing(KNOWN, file, latch_room, gate_room)
+}
+
+/// The same with the sheets that there are.
+pub fn read_sheet_knowing(
+    known: Known,
+    file: &[u8],
+    latch_room: usize,
+    gate_room: usize,
+) -> Result<Netlist, Refusal> {
     let whole_lines = !file.is_empty() && file.len() % LINE_BYTES == 0;
-    require(whole_lines && file.len() <= MAX_SHEET_BYTES, RAGGED, 0)?;
+    let within = file.len() <= known.max_sheet_bytes();
+    require(whole_lines && within, RAGGED, 0)?;
 
     let mut netlist = Netlist::default();
     let mut lines = 0;
     for line in file.chunks(LINE_BYTES) {
         lines += 1;
-        take_line(&mut netlist, line, lines)?;
+        take_line(known, &mut netlist, line, lines)?;
     }
-    // Before line 2 is read the widths are 0 and the count is still above 1: M is then missing.
+    // Before line 2 is read the widths are 0 and the count is still above 1: M or T is then missing.
     require(lines == netlist.line_count(), OUT_OF_ORDER, lines + 1)?;
     netlist.check_ties()?;
     netlist.check_loop()?;
@@ -159,7 +222,7 @@ pub fn write_depth(depth: u32) -> Vec<u8> {
 fn fields_of(netlist: &Netlist, kind: Kind, index: usize) -> Vec<u32> {
     match kind {
         Kind::Sizes => vec![netlist.inputs, netlist.latch_count, netlist.gate_count],
-        Kind::Memory => {
+        Kind::Memory | Kind::TwoPortMemory => {
             let mut fields = vec![netlist.address_width, netlist.data_width];
             fields.extend((!netlist.has_unknown_start()).then_some(netlist.start_word));
             fields
@@ -168,6 +231,8 @@ fn fields_of(netlist: &Netlist, kind: Kind, index: usize) -> Vec<u32> {
         Kind::Gate => vec![netlist.gates[index].left, netlist.gates[index].right],
         Kind::Address => vec![netlist.address[index]],
         Kind::WriteData => vec![netlist.write_data[index]],
+        Kind::SecondAddress => vec![netlist.second_address[index]],
+        Kind::SecondReadEnable => vec![netlist.second_read_enable],
         Kind::Control => vec![netlist.write_enable, netlist.read_enable, netlist.property],
     }
 }
@@ -179,7 +244,7 @@ pub fn write_sheet(netlist: &Netlist) -> Vec<u8> {
         let letter = LETTERS
             .iter()
             .find(|row| row.1 == kind)
-            .expect("seven kinds")
+            .expect("a letter of each kind")
             .0;
         let fields = fields_of(netlist, kind, index);
         let words: Vec<String> = fields.iter().map(u32::to_string).collect();

@@ -683,5 +683,6 @@ fn netlist_of(net: Record, latches: &[LatchRecord], gates: &[GateRecord]) -> Net
                 right: gate.right.0,
             })
             .collect(),
+        ..Netlist::default()
     }
 }

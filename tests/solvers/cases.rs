@@ -70,7 +70,7 @@ pub fn all_runs(netlist: &Netlist, depth: u32, most: u32) -> Option<Vec<Run>> {
                     return None;
                 }
                 for idle_word in 0..1 << word_bits {
-                    let feed = Feed { inputs: inputs.clone(), idle_word };
+                    let feed = Feed::new(inputs.clone(), idle_word);
                     let mut circuit = circuit.clone();
                     circuit.step(&feed);
                     let feeds: Vec<Feed> = [feeds.as_slice(), &[feed]].concat();

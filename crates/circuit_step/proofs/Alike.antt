@@ -1,12 +1,12 @@
--- Runs that begin with the same words and are fed alike: the inputs, and the idle word where RE is false in frame 0. They go through the same
--- states and values. No contract cites this file.
+-- Runs that begin in states that are alike, the word held counting only where RE is false in frame 0, and are fed alike. They go through the
+-- same states and values. No contract cites this file.
 use Prim.Native.Nat.{ℕ, zero, suc, _/_, _^_, _≤_, _<_}
 use mathlib.Core.Path.{_≡_, refl, sym, _∙_}
 use mathlib.Core.Bool.{Bool, true, false, cond}
 use native.Mathlib.Omega.{arith}
 use Rattle.model.specs.Bits.{bit}
 use Rattle.model.specs.Netlist.{Netlist, port, readBits, readWire, lastWire}
-use Rattle.model.specs.Circuit.{Values, codeValue, dependsOnRead, State, Feed, Feeds, addressOf, readData, firstPass, frame, wordWritten, step, stateAt, run, initial}
+use Rattle.model.specs.Circuit.{Values, codeValue, dependsOnRead, State, Feeds, addressOf, readData, firstPass, frame, wordWritten, step, stateAt, run}
 use Rattle.model.specs.Acceptance.{Accepted, IsCode}
 use Rattle.model.proofs.Ports.{first-port}
 use Rattle.model.proofs.Bits.{fromBits-same}
@@ -15,14 +15,14 @@ use Rattle.model.proofs.Circuit.{code-same, address-same, evaluate-solves, inde
 use Rattle.circuit_step.proofs.Held.{evaluate-alike}
 
 -- two feeds with the same inputs
-abbrev pub InputsAlike : Netlist → Feed → Feed → Type 0
-InputsAlike c f g = (x : ℕ) → x < c .inputs → f .input x ≡ g .input x
+abbrev pub InputsAlike : Netlist → (ℕ → Bool) → (ℕ → Bool) → Type 0
+InputsAlike c f g = (x : ℕ) → x < c .inputs → f x ≡ g x
 
 abbrev pub LatchesAlike : Netlist → State → State → Type 0
 LatchesAlike c s r = (l : ℕ) → l < c .latches → s .latch l ≡ r .latch l
 
 -- two states with the same latches and the same 2^m words, and with the same word held where RE is false in the frame that is fed f
-pub record StatesAlike (c : Netlist) (f : Feed) (s r : State) : Type 0 where
+pub record StatesAlike (c : Netlist) (f : ℕ → Bool) (s r : State) : Type 0 where
   pub latch-alike : LatchesAlike c s r
   pub memory-alike : (x : ℕ) → x < 2 ^ c .m → s .memory x ≡ r .memory x
   pub held-alike : codeValue (frame c s f) (c .RE) ≡ false → (t : ℕ) → t < readBits c → s .held t ≡ r .held t
@@ -33,22 +33,22 @@ module _ {c : Netlist} (ok : Accepted c) where
   code-alike {u} {v} same x h = code-same u v x (same (x / 2) (omega arith))
 
   -- RE and the address are settled by the first pass
-  settled : (s : State) (f : Feed) (x : ℕ) → IsCode c x → dependsOnRead c (x / 2) ≡ false → codeValue (firstPass c s f) x ≡ codeValue (frame c s f) x
+  settled : (s : State) (f : ℕ → Bool) (x : ℕ) → IsCode c x → dependsOnRead c (x / 2) ≡ false → codeValue (firstPass c s f) x ≡ codeValue (frame c s f) x
   unfolding firstPass frame
   settled s f x h free =
       code-same (firstPass c s f) (frame c s f) x
-      (independent-agree (ok .limits .codes) (evaluate-solves c (f .input) (s .latch) (λ t. false) (ok .limits .codes))
-      (evaluate-solves c (f .input) (s .latch) (readData c s (firstPass c s f)) (ok .limits .codes)) (x / 2) (omega arith) free)
+      (independent-agree (ok .limits .codes) (evaluate-solves c f (s .latch) (λ t. false) (ok .limits .codes))
+      (evaluate-solves c f (s .latch) (readData c s (firstPass c s f)) (ok .limits .codes)) (x / 2) (omega arith) free)
 
-  pub RE-settled : (s : State) (f : Feed) → codeValue (firstPass c s f) (c .RE) ≡ codeValue (frame c s f) (c .RE)
+  pub RE-settled : (s : State) (f : ℕ → Bool) → codeValue (firstPass c s f) (c .RE) ≡ codeValue (frame c s f) (c .RE)
   RE-settled s f = settled s f (c .RE) (ok .limits .codes .RE-fits) (ok .noLoop 1 (first-port c) .RE-free)
 
-  pub address-settled : (s : State) (f : Feed) → addressOf c (port c 1) (firstPass c s f) ≡ addressOf c (port c 1) (frame c s f)
+  pub address-settled : (s : State) (f : ℕ → Bool) → addressOf c (port c 1) (firstPass c s f) ≡ addressOf c (port c 1) (frame c s f)
   address-settled s f =
       address-same c (port c 1) (firstPass c s f) (frame c s f)
       (λ t h. settled s f (c .address t) (ok .limits .codes .address-fits t h) (ok .noLoop 1 (first-port c) .address-free t h))
 
-  module _ (s r : State) (f g : Feed) (latches : LatchesAlike c s r) (inputs : InputsAlike c f g) where
+  module _ (s r : State) (f g : ℕ → Bool) (latches : LatchesAlike c s r) (inputs : InputsAlike c f g) where
     first-alike : (w : ℕ) → w ≤ lastWire c → firstPass c s f w ≡ firstPass c r g w
     unfolding firstPass
     first-alike = evaluate-alike (ok .limits .codes) inputs latches (λ t h. refl)
@@ -63,7 +63,7 @@ module _ {c : Netlist} (ok : Accepted c) where
         ∙ address-same c (port c 1) (firstPass c s f) (firstPass c r g) (λ t h. code-alike first-alike (c .address t) (ok .limits .codes .address-fits t h))
         ∙ address-settled r g
 
-  module _ {s r : State} {f g : Feed} (states : StatesAlike c f s r) (inputs : InputsAlike c f g) where
+  module _ {s r : State} {f g : ℕ → Bool} (states : StatesAlike c f s r) (inputs : InputsAlike c f g) where
     first-same : (w : ℕ) → w ≤ lastWire c → firstPass c s f w ≡ firstPass c r g w
     first-same = first-alike s r f g (states .latch-alike) inputs
 
@@ -88,7 +88,7 @@ module _ {c : Netlist} (ok : Accepted c) where
     frame-same = evaluate-alike (ok .limits .codes) inputs (states .latch-alike) read-same
 
     -- and the next states are alike, whatever is fed next
-    pub step-same : (next : Feed) → StatesAlike c next (step c s (frame c s f)) (step c r (frame c r g))
+    pub step-same : (next : ℕ → Bool) → StatesAlike c next (step c s (frame c s f)) (step c r (frame c r g))
     unfolding step wordWritten
     step-same next =
         record {
@@ -98,17 +98,13 @@ module _ {c : Netlist} (ok : Accepted c) where
           held-alike = λ e t h. frame-same (readWire c t) (omega arith);
         }
 
-  -- runs with the same 2^m words at first, whose idle words are the same where RE is false in frame 0, and whose inputs are in every frame
-  -- before i
-  module _ (f g : Feeds) {memory memory′ : ℕ → ℕ} (words : (x : ℕ) → x < 2 ^ c .m → memory x ≡ memory′ x) {idle idle′ : ℕ → Bool}
-      (idles : codeValue (run c (initial c memory idle) f 0) (c .RE) ≡ false → (t : ℕ) → t < readBits c → idle t ≡ idle′ t) where
-    pub states-same : (i : ℕ) → ((j : ℕ) → j < i → InputsAlike c (f j) (g j))
-        → StatesAlike c (f i) (stateAt c (initial c memory idle) f i) (stateAt c (initial c memory′ idle′) g i)
-    unfolding run stateAt initial
-    states-same zero inputs = record { latch-alike = λ l h. refl; memory-alike = words; held-alike = idles }
+  -- runs from states that are alike, whose inputs are in every frame before i
+  module _ (f g : Feeds) {s r : State} (states : StatesAlike c (f 0) s r) where
+    pub states-same : (i : ℕ) → ((j : ℕ) → j < i → InputsAlike c (f j) (g j)) → StatesAlike c (f i) (stateAt c s f i) (stateAt c r g i)
+    unfolding stateAt
+    states-same zero inputs = states
     states-same (suc i) inputs = step-same (states-same i (λ j h. inputs j (omega arith))) (inputs i (omega arith)) (f (suc i))
 
-    pub run-same : (i : ℕ) → ((j : ℕ) → j ≤ i → InputsAlike c (f j) (g j))
-        → (w : ℕ) → w ≤ lastWire c → run c (initial c memory idle) f i w ≡ run c (initial c memory′ idle′) g i w
+    pub run-same : (i : ℕ) → ((j : ℕ) → j ≤ i → InputsAlike c (f j) (g j)) → (w : ℕ) → w ≤ lastWire c → run c s f i w ≡ run c r g i w
     unfolding run
     run-same i inputs = frame-same (states-same i (λ j h. inputs j (omega arith))) (inputs i (omega arith))

@@ -14,7 +14,7 @@ use lib.Seq.{getD-set-same, getD-set-other, drop-set-lt}
 use borrow.Author.Tests.{eq-eqb, ne-eqb}
 use Rattle.model.specs.Bits.{odd, bit}
 use Rattle.model.specs.Netlist.{Netlist, port, readBits, readWire, lastWire}
-use Rattle.model.specs.Circuit.{Values, codeValue, sources, sweep, conjunction, evaluate, State, Feed, addressOf, writeAddress, readData, firstPass, frame, wordWritten, step}
+use Rattle.model.specs.Circuit.{Values, codeValue, sources, sweep, conjunction, evaluate, State, addressOf, writeAddress, readData, firstPass, frame, wordWritten, step}
 use Rattle.model.specs.Acceptance.{CodesFit, WithinLimits, IsCode}
 use Rattle.model.proofs.Bits.{fromBits-same}
 use Rattle.model.proofs.Memory.{address-below}
@@ -70,7 +70,7 @@ bit-zero : (t : ℕ) → bit 0 t ≡ false
 unfolding bit odd
 bit-zero t = rw zero-div
 
-module _ {c : Netlist} (limits : WithinLimits c) {s : State} {f : Feed} {latches inputs : List Bool} {memory : List ℕ} {word : ℕ}
+module _ {c : Netlist} (limits : WithinLimits c) {s : State} {f : ℕ → Bool} {latches inputs : List Bool} {memory : List ℕ} {word : ℕ}
     (held : HoldsState c s latches memory word) (fed : Fed c f inputs) where
   -- the first pass
   pub first-alike : (w : ℕ) → w ≤ lastWire c → evaluate c (entry inputs) (entry latches) (bit 0) w ≡ firstPass c s f w
@@ -148,7 +148,7 @@ module _ (r : Record.Netlist) (latches gates latches′ gates′ : List ℕ) whe
   unfolding netOf
   holds-lists q = record { latch-size = q .latch-size; latch-held = q .latch-held; memory-size = q .memory-size; memory-held = q .memory-held; word-held = q .word-held }
 
-  pub fed-lists : {f : Feed} {inputs : List Bool} → Fed (netOf r latches gates) f inputs → Fed (netOf r latches′ gates′) f inputs
+  pub fed-lists : {f : ℕ → Bool} {inputs : List Bool} → Fed (netOf r latches gates) f inputs → Fed (netOf r latches′ gates′) f inputs
   unfolding netOf
   fed-lists q = record { input-fed = q .input-fed }
 
@@ -170,11 +170,11 @@ module _ (r : Record.Netlist) (latches gates : List ℕ) where
   unfolding netOf evaluate sources
   evaluate-lists input latch read w = sweep-lists (sources (netOf r latches gates) input latch read) (r .gates) w
 
-  first-lists : (s : State) (f : Feed) (w : ℕ) → firstPass (netOf r [] gates) s f w ≡ firstPass (netOf r latches gates) s f w
+  first-lists : (s : State) (f : ℕ → Bool) (w : ℕ) → firstPass (netOf r [] gates) s f w ≡ firstPass (netOf r latches gates) s f w
   unfolding firstPass
-  first-lists s f = evaluate-lists (f .input) (s .latch) (λ t. false)
+  first-lists s f = evaluate-lists f (s .latch) (λ t. false)
 
-  read-lists : (s : State) (f : Feed) (t : ℕ)
+  read-lists : (s : State) (f : ℕ → Bool) (t : ℕ) → t < readBits (netOf r latches gates)
       → readData (netOf r [] gates) s (firstPass (netOf r [] gates) s f) t ≡ readData (netOf r latches gates) s (firstPass (netOf r latches gates) s f) t
   unfolding netOf readData addressOf
   read-lists s f =
@@ -183,11 +183,14 @@ module _ (r : Record.Netlist) (latches gates : List ℕ) where
       = λ x. code-same (firstPass (netOf r [] gates) s f) (firstPass c s f) x (first-lists s f (x / 2))
       in
       readData-same c s (firstPass (netOf r [] gates) s f) (firstPass c s f)
-      (address-same c (port c 1) (firstPass (netOf r [] gates) s f) (firstPass c s f) (λ t h. same (c .address t))) (same (c .RE))
+      (λ p here. (
+        address-same c (port c p) (firstPass (netOf r [] gates) s f) (firstPass c s f) (λ t h. same (port c p .address t)),
+        same (port c p .RE),
+      ))
 
-  pub frame-lists : WithinLimits (netOf r latches gates) → (s : State) (f : Feed) (w : ℕ) → w ≤ lastWire (netOf r latches gates)
+  pub frame-lists : WithinLimits (netOf r latches gates) → (s : State) (f : ℕ → Bool) (w : ℕ) → w ≤ lastWire (netOf r latches gates)
       → frame (netOf r [] gates) s f w ≡ frame (netOf r latches gates) s f w
   unfolding frame
   frame-lists limits s f w h =
-      evaluate-lists (f .input) (s .latch) (readData (netOf r [] gates) s (firstPass (netOf r [] gates) s f)) w
-      ∙ evaluate-alike (limits .codes) (λ x l. refl) (λ l b. refl) (λ t b. read-lists s f t) w h
+      evaluate-lists f (s .latch) (readData (netOf r [] gates) s (firstPass (netOf r [] gates) s f)) w
+      ∙ evaluate-alike (limits .codes) (λ x l. refl) (λ l b. refl) (read-lists s f) w h

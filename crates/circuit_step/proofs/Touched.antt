@@ -11,7 +11,7 @@ use borrow.Author.Tests.{eq-eqb, ne-eqb}
 use Rattle.model.specs.Bits.{bit}
 use Rattle.model.specs.Search.{anyBelow}
 use Rattle.model.specs.Netlist.{Netlist, port, readWire}
-use Rattle.model.specs.Circuit.{Values, codeValue, State, Feed, Feeds, addressOf, writeAddress, evaluate, readData, firstPass, frame, wordWritten, step, stateAt, run}
+use Rattle.model.specs.Circuit.{Values, codeValue, State, Feeds, addressOf, writeAddress, evaluate, readData, firstPass, frame, wordWritten, step, stateAt, run}
 use Rattle.model.specs.Acceptance.{Accepted}
 use Rattle.model.proofs.Search.{none-below}
 use Rattle.model.proofs.Booleans.{or-true, neither-true, cond-same}
@@ -61,14 +61,14 @@ module _ (c : Netlist) (v : Values) (x : ℕ) (none : touches c v x ≡ false) w
 
 module _ {c : Netlist} (ok : Accepted c) where
   -- states that differ in their words alone, and not in the word that the frame of the second reads, have the same frame
-  pub frame-reads : (s r : State) (f : Feed) → s .latch ≡ r .latch → s .held ≡ r .held
+  pub frame-reads : (s r : State) (f : ℕ → Bool) → s .latch ≡ r .latch → s .held ≡ r .held
       → (codeValue (frame c r f) (c .RE) ≡ true → s .memory (addressOf c (port c 1) (frame c r f)) ≡ r .memory (addressOf c (port c 1) (frame c r f)))
       → frame c s f ≡ frame c r f
   unfolding frame firstPass readData
-  frame-reads s r f latches held word = ap₂ (evaluate c (f .input)) latches (fun-ext read)
+  frame-reads s r f latches held word = ap₂ (evaluate c f) latches (fun-ext read)
     where
       first : firstPass c s f ≡ firstPass c r f
-      first = ap (λ latch. evaluate c (f .input) latch (λ t. false)) latches
+      first = ap (λ latch. evaluate c f latch (λ t. false)) latches
 
       there : codeValue (firstPass c r f) (c .RE) ≡ true → s .memory (addressOf c (port c 1) (firstPass c r f)) ≡ r .memory (addressOf c (port c 1) (firstPass c r f))
       there e = rw (address-settled ok r f) (word (sym (RE-settled ok r f) ∙ e))
@@ -79,7 +79,7 @@ module _ {c : Netlist} (ok : Accepted c) where
           ∙ cond-same (codeValue (firstPass c r f) (c .RE)) (λ e. ap (λ x. bit x t) (there e)) (λ e. ap (λ h. h t) held)
 
   -- so a frame that does not touch a word is the same with another word there
-  frame-untouched : (x w : ℕ) (s : State) (f : Feed) → touches c (frame c s f) x ≡ false → frame c (withWord x w s) f ≡ frame c s f
+  frame-untouched : (x w : ℕ) (s : State) (f : ℕ → Bool) → touches c (frame c s f) x ≡ false → frame c (withWord x w s) f ≡ frame c s f
   frame-untouched x w s f none =
       frame-reads (withWord x w s) s f refl refl (λ e. rw (ne-eqb (addressOf c (port c 1) (frame c s f)) x (not-read c (frame c s f) x none e)))
 

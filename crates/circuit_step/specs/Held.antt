@@ -8,7 +8,7 @@ use lib.ListN.{length, getD, set, drop}
 use Rattle.model.specs.Limits.{mostWires}
 use Rattle.model.specs.Bits.{bit}
 use Rattle.model.specs.Netlist.{Netlist, readBits, lastWire}
-use Rattle.model.specs.Circuit.{Values, codeValue, State, Feed, writeAddress, frame, wordWritten, step}
+use Rattle.model.specs.Circuit.{Values, codeValue, State, writeAddress, frame, wordWritten, step}
 use Rattle.model.specs.Acceptance.{WithinLimits}
 use Rattle.netlist.specs.WireTable.{entry, HasBelow}
 
@@ -24,9 +24,9 @@ pub record HoldsState (c : Netlist) (s : State) (latches : List Bool) (memory : 
   pub memory-held : (x : ℕ) → x < 2 ^ c .m → getD memory x 0 ≡ s .memory x
   pub word-held : (t : ℕ) → t < readBits c → bit held t ≡ s .held t
 
--- the lent inputs are the feed f
-pub record Fed (c : Netlist) (f : Feed) (inputs : List Bool) : Type 0 where
-  pub input-fed : (x : ℕ) → x < c .inputs → entry inputs x ≡ f .input x
+-- the lent inputs are those that f feeds
+pub record Fed (c : Netlist) (f : ℕ → Bool) (inputs : List Bool) : Type 0 where
+  pub input-fed : (x : ℕ) → x < c .inputs → entry inputs x ≡ f x
 
 -- the memory after a frame with the values v (RULES C7)
 unfoldable pub memoryAfter : Netlist → Values → List ℕ → List ℕ
@@ -43,6 +43,6 @@ pub record StepFits (c : Netlist) (values latches : List Bool) (memory : List �
 -- memory behind the 2^m words is as it was
 pub record Stepped (c : Netlist) (inputs latches : List Bool) (memory : List ℕ) (held : ℕ)
     (values′ latches′ : List Bool) (memory′ : List ℕ) (held′ : ℕ) : Type 0 where
-  pub frame-values : (s : State) (f : Feed) → HoldsState c s latches memory held → Fed c f inputs → HasBelow (lastWire c + 1) (frame c s f) values′
-  pub next-held : (s : State) (f : Feed) → HoldsState c s latches memory held → Fed c f inputs → HoldsState c (step c s (frame c s f)) latches′ memory′ held′
+  pub frame-values : (s : State) (f : ℕ → Bool) → HoldsState c s latches memory held → Fed c f inputs → HasBelow (lastWire c + 1) (frame c s f) values′
+  pub next-held : (s : State) (f : ℕ → Bool) → HoldsState c s latches memory held → Fed c f inputs → HoldsState c (step c s (frame c s f)) latches′ memory′ held′
   pub behind : drop (2 ^ c .m) memory′ ≡ drop (2 ^ c .m) memory

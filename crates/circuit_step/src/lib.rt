@@ -8,11 +8,12 @@ use netlist::Netlist;
 use netlist::UnpackedList;
 ghost use mathlib.Core.Path.{_≡_};
 ghost use Prim.Native.Nat.{ℕ, _+_, _^_, _≤_, _<_};
+ghost use mathlib.Core.Bool.{Bool};
 ghost use mathlib.Core.List.{[]};
 ghost use lib.ListN.{length};
 ghost use Rattle.model.specs.Bits.{bit};
 ghost use Rattle.model.specs.Netlist.{readWire, lastWire};
-ghost use Rattle.model.specs.Circuit.{codeValue, State, Feed, readData, frame};
+ghost use Rattle.model.specs.Circuit.{codeValue, State, readData, frame};
 ghost use Rattle.model.specs.Acceptance.{WithinLimits};
 ghost use Rattle.netlist.specs.NetOf.{netOf, alone};
 ghost use Rattle.netlist.specs.WireTable.{entry, HasBelow};
@@ -42,7 +43,7 @@ fn put_frame(
     held: u32,
 ) -> u32
     requires { ⌜ WithinLimits (netOf net [] (now gates)) × (length (now values) ≡ 601) × (2 ^ net .m ≤ length (now memory)) ⌝ }
-    ensures values { λ _. ⌜ ((s : State) (f : Feed) → HoldsState (alone net) s (now (state .entry)) (now (memory .entry)) held → Fed (alone net) f (now (inputs .entry))
+    ensures values { λ _. ⌜ ((s : State) (f : ℕ → Bool) → HoldsState (alone net) s (now (state .entry)) (now (memory .entry)) held → Fed (alone net) f (now (inputs .entry))
         → HasBelow (lastWire (alone net) + 1) (frame (netOf net [] (now (gates .entry))) s f) (now (values .exit))) ⌝ }
     ensures word { λ r. ⌜ ((t : ℕ) → t < net .n → bit r t ≡ entry (now (values .exit)) (readWire (alone net) t)) ⌝ }
 {

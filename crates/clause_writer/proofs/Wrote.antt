@@ -8,7 +8,7 @@ use native.Mathlib.Omega.{arith}
 use lib.Dec.{eqb}
 use lib.IntN.{ℤ, pos, negsuc}
 use lib.ListN.{length, length-append}
-use borrow.Author.Tests.{eq-eqb, ne-eqb}
+use borrow.Author.Tests.{ne-eqb}
 use borrow.Rule.Slice.PartMut.{midOf, putMid}
 use Rattle.model.specs.Clauses.{Literal, Clause}
 use Rattle.model.specs.Numbers.{keptOf, kept, isTrue, hasTrue, endOf, writtenClause, written}
@@ -150,8 +150,5 @@ pub number-is-lit : (a : Term) (l : Lit) → a ≡ Number l → IsTerm a → IsL
 number-is-lit a l e h = rw e at h
 
 -- room for what depends on whether frame i is the first, as `search` looks for it
-pub room-first : (i x y l : ℕ) → cond (eqb i 0) x y ≤ l → i ≡ 0 → x ≤ l
-room-first i x y l h e = rw (eq-eqb i 0 e) at h
-
 pub room-later : (i x y l : ℕ) → cond (eqb i 0) x y ≤ l → (i ≡ 0 → ⊥) → y ≤ l
 room-later i x y l h n = rw (ne-eqb i 0 n) at h

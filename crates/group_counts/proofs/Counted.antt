@@ -16,7 +16,7 @@ use mir.ValLaws.{toZ-ofZ}
 use Rattle.model.specs.Netlist.{Netlist, Start, given, unknown, start, ports}
 use Rattle.model.specs.Gather.{gather}
 use Rattle.model.specs.Acceptance.{Accepted}
-use Rattle.model.specs.Groups.{inDepth, clausesOf, pairOf, closingOf}
+use Rattle.model.specs.Groups.{inDepth, clausesOf, atPorts}
 use Rattle.model.specs.Numbers.{numbersOf, formula, splitAfter, clausesIn}
 use Rattle.model.specs.Counts.{whereGiven, whereUnknown, numberCount}
 use Rattle.model.specs.Wrote.{Wrote}
@@ -122,11 +122,11 @@ module _ {c : Netlist} (ok : Accepted c) (k : ℕ) where
 
 -- at the one port
 one-pair : (c : Netlist) (k j i : ℕ) → pairs c k j i ≡ shownCount (clausesOf c k (Pair j i 1))
-unfolding pairOf gather
+unfolding atPorts gather
 one-pair c k j i = count-one c k (Pair j i 1)
 
 one-closing : (c : Netlist) (k i : ℕ) → closings c k i ≡ shownCount (clausesOf c k (Closing i 1))
-unfolding closingOf gather
+unfolding atPorts gather
 one-closing c k i = count-one c k (Closing i 1)
 
 -- of all pairs of a depth. But for the property, a group's clauses do not depend on the depth: they are counted at the greatest

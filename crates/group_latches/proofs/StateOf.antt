@@ -1,26 +1,21 @@
--- What the loops over the latches write, from the bases and the list that they hold: one by one the model's clauses; and the
--- latches of frame 0 and of a later one. No contract cites this file.
-use Prim.Native.Nat.{ℕ, zero, suc, _+_, _-_, _*_}
-use mathlib.Core.Path.{_≡_, refl}
+-- What the loops over the latches write, from the bases and the list that they hold: one by one the model's clauses. No contract cites
+-- this file.
+use Prim.Native.Nat.{ℕ, _+_, _*_}
+use mathlib.Core.Path.{_≡_}
 use mathlib.Core.Bool.{cond}
-use mathlib.Core.List.{List, [], _∷_, _++_}
+use mathlib.Core.List.{List, [], _∷_}
 use native.Mathlib.Nat.{add-zero}
-use native.Mathlib.Numerals.{sub-one}
-use native.Mathlib.Omega.{arith}
 use lib.Dec.{eqb}
 use lib.IntN.{ℤ}
 use lib.ListN.{getD}
-use Rattle.model.specs.Netlist as M
 use Rattle.model.specs.Netlist.{latchWire}
 use Rattle.model.specs.Gather.{gather}
-use Rattle.model.specs.Clauses.{plus, neg, sameClauses}
+use Rattle.model.specs.Clauses.{neg, sameClauses}
 use Rattle.model.specs.Variables.{base, wireAt, codeAt}
-use Rattle.model.specs.Groups.{resetClauses, latchClauses, stateClauses}
+use Rattle.model.specs.Groups.{resetClauses, latchClauses}
 use Rattle.model.specs.Numbers.{written}
-use Rattle.model.proofs.Joined.{written-append}
 use Rattle.netlist.specs.NetOf.{netOf, alone}
 use Rattle.netlist.specs.declared.Netlist.{Netlist}
-use Rattle.clause_variables.specs.FrameFits.{FrameFits}
 use Rattle.clause_writer.proofs.Turns.{written-gather}
 
 -- latch l in frame 0
@@ -42,19 +37,3 @@ pub later-latches : (net : Netlist) (ls : List ℕ) (i n : ℕ) {b before first 
     → written (gather n (latchClauses (netOf net ls []) i)) ≡ gather n (latchAt b first before ls)
 unfolding latchClauses base netOf
 later-latches net ls i n e f g = rw (written-gather n (latchClauses (netOf net ls []) i), e, f, g, add-zero)
-
--- the latches of a frame other than 0
-pub state-later : (c : M.Netlist) (i : ℕ) → (i ≡ 0 → ⊥) → stateClauses c i ≡ gather (c .latches) (latchClauses c (i - 1))
-unfolding stateClauses
-state-later c zero h = absurd (h refl)
-state-later c (suc i) h = rw sub-one
-
--- the clause (1), and the latches of frame 0
-pub state-first : (c : M.Netlist)
-    → written (stateClauses c 0) ≡ written ((plus 1 ∷ []) ∷ []) ++ written (gather (c .latches) (resetClauses c))
-unfolding stateClauses
-state-first c = written-append ((plus 1 ∷ []) ∷ []) (gather (c .latches) (resetClauses c))
-
--- behind the frame before a later frame is that frame, as `search` looks for it
-pub frame-again : (c : M.Netlist) (i : ℕ) → (i ≡ 0 → ⊥) → FrameFits c i → FrameFits c (i - 1 + 1)
-frame-again c i h f = record { limits = f .limits; depth = omega (arith, f .depth) }

@@ -1,7 +1,6 @@
 // The clauses of the latches of a frame (RULES G3 and G4): in frame 0 from their resets, later from the frame
 // before. The list is unpacked as the netlist's is.
 use literals::Code;
-use literals::Term;
 use literals::Wire;
 use netlist::Netlist;
 use netlist::UnpackedList;
@@ -13,7 +12,7 @@ ghost use lib.ListN.{length};
 ghost use Rattle.model.specs.Gather.{gather};
 ghost use Rattle.model.specs.Clauses.{neg, sameClauses};
 ghost use Rattle.model.specs.Variables.{wireAt, codeAt};
-ghost use Rattle.model.specs.Groups.{resetClauses, latchClauses, stateClauses};
+ghost use Rattle.model.specs.Groups.{resetClauses, latchClauses};
 ghost use Rattle.model.specs.Numbers.{written};
 ghost use Rattle.literals.specs.Lit.{HasNumber};
 ghost use Rattle.netlist.specs.NetOf.{netOf};
@@ -34,7 +33,7 @@ fn put_reset(out: &mut [i32], b: u32, q: Wire, reset: u32) -> usize
 }
 
 // Each latch in frame 0.
-fn put_resets(out: &mut [i32], net: Netlist, latches: &UnpackedList) -> usize
+pub fn put_resets(out: &mut [i32], net: Netlist, latches: &UnpackedList) -> usize
     requires { ⌜ FrameFits (netOf net (now latches) []) 0 × (net .latches * 2 ≤ length (now out)) ⌝ }
     ensures { λ r. ⌜ Wrote (written (gather (net .latches) (resetClauses (netOf net (now (latches .entry)) []))))
         (now (out .entry)) (now (out .exit)) r × (r ≤ net .latches * 2) ⌝ }
@@ -62,7 +61,7 @@ fn put_latch(out: &mut [i32], b: u32, q: Wire, before: u32, d: Code) -> usize
 }
 
 // Each latch in the frame after frame i.
-fn put_latches(out: &mut [i32], net: Netlist, latches: &UnpackedList, i: u32) -> usize
+pub fn put_latches(out: &mut [i32], net: Netlist, latches: &UnpackedList, i: u32) -> usize
     requires { ⌜ FrameFits (netOf net (now latches) []) (i + 1) × (net .latches * 6 ≤ length (now out)) ⌝ }
     ensures { λ r. ⌜ Wrote (written (gather (net .latches) (latchClauses (netOf net (now (latches .entry)) []) i)))
         (now (out .entry)) (now (out .exit)) r × (r ≤ net .latches * 6) ⌝ }
@@ -79,27 +78,4 @@ fn put_latches(out: &mut [i32], net: Netlist, latches: &UnpackedList, i: u32) ->
         l = l + 1;
     }
     at
-}
-
-// The clause (1), and each latch in frame 0.
-fn put_initial_state(out: &mut [i32], net: Netlist, latches: &UnpackedList) -> usize
-    requires { ⌜ FrameFits (netOf net (now latches) []) 0 × (net .latches * 2 + 2 ≤ length (now out)) ⌝ }
-    ensures { λ r. ⌜ Wrote (written (stateClauses (netOf net (now (latches .entry)) []) 0)) (now (out .entry)) (now (out .exit)) r
-        × (r ≤ net .latches * 2 + 2) ⌝ }
-{
-    let a = clause_writer::put_unit(out, Term::first());
-    a + put_resets(&mut out[a..], net, latches)
-}
-
-// The latches of frame i; in frame 0 after the clause (1).
-pub fn put_state(out: &mut [i32], net: Netlist, latches: &UnpackedList, i: u32) -> usize
-    requires { ⌜ FrameFits (netOf net (now latches) []) i
-        × (cond (eqb i 0) (net .latches * 2 + 2) (net .latches * 6) ≤ length (now out)) ⌝ }
-    ensures { λ r. ⌜ Wrote (written (stateClauses (netOf net (now (latches .entry)) []) i)) (now (out .entry)) (now (out .exit)) r
-        × (r ≤ cond (eqb i 0) (net .latches * 2 + 2) (net .latches * 6)) ⌝ }
-{
-    if i == 0 {
-        return put_initial_state(out, net, latches);
-    }
-    put_latches(out, net, latches, i - 1)
 }

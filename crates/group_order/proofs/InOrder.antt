@@ -9,7 +9,7 @@ use native.Mathlib.Decide.{decLt}
 use native.Mathlib.Omega.{arith}
 use borrow.Author.Tests.{leb-true}
 use Rattle.model.specs.Gather.{gather, gatherDown}
-use Rattle.model.specs.Groups.{pairOf, closingOf, frameGroups, groupOrder, inDepth}
+use Rattle.model.specs.Groups.{atPorts, frameGroups, groupOrder, inDepth}
 use Rattle.model.specs.declared.Group.{Group}
 use Rattle.model.specs.declared.Group.the-variants.{Wires, Pair, Closing, Property}
 use Rattle.model.proofs.Gather.{All, all-at}
@@ -60,20 +60,20 @@ module _ (ports k : ℕ) where
       stands-left g (gather (k + 1) (frameGroups ports)) (Property ∷ []) (stands-gather g (k + 1) (frameGroups ports) i (omega arith) s)
 
   pub in-order : (g : Group) → inDepth ports k g ≡ true → StandsIn g (groupOrder ports k)
-  unfolding groupOrder frameGroups pairOf closingOf
+  unfolding groupOrder frameGroups atPorts
   in-order (Wires i) h =
       stands-frame (Wires i) i (leb-true i k (unfold inDepth in h))
-      (stands-left (Wires i) (Wires i ∷ gatherDown i (pairOf ports i)) (closingOf ports i) (stands-first (Wires i) (gatherDown i (pairOf ports i))))
+      (stands-left (Wires i) (Wires i ∷ gatherDown i (λ j. atPorts ports (Pair j i))) (atPorts ports (Closing i)) (stands-first (Wires i) (gatherDown i (λ j. atPorts ports (Pair j i)))))
   in-order (Pair j i p) h =
       let there = pair-inDepth ports k j i p .0 h in
       stands-frame (Pair j i p) i (there .0)
-      (stands-left (Pair j i p) (Wires i ∷ gatherDown i (pairOf ports i)) (closingOf ports i)
-      (stands-right (Pair j i p) (Wires i ∷ []) (gatherDown i (pairOf ports i))
-      (stands-gatherDown (Pair j i p) i (pairOf ports i) j (there .1) (stands-ports (Pair j i) ports p (there .2)))))
+      (stands-left (Pair j i p) (Wires i ∷ gatherDown i (λ j. atPorts ports (Pair j i))) (atPorts ports (Closing i))
+      (stands-right (Pair j i p) (Wires i ∷ []) (gatherDown i (λ j. atPorts ports (Pair j i)))
+      (stands-gatherDown (Pair j i p) i (λ j. atPorts ports (Pair j i)) j (there .1) (stands-ports (Pair j i) ports p (there .2)))))
   in-order (Closing i p) h =
       let there = closing-inDepth ports k i p .0 h in
       stands-frame (Closing i p) i (there .0)
-      (stands-right (Closing i p) (Wires i ∷ gatherDown i (pairOf ports i)) (closingOf ports i) (stands-ports (Closing i) ports p (there .1)))
+      (stands-right (Closing i p) (Wires i ∷ gatherDown i (λ j. atPorts ports (Pair j i))) (atPorts ports (Closing i)) (stands-ports (Closing i) ports p (there .1)))
   in-order Property h = stands-right Property (gather (k + 1) (frameGroups ports)) (Property ∷ []) (stands-first Property [])
 
   pub not-in-order : (g : Group) → inDepth ports k g ≡ false → (xs ys : List Group) → groupOrder ports k ≡ xs ++ g ∷ ys → ⊥

@@ -7,9 +7,9 @@ use native.Mathlib.Nat.{add-comm, le-of-suc-le, le-refl, not-suc-le-zero, mul-le
 use native.Mathlib.Numerals.{add-one}
 use native.Mathlib.Omega.{arith}
 use lib.Dec.{eqb, ltb, leb}
-use borrow.Author.Tests.{le-leb, lt-leb, lt-ltb, le-ltb, ne-eqb, ltb-true, ltb-false}
+use borrow.Author.Tests.{le-leb, lt-leb, lt-ltb, le-ltb, ne-eqb, ltb-true}
 use Rattle.model.specs.Gather.{gather, gatherDown}
-use Rattle.model.specs.Groups.{pairOf, closingOf, frameGroups, groupOrder, inDepth}
+use Rattle.model.specs.Groups.{atPorts, frameGroups, groupOrder, inDepth}
 use Rattle.model.specs.declared.Group.{Group}
 use Rattle.model.specs.declared.Group.the-variants.{Wires, Pair, Closing, Property}
 use Rattle.group_order.proofs.InOrder.{in-order, not-in-order}
@@ -90,37 +90,37 @@ module _ (ports k : ℕ) where
     ports-first f e (suc (suc n)) h =
         firstOr-append e (gather (suc n) (λ x. f (suc x) ∷ [])) (f (suc (suc n)) ∷ []) ∙ ports-first f (Then (f (suc (suc n)))) (suc n) (omega arith)
 
-    pair-first : (i j : ℕ) (e : Next) → firstOr e (pairOf ports i j) ≡ Then (Pair j i 1)
-    unfolding pairOf
+    pair-first : (i j : ℕ) (e : Next) → firstOr e (atPorts ports (Pair j i)) ≡ Then (Pair j i 1)
+    unfolding atPorts
     pair-first i j e = ports-first (Pair j i) e ports some
 
-    closing-first : (i : ℕ) (e : Next) → firstOr e (closingOf ports i) ≡ Then (Closing i 1)
-    unfolding closingOf
+    closing-first : (i : ℕ) (e : Next) → firstOr e (atPorts ports (Closing i)) ≡ Then (Closing i 1)
+    unfolding atPorts
     closing-first i e = ports-first (Closing i) e ports some
 
     -- the pairs of frame i from j = n - 1 down to 0, before its closing
     pairs-first : (i n : ℕ)
-        → firstOr (Then (Closing i 1)) (gatherDown n (pairOf ports i)) ≡ cond (eqb n 0) (Then (Closing i 1)) (Then (Pair (n - 1) i 1))
+        → firstOr (Then (Closing i 1)) (gatherDown n (λ j. atPorts ports (Pair j i))) ≡ cond (eqb n 0) (Then (Closing i 1)) (Then (Pair (n - 1) i 1))
     unfolding gatherDown
     pairs-first i zero = refl
     pairs-first i (suc n) =
         let e : n ≡ suc n - 1 = omega arith in
-        firstOr-append (Then (Closing i 1)) (pairOf ports i n) (gatherDown n (pairOf ports i)) ∙ pair-first i n _
+        firstOr-append (Then (Closing i 1)) (atPorts ports (Pair n i)) (gatherDown n (λ j. atPorts ports (Pair j i))) ∙ pair-first i n _
         ∙ rw (ne-eqb (suc n) 0 (λ q. omega arith)) (ap (λ (j : ℕ). Then (Pair j i 1)) e)
 
-    pairs-linked : (i n : ℕ) → Linked (Then (Closing i 1)) (gatherDown n (pairOf ports i))
-    unfolding gatherDown pairOf atPort
+    pairs-linked : (i n : ℕ) → Linked (Then (Closing i 1)) (gatherDown n (λ j. atPorts ports (Pair j i)))
+    unfolding gatherDown atPorts atPort
     pairs-linked i zero = tt
     pairs-linked i (suc n) =
-        linked-append (Then (Closing i 1)) (pairOf ports i n) (gatherDown n (pairOf ports i))
+        linked-append (Then (Closing i 1)) (atPorts ports (Pair n i)) (gatherDown n (λ j. atPorts ports (Pair j i)))
         (all-linked (Pair n i) _ (λ p. rw (add-one p, pairs-first i n))) (pairs-linked i n)
 
     -- frame i, before whatever follows its closing
     frame-linked : (i : ℕ) → Linked (cond (ltb i k) (Then (Wires (i + 1))) (Then Property)) (frameGroups ports i)
-    unfolding frameGroups closingOf atPort
+    unfolding frameGroups atPorts atPort
     frame-linked i =
         let e = cond (ltb i k) (Then (Wires (i + 1))) (Then Property) in
-        linked-append e (Wires i ∷ gatherDown i (pairOf ports i)) (closingOf ports i)
+        linked-append e (Wires i ∷ gatherDown i (λ j. atPorts ports (Pair j i))) (atPorts ports (Closing i))
         (rw (closing-first i e) (sym (pairs-first i i), pairs-linked i i))
         (all-linked (Closing i) e (λ p. rw (add-one p)))
 

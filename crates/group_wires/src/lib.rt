@@ -1,6 +1,7 @@
 // The clauses of the wires of a frame (RULES G3 to G5): its latches, then its gates. The lists are unpacked as
 // the netlist's are.
 use literals::Code;
+use literals::Term;
 use literals::Wire;
 use netlist::Netlist;
 use netlist::UnpackedList;
@@ -50,6 +51,38 @@ fn put_gates(out: &mut [i32], net: Netlist, gates: &UnpackedList, i: u32) -> usi
     at
 }
 
+// The wires of frame 0: the clause (1), the latches, the gates.
+fn put_first_wires(
+    out: &mut [i32],
+    net: Netlist,
+    latches: &UnpackedList,
+    gates: &UnpackedList,
+) -> usize
+    requires { ⌜ FrameFits (netOf net (now latches) (now gates)) 0 × (net .latches * 2 + 2 + net .gates * 10 ≤ length (now out)) ⌝ }
+    ensures { λ r. ⌜ Wrote (numbersOf (netOf net (now (latches .entry)) (now (gates .entry))) 0 (Wires 0))
+        (now (out .entry)) (now (out .exit)) r × (r ≤ net .latches * 2 + 2 + net .gates * 10) ⌝ }
+{
+    let a = clause_writer::put_unit(out, Term::first());
+    let b = a + group_latches::put_resets(&mut out[a..], net, latches);
+    b + put_gates(&mut out[b..], net, gates, 0)
+}
+
+// The wires of the frame after frame i: the latches, the gates.
+fn put_later_wires(
+    out: &mut [i32],
+    net: Netlist,
+    latches: &UnpackedList,
+    gates: &UnpackedList,
+    i: u32,
+) -> usize
+    requires { ⌜ FrameFits (netOf net (now latches) (now gates)) (i + 1) × (net .latches * 6 + net .gates * 10 ≤ length (now out)) ⌝ }
+    ensures { λ r. ⌜ Wrote (numbersOf (netOf net (now (latches .entry)) (now (gates .entry))) (i + 1) (Wires (i + 1)))
+        (now (out .entry)) (now (out .exit)) r × (r ≤ net .latches * 6 + net .gates * 10) ⌝ }
+{
+    let a = group_latches::put_latches(out, net, latches, i);
+    a + put_gates(&mut out[a..], net, gates, i + 1)
+}
+
 // All clauses of the wires of frame i.
 pub fn put_wires(
     out: &mut [i32],
@@ -63,6 +96,8 @@ pub fn put_wires(
     ensures { λ r. ⌜ Wrote (numbersOf (netOf net (now (latches .entry)) (now (gates .entry))) i (Wires i))
         (now (out .entry)) (now (out .exit)) r × (r ≤ cond (eqb i 0) (net .latches * 2 + 2) (net .latches * 6) + net .gates * 10) ⌝ }
 {
-    let a = group_latches::put_state(out, net, latches, i);
-    a + put_gates(&mut out[a..], net, gates, i)
+    if i == 0 {
+        return put_first_wires(out, net, latches, gates);
+    }
+    put_later_wires(out, net, latches, gates, i - 1)
 }

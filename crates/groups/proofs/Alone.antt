@@ -82,7 +82,8 @@ module _ (r : Netlist) (ls gs : List ℕ) where
 -- the wires of a frame, at any depth
 pub wires-depth : (c : M.Netlist) (k i : ℕ) → numbersOf c i (Wires i) ≡ numbersOf c k (Wires i)
 unfolding numbersOf clausesOf
-wires-depth c k i = refl
+wires-depth c k zero = refl
+wires-depth c k (suc i) = refl
 
 -- a group known by its kind: what is written, and its frames
 module _ (c : M.Netlist) (k : ℕ) {g g′ : Group} (e : g ≡ g′) {zs : List ℤ} (h : zs ≡ numbersOf c k g′) where

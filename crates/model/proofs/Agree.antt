@@ -47,6 +47,22 @@ module _ (c d : Netlist) (q : SameSizes c d) where
         wires-fit = rw (← same-at 0, ← same-at 1, ← same-at 2, ← same-at 4) (h .wires-fit);
       }
 
+-- a netlist agrees with itself
+pub agree-itself : (c : Netlist) → Agree c c
+agree-itself c =
+    record {
+      sizes-same = refl;
+      next-same = λ l b. refl;
+      reset-same = λ l b. refl;
+      left-same = λ g b. refl;
+      right-same = λ g b. refl;
+      address-same = λ t b. refl;
+      data-same = λ t b. refl;
+      WE-same = refl;
+      RE-same = refl;
+      P-same = refl;
+    }
+
 -- and the same entries
 module _ (c d : Netlist) (q : Agree c d) where
   pub inputs-same : c .inputs ≡ d .inputs

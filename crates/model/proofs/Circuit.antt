@@ -1,13 +1,15 @@
 -- Laws of specs/Circuit.antt: a frame is the one solution of its equations. No contract cites this file.
-use Prim.Native.Nat.{ℕ, _-_, _/_, _≤_, _<_}
-use mathlib.Core.Path.{_≡_, refl, ap₂, sym, _∙_}
-use mathlib.Core.Bool.{Bool, false, _&&_, true≢false}
+use Prim.Native.Nat.{ℕ, _+_, _-_, _/_, _≤_, _<_}
+use mathlib.Core.Path.{_≡_, refl, sym, _∙_, ap₂}
+use mathlib.Core.Bool.{Bool, false, cond, _&&_, true≢false}
 use native.Mathlib.Omega.{arith}
+use native.Mathlib.Nat.{zero-add}
 use borrow.Author.Tests.{lt-ltb, le-ltb}
-use Rattle.model.specs.Netlist.{Netlist, Port, port, readBits, inputWire, latchWire, readWire, gateWire, lastWire}
-use Rattle.model.specs.Circuit.{Values, codeValue, sources, conjunction, evaluate, Solves, dependsOnRead, State, Feed, addressOf, readData, firstPass, frame}
-use Rattle.model.specs.Acceptance.{Accepted, CodesFit, IsCode, NoLoop}
-use Rattle.model.proofs.Ports.{first-port}
+use Rattle.model.specs.Netlist.{Netlist, Port, IsPort, port, readBits, inputWire, latchWire, readWire, gateWire, lastWire}
+use Rattle.model.specs.Circuit.{Values, codeValue, sources, conjunction, evaluate, Solves, dependsOnRead, State, addressOf, readData, firstPass, frame}
+use Rattle.model.specs.Acceptance.{Accepted, CodesFit, IsCode}
+use Rattle.model.specs.Bits.{bit}
+use Rattle.model.proofs.Ports.{port-bit, address-code, RE-code}
 use Rattle.model.proofs.Bits.{fromBits-same}
 use Rattle.model.proofs.Sweep.{OfTwoWires, sweep-outside, sweep-solves, wire-induction}
 use Rattle.model.proofs.Dependence.{depends-read, independent-gate}
@@ -109,65 +111,78 @@ pub address-same : (c : Netlist) (p : Port) (u v : Values) → ((t : ℕ) → t 
 unfolding addressOf
 address-same c p u v h = fromBits-same (c .m) (λ t. codeValue u (p .address t)) (λ t. codeValue v (p .address t)) h
 
--- what is read follows from the address and RE
-pub readData-same : (c : Netlist) (s : State) (u v : Values) → addressOf c (port c 1) u ≡ addressOf c (port c 1) v
-    → codeValue u (port c 1 .RE) ≡ codeValue v (port c 1 .RE) → (t : ℕ) → readData c s u t ≡ readData c s v t
+-- what a port reads, by its address and RE
+pub readData-port : (c : Netlist) (p : ℕ) → IsPort c p → (s : State) (v : Values) (t : ℕ) → t < c .n
+    → readData c s v (port c p .firstRead + t)
+    ≡ cond (codeValue v (port c p .RE)) (bit (s .memory (addressOf c (port c p) v)) t) (s .held (port c p .firstRead + t))
 unfolding readData
-readData-same c s u v a e t = rw (a, e)
+readData-port c p here s v t b = rw (zero-add t)
+
+-- so it follows from the addresses and the REs
+pub readData-same : (c : Netlist) (s : State) (u v : Values)
+    → ((p : ℕ) → IsPort c p → (addressOf c (port c p) u ≡ addressOf c (port c p) v) × (codeValue u (port c p .RE) ≡ codeValue v (port c p .RE)))
+    → (r : ℕ) → r < readBits c → readData c s u r ≡ readData c s v r
+readData-same c s u v same r b =
+    let x = port-bit c r b in
+    let e = same (x .of) (x .is-port) in
+    rw (x .is)
+    (readData-port c (x .of) (x .is-port) s u (x .t) (x .below)
+    ∙ rw (e .0, e .1) (sym (readData-port c (x .of) (x .is-port) s v (x .t) (x .below))))
 
 -- a frame as equations, without the two passes
-pub record IsFrame (c : Netlist) (s : State) (f : Feed) (v : Values) : Type 0 where
+pub record IsFrame (c : Netlist) (s : State) (f : ℕ → Bool) (v : Values) : Type 0 where
   pub at-zero : v 0 ≡ false
-  pub at-input : (x : ℕ) → x < c .inputs → v (inputWire c x) ≡ f .input x
+  pub at-input : (x : ℕ) → x < c .inputs → v (inputWire c x) ≡ f x
   pub at-latch : (l : ℕ) → l < c .latches → v (latchWire c l) ≡ s .latch l
   pub at-read : (t : ℕ) → t < readBits c → v (readWire c t) ≡ readData c s v t
   pub at-gate : (g : ℕ) → g < c .gates → v (gateWire c g) ≡ (codeValue v (c .left g) && codeValue v (c .right g))
 
 -- what is read is settled before any read bit is
-read-settled : {c : Netlist} → Accepted c → (s : State) (f : Feed) → {read other : ℕ → Bool} {u v : Values}
-    → Solves c (f .input) (s .latch) read u → Solves c (f .input) (s .latch) other v → (t : ℕ) → readData c s u t ≡ readData c s v t
-read-settled {c} h s f {u} {v} p q =
-    readData-same c s u v
-    (address-same c (port c 1) u v (λ t l. settled (c .address t) (h .limits .codes .address-fits t l) (free .address-free t l)))
-    (settled (c .RE) (h .limits .codes .RE-fits) (free .RE-free))
+read-settled : {c : Netlist} → Accepted c → (s : State) (f : ℕ → Bool) → {read other : ℕ → Bool} {u v : Values}
+    → Solves c f (s .latch) read u → Solves c f (s .latch) other v → (r : ℕ) → r < readBits c → readData c s u r ≡ readData c s v r
+read-settled {c} h s f {u} {v} q q′ =
+    readData-same c s u v (λ p here. (
+      address-same c (port c p) u v (λ t l. settled (port c p .address t) (address-code c p here fit t l) (h .noLoop p here .address-free t l)),
+      settled (port c p .RE) (RE-code c p here fit) (h .noLoop p here .RE-free),
+    ))
   where
-    free : NoLoop c (port c 1)
-    free = h .noLoop 1 (first-port c)
+    fit : CodesFit c
+    fit = h .limits .codes
 
     settled : (x : ℕ) → IsCode c x → dependsOnRead c (x / 2) ≡ false → codeValue u x ≡ codeValue v x
-    settled x l free = code-same u v x (independent-agree (h .limits .codes) p q (x / 2) (omega arith) free)
+    settled x l free = code-same u v x (independent-agree fit q q′ (x / 2) (omega arith) free)
 
 -- the first pass is a solution with all read bits false
-firstPass-solves : {c : Netlist} → CodesFit c → (s : State) (f : Feed) → Solves c (f .input) (s .latch) (λ t. false) (firstPass c s f)
+firstPass-solves : {c : Netlist} → CodesFit c → (s : State) (f : ℕ → Bool) → Solves c f (s .latch) (λ t. false) (firstPass c s f)
 unfolding firstPass
-firstPass-solves {c} q s f = evaluate-solves c (f .input) (s .latch) (λ t. false) q
+firstPass-solves {c} q s f = evaluate-solves c f (s .latch) (λ t. false) q
 
 -- the second pass is a solution with what the first pass reads
-frame-solves : {c : Netlist} → CodesFit c → (s : State) (f : Feed)
-    → Solves c (f .input) (s .latch) (readData c s (firstPass c s f)) (frame c s f)
+frame-solves : {c : Netlist} → CodesFit c → (s : State) (f : ℕ → Bool)
+    → Solves c f (s .latch) (readData c s (firstPass c s f)) (frame c s f)
 unfolding frame
-frame-solves {c} q s f = evaluate-solves c (f .input) (s .latch) (readData c s (firstPass c s f)) q
+frame-solves {c} q s f = evaluate-solves c f (s .latch) (readData c s (firstPass c s f)) q
 
 -- the two passes solve a frame's equations
-pub frame-is : {c : Netlist} → Accepted c → (s : State) (f : Feed) → IsFrame c s f (frame c s f)
+pub frame-is : {c : Netlist} → Accepted c → (s : State) (f : ℕ → Bool) → IsFrame c s f (frame c s f)
 frame-is {c} h s f =
     record {
       at-zero = q .at-zero;
       at-input = q .at-input;
       at-latch = q .at-latch;
-      at-read = λ t l. q .at-read t l ∙ read-settled h s f (firstPass-solves (h .limits .codes) s f) q t;
+      at-read = λ t l. q .at-read t l ∙ read-settled h s f (firstPass-solves (h .limits .codes) s f) q t l;
       at-gate = q .at-gate;
     }
   where
-    q : Solves c (f .input) (s .latch) (readData c s (firstPass c s f)) (frame c s f)
+    q : Solves c f (s .latch) (readData c s (firstPass c s f)) (frame c s f)
     q = frame-solves (h .limits .codes) s f
 
 -- every solution of a frame's equations has the values of the two passes
-pub frame-unique : {c : Netlist} → Accepted c → (s : State) (f : Feed) (v : Values) → IsFrame c s f v
+pub frame-unique : {c : Netlist} → Accepted c → (s : State) (f : ℕ → Bool) (v : Values) → IsFrame c s f v
     → (w : ℕ) → w ≤ lastWire c → v w ≡ frame c s f w
 frame-unique {c} h s f v q w b =
     solutions-agree (h .limits .codes) (λ x. Unit {0}) (λ g l k. (tt, tt))
-    (λ t l k. read-settled h s f p (firstPass-solves (h .limits .codes) s f) t) p (frame-solves (h .limits .codes) s f) w b tt
+    (λ t l k. read-settled h s f p (firstPass-solves (h .limits .codes) s f) t l) p (frame-solves (h .limits .codes) s f) w b tt
   where
-    p : Solves c (f .input) (s .latch) (readData c s v) v
+    p : Solves c f (s .latch) (readData c s v) v
     p = record { at-zero = q .at-zero; at-input = q .at-input; at-latch = q .at-latch; at-read = q .at-read; at-gate = q .at-gate }

@@ -18,7 +18,7 @@ use Rattle.model.specs.Gather.{gather, gatherDown}
 use Rattle.model.specs.Acceptance.{Accepted}
 use Rattle.model.specs.Clauses.{Literal, known, plus, minus, Clause, neg, andClauses, sameClauses, sameIfClauses, sameIfAllClauses, bitClauses, PairLiterals, addressBitClauses, unequalOf, allBits, forwardedClauses, agreedClauses, agreedReads, pairClauses, initialReadClauses, initialReads, heldClauses, heldReads, selectedOf, someSource, closingClauses}
 use Rattle.model.specs.Variables.{wireAt, codeAt, codeIn, noneSince, selected, readBit, pairLiterals, closingLiterals}
-use Rattle.model.specs.Groups.{gateClauses, latchClauses, stateClauses, clausesOf, pairOf, closingOf, frameGroups, groupOrder}
+use Rattle.model.specs.Groups.{gateClauses, latchClauses, clausesOf, atPorts, frameGroups, groupOrder}
 use Rattle.model.specs.Numbers.{isTrue, hasTrue, kept, formula, clausesIn}
 use Rattle.model.specs.declared.Group.{Group}
 use Rattle.model.specs.declared.Group.the-variants.{Wires, Pair, Closing, Property}
@@ -304,7 +304,7 @@ module _ (c : Netlist) (k p : ℕ) where
 module _ (c : Netlist) (k : ℕ) where
   -- the wires of later frames
   wires-alike : (i j : ℕ) → Alike (clausesOf c k (Wires (suc i))) (clausesOf c k (Wires (suc j)))
-  unfolding clausesOf stateClauses latchClauses gateClauses wireAt
+  unfolding clausesOf latchClauses gateClauses wireAt
   wires-alike i j =
       alike-gather (c .latches) _ _ (λ l. same-alike (like-plus _ _) (code-like _ _ _))
       ⧺ alike-gather (c .gates) _ _ (λ g. and-alike (like-plus _ _) (code-like _ _ _) (code-like _ _ _))
@@ -340,57 +340,57 @@ module _ (c : Netlist) (k : ℕ) where
 
   -- of pair (j, i), and of frame i's closing, over all ports
   abbrev pub pairs : ℕ → ℕ → ℕ
-  pairs j i = count (pairOf (ports c) i j)
+  pairs j i = count (atPorts (ports c) (Pair j i))
 
   abbrev pub closings : ℕ → ℕ
-  closings i = count (closingOf (ports c) i)
+  closings i = count (atPorts (ports c) (Closing i))
 
   neighbours : (j l : ℕ) → eqb 0 j ≡ eqb 0 l → pairs j (suc j) ≡ pairs l (suc l)
-  unfolding pairOf
+  unfolding atPorts
   neighbours j l z = ports-same (ports c) (Pair j (suc j)) (Pair l (suc l)) (λ p. neighbours-count c k p j l z)
 
   far : (j i l h : ℕ) → j < i → l < h → eqb 0 j ≡ eqb 0 l → pairs j (suc i) ≡ pairs l (suc h)
-  unfolding pairOf
+  unfolding atPorts
   far j i l h a b z = ports-same (ports c) (Pair j (suc i)) (Pair l (suc h)) (λ p. others-count c k p j i l h a b z)
 
   later-closings : (i j : ℕ) → closings (suc i) ≡ closings (suc j)
-  unfolding closingOf
+  unfolding atPorts
   later-closings i j = ports-same (ports c) (Closing (suc i)) (Closing (suc j)) (λ p. closings-count c k p i j)
 
   -- of the pairs of frame i + 2, but for that of neighbours: the last is one with frame 0
-  down-count : (i n : ℕ) → n ≤ i → count (gatherDown (suc n) (pairOf (ports c) (suc (suc i)))) ≡ n * pairs 1 3 + pairs 0 2
+  down-count : (i n : ℕ) → n ≤ i → count (gatherDown (suc n) (λ j. atPorts (ports c) (Pair j (suc (suc i))))) ≡ n * pairs 1 3 + pairs 0 2
   unfolding gatherDown
   down-count i zero h =
-      count-adds .of-both (pairOf (ports c) (suc (suc i)) 0) []
+      count-adds .of-both (atPorts (ports c) (Pair 0 (suc (suc i)))) []
       ∙ rw (count-adds .of-none, far 0 (suc i) 0 1 (omega arith) (omega arith) refl) (omega arith)
   down-count i (suc n) h =
-      count-adds .of-both (pairOf (ports c) (suc (suc i)) (suc n)) (gatherDown (suc n) (pairOf (ports c) (suc (suc i))))
+      count-adds .of-both (atPorts (ports c) (Pair (suc n) (suc (suc i)))) (gatherDown (suc n) (λ j. atPorts (ports c) (Pair j (suc (suc i)))))
       ∙ rw (far (suc n) (suc i) 1 2 (omega arith) (omega arith) (never-zero n 0), down-count i n (omega arith))
       (omega (arith, suc-mul n (pairs 1 3)))
 
   -- of the pairs of frame 1, and of a later frame
-  pairs-count-first : count (gatherDown 1 (pairOf (ports c) 1)) ≡ pairs 0 1
+  pairs-count-first : count (gatherDown 1 (λ j. atPorts (ports c) (Pair j 1))) ≡ pairs 0 1
   unfolding gatherDown
-  pairs-count-first = count-adds .of-both (pairOf (ports c) 1 0) [] ∙ rw (count-adds .of-none) (omega arith)
+  pairs-count-first = count-adds .of-both (atPorts (ports c) (Pair 0 1)) [] ∙ rw (count-adds .of-none) (omega arith)
 
-  pairs-count-later : (i : ℕ) → count (gatherDown (suc (suc i)) (pairOf (ports c) (suc (suc i)))) ≡ pairs 1 2 + (i * pairs 1 3 + pairs 0 2)
+  pairs-count-later : (i : ℕ) → count (gatherDown (suc (suc i)) (λ j. atPorts (ports c) (Pair j (suc (suc i))))) ≡ pairs 1 2 + (i * pairs 1 3 + pairs 0 2)
   unfolding gatherDown
   pairs-count-later i =
-      count-adds .of-both (pairOf (ports c) (suc (suc i)) (suc i)) (gatherDown (suc i) (pairOf (ports c) (suc (suc i))))
+      count-adds .of-both (atPorts (ports c) (Pair (suc i) (suc (suc i)))) (gatherDown (suc i) (λ j. atPorts (ports c) (Pair j (suc (suc i)))))
       ∙ ap₂ _+_ (neighbours (suc i) 1 (never-zero i 0)) (down-count i i (omega arith))
 
   -- of frame 0, and of a later frame
   first-count : count (frameGroups (ports c) 0) ≡ of (Wires 0) + closings 0
   unfolding frameGroups gatherDown
-  first-count = count-adds .of-both (Wires 0 ∷ []) (closingOf (ports c) 0) ∙ ap (λ (n : ℕ). n + closings 0) (count-one (Wires 0))
+  first-count = count-adds .of-both (Wires 0 ∷ []) (atPorts (ports c) (Closing 0)) ∙ ap (λ (n : ℕ). n + closings 0) (count-one (Wires 0))
 
-  later-count : (i : ℕ) {n : ℕ} → count (gatherDown (suc i) (pairOf (ports c) (suc i))) ≡ n
+  later-count : (i : ℕ) {n : ℕ} → count (gatherDown (suc i) (λ j. atPorts (ports c) (Pair j (suc i)))) ≡ n
       → count (frameGroups (ports c) (suc i)) ≡ of (Wires 1) + (n + closings 1)
   unfolding frameGroups
   later-count i e =
-      count-adds .of-both (Wires (suc i) ∷ []) (gatherDown (suc i) (pairOf (ports c) (suc i)) ++ closingOf (ports c) (suc i))
+      count-adds .of-both (Wires (suc i) ∷ []) (gatherDown (suc i) (λ j. atPorts (ports c) (Pair j (suc i))) ++ atPorts (ports c) (Closing (suc i)))
       ∙ ap₂ _+_ (count-one (Wires (suc i)) ∙ alike-count (wires-alike i 0))
-      (count-adds .of-both (gatherDown (suc i) (pairOf (ports c) (suc i))) (closingOf (ports c) (suc i)) ∙ ap₂ _+_ e (later-closings i 0))
+      (count-adds .of-both (gatherDown (suc i) (λ j. atPorts (ports c) (Pair j (suc i)))) (atPorts (ports c) (Closing (suc i))) ∙ ap₂ _+_ e (later-closings i 0))
 
 -- how many pairs of frames 0 to i are not of neighbours
 others : ℕ → ℕ

@@ -1,6 +1,6 @@
 -- The clauses of all groups of a depth, joined in the order of the whole: their numbers are the formula, and what splits over
 -- joined clauses splits into the groups. No contract cites this file.
-use Prim.Native.Nat.{ℕ, suc, _+_, _-_, _<_, _≤_}
+use Prim.Native.Nat.{ℕ, suc, _+_, _-_, _≤_, _<_}
 use mathlib.Core.Path.{_≡_, refl, ap₂, subst}
 use mathlib.Core.Bool.{true, _&&_}
 use mathlib.Core.List.{List, [], _∷_, _++_, append-assoc, append-nil}
@@ -12,7 +12,7 @@ use borrow.Author.Tests.{le-leb, lt-ltb, leb-true, ltb-true}
 use Rattle.model.specs.Netlist.{Netlist, ports, IsPort}
 use Rattle.model.specs.Gather.{gather, gatherDown}
 use Rattle.model.specs.Clauses.{Clause}
-use Rattle.model.specs.Groups.{clausesOf, pairOf, closingOf, frameGroups, groupOrder, inDepth}
+use Rattle.model.specs.Groups.{clausesOf, atPorts, frameGroups, groupOrder, inDepth}
 use Rattle.model.specs.Numbers.{writtenClause, written, numbersOf, joined, formula}
 use Rattle.model.specs.declared.Group.{Group}
 use Rattle.model.specs.declared.Group.the-variants.{Wires, Pair, Closing, Property}
@@ -92,21 +92,21 @@ module _ (c : Netlist) (k : ℕ) (H : List Clause → Type 0) (splits : Splits H
       )
 
   over-pairs : (i : ℕ)
-      → Over (gatherDown i (pairOf (ports c) i)) ↔ ((p : ℕ) → IsPort c p → (j : ℕ) → j < i → H (clausesOf c k (Pair j i p)))
-  unfolding pairOf
+      → Over (gatherDown i (λ j. atPorts (ports c) (Pair j i))) ↔ ((p : ℕ) → IsPort c p → (j : ℕ) → j < i → H (clausesOf c k (Pair j i p)))
+  unfolding atPorts
   over-pairs i =
-      Iff·trans (splits-gatherDown over-splits i (pairOf (ports c) i)) (
+      Iff·trans (splits-gatherDown over-splits i (λ j. atPorts (ports c) (Pair j i))) (
         λ h p b j l. over-ports (Pair j i) .0 (h j l) p b,
         λ h j l. over-ports (Pair j i) .1 (λ p b. h p b j l),
       )
 
-  over-closing : (i : ℕ) → Over (closingOf (ports c) i) ↔ ((p : ℕ) → IsPort c p → H (clausesOf c k (Closing i p)))
-  unfolding closingOf
+  over-closing : (i : ℕ) → Over (atPorts (ports c) (Closing i)) ↔ ((p : ℕ) → IsPort c p → H (clausesOf c k (Closing i p)))
+  unfolding atPorts
   over-closing i = over-ports (Closing i)
 
   over-frame : (i : ℕ)
       → Over (frameGroups (ports c) i)
-      ↔ (H (clausesOf c k (Wires i)) × (Over (gatherDown i (pairOf (ports c) i)) × Over (closingOf (ports c) i)))
+      ↔ (H (clausesOf c k (Wires i)) × (Over (gatherDown i (λ j. atPorts (ports c) (Pair j i))) × Over (atPorts (ports c) (Closing i))))
   unfolding frameGroups
   over-frame i = simp (over-splits .of-both, over-cons) (λ h. search, λ h. search)
 
@@ -161,11 +161,11 @@ closing-inDepth ports k i p = (
 
 -- the order of the whole has groups that there are, and no others
 pub order-inDepth : (ports k : ℕ) → All (λ g. inDepth ports k g ≡ true) (groupOrder ports k)
-unfolding groupOrder frameGroups pairOf closingOf
+unfolding groupOrder frameGroups atPorts
 order-inDepth ports k =
     all-gather (k + 1) (frameGroups ports) (λ i b.
     just (wires i (omega arith))
-    ⧺ all-gatherDown i (pairOf ports i) (λ j l. all-gather ports _ (λ x d. just (pair-inDepth ports k j i (suc x) .1 (omega arith, l, (omega arith, d)))))
+    ⧺ all-gatherDown i (λ j. atPorts ports (Pair j i)) (λ j l. all-gather ports _ (λ x d. just (pair-inDepth ports k j i (suc x) .1 (omega arith, l, (omega arith, d)))))
     ⧺ all-gather ports _ (λ x d. just (closing-inDepth ports k i (suc x) .1 (omega arith, (omega arith, d)))))
     ⧺ just property
   where

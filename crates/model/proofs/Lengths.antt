@@ -9,7 +9,7 @@ use lib.ListN.{length, length-append}
 use Rattle.model.specs.Netlist.{Netlist, Start, given, unknown, start}
 use Rattle.model.specs.Gather.{gather}
 use Rattle.model.specs.Clauses.{Literal, known, plus, minus, Clause, andClauses, sameClauses, sameIfClauses, sameIfAllClauses, bitClauses, PairLiterals, addressBitClauses, unequalOf, allBits, forwardedClauses, agreedClauses, agreedReads, pairClauses, ClosingLiterals, initialReadClauses, initialReads, heldClauses, heldReads, selectedOf, someSource, closingClauses}
-use Rattle.model.specs.Groups.{gateClauses, resetClauses, latchClauses, stateClauses, violationOf, clausesOf}
+use Rattle.model.specs.Groups.{gateClauses, resetClauses, latchClauses, violationOf, clausesOf}
 use Rattle.model.specs.Numbers.{keptOf, kept, hasTrue, endOf, writtenClause, written, numbersOf}
 use Rattle.model.specs.declared.Group.the-variants.{Wires, Pair, Closing, Property}
 use Rattle.model.specs.Counts.{whereGiven, whereUnknown}
@@ -197,7 +197,7 @@ gates-counts c i = counts-gather (c .gates) 3 10 (gateClauses c i) (λ g. and-co
 module _ (c : Netlist) (k : ℕ) where
   -- the wires of frame 0
   wires-counts-first : Counts (clausesOf c k (Wires 0)) (1 + c .latches + 3 * c .gates) (2 + 2 * c .latches + 10 * c .gates)
-  unfolding clausesOf stateClauses resetClauses
+  unfolding clausesOf resetClauses
   wires-counts-first =
       counts-as
       (counts-one _ (omega arith) ⊕ counts-gather (c .latches) 1 2 (resetClauses c) (λ l. counts-one _ (omega arith)) ⊕ gates-counts c 0)
@@ -207,7 +207,7 @@ module _ (c : Netlist) (k : ℕ) where
   -- the wires of a later frame
   wires-counts-later : (i : ℕ)
       → Counts (clausesOf c k (Wires (suc i))) (2 * c .latches + 3 * c .gates) (6 * c .latches + 10 * c .gates)
-  unfolding clausesOf stateClauses latchClauses
+  unfolding clausesOf latchClauses
   wires-counts-later i =
       counts-as
       (counts-gather (c .latches) 2 6 (latchClauses c i) (λ l. same-counts _ _) ⊕ gates-counts c (suc i))

@@ -6,10 +6,10 @@ use mathlib.Core.Bool.{Bool}
 use mathlib.Core.Logic.{_↔_}
 use native.Mathlib.Nat.{le-refl}
 use native.Mathlib.Omega.{arith}
-use lib.Dec.{ltb}
+use lib.Dec.{eqb, ltb}
 use borrow.Author.Tests.{ltb-true, ltb-false}
 use Rattle.model.specs.Netlist.{Netlist, port, readBits, inputWire, latchWire, readWire, gateWire}
-use Rattle.model.specs.Circuit.{Values, codeValue, sources, evaluate, State, Feed, Feeds, addressOf, readData, firstPass, frame, wordWritten, step, stateAt, run, Begins, initial}
+use Rattle.model.specs.Circuit.{Values, codeValue, sources, evaluate, State, Feeds, addressOf, readData, firstPass, frame, wordWritten, step, stateAt, run, Starts}
 use Rattle.model.specs.Numbers.{Assignment}
 use Rattle.model.specs.Claim.{Agrees, Breaks}
 use Rattle.model.specs.Agree.{Agree}
@@ -30,15 +30,13 @@ pub same-state : (c : Netlist) (s : State) → SameState c s s
 same-state c s = record { latch-same = λ l b. refl; memory-same = λ x. refl; held-same = λ t b. refl }
 
 module _ (c d : Netlist) (q : Agree c d) where
-  -- so do the two initial states
-  pub initial-same : (memory : ℕ → ℕ) (idle : ℕ → Bool) → SameState c (initial c memory idle) (initial d memory idle)
-  unfolding initial
-  initial-same memory idle =
-      record { latch-same = λ l b. rw (q .reset-same l b); memory-same = λ x. refl; held-same = λ t b. refl }
-
-  -- and they may begin with the same memories
-  pub begins-same : (memory : ℕ → ℕ) → Begins c memory → Begins d memory
-  begins-same memory h = rw (← n-same c d q, ← start-same c d q) h
+  -- they may begin in the same states
+  pub starts-same : (s : State) → Starts c s → Starts d s
+  starts-same s h =
+      record {
+        at-reset = λ l b. let below : l < c .latches = rw (latches-same c d q) b in h .at-reset l below ∙ ap (λ (r : ℕ). eqb r 1) (q .reset-same l below);
+        begins = rw (← n-same c d q, ← start-same c d q) (h .begins);
+      }
 
   -- from the same inputs, latches and read bits every wire has the same value
   module _ (input : ℕ → Bool) {latch other read back : ℕ → Bool} (latches : (l : ℕ) → l < c .latches → latch l ≡ other l)
@@ -63,9 +61,9 @@ module _ (c d : Netlist) (q : Agree c d) where
     pub code-value-same : {x y : ℕ} → x ≡ y → codeValue u x ≡ codeValue v y
     code-value-same {x} {y} e = code-same u v x (same (x / 2)) ∙ ap (codeValue v) e
 
-    addressOf-same : addressOf c (port c 1) u ≡ addressOf d (port d 1) v
+    addressOf-same : (p : ℕ) → addressOf c (port c p) u ≡ addressOf d (port d p) v
     unfolding addressOf
-    addressOf-same = fromBits-same (c .m) _ _ (λ t b. code-value-same (q .address-same t b)) ∙ rw (m-same c d q)
+    addressOf-same p = fromBits-same (c .m) _ _ (λ t b. code-value-same (q .address-same t b)) ∙ rw (m-same c d q)
 
     word-written-same : wordWritten c u ≡ wordWritten d v
     unfolding wordWritten
@@ -87,14 +85,14 @@ module _ (c d : Netlist) (q : Agree c d) where
           }
 
   -- from states that agree, fed alike
-  module _ {s r : State} (states : SameState c s r) (f : Feed) where
+  module _ {s r : State} (states : SameState c s r) (f : ℕ → Bool) where
     first-same : (w : ℕ) → firstPass c s f w ≡ firstPass d r f w
     unfolding firstPass
-    first-same = evaluate-same (f .input) (states .latch-same) (λ t b. refl)
+    first-same = evaluate-same f (states .latch-same) (λ t b. refl)
 
     frame-same : (w : ℕ) → frame c s f w ≡ frame d r f w
     unfolding frame
-    frame-same = evaluate-same (f .input) (states .latch-same) (read-same first-same states)
+    frame-same = evaluate-same f (states .latch-same) (read-same first-same states)
 
   module _ {s r : State} (states : SameState c s r) (f : Feeds) where
     pub stateAt-same : (i : ℕ) → SameState c (stateAt c s f i) (stateAt d r f i)

@@ -10,7 +10,7 @@ use native.Mathlib.Omega.{arith}
 use borrow.Author.Tests.{leb-true}
 use lib.ListN.{length, getD}
 use Rattle.model.specs.Netlist.{Netlist, ports, port}
-use Rattle.model.specs.Circuit.{run, initial}
+use Rattle.model.specs.Circuit.{run}
 use Rattle.model.specs.Acceptance.{Accepted}
 use Rattle.model.specs.Variables.{base}
 use Rattle.model.specs.Groups.{clausesOf, inDepth}
@@ -27,7 +27,7 @@ use Rattle.model.proofs.Lengths.{wires-clauses-first, wires-clauses-lat
 use Rattle.model.proofs.Variables.{base-least}
 use Rattle.model.proofs.Bounds.{AllLits, Within, all-within-one, wires-within, pairs-within, closing-within, property-within, formula-first, formula-numbers-within}
 use Rattle.model.proofs.Numbers.{shown, shown-length, shown-one, shown-constants, clausesIn-written}
-use Rattle.model.proofs.Claim.{clausesIn-formula, encodes, satisfies-same, given→run, unsatisfiable→safe}
+use Rattle.model.proofs.Claim.{clausesIn-formula, encodes, satisfies-same, unsatisfiable→safe}
 
 -- the numbers of a group, at most as many as RULES G36 counts
 group-numbers : (c : Netlist) (k : ℕ) (g : Group) → length (numbersOf c k g) ≤ numberCount c k g
@@ -81,11 +81,10 @@ module _ {c : Netlist} (ok : Accepted c) (k : ℕ) where
         all-numbered = λ v least most. numbered c k v least (subst (λ (n : ℕ). v ≤ base c n) (add-one k) most);
         numbers-within = λ x. all-getD (formula-numbers-within ok k) zero-le x;
         unsatisfiable→safe = unsatisfiable→safe (encodes c ok k);
-        given→run = given→run ok k;
         clauses-counted = clauses-in-group;
         numbers-counted = group-numbers c k;
         no-constants = no-constant;
-        addresses-within = λ memory idle f i. address-below c (port c 1) (run c (initial c memory idle) f i);
+        addresses-within = λ p is s f i. address-below c (port c p) (run c s f i);
         words-within = word-below c ok;
       }
 

@@ -67,13 +67,10 @@ pub record State : Type 0 where
   pub memory : ℕ → ℕ
   pub held : ℕ → Bool
 
--- what a run is fed in a frame (RULES C19). The customer's "idle word", frame 0's alone, is `held` of the initial state
-pub record Feed : Type 0 where
-  pub input : ℕ → Bool
-
--- what a run is fed, frame by frame
+-- what a run is fed: in each frame a value for each input (RULES C19). The customer's "idle word", frame 0's alone, is `held` of the state
+-- that it begins in
 abbrev pub Feeds : Type 0
-Feeds = ℕ → Feed
+Feeds = ℕ → ℕ → Bool
 
 -- the address at a port (RULES W18), and that of the write: the first port's
 unfoldable pub addressOf : Netlist → Port → Values → ℕ
@@ -87,11 +84,11 @@ unfoldable pub readData : Netlist → State → Values → ℕ → Bool
 readData c s v t = cond (codeValue v (port c 1 .RE)) (bit (s .memory (addressOf c (port c 1) v)) t) (s .held t)
 
 -- One frame. First pass: every read bit 0, which settles address and RE. Second pass: all gates afresh, with the read bits. RULES C12 and C21.
-unfoldable pub firstPass : Netlist → State → Feed → Values
-firstPass c s f = evaluate c (f .input) (s .latch) (λ t. false)
+unfoldable pub firstPass : Netlist → State → (ℕ → Bool) → Values
+firstPass c s input = evaluate c input (s .latch) (λ t. false)
 
-unfoldable pub frame : Netlist → State → Feed → Values
-frame c s f = evaluate c (f .input) (s .latch) (readData c s (firstPass c s f))
+unfoldable pub frame : Netlist → State → (ℕ → Bool) → Values
+frame c s input = evaluate c input (s .latch) (readData c s (firstPass c s input))
 
 -- the word written in a frame
 unfoldable pub wordWritten : Netlist → Values → ℕ
@@ -116,13 +113,11 @@ run c s f i = frame c (stateAt c s f i) (f i)
 
 -- a memory that a run may begin with: each word the initial word; or, where that is unknown, any word of n bits, each by itself (RULES C23
 -- and C24)
-unfoldable pub BeginsAs : ℕ → Start → (ℕ → ℕ) → Type 0
-BeginsAs n (given word) memory = (x : ℕ) → memory x ≡ word
-BeginsAs n unknown memory = (x : ℕ) → memory x < 2 ^ n
+unfoldable pub Begins : ℕ → Start → (ℕ → ℕ) → Type 0
+Begins n (given word) memory = (x : ℕ) → memory x ≡ word
+Begins n unknown memory = (x : ℕ) → memory x < 2 ^ n
 
-abbrev pub Begins : Netlist → (ℕ → ℕ) → Type 0
-Begins c memory = BeginsAs (c .n) (start c) memory
-
--- the state at the start: latches at their reset, the memory begun with, and the idle word of frame 0 (RULES C2 and C18)
-unfoldable pub initial : Netlist → (ℕ → ℕ) → (ℕ → Bool) → State
-initial c memory idle = record { latch = λ l. eqb (c .reset l) 1; memory = memory; held = idle }
+-- a state that a run may begin in: each latch at its reset, such a memory, and any word held (RULES C2, C18 and C20)
+pub record Starts (c : Netlist) (s : State) : Type 0 where
+  pub at-reset : (l : ℕ) → l < c .latches → s .latch l ≡ eqb (c .reset l) 1
+  pub begins : Begins (c .n) (start c) (s .memory)

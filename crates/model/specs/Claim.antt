@@ -2,10 +2,10 @@
 -- RULES A2 to A4, A6, A7, A10 and A12 to A16.
 --
 -- `Satisfies c k a`: the assignment a makes every clause true that stands in the numbers written for depth k.
--- First direction: whatever assignment does so, there is a memory that a run may begin with, of the initial word where that is given,
--- from which its inputs, fed frame by frame to the circuit with its whole memory and frame 0's read bits as idle word, drive every wire of
--- every frame 0 to k as assigned, and break the property in one.
--- Second direction: for every run, whatever memory it begins with, whatever its idle word and whatever it is fed, that breaks the property
+-- First direction: whatever assignment does so, there is a state that a run may begin in, the word held being frame 0's read bits, from
+-- which the assignment's inputs, fed frame by frame to the circuit with its whole memory, drive every wire of every frame 0 to k as
+-- assigned, and break the property in one; where the initial word is given, every such state is one.
+-- Second direction: for every run, whatever state that a run may begin in it starts from and whatever it is fed, that breaks the property
 -- in some frame 0 to k, there is an assignment that does so and agrees with the run on every wire of every frame 0 to k.
 -- Without the first a solver's answer could be no run of the chip; without the second a fault could go unfound.
 -- The theorem says so of every accepted netlist and every depth; its proof is `encodes` in proofs/Claim.antt. Cited by the contracts of
@@ -17,8 +17,8 @@ use mathlib.Core.List.{List, [], _∷_}
 use mathlib.Core.Logic.{_⊎_}
 use lib.IntN.{ℤ, pos, negsuc, natAbs}
 use lib.ListN.{length, getD}
-use Rattle.model.specs.Netlist.{Netlist, given, start, ports, port, inputWire, readWire, lastWire}
-use Rattle.model.specs.Circuit.{State, Feeds, codeValue, addressOf, stateAt, run, Begins, initial}
+use Rattle.model.specs.Netlist.{Netlist, isUnknown, start, ports, IsPort, port, readBits, inputWire, readWire, lastWire}
+use Rattle.model.specs.Circuit.{State, Feeds, codeValue, addressOf, stateAt, run, Starts}
 use Rattle.model.specs.Acceptance.{Accepted}
 use Rattle.model.specs.Variables.{base, Numbered}
 use Rattle.model.specs.Groups.{inDepth}
@@ -31,10 +31,14 @@ Satisfies c k a = allTrue a (clausesIn (formula c k)) ≡ true
 
 -- what an assignment feeds in frame i, its input variables; and its idle word, frame 0's read-bit variables (RULES A12)
 unfoldable pub feedOf : Netlist → Assignment → Feeds
-feedOf c a i = record { input = λ x. a (base c i + inputWire c x) }
+feedOf c a i x = a (base c i + inputWire c x)
 
 unfoldable pub idleOf : Netlist → Assignment → ℕ → Bool
 idleOf c a t = a (base c 0 + readWire c t)
+
+-- a state that a run may begin in, with that idle word
+abbrev pub StartsAs : Netlist → Assignment → State → Type 0
+StartsAs c a s = Starts c s × ((t : ℕ) → t < readBits c → s .held t ≡ idleOf c a t)
 
 -- the assignment and the run from state s agree on every wire of every frame from 0 to k (RULES A6)
 unfoldable pub Agrees : Netlist → State → ℕ → Assignment → Feeds → Type 0
@@ -45,12 +49,13 @@ Agrees c s k a f = (i : ℕ) → i ≤ k → (w : ℕ) → 1 ≤ w → w ≤ las
 unfoldable pub Breaks : Netlist → State → ℕ → Feeds → Type 0
 Breaks c s k f = (i : ℕ) × (i ≤ k) × (codeValue (run c s f i) (c .P) ≡ false)
 
--- demand 3 (RULES A13 and A14)
+-- demand 3 (RULES A13, A15 and A14)
 pub record Encodes (c : Netlist) (k : ℕ) : Type 0 where
-  pub assignment→run : (a : Assignment) → Satisfies c k a → (memory : ℕ → ℕ) × Begins c memory
-      × Agrees c (initial c memory (idleOf c a)) k a (feedOf c a) × Breaks c (initial c memory (idleOf c a)) k (feedOf c a)
-  pub run→assignment : (memory : ℕ → ℕ) → Begins c memory → (idle : ℕ → Bool) (f : Feeds) → Breaks c (initial c memory idle) k f
-      → (a : Assignment) × Satisfies c k a × Agrees c (initial c memory idle) k a f
+  pub assignment→run : (a : Assignment) → Satisfies c k a
+      → (s : State) × StartsAs c a s × Agrees c s k a (feedOf c a) × Breaks c s k (feedOf c a)
+  pub given→run : isUnknown (start c) ≡ false → (a : Assignment) → Satisfies c k a
+      → (s : State) → StartsAs c a s → Agrees c s k a (feedOf c a) × Breaks c s k (feedOf c a)
+  pub run→assignment : (s : State) → Starts c s → (f : Feeds) → Breaks c s k f → (a : Assignment) × Satisfies c k a × Agrees c s k a f
 
 -- The theorem: `encodes` in proofs/Claim.antt is of this type.
 abbrev pub EncodingTheorem : Type 0
@@ -62,25 +67,19 @@ NoConstant zs = (zs ≡ negsuc 0 ∷ []) ⊎ ((1 ≤ length zs) × ((y : ℕ) �
 
 -- What else is said of the clauses of a depth. An assignment is of the variables from 1 to B(k + 1) (RULES A3): no other matters, each of
 -- them is numbered, and every number written is one of them or an end mark. Where no assignment satisfies the clauses, no run breaks
--- the property: this is what a designer relies on. Where the initial word is given, the memory of the first direction is that word
--- everywhere (RULES A15). Each clause behind the first, (1), is without constants, and one that is left empty is written as -1
--- (`no-constants`). A group has at most as many clauses and numbers as RULES G35 and G36 count. A run's memory is 2^m words of n bits
+-- the property: this is what a designer relies on. Each clause behind the first, (1), is without constants, and one that is left empty is
+-- written as -1 (`no-constants`). A group has at most as many clauses and numbers as RULES G35 and G36 count. A run's memory is 2^m words of n bits
 -- (RULES C23): no frame has another address, and no word is longer.
 pub record Stated (c : Netlist) (k : ℕ) : Type 0 where
   pub only-numbered : (a a′ : Assignment) → ((v : ℕ) → 1 ≤ v → v ≤ base c (k + 1) → a v ≡ a′ v) → Satisfies c k a → Satisfies c k a′
   pub all-numbered : (v : ℕ) → 1 ≤ v → v ≤ base c (k + 1) → Numbered c k v
   pub numbers-within : (x : ℕ) → natAbs (getD (formula c k) x (pos 0)) ≤ base c (k + 1)
-  pub unsatisfiable→safe : ((a : Assignment) → Satisfies c k a → ⊥)
-      → (memory : ℕ → ℕ) → Begins c memory → (idle : ℕ → Bool) (f : Feeds) → Breaks c (initial c memory idle) k f → ⊥
-  pub given→run : (word : ℕ) → start c ≡ given word → (a : Assignment) → Satisfies c k a
-      → Agrees c (initial c (λ x. word) (idleOf c a)) k a (feedOf c a) × Breaks c (initial c (λ x. word) (idleOf c a)) k (feedOf c a)
+  pub unsatisfiable→safe : ((a : Assignment) → Satisfies c k a → ⊥) → (s : State) → Starts c s → (f : Feeds) → Breaks c s k f → ⊥
   pub clauses-counted : (g : Group) → inDepth (ports c) k g ≡ true → length (clausesIn (numbersOf c k g)) ≤ clauseCount c k g
   pub numbers-counted : (g : Group) → length (numbersOf c k g) ≤ numberCount c k g
   pub no-constants : (x : ℕ) → 1 ≤ x → x < length (clausesIn (formula c k)) → NoConstant (getD (clausesIn (formula c k)) x [])
-  pub addresses-within : (memory : ℕ → ℕ) (idle : ℕ → Bool) (f : Feeds) (i : ℕ)
-      → addressOf c (port c 1) (run c (initial c memory idle) f i) < 2 ^ c .m
-  pub words-within : (memory : ℕ → ℕ) → Begins c memory → (idle : ℕ → Bool) (f : Feeds) (i x : ℕ)
-      → stateAt c (initial c memory idle) f i .memory x < 2 ^ c .n
+  pub addresses-within : (p : ℕ) → IsPort c p → (s : State) (f : Feeds) (i : ℕ) → addressOf c (port c p) (run c s f i) < 2 ^ c .m
+  pub words-within : (s : State) → Starts c s → (f : Feeds) (i x : ℕ) → stateAt c s f i .memory x < 2 ^ c .n
 
 -- likewise: `stated` in proofs/Stated.antt
 abbrev pub StatedTheorem : Type 0

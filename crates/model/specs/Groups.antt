@@ -23,31 +23,25 @@ resetClauses c l = (cond (eqb (c .reset l) 1) (wireIn c 0 (latchWire c l)) (neg 
 unfoldable pub latchClauses : Netlist → ℕ → ℕ → List Clause
 latchClauses c i l = sameClauses (wireIn c (i + 1) (latchWire c l)) (codeIn c i (c .next l))
 
--- the latches of frame i; in frame 0 also (1), by which variable 1 is true
-unfoldable pub stateClauses : Netlist → ℕ → List Clause
-stateClauses c zero = (plus 1 ∷ []) ∷ gather (c .latches) (resetClauses c)
-stateClauses c (suc i) = gather (c .latches) (latchClauses c i)
-
 -- ¬P of frame i (RULES G14)
 unfoldable pub violationOf : Netlist → ℕ → List Literal
 violationOf c i = neg (codeIn c i (c .P)) ∷ []
 
--- the clauses of a group at depth k
+-- the clauses of a group at depth k; the wires of frame 0 begin with (1), by which variable 1 is true
 unfoldable pub clausesOf : Netlist → ℕ → Group → List Clause
-clausesOf c k (Wires i) = stateClauses c i ++ gather (c .gates) (gateClauses c i)
+clausesOf c k (Wires zero) = (plus 1 ∷ []) ∷ gather (c .latches) (resetClauses c) ++ gather (c .gates) (gateClauses c 0)
+clausesOf c k (Wires (suc i)) = gather (c .latches) (latchClauses c i) ++ gather (c .gates) (gateClauses c (suc i))
 clausesOf c k (Pair j i p) = pairClauses (c .m) (c .n) (start c) (pairLiterals c (port c p) j i)
 clausesOf c k (Closing i p) = closingClauses (c .n) (start c) i (closingLiterals c (port c p) i)
 clausesOf c k Property = gather (k + 1) (violationOf c) ∷ []
 
--- the groups of frame i, with so many ports: wires, pairs from j = i - 1 down to 0, closing; each pair, and the closing, port by port
-unfoldable pub pairOf : ℕ → ℕ → ℕ → List Group
-pairOf ports i j = gather ports (λ x. Pair j i (suc x) ∷ [])
+-- a pair's or a closing's groups, one for each of so many ports
+unfoldable pub atPorts : ℕ → (ℕ → Group) → List Group
+atPorts ports g = gather ports (λ x. g (suc x) ∷ [])
 
-unfoldable pub closingOf : ℕ → ℕ → List Group
-closingOf ports i = gather ports (λ x. Closing i (suc x) ∷ [])
-
+-- the groups of frame i: wires, pairs from j = i - 1 down to 0, closing
 unfoldable pub frameGroups : ℕ → ℕ → List Group
-frameGroups ports i = Wires i ∷ gatherDown i (pairOf ports i) ++ closingOf ports i
+frameGroups ports i = Wires i ∷ gatherDown i (λ j. atPorts ports (Pair j i)) ++ atPorts ports (Closing i)
 
 -- the order of the whole: the frames 0 to k, then the property (RULES G15)
 unfoldable pub groupOrder : ℕ → ℕ → List Group

@@ -7,7 +7,7 @@ use native.Mathlib.Omega.{arith}
 use lib.Dec.{eqb}
 use Rattle.model.specs.Search.{anyBelow}
 use Rattle.model.specs.Netlist.{Netlist, ports, port, readBits, inputWire, readWire}
-use Rattle.model.specs.Circuit.{codeValue, run, stateAt, initial}
+use Rattle.model.specs.Circuit.{codeValue, run, stateAt}
 use Rattle.model.specs.Acceptance.{Accepted}
 use Rattle.model.specs.Variables.{base}
 use Rattle.model.specs.Claim.{feedOf, idleOf}
@@ -49,7 +49,7 @@ module _ {c : Netlist} (ok : Accepted c) {y z : Said} (same : (v : ℕ) → y .u
 
   -- RE in frame 0 is that of the replay, whatever the memory
   RE-first : (words : ℕ → ℕ) → codeValue (replayed c y 0) (c .RE) ≡ codeValue (runFrom c y words 0) (c .RE)
-  unfolding run stateAt initial
+  unfolding run stateAt begunFrom
   RE-first words = RE-alike ok (begunFrom c y (startWords c y 1)) (begunFrom c y words) (feedOf c (y .value) 0) (feedOf c (y .value) 0) (λ l h. refl) (λ x h. refl)
 
   -- where no frame before has a fault, they are said alike

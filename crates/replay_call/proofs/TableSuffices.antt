@@ -32,9 +32,9 @@ use Rattle.answer_lines.specs.declared.AnswerKind.{AnswerKind}
 use Rattle.answer_lines.specs.declared.AnswerKind.the-variants.{Malformed, Unsatisfiable, Satisfiable}
 use Rattle.circuit_step.proofs.Alike.{InputsAlike, StatesAlike, states-same}
 use Rattle.circuit_step.proofs.Touched.{any-same}
-use Rattle.replay_frame.specs.Replay.{Said, saidIn, wordSaid, replayed, replayedState, fedUnclear, feedFault, violates, firstViolation, frameLine, traceText}
+use Rattle.replay_frame.specs.Replay.{Said, saidIn, wordSaid, startWords, replayed, replayedState, fedUnclear, feedFault, violates, firstViolation, frameLine, traceText}
 use Rattle.replay_frame.proofs.Replay.{line-same}
-use Rattle.replay_frame.proofs.SaidAlike.{SaidAlike, fills-said, words-alike, runs-alike}
+use Rattle.replay_frame.proofs.SaidAlike.{SaidAlike, begun-alike, fills-said, words-alike, runs-alike}
 use Rattle.replay_call.specs.ReplayCall.{replayTests, fedFault, runVerdict, outcome, wordsLeft, unlessRefused, replayAnswer, replayReply, replaySent, afterTests, replayMemory, traceAfter, replayTrace}
 use Rattle.replay_call.specs.Settled.{saidBy, TableSuffices}
 
@@ -111,7 +111,7 @@ module _ {c : Netlist} (ok : Accepted c) (k : ℕ) {y z : Said} (say : SayAlike 
   unfolding delivered
   words old =
       let states : StatesAlike c (feedOf c (y .value) (k + 1)) (replayedState c y (k + 1)) (replayedState c z (k + 1))
-      = states-same ok (feedOf c (y .value)) (feedOf c (z .value)) (λ x b. words-alike ok (k + 1) (said-alike (k + 1) (omega arith)) x) (λ r. idles) (k + 1) (λ j l. inputs j (omega arith)) in
+      = states-same ok (feedOf c (y .value)) (feedOf c (z .value)) (begun-alike c y z (startWords c y (k + 1)) (startWords c z (k + 1)) (λ x b. words-alike ok (k + 1) (said-alike (k + 1) (omega arith)) x) (λ r. idles)) (k + 1) (λ j l. inputs j (omega arith)) in
       rw (gather-same (2 ^ c .m) (λ t. replayedState c y (k + 1) .memory t ∷ []) (λ t. replayedState c z (k + 1) .memory t ∷ []) (λ t h. rw (states .memory-alike t h)))
 
   outcome-alike : (kind : AnswerKind) → outcome c k kind y ≡ outcome c k kind z

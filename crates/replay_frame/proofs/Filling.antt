@@ -16,7 +16,7 @@ use borrow.Author.Tests.{eq-eqb, ne-eqb}
 use Rattle.model.specs.Bits.{bit}
 use Rattle.model.specs.Search.{anyBelow}
 use Rattle.model.specs.Netlist.{Netlist, isUnknown, start, port, lastWire}
-use Rattle.model.specs.Circuit.{Values, codeValue, State, addressOf, evaluate, firstPass, stateAt, run, initial}
+use Rattle.model.specs.Circuit.{Values, codeValue, State, addressOf, evaluate, firstPass, stateAt, run}
 use Rattle.model.specs.Acceptance.{SizesFit, WithinLimits, Accepted}
 use Rattle.model.specs.Claim.{feedOf}
 use Rattle.model.proofs.Booleans.{and-true, or-true}
@@ -92,7 +92,7 @@ module _ {c : Netlist} (ok : Accepted c) (y : Said) (i : ℕ) where
   -- so the memory begun with has another word there, or is the same
   begun-filled : fills c y i ≡ true
       → begunFrom c y (startWords c y (suc i)) ≡ withWord (addressFrom c y (startWords c y i) i) (wordSaid c y i) (begunFrom c y (startWords c y i))
-  unfolding startWords initial
+  unfolding startWords begunFrom
   begun-filled e = ap (λ words. begunFrom c y words) (fun-ext (λ x. rw e))
 
   begun-kept : fills c y i ≡ false → startWords c y (suc i) ≡ startWords c y i

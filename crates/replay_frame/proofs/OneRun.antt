@@ -11,7 +11,7 @@ use lib.Pow.{pow-pos}
 use borrow.Author.Tests.{eq-eqb, ne-eqb}
 use Rattle.model.specs.Search.{anyBelow}
 use Rattle.model.specs.Netlist.{Netlist, Start, given, unknown, isUnknown, start, port, readBits, readWire}
-use Rattle.model.specs.Circuit.{codeValue, addressOf, readData, run, BeginsAs, Begins, initial}
+use Rattle.model.specs.Circuit.{codeValue, addressOf, readData, run, Begins, Starts}
 use Rattle.model.specs.Variables.{base}
 use Rattle.model.specs.Claim.{feedOf}
 use Rattle.model.specs.Agree.{givenWord}
@@ -25,15 +25,15 @@ use Rattle.replay_frame.specs.Replay.{Said, begunFrom, runFrom, stateFro
 use Rattle.replay_frame.proofs.Filling.{runs-on, touched-on, fills-reads, state-filled, RE-on, address-on}
 
 -- a memory of one word
-begins-given : (n : ℕ) (s : Start) → BeginsAs n s (λ x. givenWord s)
-unfolding BeginsAs givenWord
+begins-given : (n : ℕ) (s : Start) → Begins n s (λ x. givenWord s)
+unfolding Begins givenWord
 begins-given n (given word) = λ x. refl
 begins-given n unknown = λ x. pow-pos n
 
 -- one that has another word where the start is unknown
-begins-filled : (n : ℕ) (s : Start) (here : ℕ → Bool) (w : ℕ) (memory : ℕ → ℕ) → BeginsAs n s memory → w < 2 ^ n → ((x : ℕ) → isUnknown s ≡ false → here x ≡ false)
-    → BeginsAs n s (λ x. cond (here x) w (memory x))
-unfolding BeginsAs isUnknown
+begins-filled : (n : ℕ) (s : Start) (here : ℕ → Bool) (w : ℕ) (memory : ℕ → ℕ) → Begins n s memory → w < 2 ^ n → ((x : ℕ) → isUnknown s ≡ false → here x ≡ false)
+    → Begins n s (λ x. cond (here x) w (memory x))
+unfolding Begins isUnknown
 begins-filled n (given word) here w memory b h none = λ x. rw (none x refl) (b x)
 begins-filled n unknown here w memory b h none = λ x. by x (here x)
   where
@@ -41,12 +41,18 @@ begins-filled n unknown here w memory b h none = λ x. by x (here x)
     by x true = h
     by x false = b x
 
-begins-at : (c : Netlist) (y : Said) (i : ℕ) → Begins c (startWords c y i)
+-- what the replay begins with
+pub begins-at : (c : Netlist) (y : Said) (i : ℕ) → Begins (c .n) (start c) (startWords c y i)
 unfolding startWords fillsFrom wordSaid
 begins-at c y zero = begins-given (c .n) (start c)
 begins-at c y (suc i) =
     begins-filled (c .n) (start c) (λ x. fills c y i && eqb x (addressFrom c y (startWords c y i) i)) (wordSaid c y i) (startWords c y i)
     (begins-at c y i) (fromBits-below (c .n) _) (λ x e. rw e)
+
+-- the state that the replay begins in is one that a run may begin in
+starts-at : (c : Netlist) (y : Said) (i : ℕ) → Starts c (begunFrom c y (startWords c y i))
+unfolding begunFrom
+starts-at c y i = record { at-reset = λ l h. refl; begins = begins-at c y i }
 
 -- a frame of the replay stays as it is, whatever the later frames fill
 frame-on : {c : Netlist} → Accepted c → (y : Said) (i n : ℕ) → i < n → replayed c y i ≡ runFrom c y (startWords c y n) i
@@ -95,13 +101,13 @@ module _ {c : Netlist} (ok : Accepted c) (y : Said) where
           rw (ne-eqb x _ (λ at. not-read c (replayed c y i) x none (RE-on ok y i ∙ fills-reads ok y i e) (address-on ok y i ∙ sym at)))
 
   word-left : (n x : ℕ) → touchedFrom c y (startWords c y n) n x ≡ false → replayedState c y n .memory x ≡ givenWord (start c)
-  unfolding initial
+  unfolding begunFrom
   word-left n x none = word-untouched ok x (begunFrom c y (startWords c y n)) (feedOf c (y .value)) n none ∙ begun-untouched n x none
 
 pub one-run : OneRunTheorem
 one-run c ok y k =
     record {
-      begins = begins-at c y (k + 1);
+      starts = starts-at c y (k + 1);
       frames = λ i h. frame-on ok y i (k + 1) (omega arith);
       leaves = refl;
       fills-as-said = λ i h e. reads-said ok y i (sym (fills-from ok y i (k + 1) (omega arith)) ∙ e);

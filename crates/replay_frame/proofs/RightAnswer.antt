@@ -1,5 +1,5 @@
--- A replay bears out what is said where that makes all clauses true: by demand 3 there is a memory from which the run agrees with it, and what the
--- replay fills is what that memory has. No contract cites this file.
+-- A replay bears out what is said where that makes all clauses true: by demand 3 there is a state from which the run agrees with it, and what the
+-- replay fills is what its memory has. No contract cites this file.
 use Prim.Native.Nat.{ℕ, zero, suc, _+_, _*_, _/_, _%_, _^_, _≤_, _<_}
 use mathlib.Core.Path.{_≡_, refl, sym, _∙_, ap, fun-ext}
 use mathlib.Core.Bool.{Bool, true, false, cond, _&&_, _||_, true≢false}
@@ -12,7 +12,7 @@ use borrow.Author.Tests.{eq-eqb, ne-eqb, eqb-true}
 use Rattle.model.specs.Bits.{odd, bit, fromBits}
 use Rattle.model.specs.Search.{anyBelow}
 use Rattle.model.specs.Netlist.{Netlist, Start, given, unknown, isUnknown, start, port, readBits, readWire}
-use Rattle.model.specs.Circuit.{codeValue, State, addressOf, readData, wordWritten, step, stateAt, run, BeginsAs, Begins, initial}
+use Rattle.model.specs.Circuit.{codeValue, State, addressOf, readData, wordWritten, step, stateAt, run, Begins}
 use Rattle.model.specs.Variables.{base}
 use Rattle.model.specs.Acceptance.{Accepted}
 use Rattle.model.specs.Claim.{Satisfies, feedOf, Agrees, Breaks}
@@ -20,13 +20,15 @@ use Rattle.model.proofs.Booleans.{and-true, or-true, neither-true, cond-same}
 use Rattle.model.proofs.Bits.{fromBits-same}
 use Rattle.model.proofs.Search.{firstWhere-is, first-least}
 use Rattle.model.proofs.Circuit.{frame-is}
+use Rattle.model.proofs.Agree.{agree-itself}
+use Rattle.model.proofs.SameRuns.{SameState, agrees-same, breaks-same}
 use Rattle.model.proofs.Claim.{encodes}
 use Rattle.circuit_step.specs.Touched.{touches, touchedBefore}
 use Rattle.circuit_step.proofs.Alike.{RE-alike, address-alike}
 use Rattle.circuit_step.proofs.Touched.{not-written, frame-reads}
 use Rattle.replay_frame.specs.Replay.{Said, begunFrom, runFrom, stateFrom, touchedFrom, addressFrom, fillsFrom, wordSaid, startWords, fills, replayed, replayedState, violates, firstViolation, BearsOut}
 use Rattle.replay_frame.proofs.Filling.{fills-untouched, touched-on, state-filled, state-on}
-use Rattle.replay_frame.proofs.OneRun.{one-run}
+use Rattle.replay_frame.proofs.OneRun.{begins-at, one-run}
 
 -- a number is that of its bits
 with-bit : (p q h : ℕ) → (b : Bool) → q ≡ 2 * h + cond b 1 0 → cond b p 0 + p * 2 * h ≡ p * q
@@ -166,22 +168,22 @@ module _ {c : Netlist} (ok : Accepted c) (y : Said) (k : ℕ) (free : isUnknown 
         }
 
   goes : (i : ℕ) → i ≤ k → GoesAs c y memory i
-  unfolding stateAt initial touchedBefore anyBelow
+  unfolding stateAt begunFrom touchedBefore anyBelow
   goes zero d = record { latches-same = refl; held-same = refl; touched-same = λ x h. absurd (true≢false (sym h)); others-kept = λ x h. refl }
   goes (suc i) d = goes-on i (omega arith) (goes i (omega arith))
 
 -- a memory that a run may begin with, by whether the start is unknown
-begins-below : (n : ℕ) (s : Start) (memory : ℕ → ℕ) → BeginsAs n s memory → isUnknown s ≡ true → (x : ℕ) → memory x < 2 ^ n
-unfolding BeginsAs isUnknown
+begins-below : (n : ℕ) (s : Start) (memory : ℕ → ℕ) → Begins n s memory → isUnknown s ≡ true → (x : ℕ) → memory x < 2 ^ n
+unfolding Begins isUnknown
 begins-below n (given word) memory b e = absurd (true≢false (sym e))
 begins-below n unknown memory b e = b
 
-begins-same : (n : ℕ) (s : Start) (memory other : ℕ → ℕ) → BeginsAs n s memory → BeginsAs n s other → isUnknown s ≡ false → memory ≡ other
-unfolding BeginsAs isUnknown
+begins-same : (n : ℕ) (s : Start) (memory other : ℕ → ℕ) → Begins n s memory → Begins n s other → isUnknown s ≡ false → memory ≡ other
+unfolding Begins isUnknown
 begins-same n (given word) memory other b q e = fun-ext (λ x. b x ∙ sym (q x))
 begins-same n unknown memory other b q e = absurd (true≢false e)
 
-module _ {c : Netlist} (ok : Accepted c) (y : Said) (k : ℕ) (memory : ℕ → ℕ) (begins : Begins c memory)
+module _ {c : Netlist} (ok : Accepted c) (y : Said) (k : ℕ) (memory : ℕ → ℕ) (begins : Begins (c .n) (start c) memory)
     (agrees : Agrees c (begunFrom c y memory) k (y .value) (feedOf c (y .value))) where
   -- the replay is that run
   same-run : (i : ℕ) → i ≤ k → replayed c y i ≡ runFrom c y memory i
@@ -191,7 +193,7 @@ module _ {c : Netlist} (ok : Accepted c) (y : Said) (k : ℕ) (memory : ℕ → 
       by true e = let below = begins-below (c .n) (start c) memory begins e in same-frame ok y k e memory below agrees i d (goes ok y k e memory below agrees i d)
       by false e =
           one-run c ok y k .frames i d
-          ∙ ap (λ words. runFrom c y words i) (begins-same (c .n) (start c) (startWords c y (k + 1)) memory (one-run c ok y k .begins) begins e)
+          ∙ ap (λ words. runFrom c y words i) (begins-same (c .n) (start c) (startWords c y (k + 1)) memory (begins-at c y (k + 1)) begins e)
 
   breaks-then : Breaks c (begunFrom c y memory) k (feedOf c (y .value)) → firstViolation c y k ≤ k
   unfolding Breaks firstViolation violates
@@ -201,10 +203,15 @@ module _ {c : Netlist} (ok : Accepted c) (y : Said) (k : ℕ) (memory : ℕ → 
 
 -- what is said that makes all clauses true is borne out
 pub right-said : {c : Netlist} → Accepted c → (y : Said) (k : ℕ) → Satisfies c k (y .value) → BearsOut c y k (y .value)
-unfolding Agrees
+unfolding Agrees begunFrom
 right-said {c} ok y k h =
     let shown = encodes c ok k .assignment→run (y .value) h in
+    let memory = shown .0 .memory in
+    let begins = shown .1 .0 .begins in
+    let same : SameState c (shown .0) (begunFrom c y memory)
+    = record { latch-same = shown .1 .0 .at-reset; memory-same = λ x. refl; held-same = shown .1 .1 } in
+    let agrees = agrees-same c c (agree-itself c) same (feedOf c (y .value)) k (y .value) .0 (shown .2) in
     record {
-      as-assigned = λ i d w l b. shown .2 i d w l b ∙ ap (λ v. v w) (sym (same-run ok y k (shown .0) (shown .1) (shown .2) i d));
-      breaks = breaks-then ok y k (shown .0) (shown .1) (shown .2) (shown .3);
+      as-assigned = λ i d w l b. agrees i d w l b ∙ ap (λ v. v w) (sym (same-run ok y k memory begins agrees i d));
+      breaks = breaks-then ok y k memory begins agrees (breaks-same c c (agree-itself c) same (feedOf c (y .value)) k .0 (shown .3));
     }

@@ -1,19 +1,19 @@
 -- Two answers that say the same of all that the frames before i are fed are replayed alike there: the same words are filled, and the runs are
 -- the same. No contract cites this file.
-use Prim.Native.Nat.{ℕ, zero, suc, _/_, _≤_, _<_}
+use Prim.Native.Nat.{ℕ, zero, suc, _/_, _^_, _≤_, _<_}
 use mathlib.Core.Path.{_≡_, refl, _∙_, ap, ap₂}
 use mathlib.Core.Bool.{Bool, true, false, cond, not, _&&_, _||_}
 use native.Mathlib.Omega.{arith}
 use lib.Dec.{eqb}
 use Rattle.model.specs.Netlist.{Netlist, isUnknown, start, port, readBits, lastWire}
-use Rattle.model.specs.Circuit.{codeValue, stateAt, run, initial}
+use Rattle.model.specs.Circuit.{codeValue, stateAt, run}
 use Rattle.model.specs.Acceptance.{Accepted, IsCode}
 use Rattle.model.specs.Claim.{feedOf, idleOf}
 use Rattle.model.proofs.Circuit.{code-same, address-same}
 use Rattle.circuit_step.specs.Touched.{touches, touchedBefore}
-use Rattle.circuit_step.proofs.Alike.{InputsAlike, LatchesAlike, RE-alike, address-alike, states-same, run-same}
+use Rattle.circuit_step.proofs.Alike.{InputsAlike, LatchesAlike, StatesAlike, RE-alike, address-alike, states-same, run-same}
 use Rattle.circuit_step.proofs.Touched.{any-same}
-use Rattle.replay_frame.specs.Replay.{Said, runFrom, touchedFrom, addressFrom, fillsFrom, wordSaid, startWords, fills, replayed, replayedState}
+use Rattle.replay_frame.specs.Replay.{Said, begunFrom, runFrom, touchedFrom, addressFrom, fillsFrom, wordSaid, startWords, fills, replayed, replayedState}
 
 pub record SaidAlike (c : Netlist) (y z : Said) (i : ℕ) : Type 0 where
   pub inputs-said : (j : ℕ) → j < i → InputsAlike c (feedOf c (y .value) j) (feedOf c (z .value) j)
@@ -30,12 +30,19 @@ fewer q =
       idle-said = λ h. q .idle-said (omega arith);
     }
 
+-- they begin in states that are alike, with the same words and, where RE is false in frame 0, the same idle word
+pub begun-alike : (c : Netlist) (y z : Said) (words other : ℕ → ℕ) → ((x : ℕ) → x < 2 ^ c .m → words x ≡ other x)
+    → (codeValue (runFrom c y words 0) (c .RE) ≡ false → (t : ℕ) → t < readBits c → idleOf c (y .value) t ≡ idleOf c (z .value) t)
+    → StatesAlike c (feedOf c (y .value) 0) (begunFrom c y words) (begunFrom c z other)
+unfolding run stateAt begunFrom
+begun-alike c y z words other same idles = record { latch-alike = λ l h. refl; memory-alike = same; held-alike = idles }
+
 module _ {c : Netlist} (ok : Accepted c) {y z : Said} where
   module _ (i : ℕ) (q : SaidAlike c y z i) (words : (x : ℕ) → startWords c y i x ≡ startWords c z i x) where
     -- the frames before i
     runs-before : (j : ℕ) → j < i → (w : ℕ) → w ≤ lastWire c → runFrom c y (startWords c y i) j w ≡ runFrom c z (startWords c z i) j w
     runs-before j h =
-        run-same ok (feedOf c (y .value)) (feedOf c (z .value)) (λ x b. words x) (q .idle-said (omega arith) (startWords c y i)) j (λ l b. q .inputs-said l (omega arith))
+        run-same ok (feedOf c (y .value)) (feedOf c (z .value)) (begun-alike c y z (startWords c y i) (startWords c z i) (λ x b. words x) (q .idle-said (omega arith) (startWords c y i))) j (λ l b. q .inputs-said l (omega arith))
 
     touched-alike : (x : ℕ) → touchedFrom c y (startWords c y i) i x ≡ touchedFrom c z (startWords c z i) i x
     unfolding touchedBefore touches
@@ -49,10 +56,10 @@ module _ {c : Netlist} (ok : Accepted c) {y z : Said} where
 
   -- the latches in which frame i begins
   pub latches-alike : (i : ℕ) → SaidAlike c y z i → ((x : ℕ) → startWords c y i x ≡ startWords c z i x) → LatchesAlike c (replayedState c y i) (replayedState c z i)
-  unfolding stateAt initial
+  unfolding stateAt begunFrom
   latches-alike zero q words = λ l h. refl
   latches-alike (suc i) q words =
-      states-same ok (feedOf c (y .value)) (feedOf c (z .value)) (λ x b. words x) (q .idle-said (omega arith) (startWords c y (suc i))) (suc i) (q .inputs-said) .latch-alike
+      states-same ok (feedOf c (y .value)) (feedOf c (z .value)) (begun-alike c y z (startWords c y (suc i)) (startWords c z (suc i)) (λ x b. words x) (q .idle-said (omega arith) (startWords c y (suc i)))) (suc i) (q .inputs-said) .latch-alike
 
   -- so frame i, where its inputs are said alike, reads at the same address, and fills a word or not
   module _ (i : ℕ) (q : SaidAlike c y z i) (words : (x : ℕ) → startWords c y i x ≡ startWords c z i x)

@@ -10,7 +10,7 @@ use Rattle.model.specs.Search.{anyBelow, firstWhere}
 use Rattle.model.specs.Gather.{gather}
 use Rattle.model.specs.Bits.{fromBits}
 use Rattle.model.specs.Netlist.{Netlist, isUnknown, start, Port, ports, port, readBits, inputWire, readWire, lastWire}
-use Rattle.model.specs.Circuit.{Values, codeValue, State, addressOf, stateAt, run, Begins, initial}
+use Rattle.model.specs.Circuit.{Values, codeValue, State, addressOf, stateAt, run, Starts}
 use Rattle.model.specs.Acceptance.{Accepted}
 use Rattle.model.specs.Agree.{givenWord}
 use Rattle.model.specs.Variables.{base}
@@ -29,10 +29,11 @@ pub record Said : Type 0 where
 abbrev pub saidIn : List ℕ → Said
 saidIn signs = record { value = trueIn signs; unclear = unclearIn signs }
 
--- the model's run from a memory, fed the inputs and frame 0's idle word that are said
-abbrev pub begunFrom : Netlist → Said → (ℕ → ℕ) → State
-begunFrom c y words = initial c words (idleOf c (y .value))
+-- the state that the run begins in from a memory: each latch at its reset, and the idle word that is said (RULES C2 and C18)
+unfoldable pub begunFrom : Netlist → Said → (ℕ → ℕ) → State
+begunFrom c y words = record { latch = λ l. eqb (c .reset l) 1; memory = words; held = idleOf c (y .value) }
 
+-- the model's run from it, fed the inputs that are said
 abbrev pub runFrom : Netlist → Said → (ℕ → ℕ) → ℕ → Values
 runFrom c y words = run c (begunFrom c y words) (feedOf c (y .value))
 
@@ -74,12 +75,12 @@ replayed c y i = runFrom c y (startWords c y (suc i)) i
 abbrev pub replayedState : Netlist → Said → ℕ → State
 replayedState c y i = stateFrom c y (startWords c y i) i
 
--- The frames 0 to k of the replay are those of the run from one memory that a run may begin with, and what frame k leaves is what that run
+-- The frames 0 to k of the replay are those of one run from a state that a run may begin in, and what frame k leaves is what that run
 -- leaves. A frame of that run that reads a word of an unknown start, which no frame before it reads or writes, reads what is said of its read
 -- bits; a word that no frame reads or writes ends as the initial word or, where the start is unknown, as 0 (RULES Y12). Promised by
 -- `marrubigai_replay`; the proof is in proofs/OneRun.antt
 pub record OneRun (c : Netlist) (y : Said) (k : ℕ) : Type 0 where
-  pub begins : Begins c (startWords c y (k + 1))
+  pub starts : Starts c (begunFrom c y (startWords c y (k + 1)))
   pub frames : (i : ℕ) → i ≤ k → replayed c y i ≡ runFrom c y (startWords c y (k + 1)) i
   pub leaves : replayedState c y (k + 1) ≡ stateFrom c y (startWords c y (k + 1)) (k + 1)
   pub fills-as-said : (i : ℕ) → i ≤ k → fillsFrom c y (startWords c y (k + 1)) i ≡ true

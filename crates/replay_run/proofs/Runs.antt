@@ -13,15 +13,15 @@ use Rattle.model.specs.Bits.{bit}
 use Rattle.model.specs.Search.{firstWhere, IsFirst}
 use Rattle.model.specs.Wrote.{over, Wrote}
 use Rattle.model.specs.Netlist.{Netlist, readBits, lastWire}
-use Rattle.model.specs.Circuit.{initial}
 use Rattle.model.specs.Acceptance.{WithinLimits}
+use Rattle.model.specs.Claim.{idleOf}
 use Rattle.model.proofs.Search.{firstWhere-is, first-unique}
 use Rattle.call_lists.specs.Delivered.{delivered}
 use Rattle.call_lists.proofs.Delivered.{length-delivered, delivered-at}
 use Rattle.netlist.specs.WireTable.{entry, HasBelow}
 use Rattle.circuit_step.specs.Held.{HoldsState}
 use Rattle.circuit_step.proofs.Held.{code-in}
-use Rattle.replay_frame.specs.Replay.{Said, fills, replayed, fedUnclear, feedFault, violates, frameLine}
+use Rattle.replay_frame.specs.Replay.{Said, begunFrom, fills, replayed, fedUnclear, feedFault, violates, frameLine}
 use Rattle.replay_frame.specs.Frames.{FrameJudged}
 use Rattle.replay_frame.specs.declared.FrameVerdict.{FrameVerdict}
 use Rattle.replay_frame.proofs.Replay.{length-line, line-same}
@@ -75,10 +75,11 @@ module _ {c : Netlist} (limits : WithinLimits c) (y : Said) (i : ℕ) {table : L
 
 -- the initial state is held: every word the same, every latch at its reset, and the idle word
 pub initial-held : (c : Netlist) (latches : List Bool) (old : List ℕ) → 2 ^ c .m ≤ length old → length latches ≡ 600
-    → ((l : ℕ) → l < c .latches → entry latches l ≡ eqb (c .reset l) 1) → {idle : ℕ → Bool} {word : ℕ} → ((t : ℕ) → t < readBits c → bit word t ≡ idle t)
-    → (first : ℕ) → HoldsState c (initial c (λ _. first) idle) latches (delivered (2 ^ c .m) (λ _. first) old) word
-unfolding initial
-initial-held c latches old h size each said first =
+    → ((l : ℕ) → l < c .latches → entry latches l ≡ eqb (c .reset l) 1)
+    → (y : Said) {word : ℕ} → ((t : ℕ) → t < readBits c → bit word t ≡ idleOf c (y .value) t)
+    → (first : ℕ) → HoldsState c (begunFrom c y (λ _. first)) latches (delivered (2 ^ c .m) (λ _. first) old) word
+unfolding begunFrom
+initial-held c latches old h size each y said first =
     record {
       latch-size = size;
       latch-held = each;

@@ -13,7 +13,7 @@ use Rattle.model.specs.Gather.{gather}
 use Rattle.model.specs.Search.{anyBelow, firstFrom, firstWhere}
 use Rattle.model.specs.Wrote.{Wrote}
 use Rattle.model.specs.Netlist.{Netlist, start, lastWire}
-use Rattle.model.specs.Circuit.{stateAt, initial}
+use Rattle.model.specs.Circuit.{stateAt}
 use Rattle.model.specs.Agree.{givenWord}
 use Rattle.model.specs.Acceptance.{SizesFit}
 use Rattle.model.specs.Variables.{base}
@@ -26,7 +26,7 @@ use Rattle.netlist.specs.declared.Netlist as Record
 use Rattle.netlist.specs.WireTable.{entry}
 use Rattle.circuit_step.specs.Held.{HoldsState}
 use Rattle.circuit_step.specs.Touched.{touchedBefore}
-use Rattle.replay_frame.specs.Replay.{Said, startWords, replayed, replayedState, feedFault, violates, firstViolation, frameLine, traceText, traceLength}
+use Rattle.replay_frame.specs.Replay.{Said, begunFrom, startWords, replayed, replayedState, feedFault, violates, firstViolation, frameLine, traceText, traceLength}
 use Rattle.replay_frame.specs.Frames.{TouchedIs, FrameDone}
 use Rattle.replay_frame.specs.declared.FrameVerdict.{FrameVerdict}
 use Rattle.replay_frame.proofs.Replay.{length-line}
@@ -58,9 +58,9 @@ pub record Through (c : Netlist) (y : Said) (k : ℕ) (old oldTrace memory trace
 -- before frame 0
 pub through-none : (r : Record.Netlist) (latches gates : List ℕ) (y : Said) (k : ℕ) (old trace : List ℕ) {values inputs state touched : List Bool} {word : ℕ}
     → SizesFit (netOf r latches gates) → length values ≡ 601 → length inputs ≡ 600 → (length touched ≡ 4096) × ((x : ℕ) → x < 4096 → entry touched x ≡ false)
-    → HoldsState (netOf r latches []) (initial (netOf r latches []) (λ _. givenWord (start (alone r))) (idleOf (alone r) (y .value))) state old word
+    → HoldsState (netOf r latches []) (begunFrom (netOf r latches []) y (λ _. givenWord (start (alone r)))) state old word
     → Through (netOf r latches gates) y k old trace old trace values inputs state touched word false 0 0 0
-unfolding netOf initial idleOf base stateAt startWords touchedBefore gather anyBelow firstWhere firstFrom
+unfolding netOf begunFrom idleOf base stateAt startWords touchedBefore gather anyBelow firstWhere firstFrom
 through-none r latches gates y k old trace sizes v n (size, none) held =
     record {
       within = omega arith;

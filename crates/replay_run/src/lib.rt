@@ -14,16 +14,13 @@ ghost use lib.Dec.{eqb};
 ghost use lib.ListN.{length, drop};
 ghost use Rattle.model.specs.Wrote.{Wrote};
 ghost use Rattle.model.specs.Netlist.{start, lastWire};
-ghost use Rattle.model.specs.Circuit.{initial};
 ghost use Rattle.model.specs.Agree.{givenWord};
 ghost use Rattle.model.specs.Acceptance.{SizesFit};
-ghost use Rattle.model.specs.Claim.{idleOf};
 ghost use Rattle.netlist.specs.NetOf.{netOf, alone};
 ghost use Rattle.call_lists.specs.Delivered.{delivered};
-ghost use Rattle.answer_signs.specs.Signs.{trueIn};
 ghost use Rattle.netlist.specs.WireTable.{entry};
 ghost use Rattle.circuit_step.specs.Held.{HoldsState};
-ghost use Rattle.replay_frame.specs.Replay.{saidIn, replayed, frameLine};
+ghost use Rattle.replay_frame.specs.Replay.{saidIn, begunFrom, replayed, frameLine};
 ghost use Rattle.replay_frame.specs.Frames.{FrameBegins, FrameDone};
 ghost use Rattle.replay_run.specs.Runs.{nextFirst, Shown, RunFits, RunDone};
 
@@ -102,7 +99,7 @@ fn put_initial(
     signs: &SignTable,
 ) -> u32
     requires { ⌜ SizesFit (alone net) × (length (now state) ≡ 600) × (2 ^ net .m ≤ length (now memory)) ⌝ }
-    ensures held { λ r. ⌜ HoldsState (netOf net (now (latches .entry)) []) (initial (netOf net (now (latches .entry)) []) (λ _. givenWord (start (alone net))) (idleOf (alone net) (trueIn (now (signs .entry)))))
+    ensures held { λ r. ⌜ HoldsState (netOf net (now (latches .entry)) []) (begunFrom (netOf net (now (latches .entry)) []) (saidIn (now (signs .entry))) (λ _. givenWord (start (alone net))))
         (now (state .exit)) (now (memory .exit)) r ⌝ }
     ensures behind { λ _. ⌜ drop (2 ^ net .m) (now (memory .exit)) ≡ drop (2 ^ net .m) (now (memory .entry)) ⌝ }
 {

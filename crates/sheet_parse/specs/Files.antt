@@ -40,16 +40,10 @@ emptyThird (Read k x y z e) = e
 -- the sizes in lines N and M, with no codes
 unfoldable pub sizesIn : List ℕ → Netlist
 sizesIn file =
+    let sizes = lineIn file sizesLine in
+    let memory = lineIn file memoryLine in
     withoutCodes
-    (record {
-      inputs = firstNumber (lineIn file sizesLine);
-      latches = secondNumber (lineIn file sizesLine);
-      gates = thirdNumber (lineIn file sizesLine);
-      m = firstNumber (lineIn file memoryLine);
-      n = secondNumber (lineIn file memoryLine);
-      initialWord = thirdNumber (lineIn file memoryLine);
-      unknownStart = emptyThird (lineIn file memoryLine);
-    })
+    (record { inputs = firstNumber sizes; latches = secondNumber sizes; gates = thirdNumber sizes; m = firstNumber memory; n = secondNumber memory; initialWord = thirdNumber memory; unknownStart = emptyThird memory })
 
 -- the netlist whose numbers stand in the given lines, at the places that the sizes s have
 unfoldable pub netOfLines : Netlist → (ℕ → ParsedLine) → Netlist

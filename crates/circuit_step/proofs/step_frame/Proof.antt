@@ -1,9 +1,10 @@
 -- `circuit_step::step_frame` meets its contract: the frame's values, and from them the write and the latches.
-use Prim.Native.Nat.{_+_}
+use Prim.Native.Nat.{ℕ, _+_}
+use mathlib.Core.Bool.{Bool}
 use mathlib.Core.List.{[]}
 use native.Mathlib.Omega.{arith}
 use Rattle.model.specs.Netlist.{lastWire}
-use Rattle.model.specs.Circuit.{State, Feed, addressOf, wordWritten, frame}
+use Rattle.model.specs.Circuit.{State, addressOf, wordWritten, frame}
 use Rattle.netlist.specs.NetOf.{netOf}
 use Rattle.netlist.proofs.NetOf.{limits-without-latches, limits-without-gates, limits-alone}
 use Rattle.netlist.specs.WireTable.{HasBelow}
@@ -40,7 +41,7 @@ returns c =
     let start = c .before .before .before .before .before .before .before .before .before .before .before .before .before in
     let a = start .args in
     let d = netOf (a .net) (a .latches .now) (a .gates .now) in
-    let table : (s : State) (f : Feed) → HoldsState d s (a .state .now) (a .memory .now) (a .held) → Fed d f (a .inputs .now) → HasBelow (lastWire d + 1) (frame d s f) (_)
+    let table : (s : State) (f : ℕ → Bool) → HoldsState d s (a .state .now) (a .memory .now) (a .held) → Fed d f (a .inputs .now) → HasBelow (lastWire d + 1) (frame d s f) (_)
     = λ s f held fed. below-same (c .before .before .before .before .before .before .before .before .put-frame .ensures .0 s f (holds-lists (a .net) (a .latches .now) (a .gates .now) [] [] held) (fed-lists (a .net) (a .latches .now) (a .gates .now) [] [] fed))
     (λ w h. frame-lists (a .net) (a .latches .now) (a .gates .now) (start .pre .limits) s f w (omega arith)) in
     rw (writes .write-memory .ensures)

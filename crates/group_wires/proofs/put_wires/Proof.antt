@@ -1,49 +1,46 @@
--- `group_wires::put_wires` meets its contract: the latches, then the gates.
+-- `group_wires::put_wires` meets its contract: frame 0, or a later one.
+use Prim.Native.Nat.{_+_, _-_}
+use mathlib.Core.Path.{_≡_}
+use native.Mathlib.Omega.{arith}
 use borrow.Author.Needs.{needs}
-use Rattle.clause_writer.proofs.Wrote.{wrote-then}
-use Rattle.group_wires.proofs.WiresOf.{frame-without-gates, frame-without-latches, wires-parts}
+use borrow.Author.Tests.{ne-eqb}
+use Rattle.group_wires.proofs.WiresOf.{frame-again, room-first, room-later}
 use Rattle.group_wires.proofs.put_wires.Statement.{statement}
 use Rattle.group_wires.proofs.put_wires.Tie as tie
 
-put-state-requires : tie.Need-put-state-requires
-put-state-requires c κs = search (needs, frame-without-gates)
-
-mul-put-gates : tie.Need-mul-put-gates
-mul-put-gates c = search needs
-
-sub-put-gates : tie.Need-sub-put-gates
-sub-put-gates c = search needs
-
-part-put-gates-start : tie.Need-part-put-gates-start
-part-put-gates-start c = search needs
-
-part-put-gates-end : tie.Need-part-put-gates-end
-part-put-gates-end c = search needs
-
-put-gates-requires : tie.Need-put-gates-requires
-put-gates-requires c κs = search (needs, frame-without-latches)
-
-add-result : tie.Need-add-result
-add-result c = search needs
+put-first-wires-requires : tie.Need-put-first-wires-requires
+put-first-wires-requires c κs = search (needs, room-first)
 
 same-length : tie.Need-same-length
 same-length c = search needs
 
 returns : tie.Need-returns
-returns c =
-    let a = c .before .before .before .before .before .before .args in
-    (rw (wires-parts (a .net) (a .latches .now) (a .gates .now) (a .i) (a .i)) (wrote-then (c .before .before .before .before .put-state .ensures .0) (c .before .put-gates .ensures .0)), search needs)
+returns c = rw (c .before .before .before .if1 .taken) (c .before .put-first-wires .ensures)
+
+sub-put-later-wires : tie.Need-sub-put-later-wires
+sub-put-later-wires c = search needs
+
+put-later-wires-requires : tie.Need-put-later-wires-requires
+put-later-wires-requires c κs = search (needs, frame-again, room-later)
+
+same-length-2 : tie.Need-same-length-2
+same-length-2 c = search needs
+
+returns-2 : tie.Need-returns-2
+returns-2 c =
+    let a = c .before .before .before .before .args in
+    let later = c .before .before .before .if1 .left in
+    let again : a .i - 1 + 1 ≡ a .i = omega (arith, later) in
+    rw (ne-eqb _ 0 later) (rw again at (c .before .put-later-wires .ensures))
 
 pub put-wires-spec : {M : Type 1} → statement M
 put-wires-spec =
     tie.close
     (tie.spec
-    put-state-requires
-    mul-put-gates
-    sub-put-gates
-    part-put-gates-start
-    part-put-gates-end
-    put-gates-requires
-    add-result
+    put-first-wires-requires
     same-length
-    returns)
+    returns
+    sub-put-later-wires
+    put-later-wires-requires
+    same-length-2
+    returns-2)

@@ -5,6 +5,7 @@ use Rattle.model.specs.Variables.{base}
 use Rattle.model.specs.Claim.{idleOf}
 use Rattle.netlist.specs.NetOf.{netOf}
 use Rattle.call_lists.proofs.Delivered.{behind-delivered}
+use Rattle.replay_frame.specs.Replay.{saidIn}
 use Rattle.replay_run.proofs.Runs.{initial-held}
 use borrow.Author.Needs.{needs}
 use Rattle.replay_run.proofs.put_initial.Statement.{statement}
@@ -36,7 +37,7 @@ returns c =
     let d = netOf (a .net) (a .latches .now) [] in
     let first = c .before .before .before .before .before .before .given-word in
     rw (c .before .before .before .before .before .fill-words .ensures, c .before .before .before .before .before .before .before .word-count .ensures, ← first .ensures) (
-      initial-held d _ (a .memory .now) (start .pre .2) (c .before .put-resets .ensures .0) (c .before .put-resets .ensures .1) (c .idle-word .ensures) (first .result),
+      initial-held d _ (a .memory .now) (start .pre .2) (c .before .put-resets .ensures .0) (c .before .put-resets .ensures .1) (saidIn (a .signs .now)) (c .idle-word .ensures) (first .result),
       behind-delivered (λ _. first .result) (2 ^ d .m) (a .memory .now),
     )
 
