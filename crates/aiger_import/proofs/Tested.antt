@@ -21,9 +21,9 @@ use Rattle.netlist.specs.declared.Line.the-variants.{Sizes, Memory, Latch, Gate
 use Rattle.netlist.specs.declared.Netlist.{Netlist}
 use Rattle.netlist.proofs.NetOf.{limits-without-latches}
 use Rattle.netlist.proofs.Faults.{sizes-fit}
-use Rattle.netlist_tests.specs.Record.{testLines, testPort, listsShort}
+use Rattle.netlist_tests.specs.Record.{testLines, testPorts, listsShort}
 use Rattle.netlist_tests.proofs.Record.{testLines-same, testLines-passes}
-use Rattle.netlist_tests.proofs.Lists.{test-port-latches}
+use Rattle.netlist_tests.proofs.Lists.{test-ports-latches}
 use Rattle.sheet_steps.specs.Lists.{Holds}
 use Rattle.sheet_tests.proofs.Codes.{sizes-held}
 use Rattle.aiger_lines.specs.Parts.{countsIn}
@@ -82,8 +82,8 @@ module _ (s : List ℕ) (m n word unknown : ℕ) where
               codes = text-codes-fit s (well-defined s m n passed) m n word unknown (fits-interface s m n passed);
             }))
 
-        pub port-tested : {v : Verdict} → v ≡ testPort (netOf net [] gates) → testPort (aagNet s m n word unknown) ≡ v
-        port-tested e = sym (e ∙ test-port-latches net latches gates ∙ ap testPort (held .net-is))
+        pub port-tested : {v : Verdict} → v ≡ testPorts (netOf net [] gates) → testPorts (aagNet s m n word unknown) ≡ v
+        port-tested e = sym (e ∙ test-ports-latches net latches gates ∙ ap testPorts (held .net-is))
 
         pub short-held : (latchRoom gateRoom : ℕ)
             → (ltb latchRoom (net .latches) || ltb gateRoom (net .gates)) ≡ listsShort (aagNet s m n word unknown) latchRoom gateRoom
@@ -106,12 +106,12 @@ module _ (s : List ℕ) (m n word unknown : ℕ) where
       sizes-refused e f = rw (e, f)
 
       pub port-refused : textVerdict s m n ≡ Passed → testLines (aagNet s m n word unknown) Size sizeFault ≡ Passed
-          → testPort (aagNet s m n word unknown) ≡ Refused r p → importVerdict s m n word unknown latchRoom gateRoom ≡ Refused r p
+          → testPorts (aagNet s m n word unknown) ≡ Refused r p → importVerdict s m n word unknown latchRoom gateRoom ≡ Refused r p
       unfolding importVerdict _then_
       port-refused e f g = rw (e, f, no-five e, g)
 
     module _ (e : textVerdict s m n ≡ Passed) (f : testLines (aagNet s m n word unknown) Size sizeFault ≡ Passed)
-        (g : testPort (aagNet s m n word unknown) ≡ Passed) where
+        (g : testPorts (aagNet s m n word unknown) ≡ Passed) where
       pub room-refused : listsShort (aagNet s m n word unknown) latchRoom gateRoom ≡ true
           → importVerdict s m n word unknown latchRoom gateRoom ≡ Refused NoRoom 0
       unfolding importVerdict _then_

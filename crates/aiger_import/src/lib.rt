@@ -120,7 +120,7 @@ pub fn import_text(
         return sheet_steps::refused(refusal, place);
     }
     let net = fill(text, header, sizes, latches, gates);
-    let port = netlist_tests::test_port(net, gates);
+    let port = netlist_tests::test_ports(net, gates);
     if let Verdict::Refused(refusal, place) = port {
         return sheet_steps::refused(refusal, place);
     }

@@ -14,9 +14,9 @@ use Rattle.refusals.specs.declared.Verdict.the-variants.{Passed}
 use Rattle.refusals.proofs.Tests.{refuseIf-passes, then-passes, inOrder-passes}
 use Rattle.netlist.specs.Faults.{sizeFault, codeFault}
 use Rattle.netlist.proofs.Faults.{sizes-fit, codes-fit}
-use Rattle.netlist_tests.specs.Record.{testLines, testPort, listsShort}
+use Rattle.netlist_tests.specs.Record.{testLines, testPorts, listsShort}
 use Rattle.netlist_tests.proofs.Record.{testLines-passes}
-use Rattle.netlist_tests.proofs.Acceptance.{lists-long, port-passes}
+use Rattle.netlist_tests.proofs.Acceptance.{lists-long, ports-pass}
 use Rattle.aiger_lines.specs.Parts.{countsIn, linesDue, malformedAt}
 use Rattle.aiger_definitions.specs.Definitions.{definesAgain, undefinedAt}
 use Rattle.aiger_netlist.specs.TextNetlist.{aagNet}
@@ -74,10 +74,10 @@ import-passed s m n word unknown latchRoom gateRoom e =
     let c = aagNet s m n word unknown in
     let short = refuseIf (listsShort c latchRoom gateRoom) NoRoom 0 in
     let fault = testLines c CodeOutside codeFault in
-    let all = then-passes (textVerdict s m n) (testLines c Size sizeFault then fault then testPort c then short) .0 e in
-    let net = then-passes (testLines c Size sizeFault) (fault then testPort c then short) .0 (all .1) in
-    let codes = then-passes fault (testPort c then short) .0 (net .1) in
-    let last = then-passes (testPort c) short .0 (codes .1) in
+    let all = then-passes (textVerdict s m n) (testLines c Size sizeFault then fault then testPorts c then short) .0 e in
+    let net = then-passes (testLines c Size sizeFault) (fault then testPorts c then short) .0 (all .1) in
+    let codes = then-passes fault (testPorts c then short) .0 (net .1) in
+    let last = then-passes (testPorts c) short .0 (codes .1) in
     let long = lists-long c latchRoom gateRoom .0 (refuseIf-passes (listsShort c latchRoom gateRoom) NoRoom 0 .0 (last .1)) in
     record {
       text = all .0;
@@ -88,8 +88,8 @@ import-passed s m n word unknown latchRoom gateRoom e =
                   sizes = sizes-fit c .0 (testLines-passes c Size sizeFault .0 (net .0));
                   codes = codes-fit c .0 (testLines-passes c CodeOutside codeFault .0 (codes .0));
                 };
-            noTie = port-passes c .0 (last .0) .0;
-            noLoop = port-passes c .0 (last .0) .1;
+            noTie = ports-pass c .0 (last .0) .0;
+            noLoop = ports-pass c .0 (last .0) .1;
           };
       latches-long = long .0;
       gates-long = long .1;

@@ -10,7 +10,7 @@ use Rattle.refusals.specs.declared.Refusal.{Refusal}
 use Rattle.refusals.specs.declared.Refusal.the-variants.{Size, CodeOutside, NoRoom, NotAiger, Interface, Undefined}
 use Rattle.refusals.specs.declared.Verdict.{Verdict}
 use Rattle.netlist.specs.Faults.{sizeFault, codeFault}
-use Rattle.netlist_tests.specs.Record.{testLines, testPort, listsShort}
+use Rattle.netlist_tests.specs.Record.{testLines, testPorts, listsShort}
 use Rattle.aiger_lines.specs.Parts.{countsIn, linesDue, malformedAt}
 use Rattle.aiger_lines.specs.declared.Counts.{Counts}
 use Rattle.aiger_definitions.specs.Definitions.{definesAgain, undefinedAt}
@@ -44,5 +44,5 @@ importVerdict s m n word unknown latchRoom gateRoom =
     textVerdict s m n
     then testLines (aagNet s m n word unknown) Size sizeFault
     then testLines (aagNet s m n word unknown) CodeOutside codeFault
-    then testPort (aagNet s m n word unknown)
+    then testPorts (aagNet s m n word unknown)
     then refuseIf (listsShort (aagNet s m n word unknown) latchRoom gateRoom) NoRoom 0

@@ -15,7 +15,9 @@ use Rattle.aiger_definitions.specs.Definitions.{numberAt, definedAt}
 
 -- the sizes: the inputs that are not read bits, the latches and the gates of the header; with no codes
 abbrev pub textSizes : Counts → ℕ → ℕ → ℕ → ℕ → Netlist
-textSizes h m n word unknown = withoutCodes (h .inputs - n) (h .latches) (h .gates) m n word unknown
+textSizes h m n word unknown =
+    withoutCodes
+    (record { inputs = h .inputs - n; latches = h .latches; gates = h .gates; m = m; n = n; initialWord = word; unknownStart = unknown })
 
 -- the wire of what line p defines, in a netlist of the sizes c: an input, a read bit, a latch or a gate
 unfoldable pub wireOf : Counts → Netlist → ℕ → ℕ

@@ -19,7 +19,7 @@ use Rattle.call_position.proofs.Positions.{stands-passes}
 module _ (c : M.Netlist) (latchCount gateCount : ℕ) (p : Position) where
   -- the verdict from those of its parts
   pub group-at-tested : (g : Group) (room : ℕ) {v w : Verdict}
-      → v ≡ (recordVerdict c latchCount gateCount then testDepth (p .depth) then testGroup (p .depth) g) → w ≡ testFrame c p (p .frame)
+      → v ≡ (recordVerdict c latchCount gateCount then testDepth (p .depth) then testGroup c (p .depth) g) → w ≡ testFrame c p (p .frame)
       → groupAtVerdict c latchCount gateCount p g room ≡ v then w then writeVerdict c (p .depth) g room
   unfolding groupAtVerdict
   group-at-tested g room {v} e f =

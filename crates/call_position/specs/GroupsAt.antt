@@ -19,7 +19,7 @@ use Rattle.call_position.specs.declared.Position.{Position}
 -- RULES T51: "the record with its lists, then 7, 8, 16, 10, 9"
 unfoldable pub groupAtVerdict : Netlist → ℕ → ℕ → Position → Group → ℕ → Verdict
 groupAtVerdict c latchCount gateCount p g room =
-    recordVerdict c latchCount gateCount then testDepth (p .depth) then testGroup (p .depth) g then testFrame c p (p .frame)
+    recordVerdict c latchCount gateCount then testDepth (p .depth) then testGroup c (p .depth) g then testFrame c p (p .frame)
     then writeVerdict c (p .depth) g room
 
 -- what the call answers, and what it leaves in the slice

@@ -14,16 +14,17 @@ use Rattle.call_replies.specs.declared.GroupReply.{GroupReply}
 use Rattle.call_replies.specs.declared.VersionReply.{VersionReply}
 use Rattle.call_replies.specs.declared.SheetReply.{SheetReply}
 
--- Another kind than 0 to 3 is no group. A pair of a frame with itself is none at any depth, so it gets refusal 8.
+-- A pair and a closing are those of port 1. Another kind than 0 to 3 is no group: a pair of a frame with itself is none at any depth, so it
+-- gets refusal 8.
 unfoldable pub groupOf : ℕ → ℕ → ℕ → Group
 groupOf kind j i =
-    cond (eqb kind 0) (Wires i) (cond (eqb kind 1) (Pair j i) (cond (eqb kind 2) (Closing i) (cond (eqb kind 3) Property (Pair i i))))
+    cond (eqb kind 0) (Wires i) (cond (eqb kind 1) (Pair j i 1) (cond (eqb kind 2) (Closing i 1) (cond (eqb kind 3) Property (Pair i i 1))))
 
--- the three numbers of a group, and of what comes next in the order
+-- the three numbers of a group, whose port is the first, and of what comes next in the order
 unfoldable pub groupNumbers : Group → GroupReply
 groupNumbers (Wires i) = record { end = 0; kind = 0; j = 0; i = i }
-groupNumbers (Pair j i) = record { end = 0; kind = 1; j = j; i = i }
-groupNumbers (Closing i) = record { end = 0; kind = 2; j = 0; i = i }
+groupNumbers (Pair j i p) = record { end = 0; kind = 1; j = j; i = i }
+groupNumbers (Closing i p) = record { end = 0; kind = 2; j = 0; i = i }
 groupNumbers Property = record { end = 0; kind = 3; j = 0; i = 0 }
 
 unfoldable pub nextNumbers : Next → GroupReply

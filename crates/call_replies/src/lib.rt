@@ -19,16 +19,16 @@ ghost use Rattle.dimacs.specs.PrintCalls.{printReply};
 ghost use Rattle.sheet_parse.specs.LineAnswers.{withoutFields, lineSent};
 ghost use Rattle.call_replies.specs.Replies.{groupOf, groupNumbers, nextNumbers, sheetNumbers, headerVersion};
 
-// The group that three numbers stand for. Another kind is no group: a pair of a frame with itself, which no depth has.
+// The group that three numbers stand for, at the first port. Another kind is no group: a pair of a frame with itself, which no depth has.
 pub fn group_of(kind: u32, j: u32, i: u32) -> Group
     ensures { λ r. ⌜ r ≡ groupOf kind j i ⌝ }
 {
     match kind {
         0 => Group::Wires(i),
-        1 => Group::Pair(j, i),
-        2 => Group::Closing(i),
+        1 => Group::Pair(j, i, 1),
+        2 => Group::Closing(i, 1),
         3 => Group::Property,
-        _ => Group::Pair(i, i),
+        _ => Group::Pair(i, i, 1),
     }
 }
 
@@ -41,7 +41,7 @@ pub struct GroupReply {
     pub i: u32,
 }
 
-// A group as three numbers. What its kind does not have is 0.
+// A group as three numbers, whose port is the first. What its kind does not have is 0.
 fn numbers_of(group: Group) -> GroupReply
     ensures { λ r. ⌜ r ≡ groupNumbers group ⌝ }
 {
@@ -52,13 +52,13 @@ fn numbers_of(group: Group) -> GroupReply
             j: 0,
             i,
         },
-        Group::Pair(j, i) => GroupReply {
+        Group::Pair(j, i, _) => GroupReply {
             end: 0,
             kind: 1,
             j,
             i,
         },
-        Group::Closing(i) => GroupReply {
+        Group::Closing(i, _) => GroupReply {
             end: 0,
             kind: 2,
             j: 0,

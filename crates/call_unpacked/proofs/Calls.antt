@@ -9,7 +9,7 @@ use lib.IntN.{ℤ}
 use lib.ListN.{length, take, drop}
 use lib.Seq.{take-append-seam}
 use borrow.Author.Tests.{ltb-false, le-ltb, not-false}
-use Rattle.model.specs.Netlist.{Netlist}
+use Rattle.model.specs.Netlist.{Netlist, ports}
 use Rattle.model.specs.Acceptance.{Accepted}
 use Rattle.model.specs.Variables.{base}
 use Rattle.model.specs.Groups.{inDepth}
@@ -53,19 +53,19 @@ module _ (c : Netlist) (latchCount gateCount k : ℕ) (record-passed : recordVer
   accepted = passes-accepted c latchCount gateCount .0 record-passed .0
 
   -- no group call with room enough is refused
-  group-passes : (g : Group) (room : ℕ) → inDepth k g ≡ true → length (numbersOf c k g) ≤ room
+  group-passes : (g : Group) (room : ℕ) → inDepth (ports c) k g ≡ true → length (numbersOf c k g) ≤ room
       → groupVerdict c latchCount gateCount k g room ≡ Passed
   unfolding groupVerdict testGroup testDepth
   group-passes g room there enough =
       passes record-passed (passes (refuseIf-passes (ltb 255 k) _ 0 .1 (le-ltb 255 k most))
-      (passes (refuseIf-passes (not (inDepth k g)) _ 0 .1 (ap not there)) (passes (numbers-suffice c k accepted most)
+      (passes (refuseIf-passes (not (inDepth (ports c) k g)) _ 0 .1 (ap not there)) (passes (numbers-suffice c k accepted most)
       (room-enough (length (numbersOf c k g)) room enough))))
     where
       passes : {v w : Verdict} → v ≡ Passed → w ≡ Passed → (v then w) ≡ Passed
       passes {v} {w} p q = then-passes v w .1 (p, q)
 
   -- so the first `count` numbers that the call leaves are the group's
-  group-numbers : (g : Group) (old : List ℤ) → inDepth k g ≡ true → length (numbersOf c k g) ≤ length old
+  group-numbers : (g : Group) (old : List ℤ) → inDepth (ports c) k g ≡ true → length (numbersOf c k g) ≤ length old
       → take (groupSent c latchCount gateCount k g (length old) .count) (groupLeaves c latchCount gateCount k g old) ≡ numbersOf c k g
   unfolding groupSent groupLeaves withCount contentsAfter
   group-numbers g old there enough =
@@ -80,7 +80,7 @@ calls-encode-for c d latchCount gateCount k passed most ok same =
       calls-formula = λ slice enough.
           joined-same (all-weaken
           (λ g there. group-numbers d latchCount gateCount k passed most g (slice g) there (rw (same g) (enough g there)) ∙ same g)
-          (order-inDepth k));
+          (order-inDepth (ports c) k));
       formula-encodes = encodes c ok k;
       formula-stated = stated c ok k;
       variables-most = base-most c (ok .limits .sizes) (k + 1) (omega arith);
@@ -119,25 +119,25 @@ module _ (c : Netlist) (latchCount gateCount k : ℕ) where
 
   module _ (g : Group) where
     -- what the tests of a group call up to 8 have shown
-    pub group-shown : recordVerdict c latchCount gateCount then testDepth k then testGroup k g ≡ Passed
-        → Accepted c × (k ≤ 255) × (inDepth k g ≡ true)
+    pub group-shown : recordVerdict c latchCount gateCount then testDepth k then testGroup c k g ≡ Passed
+        → Accepted c × (k ≤ 255) × (inDepth (ports c) k g ≡ true)
     unfolding testGroup
     group-shown h =
         let a = then-passes (recordVerdict c latchCount gateCount) _ .0 h in
-        let b = then-passes (testDepth k) (testGroup k g) .0 (a .1) in (
+        let b = then-passes (testDepth k) (testGroup c k g) .0 (a .1) in (
           passes-accepted c latchCount gateCount .0 (a .0) .0,
           depth-passes k (b .0),
-          not-false (inDepth k g) (refuseIf-passes (not (inDepth k g)) NoSuchGroup 0 .0 (b .1)),
+          not-false (inDepth (ports c) k g) (refuseIf-passes (not (inDepth (ports c) k g)) NoSuchGroup 0 .0 (b .1)),
         )
 
     -- one test more behind them
-    pub group-more : (more : Verdict) {v : Verdict} → v ≡ (recordVerdict c latchCount gateCount then testDepth k then testGroup k g)
-        → recordVerdict c latchCount gateCount then testDepth k then testGroup k g then more ≡ v then more
+    pub group-more : (more : Verdict) {v : Verdict} → v ≡ (recordVerdict c latchCount gateCount then testDepth k then testGroup c k g)
+        → recordVerdict c latchCount gateCount then testDepth k then testGroup c k g then more ≡ v then more
     group-more more e =
-        ap (λ v. recordVerdict c latchCount gateCount then v) (tests-more (testDepth k) (testGroup k g) more refl)
-        ∙ tests-more (recordVerdict c latchCount gateCount) (testDepth k then testGroup k g) more e
+        ap (λ v. recordVerdict c latchCount gateCount then v) (tests-more (testDepth k) (testGroup c k g) more refl)
+        ∙ tests-more (recordVerdict c latchCount gateCount) (testDepth k then testGroup c k g) more e
 
-    pub group-tested : (room : ℕ) {v : Verdict} → v ≡ (recordVerdict c latchCount gateCount then testDepth k then testGroup k g)
+    pub group-tested : (room : ℕ) {v : Verdict} → v ≡ (recordVerdict c latchCount gateCount then testDepth k then testGroup c k g)
         → groupVerdict c latchCount gateCount k g room ≡ v then writeVerdict c k g room
     unfolding groupVerdict
     group-tested room = group-more (writeVerdict c k g room)

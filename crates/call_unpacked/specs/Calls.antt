@@ -9,7 +9,7 @@ use lib.Dec.{ltb}
 use lib.IntN.{ℤ}
 use lib.ListN.{length, take}
 use Rattle.model.specs.Limits.{mostDepth, mostLines}
-use Rattle.model.specs.Netlist.{Netlist}
+use Rattle.model.specs.Netlist.{Netlist, ports}
 use Rattle.model.specs.Variables.{base}
 use Rattle.model.specs.Groups.{inDepth, groupOrder}
 use Rattle.model.specs.Numbers.{numbersOf, joined, formula, clausesIn}
@@ -34,9 +34,9 @@ use Rattle.call_unpacked.specs.declared.HeadingAnswer.the-variants.{Head
 unfoldable pub testDepth : ℕ → Verdict
 testDepth k = refuseIf (ltb mostDepth k) Depth 0
 
--- RULES T8: "the frame is over k, or it is a pair with j not below i"
-unfoldable pub testGroup : ℕ → Group → Verdict
-testGroup k g = refuseIf (not (inDepth k g)) NoSuchGroup 0
+-- RULES T8: "the frame is over k, or it is a pair with j not below i", or the port is not one of the record's
+unfoldable pub testGroup : Netlist → ℕ → Group → Verdict
+testGroup c k g = refuseIf (not (inDepth (ports c) k g)) NoSuchGroup 0
 
 -- RULES T10: "a variable above 2,147,483,647", of the depth
 unfoldable pub testNumbers : Netlist → ℕ → Verdict
@@ -49,7 +49,7 @@ writeVerdict c k g room = testNumbers c k then testRoom (length (numbersOf c k g
 -- RULES T40: "the record with its lists, then 7, 8, 10, 9". It is of a record whose lists have latchCount and gateCount records
 unfoldable pub groupVerdict : Netlist → ℕ → ℕ → ℕ → Group → ℕ → Verdict
 groupVerdict c latchCount gateCount k g room =
-    recordVerdict c latchCount gateCount then testDepth k then testGroup k g then writeVerdict c k g room
+    recordVerdict c latchCount gateCount then testDepth k then testGroup c k g then writeVerdict c k g room
 
 -- RULES T41: a heading call has no group and writes nothing, so no 8 and no 9
 unfoldable pub headingVerdict : Netlist → ℕ → ℕ → ℕ → Verdict
@@ -88,13 +88,13 @@ headingSent c latchCount gateCount k =
 -- the order of the whole. Those numbers are c's formula, and the formula encodes the runs and is as `Stated` says; the variables are at
 -- most 675,841 (RULES V6), so that refusal 10 is never met; and c's sheet has at most 615 lines (RULES S6).
 abbrev pub RoomEnough : Netlist → ℕ → (Group → List ℤ) → Type 0
-RoomEnough c k slice = (g : Group) → inDepth k g ≡ true → length (numbersOf c k g) ≤ length (slice g)
+RoomEnough c k slice = (g : Group) → inDepth (ports c) k g ≡ true → length (numbersOf c k g) ≤ length (slice g)
 
 pub record CallsEncode (c d : Netlist) (latchCount gateCount k : ℕ) : Type 0 where
   pub calls-formula : (slice : Group → List ℤ) → RoomEnough c k slice
       → joined
       (λ g. take (groupSent d latchCount gateCount k g (length (slice g)) .count) (groupLeaves d latchCount gateCount k g (slice g)))
-      (groupOrder k)
+      (groupOrder (ports c) k)
       ≡ formula c k
   pub formula-encodes : Encodes c k
   pub formula-stated : Stated c k

@@ -8,6 +8,7 @@ ghost use mathlib.Core.Path.{_≡_};
 ghost use mathlib.Core.Bool.{true};
 ghost use Prim.Native.Nat.{_≤_};
 ghost use lib.ListN.{length};
+ghost use Rattle.model.specs.Netlist.{ports};
 ghost use Rattle.model.specs.Acceptance.{Accepted};
 ghost use Rattle.model.specs.Groups.{inDepth};
 ghost use Rattle.model.specs.Numbers.{numbersOf};
@@ -102,13 +103,13 @@ pub fn test_group(
     depth: u32,
     group: Group,
 ) -> Verdict
-    ensures { λ r. ⌜ r ≡ (recordVerdict (netOf net (now (latches .entry)) (now (gates .entry))) «latch_count» «gate_count» then testDepth depth then testGroup depth group) ⌝ }
+    ensures { λ r. ⌜ r ≡ (recordVerdict (netOf net (now (latches .entry)) (now (gates .entry))) «latch_count» «gate_count» then testDepth depth then testGroup (netOf net (now (latches .entry)) (now (gates .entry))) depth group) ⌝ }
 {
     let asked = test_depth(net, latches, latch_count, gates, gate_count, depth);
     if let Verdict::Refused(_, _) = asked {
         return asked;
     }
-    if !group_order::is_in_depth(depth, group) {
+    if !group_order::is_in_depth(netlist::port_count(net), depth, group) {
         return Verdict::Refused(Refusal::NoSuchGroup, 0);
     }
     Verdict::Passed
@@ -137,7 +138,7 @@ pub fn write_tested(
     group: Group,
     out: &mut [i32],
 ) -> GroupAnswer
-    requires { ⌜ Accepted (netOf net (now latches) (now gates)) × (depth ≤ 255) × (inDepth depth group ≡ true) ⌝ }
+    requires { ⌜ Accepted (netOf net (now latches) (now gates)) × (depth ≤ 255) × (inDepth (ports (netOf net (now latches) (now gates))) depth group ≡ true) ⌝ }
     ensures answer { λ r. ⌜ groupReply r ≡ withCount (writeVerdict (netOf net (now (latches .entry)) (now (gates .entry))) depth group (length (now (out .entry)))) (length (numbersOf (netOf net (now (latches .entry)) (now (gates .entry))) depth group)) ⌝ }
     ensures borrowed { λ r. ⌜ now (out .exit) ≡ contentsAfter (writeVerdict (netOf net (now (latches .entry)) (now (gates .entry))) depth group (length (now (out .entry)))) (numbersOf (netOf net (now (latches .entry)) (now (gates .entry))) depth group) (now (out .entry)) ⌝ }
 {

@@ -6,7 +6,7 @@ use Rattle.model.specs.Circuit.{sweep, isRead, eitherWire, dependsOnRead}
 use Rattle.model.specs.Gather.{gather, gatherDown}
 use Rattle.model.specs.Clauses.{neg, andClauses, sameIfClauses, bitClauses, addressBitClauses, unequalOf, allBits, forwardedClauses, agreedReads, pairClauses, initialReadClauses, initialReads, heldClauses, heldReads, selectedOf, someSource, closingClauses}
 use Rattle.model.specs.Variables.{baseOf, base, pairBaseOf, pairBase, wireAt, codeAt, noneSince, selected, readBit, pairLiterals, closingLiterals}
-use Rattle.model.specs.Groups.{violationOf, clausesOf, pairOf, frameGroups, groupOrder, inDepth}
+use Rattle.model.specs.Groups.{violationOf, clausesOf, atPorts, frameGroups, groupOrder, inDepth}
 use Rattle.model.specs.Numbers.{keptOf, kept, isTrue, hasTrue, endOf, writtenClause, written, numbersOf, joined, formula, splitAfter, clausesIn}
 use Rattle.model.specs.Search.{anyBelow, seen}
 use Rattle.refusals.specs.Tests.{_then_, inOrder}
@@ -30,7 +30,7 @@ use Rattle.calls.specs.Starred.{sheet, loopSheet, net, rows, Starred}
 pub starred : Starred
 unfolding odd bit sweep isRead eitherWire dependsOnRead neg gather gatherDown andClauses sameIfClauses bitClauses addressBitClauses unequalOf allBits
     forwardedClauses agreedReads pairClauses initialReadClauses initialReads heldClauses heldReads selectedOf someSource closingClauses baseOf base pairBaseOf pairBase wireAt codeAt noneSince
-    selected readBit pairLiterals closingLiterals violationOf clausesOf pairOf frameGroups groupOrder inDepth keptOf
+    selected readBit pairLiterals closingLiterals violationOf clausesOf atPorts frameGroups groupOrder inDepth keptOf
     kept isTrue hasTrue endOf writtenClause written numbersOf joined formula splitAfter clausesIn _then_ inOrder lineAt startOf startFault sizeFault codeFault seen anyBelow isTied tieFault loopFaultBy testLines
     recordVerdict testDepth testGroup testNumbers testRoom groupVerdict headingVerdict digitsWithin digits field sameText
     valueAfter numberIn dropSpaces filledWith behindSpaces fieldOf kindOf contentOf fieldIn allAsWanted lineWith lineOf

@@ -56,8 +56,8 @@ rows =
     ∷ row (base net 1 ∷ []) (3 ∷ [])
     ∷ row (base net 2 ∷ []) (10 ∷ [])
     -- RULES F13 and F14: the pair has 10 clauses and 31 numbers: a slice of 31 takes it, 30 gives 9
-    ∷ row (length (clausesIn (numbersOf net 1 (Pair 0 1))) ∷ []) (10 ∷ [])
-    ∷ row (length (numbersOf net 1 (Pair 0 1)) ∷ sent (groupVerdict net 0 0 1 (Pair 0 1) 31) ++ sent (groupVerdict net 0 0 1 (Pair 0 1) 30))
+    ∷ row (length (clausesIn (numbersOf net 1 (Pair 0 1 1))) ∷ []) (10 ∷ [])
+    ∷ row (length (numbersOf net 1 (Pair 0 1 1)) ∷ sent (groupVerdict net 0 0 1 (Pair 0 1 1) 31) ++ sent (groupVerdict net 0 0 1 (Pair 0 1 1) 30))
     (31 ∷ 0 ∷ 0 ∷ 9 ∷ 0 ∷ [])
     -- RULES F15: depth 1 has 15 clauses
     ∷ row (length (clausesIn (formula net 1)) ∷ []) (15 ∷ [])
@@ -67,7 +67,7 @@ rows =
     ∷ row (sent (headingVerdict net 0 0 255) ++ sent (headingVerdict net 0 0 256) ++ sent (depthVerdict (depthText 255)) ++ sent (depthVerdict (depthText 256)))
     (0 ∷ 0 ∷ 7 ∷ 0 ∷ 0 ∷ 0 ∷ 7 ∷ 0 ∷ [])
     -- RULES F9: pair (1, 1) gives 8
-    ∷ row (sent (groupVerdict net 0 0 1 (Pair 1 1) 31)) (8 ∷ 0 ∷ [])
+    ∷ row (sent (groupVerdict net 0 0 1 (Pair 1 1 1) 31)) (8 ∷ 0 ∷ [])
     ∷ []
 
 -- the single claim: in every row what is found is what the rules state (RULES F10)

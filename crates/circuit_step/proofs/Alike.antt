@@ -8,6 +8,7 @@ use Rattle.model.specs.Bits.{bit}
 use Rattle.model.specs.Netlist.{Netlist, port, readBits, readWire, lastWire}
 use Rattle.model.specs.Circuit.{Values, codeValue, dependsOnRead, State, Feeds, addressOf, readData, firstPass, frame, wordWritten, step, stateAt, run}
 use Rattle.model.specs.Acceptance.{Accepted, IsCode}
+use Rattle.model.proofs.Ports.{first-port}
 use Rattle.model.proofs.Bits.{fromBits-same}
 use Rattle.model.proofs.Memory.{address-below}
 use Rattle.model.proofs.Circuit.{code-same, address-same, evaluate-solves, independent-agree}
@@ -40,12 +41,12 @@ module _ {c : Netlist} (ok : Accepted c) where
       (evaluate-solves c f (s .latch) (readData c s (firstPass c s f)) (ok .limits .codes)) (x / 2) (omega arith) free)
 
   pub RE-settled : (s : State) (f : ℕ → Bool) → codeValue (firstPass c s f) (c .RE) ≡ codeValue (frame c s f) (c .RE)
-  RE-settled s f = settled s f (c .RE) (ok .limits .codes .RE-fits) (ok .noLoop .RE-free)
+  RE-settled s f = settled s f (c .RE) (ok .limits .codes .RE-fits) (ok .noLoop 1 (first-port c) .RE-free)
 
-  pub address-settled : (s : State) (f : ℕ → Bool) → addressOf c (port c) (firstPass c s f) ≡ addressOf c (port c) (frame c s f)
+  pub address-settled : (s : State) (f : ℕ → Bool) → addressOf c (port c 1) (firstPass c s f) ≡ addressOf c (port c 1) (frame c s f)
   address-settled s f =
-      address-same c (port c) (firstPass c s f) (frame c s f)
-      (λ t h. settled s f (c .address t) (ok .limits .codes .address-fits t h) (ok .noLoop .address-free t h))
+      address-same c (port c 1) (firstPass c s f) (frame c s f)
+      (λ t h. settled s f (c .address t) (ok .limits .codes .address-fits t h) (ok .noLoop 1 (first-port c) .address-free t h))
 
   module _ (s r : State) (f g : ℕ → Bool) (latches : LatchesAlike c s r) (inputs : InputsAlike c f g) where
     first-alike : (w : ℕ) → w ≤ lastWire c → firstPass c s f w ≡ firstPass c r g w
@@ -56,10 +57,10 @@ module _ {c : Netlist} (ok : Accepted c) where
     pub RE-alike : codeValue (frame c s f) (c .RE) ≡ codeValue (frame c r g) (c .RE)
     RE-alike = sym (RE-settled s f) ∙ code-alike first-alike (c .RE) (ok .limits .codes .RE-fits) ∙ RE-settled r g
 
-    pub address-alike : addressOf c (port c) (frame c s f) ≡ addressOf c (port c) (frame c r g)
+    pub address-alike : addressOf c (port c 1) (frame c s f) ≡ addressOf c (port c 1) (frame c r g)
     address-alike =
         sym (address-settled s f)
-        ∙ address-same c (port c) (firstPass c s f) (firstPass c r g) (λ t h. code-alike first-alike (c .address t) (ok .limits .codes .address-fits t h))
+        ∙ address-same c (port c 1) (firstPass c s f) (firstPass c r g) (λ t h. code-alike first-alike (c .address t) (ok .limits .codes .address-fits t h))
         ∙ address-settled r g
 
   module _ {s r : State} {f g : ℕ → Bool} (states : StatesAlike c f s r) (inputs : InputsAlike c f g) where
@@ -72,13 +73,13 @@ module _ {c : Netlist} (ok : Accepted c) where
         rw (← code-alike first-same (c .RE) (ok .limits .codes .RE-fits), ← address)
         (chosen (codeValue (firstPass c s f) (c .RE)) (λ e. states .held-alike (sym (RE-settled s f) ∙ e) t h))
       where
-        address : addressOf c (port c) (firstPass c s f) ≡ addressOf c (port c) (firstPass c r g)
-        address = address-same c (port c) (firstPass c s f) (firstPass c r g) (λ x b. code-alike first-same (c .address x) (ok .limits .codes .address-fits x b))
+        address : addressOf c (port c 1) (firstPass c s f) ≡ addressOf c (port c 1) (firstPass c r g)
+        address = address-same c (port c 1) (firstPass c s f) (firstPass c r g) (λ x b. code-alike first-same (c .address x) (ok .limits .codes .address-fits x b))
 
         chosen : (b : Bool) → (b ≡ false → s .held t ≡ r .held t)
-            → cond b (bit (s .memory (addressOf c (port c) (firstPass c s f))) t) (s .held t)
-            ≡ cond b (bit (r .memory (addressOf c (port c) (firstPass c s f))) t) (r .held t)
-        chosen true e = rw (states .memory-alike (addressOf c (port c) (firstPass c s f)) (address-below c (port c) (firstPass c s f)))
+            → cond b (bit (s .memory (addressOf c (port c 1) (firstPass c s f))) t) (s .held t)
+            ≡ cond b (bit (r .memory (addressOf c (port c 1) (firstPass c s f))) t) (r .held t)
+        chosen true e = rw (states .memory-alike (addressOf c (port c 1) (firstPass c s f)) (address-below c (port c 1) (firstPass c s f)))
         chosen false e = e refl
 
     -- every wire has the same value
@@ -93,7 +94,7 @@ module _ {c : Netlist} (ok : Accepted c) where
         record {
           latch-alike = λ l h. code-alike frame-same (c .next l) (ok .limits .codes .next-fits l h);
           memory-alike = λ x h.
-              rw (code-alike frame-same (c .WE) (ok .limits .codes .WE-fits), address-same c (port c) (frame c s f) (frame c r g) (λ t b. code-alike frame-same (c .address t) (ok .limits .codes .address-fits t b)), fromBits-same (c .n) (λ t. codeValue (frame c s f) (c .writeData t)) (λ t. codeValue (frame c r g) (c .writeData t)) (λ t b. code-alike frame-same (c .writeData t) (ok .limits .codes .data-fits t b)), states .memory-alike x h);
+              rw (code-alike frame-same (c .WE) (ok .limits .codes .WE-fits), address-same c (port c 1) (frame c s f) (frame c r g) (λ t b. code-alike frame-same (c .address t) (ok .limits .codes .address-fits t b)), fromBits-same (c .n) (λ t. codeValue (frame c s f) (c .writeData t)) (λ t. codeValue (frame c r g) (c .writeData t)) (λ t b. code-alike frame-same (c .writeData t) (ok .limits .codes .data-fits t b)), states .memory-alike x h);
           held-alike = λ e t h. frame-same (readWire c t) (omega arith);
         }
 

@@ -14,7 +14,7 @@ use lib.Seq.{getD-set-same, getD-set-other, drop-set-lt}
 use borrow.Author.Tests.{eq-eqb, ne-eqb}
 use Rattle.model.specs.Bits.{odd, bit}
 use Rattle.model.specs.Netlist.{Netlist, port, readBits, readWire, lastWire}
-use Rattle.model.specs.Circuit.{Values, codeValue, sources, sweep, conjunction, evaluate, State, addressOf, readData, firstPass, frame, wordWritten, step}
+use Rattle.model.specs.Circuit.{Values, codeValue, sources, sweep, conjunction, evaluate, State, addressOf, writeAddress, readData, firstPass, frame, wordWritten, step}
 use Rattle.model.specs.Acceptance.{CodesFit, WithinLimits, IsCode}
 use Rattle.model.proofs.Bits.{fromBits-same}
 use Rattle.model.proofs.Memory.{address-below}
@@ -52,8 +52,8 @@ code-in c q x h = code-below q x (omega arith)
 
 -- the address and the word written too
 module _ {c : Netlist} (limits : WithinLimits c) {v : Values} {table : List Bool} (q : HasBelow (lastWire c + 1) v table) where
-  pub address-in : addressOf c (port c) (entry table) ≡ addressOf c (port c) v
-  address-in = address-same c (port c) (entry table) v (λ t h. code-in c q (c .address t) (limits .codes .address-fits t h))
+  pub address-in : addressOf c (port c 1) (entry table) ≡ addressOf c (port c 1) v
+  address-in = address-same c (port c 1) (entry table) v (λ t h. code-in c q (c .address t) (limits .codes .address-fits t h))
 
   pub word-in : wordWritten c (entry table) ≡ wordWritten c v
   unfolding wordWritten
@@ -88,7 +88,7 @@ module _ {c : Netlist} (limits : WithinLimits c) {s : State} {f : ℕ → Bool} 
         rw (
           code-in c first-in (c .RE) (limits .codes .RE-fits),
           address-in limits first-in,
-          held .memory-held (addressOf c (port c) (firstPass c s f)) (address-below c (port c) (firstPass c s f)),
+          held .memory-held (addressOf c (port c 1) (firstPass c s f)) (address-below c (port c 1) (firstPass c s f)),
           held .word-held t h,
         )
 
@@ -103,16 +103,16 @@ pub behind-memoryAfter : (c : Netlist) (v : Values) (memory : List ℕ) → drop
 unfolding memoryAfter
 behind-memoryAfter c v memory = either (codeValue v (c .WE))
   where
-    either : (b : Bool) → drop (2 ^ c .m) (cond b (set memory (addressOf c (port c) v) (wordWritten c v)) memory) ≡ drop (2 ^ c .m) memory
-    either true = drop-set-lt (2 ^ c .m) memory (addressOf c (port c) v) (wordWritten c v) (address-below c (port c) v)
+    either : (b : Bool) → drop (2 ^ c .m) (cond b (set memory (writeAddress c v) (wordWritten c v)) memory) ≡ drop (2 ^ c .m) memory
+    either true = drop-set-lt (2 ^ c .m) memory (writeAddress c v) (wordWritten c v) (address-below c (port c 1) v)
     either false = refl
 
 length-memoryAfter : (c : Netlist) (v : Values) (memory : List ℕ) → length (memoryAfter c v memory) ≡ length memory
 unfolding memoryAfter
 length-memoryAfter c v memory = either (codeValue v (c .WE))
   where
-    either : (b : Bool) → length (cond b (set memory (addressOf c (port c) v) (wordWritten c v)) memory) ≡ length memory
-    either true = length-set memory (addressOf c (port c) v) (wordWritten c v)
+    either : (b : Bool) → length (cond b (set memory (writeAddress c v) (wordWritten c v)) memory) ≡ length memory
+    either true = length-set memory (writeAddress c v) (wordWritten c v)
     either false = refl
 
 -- after the write and the step of the latches, the next state is held, with the word that was read
@@ -133,13 +133,13 @@ step-holds {c} limits {s} {v} {table} q {latches} {next} {memory} held size each
     }
   where
     at : (x : ℕ) → x < 2 ^ c .m → (b : Bool)
-        → getD (cond b (set memory (addressOf c (port c) v) (wordWritten c v)) memory) x 0
-        ≡ cond (b && eqb x (addressOf c (port c) v)) (wordWritten c v) (s .memory x)
+        → getD (cond b (set memory (writeAddress c v) (wordWritten c v)) memory) x 0
+        ≡ cond (b && eqb x (writeAddress c v)) (wordWritten c v) (s .memory x)
     at x h false = held .memory-held x h
     at x h true =
-        by-cases (ℕ-discrete x (addressOf c (port c) v))
-        (λ e. rw (eq-eqb x _ e, e) (getD-set-same memory (addressOf c (port c) v) (wordWritten c v) 0 (omega (arith, held .memory-size, address-below c (port c) v))))
-        (λ e. rw (ne-eqb x _ e) (getD-set-other memory (addressOf c (port c) v) x (wordWritten c v) 0 e ∙ held .memory-held x h))
+        by-cases (ℕ-discrete x (writeAddress c v))
+        (λ e. rw (eq-eqb x _ e, e) (getD-set-same memory (writeAddress c v) (wordWritten c v) 0 (omega (arith, held .memory-size, address-below c (port c 1) v))))
+        (λ e. rw (ne-eqb x _ e) (getD-set-other memory (writeAddress c v) x (wordWritten c v) 0 e ∙ held .memory-held x h))
 
 -- the lists of a record have no part in what is held and fed, and the latches none in a frame
 module _ (r : Record.Netlist) (latches gates latches′ gates′ : List ℕ) where
@@ -174,7 +174,7 @@ module _ (r : Record.Netlist) (latches gates : List ℕ) where
   unfolding firstPass
   first-lists s f = evaluate-lists f (s .latch) (λ t. false)
 
-  read-lists : (s : State) (f : ℕ → Bool) (t : ℕ)
+  read-lists : (s : State) (f : ℕ → Bool) (t : ℕ) → t < readBits (netOf r latches gates)
       → readData (netOf r [] gates) s (firstPass (netOf r [] gates) s f) t ≡ readData (netOf r latches gates) s (firstPass (netOf r latches gates) s f) t
   unfolding netOf readData addressOf
   read-lists s f =
@@ -183,11 +183,14 @@ module _ (r : Record.Netlist) (latches gates : List ℕ) where
       = λ x. code-same (firstPass (netOf r [] gates) s f) (firstPass c s f) x (first-lists s f (x / 2))
       in
       readData-same c s (firstPass (netOf r [] gates) s f) (firstPass c s f)
-      (address-same c (port c) (firstPass (netOf r [] gates) s f) (firstPass c s f) (λ t h. same (c .address t))) (same (c .RE))
+      (λ p here. (
+        address-same c (port c p) (firstPass (netOf r [] gates) s f) (firstPass c s f) (λ t h. same (port c p .address t)),
+        same (port c p .RE),
+      ))
 
   pub frame-lists : WithinLimits (netOf r latches gates) → (s : State) (f : ℕ → Bool) (w : ℕ) → w ≤ lastWire (netOf r latches gates)
       → frame (netOf r [] gates) s f w ≡ frame (netOf r latches gates) s f w
   unfolding frame
   frame-lists limits s f w h =
       evaluate-lists f (s .latch) (readData (netOf r [] gates) s (firstPass (netOf r [] gates) s f)) w
-      ∙ evaluate-alike (limits .codes) (λ x l. refl) (λ l b. refl) (λ t b. read-lists s f t) w h
+      ∙ evaluate-alike (limits .codes) (λ x l. refl) (λ l b. refl) (read-lists s f) w h

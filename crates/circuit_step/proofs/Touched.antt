@@ -11,7 +11,7 @@ use borrow.Author.Tests.{eq-eqb, ne-eqb}
 use Rattle.model.specs.Bits.{bit}
 use Rattle.model.specs.Search.{anyBelow}
 use Rattle.model.specs.Netlist.{Netlist, port, readWire}
-use Rattle.model.specs.Circuit.{Values, codeValue, State, Feeds, addressOf, evaluate, readData, firstPass, frame, wordWritten, step, stateAt, run}
+use Rattle.model.specs.Circuit.{Values, codeValue, State, Feeds, addressOf, writeAddress, evaluate, readData, firstPass, frame, wordWritten, step, stateAt, run}
 use Rattle.model.specs.Acceptance.{Accepted}
 use Rattle.model.proofs.Search.{none-below}
 use Rattle.model.proofs.Booleans.{or-true, neither-true, cond-same}
@@ -34,13 +34,13 @@ apart b q e h k = true≢false (sym (rw (h, k)) ∙ e)
 
 module _ (c : Netlist) (v : Values) (x : ℕ) (none : touches c v x ≡ false) where
   -- a frame that does not touch a word neither reads nor writes it
-  pub not-read : codeValue v (c .RE) ≡ true → addressOf c (port c) v ≡ x → ⊥
+  pub not-read : codeValue v (c .RE) ≡ true → addressOf c (port c 1) v ≡ x → ⊥
   unfolding touches
-  not-read r e = apart _ _ none (rw r) (eq-eqb x (addressOf c (port c) v) (sym e))
+  not-read r e = apart _ _ none (rw r) (eq-eqb x (addressOf c (port c 1) v) (sym e))
 
-  pub not-written : codeValue v (c .WE) ≡ true → addressOf c (port c) v ≡ x → ⊥
+  pub not-written : codeValue v (c .WE) ≡ true → writeAddress c v ≡ x → ⊥
   unfolding touches
-  not-written w e = apart _ _ none (or-true (codeValue v (c .RE)) (codeValue v (c .WE)) .1 (inr w)) (eq-eqb x (addressOf c (port c) v) (sym e))
+  not-written w e = apart _ _ none (or-true (codeValue v (c .RE)) (codeValue v (c .WE)) .1 (inr w)) (eq-eqb x (writeAddress c v) (sym e))
 
   -- a step leaves the word
   step-untouched : (w : ℕ) (s : State) → step c (withWord x w s) v ≡ withWord x w (step c s v)
@@ -51,18 +51,18 @@ module _ (c : Netlist) (v : Values) (x : ℕ) (none : touches c v x ≡ false) w
       with-memory memory = record { latch = λ l. codeValue v (c .next l); memory = memory; held = λ t. v (readWire c t) }
 
       at : (y : ℕ) (b : Bool) → codeValue v (c .WE) ≡ b
-          → cond (b && eqb y (addressOf c (port c) v)) (wordWritten c v) (cond (eqb y x) w (s .memory y))
-          ≡ cond (eqb y x) w (cond (b && eqb y (addressOf c (port c) v)) (wordWritten c v) (s .memory y))
+          → cond (b && eqb y (writeAddress c v)) (wordWritten c v) (cond (eqb y x) w (s .memory y))
+          ≡ cond (eqb y x) w (cond (b && eqb y (writeAddress c v)) (wordWritten c v) (s .memory y))
       at y false e = refl
       at y true e =
           by-cases (ℕ-discrete y x)
-          (λ q. rw (ne-eqb y (addressOf c (port c) v) (λ h. not-written e (sym h ∙ q))))
+          (λ q. rw (ne-eqb y (writeAddress c v) (λ h. not-written e (sym h ∙ q))))
           (λ q. rw (ne-eqb y x q))
 
 module _ {c : Netlist} (ok : Accepted c) where
   -- states that differ in their words alone, and not in the word that the frame of the second reads, have the same frame
   pub frame-reads : (s r : State) (f : ℕ → Bool) → s .latch ≡ r .latch → s .held ≡ r .held
-      → (codeValue (frame c r f) (c .RE) ≡ true → s .memory (addressOf c (port c) (frame c r f)) ≡ r .memory (addressOf c (port c) (frame c r f)))
+      → (codeValue (frame c r f) (c .RE) ≡ true → s .memory (addressOf c (port c 1) (frame c r f)) ≡ r .memory (addressOf c (port c 1) (frame c r f)))
       → frame c s f ≡ frame c r f
   unfolding frame firstPass readData
   frame-reads s r f latches held word = ap₂ (evaluate c f) latches (fun-ext read)
@@ -70,7 +70,7 @@ module _ {c : Netlist} (ok : Accepted c) where
       first : firstPass c s f ≡ firstPass c r f
       first = ap (λ latch. evaluate c f latch (λ t. false)) latches
 
-      there : codeValue (firstPass c r f) (c .RE) ≡ true → s .memory (addressOf c (port c) (firstPass c r f)) ≡ r .memory (addressOf c (port c) (firstPass c r f))
+      there : codeValue (firstPass c r f) (c .RE) ≡ true → s .memory (addressOf c (port c 1) (firstPass c r f)) ≡ r .memory (addressOf c (port c 1) (firstPass c r f))
       there e = rw (address-settled ok r f) (word (sym (RE-settled ok r f) ∙ e))
 
       read : (t : ℕ) → readData c s (firstPass c s f) t ≡ readData c r (firstPass c r f) t
@@ -81,7 +81,7 @@ module _ {c : Netlist} (ok : Accepted c) where
   -- so a frame that does not touch a word is the same with another word there
   frame-untouched : (x w : ℕ) (s : State) (f : ℕ → Bool) → touches c (frame c s f) x ≡ false → frame c (withWord x w s) f ≡ frame c s f
   frame-untouched x w s f none =
-      frame-reads (withWord x w s) s f refl refl (λ e. rw (ne-eqb (addressOf c (port c) (frame c s f)) x (not-read c (frame c s f) x none e)))
+      frame-reads (withWord x w s) s f refl refl (λ e. rw (ne-eqb (addressOf c (port c 1) (frame c s f)) x (not-read c (frame c s f) x none e)))
 
   -- so a run goes on with another word there as it did
   module _ (x w : ℕ) (s : State) (f : Feeds) where

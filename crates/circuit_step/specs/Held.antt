@@ -7,8 +7,8 @@ use mathlib.Core.List.{List}
 use lib.ListN.{length, getD, set, drop}
 use Rattle.model.specs.Limits.{mostWires}
 use Rattle.model.specs.Bits.{bit}
-use Rattle.model.specs.Netlist.{Netlist, port, readBits, lastWire}
-use Rattle.model.specs.Circuit.{Values, codeValue, State, addressOf, frame, wordWritten, step}
+use Rattle.model.specs.Netlist.{Netlist, readBits, lastWire}
+use Rattle.model.specs.Circuit.{Values, codeValue, State, writeAddress, frame, wordWritten, step}
 use Rattle.model.specs.Acceptance.{WithinLimits}
 use Rattle.netlist.specs.WireTable.{entry, HasBelow}
 
@@ -30,7 +30,7 @@ pub record Fed (c : Netlist) (f : ℕ → Bool) (inputs : List Bool) : Type 0 wh
 
 -- the memory after a frame with the values v (RULES C7)
 unfoldable pub memoryAfter : Netlist → Values → List ℕ → List ℕ
-memoryAfter c v memory = cond (codeValue v (c .WE)) (set memory (addressOf c (port c) v) (wordWritten c v)) memory
+memoryAfter c v memory = cond (codeValue v (c .WE)) (set memory (writeAddress c v) (wordWritten c v)) memory
 
 -- what a step asks of what it is lent
 pub record StepFits (c : Netlist) (values latches : List Bool) (memory : List ℕ) : Type 0 where

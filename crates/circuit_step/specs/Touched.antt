@@ -8,7 +8,7 @@ use Rattle.model.specs.Circuit.{Values, codeValue, State, Feeds, addressOf, run
 
 -- a frame with the values v reads or writes the word at x
 unfoldable pub touches : Netlist → Values → ℕ → Bool
-touches c v x = eqb x (addressOf c (port c) v) && (codeValue v (port c .RE) || codeValue v (c .WE))
+touches c v x = eqb x (addressOf c (port c 1) v) && (codeValue v (port c 1 .RE) || codeValue v (c .WE))
 
 -- a frame before frame i of the run from state s does
 unfoldable pub touchedBefore : Netlist → State → Feeds → ℕ → ℕ → Bool

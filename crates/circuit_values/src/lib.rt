@@ -115,7 +115,7 @@ pub fn with_bit(number: u32, t: u32, value: bool) -> u32
 // The address, by a table of the wires.
 pub fn address_of(values: &WireValues, net: Netlist) -> u32
     requires { ⌜ WithinLimits (alone net) ⌝ }
-    ensures { λ r. ⌜ r ≡ addressOf (alone net) (port (alone net)) (entry (now (values .entry))) ⌝ }
+    ensures { λ r. ⌜ r ≡ addressOf (alone net) (port (alone net) 1) (entry (now (values .entry))) ⌝ }
 {
     let mut number = 0;
     let mut t: u32 = 0;

@@ -23,9 +23,9 @@ pub struct Port {
     pub first_variable: u32,
 }
 
-// The one port that a record has.
-pub fn port_of(net: Netlist) -> Port
-    ensures { λ r. ⌜ portOf r ≡ port (alone net) ⌝ }
+// The port of this number: a record has one.
+pub fn port_of(net: Netlist, number: u32) -> Port
+    ensures { λ r. ⌜ portOf r ≡ port (alone net) number ⌝ }
 {
     let address = net.address;
     let re = net.re;

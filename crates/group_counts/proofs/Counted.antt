@@ -6,7 +6,6 @@ use mathlib.Core.Bool.{true}
 use mathlib.Core.List.{List, [], _∷_, _++_}
 use native.Mathlib.Nat.{mul-le-mul}
 use native.Mathlib.Omega.{arith}
-use borrow.Author.Tests.{leb-true}
 use lib.IntN.{ℤ, pos, negsuc}
 use lib.ListN.{length, getD, take, drop}
 use lib.Seq.{take-suc, take-append-seam}
@@ -14,18 +13,21 @@ use lib.Signed.{mag}
 use mir.Syntax.{w32}
 use mir.Val.{SFits, toZ, ofZ}
 use mir.ValLaws.{toZ-ofZ}
-use Rattle.model.specs.Netlist.{Netlist, Start, given, unknown, start}
+use Rattle.model.specs.Netlist.{Netlist, Start, given, unknown, start, ports}
+use Rattle.model.specs.Gather.{gather}
 use Rattle.model.specs.Acceptance.{Accepted}
-use Rattle.model.specs.Groups.{inDepth, clausesOf}
+use Rattle.model.specs.Groups.{inDepth, clausesOf, atPorts}
 use Rattle.model.specs.Numbers.{numbersOf, formula, splitAfter, clausesIn}
 use Rattle.model.specs.Counts.{whereGiven, whereUnknown, numberCount}
 use Rattle.model.specs.Wrote.{Wrote}
 use Rattle.model.specs.declared.Group.{Group}
 use Rattle.model.specs.declared.Group.the-variants.{Wires, Pair, Closing, Property}
+use Rattle.model.proofs.Ports.{first-port}
+use Rattle.model.proofs.Joined.{closing-inDepth}
 use Rattle.model.proofs.Bounds.{wires-within, pairs-within, closing-within, property-within, all-within-one}
 use Rattle.model.proofs.Numbers.{clausesIn-written}
 use Rattle.model.proofs.Variables.{base-least}
-use Rattle.model.proofs.Classes.{shownCount, formula-count}
+use Rattle.model.proofs.Classes.{shownCount, count-one, pairs, closings, formula-count}
 use Rattle.group_counts.specs.PairCounts.{groupCount, pairCounts}
 
 -- the end mark, and any other number, as a machine tells them, by their bits
@@ -82,15 +84,15 @@ unknown-most (given word) x = omega arith
 unknown-most unknown x = omega arith
 
 -- no group has more than 5,992 numbers: the most are the wires of frame 0 with gates alone
-pub numbers-most : (c : Netlist) (k : ℕ) (g : Group) → Accepted c → k ≤ 255 → inDepth k g ≡ true → numberCount c k g ≤ 5992
-unfolding inDepth numberCount
+pub numbers-most : (c : Netlist) (k : ℕ) (g : Group) → Accepted c → k ≤ 255 → inDepth (ports c) k g ≡ true → numberCount c k g ≤ 5992
+unfolding numberCount
 numbers-most c k (Wires zero) a d h = omega (arith, a .limits .sizes .wires-fit, a .limits .sizes .n-least)
 numbers-most c k (Wires (suc i)) a d h = omega (arith, a .limits .sizes .wires-fit, a .limits .sizes .n-least)
-numbers-most c k (Pair j i) a d h =
+numbers-most c k (Pair j i p) a d h =
     omega (arith, a .limits .sizes .m-most, a .limits .sizes .n-most, unknown-most (start c) (12 * c .n))
-numbers-most c k (Closing zero) a d h = omega (arith, a .limits .sizes .n-most, given-most (start c) (8 * c .n))
-numbers-most c k (Closing (suc i)) a d h =
-    omega (arith, a .limits .sizes .n-most, leb-true (suc i) k h, given-most (start c) (8 * c .n))
+numbers-most c k (Closing zero p) a d h = omega (arith, a .limits .sizes .n-most, given-most (start c) (8 * c .n))
+numbers-most c k (Closing (suc i) p) a d h =
+    omega (arith, a .limits .sizes .n-most, closing-inDepth (ports c) k (suc i) p .0 h .0, given-most (start c) (8 * c .n))
 numbers-most c k Property a d h = omega (arith, d)
 
 -- pairs of frames
@@ -106,24 +108,33 @@ module _ {c : Netlist} (ok : Accepted c) (k : ℕ) where
   unfolding numbersOf shownCount
   wires-shown i h = ap length (clausesIn-written _ _ (base-least c (k + 1)) (wires-within ok k i h))
 
-  pair-shown : (j i : ℕ) → j < i → i ≤ k → length (clausesIn (numbersOf c k (Pair j i))) ≡ shownCount (clausesOf c k (Pair j i))
+  pair-shown : (j i : ℕ) → j < i → i ≤ k → length (clausesIn (numbersOf c k (Pair j i 1))) ≡ shownCount (clausesOf c k (Pair j i 1))
   unfolding numbersOf shownCount
-  pair-shown j i l h = ap length (clausesIn-written _ _ (base-least c (k + 1)) (all-within-one (pairs-within ok k j i l h)))
+  pair-shown j i l h = ap length (clausesIn-written _ _ (base-least c (k + 1)) (all-within-one (pairs-within ok k 1 (first-port c) j i l h)))
 
-  closing-shown : (i : ℕ) → i ≤ k → length (clausesIn (numbersOf c k (Closing i))) ≡ shownCount (clausesOf c k (Closing i))
+  closing-shown : (i : ℕ) → i ≤ k → length (clausesIn (numbersOf c k (Closing i 1))) ≡ shownCount (clausesOf c k (Closing i 1))
   unfolding numbersOf shownCount
-  closing-shown i h = ap length (clausesIn-written _ _ (base-least c (k + 1)) (all-within-one (closing-within ok k i h)))
+  closing-shown i h = ap length (clausesIn-written _ _ (base-least c (k + 1)) (all-within-one (closing-within ok k 1 (first-port c) i h)))
 
   property-shown : length (clausesIn (numbersOf c k Property)) ≡ shownCount (clausesOf c k Property)
   unfolding numbersOf shownCount
   property-shown = ap length (clausesIn-written _ _ (base-least c (k + 1)) (all-within-one (property-within ok k)))
 
+-- at the one port
+one-pair : (c : Netlist) (k j i : ℕ) → pairs c k j i ≡ shownCount (clausesOf c k (Pair j i 1))
+unfolding atPorts gather
+one-pair c k j i = count-one c k (Pair j i 1)
+
+one-closing : (c : Netlist) (k i : ℕ) → closings c k i ≡ shownCount (clausesOf c k (Closing i 1))
+unfolding atPorts gather
+one-closing c k i = count-one c k (Closing i 1)
+
 -- of all pairs of a depth. But for the property, a group's clauses do not depend on the depth: they are counted at the greatest
 pairs-shown : {c : Netlist} → Accepted c → (k : ℕ)
     → pairCounts c k
-    ≡ (k - (k - 1)) * shownCount (clausesOf c k (Pair 0 1))
-    + (k - 1) * (shownCount (clausesOf c k (Pair 1 2)) + shownCount (clausesOf c k (Pair 0 2)))
-    + ((k - 1) * (k - 1 + 1) / 2 - (k - 1)) * shownCount (clausesOf c k (Pair 1 3))
+    ≡ (k - (k - 1)) * shownCount (clausesOf c k (Pair 0 1 1))
+    + (k - 1) * (shownCount (clausesOf c k (Pair 1 2 1)) + shownCount (clausesOf c k (Pair 0 2 1)))
+    + ((k - 1) * (k - 1 + 1) / 2 - (k - 1)) * shownCount (clausesOf c k (Pair 1 3 1))
 unfolding pairCounts clausesOf
 pairs-shown ok zero = omega arith
 pairs-shown ok (suc i) =
@@ -140,8 +151,8 @@ pairs-shown ok (suc i) =
     (omega arith)
 
 -- of a depth above 0, by one pair of each class
-pub some-counted : (c : Netlist) (k first later far : ℕ) → 1 ≤ k → first ≡ groupCount c (Pair 0 1)
-    → later ≡ groupCount c (Pair 1 2) + groupCount c (Pair 0 2) → far ≡ groupCount c (Pair 1 3)
+pub some-counted : (c : Netlist) (k first later far : ℕ) → 1 ≤ k → first ≡ groupCount c (Pair 0 1 1)
+    → later ≡ groupCount c (Pair 1 2 1) + groupCount c (Pair 0 2 1) → far ≡ groupCount c (Pair 1 3 1)
     → first + (k - 1) * later + ((k - 1) * (k - 1 + 1) / 2 - (k - 1)) * far ≡ pairCounts c k
 unfolding pairCounts
 some-counted c zero first later far h ef el er = absurd (omega arith)
@@ -151,7 +162,7 @@ some-counted c (suc i) first later far h ef el er =
 
 -- the clauses of a depth
 pub counted : {c : Netlist} → Accepted c → (k first later pairs property : ℕ)
-    → first ≡ groupCount c (Wires 0) + groupCount c (Closing 0) → later ≡ groupCount c (Wires 1) + groupCount c (Closing 1)
+    → first ≡ groupCount c (Wires 0) + groupCount c (Closing 0 1) → later ≡ groupCount c (Wires 1) + groupCount c (Closing 1 1)
     → pairs ≡ pairCounts c k → property ≡ length (clausesIn (numbersOf c k Property))
     → first + k * later + pairs + property ≡ length (clausesIn (formula c k))
 unfolding clausesOf
@@ -167,7 +178,7 @@ counted {c} ok k first later pairs property ef el es ep =
       closing-shown ok 255 1 (omega arith),
       property-shown ok k,
     )
-    (sum _ _ _ _ _ _ _ _ (formula-count ok k) (pairs-shown ok k))
+    (sum _ _ _ _ _ _ _ _ (rw (one-closing c k 0, one-closing c k 1, one-pair c k 0 1, one-pair c k 1 2, one-pair c k 0 2, one-pair c k 1 3) at (formula-count ok k)) (pairs-shown ok k))
   where
     sum : (total f l x y z s q : ℕ) → total ≡ f + l + x + y + z + q → s ≡ x + y + z → f + l + s + q ≡ total
     sum total f l x y z s q e h = omega arith

@@ -11,8 +11,8 @@ use Rattle.model.specs.declared.Group.the-variants.{Pair}
 abbrev pub groupCount : Netlist → Group → ℕ
 groupCount c g = length (clausesIn (numbersOf c 255 g))
 
--- Of frames 0 to k: pair (0, 1); each later frame's pairs with the frame before it and with frame 0; and all others.
+-- Of frames 0 to k, at the one port: pair (0, 1); each later frame's pairs with the frame before it and with frame 0; and all others.
 unfoldable pub pairCounts : Netlist → ℕ → ℕ
 pairCounts c zero = 0
 pairCounts c (suc i) =
-    groupCount c (Pair 0 1) + i * (groupCount c (Pair 1 2) + groupCount c (Pair 0 2)) + (i * (i + 1) / 2 - i) * groupCount c (Pair 1 3)
+    groupCount c (Pair 0 1 1) + i * (groupCount c (Pair 1 2 1) + groupCount c (Pair 0 2 1)) + (i * (i + 1) / 2 - i) * groupCount c (Pair 1 3 1)

@@ -8,6 +8,7 @@ ghost use mathlib.Core.Bool.{true};
 ghost use mathlib.Core.List.{[], _∷_};
 ghost use Prim.Native.Nat.{_+_, _-_, _*_, _/_, _≤_};
 ghost use lib.ListN.{length};
+ghost use Rattle.model.specs.Netlist.{ports};
 ghost use Rattle.model.specs.Acceptance.{Accepted};
 ghost use Rattle.model.specs.Groups.{inDepth};
 ghost use Rattle.model.specs.Numbers.{numbersOf, formula, clausesIn};
@@ -47,7 +48,7 @@ fn count_group(
     depth: u32,
     group: Group,
 ) -> u32
-    requires { ⌜ Accepted (netOf net (now latches) (now gates)) × (depth ≤ 255) × (inDepth depth group ≡ true)
+    requires { ⌜ Accepted (netOf net (now latches) (now gates)) × (depth ≤ 255) × (inDepth (ports (netOf net (now latches) (now gates))) depth group ≡ true)
         × (5992 ≤ length (now numbers)) ⌝ }
     ensures { λ r. ⌜ (r ≡ length (clausesIn (numbersOf (netOf net (now (latches .entry)) (now (gates .entry))) depth group))) × (r ≤ 5992) ⌝ }
     ensures scratch { λ _. ⌜ length (now (numbers .exit)) ≡ length (now (numbers .entry)) ⌝ }
@@ -66,11 +67,11 @@ fn count_frame(
 ) -> u32
     requires { ⌜ Accepted (netOf net (now latches) (now gates)) × (i ≤ 255) × (5992 ≤ length (now numbers)) ⌝ }
     ensures { λ r. ⌜ (r ≡ groupCount (netOf net (now (latches .entry)) (now (gates .entry))) (Wires i)
-        + groupCount (netOf net (now (latches .entry)) (now (gates .entry))) (Closing i)) × (r ≤ 11984) ⌝ }
+        + groupCount (netOf net (now (latches .entry)) (now (gates .entry))) (Closing i 1)) × (r ≤ 11984) ⌝ }
     ensures scratch { λ _. ⌜ length (now (numbers .exit)) ≡ length (now (numbers .entry)) ⌝ }
 {
     let wires = count_group(numbers, net, latches, gates, 255, Group::Wires(i));
-    wires + count_group(numbers, net, latches, gates, 255, Group::Closing(i))
+    wires + count_group(numbers, net, latches, gates, 255, Group::Closing(i, 1))
 }
 
 // A product with a bound, so that sums of it fit.
@@ -97,12 +98,12 @@ fn count_later_pairs(
     gates: &UnpackedList,
 ) -> u32
     requires { ⌜ Accepted (netOf net (now latches) (now gates)) × (5992 ≤ length (now numbers)) ⌝ }
-    ensures { λ r. ⌜ (r ≡ groupCount (netOf net (now (latches .entry)) (now (gates .entry))) (Pair 1 2)
-        + groupCount (netOf net (now (latches .entry)) (now (gates .entry))) (Pair 0 2)) × (r ≤ 11984) ⌝ }
+    ensures { λ r. ⌜ (r ≡ groupCount (netOf net (now (latches .entry)) (now (gates .entry))) (Pair 1 2 1)
+        + groupCount (netOf net (now (latches .entry)) (now (gates .entry))) (Pair 0 2 1)) × (r ≤ 11984) ⌝ }
     ensures scratch { λ _. ⌜ length (now (numbers .exit)) ≡ length (now (numbers .entry)) ⌝ }
 {
-    let near = count_group(numbers, net, latches, gates, 255, Group::Pair(1, 2));
-    near + count_group(numbers, net, latches, gates, 255, Group::Pair(0, 2))
+    let near = count_group(numbers, net, latches, gates, 255, Group::Pair(1, 2, 1));
+    near + count_group(numbers, net, latches, gates, 255, Group::Pair(0, 2, 1))
 }
 
 // The clauses of all pairs of a depth above 0. Those with frame 0, whose Z is RE and may be a constant, are classes of their own: of a given
@@ -118,9 +119,9 @@ fn count_some_pairs(
     ensures { λ r. ⌜ (r ≡ pairCounts (netOf net (now (latches .entry)) (now (gates .entry))) depth) × (r ≤ 782321512) ⌝ }
     ensures scratch { λ _. ⌜ length (now (numbers .exit)) ≡ length (now (numbers .entry)) ⌝ }
 {
-    let first = count_group(numbers, net, latches, gates, 255, Group::Pair(0, 1));
+    let first = count_group(numbers, net, latches, gates, 255, Group::Pair(0, 1, 1));
     let later = count_later_pairs(numbers, net, latches, gates);
-    let far = count_group(numbers, net, latches, gates, 255, Group::Pair(1, 3));
+    let far = count_group(numbers, net, latches, gates, 255, Group::Pair(1, 3, 1));
     let above = depth - 1;
     first + product(above, later) + product(other_pairs(above), far)
 }

@@ -1,5 +1,5 @@
 -- The groups that there are at a depth (`inDepth`) stand in the order of the whole, and no others do. No contract cites this file.
-use Prim.Native.Nat.{ℕ, zero, suc, _+_, _<_}
+use Prim.Native.Nat.{ℕ, zero, suc, _+_, _-_, _≤_, _<_}
 use mathlib.Core.Path.{_≡_, refl, sym, _∙_, ap, subst}
 use mathlib.Core.Bool.{true, false, true≢false}
 use mathlib.Core.List.{List, [], _∷_, _++_, append-assoc}
@@ -7,15 +7,13 @@ use mathlib.Core.Logic.{by-cases}
 use native.Mathlib.Nat.{not-suc-le-zero}
 use native.Mathlib.Decide.{decLt}
 use native.Mathlib.Omega.{arith}
-use lib.Dec.{leb, ltb}
-use borrow.Author.Tests.{leb-true, ltb-true}
+use borrow.Author.Tests.{leb-true}
 use Rattle.model.specs.Gather.{gather, gatherDown}
-use Rattle.model.specs.Groups.{pairOf, frameGroups, groupOrder, inDepth}
+use Rattle.model.specs.Groups.{atPorts, frameGroups, groupOrder, inDepth}
 use Rattle.model.specs.declared.Group.{Group}
 use Rattle.model.specs.declared.Group.the-variants.{Wires, Pair, Closing, Property}
-use Rattle.model.proofs.Booleans.{and-true}
 use Rattle.model.proofs.Gather.{All, all-at}
-use Rattle.model.proofs.Joined.{order-inDepth}
+use Rattle.model.proofs.Joined.{pair-inDepth, closing-inDepth, order-inDepth}
 
 -- a group stands in a list
 abbrev pub StandsIn : Group → List Group → Type 0
@@ -48,29 +46,36 @@ stands-gatherDown g (suc n) f i h s =
     (λ l. stands-right g (f n) (gatherDown n f) (stands-gatherDown g n f i l s))
     (λ l. let e : i ≡ n = omega arith in stands-left g (f n) (gatherDown n f) (subst (λ (x : ℕ). StandsIn g (f x)) e s))
 
--- in a frame of the order
-stands-frame : (k : ℕ) (g : Group) (i : ℕ) → leb i k ≡ true → StandsIn g (frameGroups i) → StandsIn g (groupOrder k)
-unfolding groupOrder
-stands-frame k g i h s =
-    stands-left g (gather (k + 1) frameGroups) (Property ∷ [])
-    (stands-gather g (k + 1) frameGroups i (omega (arith, leb-true i k h)) s)
+-- at one of the ports
+stands-ports : (f : ℕ → Group) (ports p : ℕ) → (1 ≤ p) × (p ≤ ports) → StandsIn (f p) (gather ports (λ x. f (suc x) ∷ []))
+stands-ports f ports p b =
+    let e : suc (p - 1) ≡ p = omega (arith, b .0) in
+    stands-gather (f p) ports (λ x. f (suc x) ∷ []) (p - 1) (omega (arith, b .0, b .1)) (rw e (stands-first (f p) []))
 
-pub in-order : (k : ℕ) (g : Group) → inDepth k g ≡ true → StandsIn g (groupOrder k)
-unfolding groupOrder frameGroups pairOf inDepth
-in-order k (Wires i) h =
-    stands-frame k (Wires i) i h
-    (stands-left (Wires i) (Wires i ∷ gatherDown i (pairOf i)) (Closing i ∷ []) (stands-first (Wires i) (gatherDown i (pairOf i))))
-in-order k (Pair j i) h =
-    let both = and-true (leb i k) (ltb j i) .0 h in
-    stands-frame k (Pair j i) i (both .0)
-    (stands-left (Pair j i) (Wires i ∷ gatherDown i (pairOf i)) (Closing i ∷ [])
-    (stands-right (Pair j i) (Wires i ∷ []) (gatherDown i (pairOf i))
-    (stands-gatherDown (Pair j i) i (pairOf i) j (ltb-true j i (both .1)) (stands-first (Pair j i) []))))
-in-order k (Closing i) h =
-    stands-frame k (Closing i) i h
-    (stands-right (Closing i) (Wires i ∷ gatherDown i (pairOf i)) (Closing i ∷ []) (stands-first (Closing i) []))
-in-order k Property h = stands-right Property (gather (k + 1) frameGroups) (Property ∷ []) (stands-first Property [])
+module _ (ports k : ℕ) where
+  -- in a frame of the order
+  stands-frame : (g : Group) (i : ℕ) → i ≤ k → StandsIn g (frameGroups ports i) → StandsIn g (groupOrder ports k)
+  unfolding groupOrder
+  stands-frame g i h s =
+      stands-left g (gather (k + 1) (frameGroups ports)) (Property ∷ []) (stands-gather g (k + 1) (frameGroups ports) i (omega arith) s)
 
-pub not-in-order : (k : ℕ) (g : Group) → inDepth k g ≡ false → (xs ys : List Group) → groupOrder k ≡ xs ++ g ∷ ys → ⊥
-not-in-order k g h xs ys o =
-    true≢false (sym (all-at xs g ys (subst (All (λ x. inDepth k x ≡ true)) o (order-inDepth k))) ∙ h)
+  pub in-order : (g : Group) → inDepth ports k g ≡ true → StandsIn g (groupOrder ports k)
+  unfolding groupOrder frameGroups atPorts
+  in-order (Wires i) h =
+      stands-frame (Wires i) i (leb-true i k (unfold inDepth in h))
+      (stands-left (Wires i) (Wires i ∷ gatherDown i (λ j. atPorts ports (Pair j i))) (atPorts ports (Closing i)) (stands-first (Wires i) (gatherDown i (λ j. atPorts ports (Pair j i)))))
+  in-order (Pair j i p) h =
+      let there = pair-inDepth ports k j i p .0 h in
+      stands-frame (Pair j i p) i (there .0)
+      (stands-left (Pair j i p) (Wires i ∷ gatherDown i (λ j. atPorts ports (Pair j i))) (atPorts ports (Closing i))
+      (stands-right (Pair j i p) (Wires i ∷ []) (gatherDown i (λ j. atPorts ports (Pair j i)))
+      (stands-gatherDown (Pair j i p) i (λ j. atPorts ports (Pair j i)) j (there .1) (stands-ports (Pair j i) ports p (there .2)))))
+  in-order (Closing i p) h =
+      let there = closing-inDepth ports k i p .0 h in
+      stands-frame (Closing i p) i (there .0)
+      (stands-right (Closing i p) (Wires i ∷ gatherDown i (λ j. atPorts ports (Pair j i))) (atPorts ports (Closing i)) (stands-ports (Closing i) ports p (there .1)))
+  in-order Property h = stands-right Property (gather (k + 1) (frameGroups ports)) (Property ∷ []) (stands-first Property [])
+
+  pub not-in-order : (g : Group) → inDepth ports k g ≡ false → (xs ys : List Group) → groupOrder ports k ≡ xs ++ g ∷ ys → ⊥
+  not-in-order g h xs ys o =
+      true≢false (sym (all-at xs g ys (subst (All (λ x. inDepth ports k x ≡ true)) o (order-inDepth ports k))) ∙ h)

@@ -11,14 +11,14 @@ abbrev pub firstGroup : List Group → Next
 firstGroup [] = End
 firstGroup (g ∷ gs) = Then g
 
--- at most so many groups follow at depth k: k + 3 for each later frame, those of its own frame, and the property
-abbrev pub remainingAfter : ℕ → Group → ℕ
-remainingAfter k (Wires i) = (k - i) * (k + 3) + (i + 2)
-remainingAfter k (Pair j i) = (k - i) * (k + 3) + (j + 2)
-remainingAfter k (Closing i) = (k - i) * (k + 3) + 1
-remainingAfter k Property = 0
+-- at most so many groups follow at depth k, with so many ports: for each later frame those of frame k, those of its own frame, and the property
+abbrev pub remainingAfter : ℕ → ℕ → Group → ℕ
+remainingAfter ports k (Wires i) = (k - i) * (ports * (k + 1) + 1) + (ports * (i + 1) + 1)
+remainingAfter ports k (Pair j i p) = (k - i) * (ports * (k + 1) + 1) + (ports * (j + 1) + (ports - p) + 1)
+remainingAfter ports k (Closing i p) = (k - i) * (ports * (k + 1) + 1) + (ports - p + 1)
+remainingAfter ports k Property = 0
 
 -- the same of what comes next, itself included
-abbrev pub remainingFrom : ℕ → Next → ℕ
-remainingFrom k (Then g) = remainingAfter k g + 1
-remainingFrom k End = 0
+abbrev pub remainingFrom : ℕ → ℕ → Next → ℕ
+remainingFrom ports k (Then g) = remainingAfter ports k g + 1
+remainingFrom ports k End = 0

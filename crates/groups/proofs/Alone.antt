@@ -5,9 +5,9 @@ use mathlib.Core.Path.{_≡_, refl, sym, _∙_, ap, subst}
 use mathlib.Core.List.{List}
 use native.Mathlib.Omega.{arith}
 use mathlib.Core.Bool.{true, cond}
-use lib.Dec.{eqb, leb, ltb}
+use lib.Dec.{eqb}
 use lib.IntN.{ℤ}
-use borrow.Author.Tests.{ne-eqb, leb-true, ltb-true}
+use borrow.Author.Tests.{ne-eqb, leb-true}
 use Rattle.model.specs.Netlist as M
 use Rattle.model.specs.Acceptance.{Accepted}
 use Rattle.model.specs.Clauses.{pairClauses, closingClauses}
@@ -18,7 +18,7 @@ use Rattle.model.specs.Counts.{whereGiven, whereUnknown, numberCount}
 use Rattle.model.specs.Wrote.{Wrote}
 use Rattle.model.specs.declared.Group.{Group}
 use Rattle.model.specs.declared.Group.the-variants.{Wires, Pair, Closing, Property}
-use Rattle.model.proofs.Booleans.{and-true}
+use Rattle.model.proofs.Joined.{pair-inDepth, closing-inDepth}
 use Rattle.netlist.specs.NetOf.{netOf, alone}
 use Rattle.netlist.specs.declared.Netlist.{Netlist}
 use Rattle.clause_variables.specs.PortFits.{PortFits}
@@ -26,9 +26,9 @@ use Rattle.netlist.proofs.NetOf.{limits-alone}
 
 module _ (r : Netlist) (ls gs : List ℕ) where
   -- the sizes and codes that an accepted record's port has
-  pub fits-alone : Accepted (netOf r ls gs) → (p : M.Port) → p ≡ M.port (alone r) → PortFits (alone r) p
+  pub fits-alone : Accepted (netOf r ls gs) → (x : ℕ) → M.IsPort (netOf r ls gs) x → (p : M.Port) → p ≡ M.port (alone r) x → PortFits (alone r) p
   unfolding netOf
-  fits-alone ok p e =
+  fits-alone ok x is p e =
       rw e
       (record {
         limits = limits-alone r ls gs (ok .limits);
@@ -39,16 +39,16 @@ module _ (r : Netlist) (ls gs : List ℕ) where
       })
 
   -- a pair
-  pub pair-alone : (p : M.Port) → p ≡ M.port (alone r) → (k j i : ℕ)
-      → written (pairClauses (r .m) (r .n) (M.startOf (r .«initial_word») (r .«unknown_start»)) (pairLiterals (alone r) p j i)) ≡ numbersOf (netOf r ls gs) k (Pair j i)
+  pub pair-alone : (x : ℕ) (p : M.Port) → p ≡ M.port (alone r) x → (k j i : ℕ)
+      → written (pairClauses (r .m) (r .n) (M.startOf (r .«initial_word») (r .«unknown_start»)) (pairLiterals (alone r) p j i)) ≡ numbersOf (netOf r ls gs) k (Pair j i x)
   unfolding netOf numbersOf clausesOf pairLiterals base pairBase noneSince selected readBit
-  pair-alone p e k j i = rw e
+  pair-alone x p e k j i = rw e
 
   -- a closing
-  pub closing-alone : (p : M.Port) → p ≡ M.port (alone r) → (k i : ℕ)
-      → written (closingClauses (r .n) (M.startOf (r .«initial_word») (r .«unknown_start»)) i (closingLiterals (alone r) p i)) ≡ numbersOf (netOf r ls gs) k (Closing i)
+  pub closing-alone : (x : ℕ) (p : M.Port) → p ≡ M.port (alone r) x → (k i : ℕ)
+      → written (closingClauses (r .n) (M.startOf (r .«initial_word») (r .«unknown_start»)) i (closingLiterals (alone r) p i)) ≡ numbersOf (netOf r ls gs) k (Closing i x)
   unfolding netOf numbersOf clausesOf closingLiterals base pairBase noneSince selected readBit
-  closing-alone p e k i = rw e
+  closing-alone x p e k i = rw e
 
   -- the property
   pub property-alone : (k : ℕ) → numbersOf (alone r) k Property ≡ numbersOf (netOf r ls gs) k Property
@@ -63,17 +63,17 @@ module _ (r : Netlist) (ls gs : List ℕ) where
     wires-count zero e = rw e (omega arith)
     wires-count (suc i) e = rw (e, ne-eqb (suc i) 0 (λ h. omega arith)) (omega arith)
 
-    pub pair-count : {j i : ℕ} → g ≡ Pair j i → numberCount (netOf r ls gs) k g
+    pub pair-count : {j i x : ℕ} → g ≡ Pair j i x → numberCount (netOf r ls gs) k g
         ≡ 17 * r .m + 8 * r .n + 32 + whereUnknown (M.startOf (r .«initial_word») (r .«unknown_start»)) (12 * r .n)
     unfolding numberCount netOf
     pair-count e = rw e
 
-    pub closing-count : (i : ℕ) → g ≡ Closing i
+    pub closing-count : (i x : ℕ) → g ≡ Closing i x
         → numberCount (netOf r ls gs) k g
         ≡ whereGiven (M.startOf (r .«initial_word») (r .«unknown_start»)) (8 * r .n) + cond (eqb i 0) 0 (r .n * 8) + i + 3
     unfolding numberCount netOf
-    closing-count zero e = rw e (omega arith)
-    closing-count (suc i) e = rw (e, ne-eqb (suc i) 0 (λ h. omega arith)) (omega arith)
+    closing-count zero x e = rw e (omega arith)
+    closing-count (suc i) x e = rw (e, ne-eqb (suc i) 0 (λ h. omega arith)) (omega arith)
 
     pub property-count : g ≡ Property → numberCount (netOf r ls gs) k g ≡ k + 2
     unfolding numberCount
@@ -90,16 +90,13 @@ module _ (c : M.Netlist) (k : ℕ) {g g′ : Group} (e : g ≡ g′) {zs : List 
   pub wrote-by-kind : {old new : List ℤ} {r : ℕ} → Wrote zs old new r → Wrote (numbersOf c k g) old new r
   wrote-by-kind {old} {new} {r} w = subst (λ (xs : List ℤ). Wrote xs old new r) (h ∙ ap (numbersOf c k) (sym e)) w
 
-pub wires-frame : (k i : ℕ) {g : Group} → g ≡ Wires i → inDepth k g ≡ true → i ≤ k
-unfolding inDepth
-wires-frame k i e h = leb-true i k (sym (ap (inDepth k) e) ∙ h)
+module _ (ports k : ℕ) {g : Group} where
+  pub wires-frame : (i : ℕ) → g ≡ Wires i → inDepth ports k g ≡ true → i ≤ k
+  unfolding inDepth
+  wires-frame i e h = leb-true i k (sym (ap (inDepth ports k) e) ∙ h)
 
-pub pair-frames : (k j i : ℕ) {g : Group} → g ≡ Pair j i → inDepth k g ≡ true → (i ≤ k) × (j < i)
-unfolding inDepth
-pair-frames k j i e h =
-    let both = and-true (leb i k) (ltb j i) .0 (sym (ap (inDepth k) e) ∙ h) in
-    (leb-true i k (both .0), ltb-true j i (both .1))
+  pub pair-frames : (j i x : ℕ) → g ≡ Pair j i x → inDepth ports k g ≡ true → (i ≤ k) × (j < i) × ((1 ≤ x) × (x ≤ ports))
+  pair-frames j i x e h = pair-inDepth ports k j i x .0 (sym (ap (inDepth ports k) e) ∙ h)
 
-pub closing-frame : (k i : ℕ) {g : Group} → g ≡ Closing i → inDepth k g ≡ true → i ≤ k
-unfolding inDepth
-closing-frame k i e h = leb-true i k (sym (ap (inDepth k) e) ∙ h)
+  pub closing-frame : (i x : ℕ) → g ≡ Closing i x → inDepth ports k g ≡ true → (i ≤ k) × ((1 ≤ x) × (x ≤ ports))
+  closing-frame i x e h = closing-inDepth ports k i x .0 (sym (ap (inDepth ports k) e) ∙ h)

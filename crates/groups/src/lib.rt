@@ -6,6 +6,7 @@ ghost use mathlib.Core.Path.{_≡_};
 ghost use Prim.Native.Nat.{_≤_};
 ghost use mathlib.Core.Bool.{true};
 ghost use lib.ListN.{length};
+ghost use Rattle.model.specs.Netlist.{ports};
 ghost use Rattle.model.specs.Acceptance.{Accepted};
 ghost use Rattle.model.specs.Groups.{inDepth};
 ghost use Rattle.model.specs.Numbers.{numbersOf};
@@ -22,18 +23,24 @@ pub fn put_group(
     depth: u32,
     group: Group,
 ) -> usize
-    requires { ⌜ Accepted (netOf net (now latches) (now gates)) × (depth ≤ 255) × (inDepth depth group ≡ true)
+    requires { ⌜ Accepted (netOf net (now latches) (now gates)) × (depth ≤ 255) × (inDepth (ports (netOf net (now latches) (now gates))) depth group ≡ true)
         × (numberCount (netOf net (now latches) (now gates)) depth group ≤ length (now out)) ⌝ }
     ensures { λ r. ⌜ Wrote (numbersOf (netOf net (now (latches .entry)) (now (gates .entry))) depth group) (now (out .entry)) (now (out .exit)) r
         × (r ≤ numberCount (netOf net (now (latches .entry)) (now (gates .entry))) depth group) ⌝ }
 {
     match group {
         Group::Wires(i) => group_wires::put_wires(out, net, latches, gates, i),
-        Group::Pair(j, i) => group_pair::put_pair(out, net, clause_variables::port_of(net), j, i),
-        Group::Closing(i) => group_closing::put_closing(
+        Group::Pair(j, i, port) => group_pair::put_pair(
             out,
             net,
-            clause_variables::port_of(net),
+            clause_variables::port_of(net, port),
+            j,
+            i,
+        ),
+        Group::Closing(i, port) => group_closing::put_closing(
+            out,
+            net,
+            clause_variables::port_of(net, port),
             i,
         ),
         Group::Property => group_property::put_property(out, net, depth),

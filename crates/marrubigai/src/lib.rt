@@ -78,14 +78,19 @@ pub extern "C" fn marrubigai_write_group(
     ))
 }
 
-// `group_order::next_group`: the group that follows one in the order of the whole at this depth, which begins with the wires of frame 0.
+// `group_order::next_group`: the group that follows one in the order of the whole at this depth, with the one port, which begins with the wires of
+// frame 0.
 #[no_mangle]
 pub extern "C" fn marrubigai_next_group(depth: u32, kind: u32, j: u32, i: u32) -> GroupReply
-    ensures follows { λ r. ⌜ ((xs ys : List Group) → groupOrder depth ≡ xs ++ groupOf kind j i ∷ ys → r ≡ nextNumbers (firstGroup ys)) ⌝ }
-    ensures absent { λ r. ⌜ (((xs ys : List Group) → groupOrder depth ≡ xs ++ groupOf kind j i ∷ ys → ⊥) → r ≡ nextNumbers Next.End) ⌝ }
-    ensures begins { λ r. ⌜ firstGroup (groupOrder depth) ≡ Next.Then (groupOf 0 0 0) ⌝ }
+    ensures follows { λ r. ⌜ ((xs ys : List Group) → groupOrder 1 depth ≡ xs ++ groupOf kind j i ∷ ys → r ≡ nextNumbers (firstGroup ys)) ⌝ }
+    ensures absent { λ r. ⌜ (((xs ys : List Group) → groupOrder 1 depth ≡ xs ++ groupOf kind j i ∷ ys → ⊥) → r ≡ nextNumbers Next.End) ⌝ }
+    ensures begins { λ r. ⌜ firstGroup (groupOrder 1 depth) ≡ Next.Then (groupOf 0 0 0) ⌝ }
 {
-    call_replies::next_numbers(group_order::next_group(depth, call_replies::group_of(kind, j, i)))
+    call_replies::next_numbers(group_order::next_group(
+        1,
+        depth,
+        call_replies::group_of(kind, j, i),
+    ))
 }
 
 // `calls::heading`, with all its promises: a caller may have filled the record by itself.

@@ -7,7 +7,7 @@ use mathlib.Core.List.{List}
 use native.Mathlib.Nat.{le-refl}
 use native.Mathlib.Omega.{arith}
 use lib.ListN.{getD}
-use Rattle.model.specs.Netlist.{Netlist, given, startOf, start, gateWire, lastWire}
+use Rattle.model.specs.Netlist.{Netlist, IsPort, given, startOf, start, gateWire, lastWire}
 use Rattle.model.specs.Circuit.{Values, sweep, isRead, dependsOnRead}
 use Rattle.model.specs.Acceptance.{SizesFit, CodesFit, Accepted}
 use Rattle.model.specs.Agree.{givenWord, sizesOf, SameSizes, Agree}
@@ -138,16 +138,16 @@ module _ (c d : Netlist) (q : Agree c d) where
   accepted-same h =
       record {
         limits = record { sizes = sizesFit-same c d (q .sizes-same) (h .limits .sizes); codes = codes-same (h .limits .codes) };
-        noTie = record { tie-free = untied };
-        noLoop =
+        noTie = λ p is. record { tie-free = untied p is };
+        noLoop = λ p is.
             record {
-              address-free = λ t b. let s : t < c .m = rw m-same b in free (q .address-same t s) (h .noLoop .address-free t s);
-              RE-free = free (q .RE-same) (h .noLoop .RE-free);
+              address-free = λ t b. let s : t < c .m = rw m-same b in free (q .address-same t s) (h .noLoop p is .address-free t s);
+              RE-free = free (q .RE-same) (h .noLoop p is .RE-free);
             };
       }
     where
-      untied : (s t : ℕ) → s < t → t < d .m → d .address s / 2 ≡ d .address t / 2 → d .address t / 2 ≡ 0
-      untied s t l b e =
+      untied : (p : ℕ) → IsPort c p → (s t : ℕ) → s < t → t < d .m → d .address s / 2 ≡ d .address t / 2 → d .address t / 2 ≡ 0
+      untied p is s t l b e =
           let m : t < c .m = rw m-same b in
           let n : s < c .m = omega arith in
-          rw (← q .address-same t m) (h .noTie .tie-free s t l m (rw (q .address-same s n, q .address-same t m) e))
+          rw (← q .address-same t m) (h .noTie p is .tie-free s t l m (rw (q .address-same s n, q .address-same t m) e))

@@ -8,7 +8,7 @@ use native.Mathlib.Omega.{arith}
 use lib.Dec.{eqb}
 use Rattle.model.specs.Bits.{bit}
 use Rattle.model.specs.Netlist.{Netlist, Port, port, lastWire}
-use Rattle.model.specs.Circuit.{Values, codeValue, addressOf, wordWritten, State, Feeds, step, stateAt, run}
+use Rattle.model.specs.Circuit.{Values, codeValue, addressOf, writeAddress, wordWritten, State, Feeds, step, stateAt, run}
 use Rattle.model.specs.Acceptance.{CodesFit, IsCode}
 use Rattle.model.proofs.Bits.{fromBits-same, bit-fromBits}
 use Rattle.model.proofs.Circuit.{code-same, address-same}
@@ -29,8 +29,8 @@ word-agrees : (c : Netlist) → CodesFit c → (u v : Values) → Same c u v →
 unfolding wordWritten
 word-agrees c fit u v h = fromBits-same (c .n) _ _ (λ t b. code-agrees c u v h (c .writeData t) (fit .data-fits t b))
 
-address-agrees : (c : Netlist) → CodesFit c → (u v : Values) → Same c u v → addressOf c (port c) u ≡ addressOf c (port c) v
-address-agrees c fit u v h = address-same c (port c) u v (λ t b. code-agrees c u v h (c .address t) (fit .address-fits t b))
+write-agrees : (c : Netlist) → CodesFit c → (u v : Values) → Same c u v → writeAddress c u ≡ writeAddress c v
+write-agrees c fit u v h = address-same c (port c 1) u v (λ t b. code-agrees c u v h (c .address t) (fit .address-fits t b))
 
 -- equal addresses are equal bit by bit
 pub address-bits : (c : Netlist) (p q : Port) (u v : Values) → addressOf c p u ≡ addressOf c q v
@@ -41,7 +41,7 @@ address-bits c p q u v e t b =
 
 -- whether frame j, of frames with the values u, writes the word x
 unfoldable pub writes : Netlist → (ℕ → Values) → ℕ → ℕ → Bool
-writes c u x j = codeValue (u j) (c .WE) && eqb x (addressOf c (port c) (u j))
+writes c u x j = codeValue (u j) (c .WE) && eqb x (writeAddress c (u j))
 
 -- the writes to the word that frame i reads at a port
 unfoldable pub hits : Netlist → Port → (ℕ → Values) → ℕ → ℕ → Bool
@@ -57,12 +57,12 @@ pub memory-stepped : (c : Netlist) (s : State) (f : Feeds) (x i : ℕ)
 unfolding stateAt step stepped writes run
 memory-stepped c s f x zero = refl
 memory-stepped c s f x (suc i) =
-    cc (memory-stepped c s f x i, and-comm (codeValue (run c s f i) (c .WE)) (eqb x (addressOf c (port c) (run c s f i))))
+    cc (memory-stepped c s f x i, and-comm (codeValue (run c s f i) (c .WE)) (eqb x (writeAddress c (run c s f i))))
 
 writes-agrees : (c : Netlist) → CodesFit c → (u v : ℕ → Values) (x j : ℕ) → Same c (u j) (v j) → writes c u x j ≡ writes c v x j
 unfolding writes
 writes-agrees c fit u v x j h =
-    ap₂ (λ (e : Bool) (y : ℕ). e && eqb x y) (code-agrees c (u j) (v j) h (c .WE) (fit .WE-fits)) (address-agrees c fit (u j) (v j) h)
+    ap₂ (λ (e : Bool) (y : ℕ). e && eqb x y) (code-agrees c (u j) (v j) h (c .WE) (fit .WE-fits)) (write-agrees c fit (u j) (v j) h)
 
 pub wordBefore-agrees : (c : Netlist) → CodesFit c → (u v : ℕ → Values) (start x i : ℕ)
     → ((j : ℕ) → j < i → Same c (u j) (v j)) → wordBefore c u start x i ≡ wordBefore c v start x i

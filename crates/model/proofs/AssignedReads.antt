@@ -10,7 +10,7 @@ use lib.Dec.{eqb}
 use borrow.Author.Tests.{eqb-true, eq-eqb}
 use Rattle.model.specs.Bits.{bit}
 use Rattle.model.specs.Netlist.{Netlist, Start, Port, port, readWire}
-use Rattle.model.specs.Circuit.{Values, codeValue, addressOf, wordWritten}
+use Rattle.model.specs.Circuit.{Values, codeValue, addressOf, writeAddress, wordWritten}
 use Rattle.model.specs.Clauses.{PairLiterals}
 use Rattle.model.specs.Variables.{noneSince, readBit, pairLiterals}
 use Rattle.model.specs.Numbers.{Assignment}
@@ -34,13 +34,13 @@ module _ (c : Netlist) (p : Port) (a : Assignment) where
   literals = pairLiterals c p
 
   -- E is true exactly where frame i reads the address that frame j has for a write
-  pub E-value : (j i : ℕ) {s : Start} → PairHolds a (c .m) (c .n) s (literals j i) → value a (literals j i .E) ≡ eqb (at i) (addressOf c (port c) (u j))
+  pub E-value : (j i : ℕ) {s : Start} → PairHolds a (c .m) (c .n) s (literals j i) → value a (literals j i .E) ≡ eqb (at i) (writeAddress c (u j))
   unfolding pairLiterals addressOf
   E-value j i h =
       iff-eq _ _
       (λ e. eq-eqb _ _ (fromBits-same (c .m) _ _ (λ t b. sym (Ai t) ∙ sym (h .address-bit t b .0 e) ∙ Aj t)))
       (λ e. h .E-where-all-e (λ t b. h .address-bit t b .1
-      (Aj t ∙ sym (address-bits c p (port c) (u i) (u j) (eqb-true _ _ e) t b) ∙ sym (Ai t))))
+      (Aj t ∙ sym (address-bits c p (port c 1) (u i) (u j) (eqb-true _ _ e) t b) ∙ sym (Ai t))))
     where
       Aj : (t : ℕ) → value a (literals j i .Aj t) ≡ codeValue (u j) (c .address t)
       Aj t = codeIn-value c a j (c .address t)

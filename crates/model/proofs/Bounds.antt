@@ -6,21 +6,22 @@ use mathlib.Core.Bool.{Bool, true, false, cond}
 use mathlib.Core.List.{List, [], _∷_, _++_}
 use native.Mathlib.Numerals.{add-one}
 use native.Mathlib.Omega.{arith}
-use borrow.Author.Tests.{eqb-false, ltb-false}
 use lib.Dec.{eqb, ltb}
 use lib.IntN.{ℤ, pos, negsuc, natAbs}
 use lib.ListN.{length}
+use borrow.Author.Tests.{eqb-false, ltb-false}
 use Rattle.model.specs.Bits.{odd}
 use Rattle.model.specs.Gather.{gather, gatherDown}
-use Rattle.model.specs.Netlist.{Netlist, Start, given, unknown, start, port, gateWire, lastWire}
+use Rattle.model.specs.Netlist.{Netlist, Start, given, unknown, start, ports, IsPort, port, gateWire, lastWire}
 use Rattle.model.specs.Clauses.{Literal, known, plus, minus, Clause, neg, andClauses, sameClauses, sameIfClauses, sameIfAllClauses, bitClauses, PairLiterals, addressBitClauses, unequalOf, allBits, forwardedClauses, agreedClauses, agreedReads, pairClauses, ClosingLiterals, initialReadClauses, initialReads, heldClauses, heldReads, selectedOf, someSource, closingClauses}
-use Rattle.model.specs.Variables.{stride, base, pairBase, wireAt, codeAt, wireIn, codeIn, noneSince, selected, readBit, pairLiterals, closingLiterals}
+use Rattle.model.specs.Variables.{base, pairBase, wireAt, codeAt, wireIn, codeIn, noneSince, selected, readBit, pairLiterals, closingLiterals}
 use Rattle.model.specs.Acceptance.{Accepted, IsCode}
-use Rattle.model.specs.Groups.{gateClauses, resetClauses, latchClauses, violationOf, clausesOf, pairOf, frameGroups, groupOrder}
+use Rattle.model.specs.Groups.{gateClauses, resetClauses, latchClauses, violationOf, clausesOf, atPorts, frameGroups, groupOrder}
 use Rattle.model.specs.Numbers.{keptOf, kept, hasTrue, endOf, writtenClause, written, formula}
 use Rattle.model.specs.declared.Group.{Group}
 use Rattle.model.specs.declared.Group.the-variants.{Wires, Pair, Closing, Property}
-use Rattle.model.proofs.Variables.{base-suc, base-least, base-monotone, pair-within, pairBase-least}
+use Rattle.model.proofs.Ports.{bit-within, address-code, RE-code, variables-within}
+use Rattle.model.proofs.Variables.{base-suc, base-least, base-monotone, port-within, pairBase-least}
 use Rattle.model.proofs.Gather.{All, nothing, also, just, _⧺_, all-gather, all-gatherDown, all-weaken}
 use Rattle.model.proofs.Joined.{joinedClauses, joinedClauses-append, formula-written}
 
@@ -187,28 +188,32 @@ module _ (c : Netlist) (k : ℕ) where
       let wire : Bounded (plus (base c i + x / 2)) = wire-within i (x / 2) h (omega arith) in
       cond-has Bounded (odd x) (λ o. wire) (λ o. wire))
 
-  -- a variable of pair (j, i)
-  pub pair-variable-within : (j i v : ℕ) → j < i → i ≤ k
-      → (pairBase c (port c) j i < v) × (v ≤ pairBase c (port c) j i + stride c) → Bounded (plus v)
-  pair-variable-within j i v l h r = variable-within i v h (omega (arith, pairBase-least c (port c) j i, pair-within c j i l))
+  -- at a port
+  module _ (p : ℕ) (here : IsPort c p) where
+    -- a variable of pair (j, i)
+    pub pair-variable-within : (j i v : ℕ) → j < i → i ≤ k
+        → (pairBase c (port c p) j i < v) × (v ≤ pairBase c (port c p) j i + (c .m + 4)) → Bounded (plus v)
+    pair-variable-within j i v l h r =
+        variable-within i v h
+        (omega (arith, pairBase-least c (port c p) j i, port-within c (port c p) j i (c .m + 4) l (variables-within c p here)))
 
-  -- PS, or RE
-  pub noneSince-within : (j i : ℕ) → j ≤ i → i ≤ k → IsCode c (c .RE) → Bounded (noneSince c (port c) j i)
-  unfolding noneSince
-  noneSince-within j i l h r =
-      cond-has Bounded (eqb j i)
-      (λ e. code-within i (c .RE) h r)
-      (λ e. pair-variable-within j i _ (omega (arith, eqb-false j i e)) h (omega arith))
+    -- PS, or RE
+    pub noneSince-within : (j i : ℕ) → j ≤ i → i ≤ k → IsCode c (port c p .RE) → Bounded (noneSince c (port c p) j i)
+    unfolding noneSince
+    noneSince-within j i l h r =
+        cond-has Bounded (eqb j i)
+        (λ e. code-within i (port c p .RE) h r)
+        (λ e. pair-variable-within j i _ (omega (arith, eqb-false j i e)) h (omega arith))
 
-  -- S
-  pub selected-within : (j i : ℕ) → j < i → i ≤ k → Bounded (selected c (port c) j i)
-  unfolding selected
-  selected-within j i l h = pair-variable-within j i _ l h (omega arith)
+    -- S
+    pub selected-within : (j i : ℕ) → j < i → i ≤ k → Bounded (selected c (port c p) j i)
+    unfolding selected
+    selected-within j i l h = pair-variable-within j i _ l h (omega arith)
 
-  -- a read bit
-  pub readBit-within : (i t : ℕ) → i ≤ k → t < c .n → Bounded (readBit c (port c) i t)
-  unfolding readBit
-  readBit-within i t h b = wire-within i _ h (omega arith)
+    -- a read bit
+    pub readBit-within : (i t : ℕ) → i ≤ k → t < c .n → Bounded (readBit c (port c p) i t)
+    unfolding readBit
+    readBit-within i t h b = wire-within i _ h (omega (arith, bit-within c p here t b))
 
 -- the clauses of depth k of an accepted netlist
 module _ {c : Netlist} (accepted : Accepted c) (k : ℕ) where
@@ -261,38 +266,38 @@ module _ {c : Netlist} (accepted : Accepted c) (k : ℕ) where
   wires-within (suc i) h = all-within-one (wires-later i h)
 
   -- pair (j, i)
-  pub pairs-within : (j i : ℕ) → j < i → i ≤ k → AllLits (Within 2 (base c (k + 1))) (clausesOf c k (Pair j i))
+  pub pairs-within : (p : ℕ) → IsPort c p → (j i : ℕ) → j < i → i ≤ k → AllLits (Within 2 (base c (k + 1))) (clausesOf c k (Pair j i p))
   unfolding clausesOf pairLiterals
-  pairs-within j i l h =
+  pairs-within p here j i l h =
       pair-all (within-neg _ _) (c .m) (c .n) (start c) _
       (record {
-        E = pair-variable-within c k j i _ l h (omega arith);
-        e = λ t b. pair-variable-within c k j i _ l h (omega arith);
-        s = pair-variable-within c k j i _ l h (omega arith);
-        PS = noneSince-within c k j i (omega arith) h (accepted .limits .codes .RE-fits);
-        S = selected-within c k j i l h;
-        N = noneSince-within c k (j + 1) i (omega arith) h (accepted .limits .codes .RE-fits);
+        E = pair-variable-within c k p here j i _ l h (omega arith);
+        e = λ t b. pair-variable-within c k p here j i _ l h (omega arith);
+        s = pair-variable-within c k p here j i _ l h (omega arith);
+        PS = noneSince-within c k p here j i (omega arith) h (RE-code c p here (accepted .limits .codes));
+        S = selected-within c k p here j i l h;
+        N = noneSince-within c k p here (j + 1) i (omega arith) h (RE-code c p here (accepted .limits .codes));
         WE = code-within c k _ _ (omega arith) (accepted .limits .codes .WE-fits);
         Aj = λ t b. code-within c k _ _ (omega arith) (accepted .limits .codes .address-fits t b);
         WD = λ t b. code-within c k _ _ (omega arith) (accepted .limits .codes .data-fits t b);
-        Ai = λ t b. code-within c k _ _ (omega arith) (accepted .limits .codes .address-fits t b);
-        RD = λ t b. readBit-within c k i t h b;
-        Zj = noneSince-within c k 0 j (omega arith) (omega arith) (accepted .limits .codes .RE-fits);
-        Zi = noneSince-within c k 0 i (omega arith) h (accepted .limits .codes .RE-fits);
-        RDj = λ t b. readBit-within c k j t (omega arith) b;
+        Ai = λ t b. code-within c k _ _ (omega arith) (address-code c p here (accepted .limits .codes) t b);
+        RD = λ t b. readBit-within c k p here i t h b;
+        Zj = noneSince-within c k p here 0 j (omega arith) (omega arith) (RE-code c p here (accepted .limits .codes));
+        Zi = noneSince-within c k p here 0 i (omega arith) h (RE-code c p here (accepted .limits .codes));
+        RDj = λ t b. readBit-within c k p here j t (omega arith) b;
       })
 
   -- the closing of frame i
-  pub closing-within : (i : ℕ) → i ≤ k → AllLits (Within 2 (base c (k + 1))) (clausesOf c k (Closing i))
+  pub closing-within : (p : ℕ) → IsPort c p → (i : ℕ) → i ≤ k → AllLits (Within 2 (base c (k + 1))) (clausesOf c k (Closing i p))
   unfolding clausesOf closingLiterals
-  closing-within i h =
+  closing-within p here i h =
       closing-all (within-neg _ _) (λ b. tt) (c .n) (start c) i _
       (record {
-        Z = noneSince-within c k 0 i (omega arith) h (accepted .limits .codes .RE-fits);
-        RE = code-within c k i _ h (accepted .limits .codes .RE-fits);
-        S = λ j l. selected-within c k j i l h;
-        RD = λ t b. readBit-within c k i t h b;
-        before = λ t b. readBit-within c k _ t (omega arith) b;
+        Z = noneSince-within c k p here 0 i (omega arith) h (RE-code c p here (accepted .limits .codes));
+        RE = code-within c k i _ h (RE-code c p here (accepted .limits .codes));
+        S = λ j l. selected-within c k p here j i l h;
+        RD = λ t b. readBit-within c k p here i t h b;
+        before = λ t b. readBit-within c k p here _ t (omega arith) b;
       })
 
   -- the property
@@ -302,37 +307,39 @@ module _ {c : Netlist} (accepted : Accepted c) (k : ℕ) where
       let property = accepted .limits .codes .P-fits in
       just (all-gather (k + 1) (violationOf c) (λ i h. just (within-neg _ _ _ (code-within c k i _ (omega arith) property))))
 
-  -- the pairs and the closing of frame i
+  -- the pairs and the closings of frame i
   reads-within : (i : ℕ) → i ≤ k
-      → All (λ g. AllLits (Bounded c k) (clausesOf c k g)) (gatherDown i (pairOf i) ++ Closing i ∷ [])
-  unfolding pairOf
-  reads-within i h = all-gatherDown i (pairOf i) (λ j l. just (pairs-within j i l h)) ⧺ just (closing-within i h)
+      → All (λ g. AllLits (Bounded c k) (clausesOf c k g)) (gatherDown i (λ j. atPorts (ports c) (Pair j i)) ++ atPorts (ports c) (Closing i))
+  unfolding atPorts
+  reads-within i h =
+      all-gatherDown i (λ j. atPorts (ports c) (Pair j i)) (λ j l. all-gather (ports c) _ (λ x b. just (pairs-within (suc x) (omega arith, b) j i l h)))
+      ⧺ all-gather (ports c) _ (λ x b. just (closing-within (suc x) (omega arith, b) i h))
 
   -- each group
-  pub groups-within : All (λ g. AllLits (Within 1 (base c (k + 1))) (clausesOf c k g)) (groupOrder k)
+  pub groups-within : All (λ g. AllLits (Within 1 (base c (k + 1))) (clausesOf c k g)) (groupOrder (ports c) k)
   unfolding groupOrder frameGroups
   groups-within =
-      all-gather (k + 1) frameGroups (λ i h.
+      all-gather (k + 1) (frameGroups (ports c)) (λ i h.
       also (wires-within i (omega arith)) (all-weaken (λ g. all-within-one) (reads-within i (omega arith))))
       ⧺ just (all-within-one property-within)
 
   -- all together: the first clause, then the others
-  frames-first : (i : ℕ) → i ≤ k → FirstOne (base c (k + 1)) (joinedClauses (clausesOf c k) (gather (suc i) frameGroups))
+  frames-first : (i : ℕ) → i ≤ k → FirstOne (base c (k + 1)) (joinedClauses (clausesOf c k) (gather (suc i) (frameGroups (ports c))))
   unfolding gather frameGroups joinedClauses
   frames-first zero h = first-one-then wires-first (joined-all (clausesOf c k) _ (reads-within 0 h))
   frames-first (suc i) h =
-      rw (joinedClauses-append (clausesOf c k) (gather (suc i) frameGroups) (frameGroups (suc i)))
+      rw (joinedClauses-append (clausesOf c k) (gather (suc i) (frameGroups (ports c))) (frameGroups (ports c) (suc i)))
       (first-one-then (frames-first i (omega arith))
-      (joined-all (clausesOf c k) (frameGroups (suc i)) (also (wires-later i h) (reads-within (suc i) h))))
+      (joined-all (clausesOf c k) (frameGroups (ports c) (suc i)) (also (wires-later i h) (reads-within (suc i) h))))
 
-  pub formula-first : FirstOne (base c (k + 1)) (joinedClauses (clausesOf c k) (groupOrder k))
+  pub formula-first : FirstOne (base c (k + 1)) (joinedClauses (clausesOf c k) (groupOrder (ports c) k))
   unfolding groupOrder
   formula-first =
-      let frames : FirstOne (base c (k + 1)) (joinedClauses (clausesOf c k) (gather (k + 1) frameGroups)) = subst (λ (n : ℕ). FirstOne (base c (k + 1)) (joinedClauses (clausesOf c k) (gather n frameGroups))) (sym (add-one k)) (frames-first k (omega arith)) in
-      rw (joinedClauses-append (clausesOf c k) (gather (k + 1) frameGroups) (Property ∷ []))
+      let frames : FirstOne (base c (k + 1)) (joinedClauses (clausesOf c k) (gather (k + 1) (frameGroups (ports c)))) = subst (λ (n : ℕ). FirstOne (base c (k + 1)) (joinedClauses (clausesOf c k) (gather n (frameGroups (ports c))))) (sym (add-one k)) (frames-first k (omega arith)) in
+      rw (joinedClauses-append (clausesOf c k) (gather (k + 1) (frameGroups (ports c))) (Property ∷ []))
       (first-one-then frames (joined-all (clausesOf c k) (Property ∷ []) (just property-within)))
 
-  pub formula-within : AllLits (Within 1 (base c (k + 1))) (joinedClauses (clausesOf c k) (groupOrder k))
+  pub formula-within : AllLits (Within 1 (base c (k + 1))) (joinedClauses (clausesOf c k) (groupOrder (ports c) k))
   formula-within = first-one-within (base-least c (k + 1)) formula-first
 
 -- a number within bounds; from 1 on it is no end mark

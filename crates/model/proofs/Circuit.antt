@@ -1,12 +1,15 @@
 -- Laws of specs/Circuit.antt: a frame is the one solution of its equations. No contract cites this file.
-use Prim.Native.Nat.{ℕ, _-_, _/_, _≤_, _<_}
-use mathlib.Core.Path.{_≡_, refl, ap₂, sym, _∙_}
-use mathlib.Core.Bool.{Bool, false, _&&_, true≢false}
+use Prim.Native.Nat.{ℕ, _+_, _-_, _/_, _≤_, _<_}
+use mathlib.Core.Path.{_≡_, refl, sym, _∙_, ap₂}
+use mathlib.Core.Bool.{Bool, false, cond, _&&_, true≢false}
 use native.Mathlib.Omega.{arith}
+use native.Mathlib.Nat.{zero-add}
 use borrow.Author.Tests.{lt-ltb, le-ltb}
-use Rattle.model.specs.Netlist.{Netlist, Port, port, readBits, inputWire, latchWire, readWire, gateWire, lastWire}
+use Rattle.model.specs.Netlist.{Netlist, Port, IsPort, port, readBits, inputWire, latchWire, readWire, gateWire, lastWire}
 use Rattle.model.specs.Circuit.{Values, codeValue, sources, conjunction, evaluate, dependsOnRead, State, addressOf, readData, firstPass, frame}
 use Rattle.model.specs.Acceptance.{Accepted, CodesFit, IsCode}
+use Rattle.model.specs.Bits.{bit}
+use Rattle.model.proofs.Ports.{port-bit, address-code, RE-code}
 use Rattle.model.proofs.Bits.{fromBits-same}
 use Rattle.model.proofs.Sweep.{OfTwoWires, sweep-outside, sweep-solves, wire-induction}
 use Rattle.model.proofs.Dependence.{depends-read, independent-gate}
@@ -116,11 +119,23 @@ pub address-same : (c : Netlist) (p : Port) (u v : Values) → ((t : ℕ) → t 
 unfolding addressOf
 address-same c p u v h = fromBits-same (c .m) (λ t. codeValue u (p .address t)) (λ t. codeValue v (p .address t)) h
 
--- what is read follows from the address and RE
-pub readData-same : (c : Netlist) (s : State) (u v : Values) → addressOf c (port c) u ≡ addressOf c (port c) v
-    → codeValue u (port c .RE) ≡ codeValue v (port c .RE) → (t : ℕ) → readData c s u t ≡ readData c s v t
+-- what a port reads, by its address and RE
+pub readData-port : (c : Netlist) (p : ℕ) → IsPort c p → (s : State) (v : Values) (t : ℕ) → t < c .n
+    → readData c s v (port c p .firstRead + t)
+    ≡ cond (codeValue v (port c p .RE)) (bit (s .memory (addressOf c (port c p) v)) t) (s .held (port c p .firstRead + t))
 unfolding readData
-readData-same c s u v a e t = rw (a, e)
+readData-port c p here s v t b = rw (zero-add t)
+
+-- so it follows from the addresses and the REs
+pub readData-same : (c : Netlist) (s : State) (u v : Values)
+    → ((p : ℕ) → IsPort c p → (addressOf c (port c p) u ≡ addressOf c (port c p) v) × (codeValue u (port c p .RE) ≡ codeValue v (port c p .RE)))
+    → (r : ℕ) → r < readBits c → readData c s u r ≡ readData c s v r
+readData-same c s u v same r b =
+    let x = port-bit c r b in
+    let e = same (x .of) (x .is-port) in
+    rw (x .is)
+    (readData-port c (x .of) (x .is-port) s u (x .t) (x .below)
+    ∙ rw (e .0, e .1) (sym (readData-port c (x .of) (x .is-port) s v (x .t) (x .below))))
 
 -- a frame as equations, without the two passes
 pub record IsFrame (c : Netlist) (s : State) (f : ℕ → Bool) (v : Values) : Type 0 where
@@ -132,14 +147,18 @@ pub record IsFrame (c : Netlist) (s : State) (f : ℕ → Bool) (v : Values) : T
 
 -- what is read is settled before any read bit is
 read-settled : {c : Netlist} → Accepted c → (s : State) (f : ℕ → Bool) → {read other : ℕ → Bool} {u v : Values}
-    → Solves c f (s .latch) read u → Solves c f (s .latch) other v → (t : ℕ) → readData c s u t ≡ readData c s v t
-read-settled {c} h s f {u} {v} p q =
-    readData-same c s u v
-    (address-same c (port c) u v (λ t l. settled (c .address t) (h .limits .codes .address-fits t l) (h .noLoop .address-free t l)))
-    (settled (c .RE) (h .limits .codes .RE-fits) (h .noLoop .RE-free))
+    → Solves c f (s .latch) read u → Solves c f (s .latch) other v → (r : ℕ) → r < readBits c → readData c s u r ≡ readData c s v r
+read-settled {c} h s f {u} {v} q q′ =
+    readData-same c s u v (λ p here. (
+      address-same c (port c p) u v (λ t l. settled (port c p .address t) (address-code c p here fit t l) (h .noLoop p here .address-free t l)),
+      settled (port c p .RE) (RE-code c p here fit) (h .noLoop p here .RE-free),
+    ))
   where
+    fit : CodesFit c
+    fit = h .limits .codes
+
     settled : (x : ℕ) → IsCode c x → dependsOnRead c (x / 2) ≡ false → codeValue u x ≡ codeValue v x
-    settled x l free = code-same u v x (independent-agree (h .limits .codes) p q (x / 2) (omega arith) free)
+    settled x l free = code-same u v x (independent-agree fit q q′ (x / 2) (omega arith) free)
 
 -- the first pass is a solution with all read bits false
 firstPass-solves : {c : Netlist} → CodesFit c → (s : State) (f : ℕ → Bool) → Solves c f (s .latch) (λ t. false) (firstPass c s f)
@@ -159,7 +178,7 @@ frame-is {c} h s f =
       at-zero = q .at-zero;
       at-input = q .at-input;
       at-latch = q .at-latch;
-      at-read = λ t l. q .at-read t l ∙ read-settled h s f (firstPass-solves (h .limits .codes) s f) q t;
+      at-read = λ t l. q .at-read t l ∙ read-settled h s f (firstPass-solves (h .limits .codes) s f) q t l;
       at-gate = q .at-gate;
     }
   where
@@ -171,7 +190,7 @@ pub frame-unique : {c : Netlist} → Accepted c → (s : State) (f : ℕ → Boo
     → (w : ℕ) → w ≤ lastWire c → v w ≡ frame c s f w
 frame-unique {c} h s f v q w b =
     solutions-agree (h .limits .codes) (λ x. Unit {0}) (λ g l k. (tt, tt))
-    (λ t l k. read-settled h s f p (firstPass-solves (h .limits .codes) s f) t) p (frame-solves (h .limits .codes) s f) w b tt
+    (λ t l k. read-settled h s f p (firstPass-solves (h .limits .codes) s f) t l) p (frame-solves (h .limits .codes) s f) w b tt
   where
     p : Solves c f (s .latch) (readData c s v) v
     p = record { at-zero = q .at-zero; at-input = q .at-input; at-latch = q .at-latch; at-read = q .at-read; at-gate = q .at-gate }

@@ -5,7 +5,7 @@ use mathlib.Core.Bool.{true, false, _||_, or-false}
 use mathlib.Core.List.{List}
 use mathlib.Core.Logic.{_↔_, Iff·trans}
 use lib.Dec.{eqb}
-use Rattle.model.specs.Netlist.{Netlist, start}
+use Rattle.model.specs.Netlist.{Netlist, start, ports, port}
 use Rattle.model.specs.Circuit.{State, Feeds, run, Begins, Starts}
 use Rattle.model.specs.Acceptance.{Accepted}
 use Rattle.model.specs.Clauses.{Clause}
@@ -15,6 +15,7 @@ use Rattle.model.specs.Numbers.{keptOf, kept, isTrue, hasTrue, Assignmen
 use Rattle.model.specs.Claim.{Satisfies, feedOf, idleOf, StartsAs, Agrees, Breaks, Encodes, EncodingTheorem}
 use Rattle.model.specs.declared.Group.the-variants.{Wires}
 use Rattle.model.proofs.Booleans.{eq-iff, and-true}
+use Rattle.model.proofs.Ports.{unknown-single, bit-within}
 use Rattle.model.proofs.Variables.{base-least}
 use Rattle.model.proofs.Joined.{joinedClauses, formula-written, each-group}
 use Rattle.model.proofs.Bounds.{orMinusOne, formula-within}
@@ -29,7 +30,7 @@ use Rattle.model.proofs.RunToAssignment.{first-latch, frames-hold, run-
 module _ {c : Netlist} (ok : Accepted c) (k : ℕ) where
   -- all clauses of depth k
   abbrev all : List Clause
-  all = joinedClauses (clausesOf c k) (groupOrder k)
+  all = joinedClauses (clausesOf c k) (groupOrder (ports c) k)
 
   -- the clauses in the numbers of depth k are those that are written
   pub clausesIn-formula : clausesIn (formula c k) ≡ shown all
@@ -70,7 +71,7 @@ module _ {c : Netlist} (ok : Accepted c) (k : ℕ) where
       fed =
           record {
             latches-same = λ l b. holds .resets l b ∙ sym (starts .0 .at-reset l b);
-            idle-same = λ r t b. unfold idleOf in sym (starts .1 t b);
+            idle-same = λ p here r t b. unfold idleOf in sym (starts .1 (port c p .firstRead + t) (bit-within c p here t b));
             inputs-same = λ i d x b. unfold feedOf in refl;
           }
 
@@ -89,20 +90,20 @@ module _ {c : Netlist} (ok : Accepted c) (k : ℕ) where
       record {
         assignment→run = λ a h.
             let holds = depth-holds a h in
-            let shown = start-explains c a k (start c) (holds .frames .pairs) (λ i d. holds .frames .closings i d .initial-where-Z) in
+            let shown = start-explains c a k (start c) (unknown-single (ok .limits .sizes)) (holds .frames .pairs) (λ p here i d. holds .frames .closings p here i d .initial-where-Z) in
             let starts = begun-starts a (shown .0) (shown .1) in
             let run = run-of a holds (begun a (shown .0)) starts (shown .2) in
             (begun a (shown .0), starts, run .0, run .1);
         given→run = λ known a h s starts.
             let holds = depth-holds a h in
             run-of a holds s starts
-            (given-explains c a k (start c) known (λ i d. holds .frames .closings i d .initial-where-Z) (s .memory) (starts .0 .begins));
+            (given-explains c a k (start c) known (λ p here i d. holds .frames .closings p here i d .initial-where-Z) (s .memory) (starts .0 .begins));
         run→assignment = λ s starts f h.
             let a = witness c k (run c s f) in
             let holds : DepthHolds c k a
             = record {
               one = witness-one c k (run c s f);
-              frames = frames-hold c ok s f k (start c) (starts .begins);
+              frames = frames-hold c ok s f k (start c) (unknown-single (ok .limits .sizes)) (starts .begins);
               resets = λ l b. first-latch c ok s f k l b ∙ starts .at-reset l b;
               violated = run-violated c ok s f k h;
             } in

@@ -13,12 +13,12 @@ use borrow.Author.Tests.{ne-eqb, eq-eqb}
 use lib.Dec.{eqb, ltb}
 use lib.ListN.{length, length-append}
 use Rattle.model.specs.Bits.{odd}
-use Rattle.model.specs.Netlist.{Netlist, Start, given, unknown, start, Port, port}
+use Rattle.model.specs.Netlist.{Netlist, Start, given, unknown, start, Port, ports, port}
 use Rattle.model.specs.Gather.{gather, gatherDown}
 use Rattle.model.specs.Acceptance.{Accepted}
 use Rattle.model.specs.Clauses.{Literal, known, plus, minus, Clause, neg, andClauses, sameClauses, sameIfClauses, sameIfAllClauses, bitClauses, PairLiterals, addressBitClauses, unequalOf, allBits, forwardedClauses, agreedClauses, agreedReads, pairClauses, initialReadClauses, initialReads, heldClauses, heldReads, selectedOf, someSource, closingClauses}
 use Rattle.model.specs.Variables.{wireAt, codeAt, codeIn, noneSince, selected, readBit, pairLiterals, closingLiterals}
-use Rattle.model.specs.Groups.{gateClauses, latchClauses, clausesOf, pairOf, frameGroups, groupOrder}
+use Rattle.model.specs.Groups.{gateClauses, latchClauses, clausesOf, atPorts, frameGroups, groupOrder}
 use Rattle.model.specs.Numbers.{isTrue, hasTrue, kept, formula, clausesIn}
 use Rattle.model.specs.declared.Group.{Group}
 use Rattle.model.specs.declared.Group.the-variants.{Wires, Pair, Closing, Property}
@@ -217,10 +217,10 @@ noneSince-like c p j i l k e = rw e (go (eqb l k) _ _)
 never-zero : (i j : ℕ) → eqb 0 (suc i) ≡ eqb 0 (suc j)
 never-zero i j = ne-eqb 0 (suc i) (λ e. omega arith) ∙ sym (ne-eqb 0 (suc j) (λ e. omega arith))
 
-module _ (c : Netlist) (k : ℕ) where
+module _ (c : Netlist) (k p : ℕ) where
   -- pairs of neighbouring frames are alike, and so are all others, where both earlier frames are frame 0 or neither is
   pairs-alike : (j i l h : ℕ) → eqb j (suc i) ≡ eqb l (suc h) → eqb (j + 1) (suc i) ≡ eqb (l + 1) (suc h) → eqb 0 j ≡ eqb 0 l
-      → Alike (clausesOf c k (Pair j (suc i))) (clausesOf c k (Pair l (suc h)))
+      → Alike (clausesOf c k (Pair j (suc i) p)) (clausesOf c k (Pair l (suc h) p))
   unfolding clausesOf pairLiterals selected readBit wireAt
   pairs-alike j i l h e f z =
       pair-alike (c .m) (c .n) (start c) _ _
@@ -228,58 +228,51 @@ module _ (c : Netlist) (k : ℕ) where
         E = like-plus _ _;
         e = λ t. like-plus _ _;
         s = like-plus _ _;
-        PS = noneSince-like c (port c) j (suc i) l (suc h) e;
+        PS = noneSince-like c (port c p) j (suc i) l (suc h) e;
         S = like-plus _ _;
-        N = noneSince-like c (port c) (j + 1) (suc i) (l + 1) (suc h) f;
+        N = noneSince-like c (port c p) (j + 1) (suc i) (l + 1) (suc h) f;
         WE = code-like _ _ _;
         Aj = λ t. code-like _ _ _;
         WD = λ t. code-like _ _ _;
         Ai = λ t. code-like _ _ _;
         RD = λ t. like-plus _ _;
-        Zj = noneSince-like c (port c) 0 j 0 l z;
-        Zi = noneSince-like c (port c) 0 (suc i) 0 (suc h) (never-zero i h);
+        Zj = noneSince-like c (port c p) 0 j 0 l z;
+        Zi = noneSince-like c (port c p) 0 (suc i) 0 (suc h) (never-zero i h);
         RDj = λ t. like-plus _ _;
       })
 
-  neighbours-count : (j l : ℕ) → eqb 0 j ≡ eqb 0 l → shownCount (clausesOf c k (Pair j (suc j))) ≡ shownCount (clausesOf c k (Pair l (suc l)))
+  neighbours-count : (j l : ℕ) → eqb 0 j ≡ eqb 0 l → shownCount (clausesOf c k (Pair j (suc j) p)) ≡ shownCount (clausesOf c k (Pair l (suc l) p))
   neighbours-count j l z =
       alike-count (pairs-alike j j l l (ne-eqb j (suc j) (λ e. omega arith) ∙ sym (ne-eqb l (suc l) (λ e. omega arith)))
       (eq-eqb (j + 1) (suc j) (omega arith) ∙ sym (eq-eqb (l + 1) (suc l) (omega arith))) z)
 
   others-count : (j i l h : ℕ) → j < i → l < h → eqb 0 j ≡ eqb 0 l
-      → shownCount (clausesOf c k (Pair j (suc i))) ≡ shownCount (clausesOf c k (Pair l (suc h)))
+      → shownCount (clausesOf c k (Pair j (suc i) p)) ≡ shownCount (clausesOf c k (Pair l (suc h) p))
   others-count j i l h a b z =
       alike-count (pairs-alike j i l h (ne-eqb j (suc i) (λ e. omega arith) ∙ sym (ne-eqb l (suc h) (λ e. omega arith)))
       (ne-eqb (j + 1) (suc i) (λ e. omega arith) ∙ sym (ne-eqb (l + 1) (suc h) (λ e. omega arith))) z)
 
-  -- the wires of later frames
-  wires-alike : (i j : ℕ) → Alike (clausesOf c k (Wires (suc i))) (clausesOf c k (Wires (suc j)))
-  unfolding clausesOf latchClauses gateClauses wireAt
-  wires-alike i j =
-      alike-gather (c .latches) _ _ (λ l. same-alike (like-plus _ _) (code-like _ _ _))
-      ⧺ alike-gather (c .gates) _ _ (λ g. and-alike (like-plus _ _) (code-like _ _ _) (code-like _ _ _))
-
   -- The closings of later frames. The clause of a read's sources has more literals in a later frame, but they are variables.
-  sources-variables : (i n : ℕ) → hasTrue (gather n (selectedOf (closingLiterals c (port c) i))) ≡ false
+  sources-variables : (i n : ℕ) → hasTrue (gather n (selectedOf (closingLiterals c (port c p) i))) ≡ false
   unfolding gather selectedOf closingLiterals selected hasTrue isTrue
   sources-variables i zero = refl
   sources-variables i (suc n) =
-      hasTrue-append (gather n (selectedOf (closingLiterals c (port c) i))) _ ∙ ap (λ (t : Bool). t || false) (sources-variables i n)
+      hasTrue-append (gather n (selectedOf (closingLiterals c (port c p) i))) _ ∙ ap (λ (t : Bool). t || false) (sources-variables i n)
 
   source-literals : (i j : ℕ)
-      → LikeAll (neg (closingLiterals c (port c) (suc i) .RE) ∷ closingLiterals c (port c) (suc i) .Z ∷ [])
-      (neg (closingLiterals c (port c) (suc j) .RE) ∷ closingLiterals c (port c) (suc j) .Z ∷ [])
+      → LikeAll (neg (closingLiterals c (port c p) (suc i) .RE) ∷ closingLiterals c (port c p) (suc i) .Z ∷ [])
+      (neg (closingLiterals c (port c p) (suc j) .RE) ∷ closingLiterals c (port c p) (suc j) .Z ∷ [])
   unfolding closingLiterals
   source-literals i j =
-      literal (like-neg (code-like _ _ _)) (literal (noneSince-like c (port c) 0 (suc i) 0 (suc j) (never-zero i j)) no-literal)
+      literal (like-neg (code-like _ _ _)) (literal (noneSince-like c (port c p) 0 (suc i) 0 (suc j) (never-zero i j)) no-literal)
 
   sources-count : (i j : ℕ)
-      → shownCount (someSource (suc i) (closingLiterals c (port c) (suc i)) ∷ [])
-      ≡ shownCount (someSource (suc j) (closingLiterals c (port c) (suc j)) ∷ [])
+      → shownCount (someSource (suc i) (closingLiterals c (port c p) (suc i)) ∷ [])
+      ≡ shownCount (someSource (suc j) (closingLiterals c (port c p) (suc j)) ∷ [])
   unfolding someSource
   sources-count i j =
-      let x = closingLiterals c (port c) (suc i) in
-      let y = closingLiterals c (port c) (suc j) in
+      let x = closingLiterals c (port c p) (suc i) in
+      let y = closingLiterals c (port c p) (suc j) in
       let same : hasTrue (neg (x .RE) ∷ x .Z ∷ []) ≡ hasTrue (neg (y .RE) ∷ y .Z ∷ []) = likeAll-hasTrue (source-literals i j) in
       shownCount-cons _ [] ∙ ap (λ (t : Bool). cond t 0 1 + shownCount [])
       (hasTrue-append (neg (x .RE) ∷ x .Z ∷ []) _ ∙ ap₂ _||_ same (sources-variables (suc i) (suc i) ∙ sym (sources-variables (suc j) (suc j)))
@@ -287,35 +280,43 @@ module _ (c : Netlist) (k : ℕ) where
       ∙ sym (shownCount-cons _ [])
 
   initial-alike : (s : Start) (i j : ℕ)
-      → Alike (initialReads (c .n) s (closingLiterals c (port c) (suc i))) (initialReads (c .n) s (closingLiterals c (port c) (suc j)))
+      → Alike (initialReads (c .n) s (closingLiterals c (port c p) (suc i))) (initialReads (c .n) s (closingLiterals c (port c p) (suc j)))
   unfolding initialReads initialReadClauses closingLiterals readBit wireAt
   initial-alike (given word) i j =
-      alike-gather (c .n) _ _ (λ t. sameIf-alike (noneSince-like c (port c) 0 (suc i) 0 (suc j) (never-zero i j)) (like-plus _ _) (record { like = refl }))
+      alike-gather (c .n) _ _ (λ t. sameIf-alike (noneSince-like c (port c p) 0 (suc i) 0 (suc j) (never-zero i j)) (like-plus _ _) (record { like = refl }))
   initial-alike unknown i j = alike-none
 
   reads-alike : (i j : ℕ)
-      → Alike (initialReads (c .n) (start c) (closingLiterals c (port c) (suc i)) ++ heldReads (c .n) (suc i) (closingLiterals c (port c) (suc i)))
-      (initialReads (c .n) (start c) (closingLiterals c (port c) (suc j)) ++ heldReads (c .n) (suc j) (closingLiterals c (port c) (suc j)))
+      → Alike (initialReads (c .n) (start c) (closingLiterals c (port c p) (suc i)) ++ heldReads (c .n) (suc i) (closingLiterals c (port c p) (suc i)))
+      (initialReads (c .n) (start c) (closingLiterals c (port c p) (suc j)) ++ heldReads (c .n) (suc j) (closingLiterals c (port c p) (suc j)))
   unfolding heldReads heldClauses closingLiterals readBit wireAt
   reads-alike i j =
       initial-alike (start c) i j
       ⧺ alike-gather (c .n) _ _ (λ t. sameIf-alike (like-neg (code-like _ _ _)) (like-plus _ _) (like-plus _ _))
 
-  closings-count : (i j : ℕ) → shownCount (clausesOf c k (Closing (suc i))) ≡ shownCount (clausesOf c k (Closing (suc j)))
+  closings-count : (i j : ℕ) → shownCount (clausesOf c k (Closing (suc i) p)) ≡ shownCount (clausesOf c k (Closing (suc j) p))
   unfolding clausesOf closingClauses
   closings-count i j =
-      shownCount-adds .of-both _ (someSource (suc i) (closingLiterals c (port c) (suc i)) ∷ [])
+      shownCount-adds .of-both _ (someSource (suc i) (closingLiterals c (port c p) (suc i)) ∷ [])
       ∙ ap₂ _+_ (alike-count (reads-alike i j)) (sources-count i j)
-      ∙ sym (shownCount-adds .of-both _ (someSource (suc j) (closingLiterals c (port c) (suc j)) ∷ []))
+      ∙ sym (shownCount-adds .of-both _ (someSource (suc j) (closingLiterals c (port c p) (suc j)) ∷ []))
+
+module _ (c : Netlist) (k : ℕ) where
+  -- the wires of later frames
+  wires-alike : (i j : ℕ) → Alike (clausesOf c k (Wires (suc i))) (clausesOf c k (Wires (suc j)))
+  unfolding clausesOf latchClauses gateClauses wireAt
+  wires-alike i j =
+      alike-gather (c .latches) _ _ (λ l. same-alike (like-plus _ _) (code-like _ _ _))
+      ⧺ alike-gather (c .gates) _ _ (λ g. and-alike (like-plus _ _) (code-like _ _ _) (code-like _ _ _))
 
   -- how many clauses of a group, and of a list of groups, are written
-  abbrev of : Group → ℕ
+  abbrev pub of : Group → ℕ
   of g = shownCount (clausesOf c k g)
 
-  count : List Group → ℕ
+  unfoldable pub count : List Group → ℕ
   count gs = shownCount (joinedClauses (clausesOf c k) gs)
 
-  count-adds : Adds count
+  pub count-adds : Adds count
   unfolding count joinedClauses
   count-adds =
       record {
@@ -323,48 +324,73 @@ module _ (c : Netlist) (k : ℕ) where
         of-both = λ gs hs. rw (joinedClauses-append (clausesOf c k) gs hs) (shownCount-adds .of-both (joinedClauses (clausesOf c k) gs) (joinedClauses (clausesOf c k) hs));
       }
 
-  count-one : (g : Group) → count (g ∷ []) ≡ of g
+  pub count-one : (g : Group) → count (g ∷ []) ≡ of g
   unfolding count joinedClauses
   count-one g = rw append-nil
 
+  -- groups of as many clauses, port by port
+  ports-same : (n : ℕ) (f h : ℕ → Group) → ((p : ℕ) → of (f p) ≡ of (h p))
+      → count (gather n (λ x. f (suc x) ∷ [])) ≡ count (gather n (λ x. h (suc x) ∷ []))
+  unfolding gather
+  ports-same zero f h each = refl
+  ports-same (suc n) f h each =
+      count-adds .of-both (gather n (λ x. f (suc x) ∷ [])) (f (suc n) ∷ [])
+      ∙ ap₂ _+_ (ports-same n f h each) (count-one (f (suc n)) ∙ each (suc n) ∙ sym (count-one (h (suc n))))
+      ∙ sym (count-adds .of-both (gather n (λ x. h (suc x) ∷ [])) (h (suc n) ∷ []))
+
+  -- of pair (j, i), and of frame i's closing, over all ports
+  abbrev pub pairs : ℕ → ℕ → ℕ
+  pairs j i = count (atPorts (ports c) (Pair j i))
+
+  abbrev pub closings : ℕ → ℕ
+  closings i = count (atPorts (ports c) (Closing i))
+
+  neighbours : (j l : ℕ) → eqb 0 j ≡ eqb 0 l → pairs j (suc j) ≡ pairs l (suc l)
+  unfolding atPorts
+  neighbours j l z = ports-same (ports c) (Pair j (suc j)) (Pair l (suc l)) (λ p. neighbours-count c k p j l z)
+
+  far : (j i l h : ℕ) → j < i → l < h → eqb 0 j ≡ eqb 0 l → pairs j (suc i) ≡ pairs l (suc h)
+  unfolding atPorts
+  far j i l h a b z = ports-same (ports c) (Pair j (suc i)) (Pair l (suc h)) (λ p. others-count c k p j i l h a b z)
+
+  later-closings : (i j : ℕ) → closings (suc i) ≡ closings (suc j)
+  unfolding atPorts
+  later-closings i j = ports-same (ports c) (Closing (suc i)) (Closing (suc j)) (λ p. closings-count c k p i j)
+
   -- of the pairs of frame i + 2, but for that of neighbours: the last is one with frame 0
-  down-count : (i n : ℕ) → n ≤ i → count (gatherDown (suc n) (pairOf (suc (suc i)))) ≡ n * of (Pair 1 3) + of (Pair 0 2)
-  unfolding gatherDown pairOf
+  down-count : (i n : ℕ) → n ≤ i → count (gatherDown (suc n) (λ j. atPorts (ports c) (Pair j (suc (suc i))))) ≡ n * pairs 1 3 + pairs 0 2
+  unfolding gatherDown
   down-count i zero h =
-      count-one (Pair 0 (suc (suc i))) ∙ others-count 0 (suc i) 0 1 (omega arith) (omega arith) refl ∙ omega arith
+      count-adds .of-both (atPorts (ports c) (Pair 0 (suc (suc i)))) []
+      ∙ rw (count-adds .of-none, far 0 (suc i) 0 1 (omega arith) (omega arith) refl) (omega arith)
   down-count i (suc n) h =
-      count-adds .of-both (Pair (suc n) (suc (suc i)) ∷ []) (gatherDown (suc n) (pairOf (suc (suc i))))
-      ∙ rw (
-        count-one (Pair (suc n) (suc (suc i))),
-        others-count (suc n) (suc i) 1 2 (omega arith) (omega arith) (never-zero n 0),
-        down-count i n (omega arith),
-      ) (omega (arith, suc-mul n (of (Pair 1 3))))
+      count-adds .of-both (atPorts (ports c) (Pair (suc n) (suc (suc i)))) (gatherDown (suc n) (λ j. atPorts (ports c) (Pair j (suc (suc i)))))
+      ∙ rw (far (suc n) (suc i) 1 2 (omega arith) (omega arith) (never-zero n 0), down-count i n (omega arith))
+      (omega (arith, suc-mul n (pairs 1 3)))
 
   -- of the pairs of frame 1, and of a later frame
-  pairs-count-first : count (gatherDown 1 (pairOf 1)) ≡ of (Pair 0 1)
-  unfolding gatherDown pairOf
-  pairs-count-first = count-one (Pair 0 1)
+  pairs-count-first : count (gatherDown 1 (λ j. atPorts (ports c) (Pair j 1))) ≡ pairs 0 1
+  unfolding gatherDown
+  pairs-count-first = count-adds .of-both (atPorts (ports c) (Pair 0 1)) [] ∙ rw (count-adds .of-none) (omega arith)
 
-  pairs-count-later : (i : ℕ) → count (gatherDown (suc (suc i)) (pairOf (suc (suc i)))) ≡ of (Pair 1 2) + (i * of (Pair 1 3) + of (Pair 0 2))
-  unfolding gatherDown pairOf
+  pairs-count-later : (i : ℕ) → count (gatherDown (suc (suc i)) (λ j. atPorts (ports c) (Pair j (suc (suc i))))) ≡ pairs 1 2 + (i * pairs 1 3 + pairs 0 2)
+  unfolding gatherDown
   pairs-count-later i =
-      count-adds .of-both (Pair (suc i) (suc (suc i)) ∷ []) (gatherDown (suc i) (pairOf (suc (suc i))))
-      ∙ ap₂ _+_ (count-one (Pair (suc i) (suc (suc i))) ∙ neighbours-count (suc i) 1 (never-zero i 0)) (down-count i i (omega arith))
+      count-adds .of-both (atPorts (ports c) (Pair (suc i) (suc (suc i)))) (gatherDown (suc i) (λ j. atPorts (ports c) (Pair j (suc (suc i)))))
+      ∙ ap₂ _+_ (neighbours (suc i) 1 (never-zero i 0)) (down-count i i (omega arith))
 
   -- of frame 0, and of a later frame
-  first-count : count (frameGroups 0) ≡ of (Wires 0) + of (Closing 0)
+  first-count : count (frameGroups (ports c) 0) ≡ of (Wires 0) + closings 0
   unfolding frameGroups gatherDown
-  first-count =
-      count-adds .of-both (Wires 0 ∷ []) (Closing 0 ∷ []) ∙ ap₂ _+_ (count-one (Wires 0)) (count-one (Closing 0))
+  first-count = count-adds .of-both (Wires 0 ∷ []) (atPorts (ports c) (Closing 0)) ∙ ap (λ (n : ℕ). n + closings 0) (count-one (Wires 0))
 
-  later-count : (i : ℕ) {pairs : ℕ} → count (gatherDown (suc i) (pairOf (suc i))) ≡ pairs
-      → count (frameGroups (suc i)) ≡ of (Wires 1) + (pairs + of (Closing 1))
+  later-count : (i : ℕ) {n : ℕ} → count (gatherDown (suc i) (λ j. atPorts (ports c) (Pair j (suc i)))) ≡ n
+      → count (frameGroups (ports c) (suc i)) ≡ of (Wires 1) + (n + closings 1)
   unfolding frameGroups
   later-count i e =
-      count-adds .of-both (Wires (suc i) ∷ []) (gatherDown (suc i) (pairOf (suc i)) ++ Closing (suc i) ∷ [])
+      count-adds .of-both (Wires (suc i) ∷ []) (gatherDown (suc i) (λ j. atPorts (ports c) (Pair j (suc i))) ++ atPorts (ports c) (Closing (suc i)))
       ∙ ap₂ _+_ (count-one (Wires (suc i)) ∙ alike-count (wires-alike i 0))
-      (count-adds .of-both (gatherDown (suc i) (pairOf (suc i))) (Closing (suc i) ∷ [])
-      ∙ ap₂ _+_ e (count-one (Closing (suc i)) ∙ closings-count i 0))
+      (count-adds .of-both (gatherDown (suc i) (λ j. atPorts (ports c) (Pair j (suc i)))) (atPorts (ports c) (Closing (suc i))) ∙ ap₂ _+_ e (later-closings i 0))
 
 -- how many pairs of frames 0 to i are not of neighbours
 others : ℕ → ℕ
@@ -385,22 +411,22 @@ others-suc i = omega (arith, pairs-suc i, pairs-least i)
 module _ (c : Netlist) (k : ℕ) where
   -- of frames 0 to i + 1
   frames-count : (i : ℕ)
-      → count c k (gather (suc (suc i)) frameGroups)
-      ≡ of c k (Wires 0) + of c k (Closing 0) + suc i * (of c k (Wires 1) + of c k (Closing 1)) + of c k (Pair 0 1)
-      + i * (of c k (Pair 1 2) + of c k (Pair 0 2)) + others i * of c k (Pair 1 3)
+      → count c k (gather (suc (suc i)) (frameGroups (ports c)))
+      ≡ of c k (Wires 0) + closings c k 0 + suc i * (of c k (Wires 1) + closings c k 1) + pairs c k 0 1
+      + i * (pairs c k 1 2 + pairs c k 0 2) + others i * pairs c k 1 3
   unfolding gather others
   frames-count zero =
-      count-adds c k .of-both (gather 1 frameGroups) (frameGroups 1)
+      count-adds c k .of-both (gather 1 (frameGroups (ports c))) (frameGroups (ports c) 1)
       ∙ rw (first-count c k, later-count c k 0 (pairs-count-first c k)) (omega arith)
   frames-count (suc i) =
-      let both = count-adds c k .of-both (gather (suc (suc i)) frameGroups) (frameGroups (suc (suc i))) in
+      let both = count-adds c k .of-both (gather (suc (suc i)) (frameGroups (ports c))) (frameGroups (ports c) (suc (suc i))) in
       rw (both, frames-count i, later-count c k (suc i) (pairs-count-later c k i), others-suc i) (simp (add-mul, suc-mul) (omega arith))
 
   -- of frames 0 to i
   all-count : (i : ℕ)
-      → count c k (gather (suc i) frameGroups)
-      ≡ of c k (Wires 0) + of c k (Closing 0) + i * (of c k (Wires 1) + of c k (Closing 1)) + (i - (i - 1)) * of c k (Pair 0 1)
-      + (i - 1) * (of c k (Pair 1 2) + of c k (Pair 0 2)) + others (i - 1) * of c k (Pair 1 3)
+      → count c k (gather (suc i) (frameGroups (ports c)))
+      ≡ of c k (Wires 0) + closings c k 0 + i * (of c k (Wires 1) + closings c k 1) + (i - (i - 1)) * pairs c k 0 1
+      + (i - 1) * (pairs c k 1 2 + pairs c k 0 2) + others (i - 1) * pairs c k 1 3
   unfolding gather others
   all-count zero = first-count c k ∙ omega arith
   all-count (suc i) =
@@ -408,16 +434,14 @@ module _ (c : Netlist) (k : ℕ) where
       let one : suc i - i ≡ 1 = omega arith in
       rw (last, one) (frames-count i ∙ omega arith)
 
--- the clauses of a depth, by one group of each class
+-- the clauses of a depth, by one group of each class at each port
 pub formula-count : {c : Netlist} → Accepted c → (k : ℕ)
     → length (clausesIn (formula c k))
-    ≡ shownCount (clausesOf c k (Wires 0)) + shownCount (clausesOf c k (Closing 0))
-    + k * (shownCount (clausesOf c k (Wires 1)) + shownCount (clausesOf c k (Closing 1)))
-    + (k - (k - 1)) * shownCount (clausesOf c k (Pair 0 1))
-    + (k - 1) * (shownCount (clausesOf c k (Pair 1 2)) + shownCount (clausesOf c k (Pair 0 2)))
-    + ((k - 1) * (k - 1 + 1) / 2 - (k - 1)) * shownCount (clausesOf c k (Pair 1 3)) + shownCount (clausesOf c k Property)
+    ≡ shownCount (clausesOf c k (Wires 0)) + closings c k 0 + k * (shownCount (clausesOf c k (Wires 1)) + closings c k 1)
+    + (k - (k - 1)) * pairs c k 0 1 + (k - 1) * (pairs c k 1 2 + pairs c k 0 2)
+    + ((k - 1) * (k - 1 + 1) / 2 - (k - 1)) * pairs c k 1 3 + shownCount (clausesOf c k Property)
 unfolding groupOrder others count shownCount
 formula-count {c} ok k =
     ap length (clausesIn-formula ok k)
-    ∙ count-adds c k .of-both (gather (k + 1) frameGroups) (Property ∷ [])
+    ∙ count-adds c k .of-both (gather (k + 1) (frameGroups (ports c))) (Property ∷ [])
     ∙ rw (add-one k, all-count c k k, count-one c k Property)

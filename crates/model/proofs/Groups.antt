@@ -1,6 +1,6 @@
 -- What the groups of specs/Groups.antt mean, in the values that an assignment gives the wires of each frame.
 -- No contract cites this file.
-use Prim.Native.Nat.{ℕ, zero, suc, zero-le, _+_, _<_, _≤_}
+use Prim.Native.Nat.{ℕ, zero, suc, zero-le, _+_, _≤_, _<_}
 use mathlib.Core.Path.{_≡_, refl, sym, _∙_, ap}
 use mathlib.Core.Bool.{Bool, true, false, cond, not, _&&_}
 use mathlib.Core.Logic.{_↔_, Iff·trans}
@@ -8,7 +8,7 @@ use native.Mathlib.Numerals.{add-one}
 use native.Mathlib.Omega.{arith}
 use lib.Dec.{eqb}
 use borrow.Author.Tests.{not-true}
-use Rattle.model.specs.Netlist.{Netlist, Start, start, port, latchWire, gateWire}
+use Rattle.model.specs.Netlist.{Netlist, Start, start, IsPort, port, latchWire, gateWire}
 use Rattle.model.specs.Circuit.{codeValue}
 use Rattle.model.specs.Gather.{gather}
 use Rattle.model.specs.Clauses.{plus, neg}
@@ -83,15 +83,15 @@ wires-later-hold : (c : Netlist) (a : Assignment) (k i : ℕ)
 unfolding clausesOf
 wires-later-hold c a k i = simp (allHold-append a, allHold-gather a) (λ h. search, λ h. search)
 
-pair-holds : (c : Netlist) (a : Assignment) (k j i : ℕ)
-    → AllHold a (clausesOf c k (Pair j i)) ↔ PairHolds a (c .m) (c .n) (start c) (pairLiterals c (port c) j i)
+pair-holds : (c : Netlist) (a : Assignment) (k p j i : ℕ)
+    → AllHold a (clausesOf c k (Pair j i p)) ↔ PairHolds a (c .m) (c .n) (start c) (pairLiterals c (port c p) j i)
 unfolding clausesOf
-pair-holds c a k j i = pairClauses-holds a (c .m) (c .n) (start c) (pairLiterals c (port c) j i)
+pair-holds c a k p j i = pairClauses-holds a (c .m) (c .n) (start c) (pairLiterals c (port c p) j i)
 
-closing-holds : (c : Netlist) (a : Assignment) (k i : ℕ)
-    → AllHold a (clausesOf c k (Closing i)) ↔ ClosingHolds a (c .n) (start c) i (closingLiterals c (port c) i)
+closing-holds : (c : Netlist) (a : Assignment) (k p i : ℕ)
+    → AllHold a (clausesOf c k (Closing i p)) ↔ ClosingHolds a (c .n) (start c) i (closingLiterals c (port c p) i)
 unfolding clausesOf
-closing-holds c a k i = closingClauses-holds a (c .n) (start c) i (closingLiterals c (port c) i)
+closing-holds c a k p i = closingClauses-holds a (c .n) (start c) i (closingLiterals c (port c p) i)
 
 -- P is false in some frame 0 to k, as assigned
 abbrev pub Violated : Netlist → ℕ → Assignment → Type 0
@@ -107,8 +107,8 @@ pub record FramesHold (c : Netlist) (s : Start) (k : ℕ) (a : Assignment) : Typ
       → assigned c a i (gateWire c g) ≡ (codeValue (assigned c a i) (c .left g) && codeValue (assigned c a i) (c .right g))
   pub latches : (i : ℕ) → suc i ≤ k → (l : ℕ) → l < c .latches
       → assigned c a (suc i) (latchWire c l) ≡ codeValue (assigned c a i) (c .next l)
-  pub pairs : (j i : ℕ) → j < i → i ≤ k → PairHolds a (c .m) (c .n) s (pairLiterals c (port c) j i)
-  pub closings : (i : ℕ) → i ≤ k → ClosingHolds a (c .n) s i (closingLiterals c (port c) i)
+  pub pairs : (p : ℕ) → IsPort c p → (j i : ℕ) → j < i → i ≤ k → PairHolds a (c .m) (c .n) s (pairLiterals c (port c p) j i)
+  pub closings : (p : ℕ) → IsPort c p → (i : ℕ) → i ≤ k → ClosingHolds a (c .n) s i (closingLiterals c (port c p) i)
 
 -- The groups of depth k: variable 1 is true, the frames hold from the netlist's start, the latches of frame 0 are at their reset, and P is
 -- false in a frame
@@ -130,8 +130,8 @@ groups-hold c k a = (
               latches = λ i d l b.
                   ap (λ (x : ℕ). assigned c a x (latchWire c l)) (sym (add-one i))
                   ∙ latchClauses-holds c a i l .0 (wires-later-hold c a k i .0 (h .wires (suc i) d) .0 l b);
-              pairs = λ j i l d. pair-holds c a k j i .0 (h .pairs j i l d);
-              closings = λ i d. closing-holds c a k i .0 (h .closings i d);
+              pairs = λ p b j i l d. pair-holds c a k p j i .0 (h .pairs p b j i l d);
+              closings = λ p b i d. closing-holds c a k p i .0 (h .closings p b i d);
             };
         resets = λ l b. resetClauses-holds c a l .0 (first .1 .0 l b);
         violated = property-holds c a k .0 (h .property);
@@ -139,8 +139,8 @@ groups-hold c k a = (
   λ h.
       record {
         wires = wires-in h;
-        pairs = λ j i l d. pair-holds c a k j i .1 (h .frames .pairs j i l d);
-        closings = λ i d. closing-holds c a k i .1 (h .frames .closings i d);
+        pairs = λ p b j i l d. pair-holds c a k p j i .1 (h .frames .pairs p b j i l d);
+        closings = λ p b i d. closing-holds c a k p i .1 (h .frames .closings p b i d);
         property = property-holds c a k .1 (h .violated);
       },
 )

@@ -1,18 +1,18 @@
 -- The clauses of all groups of a depth, joined in the order of the whole: their numbers are the formula, and what splits over
 -- joined clauses splits into the groups. No contract cites this file.
-use Prim.Native.Nat.{ℕ, _+_, _<_, _≤_}
-use mathlib.Core.Path.{_≡_, refl, ap₂}
-use mathlib.Core.Bool.{true}
+use Prim.Native.Nat.{ℕ, suc, _+_, _-_, _≤_, _<_}
+use mathlib.Core.Path.{_≡_, refl, ap₂, subst}
+use mathlib.Core.Bool.{true, _&&_}
 use mathlib.Core.List.{List, [], _∷_, _++_, append-assoc, append-nil}
 use mathlib.Core.Logic.{_↔_, Iff·rfl, Iff·trans, Iff·and}
 use native.Mathlib.Omega.{arith}
 use lib.Dec.{leb, ltb}
 use lib.IntN.{ℤ}
-use borrow.Author.Tests.{le-leb, lt-ltb}
-use Rattle.model.specs.Netlist.{Netlist}
-use Rattle.model.specs.Gather.{gather}
+use borrow.Author.Tests.{le-leb, lt-ltb, leb-true, ltb-true}
+use Rattle.model.specs.Netlist.{Netlist, ports, IsPort}
+use Rattle.model.specs.Gather.{gather, gatherDown}
 use Rattle.model.specs.Clauses.{Clause}
-use Rattle.model.specs.Groups.{clausesOf, pairOf, frameGroups, groupOrder, inDepth}
+use Rattle.model.specs.Groups.{clausesOf, atPorts, frameGroups, groupOrder, inDepth}
 use Rattle.model.specs.Numbers.{writtenClause, written, numbersOf, joined, formula}
 use Rattle.model.specs.declared.Group.{Group}
 use Rattle.model.specs.declared.Group.the-variants.{Wires, Pair, Closing, Property}
@@ -45,9 +45,9 @@ joined-written f [] = refl
 joined-written f (g ∷ gs) = rw (joined-written f gs, written-append (f g))
 
 -- the numbers of a depth are its clauses, written
-pub formula-written : (c : Netlist) (k : ℕ) → formula c k ≡ written (joinedClauses (clausesOf c k) (groupOrder k))
+pub formula-written : (c : Netlist) (k : ℕ) → formula c k ≡ written (joinedClauses (clausesOf c k) (groupOrder (ports c) k))
 unfolding formula numbersOf
-formula-written c k = joined-written (clausesOf c k) (groupOrder k)
+formula-written c k = joined-written (clausesOf c k) (groupOrder (ports c) k)
 
 -- what is joined needs to be the same at the groups joined alone
 pub joined-same : {f h : Group → List ℤ} {gs : List Group} → All (λ g. f g ≡ h g) gs → joined f gs ≡ joined h gs
@@ -58,8 +58,8 @@ joined-same (also e r) = ap₂ _++_ e (joined-same r)
 -- each group of depth k has it
 pub record EachGroup (c : Netlist) (k : ℕ) (H : List Clause → Type 0) : Type 0 where
   pub wires : (i : ℕ) → i ≤ k → H (clausesOf c k (Wires i))
-  pub pairs : (j i : ℕ) → j < i → i ≤ k → H (clausesOf c k (Pair j i))
-  pub closings : (i : ℕ) → i ≤ k → H (clausesOf c k (Closing i))
+  pub pairs : (p : ℕ) → IsPort c p → (j i : ℕ) → j < i → i ≤ k → H (clausesOf c k (Pair j i p))
+  pub closings : (p : ℕ) → IsPort c p → (i : ℕ) → i ≤ k → H (clausesOf c k (Closing i p))
   pub property : H (clausesOf c k Property)
 
 module _ (c : Netlist) (k : ℕ) (H : List Clause → Type 0) (splits : Splits H) where
@@ -83,38 +83,94 @@ module _ (c : Netlist) (k : ℕ) (H : List Clause → Type 0) (splits : Splits H
   unfolding Over joinedClauses
   over-cons g gs = splits .of-both (clausesOf c k g) (joinedClauses (clausesOf c k) gs)
 
+  -- a group for each port, as gathered and by its number
+  over-ports : (f : ℕ → Group) → Over (gather (ports c) (λ x. f (suc x) ∷ [])) ↔ ((p : ℕ) → IsPort c p → H (clausesOf c k (f p)))
+  over-ports f =
+      Iff·trans (splits-gather over-splits (ports c) (λ x. f (suc x) ∷ [])) (
+        λ h p b. let x : suc (p - 1) ≡ p = omega (arith, b .0) in subst (λ (q : ℕ). H (clausesOf c k (f q))) x (over-one (f (suc (p - 1))) .0 (h (p - 1) (omega (arith, b .0, b .1)))),
+        λ h x b. over-one (f (suc x)) .1 (h (suc x) (omega arith, b)),
+      )
+
+  over-pairs : (i : ℕ)
+      → Over (gatherDown i (λ j. atPorts (ports c) (Pair j i))) ↔ ((p : ℕ) → IsPort c p → (j : ℕ) → j < i → H (clausesOf c k (Pair j i p)))
+  unfolding atPorts
+  over-pairs i =
+      Iff·trans (splits-gatherDown over-splits i (λ j. atPorts (ports c) (Pair j i))) (
+        λ h p b j l. over-ports (Pair j i) .0 (h j l) p b,
+        λ h j l. over-ports (Pair j i) .1 (λ p b. h p b j l),
+      )
+
+  over-closing : (i : ℕ) → Over (atPorts (ports c) (Closing i)) ↔ ((p : ℕ) → IsPort c p → H (clausesOf c k (Closing i p)))
+  unfolding atPorts
+  over-closing i = over-ports (Closing i)
+
   over-frame : (i : ℕ)
-      → Over (frameGroups i) ↔ (H (clausesOf c k (Wires i)) × (((j : ℕ) → j < i → H (clausesOf c k (Pair j i))) × H (clausesOf c k (Closing i))))
-  unfolding frameGroups pairOf
-  over-frame i =
-      simp (over-splits .of-both, over-one, over-cons, splits-gatherDown over-splits, splits-gather over-splits)
-      (λ h. search, λ h. search)
+      → Over (frameGroups (ports c) i)
+      ↔ (H (clausesOf c k (Wires i)) × (Over (gatherDown i (λ j. atPorts (ports c) (Pair j i))) × Over (atPorts (ports c) (Closing i))))
+  unfolding frameGroups
+  over-frame i = simp (over-splits .of-both, over-cons) (λ h. search, λ h. search)
 
   -- what splits over joined clauses holds of all clauses of depth k exactly where each group has it
-  pub each-group : H (joinedClauses (clausesOf c k) (groupOrder k)) ↔ EachGroup c k H
+  pub each-group : H (joinedClauses (clausesOf c k) (groupOrder (ports c) k)) ↔ EachGroup c k H
   unfolding groupOrder Over
   each-group =
-      Iff·trans (over-splits .of-both (gather (k + 1) frameGroups) (Property ∷ []))
-      (Iff·trans (Iff·and (splits-gather over-splits (k + 1) frameGroups) (over-one Property)) (
+      Iff·trans (over-splits .of-both (gather (k + 1) (frameGroups (ports c))) (Property ∷ []))
+      (Iff·trans (Iff·and (splits-gather over-splits (k + 1) (frameGroups (ports c))) (over-one Property)) (
         λ h.
             record {
               wires = λ i d. over-frame i .0 (h .0 i (omega arith)) .0;
-              pairs = λ j i b d. over-frame i .0 (h .0 i (omega arith)) .1 .0 j b;
-              closings = λ i d. over-frame i .0 (h .0 i (omega arith)) .1 .1;
+              pairs = λ p b j i l d. over-pairs i .0 (over-frame i .0 (h .0 i (omega arith)) .1 .0) p b j l;
+              closings = λ p b i d. over-closing i .0 (over-frame i .0 (h .0 i (omega arith)) .1 .1) p b;
               property = h .1;
             },
         λ h. (
-          λ i b. over-frame i .1 (h .wires i (omega arith), (λ j l. h .pairs j i l (omega arith), h .closings i (omega arith))),
+          λ i d. over-frame i .1 (
+            h .wires i (omega arith),
+            (over-pairs i .1 (λ p b j l. h .pairs p b j i l (omega arith)), over-closing i .1 (λ p b. h .closings p b i (omega arith))),
+          ),
           h .property,
         ),
       ))
 
+-- a port of so many
+is-port : (ports p : ℕ) → (leb 1 p && leb p ports ≡ true) ↔ ((1 ≤ p) × (p ≤ ports))
+is-port ports p = (
+  λ h. let both = and-true (leb 1 p) (leb p ports) .0 h in (leb-true 1 p (both .0), leb-true p ports (both .1)),
+  λ h. and-true (leb 1 p) (leb p ports) .1 (le-leb 1 p (h .0), le-leb p ports (h .1)),
+)
+
+-- a pair, and a closing, that there is
+pub pair-inDepth : (ports k j i p : ℕ) → (inDepth ports k (Pair j i p) ≡ true) ↔ ((i ≤ k) × (j < i) × ((1 ≤ p) × (p ≤ ports)))
+unfolding inDepth
+pair-inDepth ports k j i p = (
+  λ h.
+      let both = and-true (leb i k && ltb j i) (leb 1 p && leb p ports) .0 h in
+      let frames = and-true (leb i k) (ltb j i) .0 (both .0) in
+      (leb-true i k (frames .0), ltb-true j i (frames .1), is-port ports p .0 (both .1)),
+  λ h.
+      and-true (leb i k && ltb j i) (leb 1 p && leb p ports) .1
+      (and-true (leb i k) (ltb j i) .1 (le-leb i k (h .0), lt-ltb j i (h .1)), is-port ports p .1 (h .2)),
+)
+
+pub closing-inDepth : (ports k i p : ℕ) → (inDepth ports k (Closing i p) ≡ true) ↔ ((i ≤ k) × ((1 ≤ p) × (p ≤ ports)))
+unfolding inDepth
+closing-inDepth ports k i p = (
+  λ h. let both = and-true (leb i k) (leb 1 p && leb p ports) .0 h in (leb-true i k (both .0), is-port ports p .0 (both .1)),
+  λ h. and-true (leb i k) (leb 1 p && leb p ports) .1 (le-leb i k (h .0), is-port ports p .1 (h .1)),
+)
+
 -- the order of the whole has groups that there are, and no others
-pub order-inDepth : (k : ℕ) → All (λ g. inDepth k g ≡ true) (groupOrder k)
-unfolding groupOrder frameGroups pairOf inDepth
-order-inDepth k =
-    all-gather (k + 1) frameGroups (λ i b.
-    just (le-leb i k (omega arith))
-    ⧺ all-gatherDown i (pairOf i) (λ j l. just (and-true (leb i k) (ltb j i) .1 (le-leb i k (omega arith), lt-ltb j i l)))
-    ⧺ just (le-leb i k (omega arith)))
-    ⧺ just refl
+pub order-inDepth : (ports k : ℕ) → All (λ g. inDepth ports k g ≡ true) (groupOrder ports k)
+unfolding groupOrder frameGroups atPorts
+order-inDepth ports k =
+    all-gather (k + 1) (frameGroups ports) (λ i b.
+    just (wires i (omega arith))
+    ⧺ all-gatherDown i (λ j. atPorts ports (Pair j i)) (λ j l. all-gather ports _ (λ x d. just (pair-inDepth ports k j i (suc x) .1 (omega arith, l, (omega arith, d)))))
+    ⧺ all-gather ports _ (λ x d. just (closing-inDepth ports k i (suc x) .1 (omega arith, (omega arith, d)))))
+    ⧺ just property
+  where
+    wires : (i : ℕ) → i ≤ k → inDepth ports k (Wires i) ≡ true
+    wires i h = unfold inDepth in le-leb i k h
+
+    property : inDepth ports k Property ≡ true
+    property = unfold inDepth in refl

@@ -230,19 +230,19 @@ module _ (c : Netlist) (k : ℕ) where
   wires-clauses-later i = wires-counts-later i .in-clauses
 
   -- a pair
-  pub pair-clauses : (j i : ℕ) → length (clausesOf c k (Pair j i)) ≡ 4 * c .m + 2 * c .n + 10 + whereUnknown (start c) (2 * c .n)
+  pub pair-clauses : (j i p : ℕ) → length (clausesOf c k (Pair j i p)) ≡ 4 * c .m + 2 * c .n + 10 + whereUnknown (start c) (2 * c .n)
   unfolding clausesOf
-  pair-clauses j i = pair-counts (c .m) (c .n) (start c) _ .in-clauses
+  pair-clauses j i p = pair-counts (c .m) (c .n) (start c) _ .in-clauses
 
   -- the closing of frame 0
-  pub closing-clauses-first : length (clausesOf c k (Closing 0)) ≡ whereGiven (start c) (2 * c .n) + 1
+  pub closing-clauses-first : (p : ℕ) → length (clausesOf c k (Closing 0 p)) ≡ whereGiven (start c) (2 * c .n) + 1
   unfolding clausesOf
-  closing-clauses-first = closing-counts-first (c .n) (start c) _ .in-clauses
+  closing-clauses-first p = closing-counts-first (c .n) (start c) _ .in-clauses
 
   -- the closing of a later frame
-  pub closing-clauses-later : (i : ℕ) → length (clausesOf c k (Closing (suc i))) ≡ whereGiven (start c) (2 * c .n) + 2 * c .n + 1
+  pub closing-clauses-later : (i p : ℕ) → length (clausesOf c k (Closing (suc i) p)) ≡ whereGiven (start c) (2 * c .n) + 2 * c .n + 1
   unfolding clausesOf
-  closing-clauses-later i = closing-counts-later (c .n) (start c) i _ .in-clauses
+  closing-clauses-later i p = closing-counts-later (c .n) (start c) i _ .in-clauses
 
   -- the property
   pub property-clauses : length (clausesOf c k Property) ≡ 1
@@ -259,19 +259,19 @@ module _ (c : Netlist) (k : ℕ) where
   wires-numbers-later i = wires-counts-later i .in-numbers
 
   -- a pair
-  pub pair-numbers : (j i : ℕ) → length (numbersOf c k (Pair j i)) ≤ 17 * c .m + 8 * c .n + 32 + whereUnknown (start c) (12 * c .n)
+  pub pair-numbers : (j i p : ℕ) → length (numbersOf c k (Pair j i p)) ≤ 17 * c .m + 8 * c .n + 32 + whereUnknown (start c) (12 * c .n)
   unfolding numbersOf clausesOf
-  pair-numbers j i = pair-counts (c .m) (c .n) (start c) _ .in-numbers
+  pair-numbers j i p = pair-counts (c .m) (c .n) (start c) _ .in-numbers
 
   -- the closing of frame 0
-  pub closing-numbers-first : length (numbersOf c k (Closing 0)) ≤ whereGiven (start c) (8 * c .n) + 3
+  pub closing-numbers-first : (p : ℕ) → length (numbersOf c k (Closing 0 p)) ≤ whereGiven (start c) (8 * c .n) + 3
   unfolding numbersOf clausesOf
-  closing-numbers-first = closing-counts-first (c .n) (start c) _ .in-numbers
+  closing-numbers-first p = closing-counts-first (c .n) (start c) _ .in-numbers
 
   -- the closing of a later frame
-  pub closing-numbers-later : (i : ℕ) → length (numbersOf c k (Closing (suc i))) ≤ whereGiven (start c) (8 * c .n) + 8 * c .n + suc i + 3
+  pub closing-numbers-later : (i p : ℕ) → length (numbersOf c k (Closing (suc i) p)) ≤ whereGiven (start c) (8 * c .n) + 8 * c .n + suc i + 3
   unfolding numbersOf clausesOf
-  closing-numbers-later i = closing-counts-later (c .n) (start c) i _ .in-numbers
+  closing-numbers-later i p = closing-counts-later (c .n) (start c) i _ .in-numbers
 
   -- the property
   pub property-numbers : length (numbersOf c k Property) ≤ k + 2

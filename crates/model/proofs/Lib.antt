@@ -1,6 +1,7 @@
 pub mod Below
 pub mod Booleans
 pub mod Bits
+pub mod Ports
 pub mod Sweep
 pub mod Dependence
 pub mod Circuit

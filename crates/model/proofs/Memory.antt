@@ -2,8 +2,8 @@
 use Prim.Native.Nat.{ℕ, zero, suc, _^_, _<_}
 use mathlib.Core.Bool.{Bool, true, false, cond, _&&_}
 use lib.Dec.{eqb}
-use Rattle.model.specs.Netlist.{Netlist, Start, given, unknown, start, Port, port}
-use Rattle.model.specs.Circuit.{Values, codeValue, State, Feeds, addressOf, frame, wordWritten, step, stateAt, Begins, Starts}
+use Rattle.model.specs.Netlist.{Netlist, Start, given, unknown, start, Port}
+use Rattle.model.specs.Circuit.{Values, codeValue, State, Feeds, addressOf, writeAddress, frame, wordWritten, step, stateAt, Begins, Starts}
 use Rattle.model.specs.Acceptance.{StartFits, Accepted}
 use Rattle.model.proofs.Bits.{fromBits-below}
 
@@ -24,7 +24,7 @@ WordsFit c s = (x : ℕ) → s .memory x < 2 ^ c .n
 -- after a frame, words below 2^n are still so
 step-fits : (c : Netlist) (s : State) (v : Values) → WordsFit c s → WordsFit c (step c s v)
 unfolding step
-step-fits c s v h x = written (codeValue v (c .WE) && eqb x (addressOf c (port c) v))
+step-fits c s v h x = written (codeValue v (c .WE) && eqb x (writeAddress c v))
   where
     written : (b : Bool) → cond b (wordWritten c v) (s .memory x) < 2 ^ c .n
     written true = wordWritten-below c v

@@ -22,7 +22,7 @@ in-pair c k v y b e =
     let whole = div-add-mod' y (stride c) in
     let rest = mod-lt y positive in
     pair (y / stride c) k (y % stride c + 1) (div-lt-iff-lt-mul positive .1 b) (omega arith) (omega arith) (omega arith)
-    (omega (arith, pairBase-base c (port c) (y / stride c) k))
+    (omega (arith, pairBase-base c (port c 1) (y / stride c) k))
 
 in-frame : (c : Netlist) (k v : ℕ) → base c k < v → v ≤ base c (suc k) → Numbered c k v
 in-frame c k v lo hi = go (decLe v (base c k + lastWire c))

@@ -1,18 +1,19 @@
 -- From a run, whatever state it begins in, to an assignment whose frames hold: the witness of its frames. No contract cites this file.
-use Prim.Native.Nat.{ℕ, zero, suc, zero-le, _-_, _*_, _<_, _≤_}
-use mathlib.Core.Path.{_≡_, sym, _∙_, ap, ap₂}
+use Prim.Native.Nat.{ℕ, zero, suc, zero-le, _+_, _-_, _*_, _≤_, _<_}
+use mathlib.Core.Path.{_≡_, refl, sym, _∙_, ap, ap₂, subst}
 use mathlib.Core.Bool.{Bool, true, false, cond, _&&_}
-use native.Mathlib.Nat.{le-of-suc-le, le-trans, not-suc-le-zero, zero-add}
+use native.Mathlib.Nat.{le-of-suc-le, le-trans, not-suc-le-zero}
 use native.Mathlib.Omega.{arith}
 use borrow.Author.Tests.{eqb-true}
 use Rattle.model.specs.Bits.{bit}
-use Rattle.model.specs.Netlist.{Netlist, Start, given, unknown, port, latchWire, readWire, gateWire}
-use Rattle.model.specs.Circuit.{Values, codeValue, State, Feeds, addressOf, readData, wordWritten, step, stateAt, run, Begins}
+use Rattle.model.specs.Netlist.{Netlist, Start, given, unknown, isUnknown, IsPort, port, latchWire, readWire, gateWire}
+use Rattle.model.specs.Circuit.{Values, codeValue, State, Feeds, addressOf, wordWritten, step, stateAt, run, Begins}
 use Rattle.model.specs.Acceptance.{Accepted, IsCode}
 use Rattle.model.specs.Variables.{codeIn, readBit, pairLiterals, closingLiterals}
 use Rattle.model.specs.Numbers.{Assignment}
 use Rattle.model.specs.Claim.{Agrees, Breaks}
-use Rattle.model.proofs.Circuit.{IsFrame, frame-is}
+use Rattle.model.proofs.Ports.{first-port, bit-within, address-code, RE-code}
+use Rattle.model.proofs.Circuit.{IsFrame, frame-is, readData-port}
 use Rattle.model.proofs.Truth.{value, AgreedHold, InitialHold}
 use Rattle.model.proofs.InFrame.{assigned, assigned-zero, assigned-wire, readBit-value, codeIn-value}
 use Rattle.model.proofs.Forwarding.{stepped}
@@ -47,8 +48,10 @@ module _ (c : Netlist) (ok : Accepted c) (s : State) (f : Feeds) (k : ℕ) where
   code-value i d x fits = codeIn-value c a i x ∙ code-agrees c (assigned c a i) (u i) (same i d) x fits
 
   -- so has a read bit's literal
-  bit-value : (i : ℕ) → i ≤ k → (t : ℕ) → t < c .n → value a (readBit c (port c) i t) ≡ u i (readWire c t)
-  bit-value i d t b = readBit-value c (port c) a i t ∙ rw (zero-add t) (same i d (readWire c t) (omega arith))
+  bit-value : (p : ℕ) → IsPort c p → (i : ℕ) → i ≤ k → (t : ℕ) → t < c .n
+      → value a (readBit c (port c p) i t) ≡ u i (readWire c (port c p .firstRead + t))
+  bit-value p here i d t b =
+      readBit-value c (port c p) a i t ∙ same i d (readWire c (port c p .firstRead + t)) (omega (arith, bit-within c p here t b))
 
   -- a frame's gates and latches are as assigned
   gate-holds : (i : ℕ) → i ≤ k → (g : ℕ) → g < c .gates
@@ -70,65 +73,83 @@ module _ (c : Netlist) (ok : Accepted c) (s : State) (f : Feeds) (k : ℕ) where
       same (suc i) d (latchWire c l) (omega arith) ∙ frame-at (suc i) .at-latch l b
       ∙ sym (code-agrees c (assigned c a i) (u i) (same i (le-of-suc-le d)) (c .next l) (ok .limits .codes .next-fits l b))
 
-  -- where frame i reads, its read bits are the word that the writes before it leave
-  read-bit : (i : ℕ) → codeValue (u i) (c .RE) ≡ true → (t : ℕ) → t < c .n
-      → u i (readWire c t) ≡ bit (stepped (s .memory (addressOf c (port c) (u i))) (hits c (port c) u i) (λ j. wordWritten c (u j)) i) t
-  unfolding readData hits
-  read-bit i r t b =
-      frame-at i .at-read t b
-      ∙ ap (λ (x : Bool). cond x (bit (state i .memory (addressOf c (port c) (u i))) t) (state i .held t)) r
-      ∙ ap (λ (w : ℕ). bit w t) (memory-stepped c s f (addressOf c (port c) (u i)) i)
+  module _ (p : ℕ) (here : IsPort c p) where
+    -- what a port reads in frame i
+    read-data : (i : ℕ) (t : ℕ) → t < c .n
+        → u i (readWire c (port c p .firstRead + t))
+        ≡ cond (codeValue (u i) (port c p .RE)) (bit (state i .memory (addressOf c (port c p) (u i))) t) (state i .held (port c p .firstRead + t))
+    read-data i t b =
+        frame-at i .at-read (port c p .firstRead + t) (bit-within c p here t b) ∙ readData-port c p here (state i) (u i) t b
 
-  -- where a later frame does not, its read bits are those of the frame before
-  held-bit : (i : ℕ) → codeValue (u (suc i)) (c .RE) ≡ false → (t : ℕ) → t < c .n → u (suc i) (readWire c t) ≡ u i (readWire c t)
-  unfolding readData stateAt step run
-  held-bit i r t b =
-      frame-at (suc i) .at-read t b
-      ∙ ap (λ (x : Bool). cond x (bit (state (suc i) .memory (addressOf c (port c) (u (suc i)))) t) (state (suc i) .held t)) r
+    -- where it reads, its read bits are the word that the writes before it leave
+    read-bit : (i : ℕ) → codeValue (u i) (port c p .RE) ≡ true → (t : ℕ) → t < c .n
+        → u i (readWire c (port c p .firstRead + t))
+        ≡ bit (stepped (s .memory (addressOf c (port c p) (u i))) (hits c (port c p) u i) (λ j. wordWritten c (u j)) i) t
+    unfolding hits
+    read-bit i r t b =
+        read-data i t b
+        ∙ ap (λ (x : Bool). cond x (bit (state i .memory (addressOf c (port c p) (u i))) t) (state i .held (port c p .firstRead + t))) r
+        ∙ ap (λ (w : ℕ). bit w t) (memory-stepped c s f (addressOf c (port c p) (u i)) i)
 
-  held-at : (i : ℕ) → i ≤ k → 0 < i → codeValue (u i) (c .RE) ≡ false → (t : ℕ) → t < c .n
-      → value a (readBit c (port c) i t) ≡ value a (closingLiterals c (port c) i .before t)
-  unfolding closingLiterals
-  held-at zero d l r t b = absurd (not-suc-le-zero l)
-  held-at (suc i) d l r t b =
-      let last : suc i - 1 ≡ i = omega arith in
-      rw last (bit-value (suc i) d t b ∙ held-bit i r t b ∙ sym (bit-value i (le-of-suc-le d) t b))
+    -- where it does not in a later frame, its read bits are those of the frame before
+    held-bit : (i : ℕ) → codeValue (u (suc i)) (port c p .RE) ≡ false → (t : ℕ) → t < c .n
+        → u (suc i) (readWire c (port c p .firstRead + t)) ≡ u i (readWire c (port c p .firstRead + t))
+    unfolding stateAt step run
+    held-bit i r t b =
+        read-data (suc i) t b
+        ∙ ap (λ (x : Bool). cond x (bit (state (suc i) .memory (addressOf c (port c p) (u (suc i)))) t) (state (suc i) .held (port c p .firstRead + t))) r
 
-  -- the witness has frame i's read
-  read-at : (i : ℕ) → i ≤ k → HasRead c (port c) u a i (s .memory (addressOf c (port c) (u i)))
-  read-at i d =
-      record {
-        address-codes = ok .limits .codes .address-fits;
-        RE-code = ok .limits .codes .RE-fits;
-        codes = λ j b. code-value j (le-trans b d);
-        pairs = λ j b. witness-values c k u j i b d;
-        word = λ r t b. bit-value i d t b ∙ read-bit i r t b;
-        held = held-at i d;
-      }
+    held-at : (i : ℕ) → i ≤ k → 0 < i → codeValue (u i) (port c p .RE) ≡ false → (t : ℕ) → t < c .n
+        → value a (readBit c (port c p) i t) ≡ value a (closingLiterals c (port c p) i .before t)
+    unfolding closingLiterals
+    held-at zero d l r t b = absurd (not-suc-le-zero l)
+    held-at (suc i) d l r t b =
+        let last : suc i - 1 ≡ i = omega arith in
+        rw last (bit-value p here (suc i) d t b ∙ held-bit i r t b ∙ sym (bit-value p here i (le-of-suc-le d) t b))
+
+    -- the witness has its read in frame i
+    read-at : (i : ℕ) → i ≤ k → HasRead c (port c p) u a i (s .memory (addressOf c (port c p) (u i)))
+    read-at i d =
+        record {
+          address-codes = address-code c p here (ok .limits .codes);
+          RE-code = RE-code c p here (ok .limits .codes);
+          codes = λ j b. code-value j (le-trans b d);
+          pairs = λ j b. witness-values c k u p here j i b d;
+          word = λ r t b. bit-value p here i d t b ∙ read-bit i r t b;
+          held = held-at i d;
+        }
+
+    -- from a given start it is the initial word
+    initial-at : (start : Start) → Begins (c .n) start (s .memory) → (i : ℕ) → i ≤ k → InitialHold a (c .n) start (closingLiterals c (port c p) i)
+    unfolding InitialHold Begins closingLiterals
+    initial-at (given word) begins i d = λ t b z. read-start (ok .limits .codes) (read-at i d) z t b ∙ rw (begins _)
+    initial-at unknown begins i d = tt
 
   -- reads of one address that both reach the start agree: they are of one word
-  agreed-at : (start : Start) (j i : ℕ) → j < i → i ≤ k → AgreedHold a (c .n) start (pairLiterals c (port c) j i)
+  agreed-first : (j i : ℕ) → j < i → i ≤ k → AgreedHold a (c .n) unknown (pairLiterals c (port c 1) j i)
   unfolding AgreedHold pairLiterals
-  agreed-at (given word) j i l d = tt
-  agreed-at unknown j i l d = λ t b e zj zi.
-      read-start (ok .limits .codes) (read-at i d) zi t b
-      ∙ ap (λ (x : ℕ). bit (s .memory x) t) (eqb-true _ _ (sym (witness-values c k u j i l d .E-is) ∙ e))
-      ∙ sym (read-start (ok .limits .codes) (read-at j (omega arith)) zj t b)
+  agreed-first j i l d = λ t b e zj zi.
+      let here = first-port c in
+      read-start (ok .limits .codes) (read-at 1 here i d) zi t b
+      ∙ ap (λ (x : ℕ). bit (s .memory x) t) (eqb-true _ _ (sym (witness-values c k u 1 here j i l d .E-is) ∙ e))
+      ∙ sym (read-start (ok .limits .codes) (read-at 1 here j (omega arith)) zj t b)
 
-  -- from a given start it is the initial word
-  initial-at : (start : Start) → Begins (c .n) start (s .memory) → (i : ℕ) → i ≤ k → InitialHold a (c .n) start (closingLiterals c (port c) i)
-  unfolding InitialHold Begins closingLiterals
-  initial-at (given word) begins i d = λ t b z. read-start (ok .limits .codes) (read-at i d) z t b ∙ rw (begins _)
-  initial-at unknown begins i d = tt
+  agreed-at : (start : Start) → (isUnknown start ≡ true → (p : ℕ) → IsPort c p → p ≡ 1) → (p : ℕ) → IsPort c p
+      → (j i : ℕ) → j < i → i ≤ k → AgreedHold a (c .n) start (pairLiterals c (port c p) j i)
+  unfolding isUnknown
+  agreed-at (given word) single p here j i l d = unfold AgreedHold in tt
+  agreed-at unknown single p here j i l d =
+      subst (λ (q : ℕ). AgreedHold a (c .n) unknown (pairLiterals c (port c q) j i)) (sym (single refl p here)) (agreed-first j i l d)
 
   -- so the frames hold from any start that its memory is one of
-  pub frames-hold : (start : Start) → Begins (c .n) start (s .memory) → FramesHold c start k a
-  frames-hold start begins =
+  pub frames-hold : (start : Start) → (isUnknown start ≡ true → (p : ℕ) → IsPort c p → p ≡ 1) → Begins (c .n) start (s .memory)
+      → FramesHold c start k a
+  frames-hold start single begins =
       record {
         gates = gate-holds;
         latches = latch-holds;
-        pairs = λ j i l d. pair-witnessed (ok .limits .codes) (read-at i d) j l (agreed-at start j i l d);
-        closings = λ i d. closing-witnessed (ok .limits .codes) (read-at i d) (initial-at start begins i d);
+        pairs = λ p here j i l d. pair-witnessed (ok .limits .codes) (read-at p here i d) j l (agreed-at start single p here j i l d);
+        closings = λ p here i d. closing-witnessed (ok .limits .codes) (read-at p here i d) (initial-at p here start begins i d);
       }
 
   -- where the run breaks the property, P is false as assigned

@@ -19,10 +19,6 @@ module _ (c d : Netlist) (q : Agree c d) where
   unfolding base
   base-same i = rw (lastWire-same c d q, m-same c d q)
 
-  pairBase-same : (j i : ℕ) → pairBase c (port c) j i ≡ pairBase d (port d) j i
-  unfolding pairBase
-  pairBase-same j i = rw (lastWire-same c d q, m-same c d q)
-
   gate-same : (i g : ℕ) → g < c .gates → gateClauses c i g ≡ gateClauses d i g
   unfolding gateClauses
   gate-same i g b = rw (q .left-same g b, q .right-same g b, base-same i, inputs-same c d q, latches-same c d q, n-same c d q)
@@ -41,117 +37,123 @@ module _ (c d : Netlist) (q : Agree c d) where
       ap₂ (λ (xs ys : List Clause). (plus 1 ∷ []) ∷ xs ++ ys) (gathers-same (latches-same c d q) reset-same) (gathers-same (gates-same c d q) (gate-same 0))
   wires-same k (suc i) = ap₂ _++_ (gathers-same (latches-same c d q) (latch-same i)) (gathers-same (gates-same c d q) (gate-same (suc i)))
 
-  none-same : (j i : ℕ) → noneSince c (port c) j i ≡ noneSince d (port d) j i
-  unfolding noneSince
-  none-same j i = rw (pairBase-same j i, base-same i, q .RE-same, m-same c d q)
+  -- at a port
+  module _ (p : ℕ) where
+    pairBase-same : (j i : ℕ) → pairBase c (port c p) j i ≡ pairBase d (port d p) j i
+    unfolding pairBase
+    pairBase-same j i = rw (lastWire-same c d q, m-same c d q)
 
-  selected-same : (j i : ℕ) → selected c (port c) j i ≡ selected d (port d) j i
-  unfolding selected
-  selected-same j i = rw (pairBase-same j i, m-same c d q)
+    none-same : (j i : ℕ) → noneSince c (port c p) j i ≡ noneSince d (port d p) j i
+    unfolding noneSince
+    none-same j i = rw (pairBase-same j i, base-same i, q .RE-same, m-same c d q)
 
-  readBit-same : (i t : ℕ) → readBit c (port c) i t ≡ readBit d (port d) i t
-  unfolding readBit
-  readBit-same i t = rw (base-same i, inputs-same c d q, latches-same c d q)
+    selected-same : (j i : ℕ) → selected c (port c p) j i ≡ selected d (port d p) j i
+    unfolding selected
+    selected-same j i = rw (pairBase-same j i, m-same c d q)
 
-  module _ (j i : ℕ) where
-    abbrev x : PairLiterals
-    x = pairLiterals c (port c) j i
+    readBit-same : (i t : ℕ) → readBit c (port c p) i t ≡ readBit d (port d p) i t
+    unfolding readBit
+    readBit-same i t = rw (base-same i, inputs-same c d q, latches-same c d q)
 
-    abbrev y : PairLiterals
-    y = pairLiterals d (port d) j i
+    module _ (j i : ℕ) where
+      abbrev x : PairLiterals
+      x = pairLiterals c (port c p) j i
 
-    bit-same : (t : ℕ) → t < c .m → addressBitClauses x t ≡ addressBitClauses y t
-    unfolding addressBitClauses pairLiterals
-    bit-same t b = rw (pairBase-same j i, base-same j, base-same i, q .address-same t b)
+      abbrev y : PairLiterals
+      y = pairLiterals d (port d p) j i
 
-    own-same : (t : ℕ) → t < c .m → unequalOf x t ≡ unequalOf y t
-    unfolding unequalOf pairLiterals
-    own-same t b = rw (pairBase-same j i)
+      bit-same : (t : ℕ) → t < c .m → addressBitClauses x t ≡ addressBitClauses y t
+      unfolding addressBitClauses pairLiterals
+      bit-same t b = rw (pairBase-same j i, base-same j, base-same i, q .address-same t b)
 
-    data-same : (t : ℕ) → t < c .n → forwardedClauses x t ≡ forwardedClauses y t
-    unfolding forwardedClauses pairLiterals
-    data-same t b = rw (selected-same j i, readBit-same i t, base-same j, q .data-same t b)
+      own-same : (t : ℕ) → t < c .m → unequalOf x t ≡ unequalOf y t
+      unfolding unequalOf pairLiterals
+      own-same t b = rw (pairBase-same j i)
 
-    -- its three gates
-    valid-same : andClauses (x .s) (x .E) (x .WE) ≡ andClauses (y .s) (y .E) (y .WE)
-    unfolding pairLiterals
-    valid-same = rw (pairBase-same j i, base-same j, q .WE-same, m-same c d q)
+      data-same : (t : ℕ) → t < c .n → forwardedClauses x t ≡ forwardedClauses y t
+      unfolding forwardedClauses pairLiterals
+      data-same t b = rw (selected-same j i, readBit-same i t, base-same j, q .data-same t b)
 
-    newer-same : andClauses (x .PS) (neg (x .s)) (x .N) ≡ andClauses (y .PS) (neg (y .s)) (y .N)
-    unfolding pairLiterals
-    newer-same = rw (none-same j i, none-same (j + 1) i, pairBase-same j i, m-same c d q)
+      -- its three gates
+      valid-same : andClauses (x .s) (x .E) (x .WE) ≡ andClauses (y .s) (y .E) (y .WE)
+      unfolding pairLiterals
+      valid-same = rw (pairBase-same j i, base-same j, q .WE-same, m-same c d q)
 
-    exclusive-same : andClauses (x .S) (x .s) (x .N) ≡ andClauses (y .S) (y .s) (y .N)
-    unfolding pairLiterals
-    exclusive-same = rw (none-same (j + 1) i, selected-same j i, pairBase-same j i, m-same c d q)
+      newer-same : andClauses (x .PS) (neg (x .s)) (x .N) ≡ andClauses (y .PS) (neg (y .s)) (y .N)
+      unfolding pairLiterals
+      newer-same = rw (none-same j i, none-same (j + 1) i, pairBase-same j i, m-same c d q)
 
-    compared-same : x .E ≡ y .E
-    unfolding pairLiterals
-    compared-same = rw (pairBase-same j i)
+      exclusive-same : andClauses (x .S) (x .s) (x .N) ≡ andClauses (y .S) (y .s) (y .N)
+      unfolding pairLiterals
+      exclusive-same = rw (none-same (j + 1) i, selected-same j i, pairBase-same j i, m-same c d q)
 
-    all-same : allBits (c .m) x ≡ allBits (d .m) y
-    unfolding allBits
-    all-same = ap₂ (λ (a : Clause) (e : Literal). a ++ e ∷ []) (gathers-same (m-same c d q) own-same) compared-same
+      compared-same : x .E ≡ y .E
+      unfolding pairLiterals
+      compared-same = rw (pairBase-same j i)
 
-    -- its reads that agree
-    agreed-same : (t : ℕ) → t < c .n → agreedClauses x t ≡ agreedClauses y t
-    unfolding agreedClauses pairLiterals
-    agreed-same t b = rw (pairBase-same j i, none-same 0 j, none-same 0 i, readBit-same i t, readBit-same j t)
+      all-same : allBits (c .m) x ≡ allBits (d .m) y
+      unfolding allBits
+      all-same = ap₂ (λ (a : Clause) (e : Literal). a ++ e ∷ []) (gathers-same (m-same c d q) own-same) compared-same
 
-    agreed-reads-same : (s : Start) → agreedReads (c .n) s x ≡ agreedReads (d .n) s y
-    unfolding agreedReads
-    agreed-reads-same (given word) = refl
-    agreed-reads-same unknown = gathers-same (n-same c d q) agreed-same
+      -- its reads that agree
+      agreed-same : (t : ℕ) → t < c .n → agreedClauses x t ≡ agreedClauses y t
+      unfolding agreedClauses pairLiterals
+      agreed-same t b = rw (pairBase-same j i, none-same 0 j, none-same 0 i, readBit-same i t, readBit-same j t)
 
-    pair-same : pairClauses (c .m) (c .n) (start c) x ≡ pairClauses (d .m) (d .n) (start d) y
-    unfolding pairClauses
-    pair-same =
-        ap₂ _++_
-        (ap₂ _++_
-        (ap₂ _++_ (ap₂ _++_ (ap₂ _++_ (ap₂ (λ (b : List Clause) (a : Clause). b ++ a ∷ []) (gathers-same (m-same c d q) bit-same) all-same) valid-same) newer-same)
-        exclusive-same)
-        (gathers-same (n-same c d q) data-same))
-        (agreed-reads-same (start c) ∙ ap (λ (s : Start). agreedReads (d .n) s y) (start-same c d q))
+      agreed-reads-same : (s : Start) → agreedReads (c .n) s x ≡ agreedReads (d .n) s y
+      unfolding agreedReads
+      agreed-reads-same (given word) = refl
+      agreed-reads-same unknown = gathers-same (n-same c d q) agreed-same
 
-  module _ (i : ℕ) where
-    abbrev u : ClosingLiterals
-    u = closingLiterals c (port c) i
+      pair-same : pairClauses (c .m) (c .n) (start c) x ≡ pairClauses (d .m) (d .n) (start d) y
+      unfolding pairClauses
+      pair-same =
+          ap₂ _++_
+          (ap₂ _++_
+          (ap₂ _++_ (ap₂ _++_ (ap₂ _++_ (ap₂ (λ (b : List Clause) (a : Clause). b ++ a ∷ []) (gathers-same (m-same c d q) bit-same) all-same) valid-same) newer-same)
+          exclusive-same)
+          (gathers-same (n-same c d q) data-same))
+          (agreed-reads-same (start c) ∙ ap (λ (s : Start). agreedReads (d .n) s y) (start-same c d q))
 
-    abbrev v : ClosingLiterals
-    v = closingLiterals d (port d) i
+    module _ (i : ℕ) where
+      abbrev u : ClosingLiterals
+      u = closingLiterals c (port c p) i
 
-    initial-bit-same : (word t : ℕ) → t < c .n → initialReadClauses word u t ≡ initialReadClauses word v t
-    unfolding initialReadClauses closingLiterals
-    initial-bit-same word t b = rw (none-same 0 i, readBit-same i t)
+      abbrev v : ClosingLiterals
+      v = closingLiterals d (port d p) i
 
-    initial-same : (s : Start) → initialReads (c .n) s u ≡ initialReads (d .n) s v
-    unfolding initialReads
-    initial-same (given word) = gathers-same (n-same c d q) (initial-bit-same word)
-    initial-same unknown = refl
+      initial-bit-same : (word t : ℕ) → t < c .n → initialReadClauses word u t ≡ initialReadClauses word v t
+      unfolding initialReadClauses closingLiterals
+      initial-bit-same word t b = rw (none-same 0 i, readBit-same i t)
 
-    held-bit-same : (t : ℕ) → t < c .n → heldClauses u t ≡ heldClauses v t
-    unfolding heldClauses closingLiterals
-    held-bit-same t b = rw (readBit-same i t, readBit-same (i - 1) t, base-same i, q .RE-same)
+      initial-same : (s : Start) → initialReads (c .n) s u ≡ initialReads (d .n) s v
+      unfolding initialReads
+      initial-same (given word) = gathers-same (n-same c d q) (initial-bit-same word)
+      initial-same unknown = refl
 
-    source-same : (j : ℕ) → j < i → selectedOf u j ≡ selectedOf v j
-    unfolding selectedOf closingLiterals
-    source-same j b = rw (selected-same j i)
+      held-bit-same : (t : ℕ) → t < c .n → heldClauses u t ≡ heldClauses v t
+      unfolding heldClauses closingLiterals
+      held-bit-same t b = rw (readBit-same i t, readBit-same (i - 1) t, base-same i, q .RE-same)
 
-    some-same : someSource i u ≡ someSource i v
-    unfolding someSource closingLiterals
-    some-same =
-        ap₂ (λ (r : Literal) (zs : Clause). neg r ∷ zs) (rw (base-same i, q .RE-same))
-        (ap₂ (λ (z : Literal) (ss : Clause). z ∷ ss) (none-same 0 i) (gather-same i (selectedOf u) (selectedOf v) source-same))
+      source-same : (j : ℕ) → j < i → selectedOf u j ≡ selectedOf v j
+      unfolding selectedOf closingLiterals
+      source-same j b = rw (selected-same j i)
 
-  held-same : (i : ℕ) → heldReads (c .n) i (closingLiterals c (port c) i) ≡ heldReads (d .n) i (closingLiterals d (port d) i)
-  unfolding heldReads
-  held-same zero = refl
-  held-same (suc i) = gathers-same (n-same c d q) (held-bit-same (suc i))
+      some-same : someSource i u ≡ someSource i v
+      unfolding someSource closingLiterals
+      some-same =
+          ap₂ (λ (r : Literal) (zs : Clause). neg r ∷ zs) (rw (base-same i, q .RE-same))
+          (ap₂ (λ (z : Literal) (ss : Clause). z ∷ ss) (none-same 0 i) (gather-same i (selectedOf u) (selectedOf v) source-same))
 
-  closing-same : (i : ℕ) → closingClauses (c .n) (start c) i (closingLiterals c (port c) i) ≡ closingClauses (d .n) (start d) i (closingLiterals d (port d) i)
-  unfolding closingClauses
-  closing-same i =
-      ap₂ (λ (a : List Clause) (s : Clause). a ++ s ∷ []) (ap₂ _++_ (initial-same i (start c) ∙ ap (λ (s : Start). initialReads (d .n) s (closingLiterals d (port d) i)) (start-same c d q)) (held-same i)) (some-same i)
+    held-same : (i : ℕ) → heldReads (c .n) i (closingLiterals c (port c p) i) ≡ heldReads (d .n) i (closingLiterals d (port d p) i)
+    unfolding heldReads
+    held-same zero = refl
+    held-same (suc i) = gathers-same (n-same c d q) (held-bit-same (suc i))
+
+    closing-same : (i : ℕ) → closingClauses (c .n) (start c) i (closingLiterals c (port c p) i) ≡ closingClauses (d .n) (start d) i (closingLiterals d (port d p) i)
+    unfolding closingClauses
+    closing-same i =
+        ap₂ (λ (a : List Clause) (s : Clause). a ++ s ∷ []) (ap₂ _++_ (initial-same i (start c) ∙ ap (λ (s : Start). initialReads (d .n) s (closingLiterals d (port d p) i)) (start-same c d q)) (held-same i)) (some-same i)
 
   violated-same : (i : ℕ) → violationOf c i ≡ violationOf d i
   unfolding violationOf
@@ -160,8 +162,8 @@ module _ (c d : Netlist) (q : Agree c d) where
   pub clauses-same : (k : ℕ) (g : Group) → clausesOf c k g ≡ clausesOf d k g
   unfolding clausesOf
   clauses-same k (Wires i) = wires-same k i
-  clauses-same k (Pair j i) = pair-same j i
-  clauses-same k (Closing i) = closing-same i
+  clauses-same k (Pair j i p) = pair-same p j i
+  clauses-same k (Closing i p) = closing-same p i
   clauses-same k Property = ap (λ (x : Clause). x ∷ []) (gather-same (k + 1) (violationOf c) (violationOf d) (λ i b. violated-same i))
 
   pub numbers-same : (k : ℕ) (g : Group) → numbersOf c k g ≡ numbersOf d k g

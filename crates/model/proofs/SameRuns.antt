@@ -61,9 +61,9 @@ module _ (c d : Netlist) (q : Agree c d) where
     pub code-value-same : {x y : ℕ} → x ≡ y → codeValue u x ≡ codeValue v y
     code-value-same {x} {y} e = code-same u v x (same (x / 2)) ∙ ap (codeValue v) e
 
-    addressOf-same : addressOf c (port c) u ≡ addressOf d (port d) v
+    addressOf-same : (p : ℕ) → addressOf c (port c p) u ≡ addressOf d (port d p) v
     unfolding addressOf
-    addressOf-same = fromBits-same (c .m) _ _ (λ t b. code-value-same (q .address-same t b)) ∙ rw (m-same c d q)
+    addressOf-same p = fromBits-same (c .m) _ _ (λ t b. code-value-same (q .address-same t b)) ∙ rw (m-same c d q)
 
     word-written-same : wordWritten c u ≡ wordWritten d v
     unfolding wordWritten
@@ -73,7 +73,7 @@ module _ (c d : Netlist) (q : Agree c d) where
       read-same : (t : ℕ) → t < readBits c → readData c s u t ≡ readData d r v t
       unfolding readData
       read-same t b =
-          rw (code-value-same (q .RE-same), addressOf-same, states .memory-same (addressOf d (port d) v), states .held-same t b)
+          rw (code-value-same (q .RE-same), addressOf-same, states .memory-same (addressOf d (port d 1) v), states .held-same t b)
 
       step-same : SameState c (step c s u) (step d r v)
       unfolding step

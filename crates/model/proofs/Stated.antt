@@ -7,10 +7,9 @@ use mathlib.Core.List.{[]}
 use native.Mathlib.Nat.{not-suc-le-zero}
 use native.Mathlib.Numerals.{add-one}
 use native.Mathlib.Omega.{arith}
-use borrow.Author.Tests.{leb-true, ltb-true}
-use lib.Dec.{leb, ltb}
+use borrow.Author.Tests.{leb-true}
 use lib.ListN.{length, getD}
-use Rattle.model.specs.Netlist.{Netlist}
+use Rattle.model.specs.Netlist.{Netlist, ports}
 use Rattle.model.specs.Acceptance.{Accepted}
 use Rattle.model.specs.Variables.{base}
 use Rattle.model.specs.Groups.{clausesOf, inDepth}
@@ -21,6 +20,7 @@ use Rattle.model.specs.declared.Group.{Group}
 use Rattle.model.specs.declared.Group.the-variants.{Wires, Pair, Closing, Property}
 use Rattle.model.proofs.Booleans.{and-true}
 use Rattle.model.proofs.Gather.{all-getD, all-below-length}
+use Rattle.model.proofs.Joined.{pair-inDepth, closing-inDepth}
 use Rattle.model.proofs.Numbering.{numbered}
 use Rattle.model.proofs.Lengths.{wires-clauses-first, wires-clauses-later, pair-clauses, closing-clauses-first, closing-clauses-later, property-clauses, wires-numbers-first, wires-numbers-later, pair-numbers, closing-numbers-first, closing-numbers-later, property-numbers}
 use Rattle.model.proofs.Variables.{base-least}
@@ -33,9 +33,9 @@ group-numbers : (c : Netlist) (k : ℕ) (g : Group) → length (numbersOf c k g)
 unfolding numberCount
 group-numbers c k (Wires zero) = wires-numbers-first c k
 group-numbers c k (Wires (suc i)) = wires-numbers-later c k i
-group-numbers c k (Pair j i) = pair-numbers c k j i
-group-numbers c k (Closing zero) = closing-numbers-first c k
-group-numbers c k (Closing (suc i)) = closing-numbers-later c k i
+group-numbers c k (Pair j i p) = pair-numbers c k j i p
+group-numbers c k (Closing zero p) = closing-numbers-first c k p
+group-numbers c k (Closing (suc i) p) = closing-numbers-later c k i p
 group-numbers c k Property = property-numbers c k
 
 -- its clauses
@@ -43,24 +43,23 @@ group-clauses : (c : Netlist) (k : ℕ) (g : Group) → length (clausesOf c k g)
 unfolding clauseCount
 group-clauses c k (Wires zero) = wires-clauses-first c k
 group-clauses c k (Wires (suc i)) = wires-clauses-later c k i
-group-clauses c k (Pair j i) = pair-clauses c k j i
-group-clauses c k (Closing zero) = closing-clauses-first c k
-group-clauses c k (Closing (suc i)) = closing-clauses-later c k i
+group-clauses c k (Pair j i p) = pair-clauses c k j i p
+group-clauses c k (Closing zero p) = closing-clauses-first c k p
+group-clauses c k (Closing (suc i) p) = closing-clauses-later c k i p
 group-clauses c k Property = property-clauses c k
 
 module _ {c : Netlist} (ok : Accepted c) (k : ℕ) where
   -- no literal of a group that there is goes beyond the depth's variables
-  group-within : (g : Group) → inDepth k g ≡ true → AllLits (Within 1 (base c (k + 1))) (clausesOf c k g)
-  unfolding inDepth
-  group-within (Wires i) h = wires-within ok k i (leb-true i k h)
-  group-within (Pair j i) h =
-      let both = and-true (leb i k) (ltb j i) .0 h in
-      all-within-one (pairs-within ok k j i (ltb-true j i (both .1)) (leb-true i k (both .0)))
-  group-within (Closing i) h = all-within-one (closing-within ok k i (leb-true i k h))
+  group-within : (g : Group) → inDepth (ports c) k g ≡ true → AllLits (Within 1 (base c (k + 1))) (clausesOf c k g)
+  group-within (Wires i) h = wires-within ok k i (leb-true i k (unfold inDepth in h))
+  group-within (Pair j i p) h =
+      let there = pair-inDepth (ports c) k j i p .0 h in all-within-one (pairs-within ok k p (there .2) j i (there .1) (there .0))
+  group-within (Closing i p) h =
+      let there = closing-inDepth (ports c) k i p .0 h in all-within-one (closing-within ok k p (there .1) i (there .0))
   group-within Property h = all-within-one (property-within ok k)
 
   -- so its numbers split into those of its clauses that are written
-  clauses-in-group : (g : Group) → inDepth k g ≡ true → length (clausesIn (numbersOf c k g)) ≤ clauseCount c k g
+  clauses-in-group : (g : Group) → inDepth (ports c) k g ≡ true → length (clausesIn (numbersOf c k g)) ≤ clauseCount c k g
   unfolding numbersOf
   clauses-in-group g h =
       rw (clausesIn-written (base c (k + 1)) (clausesOf c k g) (base-least c (k + 1)) (group-within g h))

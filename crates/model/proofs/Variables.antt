@@ -5,7 +5,7 @@ use native.Mathlib.Nat.{mul-suc, suc-mul, zero-mul, mul-zero, mul-comm, mul-le-m
 use native.Mathlib.Numerals.{sub-one}
 use native.Mathlib.Omega.{arith}
 use borrow.Author.Tests.{eq-eqb, ne-eqb}
-use Rattle.model.specs.Netlist.{Netlist, Port, port, lastWire}
+use Rattle.model.specs.Netlist.{Netlist, Port, lastWire}
 use Rattle.model.specs.Clauses.{plus}
 use Rattle.model.specs.Variables.{stride, baseOf, base, pairBaseOf, pairBase, codeIn, noneSince}
 use Rattle.model.specs.Acceptance.{SizesFit}
@@ -50,10 +50,6 @@ pub port-within : (c : Netlist) (p : Port) (j i v : ℕ) → j < i → p .firstV
 port-within c p j i v h r =
     let before : suc j * stride c ≤ i * stride c = mul-le-mul-right (stride c) h in
     simp (pairBase-base, base-suc) (omega (arith, suc-mul j (stride c)))
-
--- at the netlist's own port all of them
-pub pair-within : (c : Netlist) (j i : ℕ) → j < i → pairBase c (port c) j i + stride c ≤ base c (suc i)
-pair-within c j i h = port-within c (port c) j i (stride c) h (omega arith)
 
 -- the most (RULES V6): depth 255, 600 wires and addresses of 12 bits
 pub base-most : (c : Netlist) → SizesFit c → (i : ℕ) → i ≤ 256 → base c i ≤ 675841

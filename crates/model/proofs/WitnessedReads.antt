@@ -1,7 +1,7 @@
 -- What an assignment that is made from frames makes of a read, at any port and whatever the word is at the start: where it has the
 -- frames' codes, the values of a pair's own variables that these give, and the word read, the clauses of the pairs and the closing
 -- of frame i hold. No contract cites this file.
-use Prim.Native.Nat.{ℕ, suc, zero-le, _-_, _<_, _≤_}
+use Prim.Native.Nat.{ℕ, suc, zero-le, _-_, _≤_, _<_}
 use mathlib.Core.Path.{_≡_, sym, _∙_, ap, ap₂}
 use mathlib.Core.Bool.{Bool, true, false, cond, not, _&&_, and-comm, Bool·beq}
 use mathlib.Core.Logic.{⊎-elim, ⊎-map}
@@ -12,7 +12,7 @@ use lib.Dec.{eqb}
 use borrow.Author.Tests.{eqb-true, eq-eqb}
 use Rattle.model.specs.Bits.{bit}
 use Rattle.model.specs.Netlist.{Netlist, Start, Port, port}
-use Rattle.model.specs.Circuit.{Values, codeValue, addressOf, wordWritten}
+use Rattle.model.specs.Circuit.{Values, codeValue, addressOf, writeAddress, wordWritten}
 use Rattle.model.specs.Acceptance.{CodesFit, IsCode}
 use Rattle.model.specs.Variables.{codeIn, noneSince, selected, readBit, pairLiterals, closingLiterals}
 use Rattle.model.specs.Numbers.{Assignment}
@@ -29,7 +29,7 @@ nones c p u i = noneFrom (hits c p u i) (codeValue (u i) (p .RE)) i
 
 -- the values of a pair's own variables that the frames give
 pub record PairValues (c : Netlist) (p : Port) (u : ℕ → Values) (a : Assignment) (j i : ℕ) : Type 0 where
-  pub E-is : value a (pairLiterals c p j i .E) ≡ eqb (addressOf c p (u i)) (addressOf c (port c) (u j))
+  pub E-is : value a (pairLiterals c p j i .E) ≡ eqb (addressOf c p (u i)) (writeAddress c (u j))
   pub e-is : (t : ℕ) → t < c .m
       → value a (pairLiterals c p j i .e t) ≡ Bool·beq (codeValue (u j) (c .address t)) (codeValue (u i) (p .address t))
   pub s-is : value a (pairLiterals c p j i .s) ≡ hits c p u i j
@@ -84,7 +84,7 @@ module _ {c : Netlist} (fit : CodesFit c) {p : Port} {u : ℕ → Values} {a : A
   pair-witnessed j l agreed =
       record {
         address-bit = λ t b. (
-          λ h. Aj t b ∙ sym (address-bits c p (port c) (u i) (u j) (eqb-true _ _ (sym (given .E-is) ∙ h)) t b) ∙ sym (Ai t b),
+          λ h. Aj t b ∙ sym (address-bits c p (port c 1) (u i) (u j) (eqb-true _ _ (sym (given .E-is) ∙ h)) t b) ∙ sym (Ai t b),
           λ h. given .e-is t b ∙ beq-true _ _ .1 (sym (Aj t b) ∙ h ∙ Ai t b),
         );
         E-where-all-e = λ h. given .E-is

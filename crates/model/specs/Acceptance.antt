@@ -5,7 +5,7 @@ use mathlib.Core.Path.{_≡_}
 use mathlib.Core.Bool.{true, false}
 use mathlib.Core.Logic.{_↔_}
 use Rattle.model.specs.Limits.{mostWires, mostAddressBits, mostDataBits}
-use Rattle.model.specs.Netlist.{Netlist, Start, given, unknown, start, Port, port, gateWire, lastWire}
+use Rattle.model.specs.Netlist.{Netlist, Start, given, unknown, start, Port, IsPort, port, gateWire, lastWire}
 use Rattle.model.specs.Circuit.{dependsOnRead, ReadPath}
 
 -- a given initial word has n bits
@@ -58,8 +58,8 @@ pub record NoLoop (c : Netlist) (p : Port) : Type 0 where
 
 pub record Accepted (c : Netlist) : Type 0 where
   pub limits : WithinLimits c
-  pub noTie : NoTie c (port c)
-  pub noLoop : NoLoop c (port c)
+  pub noTie : (p : ℕ) → IsPort c p → NoTie c (port c p)
+  pub noLoop : (p : ℕ) → IsPort c p → NoLoop c (port c p)
 
 -- Dependence on a read bit is a path through gates: of every netlist within limits, so of those too that refusal 6 is about. Promised
 -- by `heading` and `read`; `paths` in proofs/Dependence.antt is of this type.

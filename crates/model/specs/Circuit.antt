@@ -64,13 +64,16 @@ pub record State : Type 0 where
 abbrev pub Feeds : Type 0
 Feeds = ℕ → ℕ → Bool
 
--- the address at a port (RULES W18)
+-- the address at a port (RULES W18), and that of the write: the first port's
 unfoldable pub addressOf : Netlist → Port → Values → ℕ
 addressOf c p v = fromBits (c .m) (λ t. codeValue v (p .address t))
 
+abbrev pub writeAddress : Netlist → Values → ℕ
+writeAddress c v = addressOf c (port c 1) v
+
 -- the read bits that follow from the state before this frame's write, and from the address and RE in the values v (RULES C4, C17, C18)
 unfoldable pub readData : Netlist → State → Values → ℕ → Bool
-readData c s v t = cond (codeValue v (port c .RE)) (bit (s .memory (addressOf c (port c) v)) t) (s .held t)
+readData c s v t = cond (codeValue v (port c 1 .RE)) (bit (s .memory (addressOf c (port c 1) v)) t) (s .held t)
 
 -- One frame. First pass: every read bit 0, which settles address and RE. Second pass: all gates afresh, with the read bits. RULES C12 and C21.
 unfoldable pub firstPass : Netlist → State → (ℕ → Bool) → Values
@@ -88,7 +91,7 @@ unfoldable pub step : Netlist → State → Values → State
 step c s v =
     record {
       latch = λ l. codeValue v (c .next l);
-      memory = λ x. cond (codeValue v (c .WE) && eqb x (addressOf c (port c) v)) (wordWritten c v) (s .memory x);
+      memory = λ x. cond (codeValue v (c .WE) && eqb x (writeAddress c v)) (wordWritten c v) (s .memory x);
       held = λ t. v (readWire c t);
     }
 

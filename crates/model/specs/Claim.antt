@@ -17,7 +17,7 @@ use mathlib.Core.List.{List, [], _∷_}
 use mathlib.Core.Logic.{_⊎_}
 use lib.IntN.{ℤ, pos, negsuc, natAbs}
 use lib.ListN.{length, getD}
-use Rattle.model.specs.Netlist.{Netlist, isUnknown, start, readBits, inputWire, readWire, lastWire}
+use Rattle.model.specs.Netlist.{Netlist, isUnknown, start, ports, readBits, inputWire, readWire, lastWire}
 use Rattle.model.specs.Circuit.{State, Feeds, codeValue, run, Starts}
 use Rattle.model.specs.Acceptance.{Accepted}
 use Rattle.model.specs.Variables.{base, Numbered}
@@ -74,7 +74,7 @@ pub record Stated (c : Netlist) (k : ℕ) : Type 0 where
   pub all-numbered : (v : ℕ) → 1 ≤ v → v ≤ base c (k + 1) → Numbered c k v
   pub numbers-within : (x : ℕ) → natAbs (getD (formula c k) x (pos 0)) ≤ base c (k + 1)
   pub unsatisfiable→safe : ((a : Assignment) → Satisfies c k a → ⊥) → (s : State) → Starts c s → (f : Feeds) → Breaks c s k f → ⊥
-  pub clauses-counted : (g : Group) → inDepth k g ≡ true → length (clausesIn (numbersOf c k g)) ≤ clauseCount c k g
+  pub clauses-counted : (g : Group) → inDepth (ports c) k g ≡ true → length (clausesIn (numbersOf c k g)) ≤ clauseCount c k g
   pub numbers-counted : (g : Group) → length (numbersOf c k g) ≤ numberCount c k g
   pub no-constants : (x : ℕ) → 1 ≤ x → x < length (clausesIn (formula c k)) → NoConstant (getD (clausesIn (formula c k)) x [])
 

@@ -17,15 +17,15 @@ whereUnknown unknown x = x
 unfoldable pub clauseCount : Netlist → ℕ → Group → ℕ
 clauseCount c k (Wires zero) = 1 + c .latches + 3 * c .gates
 clauseCount c k (Wires (suc i)) = 2 * c .latches + 3 * c .gates
-clauseCount c k (Pair j i) = 4 * c .m + 2 * c .n + 10 + whereUnknown (start c) (2 * c .n)
-clauseCount c k (Closing zero) = whereGiven (start c) (2 * c .n) + 1
-clauseCount c k (Closing (suc i)) = whereGiven (start c) (2 * c .n) + 2 * c .n + 1
+clauseCount c k (Pair j i p) = 4 * c .m + 2 * c .n + 10 + whereUnknown (start c) (2 * c .n)
+clauseCount c k (Closing zero p) = whereGiven (start c) (2 * c .n) + 1
+clauseCount c k (Closing (suc i) p) = whereGiven (start c) (2 * c .n) + 2 * c .n + 1
 clauseCount c k Property = 1
 
 unfoldable pub numberCount : Netlist → ℕ → Group → ℕ
 numberCount c k (Wires zero) = 2 + 2 * c .latches + 10 * c .gates
 numberCount c k (Wires (suc i)) = 6 * c .latches + 10 * c .gates
-numberCount c k (Pair j i) = 17 * c .m + 8 * c .n + 32 + whereUnknown (start c) (12 * c .n)
-numberCount c k (Closing zero) = whereGiven (start c) (8 * c .n) + 3
-numberCount c k (Closing (suc i)) = whereGiven (start c) (8 * c .n) + 8 * c .n + suc i + 3
+numberCount c k (Pair j i p) = 17 * c .m + 8 * c .n + 32 + whereUnknown (start c) (12 * c .n)
+numberCount c k (Closing zero p) = whereGiven (start c) (8 * c .n) + 3
+numberCount c k (Closing (suc i) p) = whereGiven (start c) (8 * c .n) + 8 * c .n + suc i + 3
 numberCount c k Property = k + 2

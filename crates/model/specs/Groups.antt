@@ -31,24 +31,25 @@ violationOf c i = neg (codeIn c i (c .P)) ∷ []
 unfoldable pub clausesOf : Netlist → ℕ → Group → List Clause
 clausesOf c k (Wires zero) = (plus 1 ∷ []) ∷ gather (c .latches) (resetClauses c) ++ gather (c .gates) (gateClauses c 0)
 clausesOf c k (Wires (suc i)) = gather (c .latches) (latchClauses c i) ++ gather (c .gates) (gateClauses c (suc i))
-clausesOf c k (Pair j i) = pairClauses (c .m) (c .n) (start c) (pairLiterals c (port c) j i)
-clausesOf c k (Closing i) = closingClauses (c .n) (start c) i (closingLiterals c (port c) i)
+clausesOf c k (Pair j i p) = pairClauses (c .m) (c .n) (start c) (pairLiterals c (port c p) j i)
+clausesOf c k (Closing i p) = closingClauses (c .n) (start c) i (closingLiterals c (port c p) i)
 clausesOf c k Property = gather (k + 1) (violationOf c) ∷ []
 
--- the groups of frame i: wires, pairs from j = i - 1 down to 0, closing
-unfoldable pub pairOf : ℕ → ℕ → List Group
-pairOf i j = Pair j i ∷ []
+-- a pair's or a closing's groups, one for each of so many ports
+unfoldable pub atPorts : ℕ → (ℕ → Group) → List Group
+atPorts ports g = gather ports (λ x. g (suc x) ∷ [])
 
-unfoldable pub frameGroups : ℕ → List Group
-frameGroups i = Wires i ∷ gatherDown i (pairOf i) ++ Closing i ∷ []
+-- the groups of frame i: wires, pairs from j = i - 1 down to 0, closing
+unfoldable pub frameGroups : ℕ → ℕ → List Group
+frameGroups ports i = Wires i ∷ gatherDown i (λ j. atPorts ports (Pair j i)) ++ atPorts ports (Closing i)
 
 -- the order of the whole: the frames 0 to k, then the property (RULES G15)
-unfoldable pub groupOrder : ℕ → List Group
-groupOrder k = gather (k + 1) frameGroups ++ Property ∷ []
+unfoldable pub groupOrder : ℕ → ℕ → List Group
+groupOrder ports k = gather (k + 1) (frameGroups ports) ++ Property ∷ []
 
--- whether there is such a group at depth k: no frame over k, and no pair with j not below i (RULES T8)
-unfoldable pub inDepth : ℕ → Group → Bool
-inDepth k (Wires i) = leb i k
-inDepth k (Pair j i) = leb i k && ltb j i
-inDepth k (Closing i) = leb i k
-inDepth k Property = true
+-- whether there is such a group at depth k: no frame over k, no pair with j not below i, and a port that there is (RULES T8)
+unfoldable pub inDepth : ℕ → ℕ → Group → Bool
+inDepth ports k (Wires i) = leb i k
+inDepth ports k (Pair j i p) = leb i k && ltb j i && (leb 1 p && leb p ports)
+inDepth ports k (Closing i p) = leb i k && (leb 1 p && leb p ports)
+inDepth ports k Property = true

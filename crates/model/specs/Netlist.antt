@@ -1,6 +1,6 @@
 -- A netlist with one memory: the record with its lists (RULES W14 to W17, W19 and W20), and the numbers of its wires (RULES W1).
 -- Cited by nearly every other file.
-use Prim.Native.Nat.{ℕ, zero, suc, _+_}
+use Prim.Native.Nat.{ℕ, zero, suc, _+_, _≤_}
 use mathlib.Core.Bool.{Bool, true, false}
 
 -- What the lists hold are functions, so that an entry past its size has no meaning to ignore: it is never asked for.
@@ -47,7 +47,7 @@ startOf word (suc u) = unknown
 abbrev pub start : Netlist → Start
 start c = startOf (c .initialWord) (c .unknownStart)
 
--- A read port of the memory. Only `port` below says which there are.
+-- A read port of the memory. Only `ports` and `port` below say which there are.
 pub record Port : Type 0 where
   pub address : ℕ → ℕ
   pub RE : ℕ
@@ -56,8 +56,15 @@ pub record Port : Type 0 where
   -- its first variable, counted from the first of all ports' variables for a pair of frames
   pub firstVariable : ℕ
 
-abbrev pub port : Netlist → Port
-port c = record { address = c .address; RE = c .RE; firstRead = 0; firstVariable = 0 }
+-- how many there are, numbered from 1 (RULES G15)
+abbrev pub ports : Netlist → ℕ
+ports c = 1
+
+abbrev pub IsPort : Netlist → ℕ → Type 0
+IsPort c p = (1 ≤ p) × (p ≤ ports c)
+
+abbrev pub port : Netlist → ℕ → Port
+port c p = record { address = c .address; RE = c .RE; firstRead = 0; firstVariable = 0 }
 
 -- how many read bits there are, over all ports
 abbrev pub readBits : Netlist → ℕ

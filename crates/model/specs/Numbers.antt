@@ -5,7 +5,7 @@ use mathlib.Core.Bool.{Bool, true, false, cond, not, _&&_, _||_}
 use mathlib.Core.List.{List, [], _∷_, _++_}
 use lib.IntN.{ℤ, pos, negsuc, negℤ}
 use lib.ListN.{length}
-use Rattle.model.specs.Netlist.{Netlist}
+use Rattle.model.specs.Netlist.{Netlist, ports}
 use Rattle.model.specs.Clauses.{Literal, known, plus, minus, Clause}
 use Rattle.model.specs.Groups.{clausesOf, groupOrder}
 use Rattle.model.specs.declared.Group.{Group}
@@ -61,7 +61,7 @@ joined f (g ∷ gs) = f g ++ joined f gs
 
 -- all numbers written for depth k (RULES A2)
 unfoldable pub formula : Netlist → ℕ → List ℤ
-formula c k = joined (numbersOf c k) (groupOrder k)
+formula c k = joined (numbersOf c k) (groupOrder (ports c) k)
 
 -- the clauses in a list of numbers: each 0 ends one. `begun` is what stands since the 0 before
 unfoldable pub splitAfter : List ℤ → List ℤ → List (List ℤ)

@@ -83,4 +83,4 @@ closingLiterals c p i =
 pub data Numbered (c : Netlist) (k v : ℕ) : Type 0 where
   constant : v ≡ 1 → Numbered c k v
   wire : (i w : ℕ) → i ≤ k → 1 ≤ w → w ≤ lastWire c → v ≡ base c i + w → Numbered c k v
-  pair : (j i x : ℕ) → j < i → i ≤ k → 1 ≤ x → x ≤ stride c → v ≡ pairBase c (port c) j i + x → Numbered c k v
+  pair : (j i x : ℕ) → j < i → i ≤ k → 1 ≤ x → x ≤ stride c → v ≡ pairBase c (port c 1) j i + x → Numbered c k v

@@ -10,9 +10,10 @@ use native.Mathlib.Omega.{arith}
 use lib.Dec.{ltb, leb, eqb}
 use lib.Pow.{pow-pos, pow-mono}
 use borrow.Author.Tests.{ltb-false, lt-ltb, le-ltb, leb-false, lt-leb, le-leb, eq-eqb, ne-eqb}
-use Rattle.model.specs.Netlist.{Netlist, Start, given, unknown, startOf, start, port, gateWire, lastWire}
+use Rattle.model.specs.Netlist.{Netlist, Start, given, unknown, startOf, start, IsPort, port, gateWire, lastWire}
 use Rattle.model.specs.Search.{seen}
 use Rattle.model.specs.Acceptance.{StartFits, SizesFit, CodesFit, NoTie, NoLoop}
+use Rattle.model.proofs.Ports.{first-port}
 use Rattle.model.proofs.Search.{seen-at}
 use Rattle.model.proofs.Start.{start-given, start-unknown}
 use Rattle.model.proofs.Booleans.{not-true-false}
@@ -200,35 +201,35 @@ module _ (c : Netlist) where
       )
 
   -- refusal 17
-  pub no-tie : EveryLine c (Without tieFault c) ↔ NoTie c (port c)
+  pub no-tie : EveryLine c (Without tieFault c) ↔ ((p : ℕ) → IsPort c p → NoTie c (port c p))
   unfolding tieFault
   no-tie = (
-    λ q. record { tie-free = λ s t l b e. untied (c .address) t .0 (q .of-address t b) s l e },
+    λ q p is. record { tie-free = λ s t l b e. untied (c .address) t .0 (q .of-address t b) s l e },
     λ q.
         record {
           of-sizes = refl;
           of-memory = refl;
           of-latch = λ l h. refl;
           of-gate = λ g h. refl;
-          of-address = λ t b. untied (c .address) t .1 (λ s l. q .tie-free s t l b);
+          of-address = λ t b. untied (c .address) t .1 (λ s l. q 1 (first-port c) .tie-free s t l b);
           of-data = λ t h. refl;
           of-control = refl;
         },
   )
 
   -- refusal 6
-  pub no-loop : EveryLine c (Without loopFault c) ↔ NoLoop c (port c)
+  pub no-loop : EveryLine c (Without loopFault c) ↔ ((p : ℕ) → IsPort c p → NoLoop c (port c p))
   unfolding loopFaultBy
   no-loop = (
-    λ q. record { address-free = q .of-address; RE-free = q .of-control },
+    λ q p is. record { address-free = q .of-address; RE-free = q .of-control },
     λ q.
         record {
           of-sizes = refl;
           of-memory = refl;
           of-latch = λ l h. refl;
           of-gate = λ g h. refl;
-          of-address = q .address-free;
+          of-address = q 1 (first-port c) .address-free;
           of-data = λ t h. refl;
-          of-control = q .RE-free;
+          of-control = q 1 (first-port c) .RE-free;
         },
   )

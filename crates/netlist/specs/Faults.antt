@@ -63,7 +63,7 @@ tieFault c Sizes = false
 tieFault c Memory = false
 tieFault c (Latch l) = false
 tieFault c (Gate g) = false
-tieFault c (Address t) = isTied (port c .address) t
+tieFault c (Address t) = isTied (port c 1 .address) t
 tieFault c (WriteData t) = false
 tieFault c Control = false
 
@@ -73,9 +73,9 @@ loopFaultBy d c Sizes = false
 loopFaultBy d c Memory = false
 loopFaultBy d c (Latch l) = false
 loopFaultBy d c (Gate g) = false
-loopFaultBy d c (Address t) = d (c .address t / 2)
+loopFaultBy d c (Address t) = d (port c 1 .address t / 2)
 loopFaultBy d c (WriteData t) = false
-loopFaultBy d c Control = d (c .RE / 2)
+loopFaultBy d c Control = d (port c 1 .RE / 2)
 
 abbrev pub loopFault : Netlist → Line → Bool
 loopFault c = loopFaultBy (dependsOnRead c) c

@@ -36,17 +36,26 @@ recordOf c =
 abbrev pub upTo : ℕ → (ℕ → ℕ) → ℕ → ℕ
 upTo size f x = cond (ltb x size) (f x) 0
 
--- sizes with no codes
-abbrev pub withoutCodes : ℕ → ℕ → ℕ → ℕ → ℕ → ℕ → ℕ → M.Netlist
-withoutCodes inputs latches gates m n initialWord unknownStart =
+-- the sizes of a netlist, with its start; and these with no codes
+pub record NetSizes : Type 0 where
+  pub inputs : ℕ
+  pub latches : ℕ
+  pub gates : ℕ
+  pub m : ℕ
+  pub n : ℕ
+  pub initialWord : ℕ
+  pub unknownStart : ℕ
+
+abbrev pub withoutCodes : NetSizes → M.Netlist
+withoutCodes s =
     record {
-      inputs = inputs;
-      latches = latches;
-      gates = gates;
-      m = m;
-      n = n;
-      initialWord = initialWord;
-      unknownStart = unknownStart;
+      inputs = s .inputs;
+      latches = s .latches;
+      gates = s .gates;
+      m = s .m;
+      n = s .n;
+      initialWord = s .initialWord;
+      unknownStart = s .unknownStart;
       next = λ l. 0;
       reset = λ l. 0;
       left = λ g. 0;
@@ -60,4 +69,4 @@ withoutCodes inputs latches gates m n initialWord unknownStart =
 
 -- the record that is all zeros
 abbrev pub noNetlist : M.Netlist
-noNetlist = withoutCodes 0 0 0 0 0 0 0
+noNetlist = withoutCodes (record { inputs = 0; latches = 0; gates = 0; m = 0; n = 0; initialWord = 0; unknownStart = 0 })

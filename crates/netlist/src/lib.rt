@@ -6,7 +6,7 @@ use literals::Code;
 use literals::Wire;
 ghost use mathlib.Core.Path.{_≡_};
 ghost use Prim.Native.Nat.{_+_, _-_, _^_, _<_};
-ghost use Rattle.model.specs.Netlist.{startOf, latchWire, readWire, gateWire, lastWire};
+ghost use Rattle.model.specs.Netlist.{startOf, ports, latchWire, readWire, gateWire, lastWire};
 ghost use Rattle.model.specs.Agree.{givenWord};
 ghost use Rattle.model.specs.Acceptance.{SizesFit};
 ghost use Rattle.netlist.specs.NetOf.{netOf, alone, putNumbers};
@@ -131,6 +131,13 @@ pub fn memory_fault(net: Netlist) -> bool
         | is_outside(0, 1, net.unknown_start)
         | is_start_outside(net.n, net.initial_word, net.unknown_start)
         | is_last_wire_outside(net.inputs, net.latches, net.n, net.gates)
+}
+
+// How many read ports there are.
+pub fn port_count(net: Netlist) -> u32
+    ensures { λ r. ⌜ r ≡ ports (alone net) ⌝ }
+{
+    1
 }
 
 // V, how many wires there are.

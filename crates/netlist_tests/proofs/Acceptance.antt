@@ -9,10 +9,10 @@ use Rattle.refusals.specs.Tests.{refuseIf}
 use Rattle.refusals.specs.declared.Refusal.the-variants.{OutOfOrder, Size, CodeOutside, MemoryLoop, TiedAddress}
 use Rattle.refusals.specs.declared.Verdict.the-variants.{Passed}
 use Rattle.refusals.proofs.Tests.{refuseIf-passes, then-passes, passed-then, first-passes, rest-passes}
-use Rattle.model.specs.Netlist.{Netlist, port}
+use Rattle.model.specs.Netlist.{Netlist, IsPort, port}
 use Rattle.model.specs.Acceptance.{NoTie, NoLoop, Accepted}
 use Rattle.netlist.specs.Faults.{sizeFault, codeFault, tieFault, loopFault}
-use Rattle.netlist_tests.specs.Record.{testLines, listsShort, testTies, testLoops, testPort, recordVerdict}
+use Rattle.netlist_tests.specs.Record.{testLines, listsShort, testTies, testLoops, testPorts, recordVerdict}
 use Rattle.netlist.proofs.Places.{EveryLine}
 use Rattle.netlist.proofs.Faults.{Without, neither, sizes-fit, codes-fit, no-tie, no-loop}
 use Rattle.netlist_tests.proofs.Record.{testLines-passes}
@@ -31,9 +31,10 @@ lists-pass c x y =
     test : (refuseIf (listsShort c x y) OutOfOrder 0 ≡ Passed) ↔ (listsShort c x y ≡ false)
     test = refuseIf-passes (listsShort c x y) OutOfOrder 0
 
--- the tests of the port pass where it has neither ties nor memory loops
-pub port-passes : (c : Netlist) → (testPort c ≡ Passed) ↔ (NoTie c (port c) × NoLoop c (port c))
-port-passes c = (
+-- the tests of the ports pass where they have neither ties nor memory loops
+pub ports-pass : (c : Netlist)
+    → (testPorts c ≡ Passed) ↔ (((p : ℕ) → IsPort c p → NoTie c (port c p)) × ((p : ℕ) → IsPort c p → NoLoop c (port c p)))
+ports-pass c = (
   λ e.
       let passed = then-passes (testTies c) (testLoops c) .0 e in
       (no-tie c .0 (ties .0 (passed .0)), no-loop c .0 (loops .0 (passed .1))),
@@ -57,7 +58,7 @@ passes-accepted c x y = (accepted, passing)
         let sizes : testLines c Size sizeFault ≡ Passed = search (first-passes, rest-passes) in
         let lists : refuseIf (listsShort c x y) OutOfOrder 0 ≡ Passed = search (first-passes, rest-passes) in
         let codes : testLines c CodeOutside codeFault ≡ Passed = search (first-passes, rest-passes) in
-        let free : testPort c ≡ Passed = rest-passes _ _ (rest-passes _ _ (rest-passes _ _ e)) in
+        let free : testPorts c ≡ Passed = rest-passes _ _ (rest-passes _ _ (rest-passes _ _ e)) in
         let long = lists-pass c x y .0 lists in (
           record {
             limits =
@@ -65,8 +66,8 @@ passes-accepted c x y = (accepted, passing)
                   sizes = sizes-fit c .0 (testLines-passes c Size sizeFault .0 sizes);
                   codes = codes-fit c .0 (testLines-passes c CodeOutside codeFault .0 codes);
                 };
-            noTie = port-passes c .0 free .0;
-            noLoop = port-passes c .0 free .1;
+            noTie = ports-pass c .0 free .0;
+            noLoop = ports-pass c .0 free .1;
           },
           long .0,
           long .1,
@@ -74,5 +75,5 @@ passes-accepted c x y = (accepted, passing)
 
     passing : Accepted c × (c .latches ≤ x) × (c .gates ≤ y) → recordVerdict c x y ≡ Passed
     passing h =
-        rw (testLines-passes c Size sizeFault .1 (sizes-fit c .1 (h .0 .limits .sizes)), lists-pass c x y .1 (h .1, h .2), testLines-passes c CodeOutside codeFault .1 (codes-fit c .1 (h .0 .limits .codes)), port-passes c .1 (h .0 .noTie, h .0 .noLoop))
+        rw (testLines-passes c Size sizeFault .1 (sizes-fit c .1 (h .0 .limits .sizes)), lists-pass c x y .1 (h .1, h .2), testLines-passes c CodeOutside codeFault .1 (codes-fit c .1 (h .0 .limits .codes)), ports-pass c .1 (h .0 .noTie, h .0 .noLoop))
         (simp passed-then)

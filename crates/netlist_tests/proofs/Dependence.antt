@@ -93,7 +93,7 @@ loops-none {c} {flags} q h e =
     let none = none-in-lines c (loopFaultBy (entry flags)) refl refl e in
     testLines-passes c MemoryLoop loopFault .1
     (no-loop c .1
-    (record {
+    (λ p is. record {
       address-free = λ t b. loopFault-table q h (Address t) b ∙ none .of-address t b;
       RE-free = loopFault-table q h Control tt ∙ none .of-control;
     }))

@@ -13,7 +13,7 @@ use Rattle.netlist.specs.declared.Line.the-variants.{Sizes, Memory, Latch, Gate
 use Rattle.netlist.specs.declared.Netlist.{Netlist}
 use Rattle.netlist.proofs.NetOf.{lineAt-lists, sizeFault-lists, depends-latches}
 use Rattle.netlist_scan.specs.AnyLine.{anyLine}
-use Rattle.netlist_tests.specs.Record.{testLines, testTies, testLoops, testPort}
+use Rattle.netlist_tests.specs.Record.{testLines, testTies, testLoops, testPorts}
 use Rattle.netlist_tests.proofs.Record.{testLines-same}
 
 module _ (r : Netlist) (latches gates : List ℕ) where
@@ -57,5 +57,5 @@ module _ (r : Netlist) (latches gates : List ℕ) where
   any-loop-lists d = refl
 
 -- so the tests of the port
-pub test-port-latches : (r : Netlist) (latches gates : List ℕ) → testPort (netOf r [] gates) ≡ testPort (netOf r latches gates)
-test-port-latches r latches gates = rw (← test-ties-lists r [] gates, test-ties-lists r latches gates, test-loops-latches r latches gates)
+pub test-ports-latches : (r : Netlist) (latches gates : List ℕ) → testPorts (netOf r [] gates) ≡ testPorts (netOf r latches gates)
+test-ports-latches r latches gates = rw (← test-ties-lists r [] gates, test-ties-lists r latches gates, test-loops-latches r latches gates)

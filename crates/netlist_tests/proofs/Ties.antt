@@ -18,9 +18,9 @@ use Rattle.netlist.proofs.Faults.{Without}
 use Rattle.netlist_tests.specs.Record.{testLines, testTies}
 use Rattle.netlist_tests.proofs.Record.{testLines-passes}
 
-module _ (c : Netlist) {t : ℕ} (first : IsFirst (isTied (port c .address)) (c .m) t) where
+module _ (c : Netlist) {t : ℕ} (first : IsFirst (isTied (port c 1 .address)) (c .m) t) where
   -- the line of an address code is tied where the code is
-  at-code : (p x : ℕ) → x < c .m → p ≡ addressLine c x → tieFault c (lineAt c p) ≡ isTied (port c .address) x
+  at-code : (p x : ℕ) → x < c .m → p ≡ addressLine c x → tieFault c (lineAt c p) ≡ isTied (port c 1 .address) x
   unfolding tieFault
   at-code p x b e = rw (at-address c p x b e)
 

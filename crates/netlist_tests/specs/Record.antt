@@ -35,8 +35,8 @@ abbrev pub testLoops : Netlist → Verdict
 testLoops c = testLines c MemoryLoop loopFault
 
 -- RULES T54: "then 17, then 6"; of a sheet (RULES T53) and a text (RULES T55) too
-abbrev pub testPort : Netlist → Verdict
-testPort c = testTies c then testLoops c
+abbrev pub testPorts : Netlist → Verdict
+testPorts c = testTies c then testLoops c
 
 -- RULES T54: "4, then 3, then 5 in line order, then 17, then 6, each with the place that it would have in a sheet"
 unfoldable pub recordVerdict : Netlist → ℕ → ℕ → Verdict
@@ -44,4 +44,4 @@ recordVerdict c latchCount gateCount =
     testLines c Size sizeFault
     then refuseIf (listsShort c latchCount gateCount) OutOfOrder 0
     then testLines c CodeOutside codeFault
-    then testPort c
+    then testPorts c

@@ -16,7 +16,7 @@ ghost use Rattle.netlist.specs.WireTable.{entry, HasAll};
 ghost use Rattle.netlist.specs.Places.{HasLine};
 ghost use Rattle.netlist.specs.Faults.{sizeFault, codeFault, isTied, loopFaultBy};
 ghost use Rattle.netlist_scan.specs.AnyLine.{anyLine};
-ghost use Rattle.netlist_tests.specs.Record.{testLines, testTies, testLoops, testPort, recordVerdict};
+ghost use Rattle.netlist_tests.specs.Record.{testLines, testTies, testLoops, testPorts, recordVerdict};
 
 // Tests the numbers of lines N and M (refusal 4).
 pub fn test_sizes(net: Netlist) -> Verdict
@@ -201,9 +201,9 @@ fn test_loops(net: Netlist, gates: &UnpackedList) -> Verdict
 }
 
 // Tests the memory's port: ties, then memory loops.
-pub fn test_port(net: Netlist, gates: &UnpackedList) -> Verdict
+pub fn test_ports(net: Netlist, gates: &UnpackedList) -> Verdict
     requires { ⌜ WithinLimits (netOf net [] (now gates)) ⌝ }
-    ensures { λ r. ⌜ r ≡ testPort (netOf net [] (now (gates .entry))) ⌝ }
+    ensures { λ r. ⌜ r ≡ testPorts (netOf net [] (now (gates .entry))) ⌝ }
 {
     let ties = test_ties(net);
     if let Verdict::Refused(_, _) = ties {
@@ -233,5 +233,5 @@ pub fn test_record(
     if let Verdict::Refused(_, _) = codes {
         return codes;
     }
-    test_port(net, gates)
+    test_ports(net, gates)
 }

@@ -6,7 +6,7 @@ use mathlib.Core.List.{List, [], _∷_, _++_, append-assoc, append-nil}
 use lib.IntN.{ℤ}
 use lib.ListN.{length}
 use borrow.Rule.Slice.PartMut.{midOf, putMid}
-use Rattle.model.specs.Netlist.{Netlist}
+use Rattle.model.specs.Netlist.{Netlist, ports}
 use Rattle.model.specs.Groups.{groupOrder, inDepth}
 use Rattle.model.specs.Numbers.{numbersOf, joined}
 use Rattle.model.specs.Wrote.{Wrote}
@@ -24,8 +24,9 @@ use Rattle.program_output.specs.Pieces.{TextDue, Continues}
 use Rattle.program_output.specs.Order.{OrderHas}
 
 -- a group that stands in the order of the whole is a group of the depth
-pub orderHas-inDepth : (k : ℕ) (g : Group) → OrderHas k g → inDepth k g ≡ true
-orderHas-inDepth k g s = all-at (s .before) g (s .behind) (subst (All (λ x. inDepth k x ≡ true)) (s .order) (order-inDepth k))
+pub orderHas-inDepth : (c : Netlist) (k : ℕ) (g : Group) → OrderHas c k g → inDepth (ports c) k g ≡ true
+orderHas-inDepth c k g s =
+    all-at (s .before) g (s .behind) (subst (All (λ x. inDepth (ports c) k x ≡ true)) (s .order) (order-inDepth (ports c) k))
 
 joined-append : (f : Group → List ℤ) (gs hs : List Group) → joined f (gs ++ hs) ≡ joined f gs ++ joined f hs
 unfolding joined
@@ -84,7 +85,7 @@ none-remains [] h = refl
 none-remains (g ∷ gs) h = absurd (subst isThen (sym h) tt)
 
 module _ {c : Netlist} {k : ℕ} {old mid : List ℕ} {bytes : ℕ} {due : Group} (before from : List Group)
-    (order : groupOrder k ≡ before ++ from) (p : SoFar c k old mid bytes (Then due) from) where
+    (order : groupOrder (ports c) k ≡ before ++ from) (p : SoFar c k old mid bytes (Then due) from) where
   rest : Remaining due (p .remaining)
   rest = remaining-begins due (p .remaining) (p .next-remaining)
 
@@ -92,7 +93,7 @@ module _ {c : Netlist} {k : ℕ} {old mid : List ℕ} {bytes : ℕ} {due : Group
   whole = p .in-order ∙ ap (λ (t : List Group). p .printed ++ t) (rest .begins)
 
   -- the group that is next stands in the order of the whole
-  pub orderHas-due : OrderHas k due
+  pub orderHas-due : OrderHas c k due
   orderHas-due =
       record {
         before = before ++ p .printed;
@@ -103,7 +104,7 @@ module _ {c : Netlist} {k : ℕ} {old mid : List ℕ} {bytes : ℕ} {due : Group
   -- its text behind that of the others
   pub one-more : (part : List ℕ) (n : ℕ) (next : Next)
       → Wrote (clauseText (numbersOf c k due)) (midOf bytes (length mid - bytes) mid) part n
-      → ((xs ys : List Group) → groupOrder k ≡ xs ++ due ∷ ys → next ≡ firstGroup ys)
+      → ((xs ys : List Group) → groupOrder (ports c) k ≡ xs ++ due ∷ ys → next ≡ firstGroup ys)
       → SoFar c k old (putMid bytes (length mid - bytes) mid part) (bytes + n) next from
   unfolding orderHas-due
   one-more part n next w follows =
@@ -144,11 +145,12 @@ piece-continues {c} {k} d p =
     }
 
 -- at the start all groups are due
-pub all-due : (c : Netlist) (k : ℕ) (next : Next) → next ≡ firstGroup (groupOrder k) → TextDue c k next (textOf c k (groupOrder k))
-all-due c k next h = record { before = []; groups = groupOrder k; order = refl; next-is = h; text-is = refl }
+pub all-due : (c : Netlist) (k : ℕ) (next : Next) → next ≡ firstGroup (groupOrder (ports c) k)
+    → TextDue c k next (textOf c k (groupOrder (ports c) k))
+all-due c k next h = record { before = []; groups = groupOrder (ports c) k; order = refl; next-is = h; text-is = refl }
 
 -- the group that is next stands in the order of the whole
-pub due-orderHas : {c : Netlist} {k : ℕ} {g : Group} {text : List ℕ} → TextDue c k (Then g) text → OrderHas k g
+pub due-orderHas : {c : Netlist} {k : ℕ} {g : Group} {text : List ℕ} → TextDue c k (Then g) text → OrderHas c k g
 due-orderHas {c} {k} {g} d =
     let first = remaining-begins g (d .groups) (d .next-is) in
     record { before = d .before; behind = first .behind; order = d .order ∙ ap (λ (t : List Group). d .before ++ t) (first .begins) }

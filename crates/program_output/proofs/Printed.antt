@@ -7,7 +7,7 @@ use native.Mathlib.Nat.{mul-le-mul}
 use native.Mathlib.Omega.{arith}
 use lib.ListN.{length, take, drop, length-append}
 use lib.Seq.{drop-at, take-append-seam}
-use Rattle.model.specs.Netlist.{Netlist}
+use Rattle.model.specs.Netlist.{Netlist, ports}
 use Rattle.model.specs.Numbers.{formula}
 use Rattle.model.specs.declared.Group.{Group}
 use Rattle.model.specs.Groups.{groupOrder}
@@ -55,7 +55,7 @@ pub record PrintedSo (whole : List ℕ) (c : Netlist) (k sent : ℕ) (next : Nex
 
 -- behind the header
 pub header-printed : {whole : List ℕ} {c : Netlist} {k sent : ℕ} {next : Next} → whole ≡ formulaHeader c k ++ clauseText (formula c k)
-    → sent ≡ length (formulaHeader c k) → next ≡ firstGroup (groupOrder k) → PrintedSo whole c k sent next
+    → sent ≡ length (formulaHeader c k) → next ≡ firstGroup (groupOrder (ports c) k) → PrintedSo whole c k sent next
 unfolding formula
 header-printed {whole} {c} {k} e h n =
     record { done = formulaHeader c k; due = clauseText (formula c k); whole-is = e; done-sent = sym h; text-due = all-due c k _ n }
@@ -91,10 +91,12 @@ pub all-printed : {whole : List ℕ} {c : Netlist} {k sent : ℕ} → PrintedSo 
 all-printed {whole} p =
     sym (p .done-sent) ∙ ap length (sym (append-nil (p .done)) ∙ ap (λ (t : List ℕ). p .done ++ t) (sym (nothing-due (p .text-due))) ∙ sym (p .whole-is))
 
--- how many groups there are at most: for each of 255 frames 258, and three
-pub first-remaining : (k : ℕ) (next : Next) → k ≤ 255 → next ≡ firstGroup (groupOrder k) → remainingFrom k next ≤ 65793
-first-remaining k next h e =
-    let more : k + 3 ≤ 258 = omega arith in
+-- how many groups there are at most, with two ports or one: for each of 255 frames 513, and four
+pub first-remaining : (ports k : ℕ) (next : Next) → ports ≤ 2 → k ≤ 255 → next ≡ firstGroup (groupOrder ports k) → remainingFrom ports k next ≤ 130819
+first-remaining ports k next p h e =
+    let frames : k + 1 ≤ 256 = omega (arith, h) in
+    let closings : ports * (k + 1) ≤ 2 * 256 = mul-le-mul p frames in
+    let more : ports * (k + 1) + 1 ≤ 513 = omega (arith, closings) in
     let all : k - 0 ≤ 255 = omega (arith, h) in
-    let product : (k - 0) * (k + 3) ≤ 255 * 258 = mul-le-mul all more in
-    rw (e, order-first k) (omega arith)
+    let product : (k - 0) * (ports * (k + 1) + 1) ≤ 255 * 513 = mul-le-mul all more in
+    rw (e, order-first ports k) (omega (arith, product, p))

@@ -21,7 +21,7 @@ use Rattle.program_output.proofs.Pieces.{orderHas-inDepth}
 use Rattle.model.proofs.Stated.{stated}
 
 -- no group's text has more than 71,904 bytes
-pub text-most : (c : Netlist) (k : ℕ) (g : Group) → Accepted c → k ≤ 255 → OrderHas k g → length (clauseText (numbersOf c k g)) ≤ 71904
+pub text-most : (c : Netlist) (k : ℕ) (g : Group) → Accepted c → k ≤ 255 → OrderHas c k g → length (clauseText (numbersOf c k g)) ≤ 71904
 unfolding numbersOf
 text-most c k g a d s =
     let within : AllLits (Within 1 (base c (k + 1))) (clausesOf c k g) =
@@ -31,5 +31,5 @@ text-most c k g a d s =
       arith,
       length-clauseText (all-weaken (λ z h. fits z (omega (arith, h, base-most c (a .limits .sizes) (k + 1) (omega arith)))) numbers),
       stated c a k .numbers-counted g,
-      numbers-most c k g a d (orderHas-inDepth k g s),
+      numbers-most c k g a d (orderHas-inDepth c k g s),
     )

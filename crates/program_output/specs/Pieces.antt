@@ -3,7 +3,7 @@ use Prim.Native.Nat.{ℕ}
 use mathlib.Core.Path.{_≡_}
 use mathlib.Core.List.{List, _++_}
 use lib.ListN.{take}
-use Rattle.model.specs.Netlist.{Netlist}
+use Rattle.model.specs.Netlist.{Netlist, ports}
 use Rattle.model.specs.Groups.{groupOrder}
 use Rattle.model.specs.Numbers.{numbersOf, joined}
 use Rattle.model.specs.declared.Group.{Group}
@@ -16,7 +16,7 @@ use Rattle.program_output.specs.declared.Piece.{Piece}
 pub record TextDue (c : Netlist) (k : ℕ) (next : Next) (text : List ℕ) : Type 0 where
   pub before : List Group
   pub groups : List Group
-  pub order : groupOrder k ≡ before ++ groups
+  pub order : groupOrder (ports c) k ≡ before ++ groups
   pub next-is : next ≡ firstGroup groups
   pub text-is : text ≡ clauseText (joined (numbersOf c k) groups)
 

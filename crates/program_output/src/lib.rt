@@ -7,10 +7,11 @@ ghost use mathlib.Core.Path.{_≡_};
 ghost use mathlib.Core.List.{List};
 ghost use Prim.Native.Nat.{ℕ, _≤_};
 ghost use lib.ListN.{length};
+ghost use Rattle.model.specs.Netlist.{ports};
 ghost use Rattle.model.specs.Acceptance.{Accepted};
 ghost use Rattle.model.specs.Numbers.{numbersOf};
 ghost use Rattle.model.specs.Wrote.{Wrote};
-ghost use Rattle.netlist.specs.NetOf.{netOf};
+ghost use Rattle.netlist.specs.NetOf.{netOf, alone};
 ghost use Rattle.text_writer.specs.Table.{TableOrNone};
 ghost use Rattle.dimacs.specs.Text.{headerText, clauseText};
 ghost use Rattle.group_order.specs.Next.{remainingAfter, remainingFrom};
@@ -61,7 +62,7 @@ fn print_group(
     depth: u32,
     group: Group,
 ) -> usize
-    requires { ⌜ Accepted (netOf net (now latches) (now gates)) × (depth ≤ 255) × OrderHas depth group
+    requires { ⌜ Accepted (netOf net (now latches) (now gates)) × (depth ≤ 255) × OrderHas (netOf net (now latches) (now gates)) depth group
         × TableOrNone (now table) × (5992 ≤ length (now numbers)) × (71904 ≤ length (now text)) ⌝ }
     ensures { λ r. ⌜ Wrote (clauseText (numbersOf (netOf net (now (latches .entry)) (now (gates .entry))) depth group)) (now (text .entry)) (now (text .exit)) r × (r ≤ 71904) ⌝ }
     ensures scratch { λ _. ⌜ length (now (numbers .exit)) ≡ length (now (numbers .entry)) ⌝ }
@@ -82,14 +83,15 @@ pub fn print_groups(
     depth: u32,
     group: Group,
 ) -> Piece
-    requires { ⌜ Accepted (netOf net (now latches) (now gates)) × (depth ≤ 255) × OrderHas depth group
+    requires { ⌜ Accepted (netOf net (now latches) (now gates)) × (depth ≤ 255) × OrderHas (netOf net (now latches) (now gates)) depth group
         × TableOrNone (now table) × (5992 ≤ length (now numbers)) × (71904 ≤ length (now text)) ⌝ }
     ensures text { λ r. ⌜ ((due : List ℕ) → TextDue (netOf net (now (latches .entry)) (now (gates .entry))) depth (Then group) due
         → Continues (netOf net (now (latches .entry)) (now (gates .entry))) depth due (now (text .exit)) r) ⌝ }
-    ensures ends { λ r. ⌜ remainingFrom depth (r .next) ≤ remainingAfter depth group ⌝ }
+    ensures ends { λ r. ⌜ remainingFrom (ports (alone net)) depth (r .next) ≤ remainingAfter (ports (alone net)) depth group ⌝ }
     ensures within { λ r. ⌜ r .bytes ≤ length (now (text .entry)) ⌝ }
     ensures scratch { λ _. ⌜ length (now (numbers .exit)) ≡ length (now (numbers .entry)) ⌝ }
 {
+    let ports = netlist::port_count(net);
     let last = text.len() - 71904;
     let mut bytes = 0;
     let mut next = Next::Then(group);
@@ -108,7 +110,7 @@ pub fn print_groups(
                 depth,
                 due,
             );
-        next = group_order::next_group(depth, due);
+        next = group_order::next_group(ports, depth, due);
     }
     Piece { bytes, next }
 }

@@ -2,9 +2,11 @@
 use Prim.Native.Nat.{ℕ, zero, suc, _+_, _<_}
 use mathlib.Core.Path.{_≡_, refl, sym, _∙_, ap₂}
 use mathlib.Core.Bool.{Bool, true, false, not, _&&_, _||_}
+use native.Mathlib.Nat.{zero-add}
+use native.Mathlib.Omega.{arith}
 use lib.Dec.{eqb}
 use Rattle.model.specs.Search.{anyBelow}
-use Rattle.model.specs.Netlist.{Netlist, readBits, inputWire, readWire}
+use Rattle.model.specs.Netlist.{Netlist, ports, port, readBits, inputWire, readWire}
 use Rattle.model.specs.Circuit.{codeValue, run, stateAt}
 use Rattle.model.specs.Acceptance.{Accepted}
 use Rattle.model.specs.Variables.{base}
@@ -14,7 +16,7 @@ use Rattle.model.proofs.Search.{none-below}
 use Rattle.model.proofs.Booleans.{neither-true}
 use Rattle.circuit_step.proofs.Alike.{InputsAlike, RE-alike}
 use Rattle.circuit_step.proofs.Touched.{any-same}
-use Rattle.replay_frame.specs.Replay.{Said, begunFrom, runFrom, wordSaid, startWords, fills, replayed, fedUnclear, feedFault}
+use Rattle.replay_frame.specs.Replay.{Said, begunFrom, runFrom, wordSaid, startWords, fills, replayed, readUnclear, fedUnclear, feedFault}
 use Rattle.replay_frame.proofs.Filling.{RE-on}
 use Rattle.replay_frame.proofs.SaidAlike.{SaidAlike, RE-said, fills-said, words-alike}
 use Rattle.replay_call.specs.Settled.{FaultsSettled}
@@ -37,8 +39,10 @@ module _ {c : Netlist} (ok : Accepted c) {y z : Said} (same : (v : ℕ) → y .u
       → (t : ℕ) → t < readBits c → y .value (base c i + readWire c t) ≡ z .value (base c i + readWire c t)
   unfolding feedFault fedUnclear
   reads-alike i e r t h =
-      let q = neither-true (anyBelow (c .inputs) (λ x. y .unclear (base c i + inputWire c x))) _ .0 e .1 in
-      clear (base c i + readWire c t) (none-below (λ t. y .unclear (base c i + readWire c t)) (readBits c) .0 (only (rw r at q)) t h)
+      let none = neither-true (anyBelow (c .inputs) (λ x. y .unclear (base c i + inputWire c x))) _ .0 e .1 in
+      let q = none-below (λ x. readUnclear c (y .unclear) i (fills c y i) (replayed c y i) (port c (suc x))) (ports c) .0 none 0 (omega arith) in
+      clear (base c i + readWire c t)
+      (rw (zero-add t) at (none-below (λ t. y .unclear (base c i + readWire c (0 + t))) (c .n) .0 (only (rw r at q)) t h))
     where
       only : {b : Bool} → (true && b) ≡ false → b ≡ false
       only e = e
@@ -69,13 +73,15 @@ module _ {c : Netlist} (ok : Accepted c) {y z : Said} (same : (v : ℕ) → y .u
       let q : SaidAlike c y z i = said-alike i none in
       let words : (x : ℕ) → startWords c y i x ≡ startWords c z i x = words-alike ok i q in
       by-inputs (anyBelow (c .inputs) (λ x. y .unclear (base c i + inputWire c x))) refl
-      (any-same (c .inputs) (λ x h. same (base c i + inputWire c x))) (any-same (readBits c) (λ t h. same (base c i + readWire c t)))
-      (λ e. ap₂ (λ b r. b || (eqb i 0 && not r)) (fills-said ok i q words (inputs-clear i e)) (RE-on ok y i ∙ RE-said ok i q words (inputs-clear i e) ∙ sym (RE-on ok z i)))
+      (any-same (c .inputs) (λ x h. same (base c i + inputWire c x)))
+      (λ e. any-same (ports c) (λ x b.
+      ap₂ _&&_
+      (ap₂ (λ b r. b || (eqb i 0 && not r)) (fills-said ok i q words (inputs-clear i e)) (RE-on ok y i ∙ RE-said ok i q words (inputs-clear i e) ∙ sym (RE-on ok z i)))
+      (any-same (c .n) (λ t h. same (base c i + readWire c (port c (suc x) .firstRead + t))))))
     where
-      by-inputs : {a b reads reads′ r r′ : Bool} (q : Bool) → a ≡ q → a ≡ b → reads ≡ reads′ → (a ≡ false → r ≡ r′)
-          → (a || (r && reads)) ≡ (b || (r′ && reads′))
-      by-inputs true e ab i r = rw (← ab, e)
-      by-inputs false e ab i r = rw (← ab, e, r e, i)
+      by-inputs : {a b r r′ : Bool} (q : Bool) → a ≡ q → a ≡ b → (a ≡ false → r ≡ r′) → (a || r) ≡ (b || r′)
+      by-inputs true e ab r = rw (← ab, e)
+      by-inputs false e ab r = rw (← ab, e, r e)
 
 -- so the first fault is the same
 pub faults-settled : FaultsSettled

@@ -8,7 +8,7 @@ use lib.Dec.{eqb}
 use lib.ListN.{length}
 use lib.IntN.{ℤ}
 use Rattle.model.specs.Search.{firstWhere, IsFirst}
-use Rattle.model.specs.Netlist.{Netlist, readBits, inputWire, readWire, lastWire}
+use Rattle.model.specs.Netlist.{Netlist, ports, port, readBits, inputWire, readWire, lastWire}
 use Rattle.model.specs.Circuit.{codeValue}
 use Rattle.model.specs.Acceptance.{Accepted, IsCode}
 use Rattle.model.specs.Variables.{base}
@@ -92,8 +92,9 @@ module _ {c : Netlist} (ok : Accepted c) (k : ℕ) {y z : Said} (say : SayAlike 
   faults =
       any-same (k + 1) (λ i h.
       ap₂ _||_ (any-same (c .inputs) (λ x l. say .unclear-alike (base c i + inputWire c x) (within i (inputWire c x) (omega arith) (omega arith))))
-      (ap₂ _&&_ (ap₂ (λ b r. b || (eqb i 0 && not r)) (fills-said ok i (said-alike i (omega arith)) (words-alike ok i (said-alike i (omega arith))) (inputs i (omega arith))) (codes i (omega arith) (c .RE) (ok .limits .codes .RE-fits)))
-      (any-same (readBits c) (λ t l. say .unclear-alike (base c i + readWire c t) (within i (readWire c t) (omega arith) (omega arith))))))
+      (any-same (ports c) (λ x b.
+      ap₂ _&&_ (ap₂ (λ b r. b || (eqb i 0 && not r)) (fills-said ok i (said-alike i (omega arith)) (words-alike ok i (said-alike i (omega arith))) (inputs i (omega arith))) (codes i (omega arith) (port c (suc x) .RE) (ok .limits .codes .RE-fits)))
+      (any-same (c .n) (λ t l. say .unclear-alike (base c i + readWire c (port c (suc x) .firstRead + t)) (within i (readWire c (port c (suc x) .firstRead + t)) (omega arith) (omega arith)))))))
 
   first : firstViolation c y k ≡ firstViolation c z k
   unfolding firstViolation violates

@@ -35,10 +35,10 @@ use Rattle.replay_frame.specs.Replay.{Said, begunFrom, runFrom, stateFro
 use Rattle.replay_frame.specs.Frames.{touchedAfter, WordFilled, TouchedIs}
 
 -- every address has a place in the table of touched words
-pub address-small : (c : Netlist) → SizesFit c → (v : Values) → addressOf c (port c) v < 4096
+pub address-small : (c : Netlist) → SizesFit c → (v : Values) → addressOf c (port c 1) v < 4096
 address-small c sizes v =
     let most : 2 ^ c .m ≤ 2 ^ 12 = pow-mono {i = c .m} {j = 12} (sizes .m-most) in
-    omega (arith, most, address-below c (port c) v)
+    omega (arith, most, address-below c (port c 1) v)
 
 -- where the start is given, nothing is filled
 pub none-filled : {c : Netlist} {touched inputs latches : List Bool} {word : ℕ} {memory : List ℕ} → c .unknownStart ≡ 0
@@ -48,8 +48,8 @@ none-filled {c} e = record { fills-is = rw (given-is-known (c .initialWord) (c .
 -- where it is unknown, by the table of the first pass
 pub filled-by : {c : Netlist} → WithinLimits c → {inputs latches table : List Bool} → HasBelow (lastWire c + 1) (evaluate c (entry inputs) (entry latches) (bit 0)) table
     → (c .unknownStart ≡ 0 → ⊥) → {touched : List Bool} {word : ℕ} {memory memory′ : List ℕ} {r : Bool}
-    → r ≡ (codeValue (entry table) (c .RE) && not (entry touched (addressOf c (port c) (entry table))))
-    → memory′ ≡ cond r (set memory (addressOf c (port c) (entry table)) word) memory
+    → r ≡ (codeValue (entry table) (c .RE) && not (entry touched (addressOf c (port c 1) (entry table))))
+    → memory′ ≡ cond r (set memory (addressOf c (port c 1) (entry table)) word) memory
     → WordFilled c touched inputs latches word memory memory′ r
 filled-by {c} limits {inputs} {latches} {table} q u {touched} {word} {memory} e m =
     record {
@@ -66,8 +66,8 @@ filled-lists r latches gates {touched} {inputs} {state} {word} {memory} {b = b} 
     let same : evaluate (netOf r [] gates) (entry inputs) (entry state) (bit 0) ≡ evaluate c (entry inputs) (entry state) (bit 0)
     = fun-ext (evaluate-lists r latches gates (entry inputs) (entry state) (bit 0)) in
     record {
-      fills-is = q .fills-is ∙ ap (λ v. isUnknown (start c) && (codeValue v (c .RE) && not (entry touched (addressOf c (port c) v)))) same;
-      memory-is = q .memory-is ∙ ap (λ v. cond b (set memory (addressOf c (port c) v) word) memory) same;
+      fills-is = q .fills-is ∙ ap (λ v. isUnknown (start c) && (codeValue v (c .RE) && not (entry touched (addressOf c (port c 1) v)))) same;
+      memory-is = q .memory-is ∙ ap (λ v. cond b (set memory (addressOf c (port c 1) v) word) memory) same;
     }
 
 -- the last of three conditions that hold is that something does not
@@ -140,7 +140,7 @@ module _ {c : Netlist} (ok : Accepted c) (y : Said) (i : ℕ) where
   unfolding run
   RE-on = RE-alike ok (stateFrom c y (startWords c y (suc i)) i) (replayedState c y i) (feedOf c (y .value) i) (feedOf c (y .value) i) latches-on (λ x h. refl)
 
-  pub address-on : addressOf c (port c) (replayed c y i) ≡ addressFrom c y (startWords c y i) i
+  pub address-on : addressOf c (port c 1) (replayed c y i) ≡ addressFrom c y (startWords c y i) i
   unfolding run
   address-on = address-alike ok (stateFrom c y (startWords c y (suc i)) i) (replayedState c y i) (feedOf c (y .value) i) (feedOf c (y .value) i) latches-on (λ x h. refl)
 
@@ -155,10 +155,10 @@ module _ {c : Netlist} (ok : Accepted c) (y : Said) (i : ℕ) where
         (first-alike (ok .limits) held fed (c .RE / 2) (omega (arith, ok .limits .codes .RE-fits)))
         ∙ RE-settled ok (replayedState c y i) (feedOf c (y .value) i)
 
-    address-is : addressOf c (port c) (evaluate c (entry inputs) (entry latches) (bit 0)) ≡ addressFrom c y (startWords c y i) i
+    address-is : addressOf c (port c 1) (evaluate c (entry inputs) (entry latches) (bit 0)) ≡ addressFrom c y (startWords c y i) i
     unfolding run
     address-is =
-        address-same c (port c) (evaluate c (entry inputs) (entry latches) (bit 0)) (firstPass c (replayedState c y i) (feedOf c (y .value) i))
+        address-same c (port c 1) (evaluate c (entry inputs) (entry latches) (bit 0)) (firstPass c (replayedState c y i) (feedOf c (y .value) i))
         (λ t h. code-same (evaluate c (entry inputs) (entry latches) (bit 0)) (firstPass c (replayedState c y i) (feedOf c (y .value) i)) (c .address t)
         (first-alike (ok .limits) held fed (c .address t / 2) (omega (arith, ok .limits .codes .address-fits t h))))
         ∙ address-settled ok (replayedState c y i) (feedOf c (y .value) i)
@@ -170,7 +170,7 @@ module _ {c : Netlist} (ok : Accepted c) (y : Said) (i : ℕ) where
         q .fills-is
         ∙ ap (λ b. isUnknown (start c) && b)
         (ap₂ (λ b t. b && not t) RE-is
-        (ap (entry touched) address-is ∙ marks .has _ (address-below c (port c) (runFrom c y (startWords c y i) i))))
+        (ap (entry touched) address-is ∙ marks .has _ (address-below c (port c 1) (runFrom c y (startWords c y i) i))))
 
     memory-filled : memory′ ≡ cond (fills c y i) (set memory (addressFrom c y (startWords c y i) i) (wordSaid c y i)) memory
     memory-filled = q .memory-is ∙ ap₂ (λ b a. cond b (set memory a (wordSaid c y i)) memory) filled-is address-is
@@ -189,7 +189,7 @@ module _ {c : Netlist} (ok : Accepted c) (y : Said) (i : ℕ) where
               memory-size = omega (arith, held .memory-size, length-set memory (addressFrom c y (startWords c y i) i) (wordSaid c y i));
               memory-held = λ x h.
                   by-cases (ℕ-discrete x (addressFrom c y (startWords c y i) i))
-                  (λ at. rw (eq-eqb x _ at, at) (getD-set-same memory (addressFrom c y (startWords c y i) i) (wordSaid c y i) 0 (omega (arith, held .memory-size, address-below c (port c) (runFrom c y (startWords c y i) i)))))
+                  (λ at. rw (eq-eqb x _ at, at) (getD-set-same memory (addressFrom c y (startWords c y i) i) (wordSaid c y i) 0 (omega (arith, held .memory-size, address-below c (port c 1) (runFrom c y (startWords c y i) i)))))
                   (λ at. rw (ne-eqb x _ at) (getD-set-other memory (addressFrom c y (startWords c y i) i) x (wordSaid c y i) 0 at ∙ held .memory-held x h));
               word-held = held .word-held;
             })
@@ -198,7 +198,7 @@ module _ {c : Netlist} (ok : Accepted c) (y : Said) (i : ℕ) where
     filled-behind = ap (drop (2 ^ c .m)) memory-filled ∙ by (fills c y i)
       where
         by : (b : Bool) → drop (2 ^ c .m) (cond b (set memory (addressFrom c y (startWords c y i) i) (wordSaid c y i)) memory) ≡ drop (2 ^ c .m) memory
-        by true = drop-set-lt (2 ^ c .m) memory _ (wordSaid c y i) (address-below c (port c) (runFrom c y (startWords c y i) i))
+        by true = drop-set-lt (2 ^ c .m) memory _ (wordSaid c y i) (address-below c (port c 1) (runFrom c y (startWords c y i) i))
         by false = refl
 
   -- the table of touched words after the frame
@@ -214,25 +214,25 @@ module _ {c : Netlist} (ok : Accepted c) (y : Said) (i : ℕ) where
             ∙ ap (λ b. b || touches c (replayed c y i) x) (marks .has x h ∙ sym (touched-on x)));
       })
     where
-      length-of : (b : Bool) → length (cond b (set touched (addressOf c (port c) (replayed c y i)) true) touched) ≡ length touched
+      length-of : (b : Bool) → length (cond b (set touched (addressOf c (port c 1) (replayed c y i)) true) touched) ≡ length touched
       length-of true = length-set touched _ true
       length-of false = refl
 
-      there : (b : Bool) → entry (cond b (set touched (addressOf c (port c) (replayed c y i)) true) touched) (addressOf c (port c) (replayed c y i))
-          ≡ (entry touched (addressOf c (port c) (replayed c y i)) || b)
+      there : (b : Bool) → entry (cond b (set touched (addressOf c (port c 1) (replayed c y i)) true) touched) (addressOf c (port c 1) (replayed c y i))
+          ≡ (entry touched (addressOf c (port c 1) (replayed c y i)) || b)
       there true =
-          getD-set-same touched (addressOf c (port c) (replayed c y i)) true false (omega (arith, marks .size, address-small c (ok .limits .sizes) (replayed c y i)))
-          ∙ sym (or-true (entry touched (addressOf c (port c) (replayed c y i))) true .1 (inr refl))
+          getD-set-same touched (addressOf c (port c 1) (replayed c y i)) true false (omega (arith, marks .size, address-small c (ok .limits .sizes) (replayed c y i)))
+          ∙ sym (or-true (entry touched (addressOf c (port c 1) (replayed c y i))) true .1 (inr refl))
       there false = sym (or-false _)
 
-      elsewhere : (x : ℕ) → (x ≡ addressOf c (port c) (replayed c y i) → ⊥) → (b : Bool)
-          → entry (cond b (set touched (addressOf c (port c) (replayed c y i)) true) touched) x ≡ entry touched x
-      elsewhere x e true = getD-set-other touched (addressOf c (port c) (replayed c y i)) x true false e
+      elsewhere : (x : ℕ) → (x ≡ addressOf c (port c 1) (replayed c y i) → ⊥) → (b : Bool)
+          → entry (cond b (set touched (addressOf c (port c 1) (replayed c y i)) true) touched) x ≡ entry touched x
+      elsewhere x e true = getD-set-other touched (addressOf c (port c 1) (replayed c y i)) x true false e
       elsewhere x e false = refl
 
-      at : (x : ℕ) (b : Bool) → entry (cond b (set touched (addressOf c (port c) (replayed c y i)) true) touched) x
-          ≡ (entry touched x || (eqb x (addressOf c (port c) (replayed c y i)) && b))
+      at : (x : ℕ) (b : Bool) → entry (cond b (set touched (addressOf c (port c 1) (replayed c y i)) true) touched) x
+          ≡ (entry touched x || (eqb x (addressOf c (port c 1) (replayed c y i)) && b))
       at x b =
-          by-cases (ℕ-discrete x (addressOf c (port c) (replayed c y i)))
+          by-cases (ℕ-discrete x (addressOf c (port c 1) (replayed c y i)))
           (λ e. rw (eq-eqb x _ e, e) (there b))
           (λ e. rw (ne-eqb x _ e) (elsewhere x e b ∙ sym (or-false (entry touched x))))

@@ -77,7 +77,7 @@ module _ {c : Netlist} (ok : Accepted c) (y : Said) where
       (ap₂ (λ b t. b && not t)
       (ap (λ v. codeValue v (c .RE)) same ∙ RE-on ok y i)
       (touched-from i n (omega arith) (addressFrom c y (startWords c y n) i)
-      ∙ ap (touchedFrom c y (startWords c y i) i) (ap (addressOf c (port c)) same ∙ address-on ok y i)))
+      ∙ ap (touchedFrom c y (startWords c y i) i) (ap (addressOf c (port c 1)) same ∙ address-on ok y i)))
 
   -- a frame that fills a word reads what is said
   reads-said : (i : ℕ) → fills c y i ≡ true → (t : ℕ) → t < readBits c → replayed c y i (readWire c t) ≡ y .value (base c i + readWire c t)
@@ -116,4 +116,4 @@ one-run c ok y k =
     }
 
 pub room-enough : RoomTheorem
-room-enough c ok s f i = (address-below c (port c) (run c s f i), λ starts. word-below c ok s starts f i)
+room-enough c ok s f i = ((λ p is. address-below c (port c p) (run c s f i)), λ starts. word-below c ok s starts f i)

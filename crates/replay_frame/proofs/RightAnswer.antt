@@ -159,7 +159,7 @@ module _ {c : Netlist} (ok : Accepted c) (y : Said) (k : ℕ) (free : isUnknown 
           latches-same = ap (λ v l. codeValue v (c .next l)) same-frame;
           held-same = ap (λ v t. v (readWire c t)) same-frame;
           touched-same = λ x h.
-              ap (λ v. cond (codeValue v (c .WE) && eqb x (addressOf c (port c) v)) (wordWritten c v) (filled .memory x)) same-frame
+              ap (λ v. cond (codeValue v (c .WE) && eqb x (addressOf c (port c 1) v)) (wordWritten c v) (filled .memory x)) same-frame
               ∙ cond-same (codeValue (runFrom c y memory i) (c .WE) && eqb x at) (λ e. refl) (λ e. touched-now x e h);
           others-kept = λ x none.
               let e = neither-true (touchedFrom c y (startWords c y (suc i)) i x) (touches c (replayed c y i) x) .0 none in

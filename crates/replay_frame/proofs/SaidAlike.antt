@@ -51,7 +51,7 @@ module _ {c : Netlist} (ok : Accepted c) {y z : Said} where
         let code : (a : ℕ) → IsCode c a → codeValue (runFrom c y (startWords c y i) j) a ≡ codeValue (runFrom c z (startWords c z i) j) a
         = λ a b. code-same (runFrom c y (startWords c y i) j) (runFrom c z (startWords c z i) j) a (runs-before j h (a / 2) (omega arith)) in
         ap₂ (λ a b. eqb x a && b)
-        (address-same c (port c) (runFrom c y (startWords c y i) j) (runFrom c z (startWords c z i) j) (λ t b. code (c .address t) (ok .limits .codes .address-fits t b)))
+        (address-same c (port c 1) (runFrom c y (startWords c y i) j) (runFrom c z (startWords c z i) j) (λ t b. code (c .address t) (ok .limits .codes .address-fits t b)))
         (ap₂ _||_ (code (c .RE) (ok .limits .codes .RE-fits)) (code (c .WE) (ok .limits .codes .WE-fits))))
 
   -- the latches in which frame i begins

@@ -16,13 +16,13 @@ use Rattle.replay_frame.specs.declared.FrameVerdict.{FrameVerdict}
 
 -- the table of the words that are touched, after a frame with the values v
 unfoldable pub touchedAfter : Netlist → Values → List Bool → List Bool
-touchedAfter c v touched = cond (codeValue v (c .RE) || codeValue v (c .WE)) (set touched (addressOf c (port c) v) true) touched
+touchedAfter c v touched = cond (codeValue v (c .RE) || codeValue v (c .WE)) (set touched (addressOf c (port c 1) v) true) touched
 
 -- by the first pass of a frame and the table of the words that are touched: whether the frame fills a word, and the memory then
 pub record WordFilled (c : Netlist) (touched inputs latches : List Bool) (word : ℕ) (memory memory′ : List ℕ) (r : Bool) : Type 0 where
   pub fills-is : r ≡ (isUnknown (start c) && (codeValue (evaluate c (entry inputs) (entry latches) (bit 0)) (c .RE)
-      && not (entry touched (addressOf c (port c) (evaluate c (entry inputs) (entry latches) (bit 0))))))
-  pub memory-is : memory′ ≡ cond r (set memory (addressOf c (port c) (evaluate c (entry inputs) (entry latches) (bit 0))) word) memory
+      && not (entry touched (addressOf c (port c 1) (evaluate c (entry inputs) (entry latches) (bit 0))))))
+  pub memory-is : memory′ ≡ cond r (set memory (addressOf c (port c 1) (evaluate c (entry inputs) (entry latches) (bit 0))) word) memory
 
 -- the table has the words that the frames before i have touched
 pub record TouchedIs (c : Netlist) (y : Said) (i : ℕ) (touched : List Bool) : Type 0 where

@@ -9,7 +9,7 @@ use lib.Dec.{eqb}
 use Rattle.model.specs.Search.{anyBelow, firstWhere}
 use Rattle.model.specs.Gather.{gather}
 use Rattle.model.specs.Bits.{fromBits}
-use Rattle.model.specs.Netlist.{Netlist, isUnknown, start, port, readBits, inputWire, readWire, lastWire}
+use Rattle.model.specs.Netlist.{Netlist, isUnknown, start, Port, ports, IsPort, port, readBits, inputWire, readWire, lastWire}
 use Rattle.model.specs.Circuit.{Values, codeValue, State, Feeds, addressOf, stateAt, run, Starts}
 use Rattle.model.specs.Acceptance.{Accepted}
 use Rattle.model.specs.Agree.{givenWord}
@@ -42,7 +42,7 @@ abbrev pub stateFrom : Netlist → Said → (ℕ → ℕ) → ℕ → State
 stateFrom c y words = stateAt c (begunFrom c y words) (feedOf c (y .value))
 
 abbrev pub addressFrom : Netlist → Said → (ℕ → ℕ) → ℕ → ℕ
-addressFrom c y words i = addressOf c (port c) (runFrom c y words i)
+addressFrom c y words i = addressOf c (port c 1) (runFrom c y words i)
 
 abbrev pub touchedFrom : Netlist → Said → (ℕ → ℕ) → ℕ → ℕ → Bool
 touchedFrom c y words = touchedBefore c (begunFrom c y words) (feedOf c (y .value))
@@ -50,11 +50,11 @@ touchedFrom c y words = touchedBefore c (begunFrom c y words) (feedOf c (y .valu
 -- frame i of that run reads a word of an unknown start: one that no frame before it reads or writes (RULES Y12)
 unfoldable pub fillsFrom : Netlist → Said → (ℕ → ℕ) → ℕ → Bool
 fillsFrom c y words i =
-    isUnknown (start c) && (codeValue (runFrom c y words i) (port c .RE) && not (touchedFrom c y words i (addressFrom c y words i)))
+    isUnknown (start c) && (codeValue (runFrom c y words i) (port c 1 .RE) && not (touchedFrom c y words i (addressFrom c y words i)))
 
--- the word of the read bits that are said of frame i
+-- the word of n read bits that is said of frame i: an unknown start has one port
 unfoldable pub wordSaid : Netlist → Said → ℕ → ℕ
-wordSaid c y i = fromBits (readBits c) (λ t. y .value (base c i + readWire c t))
+wordSaid c y i = fromBits (c .n) (λ t. y .value (base c i + readWire c t))
 
 -- The memory that the replay begins with, as far as its first i frames tell: the given word or, where the start is unknown, 0 but for what
 -- they fill. A frame that reads a word of an unknown start fills it with the read bits that are said of it (RULES Y12)
@@ -95,14 +95,18 @@ OneRunTheorem = (c : Netlist) → Accepted c → (y : Said) (k : ℕ) → OneRun
 -- `marrubigai_replay`, to which 2^m words are lent; the proof is in proofs/OneRun.antt
 abbrev pub RoomTheorem : Type 0
 RoomTheorem = (c : Netlist) → Accepted c → (s : State) (f : Feeds) (i : ℕ)
-    → (addressOf c (port c) (run c s f i) < 2 ^ c .m) × (Starts c s → (x : ℕ) → stateAt c s f i .memory x < 2 ^ c .n)
+    → ((p : ℕ) → IsPort c p → addressOf c (port c p) (run c s f i) < 2 ^ c .m) × (Starts c s → (x : ℕ) → stateAt c s f i .memory x < 2 ^ c .n)
 
--- RULES Y13: an input of frame i is unclear; or a read bit where RE is false in frame 0, with the values v of the frame that is stepped, or
--- where the frame fills a word
+-- RULES Y13: an input of frame i is unclear; or a port's read bit where its RE is false in frame 0, with the values v of the frame that is
+-- stepped, or where the frame fills a word
+abbrev pub readUnclear : Netlist → (ℕ → Bool) → ℕ → Bool → Values → Port → Bool
+readUnclear c unclear i filled v p =
+    (filled || (eqb i 0 && not (codeValue v (p .RE)))) && anyBelow (c .n) (λ t. unclear (base c i + readWire c (p .firstRead + t)))
+
 unfoldable pub fedUnclear : Netlist → (ℕ → Bool) → ℕ → Bool → Values → Bool
 fedUnclear c unclear i filled v =
     anyBelow (c .inputs) (λ x. unclear (base c i + inputWire c x))
-    || ((filled || (eqb i 0 && not (codeValue v (port c .RE)))) && anyBelow (readBits c) (λ t. unclear (base c i + readWire c t)))
+    || anyBelow (ports c) (λ x. readUnclear c unclear i filled v (port c (suc x)))
 
 unfoldable pub feedFault : Netlist → Said → ℕ → Bool
 feedFault c y i = fedUnclear c (y .unclear) i (fills c y i) (replayed c y i)

@@ -126,7 +126,7 @@ pub fn idle_word(net: Netlist, signs: &SignTable) -> u32
 fn reads_untouched(values: &WireValues, touched: &TouchedWords, net: Netlist) -> bool
     requires { ⌜ WithinLimits (alone net) × (length (now touched) ≡ 4096) ⌝ }
     ensures { λ r. ⌜ r ≡ (codeValue (entry (now (values .entry))) (alone net .RE)
-        && not (entry (now (touched .entry)) (addressOf (alone net) (port (alone net)) (entry (now (values .entry)))))) ⌝ }
+        && not (entry (now (touched .entry)) (addressOf (alone net) (port (alone net) 1) (entry (now (values .entry)))))) ⌝ }
 {
     if circuit_values::code_value(values, net.re) {
         let address = circuit_values::address_of(values, net);

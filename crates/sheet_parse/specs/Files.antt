@@ -40,9 +40,10 @@ emptyThird (Read k x y z e) = e
 -- the sizes in lines N and M, with no codes
 unfoldable pub sizesIn : List ℕ → Netlist
 sizesIn file =
-    withoutCodes (firstNumber (lineIn file sizesLine)) (secondNumber (lineIn file sizesLine)) (thirdNumber (lineIn file sizesLine))
-    (firstNumber (lineIn file memoryLine)) (secondNumber (lineIn file memoryLine)) (thirdNumber (lineIn file memoryLine))
-    (emptyThird (lineIn file memoryLine))
+    let sizes = lineIn file sizesLine in
+    let memory = lineIn file memoryLine in
+    withoutCodes
+    (record { inputs = firstNumber sizes; latches = secondNumber sizes; gates = thirdNumber sizes; m = firstNumber memory; n = secondNumber memory; initialWord = thirdNumber memory; unknownStart = emptyThird memory })
 
 -- the netlist whose numbers stand in the given lines, at the places that the sizes s have
 unfoldable pub netOfLines : Netlist → (ℕ → ParsedLine) → Netlist

@@ -19,8 +19,8 @@ use Rattle.netlist.specs.Faults.{codeFault}
 use Rattle.netlist.specs.declared.Netlist.{Netlist}
 use Rattle.netlist.proofs.Places.{every-place}
 use Rattle.netlist.proofs.Faults.{Without, codes-fit}
-use Rattle.netlist_tests.specs.Record.{testPort, listsShort}
-use Rattle.netlist_tests.proofs.Acceptance.{lists-long, port-passes}
+use Rattle.netlist_tests.specs.Record.{testPorts, listsShort}
+use Rattle.netlist_tests.proofs.Acceptance.{lists-long, ports-pass}
 use Rattle.sheet_steps.specs.Lists.{Holds}
 use Rattle.sheet_steps.proofs.Records.{holds}
 use Rattle.sheet_parse.specs.Files.{lineCount, netIn}
@@ -37,11 +37,11 @@ module _ (file : List ℕ) (passed : fileVerdict file ≡ Passed) where
       (then-passes (refuseIf (ragged file) Ragged 0)
       (inOrder (testLineIn (netIn file) file) (lineCount file) then endVerdict (netIn file) (lineCount file)) .0 passed .1) .0
 
-  pub end-passes : (controlLine (netIn file) ≤ lineCount file) × (testPort (netIn file) ≡ Passed)
+  pub end-passes : (controlLine (netIn file) ≤ lineCount file) × (testPorts (netIn file) ≡ Passed)
   unfolding fileVerdict endVerdict _then_
   end-passes =
       let missing = refuseIf (ltb (lineCount file) (controlLine (netIn file))) OutOfOrder (lineCount file + 1) in
-      let port = testPort (netIn file) in
+      let port = testPorts (netIn file) in
       let lines = inOrder (testLineIn (netIn file) file) (lineCount file) in
       let end = then-passes lines (missing then port) .0
       (then-passes (refuseIf (ragged file) Ragged 0) (lines then missing then port) .0 passed .1) .1 in
@@ -63,8 +63,8 @@ module _ (file : List ℕ) (passed : fileVerdict file ≡ Passed) where
                   (every-place (netIn file) (Without codeFault (netIn file)) .1
                   (λ p l b. line-passed file (lineCount file) lines-pass p l (omega arith) .code));
             };
-        noTie = port-passes (netIn file) .0 (end-passes .1) .0;
-        noLoop = port-passes (netIn file) .0 (end-passes .1) .1;
+        noTie = ports-pass (netIn file) .0 (end-passes .1) .0;
+        noLoop = ports-pass (netIn file) .0 (end-passes .1) .1;
       }
 
 -- the list sizes in a record

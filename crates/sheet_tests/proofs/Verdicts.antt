@@ -11,9 +11,9 @@ use Rattle.refusals.specs.declared.Verdict.the-variants.{Passed, Refused}
 use Rattle.model.specs.Netlist as M
 use Rattle.netlist.specs.NetOf.{netOf}
 use Rattle.netlist.specs.Places.{controlLine}
-use Rattle.netlist_tests.specs.Record.{testPort}
+use Rattle.netlist_tests.specs.Record.{testPorts}
 use Rattle.netlist.specs.declared.Netlist.{Netlist}
-use Rattle.netlist_tests.proofs.Lists.{test-port-latches}
+use Rattle.netlist_tests.proofs.Lists.{test-ports-latches}
 use Rattle.sheet_parse.specs.Files.{lineCount, netIn}
 use Rattle.sheet_parse.specs.FileTests.{ragged, testLineIn}
 use Rattle.sheet_tests.specs.Sheet.{endVerdict, fileVerdict}
@@ -23,14 +23,14 @@ pub end-missing : (c : M.Netlist) (count : ℕ) → count < controlLine c → en
 unfolding endVerdict _then_
 end-missing c count h = rw (lt-ltb count (controlLine c) h)
 
-pub end-whole : (c : M.Netlist) (count : ℕ) → controlLine c ≤ count → endVerdict c count ≡ testPort c
+pub end-whole : (c : M.Netlist) (count : ℕ) → controlLine c ≤ count → endVerdict c count ≡ testPorts c
 unfolding endVerdict _then_
 end-whole c count h = rw (le-ltb count (controlLine c) h)
 
 -- the latches have no part in it
 pub end-latches : (r : Netlist) (latches gates : List ℕ) (count : ℕ) → endVerdict (netOf r [] gates) count ≡ endVerdict (netOf r latches gates) count
 unfolding endVerdict netOf _then_
-end-latches r latches gates count = rw (test-port-latches r latches gates)
+end-latches r latches gates count = rw (test-ports-latches r latches gates)
 
 -- the file is ragged, or a line is refused, or all lines pass
 module _ (file : List ℕ) where

@@ -9,7 +9,7 @@ use Rattle.refusals.specs.Tests.{refuseIf, _then_, inOrder}
 use Rattle.refusals.specs.declared.Refusal.the-variants.{Ragged, OutOfOrder, NoRoom}
 use Rattle.refusals.specs.declared.Verdict.{Verdict}
 use Rattle.netlist.specs.Places.{controlLine}
-use Rattle.netlist_tests.specs.Record.{listsShort, testPort}
+use Rattle.netlist_tests.specs.Record.{listsShort, testPorts}
 use Rattle.sheet_parse.specs.Files.{lineCount, netIn}
 use Rattle.sheet_parse.specs.FileTests.{ragged, testLineIn}
 
@@ -17,7 +17,7 @@ use Rattle.sheet_parse.specs.FileTests.{ragged, testLineIn}
 unfoldable pub endVerdict : Netlist → ℕ → Verdict
 endVerdict c count =
     refuseIf (ltb count (controlLine c)) OutOfOrder (count + 1)
-    then testPort c
+    then testPorts c
 
 -- RULES T53: "for 1. Then line by line, .."; the tests of what the file says
 unfoldable pub fileVerdict : List ℕ → Verdict

@@ -34,7 +34,7 @@ fn test_end(net: Netlist, gates: &UnpackedList, count: u32) -> Verdict
     if count < netlist::control_line(net) {
         return Verdict::Refused(Refusal::OutOfOrder, count + 1);
     }
-    netlist_tests::test_port(net, gates)
+    netlist_tests::test_ports(net, gates)
 }
 
 // The tests of a file, read into lists of no codes. Where it passes, its codes are in the lists and the rest in the record; after a

@@ -18,7 +18,7 @@ use Rattle.netlist.specs.Places.{controlLine, lineAt}
 use Rattle.netlist.specs.Faults.{sizeFault, codeFault}
 use Rattle.netlist.proofs.Places.{every-place}
 use Rattle.netlist.proofs.Faults.{Without, sizes-fit, codes-fit}
-use Rattle.netlist_tests.proofs.Acceptance.{lists-long, port-passes}
+use Rattle.netlist_tests.proofs.Acceptance.{lists-long, ports-pass}
 use Rattle.sheet_steps.specs.LineFaults.{faultsAt}
 use Rattle.sheet_steps.proofs.Places.{lineAt-known}
 use Rattle.sheet_parse.specs.Files.{lineCount, netIn}
@@ -95,7 +95,7 @@ module _ (c : Netlist) (accepted : Accepted c) where
   end-passes : endVerdict read (lineCount file) ≡ Passed
   end-passes =
       end-whole read (lineCount file) (rw (count, ends) (omega arith))
-      ∙ port-passes read .1 (read-accepted .noTie, read-accepted .noLoop)
+      ∙ ports-pass read .1 (read-accepted .noTie, read-accepted .noLoop)
 
   file-passes : fileVerdict file ≡ Passed
   file-passes = file-lines file not-ragged lines-pass ∙ end-passes

@@ -5,7 +5,7 @@ use Rattle.refusals.specs.declared.Refusal.the-variants.{Size}
 use Rattle.refusals.specs.declared.Verdict.the-variants.{Passed}
 use Rattle.netlist.specs.RecordOf.{recordOf}
 use Rattle.netlist.specs.Faults.{sizeFault}
-use Rattle.netlist_tests.specs.Record.{testLines, testPort}
+use Rattle.netlist_tests.specs.Record.{testLines, testPorts}
 use Rattle.sheet_steps.specs.Lists.{Holds}
 use Rattle.sheet_steps.proofs.Records.{outcome-refused, outcome-passed}
 use Rattle.aiger_netlist.specs.TextNetlist.{textSizes, aagNet}
@@ -53,14 +53,14 @@ net-held c =
     (text-passed (c .before .before .before .before .before .before .before)) (sizes-passed (c .before .before .before)) _ _ _ (c .fill .ensures)
 
 -- and its port is tested
-port-judged : (c : tie.After-test-port) →
-    let a = c .before .before .before .before .before .before .before .before .before .before .before .before .before .before .before .args in testPort (aagNet (a .text .now) (a .m) (a .n) (importedWord (a .word) (a .unknown)) (a .unknown)) ≡ c .test-port .result
+port-judged : (c : tie.After-test-ports) →
+    let a = c .before .before .before .before .before .before .before .before .before .before .before .before .before .before .before .args in testPorts (aagNet (a .text .now) (a .m) (a .n) (importedWord (a .word) (a .unknown)) (a .unknown)) ≡ c .test-ports .result
 port-judged c =
     let a = c .before .before .before .before .before .before .before .before .before .before .before .before .before .before .before .args in
     let header = c .before .before .before .before .before .before .before .before .before .before .before .before .read-header in
     let sizes = c .before .before .before .before .before .before .before .before in
     port-tested (a .text .now) (a .m) (a .n) (importedWord (a .word) (a .unknown)) (a .unknown) (header .result .counts) (header .ensures .counts-are) (sizes .text-sizes .result) (sizes-are sizes)
-    (text-passed (c .before .before .before .before .before .before .before .before .before)) (sizes-passed (c .before .before .before .before .before)) _ _ _ (c .before .before .fill .ensures) (c .test-port .ensures)
+    (text-passed (c .before .before .before .before .before .before .before .before .before)) (sizes-passed (c .before .before .before .before .before)) _ _ _ (c .before .before .fill .ensures) (c .test-ports .ensures)
 
 given-word-requires : tie.Need-given-word-requires
 given-word-requires c κs = search needs
@@ -127,8 +127,8 @@ fill-requires c κs =
       start .pre .1,
     )
 
-test-port-requires : tie.Need-test-port-requires
-test-port-requires c κs =
+test-ports-requires : tie.Need-test-ports-requires
+test-ports-requires c κs =
     let a = c .before .before .before .before .before .before .before .before .before .before .before .before .before .before .args in
     let header = c .before .before .before .before .before .before .before .before .before .before .before .read-header in
     let sizes = c .before .before .before .before .before .before .before in
@@ -208,7 +208,7 @@ import-text-spec =
     returns-2
     enum-told-2
     fill-requires
-    test-port-requires
+    test-ports-requires
     enum-known-port
     refused-requires-3
     returns-3

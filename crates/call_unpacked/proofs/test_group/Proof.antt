@@ -23,10 +23,13 @@ unfolding _then_
 returns c =
     let refused = c .enum-told .given .1 in
     let a = c .before .before .before .args in
-    rw refused (sym (depth-more _ _ _ _ (testGroup (a .depth) (a .group)) (sym refused ∙ c .before .before .test-depth .ensures)))
+    rw refused (sym (depth-more _ _ _ _ (testGroup (netOf (a .net) (a .latches .now) (a .gates .now)) (a .depth) (a .group)) (sym refused ∙ c .before .before .test-depth .ensures)))
 
 enum-told-2 : tie.Need-enum-told-2
 enum-told-2 c = search needs
+
+port-count-requires : tie.Need-port-count-requires
+port-count-requires c κs = search needs
 
 is-in-depth-requires : tie.Need-is-in-depth-requires
 is-in-depth-requires c κs = search needs
@@ -34,29 +37,31 @@ is-in-depth-requires c κs = search needs
 -- the record and the depth have passed their tests
 asked : (c : tie.After-enum-told2) →
     let a = c .before .before .before .args in
-    testGroup (a .depth) (a .group)
+    testGroup (netOf (a .net) (a .latches .now) (a .gates .now)) (a .depth) (a .group)
     ≡ recordVerdict (netOf (a .net) (a .latches .now) (a .gates .now)) (a .latch-count) (a .gate-count) then testDepth (a .depth)
-    then testGroup (a .depth) (a .group)
+    then testGroup (netOf (a .net) (a .latches .now) (a .gates .now)) (a .depth) (a .group)
 unfolding _then_
 asked c =
     let a = c .before .before .before .args in
-    sym (depth-more _ _ _ _ (testGroup (a .depth) (a .group))
+    sym (depth-more _ _ _ _ (testGroup (netOf (a .net) (a .latches .now) (a .gates .now)) (a .depth) (a .group))
     (sym (c .enum-told2 .given .1) ∙ c .before .before .test-depth .ensures))
 
 returns-2 : tie.Need-returns-2
 unfolding testGroup
 returns-2 c =
-    let a = c .before .before .before .before .before .args in
-    let e : testGroup (a .depth) (a .group) ≡ Refused NoSuchGroup 0 = rw (sym (c .before .is-in-depth .ensures) ∙ not-true _ (c .if1 .taken)) in
-    sym e ∙ asked (c .before .before)
+    let a = c .before .before .before .before .before .before .args in
+    let there = rw (c .before .before .port-count .ensures) at (c .before .is-in-depth .ensures) in
+    let e : testGroup (netOf (a .net) (a .latches .now) (a .gates .now)) (a .depth) (a .group) ≡ Refused NoSuchGroup 0 = rw (sym there ∙ not-true _ (c .if1 .taken)) in
+    sym e ∙ asked (c .before .before .before)
 
 returns-3 : tie.Need-returns-3
 unfolding testGroup
 returns-3 c =
-    let a = c .before .before .before .before .before .args in
-    let e : testGroup (a .depth) (a .group) ≡ Passed = rw (sym (c .before .is-in-depth .ensures) ∙ not-false _ (c .if1 .left)) in
-    sym e ∙ asked (c .before .before)
+    let a = c .before .before .before .before .before .before .args in
+    let there = rw (c .before .before .port-count .ensures) at (c .before .is-in-depth .ensures) in
+    let e : testGroup (netOf (a .net) (a .latches .now) (a .gates .now)) (a .depth) (a .group) ≡ Passed = rw (sym there ∙ not-false _ (c .if1 .left)) in
+    sym e ∙ asked (c .before .before .before)
 
 pub test-group-spec : {M : Type 1} → statement M
 test-group-spec =
-    tie.close (tie.spec test-depth-requires enum-told returns enum-told-2 is-in-depth-requires returns-2 returns-3)
+    tie.close (tie.spec test-depth-requires enum-told returns enum-told-2 port-count-requires is-in-depth-requires returns-2 returns-3)

@@ -28,7 +28,7 @@ shared-slice-read-result : tie.Need-shared-slice-read-result
 unfolding netOf
 shared-slice-read-result c =
     let a = c .before .before .before .before .before .args in
-    omega (arith, c .before .before .before .before .before .pre .1, c .before .address-of .ensures, address-below (alone (a .net)) (port (alone (a .net))) (entry (a .values .now)))
+    omega (arith, c .before .before .before .before .before .pre .1, c .before .address-of .ensures, address-below (alone (a .net)) (port (alone (a .net)) 1) (entry (a .values .now)))
 
 returns : tie.Need-returns
 unfolding netOf readData

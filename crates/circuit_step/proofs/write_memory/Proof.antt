@@ -31,7 +31,7 @@ slice-write-memory : tie.Need-slice-write-memory
 unfolding netOf
 slice-write-memory c =
     let a = c .before .before .before .before .before .args in
-    omega (arith, c .before .before .before .before .before .pre .1, c .before .address-of .ensures, address-below (alone (a .net)) (port (alone (a .net))) (entry (a .values .now)))
+    omega (arith, c .before .before .before .before .before .pre .1, c .before .address-of .ensures, address-below (alone (a .net)) (port (alone (a .net)) 1) (entry (a .values .now)))
 
 same-length : tie.Need-same-length
 same-length c = search needs

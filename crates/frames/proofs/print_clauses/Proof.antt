@@ -7,7 +7,8 @@ use native.Mathlib.Omega.{arith}
 use borrow.Author.Needs.{needs}
 use lib.ListN.{length, take}
 use lib.Seq.{length-take-le}
-use Rattle.netlist.specs.NetOf.{netOf}
+use Rattle.model.specs.Netlist.{ports}
+use Rattle.netlist.specs.NetOf.{netOf, alone}
 use Rattle.text_writer.specs.Table.{tableBelow}
 use Rattle.text_writer.proofs.Table.{filled-table}
 use Rattle.group_order.specs.Next.{remainingFrom}
@@ -22,10 +23,10 @@ use Rattle.frames.proofs.print_clauses.Tie as tie
 abbrev Inv-loop : tie.InvT-loop
 Inv-loop input sent₀ latches gates text₀ numbers₀ table net depth next₀ sent text numbers next =
     (length text ≡ 131072) × (length numbers ≡ 5992) × (table ≡ tableBelow 10000)
-    × PrintedSo (framesText input) (netOf net latches gates) depth sent next × (sent + remainingFrom depth next * 131072 ≤ 9000000000)
+    × PrintedSo (framesText input) (netOf net latches gates) depth sent next × (sent + remainingFrom (ports (alone net)) depth next * 131072 ≤ 18000000000)
 
 abbrev μ-loop : tie.MeasureT-loop
-μ-loop input sent₀ latches gates text₀ numbers₀ table net depth next₀ sent text numbers next = remainingFrom depth next
+μ-loop input sent₀ latches gates text₀ numbers₀ table net depth next₀ sent text numbers next = remainingFrom (ports (alone net)) depth next
 
 slice-aggregate-fill-table : tie.Need-slice-aggregate-fill-table Inv-loop μ-loop
 slice-aggregate-fill-table c = search needs
@@ -44,8 +45,8 @@ loop-holds c =
       search needs,
       search needs,
       filled-table _ _ (search needs) (filled .ensures),
-      header-printed (taken-frames taken) (start .pre .1) (c .first-group .ensures),
-      omega (arith, start .pre .2, first-remaining (start .args .taken .depth) (c .first-group .result) (taken .depth-most) (c .first-group .ensures)),
+      header-printed (taken-frames taken) (start .pre .1) (c .first-group .ensures _),
+      omega (arith, start .pre .2, first-remaining 1 (start .args .taken .depth) (c .first-group .result) (omega arith) (taken .depth-most) (c .first-group .ensures _)),
     )
 
 enum-known-next : tie.Need-enum-known-next Inv-loop μ-loop

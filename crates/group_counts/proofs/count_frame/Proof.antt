@@ -1,7 +1,9 @@
 -- `group_counts::count_frame` meets its contract.
+use native.Mathlib.Omega.{arith}
 use borrow.Author.Needs.{needs}
 use borrow.Author.Tests.{le-leb}
 use Rattle.model.specs.Groups.{inDepth}
+use Rattle.model.proofs.Joined.{closing-inDepth}
 use Rattle.group_counts.proofs.count_frame.Statement.{statement}
 use Rattle.group_counts.proofs.count_frame.Tie as tie
 
@@ -10,8 +12,8 @@ unfolding inDepth
 count-group-requires c κs = search (needs, le-leb)
 
 count-group-requires-2 : tie.Need-count-group-requires-2
-unfolding inDepth
-count-group-requires-2 c κs = let within = le-leb _ _ (c .before .before .before .before .pre .1) in search needs
+count-group-requires-2 c κs =
+    let there = closing-inDepth 1 255 _ 1 .1 (c .before .before .before .before .pre .1, (omega arith, omega arith)) in search needs
 
 add-result : tie.Need-add-result
 add-result c = search needs

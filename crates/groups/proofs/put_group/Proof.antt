@@ -13,7 +13,7 @@ put-wires-requires : tie.Need-put-wires-requires
 put-wires-requires c κs =
     let p = c .before .before .before .before .pre in
     let e = c .before .before .group .given .1 in (
-      record { limits = p .0 .limits; depth = omega (arith, wires-frame _ _ e (p .2), p .1) },
+      record { limits = p .0 .limits; depth = omega (arith, wires-frame _ _ _ e (p .2), p .1) },
       rw (wires-count _ _ _ _ _ e) at (p .3),
     )
 
@@ -27,8 +27,8 @@ put-pair-requires : tie.Need-put-pair-requires
 put-pair-requires c κs =
     let p = c .before .before .before .before .before .pre in
     let e = c .before .before .before .group2 .given .1 in
-    let f = pair-frames _ _ _ e (p .2) in (
-      record { fits = fits-alone _ _ _ (p .0) _ (c .port-of .ensures); earlier = omega arith; depth = omega arith },
+    let f = pair-frames _ _ _ _ _ e (p .2) in (
+      record { fits = fits-alone _ _ _ (p .0) _ (f .2) _ (c .port-of .ensures); earlier = f .1; depth = omega (arith, f .0, p .1) },
       rw (pair-count _ _ _ _ e) at (p .3),
     )
 
@@ -41,9 +41,10 @@ port-of-requires-2 c κs = search needs
 put-closing-requires : tie.Need-put-closing-requires
 put-closing-requires c κs =
     let p = c .before .before .before .before .before .pre in
-    let e = c .before .before .before .group3 .given .1 in (
-      record { fits = fits-alone _ _ _ (p .0) _ (c .port-of2 .ensures); depth = omega (arith, closing-frame _ _ e (p .2), p .1) },
-      rw (closing-count _ _ _ _ _ e) at (p .3),
+    let e = c .before .before .before .group3 .given .1 in
+    let f = closing-frame _ _ _ _ e (p .2) in (
+      record { fits = fits-alone _ _ _ (p .0) _ (f .1) _ (c .port-of2 .ensures); depth = omega (arith, f .0, p .1) },
+      rw (closing-count _ _ _ _ _ _ e) at (p .3),
     )
 
 enum-told : tie.Need-enum-told
@@ -52,7 +53,7 @@ enum-told c = search needs
 put-property-requires : tie.Need-put-property-requires
 put-property-requires c κs =
     let p = c .before .before .before .pre in
-    let f = fits-alone _ _ _ (p .0) _ refl in
+    let f = fits-alone _ _ _ (p .0) 1 (omega arith, omega arith) _ refl in
     let room = rw (property-count _ _ _ _ (c .before .enum-told .given .1)) at (p .3) in
     (record { limits = f .limits; depth = omega arith }, omega arith)
 
@@ -70,7 +71,7 @@ same-length-2 c = search needs
 returns-2 : tie.Need-returns-2
 returns-2 c =
     let e = c .before .before .before .before .before .group2 .given .1 in
-    (wrote-by-kind _ _ e (pair-alone _ _ _ _ (c .before .before .port-of .ensures) _ _ _) (c .before .put-pair .ensures .0), rw (pair-count _ _ _ _ e) (c .before .put-pair .ensures .1))
+    (wrote-by-kind _ _ e (pair-alone _ _ _ _ _ (c .before .before .port-of .ensures) _ _ _) (c .before .put-pair .ensures .0), rw (pair-count _ _ _ _ e) (c .before .put-pair .ensures .1))
 
 same-length-3 : tie.Need-same-length-3
 same-length-3 c = search needs
@@ -78,7 +79,7 @@ same-length-3 c = search needs
 returns-3 : tie.Need-returns-3
 returns-3 c =
     let e = c .before .before .before .before .before .group3 .given .1 in
-    (wrote-by-kind _ _ e (closing-alone _ _ _ _ (c .before .before .port-of2 .ensures) _ _) (c .before .put-closing .ensures .0), rw (closing-count _ _ _ _ _ e) (c .before .put-closing .ensures .1))
+    (wrote-by-kind _ _ e (closing-alone _ _ _ _ _ (c .before .before .port-of2 .ensures) _ _) (c .before .put-closing .ensures .0), rw (closing-count _ _ _ _ _ _ e) (c .before .put-closing .ensures .1))
 
 same-length-4 : tie.Need-same-length-4
 same-length-4 c = search needs

@@ -10,7 +10,7 @@ use Rattle.netlist.specs.Faults.{sizeFault, codeFault}
 use Rattle.netlist_tests.specs.Record.{testLines, recordVerdict}
 use Rattle.netlist.proofs.NetOf.{sizes-lists, limits-without-latches}
 use Rattle.netlist.proofs.Faults.{sizes-fit, codes-fit}
-use Rattle.netlist_tests.proofs.Lists.{test-sizes-lists, test-port-latches}
+use Rattle.netlist_tests.proofs.Lists.{test-sizes-lists, test-ports-latches}
 use Rattle.netlist_tests.proofs.Record.{testLines-passes}
 use Rattle.netlist_tests.proofs.test_record.Statement.{statement}
 use Rattle.netlist_tests.proofs.test_record.Tie as tie
@@ -66,8 +66,8 @@ returns-3 c =
 enum-told-4 : tie.Need-enum-told-4
 enum-told-4 c = c .match2 .keys2
 
-test-port-requires : tie.Need-test-port-requires
-test-port-requires c κs =
+test-ports-requires : tie.Need-test-ports-requires
+test-ports-requires c κs =
     let a = c .before .before .before .before .before .before .before .before .before .args in
     limits-without-latches (a .net) (a .latches .now) (a .gates .now)
     (record {
@@ -80,7 +80,7 @@ unfolding netOf recordVerdict _then_
 returns-4 c =
     let a = c .before .before .before .before .before .before .before .before .before .before .args in
     rw (sizes (c .before .before .before .before .before .before .before .before .before) ∙ c .before .before .before .before .before .before .before .enum-told2 .given .1, c .before .before .before .before .if1 .left, sym (c .before .before .before .test-codes .ensures) ∙ c .before .enum-told4 .given .1)
-    (c .test-port .ensures ∙ test-port-latches (a .net) (a .latches .now) (a .gates .now))
+    (c .test-ports .ensures ∙ test-ports-latches (a .net) (a .latches .now) (a .gates .now))
 
 pub test-record-spec : {M : Type 1} → statement M
 test-record-spec =
@@ -97,5 +97,5 @@ test-record-spec =
     enum-told-3
     returns-3
     enum-told-4
-    test-port-requires
+    test-ports-requires
     returns-4)

@@ -18,7 +18,7 @@ put-group-requires : tie.Need-put-group-requires
 put-group-requires c κs =
     let start = c .before .before .before in
     let p = start .pre in
-    let there = orderHas-inDepth _ _ (p .2) in
+    let there = orderHas-inDepth _ _ _ (p .2) in
     (p .0, p .1, there, omega (arith, numbers-most _ _ _ (p .0) (p .1) there, p .4))
 
 -- the count is within the numbers
@@ -26,7 +26,7 @@ within : (c : tie.After-put-group) → c .put-group .result ≤ length (c .put-g
 within c =
     let p = c .before .before .before .before .pre in
     let w = c .put-group .ensures in
-    let most = numbers-most _ _ _ (p .0) (p .1) (orderHas-inDepth _ _ (p .2)) in
+    let most = numbers-most _ _ _ (p .0) (p .1) (orderHas-inDepth _ _ _ (p .2)) in
     omega (arith, w .1, p .4, wrote-length (w .0) (omega (arith, w .0 .counted, w .1, p .4)))
 
 slice-reshare-prefix-write-numbers : tie.Need-slice-reshare-prefix-write-numbers

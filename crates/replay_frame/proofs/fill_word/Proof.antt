@@ -46,7 +46,7 @@ slice-write-memory : tie.Need-slice-write-memory
 unfolding netOf
 slice-write-memory c =
     let start = c .before .before .before .before .before .before .before .before .before .before .before in
-    let below : c .before .address-of .result < 2 ^ start .args .net .m = rw (c .before .address-of .ensures) (address-below (alone (start .args .net)) (port (alone (start .args .net))) _) in
+    let below : c .before .address-of .result < 2 ^ start .args .net .m = rw (c .before .address-of .ensures) (address-below (alone (start .args .net)) (port (alone (start .args .net)) 1) _) in
     omega (arith, start .pre .2, below)
 
 same-length : tie.Need-same-length

@@ -4,6 +4,7 @@ use mathlib.Core.Path.{_≡_, _∙_, ap, ap₂}
 use mathlib.Core.Bool.{Bool, not, _&&_, _||_}
 use native.Mathlib.Omega.{arith}
 use lib.Dec.{eqb}
+use Rattle.model.specs.Search.{anyBelow}
 use Rattle.model.specs.Netlist.{inputWire, readWire}
 use Rattle.model.specs.Variables.{base}
 use Rattle.model.proofs.Variables.{base-most}
@@ -52,7 +53,7 @@ code-value-requires-2 c κs =
     omega (arith, c .before .before .before .before .before .pre .0 .sizes, c .before .before .before .before .before .pre .0 .codes .P-fits)
 
 returns : tie.Need-returns
-unfolding netOf fedUnclear
+unfolding netOf fedUnclear anyBelow
 returns c =
     let a = c .before .before .before .before .before .before .args in
     let d = alone (a .net) in
@@ -64,7 +65,7 @@ returns c =
           (c .before .before .before .any-unclear .ensures ∙ any-same (d .inputs) (λ x h. let e : b .result + 1 + x ≡ base d (a .i) + inputWire d x = omega (arith, b .ensures) in ap unclear e))
           (ap₂ _&&_ (ap (λ reads. a .filled || (eqb (a .i) 0 && not reads)) (c .before .code-value .ensures))
           (c .before .before .any-unclear2 .ensures ∙ any-same (d .n) (λ t h.
-          let e : b .result + c .before .before .before .before .first-read-wire .result .0 + t ≡ base d (a .i) + readWire d t = omega (arith, b .ensures, c .before .before .before .before .first-read-wire .ensures) in ap unclear e)));
+          let e : b .result + c .before .before .before .before .first-read-wire .result .0 + t ≡ base d (a .i) + readWire d (0 + t) = omega (arith, b .ensures, c .before .before .before .before .first-read-wire .ensures) in ap unclear e)));
       broken-is = ap not (c .code-value2 .ensures);
     }
 

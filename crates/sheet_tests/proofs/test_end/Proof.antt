@@ -31,17 +31,17 @@ returns-2 c =
     let a = c .before .before .before .args in
     sym (end-missing (netOf (a .net) [] (a .gates .now)) (a .count) (omega (arith, c .before .control-line .ensures)))
 
-test-port-requires : tie.Need-test-port-requires
+test-ports-requires : tie.Need-test-ports-requires
 unfolding netOf
-test-port-requires c κs = c .before .before .before .pre .1 .limits (omega (arith, c .before .control-line .ensures))
+test-ports-requires c κs = c .before .before .before .pre .1 .limits (omega (arith, c .before .control-line .ensures))
 
 returns-3 : tie.Need-returns-3
 unfolding netOf
 returns-3 c =
     let a = c .before .before .before .before .args in
-    c .test-port .ensures ∙ sym (end-whole (netOf (a .net) [] (a .gates .now)) (a .count) (omega (arith, c .before .before .control-line .ensures)))
+    c .test-ports .ensures ∙ sym (end-whole (netOf (a .net) [] (a .gates .now)) (a .count) (omega (arith, c .before .before .control-line .ensures)))
 
 pub test-end-spec : {M : Type 1} → statement M
 test-end-spec =
     tie.close
-    (tie.spec add-t6 returns control-line-requires add-t9 returns-2 test-port-requires returns-3)
+    (tie.spec add-t6 returns control-line-requires add-t9 returns-2 test-ports-requires returns-3)

@@ -1,4 +1,4 @@
--- `netlist_tests::test_port` meets its contract: where the test for ties passes, that for memory loops decides.
+-- `netlist_tests::test_ports` meets its contract: where the test for ties passes, that for memory loops decides.
 use mathlib.Core.Path.{_≡_, sym, _∙_}
 use mathlib.Core.List.{[]}
 use borrow.Author.Needs.{needs}
@@ -7,8 +7,8 @@ use Rattle.netlist.specs.NetOf.{netOf}
 use Rattle.netlist.proofs.NetOf.{sizes-lists}
 use Rattle.netlist_tests.specs.Record.{testTies}
 use Rattle.netlist_tests.proofs.Lists.{test-ties-lists}
-use Rattle.netlist_tests.proofs.test_port.Statement.{statement}
-use Rattle.netlist_tests.proofs.test_port.Tie as tie
+use Rattle.netlist_tests.proofs.test_ports.Statement.{statement}
+use Rattle.netlist_tests.proofs.test_ports.Tie as tie
 
 test-ties-requires : tie.Need-test-ties-requires
 test-ties-requires c κs = sizes-lists (c .args .net) [] (c .args .gates .now) [] [] (c .pre .sizes)
@@ -36,5 +36,5 @@ returns-2 : tie.Need-returns-2
 unfolding _then_
 returns-2 c = rw (tested (c .before .before .before) ∙ c .before .enum-told2 .given .1) (c .test-loops .ensures)
 
-pub test-port-spec : {M : Type 1} → statement M
-test-port-spec = tie.close (tie.spec test-ties-requires enum-told returns enum-told-2 test-loops-requires returns-2)
+pub test-ports-spec : {M : Type 1} → statement M
+test-ports-spec = tie.close (tie.spec test-ties-requires enum-told returns enum-told-2 test-loops-requires returns-2)
