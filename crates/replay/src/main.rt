@@ -69,10 +69,11 @@ fn scan_file(file: i32, signs: &mut SignTable) -> Scan
     let mut remaining = u64::MAX;
     while 0 < remaining {
         let read = scan_piece(file, &mut piece, scan, signs);
+        let behind = read.scan;
         if read.bytes < 65536 {
-            return read.scan;
+            return behind;
         }
-        scan = read.scan;
+        scan = behind;
         remaining -= 1;
     }
     scan
