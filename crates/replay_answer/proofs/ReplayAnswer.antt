@@ -15,7 +15,8 @@ use Rattle.answer_scan.specs.AnswerRead.{AnswerRead}
 use Rattle.replay_frame.specs.Replay.{Said, saidIn}
 use Rattle.replay_call.specs.ReplayCall.{replayAnswer, replaySent, replayMemory, replayTrace, replayTests, unlessRefused, outcome, wordsLeft, traceAfter}
 use Rattle.replay_call.specs.declared.ReplayAnswer.{ReplayAnswer}
-use Rattle.replay_call.specs.Settled.{saidBy, ReplayAlike}
+use Rattle.replay_call.specs.Settled.{saidBy}
+use Rattle.replay_call.specs.Table.{ReplayAlike}
 use Rattle.replay_call.proofs.TableSuffices.{table-suffices}
 use Rattle.replay_answer.specs.ReplayAnswer.{saidOf, replayFor, memoryFor, traceFor}
 

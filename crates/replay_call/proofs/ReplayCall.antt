@@ -27,7 +27,8 @@ use Rattle.call_lists.proofs.Delivered.{delivered-again}
 use Rattle.replay_frame.specs.Replay.{Said, replayedState, firstViolation, traceText, traceLength}
 use Rattle.replay_run.specs.Runs.{RunFits}
 use Rattle.replay_run.proofs.Through.{length-lines}
-use Rattle.replay_call.specs.ReplayCall.{replayTests, fedFault, runVerdict, unlessRefused, outcome, wordsLeft, traceAfter, ReplaysValues}
+use Rattle.replay_call.specs.ReplayCall.{replayTests, fedFault, runVerdict, unlessRefused, outcome, wordsLeft, traceAfter}
+use Rattle.replay_call.specs.Table.{ReplaysValues}
 use Rattle.replay_call.specs.declared.ReplayAnswer.the-variants as answers
 
 -- the longest trace

@@ -36,7 +36,8 @@ use Rattle.replay_frame.specs.Replay.{Said, saidIn, wordSaid, startWords, repla
 use Rattle.replay_frame.proofs.Replay.{line-same}
 use Rattle.replay_frame.proofs.SaidAlike.{SaidAlike, begun-alike, fills-said, words-alike, runs-alike}
 use Rattle.replay_call.specs.ReplayCall.{replayTests, fedFault, runVerdict, outcome, wordsLeft, unlessRefused, replayAnswer, replayReply, replaySent, afterTests, replayMemory, traceAfter, replayTrace}
-use Rattle.replay_call.specs.Settled.{saidBy, TableSuffices}
+use Rattle.replay_call.specs.Settled.{saidBy}
+use Rattle.replay_call.specs.Table.{TableSuffices}
 
 -- the first place needs a property below the number alone
 first-same : (n : ℕ) {f g : ℕ → Bool} → ((x : ℕ) → x < n → f x ≡ g x) → firstWhere f n ≡ firstWhere g n

@@ -2,3 +2,4 @@
 pub mod ReplayCall
 pub mod Settled
 pub mod RightAnswer
+pub mod Table

@@ -90,9 +90,3 @@ traceAfter (Refused r p) lines old = old
 unfoldable pub replayTrace : Netlist → ℕ → ℕ → ℕ → AnswerKind → Said → ℕ → List ℕ → List ℕ
 replayTrace c latchCount gateCount k kind y words old =
     traceAfter (replayAnswer c latchCount gateCount k kind y words (length old)) (traceText c y k) old
-
--- the same of a satisfiable answer that has passed the tests
-pub record ReplaysValues (c : Netlist) (y : Said) (k : ℕ) (memory trace memory′ trace′ : List ℕ) (r : ReplayAnswer) : Type 0 where
-  pub answers : r ≡ outcome c k Satisfiable y
-  pub memory-left : memory′ ≡ wordsLeft c k Satisfiable y memory
-  pub trace-left : trace′ ≡ traceAfter r (traceText c y k) trace

@@ -13,8 +13,9 @@ ghost use Rattle.model.specs.Acceptance.{SizesFit};
 ghost use Rattle.netlist.specs.NetOf.{netOf, alone};
 ghost use Rattle.replay_frame.specs.Replay.{saidIn, OneRunTheorem, RoomTheorem, traceLength};
 ghost use Rattle.replay_run.specs.Runs.{RunFits};
-ghost use Rattle.replay_call.specs.ReplayCall.{ReplaysValues, replayTests, replayReply, replaySent, replayMemory, replayTrace};
-ghost use Rattle.replay_call.specs.Settled.{FaultsSettled, TableSuffices};
+ghost use Rattle.replay_call.specs.ReplayCall.{replayTests, replayReply, replaySent, replayMemory, replayTrace};
+ghost use Rattle.replay_call.specs.Settled.{FaultsSettled};
+ghost use Rattle.replay_call.specs.Table.{ReplaysValues, TableSuffices};
 ghost use Rattle.replay_call.specs.RightAnswer.{RightAnswerTheorem};
 
 // What a replay answers: the first frame that breaks the property; that the answer claims there is none; or the refusal with its place.

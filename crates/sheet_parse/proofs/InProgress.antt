@@ -25,8 +25,8 @@ use Rattle.sheet_steps.specs.Steps.{Outcome, SizesKnown}
 use Rattle.sheet_steps.proofs.Records.{verdict-is, holds, outcome-kept, outcome-same}
 use Rattle.sheet_parse.specs.Files.{lineCount, lineIn, firstNumber, secondNumber, thirdNumber, sizesIn, netOfLines, netIn}
 use Rattle.sheet_parse.specs.FileTests.{testLineIn}
-use Rattle.sheet_parse.specs.LineAnswers.{hasLine, linesRead, lineAfter}
-use Rattle.sheet_parse.specs.Progress.{noCodes, noProgress, passes, answerVerdict, answerNet, moreAfter}
+use Rattle.sheet_parse.specs.LineAnswers.{hasLine, linesRead}
+use Rattle.sheet_parse.specs.Progress.{noCodes, noProgress, passes, answerVerdict, answerNet, moreAfter, lineAfter}
 use Rattle.sheet_parse.specs.declared.LineAnswer.the-variants as Answer
 use Rattle.sheet_parse.specs.declared.LineAfter.{LineAfter}
 use Rattle.sheet_parse.specs.declared.Progress.{Progress}

@@ -15,7 +15,8 @@ use Rattle.sheet_lines.specs.declared.Kind.{Kind}
 use Rattle.sheet_lines.specs.declared.ParsedLine.the-variants.{Misprint, Read}
 use Rattle.sheet_parse.specs.declared.LineAnswer.the-variants.{Line, Refused}
 use Rattle.sheet_parse.specs.Files.{lineCount, lineIn}
-use Rattle.sheet_parse.specs.LineAnswers.{hasLine, answerOf, lineAnswer, linesRead, noLineAfter, lineAfter}
+use Rattle.sheet_parse.specs.LineAnswers.{hasLine, answerOf, lineAnswer, linesRead}
+use Rattle.sheet_parse.specs.Progress.{noLineAfter, lineAfter}
 use Rattle.sheet_parse.proofs.Files.{WholeLines}
 
 module _ (file : List ℕ) (line : ℕ) where

@@ -13,7 +13,6 @@ use Rattle.sheet_lines.specs.declared.ParsedLine.{ParsedLine}
 use Rattle.sheet_lines.specs.declared.ParsedLine.the-variants.{Misprint, Read}
 use Rattle.sheet_parse.specs.declared.LineAnswer.{LineAnswer}
 use Rattle.sheet_parse.specs.declared.LineAnswer.the-variants.{Line, Refused, NoLine}
-use Rattle.sheet_parse.specs.declared.LineAfter.{LineAfter}
 use Rattle.sheet_parse.specs.declared.LineReply.{LineReply}
 use Rattle.sheet_parse.specs.Files.{lineIn}
 
@@ -44,9 +43,3 @@ lineSent NoLine line = withoutFields 0 0 line
 
 unfoldable pub linesRead : List ℕ → ℕ → ℕ
 linesRead file line = cond (hasLine file line) (line + 1) line
-
-abbrev pub noLineAfter : ℕ → LineAfter
-noLineAfter line = record { line = NoLine; «lines_read» = line }
-
-abbrev pub lineAfter : List ℕ → ℕ → LineAfter
-lineAfter file line = record { line = lineAnswer file line; «lines_read» = linesRead file line }

@@ -11,6 +11,8 @@ use Rattle.netlist.specs.RecordOf.{noNetlist}
 use Rattle.sheet_steps.specs.Records.{sheetAnswer}
 use Rattle.sheet_steps.specs.Steps.{stepNet, stepVerdict}
 use Rattle.sheet_steps.specs.declared.SheetAnswer.{SheetAnswer}
+use Rattle.sheet_parse.specs.LineAnswers.{lineAnswer, linesRead}
+use Rattle.sheet_parse.specs.declared.LineAfter.{LineAfter}
 use Rattle.sheet_parse.specs.declared.LineAnswer.{LineAnswer}
 use Rattle.sheet_parse.specs.declared.LineAnswer.the-variants as Answer
 use Rattle.sheet_parse.specs.declared.Progress.{Progress}
@@ -46,3 +48,10 @@ abbrev pub moreAfter : LineAnswer → Verdict → Bool
 moreAfter (Answer.Line kind x y z e) v = passes v
 moreAfter (Answer.Refused r q) v = passes v
 moreAfter Answer.NoLine v = false
+
+-- the answer about the line behind the first `line`, with how many are read then
+abbrev pub noLineAfter : ℕ → LineAfter
+noLineAfter line = record { line = Answer.NoLine; «lines_read» = line }
+
+abbrev pub lineAfter : List ℕ → ℕ → LineAfter
+lineAfter file line = record { line = lineAnswer file line; «lines_read» = linesRead file line }

@@ -13,10 +13,10 @@ ghost use Rattle.netlist.specs.NetOf.{netOf, alone};
 ghost use Rattle.sheet_steps.specs.Steps.{Outcome, SizesKnown};
 ghost use Rattle.sheet_steps.specs.Lists.{FullLength};
 ghost use Rattle.sheet_parse.specs.Files.{lineIn};
-ghost use Rattle.sheet_parse.specs.LineAnswers.{hasLine, answerOf, lineAnswer, lineSent, linesRead, noLineAfter, lineAfter};
+ghost use Rattle.sheet_parse.specs.LineAnswers.{hasLine, answerOf, lineAnswer, lineSent, linesRead};
 ghost use Rattle.sheet_parse.specs.NextLine.{nextLine};
 ghost use Rattle.sheet_parse.specs.FileTests.{ragged};
-ghost use Rattle.sheet_parse.specs.Progress.{noProgress, progressWith, answerVerdict, answerNet, moreAfter};
+ghost use Rattle.sheet_parse.specs.Progress.{noProgress, progressWith, answerVerdict, answerNet, moreAfter, noLineAfter, lineAfter};
 
 // What is sent back of a line: number and place (0 where it is not refused), its letter, its fields, whether the third is empty and may
 // be filled, and how many lines are read with it. An empty field is 0; letter and fields are 0 beside a refusal, and where there is no line.

@@ -43,7 +43,8 @@ use denote.Triple.Table.{entered, cited}
 use denote.Triple.Walked.{says, Stays, stay-none, walkOf, goes-none, ends-at}
 use denote.Exit.{yes}
 use Rattle.hand_proofs.proofs.Walk.{calls-told, _&_, cell, frees-all, meets-of}
-use Rattle.sheet_parse.specs.LineAnswers.{lineAnswer, linesRead, lineAfter}
+use Rattle.sheet_parse.specs.LineAnswers.{lineAnswer, linesRead}
+use Rattle.sheet_parse.specs.Progress.{lineAfter}
 use Rattle.sheet_parse.proofs.line_after as after
 use Rattle.sheet_parse.proofs.line_after.Symbol as after-def
 use Rattle.sheet_parse.proofs.line_after.Symbol.{name as #line-after}
