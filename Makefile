@@ -1,8 +1,13 @@
 # For a newcomer: `make demo` and `make test`. They need the Rattle kit (the command `rt`).
-.PHONY: demo test bench fuzz promises
+.PHONY: demo command test bench fuzz promises
 
 demo:
 	@bash scripts/demo.sh
+
+# the command marrubigai, in target/command; it proves the library first where that is not there
+command:
+	@bash -c '. scripts/install.sh && install_missing g++ g++ awk mawk /usr/include/cadical.hpp libcadical-dev yosys yosys'
+	@$(MAKE) --no-print-directory -C command
 
 test:
 	@bash tests/run.sh

@@ -1,0 +1,63 @@
+#include "yosys.h"
+
+#include <sstream>
+
+#include "failure.h"
+#include "files.h"
+#include "process.h"
+
+namespace {
+
+// A word of a yosys script. Names with spaces are quoted; yosys has no way to write one with a quote.
+std::string word(const std::string &text, const char *what) {
+  if (text.find_first_of("\"\n\r") != std::string::npos) throw Failure(text + ": yosys cannot take " + what + " with a quote or a line end in it");
+  return text.find_first_of(" \t;#") == std::string::npos ? text : "\"" + text + "\"";
+}
+
+// without quotes too, where yosys does not take them off again
+std::string bare(const std::string &text, const char *what) {
+  if (text.find_first_of(" \t;#\"\n\r") != std::string::npos) throw Failure(text + ": yosys cannot take " + what + " with a blank, a quote, ; or # in it");
+  return text;
+}
+
+std::string script(const Options &options) {
+  std::ostringstream lines;
+  for (const std::string &file : options.files) {
+    lines << "read_verilog -formal" << (ends_with(file, ".sv") ? " -sv" : "");
+    for (const std::string &macro : options.macros) lines << " -D" << bare(macro, "a macro");
+    for (const std::string &folder : options.folders) lines << " -I" << bare(folder, "a folder");
+    lines << " " << word(file[0] == '-' ? "./" + file : file, "a file name") << "\n";
+  }
+  lines << "hierarchy -check " << (options.top.empty() ? "-auto-top" : "-top " + bare(options.top, "a module"));
+  for (const std::string &parameter : options.parameters) {
+    size_t equals = parameter.find('=');
+    if (equals == std::string::npos || equals == 0) throw Failure("-P " + parameter + ": NAME=VALUE is wanted", USAGE);
+    lines << " -chparam " << bare(parameter.substr(0, equals), "a parameter") << " " << bare(parameter.substr(equals + 1), "a value");
+  }
+  // What is undefined stays so (-keepdc): each such bit is an input of its own later. Statements are asked about in the frame that they are of.
+  lines << "\nproc\nflatten\nchformal -early\nopt_expr -keepdc\nopt_clean\n"
+           "memory -nomap -nowiden -norom\nmemory_map -rom-only -keepdc\n";
+  if (!options.memory.empty()) lines << "memory_map t:$mem_v2 c:" << bare(options.memory, "a memory's name") << " %d\n";
+  lines << "opt -keepdc -nodffe -nosdff\nasync2sync\ndffunmap\ntechmap\nopt -keepdc -nodffe -nosdff\naigmap\nopt_clean\n"
+           "write_json /dev/fd/3\n";
+  return lines.str();
+}
+
+// yosys' own lines that tell what is wrong
+std::string complaint(const std::string &said) {
+  std::istringstream lines(said);
+  std::string line, kept;
+  while (std::getline(lines, line))
+    if (!line.empty()) kept += "\n  yosys: " + line;
+  return kept.empty() ? "\n  yosys says nothing" : kept;
+}
+
+} // namespace
+
+Design read_verilog(const Options &options, Stop &stop) {
+  for (const std::string &file : options.files) read_file(file); // what cannot be read is told as of any other file
+  Finished finished = run_program({"yosys", "-Q", "-T", "-q", "-p", script(options)}, stop);
+  if (finished.missing) throw Failure("yosys is missing, which reads the Verilog: Debian has a package yosys");
+  if (finished.status != 0) throw Failure(options.files[0] + ": yosys makes no netlist of it:" + complaint(finished.said));
+  return read_design(finished.written);
+}
