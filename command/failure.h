@@ -11,3 +11,8 @@ struct Failure {
   int status;
   explicit Failure(std::string text, int exit_status = FAILED) : message(std::move(text)), status(exit_status) {}
 };
+
+// the memory does not fit into one port, as it was read; it may fit when it is read in another way
+struct NoFit : Failure {
+  using Failure::Failure;
+};

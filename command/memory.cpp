@@ -65,7 +65,7 @@ MemoryCut::MemoryCut(Logic &of, const Cell &memory)
   }
 }
 
-void MemoryCut::refuse(const std::string &what) const { throw Failure(cell.source + ": memory " + cell.name + " (" + words_text(cell) + ") " + what); }
+void MemoryCut::refuse(const std::string &what) const { throw NoFit(cell.source + ": memory " + cell.name + " (" + words_text(cell) + ") " + what); }
 
 MemoryCut::Access MemoryCut::write_access(size_t at) {
   Access access;

@@ -226,6 +226,15 @@ bool is_verilog(const std::string &path) { return ends_with(path, ".v") || ends_
 Chip chip_of_verilog(const Options &options, Stop &stop) {
   for (const std::string &file : options.files)
     if (!is_verilog(file)) throw Failure(file + ": only Verilog (.v, .sv) can be given in several files", USAGE);
-  Design design = read_verilog(options, stop);
-  return Chipmaker(design, options).make();
+  try {
+    Design design = read_verilog(options, Reads::as_written, stop);
+    return Chipmaker(design, options).make();
+  } catch (const NoFit &as_written) {
+    try {
+      Design design = read_verilog(options, Reads::clocked, stop);
+      return Chipmaker(design, options).make();
+    } catch (const NoFit &) {
+      throw as_written;
+    }
+  }
 }
