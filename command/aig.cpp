@@ -82,6 +82,7 @@ bool Aig::depends_on(Lit literal, Kind kind) const {
 bool can_differ(const Aig &aig, Lit active, const std::vector<Lit> &address, Lit other_active, const std::vector<Lit> &other_address) {
   if (address == other_address || active == FALSE || other_active == FALSE) return false;
   CaDiCaL::Solver solver;
+  solver.set("quiet", 1);
   auto literal = [](Lit of) { return of % 2 ? -static_cast<int>(of / 2 + 1) : static_cast<int>(of / 2 + 1); };
   std::vector<Lit> roots{active, other_active};
   roots.insert(roots.end(), address.begin(), address.end());

@@ -52,12 +52,19 @@ MemoryCut::MemoryCut(Logic &of, const Cell &memory)
   if (readers == 0) refuse("is never read");
   for (char wide : cell.bits("RD_WIDE_CONTINUATION") + cell.bits("WR_WIDE_CONTINUATION"))
     if (wide == '1') refuse("has a port that takes several words at once: read and write it word by word");
+  // the clock is known before anything is read as data
+  for (size_t at = 0; at < writers; at++) {
+    if (cell.bits("WR_CLK_ENABLE")[at] != '1') refuse("is written without a clock: write it in an always @(posedge ..)");
+    logic.take_clock(cell.port("WR_CLK")[at], cell.bits("WR_CLK_POLARITY")[at] == '1', cell);
+  }
   for (size_t t = 0; t < width; t++) port.read.push_back(aig.add_read());
   for (size_t at = 0; at < readers; at++) {
     std::vector<Bit> data = part(cell.port("RD_DATA"), at, width);
     if (is_clocked(at)) {
       std::string initial = cell.bits("RD_INIT_VALUE");
       logic.take_clock(cell.port("RD_CLK")[at], cell.bits("RD_CLK_POLARITY")[at] == '1', cell);
+      // yosys makes a register of the address one of the word in this way, but then what it begins as is lost
+      if (cell.bits("RD_TRANSPARENCY_MASK").find('1', at * writers) < (at + 1) * writers) refuse("has a register before its address");
       if (cell.port("RD_ARST")[at] != BIT_0) refuse("has an output register with an asynchronous reset: make it a synchronous one");
       for (size_t t = 0; t < width; t++) output[at].push_back(logic.add_register(initial[at * width + t]));
     }
@@ -70,8 +77,6 @@ void MemoryCut::refuse(const std::string &what) const { throw NoFit(cell.source 
 MemoryCut::Access MemoryCut::write_access(size_t at) {
   Access access;
   access.writes = true;
-  if (cell.bits("WR_CLK_ENABLE")[at] != '1') refuse("is written without a clock: write it in an always @(posedge ..)");
-  logic.take_clock(cell.port("WR_CLK")[at], cell.bits("WR_CLK_POLARITY")[at] == '1', cell);
   access.enable = logic.lits(part(cell.port("WR_EN"), at, width));
   access.active = FALSE;
   for (Lit enable : access.enable) access.active = aig.lor(access.active, enable);
@@ -98,7 +103,8 @@ std::vector<Lit> MemoryCut::joined_address(std::vector<Access> accesses) {
         refuse("is written at two addresses in one frame, and a second write port is not built.\nWrite one word in a step of the clock.");
       if (accesses[i].writes || accesses[j].writes)
         refuse("is read at one address and written at another in the same frame: this needs a second port, which this version does not have.\n"
-               "Give reading and writing one address, or a clocked read and an enable each so that no step of the clock does both.");
+               "Give reading and writing one address; or put a register behind the word that is read (not before the address), and give each an enable so that "
+               "no step of the clock does both.");
       refuse("is read at two addresses in one frame: this needs a second port, which this version does not have.\n"
              "Read one word in a step of the clock, or make two arrays of it that are written alike and keep one of them (--memory).");
     }
@@ -151,15 +157,13 @@ void MemoryCut::join_reads(const std::vector<Access> &reads, bool partial_writes
   if (aig.depends_on(port.re, Aig::Kind::read)) port.re = TRUE;
 }
 
-// the register behind the memory: enable, synchronous reset, and the word written in this frame where the port is transparent
-void MemoryCut::finish_output(size_t reader, const Access &read, const std::vector<Access> &writes) {
-  std::string transparent = cell.bits("RD_TRANSPARENCY_MASK"), values = cell.bits("RD_SRST_VALUE");
+// the register behind the memory, with its enable and its synchronous reset
+void MemoryCut::finish_output(size_t reader, const Access &read) {
+  std::string values = cell.bits("RD_SRST_VALUE");
   Lit reset = logic.lit(cell.port("RD_SRST")[reader]);
   bool enable_first = cell.bits("RD_CE_OVER_SRST")[reader] == '1';
   for (size_t t = 0; t < width; t++) {
     Lit word = port.read[t];
-    for (size_t w = 0; w < writers; w++)
-      if (transparent[reader * writers + w] == '1') word = aig.mux(writes[w].enable[t], writes[w].data[t], word);
     Lit held = output[reader][t].value;
     char value = values[reader * width + t];
     Lit reset_value = reset == FALSE || value == '0' ? FALSE : value == '1' ? TRUE : logic.lit(BIT_X);
@@ -173,8 +177,8 @@ MemoryPort MemoryCut::finish() {
   std::vector<Access> writes, reads, all;
   for (size_t at = 0; at < writers; at++) writes.push_back(write_access(at));
   for (size_t at = 0; at < readers; at++) reads.push_back(read_access(at));
-  all = writes;
-  all.insert(all.end(), reads.begin(), reads.end());
+  all = reads; // so that two reads are told as such, whatever the write does
+  all.insert(all.end(), writes.begin(), writes.end());
   port.address = joined_address(all);
   join_writes(writes);
   bool partial = false;
@@ -182,6 +186,6 @@ MemoryPort MemoryCut::finish() {
     for (Lit enable : write.enable) partial = partial || enable != write.active;
   join_reads(reads, partial || writes.size() > 1);
   for (size_t at = 0; at < readers; at++)
-    if (is_clocked(at)) finish_output(at, reads[at], writes);
+    if (is_clocked(at)) finish_output(at, reads[at]);
   return port;
 }

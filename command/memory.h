@@ -45,6 +45,6 @@ private:
   std::vector<Lit> joined_address(std::vector<Access> accesses);
   void join_writes(const std::vector<Access> &writes);
   void join_reads(const std::vector<Access> &reads, bool partial_writes);
-  void finish_output(size_t reader, const Access &read, const std::vector<Access> &writes);
+  void finish_output(size_t reader, const Access &read);
   Lit in_array() const;
 };

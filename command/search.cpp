@@ -17,6 +17,7 @@ void test(uint32_t number, uint32_t place) {
 class Search {
 public:
   Search(const Chip &searched, const Plan &wanted, Stop &when) : chip(searched), plan(wanted), stop(when), verdicts(searched.properties.size()) {
+    solver.set("quiet", 1); // standard output is ours
     // Measured (docs/COMMAND.md): short incremental calls gain from neither stable phases nor local search.
     solver.set("stabilize", 0);
     solver.set("walk", 0);

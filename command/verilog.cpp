@@ -29,6 +29,14 @@ std::string name_of(const Design &design, const Cell &cell) {
   return cell.source;
 }
 
+// Without one, yosys leaves nothing of the design.
+void test_statements(const Design &design) {
+  for (const Cell &cell : design.cells)
+    if (is_asked_about(cell.type)) return;
+  throw Failure(design.top + ": the design has no assert and no cover: there is nothing to ask about.\n"
+                             "Write assert (..) in an always block, in lines that `ifdef FORMAL keeps from other tools.");
+}
+
 class Chipmaker {
 public:
   Chipmaker(const Design &read, const Options &wanted)
@@ -92,9 +100,6 @@ private:
       statement.reads = {enable, holds};
       statements.push_back(statement);
     }
-    if (all.empty())
-      throw Failure(design.top + ": the design has no assert and no cover: there is nothing to ask about.\n"
-                                 "Write assert (..) in an always block, in lines that `ifdef FORMAL keeps from other tools.");
     test_names(all, Property::Kind::assertion, options.properties, "--property ");
     test_names(all, Property::Kind::cover, options.covers, "--cover ");
     std::stable_sort(statements.begin(), statements.end(), [](const Statement &left, const Statement &right) {
@@ -228,6 +233,7 @@ Chip chip_of_verilog(const Options &options, Stop &stop) {
     if (!is_verilog(file)) throw Failure(file + ": only Verilog (.v, .sv) can be given in several files", USAGE);
   try {
     Design design = read_verilog(options, Reads::as_written, stop);
+    test_statements(design);
     return Chipmaker(design, options).make();
   } catch (const NoFit &as_written) {
     try {
