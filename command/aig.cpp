@@ -71,22 +71,29 @@ Lit Aig::where(Lit literal, Lit given) {
   return value(literal);
 }
 
-bool Aig::depends_on(Lit literal, Kind kind) const {
-  if (nodes[literal / 2].kind == kind) return true;
-  for (uint32_t index : gates_below(*this, {literal}))
-    for (Lit operand : {nodes[index].left, nodes[index].right})
-      if (nodes[operand / 2].kind == kind) return true;
-  return false;
+std::vector<uint32_t> Aig::support(Lit literal) const {
+  std::set<uint32_t> found;
+  auto add = [&](Lit of) {
+    if (of > TRUE && nodes[of / 2].kind != Kind::gate) found.insert(of / 2);
+  };
+  add(literal);
+  for (uint32_t index : gates_below(*this, {literal})) add(nodes[index].left), add(nodes[index].right);
+  return {found.begin(), found.end()};
 }
 
-bool can_differ(const Aig &aig, Lit active, const std::vector<Lit> &address, Lit other_active, const std::vector<Lit> &other_address) {
-  if (address == other_address || active == FALSE || other_active == FALSE) return false;
+bool Aig::depends_on(Lit literal, Kind kind) const {
+  std::vector<uint32_t> found = support(literal);
+  return std::any_of(found.begin(), found.end(), [&](uint32_t index) { return nodes[index].kind == kind; });
+}
+
+bool can_differ(const Aig &aig, Lit active, const std::vector<Lit> &word, Lit other_active, const std::vector<Lit> &other_word) {
+  if (word == other_word || active == FALSE || other_active == FALSE) return false;
   CaDiCaL::Solver solver;
   solver.set("quiet", 1);
   auto literal = [](Lit of) { return of % 2 ? -static_cast<int>(of / 2 + 1) : static_cast<int>(of / 2 + 1); };
   std::vector<Lit> roots{active, other_active};
-  roots.insert(roots.end(), address.begin(), address.end());
-  roots.insert(roots.end(), other_address.begin(), other_address.end());
+  roots.insert(roots.end(), word.begin(), word.end());
+  roots.insert(roots.end(), other_word.begin(), other_word.end());
   solver.add(-1), solver.add(0); // node 0 is false
   for (uint32_t index : gates_below(aig, roots)) {
     int gate = literal(2 * index), left = literal(aig.node(index).left), right = literal(aig.node(index).right);
@@ -98,8 +105,8 @@ bool can_differ(const Aig &aig, Lit active, const std::vector<Lit> &address, Lit
   solver.add(literal(other_active)), solver.add(0);
   std::vector<int> different;
   int next = static_cast<int>(aig.size()) + 1;
-  for (size_t t = 0; t < address.size(); t++) {
-    int bit = next++, one = literal(address[t]), other = literal(other_address[t]);
+  for (size_t t = 0; t < word.size(); t++) {
+    int bit = next++, one = literal(word[t]), other = literal(other_word[t]);
     solver.add(-bit), solver.add(one), solver.add(other), solver.add(0);
     solver.add(-bit), solver.add(-one), solver.add(-other), solver.add(0);
     different.push_back(bit);

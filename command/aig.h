@@ -37,7 +37,8 @@ public:
 
   // The literal where `given` is known to be true: what it is then, and else as it likes.
   Lit where(Lit literal, Lit given);
-  // whether a node of this kind is reached through gates
+  // inputs, latches and read bits that are reached through gates
+  std::vector<uint32_t> support(Lit literal) const;
   bool depends_on(Lit literal, Kind kind) const;
 
 private:
@@ -50,5 +51,5 @@ private:
   }
 };
 
-// Whether in some frame, whatever inputs, registers and read bits are, both are active and their addresses differ: by a SAT solver.
-bool can_differ(const Aig &aig, Lit active, const std::vector<Lit> &address, Lit other_active, const std::vector<Lit> &other_address);
+// Whether in some frame, whatever inputs, registers and read bits are, both are active and their words differ: by a SAT solver.
+bool can_differ(const Aig &aig, Lit active, const std::vector<Lit> &word, Lit other_active, const std::vector<Lit> &other_word);

@@ -12,8 +12,18 @@ struct Property {
   enum class Kind { property, assertion, cover };
   Kind kind = Kind::property;
   std::string name, source; // source: file and line, or empty
+  unsigned first_line = 0, last_line = 0; // of Verilog
   marrubigai_code code = 0; // what shall hold in every frame; of a cover, that it is not reached
   std::vector<Word> read; // the named words that it reads, for the table
+};
+
+// What a test bench around the original Verilog needs to know.
+struct Bench {
+  std::string top, clock; // empty where the chip is none of Verilog
+  bool rising = true;
+  std::vector<Word> inputs; // without the clock
+  std::vector<Word> unknown; // registers that begin unknown, by all their names
+  std::string obstacle; // why a run cannot be tried, where it cannot
 };
 
 struct Chip {
@@ -28,6 +38,7 @@ struct Chip {
   // bit on which no property depends is no bit of the sheet's words.
   std::string memory_name;
   std::vector<uint32_t> address, read_data, write_data;
+  Bench bench;
   std::vector<std::string> notes; // what the user should know of how the chip was made
 
   // the record with the property in its place

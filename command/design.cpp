@@ -8,13 +8,14 @@ namespace {
 
 // `ram.v:12.3-14.9` or `a.v:1.1|b.v:2.2`, whose last part is the innermost: file and line, and with the column too. Of a statement it is the
 // end that counts: yosys has it begin where the statement before it ends.
-void set_source(const std::string &text, bool is_statement, std::string &line, std::string &column) {
+void set_source(const std::string &text, bool is_statement, std::string &line, std::string &column, unsigned &first_line) {
   size_t bar = text.rfind('|');
   std::string inner = bar == std::string::npos ? text : text.substr(bar + 1);
   size_t colon = inner.rfind(':');
   if (colon == std::string::npos) return;
   std::string place = inner.substr(colon + 1);
   size_t dash = place.find('-');
+  std::sscanf(place.c_str(), "%u", &first_line);
   place = is_statement && dash != std::string::npos ? place.substr(dash + 1) : place.substr(0, dash);
   column = inner.substr(0, colon + 1) + place;
   line = inner.substr(0, colon + 1) + place.substr(0, place.find('.'));
@@ -72,7 +73,7 @@ Design read_design(const std::string &json_text) {
     cell.name = name;
     cell.type = json.at("type").text;
     cell.hidden = json.at("hide_name").number != 0;
-    set_source(text_of(json.at("attributes").find("src")), is_formal(cell.type), cell.source, cell.column_source);
+    set_source(text_of(json.at("attributes").find("src")), is_formal(cell.type), cell.source, cell.column_source, cell.first_line);
     for (const auto &[port, bits] : json.at("connections").members) cell.ports[port] = bits_of(bits);
     for (const auto &[parameter, value] : json.at("parameters").members) cell.parameters[parameter] = value.text;
     design.cells.push_back(std::move(cell));
@@ -80,9 +81,10 @@ Design read_design(const std::string &json_text) {
   for (const auto &[name, json] : module->at("netnames").members) {
     Net net;
     std::string line, column;
+    unsigned first_line = 0;
     net.name = name;
     net.bits = bits_of(json.at("bits"));
-    set_source(text_of(json.at("attributes").find("src")), false, line, column);
+    set_source(text_of(json.at("attributes").find("src")), false, line, column, first_line);
     std::sscanf(column.c_str() + column.rfind(':') + 1, "%u.%u", &net.place.first, &net.place.second);
     if (const Json *offset = json.find("offset")) net.low = static_cast<int>(offset->number);
     if (const Json *upto = json.find("upto")) net.upwards = upto->number != 0;

@@ -17,6 +17,7 @@ struct Cell {
   bool hidden = false; // the name is yosys' own
   std::string source; // file and line, as `ram.v:12`
   std::string column_source; // with the column, as `ram.v:12.3`
+  unsigned first_line = 0; // where yosys has it begin
   std::map<std::string, std::vector<Bit>> ports;
   std::map<std::string, std::string> parameters; // numbers as bits, highest first
 

@@ -107,8 +107,8 @@ Lit Logic::lit(Bit bit) {
   if (bit == BIT_0) return FALSE;
   if (bit == BIT_1) return TRUE;
   if (bit == BIT_X) {
-    undefined_bits++;
-    return aig.add_input();
+    undefined.push_back(aig.add_input());
+    return undefined.back();
   }
   if (clocked && bit == clock)
     throw Failure("the clock " + name_of(bit) + " is read as data too; within a frame it has no value");
@@ -116,14 +116,24 @@ Lit Logic::lit(Bit bit) {
   if (found != known.end()) return found->second;
   auto driver = drivers.find(bit);
   if (driver == drivers.end()) {
-    undriven.push_back(name_of(bit));
-    return known[bit] = aig.add_input();
+    undriven.emplace_back(name_of(bit), aig.add_input());
+    return known[bit] = undriven.back().second;
   }
   if (!under_way.insert(bit).second)
     throw Failure(driver->second->source + ": a loop of logic without a register in it, through " + name_of(bit));
   Lit made = driven(*driver->second, bit);
   under_way.erase(bit);
   return known[bit] = made;
+}
+
+Lit Logic::where(Lit literal, Lit given) {
+  literal = aig.where(literal, given);
+  for (uint32_t node : aig.support(literal)) {
+    if (std::find(undefined.begin(), undefined.end(), 2 * node) == undefined.end()) continue;
+    Lit without = aig.where(literal, 2 * node + 1), with = aig.where(literal, 2 * node);
+    if (!can_differ(aig, given, {without}, given, {with})) literal = without;
+  }
+  return literal;
 }
 
 std::vector<Lit> Logic::lits(const std::vector<Bit> &bits) {

@@ -23,6 +23,9 @@ public:
 
   Lit lit(Bit bit);
   std::vector<Lit> lits(const std::vector<Bit> &bits);
+  // A literal of which only that counts which it is where `given` is true. What the source leaves undefined elsewhere is taken out of it, as yosys
+  // makes much undefined that a statement or a write does not look at.
+  Lit where(Lit literal, Lit given);
   // what a bit is, in place of what the netlist says: the memory's read data
   void drive(Bit bit, Lit literal) { known[bit] = literal; }
   // initial: 0, 1 or x
@@ -35,12 +38,14 @@ public:
   // A clocked cell: its clock must be the one of all others, and an input.
   void take_clock(Bit clock, bool rising, const Cell &cell);
   bool is_clock(Bit bit) const { return clock == bit; }
+  bool is_rising() const { return clock_rising; }
 
   const std::map<Bit, Lit> &values() const { return known; }
   const std::set<uint32_t> &register_nodes() const { return registers; }
+  bool begins_unknown(uint32_t node) const { return registers.count(node) > 0 && aig.node(node).kind != Aig::Kind::latch; }
   std::string name_of(Bit bit) const; // as the source has it
-  size_t undefined() const { return undefined_bits; } // bits that the source leaves undefined, each taken as an input
-  std::vector<std::string> undriven; // wires without a driver, each taken as an input
+  std::vector<Lit> undefined; // bits that the source leaves undefined, each taken as an input
+  std::vector<std::pair<std::string, Lit>> undriven; // wires without a driver, each taken as an input
 
 private:
   const Design &design;
@@ -53,7 +58,6 @@ private:
   Bit clock = BIT_X;
   bool clock_rising = true;
   const Cell *clocked = nullptr;
-  size_t undefined_bits = 0;
 
   Lit after(uint32_t frames);
   Lit driven(const Cell &cell, Bit bit);

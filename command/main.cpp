@@ -4,6 +4,7 @@
 #include <cstdio>
 
 #include "aiger.h"
+#include "confirm.h"
 #include "failure.h"
 #include "files.h"
 #include "outputs.h"
@@ -33,6 +34,7 @@ void test_options(const Options &options, bool verilog) {
   unused(!options.memory.empty(), "--memory");
   unused(!options.properties.empty(), "--property");
   unused(!options.covers.empty(), "--cover");
+  unused(options.confirm, "--confirm");
   if (options.files.size() > 1) throw Failure("one sheet or one text at a time: " + options.files[1] + " is too many\n" + usage_line, USAGE);
 }
 
@@ -70,6 +72,8 @@ int main(int count, char **arguments) {
     if (!options.keep_folder.empty()) keep_sheets(chip, options.keep_folder);
     Plan plan{options.depth, options.from, options.any};
     std::vector<Verdict> verdicts = search(chip, plan, stop);
+    for (size_t p = 0; options.confirm && p < verdicts.size(); p++)
+      if (verdicts[p].run) verdicts[p].confirmed = confirm(options, chip, chip.properties[p], *verdicts[p].run, stop);
     Report report{options.files[0], &chip, &options, &verdicts, "", stop.seconds()};
     if (exit_status(report) == STOPPED) report.stopped = stop.why();
     if (!options.vcd_file.empty()) write_waveform(options.vcd_file, chip, verdicts);

@@ -81,16 +81,16 @@ MemoryCut::Access MemoryCut::write_access(size_t at) {
   access.active = FALSE;
   for (Lit enable : access.enable) access.active = aig.lor(access.active, enable);
   // Only what stands there in a frame that writes counts; yosys leaves it undefined in others.
-  for (Bit bit : part(cell.port("WR_ADDR"), at, address_bits)) access.address.push_back(aig.where(logic.lit(bit), access.active));
+  for (Bit bit : part(cell.port("WR_ADDR"), at, address_bits)) access.address.push_back(logic.where(logic.lit(bit), access.active));
   std::vector<Bit> data = part(cell.port("WR_DATA"), at, width);
-  for (size_t t = 0; t < width; t++) access.data.push_back(aig.where(logic.lit(data[t]), access.enable[t]));
+  for (size_t t = 0; t < width; t++) access.data.push_back(logic.where(logic.lit(data[t]), access.enable[t]));
   return access;
 }
 
 MemoryCut::Access MemoryCut::read_access(size_t at) {
   Access access;
   if (is_clocked(at)) access.active = logic.lit(cell.port("RD_EN")[at]);
-  for (Bit bit : part(cell.port("RD_ADDR"), at, address_bits)) access.address.push_back(aig.where(logic.lit(bit), access.active));
+  for (Bit bit : part(cell.port("RD_ADDR"), at, address_bits)) access.address.push_back(logic.where(logic.lit(bit), access.active));
   return access;
 }
 

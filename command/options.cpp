@@ -27,6 +27,7 @@ const char *const help_text =
     "  -D X[=V]                define a macro;  -I DIR  look for included files there;  -P NAME=VALUE  set a parameter of the top module\n"
     "      --reset NAME[=FRAMES]  hold this input at 1 in the first frames (default 1), and at 0 from then on; !NAME: the other way round\n"
     "      --memory NAME       the array that stays a memory where there are several; the others become registers\n"
+    "      --confirm           try the run on the original files with a simulator (iverilog)\n"
     "ASCII AIGER and sheets\n"
     "      --widths M,N        address bits and data bits of a text whose symbols do not tell them\n"
     "      --names FILE        names of a sheet's words: in each line a name and its codes, lowest bit first\n"
@@ -133,7 +134,7 @@ std::string written(int count, char **arguments) {
 } // namespace
 
 Options parse_options(int count, char **arguments) {
-  enum { FROM = 256, ANY, PROPERTY, COVER, START, TIMEOUT, TOP, RESET, MEMORY, WIDTHS, NAMES, RADIX, WATCH, VCD, JSON, KEEP, HELP, VERSION };
+  enum { FROM = 256, ANY, PROPERTY, COVER, START, TIMEOUT, TOP, RESET, MEMORY, WIDTHS, NAMES, RADIX, WATCH, VCD, JSON, KEEP, CONFIRM, HELP, VERSION };
   static const option known[] = {
       {"depth", required_argument, nullptr, 'k'},     {"from", required_argument, nullptr, FROM},
       {"any", no_argument, nullptr, ANY},             {"property", required_argument, nullptr, PROPERTY},
@@ -144,6 +145,7 @@ Options parse_options(int count, char **arguments) {
       {"radix", required_argument, nullptr, RADIX},   {"watch", required_argument, nullptr, WATCH},
       {"vcd", required_argument, nullptr, VCD},       {"json", no_argument, nullptr, JSON},
       {"keep", required_argument, nullptr, KEEP},     {"quiet", no_argument, nullptr, 'q'},
+      {"confirm", no_argument, nullptr, CONFIRM},
       {"help", no_argument, nullptr, HELP},           {"version", no_argument, nullptr, VERSION},
       {nullptr, 0, nullptr, 0}};
   Options options;
@@ -176,6 +178,7 @@ Options parse_options(int count, char **arguments) {
     case VCD: options.vcd_file = file("--vcd"); break;
     case JSON: options.json = true; break;
     case KEEP: options.keep_folder = file("--keep"); break;
+    case CONFIRM: options.confirm = true; break;
     case 'q': options.quiet = true; break;
     case HELP: options.show_help = true; break;
     case VERSION: options.show_version = true; break;

@@ -45,7 +45,7 @@ struct Options {
   std::string vcd_file, keep_folder;
   Radix radix = Radix::hex;
   std::vector<std::string> watched;
-  bool json = false, quiet = false;
+  bool json = false, quiet = false, confirm = false;
   bool show_version = false, show_help = false;
 };
 

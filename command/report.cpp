@@ -99,6 +99,7 @@ std::string property_json(const Report &report, size_t p) {
   if (!property.source.empty()) text += ", \"source\": " + quoted(property.source);
   text += ", \"verdict\": \"" + verdict_word(property, verdict) + "\"";
   if (verdict.run) text += ", \"frame\": " + std::to_string(verdict.run->first) + ", \"by\": \"run\"";
+  if (!verdict.confirmed.empty()) text += ", \"simulator\": " + quoted(verdict.confirmed);
   if (verdict.safe > 0) {
     text += ", \"safe\": {\"from\": " + std::to_string(verdict.from) + ", \"to\": " + std::to_string(verdict.from + verdict.safe - 1) +
             ", \"by\": \"solver\"}";
@@ -129,6 +130,7 @@ std::string report_text(const Report &report) {
     bool shown = verdict.run && !options.quiet;
     if (shown && options.radix != Radix::dec) text += std::string(" (words in ") + radix_words[static_cast<int>(options.radix)] + ")";
     text += shown ? ":\n" + table(*report.chip, property, *verdict.run, options.radix) : "\n";
+    if (!verdict.confirmed.empty()) text += report.file + ": " + subject(property) + ": " + verdict.confirmed + "\n";
   }
   return text;
 }

@@ -18,7 +18,7 @@ class Search {
 public:
   Search(const Chip &searched, const Plan &wanted, Stop &when) : chip(searched), plan(wanted), stop(when), verdicts(searched.properties.size()) {
     solver.set("quiet", 1); // standard output is ours
-    // Measured (docs/COMMAND.md): short incremental calls gain from neither stable phases nor local search.
+    // Many short calls gain from neither stable phases nor local search; docs/COMMAND.md has what was measured.
     solver.set("stabilize", 0);
     solver.set("walk", 0);
     solver.connect_terminator(&stop);

@@ -2,6 +2,7 @@
 #pragma once
 
 #include <optional>
+#include <string>
 #include <vector>
 
 #include "chip.h"
@@ -13,6 +14,7 @@ struct Verdict {
   // The frames that were asked about and that no run breaks the property in, by the solver's word: from `from`, so many.
   uint32_t from = 0, safe = 0;
   std::optional<Run> run; // of a broken property
+  std::string confirmed; // what a simulator says of the run, where it was asked
   double seconds = 0;
 };
 

@@ -14,7 +14,6 @@ namespace {
 // an assert or a cover, with the literal of the frames that break it or reach it
 struct Statement {
   Property property;
-  unsigned line = 0;
   Lit seen = FALSE;
   std::vector<Lit> reads; // for the table: the words that it reads are looked for from here
 };
@@ -64,8 +63,9 @@ public:
     }
     chip.net.p = chip.properties[0].code;
     chip.notes.insert(chip.notes.end(), port.notes.begin(), port.notes.end());
-    note_inputs(chip);
+    note_inputs(emission);
     name_words(emission);
+    set_bench(emission);
     return chip;
   }
 
@@ -91,11 +91,12 @@ private:
       statement.property.kind = cell.type == "$cover" ? Property::Kind::cover : Property::Kind::assertion;
       statement.property.name = name_of(design, cell);
       statement.property.source = cell.source;
-      std::sscanf(cell.source.c_str() + cell.source.rfind(':') + 1, "%u", &statement.line);
+      statement.property.first_line = cell.first_line;
+      std::sscanf(cell.source.c_str() + cell.source.rfind(':') + 1, "%u", &statement.property.last_line);
       all.push_back(statement.property);
       if (!is_wanted(statement.property)) continue;
       Lit enable = logic.lit(cell.port("EN")[0]);
-      Lit holds = logic.aig.where(logic.lit(cell.port("A")[0]), enable); // yosys leaves it undefined elsewhere
+      Lit holds = logic.where(logic.lit(cell.port("A")[0]), enable); // yosys leaves it undefined elsewhere
       statement.seen = logic.aig.land(enable, statement.property.kind == Property::Kind::cover ? holds : holds ^ 1);
       statement.reads = {enable, holds};
       statements.push_back(statement);
@@ -103,7 +104,7 @@ private:
     test_names(all, Property::Kind::assertion, options.properties, "--property ");
     test_names(all, Property::Kind::cover, options.covers, "--cover ");
     std::stable_sort(statements.begin(), statements.end(), [](const Statement &left, const Statement &right) {
-      return std::make_pair(left.property.kind, left.line) < std::make_pair(right.property.kind, right.line);
+      return std::make_pair(left.property.kind, left.property.last_line) < std::make_pair(right.property.kind, right.property.last_line);
     });
   }
 
@@ -126,7 +127,7 @@ private:
     for (const Cell &cell : design.cells) {
       if (cell.type != "$assume") continue;
       Lit enable = logic.lit(cell.port("EN")[0]);
-      now = logic.aig.land(now, logic.aig.land(enable, logic.aig.where(logic.lit(cell.port("A")[0]), enable) ^ 1) ^ 1);
+      now = logic.aig.land(now, logic.aig.land(enable, logic.where(logic.lit(cell.port("A")[0]), enable) ^ 1) ^ 1);
     }
     if (now == TRUE) return TRUE;
     Lit kept = logic.aig.add_latch(true);
@@ -141,11 +142,38 @@ private:
     throw Failure("--watch " + name + ": the design has no signal of this name; one of an inner module has its instance in front, as ram.q");
   }
 
-  void note_inputs(Chip &chip) const {
-    std::set<std::string> wires(logic.undriven.begin(), logic.undriven.end());
-    for (const std::string &wire : wires) chip.notes.push_back("the wire " + wire + " has no driver: it may be anything in each frame");
+  void note_inputs(Emission &emission) const {
+    Chip &chip = emission.chip;
+    for (const auto &[wire, input] : logic.undriven) {
+      if (emission.code(input) == NO_CODE) continue;
+      chip.notes.push_back("the wire " + wire + " has no driver: it may be anything in each frame");
+      chip.bench.obstacle = "the wire " + wire + " has no driver";
+    }
+    auto kept = std::count_if(logic.undefined.begin(), logic.undefined.end(), [&](Lit input) { return emission.code(input) != NO_CODE; });
+    if (kept > 0) {
+      chip.notes.push_back(std::to_string(kept) + " bits are left undefined (x) by the source: they may be anything in each frame");
+      chip.bench.obstacle = "it depends on what the source leaves undefined";
+    }
     for (const Cell &cell : design.cells)
       if (cell.type == "$live" || cell.type == "$fair") chip.notes.push_back(cell.source + ": what shall hold some time is not asked about");
+  }
+
+  // for a simulator: the clock, all inputs, and the registers that begin as the run says
+  void set_bench(Emission &emission) const {
+    Bench &bench = emission.chip.bench;
+    bench.top = design.top;
+    bench.rising = logic.is_rising();
+    for (const Net &net : design.nets) {
+      Word word = word_of(net, emission);
+      word.name = net.name; // without a range
+      if (is_input(net) && logic.is_clock(net.bits[0])) bench.clock = net.name;
+      else if (is_input(net)) bench.inputs.push_back(word);
+      else if (std::any_of(net.bits.begin(), net.bits.end(), [&](Bit bit) {
+                 auto known = logic.values().find(bit);
+                 return known != logic.values().end() && logic.begins_unknown(known->second / 2) && emission.code(known->second) != NO_CODE;
+               }))
+        bench.unknown.push_back(word);
+    }
   }
 
   // The names of the source for what the chip has; of several names for the same bits the table shows that of the outermost module.

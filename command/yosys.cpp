@@ -42,11 +42,13 @@ std::string hierarchy(const Options &options, const std::string &top) {
   return line.str() + "\n";
 }
 
-// What is undefined stays so (-keepdc): each such bit is an input of its own later. Statements are asked about in the frame that they are of.
+// What is undefined stays so (-keepdc): each such bit is an input of its own later. Statements are asked about in the frame that they are of. yosys
+// takes a register into a read only where it has found its enable, which leaves more undefined than the source does: so only there.
 std::string synthesis(const Options &options, Reads reads) {
   std::ostringstream lines;
-  lines << "proc\nflatten\nchformal -early\nopt -keepdc\n"
-        << "memory -nomap -nowiden -norom" << (reads == Reads::as_written ? " -nordff" : "") << "\nmemory_map -rom-only -keepdc\n";
+  bool as_written = reads == Reads::as_written;
+  lines << "proc\nflatten\nchformal -early\nopt -keepdc" << (as_written ? " -nodffe -nosdff" : "") << "\n"
+        << "memory -nomap -nowiden -norom" << (as_written ? " -nordff" : "") << "\nmemory_map -rom-only -keepdc\n";
   if (!options.memory.empty()) lines << "memory_map t:$mem_v2 c:" << bare(options.memory, "a memory's name") << " %d\n";
   lines << "opt -keepdc -nodffe -nosdff\nasync2sync\ndffunmap\ntechmap\nopt -keepdc -nodffe -nosdff\naigmap\nopt_clean\n"
            "write_json /dev/fd/3\n";

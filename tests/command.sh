@@ -1,7 +1,7 @@
 #!/usr/bin/env bash
 # The command `marrubigai`: it is built without a warning, and with sanitizers; its verdicts on sheets, texts and Verilog are those of
 # scripts/find.sh and of the designs' stories; each exit status, each refusal by name; interrupts and time; what it writes.
-# Arguments: the programs `frames` and `replay`. After `rt staticlib marrubigai`; needs libcadical-dev, yosys and cadical.
+# Arguments: the programs `frames` and `replay`. After `rt staticlib marrubigai`; needs libcadical-dev, yosys, iverilog and cadical.
 set -u
 FRAMES=$(readlink -f "$1")
 REPLAY=$(readlink -f "$2")
@@ -160,6 +160,8 @@ design() { # name, line of the assertion, frame of the fault, depth, options ..
   check "$name, faulty: status" same 10 "$?"
   check "$name, faulty: the frame" grep -qxF "$name.v: assert $at is broken in frame $frame at the earliest (words in hex):" "$work/out"
   check "$name, faulty: the table" grep -qE "^ +$frame .*  <- property broken$" "$work/out"
+  run -q --confirm -k "$depth" -D FAULTY "$@" "$name.v"
+  check "$name, faulty: the simulator sees it" grep -qxF "$name.v: assert $at: confirmed by iverilog on the original files" "$work/out"
   run -q --any -k "$frame" -D FAULTY "$@" "$name.v"
   check "$name, faulty, asked once" grep -qxF "$name.v: assert $at is broken first in frame $frame" "$work/out"
 }
@@ -254,6 +256,15 @@ chip 's/assert (last/assert (logic_bit || last/; s/reg \[3:0\] last/logic logic_
 ends "SystemVerilog" 10 "chip.sv: assert chip.sv:11 is broken in frame 2 at the earliest" "" -q -k 4 chip.sv
 cp "$work/files/chip.sv" "$work/files/a b.sv"
 ends "a name with a space" 10 "a b.sv: assert a b.sv:11 is broken in frame 2 at the earliest" "" -q -k 4 "a b.sv"
+chip 's/assert/no_nine: assert/' > "$work/files/labelled.v"
+run -q -k 4 --confirm labelled.v
+check "a label that the simulator cannot take" grep -qF "not tried by iverilog, which cannot take the files: labelled.v:11" "$work/out"
+printf '#!/bin/sh\nexit 0\n' > "$work/vvp"; chmod +x "$work/vvp"; mkdir "$work/deaf"; mv "$work/vvp" "$work/deaf"
+chip '' > "$work/files/chip.v"
+path=$work/deaf:$PATH ends "a simulator that sees nothing" 1 "" "chip.v:11: iverilog, fed the run that was found, sees no failure of this assertion in frame 2." -q -k 4 --confirm chip.v
+mkdir "$work/tmp"
+TMPDIR=$work/tmp run -q -k 4 --confirm chip.v
+check "nothing is left behind" rmdir "$work/tmp"
 mkdir "$work/without"
 path=$work/without ends "no yosys" 1 "" "yosys is missing" chip.sv
 
@@ -312,15 +323,18 @@ check "the pkg-config file" same "prefix=/opt/m Version: $(sed -n 's/^#define MA
 check "the man page has every option of the help" same "$("$plain" --help | grep -oE -- '--[a-z]+' | sort -u)" \
   "$(sed 's/\\-/-/g' "$installed/share/man/man1/marrubigai.1" | grep -oE -- '--[a-z]+' | sort -u)"
 
-### the page's commands; another version of the solver or of yosys may choose other runs and gates, and then only verdicts are compared
-awk -v commands="$work/commands" -v shown="$work/shown" '
-  /^```/ { plain = !inside && $0 == "```"; inside = !inside; next }
-  plain && /^\$ / { print substr($0, 3) > commands; next }
-  plain && !/^marrubigai / { print > shown }' docs/COMMAND.md
+### the pages' commands; another version of the solver or of yosys may choose other runs and gates, and then only verdicts are compared
 hidden='^$'
-"$plain" --version | grep -q 'CaDiCaL sc2021$' && yosys -V | grep -q '^Yosys 0\.23 ' || hidden="$hidden\|^frame\|^ \|: note: "
-check "the page has commands" [ "$(wc -l < "$work/commands")" -eq 3 ]
-check "the page's commands" diff <(grep -v "$hidden" "$work/shown") <(bash "$work/commands" 2>&1 | grep -v "$hidden")
+"$plain" --version | grep -q 'CaDiCaL sc2021$' && yosys -V | grep -q '^Yosys 0\.23 ' || hidden="$hidden\\|^frame\\|^ \\|: note: "
+for page in README.md docs/COMMAND.md; do
+  rm -f "$work/commands" "$work/shown"
+  awk -v commands="$work/commands" -v shown="$work/shown" '
+    /^```/ || /^\$ / { inside = 0 }
+    inside { print > shown }
+    /^\$ target\/command\/marrubigai / { inside = 1; print substr($0, 3) > commands }' "$page"
+  check "$page has commands" [ "$(wc -l < "$work/commands")" -ge 2 ]
+  check "the commands of $page" diff <(grep -v "$hidden" "$work/shown") <(bash "$work/commands" 2>&1 | grep -v "$hidden")
+done
 
 ### hostile files
 check "the damager is built" tool hostile

@@ -29,7 +29,7 @@ if ! command -v rt >/dev/null 2>&1; then
 fi
 . scripts/install.sh
 install_missing awk mawk make make rustc rustc cadical cadical minisat minisat cc gcc g++ g++ valgrind valgrind vcd2fst gtkwave \
-  /usr/include/ccadical.h libcadical-dev yosys yosys berkeley-abc berkeley-abc || { fail "a tool is missing"; finish; }
+  /usr/include/ccadical.h libcadical-dev yosys yosys berkeley-abc berkeley-abc iverilog iverilog || { fail "a tool is missing"; finish; }
 
 compile() { # where, name, root file, further options of rustc ..
   nice rustc -O --edition 2021 -o "$1/$2" "${@:4}" "$3"
