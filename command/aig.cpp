@@ -21,6 +21,8 @@ Lit Aig::mux(Lit condition, Lit then, Lit otherwise) {
 
 namespace {
 
+enum { MOST_CONFLICTS = 20000 };
+
 // gates below the literals, each behind its operands
 std::vector<uint32_t> gates_below(const Aig &aig, const std::vector<Lit> &roots) {
   std::vector<uint32_t> order, stack;
@@ -90,6 +92,7 @@ bool can_differ(const Aig &aig, Lit active, const std::vector<Lit> &word, Lit ot
   if (word == other_word || active == FALSE || other_active == FALSE) return false;
   CaDiCaL::Solver solver;
   solver.set("quiet", 1);
+  solver.limit("conflicts", MOST_CONFLICTS); // where that is not enough they count as different
   auto literal = [](Lit of) { return of % 2 ? -static_cast<int>(of / 2 + 1) : static_cast<int>(of / 2 + 1); };
   std::vector<Lit> roots{active, other_active};
   roots.insert(roots.end(), word.begin(), word.end());

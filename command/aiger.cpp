@@ -105,7 +105,8 @@ struct Gathered {
     while (names >> name) {
       size_t open = name.rfind('[');
       std::string index = open == std::string::npos || open == 0 || name.back() != ']' ? "" : name.substr(open + 1, name.size() - open - 2);
-      bool plain = !index.empty() && index.size() <= 4 && index.find_first_not_of("0123456789") == std::string::npos && (index == "0" || index[0] != '0');
+      bool digits = !index.empty() && index.size() <= 4 && index.find_first_not_of("0123456789") == std::string::npos;
+      bool plain = digits && (index == "0" || index[0] != '0');
       std::string word = plain ? name.substr(0, open) : name;
       if (!whole.count(word) && !bits.count(word)) order.push_back(word);
       if (plain) bits[word][static_cast<uint32_t>(std::stoul(index))] = code;
@@ -122,7 +123,8 @@ struct Gathered {
       if (whole.count(name)) made.push_back({name, {whole.at(name)}});
       if (!bits.count(name)) continue;
       const auto &its = bits.at(name);
-      bool complete = inputs.count(name) && its.rbegin()->first + 1 == its.size(); // a text has all bits of an input, of a register those that were kept
+      // a text has all bits of an input, but of a register those that were kept
+      bool complete = inputs.count(name) && its.rbegin()->first + 1 == its.size();
       for (auto at = its.begin(); at != its.end();) {
         Word word;
         uint32_t low = at->first, next = low;

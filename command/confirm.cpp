@@ -80,8 +80,8 @@ bool has_failed(const std::string &said, const Property &property, uint32_t fram
   while (std::getline(lines, line)) {
     unsigned number = 0, time = 0;
     if (line.compare(0, 7, "ERROR: ") == 0) {
-      ours = line.compare(0, file.size(), file) == 0 && std::sscanf(line.c_str() + file.size(), "%u", &number) == 1 && number >= property.first_line &&
-             number <= property.last_line;
+      ours = line.compare(0, file.size(), file) == 0 && std::sscanf(line.c_str() + file.size(), "%u", &number) == 1 &&
+             number >= property.first_line && number <= property.last_line;
     } else if (ours && std::sscanf(line.c_str(), " Time: %u", &time) == 1 && time / 2 == frame) {
       return true;
     }

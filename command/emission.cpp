@@ -102,10 +102,11 @@ Emission emit(const Aig &aig, const MemoryPort &port, const std::vector<Lit> &ro
   std::string counts = std::to_string(inputs.size()) + " inputs, " + std::to_string(latches.size()) + " registers, " + std::to_string(data_bits) +
                        " read bits, " + std::to_string(gates.size()) + " gates";
   if (address.size() > MOST_ADDRESS_BITS)
-    throw Failure(port.source + ": memory " + port.name + " has " + std::to_string(address.size()) + " address bits, and 12 is the most. Make it smaller by a parameter.");
+    throw Failure(port.source + ": memory " + port.name + " has " + std::to_string(address.size()) + " address bits, and 12 is the most.\n" +
+                  "Make it smaller by a parameter (-P).");
   if (data_bits > MOST_DATA_BITS)
-    throw Failure(port.source + ": what is asked about depends on " + std::to_string(data_bits) + " data bits of memory " + port.name + ", and 32 is the most.\n" +
-                  "Make the words narrower by a parameter, or ask about less (--property).");
+    throw Failure(port.source + ": what is asked about depends on " + std::to_string(data_bits) + " data bits of memory " + port.name +
+                  ", and 32 is the most.\nMake the words narrower by a parameter (-P), or ask about less (--property).");
   if (wires > MOST_WIRES)
     throw Failure("what is asked about depends on " + std::to_string(wires) + " wires (" + counts + "), and 600 is the most.\n" +
                   "Ask about one property (--property), or make the design smaller by a parameter (-P): narrower words, fewer of them.");
@@ -140,7 +141,8 @@ Emission emit(const Aig &aig, const MemoryPort &port, const std::vector<Lit> &ro
   chip.address = made.codes_of(port.address);
   chip.write_data = made.codes_of(port.write_data);
   chip.read_data = made.codes_of(port.read);
-  chip.notes.push_back("memory " + port.name + " (" + port.source + "): " + std::to_string(net.m) + " address bits, " + std::to_string(net.n) + " data bits, start " +
-                       (net.unknown_start ? "unknown" : std::to_string(net.initial_word)) + "; " + std::to_string(wires) + " wires of at most 600 (" + counts + ")");
+  std::string begins = net.unknown_start ? "unknown" : std::to_string(net.initial_word);
+  chip.notes.push_back("memory " + port.name + " (" + port.source + "): " + std::to_string(net.m) + " address bits, " + std::to_string(net.n) +
+                       " data bits, start " + begins + "; " + std::to_string(wires) + " wires of at most 600 (" + counts + ")");
   return made;
 }

@@ -65,8 +65,8 @@ Register Logic::add_register(char initial) {
 void Logic::take_clock(Bit its_clock, bool rising, const Cell &cell) {
   std::string edge = rising ? "rising" : "falling";
   if (!inputs.count(its_clock))
-    throw Failure(cell.source + ": the clock " + name_of(its_clock) + " is no input of the top module " + design.top + ": a frame is a step of all registers.\n" +
-                  "Use an enable in place of a gated or divided clock.");
+    throw Failure(cell.source + ": the clock " + name_of(its_clock) + " is no input of the top module " + design.top +
+                  ": a frame is a step of all registers.\nUse an enable in place of a gated or divided clock.");
   if (!clocked) {
     clocked = &cell;
     clock = its_clock;

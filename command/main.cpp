@@ -23,7 +23,8 @@ void print(const std::string &text) {
 // What only one kind of file has a use for is refused with the others, so that no option does nothing.
 void test_options(const Options &options, bool verilog) {
   auto unused = [&](bool given, const char *option) {
-    if (given) throw Failure(std::string(option) + " is for " + (verilog ? "sheets and ASCII AIGER" : "Verilog") + ", and this is none\n" + usage_line, USAGE);
+    std::string kind = verilog ? "sheets and ASCII AIGER" : "Verilog";
+    if (given) throw Failure(option + (" is for " + kind) + ", and this is none\n" + usage_line, USAGE);
   };
   if (verilog) return unused(options.widths.has_value(), "--widths"), unused(!options.names_file.empty(), "--names");
   unused(!options.top.empty(), "--top");
@@ -75,7 +76,8 @@ int main(int count, char **arguments) {
     for (size_t p = 0; options.confirm && p < verdicts.size(); p++)
       if (verdicts[p].run) verdicts[p].confirmed = confirm(options, chip, chip.properties[p], *verdicts[p].run, stop);
     Report report{options.files[0], &chip, &options, &verdicts, "", stop.seconds()};
-    if (exit_status(report) == STOPPED) report.stopped = stop.why();
+    for (const Verdict &verdict : verdicts)
+      if (verdict.kind == Verdict::Kind::stopped) report.stopped = stop.why();
     if (!options.vcd_file.empty()) write_waveform(options.vcd_file, chip, verdicts);
     print(options.json ? report_json(report) : report_text(report));
     return exit_status(report);

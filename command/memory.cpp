@@ -11,7 +11,9 @@ std::vector<Bit> part(const std::vector<Bit> &bits, size_t at, size_t width) {
   return {first, first + static_cast<std::ptrdiff_t>(width)};
 }
 
-std::string words_text(const Cell &cell) { return std::to_string(cell.number("SIZE")) + " words of " + std::to_string(cell.number("WIDTH")) + " bits"; }
+std::string words_text(const Cell &cell) {
+  return std::to_string(cell.number("SIZE")) + " words of " + std::to_string(cell.number("WIDTH")) + " bits";
+}
 
 // what every word begins as, by its bits: 0, 1, x, or * where words differ
 std::string start_of(const Cell &cell) {
@@ -28,10 +30,12 @@ std::string start_of(const Cell &cell) {
 
 } // namespace
 
-const Cell &only_memory(const Design &design) {
+const Cell &only_memory(const Design &design, const std::string &chosen) {
   std::vector<const Cell *> found;
   for (const Cell &cell : design.cells)
     if (cell.type == "$mem_v2") found.push_back(&cell);
+  if (found.empty() && !chosen.empty())
+    throw Failure("--memory " + chosen + ": the design has no memory of this name that is written and read; without --memory it says which there are");
   if (found.empty())
     throw Failure(design.top + ": the design has no memory that is written and read, and this engine is for chips with one.\n"
                                "An array that yosys dissolves into registers, as one whose every index is a constant, is none.");
@@ -96,18 +100,20 @@ MemoryCut::Access MemoryCut::read_access(size_t at) {
 
 // The address of whichever is active in a frame. Two that are active in one frame must have the same.
 std::vector<Lit> MemoryCut::joined_address(std::vector<Access> accesses) {
+  bool two_writes = false, two_reads = false, both = false;
   for (size_t i = 0; i < accesses.size(); i++)
     for (size_t j = 0; j < i; j++) {
       if (!can_differ(aig, accesses[i].active, accesses[i].address, accesses[j].active, accesses[j].address)) continue;
-      if (accesses[i].writes && accesses[j].writes)
-        refuse("is written at two addresses in one frame, and a second write port is not built.\nWrite one word in a step of the clock.");
-      if (accesses[i].writes || accesses[j].writes)
-        refuse("is read at one address and written at another in the same frame: this needs a second port, which this version does not have.\n"
-               "Give reading and writing one address; or put a register behind the word that is read (not before the address), and give each an enable so that "
-               "no step of the clock does both.");
-      refuse("is read at two addresses in one frame: this needs a second port, which this version does not have.\n"
-             "Read one word in a step of the clock, or make two arrays of it that are written alike and keep one of them (--memory).");
+      (accesses[i].writes != accesses[j].writes ? both : accesses[i].writes ? two_writes : two_reads) = true;
     }
+  if (two_writes) refuse("is written at two addresses in one frame, and a second write port is not built.\nWrite one word in a step of the clock.");
+  if (two_reads)
+    refuse("is read at two addresses in one frame: this needs a second port, which this version does not have.\n"
+           "Read one word in a step of the clock, or make two arrays of it that are written alike and keep one of them (--memory).");
+  if (both)
+    refuse("is read at one address and written at another in the same frame: this needs a second port, which this version does not have.\n"
+           "Give reading and writing one address; or put a register behind the word that is read (not before the address), and give each an enable\n"
+           "so that no step of the clock does both.");
   // An address may not depend on what is read in its frame: those whose enable does come behind, where the last enable is not asked.
   auto rank = [&](const Access &access) { return access.active == TRUE ? 2 : aig.depends_on(access.active, Aig::Kind::read) ? 1 : 0; };
   std::stable_sort(accesses.begin(), accesses.end(), [&](const Access &left, const Access &right) { return rank(left) < rank(right); });
@@ -134,8 +140,8 @@ Lit MemoryCut::in_array() const {
 void MemoryCut::join_writes(const std::vector<Access> &writes) {
   Lit inside = in_array();
   if (inside != TRUE)
-    port.notes.push_back("memory " + cell.name + " has " + words_text(cell) + ", and its index can be beyond them: what is written there is dropped, and what is "
-                         "read there is what the memory begins as");
+    port.notes.push_back("memory " + cell.name + " has " + words_text(cell) + ", and its index can be beyond them: what is written there is " +
+                         "dropped, and what is read there is what the memory begins as");
   std::vector<Lit> enable(width, FALSE);
   port.write_data.assign(width, FALSE);
   for (const Access &write : writes)
@@ -177,8 +183,8 @@ MemoryPort MemoryCut::finish() {
   std::vector<Access> writes, reads, all;
   for (size_t at = 0; at < writers; at++) writes.push_back(write_access(at));
   for (size_t at = 0; at < readers; at++) reads.push_back(read_access(at));
-  all = reads; // so that two reads are told as such, whatever the write does
-  all.insert(all.end(), writes.begin(), writes.end());
+  all = writes;
+  all.insert(all.end(), reads.begin(), reads.end());
   port.address = joined_address(all);
   join_writes(writes);
   bool partial = false;

@@ -12,8 +12,8 @@ struct MemoryPort {
   std::vector<std::string> notes;
 };
 
-// Finds the memory. A Failure where there is none, or several.
-const Cell &only_memory(const Design &design);
+// Finds the memory, which the user may have chosen by its name. A Failure where there is none, or several.
+const Cell &only_memory(const Design &design, const std::string &chosen);
 
 // In two steps, as what goes into the memory may depend on what comes out of it: made, its output drives the logic behind it; finished, it has
 // its port. What does not fit into one port is a Failure that says so by name.

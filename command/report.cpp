@@ -32,8 +32,8 @@ std::string verdict_text(const Property &property, const Verdict &verdict, const
   std::string safe = verdict.safe == 0 ? "" : frames_text(verdict.from, verdict.safe) + ", by the solver's word";
   switch (verdict.kind) {
   case Verdict::Kind::broken:
-    return subject(property) + (cover ? " is reached" : " is broken") + (earliest ? "" : " first") + " in frame " + std::to_string(verdict.run->first) +
-           (earliest ? " at the earliest" : "");
+    return subject(property) + (cover ? " is reached" : " is broken") + (earliest ? "" : " first") + " in frame " +
+           std::to_string(verdict.run->first) + (earliest ? " at the earliest" : "");
   case Verdict::Kind::holds: return subject(property) + holds + safe;
   case Verdict::Kind::stopped: break;
   }
@@ -61,7 +61,8 @@ std::string run_json(const Chip &chip, const Property &property, const Run &run,
   const std::vector<Word> words = chip.named.empty() ? columns(chip, property) : chip.named;
   std::string text = "[";
   for (uint32_t i = 0; i < run.frames(); i++) {
-    text += std::string(i ? "," : "") + "\n      {\"frame\": " + std::to_string(i) + ", \"holds\": " + (run.value(property.code, i) ? "true" : "false");
+    text += std::string(i ? "," : "") + "\n      {\"frame\": " + std::to_string(i);
+    text += std::string(", \"holds\": ") + (run.value(property.code, i) ? "true" : "false");
     text += ", \"words\": {";
     for (size_t w = 0; w < words.size(); w++) {
       bool idle = is_idle(chip, run, words[w].codes, i);
@@ -141,7 +142,8 @@ std::string report_json(const Report &report) {
   char seconds[32];
   std::snprintf(seconds, sizeof seconds, "%.3f", report.seconds);
   std::string text = "{\"marrubigai\": " + quoted(MARRUBIGAI_VERSION) + ", \"file\": " + quoted(report.file) +
-                     ", \"depth\": " + std::to_string(report.options->depth) + ", \"radix\": \"" + radix_words[static_cast<int>(report.options->radix)] + "\",\n";
+                     ", \"depth\": " + std::to_string(report.options->depth) + ", \"radix\": \"" +
+                     radix_words[static_cast<int>(report.options->radix)] + "\",\n";
   text += " \"chip\": {\"inputs\": " + std::to_string(chip.net.inputs) + ", \"latches\": " + std::to_string(chip.net.latches) +
           ", \"gates\": " + std::to_string(chip.net.gates) + ", \"wires\": " + std::to_string(chip.wires()) + "},\n";
   text += " \"memory\": {";

@@ -42,10 +42,11 @@ Run replay(const Chip &chip, const Property &property, const std::vector<marrubi
   size_t line = chip.wires() + 1;
   std::vector<uint8_t> trace(line * (depth + 1));
   auto reply = marrubigai_replay(chip.of(property), chip.latches.data(), chip.net.latches, chip.gates.data(), chip.net.gates, depth,
-                                 reinterpret_cast<const uint8_t *>(answer.data()), answer.size(), memory.data(), memory.size(), trace.data(), trace.size());
+                                 reinterpret_cast<const uint8_t *>(answer.data()), answer.size(), memory.data(), memory.size(), trace.data(),
+                                 trace.size());
   if (reply.number == MARRUBIGAI_NO_VIOLATION)
-    throw Failure("The solver claims a run that breaks " + property.name + ", but the chip, stepped with its memory as the solver says, breaks it in no frame 0 to " +
-                  std::to_string(depth) + ". The solver is wrong: nothing is known of this property.");
+    throw Failure("The solver claims a run that breaks " + property.name + ", but the chip, stepped with its memory as the solver says, breaks it " +
+                  "in no frame 0 to " + std::to_string(depth) + ". The solver is wrong: nothing is known of this property.");
   if (reply.number != MARRUBIGAI_PASSED || reply.claimed)
     throw Failure("the solver's answer cannot be stepped: " + refusal_word(reply.number) + "\n" + refusal_hint(reply.number));
   Run run;

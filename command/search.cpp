@@ -11,7 +11,8 @@ enum Answer { SATISFIABLE = 10, UNSATISFIABLE = 20 }; // CaDiCaL's
 
 void test(uint32_t number, uint32_t place) {
   if (number == MARRUBIGAI_PASSED) return;
-  throw Failure("the chip is " + refusal_word(number) + (place ? " at line " + std::to_string(place) + " of its sheet" : "") + "\n" + refusal_hint(number));
+  std::string at = place ? " at line " + std::to_string(place) + " of its sheet" : "";
+  throw Failure("the chip is " + refusal_word(number) + at + "\n" + refusal_hint(number));
 }
 
 class Search {

@@ -39,7 +39,7 @@ void test_statements(const Design &design) {
 class Chipmaker {
 public:
   Chipmaker(const Design &read, const Options &wanted)
-      : design(read), options(wanted), logic(read, wanted.resets), memory_cell(only_memory(read)), cut(logic, memory_cell) {}
+      : design(read), options(wanted), logic(read, wanted.resets), memory_cell(only_memory(read, wanted.memory)), cut(logic, memory_cell) {}
 
   Chip make() {
     find_statements();
@@ -212,14 +212,17 @@ private:
     Word word{net.name, {}};
     for (Bit bit : net.bits) {
       auto known = logic.values().find(bit);
-      word.codes.push_back(bit == BIT_0 ? 0 : bit == BIT_1 ? 1 : known == logic.values().end() || logic.is_clock(bit) ? NO_CODE : emission.code(known->second));
+      bool has_value = known != logic.values().end() && !logic.is_clock(bit);
+      word.codes.push_back(bit == BIT_0 ? 0 : bit == BIT_1 ? 1 : has_value ? emission.code(known->second) : NO_CODE);
     }
-    if (net.low != 0 || net.upwards) word.name += "[" + std::to_string(net.low + static_cast<int>(net.bits.size()) - 1) + ":" + std::to_string(net.low) + "]";
+    int high = net.low + static_cast<int>(net.bits.size()) - 1;
+    if (net.low != 0 || net.upwards) word.name += "[" + std::to_string(high) + ":" + std::to_string(net.low) + "]";
     return word;
   }
 
   bool is_input(const Net &net) const {
-    return std::any_of(design.ports.begin(), design.ports.end(), [&](const Port &port) { return port.direction == "input" && port.name == net.name; });
+    return std::any_of(design.ports.begin(), design.ports.end(),
+                       [&](const Port &port) { return port.direction == "input" && port.name == net.name; });
   }
 
   bool is_register(const Net &net) const {
@@ -240,7 +243,8 @@ private:
       uint32_t code = emission.code(literal);
       auto named = code == NO_CODE ? by_wire.end() : by_wire.find(code / 2);
       if (named != by_wire.end()) {
-        if (std::none_of(words.begin(), words.end(), [&](const Word &word) { return word.name == named->second.name; })) words.push_back(named->second);
+        const Word &word = named->second;
+        if (std::none_of(words.begin(), words.end(), [&](const Word &other) { return other.name == word.name; })) words.push_back(word);
         continue;
       }
       const Aig::Node &node = logic.aig.node(literal / 2);
@@ -254,7 +258,7 @@ private:
 
 } // namespace
 
-bool is_verilog(const std::string &path) { return ends_with(path, ".v") || ends_with(path, ".sv") || ends_with(path, ".vh") || ends_with(path, ".svh"); }
+bool is_verilog(const std::string &path) { return ends_with(path, ".v") || ends_with(path, ".sv"); }
 
 Chip chip_of_verilog(const Options &options, Stop &stop) {
   for (const std::string &file : options.files)

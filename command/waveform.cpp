@@ -1,5 +1,6 @@
 #include "waveform.h"
 
+#include <cstdio>
 #include <map>
 
 namespace {
@@ -31,12 +32,14 @@ public:
     size_t width = codes.size(), open = label.rfind('[');
     std::string range = width > 1 ? "[" + std::to_string(width - 1) + ":0]" : "";
     unsigned high, low;
-    if (open != std::string::npos && open > 0 && std::sscanf(label.c_str() + open, "[%u:%u]", &high, &low) == 2 && high >= low && high - low + 1 == width) {
+    bool has_range = open != std::string::npos && open > 0 && std::sscanf(label.c_str() + open, "[%u:%u]", &high, &low) == 2;
+    if (has_range && high >= low && high - low + 1 == width) {
       range = label.substr(open);
       label.erase(open);
     }
     if (label[0] == '$' || label[0] == '[') label.insert(label.begin(), '_');
-    scope.declared.push_back("$var wire " + std::to_string(width) + " " + id_of(signals.size()) + " " + label + (range.empty() ? "" : " " + range) + " $end\n");
+    if (!range.empty()) label += " " + range;
+    scope.declared.push_back("$var wire " + std::to_string(width) + " " + id_of(signals.size()) + " " + label + " $end\n");
     signals.push_back(codes);
   }
 

@@ -16,8 +16,8 @@ std::string word(const std::string &text, const char *what) {
 
 // without quotes too, where yosys does not take them off again
 std::string bare(const std::string &text, const char *what) {
-  if (text.find_first_of(" \t;#\"\n\r") != std::string::npos) throw Failure(text + ": yosys cannot take " + what + " with a blank, a quote, ; or # in it");
-  return text;
+  if (text.find_first_of(" \t;#\"\n\r") == std::string::npos) return text;
+  throw Failure(text + ": yosys cannot take " + what + " with a blank, a quote, ; or # in it");
 }
 
 std::string reading(const Options &options) {

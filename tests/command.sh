@@ -243,6 +243,7 @@ says "two memories" 1 "chip: the design has 2 memories, and one can stay a memor
   --memory small   chip.v:12, 2 words of 2 bits" "$second"
 says "one of them registers" 10 "chip.v: assert chip.v:11 is broken in frame 2 at the earliest
 chip.v: assert chip.v:12 is broken in frame 2 at the earliest" "$second" --memory mem
+says "a memory that is none" 1 "--memory none: the design has no memory of this name" "$second" --memory none
 says "two clocks" 1 "chip.v:11: it takes the falling edge of clock, and chip.v:2 the rising edge of clock" 's/posedge clock) assert/negedge clock) last2 <= last; reg [3:0] last2 = 0; always @* assert/; s/(last != 9)/(last2 != 9)/'
 says "a clock that is read" 1 "the clock clock is read as data too; within a frame it has no value" 's/last != 9/last != 9 | clock/'
 says "a gated clock" 1 "chip.v:2: the clock gated is no input of the top module chip" 's/always @(posedge clock) begin/wire gated = clock \& reset; always @(posedge gated) begin/'
@@ -269,12 +270,19 @@ mkdir "$work/without"
 path=$work/without ends "no yosys" 1 "" "yosys is missing" chip.sv
 
 ### interrupts and time: a search that would take long stops at once and says how deep it got
-slow() { (cd "$designs" && exec "$plain" "$@" -q -k 255 -P INDEX=3 -P TAG=12 --reset reset cache.v) > "$work/out" 2> "$work/err"; }
-slow --timeout 2; check "out of time: status" same 30 $?
-check "out of time: said" grep -qE "^cache.v: assert cache.v:43: out of time; it holds in frames 0 to [0-9]+, by the solver's word$" "$work/out"
-slow & sleep 3; kill -INT "$(pgrep -P $! -x marrubigai || echo $!)"; wait $!
-check "interrupted: status" same 30 $?
-check "interrupted: said" grep -qE "^cache.v: assert cache.v:43: interrupted; it holds in frames 0 to [0-9]+" "$work/out"
+(cd "$designs" && "$plain" -q -k 0 --keep "$work/slow" --property cache.v:43 -P INDEX=3 -P TAG=12 --reset reset cache.v) > /dev/null
+depth_is_told() { grep -qE "^$work/slow/1.sheet: the property: $1; it holds in frames 0 to [0-9]+, by the solver's word$" "$work/out"; }
+"$plain" --timeout 2 -q -k 255 "$work/slow/1.sheet" > "$work/out" 2> "$work/err"
+check "out of time: status" same 30 $?
+check "out of time: said" depth_is_told "out of time"
+for signal in INT TERM HUP; do
+  "$plain" -q -k 255 "$work/slow/1.sheet" > "$work/out" 2> "$work/err" &
+  sleep 2
+  kill -$signal $!
+  wait $!
+  check "SIG$signal: status" same 30 $?
+  check "SIG$signal: said" depth_is_told interrupted
+done
 mkdir "$work/bin"
 printf '#!/bin/sh\nsleep 60\n' > "$work/bin/yosys"; chmod +x "$work/bin/yosys"
 began=$SECONDS
