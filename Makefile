@@ -1,8 +1,25 @@
 # For a newcomer: `make demo` and `make test`. They need the Rattle kit (the command `rt`).
-.PHONY: demo test bench fuzz promises
+.PHONY: demo command install test bench fuzz promises
+PREFIX ?= /usr/local
+VERSION = $(shell sed -n 's/^\#define MARRUBIGAI_VERSION "\(.*\)"/\1/p' include/marrubigai.h)
 
 demo:
 	@bash scripts/demo.sh
+
+# the command marrubigai, in target/command; it proves the library first where that is not there
+command:
+	@bash -c '. scripts/install.sh && install_missing g++ g++ awk mawk /usr/include/cadical.hpp libcadical-dev yosys yosys'
+	@$(MAKE) --no-print-directory -C command
+
+# programs, library, header, pkg-config file and man page, under DESTDIR where that is given
+install: command
+	@test -x target/bin/frames && test -x target/bin/replay && test -x target/bin/import_aag || rt check frames replay import_aag
+	install -d $(addprefix "$(DESTDIR)$(PREFIX)"/,bin include lib/pkgconfig share/man/man1)
+	install target/command/marrubigai target/bin/frames target/bin/replay target/bin/import_aag "$(DESTDIR)$(PREFIX)/bin"
+	install -m 644 include/marrubigai.h "$(DESTDIR)$(PREFIX)/include"
+	install -m 644 target/staticlib/libmarrubigai.a "$(DESTDIR)$(PREFIX)/lib"
+	sed 's|@PREFIX@|$(PREFIX)|; s|@VERSION@|$(VERSION)|' command/marrubigai.pc.in > "$(DESTDIR)$(PREFIX)/lib/pkgconfig/marrubigai.pc"
+	install -m 644 command/marrubigai.1 "$(DESTDIR)$(PREFIX)/share/man/man1"
 
 test:
 	@bash tests/run.sh

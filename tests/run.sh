@@ -28,8 +28,8 @@ if ! command -v rt >/dev/null 2>&1; then
   finish
 fi
 . scripts/install.sh
-install_missing awk mawk rustc rustc cadical cadical minisat minisat cc gcc g++ g++ valgrind valgrind vcd2fst gtkwave \
-  /usr/include/ccadical.h libcadical-dev yosys yosys berkeley-abc berkeley-abc || { fail "a tool is missing"; finish; }
+install_missing awk mawk make make rustc rustc cadical cadical minisat minisat cc gcc g++ g++ valgrind valgrind vcd2fst gtkwave \
+  /usr/include/ccadical.h libcadical-dev yosys yosys berkeley-abc berkeley-abc iverilog iverilog || { fail "a tool is missing"; finish; }
 
 compile() { # where, name, root file, further options of rustc ..
   nice rustc -O --edition 2021 -o "$1/$2" "${@:4}" "$3"
@@ -106,6 +106,7 @@ if {
     bash tests/verilog.sh "$frames" "$replay" "$import" "$logs/verilog"
   start "a sample of the library's calls under valgrind" library-valgrind valgrind --quiet --error-exitcode=99 "$logs/library" sample
   start "the header for C against the library" header bash tests/header.sh
+  start "the command marrubigai, with yosys and sanitizers" command bash tests/command.sh "$frames" "$replay"
   start "a search depth by depth with the library and CaDiCaL's" search bash tests/search.sh "$frames" "$replay"
 else
   cat "$logs/staticlib.out"

@@ -1,0 +1,8 @@
+// A chip from ASCII AIGER, as docs/VERILOG.md has it: the memory cut out as ports.
+#pragma once
+
+#include "chip.h"
+#include "options.h"
+
+bool is_aiger(const std::string &path, const std::string &content);
+Chip chip_of_aiger(const std::string &path, const std::string &content, const Options &options);

@@ -1,0 +1,60 @@
+// A chip as the library takes it, with what is to be told of it: its properties and the names of its words.
+#pragma once
+
+#include <marrubigai.h>
+
+#include <string>
+#include <vector>
+
+#include "words.h"
+
+struct Property {
+  enum class Kind { property, assertion, cover };
+  Kind kind = Kind::property;
+  std::string name, source; // source: file and line, or empty
+  unsigned first_line = 0, last_line = 0; // of Verilog
+  marrubigai_code code = 0; // what shall hold in every frame; of a cover, that it is not reached
+  std::vector<Word> read; // the named words that it reads, for the table
+};
+
+// What a test bench around the original Verilog needs to know.
+struct Bench {
+  std::string top, clock; // empty where the chip is none of Verilog
+  bool rising = true;
+  std::vector<Word> inputs; // without the clock
+  std::vector<Word> unknown; // registers that begin unknown, by all their names
+  std::string obstacle; // why a run cannot be tried, where it cannot
+};
+
+struct Chip {
+  marrubigai_netlist net{}; // its property is put in by `of`
+  std::vector<marrubigai_latch> latches;
+  std::vector<marrubigai_gate> gates;
+  std::vector<Property> properties;
+
+  std::vector<Word> shown; // the table's columns
+  std::vector<Word> named; // every word that has a name
+  // The memory's port as it is shown. A bit of an address that is a constant or another bit's wire is no bit of the sheet's address, and a data
+  // bit on which no property depends is no bit of the sheet's words.
+  std::string memory_name;
+  std::vector<uint32_t> address, read_data, write_data;
+  Bench bench;
+  std::vector<std::string> notes; // what the user should know of how the chip was made
+
+  // the record with the property in its place
+  marrubigai_netlist of(const Property &property) const {
+    marrubigai_netlist record = net;
+    record.p = property.code;
+    return record;
+  }
+  uint32_t wires() const { return net.inputs + net.latches + net.n + net.gates; }
+  uint32_t first_read() const { return net.inputs + net.latches + 1; }
+};
+
+// the port as the record has it, for a chip that came as a sheet or a text
+inline void show_port_of_record(Chip &chip) {
+  const marrubigai_netlist &net = chip.net;
+  chip.address.assign(net.address, net.address + net.m);
+  chip.write_data.assign(net.write_data, net.write_data + net.n);
+  for (uint32_t t = 0; t < net.n; t++) chip.read_data.push_back(2 * (chip.first_read() + t));
+}

@@ -1,0 +1,91 @@
+// marrubigai: from a chip with a memory to an answer. docs/COMMAND.md is the user's page.
+
+#include <csignal>
+#include <cstdio>
+
+#include "aiger.h"
+#include "confirm.h"
+#include "failure.h"
+#include "files.h"
+#include "outputs.h"
+#include "report.h"
+#include "search.h"
+#include "sheet.h"
+#include "verilog.h"
+
+namespace {
+
+void print(const std::string &text) {
+  bool written = std::fwrite(text.data(), 1, text.size(), stdout) == text.size();
+  if (std::fflush(stdout) != 0 || !written) throw Failure("standard output cannot be written (a full disk, or its reader has gone)");
+}
+
+// What only one kind of file has a use for is refused with the others, so that no option does nothing.
+void test_options(const Options &options, bool verilog) {
+  auto unused = [&](bool given, const char *option) {
+    std::string kind = verilog ? "sheets and ASCII AIGER" : "Verilog";
+    if (given) throw Failure(option + (" is for " + kind) + ", and this is none\n" + usage_line, USAGE);
+  };
+  if (verilog) return unused(options.widths.has_value(), "--widths"), unused(!options.names_file.empty(), "--names");
+  unused(!options.top.empty(), "--top");
+  unused(!options.macros.empty(), "-D");
+  unused(!options.folders.empty(), "-I");
+  unused(!options.parameters.empty(), "-P");
+  unused(!options.resets.empty(), "--reset");
+  unused(!options.memory.empty(), "--memory");
+  unused(!options.properties.empty(), "--property");
+  unused(!options.covers.empty(), "--cover");
+  unused(options.confirm, "--confirm");
+  if (options.files.size() > 1) throw Failure("one sheet or one text at a time: " + options.files[1] + " is too many\n" + usage_line, USAGE);
+}
+
+Chip load(const Options &options, Stop &stop) {
+  const std::string &path = options.files[0];
+  if (is_verilog(path)) {
+    test_options(options, true);
+    return chip_of_verilog(options, stop);
+  }
+  std::string content = read_file(path);
+  bool sheet = is_sheet(path, content), text = !sheet && is_aiger(path, content);
+  if (!sheet && !text) {
+    std::string kind = other_kind(content);
+    throw Failure(path + ": " + (kind.empty() ? "this is neither Verilog (.v, .sv) nor a sheet nor ASCII AIGER" : "this is " + kind));
+  }
+  test_options(options, false);
+  if (text && !options.names_file.empty()) throw Failure("--names is for sheets: a text has its names in its symbols", USAGE);
+  Chip chip = sheet ? chip_of_sheet(path, content, options) : chip_of_aiger(path, content, options);
+  apply_start(chip, options.start);
+  show_watched(chip, options.watched);
+  return chip;
+}
+
+} // namespace
+
+int main(int count, char **arguments) {
+  std::signal(SIGPIPE, SIG_IGN); // a reader that has gone is told as a failed write
+  try {
+    Options options = parse_options(count, arguments);
+    if (options.show_help) return print(help_text), 0;
+    if (options.show_version) return print(version_text() + "\n"), 0;
+    Stop stop(options.timeout, !options.quiet);
+    test_outputs(options);
+    Chip chip = load(options, stop);
+    if (!options.keep_folder.empty()) keep_sheets(chip, options.keep_folder);
+    Plan plan{options.depth, options.from, options.any};
+    std::vector<Verdict> verdicts = search(chip, plan, stop);
+    for (size_t p = 0; options.confirm && p < verdicts.size(); p++)
+      if (verdicts[p].run) verdicts[p].confirmed = confirm(options, chip, chip.properties[p], *verdicts[p].run, stop);
+    Report report{options.files[0], &chip, &options, &verdicts, "", stop.seconds()};
+    for (const Verdict &verdict : verdicts)
+      if (verdict.kind == Verdict::Kind::stopped) report.stopped = stop.why();
+    if (!options.vcd_file.empty()) write_waveform(options.vcd_file, chip, verdicts);
+    print(options.json ? report_json(report) : report_text(report));
+    return exit_status(report);
+  } catch (const Failure &failure) {
+    std::fprintf(stderr, "%s\n", failure.message.c_str());
+    return failure.status;
+  } catch (const std::exception &problem) {
+    std::fprintf(stderr, "marrubigai: %s\n", problem.what());
+    return FAILED;
+  }
+}

@@ -1,0 +1,17 @@
+// Another program, started and waited for.
+#pragma once
+
+#include <string>
+#include <vector>
+
+#include "stop.h"
+
+struct Finished {
+  int status = 0; // the exit status; 128 and the signal's number where it was ended by one
+  bool missing = false; // there is no such program
+  std::string said; // on standard output and standard error
+  std::string written; // to file descriptor 3, so that no file is needed
+};
+
+// The program ends with this one, however this one ends, and is killed where it is time to stop: then a Failure with status STOPPED.
+Finished run_program(const std::vector<std::string> &arguments, Stop &stop);

@@ -1,0 +1,173 @@
+#include "report.h"
+
+#include <cadical.hpp>
+
+#include <cstdio>
+
+#include "failure.h"
+#include "table.h"
+
+#ifndef KIT_VERSION
+#define KIT_VERSION "an unnamed kit"
+#endif
+
+namespace {
+
+std::string subject(const Property &property) {
+  if (property.kind == Property::Kind::property) return "the property";
+  std::string named = (property.kind == Property::Kind::cover ? "cover " : "assert ") + property.name;
+  return property.source.empty() || property.source == property.name ? named : named + " (" + property.source + ")";
+}
+
+std::string frames_text(uint32_t from, uint32_t count) {
+  uint32_t last = from + count - 1;
+  return count == 1 ? "frame " + std::to_string(from) : "frames " + std::to_string(from) + " to " + std::to_string(last);
+}
+
+// The verdict as a sentence. That no earlier frame breaks it is the solver's word, and that this one does is not: the run was stepped.
+std::string verdict_text(const Property &property, const Verdict &verdict, const Options &options, const std::string &stopped) {
+  bool cover = property.kind == Property::Kind::cover;
+  bool earliest = !options.any && options.from == 0;
+  std::string holds = cover ? " is not reached in " : " holds in ";
+  std::string safe = verdict.safe == 0 ? "" : frames_text(verdict.from, verdict.safe) + ", by the solver's word";
+  switch (verdict.kind) {
+  case Verdict::Kind::broken:
+    return subject(property) + (cover ? " is reached" : " is broken") + (earliest ? "" : " first") + " in frame " +
+           std::to_string(verdict.run->first) + (earliest ? " at the earliest" : "");
+  case Verdict::Kind::holds: return subject(property) + holds + safe;
+  case Verdict::Kind::stopped: break;
+  }
+  return subject(property) + ": " + stopped + "; " + (safe.empty() ? "nothing is known of it" : "it" + holds + safe);
+}
+
+std::string quoted(const std::string &text) {
+  std::string made = "\"";
+  for (char byte : text) {
+    unsigned char value = static_cast<unsigned char>(byte);
+    char escape[8];
+    if (byte == '"' || byte == '\\') made += std::string("\\") + byte;
+    else if (value < 0x20) std::snprintf(escape, sizeof escape, "\\u%04x", value), made += escape;
+    else made += byte;
+  }
+  return made + "\"";
+}
+
+std::string word_json(const std::vector<uint32_t> &codes, const Run &run, uint32_t frame, Radix radix) {
+  return quoted(written(run.bits(codes, frame), radix));
+}
+
+std::string run_json(const Chip &chip, const Property &property, const Run &run, Radix radix) {
+  std::vector<Access> memory = accesses(chip, run);
+  const std::vector<Word> words = chip.named.empty() ? columns(chip, property) : chip.named;
+  std::string text = "[";
+  for (uint32_t i = 0; i < run.frames(); i++) {
+    text += std::string(i ? "," : "") + "\n      {\"frame\": " + std::to_string(i);
+    text += std::string(", \"holds\": ") + (run.value(property.code, i) ? "true" : "false");
+    text += ", \"words\": {";
+    for (size_t w = 0; w < words.size(); w++) {
+      bool idle = is_idle(chip, run, words[w].codes, i);
+      text += (w ? ", " : "") + quoted(words[w].name) + ": " + (idle ? "null" : word_json(words[w].codes, run, i, radix));
+    }
+    const Access &access = memory[i];
+    text += "}, \"memory\": {";
+    if (access.reads || access.writes) text += "\"address\": " + quoted(written(access.address, radix));
+    if (access.reads) {
+      text += ", \"read\": " + quoted(written(access.read, radix)) + ", \"written_in\": ";
+      text += access.writer ? std::to_string(*access.writer) : "null";
+    }
+    if (access.writes) text += ", \"write\": " + quoted(written(access.written, radix));
+    text += "}}";
+  }
+  return text + "\n    ]";
+}
+
+std::string verdict_word(const Property &property, const Verdict &verdict) {
+  bool cover = property.kind == Property::Kind::cover;
+  switch (verdict.kind) {
+  case Verdict::Kind::broken: return cover ? "reached" : "broken";
+  case Verdict::Kind::holds: return cover ? "not reached" : "holds";
+  case Verdict::Kind::stopped: break;
+  }
+  return "stopped";
+}
+
+std::string property_json(const Report &report, size_t p) {
+  const Chip &chip = *report.chip;
+  const Property &property = chip.properties[p];
+  const Verdict &verdict = (*report.verdicts)[p];
+  static const char *const kinds[] = {"property", "assert", "cover"};
+  std::string text = "{\"name\": " + quoted(property.name) + ", \"kind\": \"" + kinds[static_cast<int>(property.kind)] + "\"";
+  if (!property.source.empty()) text += ", \"source\": " + quoted(property.source);
+  text += ", \"verdict\": \"" + verdict_word(property, verdict) + "\"";
+  if (verdict.run) text += ", \"frame\": " + std::to_string(verdict.run->first) + ", \"by\": \"run\"";
+  if (!verdict.confirmed.empty()) text += ", \"simulator\": " + quoted(verdict.confirmed);
+  if (verdict.safe > 0) {
+    text += ", \"safe\": {\"from\": " + std::to_string(verdict.from) + ", \"to\": " + std::to_string(verdict.from + verdict.safe - 1) +
+            ", \"by\": \"solver\"}";
+  }
+  char seconds[32];
+  std::snprintf(seconds, sizeof seconds, "%.3f", verdict.seconds);
+  text += std::string(", \"seconds\": ") + seconds;
+  if (verdict.run) text += ",\n     \"run\": " + run_json(chip, property, *verdict.run, report.options->radix);
+  return text + "}";
+}
+
+} // namespace
+
+std::string version_text() {
+  return std::string("marrubigai " MARRUBIGAI_VERSION ", library proved with ") + KIT_VERSION + ", solver CaDiCaL " + CaDiCaL::Solver::version();
+}
+
+std::string report_text(const Report &report) {
+  static const char *const radix_words[] = {"hex", "decimal", "binary"};
+  const Options &options = *report.options;
+  std::string text;
+  if (!options.quiet)
+    for (const std::string &note : report.chip->notes) text += report.file + ": note: " + note + "\n";
+  for (size_t p = 0; p < report.verdicts->size(); p++) {
+    const Property &property = report.chip->properties[p];
+    const Verdict &verdict = (*report.verdicts)[p];
+    text += report.file + ": " + verdict_text(property, verdict, options, report.stopped);
+    bool shown = verdict.run && !options.quiet;
+    if (shown && options.radix != Radix::dec) text += std::string(" (words in ") + radix_words[static_cast<int>(options.radix)] + ")";
+    text += shown ? ":\n" + table(*report.chip, property, *verdict.run, options.radix) : "\n";
+    if (!verdict.confirmed.empty()) text += report.file + ": " + subject(property) + ": " + verdict.confirmed + "\n";
+  }
+  return text;
+}
+
+std::string report_json(const Report &report) {
+  const Chip &chip = *report.chip;
+  static const char *const radix_words[] = {"hex", "dec", "bin"};
+  char seconds[32];
+  std::snprintf(seconds, sizeof seconds, "%.3f", report.seconds);
+  std::string text = "{\"marrubigai\": " + quoted(MARRUBIGAI_VERSION) + ", \"file\": " + quoted(report.file) +
+                     ", \"depth\": " + std::to_string(report.options->depth) + ", \"radix\": \"" +
+                     radix_words[static_cast<int>(report.options->radix)] + "\",\n";
+  text += " \"chip\": {\"inputs\": " + std::to_string(chip.net.inputs) + ", \"latches\": " + std::to_string(chip.net.latches) +
+          ", \"gates\": " + std::to_string(chip.net.gates) + ", \"wires\": " + std::to_string(chip.wires()) + "},\n";
+  text += " \"memory\": {";
+  if (!chip.memory_name.empty()) text += "\"name\": " + quoted(chip.memory_name) + ", ";
+  text += "\"address_bits\": " + std::to_string(chip.net.m) + ", \"data_bits\": " + std::to_string(chip.net.n) + ", \"start\": " +
+          (chip.net.unknown_start ? "null" : std::to_string(chip.net.initial_word)) + "},\n";
+  text += " \"notes\": [";
+  for (size_t at = 0; at < chip.notes.size(); at++) text += (at ? ", " : "") + quoted(chip.notes[at]);
+  text += "],\n \"status\": " + std::to_string(exit_status(report));
+  if (!report.stopped.empty()) text += ", \"stopped\": " + quoted(report.stopped);
+  text += std::string(", \"seconds\": ") + seconds + ",\n \"properties\": [";
+  for (size_t p = 0; p < report.verdicts->size(); p++) text += (p ? ",\n    " : "\n    ") + property_json(report, p);
+  return text + "\n  ]}\n";
+}
+
+int exit_status(const Report &report) {
+  bool broken = false, reached = false, stopped = false, only_covers = true;
+  for (size_t p = 0; p < report.verdicts->size(); p++) {
+    bool cover = report.chip->properties[p].kind == Property::Kind::cover;
+    Verdict::Kind kind = (*report.verdicts)[p].kind;
+    (cover ? reached : broken) |= kind == Verdict::Kind::broken;
+    stopped |= kind == Verdict::Kind::stopped;
+    only_covers &= cover;
+  }
+  if (broken || (only_covers && reached)) return BROKEN;
+  return stopped ? STOPPED : HOLDS;
+}

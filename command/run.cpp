@@ -1,0 +1,81 @@
+#include "run.h"
+
+#include <map>
+
+#include "failure.h"
+#include "refusals.h"
+
+namespace {
+
+// what the run is fed, in the SAT Competition's form: the inputs and read bits of all frames
+std::string answer_text(const Chip &chip, const std::vector<marrubigai_position> &frames, uint32_t depth, const std::function<bool(int32_t)> &value) {
+  std::string text = "s SATISFIABLE\n";
+  auto add = [&](uint32_t wire, const marrubigai_position &position) {
+    auto reply = marrubigai_literal_at(chip.net, position, 2 * wire);
+    if (reply.number != MARRUBIGAI_PASSED) throw Failure("the literal of a wire: " + refusal_word(reply.number));
+    text += "v " + std::to_string(value(reply.literal) ? reply.literal : -reply.literal) + "\n";
+  };
+  for (uint32_t i = 0; i <= depth; i++) {
+    for (uint32_t w = 1; w <= chip.net.inputs; w++) add(w, frames[i]);
+    for (uint32_t t = 0; t < chip.net.n; t++) add(chip.first_read() + t, frames[i]);
+  }
+  return text + "v 0\n";
+}
+
+} // namespace
+
+bool Run::value(uint32_t code, uint32_t frame) const {
+  bool bit = code >= 2 && wires[frame][code / 2 - 1] == '1';
+  return bit != (code % 2 == 1);
+}
+
+Bits Run::bits(const std::vector<uint32_t> &codes, uint32_t frame) const {
+  Bits made;
+  for (uint32_t code : codes) made.push_back(code == NO_CODE ? 'x' : value(code, frame) ? '1' : '0');
+  return made;
+}
+
+Run replay(const Chip &chip, const Property &property, const std::vector<marrubigai_position> &frames, uint32_t depth,
+           const std::function<bool(int32_t)> &value) {
+  std::string answer = answer_text(chip, frames, depth, value);
+  std::vector<uint32_t> memory(MARRUBIGAI_MEMORY_WORDS);
+  size_t line = chip.wires() + 1;
+  std::vector<uint8_t> trace(line * (depth + 1));
+  auto reply = marrubigai_replay(chip.of(property), chip.latches.data(), chip.net.latches, chip.gates.data(), chip.net.gates, depth,
+                                 reinterpret_cast<const uint8_t *>(answer.data()), answer.size(), memory.data(), memory.size(), trace.data(),
+                                 trace.size());
+  if (reply.number == MARRUBIGAI_NO_VIOLATION)
+    throw Failure("The solver claims a run that breaks " + property.name + ", but the chip, stepped with its memory as the solver says, breaks it " +
+                  "in no frame 0 to " + std::to_string(depth) + ". The solver is wrong: nothing is known of this property.");
+  if (reply.number != MARRUBIGAI_PASSED || reply.claimed)
+    throw Failure("the solver's answer cannot be stepped: " + refusal_word(reply.number) + "\n" + refusal_hint(reply.number));
+  Run run;
+  run.first = reply.first;
+  for (uint32_t i = 0; i <= reply.first; i++) run.wires.emplace_back(reinterpret_cast<const char *>(trace.data()) + i * line, line - 1);
+  return run;
+}
+
+std::vector<Access> accesses(const Chip &chip, const Run &run) {
+  std::vector<Access> made;
+  std::map<Bits, uint32_t> writers;
+  for (uint32_t i = 0; i < run.frames(); i++) {
+    Access access;
+    access.reads = run.value(chip.net.re, i);
+    access.writes = run.value(chip.net.we, i);
+    access.address = run.bits(chip.address, i);
+    access.read = run.bits(chip.read_data, i);
+    access.written = run.bits(chip.write_data, i);
+    auto writer = writers.find(access.address);
+    if (writer != writers.end()) access.writer = writer->second;
+    if (access.writes) writers[access.address] = i;
+    made.push_back(access);
+  }
+  return made;
+}
+
+bool is_idle(const Chip &chip, const Run &run, const std::vector<uint32_t> &codes, uint32_t frame) {
+  if (frame > 0 || run.value(chip.net.re, frame)) return false;
+  for (uint32_t code : codes)
+    if (code != NO_CODE && code / 2 >= chip.first_read() && code / 2 < chip.first_read() + chip.net.n) return true;
+  return false;
+}

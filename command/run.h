@@ -1,0 +1,35 @@
+// A run of a chip, as `marrubigai_replay` stepped it.
+#pragma once
+
+#include <functional>
+#include <optional>
+#include <string>
+#include <vector>
+
+#include "chip.h"
+
+struct Run {
+  uint32_t first = 0; // the frame that breaks the property, and the last one
+  std::vector<std::string> wires; // of each frame, wire 1 first
+
+  bool value(uint32_t code, uint32_t frame) const;
+  Bits bits(const std::vector<uint32_t> &codes, uint32_t frame) const;
+  uint32_t frames() const { return static_cast<uint32_t>(wires.size()); }
+};
+
+// What the memory does in a frame.
+struct Access {
+  bool reads = false, writes = false;
+  Bits address, read, written;
+  std::optional<uint32_t> writer; // the frame that wrote the word that is read; none: it is of the start
+};
+
+// Steps the chip with its whole memory through the frames 0 to `depth`, fed what `value` says of the literals (true or false for a variable), and
+// cuts the run behind the frame that first breaks the property. A Failure where no frame does: then the solver's answer was wrong.
+Run replay(const Chip &chip, const Property &property, const std::vector<marrubigai_position> &frames, uint32_t depth,
+           const std::function<bool(int32_t)> &value);
+
+std::vector<Access> accesses(const Chip &chip, const Run &run);
+
+// a word with a read bit of frame 0 where that does not read: it is no word of the memory
+bool is_idle(const Chip &chip, const Run &run, const std::vector<uint32_t> &codes, uint32_t frame);

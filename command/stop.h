@@ -1,0 +1,36 @@
+// When to stop: an interrupt, or the time that the user gave. Asked by the solver many times a second, so it also moves the progress line.
+#pragma once
+
+#include <cadical.hpp>
+
+#include <chrono>
+#include <cstdint>
+
+class Stop : public CaDiCaL::Terminator {
+public:
+  using Clock = std::chrono::steady_clock;
+
+  // Catches SIGINT, SIGTERM and SIGHUP from here on. The time runs from here on too.
+  Stop(double timeout_seconds, bool show_progress);
+  ~Stop() override;
+  Stop(const Stop &) = delete;
+  Stop &operator=(const Stop &) = delete;
+
+  bool terminate() override;
+  bool is_due() const;
+  const char *why() const; // "interrupted" or "out of time"
+  // milliseconds to wait at most, for a poll; -1 where there is no end
+  int milliseconds_left() const;
+  double seconds() const;
+
+  // The progress line, on a terminal alone and rewritten in place.
+  void at_frame(uint32_t frame, uint32_t depth);
+  void clear_line();
+
+private:
+  Clock::time_point began, deadline;
+  bool has_deadline, show_progress, line_is_shown = false;
+  Clock::time_point shown_at{};
+  uint32_t frame = 0, depth = 0;
+  void show_line();
+};

@@ -1,0 +1,278 @@
+#include "verilog.h"
+
+#include <algorithm>
+#include <cstdio>
+#include <set>
+
+#include "emission.h"
+#include "failure.h"
+#include "files.h"
+#include "yosys.h"
+
+namespace {
+
+// an assert or a cover, with the literal of the frames that break it or reach it
+struct Statement {
+  Property property;
+  Lit seen = FALSE;
+  std::vector<Lit> reads; // for the table: the words that it reads are looked for from here
+};
+
+bool is_asked_about(const std::string &type) { return type == "$assert" || type == "$cover"; }
+
+// by a label, or by the line where it stands
+std::string name_of(const Design &design, const Cell &cell) {
+  if (!cell.hidden) return cell.name;
+  for (const Cell &other : design.cells)
+    if (&other != &cell && is_asked_about(other.type) && other.hidden && other.source == cell.source) return cell.column_source;
+  return cell.source;
+}
+
+// Without one, yosys leaves nothing of the design.
+void test_statements(const Design &design) {
+  for (const Cell &cell : design.cells)
+    if (is_asked_about(cell.type)) return;
+  throw Failure(design.top + ": the design has no assert and no cover: there is nothing to ask about.\n"
+                             "Write assert (..) in an always block, in lines that `ifdef FORMAL keeps from other tools.");
+}
+
+class Chipmaker {
+public:
+  Chipmaker(const Design &read, const Options &wanted)
+      : design(read), options(wanted), logic(read, wanted.resets), memory_cell(only_memory(read, wanted.memory)), cut(logic, memory_cell) {}
+
+  Chip make() {
+    find_statements();
+    Lit allowed = assumptions();
+    std::vector<Lit> roots;
+    for (Statement &statement : statements) {
+      statement.seen = logic.aig.land(statement.seen, allowed);
+      roots.push_back(statement.seen);
+    }
+    for (const std::string &name : options.watched) {
+      std::vector<Lit> bits = logic.lits(watched_net(name).bits);
+      roots.insert(roots.end(), bits.begin(), bits.end());
+    }
+    MemoryPort port = cut.finish();
+    logic.finish_registers();
+    Emission emission = emit(logic.aig, port, roots, options.start);
+    Chip &chip = emission.chip;
+    for (Statement &statement : statements) {
+      statement.property.code = emission.code(statement.seen) ^ 1;
+      chip.properties.push_back(statement.property);
+    }
+    chip.net.p = chip.properties[0].code;
+    chip.notes.insert(chip.notes.end(), port.notes.begin(), port.notes.end());
+    note_inputs(emission);
+    name_words(emission);
+    set_bench(emission);
+    return chip;
+  }
+
+private:
+  const Design &design;
+  const Options &options;
+  Logic logic;
+  const Cell &memory_cell;
+  MemoryCut cut;
+  std::vector<Statement> statements;
+
+  bool is_wanted(const Property &property) const {
+    if (options.properties.empty() && options.covers.empty()) return true;
+    const auto &names = property.kind == Property::Kind::cover ? options.covers : options.properties;
+    return std::any_of(names.begin(), names.end(), [&](const std::string &name) { return name == property.name || name == property.source; });
+  }
+
+  void find_statements() {
+    std::vector<Property> all;
+    for (const Cell &cell : design.cells) {
+      if (!is_asked_about(cell.type)) continue;
+      Statement statement;
+      statement.property.kind = cell.type == "$cover" ? Property::Kind::cover : Property::Kind::assertion;
+      statement.property.name = name_of(design, cell);
+      statement.property.source = cell.source;
+      statement.property.first_line = cell.first_line;
+      std::sscanf(cell.source.c_str() + cell.source.rfind(':') + 1, "%u", &statement.property.last_line);
+      all.push_back(statement.property);
+      if (!is_wanted(statement.property)) continue;
+      Lit enable = logic.lit(cell.port("EN")[0]);
+      Lit holds = logic.where(logic.lit(cell.port("A")[0]), enable); // yosys leaves it undefined elsewhere
+      statement.seen = logic.aig.land(enable, statement.property.kind == Property::Kind::cover ? holds : holds ^ 1);
+      statement.reads = {enable, holds};
+      statements.push_back(statement);
+    }
+    test_names(all, Property::Kind::assertion, options.properties, "--property ");
+    test_names(all, Property::Kind::cover, options.covers, "--cover ");
+    std::stable_sort(statements.begin(), statements.end(), [](const Statement &left, const Statement &right) {
+      return std::make_pair(left.property.kind, left.property.last_line) < std::make_pair(right.property.kind, right.property.last_line);
+    });
+  }
+
+  void test_names(const std::vector<Property> &all, Property::Kind kind, const std::vector<std::string> &names, const char *option) const {
+    for (const std::string &name : names) {
+      std::string known;
+      bool found = false;
+      for (const Property &property : all) {
+        if (property.kind != kind) continue;
+        found = found || property.name == name || property.source == name;
+        known += (known.empty() ? "" : ", ") + property.name;
+      }
+      if (!found) throw Failure(option + name + ": there is none of this name" + (known.empty() ? "" : "; there are " + known));
+    }
+  }
+
+  // True where every assumption holds in this frame and held in all before: an assumption that a run breaks only later does not excuse it.
+  Lit assumptions() {
+    Lit now = TRUE;
+    for (const Cell &cell : design.cells) {
+      if (cell.type != "$assume") continue;
+      Lit enable = logic.lit(cell.port("EN")[0]);
+      now = logic.aig.land(now, logic.aig.land(enable, logic.where(logic.lit(cell.port("A")[0]), enable) ^ 1) ^ 1);
+    }
+    if (now == TRUE) return TRUE;
+    Lit kept = logic.aig.add_latch(true);
+    Lit allowed = logic.aig.land(kept, now);
+    logic.aig.set_next(kept, allowed);
+    return allowed;
+  }
+
+  const Net &watched_net(const std::string &name) const {
+    for (const Net &net : design.nets)
+      if (net.name == name) return net;
+    throw Failure("--watch " + name + ": the design has no signal of this name; one of an inner module has its instance in front, as ram.q");
+  }
+
+  void note_inputs(Emission &emission) const {
+    Chip &chip = emission.chip;
+    for (const auto &[wire, input] : logic.undriven) {
+      if (emission.code(input) == NO_CODE) continue;
+      chip.notes.push_back("the wire " + wire + " has no driver: it may be anything in each frame");
+      chip.bench.obstacle = "the wire " + wire + " has no driver";
+    }
+    auto kept = std::count_if(logic.undefined.begin(), logic.undefined.end(), [&](Lit input) { return emission.code(input) != NO_CODE; });
+    if (kept > 0) {
+      chip.notes.push_back(std::to_string(kept) + " bits are left undefined (x) by the source: they may be anything in each frame");
+      chip.bench.obstacle = "it depends on what the source leaves undefined";
+    }
+    for (const Cell &cell : design.cells)
+      if (cell.type == "$live" || cell.type == "$fair") chip.notes.push_back(cell.source + ": what shall hold some time is not asked about");
+  }
+
+  // for a simulator: the clock, all inputs, and the registers that begin as the run says
+  void set_bench(Emission &emission) const {
+    Bench &bench = emission.chip.bench;
+    bench.top = design.top;
+    bench.rising = logic.is_rising();
+    for (const Net &net : design.nets) {
+      Word word = word_of(net, emission);
+      word.name = net.name; // without a range
+      if (is_input(net) && logic.is_clock(net.bits[0])) bench.clock = net.name;
+      else if (is_input(net)) bench.inputs.push_back(word);
+      else if (std::any_of(net.bits.begin(), net.bits.end(), [&](Bit bit) {
+                 auto known = logic.values().find(bit);
+                 return known != logic.values().end() && logic.begins_unknown(known->second / 2) && emission.code(known->second) != NO_CODE;
+               }))
+        bench.unknown.push_back(word);
+    }
+  }
+
+  // The names of the source for what the chip has; of several names for the same bits the table shows that of the outermost module.
+  void name_words(Emission &emission) {
+    Chip &chip = emission.chip;
+    std::vector<const Net *> nets;
+    for (const Net &net : design.nets) nets.push_back(&net);
+    auto rank = [](const Net *net) { return std::count(net->name.begin(), net->name.end(), '.'); };
+    std::stable_sort(nets.begin(), nets.end(), [&](const Net *left, const Net *right) {
+      return std::make_tuple(rank(left), left->place) < std::make_tuple(rank(right), right->place);
+    });
+    std::set<std::vector<uint32_t>> shown;
+    std::map<uint32_t, Word> by_wire; // for the words that a property reads
+    std::vector<Word> inputs, registers;
+    for (const Net *net : nets) {
+      Word word = word_of(*net, emission);
+      bool has_bits = std::any_of(word.codes.begin(), word.codes.end(), [](uint32_t code) { return code != NO_CODE && code > 1; });
+      if (!has_bits) continue;
+      chip.named.push_back(word);
+      if (!shown.insert(word.codes).second) continue;
+      for (uint32_t code : word.codes)
+        if (code != NO_CODE) by_wire.emplace(code / 2, word);
+      if (is_input(*net)) inputs.push_back(word);
+      else if (is_register(*net)) registers.push_back(word);
+    }
+    if (!options.watched.empty()) {
+      for (const std::string &name : options.watched) chip.shown.push_back(word_of(watched_net(name), emission));
+      return;
+    }
+    chip.shown = inputs;
+    chip.shown.insert(chip.shown.end(), registers.begin(), registers.end());
+    for (size_t p = 0; p < statements.size(); p++) chip.properties[p].read = words_read(emission, by_wire, statements[p].reads);
+  }
+
+  Word word_of(const Net &net, const Emission &emission) const {
+    Word word{net.name, {}};
+    for (Bit bit : net.bits) {
+      auto known = logic.values().find(bit);
+      bool has_value = known != logic.values().end() && !logic.is_clock(bit);
+      word.codes.push_back(bit == BIT_0 ? 0 : bit == BIT_1 ? 1 : has_value ? emission.code(known->second) : NO_CODE);
+    }
+    int high = net.low + static_cast<int>(net.bits.size()) - 1;
+    if (net.low != 0 || net.upwards) word.name += "[" + std::to_string(high) + ":" + std::to_string(net.low) + "]";
+    return word;
+  }
+
+  bool is_input(const Net &net) const {
+    return std::any_of(design.ports.begin(), design.ports.end(),
+                       [&](const Port &port) { return port.direction == "input" && port.name == net.name; });
+  }
+
+  bool is_register(const Net &net) const {
+    return std::any_of(net.bits.begin(), net.bits.end(), [&](Bit bit) {
+      auto known = logic.values().find(bit);
+      return known != logic.values().end() && logic.register_nodes().count(known->second / 2) > 0;
+    });
+  }
+
+  // Back from the statement to the first names on each path.
+  std::vector<Word> words_read(const Emission &emission, const std::map<uint32_t, Word> &by_wire, std::vector<Lit> stack) const {
+    std::vector<Word> words;
+    std::set<uint32_t> seen;
+    while (!stack.empty()) {
+      Lit literal = stack.back();
+      stack.pop_back();
+      if (!seen.insert(literal / 2).second) continue;
+      uint32_t code = emission.code(literal);
+      auto named = code == NO_CODE ? by_wire.end() : by_wire.find(code / 2);
+      if (named != by_wire.end()) {
+        const Word &word = named->second;
+        if (std::none_of(words.begin(), words.end(), [&](const Word &other) { return other.name == word.name; })) words.push_back(word);
+        continue;
+      }
+      const Aig::Node &node = logic.aig.node(literal / 2);
+      if (node.kind != Aig::Kind::gate) continue;
+      stack.push_back(node.left);
+      stack.push_back(node.right);
+    }
+    return words;
+  }
+};
+
+} // namespace
+
+bool is_verilog(const std::string &path) { return ends_with(path, ".v") || ends_with(path, ".sv"); }
+
+Chip chip_of_verilog(const Options &options, Stop &stop) {
+  for (const std::string &file : options.files)
+    if (!is_verilog(file)) throw Failure(file + ": only Verilog (.v, .sv) can be given in several files", USAGE);
+  try {
+    Design design = read_verilog(options, Reads::as_written, stop);
+    test_statements(design);
+    return Chipmaker(design, options).make();
+  } catch (const NoFit &as_written) {
+    try {
+      Design design = read_verilog(options, Reads::clocked, stop);
+      return Chipmaker(design, options).make();
+    } catch (const NoFit &) {
+      throw as_written;
+    }
+  }
+}

@@ -1,0 +1,355 @@
+#!/usr/bin/env bash
+# The command `marrubigai`: it is built without a warning, and with sanitizers; its verdicts on sheets, texts and Verilog are those of
+# scripts/find.sh and of the designs' stories; each exit status, each refusal by name; interrupts and time; what it writes.
+# Arguments: the programs `frames` and `replay`. After `rt staticlib marrubigai`; needs libcadical-dev, yosys, iverilog and cadical.
+set -u
+FRAMES=$(readlink -f "$1")
+REPLAY=$(readlink -f "$2")
+export FRAMES REPLAY
+export ASAN_OPTIONS=exitcode=99
+cd "$(dirname "$0")/.." || exit 2
+here=$PWD
+. tests/check.sh
+
+build() { make --no-print-directory -C command "$@" > "$work/make" 2>&1 || { cat "$work/make"; return 1; }; }
+check "it is built" build
+check "it is built with sanitizers" build SANITIZE=1
+plain=$here/target/command/marrubigai
+sanitized=$here/target/command-sanitized/marrubigai
+[ -x "$plain" ] && [ -x "$sanitized" ] || finish
+objects() { find target/command-sanitized -name '*.o' ! -name main.o; }
+tool() { # name: a program of tests/command, linked with all of the command but its main
+  g++ -std=c++17 -Wall -Wextra -Werror -O1 -g -fsanitize=address,undefined -fno-sanitize-recover=all -Iinclude -o "$work/$1" "tests/command/$1.cpp" \
+    $(objects) target/staticlib/libmarrubigai.a -lcadical
+}
+
+# The command, with sanitizers, in the folder of the files.
+mkdir "$work/files"
+run() { (cd "${folder:-$work/files}" && PATH=${path:-$PATH} && exec "$sanitized" "$@") > "$work/out" 2> "$work/err"; }
+# It ends with this status, prints this, and what is said on standard error begins with the last; one of the two is empty.
+ends() { # what, status, printed, said, arguments ..
+  local what=$1 status=$2 printed=$3 said=$4
+  shift 4
+  run "$@"
+  check "$what: status" same "$status" "$?"
+  check "$what: printed" same "$printed" "$(cat "$work/out")"
+  check "$what: said" same "$said" "$(head -c ${#said} "$work/err")"
+  check "$what: something is said exactly where nothing is printed" same "$([ -s "$work/out" ])$?" "$([ ! -s "$work/err" ])$?"
+}
+usage="usage: marrubigai [OPTIONS] FILE.v .. | CHIP.sheet | CHIP.aag   (marrubigai --help lists the options)"
+
+### the command line
+wrong() { ends "$1" 2 "" "$2
+$usage" "${@:3}"; }
+wrong "no file" "a file is wanted"
+wrong "an option that is none" "'--prove' is no option" --prove chip.sheet
+wrong "an option without its argument" "-k wants an argument" -k
+for depth in x '' -1 256 1.0 99999999999; do wrong "depth '$depth'" "'$depth' is no depth for -k: a number from 0 to 255" -k "$depth" chip.sheet; done
+wrong "from above the depth" "--from is above the depth" -k 3 --from 4 chip.sheet
+wrong "a radix that is none" "'oct' is no radix: hex, dec or bin" --radix oct chip.sheet
+wrong "a time that is none" "'0' is no time: seconds, above 0" --timeout 0 chip.sheet
+wrong "a start that is none" "'x' is no start: a word (50 or 0x32), \`unknown\` or \`verilog\`" --start x chip.sheet
+wrong "widths that are none" "'3': --widths wants address bits (1 to 12), a comma, data bits (1 to 32)" --widths 3 chip.aag
+run --help; check "help: status" same 0 $?
+check "help names every option of the parser" same "$(grep -oE '\{"[a-z]+", (no|required)_argument' command/options.cpp | cut -d '"' -f 2 | sort -u)" \
+  "$(grep -oE -- '--[a-z]+' "$work/out" | sed 's/--//' | sort -u)"
+run --version; check "the version names kit and solver" grep -qE '^marrubigai [0-9.]+, library proved with .+, solver CaDiCaL .+$' "$work/out"
+
+### sheets: one run alone breaks this chip's property, in frame 1
+{ line N 1 0 1; line M 1 1 0; line G 3 4; line A 0; line D 2; line C 1 1 7; } > "$work/files/chip.sheet"
+printf 'input 2\nread 4\n' > "$work/files/chip.names"
+shown='frame  input  read  memory
+    0      1     0  reads 0 at 0 (start word), writes 1 at 0
+    1      0     1  reads 1 at 0 (written in frame 0), writes 0 at 0  <- property broken'
+ends "a sheet" 10 "chip.sheet: the property is broken in frame 1 at the earliest:
+$shown" "" --radix dec --names chip.names chip.sheet
+ends "a sheet, asked once" 10 "chip.sheet: the property is broken first in frame 1:
+$shown" "" --any -k 1 --radix dec --names chip.names chip.sheet
+ends "a sheet without names, in binary" 10 "chip.sheet: the property is broken in frame 1 at the earliest (words in binary):
+frame  inputs  memory
+    0       1  reads 0 at 0 (start word), writes 1 at 0
+    1       0  reads 1 at 0 (written in frame 0), writes 0 at 0  <- property broken" "" --radix bin chip.sheet
+ends "one word watched" 10 "chip.sheet: the property is broken in frame 1 at the earliest (words in hex):
+frame  read  memory
+    0     0  reads 0 at 0 (start word), writes 1 at 0
+    1     1  reads 1 at 0 (written in frame 0), writes 0 at 0  <- property broken" "" --watch read --names chip.names chip.sheet
+ends "a word that is none" 1 "" "--watch none: there is no such word; there are input, read" --watch none --names chip.names chip.sheet
+ends "to depth 0" 20 "chip.sheet: the property holds in frame 0, by the solver's word" "" -k 0 chip.sheet
+ends "asked once to depth 0" 20 "chip.sheet: the property holds in frame 0, by the solver's word" "" --any -k 0 chip.sheet
+ends "from another start" 10 "chip.sheet: the property is broken in frame 0 at the earliest" "" -q --start 1 chip.sheet
+ends "from an unknown start" 10 "chip.sheet: the property is broken in frame 0 at the earliest" "" -q --start unknown chip.sheet
+ends "a start of two bits" 1 "" "--start 2: a word of this memory has 1 bits" --start 2 chip.sheet
+ends "from frame 1" 10 "chip.sheet: the property is broken first in frame 1" "" -q --from 1 chip.sheet
+ends "options of Verilog" 2 "" "--top is for Verilog, and this is none" --top x chip.sheet
+ends "two sheets" 2 "" "one sheet or one text at a time: chip.sheet is too many" chip.sheet chip.sheet
+cp "$work/files/chip.sheet" "$work/files/-q"
+ends "a sheet by what is in it, with an odd name" 10 "-q: the property is broken in frame 1 at the earliest" "" -q -- -q
+
+# quiet frames are folded: a chain of latches, so that frame 4 is the first; nothing changes that is shown
+{ line N 0 4 0; line M 1 1 0; line L 1 0; line L 2 0; line L 4 0; line L 6 0; line A 0; line D 0; line C 0 0 9; } > "$work/files/chain.sheet"
+printf 'last 8\n' > "$work/files/chain.names"
+ends "quiet frames" 10 "chain.sheet: the property is broken in frame 4 at the earliest (words in hex):
+frame  last  memory
+    0     0  idle
+  ...  3 frames like this one
+    4     1  idle  <- property broken" "" --names chain.names chain.sheet
+
+# the examples, frame by frame, asked once and by the script
+by_script() { bash scripts/find.sh --least "$1" "$2" | sed -n '1{s/:$//;p}'; }
+agree() { # sheet, depth
+  local said
+  folder=$here run -q -k "$2" "$1"
+  said=$(sed 's/the property holds in frames* \(.*\), by the solver.s word/no run breaks the property in frames \1/; s/frames 0$/frames 0 to 0/' "$work/out")
+  same "$(by_script "$1" "$2")" "$said"
+}
+for sheet in examples/*/*.sheet; do
+  for depth in 0 1 3 5; do check "$sheet to depth $depth, by the script and by the command" agree "$sheet" "$depth"; done
+  status=$(bash scripts/find.sh "$sheet" 5 > /dev/null 2>&1; echo $?)
+  check "$sheet asked once" same "$status" "$(folder=$here run --any -k 5 "$sheet"; echo $?)"
+done
+
+### refusals by their words, and files of other kinds
+sed 's/^A         0/A         4/' "$work/files/chip.sheet" > "$work/files/loop.sheet"
+ends "a memory loop" 1 "" "loop.sheet: refused 6 (memory loop) at line 4: A         4
+The address or read enable depends" loop.sheet
+head -c 100 "$work/files/chip.sheet" > "$work/files/ragged.sheet"
+ends "a ragged sheet" 1 "" "ragged.sheet: refused 1 (ragged)" ragged.sheet
+kind() { # file, what it is
+  ends "$1" 1 "" "$1: this is $2" "$1"
+}
+printf 'aig 1 1 0 1 0\n' > "$work/files/binary.aig"; kind binary.aig "a netlist in binary AIGER"
+printf 'p cnf 1 1\n1 0\n' > "$work/files/formula.cnf"; kind formula.cnf "a formula in DIMACS CNF"
+printf 'refused         1         0\n' > "$work/files/refused.sheet"; kind refused.sheet "no sheet but the refusal of an import"
+printf 'hello\n' > "$work/files/hello"; kind hello "neither Verilog (.v, .sv) nor a sheet nor ASCII AIGER"
+: > "$work/files/empty"; kind empty "neither"
+ends "a missing file" 1 "" "none.sheet: it cannot be opened: No such file" none.sheet
+ends "a folder" 1 "" ".: it cannot be read" .
+
+### ASCII AIGER: the chip of above
+{ printf 'aag 3 2 0 5 1\n2\n4\n0\n2\n1\n1\n7\n6 3 4\n'; } > "$work/files/bare.aag"
+{ cat "$work/files/bare.aag"; printf 'i0 input\ni1 read_data\no0 address\no1 write_data\no2 write_enable\no3 read_enable\no4 property_holds\n'; } > "$work/files/chip.aag"
+ends "a text" 10 "chip.aag: the property is broken in frame 1 at the earliest:
+frame  input  memory
+    0      1  reads 0 at 0 (start word), writes 1 at 0
+    1      0  reads 1 at 0 (written in frame 0), writes 0 at 0  <- property broken" "" --start 0 --radix dec --watch input chip.aag
+run --start 0 --radix dec chip.aag; check "a text: all words" grep -q '^frame  input  read_data  memory$' "$work/out"
+run -q chip.aag; check "a text begins unknown" same "chip.aag: the property is broken in frame 0 at the earliest" "$(cat "$work/out")"
+ends "a text without symbols" 1 "" "bare.aag: its symbols do not tell how wide the memory is" bare.aag
+ends "a text with widths" 10 "bare.aag: the property is broken in frame 1 at the earliest" "" -q --start 0 --widths 1,1 bare.aag
+ends "other widths" 1 "" "bare.aag: it has 2 inputs and 5 outputs; 2 address bits and 1 data bits need" --widths 2,1 bare.aag
+sed 's/o2 write_enable/o2 read_enable/; s/o3 read_enable/o3 write_enable/' "$work/files/chip.aag" > "$work/files/exchanged.aag"
+ends "ports exchanged" 1 "" "exchanged.aag: output 2 is read_enable, and write_enable is due" exchanged.aag
+sed '1s/aag/agg/' "$work/files/chip.aag" > "$work/files/broken.aag"
+ends "a damaged text" 1 "" "broken.aag: refused 11 (not aiger) at line 1" broken.aag
+for macro in "" FAULTY; do
+  bash scripts/verilog_to_aag.sh ${macro:+-D $macro} carton_counter 3 8 examples/fifth-revision/carton_counter.v > "$work/files/cut$macro.aag"
+done
+ends "the carton counter cut by hand" 20 "cut.aag: the property holds in frames 0 to 4, by the solver's word" "" -q -k 4 --start 0 cut.aag
+ends "its fault" 10 "cutFAULTY.aag: the property is broken in frame 1 at the earliest" "" -q -k 4 --start 0 cutFAULTY.aag
+
+### Verilog as it is written: each design faulty and repaired
+designs=$here/examples/verilog
+folder=$designs
+design() { # name, line of the assertion, frame of the fault, depth, options ..
+  local name=$1 at="$1.v:$2" frame=$3 depth=$4
+  shift 4
+  run -q -k "$depth" "$@" "$name.v"
+  check "$name: status" same 20 "$?"
+  check "$name: it holds" grep -qxF "$name.v: assert $at holds in frames 0 to $depth, by the solver's word" "$work/out"
+  run -k "$depth" -D FAULTY "$@" "$name.v"
+  check "$name, faulty: status" same 10 "$?"
+  check "$name, faulty: the frame" grep -qxF "$name.v: assert $at is broken in frame $frame at the earliest (words in hex):" "$work/out"
+  check "$name, faulty: the table" grep -qE "^ +$frame .*  <- property broken$" "$work/out"
+  run -q --confirm -k "$depth" -D FAULTY "$@" "$name.v"
+  check "$name, faulty: the simulator sees it" grep -qxF "$name.v: assert $at: confirmed by iverilog on the original files" "$work/out"
+  run -q --any -k "$frame" -D FAULTY "$@" "$name.v"
+  check "$name, faulty, asked once" grep -qxF "$name.v: assert $at is broken first in frame $frame" "$work/out"
+}
+design carton_counter 44 1 4
+design histogram 24 8 9
+design lookup 51 9 9
+design registers 33 1 5
+design stack 49 3 6 --reset reset -P DEPTH=3 -P WIDTH=4
+design cache 43 1 7 --reset reset -P INDEX=2 -P TAG=3
+run -q -k 9 --cover cache.v:44 --reset reset -P INDEX=2 -P TAG=3 cache.v
+check "a cover alone: status" same 10 "$?"
+check "a cover alone" same "cache.v: cover cache.v:44 is reached in frame 6 at the earliest" "$(cat "$work/out")"
+run -q -k 3 --cover cache.v:44 --reset reset -P INDEX=2 -P TAG=3 cache.v
+check "a cover that is not reached: status" same 20 "$?"
+check "a cover that is not reached" same "cache.v: cover cache.v:44 is not reached in frames 0 to 3, by the solver's word" "$(cat "$work/out")"
+ends "two addresses" 1 "" "queue.v:9: memory words (16 words of 8 bits) is read at one address and written at another in the same frame: this needs a second port, which this version does not have." queue.v
+unset folder
+
+# A small design, changed: what sed makes of it.
+chip() {
+  sed "$1" << 'verilog'
+module chip (input clock, input reset, input we, input [1:0] a, input [1:0] b, input [3:0] d);
+  reg [3:0] mem [0:3];
+  integer i;
+  initial for (i = 0; i < 4; i = i + 1) mem[i] = 5;
+  wire [3:0] q = mem[a];
+  reg [3:0] last = 0;
+  always @(posedge clock) begin
+    if (we) mem[a] <= d;
+    last <= q;
+  end
+  always @(posedge clock) assert (last != 9);
+endmodule
+verilog
+}
+says() { # what, status, the verdict or message, what sed changes, options ..
+  local what=$1 status=$2 said=$3
+  chip "$4" > "$work/files/chip.v"
+  shift 4
+  run -q -k 4 "$@" chip.v
+  check "$what: status" same "$status" "$?"
+  check "$what: said" same "$said" "$(cat "$work/out" "$work/err" | head -c ${#said})"
+}
+says "a design" 10 "chip.v: assert chip.v:11 is broken in frame 2 at the earliest" ''
+says "a start of one's own" 10 "chip.v: assert chip.v:11 is broken in frame 1 at the earliest" '' --start 9
+says "an unknown start" 10 "chip.v: assert chip.v:11 is broken in frame 1 at the earliest" '4s/.*//'
+says "a start that is too wide" 1 "--start 16: a word of memory mem (chip.v:2) has 4 bits" '' --start 16
+says "a register that starts as 9" 10 "chip.v: assert chip.v:11 is broken in frame 0 at the earliest" 's/last = 0/last = 9/'
+says "a register that starts unknown" 10 "chip.v: assert chip.v:11 is broken in frame 0 at the earliest" 's/last = 0/last/'
+says "a reset" 10 "chip.v: assert chip.v:11 is broken in frame 5 at the earliest" 's/last <= q/last <= reset ? 0 : q/; s/if (we)/if (we \& !reset)/' --reset reset=3 -k 5
+says "a reset the other way round" 10 "chip.v: assert chip.v:11 is broken in frame 3 at the earliest" 's/last <= q/last <= reset ? q : 0/; s/if (we)/if (we \& reset)/' --reset '!reset'
+says "a reset that is none" 1 "--reset rst: the top module chip has no input of one bit with this name" '' --reset rst
+says "a label" 10 "chip.v: assert no_nine (chip.v:11) is broken in frame 2 at the earliest" 's/assert/no_nine: assert/'
+says "one of two, by its label" 10 "chip.v: assert no_nine (chip.v:11) is broken in frame 2 at the earliest" 's/assert/no_nine: assert/; s/^endmodule/always @* assert (1); endmodule/' --property no_nine
+says "one of two, by its line" 20 "chip.v: assert chip.v:12 holds in frames 0 to 4, by the solver's word" 's/assert/no_nine: assert/; s/^endmodule/always @* assert (last < 16); endmodule/' --property chip.v:12
+says "a property that is none" 1 "--property none: there is none of this name; there are chip.v:11" '' --property none
+says "no assertion" 1 "chip: the design has no assert and no cover: there is nothing to ask about." '11d'
+# an assumption counts in the frame that breaks and in all before it, and not behind it
+says "an assumption" 20 "chip.v: assert chip.v:11 holds in frames 0 to 4, by the solver's word" 's/^endmodule/always @* assume (d != 9); endmodule/'
+says "an assumption broken before" 20 "chip.v: assert chip.v:11 holds in frames 0 to 4, by the solver's word" 's/^endmodule/reg was = 0; always @(posedge clock) was <= we \& d == 9; always @* assume (!was); endmodule/'
+says "an assumption broken behind" 10 "chip.v: assert chip.v:11 is broken in frame 2 at the earliest" 's/^endmodule/reg was = 0; always @(posedge clock) was <= last == 9; always @* assume (!was); endmodule/'
+# memories that fit, and those that do not
+says "the other address, clocked and at other times" 10 "chip.v: assert chip.v:11 is broken in frame 2 at the earliest" 's/wire .*//; s/last <= q/else last <= mem[b]/; s/<= d;/<= d; /'
+two="chip.v:2: memory mem (4 words of 4 bits) is read at one address and written at another in the same frame: this needs a second port, which this version does not have."
+says "two addresses" 1 "$two" 's/mem\[a\];/mem[b];/'
+says "two reads" 1 "chip.v:2: memory mem (4 words of 4 bits) is read at two addresses in one frame: this needs a second port" 's/last <= q/else last <= q + mem[b]/; s/last != 9/last + q != 9/'
+says "two writes" 1 "chip.v:2: memory mem (4 words of 4 bits) is written at two addresses in one frame" 's/last <= q/mem[b] <= 1; last <= q/'
+says "two writes of which one is made" 10 "chip.v: assert chip.v:11 is broken in frame 2 at the earliest" 's/if (we) mem\[a\] <= d/if (we) mem[a] <= d; else if (reset) mem[a] <= 9/'
+says "a register before the address" 1 "$two" 's/wire .*/reg [1:0] at; wire [3:0] q = mem[at]; always @(posedge clock) at <= a;/; s/last != 9/q != 9/'
+says "bits written by themselves" 10 "chip.v: assert chip.v:11 is broken in frame 4 at the earliest" 's/mem\[a\] <= d/begin mem[a][1:0] <= d[1:0]; if (reset) mem[a][3:2] <= d[3:2]; end/; s/last != 9/last != 13/; s/= 5/= 1/' --reset '!reset=2' -k 5
+says "an index beyond the array" 20 "chip.v: assert chip.v:11 holds in frames 0 to 4, by the solver's word" 's/0:3/0:2/; s/if (we)/if (we \& a == 3)/; s/i < 4/i < 3/'
+says "an array that begins at 1" 10 "chip.v: assert chip.v:11 is broken in frame 2 at the earliest" 's/0:3/1:3/; s/i = 0; i < 4/i = 1; i < 4/; s/if (we)/if (we \& a == 3)/'
+says "contents that differ" 1 "memory mem (chip.v:2) begins with contents that differ from word to word" 's/= 5/= i/'
+says "no memory" 1 "chip: the design has no memory that is written and read" 's/mem\[a\]/mem[0]/; s/if (we) mem\[a\]/last/'
+says "an address from the word read" 1 "chip.v:2: the address of memory mem depends on a word that it reads in the same frame." 's/mem\[a\]/mem[at]/; s/wire \[3:0\] q/wire [3:0] q; wire [1:0] at = d[0] ? q[1:0] : a; assign q/'
+second='s/^endmodule/reg [1:0] small [0:1]; always @(posedge clock) if (we) small[b[0]] <= a; always @* assert (small[b[0]] != 2 | last != 9); endmodule/'
+says "two memories" 1 "chip: the design has 2 memories, and one can stay a memory. Say which; the others become registers, which fits where they are small:
+  --memory mem   chip.v:2, 4 words of 4 bits
+  --memory small   chip.v:12, 2 words of 2 bits" "$second"
+says "one of them registers" 10 "chip.v: assert chip.v:11 is broken in frame 2 at the earliest
+chip.v: assert chip.v:12 is broken in frame 2 at the earliest" "$second" --memory mem
+says "a memory that is none" 1 "--memory none: the design has no memory of this name" "$second" --memory none
+says "two clocks" 1 "chip.v:11: it takes the falling edge of clock, and chip.v:2 the rising edge of clock" 's/posedge clock) assert/negedge clock) last2 <= last; reg [3:0] last2 = 0; always @* assert/; s/(last != 9)/(last2 != 9)/'
+says "a clock that is read" 1 "the clock clock is read as data too; within a frame it has no value" 's/last != 9/last != 9 | clock/'
+says "a gated clock" 1 "chip.v:2: the clock gated is no input of the top module chip" 's/always @(posedge clock) begin/wire gated = clock \& reset; always @(posedge gated) begin/'
+says "a wire without a driver" 10 "chip.v: assert chip.v:11 is broken in frame 0 at the earliest" 's/last != 9/last != 9 \& open/; s/wire \[3:0\] q/wire open; wire [3:0] q/'
+says "too much" 1 "what is asked about depends on " 's/last <= q/last <= q; p <= p * p + q/; s/reg \[3:0\] last/reg [31:0] p = 0; reg [3:0] last/; s/last != 9/p != 55/'
+says "no Verilog" 1 "chip.v: yosys makes no netlist of it:
+  yosys: chip.v:" 's/endmodule//'
+says "another module" 1 "chip.v: yosys makes no netlist of it:" '' --top chop
+ends "a file that is no Verilog beside it" 2 "" "chip.sheet: only Verilog (.v, .sv) can be given in several files" chip.v chip.sheet
+chip 's/assert (last/assert (logic_bit || last/; s/reg \[3:0\] last/logic logic_bit = 0; reg [3:0] last/' > "$work/files/chip.sv"
+ends "SystemVerilog" 10 "chip.sv: assert chip.sv:11 is broken in frame 2 at the earliest" "" -q -k 4 chip.sv
+cp "$work/files/chip.sv" "$work/files/a b.sv"
+ends "a name with a space" 10 "a b.sv: assert a b.sv:11 is broken in frame 2 at the earliest" "" -q -k 4 "a b.sv"
+chip 's/assert/no_nine: assert/' > "$work/files/labelled.v"
+run -q -k 4 --confirm labelled.v
+check "a label that the simulator cannot take" grep -qF "not tried by iverilog, which cannot take the files: labelled.v:11" "$work/out"
+printf '#!/bin/sh\nexit 0\n' > "$work/vvp"; chmod +x "$work/vvp"; mkdir "$work/deaf"; mv "$work/vvp" "$work/deaf"
+chip '' > "$work/files/chip.v"
+path=$work/deaf:$PATH ends "a simulator that sees nothing" 1 "" "chip.v:11: iverilog, fed the run that was found, sees no failure of this assertion in frame 2." -q -k 4 --confirm chip.v
+mkdir "$work/tmp"
+TMPDIR=$work/tmp run -q -k 4 --confirm chip.v
+check "nothing is left behind" rmdir "$work/tmp"
+mkdir "$work/without"
+path=$work/without ends "no yosys" 1 "" "yosys is missing" chip.sv
+
+### interrupts and time: a search that would take long stops at once and says how deep it got
+(cd "$designs" && "$plain" -q -k 0 --keep "$work/slow" --property cache.v:43 -P INDEX=3 -P TAG=12 --reset reset cache.v) > /dev/null
+depth_is_told() { grep -qE "^$work/slow/1.sheet: the property: $1; it holds in frames 0 to [0-9]+, by the solver's word$" "$work/out"; }
+"$plain" --timeout 2 -q -k 255 "$work/slow/1.sheet" > "$work/out" 2> "$work/err"
+check "out of time: status" same 30 $?
+check "out of time: said" depth_is_told "out of time"
+for signal in INT TERM HUP; do
+  "$plain" -q -k 255 "$work/slow/1.sheet" > "$work/out" 2> "$work/err" &
+  sleep 2
+  kill -$signal $!
+  wait $!
+  check "SIG$signal: status" same 30 $?
+  check "SIG$signal: said" depth_is_told interrupted
+done
+mkdir "$work/bin"
+printf '#!/bin/sh\nsleep 60\n' > "$work/bin/yosys"; chmod +x "$work/bin/yosys"
+began=$SECONDS
+path=$work/bin:$PATH ends "out of time while yosys reads" 30 "" "out of time while yosys was at work; nothing is known of any property" --timeout 0.5 chip.v
+check "it stops at once" [ $((SECONDS - began)) -le 10 ]
+
+### what it writes
+run --vcd run.vcd --names chip.names chip.sheet
+bash scripts/find.sh --vcd "$work/script.vcd" "$work/files/chip.sheet" 1 > /dev/null
+check "the waveform is the script's" same "$(grep -v '^\$comment' "$work/script.vcd")" "$(grep -v '^\$comment' "$work/files/run.vcd")"
+ends "the sheet as the waveform" 2 "" "the waveform would be written over chip.sheet" --vcd chip.sheet chip.sheet
+ends "a waveform that cannot be written" 1 "" "none/run.vcd: it cannot be written" --vcd none/run.vcd chip.sheet
+rm -f "$work/files/run.vcd"
+run --vcd run.vcd -k 0 chip.sheet
+check "no run, no waveform" [ ! -e "$work/files/run.vcd" ]
+folder=$designs run -D FAULTY --vcd "$work/stack.vcd" --reset reset -k 4 stack.v
+check "the waveform has the hierarchy" same 1 "$(grep -c '^\$scope module memory \$end$' <(sed -n '/module words/,$p' "$work/stack.vcd"))"
+if command -v vcd2fst > /dev/null; then check "GTKWave's converter reads it" vcd2fst "$work/stack.vcd" "$work/stack.fst" > /dev/null; fi
+run --keep kept -q chip.sheet
+check "the sheet that is kept" cmp "$work/files/chip.sheet" "$work/files/kept/1.sheet"
+(cd "$designs" && "$sanitized" -D FAULTY -q -k 2 --keep "$work/kept" carton_counter.v) > /dev/null
+check "the sheet of a design, by the script" same "$work/kept/1.sheet: the property is broken in frame 1 at the earliest:" \
+  "$(bash scripts/find.sh --least "$work/kept/1.sheet" 3 | head -n 1)"
+(cd "$work/files" && "$sanitized" chip.sheet) > /dev/full 2> "$work/err"
+check "a full disk: status" same 1 $?
+check "a full disk: said" grep -q "^standard output cannot be written" "$work/err"
+
+check "the reader of JSON is built" tool json_value
+value() { "$work/json_value" "$work/out" "$@"; }
+run --json --radix dec --names chip.names chip.sheet
+check "JSON: status" same "10 broken 1 run 0 0 solver" "$(echo $(value status; for at in verdict frame by; do value properties 0 $at; done; for at in from to by; do value properties 0 safe $at; done))"
+check "JSON: the run" same "list of 2 1 0 1 0 0 1" "$(echo $(value properties 0 run; value properties 0 run 0 words input; value properties 0 run 0 words read
+  value properties 0 run 0 memory write; value properties 0 run 1 memory written_in; value properties 0 run 1 holds; value properties 0 run 1 memory read))"
+folder=$designs run --json -k 3 histogram.v
+check "JSON of a design" same "20 counts 3 3 0 assert holds histogram.v:24 cover reached" \
+  "$(echo $(value status; value memory name; value memory address_bits; value memory data_bits; value memory start
+    for at in kind verdict source; do value properties 0 $at; done; for at in kind verdict; do value properties 1 $at; done))"
+
+### installed into a folder, and a use of what was installed
+check "it is installed" make --no-print-directory install DESTDIR="$work/root" PREFIX=/opt/m > "$work/make" 2>&1
+installed=$work/root/opt/m
+check "the installed command" same "examples/echo/chip.sheet: the property is broken in frame 1 at the earliest" "$("$installed/bin/marrubigai" -q examples/echo/chip.sheet)"
+check "the installed library" cc -std=c11 -I"$installed/include" -o "$work/search" examples/search/search.c -L"$installed/lib" -lmarrubigai -lcadical -lstdc++ -lm
+check "the pkg-config file" same "prefix=/opt/m Version: $(sed -n 's/^#define MARRUBIGAI_VERSION "\(.*\)"/\1/p' include/marrubigai.h)" \
+  "$(echo $(grep -E '^prefix|^Version' "$installed/lib/pkgconfig/marrubigai.pc"))"
+check "the man page has every option of the help" same "$("$plain" --help | grep -oE -- '--[a-z]+' | sort -u)" \
+  "$(sed 's/\\-/-/g' "$installed/share/man/man1/marrubigai.1" | grep -oE -- '--[a-z]+' | sort -u)"
+
+### the pages' commands; another version of the solver or of yosys may choose other runs and gates, and then only verdicts are compared
+hidden='^$'
+"$plain" --version | grep -q 'CaDiCaL sc2021$' && yosys -V | grep -q '^Yosys 0\.23 ' || hidden="$hidden\\|^frame\\|^ \\|: note: "
+for page in README.md docs/COMMAND.md; do
+  rm -f "$work/commands" "$work/shown"
+  awk -v commands="$work/commands" -v shown="$work/shown" '
+    /^```/ || /^\$ / { inside = 0 }
+    inside { print > shown }
+    /^\$ target\/command\/marrubigai / { inside = 1; print substr($0, 3) > commands }' "$page"
+  check "$page has commands" [ "$(wc -l < "$work/commands")" -ge 2 ]
+  check "the commands of $page" diff <(grep -v "$hidden" "$work/shown") <(bash "$work/commands" 2>&1 | grep -v "$hidden")
+done
+
+### hostile files
+check "the damager is built" tool hostile
+(cd examples/verilog && yosys -Q -T -q -p 'read_verilog -formal stack.v; prep -flatten; write_json /dev/fd/3' 3> "$work/stack.json")
+"$work/hostile" 1000 "${SEED:-1}" examples/echo/chip.sheet examples/fifth-revision/faulty.sheet "$work/files/chip.aag" "$work/files/cut.aag" "$work/stack.json" \
+  > "$work/hostile.out" 2>&1
+check "damaged files by the thousand: status" same 0 $?
+check "damaged files by the thousand" same "1 passed, 0 failed" "$(tail -n 1 "$work/hostile.out")"
+
+finish
