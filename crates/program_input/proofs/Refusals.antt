@@ -19,7 +19,7 @@ use Rattle.refusals.specs.declared.Verdict.the-variants.{Passed, Refused}
 use Rattle.netlist.specs.Faults.{sizeFault, codeFault, tieFault, loopFault}
 use Rattle.netlist.specs.Places.{lineAt, controlLine}
 use Rattle.netlist.specs.declared.Line.{Line}
-use Rattle.netlist_tests.specs.Record.{testLine, testLines, listsShort, testPort}
+use Rattle.netlist_tests.specs.Record.{testLine, testLines, listsShort, testPorts}
 use Rattle.netlist_tests.proofs.Acceptance.{lists-long}
 use Rattle.sheet_lines.specs.Letters.{mustBeFilled}
 use Rattle.sheet_lines.specs.Lines.{asWanted, valueOf}
@@ -66,7 +66,7 @@ only-lines : (c : Netlist) (r : Refusal) (fault : Netlist → Line → Bool) →
 unfolding testLines
 only-lines c r fault h = only-in-order (testLine c r fault) (λ p. only-if (fault c (lineAt c p)) r p h) (controlLine c)
 
-only-port : (c : Netlist) → Only (testPort c)
+only-port : (c : Netlist) → Only (testPorts c)
 only-port c =
     only-then (testLines c TiedAddress tieFault) (testLines c MemoryLoop loopFault)
     (only-lines c TiedAddress tieFault (inr refl)) (λ e. only-lines c MemoryLoop loopFault (inl (omega arith)))
@@ -90,7 +90,7 @@ module _ (file : List ℕ) where
   unfolding endVerdict
   only-end =
       let missing = ltb (lineCount file) (controlLine (netIn file)) in
-      only-then (refuseIf missing OutOfOrder (lineCount file + 1)) (testPort (netIn file))
+      only-then (refuseIf missing OutOfOrder (lineCount file + 1)) (testPorts (netIn file))
       (only-if missing OutOfOrder (lineCount file + 1) (inl (omega arith))) (λ e. only-port (netIn file))
 
   only-file : Only (fileVerdict file)
