@@ -1,15 +1,15 @@
 -- Where a check says refuted, no assignment makes all clauses of the formula true: each lemma that follows is true where they are, and the
 -- empty one never is. No contract cites this file.
 use Prim.Native.Nat.{ℕ, zero, suc}
-use mathlib.Core.Path.{_≡_, refl, sym, ap, _∙_}
+use mathlib.Core.Path.{_≡_, refl, ap, _∙_}
 use mathlib.Core.Bool.{Bool, true, false, cond, not, _&&_, _||_, false≢true}
 use mathlib.Core.List.{List, [], _∷_, _++_, append-assoc, append-nil}
-use mathlib.Core.Logic.{inl, inr, ⊎-elim}
+use mathlib.Core.Logic.{inr, ⊎-elim}
 use native.Mathlib.Omega.{arith}
 use borrow.Author.Tests.{eqb-true, not-true}
 use lib.Dec.{eqb, leb}
 use lib.IntN.{ℤ, pos, negsuc, negℤ}
-use lib.ListN.{length, getD, take, drop}
+use lib.ListN.{length, take, drop}
 use Rattle.model.specs.Numbers.{splitAfter, clausesIn, Assignment, numberTrue, clauseTrue, allTrue}
 use Rattle.model.proofs.Booleans.{and-true, or-true, neither-true}
 use Rattle.model.proofs.Gather.{All, nothing, also}
@@ -117,10 +117,10 @@ module _ (a : Assignment) where
     where
       go : (o : Outcome) → Says o → ((g : ℤ → Bool) → Falsifies g → propagates n known g hs ≡ true → ⊥)
           → elim o [
-              conflict ↦ true
+            | conflict ↦ true
             | unit z ↦ propagates n known (λ y. sameNumber y (negℤ z) || f y) hs
             | undecided ↦ false
-            ] ≡ true → ⊥
+          ] ≡ true → ⊥
       go conflict s rest q = s
       go (unit z) s rest q =
           rest (λ y. sameNumber y (negℤ z) || f y)

@@ -52,9 +52,9 @@ unfoldable pub propagates : ℕ → List ℤ → (ℤ → Bool) → List ℕ →
 propagates n known isFalse [] = false
 propagates n known isFalse (h ∷ hs) =
     elim (hintOutcome n known isFalse h) [
-      conflict ↦ true
-    | unit z ↦ propagates n known (λ y. sameNumber y (negℤ z) || isFalse y) hs
-    | undecided ↦ false
+      | conflict ↦ true
+      | unit z ↦ propagates n known (λ y. sameNumber y (negℤ z) || isFalse y) hs
+      | undecided ↦ false
     ]
 
 -- whether a lemma follows, by its hints, from the clauses in the numbers before it

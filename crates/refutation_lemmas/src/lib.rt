@@ -3,11 +3,10 @@
 use text_writer::parts_of;
 ghost use mathlib.Core.Path.{_≡_};
 ghost use mathlib.Core.Bool.{true, cond, _&&_};
-ghost use mathlib.Core.List.{[]};
-ghost use Prim.Native.Nat.{ℕ, _+_, _-_, _*_, _/_, _≤_, _<_};
+ghost use Prim.Native.Nat.{_+_, _-_, _*_, _/_, _≤_, _<_};
 ghost use lib.Dec.{eqb, leb};
 ghost use lib.IntN.{ℤ, negℤ};
-ghost use lib.ListN.{length, getD, take, drop};
+ghost use lib.ListN.{length, take, drop};
 ghost use Rattle.model.specs.Numbers.{clausesIn};
 ghost use Rattle.answer_signs.specs.Signs.{among};
 ghost use Rattle.refutation_lemmas.specs.Propagation.{every, within, firstOutcome, startsAt, hintOutcome, propagates, follows};
@@ -176,7 +175,16 @@ fn lemma_follows(known: &[i32], lemma: &[i32], hints: &[u32], marks: &mut [u32],
 }
 
 // Whether the lemma between two places of the store follows by the hints from place `first` on, of which there are to be `count`.
-fn is_justified(store: &[i32], at: usize, end: usize, hints: &[u32], first: usize, count: usize, marks: &mut [u32], turn: u32) -> bool
+fn is_justified(
+    store: &[i32],
+    at: usize,
+    end: usize,
+    hints: &[u32],
+    first: usize,
+    count: usize,
+    marks: &mut [u32],
+    turn: u32,
+) -> bool
     requires { ⌜ (at ≤ end) × (end ≤ length (now store)) × (first ≤ length (now hints)) × Before turn (now marks) ⌝ }
     ensures answer { λ r. ⌜ r ≡ (leb count (length (drop first (now (hints .entry))))
         && follows (length (now (marks .entry)) / 2) (take at (now (store .entry))) (take (end - at) (drop at (now (store .entry))))
@@ -185,7 +193,13 @@ fn is_justified(store: &[i32], at: usize, end: usize, hints: &[u32], first: usiz
 {
     if count <= hints.len() - first {
         let last = first + count;
-        return lemma_follows(&store[..at], &store[at..end], &hints[first..last], marks, turn);
+        return lemma_follows(
+            &store[..at],
+            &store[at..end],
+            &hints[first..last],
+            marks,
+            turn,
+        );
     }
     false
 }
@@ -219,6 +233,7 @@ pub fn check(store: &[i32], front: usize, hints: &[u32], marks: &mut [u32]) -> C
     ensures answer { λ r. ⌜ r ≡ checked (length (now (marks .entry)) / 2) (take front (now (store .entry)))
         (drop front (now (store .entry))) (now (hints .entry)) ⌝ }
     ensures refuted { λ r. ⌜ (r ≡ Checked.Refuted → Unsatisfiable (take front (now (store .entry)))) ⌝ }
+    ensures scratch { λ _. ⌜ length (now (marks .exit)) ≡ length (now (marks .entry)) ⌝ }
 {
     clear(marks);
     let mut turn: u32 = 0;

@@ -1,5 +1,5 @@
 -- `refutation_lemmas::check` meets its contract. The lemmas and hints that are left are found to be what all of them are.
-use Prim.Native.Nat.{ℕ, _+_, _-_, _/_, _≤_, _<_}
+use Prim.Native.Nat.{ℕ, _+_, _-_, _/_, _≤_}
 use mathlib.Core.Path.{_≡_, refl, sym, ap, _∙_}
 use mathlib.Core.Bool.{Bool, true, false, cond, _&&_}
 use mathlib.Core.List.{List}
@@ -31,10 +31,10 @@ abbrev μ-loop : tie.MeasureT-loop
 μ-loop store front hints marks₀ turn₀ at₀ i₀ lemma₀ marks turn at i lemma = length hints - i
 
 -- what is found of all lemmas is refuted only where the formula is
-found : (formula lemmas : List ℤ) (hints : List ℕ) (k m : ℕ) (r : Checked) → k ≡ m → r ≡ checked (k / 2) formula lemmas hints
-    → (r ≡ checked (m / 2) formula lemmas hints) × (r ≡ Refuted → Unsatisfiable formula)
-found formula lemmas hints k m r e p =
-    (p ∙ ap (λ (j : ℕ). checked (j / 2) formula lemmas hints) e, λ q. refuted-unsatisfiable (k / 2) formula lemmas hints (sym p ∙ q))
+found : (formula lemmas : List ℤ) (hints : List ℕ) (k m left : ℕ) (r : Checked) → k ≡ m → left ≡ k → r ≡ checked (k / 2) formula lemmas hints
+    → (r ≡ checked (m / 2) formula lemmas hints) × ((r ≡ Refuted → Unsatisfiable formula) × (left ≡ m))
+found formula lemmas hints k m left r e l p =
+    (p ∙ ap (λ (j : ℕ). checked (j / 2) formula lemmas hints) e, (λ q. refuted-unsatisfiable (k / 2) formula lemmas hints (sym p ∙ q), l ∙ e))
 
 module _ (c : tie.After-is-justified Inv-loop μ-loop) where
   -- what a lemma is checked with
@@ -117,7 +117,7 @@ returns : tie.Need-returns Inv-loop μ-loop
 returns c =
     let at = c .before .before .before .loop in
     let a = c .before .before .before .before .before .before .before .before .before .before .args in
-    found (take (a .front) (a .store .now)) (drop (a .front) (a .store .now)) (a .hints .now) (length (c .before .before .before .before .before .before .clear .last .0)) (length (a .marks .now)) _ (c .before .before .before .before .before .before .clear .kept .0)
+    found (take (a .front) (a .store .now)) (drop (a .front) (a .store .now)) (a .hints .now) (length (c .before .before .before .before .before .before .clear .last .0)) (length (a .marks .now)) _ _ (c .before .before .before .before .before .before .clear .kept .0) (c .before .before .before .loop .inv .2)
     (sym (checked-none (length (c .before .before .before .before .before .before .clear .last .0) / 2) (a .store .now) (at .at) (c .before .clause-end .result) (c .before .clause-end .ensures) (c .if1 .taken) (drop (at .i) (a .hints .now)) (at .lemma)) ∙ at .inv .4)
 
 next-turn-requires : tie.Need-next-turn-requires Inv-loop μ-loop
@@ -137,11 +137,11 @@ add-first c = omega (arith, c .before .before .before .before .before .before .b
 
 is-justified-requires : tie.Need-is-justified-requires Inv-loop μ-loop
 is-justified-requires c κs = (
-      omega (arith, c .before .before .before .before .before .before .before .clause-end .ensures),
-      omega (arith, c .before .before .before .before .before .before .if1 .left),
-      omega (arith, c .before .before .before .before .before .before .before .before .loop-test .taken),
-      c .before .before .before .before .next-turn .ensures,
-    )
+  omega (arith, c .before .before .before .before .before .before .before .clause-end .ensures),
+  omega (arith, c .before .before .before .before .before .before .if1 .left),
+  omega (arith, c .before .before .before .before .before .before .before .before .loop-test .taken),
+  c .before .before .before .before .next-turn .ensures,
+)
 
 same-length-2 : tie.Need-same-length-2 Inv-loop μ-loop
 same-length-2 c = as-many (c .before .before .before .before) ∙ c .before .before .before .before .before .before .before .before .before .before .before .before .before .before .before .before .before .clear .kept .0
@@ -151,7 +151,7 @@ returns-2 c =
     let at = c .before .before .before .before .before .before .before .before .before .before .before .before .before .before .loop in
     let a = c .before .before .before .before .before .before .before .before .before .before .before .before .before .before .before .before .before .before .before .before .before .args in
     let here = step (c .before .before .before .before) true true (c .before .if2 .taken) (eq-eqb (c .before .before .before .before .before .before .before .before .before .before .before .before .clause-end .result) (at .at) (c .if3 .taken)) in
-    found (take (a .front) (a .store .now)) (drop (a .front) (a .store .now)) (a .hints .now) (length (c .before .before .before .before .before .before .before .before .before .before .before .before .before .before .before .before .before .clear .last .0)) (length (a .marks .now)) _ (c .before .before .before .before .before .before .before .before .before .before .before .before .before .before .before .before .before .clear .kept .0)
+    found (take (a .front) (a .store .now)) (drop (a .front) (a .store .now)) (a .hints .now) (length (c .before .before .before .before .before .before .before .before .before .before .before .before .before .before .before .before .before .clear .last .0)) (length (a .marks .now)) _ _ (c .before .before .before .before .before .before .before .before .before .before .before .before .before .before .before .before .before .clear .kept .0) (as-many (c .before .before .before .before))
     (sym here ∙ at .inv .4)
 
 add-at : tie.Need-add-at Inv-loop μ-loop
@@ -186,7 +186,7 @@ returns-3 c =
     let at = c .before .before .before .before .before .before .before .before .before .before .before .before .before .loop in
     let a = c .before .before .before .before .before .before .before .before .before .before .before .before .before .before .before .before .before .before .before .before .args in
     let here = step (c .before .before .before) false (eqb (c .before .before .before .before .before .before .before .before .before .before .before .clause-end .result) (at .at)) (c .if2 .left) refl in
-    found (take (a .front) (a .store .now)) (drop (a .front) (a .store .now)) (a .hints .now) (length (c .before .before .before .before .before .before .before .before .before .before .before .before .before .before .before .before .clear .last .0)) (length (a .marks .now)) _ (c .before .before .before .before .before .before .before .before .before .before .before .before .before .before .before .before .clear .kept .0)
+    found (take (a .front) (a .store .now)) (drop (a .front) (a .store .now)) (a .hints .now) (length (c .before .before .before .before .before .before .before .before .before .before .before .before .before .before .before .before .clear .last .0)) (length (a .marks .now)) _ _ (c .before .before .before .before .before .before .before .before .before .before .before .before .before .before .before .before .clear .kept .0) (as-many (c .before .before .before))
     (sym here ∙ at .inv .4)
 
 same-length-4 : tie.Need-same-length-4 Inv-loop μ-loop
@@ -196,7 +196,7 @@ returns-4 : tie.Need-returns-4 Inv-loop μ-loop
 returns-4 c =
     let at = c .before .loop in
     let a = c .before .before .before .before .before .before .before .before .args in
-    found (take (a .front) (a .store .now)) (drop (a .front) (a .store .now)) (a .hints .now) (length (c .before .before .before .before .clear .last .0)) (length (a .marks .now)) _ (c .before .before .before .before .clear .kept .0)
+    found (take (a .front) (a .store .now)) (drop (a .front) (a .store .now)) (a .hints .now) (length (c .before .before .before .before .clear .last .0)) (length (a .marks .now)) _ _ (c .before .before .before .before .clear .kept .0) (c .before .loop .inv .2)
     (sym (checked-over (length (c .before .before .before .before .clear .last .0) / 2) (take (at .at) (a .store .now)) (clausesIn (drop (at .at) (a .store .now))) (a .hints .now) (at .i) (at .lemma) (c .loop-test .left)) ∙ at .inv .4)
 
 pub check-spec : {M : Type 1} → statement M

@@ -1,7 +1,7 @@
 -- `refutation_lemmas::clause_outcome` meets its contract. The outcome of what was passed, joined with that of what is left, is that of the clause.
-use Prim.Native.Nat.{ℕ, _+_, _-_, _*_, _/_, _<_}
-use mathlib.Core.Path.{_≡_, refl, sym, ap, _∙_}
-use mathlib.Core.Bool.{Bool, cond}
+use Prim.Native.Nat.{ℕ, _+_, _-_, _*_, _/_}
+use mathlib.Core.Path.{_≡_, sym, ap, _∙_}
+use mathlib.Core.Bool.{cond}
 use mathlib.Core.List.{List}
 use native.Mathlib.Omega.{arith}
 use borrow.Author.Needs.{needs}
@@ -46,7 +46,7 @@ left c =
     let i = c .before .before .before .before .before .loop .i in
     let is = read (c .before .before) in
     let here = outcome-here (length (a .marks .now) / 2) (falseIn (a .marks .now) (a .turn)) (a .known .now) i
-        (c .before .before .before .before .loop-test .taken) (rw is at (c .before .if1 .left)) in
+    (c .before .before .before .before .loop-test .taken) (rw is at (c .before .if1 .left)) in
     rw (is, here, lt-ltb (slotOf (getD (a .known .now) i (pos 0))) (length (a .marks .now) / 2 * 2) (rw is at (c .if2 .left)))
 
 -- and so with one number more
@@ -86,7 +86,7 @@ returns c =
     let at = c .before .before .before .before .loop in
     let a = c .before .before .before .before .before .before .args in
     let ends = outcome-end (length (a .marks .now) / 2) (falseIn (a .marks .now) (a .turn)) (a .known .now) (at .i)
-        (c .before .before .before .loop-test .taken) (rw (read (c .before)) at (c .if1 .taken)) in
+    (c .before .before .before .loop-test .taken) (rw (read (c .before)) at (c .if1 .taken)) in
     sym (joined-zero (at .outcome)) ∙ ap (joined (at .outcome)) (sym ends) ∙ at .inv
 
 returns-2 : tie.Need-returns-2 Inv-loop μ-loop
@@ -95,7 +95,7 @@ returns-2 c =
     let a = c .before .before .before .before .before .before .before .args in
     let is = read (c .before .before) in
     let here = outcome-here (length (a .marks .now) / 2) (falseIn (a .marks .now) (a .turn)) (a .known .now) (at .i)
-        (c .before .before .before .before .loop-test .taken) (rw is at (c .before .if1 .left)) in
+    (c .before .before .before .before .loop-test .taken) (rw is at (c .before .if1 .left)) in
     let past = rw (le-ltb (slotOf (getD (a .known .now) (at .i) (pos 0))) (length (a .marks .now) / 2 * 2) (rw is at (c .if2 .taken))) at here in
     sym (joined-one (at .outcome)) ∙ ap (joined (at .outcome)) (sym past) ∙ at .inv
 

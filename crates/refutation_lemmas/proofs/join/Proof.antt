@@ -1,8 +1,7 @@
 -- `refutation_lemmas::join` meets its contract.
-use mathlib.Core.Path.{sym, _∙_, ap}
+use mathlib.Core.Path.{sym}
 use native.Mathlib.Omega.{arith}
 use borrow.Author.Tests.{eq-eqb, ne-eqb}
-use Rattle.refutation_lemmas.specs.Marks.{joined}
 use Rattle.refutation_lemmas.proofs.Marks.{zero-joined, joined-zero, joined-same, joined-other}
 use Rattle.refutation_lemmas.proofs.join.Statement.{statement}
 use Rattle.refutation_lemmas.proofs.join.Tie as tie

@@ -25,12 +25,11 @@ returns c =
     let marked = c .before .before .before .before .before .before .before .mark-lemma in
     let taken = c .before .before .before .before .if1 .taken in
     let all = sym (marked .ensures .0) ∙ taken in
-    let a = c .before .before .before .before .before .before .before .before .before .before .before .args in
-    (
+    let a = c .before .before .before .before .before .before .before .before .before .before .before .args in (
       rw all
-      (c .before .before .propagate .ensures .0
-      ∙ ap (λ (k : ℕ). propagates (k / 2) (a .known .now) (falseIn (marked .last .1 .0) (a .turn)) (a .hints .now)) (marked .kept .1 .0)
-      ∙ ap (λ (f : ℤ → Bool). propagates (length (a .marks .now) / 2) (a .known .now) f (a .hints .now)) (fun-ext (marked .ensures .1 .0 taken))),
+          (c .before .before .propagate .ensures .0
+          ∙ ap (λ (k : ℕ). propagates (k / 2) (a .known .now) (falseIn (marked .last .1 .0) (a .turn)) (a .hints .now)) (marked .kept .1 .0)
+          ∙ ap (λ (f : ℤ → Bool). propagates (length (a .marks .now) / 2) (a .known .now) f (a .hints .now)) (fun-ext (marked .ensures .1 .0 taken))),
       c .before .before .propagate .ensures .1,
     )
 

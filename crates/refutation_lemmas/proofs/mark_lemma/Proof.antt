@@ -1,7 +1,7 @@
 -- `refutation_lemmas::mark_lemma` meets its contract. What is marked and what is left of the lemma are the lemma.
 use Prim.Native.Nat.{_+_, _-_, _*_, _/_, _≤_, _<_}
-use mathlib.Core.Path.{_≡_, refl, sym, ap, _∙_}
-use mathlib.Core.Bool.{true, _&&_, _||_, false≢true, or-false}
+use mathlib.Core.Path.{_≡_, refl, sym, _∙_}
+use mathlib.Core.Bool.{_||_, false≢true, or-false}
 use native.Mathlib.Omega.{arith}
 use borrow.Author.Needs.{needs}
 use borrow.Author.Tests.{lt-ltb, le-ltb}
@@ -94,8 +94,8 @@ loop-again c =
       rw is (upTo-more (at .marks) (a .turn) (slotOf z) room (at .inv .2)),
       sym (rw marked at (every-here (within n) (a .lemma .now) (at .i) taken)) ∙ at .inv .3,
       rw is
-      (λ y. marked-more (at .marks) (a .turn) z room y (among y (drop (at .i + 1) (a .lemma .now))) (among y (a .lemma .now))
-      (rw (among-here y (a .lemma .now) (at .i) taken) at (at .inv .4 y))),
+          (λ y. marked-more (at .marks) (a .turn) z room y (among y (drop (at .i + 1) (a .lemma .now))) (among y (a .lemma .now))
+          (rw (among-here y (a .lemma .now) (at .i) taken) at (at .inv .4 y))),
     )
 
 same-length-2 : tie.Need-same-length-2 Inv-loop μ-loop

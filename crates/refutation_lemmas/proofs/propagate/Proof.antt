@@ -1,12 +1,12 @@
 -- `refutation_lemmas::propagate` meets its contract. The hints that are left lead from what is false now where all hints led from what was false.
-use Prim.Native.Nat.{_+_, _-_, _*_, _/_, _≤_, _<_}
-use mathlib.Core.Path.{_≡_, refl, sym, ap, _∙_, fun-ext}
+use Prim.Native.Nat.{_-_, _/_, _≤_, _<_}
+use mathlib.Core.Path.{_≡_, refl, sym, _∙_, fun-ext}
 use native.Mathlib.Omega.{arith}
 use borrow.Author.Needs.{needs}
 use lib.IntN.{negℤ}
-use lib.ListN.{length, getD, drop, set, length-set}
+use lib.ListN.{length, getD, drop, length-set}
 use Rattle.refutation_lemmas.specs.Propagation.{hintOutcome, propagates}
-use Rattle.refutation_lemmas.specs.Marks.{slotOf, falseIn, UpTo, codeOf}
+use Rattle.refutation_lemmas.specs.Marks.{slotOf, falseIn, UpTo}
 use Rattle.refutation_lemmas.proofs.Marks.{false-more, upTo-more}
 use Rattle.refutation_lemmas.proofs.Outcomes.{hint-sane, code-conflict, code-undecided, IsUnit, code-unit, propagates-conflict, propagates-undecided, propagates-unit, propagates-none}
 use Rattle.refutation_lemmas.proofs.propagate.Statement.{statement}
