@@ -1,20 +1,20 @@
--- Laws of outcomes: one number more in front of a clause, a unit has a mark, and one hint more. No contract cites this file.
+-- Laws of outcomes: one number more in front of a clause, and that a unit has a mark. No contract cites this file.
 use Prim.Native.Nat.{ℕ, zero, suc, _+_, _*_, _≤_, _<_}
 use mathlib.Core.Path.{_≡_, refl, sym, _∙_}
-use mathlib.Core.Bool.{Bool, true, false, cond, _&&_, _||_, false≢true}
+use mathlib.Core.Bool.{Bool, true, false, cond, _&&_, false≢true}
 use mathlib.Core.List.{List, [], _∷_}
 use native.Mathlib.Numerals.{add-one}
 use native.Mathlib.Omega.{arith}
 use borrow.Author.Tests.{eqb-false, ltb-true}
 use lib.Dec.{ltb}
-use lib.IntN.{ℤ, pos, negsuc, negℤ}
+use lib.IntN.{ℤ, pos, negsuc}
 use lib.ListN.{length, getD, drop, drop-of-length-le}
 use lib.Seq.{drop-cons}
 use Rattle.model.specs.Numbers.{splitAfter, clausesIn}
 use Rattle.model.proofs.Booleans.{and-true}
 use Rattle.model.proofs.Gather.{All, nothing, also}
 use Rattle.answer_signs.specs.Signs.{sameNumber}
-use Rattle.refutation_lemmas.specs.Propagation.{every, within, freeOf, Outcome, conflict, unit, undecided, outcomeOf, firstOutcome, startsAt, hintOutcome, propagates}
+use Rattle.refutation_lemmas.specs.Propagation.{every, within, freeOf, Outcome, conflict, unit, undecided, outcomeOf, firstOutcome, startsAt, hintOutcome}
 use Rattle.refutation_lemmas.specs.Marks.{slotOf, codeOf, joined}
 use Rattle.refutation_lemmas.proofs.Marks.{same-equal, slot-zero, slot-same, slot-within, zero-joined, joined-zero, joined-same, joined-other, joined-one}
 use Rattle.refutation_lemmas.proofs.Clauses.{isNumber, number-of-slot, NumbersOnly, onFirst, clausesIn-number, clausesIn-numbersOnly}
@@ -162,22 +162,3 @@ code-unit n conflict s p q = absurd (p refl)
 code-unit n undecided s p q = absurd (q refl)
 code-unit n (unit z) s p q =
     record { z = z; is = refl; slot = refl; least = number-least z (s .0); most = ltb-true (slotOf z) (n * 2) (sym (slot-within n z) ∙ s .1) }
-
--- one hint more
-module _ (n : ℕ) (known : List ℤ) (f : ℤ → Bool) (hints : List ℕ) (i : ℕ) (l : i < length hints) where
-  pub propagates-conflict : hintOutcome n known f (getD hints i 0) ≡ conflict → propagates n known f (drop i hints) ≡ true
-  unfolding propagates
-  propagates-conflict e = rw (drop-cons hints i 0 l, e, propagates)
-
-  pub propagates-undecided : hintOutcome n known f (getD hints i 0) ≡ undecided → propagates n known f (drop i hints) ≡ false
-  unfolding propagates
-  propagates-undecided e = rw (drop-cons hints i 0 l, e, propagates)
-
-  pub propagates-unit : (z : ℤ) → hintOutcome n known f (getD hints i 0) ≡ unit z
-      → propagates n known f (drop i hints) ≡ propagates n known (λ y. sameNumber y (negℤ z) || f y) (drop (i + 1) hints)
-  unfolding propagates
-  propagates-unit z e = rw (add-one, drop-cons hints i 0 l, e, propagates)
-
-pub propagates-none : (n : ℕ) (known : List ℤ) (f : ℤ → Bool) (hints : List ℕ) (i : ℕ) → length hints ≤ i → propagates n known f (drop i hints) ≡ false
-unfolding propagates
-propagates-none n known f hints i l = rw (drop-of-length-le hints l)

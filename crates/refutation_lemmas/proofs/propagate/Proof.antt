@@ -1,16 +1,40 @@
 -- `refutation_lemmas::propagate` meets its contract. The hints that are left lead from what is false now where all hints led from what was false.
-use Prim.Native.Nat.{_-_, _/_, _≤_, _<_}
+use Prim.Native.Nat.{ℕ, _+_, _-_, _/_, _≤_, _<_}
 use mathlib.Core.Path.{_≡_, refl, sym, _∙_, fun-ext}
+use mathlib.Core.Bool.{Bool, true, false, _||_}
+use mathlib.Core.List.{List}
+use native.Mathlib.Numerals.{add-one}
 use native.Mathlib.Omega.{arith}
 use borrow.Author.Needs.{needs}
-use lib.IntN.{negℤ}
-use lib.ListN.{length, getD, drop, length-set}
-use Rattle.refutation_lemmas.specs.Propagation.{hintOutcome, propagates}
+use lib.IntN.{ℤ, negℤ}
+use lib.ListN.{length, getD, drop, length-set, drop-of-length-le}
+use lib.Seq.{drop-cons}
+use Rattle.answer_signs.specs.Signs.{sameNumber}
+use Rattle.refutation_lemmas.specs.Propagation.{conflict, unit, undecided, hintOutcome, propagates}
 use Rattle.refutation_lemmas.specs.Marks.{slotOf, falseIn, UpTo}
 use Rattle.refutation_lemmas.proofs.Marks.{false-more, upTo-more}
-use Rattle.refutation_lemmas.proofs.Outcomes.{hint-sane, code-conflict, code-undecided, IsUnit, code-unit, propagates-conflict, propagates-undecided, propagates-unit, propagates-none}
+use Rattle.refutation_lemmas.proofs.Outcomes.{hint-sane, code-conflict, code-undecided, IsUnit, code-unit}
 use Rattle.refutation_lemmas.proofs.propagate.Statement.{statement}
 use Rattle.refutation_lemmas.proofs.propagate.Tie as tie
+
+-- one hint more
+module _ (n : ℕ) (known : List ℤ) (f : ℤ → Bool) (hints : List ℕ) (i : ℕ) (l : i < length hints) where
+  propagates-conflict : hintOutcome n known f (getD hints i 0) ≡ conflict → propagates n known f (drop i hints) ≡ true
+  unfolding propagates
+  propagates-conflict e = rw (drop-cons hints i 0 l, e, propagates)
+
+  propagates-undecided : hintOutcome n known f (getD hints i 0) ≡ undecided → propagates n known f (drop i hints) ≡ false
+  unfolding propagates
+  propagates-undecided e = rw (drop-cons hints i 0 l, e, propagates)
+
+  propagates-unit : (z : ℤ) → hintOutcome n known f (getD hints i 0) ≡ unit z
+      → propagates n known f (drop i hints) ≡ propagates n known (λ y. sameNumber y (negℤ z) || f y) (drop (i + 1) hints)
+  unfolding propagates
+  propagates-unit z e = rw (add-one, drop-cons hints i 0 l, e, propagates)
+
+propagates-none : (n : ℕ) (known : List ℤ) (f : ℤ → Bool) (hints : List ℕ) (i : ℕ) → length hints ≤ i → propagates n known f (drop i hints) ≡ false
+unfolding propagates
+propagates-none n known f hints i l = rw (drop-of-length-le hints l)
 
 abbrev Inv-loop : tie.InvT-loop
 Inv-loop known hints marks₀ turn i₀ marks i =
