@@ -18,7 +18,7 @@ use Rattle.decimal.proofs.Signed.{natAbs-fits}
 use Rattle.text_writer.specs.Signed.{partsOf}
 use Rattle.answer_signs.specs.Signs.{sameNumber}
 use Rattle.refutation_lemmas.specs.Propagation.{within}
-use Rattle.refutation_lemmas.specs.Marks.{slotOf, falseIn, UpTo, Before, joined}
+use Rattle.refutation_lemmas.specs.Marks.{slotOf, falseIn, UpTo, Before, joinedCode}
 
 -- the slot of a number from its parts, its bound, and that of a number that a machine read from a slice
 pub slot-parts : (z : ℤ) → partsOf z .value * 2 + partsOf z .sign ≡ slotOf z
@@ -95,61 +95,61 @@ opposite-odd (pos v) s p e = absurd (p (omega arith))
 opposite-odd (negsuc v) s p e = omega arith
 
 -- joined outcomes: 0 changes nothing, 1 stays, and others stay only where they are the same
-pub zero-joined : (b : ℕ) → joined 0 b ≡ b
-unfolding joined
-zero-joined b = refl
+pub zero-joinedCode : (b : ℕ) → joinedCode 0 b ≡ b
+unfolding joinedCode
+zero-joinedCode b = refl
 
-pub joined-zero : (a : ℕ) → joined a 0 ≡ a
-unfolding joined
-joined-zero zero = refl
-joined-zero (suc a) = rw (ne-eqb (suc a) 0 (λ h. omega arith))
+pub joinedCode-zero : (a : ℕ) → joinedCode a 0 ≡ a
+unfolding joinedCode
+joinedCode-zero zero = refl
+joinedCode-zero (suc a) = rw (ne-eqb (suc a) 0 (λ h. omega arith))
 
-pub joined-same : (a : ℕ) → joined a a ≡ a
-unfolding joined
-joined-same zero = refl
-joined-same (suc a) = rw (ne-eqb (suc a) 0 (λ h. omega arith), eq-eqb (suc a) (suc a) refl)
+pub joinedCode-same : (a : ℕ) → joinedCode a a ≡ a
+unfolding joinedCode
+joinedCode-same zero = refl
+joinedCode-same (suc a) = rw (ne-eqb (suc a) 0 (λ h. omega arith), eq-eqb (suc a) (suc a) refl)
 
-pub joined-other : (a b : ℕ) → (a ≡ 0 → ⊥) → (b ≡ 0 → ⊥) → (a ≡ b → ⊥) → joined a b ≡ 1
-unfolding joined
-joined-other a b p q d = rw (ne-eqb a 0 p, ne-eqb b 0 q, ne-eqb a b d)
+pub joinedCode-other : (a b : ℕ) → (a ≡ 0 → ⊥) → (b ≡ 0 → ⊥) → (a ≡ b → ⊥) → joinedCode a b ≡ 1
+unfolding joinedCode
+joinedCode-other a b p q d = rw (ne-eqb a 0 p, ne-eqb b 0 q, ne-eqb a b d)
 
-pub one-joined : (b : ℕ) → joined 1 b ≡ 1
-one-joined b = by-tests (eqb b 0) (eqb 1 b) refl refl
+pub one-joinedCode : (b : ℕ) → joinedCode 1 b ≡ 1
+one-joinedCode b = by-tests (eqb b 0) (eqb 1 b) refl refl
   where
-    by-tests : (s t : Bool) → eqb b 0 ≡ s → eqb 1 b ≡ t → joined 1 b ≡ 1
-    by-tests true t p q = rw (eqb-true b 0 p) (joined-zero 1)
-    by-tests false true p q = rw (← eqb-true 1 b q) (joined-same 1)
-    by-tests false false p q = joined-other 1 b (λ h. omega arith) (eqb-false b 0 p) (eqb-false 1 b q)
+    by-tests : (s t : Bool) → eqb b 0 ≡ s → eqb 1 b ≡ t → joinedCode 1 b ≡ 1
+    by-tests true t p q = rw (eqb-true b 0 p) (joinedCode-zero 1)
+    by-tests false true p q = rw (← eqb-true 1 b q) (joinedCode-same 1)
+    by-tests false false p q = joinedCode-other 1 b (λ h. omega arith) (eqb-false b 0 p) (eqb-false 1 b q)
 
-pub joined-one : (a : ℕ) → joined a 1 ≡ 1
-joined-one a = by-tests (eqb a 0) (eqb a 1) refl refl
+pub joinedCode-one : (a : ℕ) → joinedCode a 1 ≡ 1
+joinedCode-one a = by-tests (eqb a 0) (eqb a 1) refl refl
   where
-    by-tests : (s t : Bool) → eqb a 0 ≡ s → eqb a 1 ≡ t → joined a 1 ≡ 1
-    by-tests true t p q = rw (eqb-true a 0 p) (zero-joined 1)
-    by-tests false true p q = rw (eqb-true a 1 q) (joined-same 1)
-    by-tests false false p q = joined-other a 1 (eqb-false a 0 p) (λ h. omega arith) (eqb-false a 1 q)
+    by-tests : (s t : Bool) → eqb a 0 ≡ s → eqb a 1 ≡ t → joinedCode a 1 ≡ 1
+    by-tests true t p q = rw (eqb-true a 0 p) (zero-joinedCode 1)
+    by-tests false true p q = rw (eqb-true a 1 q) (joinedCode-same 1)
+    by-tests false false p q = joinedCode-other a 1 (eqb-false a 0 p) (λ h. omega arith) (eqb-false a 1 q)
 
-pub joined-joined : (a b c : ℕ) → joined a (joined b c) ≡ joined (joined a b) c
-joined-joined zero b c = zero-joined (joined b c) ∙ ap (λ x. joined x c) (sym (zero-joined b))
-joined-joined (suc a) zero c = ap (joined (suc a)) (zero-joined c) ∙ ap (λ x. joined x c) (sym (joined-zero (suc a)))
-joined-joined (suc a) (suc b) zero = ap (joined (suc a)) (joined-zero (suc b)) ∙ sym (joined-zero (joined (suc a) (suc b)))
-joined-joined (suc a) (suc b) (suc c) = by-tests (eqb (suc a) (suc b)) (eqb (suc b) (suc c)) refl refl
+pub joinedCode-joinedCode : (a b c : ℕ) → joinedCode a (joinedCode b c) ≡ joinedCode (joinedCode a b) c
+joinedCode-joinedCode zero b c = zero-joinedCode (joinedCode b c) ∙ ap (λ x. joinedCode x c) (sym (zero-joinedCode b))
+joinedCode-joinedCode (suc a) zero c = ap (joinedCode (suc a)) (zero-joinedCode c) ∙ ap (λ x. joinedCode x c) (sym (joinedCode-zero (suc a)))
+joinedCode-joinedCode (suc a) (suc b) zero = ap (joinedCode (suc a)) (joinedCode-zero (suc b)) ∙ sym (joinedCode-zero (joinedCode (suc a) (suc b)))
+joinedCode-joinedCode (suc a) (suc b) (suc c) = by-tests (eqb (suc a) (suc b)) (eqb (suc b) (suc c)) refl refl
   where
     by-tests :
         (s t : Bool) → eqb (suc a) (suc b) ≡ s → eqb (suc b) (suc c) ≡ t
-        → joined (suc a) (joined (suc b) (suc c)) ≡ joined (joined (suc a) (suc b)) (suc c)
+        → joinedCode (suc a) (joinedCode (suc b) (suc c)) ≡ joinedCode (joinedCode (suc a) (suc b)) (suc c)
     by-tests true true p q =
-        rw (eqb-true (suc a) (suc b) p, eqb-true (suc b) (suc c) q, joined-same (suc c), joined-same (suc c))
+        rw (eqb-true (suc a) (suc b) p, eqb-true (suc b) (suc c) q, joinedCode-same (suc c), joinedCode-same (suc c))
     by-tests true false p q =
-        let d = joined-other (suc b) (suc c) (λ h. omega arith) (λ h. omega arith) (eqb-false (suc b) (suc c) q) in
-        rw (eqb-true (suc a) (suc b) p, joined-same (suc b), d) (joined-one (suc b))
+        let d = joinedCode-other (suc b) (suc c) (λ h. omega arith) (λ h. omega arith) (eqb-false (suc b) (suc c) q) in
+        rw (eqb-true (suc a) (suc b) p, joinedCode-same (suc b), d) (joinedCode-one (suc b))
     by-tests false true p q =
-        let d = joined-other (suc a) (suc b) (λ h. omega arith) (λ h. omega arith) (eqb-false (suc a) (suc b) p) in
-        rw (← eqb-true (suc b) (suc c) q, joined-same (suc b), d) (sym (one-joined (suc b)))
+        let d = joinedCode-other (suc a) (suc b) (λ h. omega arith) (λ h. omega arith) (eqb-false (suc a) (suc b) p) in
+        rw (← eqb-true (suc b) (suc c) q, joinedCode-same (suc b), d) (sym (one-joinedCode (suc b)))
     by-tests false false p q =
-        let d = joined-other (suc a) (suc b) (λ h. omega arith) (λ h. omega arith) (eqb-false (suc a) (suc b) p) in
-        let e = joined-other (suc b) (suc c) (λ h. omega arith) (λ h. omega arith) (eqb-false (suc b) (suc c) q) in
-        rw (d, e) (joined-one (suc a) ∙ sym (one-joined (suc c)))
+        let d = joinedCode-other (suc a) (suc b) (λ h. omega arith) (λ h. omega arith) (eqb-false (suc a) (suc b) p) in
+        let e = joinedCode-other (suc b) (suc c) (λ h. omega arith) (λ h. omega arith) (eqb-false (suc b) (suc c) q) in
+        rw (d, e) (joinedCode-one (suc a) ∙ sym (one-joinedCode (suc c)))
 
 -- one mark more: one number more is false, and no mark is of a later turn
 pub false-more : (marks : List ℕ) (turn : ℕ) (y : ℤ) → slotOf y < length marks

@@ -15,8 +15,8 @@ use Rattle.model.proofs.Booleans.{and-true}
 use Rattle.model.proofs.Gather.{All, nothing, also}
 use Rattle.answer_signs.specs.Signs.{sameNumber}
 use Rattle.refutation_lemmas.specs.Propagation.{every, within, freeOf, Outcome, conflict, unit, undecided, outcomeOf, firstOutcome, startsAt, hintOutcome}
-use Rattle.refutation_lemmas.specs.Marks.{slotOf, codeOf, joined}
-use Rattle.refutation_lemmas.proofs.Marks.{same-equal, slot-zero, slot-same, slot-within, zero-joined, joined-zero, joined-same, joined-other, joined-one}
+use Rattle.refutation_lemmas.specs.Marks.{slotOf, codeOf, joinedCode}
+use Rattle.refutation_lemmas.proofs.Marks.{same-equal, slot-zero, slot-same, slot-within, zero-joinedCode, joinedCode-zero, joinedCode-same, joinedCode-other, joinedCode-one}
 use Rattle.refutation_lemmas.proofs.Clauses.{isNumber, number-of-slot, NumbersOnly, onFirst, clausesIn-number, clausesIn-numbersOnly}
 
 -- what holds of all numbers of a clause holds of those that are left
@@ -39,49 +39,49 @@ number-least (negsuc v) h = omega arith
 
 -- one number more that is not false
 outcome-number : (z : ℤ) (free : List ℤ) → isNumber z ≡ true → NumbersOnly free
-    → codeOf (outcomeOf (z ∷ free)) ≡ joined (slotOf z) (codeOf (outcomeOf free))
+    → codeOf (outcomeOf (z ∷ free)) ≡ joinedCode (slotOf z) (codeOf (outcomeOf free))
 unfolding outcomeOf every NumbersOnly
-outcome-number z [] p h = sym (joined-zero (slotOf z))
+outcome-number z [] p h = sym (joinedCode-zero (slotOf z))
 outcome-number z (y ∷ ys) p h = by-test (sameNumber z y) refl
   where
-    same : (t : Bool) → codeOf (cond t (unit z) undecided) ≡ joined (slotOf z) (codeOf (cond t (unit z) undecided))
-    same true = sym (joined-same (slotOf z))
-    same false = sym (joined-one (slotOf z))
+    same : (t : Bool) → codeOf (cond t (unit z) undecided) ≡ joinedCode (slotOf z) (codeOf (cond t (unit z) undecided))
+    same true = sym (joinedCode-same (slotOf z))
+    same false = sym (joinedCode-one (slotOf z))
 
-    other : (t : Bool) → (slotOf z ≡ slotOf y → ⊥) → 1 ≡ joined (slotOf z) (codeOf (cond t (unit y) undecided))
+    other : (t : Bool) → (slotOf z ≡ slotOf y → ⊥) → 1 ≡ joinedCode (slotOf z) (codeOf (cond t (unit y) undecided))
     other true d =
-        sym (joined-other (slotOf z) (slotOf y) (λ e. omega (arith, number-least z p)) (λ e. omega (arith, number-least y (and-true (isNumber y) (every isNumber ys) .0 h .0))) d)
-    other false d = sym (joined-one (slotOf z))
+        sym (joinedCode-other (slotOf z) (slotOf y) (λ e. omega (arith, number-least z p)) (λ e. omega (arith, number-least y (and-true (isNumber y) (every isNumber ys) .0 h .0))) d)
+    other false d = sym (joinedCode-one (slotOf z))
 
     by-test :
         (t : Bool) → sameNumber z y ≡ t
         → codeOf (cond (t && every (sameNumber z) ys) (unit z) undecided)
-        ≡ joined (slotOf z) (codeOf (cond (every (sameNumber y) ys) (unit y) undecided))
+        ≡ joinedCode (slotOf z) (codeOf (cond (every (sameNumber y) ys) (unit y) undecided))
     by-test true e = rw (← same-equal z y e) (same (every (sameNumber z) ys))
     by-test false e = other (every (sameNumber y) ys) (eqb-false (slotOf z) (slotOf y) (slot-same z y ∙ e))
 
 -- one number more of the first clause
 pub first-number : (n : ℕ) (f : ℤ → Bool) (z : ℤ) (zs : List ℤ) → isNumber z ≡ true
     → codeOf (firstOutcome n f (clausesIn (z ∷ zs)))
-    ≡ cond (within n z) (joined (cond (f z) 0 (slotOf z)) (codeOf (firstOutcome n f (clausesIn zs)))) 1
+    ≡ cond (within n z) (joinedCode (cond (f z) 0 (slotOf z)) (codeOf (firstOutcome n f (clausesIn zs)))) 1
 unfolding firstOutcome onFirst every freeOf NumbersOnly
 first-number n f z zs p = rw (clausesIn-number z zs p) (go (clausesIn zs) (clausesIn-numbersOnly zs))
   where
-    none : (t : Bool) (x : ℕ) → 1 ≡ cond t (joined x 1) 1
-    none true x = sym (joined-one x)
+    none : (t : Bool) (x : ℕ) → 1 ≡ cond t (joinedCode x 1) 1
+    none true x = sym (joinedCode-one x)
     none false x = refl
 
     some : (c : List ℤ) → NumbersOnly c → (t u v : Bool)
         → codeOf (cond (t && u) (outcomeOf (cond v (freeOf f c) (z ∷ freeOf f c))) undecided)
-        ≡ cond t (joined (cond v 0 (slotOf z)) (codeOf (cond u (outcomeOf (freeOf f c)) undecided))) 1
+        ≡ cond t (joinedCode (cond v 0 (slotOf z)) (codeOf (cond u (outcomeOf (freeOf f c)) undecided))) 1
     some c h false u v = refl
-    some c h true false v = sym (joined-one (cond v 0 (slotOf z)))
-    some c h true true true = sym (zero-joined (codeOf (outcomeOf (freeOf f c))))
+    some c h true false v = sym (joinedCode-one (cond v 0 (slotOf z)))
+    some c h true true true = sym (zero-joinedCode (codeOf (outcomeOf (freeOf f c))))
     some c h true true false = outcome-number z (freeOf f c) p (every-free isNumber f c h)
 
     go : (cs : List (List ℤ)) → All NumbersOnly cs
         → codeOf (firstOutcome n f (onFirst (z ∷ []) cs))
-        ≡ cond (within n z) (joined (cond (f z) 0 (slotOf z)) (codeOf (firstOutcome n f cs))) 1
+        ≡ cond (within n z) (joinedCode (cond (f z) 0 (slotOf z)) (codeOf (firstOutcome n f cs))) 1
     go [] nothing = none (within n z) (cond (f z) 0 (slotOf z))
     go (c ∷ cs) (also h r) = some c h (within n z) (every (within n) c) (f z)
 
@@ -98,7 +98,7 @@ module _ (n : ℕ) (f : ℤ → Bool) (zs : List ℤ) (i : ℕ) where
   pub outcome-here : i < length zs → (slotOf (getD zs i (pos 0)) ≡ 0 → ⊥)
       → codeOf (firstOutcome n f (clausesIn (drop i zs)))
       ≡ cond (ltb (slotOf (getD zs i (pos 0))) (n * 2))
-      (joined (cond (f (getD zs i (pos 0))) 0 (slotOf (getD zs i (pos 0)))) (codeOf (firstOutcome n f (clausesIn (drop (i + 1) zs))))) 1
+      (joinedCode (cond (f (getD zs i (pos 0))) 0 (slotOf (getD zs i (pos 0)))) (codeOf (firstOutcome n f (clausesIn (drop (i + 1) zs))))) 1
   outcome-here l d =
       rw (add-one, drop-cons zs i (pos 0) l, ← slot-within n (getD zs i (pos 0)))
       (first-number n f (getD zs i (pos 0)) (drop (suc i) zs) (number-of-slot (getD zs i (pos 0)) d))

@@ -30,9 +30,9 @@ codeOf conflict = 0
 codeOf undecided = 1
 codeOf (unit z) = slotOf z
 
--- outcomes of two parts of a clause, joined: a conflict leaves the other part's, and units have to be the same
-unfoldable pub joined : ℕ → ℕ → ℕ
-joined a b = cond (eqb a 0) b (cond (eqb b 0) a (cond (eqb a b) a 1))
+-- the code of a clause's outcome from those of two parts: a conflict leaves the other part's, and units have to be the same
+unfoldable pub joinedCode : ℕ → ℕ → ℕ
+joinedCode a b = cond (eqb a 0) b (cond (eqb b 0) a (cond (eqb a b) a 1))
 
 -- how many numbers stand before the first end mark
 unfoldable pub beforeEnd : List ℤ → ℕ

@@ -11,7 +11,7 @@ ghost use Rattle.model.specs.Numbers.{clausesIn};
 ghost use Rattle.answer_signs.specs.Signs.{among};
 ghost use Rattle.refutation_lemmas.specs.Propagation.{every, within, firstOutcome, startsAt, hintOutcome, propagates, follows};
 ghost use Rattle.refutation_lemmas.specs.Refutation.{checked, Unsatisfiable};
-ghost use Rattle.refutation_lemmas.specs.Marks.{slotOf, falseIn, UpTo, Before, codeOf, joined, beforeEnd};
+ghost use Rattle.refutation_lemmas.specs.Marks.{slotOf, falseIn, UpTo, Before, codeOf, joinedCode, beforeEnd};
 
 // What a check finds: the formula is refuted, or the first lemma that does not follow by its hints, counted from 0.
 pub enum Checked {
@@ -69,7 +69,7 @@ fn starts_at(known: &[i32], place: usize) -> bool
 // The outcome of a part of a clause, with one number more.
 fn join(outcome: usize, slot: usize, mark: u32, turn: u32) -> usize
     requires { ⌜ 2 ≤ slot ⌝ }
-    ensures { λ r. ⌜ r ≡ joined outcome (cond (eqb mark turn) 0 slot) ⌝ }
+    ensures { λ r. ⌜ r ≡ joinedCode outcome (cond (eqb mark turn) 0 slot) ⌝ }
 {
     if mark == turn {
         return outcome;

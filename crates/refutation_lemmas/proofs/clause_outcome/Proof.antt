@@ -10,8 +10,8 @@ use lib.IntN.{ℤ, pos}
 use lib.ListN.{length, getD, drop}
 use Rattle.model.specs.Numbers.{clausesIn}
 use Rattle.refutation_lemmas.specs.Propagation.{firstOutcome}
-use Rattle.refutation_lemmas.specs.Marks.{slotOf, falseIn, codeOf, joined}
-use Rattle.refutation_lemmas.proofs.Marks.{slot-read, slot-least, zero-joined, joined-zero, one-joined, joined-one, joined-joined}
+use Rattle.refutation_lemmas.specs.Marks.{slotOf, falseIn, codeOf, joinedCode}
+use Rattle.refutation_lemmas.proofs.Marks.{slot-read, slot-least, zero-joinedCode, joinedCode-zero, one-joinedCode, joinedCode-one, joinedCode-joinedCode}
 use Rattle.refutation_lemmas.proofs.Outcomes.{outcome-end, outcome-none, outcome-here}
 use Rattle.refutation_lemmas.proofs.clause_outcome.Statement.{statement}
 use Rattle.refutation_lemmas.proofs.clause_outcome.Tie as tie
@@ -22,7 +22,7 @@ codeIn marks turn zs = codeOf (firstOutcome (length marks / 2) (falseIn marks tu
 
 abbrev Inv-loop : tie.InvT-loop
 Inv-loop known place marks turn limit outcome₀ i₀ outcome i =
-    joined outcome (codeIn marks turn (drop i known)) ≡ codeIn marks turn (drop place known)
+    joinedCode outcome (codeIn marks turn (drop i known)) ≡ codeIn marks turn (drop place known)
 
 abbrev μ-loop : tie.MeasureT-loop
 μ-loop known place marks turn limit outcome₀ i₀ outcome i = length known - i
@@ -40,7 +40,7 @@ left : (c : tie.Else2 Inv-loop μ-loop) →
     let i = c .before .before .before .before .before .loop .i in
     let s = c .before .before .slot .result in
     codeIn (a .marks .now) (a .turn) (drop i (a .known .now))
-    ≡ joined (cond (falseIn (a .marks .now) (a .turn) (getD (a .known .now) i (pos 0))) 0 s) (codeIn (a .marks .now) (a .turn) (drop (i + 1) (a .known .now)))
+    ≡ joinedCode (cond (falseIn (a .marks .now) (a .turn) (getD (a .known .now) i (pos 0))) 0 s) (codeIn (a .marks .now) (a .turn) (drop (i + 1) (a .known .now)))
 left c =
     let a = c .before .before .before .before .before .before .before .args in
     let i = c .before .before .before .before .before .loop .i in
@@ -53,7 +53,7 @@ left c =
 next : (c : tie.After-join Inv-loop μ-loop) →
     let a = c .before .before .before .before .before .before .before .before .before .args in
     let i = c .before .before .before .before .before .before .before .loop .i in
-    joined (c .join .result) (codeIn (a .marks .now) (a .turn) (drop (i + 1) (a .known .now)))
+    joinedCode (c .join .result) (codeIn (a .marks .now) (a .turn) (drop (i + 1) (a .known .now)))
     ≡ codeIn (a .marks .now) (a .turn) (drop (a .place) (a .known .now))
 next c =
     let a = c .before .before .before .before .before .before .before .before .before .args in
@@ -61,16 +61,16 @@ next c =
     let rest = codeIn (a .marks .now) (a .turn) (drop (at .i + 1) (a .known .now)) in
     let one = rw (read (c .before .before .before .before)) at (c .join .ensures) in
     let more = rw (read (c .before .before .before .before)) at (left (c .before .before)) in
-    ap (λ (x : ℕ). joined x rest) one
-    ∙ sym (joined-joined (at .outcome) _ rest)
-    ∙ ap (joined (at .outcome)) (sym more)
+    ap (λ (x : ℕ). joinedCode x rest) one
+    ∙ sym (joinedCode-joinedCode (at .outcome) _ rest)
+    ∙ ap (joinedCode (at .outcome)) (sym more)
     ∙ at .inv
 
 mul-limit : tie.Need-mul-limit Inv-loop μ-loop
 mul-limit c = search needs
 
 loop-holds : tie.Need-loop-holds Inv-loop μ-loop
-loop-holds c = let a = c .before .args in zero-joined (codeIn (a .marks .now) (a .turn) (drop (a .place) (a .known .now)))
+loop-holds c = let a = c .before .args in zero-joinedCode (codeIn (a .marks .now) (a .turn) (drop (a .place) (a .known .now)))
 
 mul-slot : tie.Need-mul-slot Inv-loop μ-loop
 mul-slot c = search needs
@@ -87,7 +87,7 @@ returns c =
     let a = c .before .before .before .before .before .before .args in
     let ends = outcome-end (length (a .marks .now) / 2) (falseIn (a .marks .now) (a .turn)) (a .known .now) (at .i)
     (c .before .before .before .loop-test .taken) (rw (read (c .before)) at (c .if1 .taken)) in
-    sym (joined-zero (at .outcome)) ∙ ap (joined (at .outcome)) (sym ends) ∙ at .inv
+    sym (joinedCode-zero (at .outcome)) ∙ ap (joinedCode (at .outcome)) (sym ends) ∙ at .inv
 
 returns-2 : tie.Need-returns-2 Inv-loop μ-loop
 returns-2 c =
@@ -97,7 +97,7 @@ returns-2 c =
     let here = outcome-here (length (a .marks .now) / 2) (falseIn (a .marks .now) (a .turn)) (a .known .now) (at .i)
     (c .before .before .before .before .loop-test .taken) (rw is at (c .before .if1 .left)) in
     let past = rw (le-ltb (slotOf (getD (a .known .now) (at .i) (pos 0))) (length (a .marks .now) / 2 * 2) (rw is at (c .if2 .taken))) at here in
-    sym (joined-one (at .outcome)) ∙ ap (joined (at .outcome)) (sym past) ∙ at .inv
+    sym (joinedCode-one (at .outcome)) ∙ ap (joinedCode (at .outcome)) (sym past) ∙ at .inv
 
 mul-join : tie.Need-mul-join Inv-loop μ-loop
 mul-join c = search needs
@@ -115,7 +115,7 @@ returns-3 : tie.Need-returns-3 Inv-loop μ-loop
 returns-3 c =
     let a = c .before .before .before .before .before .before .before .before .before .before .args in
     let i = c .before .before .before .before .before .before .before .before .loop .i in
-    sym (one-joined (codeIn (a .marks .now) (a .turn) (drop (i + 1) (a .known .now)))) ∙ rw (c .if3 .taken) at (next (c .before))
+    sym (one-joinedCode (codeIn (a .marks .now) (a .turn) (drop (i + 1) (a .known .now)))) ∙ rw (c .if3 .taken) at (next (c .before))
 
 add-i : tie.Need-add-i Inv-loop μ-loop
 add-i c = omega arith
@@ -130,8 +130,8 @@ returns-4 : tie.Need-returns-4 Inv-loop μ-loop
 returns-4 c =
     let at = c .before .loop in
     let a = c .before .before .before .args in
-    sym (joined-one (at .outcome))
-    ∙ ap (joined (at .outcome)) (sym (outcome-none (length (a .marks .now) / 2) (falseIn (a .marks .now) (a .turn)) (a .known .now) (at .i) (c .loop-test .left)))
+    sym (joinedCode-one (at .outcome))
+    ∙ ap (joinedCode (at .outcome)) (sym (outcome-none (length (a .marks .now) / 2) (falseIn (a .marks .now) (a .turn)) (a .known .now) (at .i) (c .loop-test .left)))
     ∙ at .inv
 
 pub clause-outcome-spec : {M : Type 1} → statement M
