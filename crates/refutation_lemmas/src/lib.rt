@@ -3,7 +3,7 @@
 use text_writer::parts_of;
 ghost use mathlib.Core.Path.{_≡_};
 ghost use mathlib.Core.Bool.{true, cond, _&&_};
-ghost use Prim.Native.Nat.{_+_, _-_, _*_, _/_, _≤_, _<_};
+ghost use Prim.Native.Nat.{_+_, _-_, _/_, _≤_};
 ghost use lib.Dec.{eqb, leb};
 ghost use lib.IntN.{ℤ, negℤ};
 ghost use lib.ListN.{length, take, drop};
