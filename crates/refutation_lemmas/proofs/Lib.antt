@@ -1,0 +1,6 @@
+-- Laws of this crate's definitions. No contract cites these files.
+pub mod Marks
+pub mod Clauses
+pub mod Outcomes
+pub mod Soundness
+pub mod Lemmas
