@@ -186,7 +186,7 @@ pub fn texts(tally: &mut Tally) {
     numbering_by_hand(tally);
 }
 
-/// B and Q, by the formulas of document 01 with 2(m + 4) for m + 4.
+/// B and Q, by their formulas with 2(m + 4) for m + 4.
 fn numbering_by_hand(tally: &mut Tally) {
     let netlist = accepted_two(TWO_READS);
     let bases = [1, 10, 29, 58, 97];

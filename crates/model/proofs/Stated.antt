@@ -18,7 +18,6 @@ use Rattle.model.specs.Counts.{clauseCount, numberCount}
 use Rattle.model.specs.Claim.{NoConstant, Stated, StatedTheorem}
 use Rattle.model.specs.declared.Group.{Group}
 use Rattle.model.specs.declared.Group.the-variants.{Wires, Pair, Closing, Property}
-use Rattle.model.proofs.Booleans.{and-true}
 use Rattle.model.proofs.Gather.{all-getD, all-below-length}
 use Rattle.model.proofs.Joined.{pair-inDepth, closing-inDepth}
 use Rattle.model.proofs.Numbering.{numbered}

@@ -1,7 +1,6 @@
 -- What a replay answers, and what it leaves in the lent memory and the lent trace (RULES Y1, Y5 to Y8, Y11 to Y14, T14, T15 and T49). Cited by the functions of this
 -- crate; an answer is given by its kind and by what it says of each variable.
 use Prim.Native.Nat.{ℕ, _+_, _^_}
-use mathlib.Core.Path.{_≡_}
 use mathlib.Core.Bool.{Bool, cond}
 use mathlib.Core.List.{List}
 use lib.Dec.{ltb}
