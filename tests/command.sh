@@ -24,6 +24,8 @@ tool() { # name: a program of tests/command, linked with all of the command but 
     $(objects) target/staticlib/libmarrubigai.a -lcadical
 }
 
+check "the reader of JSON is built" tool json_value
+
 # The command, with sanitizers, in the folder of the files.
 mkdir "$work/files"
 run() { (cd "${folder:-$work/files}" && PATH=${path:-$PATH} && exec "$sanitized" "$@") > "$work/out" 2> "$work/err"; }
@@ -284,6 +286,12 @@ says "two clocks" 1 "chip.v:11: it takes the falling edge of clock, and chip.v:2
 says "a clock that is read" 1 "the clock clock is read as data too; within a frame it has no value" 's/last != 9/last != 9 | clock/'
 says "a gated clock" 1 "chip.v:2: the clock gated is no input of the top module chip" 's/always @(posedge clock) begin/wire gated = clock \& reset; always @(posedge gated) begin/'
 says "a wire without a driver" 10 "chip.v: assert chip.v:11 is broken in frame 0 at the earliest" 's/last != 9/last != 9 \& open/; s/wire \[3:0\] q/wire open; wire [3:0] q/'
+square() { echo "reg [9:0] $1 = 0; always @(posedge clock) $1 <= $1 * $1 + q + $2; always @* assert ($1 != 1023);"; }
+says "too much together" 20 "chip.v: assert chip.v:11 holds in frames 0 to 1, by the solver's word
+chip.v: assert chip.v:12 holds in frames 0 to 1, by the solver's word
+chip.v: assert chip.v:13 holds in frames 0 to 1, by the solver's word" "s/^endmodule/$(square p 3)\\n$(square r 5)\\nendmodule/" -k 1
+run --json -k 1 chip.v
+check "too much together: each is a chip of its own" same "list of 3" "$("$work/json_value" "$work/out" chips)"
 says "too much" 1 "what is asked about depends on " 's/last <= q/last <= q; p <= p * p + q/; s/reg \[3:0\] last/reg [31:0] p = 0; reg [3:0] last/; s/last != 9/p != 55/'
 says "no Verilog" 1 "chip.v: yosys makes no netlist of it:
   yosys: chip.v:" 's/endmodule//'
@@ -346,16 +354,15 @@ check "the sheet of a design, by the script" same "$work/kept/1.sheet: the prope
 check "a full disk: status" same 1 $?
 check "a full disk: said" grep -q "^standard output cannot be written" "$work/err"
 
-check "the reader of JSON is built" tool json_value
 value() { "$work/json_value" "$work/out" "$@"; }
 run --json --radix dec --names chip.names chip.sheet
-check "JSON: status" same "10 broken 1 run 0 0 solver" "$(echo $(value status; for at in verdict frame by; do value properties 0 $at; done; for at in from to by; do value properties 0 safe $at; done))"
-check "JSON: the run" same "list of 2 1 0 1 0 0 1" "$(echo $(value properties 0 run; value properties 0 run 0 words input; value properties 0 run 0 words read
-  value properties 0 run 0 memory write; value properties 0 run 1 memory written_in; value properties 0 run 1 holds; value properties 0 run 1 memory read))"
+check "JSON: status" same "10 broken 1 run 0 0 solver" "$(echo $(value status; for at in verdict frame by; do value chips 0 properties 0 $at; done; for at in from to by; do value chips 0 properties 0 safe $at; done))"
+check "JSON: the run" same "list of 2 1 0 1 0 0 1" "$(echo $(value chips 0 properties 0 run; value chips 0 properties 0 run 0 words input; value chips 0 properties 0 run 0 words read
+  value chips 0 properties 0 run 0 memory write; value chips 0 properties 0 run 1 memory written_in; value chips 0 properties 0 run 1 holds; value chips 0 properties 0 run 1 memory read))"
 folder=$designs run --json -k 3 histogram.v
 check "JSON of a design" same "20 counts 3 3 0 assert holds histogram.v:24 cover reached" \
-  "$(echo $(value status; value memory name; value memory address_bits; value memory data_bits; value memory start
-    for at in kind verdict source; do value properties 0 $at; done; for at in kind verdict; do value properties 1 $at; done))"
+  "$(echo $(value status; value chips 0 memory name; value chips 0 memory address_bits; value chips 0 memory data_bits; value chips 0 memory start
+    for at in kind verdict source; do value chips 0 properties 0 $at; done; for at in kind verdict; do value chips 0 properties 1 $at; done))"
 
 ### installed into a folder, and a use of what was installed
 check "it is installed" make --no-print-directory install DESTDIR="$work/root" PREFIX=/opt/m > "$work/make" 2>&1
