@@ -70,6 +70,7 @@ public:
     }
     chip.net.p = chip.properties[0].code;
     chip.notes.insert(chip.notes.end(), port.notes.begin(), port.notes.end());
+    chip.notes.insert(chip.notes.end(), design.warnings.begin(), design.warnings.end());
     note_inputs(emission);
     name_words(emission);
     set_bench(emission);

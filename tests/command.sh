@@ -285,6 +285,10 @@ says "a memory that is none" 1 "--memory none: the design has no memory of this 
 says "two clocks" 1 "chip.v:11: it takes the falling edge of clock, and chip.v:2 the rising edge of clock" 's/posedge clock) assert/negedge clock) last2 <= last; reg [3:0] last2 = 0; always @* assert/; s/(last != 9)/(last2 != 9)/'
 says "a clock that is read" 1 "the clock clock is read as data too; within a frame it has no value" 's/last != 9/last != 9 | clock/'
 says "a gated clock" 1 "chip.v:2: the clock gated is no input of the top module chip" 's/always @(posedge clock) begin/wire gated = clock \& reset; always @(posedge gated) begin/'
+twice() { says "$1" 1 "chip.v:" "s/last != 9/last != 9 \\& twice/; s/wire \\[3:0\\] q/wire twice; assign twice = $2; assign twice = ~(we \\& reset); wire [3:0] q/"; }
+twice "two drivers" "we \\& d[0]"
+check "two drivers: which" grep -qE "^chip.v:[0-9]+: the wire twice has a second driver" "$work/err"
+twice "two drivers, one an input" we
 says "a wire without a driver" 10 "chip.v: assert chip.v:11 is broken in frame 0 at the earliest" 's/last != 9/last != 9 \& open/; s/wire \[3:0\] q/wire open; wire [3:0] q/'
 square() { echo "reg [9:0] $1 = 0; always @(posedge clock) $1 <= $1 * $1 + q + $2; always @* assert ($1 != 1023);"; }
 says "too much together" 20 "chip.v: assert chip.v:11 holds in frames 0 to 1, by the solver's word
