@@ -46,6 +46,7 @@ struct Design {
   std::vector<Cell> cells;
   std::vector<Net> nets; // those that have a name of the source
   std::map<Bit, char> initial; // 0 or 1, of registers that have one
+  std::vector<std::string> warnings; // yosys' lines
 };
 
 // a statement of the source: it drives nothing

@@ -105,11 +105,11 @@ Emission emit(const Aig &aig, const MemoryPort &port, const std::vector<Lit> &ro
     throw Failure(port.source + ": memory " + port.name + " has " + std::to_string(address.size()) + " address bits, and 12 is the most.\n" +
                   "Make it smaller by a parameter (-P).");
   if (data_bits > MOST_DATA_BITS)
-    throw Failure(port.source + ": what is asked about depends on " + std::to_string(data_bits) + " data bits of memory " + port.name +
-                  ", and 32 is the most.\nMake the words narrower by a parameter (-P), or ask about less (--property).");
+    throw TooLarge(port.source + ": what is asked about depends on " + std::to_string(data_bits) + " data bits of memory " + port.name +
+                  ", and 32 is the most.\nMake the words narrower by a parameter (-P).");
   if (wires > MOST_WIRES)
-    throw Failure("what is asked about depends on " + std::to_string(wires) + " wires (" + counts + "), and 600 is the most.\n" +
-                  "Ask about one property (--property), or make the design smaller by a parameter (-P): narrower words, fewer of them.");
+    throw TooLarge("what is asked about depends on " + std::to_string(wires) + " wires (" + counts + "), and 600 is the most.\n" +
+                  "Make the design smaller by a parameter (-P): narrower words, fewer of them.");
   made.codes.assign(aig.size(), NO_CODE);
   made.codes[0] = 0;
   uint32_t wire = 0;

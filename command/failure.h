@@ -12,6 +12,11 @@ struct Failure {
   explicit Failure(std::string text, int exit_status = FAILED) : message(std::move(text)), status(exit_status) {}
 };
 
+// more wires or data bits than the engine takes; a part of what is asked about may fit
+struct TooLarge : Failure {
+  using Failure::Failure;
+};
+
 // the memory does not fit into one port, as it was read; it may fit when it is read in another way
 struct NoFit : Failure {
   using Failure::Failure;

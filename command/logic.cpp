@@ -20,12 +20,16 @@ Logic::Logic(const Design &read, const std::vector<Reset> &resets) : design(read
     if (port == outputs.end())
       throw Failure(cell.source + ": yosys left a " + cell.type + ", which this version cannot take" +
                     (cell.type.compare(0, 7, "$_DLATC") == 0 ? ": a latch; give it a clock" : ""));
-    for (Bit bit : cell.port(port->second)) drivers[bit] = &cell;
+    for (Bit bit : cell.port(port->second)) {
+      auto [driver, is_first] = drivers.emplace(bit, &cell);
+      if (!is_first) throw Failure(cell.source + ": the wire " + name_of(bit) + " has a second driver, at " + driver->second->source);
+    }
   }
   for (const Port &port : design.ports) {
     if (port.direction == "inout") throw Failure("the port " + port.name + " goes both ways (inout): make an input and an output of it");
     if (port.direction != "input") continue;
     for (Bit bit : port.bits) {
+      if (drivers.count(bit)) throw Failure(drivers[bit]->source + ": the input " + name_of(bit) + " is driven here too");
       inputs.insert(bit);
       known[bit] = aig.add_input();
     }

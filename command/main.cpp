@@ -39,11 +39,11 @@ void test_options(const Options &options, bool verilog) {
   if (options.files.size() > 1) throw Failure("one sheet or one text at a time: " + options.files[1] + " is too many\n" + usage_line, USAGE);
 }
 
-Chip load(const Options &options, Stop &stop) {
+std::vector<Chip> load(const Options &options, Stop &stop) {
   const std::string &path = options.files[0];
   if (is_verilog(path)) {
     test_options(options, true);
-    return chip_of_verilog(options, stop);
+    return chips_of_verilog(options, stop);
   }
   std::string content = read_file(path);
   bool sheet = is_sheet(path, content), text = !sheet && is_aiger(path, content);
@@ -56,7 +56,30 @@ Chip load(const Options &options, Stop &stop) {
   Chip chip = sheet ? chip_of_sheet(path, content, options) : chip_of_aiger(path, content, options);
   apply_start(chip, options.start);
   show_watched(chip, options.watched);
-  return chip;
+  return {chip};
+}
+
+Searched search_chip(const Chip &chip, const Options &options, Stop &stop) {
+  std::vector<Verdict> verdicts = search(chip, Plan{options.depth, options.from, options.any}, stop);
+  for (size_t p = 0; options.confirm && p < verdicts.size(); p++)
+    if (verdicts[p].run) verdicts[p].confirmed = confirm(options, chip, chip.properties[p], *verdicts[p].run, stop);
+  return {chip, verdicts};
+}
+
+int run(const Options &options) {
+  Stop stop(options.timeout, !options.quiet);
+  test_outputs(options);
+  std::vector<Chip> chips = load(options, stop);
+  if (!options.keep_folder.empty()) keep_sheets(chips, options.keep_folder);
+  std::vector<Searched> searched;
+  for (const Chip &chip : chips) searched.push_back(search_chip(chip, options, stop));
+  if (!options.vcd_file.empty()) write_waveform(options.vcd_file, searched);
+  Report report{options, searched, "", stop.seconds()};
+  for (const Searched &each : searched)
+    for (const Verdict &verdict : each.verdicts)
+      if (verdict.kind == Verdict::Kind::stopped) report.stopped = stop.why();
+  print(options.json ? report_json(report) : report_text(report));
+  return exit_status(report);
 }
 
 } // namespace
@@ -67,20 +90,7 @@ int main(int count, char **arguments) {
     Options options = parse_options(count, arguments);
     if (options.show_help) return print(help_text), 0;
     if (options.show_version) return print(version_text() + "\n"), 0;
-    Stop stop(options.timeout, !options.quiet);
-    test_outputs(options);
-    Chip chip = load(options, stop);
-    if (!options.keep_folder.empty()) keep_sheets(chip, options.keep_folder);
-    Plan plan{options.depth, options.from, options.any};
-    std::vector<Verdict> verdicts = search(chip, plan, stop);
-    for (size_t p = 0; options.confirm && p < verdicts.size(); p++)
-      if (verdicts[p].run) verdicts[p].confirmed = confirm(options, chip, chip.properties[p], *verdicts[p].run, stop);
-    Report report{options.files[0], &chip, &options, &verdicts, "", stop.seconds()};
-    for (const Verdict &verdict : verdicts)
-      if (verdict.kind == Verdict::Kind::stopped) report.stopped = stop.why();
-    if (!options.vcd_file.empty()) write_waveform(options.vcd_file, chip, verdicts);
-    print(options.json ? report_json(report) : report_text(report));
-    return exit_status(report);
+    return run(options);
   } catch (const Failure &failure) {
     std::fprintf(stderr, "%s\n", failure.message.c_str());
     return failure.status;

@@ -36,9 +36,12 @@ const Cell &only_memory(const Design &design, const std::string &chosen) {
     if (cell.type == "$mem_v2") found.push_back(&cell);
   if (found.empty() && !chosen.empty())
     throw Failure("--memory " + chosen + ": the design has no memory of this name that is written and read; without --memory it says which there are");
-  if (found.empty())
-    throw Failure(design.top + ": the design has no memory that is written and read, and this engine is for chips with one.\n"
-                               "An array that yosys dissolves into registers, as one whose every index is a constant, is none.");
+  if (found.empty()) {
+    std::string said;
+    for (const std::string &warning : design.warnings) said += "\n  " + warning;
+    throw Failure(design.top + ": the design has no memory that is written and read, and this engine is for chips with one.\n" +
+                  "An array that yosys dissolves into registers, as one whose every index is a constant, is none." + said);
+  }
   if (found.size() == 1) return *found[0];
   std::string list;
   for (const Cell *cell : found) list += "\n  --memory " + cell->name + "   " + cell->source + ", " + words_text(*cell);

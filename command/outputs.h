@@ -3,15 +3,14 @@
 
 #include <vector>
 
-#include "chip.h"
 #include "options.h"
-#include "search.h"
+#include "report.h"
 
 // Tests, before a search that may take long, that they can be written.
 void test_outputs(const Options &options);
 
 // DIR/1.sheet and DIR/1.names for the first property, and so on: what `frames` and `replay` take.
-void keep_sheets(const Chip &chip, const std::string &folder);
+void keep_sheets(const std::vector<Chip> &chips, const std::string &folder);
 
 // the run of the first property that has one
-void write_waveform(const std::string &path, const Chip &chip, const std::vector<Verdict> &verdicts);
+void write_waveform(const std::string &path, const std::vector<Searched> &searched);

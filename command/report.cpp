@@ -91,10 +91,10 @@ std::string verdict_word(const Property &property, const Verdict &verdict) {
   return "stopped";
 }
 
-std::string property_json(const Report &report, size_t p) {
-  const Chip &chip = *report.chip;
+std::string property_json(const Searched &searched, size_t p, Radix radix) {
+  const Chip &chip = searched.chip;
   const Property &property = chip.properties[p];
-  const Verdict &verdict = (*report.verdicts)[p];
+  const Verdict &verdict = searched.verdicts[p];
   static const char *const kinds[] = {"property", "assert", "cover"};
   std::string text = "{\"name\": " + quoted(property.name) + ", \"kind\": \"" + kinds[static_cast<int>(property.kind)] + "\"";
   if (!property.source.empty()) text += ", \"source\": " + quoted(property.source);
@@ -108,8 +108,21 @@ std::string property_json(const Report &report, size_t p) {
   char seconds[32];
   std::snprintf(seconds, sizeof seconds, "%.3f", verdict.seconds);
   text += std::string(", \"seconds\": ") + seconds;
-  if (verdict.run) text += ",\n     \"run\": " + run_json(chip, property, *verdict.run, report.options->radix);
+  if (verdict.run) text += ",\n     \"run\": " + run_json(chip, property, *verdict.run, radix);
   return text + "}";
+}
+
+std::string chip_json(const Searched &searched, Radix radix) {
+  const Chip &chip = searched.chip;
+  std::string text = "{\"inputs\": " + std::to_string(chip.net.inputs) + ", \"latches\": " + std::to_string(chip.net.latches) +
+                     ", \"gates\": " + std::to_string(chip.net.gates) + ", \"wires\": " + std::to_string(chip.wires()) + ",\n   \"memory\": {";
+  if (!chip.memory_name.empty()) text += "\"name\": " + quoted(chip.memory_name) + ", ";
+  text += "\"address_bits\": " + std::to_string(chip.net.m) + ", \"data_bits\": " + std::to_string(chip.net.n) + ", \"start\": " +
+          (chip.net.unknown_start ? "null" : std::to_string(chip.net.initial_word)) + "},\n   \"notes\": [";
+  for (size_t at = 0; at < chip.notes.size(); at++) text += (at ? ", " : "") + quoted(chip.notes[at]);
+  text += "],\n   \"properties\": [";
+  for (size_t p = 0; p < searched.verdicts.size(); p++) text += (p ? ",\n    " : "\n    ") + property_json(searched, p, radix);
+  return text + "\n   ]}";
 }
 
 } // namespace
@@ -120,54 +133,48 @@ std::string version_text() {
 
 std::string report_text(const Report &report) {
   static const char *const radix_words[] = {"hex", "decimal", "binary"};
-  const Options &options = *report.options;
+  const Options &options = report.options;
   std::string text;
-  if (!options.quiet)
-    for (const std::string &note : report.chip->notes) text += report.file + ": note: " + note + "\n";
-  for (size_t p = 0; p < report.verdicts->size(); p++) {
-    const Property &property = report.chip->properties[p];
-    const Verdict &verdict = (*report.verdicts)[p];
-    text += report.file + ": " + verdict_text(property, verdict, options, report.stopped);
-    bool shown = verdict.run && !options.quiet;
-    if (shown && options.radix != Radix::dec) text += std::string(" (words in ") + radix_words[static_cast<int>(options.radix)] + ")";
-    text += shown ? ":\n" + table(*report.chip, property, *verdict.run, options.radix) : "\n";
-    if (!verdict.confirmed.empty()) text += report.file + ": " + subject(property) + ": " + verdict.confirmed + "\n";
+  for (const Searched &searched : report.searched) {
+    if (!options.quiet)
+      for (const std::string &note : searched.chip.notes) text += report.file() + ": note: " + note + "\n";
+    for (size_t p = 0; p < searched.verdicts.size(); p++) {
+      const Property &property = searched.chip.properties[p];
+      const Verdict &verdict = searched.verdicts[p];
+      text += report.file() + ": " + verdict_text(property, verdict, options, report.stopped);
+      bool shown = verdict.run && !options.quiet;
+      if (shown && options.radix != Radix::dec) text += std::string(" (words in ") + radix_words[static_cast<int>(options.radix)] + ")";
+      text += shown ? ":\n" + table(searched.chip, property, *verdict.run, options.radix) : "\n";
+      if (!verdict.confirmed.empty()) text += report.file() + ": " + subject(property) + ": " + verdict.confirmed + "\n";
+    }
   }
   return text;
 }
 
 std::string report_json(const Report &report) {
-  const Chip &chip = *report.chip;
   static const char *const radix_words[] = {"hex", "dec", "bin"};
+  const Options &options = report.options;
   char seconds[32];
   std::snprintf(seconds, sizeof seconds, "%.3f", report.seconds);
-  std::string text = "{\"marrubigai\": " + quoted(MARRUBIGAI_VERSION) + ", \"file\": " + quoted(report.file) +
-                     ", \"depth\": " + std::to_string(report.options->depth) + ", \"radix\": \"" +
-                     radix_words[static_cast<int>(report.options->radix)] + "\",\n";
-  text += " \"chip\": {\"inputs\": " + std::to_string(chip.net.inputs) + ", \"latches\": " + std::to_string(chip.net.latches) +
-          ", \"gates\": " + std::to_string(chip.net.gates) + ", \"wires\": " + std::to_string(chip.wires()) + "},\n";
-  text += " \"memory\": {";
-  if (!chip.memory_name.empty()) text += "\"name\": " + quoted(chip.memory_name) + ", ";
-  text += "\"address_bits\": " + std::to_string(chip.net.m) + ", \"data_bits\": " + std::to_string(chip.net.n) + ", \"start\": " +
-          (chip.net.unknown_start ? "null" : std::to_string(chip.net.initial_word)) + "},\n";
-  text += " \"notes\": [";
-  for (size_t at = 0; at < chip.notes.size(); at++) text += (at ? ", " : "") + quoted(chip.notes[at]);
-  text += "],\n \"status\": " + std::to_string(exit_status(report));
+  std::string text = "{\"marrubigai\": " + quoted(MARRUBIGAI_VERSION) + ", \"file\": " + quoted(report.file()) +
+                     ", \"depth\": " + std::to_string(options.depth) + ", \"radix\": \"" + radix_words[static_cast<int>(options.radix)] + "\",\n";
+  text += " \"status\": " + std::to_string(exit_status(report)) + ", \"seconds\": " + seconds;
   if (!report.stopped.empty()) text += ", \"stopped\": " + quoted(report.stopped);
-  text += std::string(", \"seconds\": ") + seconds + ",\n \"properties\": [";
-  for (size_t p = 0; p < report.verdicts->size(); p++) text += (p ? ",\n    " : "\n    ") + property_json(report, p);
-  return text + "\n  ]}\n";
+  text += ",\n \"chips\": [";
+  for (size_t at = 0; at < report.searched.size(); at++) text += (at ? ",\n  " : "\n  ") + chip_json(report.searched[at], options.radix);
+  return text + "\n ]}\n";
 }
 
 int exit_status(const Report &report) {
   bool broken = false, reached = false, stopped = false, only_covers = true;
-  for (size_t p = 0; p < report.verdicts->size(); p++) {
-    bool cover = report.chip->properties[p].kind == Property::Kind::cover;
-    Verdict::Kind kind = (*report.verdicts)[p].kind;
-    (cover ? reached : broken) |= kind == Verdict::Kind::broken;
-    stopped |= kind == Verdict::Kind::stopped;
-    only_covers &= cover;
-  }
+  for (const Searched &searched : report.searched)
+    for (size_t p = 0; p < searched.verdicts.size(); p++) {
+      bool cover = searched.chip.properties[p].kind == Property::Kind::cover;
+      Verdict::Kind kind = searched.verdicts[p].kind;
+      (cover ? reached : broken) |= kind == Verdict::Kind::broken;
+      stopped |= kind == Verdict::Kind::stopped;
+      only_covers &= cover;
+    }
   if (broken || (only_covers && reached)) return BROKEN;
   return stopped ? STOPPED : HOLDS;
 }

@@ -8,13 +8,19 @@
 #include "options.h"
 #include "search.h"
 
+// a chip with a verdict for each of its properties
+struct Searched {
+  Chip chip;
+  std::vector<Verdict> verdicts;
+};
+
 struct Report {
-  std::string file; // the first one that was given
-  const Chip *chip = nullptr;
-  const Options *options = nullptr;
-  const std::vector<Verdict> *verdicts = nullptr;
+  const Options &options;
+  const std::vector<Searched> &searched;
   std::string stopped; // why, where it was
-  double seconds = 0;
+  double seconds;
+
+  const std::string &file() const { return options.files[0]; }
 };
 
 std::string report_text(const Report &report);

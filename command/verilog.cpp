@@ -41,6 +41,13 @@ public:
   Chipmaker(const Design &read, const Options &wanted)
       : design(read), options(wanted), logic(read, wanted.resets), memory_cell(only_memory(read, wanted.memory)), cut(logic, memory_cell) {}
 
+  std::vector<Property> asked_about() {
+    find_statements();
+    std::vector<Property> made;
+    for (const Statement &statement : statements) made.push_back(statement.property);
+    return made;
+  }
+
   Chip make() {
     find_statements();
     Lit allowed = assumptions();
@@ -63,6 +70,7 @@ public:
     }
     chip.net.p = chip.properties[0].code;
     chip.notes.insert(chip.notes.end(), port.notes.begin(), port.notes.end());
+    chip.notes.insert(chip.notes.end(), design.warnings.begin(), design.warnings.end());
     note_inputs(emission);
     name_words(emission);
     set_bench(emission);
@@ -256,21 +264,40 @@ private:
   }
 };
 
+std::vector<Chip> chips_of_design(const Design &design, const Options &options) {
+  test_statements(design);
+  try {
+    return {Chipmaker(design, options).make()};
+  } catch (const TooLarge &together) {
+    std::vector<Property> statements = Chipmaker(design, options).asked_about();
+    if (statements.size() < 2) throw;
+    std::vector<Chip> chips;
+    for (const Property &statement : statements) {
+      Options one = options;
+      one.properties.clear(), one.covers.clear();
+      (statement.kind == Property::Kind::cover ? one.covers : one.properties).push_back(statement.name);
+      try {
+        chips.push_back(Chipmaker(design, one).make());
+      } catch (const TooLarge &alone) {
+        throw Failure(statement.name + ", asked about by itself: " + alone.message);
+      }
+    }
+    return chips;
+  }
+}
+
 } // namespace
 
 bool is_verilog(const std::string &path) { return ends_with(path, ".v") || ends_with(path, ".sv"); }
 
-Chip chip_of_verilog(const Options &options, Stop &stop) {
+std::vector<Chip> chips_of_verilog(const Options &options, Stop &stop) {
   for (const std::string &file : options.files)
     if (!is_verilog(file)) throw Failure(file + ": only Verilog (.v, .sv) can be given in several files", USAGE);
   try {
-    Design design = read_verilog(options, Reads::as_written, stop);
-    test_statements(design);
-    return Chipmaker(design, options).make();
+    return chips_of_design(read_verilog(options, Reads::as_written, stop), options);
   } catch (const NoFit &as_written) {
     try {
-      Design design = read_verilog(options, Reads::clocked, stop);
-      return Chipmaker(design, options).make();
+      return chips_of_design(read_verilog(options, Reads::clocked, stop), options);
     } catch (const NoFit &) {
       throw as_written;
     }

@@ -6,4 +6,5 @@
 #include "stop.h"
 
 bool is_verilog(const std::string &path);
-Chip chip_of_verilog(const Options &options, Stop &stop);
+// One chip for all that is asked about; or, where that is too large, one for each statement.
+std::vector<Chip> chips_of_verilog(const Options &options, Stop &stop);

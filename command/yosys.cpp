@@ -64,16 +64,25 @@ std::string complaint(const std::string &said) {
   return kept.empty() ? "\n  yosys says nothing" : kept;
 }
 
-std::string run_yosys(const Options &options, const std::string &script, Stop &stop) {
+Finished run_yosys(const Options &options, const std::string &script, Stop &stop) {
   Finished finished = run_program({"yosys", "-Q", "-T", "-q", "-p", script}, stop);
   if (finished.missing) throw Failure("yosys is missing, which reads the Verilog: Debian has a package yosys");
   if (finished.status != 0) throw Failure(options.files[0] + ": yosys makes no netlist of it:" + complaint(finished.said));
-  return finished.written;
+  return finished;
+}
+
+std::vector<std::string> warnings_of(const std::string &said) {
+  std::vector<std::string> warnings;
+  std::istringstream lines(said);
+  std::string line;
+  while (std::getline(lines, line))
+    if (line.find("Warning: ") != std::string::npos) warnings.push_back("yosys: " + line);
+  return warnings;
 }
 
 // The top module where the user does not say which, asked for by itself: yosys sets parameters only of one that it is told.
 std::string found_top(const Options &options, Stop &stop) {
-  std::istringstream words(run_yosys(options, reading(options) + "hierarchy -auto-top\ntee -q -o /dev/fd/3 ls A:top\n", stop));
+  std::istringstream words(run_yosys(options, reading(options) + "hierarchy -auto-top\ntee -q -o /dev/fd/3 ls A:top\n", stop).written);
   std::string each, last;
   while (words >> each) last = each;
   return last;
@@ -85,5 +94,8 @@ Design read_verilog(const Options &options, Reads reads, Stop &stop) {
   for (const std::string &file : options.files) read_file(file); // what cannot be read is told as of any other file
   std::string top = options.top;
   if (top.empty() && !options.parameters.empty()) top = found_top(options, stop);
-  return read_design(run_yosys(options, reading(options) + hierarchy(options, top) + synthesis(options, reads), stop));
+  Finished finished = run_yosys(options, reading(options) + hierarchy(options, top) + synthesis(options, reads), stop);
+  Design design = read_design(finished.written);
+  design.warnings = warnings_of(finished.said);
+  return design;
 }

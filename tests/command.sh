@@ -1,7 +1,8 @@
 #!/usr/bin/env bash
 # The command `marrubigai`: it is built without a warning, and with sanitizers; its verdicts on sheets, texts and Verilog are those of
 # scripts/find.sh and of the designs' stories; each exit status, each refusal by name; interrupts and time; what it writes.
-# Arguments: the programs `frames` and `replay`. After `rt staticlib marrubigai`; needs libcadical-dev, yosys, iverilog and cadical.
+# Arguments: the programs `frames` and `replay`. After `rt staticlib marrubigai`; needs libcadical-dev, yosys,
+# iverilog, berkeley-abc and cadical.
 set -u
 FRAMES=$(readlink -f "$1")
 REPLAY=$(readlink -f "$2")
@@ -22,6 +23,8 @@ tool() { # name: a program of tests/command, linked with all of the command but 
   g++ -std=c++17 -Wall -Wextra -Werror -O1 -g -fsanitize=address,undefined -fno-sanitize-recover=all -Iinclude -o "$work/$1" "tests/command/$1.cpp" \
     $(objects) target/staticlib/libmarrubigai.a -lcadical
 }
+
+check "the reader of JSON is built" tool json_value
 
 # The command, with sanitizers, in the folder of the files.
 mkdir "$work/files"
@@ -147,6 +150,17 @@ done
 ends "the carton counter cut by hand" 20 "cut.aag: the property holds in frames 0 to 4, by the solver's word" "" -q -k 4 --start 0 cut.aag
 ends "its fault" 10 "cutFAULTY.aag: the property is broken in frame 1 at the earliest" "" -q -k 4 --start 0 cutFAULTY.aag
 
+# A second opinion on a design, by other tools: yosys makes registers of the array, and abc looks for the first frame in which the assertion
+# breaks. It prints the verdict as the command does.
+by_bmc3() { # depth, file, options of read_verilog, options of hierarchy
+  local said
+  yosys -Q -T -q -p "read_verilog -formal $3 $2; hierarchy -check $4; proc; flatten; delete -port o:*; chformal -early; chformal -cover -remove
+    opt -keepdc -nodffe -nosdff; memory -nordff; opt -keepdc -nodffe -nosdff; setundef -undriven -anyseq; async2sync; dffunmap; techmap
+    setundef -anyseq; opt -keepdc -nodffe -nosdff; aigmap; opt_clean; write_aiger -zinit $work/registers.aig" > "$work/oracle" 2>&1 || cat "$work/oracle"
+  said=$(berkeley-abc -q "read_aiger $work/registers.aig; fold; bmc3 -F $(($1 + 1))" 2>&1)
+  sed -nE "s/.* was asserted in frame ([0-9]+)\..*/is broken in frame \1 at the earliest/p; s/^No output asserted in .*/holds in frames 0 to $1, by the solver's word/p" <<< "$said"
+}
+
 ### Verilog as it is written: each design faulty and repaired
 designs=$here/examples/verilog
 folder=$designs
@@ -165,6 +179,27 @@ design() { # name, line of the assertion, frame of the fault, depth, options ..
   run -q --any -k "$frame" -D FAULTY "$@" "$name.v"
   check "$name, faulty, asked once" grep -qxF "$name.v: assert $at is broken first in frame $frame" "$work/out"
 }
+# the same by the other tools; a reset as an assumption around the design
+second_opinion() { # name, assertion's line, depth, file, options of hierarchy, options of the command ..
+  local name=$1 at="$1.v:$2" depth=$3 file=$4 hierarchy=$5 macro
+  shift 5
+  for macro in GOOD FAULTY; do
+    run -q -k "$depth" -D $macro "$@" "$name.v"
+    check "$name with $macro, by other tools" grep -qxF "$name.v: assert $at $(by_bmc3 "$depth" "$file" "-sv -D$macro -I$designs" "$hierarchy")" "$work/out"
+  done
+}
+second_opinion carton_counter 44 6 "$designs/carton_counter.v" -auto-top
+second_opinion histogram 24 9 "$designs/histogram.v" -auto-top
+second_opinion lookup 51 9 "$designs/lookup.v" -auto-top
+second_opinion registers 33 5 "$designs/registers.v" -auto-top
+around() { # design with its parameters, its other inputs
+  printf '`include "%s.v"\nmodule around (input clock, %s);\n' "${1%% *}" "$2"
+  printf 'reg reset = 1; always @(posedge clock) reset <= 0;\n%s dut (.*);\nendmodule\n' "$1"
+}
+around "stack #(.DEPTH(3), .WIDTH(4))" "input push, input pop, input [3:0] data, output [3:0] out" > "$work/stack.sv"
+second_opinion stack 49 6 "$work/stack.sv" "-top around" --reset reset -P DEPTH=3 -P WIDTH=4
+around "cache #(.INDEX(2), .TAG(3))" "input request, input [2:0] tag, input [1:0] index, output hit" > "$work/cache.sv"
+second_opinion cache 43 8 "$work/cache.sv" "-top around" --reset reset -P INDEX=2 -P TAG=3
 design carton_counter 44 1 4
 design histogram 24 8 9
 design lookup 51 9 9
@@ -204,6 +239,8 @@ says() { # what, status, the verdict or message, what sed changes, options ..
   run -q -k 4 "$@" chip.v
   check "$what: status" same "$status" "$?"
   check "$what: said" same "$said" "$(cat "$work/out" "$work/err" | head -c ${#said})"
+  if [ $# -gt 0 ] || [ "$status" -eq 1 ] || [ -n "${alone-}" ]; then return; fi
+  check "$what: by other tools" same "$(sed -E 's/^chip.v: assert .*(is broken|holds in)/\1/' "$work/out")" "$(by_bmc3 4 "$work/files/chip.v" "" -auto-top)"
 }
 says "a design" 10 "chip.v: assert chip.v:11 is broken in frame 2 at the earliest" ''
 says "a start of one's own" 10 "chip.v: assert chip.v:11 is broken in frame 1 at the earliest" '' --start 9
@@ -232,8 +269,9 @@ says "two writes" 1 "chip.v:2: memory mem (4 words of 4 bits) is written at two 
 says "two writes of which one is made" 10 "chip.v: assert chip.v:11 is broken in frame 2 at the earliest" 's/if (we) mem\[a\] <= d/if (we) mem[a] <= d; else if (reset) mem[a] <= 9/'
 says "a register before the address" 1 "$two" 's/wire .*/reg [1:0] at; wire [3:0] q = mem[at]; always @(posedge clock) at <= a;/; s/last != 9/q != 9/'
 says "bits written by themselves" 10 "chip.v: assert chip.v:11 is broken in frame 4 at the earliest" 's/mem\[a\] <= d/begin mem[a][1:0] <= d[1:0]; if (reset) mem[a][3:2] <= d[3:2]; end/; s/last != 9/last != 13/; s/= 5/= 1/' --reset '!reset=2' -k 5
-says "an index beyond the array" 20 "chip.v: assert chip.v:11 holds in frames 0 to 4, by the solver's word" 's/0:3/0:2/; s/if (we)/if (we \& a == 3)/; s/i < 4/i < 3/'
-says "an array that begins at 1" 10 "chip.v: assert chip.v:11 is broken in frame 2 at the earliest" 's/0:3/1:3/; s/i = 0; i < 4/i = 1; i < 4/; s/if (we)/if (we \& a == 3)/'
+# other tools take what is read beyond the array for undefined
+alone=yes says "an index beyond the array" 20 "chip.v: assert chip.v:11 holds in frames 0 to 4, by the solver's word" 's/0:3/0:2/; s/if (we)/if (we \& a == 3)/; s/i < 4/i < 3/'
+alone=yes says "an array that begins at 1" 10 "chip.v: assert chip.v:11 is broken in frame 2 at the earliest" 's/0:3/1:3/; s/i = 0; i < 4/i = 1; i < 4/; s/if (we)/if (we \& a == 3)/'
 says "contents that differ" 1 "memory mem (chip.v:2) begins with contents that differ from word to word" 's/= 5/= i/'
 says "no memory" 1 "chip: the design has no memory that is written and read" 's/mem\[a\]/mem[0]/; s/if (we) mem\[a\]/last/'
 says "an address from the word read" 1 "chip.v:2: the address of memory mem depends on a word that it reads in the same frame." 's/mem\[a\]/mem[at]/; s/wire \[3:0\] q/wire [3:0] q; wire [1:0] at = d[0] ? q[1:0] : a; assign q/'
@@ -247,7 +285,17 @@ says "a memory that is none" 1 "--memory none: the design has no memory of this 
 says "two clocks" 1 "chip.v:11: it takes the falling edge of clock, and chip.v:2 the rising edge of clock" 's/posedge clock) assert/negedge clock) last2 <= last; reg [3:0] last2 = 0; always @* assert/; s/(last != 9)/(last2 != 9)/'
 says "a clock that is read" 1 "the clock clock is read as data too; within a frame it has no value" 's/last != 9/last != 9 | clock/'
 says "a gated clock" 1 "chip.v:2: the clock gated is no input of the top module chip" 's/always @(posedge clock) begin/wire gated = clock \& reset; always @(posedge gated) begin/'
+twice() { says "$1" 1 "chip.v:" "s/last != 9/last != 9 \\& twice/; s/wire \\[3:0\\] q/wire twice; assign twice = $2; assign twice = ~(we \\& reset); wire [3:0] q/"; }
+twice "two drivers" "we \\& d[0]"
+check "two drivers: which" grep -qE "^chip.v:[0-9]+: the wire twice has a second driver" "$work/err"
+twice "two drivers, one an input" we
 says "a wire without a driver" 10 "chip.v: assert chip.v:11 is broken in frame 0 at the earliest" 's/last != 9/last != 9 \& open/; s/wire \[3:0\] q/wire open; wire [3:0] q/'
+square() { echo "reg [9:0] $1 = 0; always @(posedge clock) $1 <= $1 * $1 + q + $2; always @* assert ($1 != 1023);"; }
+says "too much together" 20 "chip.v: assert chip.v:11 holds in frames 0 to 1, by the solver's word
+chip.v: assert chip.v:12 holds in frames 0 to 1, by the solver's word
+chip.v: assert chip.v:13 holds in frames 0 to 1, by the solver's word" "s/^endmodule/$(square p 3)\\n$(square r 5)\\nendmodule/" -k 1
+run --json -k 1 chip.v
+check "too much together: each is a chip of its own" same "list of 3" "$("$work/json_value" "$work/out" chips)"
 says "too much" 1 "what is asked about depends on " 's/last <= q/last <= q; p <= p * p + q/; s/reg \[3:0\] last/reg [31:0] p = 0; reg [3:0] last/; s/last != 9/p != 55/'
 says "no Verilog" 1 "chip.v: yosys makes no netlist of it:
   yosys: chip.v:" 's/endmodule//'
@@ -310,16 +358,15 @@ check "the sheet of a design, by the script" same "$work/kept/1.sheet: the prope
 check "a full disk: status" same 1 $?
 check "a full disk: said" grep -q "^standard output cannot be written" "$work/err"
 
-check "the reader of JSON is built" tool json_value
 value() { "$work/json_value" "$work/out" "$@"; }
 run --json --radix dec --names chip.names chip.sheet
-check "JSON: status" same "10 broken 1 run 0 0 solver" "$(echo $(value status; for at in verdict frame by; do value properties 0 $at; done; for at in from to by; do value properties 0 safe $at; done))"
-check "JSON: the run" same "list of 2 1 0 1 0 0 1" "$(echo $(value properties 0 run; value properties 0 run 0 words input; value properties 0 run 0 words read
-  value properties 0 run 0 memory write; value properties 0 run 1 memory written_in; value properties 0 run 1 holds; value properties 0 run 1 memory read))"
+check "JSON: status" same "10 broken 1 run 0 0 solver" "$(echo $(value status; for at in verdict frame by; do value chips 0 properties 0 $at; done; for at in from to by; do value chips 0 properties 0 safe $at; done))"
+check "JSON: the run" same "list of 2 1 0 1 0 0 1" "$(echo $(value chips 0 properties 0 run; value chips 0 properties 0 run 0 words input; value chips 0 properties 0 run 0 words read
+  value chips 0 properties 0 run 0 memory write; value chips 0 properties 0 run 1 memory written_in; value chips 0 properties 0 run 1 holds; value chips 0 properties 0 run 1 memory read))"
 folder=$designs run --json -k 3 histogram.v
 check "JSON of a design" same "20 counts 3 3 0 assert holds histogram.v:24 cover reached" \
-  "$(echo $(value status; value memory name; value memory address_bits; value memory data_bits; value memory start
-    for at in kind verdict source; do value properties 0 $at; done; for at in kind verdict; do value properties 1 $at; done))"
+  "$(echo $(value status; value chips 0 memory name; value chips 0 memory address_bits; value chips 0 memory data_bits; value chips 0 memory start
+    for at in kind verdict source; do value chips 0 properties 0 $at; done; for at in kind verdict; do value chips 0 properties 1 $at; done))"
 
 ### installed into a folder, and a use of what was installed
 check "it is installed" make --no-print-directory install DESTDIR="$work/root" PREFIX=/opt/m > "$work/make" 2>&1
