@@ -47,6 +47,15 @@ struct Chip {
     record.p = property.code;
     return record;
   }
+  // the lists as they are lent: an element's address also where there is none, as the header asks
+  const marrubigai_latch *latch_list() const {
+    static const marrubigai_latch none{};
+    return latches.empty() ? &none : latches.data();
+  }
+  const marrubigai_gate *gate_list() const {
+    static const marrubigai_gate none{};
+    return gates.empty() ? &none : gates.data();
+  }
   uint32_t wires() const { return net.inputs + net.latches + net.n + net.gates; }
   uint32_t first_read() const { return net.inputs + net.latches + 1; }
 };

@@ -23,7 +23,7 @@ namespace {
 
 void keep_sheet(const Chip &chip, const Property &property, const std::string &stem) {
   std::vector<uint8_t> sheet(MARRUBIGAI_SHEET_BYTES);
-  auto reply = marrubigai_write_sheet(chip.of(property), chip.latches.data(), chip.net.latches, chip.gates.data(), chip.net.gates, sheet.data(),
+  auto reply = marrubigai_write_sheet(chip.of(property), chip.latch_list(), chip.net.latches, chip.gate_list(), chip.net.gates, sheet.data(),
                                       sheet.size());
   if (reply.number != MARRUBIGAI_PASSED) throw Failure("the sheet could not be written: " + refusal_word(reply.number));
   std::string names;

@@ -41,7 +41,7 @@ Run replay(const Chip &chip, const Property &property, const std::vector<marrubi
   std::vector<uint32_t> memory(MARRUBIGAI_MEMORY_WORDS);
   size_t line = chip.wires() + 1;
   std::vector<uint8_t> trace(line * (depth + 1));
-  auto reply = marrubigai_replay(chip.of(property), chip.latches.data(), chip.net.latches, chip.gates.data(), chip.net.gates, depth,
+  auto reply = marrubigai_replay(chip.of(property), chip.latch_list(), chip.net.latches, chip.gate_list(), chip.net.gates, depth,
                                  reinterpret_cast<const uint8_t *>(answer.data()), answer.size(), memory.data(), memory.size(), trace.data(),
                                  trace.size());
   if (reply.number == MARRUBIGAI_NO_VIOLATION)

@@ -49,13 +49,13 @@ private:
     uint32_t way = MARRUBIGAI_START;
     if (frames.empty()) position.depth = plan.depth;
     else position = frames.back(), way = MARRUBIGAI_ON;
-    auto reply = marrubigai_move(chip.net, chip.latches.data(), chip.net.latches, chip.gates.data(), chip.net.gates, position, way);
+    auto reply = marrubigai_move(chip.net, chip.latch_list(), chip.net.latches, chip.gate_list(), chip.net.gates, position, way);
     test(reply.number, reply.place);
     frames.push_back(reply.position);
   }
 
   void add_group(uint32_t kind, uint32_t j) {
-    auto reply = marrubigai_write_group_at(chip.net, chip.latches.data(), chip.net.latches, chip.gates.data(), chip.net.gates, frames.back(), kind, j,
+    auto reply = marrubigai_write_group_at(chip.net, chip.latch_list(), chip.net.latches, chip.gate_list(), chip.net.gates, frames.back(), kind, j,
                                            numbers.data(), numbers.size());
     test(reply.number, reply.place);
     for (size_t t = 0; t < reply.count; t++) solver.add(numbers[t]);
@@ -121,7 +121,7 @@ private:
       stop.at_frame(frame, plan.depth);
       add_frame();
     }
-    auto heading = marrubigai_heading(chip.net, chip.latches.data(), chip.net.latches, chip.gates.data(), chip.net.gates, plan.depth);
+    auto heading = marrubigai_heading(chip.net, chip.latch_list(), chip.net.latches, chip.gate_list(), chip.net.gates, plan.depth);
     test(heading.number, heading.place);
     for (size_t p = 0; p < verdicts.size(); p++) {
       // a variable of our own, behind those of the formula, that switches the property's clause on

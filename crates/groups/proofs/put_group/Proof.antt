@@ -28,7 +28,7 @@ put-pair-requires c κs =
     let p = c .before .before .before .before .before .pre in
     let e = c .before .before .before .group2 .given .1 in
     let f = pair-frames _ _ _ _ _ e (p .2) in (
-      record { fits = fits-alone _ _ _ (p .0) _ (f .2) _ (c .port-of .ensures); earlier = f .1; depth = omega (arith, f .0, p .1) },
+      record { fits = fits-alone _ _ _ (p .0) _ (f .2) _ (c .port-of .ensures); earlier = omega (arith, f .1); depth = omega (arith, f .0, p .1) },
       rw (pair-count _ _ _ _ e) at (p .3),
     )
 
