@@ -7,7 +7,7 @@ use mathlib.Core.List.{List}
 use native.Mathlib.Nat.{le-refl}
 use native.Mathlib.Omega.{arith}
 use lib.ListN.{getD}
-use Rattle.model.specs.Netlist.{Netlist, IsPort, given, startOf, start, gateWire, lastWire}
+use Rattle.model.specs.Netlist.{Netlist, given, startOf, start, IsPort, port, gateWire, lastWire}
 use Rattle.model.specs.Circuit.{Values, sweep, isRead, dependsOnRead}
 use Rattle.model.specs.Acceptance.{SizesFit, CodesFit, Accepted}
 use Rattle.model.specs.Agree.{givenWord, sizesOf, SameSizes, Agree}
@@ -42,9 +42,9 @@ module _ (c d : Netlist) (q : SameSizes c d) where
         m-most = rw (← same-at 3) (h .m-most);
         n-least = rw (← same-at 4) (h .n-least);
         n-most = rw (← same-at 4) (h .n-most);
-        unknown-fits = rw (← same-at 6) (h .unknown-fits);
+        kind-fits = rw (← same-at 6, ← same-at 7) (h .kind-fits);
         word-fits = rw (← start-at, ← same-at 4) (h .word-fits);
-        wires-fit = rw (← same-at 0, ← same-at 1, ← same-at 2, ← same-at 4) (h .wires-fit);
+        wires-fit = rw (← same-at 0, ← same-at 1, ← same-at 2, ← same-at 4, ← same-at 7) (h .wires-fit);
       }
 
 -- a netlist agrees with itself
@@ -56,10 +56,10 @@ agree-itself c =
       reset-same = λ l b. refl;
       left-same = λ g b. refl;
       right-same = λ g b. refl;
-      address-same = λ t b. refl;
+      address-same = λ p here t b. refl;
       data-same = λ t b. refl;
       WE-same = refl;
-      RE-same = refl;
+      RE-same = λ p here. refl;
       P-same = refl;
     }
 
@@ -80,19 +80,25 @@ module _ (c d : Netlist) (q : Agree c d) where
   pub n-same : c .n ≡ d .n
   n-same = same-at c d (q .sizes-same) 4
 
+  pub second-same : c .secondPort ≡ d .secondPort
+  second-same = same-at c d (q .sizes-same) 7
+
+  port-same : (p : ℕ) → IsPort d p → IsPort c p
+  port-same p is = (is .0, rw second-same (is .1))
+
   pub start-same : start c ≡ start d
   start-same = start-at c d (q .sizes-same)
 
   -- a number within a limit that both share
   pub lastWire-same : lastWire c ≡ lastWire d
-  lastWire-same = rw (inputs-same, latches-same, n-same, gates-same)
+  lastWire-same = rw (inputs-same, latches-same, n-same, gates-same, second-same)
 
   pub gateWire-same : (g : ℕ) → gateWire c g ≡ gateWire d g
-  gateWire-same g = rw (inputs-same, latches-same, n-same)
+  gateWire-same g = rw (inputs-same, latches-same, n-same, second-same)
 
   isRead-same : (w : ℕ) → isRead c w ≡ isRead d w
   unfolding isRead
-  isRead-same w = rw (inputs-same, latches-same, n-same)
+  isRead-same w = rw (inputs-same, latches-same, n-same, second-same)
 
   -- a sweep over the same values
   pub sweep-same : {op : Values → ℕ → ℕ → Bool} → OfTwoWires op → {u v : Values} → ((w : ℕ) → u w ≡ v w)
@@ -127,10 +133,11 @@ module _ (c d : Netlist) (q : Agree c d) where
             rw gates-same b in rw (← q .left-same g s, ← gateWire-same g) (h .left-fits g s);
         right-fits = λ g b. let s : g < c .gates =
             rw gates-same b in rw (← q .right-same g s, ← gateWire-same g) (h .right-fits g s);
-        address-fits = λ t b. let s : t < c .m = rw m-same b in rw (← q .address-same t s, ← lastWire-same) (h .address-fits t s);
+        address-fits = λ p is t b. let s : t < c .m =
+            rw m-same b in rw (← q .address-same p (port-same p is) t s, ← lastWire-same) (h .address-fits p (port-same p is) t s);
         data-fits = λ t b. let s : t < c .n = rw n-same b in rw (← q .data-same t s, ← lastWire-same) (h .data-fits t s);
         WE-fits = rw (← q .WE-same, ← lastWire-same) (h .WE-fits);
-        RE-fits = rw (← q .RE-same, ← lastWire-same) (h .RE-fits);
+        RE-fits = λ p is. rw (← q .RE-same p (port-same p is), ← lastWire-same) (h .RE-fits p (port-same p is));
         P-fits = rw (← q .P-same, ← lastWire-same) (h .P-fits);
       }
 
@@ -138,16 +145,18 @@ module _ (c d : Netlist) (q : Agree c d) where
   accepted-same h =
       record {
         limits = record { sizes = sizesFit-same c d (q .sizes-same) (h .limits .sizes); codes = codes-same (h .limits .codes) };
-        noTie = λ p is. record { tie-free = untied p is };
+        noTie = λ p is. record { tie-free = untied p (port-same p is) };
         noLoop = λ p is.
             record {
-              address-free = λ t b. let s : t < c .m = rw m-same b in free (q .address-same t s) (h .noLoop p is .address-free t s);
-              RE-free = free (q .RE-same) (h .noLoop p is .RE-free);
+              address-free = λ t b. let s : t < c .m =
+                  rw m-same b in free (q .address-same p (port-same p is) t s) (h .noLoop p (port-same p is) .address-free t s);
+              RE-free = free (q .RE-same p (port-same p is)) (h .noLoop p (port-same p is) .RE-free);
             };
       }
     where
-      untied : (p : ℕ) → IsPort c p → (s t : ℕ) → s < t → t < d .m → d .address s / 2 ≡ d .address t / 2 → d .address t / 2 ≡ 0
+      untied : (p : ℕ) → IsPort c p → (s t : ℕ) → s < t → t < d .m → port d p .address s / 2 ≡ port d p .address t / 2
+          → port d p .address t / 2 ≡ 0
       untied p is s t l b e =
           let m : t < c .m = rw m-same b in
           let n : s < c .m = omega arith in
-          rw (← q .address-same t m) (h .noTie p is .tie-free s t l m (rw (q .address-same s n, q .address-same t m) e))
+          rw (← q .address-same p is t m) (h .noTie p is .tie-free s t l m (rw (q .address-same p is s n, q .address-same p is t m) e))

@@ -11,6 +11,7 @@ use Rattle.model.specs.Netlist.{Netlist, Port, port, lastWire}
 use Rattle.model.specs.Circuit.{Values, codeValue, addressOf, writeAddress, wordWritten, State, Feeds, step, stateAt, run}
 use Rattle.model.specs.Acceptance.{CodesFit, IsCode}
 use Rattle.model.proofs.Bits.{fromBits-same, bit-fromBits}
+use Rattle.model.proofs.Ports.{first-port}
 use Rattle.model.proofs.Circuit.{code-same, address-same}
 use Rattle.model.proofs.Forwarding.{stepped}
 
@@ -30,7 +31,7 @@ unfolding wordWritten
 word-agrees c fit u v h = fromBits-same (c .n) _ _ (λ t b. code-agrees c u v h (c .writeData t) (fit .data-fits t b))
 
 write-agrees : (c : Netlist) → CodesFit c → (u v : Values) → Same c u v → writeAddress c u ≡ writeAddress c v
-write-agrees c fit u v h = address-same c (port c 1) u v (λ t b. code-agrees c u v h (c .address t) (fit .address-fits t b))
+write-agrees c fit u v h = address-same c (port c 1) u v (λ t b. code-agrees c u v h (c .address t) (fit .address-fits 1 (first-port c) t b))
 
 -- equal addresses are equal bit by bit
 pub address-bits : (c : Netlist) (p q : Port) (u v : Values) → addressOf c p u ≡ addressOf c q v

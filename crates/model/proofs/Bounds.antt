@@ -20,7 +20,7 @@ use Rattle.model.specs.Groups.{gateClauses, resetClauses, latchClauses, 
 use Rattle.model.specs.Numbers.{keptOf, kept, hasTrue, endOf, writtenClause, written, formula}
 use Rattle.model.specs.declared.Group.{Group}
 use Rattle.model.specs.declared.Group.the-variants.{Wires, Pair, Closing, Property}
-use Rattle.model.proofs.Ports.{bit-within, address-code, RE-code, variables-within}
+use Rattle.model.proofs.Ports.{first-port, bit-within, variables-within}
 use Rattle.model.proofs.Variables.{base-suc, base-least, base-monotone, port-within, pairBase-least}
 use Rattle.model.proofs.Gather.{All, nothing, also, just, _⧺_, all-gather, all-gatherDown, all-weaken}
 use Rattle.model.proofs.Joined.{joinedClauses, joinedClauses-append, formula-written}
@@ -274,16 +274,16 @@ module _ {c : Netlist} (accepted : Accepted c) (k : ℕ) where
         E = pair-variable-within c k p here j i _ l h (omega arith);
         e = λ t b. pair-variable-within c k p here j i _ l h (omega arith);
         s = pair-variable-within c k p here j i _ l h (omega arith);
-        PS = noneSince-within c k p here j i (omega arith) h (RE-code c p here (accepted .limits .codes));
+        PS = noneSince-within c k p here j i (omega arith) h (accepted .limits .codes .RE-fits p here);
         S = selected-within c k p here j i l h;
-        N = noneSince-within c k p here (j + 1) i (omega arith) h (RE-code c p here (accepted .limits .codes));
+        N = noneSince-within c k p here (j + 1) i (omega arith) h (accepted .limits .codes .RE-fits p here);
         WE = code-within c k _ _ (omega arith) (accepted .limits .codes .WE-fits);
-        Aj = λ t b. code-within c k _ _ (omega arith) (accepted .limits .codes .address-fits t b);
+        Aj = λ t b. code-within c k _ _ (omega arith) (accepted .limits .codes .address-fits 1 (first-port c) t b);
         WD = λ t b. code-within c k _ _ (omega arith) (accepted .limits .codes .data-fits t b);
-        Ai = λ t b. code-within c k _ _ (omega arith) (address-code c p here (accepted .limits .codes) t b);
+        Ai = λ t b. code-within c k _ _ (omega arith) (accepted .limits .codes .address-fits p here t b);
         RD = λ t b. readBit-within c k p here i t h b;
-        Zj = noneSince-within c k p here 0 j (omega arith) (omega arith) (RE-code c p here (accepted .limits .codes));
-        Zi = noneSince-within c k p here 0 i (omega arith) h (RE-code c p here (accepted .limits .codes));
+        Zj = noneSince-within c k p here 0 j (omega arith) (omega arith) (accepted .limits .codes .RE-fits p here);
+        Zi = noneSince-within c k p here 0 i (omega arith) h (accepted .limits .codes .RE-fits p here);
         RDj = λ t b. readBit-within c k p here j t (omega arith) b;
       })
 
@@ -293,8 +293,8 @@ module _ {c : Netlist} (accepted : Accepted c) (k : ℕ) where
   closing-within p here i h =
       closing-all (within-neg _ _) (λ b. tt) (c .n) (start c) i _
       (record {
-        Z = noneSince-within c k p here 0 i (omega arith) h (RE-code c p here (accepted .limits .codes));
-        RE = code-within c k i _ h (RE-code c p here (accepted .limits .codes));
+        Z = noneSince-within c k p here 0 i (omega arith) h (accepted .limits .codes .RE-fits p here);
+        RE = code-within c k i _ h (accepted .limits .codes .RE-fits p here);
         S = λ j l. selected-within c k p here j i l h;
         RD = λ t b. readBit-within c k p here i t h b;
         before = λ t b. readBit-within c k p here _ t (omega arith) b;

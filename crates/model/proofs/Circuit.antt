@@ -1,15 +1,15 @@
 -- Laws of specs/Circuit.antt: a frame is the one solution of its equations. No contract cites this file.
-use Prim.Native.Nat.{ℕ, _+_, _-_, _/_, _≤_, _<_}
-use mathlib.Core.Path.{_≡_, refl, sym, _∙_, ap₂}
+use Prim.Native.Nat.{ℕ, suc, _+_, _-_, _*_, _/_, _≤_, _<_}
+use mathlib.Core.Path.{_≡_, refl, sym, _∙_, ap, ap₂}
 use mathlib.Core.Bool.{Bool, false, cond, _&&_, true≢false}
 use native.Mathlib.Omega.{arith}
-use native.Mathlib.Nat.{zero-add}
+use native.Mathlib.Nat.{add-zero, mul-add-div-right, mul-add-mod-self-right, div-eq-of-lt, mod-eq-of-lt}
 use borrow.Author.Tests.{lt-ltb, le-ltb}
 use Rattle.model.specs.Netlist.{Netlist, Port, IsPort, port, readBits, inputWire, latchWire, readWire, gateWire, lastWire}
 use Rattle.model.specs.Circuit.{Values, codeValue, sources, conjunction, evaluate, dependsOnRead, State, addressOf, readData, firstPass, frame}
 use Rattle.model.specs.Acceptance.{Accepted, CodesFit, IsCode}
 use Rattle.model.specs.Bits.{bit}
-use Rattle.model.proofs.Ports.{port-bit, address-code, RE-code}
+use Rattle.model.proofs.Ports.{port-bit}
 use Rattle.model.proofs.Bits.{fromBits-same}
 use Rattle.model.proofs.Sweep.{OfTwoWires, sweep-outside, sweep-solves, wire-induction}
 use Rattle.model.proofs.Dependence.{depends-read, independent-gate}
@@ -124,7 +124,12 @@ pub readData-port : (c : Netlist) (p : ℕ) → IsPort c p → (s : State) (v : 
     → readData c s v (port c p .firstRead + t)
     ≡ cond (codeValue v (port c p .RE)) (bit (s .memory (addressOf c (port c p) v)) t) (s .held (port c p .firstRead + t))
 unfolding readData
-readData-port c p here s v t b = rw (zero-add t)
+readData-port c p here s v t b =
+    let positive : 0 < c .n = omega arith in
+    let same : suc (p - 1) ≡ p = omega (arith, here .0) in
+    let is : suc (((p - 1) * c .n + t) / c .n) ≡ p =
+    ap suc (mul-add-div-right positive (p - 1) t ∙ ap (λ (x : ℕ). p - 1 + x) (div-eq-of-lt b) ∙ add-zero (p - 1)) ∙ same in
+    rw (is, mul-add-mod-self-right (p - 1) (c .n) t ∙ mod-eq-of-lt b)
 
 -- so it follows from the addresses and the REs
 pub readData-same : (c : Netlist) (s : State) (u v : Values)
@@ -150,8 +155,8 @@ read-settled : {c : Netlist} → Accepted c → (s : State) (f : ℕ → Bool) �
     → Solves c f (s .latch) read u → Solves c f (s .latch) other v → (r : ℕ) → r < readBits c → readData c s u r ≡ readData c s v r
 read-settled {c} h s f {u} {v} q q′ =
     readData-same c s u v (λ p here. (
-      address-same c (port c p) u v (λ t l. settled (port c p .address t) (address-code c p here fit t l) (h .noLoop p here .address-free t l)),
-      settled (port c p .RE) (RE-code c p here fit) (h .noLoop p here .RE-free),
+      address-same c (port c p) u v (λ t l. settled (port c p .address t) (fit .address-fits p here t l) (h .noLoop p here .address-free t l)),
+      settled (port c p .RE) (fit .RE-fits p here) (h .noLoop p here .RE-free),
     ))
   where
     fit : CodesFit c

@@ -1,21 +1,28 @@
 -- Laws of the read ports of specs/Netlist.antt: which there are, which read bits, codes and variables each has. All else that is proved of a
 -- port is proved of any. No contract cites this file.
-use Prim.Native.Nat.{ℕ, _+_, _-_, _*_, _≤_, _<_}
-use mathlib.Core.Path.{_≡_, sym}
-use mathlib.Core.Bool.{true}
-use native.Mathlib.Nat.{zero-add, zero-mul}
+use Prim.Native.Nat.{ℕ, _+_, _-_, _*_, _/_, _%_, _≤_, _<_, zero, suc}
+use mathlib.Core.Path.{_≡_, sym, _∙_, ap}
+use mathlib.Core.Bool.{true, true≢false}
+use native.Mathlib.Nat.{div-add-mod', div-lt-iff-lt-mul, mod-lt, mul-le-mul-right, suc-mul}
+use native.Mathlib.Numerals.{sub-one}
 use native.Mathlib.Omega.{arith}
-use Rattle.model.specs.Netlist.{Netlist, isUnknown, start, IsPort, port, readBits}
-use Rattle.model.specs.Acceptance.{SizesFit, IsCode, CodesFit}
+use Rattle.model.specs.Netlist.{Netlist, Start, startOf, isUnknown, start, ports, IsPort, port, readBits}
+use Rattle.model.specs.Acceptance.{SizesFit}
 use Rattle.model.specs.Variables.{stride}
 
 -- there is a first one
 pub first-port : (c : Netlist) → IsPort c 1
 first-port c = (omega arith, omega arith)
 
+-- an unknown start is said by a number above 0
+unknown-number : (word u : ℕ) → isUnknown (startOf word u) ≡ true → 1 ≤ u
+unfolding isUnknown startOf
+unknown-number word zero e = absurd (true≢false (sym e))
+unknown-number word (suc u) e = omega arith
+
 -- and no other with an unknown start
 pub unknown-single : {c : Netlist} → SizesFit c → isUnknown (start c) ≡ true → (p : ℕ) → IsPort c p → p ≡ 1
-unknown-single fit e p here = omega (arith, here .0, here .1)
+unknown-single {c} fit e p here = omega (arith, here .0, here .1, fit .kind-fits, unknown-number (c .initialWord) (c .unknownStart) e)
 
 -- a read bit, by its port
 pub record PortBit (c : Netlist) (r : ℕ) : Type 0 where
@@ -25,24 +32,37 @@ pub record PortBit (c : Netlist) (r : ℕ) : Type 0 where
   pub below : t < c .n
   pub is : r ≡ port c of .firstRead + t
 
+-- a word has a bit where there is a read bit
+width-positive : (n x r : ℕ) → r < x * n → 0 < n
+width-positive zero x r h = omega (arith, h)
+width-positive (suc n) x r h = omega arith
+
+pub port-of-read : (c : Netlist) (r : ℕ) → r < readBits c → IsPort c (suc (r / c .n))
+port-of-read c r b =
+    let below : r / c .n < ports c = div-lt-iff-lt-mul (width-positive (c .n) (ports c) r b) .1 b in
+    (omega arith, omega arith)
+
 pub port-bit : (c : Netlist) (r : ℕ) → r < readBits c → PortBit c r
-port-bit c r b = record { of = 1; is-port = first-port c; t = r; below = b; is = sym (zero-add r) }
+port-bit c r b =
+    record {
+      of = suc (r / c .n);
+      is-port = port-of-read c r b;
+      t = r % c .n;
+      below = mod-lt r (width-positive (c .n) (ports c) r b);
+      is = sym (ap (λ (x : ℕ). x * c .n + r % c .n) (sub-one (suc (r / c .n))) ∙ div-add-mod' r (c .n));
+    }
 
 module _ (c : Netlist) (p : ℕ) (here : IsPort c p) where
+  -- as much of each port fits as there are ports
+  within : (x : ℕ) → (p - 1) * x + x ≤ ports c * x
+  within x =
+      let most : suc (p - 1) * x ≤ ports c * x = mul-le-mul-right x (omega (arith, here .0, here .1)) in
+      omega (arith, suc-mul (p - 1) x)
+
   -- its read bits are read bits
   pub bit-within : (t : ℕ) → t < c .n → port c p .firstRead + t < readBits c
-  bit-within t b = omega (arith, b)
-
-  -- its codes
-  pub address-code : CodesFit c → (t : ℕ) → t < c .m → IsCode c (port c p .address t)
-  address-code fit t b = fit .address-fits t b
-
-  pub RE-code : CodesFit c → IsCode c (port c p .RE)
-  RE-code fit = fit .RE-fits
+  bit-within t b = omega (arith, b, within (c .n))
 
   -- its variables: m + 4 of a pair, behind those of the ports before it
-  pub variables-first : port c p .firstVariable ≡ (p - 1) * (c .m + 4)
-  variables-first = let e : p - 1 ≡ 0 = omega (arith, here .0, here .1) in rw (e, zero-mul)
-
   pub variables-within : port c p .firstVariable + (c .m + 4) ≤ stride c
-  variables-within = omega arith
+  variables-within = within (c .m + 4)

@@ -12,7 +12,7 @@ use Rattle.model.specs.Acceptance.{Accepted, IsCode}
 use Rattle.model.specs.Variables.{codeIn, readBit, pairLiterals, closingLiterals}
 use Rattle.model.specs.Numbers.{Assignment}
 use Rattle.model.specs.Claim.{Agrees, Breaks}
-use Rattle.model.proofs.Ports.{first-port, bit-within, address-code, RE-code}
+use Rattle.model.proofs.Ports.{first-port, bit-within}
 use Rattle.model.proofs.Circuit.{IsFrame, frame-is, readData-port}
 use Rattle.model.proofs.Truth.{value, AgreedHold, InitialHold}
 use Rattle.model.proofs.InFrame.{assigned, assigned-zero, assigned-wire, readBit-value, codeIn-value}
@@ -111,8 +111,8 @@ module _ (c : Netlist) (ok : Accepted c) (s : State) (f : Feeds) (k : ℕ) where
     read-at : (i : ℕ) → i ≤ k → HasRead c (port c p) u a i (s .memory (addressOf c (port c p) (u i)))
     read-at i d =
         record {
-          address-codes = address-code c p here (ok .limits .codes);
-          RE-code = RE-code c p here (ok .limits .codes);
+          address-codes = ok .limits .codes .address-fits p here;
+          RE-code = ok .limits .codes .RE-fits p here;
           codes = λ j b. code-value j (le-trans b d);
           pairs = λ j b. witness-values c k u p here j i b d;
           word = λ r t b. bit-value p here i d t b ∙ read-bit i r t b;

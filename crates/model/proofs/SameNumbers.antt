@@ -2,26 +2,29 @@
 -- past a size is asked for. No contract cites this file.
 use Prim.Native.Nat.{ℕ, zero, suc, _+_, _-_, _<_}
 use mathlib.Core.Path.{_≡_, refl, _∙_, ap, ap₂}
+use mathlib.Core.Bool.{true}
 use mathlib.Core.List.{List, [], _∷_, _++_}
-use Rattle.model.specs.Netlist.{Netlist, Start, given, unknown, start, port}
+use Rattle.model.specs.Netlist.{Netlist, Start, given, unknown, start, ports, IsPort, port}
 use Rattle.model.specs.Clauses.{Clause, Literal, PairLiterals, ClosingLiterals, addressBitClauses, unequalOf, allBits, forwardedClauses, agreedClauses, agreedReads, pairClauses, initialReadClauses, initialReads, heldClauses, heldReads, selectedOf, someSource, closingClauses, plus, neg, andClauses}
 use Rattle.model.specs.Variables.{base, pairBase, noneSince, selected, readBit, pairLiterals, closingLiterals}
-use Rattle.model.specs.Groups.{gateClauses, resetClauses, latchClauses, violationOf, clausesOf}
+use Rattle.model.specs.Groups.{gateClauses, resetClauses, latchClauses, violationOf, clausesOf, inDepth}
 use Rattle.model.specs.Numbers.{written, numbersOf}
 use Rattle.model.specs.declared.Group.{Group}
 use Rattle.model.specs.declared.Group.the-variants.{Wires, Pair, Closing, Property}
 use Rattle.model.specs.Agree.{Agree}
 use Rattle.model.proofs.Gather.{gather-same, gathers-same}
-use Rattle.model.proofs.Agree.{inputs-same, latches-same, gates-same, m-same, n-same, start-same, lastWire-same}
+use Rattle.model.proofs.Ports.{first-port}
+use Rattle.model.proofs.Joined.{pair-inDepth, closing-inDepth}
+use Rattle.model.proofs.Agree.{inputs-same, latches-same, gates-same, m-same, n-same, second-same, start-same, lastWire-same}
 
 module _ (c d : Netlist) (q : Agree c d) where
   pub base-same : (i : ℕ) → base c i ≡ base d i
   unfolding base
-  base-same i = rw (lastWire-same c d q, m-same c d q)
+  base-same i = rw (lastWire-same c d q, second-same c d q, m-same c d q)
 
   gate-same : (i g : ℕ) → g < c .gates → gateClauses c i g ≡ gateClauses d i g
   unfolding gateClauses
-  gate-same i g b = rw (q .left-same g b, q .right-same g b, base-same i, inputs-same c d q, latches-same c d q, n-same c d q)
+  gate-same i g b = rw (q .left-same g b, q .right-same g b, base-same i, inputs-same c d q, latches-same c d q, n-same c d q, second-same c d q)
 
   reset-same : (l : ℕ) → l < c .latches → resetClauses c l ≡ resetClauses d l
   unfolding resetClauses
@@ -38,14 +41,14 @@ module _ (c d : Netlist) (q : Agree c d) where
   wires-same k (suc i) = ap₂ _++_ (gathers-same (latches-same c d q) (latch-same i)) (gathers-same (gates-same c d q) (gate-same (suc i)))
 
   -- at a port
-  module _ (p : ℕ) where
+  module _ (p : ℕ) (here : IsPort c p) where
     pairBase-same : (j i : ℕ) → pairBase c (port c p) j i ≡ pairBase d (port d p) j i
     unfolding pairBase
-    pairBase-same j i = rw (lastWire-same c d q, m-same c d q)
+    pairBase-same j i = rw (lastWire-same c d q, second-same c d q, m-same c d q)
 
     none-same : (j i : ℕ) → noneSince c (port c p) j i ≡ noneSince d (port d p) j i
     unfolding noneSince
-    none-same j i = rw (pairBase-same j i, base-same i, q .RE-same, m-same c d q)
+    none-same j i = rw (pairBase-same j i, base-same i, q .RE-same p here, m-same c d q)
 
     selected-same : (j i : ℕ) → selected c (port c p) j i ≡ selected d (port d p) j i
     unfolding selected
@@ -53,7 +56,7 @@ module _ (c d : Netlist) (q : Agree c d) where
 
     readBit-same : (i t : ℕ) → readBit c (port c p) i t ≡ readBit d (port d p) i t
     unfolding readBit
-    readBit-same i t = rw (base-same i, inputs-same c d q, latches-same c d q)
+    readBit-same i t = rw (base-same i, inputs-same c d q, latches-same c d q, n-same c d q)
 
     module _ (j i : ℕ) where
       abbrev x : PairLiterals
@@ -64,7 +67,7 @@ module _ (c d : Netlist) (q : Agree c d) where
 
       bit-same : (t : ℕ) → t < c .m → addressBitClauses x t ≡ addressBitClauses y t
       unfolding addressBitClauses pairLiterals
-      bit-same t b = rw (pairBase-same j i, base-same j, base-same i, q .address-same t b)
+      bit-same t b = rw (pairBase-same j i, base-same j, base-same i, q .address-same 1 (first-port c) t b, q .address-same p here t b)
 
       own-same : (t : ℕ) → t < c .m → unequalOf x t ≡ unequalOf y t
       unfolding unequalOf pairLiterals
@@ -133,7 +136,7 @@ module _ (c d : Netlist) (q : Agree c d) where
 
       held-bit-same : (t : ℕ) → t < c .n → heldClauses u t ≡ heldClauses v t
       unfolding heldClauses closingLiterals
-      held-bit-same t b = rw (readBit-same i t, readBit-same (i - 1) t, base-same i, q .RE-same)
+      held-bit-same t b = rw (readBit-same i t, readBit-same (i - 1) t, base-same i, q .RE-same p here)
 
       source-same : (j : ℕ) → j < i → selectedOf u j ≡ selectedOf v j
       unfolding selectedOf closingLiterals
@@ -142,7 +145,7 @@ module _ (c d : Netlist) (q : Agree c d) where
       some-same : someSource i u ≡ someSource i v
       unfolding someSource closingLiterals
       some-same =
-          ap₂ (λ (r : Literal) (zs : Clause). neg r ∷ zs) (rw (base-same i, q .RE-same))
+          ap₂ (λ (r : Literal) (zs : Clause). neg r ∷ zs) (rw (base-same i, q .RE-same p here))
           (ap₂ (λ (z : Literal) (ss : Clause). z ∷ ss) (none-same 0 i) (gather-same i (selectedOf u) (selectedOf v) source-same))
 
     held-same : (i : ℕ) → heldReads (c .n) i (closingLiterals c (port c p) i) ≡ heldReads (d .n) i (closingLiterals d (port d p) i)
@@ -159,13 +162,13 @@ module _ (c d : Netlist) (q : Agree c d) where
   unfolding violationOf
   violated-same i = rw (base-same i, q .P-same)
 
-  pub clauses-same : (k : ℕ) (g : Group) → clausesOf c k g ≡ clausesOf d k g
+  pub clauses-same : (k : ℕ) (g : Group) → inDepth (ports c) k g ≡ true → clausesOf c k g ≡ clausesOf d k g
   unfolding clausesOf
-  clauses-same k (Wires i) = wires-same k i
-  clauses-same k (Pair j i p) = pair-same p j i
-  clauses-same k (Closing i p) = closing-same p i
-  clauses-same k Property = ap (λ (x : Clause). x ∷ []) (gather-same (k + 1) (violationOf c) (violationOf d) (λ i b. violated-same i))
+  clauses-same k (Wires i) h = wires-same k i
+  clauses-same k (Pair j i p) h = pair-same p (pair-inDepth (ports c) k j i p .0 h .2) j i
+  clauses-same k (Closing i p) h = closing-same p (closing-inDepth (ports c) k i p .0 h .1) i
+  clauses-same k Property h = ap (λ (x : Clause). x ∷ []) (gather-same (k + 1) (violationOf c) (violationOf d) (λ i b. violated-same i))
 
-  pub numbers-same : (k : ℕ) (g : Group) → numbersOf c k g ≡ numbersOf d k g
+  pub numbers-same : (k : ℕ) (g : Group) → inDepth (ports c) k g ≡ true → numbersOf c k g ≡ numbersOf d k g
   unfolding numbersOf
-  numbers-same k g = ap written (clauses-same k g)
+  numbers-same k g h = ap written (clauses-same k g h)

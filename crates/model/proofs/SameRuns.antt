@@ -8,15 +8,16 @@ use native.Mathlib.Nat.{le-refl}
 use native.Mathlib.Omega.{arith}
 use lib.Dec.{eqb, ltb}
 use borrow.Author.Tests.{ltb-true, ltb-false}
-use Rattle.model.specs.Netlist.{Netlist, port, readBits, inputWire, latchWire, readWire, gateWire}
+use Rattle.model.specs.Netlist.{Netlist, IsPort, port, readBits, inputWire, latchWire, readWire, gateWire}
 use Rattle.model.specs.Circuit.{Values, codeValue, sources, evaluate, State, Feeds, addressOf, readData, firstPass, frame, wordWritten, step, stateAt, run, Starts}
 use Rattle.model.specs.Numbers.{Assignment}
 use Rattle.model.specs.Claim.{Agrees, Breaks}
 use Rattle.model.specs.Agree.{Agree}
 use Rattle.model.proofs.Booleans.{cond-same}
 use Rattle.model.proofs.Bits.{fromBits-same}
+use Rattle.model.proofs.Ports.{first-port, port-of-read}
 use Rattle.model.proofs.Circuit.{code-same, conjunction-of-two}
-use Rattle.model.proofs.Agree.{inputs-same, latches-same, gates-same, m-same, n-same, start-same, lastWire-same, sweep-same}
+use Rattle.model.proofs.Agree.{inputs-same, latches-same, gates-same, m-same, n-same, second-same, start-same, lastWire-same, sweep-same}
 use Rattle.model.proofs.SameNumbers.{base-same}
 
 -- two states of a netlist that agree on its latches, on every word and on the read bits held
@@ -44,7 +45,7 @@ module _ (c d : Netlist) (q : Agree c d) where
     sources-same : (w : ℕ) → sources c input latch read w ≡ sources d input other back w
     unfolding sources
     sources-same w =
-        rw (← inputs-same c d q, ← latches-same c d q, ← n-same c d q)
+        rw (← inputs-same c d q, ← latches-same c d q, ← n-same c d q, ← second-same c d q)
         (cond-same (ltb w (inputWire c 0)) (λ h. refl) λ i.
         cond-same (ltb w (latchWire c 0)) (λ h. refl) λ l.
         cond-same (ltb w (readWire c 0))
@@ -61,9 +62,9 @@ module _ (c d : Netlist) (q : Agree c d) where
     pub code-value-same : {x y : ℕ} → x ≡ y → codeValue u x ≡ codeValue v y
     code-value-same {x} {y} e = code-same u v x (same (x / 2)) ∙ ap (codeValue v) e
 
-    addressOf-same : (p : ℕ) → addressOf c (port c p) u ≡ addressOf d (port d p) v
+    addressOf-same : (p : ℕ) → IsPort c p → addressOf c (port c p) u ≡ addressOf d (port d p) v
     unfolding addressOf
-    addressOf-same p = fromBits-same (c .m) _ _ (λ t b. code-value-same (q .address-same t b)) ∙ rw (m-same c d q)
+    addressOf-same p here = fromBits-same (c .m) _ _ (λ t b. code-value-same (q .address-same p here t b)) ∙ rw (m-same c d q)
 
     word-written-same : wordWritten c u ≡ wordWritten d v
     unfolding wordWritten
@@ -73,14 +74,21 @@ module _ (c d : Netlist) (q : Agree c d) where
       read-same : (t : ℕ) → t < readBits c → readData c s u t ≡ readData d r v t
       unfolding readData
       read-same t b =
-          rw (code-value-same (q .RE-same), addressOf-same, states .memory-same (addressOf d (port d 1) v), states .held-same t b)
+          let is-port : IsPort c (suc (t / c .n)) = port-of-read c t b in
+          rw (
+            code-value-same (q .RE-same (suc (t / c .n)) is-port),
+            addressOf-same (suc (t / c .n)) is-port,
+            states .memory-same (addressOf d (port d (suc (t / c .n))) v),
+            states .held-same t b,
+            n-same c d q,
+          )
 
       step-same : SameState c (step c s u) (step d r v)
       unfolding step
       step-same =
           record {
             latch-same = λ l b. code-value-same (q .next-same l b);
-            memory-same = λ x. rw (code-value-same (q .WE-same), addressOf-same, word-written-same, states .memory-same x);
+            memory-same = λ x. rw (code-value-same (q .WE-same), addressOf-same 1 (first-port c), word-written-same, states .memory-same x);
             held-same = λ t b. same (readWire c t) ∙ rw (inputs-same c d q, latches-same c d q);
           }
 

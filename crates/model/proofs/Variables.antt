@@ -1,11 +1,11 @@
 -- Laws of specs/Variables.antt: where the variables of frames and pairs start. No contract cites this file.
 use Prim.Native.Nat.{ℕ, zero, suc, _+_, _-_, _*_, _/_, _≤_, _<_}
 use mathlib.Core.Path.{_≡_, refl}
-use native.Mathlib.Nat.{mul-suc, suc-mul, zero-mul, mul-zero, mul-comm, mul-le-mul-right, le-refl, add-zero, add-suc, add-sub-of-le}
+use native.Mathlib.Nat.{mul-suc, suc-mul, zero-mul, mul-zero, mul-comm, mul-le-mul-left, mul-le-mul-right, le-refl, add-zero, add-suc, add-sub-of-le}
 use native.Mathlib.Numerals.{sub-one}
 use native.Mathlib.Omega.{arith}
 use borrow.Author.Tests.{eq-eqb, ne-eqb}
-use Rattle.model.specs.Netlist.{Netlist, Port, lastWire}
+use Rattle.model.specs.Netlist.{Netlist, Port, ports, lastWire}
 use Rattle.model.specs.Clauses.{plus}
 use Rattle.model.specs.Variables.{stride, baseOf, base, pairBaseOf, pairBase, codeIn, noneSince}
 use Rattle.model.specs.Acceptance.{SizesFit}
@@ -21,9 +21,13 @@ unfolding base baseOf
 base-zero c = simp (zero-mul, mul-zero)
 
 -- a frame has its wires, and its pairs with the frames before it
+baseOf-suc : (wires s i : ℕ) → baseOf wires s (suc i) ≡ baseOf wires s i + wires + i * s
+unfolding baseOf
+baseOf-suc wires s i = simp (product-half-suc s i, suc-mul) (omega arith)
+
 pub base-suc : (c : Netlist) (i : ℕ) → base c (suc i) ≡ base c i + lastWire c + i * stride c
-unfolding base baseOf
-base-suc c i = simp (product-half-suc (stride c) i, suc-mul) (omega arith)
+unfolding base
+base-suc c i = baseOf-suc (lastWire c) (stride c) i
 
 -- d frames on, a frame starts no earlier
 base-add : (c : Netlist) (i d : ℕ) → base c i ≤ base c (i + d)
@@ -52,9 +56,18 @@ port-within c p j i v h r =
     simp (pairBase-base, base-suc) (omega (arith, suc-mul j (stride c)))
 
 -- the most (RULES V6): depth 255, 600 wires and addresses of 12 bits
-pub base-most : (c : Netlist) → SizesFit c → (i : ℕ) → i ≤ 256 → base c i ≤ 675841
+base-by-ports : (c : Netlist) → SizesFit c → (i : ℕ) → i ≤ 256 → base c i ≤ 153601 + ports c * 522240
 unfolding base baseOf
-base-most c h i l = omega (arith, base-monotone c l)
+base-by-ports c h i l =
+    let most : ports c * (c .m + 4) ≤ ports c * 16 = mul-le-mul-left (ports c) (omega (arith, h .m-most)) in
+    omega (arith, base-monotone c l)
+
+pub base-most : (c : Netlist) → SizesFit c → (i : ℕ) → i ≤ 256 → base c i ≤ 1198081
+base-most c h i l = omega (arith, base-by-ports c h i l, h .kind-fits)
+
+-- with one port
+pub base-most-single : (c : Netlist) → SizesFit c → ports c ≡ 1 → (i : ℕ) → i ≤ 256 → base c i ≤ 675841
+base-most-single c h one i l = omega (arith, base-by-ports c h i l)
 
 -- `noneSince` is RE where j = i, and else a variable of the pair
 pub noneSince-last : (c : Netlist) (p : Port) (i : ℕ) → noneSince c p i i ≡ codeIn c i (p .RE)

@@ -12,7 +12,7 @@ use Rattle.model.specs.Netlist.{Netlist, Port, IsPort, port, lastWire}
 use Rattle.model.specs.Circuit.{Values, codeValue, addressOf, writeAddress}
 use Rattle.model.specs.Variables.{stride, base, pairBase, selected, pairLiterals}
 use Rattle.model.specs.Numbers.{Assignment}
-use Rattle.model.proofs.Ports.{variables-first, variables-within}
+use Rattle.model.proofs.Ports.{variables-within}
 use Rattle.model.proofs.Variables.{base-suc, base-monotone, base-least, pairBase-base, port-within, noneSince-earlier}
 use Rattle.model.proofs.Agreement.{hits}
 use Rattle.model.proofs.Truth.{value}
@@ -81,8 +81,7 @@ unfolding pairsValue
 pairsValue-at c u p here j i x l =
     let z : ℕ = port c p .firstVariable + x in
     let within : z < stride c = omega (arith, variables-within c p here) in
-    let block : z ≡ (p - 1) * (c .m + 4) + x = ap (λ (y : ℕ). y + x) (variables-first c p here) in
-    let rest : (j * stride c + z) % stride c ≡ (p - 1) * (c .m + 4) + x = mod-block j (stride c) z within ∙ block in
+    let rest : (j * stride c + z) % stride c ≡ (p - 1) * (c .m + 4) + x = mod-block j (stride c) z within in
     let same : suc (p - 1) ≡ p = omega (arith, here .0) in
     let its-port : suc ((j * stride c + z) % stride c / (c .m + 4)) ≡ p =
     ap (λ (y : ℕ). suc (y / (c .m + 4))) rest ∙ ap suc (div-block (p - 1) (c .m + 4) x l) ∙ same in

@@ -18,6 +18,7 @@ use Rattle.model.specs.Variables.{codeIn, noneSince, selected, readBit, 
 use Rattle.model.specs.Numbers.{Assignment}
 use Rattle.model.proofs.Booleans.{and-true, beq-true}
 use Rattle.model.proofs.Bits.{fromBits-same}
+use Rattle.model.proofs.Ports.{first-port}
 use Rattle.model.proofs.Truth.{value, AgreedHold, PairHolds, InitialHold, ClosingHolds}
 use Rattle.model.proofs.Forwarding.{stepped, Chain, noneFrom, noneFrom-last, noneFrom-chain, none-unchanged, source-exists}
 use Rattle.model.proofs.Variables.{noneSince-last}
@@ -104,7 +105,7 @@ module _ {c : Netlist} (fit : CodesFit c) {p : Port} {u : ℕ → Values} {a : A
       N = sym (noneSince-value (suc j) l) ∙ ap (λ (x : ℕ). value a (noneSince c p x i)) (sym (add-one j))
 
       Aj : (t : ℕ) → t < c .m → value a (pairLiterals c p j i .Aj t) ≡ codeValue (u j) (c .address t)
-      Aj t b = has .codes j (le-of-lt l) (c .address t) (fit .address-fits t b)
+      Aj t b = has .codes j (le-of-lt l) (c .address t) (fit .address-fits 1 (first-port c) t b)
 
       Ai : (t : ℕ) → t < c .m → value a (pairLiterals c p j i .Ai t) ≡ codeValue (u i) (p .address t)
       Ai t b = has .codes i (le-refl i) (p .address t) (has .address-codes t b)

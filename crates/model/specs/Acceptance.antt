@@ -22,7 +22,8 @@ pub record SizesFit (c : Netlist) : Type 0 where
   pub m-most : c .m ≤ mostAddressBits
   pub n-least : 1 ≤ c .n
   pub n-most : c .n ≤ mostDataBits
-  pub unknown-fits : c .unknownStart ≤ 1
+  -- a second port only where the start is given
+  pub kind-fits : c .unknownStart + c .secondPort ≤ 1
   pub word-fits : StartFits (c .n) (start c)
   pub wires-fit : lastWire c ≤ mostWires
 
@@ -36,10 +37,10 @@ pub record CodesFit (c : Netlist) : Type 0 where
   pub reset-fits : (l : ℕ) → l < c .latches → c .reset l ≤ 1
   pub left-fits : (g : ℕ) → g < c .gates → c .left g < 2 * gateWire c g
   pub right-fits : (g : ℕ) → g < c .gates → c .right g < 2 * gateWire c g
-  pub address-fits : (t : ℕ) → t < c .m → IsCode c (c .address t)
+  pub address-fits : (p : ℕ) → IsPort c p → (t : ℕ) → t < c .m → IsCode c (port c p .address t)
   pub data-fits : (t : ℕ) → t < c .n → IsCode c (c .writeData t)
   pub WE-fits : IsCode c (c .WE)
-  pub RE-fits : IsCode c (c .RE)
+  pub RE-fits : (p : ℕ) → IsPort c p → IsCode c (port c p .RE)
   pub P-fits : IsCode c (c .P)
 
 -- what refusals 4 and 5 leave: sizes and codes within their limits

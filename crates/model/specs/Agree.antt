@@ -4,7 +4,7 @@
 use Prim.Native.Nat.{ℕ, _<_}
 use mathlib.Core.Path.{_≡_}
 use mathlib.Core.List.{List, [], _∷_}
-use Rattle.model.specs.Netlist.{Netlist, Start, given, unknown, start}
+use Rattle.model.specs.Netlist.{Netlist, Start, given, unknown, start, IsPort, port}
 
 -- the word that is given at the start; one beside an unknown start is ignored
 unfoldable pub givenWord : Start → ℕ
@@ -13,7 +13,7 @@ givenWord unknown = 0
 
 -- two netlists with the same sizes
 abbrev pub sizesOf : Netlist → List ℕ
-sizesOf c = c .inputs ∷ c .latches ∷ c .gates ∷ c .m ∷ c .n ∷ givenWord (start c) ∷ c .unknownStart ∷ []
+sizesOf c = c .inputs ∷ c .latches ∷ c .gates ∷ c .m ∷ c .n ∷ givenWord (start c) ∷ c .unknownStart ∷ c .secondPort ∷ []
 
 abbrev pub SameSizes : Netlist → Netlist → Type 0
 SameSizes c d = sizesOf c ≡ sizesOf d
@@ -25,8 +25,8 @@ pub record Agree (c d : Netlist) : Type 0 where
   pub reset-same : (l : ℕ) → l < c .latches → c .reset l ≡ d .reset l
   pub left-same : (g : ℕ) → g < c .gates → c .left g ≡ d .left g
   pub right-same : (g : ℕ) → g < c .gates → c .right g ≡ d .right g
-  pub address-same : (t : ℕ) → t < c .m → c .address t ≡ d .address t
+  pub address-same : (p : ℕ) → IsPort c p → (t : ℕ) → t < c .m → port c p .address t ≡ port d p .address t
   pub data-same : (t : ℕ) → t < c .n → c .writeData t ≡ d .writeData t
   pub WE-same : c .WE ≡ d .WE
-  pub RE-same : c .RE ≡ d .RE
+  pub RE-same : (p : ℕ) → IsPort c p → port c p .RE ≡ port d p .RE
   pub P-same : c .P ≡ d .P

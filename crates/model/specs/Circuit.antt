@@ -1,6 +1,6 @@
 -- The sequential circuit with its whole memory, and its runs through time frames (RULES C2 to C4, C6, C7, C9, C12 and C15 to C24). Cited by
 -- the claim, and for dependence on a read bit by the tests of records.
-use Prim.Native.Nat.{ℕ, zero, suc, _-_, _/_, _^_, _<_}
+use Prim.Native.Nat.{ℕ, zero, suc, _-_, _/_, _%_, _^_, _<_}
 use mathlib.Core.Path.{_≡_}
 use mathlib.Core.Bool.{Bool, false, cond, not, _&&_, _||_}
 use lib.Dec.{eqb, leb, ltb}
@@ -73,7 +73,9 @@ writeAddress c v = addressOf c (port c 1) v
 
 -- the read bits that follow from the state before this frame's write, and from the address and RE in the values v (RULES C4, C17, C18)
 unfoldable pub readData : Netlist → State → Values → ℕ → Bool
-readData c s v t = cond (codeValue v (port c 1 .RE)) (bit (s .memory (addressOf c (port c 1) v)) t) (s .held t)
+readData c s v r =
+    let p = port c (suc (r / c .n)) in
+    cond (codeValue v (p .RE)) (bit (s .memory (addressOf c p v)) (r % c .n)) (s .held r)
 
 -- One frame. First pass: every read bit 0, which settles address and RE. Second pass: all gates afresh, with the read bits. RULES C12 and C21.
 unfoldable pub firstPass : Netlist → State → (ℕ → Bool) → Values

@@ -16,14 +16,14 @@ mostDataBits = 32
 abbrev pub mostDepth : ℕ
 mostDepth = 255
 
--- RULES S6: "L + A + m + n + 3 of them, 615 at most"; L, A and n are counted in V
+-- RULES S13: "627 at most"; L, A and the read bits are counted in V
 abbrev pub mostLines : ℕ
-mostLines = mostWires + mostAddressBits + 3
+mostLines = mostWires + 2 * mostAddressBits + 3
 
 -- RULES S1: "lines of 32 bytes"
 abbrev pub lineBytes : ℕ
 lineBytes = 32
 
--- RULES T1: "more than 19,680 bytes" are ragged
+-- RULES T1: "more than 20,064 bytes" are ragged
 abbrev pub mostBytes : ℕ
 mostBytes = lineBytes * mostLines

@@ -5,12 +5,12 @@ use mathlib.Core.Path.{_≡_}
 use mathlib.Core.Bool.{cond}
 use lib.Dec.{eqb, ltb}
 use Rattle.model.specs.Bits.{odd}
-use Rattle.model.specs.Netlist.{Netlist, Port, port, lastWire, readWire}
+use Rattle.model.specs.Netlist.{Netlist, Port, ports, port, lastWire, readWire}
 use Rattle.model.specs.Clauses.{Literal, known, plus, minus, PairLiterals, ClosingLiterals}
 
 -- how many variables a pair of frames has, over all ports (RULES V5)
 abbrev pub stride : Netlist → ℕ
-stride c = c .m + 4
+stride c = ports c * (c .m + 4)
 
 -- B(i): frame i's variables start after it (RULES V2). From V and a pair's number of variables, as code computes it; and of a netlist
 unfoldable pub baseOf : ℕ → ℕ → ℕ → ℕ
