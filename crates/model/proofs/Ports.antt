@@ -3,9 +3,12 @@
 use Prim.Native.Nat.{ℕ, _+_, _-_, _*_, _/_, _%_, _≤_, _<_, zero, suc}
 use mathlib.Core.Path.{_≡_, sym, _∙_, ap}
 use mathlib.Core.Bool.{true, true≢false}
+use mathlib.Core.Logic.{by-cases}
 use native.Mathlib.Nat.{div-add-mod', div-lt-iff-lt-mul, mod-lt, mul-le-mul-right, suc-mul}
 use native.Mathlib.Numerals.{sub-one}
+use native.Mathlib.Decide.{ℕ-discrete}
 use native.Mathlib.Omega.{arith}
+use borrow.Author.Tests.{eq-eqb, ne-eqb}
 use Rattle.model.specs.Netlist.{Netlist, Start, startOf, isUnknown, start, ports, IsPort, port, readBits}
 use Rattle.model.specs.Acceptance.{SizesFit}
 use Rattle.model.specs.Variables.{stride}
@@ -13,6 +16,22 @@ use Rattle.model.specs.Variables.{stride}
 -- there is a first one
 pub first-port : (c : Netlist) → IsPort c 1
 first-port c = (omega arith, omega arith)
+
+-- and a second where the record says so
+pub second-port : (c : Netlist) → 0 < c .secondPort → IsPort c 2
+second-port c h = (omega arith, omega arith)
+
+-- it has at most as much of anything as the first
+pub second-most : {c : Netlist} → SizesFit c → (x : ℕ) → c .secondPort * x ≤ x
+second-most {c} fit x = let most : c .secondPort * x ≤ 1 * x = mul-le-mul-right x (omega (arith, fit .kind-fits)) in omega arith
+
+-- what holds of the codes of both holds of each port's
+pub each-port : (c : Netlist) (P : (ℕ → ℕ) → ℕ → Type 0) → P (c .address) (c .RE) → (0 < c .secondPort → P (c .address2) (c .RE2))
+    → (p : ℕ) → IsPort c p → P (port c p .address) (port c p .RE)
+each-port c P first second p here =
+    by-cases (ℕ-discrete p 1)
+    (λ e. rw (eq-eqb p 1 e) first)
+    (λ other. rw (ne-eqb p 1 other) (second (omega (arith, other, here .0, here .1))))
 
 -- an unknown start is said by a number above 0
 unknown-number : (word u : ℕ) → isUnknown (startOf word u) ≡ true → 1 ≤ u

@@ -1,7 +1,7 @@
 -- A netlist has no fault in any line exactly where it meets the model's limits (specs/Faults.antt and the model's Acceptance).
 -- Cited by the tests of records and by the sheet reader.
 use Prim.Native.Nat.{ℕ, _+_, _-_, _*_, _/_, _^_, _≤_, _<_, zero-le}
-use mathlib.Core.Path.{_≡_, refl, sym, _∙_}
+use mathlib.Core.Path.{_≡_, refl, sym, _∙_, ap}
 use mathlib.Core.Bool.{Bool, true, false, not, _||_, true≢false}
 use mathlib.Core.Logic.{_↔_, by-cases}
 use native.Mathlib.Nat.{div-eq-of-lt, le-div-iff-mul-le}
@@ -11,9 +11,10 @@ use lib.Dec.{ltb, leb, eqb}
 use lib.Pow.{pow-pos, pow-mono}
 use borrow.Author.Tests.{ltb-false, lt-ltb, le-ltb, leb-false, lt-leb, le-leb, eq-eqb, ne-eqb}
 use Rattle.model.specs.Netlist.{Netlist, Start, given, unknown, startOf, start, IsPort, port, gateWire, lastWire}
+use Rattle.model.specs.Circuit.{dependsOnRead}
 use Rattle.model.specs.Search.{seen}
-use Rattle.model.specs.Acceptance.{StartFits, SizesFit, CodesFit, NoTie, NoLoop}
-use Rattle.model.proofs.Ports.{first-port}
+use Rattle.model.specs.Acceptance.{StartFits, SizesFit, IsCode, CodesFit, NoTie, NoLoop}
+use Rattle.model.proofs.Ports.{first-port, second-port, each-port}
 use Rattle.model.proofs.Search.{seen-at}
 use Rattle.model.proofs.Start.{start-given, start-unknown}
 use Rattle.model.proofs.Booleans.{not-true-false}
@@ -36,7 +37,7 @@ pub outside-above : (high x : ℕ) → outside 0 high x ≡ ltb high x
 outside-above high x = rw (le-ltb x 0 zero-le)
 
 -- and is met up to it
-at-most : (high x : ℕ) → (outside 0 high x ≡ false) ↔ (x ≤ high)
+pub at-most : (high x : ℕ) → (outside 0 high x ≡ false) ↔ (x ≤ high)
 at-most high x = (λ h. inside 0 high x .0 h .1, λ h. inside 0 high x .1 (zero-le, h))
 
 -- a word has more than n bits where something is left of it once n bits are shifted out
@@ -110,12 +111,18 @@ module _ (c : Netlist) where
 
   -- the numbers of line M
   memory-inside : Without sizeFault c Memory
-      ↔ ((((((1 ≤ c .m) × (c .m ≤ 12)) × ((1 ≤ c .n) × (c .n ≤ 32))) × (c .unknownStart ≤ 1)) × StartFits (c .n) (start c)) × (lastWire c ≤ 600))
+      ↔ (((((c .unknownStart + c .secondPort ≤ 1) × ((1 ≤ c .m) × (c .m ≤ 12))) × ((1 ≤ c .n) × (c .n ≤ 32))) × StartFits (c .n) (start c)) × (lastWire c ≤ 600))
   unfolding sizeFault
   memory-inside =
       neither
-      (neither (neither (neither (inside 1 12 (c .m)) (inside 1 32 (c .n))) (at-most 1 (c .unknownStart))) (start-inside (c .n) (start c)))
+      (neither (neither (neither (at-most 1 (c .unknownStart + c .secondPort)) (inside 1 12 (c .m))) (inside 1 32 (c .n))) (start-inside (c .n) (start c)))
       (at-most 600 (lastWire c))
+
+  -- where the numbers that say the kind are within their limit, the others of line M or T decide
+  pub memory-rest : outside 0 1 (c .unknownStart + c .secondPort) ≡ false
+      → sizeFault c Memory ≡ (outside 1 12 (c .m) || outside 1 32 (c .n) || startFault (c .n) (start c) || outside 0 600 (lastWire c))
+  unfolding sizeFault
+  memory-rest h = ap (λ (x : Bool). x || outside 1 12 (c .m) || outside 1 32 (c .n) || startFault (c .n) (start c) || outside 0 600 (lastWire c)) h
 
   -- refusal 4
   pub sizes-fit : EveryLine c (Without sizeFault c) ↔ SizesFit c
@@ -123,18 +130,18 @@ module _ (c : Netlist) where
   sizes-fit = (λ q. fits (sizes-inside .0 (q .of-sizes)) (memory-inside .0 (q .of-memory)), none)
     where
       fits : ((c .inputs ≤ 600) × (c .latches ≤ 600)) × (c .gates ≤ 600)
-          → (((((1 ≤ c .m) × (c .m ≤ 12)) × ((1 ≤ c .n) × (c .n ≤ 32))) × (c .unknownStart ≤ 1)) × StartFits (c .n) (start c)) × (lastWire c ≤ 600)
+          → ((((c .unknownStart + c .secondPort ≤ 1) × ((1 ≤ c .m) × (c .m ≤ 12))) × ((1 ≤ c .n) × (c .n ≤ 32))) × StartFits (c .n) (start c)) × (lastWire c ≤ 600)
           → SizesFit c
       fits s r =
           record {
             inputs-fit = s .0 .0;
             latches-fit = s .0 .1;
             gates-fit = s .1;
-            m-least = r .0 .0 .0 .0 .0;
-            m-most = r .0 .0 .0 .0 .1;
-            n-least = r .0 .0 .0 .1 .0;
-            n-most = r .0 .0 .0 .1 .1;
-            unknown-fits = r .0 .0 .1;
+            m-least = r .0 .0 .0 .1 .0;
+            m-most = r .0 .0 .0 .1 .1;
+            n-least = r .0 .0 .1 .0;
+            n-most = r .0 .0 .1 .1;
+            kind-fits = r .0 .0 .0 .0;
             word-fits = r .0 .1;
             wires-fit = r .1;
           }
@@ -144,11 +151,13 @@ module _ (c : Netlist) where
           record {
             of-sizes = sizes-inside .1 (omega arith);
             of-memory =
-                memory-inside .1 (((((q .m-least, q .m-most), (q .n-least, q .n-most)), q .unknown-fits), q .word-fits), q .wires-fit);
+                memory-inside .1 ((((q .kind-fits, (q .m-least, q .m-most)), (q .n-least, q .n-most)), q .word-fits), q .wires-fit);
             of-latch = λ l h. refl;
             of-gate = λ g h. refl;
             of-address = λ t h. refl;
             of-data = λ t h. refl;
+            of-second-address = λ some t h. refl;
+            of-second-enable = λ some. refl;
             of-control = refl;
           }
 
@@ -182,10 +191,13 @@ module _ (c : Netlist) where
               reset-fits = λ l h. latch-inside l .0 (q .of-latch l h) .1;
               left-fits = λ g h. gate-inside g .0 (q .of-gate g h) .0;
               right-fits = λ g h. gate-inside g .0 (q .of-gate g h) .1;
-              address-fits = λ t h. code (c .address t) .0 (q .of-address t h);
+              address-fits =
+                  each-port c (λ a e. (t : ℕ) → t < c .m → IsCode c (a t)) (λ t h. code (c .address t) .0 (q .of-address t h))
+                  (λ some t h. code (c .address2 t) .0 (q .of-second-address some t h));
               data-fits = λ t h. code (c .writeData t) .0 (q .of-data t h);
               WE-fits = control-inside .0 (q .of-control) .0 .0;
-              RE-fits = control-inside .0 (q .of-control) .0 .1;
+              RE-fits =
+                  each-port c (λ a e. IsCode c e) (control-inside .0 (q .of-control) .0 .1) (λ some. code (c .RE2) .0 (q .of-second-enable some));
               P-fits = control-inside .0 (q .of-control) .1;
             },
         λ q.
@@ -194,9 +206,11 @@ module _ (c : Netlist) where
               of-memory = refl;
               of-latch = λ l h. latch-inside l .1 (q .next-fits l h, q .reset-fits l h);
               of-gate = λ g h. gate-inside g .1 (q .left-fits g h, q .right-fits g h);
-              of-address = λ t h. code (c .address t) .1 (q .address-fits t h);
+              of-address = λ t h. code (c .address t) .1 (q .address-fits 1 (first-port c) t h);
               of-data = λ t h. code (c .writeData t) .1 (q .data-fits t h);
-              of-control = control-inside .1 ((q .WE-fits, q .RE-fits), q .P-fits);
+              of-second-address = λ some t h. code (c .address2 t) .1 (q .address-fits 2 (second-port c some) t h);
+              of-second-enable = λ some. code (c .RE2) .1 (q .RE-fits 2 (second-port c some));
+              of-control = control-inside .1 ((q .WE-fits, q .RE-fits 1 (first-port c)), q .P-fits);
             },
       )
 
@@ -204,7 +218,13 @@ module _ (c : Netlist) where
   pub no-tie : EveryLine c (Without tieFault c) ↔ ((p : ℕ) → IsPort c p → NoTie c (port c p))
   unfolding tieFault
   no-tie = (
-    λ q p is. record { tie-free = λ s t l b e. untied (c .address) t .0 (q .of-address t b) s l e },
+    λ q p is.
+        record {
+          tie-free =
+              each-port c (λ a e. (s t : ℕ) → s < t → t < c .m → a s / 2 ≡ a t / 2 → a t / 2 ≡ 0)
+              (λ s t l b e. untied (c .address) t .0 (q .of-address t b) s l e)
+              (λ some s t l b e. untied (c .address2) t .0 (q .of-second-address some t b) s l e) p is;
+        },
     λ q.
         record {
           of-sizes = refl;
@@ -213,6 +233,8 @@ module _ (c : Netlist) where
           of-gate = λ g h. refl;
           of-address = λ t b. untied (c .address) t .1 (λ s l. q 1 (first-port c) .tie-free s t l b);
           of-data = λ t h. refl;
+          of-second-address = λ some t b. untied (c .address2) t .1 (λ s l. q 2 (second-port c some) .tie-free s t l b);
+          of-second-enable = λ some. refl;
           of-control = refl;
         },
   )
@@ -221,7 +243,11 @@ module _ (c : Netlist) where
   pub no-loop : EveryLine c (Without loopFault c) ↔ ((p : ℕ) → IsPort c p → NoLoop c (port c p))
   unfolding loopFaultBy
   no-loop = (
-    λ q p is. record { address-free = q .of-address; RE-free = q .of-control },
+    λ q p is.
+        record {
+          address-free = each-port c (λ a e. (t : ℕ) → t < c .m → dependsOnRead c (a t / 2) ≡ false) (q .of-address) (q .of-second-address) p is;
+          RE-free = each-port c (λ a e. dependsOnRead c (e / 2) ≡ false) (q .of-control) (q .of-second-enable) p is;
+        },
     λ q.
         record {
           of-sizes = refl;
@@ -230,6 +256,8 @@ module _ (c : Netlist) where
           of-gate = λ g h. refl;
           of-address = q 1 (first-port c) .address-free;
           of-data = λ t h. refl;
+          of-second-address = λ some. q 2 (second-port c some) .address-free;
+          of-second-enable = λ some. q 2 (second-port c some) .RE-free;
           of-control = q 1 (first-port c) .RE-free;
         },
   )

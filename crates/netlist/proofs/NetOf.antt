@@ -13,7 +13,7 @@ use Rattle.netlist.specs.NetOf.{netOf, alone}
 use Rattle.netlist.specs.Places.{lineAt}
 use Rattle.netlist.specs.Faults.{sizeFault, loopFaultBy}
 use Rattle.netlist.specs.declared.Line.{Line}
-use Rattle.netlist.specs.declared.Line.the-variants.{Sizes, Memory, Latch, Gate, Address, WriteData, Control}
+use Rattle.netlist.specs.declared.Line.the-variants.{Sizes, Memory, Latch, Gate, Address, WriteData, SecondAddress, SecondEnable, Control}
 use Rattle.netlist.specs.declared.Netlist.{Netlist}
 
 -- the sizes' limits
@@ -29,7 +29,7 @@ sizes-lists r latches gates otherLatches otherGates q =
       m-most = q .m-most;
       n-least = q .n-least;
       n-most = q .n-most;
-      unknown-fits = q .unknown-fits;
+      kind-fits = q .kind-fits;
       word-fits = q .word-fits;
       wires-fit = q .wires-fit;
     }
@@ -93,6 +93,8 @@ module _ (r : Netlist) (latches gates : List ℕ) where
   sizeFault-lists (Gate g) = refl
   sizeFault-lists (Address t) = refl
   sizeFault-lists (WriteData t) = refl
+  sizeFault-lists (SecondAddress t) = refl
+  sizeFault-lists SecondEnable = refl
   sizeFault-lists Control = refl
 
   -- refusal 6 at a line, once it is known which wires depend on a read bit
@@ -104,6 +106,8 @@ module _ (r : Netlist) (latches gates : List ℕ) where
   loopFaultBy-lists d (Gate g) = refl
   loopFaultBy-lists d (Address t) = refl
   loopFaultBy-lists d (WriteData t) = refl
+  loopFaultBy-lists d (SecondAddress t) = refl
+  loopFaultBy-lists d SecondEnable = refl
   loopFaultBy-lists d Control = refl
 
   -- after some gates, dependence on a read bit

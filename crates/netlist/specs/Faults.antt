@@ -8,7 +8,7 @@ use Rattle.model.specs.Netlist.{Netlist, Start, given, unknown, start, port, ga
 use Rattle.model.specs.Circuit.{dependsOnRead}
 use Rattle.model.specs.Search.{seen}
 use Rattle.netlist.specs.declared.Line.{Line}
-use Rattle.netlist.specs.declared.Line.the-variants.{Sizes, Memory, Latch, Gate, Address, WriteData, Control}
+use Rattle.netlist.specs.declared.Line.the-variants.{Sizes, Memory, Latch, Gate, Address, WriteData, SecondAddress, SecondEnable, Control}
 
 -- a number is outside the limits low to high
 abbrev pub outside : ℕ → ℕ → ℕ → Bool
@@ -19,16 +19,18 @@ unfoldable pub startFault : ℕ → Start → Bool
 startFault n (given word) = outside 0 (2 ^ n - 1) word
 startFault n unknown = false
 
--- RULES T4: "a number of the N or the M line, or V, outside its limit"; V is tested at the M line (RULES T36)
+-- RULES T4: "a number of the N line or the second line, or V, outside its limit"; V is tested at the second line (RULES T36)
 unfoldable pub sizeFault : Netlist → Line → Bool
 sizeFault c Sizes = outside 0 mostWires (c .inputs) || outside 0 mostWires (c .latches) || outside 0 mostWires (c .gates)
 sizeFault c Memory =
-    outside 1 mostAddressBits (c .m) || outside 1 mostDataBits (c .n) || outside 0 1 (c .unknownStart) || startFault (c .n) (start c)
-    || outside 0 mostWires (lastWire c)
+    outside 0 1 (c .unknownStart + c .secondPort) || outside 1 mostAddressBits (c .m) || outside 1 mostDataBits (c .n)
+    || startFault (c .n) (start c) || outside 0 mostWires (lastWire c)
 sizeFault c (Latch l) = false
 sizeFault c (Gate g) = false
 sizeFault c (Address t) = false
 sizeFault c (WriteData t) = false
+sizeFault c (SecondAddress t) = false
+sizeFault c SecondEnable = false
 sizeFault c Control = false
 
 -- RULES W12: "A code is at most 2V + 1", V the last wire
@@ -51,13 +53,15 @@ codeFault c (Latch l) = latchFault (lastWire c) (c .next l) (c .reset l)
 codeFault c (Gate g) = gateFault (gateWire c g) (c .left g) (c .right g)
 codeFault c (Address t) = aboveLimit (lastWire c) (c .address t)
 codeFault c (WriteData t) = aboveLimit (lastWire c) (c .writeData t)
+codeFault c (SecondAddress t) = aboveLimit (lastWire c) (c .address2 t)
+codeFault c SecondEnable = aboveLimit (lastWire c) (c .RE2)
 codeFault c Control = aboveLimit (lastWire c) (c .WE) || aboveLimit (lastWire c) (c .RE) || aboveLimit (lastWire c) (c .P)
 
 -- of a port's address: the wire of code t is that of an earlier code, inverted or not, and no constant's
 unfoldable pub isTied : (ℕ → ℕ) → ℕ → Bool
 isTied address t = not (eqb (address t / 2) 0) && seen (λ s. address s / 2) t (address t / 2)
 
--- RULES T17: "an A line whose wire an earlier A line has"
+-- RULES T17: "an A line whose wire an earlier A line has", and likewise of B lines
 unfoldable pub tieFault : Netlist → Line → Bool
 tieFault c Sizes = false
 tieFault c Memory = false
@@ -65,9 +69,11 @@ tieFault c (Latch l) = false
 tieFault c (Gate g) = false
 tieFault c (Address t) = isTied (port c 1 .address) t
 tieFault c (WriteData t) = false
+tieFault c (SecondAddress t) = isTied (port c 2 .address) t
+tieFault c SecondEnable = false
 tieFault c Control = false
 
--- RULES T6: "an address code or RE depends on a read bit", d saying which wires do
+-- RULES T6: "an address code or RE of a port depends on a read bit", d saying which wires do
 unfoldable pub loopFaultBy : (ℕ → Bool) → Netlist → Line → Bool
 loopFaultBy d c Sizes = false
 loopFaultBy d c Memory = false
@@ -75,6 +81,8 @@ loopFaultBy d c (Latch l) = false
 loopFaultBy d c (Gate g) = false
 loopFaultBy d c (Address t) = d (port c 1 .address t / 2)
 loopFaultBy d c (WriteData t) = false
+loopFaultBy d c (SecondAddress t) = d (port c 2 .address t / 2)
+loopFaultBy d c SecondEnable = d (port c 2 .RE / 2)
 loopFaultBy d c Control = d (port c 1 .RE / 2)
 
 abbrev pub loopFault : Netlist → Line → Bool

@@ -31,6 +31,7 @@ netOf r latches gates =
       n = r .n;
       initialWord = r .«initial_word»;
       unknownStart = r .«unknown_start»;
+      secondPort = r .«second_port»;
       next = firstAt latches;
       reset = secondAt latches;
       left = firstAt gates;
@@ -40,6 +41,8 @@ netOf r latches gates =
       WE = r .we .0;
       RE = r .re .0;
       P = r .p .0;
+      address2 = codeOf (r .address2);
+      RE2 = r .re2 .0;
     }
 
 -- A record without its lists: all that the sizes, lines and numbering look at, and pairs, closings and the property. What looks at

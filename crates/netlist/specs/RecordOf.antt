@@ -25,18 +25,21 @@ recordOf c =
       n = c .n;
       «initial_word» = c .initialWord;
       «unknown_start» = c .unknownStart;
+      «second_port» = c .secondPort;
       address = gather mostAddressBits (codeEntry (c .address));
       «write_data» = gather mostDataBits (codeEntry (c .writeData));
       we = record { 0 = c .WE };
       re = record { 0 = c .RE };
       p = record { 0 = c .P };
+      address2 = gather mostAddressBits (codeEntry (c .address2));
+      re2 = record { 0 = c .RE2 };
     }
 
 -- below a size what f says, and 0 past it. RULES T45: "the entries of the returned record past its sizes are 0"
 abbrev pub upTo : ℕ → (ℕ → ℕ) → ℕ → ℕ
 upTo size f x = cond (ltb x size) (f x) 0
 
--- the sizes of a netlist, with its start; and these with no codes
+-- the sizes of a netlist, with its start and its kind; and these with no codes
 pub record NetSizes : Type 0 where
   pub inputs : ℕ
   pub latches : ℕ
@@ -45,6 +48,7 @@ pub record NetSizes : Type 0 where
   pub n : ℕ
   pub initialWord : ℕ
   pub unknownStart : ℕ
+  pub secondPort : ℕ
 
 abbrev pub withoutCodes : NetSizes → M.Netlist
 withoutCodes s =
@@ -56,6 +60,7 @@ withoutCodes s =
       n = s .n;
       initialWord = s .initialWord;
       unknownStart = s .unknownStart;
+      secondPort = s .secondPort;
       next = λ l. 0;
       reset = λ l. 0;
       left = λ g. 0;
@@ -65,8 +70,10 @@ withoutCodes s =
       WE = 0;
       RE = 0;
       P = 0;
+      address2 = λ t. 0;
+      RE2 = 0;
     }
 
 -- the record that is all zeros
 abbrev pub noNetlist : M.Netlist
-noNetlist = withoutCodes (record { inputs = 0; latches = 0; gates = 0; m = 0; n = 0; initialWord = 0; unknownStart = 0 })
+noNetlist = withoutCodes (record { inputs = 0; latches = 0; gates = 0; m = 0; n = 0; initialWord = 0; unknownStart = 0; secondPort = 0 })

@@ -5,8 +5,8 @@
 use literals::Code;
 use literals::Wire;
 ghost use mathlib.Core.Path.{_≡_};
-ghost use Prim.Native.Nat.{_+_, _-_, _^_, _<_};
-ghost use Rattle.model.specs.Netlist.{startOf, ports, latchWire, readWire, gateWire, lastWire};
+ghost use Prim.Native.Nat.{suc, _+_, _-_, _*_, _^_, _<_, _≤_};
+ghost use Rattle.model.specs.Netlist.{startOf, ports, readBits, latchWire, readWire, gateWire, lastWire};
 ghost use Rattle.model.specs.Agree.{givenWord};
 ghost use Rattle.model.specs.Acceptance.{SizesFit};
 ghost use Rattle.netlist.specs.NetOf.{netOf, alone, putNumbers};
@@ -26,11 +26,14 @@ pub struct Netlist {
     pub n: u32,
     pub initial_word: u32,
     pub unknown_start: u32,
+    pub second_port: u32,
     pub address: [Code; 12],
     pub write_data: [Code; 32],
     pub we: Code,
     pub re: Code,
     pub p: Code,
+    pub address2: [Code; 12],
+    pub re2: Code,
 }
 
 // A line of a sheet, by what it holds (RULES S5), with its number among those of its letter.
@@ -41,6 +44,8 @@ pub enum Line {
     Gate(u32),
     Address(u32),
     WriteData(u32),
+    SecondAddress(u32),
+    SecondEnable,
     Control,
 }
 
@@ -57,11 +62,14 @@ pub fn empty_net() -> Netlist
         n: 0,
         initial_word: 0,
         unknown_start: 0,
+        second_port: 0,
         address: [none; 12],
         write_data: [none; 32],
         we: none,
         re: none,
         p: none,
+        address2: [none; 12],
+        re2: none,
     }
 }
 
@@ -108,11 +116,19 @@ fn is_start_outside(n: u32, word: u32, unknown: u32) -> bool
     false
 }
 
-// Whether V is above its limit. The sizes may be any numbers yet: their sum is taken where it fits.
-fn is_last_wire_outside(inputs: u32, latches: u32, n: u32, gates: u32) -> bool
-    ensures { λ r. ⌜ r ≡ outside 0 600 (inputs + latches + n + gates) ⌝ }
+// Whether V is above its limit. The other sizes may be any numbers yet: their sum is taken where it fits.
+fn is_last_wire_outside(inputs: u32, latches: u32, n: u32, second_port: u32, gates: u32) -> bool
+    requires { ⌜ «second_port» ≤ 1 ⌝ }
+    ensures { λ r. ⌜ r ≡ outside 0 600 (inputs + latches + suc «second_port» * n + gates) ⌝ }
 {
-    600 < inputs as u64 + latches as u64 + n as u64 + gates as u64
+    600 < inputs as u64 + latches as u64 + (second_port as u64 + 1) * (n as u64) + gates as u64
+}
+
+// Whether the numbers that say the kind of a record are outside their limit: at most one of them is 1, the other is 0.
+fn is_kind_outside(unknown: u32, second_port: u32) -> bool
+    ensures { λ r. ⌜ r ≡ outside 0 1 (unknown + «second_port») ⌝ }
+{
+    1 < unknown as u64 + second_port as u64
 }
 
 // Refusal 4 at line N.
@@ -122,22 +138,33 @@ pub fn sizes_fault(net: Netlist) -> bool
     is_outside(0, 600, net.inputs) | is_outside(0, 600, net.latches) | is_outside(0, 600, net.gates)
 }
 
-// Refusal 4 at line M.
+// Refusal 4 at line M or T.
 pub fn memory_fault(net: Netlist) -> bool
     ensures { λ r. ⌜ r ≡ sizeFault (alone net) Line.Memory ⌝ }
 {
+    if is_kind_outside(net.unknown_start, net.second_port) {
+        return true;
+    }
     is_outside(1, 12, net.m)
         | is_outside(1, 32, net.n)
-        | is_outside(0, 1, net.unknown_start)
         | is_start_outside(net.n, net.initial_word, net.unknown_start)
-        | is_last_wire_outside(net.inputs, net.latches, net.n, net.gates)
+        | is_last_wire_outside(net.inputs, net.latches, net.n, net.second_port, net.gates)
 }
 
 // How many read ports there are.
 pub fn port_count(net: Netlist) -> u32
+    requires { ⌜ SizesFit (alone net) ⌝ }
     ensures { λ r. ⌜ r ≡ ports (alone net) ⌝ }
 {
-    1
+    net.second_port + 1
+}
+
+// How many read bits there are, over all ports.
+pub fn read_count(net: Netlist) -> u32
+    requires { ⌜ SizesFit (alone net) ⌝ }
+    ensures { λ r. ⌜ r ≡ readBits (alone net) ⌝ }
+{
+    (net.second_port + 1) * net.n
 }
 
 // V, how many wires there are.
@@ -145,7 +172,7 @@ pub fn wire_count(net: Netlist) -> u32
     requires { ⌜ SizesFit (alone net) ⌝ }
     ensures { λ r. ⌜ r ≡ lastWire (alone net) ⌝ }
 {
-    net.inputs + net.latches + net.n + net.gates
+    net.inputs + net.latches + read_count(net) + net.gates
 }
 
 // The last wire: wires are numbered from 1.
@@ -177,7 +204,7 @@ pub fn first_gate_wire(net: Netlist) -> Wire
     requires { ⌜ SizesFit (alone net) ⌝ }
     ensures { λ r. ⌜ r .0 ≡ gateWire (alone net) 0 ⌝ }
 {
-    first_read_wire(net).offset(net.n)
+    first_read_wire(net).offset(read_count(net))
 }
 
 // The place of the last line.
@@ -185,7 +212,7 @@ pub fn control_line(net: Netlist) -> u32
     requires { ⌜ SizesFit (alone net) ⌝ }
     ensures { λ r. ⌜ r ≡ controlLine (alone net) ⌝ }
 {
-    3 + net.latches + net.gates + net.m + net.n
+    3 + net.latches + net.gates + net.m + net.n + net.second_port * (net.m + 1)
 }
 
 // The line due at a place.
@@ -211,10 +238,17 @@ pub fn line_at(net: Netlist, place: u32) -> Line
     if place < data {
         return Line::Address(place - address);
     }
-    if place < data + net.n {
+    let second = data + net.n;
+    if place < second {
         return Line::WriteData(place - data);
     }
-    Line::Control
+    if control_line(net) <= place {
+        return Line::Control;
+    }
+    if place < second + net.m {
+        return Line::SecondAddress(place - second);
+    }
+    Line::SecondEnable
 }
 
 // Refusal 5 at the line of a latch; the last wire is given.
@@ -260,6 +294,11 @@ pub fn code_fault(net: Netlist, latches: &UnpackedList, gates: &UnpackedList, li
             let at = t as usize;
             net.write_data[at].is_above(last)
         }
+        Line::SecondAddress(t) => {
+            let at = t as usize;
+            net.address2[at].is_above(last)
+        }
+        Line::SecondEnable => net.re2.is_above(last),
         Line::Control => net.we.is_above(last) | net.re.is_above(last) | net.p.is_above(last),
     }
 }

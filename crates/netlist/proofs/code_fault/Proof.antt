@@ -27,11 +27,11 @@ cast-at c = search needs
 mul-at : tie.Need-mul-at
 mul-at c = search needs
 
-mul-t17 : tie.Need-mul-t17
-mul-t17 c = search needs
+mul-t19 : tie.Need-mul-t19
+mul-t19 c = search needs
 
-element-copy-out-t20 : tie.Need-element-copy-out-t20
-element-copy-out-t20 c = omega (arith, subst (HasLine (alone (c .before .before .before .before .args .t1))) (c .before .line .given .1) (c .before .before .before .before .pre .1), c .before .before .before .before .pre .0 .latches-fit)
+element-copy-out-t22 : tie.Need-element-copy-out-t22
+element-copy-out-t22 c = omega (arith, subst (HasLine (alone (c .before .before .before .before .args .t1))) (c .before .line .given .1) (c .before .before .before .before .pre .1), c .before .before .before .before .pre .0 .latches-fit)
 
 add-latch-fault : tie.Need-add-latch-fault
 add-latch-fault c = search needs
@@ -61,20 +61,20 @@ offset-requires : tie.Need-offset-requires
 unfolding netOf
 offset-requires c κs = omega (arith, c .first-gate-wire .ensures, subst (HasLine (alone (c .before .before .before .before .before .args .t1))) (c .before .before .line2 .given .1) (c .before .before .before .before .before .pre .1), c .before .before .before .before .before .pre .0)
 
-mul-t27 : tie.Need-mul-t27
-mul-t27 c = search needs
+mul-t29 : tie.Need-mul-t29
+mul-t29 c = search needs
 
-element-copy-out-t33 : tie.Need-element-copy-out-t33
-element-copy-out-t33 c = omega (arith, subst (HasLine (alone (c .before .before .before .before .before .before .args .t1))) (c .before .before .before .line2 .given .1) (c .before .before .before .before .before .before .pre .1), c .before .before .before .before .before .before .pre .0 .gates-fit)
+element-copy-out-t35 : tie.Need-element-copy-out-t35
+element-copy-out-t35 c = omega (arith, subst (HasLine (alone (c .before .before .before .before .before .before .args .t1))) (c .before .before .before .line2 .given .1) (c .before .before .before .before .before .before .pre .1), c .before .before .before .before .before .before .pre .0 .gates-fit)
 
-add-t35 : tie.Need-add-t35
-add-t35 c = search needs
+add-t37 : tie.Need-add-t37
+add-t37 c = search needs
 
-mul-t36 : tie.Need-mul-t36
-mul-t36 c = search needs
+mul-t38 : tie.Need-mul-t38
+mul-t38 c = search needs
 
-element-copy-out-t39 : tie.Need-element-copy-out-t39
-element-copy-out-t39 c = omega (arith, subst (HasLine (alone (c .before .before .before .before .before .before .before .args .t1))) (c .before .before .before .before .line2 .given .1) (c .before .before .before .before .before .before .before .pre .1), c .before .before .before .before .before .before .before .pre .0 .gates-fit)
+element-copy-out-t41 : tie.Need-element-copy-out-t41
+element-copy-out-t41 c = omega (arith, subst (HasLine (alone (c .before .before .before .before .before .before .before .args .t1))) (c .before .before .before .before .line2 .given .1) (c .before .before .before .before .before .before .before .pre .1), c .before .before .before .before .before .before .before .pre .0 .gates-fit)
 
 gate-fault-requires : tie.Need-gate-fault-requires
 gate-fault-requires c κs = tt
@@ -109,17 +109,38 @@ element-copy-out-is-above-2 c = omega (arith, subst (HasLine (alone (c .before .
 is-above-requires-2 : tie.Need-is-above-requires-2
 is-above-requires-2 c κs = tt
 
-enum-told-3 : tie.Need-enum-told-3
-enum-told-3 c = c .match .keys7
+enum-known-line-5 : tie.Need-enum-known-line-5
+enum-known-line-5 c = c .match .keys7
+
+cast-at-5 : tie.Need-cast-at-5
+cast-at-5 c = search needs
+
+mul-is-above-3 : tie.Need-mul-is-above-3
+mul-is-above-3 c = search needs
+
+element-copy-out-is-above-3 : tie.Need-element-copy-out-is-above-3
+element-copy-out-is-above-3 c = omega (arith, subst (HasLine (alone (c .before .before .before .before .args .t1))) (c .before .line5 .given .1) (c .before .before .before .before .pre .1) .1, c .before .before .before .before .pre .0 .m-most)
 
 is-above-requires-3 : tie.Need-is-above-requires-3
 is-above-requires-3 c κs = tt
 
+enum-told-3 : tie.Need-enum-told-3
+enum-told-3 c = c .match .keys8
+
 is-above-requires-4 : tie.Need-is-above-requires-4
 is-above-requires-4 c κs = tt
 
+enum-told-4 : tie.Need-enum-told-4
+enum-told-4 c = c .match .keys9
+
 is-above-requires-5 : tie.Need-is-above-requires-5
 is-above-requires-5 c κs = tt
+
+is-above-requires-6 : tie.Need-is-above-requires-6
+is-above-requires-6 c κs = tt
+
+is-above-requires-7 : tie.Need-is-above-requires-7
+is-above-requires-7 c κs = tt
 
 returns : tie.Need-returns
 unfolding codeFault
@@ -150,8 +171,16 @@ unfolding netOf codeFault codeOf
 returns-6 c = rw (c .before .before .before .line4 .given .1, c .is-above2 .ensures, c .before .before .before .before .before .last-wire .ensures)
 
 returns-7 : tie.Need-returns-7
+unfolding netOf codeFault codeOf
+returns-7 c = rw (c .before .before .before .line5 .given .1, c .is-above3 .ensures, c .before .before .before .before .before .last-wire .ensures)
+
+returns-8 : tie.Need-returns-8
 unfolding netOf codeFault
-returns-7 c = rw (c .before .before .before .before .before .before .enum-told3 .given .1, c .before .before .before .before .is-above3 .ensures, c .before .before .is-above4 .ensures, c .is-above5 .ensures, c .before .before .before .before .before .before .before .before .last-wire .ensures)
+returns-8 c = rw (c .before .before .enum-told3 .given .1, c .is-above4 .ensures, c .before .before .before .before .last-wire .ensures)
+
+returns-9 : tie.Need-returns-9
+unfolding netOf codeFault
+returns-9 c = rw (c .before .before .before .before .before .before .enum-told4 .given .1, c .before .before .before .before .is-above5 .ensures, c .before .before .is-above6 .ensures, c .is-above7 .ensures, c .before .before .before .before .before .before .before .before .last-wire .ensures)
 
 pub code-fault-spec : {M : Type 1} → statement M
 code-fault-spec =
@@ -163,8 +192,8 @@ code-fault-spec =
     enum-known-line
     cast-at
     mul-at
-    mul-t17
-    element-copy-out-t20
+    mul-t19
+    element-copy-out-t22
     add-latch-fault
     mul-latch-fault
     element-copy-out-latch-fault
@@ -174,11 +203,11 @@ code-fault-spec =
     mul-at-2
     first-gate-wire-requires
     offset-requires
-    mul-t27
-    element-copy-out-t33
-    add-t35
-    mul-t36
-    element-copy-out-t39
+    mul-t29
+    element-copy-out-t35
+    add-t37
+    mul-t38
+    element-copy-out-t41
     gate-fault-requires
     enum-known-line-3
     cast-at-3
@@ -190,14 +219,23 @@ code-fault-spec =
     mul-is-above-2
     element-copy-out-is-above-2
     is-above-requires-2
-    enum-told-3
+    enum-known-line-5
+    cast-at-5
+    mul-is-above-3
+    element-copy-out-is-above-3
     is-above-requires-3
+    enum-told-3
     is-above-requires-4
+    enum-told-4
     is-above-requires-5
+    is-above-requires-6
+    is-above-requires-7
     returns
     returns-2
     returns-3
     returns-4
     returns-5
     returns-6
-    returns-7)
+    returns-7
+    returns-8
+    returns-9)

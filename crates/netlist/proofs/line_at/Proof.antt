@@ -3,7 +3,7 @@ use Prim.Native.Nat.{_+_, _-_}
 use mathlib.Core.Path.{sym}
 use native.Mathlib.Omega.{arith}
 use Rattle.netlist.specs.NetOf.{netOf, alone}
-use Rattle.netlist.proofs.Places.{at-sizes, at-memory, at-latch, at-gate, at-address, at-data, at-control}
+use Rattle.netlist.proofs.Places.{at-sizes, at-memory, at-latch, at-gate, at-address, at-data, at-second-address, at-second-enable, at-control, second-some}
 use Rattle.netlist.proofs.line_at.Statement.{statement}
 use Rattle.netlist.proofs.line_at.Tie as tie
 
@@ -49,9 +49,9 @@ returns-5 c =
     let a = c .before .before .before .before .before .before .before .before .args in
     sym (at-address (alone (a .net)) (a .place) (a .place - (3 + a .net .latches + a .net .gates)) (omega arith) (omega arith))
 
-add-if6 : tie.Need-add-if6
+add-second : tie.Need-add-second
 unfolding netOf
-add-if6 c = omega arith
+add-second c = omega arith
 
 returns-6 : tie.Need-returns-6
 unfolding netOf
@@ -59,11 +59,31 @@ returns-6 c =
     let a = c .before .before .before .before .before .before .before .before .before .before .args in
     sym (at-data (alone (a .net)) (a .place) (a .place - (3 + a .net .latches + a .net .gates + a .net .m)) (omega arith) (omega arith))
 
+control-line-requires : tie.Need-control-line-requires
+control-line-requires c κs = c .before .before .before .before .before .before .before .before .before .before .pre
+
 returns-7 : tie.Need-returns-7
 unfolding netOf
 returns-7 c =
-    let a = c .before .before .before .before .before .before .before .before .before .before .args in
+    let a = c .before .before .before .before .before .before .before .before .before .before .before .before .args in
     sym (at-control (alone (a .net)) (a .place) (omega arith))
+
+add-if8 : tie.Need-add-if8
+unfolding netOf
+add-if8 c = omega arith
+
+returns-8 : tie.Need-returns-8
+unfolding netOf
+returns-8 c =
+    let a = c .before .before .before .before .before .before .before .before .before .before .before .before .before .before .args in
+    let second = 3 + a .net .latches + a .net .gates + a .net .m + a .net .n in
+    sym (at-second-address (alone (a .net)) (a .place) (second-some (alone (a .net)) (omega arith)) (a .place - second) (omega arith) (omega arith))
+
+returns-9 : tie.Need-returns-9
+unfolding netOf
+returns-9 c =
+    let a = c .before .before .before .before .before .before .before .before .before .before .before .before .before .before .args in
+    sym (at-second-enable (alone (a .net)) (a .place) (omega arith) (omega arith))
 
 pub line-at-spec : {M : Type 1} → statement M
 line-at-spec =
@@ -77,6 +97,10 @@ line-at-spec =
     returns-3
     returns-4
     returns-5
-    add-if6
+    add-second
     returns-6
-    returns-7)
+    control-line-requires
+    returns-7
+    add-if8
+    returns-8
+    returns-9)

@@ -1,4 +1,5 @@
 -- `netlist::wire_count` meets its contract: the sizes are within their limits, so the sum fits.
+use borrow.Author.Needs.{needs}
 use native.Mathlib.Omega.{arith}
 use Rattle.netlist.specs.NetOf.{netOf}
 use Rattle.netlist.proofs.wire_count.Statement.{statement}
@@ -7,6 +8,9 @@ use Rattle.netlist.proofs.wire_count.Tie as tie
 add-result : tie.Need-add-result
 unfolding netOf
 add-result c = omega arith
+
+read-count-requires : tie.Need-read-count-requires
+read-count-requires c κs = search needs
 
 add-result-2 : tie.Need-add-result-2
 unfolding netOf
@@ -21,4 +25,5 @@ unfolding netOf
 returns c = omega arith
 
 pub wire-count-spec : {M : Type 1} → statement M
-wire-count-spec = tie.close (tie.spec add-result add-result-2 add-result-3 returns)
+wire-count-spec =
+    tie.close (tie.spec add-result read-count-requires add-result-2 add-result-3 returns)
