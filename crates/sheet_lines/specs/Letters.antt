@@ -1,4 +1,4 @@
--- The table of letters (RULES S4, S5 and S11 to S13): which line a letter stands for, and what its fields hold. Cited by the functions that
+-- The table of letters (RULES S4, S5, S8, S11, S12 and S14): which line a letter stands for, and what its fields hold. Cited by the functions that
 -- read a line, by sheet_steps/specs and sheet_parse/specs for the line due, and by call_replies/specs.
 use Prim.Native.Nat.{ℕ, _<_}
 use mathlib.Core.Path.{_≡_}
@@ -37,7 +37,7 @@ kindOf c =
     (cond (eqb c (letterOf SecondEnable)) SecondEnable
     (cond (eqb c (letterOf Control)) Control Unknown)))))))))
 
--- the row in the table of RULES S5 with S13's letters, from 0; an unknown letter has none: 10 is behind the last
+-- the row of each letter (RULES S8), from 0, in the order of RULES S5; an unknown letter has none: 10 is behind the last
 abbrev pub rowOf : Kind → ℕ
 rowOf Sizes = 0
 rowOf Memory = 1
@@ -55,7 +55,7 @@ rowOf Unknown = 10
 abbrev pub isKnown : Kind → Bool
 isKnown k = ltb (rowOf k) 10
 
--- RULES S14: line 2 is M, or T where there is a second read port
+-- RULES S14: "The second line is M, and there is one port; or it is T, and there are two"
 abbrev pub isMemory : Kind → Bool
 isMemory k = eqb (rowOf k) (rowOf Memory) || eqb (rowOf k) (rowOf TwoPorts)
 
@@ -82,7 +82,7 @@ pub data Content : Type 0 where
   mustBeFilled : Content
   mayBeEmpty : Content
 
--- RULES S11: "the third field of M may be empty", and so may T's (S13); else the numbers stand in the first columns (counted from 0), and the others are empty
+-- RULES S11: "the third field of M or T may be empty"; else the numbers stand in the first columns (counted from 0), and the others are empty
 unfoldable pub contentOf : Kind → ℕ → Content
 contentOf k column =
     cond (isMemory k && eqb column 2) mayBeEmpty

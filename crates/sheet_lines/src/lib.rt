@@ -9,7 +9,7 @@ use refusals::Refusal;
 use refusals::Verdict;
 use sheet_fields::Field;
 
-// Which line it is: the rows of the table in RULES S5 with the letters of S13, and any other letter.
+// Which line it is: the letters of RULES S5 in their order, and any other.
 pub enum Kind {
     Sizes,
     Memory,
@@ -49,7 +49,7 @@ pub const MUST_BE_FILLED: u8 = 1;
 
 pub const MAY_BE_EMPTY: u8 = 2;
 
-// Of each field, in the order of that table.
+// Of each field, a row for each letter (RULES S8).
 const CONTENTS: [[u8; 3]; 10] = [
     [MUST_BE_FILLED, MUST_BE_FILLED, MUST_BE_FILLED], // N
     [MUST_BE_FILLED, MUST_BE_FILLED, MAY_BE_EMPTY], // M
@@ -130,7 +130,7 @@ pub fn second_port_of(kind: Kind) -> u32
     0
 }
 
-// The table: at every row and column it says what RULES S5, S11 and S13 say.
+// The table: at every row and column it says what RULES S5 and S11 say.
 fn contents() -> [[u8; 3]; 10]
     ensures { λ table. ⌜ ContentsAsPrinted table ⌝ }
 {

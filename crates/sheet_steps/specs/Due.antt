@@ -1,4 +1,4 @@
--- The kind of the line due at a place (RULES S5 to S7, S13 and S14). Cited by the functions that take one line more and by
+-- The kind of the line due at a place (RULES S5, S7, S13 and S14). Cited by the functions that take one line more and by
 -- sheet_parse/specs/FileTests.
 use mathlib.Core.Bool.{Bool, _&&_, _||_}
 use lib.Dec.{eqb}

@@ -1,4 +1,4 @@
-// One line more of a sheet (RULES S5 to S7, S13 and S14): the line due at a place, its tests, and its numbers put into the record and
+// One line more of a sheet (RULES S5, S7, S13 and S14): the line due at a place, its tests, and its numbers put into the record and
 // the lists.
 //
 // The lists are unpacked and of full length: 600 records of two codes each.
