@@ -4,7 +4,7 @@ use Prim.Native.Nat.{ℕ, zero, suc, _+_, _-_, _*_, _/_, _≤_, _<_}
 use mathlib.Core.Path.{_≡_, refl, sym, _∙_, ap, ap₂, subst}
 use mathlib.Core.Bool.{Bool, true, false, cond, _&&_, true≢false}
 use mathlib.Core.Logic.{_↔_, by-cases}
-use native.Mathlib.Nat.{zero-mul}
+use native.Mathlib.Nat.{zero-mul, one-mul, add-zero}
 use native.Mathlib.Decide.{decLt}
 use native.Mathlib.Omega.{arith}
 use lib.Dec.{eqb, leb, ltb}
@@ -14,6 +14,7 @@ use Rattle.model.specs.Netlist.{Netlist, ports, IsPort, port, readBits, 
 use Rattle.model.specs.Circuit.{Values, codeValue, dependsOnRead, ReadPath, at-read, by-left, by-right, State, Feeds, addressOf, writeAddress, readData, frame, wordWritten, step, stateAt, run, Starts}
 use Rattle.model.specs.Network.{renamed}
 use Rattle.model.specs.Acceptance.{SizesFit, IsCode, CodesFit, WithinLimits, NoTie, NoLoop, Accepted}
+use Rattle.model.specs.Agree.{Agree}
 use Rattle.model.specs.OnePort.{namesSecond, oneWire, keptWire, oneCode, onePort, SameRuns}
 use Rattle.model.proofs.Booleans.{not-true-false, and-true}
 use Rattle.model.proofs.Bits.{fromBits-same}
@@ -21,6 +22,8 @@ use Rattle.model.proofs.Ports.{first-port, bit-within}
 use Rattle.model.proofs.Dependence.{paths, depends-read}
 use Rattle.model.proofs.Circuit.{code-same, IsFrame, frame-is, frame-unique, readData-port}
 use Rattle.model.proofs.Renumbering.{renamed-variable, renamed-value}
+use Rattle.model.proofs.Agree.{latches-same, n-same, start-same, lastWire-same}
+use Rattle.model.proofs.SameRuns.{starts-same, same-state, code-value-same, run-same}
 
 -- no code that counts is of the second port's read bits; the address codes and RE of the first port are not by themselves
 pub record Unused (c : Netlist) : Type 0 where
@@ -51,7 +54,7 @@ module _ (c : Netlist) (two : c .secondPort ≡ 1) where
 
   kept-behind : (w : ℕ) → readWire c (c .n) ≤ w → keptWire c w ≡ w + c .n
   unfolding keptWire
-  kept-behind w l = rw (le-ltb w (readWire c (c .n)) l)
+  kept-behind w l = rw (le-ltb w (readWire c (c .n)) l, two, one-mul (c .n))
 
   one-before : (w : ℕ) → w < gateWire c 0 → oneWire c w ≡ w
   unfolding oneWire
@@ -59,7 +62,7 @@ module _ (c : Netlist) (two : c .secondPort ≡ 1) where
 
   one-behind : (w : ℕ) → gateWire c 0 ≤ w → oneWire c w ≡ w - c .n
   unfolding oneWire
-  one-behind w l = rw (le-ltb w (gateWire c 0) l)
+  one-behind w l = rw (le-ltb w (gateWire c 0) l, two, one-mul (c .n))
 
   -- a code that is of no second read bit is of a wire before or behind them
   outside-second : (x : ℕ) → namesSecond c x ≡ false → readWire c (c .n) ≤ x / 2 → gateWire c 0 ≤ x / 2
@@ -316,3 +319,36 @@ module _ {c : Netlist} (ok : Accepted c) (unused : Unused c) where
         wires-alike = runs-alike;
         property-alike = λ s f i. code-in (run c s f i) (runs-alike s f i) (c .P) (unused .P-unused) (ok .limits .codes .P-fits);
       }
+
+-- one port is one port: nothing is renamed
+pub same-runs-single : (c : Netlist) → c .secondPort ≡ 0 → SameRuns c c
+same-runs-single c none =
+    record {
+      starts-alike = λ s. (λ h. h, λ h. h);
+      wires-alike = λ s f i w b. ap (run c s f i) (sym (kept w));
+      property-alike = λ s f i. refl;
+    }
+  where
+    kept : (w : ℕ) → keptWire c w ≡ w
+    kept w =
+        by-cases (decLt w (readWire c (c .n)))
+        (λ l. unfold keptWire in rw (lt-ltb w (readWire c (c .n)) l))
+        (λ l. unfold keptWire in rw (le-ltb w (readWire c (c .n)) (omega arith), none, zero-mul (c .n)) (add-zero w))
+
+-- and a netlist that agrees with the second is as good
+pub same-runs-agree : {c d e : Netlist} → SameRuns c d → Agree d e → SameRuns c e
+same-runs-agree {c} {d} {e} same q =
+    record {
+      starts-alike = λ s. (λ h. starts-same d e q s (same .starts-alike s .0 h), λ h. same .starts-alike s .1 (back s h));
+      wires-alike = λ s f i w b.
+          sym (run-same d e q (same-state d s) f i w) ∙ same .wires-alike s f i w (rw (lastWire-same d e q) b);
+      property-alike = λ s f i.
+          sym (code-value-same d e q (run-same d e q (same-state d s) f i) (q .P-same)) ∙ same .property-alike s f i;
+    }
+  where
+    back : (s : State) → Starts e s → Starts d s
+    back s h =
+        record {
+          at-reset = λ l b. h .at-reset l (rw (← latches-same d e q) b) ∙ ap (λ (r : ℕ). eqb r 1) (sym (q .reset-same l b));
+          begins = rw (n-same d e q, start-same d e q) (h .begins);
+        }

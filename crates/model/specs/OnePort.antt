@@ -1,5 +1,5 @@
 -- A netlist with two ports, of which nothing uses the second, as a netlist with one (RULES O1 to O4). Cited by the conversion of sheets.
-use Prim.Native.Nat.{ℕ, _+_, _-_, _/_, _≤_}
+use Prim.Native.Nat.{ℕ, _+_, _-_, _*_, _/_, _≤_}
 use mathlib.Core.Path.{_≡_}
 use mathlib.Core.Bool.{Bool, cond, _&&_}
 use mathlib.Core.Logic.{_↔_}
@@ -14,10 +14,10 @@ namesSecond c x = leb (readWire c (c .n)) (x / 2) && ltb (x / 2) (gateWire c 0)
 
 -- the number of a wire once those read bits are gone, and of such a wire before (RULES O1)
 unfoldable pub oneWire : Netlist → ℕ → ℕ
-oneWire c w = cond (ltb w (gateWire c 0)) w (w - c .n)
+oneWire c w = cond (ltb w (gateWire c 0)) w (w - c .secondPort * c .n)
 
 unfoldable pub keptWire : Netlist → ℕ → ℕ
-keptWire c w = cond (ltb w (readWire c (c .n))) w (w + c .n)
+keptWire c w = cond (ltb w (readWire c (c .n))) w (w + c .secondPort * c .n)
 
 abbrev pub oneCode : Netlist → ℕ → ℕ
 oneCode c = renamed (oneWire c)
