@@ -8,9 +8,10 @@ ghost use mathlib.Core.Path.{_≡_};
 ghost use Prim.Native.Nat.{ℕ, _+_, _/_, _^_, _≤_, _<_};
 ghost use mathlib.Core.List.{[]};
 ghost use mathlib.Core.Bool.{false, cond};
+ghost use lib.Dec.{eqb};
 ghost use lib.ListN.{length};
 ghost use Rattle.model.specs.Bits.{bit};
-ghost use Rattle.model.specs.Netlist.{port, gateWire, lastWire};
+ghost use Rattle.model.specs.Netlist.{IsPort, port, gateWire, lastWire};
 ghost use Rattle.model.specs.Circuit.{Values, codeValue, addressOf, wordWritten, evaluate};
 ghost use Rattle.model.specs.Acceptance.{WithinLimits};
 ghost use Rattle.netlist.specs.NetOf.{netOf, alone};
@@ -49,8 +50,8 @@ fn put_sources(values: &mut WireValues, first: usize, sources: &SourceValues, co
 }
 
 // Puts the bits of a word at the wires from `first` on.
-fn put_bits(values: &mut WireValues, first: usize, word: u32, count: u32)
-    requires { ⌜ (count ≤ 32) × (first + count ≤ 601) ⌝ }
+fn put_bits(values: &mut WireValues, first: usize, word: u64, count: u32)
+    requires { ⌜ (count ≤ 64) × (first + count ≤ 601) ⌝ }
     ensures { λ _. ⌜ ((v : Values) → HasBelow first v (now (values .entry)) → ((t : ℕ) → t < count → bit word t ≡ v (first + t))
         → HasBelow (first + count) v (now (values .exit))) ⌝ }
 {
@@ -79,14 +80,14 @@ fn put_gates(values: &mut WireValues, net: Netlist, gates: &UnpackedList)
     }
 }
 
-// All wires in wire order, from inputs, latches and the word whose bits are the read bits.
+// All wires in wire order, from inputs, latches and the word whose bits are the read bits, those of a second port above the first's.
 pub fn evaluate(
     values: &mut WireValues,
     net: Netlist,
     gates: &UnpackedList,
     inputs: &SourceValues,
     latches: &SourceValues,
-    word: u32,
+    word: u64,
 )
     requires { ⌜ WithinLimits (netOf net [] (now gates)) × (length (now values) ≡ 601) ⌝ }
     ensures { λ _. ⌜ HasBelow (lastWire (alone net) + 1)
@@ -97,7 +98,7 @@ pub fn evaluate(
     let read = netlist::first_read_wire(net).index();
     put_sources(values, 1, inputs, net.inputs as usize);
     put_sources(values, latch, latches, net.latches as usize);
-    put_bits(values, read, word, net.n);
+    put_bits(values, read, word, netlist::read_count(net));
     put_gates(values, net, gates);
 }
 
@@ -112,16 +113,44 @@ pub fn with_bit(number: u32, t: u32, value: bool) -> u32
     number
 }
 
-// The address, by a table of the wires.
-pub fn address_of(values: &WireValues, net: Netlist) -> u32
-    requires { ⌜ WithinLimits (alone net) ⌝ }
-    ensures { λ r. ⌜ r ≡ addressOf (alone net) (port (alone net) 1) (entry (now (values .entry))) ⌝ }
+// Two words of n bits as one: the second above the first. What the first has behind its n bits is dropped.
+pub fn two_words(n: u32, first: u32, second: u32) -> u64
+    requires { ⌜ n ≤ 32 ⌝ }
+    ensures { λ r. ⌜ ((t : ℕ) → t < n → (bit r t ≡ bit first t) × (bit r (n + t) ≡ bit second t)) ⌝ }
+{
+    let above = (second as u64) << n;
+    above + (first as u64) % (1 << n)
+}
+
+// A code of a port: the first port's or the second's.
+fn of_port(p: u32, first: Code, second: Code) -> Code
+    ensures { λ r. ⌜ r .0 ≡ cond (eqb p 1) (first .0) (second .0) ⌝ }
+{
+    if p == 1 {
+        return first;
+    }
+    second
+}
+
+// RE of a port, by a table of the wires.
+pub fn is_reading(values: &WireValues, net: Netlist, p: u32) -> bool
+    requires { ⌜ WithinLimits (alone net) × IsPort (alone net) p ⌝ }
+    ensures { λ r. ⌜ r ≡ codeValue (entry (now (values .entry))) (port (alone net) p .RE) ⌝ }
+{
+    code_value(values, of_port(p, net.re, net.re2))
+}
+
+// The address at a port, by a table of the wires.
+pub fn address_of(values: &WireValues, net: Netlist, p: u32) -> u32
+    requires { ⌜ WithinLimits (alone net) × IsPort (alone net) p ⌝ }
+    ensures { λ r. ⌜ r ≡ addressOf (alone net) (port (alone net) p) (entry (now (values .entry))) ⌝ }
 {
     let mut number = 0;
     let mut t: u32 = 0;
     while t < net.m {
         let at = t as usize;
-        number = with_bit(number, t, code_value(values, net.address[at]));
+        let code = of_port(p, net.address[at], net.address2[at]);
+        number = with_bit(number, t, code_value(values, code));
         t += 1;
     }
     number

@@ -1,13 +1,14 @@
 -- Laws of the read ports of specs/Netlist.antt: which there are, which read bits, codes and variables each has. All else that is proved of a
 -- port is proved of any. No contract cites this file.
 use Prim.Native.Nat.{ℕ, _+_, _-_, _*_, _/_, _%_, _≤_, _<_, zero, suc}
-use mathlib.Core.Path.{_≡_, sym, _∙_, ap}
-use mathlib.Core.Bool.{true, true≢false}
+use mathlib.Core.Path.{_≡_, refl, sym, _∙_, ap}
+use mathlib.Core.Bool.{Bool, true, false, cond, true≢false}
 use mathlib.Core.Logic.{by-cases}
 use native.Mathlib.Nat.{div-add-mod', div-lt-iff-lt-mul, mod-lt, mul-le-mul-right, suc-mul}
 use native.Mathlib.Numerals.{sub-one}
 use native.Mathlib.Decide.{ℕ-discrete}
 use native.Mathlib.Omega.{arith}
+use lib.Dec.{eqb}
 use borrow.Author.Tests.{eq-eqb, ne-eqb}
 use Rattle.model.specs.Netlist.{Netlist, Start, startOf, isUnknown, start, ports, IsPort, port, readBits}
 use Rattle.model.specs.Acceptance.{SizesFit}
@@ -32,6 +33,23 @@ each-port c P first second p here =
     by-cases (ℕ-discrete p 1)
     (λ e. rw (eq-eqb p 1 e) first)
     (λ other. rw (ne-eqb p 1 other) (second (omega (arith, other, here .0, here .1))))
+
+-- its address codes, one by one
+pub port-address : (c : Netlist) (p t : ℕ) → port c p .address t ≡ cond (eqb p 1) (c .address t) (c .address2 t)
+port-address c p t = either (eqb p 1)
+  where
+    either : (b : Bool) → cond b (c .address) (c .address2) t ≡ cond b (c .address t) (c .address2 t)
+    either true = refl
+    either false = refl
+
+-- what holds of the first, and of the second where there is one, holds of each
+pub by-port : {c : Netlist} → SizesFit c → (P : ℕ → Type 0) → P 1 → (0 < c .secondPort → P 2) → (p : ℕ) → IsPort c p → P p
+by-port {c} fit P first second p here =
+    by-cases (ℕ-discrete p 1)
+    (λ e. rw e first)
+    (λ other.
+    let two : p ≡ 2 = omega (arith, other, here .0, here .1, fit .kind-fits) in
+    rw two (second (omega (arith, other, here .0, here .1))))
 
 -- an unknown start is said by a number above 0
 unknown-number : (word u : ℕ) → isUnknown (startOf word u) ≡ true → 1 ≤ u
@@ -70,6 +88,11 @@ port-bit c r b =
       below = mod-lt r (width-positive (c .n) (ports c) r b);
       is = sym (ap (λ (x : ℕ). x * c .n + r % c .n) (sub-one (suc (r / c .n))) ∙ div-add-mod' r (c .n));
     }
+
+-- what holds of each port's read bits holds of all
+pub each-bit : (c : Netlist) (P : ℕ → Type 0) → ((p : ℕ) → IsPort c p → (t : ℕ) → t < c .n → P (port c p .firstRead + t))
+    → (r : ℕ) → r < readBits c → P r
+each-bit c P each r b = let x = port-bit c r b in rw (x .is) (each (x .of) (x .is-port) (x .t) (x .below))
 
 module _ (c : Netlist) (p : ℕ) (here : IsPort c p) where
   -- as much of each port fits as there are ports

@@ -7,6 +7,7 @@ use Rattle.model.specs.Bits.{bit}
 use Rattle.model.specs.Netlist.{latchWire, readWire}
 use Rattle.model.specs.Circuit.{evaluate}
 use Rattle.model.proofs.Circuit.{evaluate-solves}
+use Rattle.model.proofs.Ports.{second-most}
 use Rattle.netlist.specs.NetOf.{netOf}
 use Rattle.netlist.proofs.NetOf.{sizes-lists}
 use Rattle.netlist.specs.WireTable.{entry}
@@ -48,10 +49,17 @@ unfolding netOf
 put-sources-requires-2 c κs =
     (omega (arith, c .before .before .before .before .before .before .before .before .before .pre .0 .sizes), omega (arith, c .before .before .before .before .before .before .before .before .before .pre .0 .sizes, c .before .before .before .before .before .before .before .index .ensures, c .before .before .before .before .before .before .before .before .first-latch-wire .ensures))
 
+read-count-requires : tie.Need-read-count-requires
+read-count-requires c κs =
+    let start = c .before .before .before .before .before .before .before .before .before .before .before in
+    sizes-lists (start .args .net) [] (start .args .gates .now) [] [] (start .pre .0 .sizes)
+
 put-bits-requires : tie.Need-put-bits-requires
 unfolding netOf
 put-bits-requires c κs =
-    (omega (arith, c .before .before .before .before .before .before .before .before .before .before .before .pre .0 .sizes), omega (arith, c .before .before .before .before .before .before .before .before .before .before .before .pre .0 .sizes, c .before .before .before .before .before .before .before .index2 .ensures, c .before .before .before .before .before .before .before .before .first-read-wire .ensures))
+    let sizes = c .before .before .before .before .before .before .before .before .before .before .before .before .pre .0 .sizes in
+    let count = c .read-count .ensures in
+    (omega (arith, count, sizes .n-most, second-most sizes (c .before .before .before .before .before .before .before .before .before .before .before .before .args .net .n)), omega (arith, count, sizes, c .before .before .before .before .before .before .before .before .index2 .ensures, c .before .before .before .before .before .before .before .before .before .first-read-wire .ensures))
 
 put-gates-requires : tie.Need-put-gates-requires
 put-gates-requires c κs = search needs
@@ -60,7 +68,7 @@ returns : tie.Need-returns
 unfolding netOf
 returns c =
     let bits = c .before .before in
-    let later = bits .before .before in
+    let later = bits .before .before .before in
     let sources = later .before .before .before in
     let read-at = sources .before .before .before in
     let latch-at = read-at .before .before in
@@ -76,9 +84,10 @@ returns c =
     later .put-sources2 .ensures v (below-fewer (omega arith) inputs)
     (λ l h. let e : latchWire d l ≡ latch-at .index .result + l = omega arith in sym (s .at-latch l h) ∙ ap v e)
     in
+    let count = bits .before .read-count .ensures in
     let reads =
     bits .put-bits .ensures v (below-fewer (omega arith) latches)
-    (λ t h. let e : readWire d t ≡ read-at .index2 .result + t = omega arith in sym (s .at-read t h) ∙ ap v e)
+    (λ t h. let e : readWire d t ≡ read-at .index2 .result + t = omega arith in sym (s .at-read t (omega (arith, h, count))) ∙ ap v e)
     in
     c .put-gates .ensures v (record { at-gate = s .at-gate }) (below-fewer (omega arith) reads)
 
@@ -95,6 +104,7 @@ evaluate-spec =
     put-sources-requires
     cast-put-sources-2
     put-sources-requires-2
+    read-count-requires
     put-bits-requires
     put-gates-requires
     returns)

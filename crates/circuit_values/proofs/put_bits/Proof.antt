@@ -18,11 +18,14 @@ loop-holds : tie.Need-loop-holds Inv-loop μ-loop
 loop-holds c =
     (omega arith, grown-none _ _ _)
 
+cast-values : tie.Need-cast-values Inv-loop μ-loop
+cast-values c = omega arith
+
 shr-values : tie.Need-shr-values Inv-loop μ-loop
 shr-values c = omega arith
 
-cast-values : tie.Need-cast-values Inv-loop μ-loop
-cast-values c = omega arith
+cast-values-2 : tie.Need-cast-values-2 Inv-loop μ-loop
+cast-values-2 c = omega arith
 
 add-values : tie.Need-add-values Inv-loop μ-loop
 add-values c = omega arith
@@ -52,8 +55,9 @@ put-bits-spec =
     Inv-loop
     μ-loop
     loop-holds
-    shr-values
     cast-values
+    shr-values
+    cast-values-2
     add-values
     element-write-values
     add-t
