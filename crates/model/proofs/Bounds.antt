@@ -380,8 +380,3 @@ written-within b (x ∷ xs) h (also p q) = go (hasTrue x) ⧺ written-within b x
     go : (t : Bool) → All (λ z. natAbs z ≤ b) (cond t [] (kept x ++ endOf (length (kept x))))
     go true = nothing
     go false = rw (ended (kept x)) (all-weaken (λ z w. w .1) (orMinusOne-within b (kept x) h (kept-within 1 b x p)) ⧺ just {x = pos 0} zero-le)
-
--- every number written for depth k is within B(k + 1)
-pub formula-numbers-within : {c : Netlist} → Accepted c → (k : ℕ) → All (λ z. natAbs z ≤ base c (k + 1)) (formula c k)
-formula-numbers-within {c} accepted k =
-    rw (formula-written c k) (written-within (base c (k + 1)) _ (base-least c (k + 1)) (formula-within accepted k))
