@@ -17,13 +17,13 @@ use Rattle.model.specs.Clauses.{Literal, known, plus, minus, Clause, neg
 use Rattle.model.specs.Variables.{base, pairBase, wireAt, codeAt, wireIn, codeIn, noneSince, selected, readBit, pairLiterals, closingLiterals}
 use Rattle.model.specs.Acceptance.{Accepted, IsCode}
 use Rattle.model.specs.Groups.{gateClauses, resetClauses, latchClauses, violationOf, clausesOf, atPorts, frameGroups, groupOrder}
-use Rattle.model.specs.Numbers.{keptOf, kept, hasTrue, endOf, writtenClause, written, formula}
+use Rattle.model.specs.Numbers.{keptOf, kept, hasTrue, endOf, writtenClause, written}
 use Rattle.model.specs.declared.Group.{Group}
 use Rattle.model.specs.declared.Group.the-variants.{Wires, Pair, Closing, Property}
 use Rattle.model.proofs.Ports.{first-port, bit-within, variables-within}
 use Rattle.model.proofs.Variables.{base-suc, base-least, base-monotone, port-within, pairBase-least}
 use Rattle.model.proofs.Gather.{All, nothing, also, just, _⧺_, all-gather, all-gatherDown, all-weaken}
-use Rattle.model.proofs.Joined.{joinedClauses, joinedClauses-append, formula-written}
+use Rattle.model.proofs.Joined.{joinedClauses, joinedClauses-append}
 
 -- a constant, or a variable from a to b
 abbrev pub Within : ℕ → ℕ → Literal → Type 0
