@@ -17,13 +17,13 @@ use Rattle.model.specs.Clauses.{Literal, known, plus, minus, Clause, neg
 use Rattle.model.specs.Variables.{base, pairBase, wireAt, codeAt, wireIn, codeIn, noneSince, selected, readBit, pairLiterals, closingLiterals}
 use Rattle.model.specs.Acceptance.{Accepted, IsCode}
 use Rattle.model.specs.Groups.{gateClauses, resetClauses, latchClauses, violationOf, clausesOf, atPorts, frameGroups, groupOrder}
-use Rattle.model.specs.Numbers.{keptOf, kept, hasTrue, endOf, writtenClause, written, formula}
+use Rattle.model.specs.Numbers.{keptOf, kept, hasTrue, endOf, writtenClause, written}
 use Rattle.model.specs.declared.Group.{Group}
 use Rattle.model.specs.declared.Group.the-variants.{Wires, Pair, Closing, Property}
 use Rattle.model.proofs.Ports.{first-port, bit-within, variables-within}
 use Rattle.model.proofs.Variables.{base-suc, base-least, base-monotone, port-within, pairBase-least}
 use Rattle.model.proofs.Gather.{All, nothing, also, just, _⧺_, all-gather, all-gatherDown, all-weaken}
-use Rattle.model.proofs.Joined.{joinedClauses, joinedClauses-append, formula-written}
+use Rattle.model.proofs.Joined.{joinedClauses, joinedClauses-append}
 
 -- a constant, or a variable from a to b
 abbrev pub Within : ℕ → ℕ → Literal → Type 0
@@ -380,8 +380,3 @@ written-within b (x ∷ xs) h (also p q) = go (hasTrue x) ⧺ written-within b x
     go : (t : Bool) → All (λ z. natAbs z ≤ b) (cond t [] (kept x ++ endOf (length (kept x))))
     go true = nothing
     go false = rw (ended (kept x)) (all-weaken (λ z w. w .1) (orMinusOne-within b (kept x) h (kept-within 1 b x p)) ⧺ just {x = pos 0} zero-le)
-
--- every number written for depth k is within B(k + 1)
-pub formula-numbers-within : {c : Netlist} → Accepted c → (k : ℕ) → All (λ z. natAbs z ≤ base c (k + 1)) (formula c k)
-formula-numbers-within {c} accepted k =
-    rw (formula-written c k) (written-within (base c (k + 1)) _ (base-least c (k + 1)) (formula-within accepted k))

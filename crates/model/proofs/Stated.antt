@@ -8,6 +8,7 @@ use native.Mathlib.Nat.{not-suc-le-zero}
 use native.Mathlib.Numerals.{add-one}
 use native.Mathlib.Omega.{arith}
 use borrow.Author.Tests.{leb-true}
+use lib.IntN.{pos, natAbs}
 use lib.ListN.{length, getD}
 use Rattle.model.specs.Netlist.{Netlist, ports}
 use Rattle.model.specs.Acceptance.{Accepted}
@@ -23,7 +24,7 @@ use Rattle.model.proofs.Joined.{pair-inDepth, closing-inDepth}
 use Rattle.model.proofs.Numbering.{numbered}
 use Rattle.model.proofs.Lengths.{wires-clauses-first, wires-clauses-later, pair-clauses, closing-clauses-first, closing-clauses-later, property-clauses, wires-numbers-first, wires-numbers-later, pair-numbers, closing-numbers-first, closing-numbers-later, property-numbers}
 use Rattle.model.proofs.Variables.{base-least}
-use Rattle.model.proofs.Bounds.{AllLits, Within, all-within-one, wires-within, pairs-within, closing-within, property-within, formula-first, formula-numbers-within}
+use Rattle.model.proofs.Bounds.{AllLits, Within, all-within-one, wires-within, pairs-within, closing-within, property-within, formula-first, written-within}
 use Rattle.model.proofs.Numbers.{shown, shown-length, shown-one, shown-constants, clausesIn-written}
 use Rattle.model.proofs.Claim.{clausesIn-formula, encodes, satisfies-same, unsatisfiable→safe}
 
@@ -64,6 +65,12 @@ module _ {c : Netlist} (ok : Accepted c) (k : ℕ) where
       rw (clausesIn-written (base c (k + 1)) (clausesOf c k g) (base-least c (k + 1)) (group-within g h))
       (omega (arith, shown-length (clausesOf c k g), group-clauses c k g))
 
+  -- and each is one of the depth's variables, negative or not, or an end mark
+  numbers-in-group : (g : Group) → inDepth (ports c) k g ≡ true → (x : ℕ) → natAbs (getD (numbersOf c k g) x (pos 0)) ≤ base c (k + 1)
+  unfolding numbersOf
+  numbers-in-group g h x =
+      all-getD (written-within (base c (k + 1)) (clausesOf c k g) (base-least c (k + 1)) (group-within g h)) zero-le x
+
   -- behind the first clause there is no constant
   no-constant : (x : ℕ) → 1 ≤ x → x < length (clausesIn (formula c k)) → NoConstant (getD (clausesIn (formula c k)) x [])
   no-constant zero h = absurd (not-suc-le-zero h)
@@ -77,7 +84,7 @@ module _ {c : Netlist} (ok : Accepted c) (k : ℕ) where
       record {
         only-numbered = satisfies-same ok k;
         all-numbered = λ v least most. numbered c k v least (subst (λ (n : ℕ). v ≤ base c n) (add-one k) most);
-        numbers-within = λ x. all-getD (formula-numbers-within ok k) zero-le x;
+        numbers-within = numbers-in-group;
         unsatisfiable→safe = unsatisfiable→safe (encodes c ok k);
         clauses-counted = clauses-in-group;
         numbers-counted = group-numbers c k;

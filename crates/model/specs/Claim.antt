@@ -66,13 +66,13 @@ abbrev pub NoConstant : List ℤ → Type 0
 NoConstant zs = (zs ≡ negsuc 0 ∷ []) ⊎ ((1 ≤ length zs) × ((y : ℕ) → y < length zs → 2 ≤ natAbs (getD zs y (pos 0))))
 
 -- What else is said of the clauses of a depth. An assignment is of the variables from 1 to B(k + 1) (RULES A3): no other matters, each of
--- them is numbered, and every number written is one of them or an end mark. Where no assignment satisfies the clauses, no run breaks
+-- them is numbered, and every number of every group is one of them, negative or not, or an end mark. Where no assignment satisfies the clauses, no run breaks
 -- the property: this is what a designer relies on. Each clause behind the first, (1), is without constants, and one that is left empty is
 -- written as -1 (`no-constants`). A group has at most as many clauses and numbers as RULES G35 and G36 count.
 pub record Stated (c : Netlist) (k : ℕ) : Type 0 where
   pub only-numbered : (a a′ : Assignment) → ((v : ℕ) → 1 ≤ v → v ≤ base c (k + 1) → a v ≡ a′ v) → Satisfies c k a → Satisfies c k a′
   pub all-numbered : (v : ℕ) → 1 ≤ v → v ≤ base c (k + 1) → Numbered c k v
-  pub numbers-within : (x : ℕ) → natAbs (getD (formula c k) x (pos 0)) ≤ base c (k + 1)
+  pub numbers-within : (g : Group) → inDepth (ports c) k g ≡ true → (x : ℕ) → natAbs (getD (numbersOf c k g) x (pos 0)) ≤ base c (k + 1)
   pub unsatisfiable→safe : ((a : Assignment) → Satisfies c k a → ⊥) → (s : State) → Starts c s → (f : Feeds) → Breaks c s k f → ⊥
   pub clauses-counted : (g : Group) → inDepth (ports c) k g ≡ true → length (clausesIn (numbersOf c k g)) ≤ clauseCount c k g
   pub numbers-counted : (g : Group) → length (numbersOf c k g) ≤ numberCount c k g
