@@ -26,6 +26,7 @@ pub mod WitnessedReads
 pub mod Witness
 pub mod RunToAssignment
 pub mod Claim
+pub mod Trace
 pub mod Classes
 pub mod Stated
 pub mod Start

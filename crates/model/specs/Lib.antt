@@ -13,5 +13,6 @@ pub mod Groups
 pub mod Numbers
 pub mod Counts
 pub mod Claim
+pub mod Trace
 pub mod Wrote
 pub mod Search
