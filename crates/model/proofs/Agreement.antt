@@ -10,6 +10,7 @@ use Rattle.model.specs.Bits.{bit}
 use Rattle.model.specs.Netlist.{Netlist, Port, port, lastWire}
 use Rattle.model.specs.Circuit.{Values, codeValue, addressOf, writeAddress, wordWritten, State, Feeds, step, stateAt, run}
 use Rattle.model.specs.Acceptance.{CodesFit, IsCode}
+use Rattle.model.specs.Trace.{writes}
 use Rattle.model.proofs.Bits.{fromBits-same, bit-fromBits}
 use Rattle.model.proofs.Ports.{first-port}
 use Rattle.model.proofs.Circuit.{code-same, address-same}
@@ -30,7 +31,7 @@ word-agrees : (c : Netlist) → CodesFit c → (u v : Values) → Same c u v →
 unfolding wordWritten
 word-agrees c fit u v h = fromBits-same (c .n) _ _ (λ t b. code-agrees c u v h (c .writeData t) (fit .data-fits t b))
 
-write-agrees : (c : Netlist) → CodesFit c → (u v : Values) → Same c u v → writeAddress c u ≡ writeAddress c v
+pub write-agrees : (c : Netlist) → CodesFit c → (u v : Values) → Same c u v → writeAddress c u ≡ writeAddress c v
 write-agrees c fit u v h = address-same c (port c 1) u v (λ t b. code-agrees c u v h (c .address t) (fit .address-fits 1 (first-port c) t b))
 
 -- equal addresses are equal bit by bit
@@ -39,14 +40,6 @@ pub address-bits : (c : Netlist) (p q : Port) (u v : Values) → addressOf c p u
 unfolding addressOf
 address-bits c p q u v e t b =
     sym (bit-fromBits (c .m) (λ t. codeValue u (p .address t)) t b) ∙ ap (λ (x : ℕ). bit x t) e ∙ bit-fromBits (c .m) (λ t. codeValue v (q .address t)) t b
-
--- whether frame j, of frames with the values u, writes the word x
-unfoldable pub writes : Netlist → (ℕ → Values) → ℕ → ℕ → Bool
-writes c u x j = codeValue (u j) (c .WE) && eqb x (writeAddress c (u j))
-
--- the writes to the word that frame i reads at a port
-unfoldable pub hits : Netlist → Port → (ℕ → Values) → ℕ → ℕ → Bool
-hits c p u i = writes c u (addressOf c p (u i))
 
 -- the word x before frame i, of frames with the values u
 abbrev pub wordBefore : Netlist → (ℕ → Values) → ℕ → ℕ → ℕ → ℕ
@@ -60,7 +53,7 @@ memory-stepped c s f x zero = refl
 memory-stepped c s f x (suc i) =
     cc (memory-stepped c s f x i, and-comm (codeValue (run c s f i) (c .WE)) (eqb x (writeAddress c (run c s f i))))
 
-writes-agrees : (c : Netlist) → CodesFit c → (u v : ℕ → Values) (x j : ℕ) → Same c (u j) (v j) → writes c u x j ≡ writes c v x j
+pub writes-agrees : (c : Netlist) → CodesFit c → (u v : ℕ → Values) (x j : ℕ) → Same c (u j) (v j) → writes c u x j ≡ writes c v x j
 unfolding writes
 writes-agrees c fit u v x j h =
     ap₂ (λ (e : Bool) (y : ℕ). e && eqb x y) (code-agrees c (u j) (v j) h (c .WE) (fit .WE-fits)) (write-agrees c fit (u j) (v j) h)

@@ -14,13 +14,14 @@ use Rattle.model.specs.Circuit.{Values, codeValue, addressOf, writeAddre
 use Rattle.model.specs.Clauses.{PairLiterals}
 use Rattle.model.specs.Variables.{noneSince, readBit, pairLiterals}
 use Rattle.model.specs.Numbers.{Assignment}
+use Rattle.model.specs.Trace.{writes, hits, assigned}
 use Rattle.model.proofs.Booleans.{iff-eq}
 use Rattle.model.proofs.Bits.{fromBits-same}
 use Rattle.model.proofs.Truth.{value, PairHolds}
-use Rattle.model.proofs.InFrame.{assigned, readBit-value, codeIn-value}
+use Rattle.model.proofs.InFrame.{readBit-value, codeIn-value}
 use Rattle.model.proofs.Forwarding.{Chain, selected-read}
 use Rattle.model.proofs.Variables.{noneSince-last}
-use Rattle.model.proofs.Agreement.{address-bits, word-bit, writes, hits, wordBefore}
+use Rattle.model.proofs.Agreement.{address-bits, word-bit, wordBefore}
 
 module _ (c : Netlist) (p : Port) (a : Assignment) where
   -- the frames as assigned, the address read in a frame, and the literals of a pair

@@ -12,11 +12,12 @@ use Rattle.model.specs.Acceptance.{Accepted}
 use Rattle.model.specs.Variables.{base, readBit, closingLiterals}
 use Rattle.model.specs.Numbers.{Assignment}
 use Rattle.model.specs.Claim.{Agrees, Breaks}
+use Rattle.model.specs.Trace.{assigned}
 use Rattle.model.proofs.Ports.{port-bit, bit-within}
 use Rattle.model.proofs.Below.{all-below-suc}
 use Rattle.model.proofs.Circuit.{IsFrame, frame-unique, readData-port}
 use Rattle.model.proofs.Truth.{value}
-use Rattle.model.proofs.InFrame.{assigned, assigned-zero, assigned-wire, readBit-value, codeIn-value}
+use Rattle.model.proofs.InFrame.{assigned-zero, assigned-wire, readBit-value, codeIn-value}
 use Rattle.model.proofs.AssignedReads.{word-read}
 use Rattle.model.proofs.StartMemory.{Explains}
 use Rattle.model.proofs.Agreement.{Same, code-agrees, wordBefore, memory-stepped, wordBefore-agrees}

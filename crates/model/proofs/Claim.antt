@@ -56,7 +56,7 @@ module _ {c : Netlist} (ok : Accepted c) (k : ℕ) where
   satisfies-one a h =
       first-clause a (each-group c k (ShownTrue a) (shownTrue-splits a) .0 (sym (ap (allTrue a) clausesIn-formula) ∙ h) .wires 0 zero-le)
 
-  depth-holds : (a : Assignment) → Satisfies c k a → DepthHolds c k a
+  pub depth-holds : (a : Assignment) → Satisfies c k a → DepthHolds c k a
   depth-holds a h = satisfies-groups a (satisfies-one a h) .0 h
 
   -- a run that it feeds, from a state with its idle word and a memory that explains its reads
@@ -76,10 +76,10 @@ module _ {c : Netlist} (ok : Accepted c) (k : ℕ) where
           }
 
   -- a state of a memory: the latches at their reset, and the assignment's idle word
-  begun : Assignment → (ℕ → ℕ) → State
+  unfoldable pub begun : Assignment → (ℕ → ℕ) → State
   begun a memory = record { latch = λ l. eqb (c .reset l) 1; memory = memory; held = idleOf c a }
 
-  begun-starts : (a : Assignment) (memory : ℕ → ℕ) → Begins (c .n) (start c) memory → StartsAs c a (begun a memory)
+  pub begun-starts : (a : Assignment) (memory : ℕ → ℕ) → Begins (c .n) (start c) memory → StartsAs c a (begun a memory)
   unfolding begun
   begun-starts a memory begins = (record { at-reset = λ l b. refl; begins = begins }, λ t b. refl)
 

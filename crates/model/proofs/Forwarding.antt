@@ -3,9 +3,9 @@
 -- No contract cites this file.
 use Prim.Native.Nat.{ℕ, zero, suc, _+_, _-_, _<_, _≤_}
 use mathlib.Core.Path.{_≡_, refl, sym, _∙_, ap, subst}
-use mathlib.Core.Bool.{Bool, true, false, cond, not, _&&_}
-use mathlib.Core.Logic.{_⊎_, inl, inr, ⊎-map}
-use native.Mathlib.Nat.{le-step, lt-suc-self, le-of-suc-le, sub-self}
+use mathlib.Core.Bool.{Bool, true, false, cond, not, _&&_, and-false}
+use mathlib.Core.Logic.{_⊎_, inl, inr, ⊎-map, ⊎-elim}
+use native.Mathlib.Nat.{le-step, lt-suc-self, le-of-suc-le, sub-self, eq-or-lt-of-le}
 use native.Mathlib.Omega.{arith}
 use borrow.Author.Tests.{not-true}
 use Rattle.model.proofs.Booleans.{and-true}
@@ -70,3 +70,20 @@ module _ (i : ℕ) (hit none : ℕ → Bool) (chain : Chain i hit none) (start :
       go : (x : Bool) → hit j ≡ x → (none j ≡ true → (none 0 ≡ true) ⊎ ((x : ℕ) × (x < j) × ((hit x && none (suc x)) ≡ true))) → (none 0 ≡ true) ⊎ ((x : ℕ) × (x < suc j) × ((hit x && none (suc x)) ≡ true))
       go true e r = inr (j, lt-suc-self j, and-true (hit j) (none (suc j)) .1 (e, h))
       go false e r = ⊎-map (λ z. z) (λ p. (p .0, le-step (p .1), p .2)) (r (chain .link j b ∙ rw (e, h)))
+
+-- what a chain says of the writes
+module _ (i : ℕ) (hit none : ℕ → Bool) (chain : Chain i hit none) where
+  -- where no frame from j on writes the word, none of them does
+  pub none-clear : (d j : ℕ) → j + d ≡ i → none j ≡ true → (l : ℕ) → j ≤ l → l < i → hit l ≡ false
+  none-clear zero j e h l lo hi = absurd (omega arith)
+  none-clear (suc d) j e h l lo hi =
+      let both = and-true (not (hit j)) (none (suc j)) .0 (sym (chain .link j (omega arith)) ∙ h) in
+      ⊎-elim
+      (λ (q : j ≡ l). subst (λ (x : ℕ). hit x ≡ false) q (not-true (hit j) (both .0)))
+      (λ (q : j < l). none-clear d (suc j) (omega arith) (both .1) l q hi) (eq-or-lt-of-le lo)
+
+  -- a frame that does not read has no source
+  pub none-idle : (d j : ℕ) → j + d ≡ i → none i ≡ false → none j ≡ false
+  none-idle zero j e h = let q : j ≡ i = omega arith in subst (λ (x : ℕ). none x ≡ false) (sym q) h
+  none-idle (suc d) j e h =
+      chain .link j (omega arith) ∙ rw (none-idle d (suc j) (omega arith) h) (and-false (not (hit j)))

@@ -16,8 +16,9 @@ use Rattle.model.specs.Variables.{wireIn, codeIn, pairLiterals, closingL
 use Rattle.model.specs.Groups.{gateClauses, resetClauses, latchClauses, violationOf, clausesOf}
 use Rattle.model.specs.Numbers.{Assignment}
 use Rattle.model.specs.declared.Group.the-variants.{Wires, Pair, Closing, Property}
+use Rattle.model.specs.Trace.{assigned}
 use Rattle.model.proofs.Truth.{value, value-neg, anyTrue, anyTrue-one, anyTrue-gather, AllHold, allHold-append, allHold-one, allHold-none, allHold-cons, allHold-gather, andClauses-holds, sameClauses-holds, PairHolds, pairClauses-holds, ClosingHolds, closingClauses-holds}
-use Rattle.model.proofs.InFrame.{assigned, wireIn-value, codeIn-value}
+use Rattle.model.proofs.InFrame.{wireIn-value, codeIn-value}
 use Rattle.model.proofs.Joined.{EachGroup}
 
 -- a gate is the conjunction of its two codes

@@ -11,11 +11,8 @@ use Rattle.model.specs.Netlist.{Netlist, Port, readWire}
 use Rattle.model.specs.Circuit.{Values, codeValue}
 use Rattle.model.specs.Variables.{base, wireAt, codeAt, wireIn, codeIn, readBit}
 use Rattle.model.specs.Numbers.{Assignment}
+use Rattle.model.specs.Trace.{assigned}
 use Rattle.model.proofs.Truth.{value}
-
--- frame i as the assignment has it
-unfoldable pub assigned : Netlist → Assignment → ℕ → Values
-assigned c a i w = cond (eqb w 0) false (a (base c i + w))
 
 pub assigned-zero : (c : Netlist) (a : Assignment) (i : ℕ) → assigned c a i 0 ≡ false
 unfolding assigned

@@ -27,6 +27,7 @@ pub mod Witness
 pub mod RunToAssignment
 pub mod Claim
 pub mod OnePort
+pub mod Trace
 pub mod Classes
 pub mod Stated
 pub mod Start

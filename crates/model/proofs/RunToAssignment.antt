@@ -12,12 +12,13 @@ use Rattle.model.specs.Acceptance.{Accepted, IsCode}
 use Rattle.model.specs.Variables.{codeIn, readBit, pairLiterals, closingLiterals}
 use Rattle.model.specs.Numbers.{Assignment}
 use Rattle.model.specs.Claim.{Agrees, Breaks}
+use Rattle.model.specs.Trace.{hits, assigned}
 use Rattle.model.proofs.Ports.{first-port, bit-within}
 use Rattle.model.proofs.Circuit.{IsFrame, frame-is, readData-port}
 use Rattle.model.proofs.Truth.{value, AgreedHold, InitialHold}
-use Rattle.model.proofs.InFrame.{assigned, assigned-zero, assigned-wire, readBit-value, codeIn-value}
+use Rattle.model.proofs.InFrame.{assigned-zero, assigned-wire, readBit-value, codeIn-value}
 use Rattle.model.proofs.Forwarding.{stepped}
-use Rattle.model.proofs.Agreement.{Same, code-agrees, hits, memory-stepped}
+use Rattle.model.proofs.Agreement.{Same, code-agrees, memory-stepped}
 use Rattle.model.proofs.WitnessedReads.{HasRead, read-start, pair-witnessed, closing-witnessed}
 use Rattle.model.proofs.Witness.{witness, witness-wire, witness-values}
 use Rattle.model.proofs.Groups.{FramesHold, Violated}

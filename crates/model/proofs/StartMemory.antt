@@ -14,12 +14,12 @@ use Rattle.model.specs.Circuit.{addressOf, Begins}
 use Rattle.model.specs.Variables.{noneSince, readBit, pairLiterals, closingLiterals}
 use Rattle.model.specs.Numbers.{Assignment}
 use Rattle.model.specs.Search.{firstWhere, IsFirst}
+use Rattle.model.specs.Trace.{assigned}
 use Rattle.model.proofs.Ports.{first-port}
 use Rattle.model.proofs.Booleans.{and-true}
 use Rattle.model.proofs.Bits.{fromBits-below, bit-fromBits}
 use Rattle.model.proofs.Search.{firstWhere-is, first-least}
 use Rattle.model.proofs.Truth.{value, AgreedHold, PairHolds, InitialHold}
-use Rattle.model.proofs.InFrame.{assigned}
 use Rattle.model.proofs.AssignedReads.{E-value}
 
 module _ (c : Netlist) (a : Assignment) where

@@ -12,9 +12,9 @@ use Rattle.model.specs.Netlist.{Netlist, Port, IsPort, port, lastWire}
 use Rattle.model.specs.Circuit.{Values, codeValue, addressOf, writeAddress}
 use Rattle.model.specs.Variables.{stride, base, pairBase, selected, pairLiterals}
 use Rattle.model.specs.Numbers.{Assignment}
+use Rattle.model.specs.Trace.{hits}
 use Rattle.model.proofs.Ports.{variables-within}
 use Rattle.model.proofs.Variables.{base-suc, base-monotone, base-least, pairBase-base, port-within, noneSince-earlier}
-use Rattle.model.proofs.Agreement.{hits}
 use Rattle.model.proofs.Truth.{value}
 use Rattle.model.proofs.WitnessedReads.{nones, PairValues}
 

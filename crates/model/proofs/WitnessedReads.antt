@@ -16,13 +16,14 @@ use Rattle.model.specs.Circuit.{Values, codeValue, addressOf, writeAddre
 use Rattle.model.specs.Acceptance.{CodesFit, IsCode}
 use Rattle.model.specs.Variables.{codeIn, noneSince, selected, readBit, pairLiterals, closingLiterals}
 use Rattle.model.specs.Numbers.{Assignment}
+use Rattle.model.specs.Trace.{writes, hits}
 use Rattle.model.proofs.Booleans.{and-true, beq-true}
 use Rattle.model.proofs.Bits.{fromBits-same}
 use Rattle.model.proofs.Ports.{first-port}
 use Rattle.model.proofs.Truth.{value, AgreedHold, PairHolds, InitialHold, ClosingHolds}
 use Rattle.model.proofs.Forwarding.{stepped, Chain, noneFrom, noneFrom-last, noneFrom-chain, none-unchanged, source-exists}
 use Rattle.model.proofs.Variables.{noneSince-last}
-use Rattle.model.proofs.Agreement.{word-bit, writes, hits, address-bits}
+use Rattle.model.proofs.Agreement.{word-bit, address-bits}
 
 -- the chain that the writes to the word that frame i reads at a port make with its RE
 unfoldable pub nones : Netlist → Port → (ℕ → Values) → ℕ → ℕ → Bool

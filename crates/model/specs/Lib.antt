@@ -14,5 +14,6 @@ pub mod Numbers
 pub mod Counts
 pub mod Claim
 pub mod OnePort
+pub mod Trace
 pub mod Wrote
 pub mod Search
