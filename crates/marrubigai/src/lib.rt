@@ -53,7 +53,8 @@ pub extern "C" fn marrubigai_version() -> VersionReply
     call_replies::version()
 }
 
-// `calls::write_group`. The kind is 0 for the wires of frame i, 1 for the pair (j, i), 2 for the closing of frame i, 3 for the property.
+// `calls::write_group`. The kind is 0 for the wires of frame i, 1 for the pair (j, i) of a port, 2 for the closing of frame i of a port, 3 for the
+// property.
 #[no_mangle]
 pub extern "C" fn marrubigai_write_group(
     net: Netlist,
@@ -63,33 +64,41 @@ pub extern "C" fn marrubigai_write_group(
     kind: u32,
     j: u32,
     i: u32,
+    port: u32,
     out: &mut [i32],
 ) -> CountReply
-    ensures answer { λ r. ⌜ r ≡ groupFor net (now (latches .entry)) (now (gates .entry)) depth (groupOf kind j i) (length (now (out .entry))) ⌝ }
-    ensures borrowed { λ r. ⌜ now (out .exit) ≡ numbersAfter net (now (latches .entry)) (now (gates .entry)) depth (groupOf kind j i) (now (out .entry)) ⌝ }
+    ensures answer { λ r. ⌜ r ≡ groupFor net (now (latches .entry)) (now (gates .entry)) depth (groupOf kind j i port) (length (now (out .entry))) ⌝ }
+    ensures borrowed { λ r. ⌜ now (out .exit) ≡ numbersAfter net (now (latches .entry)) (now (gates .entry)) depth (groupOf kind j i port) (now (out .entry)) ⌝ }
 {
     call_replies::group_numbers(calls::write_group(
         net,
         latches,
         gates,
         depth,
-        call_replies::group_of(kind, j, i),
+        call_replies::group_of(kind, j, i, port),
         out,
     ))
 }
 
-// `group_order::next_group`: the group that follows one in the order of the whole at this depth, with the one port, which begins with the wires of
+// `group_order::next_group`: the group that follows one in the order of the whole at this depth with so many ports, which begins with the wires of
 // frame 0.
 #[no_mangle]
-pub extern "C" fn marrubigai_next_group(depth: u32, kind: u32, j: u32, i: u32) -> GroupReply
-    ensures follows { λ r. ⌜ ((xs ys : List Group) → groupOrder 1 depth ≡ xs ++ groupOf kind j i ∷ ys → r ≡ nextNumbers (firstGroup ys)) ⌝ }
-    ensures absent { λ r. ⌜ (((xs ys : List Group) → groupOrder 1 depth ≡ xs ++ groupOf kind j i ∷ ys → ⊥) → r ≡ nextNumbers Next.End) ⌝ }
-    ensures begins { λ r. ⌜ firstGroup (groupOrder 1 depth) ≡ Next.Then (groupOf 0 0 0) ⌝ }
+pub extern "C" fn marrubigai_next_group(
+    depth: u32,
+    ports: u32,
+    kind: u32,
+    j: u32,
+    i: u32,
+    port: u32,
+) -> GroupReply
+    ensures follows { λ r. ⌜ ((xs ys : List Group) → groupOrder ports depth ≡ xs ++ groupOf kind j i port ∷ ys → r ≡ nextNumbers (firstGroup ys)) ⌝ }
+    ensures absent { λ r. ⌜ (((xs ys : List Group) → groupOrder ports depth ≡ xs ++ groupOf kind j i port ∷ ys → ⊥) → r ≡ nextNumbers Next.End) ⌝ }
+    ensures begins { λ r. ⌜ firstGroup (groupOrder ports depth) ≡ Next.Then (groupOf 0 0 0 0) ⌝ }
 {
     call_replies::next_numbers(group_order::next_group(
-        1,
+        ports,
         depth,
-        call_replies::group_of(kind, j, i),
+        call_replies::group_of(kind, j, i, port),
     ))
 }
 
@@ -281,11 +290,12 @@ pub extern "C" fn marrubigai_write_group_at(
     position: Position,
     kind: u32,
     j: u32,
+    port: u32,
     out: &mut [i32],
 ) -> CountReply
-    ensures answer { λ r. ⌜ r ≡ groupAtSent (netLent net (now (latches .entry)) (now (gates .entry))) (length (now (latches .entry))) (length (now (gates .entry))) position (groupOf kind j (position .frame)) (length (now (out .entry))) ⌝ }
-    ensures borrowed { λ r. ⌜ now (out .exit) ≡ groupAtLeaves (netLent net (now (latches .entry)) (now (gates .entry))) (length (now (latches .entry))) (length (now (gates .entry))) position (groupOf kind j (position .frame)) (now (out .entry)) ⌝ }
-    ensures by_frame { λ r. ⌜ ByFrame (netLent net (now (latches .entry)) (now (gates .entry))) (length (now (latches .entry))) (length (now (gates .entry))) position (groupOf kind j (position .frame)) (now (out .entry)) ⌝ }
+    ensures answer { λ r. ⌜ r ≡ groupAtSent (netLent net (now (latches .entry)) (now (gates .entry))) (length (now (latches .entry))) (length (now (gates .entry))) position (groupOf kind j (position .frame) port) (length (now (out .entry))) ⌝ }
+    ensures borrowed { λ r. ⌜ now (out .exit) ≡ groupAtLeaves (netLent net (now (latches .entry)) (now (gates .entry))) (length (now (latches .entry))) (length (now (gates .entry))) position (groupOf kind j (position .frame) port) (now (out .entry)) ⌝ }
+    ensures by_frame { λ r. ⌜ ByFrame (netLent net (now (latches .entry)) (now (gates .entry))) (length (now (latches .entry))) (length (now (gates .entry))) position (groupOf kind j (position .frame) port) (now (out .entry)) ⌝ }
 {
     let mut latch_codes = [0; 1200];
     call_lists::unpack::unpack_latches(&mut latch_codes, latches);
@@ -300,6 +310,7 @@ pub extern "C" fn marrubigai_write_group_at(
         position,
         kind,
         j,
+        port,
         out,
     )
 }

@@ -21,7 +21,7 @@ returns c =
     let order = rw (c .before .before .group-of .ensures) at (c .before .next-group .ensures) in
     let sent = c .next-numbers .ensures in (
       λ xs ys e. sent ∙ ap nextNumbers (order .0 xs ys e),
-      (λ none. sent ∙ ap nextNumbers (order .1 .0 none), order-first 1 _),
+      (λ none. sent ∙ ap nextNumbers (order .1 .0 none), order-first _ _),
     )
 
 pub marrubigai-next-group-spec : {M : Type 1} → statement M

@@ -86,7 +86,10 @@ stayed = (
           stay-dropped _ yes,
           (
             stay-dropped _ yes,
-            (stay-dropped _ yes, (gave-slice (2 ∷ []) tt (plain (λ _. i32)), tt)),
+            (
+              stay-dropped _ yes,
+              (stay-dropped _ yes, (gave-slice (2 ∷ []) tt (plain (λ _. i32)), tt)),
+            ),
           ),
         ),
       ),
@@ -106,7 +109,7 @@ module _ {M : Type 1} (𝓤 : URA M) (H : Heap 𝓤) (A : Atoms 𝓤) (W : Given
   abbrev Numbers : Contract 𝓤
   Numbers = tripleOf 𝓤 H A numbers.signature (numbers.spec 𝓤 H A mem run)
 
-  module _ (κ₀ κ₁ κ₂ : Lft) (q₀ q₁ q₂ : Share) (net : Netlist) (ls : RefT (List LatchEntry)) (gs : RefT (List GateEntry)) (k kind j i : ℕ)
+  module _ (κ₀ κ₁ κ₂ : Lft) (q₀ q₁ q₂ : Share) (net : Netlist) (ls : RefT (List LatchEntry)) (gs : RefT (List GateEntry)) (k kind j i p : ℕ)
       (out : RefT (List ℤ)) where
     abbrev v : Val
     v = LL.val N.the-type N′.the-laws net
@@ -121,12 +124,12 @@ module _ {M : Type 1} (𝓤 : URA M) (H : Heap 𝓤) (A : Atoms 𝓤) (W : Given
     vo = sliceVal (out .ptr) (length (out .now))
 
     abbrev Arg : Type 0
-    Arg = Netlist × (RefT (List LatchEntry) × (RefT (List GateEntry) × (ℕ × (ℕ × (ℕ × (ℕ × (RefT (List ℤ) × Unit {0})))))))
+    Arg = Netlist × (RefT (List LatchEntry) × (RefT (List GateEntry) × (ℕ × (ℕ × (ℕ × (ℕ × (ℕ × (RefT (List ℤ) × Unit {0}))))))))
 
     abbrev a : Arg
-    a = (net, (ls, (gs, (k, (kind, (j, (i, (out, tt))))))))
+    a = (net, (ls, (gs, (k, (kind, (j, (i, (p, (out, tt)))))))))
 
-    abbrev vals : List Val × (List Val × (List Val × (List Val × (List Val × (List Val × (List Val × (List Val × Unit {0})))))))
+    abbrev vals : List Val × (List Val × (List Val × (List Val × (List Val × (List Val × (List Val × (List Val × (List Val × Unit {0}))))))))
     vals = (
       v ∷ [],
       (
@@ -137,7 +140,7 @@ module _ {M : Type 1} (𝓤 : URA M) (H : Heap 𝓤) (A : Atoms 𝓤) (W : Given
             vint w32 k ∷ [],
             (
               vint w32 kind ∷ [],
-              (vint w32 j ∷ [], (vint w32 i ∷ [], (vo ∷ [], tt))),
+              (vint w32 j ∷ [], (vint w32 i ∷ [], (vint w32 p ∷ [], (vo ∷ [], tt)))),
             ),
           ),
         ),
@@ -145,7 +148,7 @@ module _ {M : Type 1} (𝓤 : URA M) (H : Heap 𝓤) (A : Atoms 𝓤) (W : Given
     )
 
     abbrev g : Group
-    g = groupOf kind j i
+    g = groupOf kind j i p
 
     abbrev Answered : GroupAnswer → Type 0
     Answered r = groupReply r ≡ groupFor net (ls .now) (gs .now) k g
@@ -161,34 +164,37 @@ module _ {M : Type 1} (𝓤 : URA M) (H : Heap 𝓤) (A : Atoms 𝓤) (W : Given
     module _ (C : Calls 𝓤 H) (Λ : Loops 𝓤 H) (fm : FmC 𝓤 H (W .laws) C) (known-group : Triple 𝓤 (C #group) GroupOf)
         (known-inner : Triple 𝓤 (C #inner) Inner) (known-numbers : Triple 𝓤 (C #numbers) Numbers) where
       walk : Is N.the-row net (v ∷ []) → Room L.the-row (length (ls .now)) → Room G.the-row (length (gs .now)) → k < 2 ^ 32
-          → kind < 2 ^ 32 → j < 2 ^ 32 → i < 2 ^ 32 → Room i32 (length (out .now))
+          → kind < 2 ^ 32 → j < 2 ^ 32 → i < 2 ^ 32 → p < 2 ^ 32 → Room i32 (length (out .now))
           → ent 𝓤 (onEntry 𝓤 H A f.signature (κ₀, (κ₁, (κ₂, tt))) (q₀, (q₁, (q₂, tt))) a vals)
-          (WpFn 𝓤 H C Λ code.function (v ∷ vl ∷ vg ∷ vint w32 k ∷ vint w32 kind ∷ vint w32 j ∷ vint w32 i ∷ vo ∷ []) Post)
-      walk is-net room₀ room₁ k-fits kind-fits j-fits i-fits room₂ =
+          (WpFn 𝓤 H C Λ code.function (v ∷ vl ∷ vg ∷ vint w32 k ∷ vint w32 kind ∷ vint w32 j ∷ vint w32 i ∷ vint w32 p ∷ vo ∷ []) Post)
+      walk is-net room₀ room₁ k-fits kind-fits j-fits i-fits p-fits room₂ =
           qed W ((‵ (flft κ₀ q₀) ⊛ (‵ (flft κ₁ q₁) ⊛ (‵ (flft κ₂ q₂) ⊛ ‵ ftrue))) ∷
           ‵ (owns (N.the-row ∷ ShrSlice (named 0) κ₀ L.the-row ∷ ShrSlice
-          (named 1) κ₁ G.the-row ∷ u32 ∷ u32 ∷ u32 ∷ u32 ∷ MutSlice (named 2) κ₂ i32 ∷ []) a vals) ∷ []) ∵
-          enter ! C Λ code.function (v ∷ vl ∷ vg ∷ vint w32 k ∷ vint w32 kind ∷ vint w32 j ∷ vint w32 i ∷ vo ∷ []) _ $
+          (named 1) κ₁ G.the-row ∷ u32 ∷ u32 ∷ u32 ∷ u32 ∷ u32 ∷ MutSlice (named 2) κ₂ i32 ∷ []) a vals) ∷ []) ∵
+          enter ! C Λ code.function (v ∷ vl ∷ vg ∷ vint w32 k ∷ vint w32 kind ∷ vint w32 j ∷ vint w32 i ∷ vint w32 p ∷ vo ∷ []) _ $
           alloc1 ! (λ l₀. alloc1 ! (λ l₁. alloc1 ! (λ l₂.
           alloc1 ! (λ l₃. alloc1 ! (λ l₄. alloc1 ! (λ l₅. alloc1 ! (λ l₆.
-          alloc1 ! (λ l₇. alloc1 ! (λ l₈. alloc1 ! (λ l₉. alloc1 ! (λ l₁₀. alloc1 ! (λ l₁₁. alloc1 ! (λ l₁₂. alloc0 ! $ params1 ! $
-          pass1 ! (init ! 22 refl (LL.lawful N.the-type N′.the-laws 𝓤 H A W .typed net (v ∷ []) is-net .0)) $
-          pass1 ! (init ! 20 refl (tt, (tt, (record { fits = room₀ .0 }, tt)))) $
-          pass1 ! (init ! 18 refl (tt, (tt, (record { fits = room₁ .0 }, tt)))) $
-          pass1 ! (init ! 16 refl (tt, record { fits = k-fits })) $
-          pass1 ! (init ! 14 refl (tt, record { fits = kind-fits })) $
-          pass1 ! (init ! 12 refl (tt, record { fits = j-fits })) $ pass1 ! (init ! 10 refl (tt, record { fits = i-fits })) $
+          alloc1 ! (λ l₇. alloc1 ! (λ l₈. alloc1 ! (λ l₉. alloc1 ! (λ l₁₀. alloc1 ! (λ l₁₁. alloc1 ! (λ l₁₂. alloc1 ! (λ l₁₃. alloc0 ! $ params1 ! $
+          pass1 ! (init ! 24 refl (LL.lawful N.the-type N′.the-laws 𝓤 H A W .typed net (v ∷ []) is-net .0)) $
+          pass1 ! (init ! 22 refl (tt, (tt, (record { fits = room₀ .0 }, tt)))) $
+          pass1 ! (init ! 20 refl (tt, (tt, (record { fits = room₁ .0 }, tt)))) $
+          pass1 ! (init ! 18 refl (tt, record { fits = k-fits })) $
+          pass1 ! (init ! 16 refl (tt, record { fits = kind-fits })) $
+          pass1 ! (init ! 14 refl (tt, record { fits = j-fits })) $ pass1 ! (init ! 12 refl (tt, record { fits = i-fits })) $
+          pass1 ! (init ! 10 refl (tt, record { fits = p-fits })) $
           pass1 ! (init ! 8 refl (tt, (tt, (record { fits = room₂ .0 }, tt)))) $ pass0 ! $
-          -- [_12; …; _11; …; _10; …; _9; …; _8; …; _7; …; _6; …; _5; …; _4; …; _3; …; _2; …; _1; …; _0; …; the tokens; what the
+          -- [_13; …; _12; …; _11; …; _10; …; _9; …; _8; …; _7; …; _6; …; _5; …; _4; …; _3; …; _2; …; _1; …; _0; …; the tokens; what the
           -- parameters own]
-          nothing ! $ owned ! u32 (Is u32) (uint-makes 𝓤 H A W w32) i _ (refl, i-fits) $ fjoin ! $
+          nothing ! $ owned ! u32 (Is u32) (uint-makes 𝓤 H A W w32) p _ (refl, p-fits) $ fjoin ! $
+          owned ! u32 (Is u32) (uint-makes 𝓤 H A W w32) i _ (refl, i-fits) $ fjoin ! $
           owned ! u32 (Is u32) (uint-makes 𝓤 H A W w32) j _ (refl, j-fits) $ fjoin ! $
           owned ! u32 (Is u32) (uint-makes 𝓤 H A W w32) kind _ (refl, kind-fits) $ fjoin ! $ nothing ! $ join ! $
           calls-told ! fm group.ended (group.clauses 𝓤 H A mem run) known-group
-          (tt, tt, tt, (kind, (j, (i, tt))), (vint w32 kind ∷ [], (vint w32 j ∷ [], (vint w32 i ∷ [], tt)))) tt (id⊢ 𝓤 (emp 𝓤))
+          (tt, tt, tt, (kind, (j, (i, (p, tt)))), (vint w32 kind ∷ [], (vint w32 j ∷ [], (vint w32 i ∷ [], (vint w32 p ∷ [], tt))))) tt (id⊢ 𝓤 (emp 𝓤))
+          (and-then ! (load ! (from ! (stop !)) (look ! 17 refl))
           (and-then ! (load ! (from ! (stop !)) (look ! 15 refl))
           (and-then ! (load ! (from ! (stop !)) (look ! 13 refl))
-          (and-then ! (load ! (from ! (stop !)) (look ! 11 refl)) (no-more !)))) (λ w r ws.
+          (and-then ! (load ! (from ! (stop !)) (look ! 11 refl)) (no-more !))))) (λ w r ws.
           heard ! (r ≡ g) (λ is-g. rewrite ! 1 (λ (h : Group). ‵ (K.the-row .own h (w ∷ []))) is-g refl $ move ! (1 ∷ []) $
           peeks ! K.the-row (Is K.the-row) (shows 𝓤 H A K.the-row) g (w ∷ []) (λ is-group.
           land ! (from ! (stop !)) (init ! 7 refl (EL.lawful K.the-type K′.the-laws 𝓤 H A W tt .typed g (w ∷ []) is-group .0)) $
@@ -197,11 +203,11 @@ module _ {M : Type 1} (𝓤 : URA M) (H : Heap 𝓤) (A : Atoms 𝓤) (W : Given
           assigns ! (agg ! (and-then ! (load ! (from ! (stop !)) (look ! 5 refl))
           (and-then ! (load ! (from ! (fld ! refl (stop !))) (look-in ! 11 (sub ! 1 refl (whole !)))) (no-more !))))
           (from ! (stop !)) (init ! 3 refl (tt, (tt, (record { fits = room₂ .0 }, tt)))) $
-          -- the group stands for the three numbers in what is passed on
-          move ! (30 ∷ []) $ fsplit ! $ move ! (1 ∷ []) $ fsplit ! $ move ! (1 ∷ []) $ fsplit ! $ move ! (1 ∷ []) $ fsplit ! $
-          move ! (1 ∷ []) $ fsplit ! $ drop ! $ fsplit ! $ drop ! $ fsplit ! $ drop ! $
+          -- the group stands for the four numbers in what is passed on
+          move ! (32 ∷ []) $ fsplit ! $ move ! (1 ∷ []) $ fsplit ! $ move ! (1 ∷ []) $ fsplit ! $ move ! (1 ∷ []) $ fsplit ! $
+          move ! (1 ∷ []) $ fsplit ! $ drop ! $ fsplit ! $ drop ! $ fsplit ! $ drop ! $ fsplit ! $ drop ! $
           move ! (5 ∷ 0 ∷ []) $ fjoin ! $ move ! (1 ∷ 0 ∷ []) $ fjoin ! $ move ! (1 ∷ 0 ∷ []) $ fjoin ! $ move ! (1 ∷ 0 ∷ []) $
-          fjoin ! $ move ! (1 ∷ 0 ∷ []) $ fjoin ! $ move ! (29 ∷ []) $ join ! $
+          fjoin ! $ move ! (1 ∷ 0 ∷ []) $ fjoin ! $ move ! (31 ∷ []) $ join ! $
           calls-told ! fm inner.ended (inner.clauses 𝓤 H A mem run) known-inner (
             (κ₀, (κ₁, (κ₂, tt))),
             (q₀, (q₁, (q₂, tt))),
@@ -209,9 +215,9 @@ module _ {M : Type 1} (𝓤 : URA M) (H : Heap 𝓤) (A : Atoms 𝓤) (W : Given
             (net, (ls, (gs, (k, (g, (out, tt)))))),
             (v ∷ [], (vl ∷ [], (vg ∷ [], (vint w32 k ∷ [], (w ∷ [], (vo ∷ [], tt)))))),
           ) tt (id⊢ 𝓤 (emp 𝓤))
-          (and-then ! (load ! (from ! (stop !)) (look ! 25 refl))
-          (and-then ! (load ! (from ! (stop !)) (look ! 23 refl)) (and-then ! (load ! (from ! (stop !)) (look ! 21 refl))
-          (and-then ! (load ! (from ! (stop !)) (look ! 19 refl))
+          (and-then ! (load ! (from ! (stop !)) (look ! 27 refl))
+          (and-then ! (load ! (from ! (stop !)) (look ! 25 refl)) (and-then ! (load ! (from ! (stop !)) (look ! 23 refl))
+          (and-then ! (load ! (from ! (stop !)) (look ! 21 refl))
           (and-then ! (load ! (from ! (stop !)) (look ! 7 refl))
           (and-then ! (load ! (from ! (stop !)) (look ! 3 refl)) (no-more !))))))) (λ w₁ r₁ ws₁.
           let zs = ws₁ .1 .1 .1 .1 .1 .0 in
@@ -228,20 +234,20 @@ module _ {M : Type 1} (𝓤 : URA M) (H : Heap 𝓤) (A : Atoms 𝓤) (W : Given
           (id⊢ 𝓤 (emp 𝓤)) (and-then ! (load ! (from ! (stop !)) (look ! 12 refl)) (no-more !)) (λ w₂ r₂ ws₂.
           heard ! (r₂ ≡ groupReply r₁) (λ is. move ! (1 ∷ []) $
           peeks ! Reply.the-row (Is Reply.the-row) (shows 𝓤 H A Reply.the-row) r₂ (w₂ ∷ []) (λ is-reply.
-          land ! (from ! (stop !)) (init ! 32 refl (LL.lawful Reply.the-type Reply′.the-laws 𝓤 H A W .typed r₂
-          (w₂ ∷ []) is-reply .0)) $ returns ! (look ! 32 refl) $
-          move ! (32 ∷ 33 ∷ 30 ∷ 31 ∷ 28 ∷ 29 ∷ 26 ∷ 27 ∷ 24 ∷ 25 ∷ 22 ∷ 23 ∷ 20 ∷ 21 ∷ 18 ∷ 19 ∷ 16 ∷ 17 ∷ 14 ∷ 15 ∷ 12 ∷ 13 ∷
+          land ! (from ! (stop !)) (init ! 34 refl (LL.lawful Reply.the-type Reply′.the-laws 𝓤 H A W .typed r₂
+          (w₂ ∷ []) is-reply .0)) $ returns ! (look ! 34 refl) $
+          move ! (34 ∷ 35 ∷ 32 ∷ 33 ∷ 30 ∷ 31 ∷ 28 ∷ 29 ∷ 26 ∷ 27 ∷ 24 ∷ 25 ∷ 22 ∷ 23 ∷ 20 ∷ 21 ∷ 18 ∷ 19 ∷ 16 ∷ 17 ∷ 14 ∷ 15 ∷ 12 ∷ 13 ∷
           10 ∷ 11 ∷ 8 ∷ 9 ∷ []) $
           frees-all ! (cell W & cell W & cell W & cell W & cell W & cell W & cell W & cell W & cell W & cell W & cell W & cell W
-          & cell W & tt) $
+          & cell W & cell W & tt) $
           -- [the reply; …; …; what out is left; true; the tokens; …]
           suffices ! _ (ends-at 𝓤 H A f.ended stayed (f.clauses 𝓤 H A mem run) W
-          (((κ₀, (κ₁, (κ₂, tt))), (q₀, (q₁, (q₂, tt))), tt, a, vals), tt) w₂ r₂ (tt, (tt, (tt, (tt, (tt, (tt, (tt, (zs, tt))))))))
-          (tt, (tt, (tt, (tt, (tt, (tt, (tt, (same-length, tt))))))))) $
+          (((κ₀, (κ₁, (κ₂, tt))), (q₀, (q₁, (q₂, tt))), tt, a, vals), tt) w₂ r₂ (tt, (tt, (tt, (tt, (tt, (tt, (tt, (tt, (zs, tt)))))))))
+          (tt, (tt, (tt, (tt, (tt, (tt, (tt, (tt, (same-length, tt)))))))))) $
           move ! (3 ∷ 4 ∷ []) $ fjoin ! $ nothing ! $ fjoin ! $ nothing ! $ fjoin ! $ nothing ! $ fjoin ! $ nothing ! $ fjoin ! $
-          nothing ! $ fjoin ! $ nothing ! $ fjoin ! $ nothing ! $ fjoin ! $
+          nothing ! $ fjoin ! $ nothing ! $ fjoin ! $ nothing ! $ fjoin ! $ nothing ! $ fjoin ! $
           move ! (0 ∷ 1 ∷ []) $ join ! $ move ! (3 ∷ 0 ∷ []) $ join ! $ frame ! $ keep ! [] $
-          by ! (both 𝓤 (factI 𝓤 _ (emp 𝓤) (is ∙ answered)) (factI 𝓤 _ (emp 𝓤) leaves))))))))))))))))))))))))))
+          by ! (both 𝓤 (factI 𝓤 _ (emp 𝓤) (is ∙ answered)) (factI 𝓤 _ (emp 𝓤) leaves)))))))))))))))))))))))))))
 
 marrubigai-write-group-meets : {M : Type 1} (𝓤 : URA M) (H : Heap 𝓤) (A : Atoms 𝓤) (W : Given 𝓤 H A) (mem : Memory → SProp 𝓤)
     (run : Routine → Fun 𝓤) (𝓣 : Tables 𝓤 H)
@@ -263,7 +269,10 @@ marrubigai-write-group-meets 𝓤 H A W mem run 𝓣 known-group known-inner kno
                 goes-dropped 𝓤 H A W 3 (plain (λ _. u32)) yes (λ κs x e. refl),
                 (
                   goes-dropped 𝓤 H A W 3 (plain (λ _. u32)) yes (λ κs x e. refl),
+                  (
+                    goes-dropped 𝓤 H A W 3 (plain (λ _. u32)) yes (λ κs x e. refl),
                   (goes-gave-slice 𝓤 H A W 3 2 tt (plain (λ _. i32)), tt),
+                  ),
                 ),
               ),
             ),
@@ -278,7 +287,7 @@ marrubigai-write-group-meets 𝓤 H A W mem run 𝓣 known-group known-inner kno
         slice-vals,
         (
           slice-vals,
-          (uint-vals w32, (uint-vals w32, (uint-vals w32, (uint-vals w32, (slice-vals, tt))))),
+          (uint-vals w32, (uint-vals w32, (uint-vals w32, (uint-vals w32, (uint-vals w32, (slice-vals, tt)))))),
         ),
       ),
     ))
@@ -290,17 +299,17 @@ marrubigai-write-group-meets 𝓤 H A W mem run 𝓣 known-group known-inner kno
           shr-slice-tells (named 1) (κs .1 .0) G.the-row,
           (
             uint-tells w32,
-            (uint-tells w32, (uint-tells w32, (uint-tells w32, (mut-slice-tells (named 2) (κs .1 .1 .0) i32, tt)))),
+            (uint-tells w32, (uint-tells w32, (uint-tells w32, (uint-tells w32, (mut-slice-tells (named 2) (κs .1 .1 .0) i32, tt))))),
           ),
         ),
       ),
     ))
     (λ κs qs bounds a g are. via 𝓤 _ (fst∗ 𝓤 _ (emp 𝓤))
     (walk 𝓤 H A W mem run (κs .0) (κs .1 .0) (κs .1 .1 .0) (qs .0) (qs .1 .0) (qs .1 .1 .0) (a .0) (a .1 .0) (a .1 .1 .0)
-    (a .1 .1 .1 .0) (a .1 .1 .1 .1 .0) (a .1 .1 .1 .1 .1 .0) (a .1 .1 .1 .1 .1 .1 .0) (a .1 .1 .1 .1 .1 .1 .1 .0)
+    (a .1 .1 .1 .0) (a .1 .1 .1 .1 .0) (a .1 .1 .1 .1 .1 .0) (a .1 .1 .1 .1 .1 .1 .0) (a .1 .1 .1 .1 .1 .1 .1 .0) (a .1 .1 .1 .1 .1 .1 .1 .1 .0)
     (𝓣 .C) (𝓣 .Λ) (fmOf 𝓤 H (W .laws) 𝓣) known-group known-inner known-numbers
     (are .0) (are .1 .0 .0 .1) (are .1 .1 .0 .0 .1) (are .1 .1 .1 .0 .1) (are .1 .1 .1 .1 .0 .1) (are .1 .1 .1 .1 .1 .0 .1)
-    (are .1 .1 .1 .1 .1 .1 .0 .1) (are .1 .1 .1 .1 .1 .1 .1 .0 .0 .1)))
+    (are .1 .1 .1 .1 .1 .1 .0 .1) (are .1 .1 .1 .1 .1 .1 .1 .0 .1) (are .1 .1 .1 .1 .1 .1 .1 .1 .0 .0 .1)))
 
 pub marrubigai-write-group-spec : {M : Type 1} → stated.statement M
 unfolding code.routine tablesOf

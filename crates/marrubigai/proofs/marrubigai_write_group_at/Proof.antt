@@ -87,7 +87,10 @@ stayed = (
       stay-none-slice (1 ∷ []) tt (plain (λ _. G.the-row)) yes,
       (
         stay-none (λ _. P.the-row) yes,
-        (stay-none (λ _. u32) yes, (stay-none (λ _. u32) yes, (gave-slice (2 ∷ []) tt (plain (λ _. i32)), tt))),
+        (
+          stay-none (λ _. u32) yes,
+          (stay-none (λ _. u32) yes, (stay-none (λ _. u32) yes, (gave-slice (2 ∷ []) tt (plain (λ _. i32)), tt))),
+        ),
       ),
     ),
   ),
@@ -106,7 +109,7 @@ module _ {M : Type 1} (𝓤 : URA M) (H : Heap 𝓤) (A : Atoms 𝓤) (W : Given
   Inner = tripleOf 𝓤 H A inner.signature (inner.spec 𝓤 H A mem run)
 
   module _ (κ₀ κ₁ κ₂ : Lft) (q₀ q₁ q₂ : Share) (net : Netlist) (ls : RefT (List LatchEntry)) (gs : RefT (List GateEntry)) (p : Position)
-      (kind j : ℕ) (out : RefT (List ℤ)) where
+      (kind j port : ℕ) (out : RefT (List ℤ)) where
     abbrev v : Val
     v = LL.val N.the-type N′.the-laws net
 
@@ -123,13 +126,13 @@ module _ {M : Type 1} (𝓤 : URA M) (H : Heap 𝓤) (A : Atoms 𝓤) (W : Given
     vo = sliceVal (out .ptr) (length (out .now))
 
     abbrev Arg : Type 0
-    Arg = Netlist × (RefT (List LatchEntry) × (RefT (List GateEntry) × (Position × (ℕ × (ℕ × (RefT (List ℤ) × Unit {0}))))))
+    Arg = Netlist × (RefT (List LatchEntry) × (RefT (List GateEntry) × (Position × (ℕ × (ℕ × (ℕ × (RefT (List ℤ) × Unit {0})))))))
 
     abbrev a : Arg
-    a = (net, (ls, (gs, (p, (kind, (j, (out, tt)))))))
+    a = (net, (ls, (gs, (p, (kind, (j, (port, (out, tt))))))))
 
-    abbrev vals : List Val × (List Val × (List Val × (List Val × (List Val × (List Val × (List Val × Unit {0}))))))
-    vals = (v ∷ [], (vl ∷ [], (vg ∷ [], (vp ∷ [], (vint w32 kind ∷ [], (vint w32 j ∷ [], (vo ∷ [], tt)))))))
+    abbrev vals : List Val × (List Val × (List Val × (List Val × (List Val × (List Val × (List Val × (List Val × Unit {0})))))))
+    vals = (v ∷ [], (vl ∷ [], (vg ∷ [], (vp ∷ [], (vint w32 kind ∷ [], (vint w32 j ∷ [], (vint w32 port ∷ [], (vo ∷ [], tt))))))))
 
     -- the unpacked lists
     abbrev zl : List ℕ
@@ -140,10 +143,10 @@ module _ {M : Type 1} (𝓤 : URA M) (H : Heap 𝓤) (A : Atoms 𝓤) (W : Given
 
     -- what the call over unpacked lists says
     abbrev Answered : CountReply → Type 0
-    Answered r = r ≡ groupAtSent (netOf net zl zg) (length (ls .now)) (length (gs .now)) p (groupOf kind j (p .frame)) (length (out .now))
+    Answered r = r ≡ groupAtSent (netOf net zl zg) (length (ls .now)) (length (gs .now)) p (groupOf kind j (p .frame) port) (length (out .now))
 
     abbrev Leaves : List ℤ → Type 0
-    Leaves zs = zs ≡ groupAtLeaves (netOf net zl zg) (length (ls .now)) (length (gs .now)) p (groupOf kind j (p .frame)) (out .now)
+    Leaves zs = zs ≡ groupAtLeaves (netOf net zl zg) (length (ls .now)) (length (gs .now)) p (groupOf kind j (p .frame) port) (out .now)
 
     abbrev Post : Val → SProp 𝓤
     Post = walkOf 𝓤 H A f.ended stayed (f.clauses 𝓤 H A mem run) .post
@@ -152,49 +155,51 @@ module _ {M : Type 1} (𝓤 : URA M) (H : Heap 𝓤) (A : Atoms 𝓤) (W : Given
     module _ (C : Calls 𝓤 H) (Λ : Loops 𝓤 H) (fm : FmC 𝓤 H (W .laws) C) (known-latches : Triple 𝓤 (C #latches) Latches)
         (known-gates : Triple 𝓤 (C #gates) Gates) (known-inner : Triple 𝓤 (C #inner) Inner) where
       walk : Is N.the-row net (v ∷ []) → Room L.the-row (length (ls .now)) → Room G.the-row (length (gs .now)) → Is P.the-row p (vp ∷ [])
-          → kind < 2 ^ 32 → j < 2 ^ 32 → Room i32 (length (out .now))
+          → kind < 2 ^ 32 → j < 2 ^ 32 → port < 2 ^ 32 → Room i32 (length (out .now))
           → ent 𝓤 (onEntry 𝓤 H A f.signature (κ₀, (κ₁, (κ₂, tt))) (q₀, (q₁, (q₂, tt))) a vals)
-          (WpFn 𝓤 H C Λ code.function (v ∷ vl ∷ vg ∷ vp ∷ vint w32 kind ∷ vint w32 j ∷ vo ∷ []) Post)
+          (WpFn 𝓤 H C Λ code.function (v ∷ vl ∷ vg ∷ vp ∷ vint w32 kind ∷ vint w32 j ∷ vint w32 port ∷ vo ∷ []) Post)
       unfolding latchCodes gateCodes
-      walk is-net room₀ room₁ is-position kind-fits j-fits room₂ =
+      walk is-net room₀ room₁ is-position kind-fits j-fits port-fits room₂ =
           qed W ((‵ (flft κ₀ q₀) ⊛ (‵ (flft κ₁ q₁) ⊛ (‵ (flft κ₂ q₂) ⊛ ‵ ftrue))) ∷
-          ‵ (owns (N.the-row ∷ ShrSlice (named 0) κ₀ L.the-row ∷ ShrSlice (named 1) κ₁ G.the-row ∷ P.the-row ∷ u32 ∷ u32 ∷ MutSlice
-          (named 2) κ₂ i32 ∷ []) a vals) ∷ []) ∵ enter ! C Λ code.function (v ∷ vl ∷ vg ∷ vp ∷ vint w32 kind ∷ vint w32 j ∷ vo ∷ []) _ $
+          ‵ (owns (N.the-row ∷ ShrSlice (named 0) κ₀ L.the-row ∷ ShrSlice (named 1) κ₁ G.the-row ∷ P.the-row ∷ u32 ∷ u32 ∷ u32 ∷ MutSlice
+          (named 2) κ₂ i32 ∷ []) a vals) ∷ []) ∵ enter ! C Λ code.function (v ∷ vl ∷ vg ∷ vp ∷ vint w32 kind ∷ vint w32 j ∷ vint w32 port ∷ vo ∷ []) _ $
           alloc1 ! (λ l₀. alloc1 ! (λ l₁. alloc1 ! (λ l₂.
           alloc1 ! (λ l₃. alloc1 ! (λ l₄. alloc1 ! (λ l₅. alloc1 ! (λ l₆.
           alloc1 ! (λ l₇. alloc1 ! (λ l₈. alloc1 ! (λ l₉. alloc1 ! (λ l₁₀.
           alloc1 ! (λ l₁₁. alloc1 ! (λ l₁₂. alloc1 ! (λ l₁₃.
-          alloc1 ! (λ l₁₄. alloc1 ! (λ l₁₅. alloc1 ! (λ l₁₆. alloc1 ! (λ l₁₇. alloc1 ! (λ l₁₈. alloc0 ! $ params1 ! $
-          pass1 ! (init ! 34 refl (LL.lawful N.the-type N′.the-laws 𝓤 H A W .typed net (v ∷ []) is-net .0)) $
-          pass1 ! (init ! 32 refl (tt, (tt, (record { fits = room₀ .0 }, tt)))) $
-          pass1 ! (init ! 30 refl (tt, (tt, (record { fits = room₁ .0 }, tt)))) $
-          pass1 ! (init ! 28 refl (LL.lawful P.the-type P′.the-laws 𝓤 H A W .typed p (vp ∷ []) is-position .0)) $
-          pass1 ! (init ! 26 refl (tt, record { fits = kind-fits })) $
-          pass1 ! (init ! 24 refl (tt, record { fits = j-fits })) $
+          alloc1 ! (λ l₁₄. alloc1 ! (λ l₁₅. alloc1 ! (λ l₁₆. alloc1 ! (λ l₁₇. alloc1 ! (λ l₁₈. alloc1 ! (λ l₁₉. alloc0 ! $ params1 ! $
+          pass1 ! (init ! 36 refl (LL.lawful N.the-type N′.the-laws 𝓤 H A W .typed net (v ∷ []) is-net .0)) $
+          pass1 ! (init ! 34 refl (tt, (tt, (record { fits = room₀ .0 }, tt)))) $
+          pass1 ! (init ! 32 refl (tt, (tt, (record { fits = room₁ .0 }, tt)))) $
+          pass1 ! (init ! 30 refl (LL.lawful P.the-type P′.the-laws 𝓤 H A W .typed p (vp ∷ []) is-position .0)) $
+          pass1 ! (init ! 28 refl (tt, record { fits = kind-fits })) $
+          pass1 ! (init ! 26 refl (tt, record { fits = j-fits })) $
+          pass1 ! (init ! 24 refl (tt, record { fits = port-fits })) $
           pass1 ! (init ! 22 refl (tt, (tt, (record { fits = room₂ .0 }, tt)))) $ pass0 ! $
-          move ! (39 ∷ []) $ fsplit ! $ move ! (1 ∷ []) $ fsplit ! $ move ! (1 ∷ []) $ fsplit ! $ move ! (1 ∷ []) $ fsplit ! $
-          move ! (1 ∷ []) $ fsplit ! $ move ! (1 ∷ []) $ fsplit ! $ move ! (1 ∷ []) $ fsplit ! $ move ! (46 ∷ []) $ split ! $ move ! (1 ∷ []) $ split ! $
-          -- [κ₁'s token; κ₂'s; κ₀'s; what out owns; true; what j, kind, record, gates, latches and net own; _18; …]
-          move ! (31 ∷ 25 ∷ 27 ∷ 43 ∷ 9 ∷ 2 ∷ []) $ unpacks ! fm L.the-type L′.the-laws latchPair #latches known-latches κ₀ q₀ ls
+          move ! (41 ∷ []) $ fsplit ! $ move ! (1 ∷ []) $ fsplit ! $ move ! (1 ∷ []) $ fsplit ! $ move ! (1 ∷ []) $ fsplit ! $
+          move ! (1 ∷ []) $ fsplit ! $ move ! (1 ∷ []) $ fsplit ! $ move ! (1 ∷ []) $ fsplit ! $ move ! (1 ∷ []) $ fsplit ! $ move ! (49 ∷ []) $ split ! $ move ! (1 ∷ []) $ split ! $
+          -- [κ₁'s token; κ₂'s; κ₀'s; what out owns; true; what port, j, kind, record, gates, latches and net own; _19; …]
+          move ! (32 ∷ 26 ∷ 28 ∷ 46 ∷ 10 ∷ 2 ∷ []) $ unpacks ! fm L.the-type L′.the-laws latchPair #latches known-latches κ₀ q₀ ls
           _ refl refl refl refl $
-          forget ! 2 refl $ move ! (31 ∷ 27 ∷ 2 ∷ 42 ∷ 13 ∷ 6 ∷ []) $
+          forget ! 2 refl $ move ! (32 ∷ 28 ∷ 2 ∷ 45 ∷ 14 ∷ 6 ∷ []) $
           unpacks ! fm G.the-type G′.the-laws gatePair #gates known-gates κ₁ q₁ gs _ refl refl refl refl $
-          -- [gates' codes; _12; _10; _3; what gates own; κ₁'s token; latches' codes; _11; _2; what latches own; κ₀'s token; κ₂'s;
-          -- what out owns; …; _18; …]
-          assigns ! (addr ! (from ! (stop !))) (from ! (stop !)) (init ! 28 refl (tt, tt)) $
+          -- [gates' codes; _13; _11; _3; what gates own; κ₁'s token; latches' codes; _12; _2; what latches own; κ₀'s token; κ₂'s;
+          -- what out owns; …; _19; …]
+          assigns ! (addr ! (from ! (stop !))) (from ! (stop !)) (init ! 29 refl (tt, tt)) $
           assigns ! (of-opd ! (load ! (from ! (fld ! refl (stop !))) (look-in ! 8 (sub ! 1 refl (whole !))))) (from ! (stop !))
-          (init ! 26 refl (tt, record { fits = room₀ .0 })) $
-          assigns ! (addr ! (from ! (stop !))) (from ! (stop !)) (init ! 24 refl (tt, tt)) $
+          (init ! 27 refl (tt, record { fits = room₀ .0 })) $
+          assigns ! (addr ! (from ! (stop !))) (from ! (stop !)) (init ! 25 refl (tt, tt)) $
           assigns ! (of-opd ! (load ! (from ! (fld ! refl (stop !))) (look-in ! 3 (sub ! 1 refl (whole !))))) (from ! (stop !))
-          (init ! 22 refl (tt, record { fits = room₁ .0 })) $
-          assigns ! (addr ! (from ! (fld ! refl (hop ! (look-in ! 35 (sub ! 0 refl (whole !))) (stop !))))) (from ! (stop !))
-          (init ! 20 refl (tt, tt)) $
-          assigns ! (agg ! (and-then ! (load ! (from ! (stop !)) (look ! 20 refl))
-          (and-then ! (load ! (from ! (fld ! refl (stop !))) (look-in ! 35 (sub ! 1 refl (whole !)))) (no-more !))))
-          (from ! (stop !)) (init ! 18 refl (tt, (tt, (record { fits = room₂ .0 }, tt)))) $
-          lends ! tt (named 1) zg l₉ (λ β δ₁. move ! (8 ∷ []) $ lends ! tt (named 0) zl l₈ (λ α δ₀.
+          (init ! 23 refl (tt, record { fits = room₁ .0 })) $
+          assigns ! (addr ! (from ! (fld ! refl (hop ! (look-in ! 36 (sub ! 0 refl (whole !))) (stop !))))) (from ! (stop !))
+          (init ! 21 refl (tt, tt)) $
+          assigns ! (agg ! (and-then ! (load ! (from ! (stop !)) (look ! 21 refl))
+          (and-then ! (load ! (from ! (fld ! refl (stop !))) (look-in ! 36 (sub ! 1 refl (whole !)))) (no-more !))))
+          (from ! (stop !)) (init ! 19 refl (tt, (tt, (record { fits = room₂ .0 }, tt)))) $
+          lends ! tt (named 1) zg l₁₀ (λ β δ₁. move ! (8 ∷ []) $ lends ! tt (named 0) zl l₉ (λ α δ₀.
           -- the call over unpacked lists
-          nothing ! $ move ! (17 ∷ 0 ∷ []) $ fjoin ! $ owned ! u32 (Is u32) (uint-makes 𝓤 H A W w32) j _ (refl, j-fits) $ fjoin ! $
+          nothing ! $ move ! (17 ∷ 0 ∷ []) $ fjoin ! $ owned ! u32 (Is u32) (uint-makes 𝓤 H A W w32) port _ (refl, port-fits) $ fjoin ! $
+          owned ! u32 (Is u32) (uint-makes 𝓤 H A W w32) j _ (refl, j-fits) $ fjoin ! $
           owned ! u32 (Is u32) (uint-makes 𝓤 H A W w32) kind _ (refl, kind-fits) $ fjoin ! $
           owned ! P.the-row (Is P.the-row) (LL.makes P.the-type P′.the-plain 𝓤 H A) p _ is-position $ fjoin ! $
           owned ! usize (Is usize) (uint-makes 𝓤 H A W w64) (length (gs .now)) _ (refl, room₁ .0) $ fjoin ! $
@@ -210,59 +215,60 @@ module _ {M : Type 1} (𝓤 : URA M) (H : Heap 𝓤) (A : Atoms 𝓤) (W : Given
             (
               net,
               (
-                record { ptr = (l₈, 0); name = δ₀; now = zl },
-                (length (ls .now), (record { ptr = (l₉, 0); name = δ₁; now = zg }, (length (gs .now), (p, (kind, (j, (out, tt))))))),
+                record { ptr = (l₉, 0); name = δ₀; now = zl },
+                (length (ls .now), (record { ptr = (l₁₀, 0); name = δ₁; now = zg }, (length (gs .now), (p, (kind, (j, (port, (out, tt)))))))),
               ),
             ),
             (
               v ∷ [],
               (
-                vptr l₈ 0 ∷ [],
+                vptr l₉ 0 ∷ [],
                 (
                   vint w64 (length (ls .now)) ∷ [],
-                  (vptr l₉ 0 ∷ [], (vint w64 (length (gs .now)) ∷ [], (vp ∷ [], (vint w32 kind ∷ [], (vint w32 j ∷ [], (vo ∷ [], tt)))))),
+                  (vptr l₁₀ 0 ∷ [], (vint w64 (length (gs .now)) ∷ [], (vp ∷ [], (vint w32 kind ∷ [], (vint w32 j ∷ [], (vint w32 port ∷ [], (vo ∷ [], tt))))))),
                 ),
               ),
             ),
           ) tt (id⊢ 𝓤 (emp 𝓤))
-          (and-then ! (load ! (from ! (stop !)) (look ! 44 refl))
-          (and-then ! (load ! (from ! (stop !)) (look ! 27 refl))
-          (and-then ! (load ! (from ! (stop !)) (look ! 25 refl)) (and-then ! (load ! (from ! (stop !)) (look ! 23 refl))
-          (and-then ! (load ! (from ! (stop !)) (look ! 21 refl))
-          (and-then ! (load ! (from ! (stop !)) (look ! 40 refl))
-          (and-then ! (load ! (from ! (stop !)) (look ! 38 refl))
-          (and-then ! (load ! (from ! (stop !)) (look ! 36 refl))
-          (and-then ! (load ! (from ! (stop !)) (look ! 17 refl)) (no-more !)))))))))) (λ w r ws.
-          let zs = ws .1 .1 .1 .1 .1 .1 .1 .1 .0 in
+          (and-then ! (load ! (from ! (stop !)) (look ! 47 refl))
+          (and-then ! (load ! (from ! (stop !)) (look ! 28 refl))
+          (and-then ! (load ! (from ! (stop !)) (look ! 26 refl)) (and-then ! (load ! (from ! (stop !)) (look ! 24 refl))
+          (and-then ! (load ! (from ! (stop !)) (look ! 22 refl))
+          (and-then ! (load ! (from ! (stop !)) (look ! 43 refl))
+          (and-then ! (load ! (from ! (stop !)) (look ! 41 refl))
+          (and-then ! (load ! (from ! (stop !)) (look ! 39 refl))
+          (and-then ! (load ! (from ! (stop !)) (look ! 37 refl))
+          (and-then ! (load ! (from ! (stop !)) (look ! 18 refl)) (no-more !))))))))))) (λ w r ws.
+          let zs = ws .1 .1 .1 .1 .1 .1 .1 .1 .1 .0 in
           use1 W (raw (fact 𝓤 (Answered r)) ⊛ raw (fact 𝓤 (Leaves zs))) (id⊢ 𝓤 _) $ split ! $
           heard ! (Answered r) (λ answered. heard ! (Leaves zs) (λ leaves.
           fsplit ! $ drop ! $ fsplit ! $ drop ! $ fsplit ! $ drop ! $ fsplit ! $ drop ! $ fsplit ! $ drop ! $ fsplit ! $ drop ! $ fsplit ! $ drop ! $
-          fsplit ! $ drop ! $ fsplit ! $ fsplit ! $ move ! (1 ∷ []) $ feqL ! (λ same-length.
+          fsplit ! $ drop ! $ fsplit ! $ drop ! $ fsplit ! $ fsplit ! $ move ! (1 ∷ []) $ feqL ! (λ same-length.
           -- [what out is left; true; the answer; the tokens; the lenders' parts; …]
           move ! (2 ∷ []) $ peeks ! Reply.the-row (Is Reply.the-row) (shows 𝓤 H A Reply.the-row) r (w ∷ []) (λ is-reply.
-          land ! (from ! (stop !)) (init ! 49 refl (LL.lawful Reply.the-type Reply′.the-laws 𝓤 H A W .typed r
+          land ! (from ! (stop !)) (init ! 52 refl (LL.lawful Reply.the-type Reply′.the-laws 𝓤 H A W .typed r
           (w ∷ []) is-reply .0)) $
           -- the arrays come back, and all locals are freed
-          move ! (3 ∷ []) $ split ! $ move ! (0 ∷ 5 ∷ []) $ takes-back ! tt α zl l₈ $ move ! (1 ∷ []) $ split ! $
-          move ! (0 ∷ 6 ∷ []) $ takes-back ! tt β zg l₉ $
-          returns ! (look ! 49 refl) $
-          move ! (49 ∷ 50 ∷ 47 ∷ 48 ∷ 12 ∷ 46 ∷ 8 ∷ 45 ∷ 43 ∷ 44 ∷ 41 ∷ 42 ∷ 39 ∷ 40 ∷ 37 ∷ 38 ∷ 2 ∷ 36 ∷ 0 ∷ 35 ∷ 7 ∷ 34 ∷ 11 ∷ 33 ∷ 6 ∷ 32 ∷ 30 ∷ 31 ∷ 28 ∷ 29 ∷ 26 ∷ 27 ∷ 24 ∷ 25 ∷ 22 ∷ 23 ∷ 20 ∷ 21 ∷ []) $
+          move ! (3 ∷ []) $ split ! $ move ! (0 ∷ 5 ∷ []) $ takes-back ! tt α zl l₉ $ move ! (1 ∷ []) $ split ! $
+          move ! (0 ∷ 6 ∷ []) $ takes-back ! tt β zg l₁₀ $
+          returns ! (look ! 52 refl) $
+          move ! (52 ∷ 53 ∷ 50 ∷ 51 ∷ 12 ∷ 49 ∷ 8 ∷ 48 ∷ 46 ∷ 47 ∷ 44 ∷ 45 ∷ 42 ∷ 43 ∷ 40 ∷ 41 ∷ 38 ∷ 39 ∷ 2 ∷ 37 ∷ 0 ∷ 36 ∷ 7 ∷ 35 ∷ 11 ∷ 34 ∷ 6 ∷ 33 ∷ 31 ∷ 32 ∷ 29 ∷ 30 ∷ 27 ∷ 28 ∷ 25 ∷ 26 ∷ 23 ∷ 24 ∷ 21 ∷ 22 ∷ []) $
           frees-all ! (cell W & cell W & cell W & cell W & cell W & cell W & cell W & cell W & cell W & cell W & cell W & cell W
-          & cell W & cell W & cell W & cell W & cell W & cell W & cell W & tt) $
+          & cell W & cell W & cell W & cell W & cell W & cell W & cell W & cell W & tt) $
           -- [κ₂'s token; the answer; what out is left; true; what gates own; κ₁'s token; what latches own; κ₀'s token; true;
-          -- j; kind; record; net]
+          -- port; j; kind; record; net]
           suffices ! _ (ends-at 𝓤 H A f.ended stayed (f.clauses 𝓤 H A mem run) W
-          (((κ₀, (κ₁, (κ₂, tt))), (q₀, (q₁, (q₂, tt))), tt, a, vals), tt) w r (tt, (tt, (tt, (tt, (tt, (tt, (zs, tt)))))))
-          (tt, (tt, (tt, (tt, (tt, (tt, (same-length, tt)))))))) $
-          move ! (5 ∷ 0 ∷ []) $ join ! $ move ! (6 ∷ 0 ∷ []) $ join ! $ move ! (2 ∷ 3 ∷ []) $ fjoin ! $ move ! (6 ∷ 0 ∷ []) $
+          (((κ₀, (κ₁, (κ₂, tt))), (q₀, (q₁, (q₂, tt))), tt, a, vals), tt) w r (tt, (tt, (tt, (tt, (tt, (tt, (tt, (zs, tt))))))))
+          (tt, (tt, (tt, (tt, (tt, (tt, (tt, (same-length, tt))))))))) $
+          move ! (5 ∷ 0 ∷ []) $ join ! $ move ! (6 ∷ 0 ∷ []) $ join ! $ move ! (2 ∷ 3 ∷ []) $ fjoin ! $ move ! (6 ∷ 0 ∷ []) $ fjoin ! $ move ! (6 ∷ 0 ∷ []) $
           fjoin ! $ move ! (6 ∷ 0 ∷ []) $ fjoin ! $ move ! (6 ∷ 0 ∷ []) $ fjoin ! $ move ! (3 ∷ 0 ∷ []) $ fjoin ! $ move ! (3 ∷ 0 ∷ []) $ fjoin ! $
           move ! (4 ∷ 0 ∷ []) $ fjoin ! $
           move ! (0 ∷ 2 ∷ []) $ join ! $ move ! (1 ∷ 0 ∷ []) $ join ! $ frame ! $ keep ! [] $
           by ! (both 𝓤 (factI 𝓤 _ (emp 𝓤) (answered ∙ ap (λ c. groupAtSent c (length (ls .now)) (length (gs .now)) p
-          (groupOf kind j (p .frame)) (length (out .now))) same-net))
+          (groupOf kind j (p .frame) port) (length (out .now))) same-net))
           (both 𝓤 (factI 𝓤 _ (emp 𝓤) (leaves ∙ ap (λ c. groupAtLeaves c (length (ls .now)) (length (gs .now)) p
-          (groupOf kind j (p .frame)) (out .now)) same-net))
-          (factI 𝓤 _ (emp 𝓤) (by-frame _ _ _ p (groupOf kind j (p .frame)) (out .now)))))))))))))))))))))))))))))))
+          (groupOf kind j (p .frame) port) (out .now)) same-net))
+          (factI 𝓤 _ (emp 𝓤) (by-frame _ _ _ p (groupOf kind j (p .frame) port) (out .now))))))))))))))))))))))))))))))))
         where
           same-net : netOf net zl zg ≡ netOf net (latchCodes (ls .now)) (gateCodes (gs .now))
           same-net = netOf-unpacked net (latchCodes (ls .now)) (gateCodes (gs .now))
@@ -283,7 +289,10 @@ marrubigai-write-group-at-meets 𝓤 H A W mem run 𝓣 known-latches known-gate
             goes-none 𝓤 H A W 3 (λ _. P.the-row) yes (λ κs x e. refl),
             (
               goes-none 𝓤 H A W 3 (λ _. u32) yes (λ κs x e. refl),
-              (goes-none 𝓤 H A W 3 (λ _. u32) yes (λ κs x e. refl), (goes-gave-slice 𝓤 H A W 3 2 tt (plain (λ _. i32)), tt)),
+              (
+                goes-none 𝓤 H A W 3 (λ _. u32) yes (λ κs x e. refl),
+                (goes-none 𝓤 H A W 3 (λ _. u32) yes (λ κs x e. refl), (goes-gave-slice 𝓤 H A W 3 2 tt (plain (λ _. i32)), tt)),
+              ),
             ),
           ),
         ),
@@ -296,7 +305,7 @@ marrubigai-write-group-at-meets 𝓤 H A W mem run 𝓣 known-latches known-gate
         slice-vals,
         (
           slice-vals,
-          (LL.vals P.the-type P′.the-laws, (uint-vals w32, (uint-vals w32, (slice-vals, tt)))),
+          (LL.vals P.the-type P′.the-laws, (uint-vals w32, (uint-vals w32, (uint-vals w32, (slice-vals, tt))))),
         ),
       ),
     ))
@@ -308,16 +317,16 @@ marrubigai-write-group-at-meets 𝓤 H A W mem run 𝓣 known-latches known-gate
           shr-slice-tells (named 1) (κs .1 .0) G.the-row,
           (
             LL.tells P.the-type P′.the-laws,
-            (uint-tells w32, (uint-tells w32, (mut-slice-tells (named 2) (κs .1 .1 .0) i32, tt))),
+            (uint-tells w32, (uint-tells w32, (uint-tells w32, (mut-slice-tells (named 2) (κs .1 .1 .0) i32, tt)))),
           ),
         ),
       ),
     ))
     (λ κs qs bounds a g are. via 𝓤 _ (fst∗ 𝓤 _ (emp 𝓤))
     (walk 𝓤 H A W mem run (κs .0) (κs .1 .0) (κs .1 .1 .0) (qs .0) (qs .1 .0) (qs .1 .1 .0) (a .0) (a .1 .0) (a .1 .1 .0)
-    (a .1 .1 .1 .0) (a .1 .1 .1 .1 .0) (a .1 .1 .1 .1 .1 .0) (a .1 .1 .1 .1 .1 .1 .0) (𝓣 .C) (𝓣 .Λ) (fmOf 𝓤 H (W .laws) 𝓣) known-latches known-gates
+    (a .1 .1 .1 .0) (a .1 .1 .1 .1 .0) (a .1 .1 .1 .1 .1 .0) (a .1 .1 .1 .1 .1 .1 .0) (a .1 .1 .1 .1 .1 .1 .1 .0) (𝓣 .C) (𝓣 .Λ) (fmOf 𝓤 H (W .laws) 𝓣) known-latches known-gates
     known-inner
-    (are .0) (are .1 .0 .0 .1) (are .1 .1 .0 .0 .1) (are .1 .1 .1 .0) (are .1 .1 .1 .1 .0 .1) (are .1 .1 .1 .1 .1 .0 .1) (are .1 .1 .1 .1 .1 .1 .0 .0 .1)))
+    (are .0) (are .1 .0 .0 .1) (are .1 .1 .0 .0 .1) (are .1 .1 .1 .0) (are .1 .1 .1 .1 .0 .1) (are .1 .1 .1 .1 .1 .0 .1) (are .1 .1 .1 .1 .1 .1 .0 .1) (are .1 .1 .1 .1 .1 .1 .1 .0 .0 .1)))
 
 pub marrubigai-write-group-at-spec : {M : Type 1} → stated.statement M
 unfolding code.routine tablesOf
