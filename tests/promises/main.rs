@@ -239,17 +239,33 @@ struct ReadersPath {
     shut: &'static [&'static str],
 }
 
+/// Demand 3 takes the numbers that the calls leave and the formula that they are together as they come, what passes the tests by the theorem that
+/// says which netlists those are, and the depth as any.
+const UNOPENED: [&str; 11] = [
+    "model/Numbers/formula",
+    "model/Numbers/numbersOf",
+    "model/Groups/groupOrder",
+    "model/Groups/inDepth",
+    "model/Claim/Stated",
+    "netlist_tests/Record/recordVerdict",
+    "call_unpacked/Calls/groupSent",
+    "call_unpacked/Calls/groupLeaves",
+    "call_unpacked/Calls/testNumbers",
+    "program_input/Input/inputVerdict",
+    "sheet_lines/Depth/depthLine",
+];
+
 /// The ways in their order: each is told less what the ones before it have.
 const PATHS: [ReadersPath; 5] = [
     ReadersPath {
         promise: "demand 3 of a record",
-        from: &["model/Claim/Encodes", "model/Acceptance/Accepted"],
-        shut: &["model/Numbers/formula"],
+        from: &["calls/LentCalls/HeadingClaim", "calls/LentCalls/AcceptedTheorem"],
+        shut: &UNOPENED,
     },
     ReadersPath {
         promise: "demand 3 of a sheet, besides",
-        from: &["sheet_parse/Files/netIn"],
-        shut: &[],
+        from: &["sheet_reader/ReadCall/SheetDelivered", "program_input/Input/InputTaken"],
+        shut: &UNOPENED,
     },
     ReadersPath {
         promise: "demand 2, besides",

@@ -5,66 +5,70 @@ use netlist::UnpackedList;
 use program_input::Input;
 ghost use Prim.Native.Nat.{_+_, _^_, _≤_, _<_};
 ghost use mathlib.Core.Path.{_≡_};
-ghost use mathlib.Core.Bool.{true};
+ghost use mathlib.Core.Bool.{false};
 ghost use lib.ListN.{length, take, drop};
 ghost use Rattle.netlist.specs.NetOf.{netOf};
 ghost use Rattle.dimacs.specs.Text.{refusalText};
 ghost use Rattle.program_input.specs.Input.{InputTaken};
 ghost use Rattle.program_output.specs.Printed.{formulaHeader, framesText};
 
-// Writes to standard output the text that is next, behind the `sent` bytes that were written before, and counts it: nothing else writes there, and
-// the input is lent only for what is asked of the text. Where writing fails, says so on standard error and answers false: the header's count of
+// Writes to standard output the text that is next, behind the `sent` bytes that it was given before, and counts it: nothing else writes there, and
+// the input is lent only for what is asked of the text. Where writing fails, says so on standard error and writes no more: the header's count of
 // clauses tells that what came before is not whole.
-fn write_next(input: &[u8], sent: &mut usize, text: &[u8]) -> bool
+fn write_next(input: &[u8], sent: &mut usize, failed: &mut bool, text: &[u8])
     requires { ⌜ (now text ≡ take (length (now text)) (drop (now sent) (framesText (now input)))) × (now sent + length (now text) < 2 ^ 64) ⌝ }
     ensures { λ _. ⌜ now (sent .exit) ≡ now (sent .entry) + length (now (text .entry)) ⌝ }
 {
     *sent += text.len();
-    let whole = io::write_all(1, text);
-    if !whole {
+    if *failed {
+        return;
+    }
+    if !io::write_all(1, text) {
+        *failed = true;
         io::write_all(2, b"frames: writing failed, the output is not whole\n");
     }
-    whole
 }
 
 // Prints a refusal, which is all.
-fn print_refusal(input: &[u8], sent: &mut usize, number: u32, place: u32) -> bool
+fn print_refusal(input: &[u8], sent: &mut usize, failed: &mut bool, number: u32, place: u32)
     requires { ⌜ (framesText (now input) ≡ refusalText number place) × (now sent ≡ 0) ⌝ }
     ensures { λ _. ⌜ now (sent .exit) ≡ length (framesText (now (input .entry))) ⌝ }
 {
     let mut text = [0; 28];
     let bytes = dimacs::write_refusal(&mut text, number, place);
-    write_next(input, sent, &text[..bytes])
+    write_next(input, sent, failed, &text[..bytes]);
 }
 
 // Prints the header, with which the output begins.
 fn print_header(
     input: &[u8],
     sent: &mut usize,
+    failed: &mut bool,
     taken: Input,
     latches: &UnpackedList,
     gates: &UnpackedList,
-) -> bool
+)
     requires { ⌜ InputTaken (now input) taken (now latches) (now gates) × (now sent ≡ 0) ⌝ }
     ensures { λ _. ⌜ (now (sent .exit) ≡ length (formulaHeader (netOf (taken .net) (now (latches .entry)) (now (gates .entry))) (taken .depth)))
         × (now (sent .exit) ≤ 28) ⌝ }
 {
     let mut text = [0; 28];
     let bytes = program_output::print_header(&mut text, taken.net, latches, gates, taken.depth);
-    write_next(input, sent, &text[..bytes])
+    write_next(input, sent, failed, &text[..bytes]);
 }
 
-// Prints all groups in the order of the whole, behind the header. Where no write has failed, that is all.
+// Prints all groups in the order of the whole, behind the header: then all is printed.
 fn print_clauses(
     input: &[u8],
     sent: &mut usize,
+    failed: &mut bool,
     taken: Input,
     latches: &UnpackedList,
     gates: &UnpackedList,
-) -> bool
+)
     requires { ⌜ InputTaken (now input) taken (now latches) (now gates)
         × (now sent ≡ length (formulaHeader (netOf (taken .net) (now latches) (now gates)) (taken .depth))) × (now sent ≤ 28) ⌝ }
-    ensures { λ r. ⌜ (r ≡ true → now (sent .exit) ≡ length (framesText (now (input .entry)))) ⌝ }
+    ensures { λ _. ⌜ now (sent .exit) ≡ length (framesText (now (input .entry))) ⌝ }
 {
     let mut text = [0; 131072];
     let mut numbers = [0; 5992];
@@ -85,29 +89,40 @@ fn print_clauses(
             group,
         );
         let bytes = piece.bytes;
-        if !write_next(input, sent, &text[..bytes]) {
-            return false;
-        }
+        write_next(input, sent, failed, &text[..bytes]);
         next = piece.next;
     }
-    true
 }
 
-// Prints what is due for an input, all of it where no write has failed.
-fn print_answer(input: &[u8], sent: &mut usize) -> bool
-    requires { ⌜ now sent ≡ 0 ⌝ }
-    ensures { λ r. ⌜ (r ≡ true → now (sent .exit) ≡ length (framesText (now (input .entry)))) ⌝ }
+// Prints the formula of an input that is not refused.
+fn print_formula(
+    input: &[u8],
+    sent: &mut usize,
+    failed: &mut bool,
+    taken: Input,
+    latches: &UnpackedList,
+    gates: &UnpackedList,
+)
+    requires { ⌜ InputTaken (now input) taken (now latches) (now gates) × (now sent ≡ 0) ⌝ }
+    ensures { λ _. ⌜ now (sent .exit) ≡ length (framesText (now (input .entry))) ⌝ }
+{
+    print_header(input, sent, failed, taken, latches, gates);
+    print_clauses(input, sent, failed, taken, latches, gates);
+}
+
+// Hands all that is printed for an input to `write_next`.
+fn print_answer(input: &[u8], sent: &mut usize, failed: &mut bool)
+    requires { ⌜ (now sent ≡ 0) × (now failed ≡ false) ⌝ }
+    ensures { λ _. ⌜ now (sent .exit) ≡ length (framesText (now (input .entry))) ⌝ }
 {
     let mut latches = sheet_tests::no_codes();
     let mut gates = sheet_tests::no_codes();
     let taken = program_input::read_input(input, &mut latches, &mut gates);
     if taken.number != 0 {
-        return print_refusal(input, sent, taken.number, taken.place);
+        print_refusal(input, sent, failed, taken.number, taken.place);
+    } else {
+        print_formula(input, sent, failed, taken, &latches, &gates);
     }
-    if !print_header(input, sent, taken, &latches, &gates) {
-        return false;
-    }
-    print_clauses(input, sent, taken, &latches, &gates)
 }
 
 // One byte more than the longest input that is accepted, so that a longer one is seen to be too long.
@@ -115,5 +130,6 @@ fn main() {
     let mut bytes = [0; 19692];
     let count = io::read_full(0, &mut bytes);
     let mut sent = 0;
-    print_answer(&bytes[..count], &mut sent);
+    let mut failed = false;
+    print_answer(&bytes[..count], &mut sent, &mut failed);
 }

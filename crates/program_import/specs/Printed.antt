@@ -1,4 +1,4 @@
--- What `import_aag` prints for a text s with its caller's numbers (RULES P3, P20 and P21), that its room suffices, and that 5 does not occur. Cited
+-- What `import_aag` prints for a text s with its caller's numbers (RULES P3, P20 and P23), that its room suffices, and that 5 does not occur. Cited
 -- by `write_output`.
 use Prim.Native.Nat.{ℕ, _≤_}
 use mathlib.Core.Path.{_≡_}
@@ -35,7 +35,7 @@ unfoldable pub printedText : Bool → List ℕ → ℕ → ℕ → ℕ → ℕ �
 printedText more s m n word unknown =
     cond (more && stopsAtEnd s (importVerdict s m n (importedWord word unknown) unknown mostWires mostWires)) [] (importText s m n word unknown)
 
--- RULES P21: the first 4 MiB of what is read are judged
+-- RULES P23: the first 4 MiB of what is read are judged
 abbrev pub mostText : ℕ
 mostText = 4194304
 

@@ -1,4 +1,4 @@
-// What `import_aag` prints (RULES P3, P20 and P21): the sheet of a text's netlist, or a refusal; nothing where a text is too long to be judged.
+// What `import_aag` prints (RULES P3, P20 and P23): the sheet of a text's netlist, or a refusal; nothing where a text is too long to be judged.
 use refusals::Verdict;
 ghost use mathlib.Core.Path.{_≡_};
 ghost use mathlib.Core.Bool.{cond, _&&_};

@@ -1,6 +1,4 @@
--- `frames::print_answer` meets its contract: the refusal is all that is printed, or the header and the clauses are.
-use mathlib.Core.Path.{sym}
-use mathlib.Core.Bool.{true≢false}
+-- `frames::print_answer` meets its contract: the refusal is all that is printed, or the formula is.
 use native.Mathlib.Omega.{arith}
 use borrow.Author.Needs.{needs}
 use Rattle.program_output.proofs.Printed.{refused-frames}
@@ -18,24 +16,16 @@ read-input-requires c κs = search needs
 
 print-refusal-requires : tie.Need-print-refusal-requires
 print-refusal-requires c κs =
-    (refused-frames _ _ (c .before .before .before .read-input .ensures .0) (λ none. omega arith), c .before .before .before .before .before .before .before .before .before .pre)
+    (refused-frames _ _ (c .before .before .before .before .read-input .ensures .0) (λ none. omega arith), c .before .before .before .before .before .before .before .before .before .before .pre .0)
+
+print-formula-requires : tie.Need-print-formula-requires
+print-formula-requires c κs = (c .before .before .before .before .before .before .read-input .ensures .1 .0 (c .before .before .before .before .if1 .left), c .before .before .before .before .before .before .before .before .before .before .before .before .pre .0)
 
 returns : tie.Need-returns
 returns c = search needs
 
-print-header-requires : tie.Need-print-header-requires
-print-header-requires c κs = (c .before .before .before .before .before .read-input .ensures .1 .0 (c .before .before .before .if1 .left), c .before .before .before .before .before .before .before .before .before .before .before .pre)
-
 returns-2 : tie.Need-returns-2
-returns-2 c = λ e. absurd (true≢false (sym e))
-
-print-clauses-requires : tie.Need-print-clauses-requires
-print-clauses-requires c κs =
-    let header = c .before .before .before .before .print-header .ensures in
-    (c .before .before .before .before .before .before .before .before .before .before .read-input .ensures .1 .0 (c .before .before .before .before .before .before .before .before .if1 .left), header .0, header .1)
-
-returns-3 : tie.Need-returns-3
-returns-3 c = search needs
+returns-2 c = search needs
 
 pub print-answer-spec : {M : Type 1} → statement M
 print-answer-spec =
@@ -45,8 +35,6 @@ print-answer-spec =
     no-codes-requires-2
     read-input-requires
     print-refusal-requires
+    print-formula-requires
     returns
-    print-header-requires
-    returns-2
-    print-clauses-requires
-    returns-3)
+    returns-2)

@@ -2,7 +2,6 @@
 -- that of the groups behind it is due. Each piece leaves fewer groups, so the loop ends; and no piece is longer than its buffer, so the count fits.
 use Prim.Native.Nat.{_+_, _*_, _≤_}
 use mathlib.Core.Path.{_≡_, sym, _∙_}
-use mathlib.Core.Bool.{true≢false}
 use native.Mathlib.Omega.{arith}
 use borrow.Author.Needs.{needs}
 use lib.ListN.{length, take}
@@ -21,12 +20,12 @@ use Rattle.frames.proofs.print_clauses.Statement.{statement}
 use Rattle.frames.proofs.print_clauses.Tie as tie
 
 abbrev Inv-loop : tie.InvT-loop
-Inv-loop input sent₀ latches gates text₀ numbers₀ table net depth next₀ sent text numbers next =
+Inv-loop input sent₀ failed₀ latches gates text₀ numbers₀ table net depth next₀ sent failed text numbers next =
     (length text ≡ 131072) × (length numbers ≡ 5992) × (table ≡ tableBelow 10000)
     × PrintedSo (framesText input) (netOf net latches gates) depth sent next × (sent + remainingFrom (ports (alone net)) depth next * 131072 ≤ 18000000000)
 
 abbrev μ-loop : tie.MeasureT-loop
-μ-loop input sent₀ latches gates text₀ numbers₀ table net depth next₀ sent text numbers next = remainingFrom (ports (alone net)) depth next
+μ-loop input sent₀ failed₀ latches gates text₀ numbers₀ table net depth next₀ sent failed text numbers next = remainingFrom (ports (alone net)) depth next
 
 slice-aggregate-fill-table : tie.Need-slice-aggregate-fill-table Inv-loop μ-loop
 slice-aggregate-fill-table c = search needs
@@ -90,20 +89,17 @@ module _ (c : tie.After-print-groups Inv-loop μ-loop) where
   continues = c .print-groups .ensures .0 _ (so-far (c .before .before .before .before) .text-due)
 
 array-share-prefix-text : tie.Need-array-share-prefix-text Inv-loop μ-loop
-array-share-prefix-text c = within (c .before .before .before)
+array-share-prefix-text c = within (c .before .before .before .before)
 
 slice-aggregate-write-next : tie.Need-slice-aggregate-write-next Inv-loop μ-loop
-slice-aggregate-write-next c = sym (length-take-le _ _ (within (c .before .before .before .before)))
+slice-aggregate-write-next c = sym (length-take-le _ _ (within (c .before .before .before .before .before)))
 
 write-next-requires : tie.Need-write-next-requires Inv-loop μ-loop
 write-next-requires c κs =
-    let printed = c .before .before .before .before in (
-      piece-stands (so-far (c .before .before .before .before .before .before .before .before)) (continues printed),
-      omega (arith, c .before .before .before .before .before .before .before .before .before .before .before .loop .inv .4, most printed),
+    let printed = c .before .before .before .before .before in (
+      piece-stands (so-far (c .before .before .before .before .before .before .before .before .before)) (continues printed),
+      omega (arith, c .before .before .before .before .before .before .before .before .before .before .before .before .loop .inv .4, most printed),
     )
-
-returns : tie.Need-returns Inv-loop μ-loop
-returns c = λ e. absurd (true≢false (sym e))
 
 loop-less : tie.Need-loop-less Inv-loop μ-loop
 loop-less c = rw (c .before .before .before .before .before .before .before .before .before .before .before .next .given .1) (omega (arith, c .before .before .before .before .before .before .print-groups .ensures .1 .0))
@@ -112,7 +108,7 @@ loop-again : tie.Need-loop-again Inv-loop μ-loop
 loop-again c =
     let at = c .before .before .before .before .before .before .before .before .before .before .before .before .before .loop in
     let printed = c .before .before .before .before .before .before in
-    let sent = c .before .write-next .ensures in
+    let sent = c .write-next .ensures in
     let fewer = printed .print-groups .ensures .1 .0 in (
       printed .print-groups .kept .0 ∙ at .inv .0,
       printed .print-groups .kept .1 .0 ∙ at .inv .1,
@@ -124,8 +120,8 @@ loop-again c =
 enum-told : tie.Need-enum-told Inv-loop μ-loop
 enum-told c = search needs
 
-returns-2 : tie.Need-returns-2 Inv-loop μ-loop
-returns-2 c = λ e. all-printed (rw (c .enum-told .given .1) at (c .before .before .loop .inv .3))
+returns : tie.Need-returns Inv-loop μ-loop
+returns c = all-printed (rw (c .enum-told .given .1) at (c .before .before .loop .inv .3))
 
 pub print-clauses-spec : {M : Type 1} → statement M
 print-clauses-spec =
@@ -145,8 +141,7 @@ print-clauses-spec =
     array-share-prefix-text
     slice-aggregate-write-next
     write-next-requires
-    returns
     loop-less
     loop-again
     enum-told
-    returns-2)
+    returns)

@@ -36,18 +36,18 @@ slice-aggregate-write-next c = sym (length-take-le _ _ (array-share-prefix-text 
 
 write-next-requires : tie.Need-write-next-requires
 write-next-requires c κs =
-    let start = c .before .before .before .before .before .before in
+    let start = c .before .before .before .before .before .before .before in
     let a = start .args in
     let clauses = clauseText (formula (netOf (a .taken .net) (a .latches .now) (a .gates .now)) (a .taken .depth)) in
-    let printed = c .before .before .before in (
+    let printed = c .before .before .before .before in (
       first-stands _ clauses (taken-frames (start .pre .0) ∙ ap (λ (t : List ℕ). t ++ clauses) (sym (wrote-front (printed .print-header .ensures .0)))) (start .pre .1),
       omega (arith, start .pre .1, counted printed),
     )
 
 returns : tie.Need-returns
 returns c =
-    let start = c .before .before .before .before .before .before .before in
-    let printed = c .before .before .before .before in
+    let start = c .before .before .before .before .before .before .before .before in
+    let printed = c .before .before .before .before .before in
     let sent = c .write-next .ensures in
     (sent ∙ omega (arith, start .pre .1, ap length (wrote-front (printed .print-header .ensures .0))), omega (arith, sent, start .pre .1, counted printed))
 

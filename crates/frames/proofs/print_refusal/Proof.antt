@@ -32,7 +32,7 @@ front c = wrote-front (c .write-refusal .ensures)
 
 array-share-prefix-text : tie.Need-array-share-prefix-text
 array-share-prefix-text c =
-    let written = c .before .before in
+    let written = c .before .before .before in
     omega (arith, counted written, written .write-refusal .kept .0)
 
 slice-aggregate-write-next : tie.Need-slice-aggregate-write-next
@@ -40,16 +40,16 @@ slice-aggregate-write-next c = sym (length-take-le _ _ (array-share-prefix-text 
 
 write-next-requires : tie.Need-write-next-requires
 write-next-requires c κs =
-    let start = c .before .before .before .before .before .before in
-    let written = c .before .before .before in (
+    let start = c .before .before .before .before .before .before .before in
+    let written = c .before .before .before .before in (
       first-stands _ _ (start .pre .0 ∙ sym (front written) ∙ sym (append-nil _)) (start .pre .1),
       omega (arith, start .pre .1, counted written, ap length (front written), written .write-refusal .ensures .counted),
     )
 
 returns : tie.Need-returns
 returns c =
-    let start = c .before .before .before .before .before .before .before in
-    c .write-next .ensures ∙ omega (arith, start .pre .1, ap length (front (c .before .before .before .before)), ap length (start .pre .0))
+    let start = c .before .before .before .before .before .before .before .before in
+    c .write-next .ensures ∙ omega (arith, start .pre .1, ap length (front (c .before .before .before .before .before)), ap length (start .pre .0))
 
 pub print-refusal-spec : {M : Type 1} → statement M
 print-refusal-spec =
