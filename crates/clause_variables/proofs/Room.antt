@@ -5,11 +5,19 @@ use native.Mathlib.Nat.{add-assoc, le-of-lt, lt-of-lt-of-le}
 use native.Mathlib.Omega.{arith}
 use Rattle.model.specs.Netlist.{Netlist, Port, lastWire}
 use Rattle.model.specs.Clauses.{plus}
-use Rattle.model.specs.Variables.{base, pairBase}
+use Rattle.model.specs.Variables.{stride, base, pairBase}
 use Rattle.model.specs.Acceptance.{SizesFit, IsCode}
+use Rattle.model.proofs.Ports.{stride-most}
 use Rattle.model.proofs.Variables.{base-least, base-suc, base-most, pairBase-base, port-within}
 use Rattle.literals.specs.Lit.{HasNumber}
+use Rattle.literals.specs.Numbering.{NumberingFits}
+use Rattle.literals.specs.declared.Numbering.{Numbering}
 use Rattle.clause_variables.specs.PortFits.{PortFits}
+
+-- V and a pair's variables are within their limits
+pub numbering-fits : {c : Netlist} {x : Numbering} {i : ℕ} → SizesFit c → x .wires ≡ lastWire c → x .stride ≡ stride c → i ≤ 256
+    → NumberingFits x i
+numbering-fits h wires strides d = record { wires-most = rw wires (h .wires-fit); stride-most = rw strides (stride-most h); frame-most = d }
 
 -- a wire in a frame
 pub wire-has-number : (c : Netlist) → SizesFit c → (i w : ℕ) → i ≤ 255 → w ≤ lastWire c → HasNumber (base c i) w
