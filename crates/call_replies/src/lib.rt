@@ -19,29 +19,30 @@ ghost use Rattle.dimacs.specs.PrintCalls.{printReply};
 ghost use Rattle.sheet_parse.specs.LineAnswers.{withoutFields, lineSent};
 ghost use Rattle.call_replies.specs.Replies.{groupOf, groupNumbers, nextNumbers, sheetNumbers, headerVersion};
 
-// The group that three numbers stand for, at the first port. Another kind is no group: a pair of a frame with itself, which no depth has.
-pub fn group_of(kind: u32, j: u32, i: u32) -> Group
-    ensures { λ r. ⌜ r ≡ groupOf kind j i ⌝ }
+// The group that four numbers stand for. Another kind is no group: a pair of a frame with itself, which no depth has.
+pub fn group_of(kind: u32, j: u32, i: u32, port: u32) -> Group
+    ensures { λ r. ⌜ r ≡ groupOf kind j i port ⌝ }
 {
     match kind {
         0 => Group::Wires(i),
-        1 => Group::Pair(j, i, 1),
-        2 => Group::Closing(i, 1),
+        1 => Group::Pair(j, i, port),
+        2 => Group::Closing(i, port),
         3 => Group::Property,
-        _ => Group::Pair(i, i, 1),
+        _ => Group::Pair(i, i, port),
     }
 }
 
-// What is sent back of the order of the groups: the group as three numbers, or that there is none (`end` is 1, and the numbers are 0).
+// What is sent back of the order of the groups: the group as four numbers, or that there is none (`end` is 1, and the numbers are 0).
 #[repr(C)]
 pub struct GroupReply {
     pub end: u32,
     pub kind: u32,
     pub j: u32,
     pub i: u32,
+    pub port: u32,
 }
 
-// A group as three numbers, whose port is the first. What its kind does not have is 0.
+// A group as four numbers. What its kind does not have is 0.
 fn numbers_of(group: Group) -> GroupReply
     ensures { λ r. ⌜ r ≡ groupNumbers group ⌝ }
 {
@@ -51,24 +52,28 @@ fn numbers_of(group: Group) -> GroupReply
             kind: 0,
             j: 0,
             i,
+            port: 0,
         },
-        Group::Pair(j, i, _) => GroupReply {
+        Group::Pair(j, i, port) => GroupReply {
             end: 0,
             kind: 1,
             j,
             i,
+            port,
         },
-        Group::Closing(i, _) => GroupReply {
+        Group::Closing(i, port) => GroupReply {
             end: 0,
             kind: 2,
             j: 0,
             i,
+            port,
         },
         Group::Property => GroupReply {
             end: 0,
             kind: 3,
             j: 0,
             i: 0,
+            port: 0,
         },
     }
 }
@@ -84,6 +89,7 @@ pub fn next_numbers(next: Next) -> GroupReply
             kind: 0,
             j: 0,
             i: 0,
+            port: 0,
         },
     }
 }
@@ -98,7 +104,7 @@ pub struct VersionReply {
 pub fn version() -> VersionReply
     ensures { λ r. ⌜ r ≡ headerVersion ⌝ }
 {
-    VersionReply { major: 0, minor: 8 }
+    VersionReply { major: 0, minor: 9 }
 }
 
 // So many were written.
