@@ -61,6 +61,10 @@ unknown-number word (suc u) e = omega arith
 pub unknown-single : {c : Netlist} → SizesFit c → isUnknown (start c) ≡ true → (p : ℕ) → IsPort c p → p ≡ 1
 unknown-single {c} fit e p here = omega (arith, here .0, here .1, fit .kind-fits, unknown-number (c .initialWord) (c .unknownStart) e)
 
+-- so what holds of the first then holds of each
+pub unknown-each : {c : Netlist} → SizesFit c → isUnknown (start c) ≡ true → (P : ℕ → Type 0) → P 1 → (p : ℕ) → IsPort c p → P p
+unknown-each fit e P first p here = rw (unknown-single fit e p here) first
+
 -- a read bit, by its port
 pub record PortBit (c : Netlist) (r : ℕ) : Type 0 where
   pub of : ℕ
