@@ -1,15 +1,34 @@
 -- Every variable of frames 0 to 255 of a netlist within its limits has a clause number. No contract cites this file.
-use Prim.Native.Nat.{ℕ, suc, _+_, _/_, _≤_, _<_}
+use Prim.Native.Nat.{ℕ, suc, _+_, _-_, _/_, _≤_, _<_}
 use mathlib.Core.Path.{_≡_}
 use native.Mathlib.Nat.{add-assoc, le-of-lt, lt-of-lt-of-le}
 use native.Mathlib.Omega.{arith}
-use Rattle.model.specs.Netlist.{Netlist, Port, lastWire}
+use Rattle.model.specs.Netlist.{Netlist, Port, IsPort, port, lastWire}
 use Rattle.model.specs.Clauses.{plus}
-use Rattle.model.specs.Variables.{base, pairBase}
-use Rattle.model.specs.Acceptance.{SizesFit, IsCode}
+use Rattle.model.specs.Variables.{stride, base, pairBase}
+use Rattle.model.specs.Acceptance.{SizesFit, WithinLimits, IsCode}
+use Rattle.model.proofs.Ports.{stride-most, bit-within, variables-within}
 use Rattle.model.proofs.Variables.{base-least, base-suc, base-most, pairBase-base, port-within}
 use Rattle.literals.specs.Lit.{HasNumber}
+use Rattle.literals.specs.Numbering.{NumberingFits}
+use Rattle.literals.specs.declared.Numbering.{Numbering}
 use Rattle.clause_variables.specs.PortFits.{PortFits}
+
+-- V and a pair's variables are within their limits
+pub numbering-fits : {c : Netlist} {x : Numbering} {i : ℕ} → SizesFit c → x .wires ≡ lastWire c → x .stride ≡ stride c → i ≤ 256
+    → NumberingFits x i
+numbering-fits h wires strides d = record { wires-most = rw wires (h .wires-fit); stride-most = rw strides (stride-most h); frame-most = d }
+
+-- so are those of each port of a netlist within its limits
+pub port-fits : {c : Netlist} → WithinLimits c → (p : ℕ) → IsPort c p → PortFits c (port c p)
+port-fits {c} h p here =
+    record {
+      limits = h;
+      port-address-fits = h .codes .address-fits p here;
+      port-RE-fits = h .codes .RE-fits p here;
+      reads-fit = omega (arith, bit-within c p here (c .n - 1) (omega (arith, h .sizes .n-least)), h .sizes .n-least);
+      variables-fit = omega (arith, variables-within c p here);
+    }
 
 -- a wire in a frame
 pub wire-has-number : (c : Netlist) → SizesFit c → (i w : ℕ) → i ≤ 255 → w ≤ lastWire c → HasNumber (base c i) w

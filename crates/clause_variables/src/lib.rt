@@ -6,7 +6,7 @@ use literals::Term;
 use netlist::Netlist;
 ghost use mathlib.Core.Path.{_≡_};
 ghost use Prim.Native.Nat.{_≤_, _<_};
-ghost use Rattle.model.specs.Netlist.{port, lastWire};
+ghost use Rattle.model.specs.Netlist.{IsPort, port, lastWire};
 ghost use Rattle.model.specs.Variables.{stride, base, pairBase, noneSince, selected};
 ghost use Rattle.model.specs.Acceptance.{SizesFit};
 ghost use Rattle.literals.specs.Lit.{literalOf, IsTerm};
@@ -23,28 +23,39 @@ pub struct Port {
     pub first_variable: u32,
 }
 
-// The port of this number: a record has one.
+// The port of this number.
 pub fn port_of(net: Netlist, number: u32) -> Port
+    requires { ⌜ SizesFit (alone net) × IsPort (alone net) number ⌝ }
     ensures { λ r. ⌜ portOf r ≡ port (alone net) number ⌝ }
 {
-    let address = net.address;
-    let re = net.re;
+    if number == 1 {
+        let address = net.address;
+        let re = net.re;
+        return Port {
+            address,
+            re,
+            first_read: 0,
+            first_variable: 0,
+        };
+    }
+    let address = net.address2;
+    let re = net.re2;
     Port {
         address,
         re,
-        first_read: 0,
-        first_variable: 0,
+        first_read: net.n,
+        first_variable: net.m + 4,
     }
 }
 
-// V, and how many variables a pair has.
+// V, and how many variables a pair has, over all ports.
 pub fn numbering(net: Netlist) -> Numbering
     requires { ⌜ SizesFit (alone net) ⌝ }
     ensures { λ r. ⌜ (r .wires ≡ lastWire (alone net)) × (r .stride ≡ stride (alone net)) ⌝ }
 {
     Numbering {
         wires: netlist::wire_count(net),
-        stride: net.m + 4,
+        stride: netlist::port_count(net) * (net.m + 4),
     }
 }
 

@@ -9,7 +9,7 @@ use lib.Dec.{eqb}
 use lib.IntN.{ℤ}
 use borrow.Author.Tests.{ne-eqb, leb-true}
 use Rattle.model.specs.Netlist as M
-use Rattle.model.specs.Acceptance.{Accepted}
+use Rattle.model.specs.Acceptance.{SizesFit, Accepted}
 use Rattle.model.specs.Clauses.{pairClauses, closingClauses}
 use Rattle.model.specs.Variables.{base, pairBase, noneSince, selected, readBit, pairLiterals, closingLiterals}
 use Rattle.model.specs.Groups.{violationOf, clausesOf, inDepth}
@@ -22,21 +22,18 @@ use Rattle.model.proofs.Joined.{pair-inDepth, closing-inDepth}
 use Rattle.netlist.specs.NetOf.{netOf, alone}
 use Rattle.netlist.specs.declared.Netlist.{Netlist}
 use Rattle.clause_variables.specs.PortFits.{PortFits}
+use Rattle.clause_variables.proofs.Room.{port-fits}
 use Rattle.netlist.proofs.NetOf.{limits-alone}
 
 module _ (r : Netlist) (ls gs : List ℕ) where
-  -- the sizes and codes that an accepted record's port has
+  -- a port of an accepted record, and the sizes and codes that it has
+  pub port-alone : Accepted (netOf r ls gs) → (x : ℕ) → M.IsPort (netOf r ls gs) x → SizesFit (alone r) × M.IsPort (alone r) x
+  unfolding netOf
+  port-alone ok x is = (limits-alone r ls gs (ok .limits) .sizes, is)
+
   pub fits-alone : Accepted (netOf r ls gs) → (x : ℕ) → M.IsPort (netOf r ls gs) x → (p : M.Port) → p ≡ M.port (alone r) x → PortFits (alone r) p
   unfolding netOf
-  fits-alone ok x is p e =
-      rw e
-      (record {
-        limits = limits-alone r ls gs (ok .limits);
-        port-address-fits = ok .limits .codes .address-fits;
-        port-RE-fits = ok .limits .codes .RE-fits;
-        reads-fit = omega arith;
-        variables-fit = omega arith;
-      })
+  fits-alone ok x is p e = rw e (port-fits (limits-alone r ls gs (ok .limits)) x is)
 
   -- a pair
   pub pair-alone : (x : ℕ) (p : M.Port) → p ≡ M.port (alone r) x → (k j i : ℕ)

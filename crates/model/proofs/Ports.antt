@@ -26,6 +26,10 @@ second-port c h = (omega arith, omega arith)
 pub second-most : {c : Netlist} → SizesFit c → (x : ℕ) → c .secondPort * x ≤ x
 second-most {c} fit x = let most : c .secondPort * x ≤ 1 * x = mul-le-mul-right x (omega (arith, fit .kind-fits)) in omega arith
 
+-- both have at most 32 variables of a pair
+pub stride-most : {c : Netlist} → SizesFit c → stride c ≤ 32
+stride-most {c} fit = omega (arith, second-most fit (c .m + 4), fit .m-most)
+
 -- what holds of the codes of both holds of each port's
 pub each-port : (c : Netlist) (P : (ℕ → ℕ) → ℕ → Type 0) → P (c .address) (c .RE) → (0 < c .secondPort → P (c .address2) (c .RE2))
     → (p : ℕ) → IsPort c p → P (port c p .address) (port c p .RE)

@@ -1,6 +1,6 @@
 -- `clause_variables::frame_base` meets its contract.
-use borrow.Author.Needs.{needs}
 use Rattle.model.specs.Variables.{base}
+use Rattle.clause_variables.proofs.Room.{numbering-fits}
 use Rattle.clause_variables.proofs.frame_base.Statement.{statement}
 use Rattle.clause_variables.proofs.frame_base.Tie as tie
 
@@ -8,7 +8,9 @@ numbering-requires : tie.Need-numbering-requires
 numbering-requires c κs = c .pre .0
 
 base-requires : tie.Need-base-requires
-base-requires c κs = search needs
+base-requires c κs =
+    let p = c .before .pre in
+    numbering-fits (p .0) (c .numbering .ensures .0) (c .numbering .ensures .1) (p .1)
 
 returns : tie.Need-returns
 unfolding base

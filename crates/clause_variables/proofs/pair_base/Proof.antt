@@ -1,7 +1,8 @@
 -- `clause_variables::pair_base` meets its contract.
-use borrow.Author.Needs.{needs}
+use native.Mathlib.Omega.{arith}
 use Rattle.model.specs.Variables.{pairBase}
 use Rattle.clause_variables.specs.PortOf.{portOf}
+use Rattle.clause_variables.proofs.Room.{numbering-fits}
 use Rattle.clause_variables.proofs.pair_base.Statement.{statement}
 use Rattle.clause_variables.proofs.pair_base.Tie as tie
 
@@ -10,7 +11,12 @@ numbering-requires c κs = c .pre .0 .limits .sizes
 
 pair-base-requires : tie.Need-pair-base-requires
 unfolding portOf
-pair-base-requires c κs = search needs
+pair-base-requires c κs =
+    let p = c .before .pre in (
+      numbering-fits (p .0 .limits .sizes) (c .numbering .ensures .0) (c .numbering .ensures .1) (omega (arith, p .2)),
+      p .1,
+      rw (c .numbering .ensures .1) (omega (arith, p .0 .variables-fit)),
+    )
 
 returns : tie.Need-returns
 unfolding pairBase portOf

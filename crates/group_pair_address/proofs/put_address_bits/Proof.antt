@@ -2,9 +2,10 @@
 use Prim.Native.Nat.{_-_}
 use native.Mathlib.Omega.{arith}
 use borrow.Author.Needs.{needs}
-use Rattle.netlist.specs.NetOf.{codeOf, netOf}
+use Rattle.model.proofs.Ports.{first-port}
+use Rattle.netlist.specs.NetOf.{codeOf, netOf, alone}
 use Rattle.clause_variables.specs.PortOf.{portOf}
-use Rattle.clause_variables.proofs.Room.{code-has-number, pair-has-number}
+use Rattle.clause_variables.proofs.Room.{code-numbered, pair-has-number}
 use Rattle.clause_writer.proofs.Turns.{Turns, turns-start, turns-room, turns-count, turns-next, turns-end}
 use Rattle.group_pair_address.proofs.BitsOf.{addressBit, address-bits}
 use Rattle.group_pair_address.proofs.put_address_bits.Statement.{statement}
@@ -67,10 +68,13 @@ unfolding codeOf netOf portOf
 put-address-bit-requires c κs =
     let is = c .before .before .before .before .before .before .before .before .pre .0 in
     let h = c .before .before .before .loop-test .taken in
-    let t = c .before .before .before .before .loop .t in (
+    let t = c .before .before .before .before .loop .t in
+    let a = c .before .before .before .before .before .before .before .before .args in
+    let first = is .fits .limits .codes .address-fits 1 (first-port (alone (a .t2))) t h in
+    let own = is .fits .port-address-fits t h in (
       rw (c .before .before .before .before .before .before .before .pair-base .ensures) (pair-has-number _ _ (is .fits) _ _ _ (is .earlier) (is .depth) (omega arith)),
-      rw (c .before .before .before .before .before .before .frame-base .ensures) (code-has-number _ (is .fits .limits .sizes) _ _ (omega arith) (is .fits .limits .codes .address-fits t h)),
-      rw (c .before .before .before .before .before .frame-base2 .ensures) (code-has-number _ (is .fits .limits .sizes) _ _ (omega arith) (is .fits .port-address-fits t h)),
+      search (code-numbered (alone (a .t2)) (a .j) _ _ (c .before .before .before .before .before .before .frame-base .ensures) (is .fits .limits .sizes) first (omega arith), code-numbered (alone (a .t2)) (a .j) _ _ (c .before .before .before .before .before .before .frame-base .ensures) (is .fits .limits .sizes) own (omega arith)),
+      code-numbered _ _ _ _ (c .before .before .before .before .before .frame-base2 .ensures) (is .fits .limits .sizes) own (omega arith),
       turns-room (c .before .before .before .before .loop .inv) h,
     )
 

@@ -4,7 +4,7 @@ use native.Mathlib.Omega.{arith}
 use borrow.Author.Needs.{needs}
 use Rattle.model.specs.Variables.{base}
 use Rattle.netlist.specs.NetOf.{netOf}
-use Rattle.clause_variables.proofs.Room.{code-has-number}
+use Rattle.clause_variables.proofs.Room.{numbering-fits, code-has-number}
 use Rattle.clause_writer.proofs.Turns.{Turns, turns-start, turns-room, turns-count, turns-next, turns-end}
 use Rattle.group_property.proofs.Violations.{violation, violations}
 use Rattle.group_property.proofs.put_violations.Statement.{statement}
@@ -26,7 +26,10 @@ add-loop : tie.Need-add-loop Inv-loop μ-loop
 add-loop c = search needs
 
 base-requires : tie.Need-base-requires Inv-loop μ-loop
-base-requires c κs = search needs
+base-requires c κs =
+    let is = c .before .before .before .before .pre .0 in
+    let e = c .before .before .before .numbering .ensures in
+    numbering-fits (is .limits .sizes) (e .0) (e .1) (omega arith)
 
 in-frame-requires : tie.Need-in-frame-requires Inv-loop μ-loop
 unfolding base netOf

@@ -1,7 +1,7 @@
 -- `groups::put_group` meets its contract: each arm writes the group of its kind.
-use mathlib.Core.Path.{refl}
 use native.Mathlib.Omega.{arith}
-use Rattle.groups.proofs.Alone.{fits-alone, pair-alone, closing-alone, property-alone, wires-count, pair-count, closing-count, property-count, wires-depth, wrote-by-kind, wires-frame, pair-frames, closing-frame}
+use Rattle.netlist.proofs.NetOf.{limits-alone}
+use Rattle.groups.proofs.Alone.{port-alone, fits-alone, pair-alone, closing-alone, property-alone, wires-count, pair-count, closing-count, property-count, wires-depth, wrote-by-kind, wires-frame, pair-frames, closing-frame}
 use borrow.Author.Needs.{needs}
 use Rattle.groups.proofs.put_group.Statement.{statement}
 use Rattle.groups.proofs.put_group.Tie as tie
@@ -21,7 +21,10 @@ enum-known-group-2 : tie.Need-enum-known-group-2
 enum-known-group-2 c = search needs
 
 port-of-requires : tie.Need-port-of-requires
-port-of-requires c κs = search needs
+port-of-requires c κs =
+    let p = c .before .before .before .before .pre in
+    let f = pair-frames _ _ _ _ _ (c .before .before .group2 .given .1) (p .2) in
+    port-alone _ _ _ (p .0) _ (f .2)
 
 put-pair-requires : tie.Need-put-pair-requires
 put-pair-requires c κs =
@@ -36,7 +39,10 @@ enum-known-group-3 : tie.Need-enum-known-group-3
 enum-known-group-3 c = search needs
 
 port-of-requires-2 : tie.Need-port-of-requires-2
-port-of-requires-2 c κs = search needs
+port-of-requires-2 c κs =
+    let p = c .before .before .before .before .pre in
+    let f = closing-frame _ _ _ _ (c .before .before .group3 .given .1) (p .2) in
+    port-alone _ _ _ (p .0) _ (f .1)
 
 put-closing-requires : tie.Need-put-closing-requires
 put-closing-requires c κs =
@@ -53,9 +59,8 @@ enum-told c = search needs
 put-property-requires : tie.Need-put-property-requires
 put-property-requires c κs =
     let p = c .before .before .before .pre in
-    let f = fits-alone _ _ _ (p .0) 1 (omega arith, omega arith) _ refl in
     let room = rw (property-count _ _ _ _ (c .before .enum-told .given .1)) at (p .3) in
-    (record { limits = f .limits; depth = omega arith }, omega arith)
+    (record { limits = limits-alone _ _ _ (p .0 .limits); depth = omega arith }, omega arith)
 
 same-length : tie.Need-same-length
 same-length c = search needs
