@@ -7,9 +7,9 @@ use netlist::UnpackedList;
 ghost use mathlib.Core.Path.{_≡_};
 ghost use Prim.Native.Nat.{_≤_};
 ghost use Rattle.model.specs.Acceptance.{SizesFit};
-ghost use Rattle.netlist.specs.NetOf.{netOf, alone};
+ghost use Rattle.netlist.specs.NetOf.{codeOf, netOf, alone};
 ghost use Rattle.netlist.specs.Faults.{codeFault};
-ghost use Rattle.netlist_scan.specs.AnyLine.{anyLatch, anyGate, anyInRecord, anyLine};
+ghost use Rattle.netlist_scan.specs.AnyLine.{anyLatch, anyGate, anyAbove, anyInSecond, anyInRecord, anyLine};
 
 // Whether any latch's next code or reset is outside its limit.
 fn any_latch(last: Wire, latches: &UnpackedList, count: u32) -> bool
@@ -44,25 +44,59 @@ fn any_gate(first: Wire, gates: &UnpackedList, count: u32) -> bool
     any
 }
 
-// Whether any code that the record itself holds is outside its limit: those of lines A, D and C.
+// Whether any of a port's m address codes is outside its limit.
+fn any_address(last: Wire, address: [Code; 12], m: u32) -> bool
+    requires { ⌜ m ≤ 12 ⌝ }
+    ensures { λ r. ⌜ r ≡ anyAbove (last .0) (codeOf address) m ⌝ }
+{
+    let mut any = false;
+    let mut t = 0;
+    while t < m {
+        let at = t as usize;
+        any = any | address[at].is_above(last);
+        t += 1;
+    }
+    any
+}
+
+// Whether any write-data code is outside its limit.
+fn any_data(last: Wire, codes: [Code; 32], n: u32) -> bool
+    requires { ⌜ n ≤ 32 ⌝ }
+    ensures { λ r. ⌜ r ≡ anyAbove (last .0) (codeOf codes) n ⌝ }
+{
+    let mut any = false;
+    let mut t = 0;
+    while t < n {
+        let at = t as usize;
+        any = any | codes[at].is_above(last);
+        t += 1;
+    }
+    any
+}
+
+// Whether any code of a second port is outside its limit: those of lines B and R. Where there is none they are not looked at.
+fn any_in_second(net: Netlist, last: Wire) -> bool
+    requires { ⌜ SizesFit (alone net) ⌝ }
+    ensures { λ r. ⌜ r ≡ anyInSecond (last .0) (alone net) ⌝ }
+{
+    if 0 < net.second_port {
+        let address = net.address2;
+        return any_address(last, address, net.m) | net.re2.is_above(last);
+    }
+    false
+}
+
+// Whether any code that the record itself holds is outside its limit: those of lines A, D, B, R and C.
 fn any_in_record(net: Netlist, last: Wire) -> bool
     requires { ⌜ SizesFit (alone net) ⌝ }
     ensures { λ r. ⌜ r ≡ anyInRecord (last .0) (alone net) ⌝ }
 {
-    let mut any = false;
-    let mut t = 0;
-    while t < net.m {
-        let at = t as usize;
-        any = any | net.address[at].is_above(last);
-        t += 1;
-    }
-    t = 0;
-    while t < net.n {
-        let at = t as usize;
-        any = any | net.write_data[at].is_above(last);
-        t += 1;
-    }
-    any | (net.we.is_above(last) | net.re.is_above(last) | net.p.is_above(last))
+    let address = net.address;
+    let codes = net.write_data;
+    any_address(last, address, net.m)
+        | any_data(last, codes, net.n)
+        | any_in_second(net, last)
+        | (net.we.is_above(last) | net.re.is_above(last) | net.p.is_above(last))
 }
 
 // Whether any line has refusal 5.

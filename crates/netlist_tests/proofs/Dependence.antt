@@ -2,7 +2,7 @@
 -- No contract cites this file.
 use Prim.Native.Nat.{ℕ, _+_, _/_, _≤_, _<_}
 use mathlib.Core.Path.{_≡_, refl, sym, _∙_}
-use mathlib.Core.Bool.{Bool, true, false, cond, _&&_}
+use mathlib.Core.Bool.{Bool, true, false, cond, _&&_, _||_, or-true, or-false}
 use mathlib.Core.Logic.{by-cases}
 use mathlib.Core.List.{List}
 use native.Mathlib.Decide.{decLt}
@@ -14,19 +14,23 @@ use borrow.Author.Tests.{eq-eqb, ne-eqb, le-leb, lt-leb, lt-ltb, le-ltb}
 use Rattle.refusals.specs.declared.Refusal.the-variants.{MemoryLoop}
 use Rattle.refusals.specs.declared.Verdict.the-variants.{Passed}
 use Rattle.refusals.proofs.Tests.{refuseIf-passes, inOrder-passes}
-use Rattle.model.specs.Netlist.{Netlist, readWire, gateWire}
+use Rattle.model.specs.Netlist.{Netlist, port, readWire, gateWire}
 use Rattle.model.specs.Circuit.{Values, sweep, isRead, dependsOnRead}
 use Rattle.model.specs.Acceptance.{WithinLimits}
+use Rattle.model.specs.Search.{anyBelow}
+use Rattle.model.proofs.Ports.{first-port, second-port}
+use Rattle.model.proofs.Search.{any-never}
 use Rattle.netlist.specs.WireTable.{entry, HasAll}
 use Rattle.netlist.specs.Places.{addressLine, lineAt, HasLine}
 use Rattle.netlist.specs.Faults.{loopFaultBy, loopFault}
-use Rattle.netlist_scan.specs.AnyLine.{anyLine}
+use Rattle.netlist_scan.specs.AnyLine.{ofSecond, anyLine}
 use Rattle.netlist_tests.specs.Record.{testLine, testLines}
+use Rattle.netlist_tests.specs.OnePort.{anyDependent}
 use Rattle.netlist.specs.declared.Line.{Line}
-use Rattle.netlist.specs.declared.Line.the-variants.{Sizes, Memory, Latch, Gate, Address, WriteData, Control}
+use Rattle.netlist.specs.declared.Line.the-variants.{Sizes, Memory, Latch, Gate, Address, WriteData, SecondAddress, SecondEnable, Control}
 use Rattle.netlist.proofs.WireTable.{below-set}
-use Rattle.netlist.proofs.Places.{before-address}
-use Rattle.netlist.proofs.Faults.{Without, no-loop}
+use Rattle.netlist.proofs.Places.{before-address, has-lineAt, every-place}
+use Rattle.netlist.proofs.Faults.{Without}
 use Rattle.netlist_scan.proofs.AnyLine.{none-in-lines}
 use Rattle.netlist_tests.proofs.Record.{PassedTo, testLines-passes}
 
@@ -81,22 +85,37 @@ loopFault-table {c} q h Sizes s = refl
 loopFault-table {c} q h Memory s = refl
 loopFault-table {c} q h (Latch l) s = refl
 loopFault-table {c} q h (Gate g) s = refl
-loopFault-table {c} q h (Address t) s = sym (q .has (c .address t / 2) (omega (arith, h .codes .address-fits t s, h .sizes .wires-fit)))
+loopFault-table {c} q h (Address t) s = sym (q .has (c .address t / 2) (omega (arith, h .codes .address-fits 1 (first-port c) t s, h .sizes .wires-fit)))
 loopFault-table {c} q h (WriteData t) s = refl
-loopFault-table {c} q h Control s = sym (q .has (c .RE / 2) (omega (arith, h .codes .RE-fits, h .sizes .wires-fit)))
+loopFault-table {c} q h (SecondAddress t) s =
+    sym (q .has (c .address2 t / 2) (omega (arith, h .codes .address-fits 2 (second-port c (s .0)) t (s .1), h .sizes .wires-fit)))
+loopFault-table {c} q h SecondEnable s = sym (q .has (c .RE2 / 2) (omega (arith, h .codes .RE-fits 2 (second-port c s), h .sizes .wires-fit)))
+loopFault-table {c} q h Control s = sym (q .has (c .RE / 2) (omega (arith, h .codes .RE-fits 1 (first-port c), h .sizes .wires-fit)))
 
 -- no line makes a memory loop where the pass over the lists finds none by such a table
 pub loops-none : {c : Netlist} {flags : List Bool} → HasAll (dependsOnRead c) flags → WithinLimits c
     → anyLine c (loopFaultBy (entry flags)) ≡ false → testLines c MemoryLoop loopFault ≡ Passed
 unfolding loopFaultBy
 loops-none {c} {flags} q h e =
-    let none = none-in-lines c (loopFaultBy (entry flags)) refl refl e in
+    let by-table = loopFaultBy (entry flags) in
+    let none = every-place c (Without by-table c) .0 (none-in-lines c by-table refl refl e) in
     testLines-passes c MemoryLoop loopFault .1
-    (no-loop c .1
-    (λ p is. record {
-      address-free = λ t b. loopFault-table q h (Address t) b ∙ none .of-address t b;
-      RE-free = loopFault-table q h Control tt ∙ none .of-control;
-    }))
+    (every-place c (Without loopFault c) .1 (λ p l b. loopFault-table q h (lineAt c p) (has-lineAt c p) ∙ none p l b))
+
+-- no line but those of a port's address codes and its RE can make a memory loop: the pass over the lists, port by port
+pub anyLine-ports : (c : Netlist) (d : ℕ → Bool)
+    → anyLine c (loopFaultBy d)
+    ≡ (anyDependent d (port c 1 .address) (c .m) (port c 1 .RE) || ofSecond c (anyDependent d (port c 2 .address) (c .m) (port c 2 .RE)))
+unfolding loopFaultBy anyLine anyDependent
+anyLine-ports c d =
+    let address = anyBelow (c .m) (λ t. d (c .address t / 2)) in
+    let second = ofSecond c (anyBelow (c .m) (λ t. d (c .address2 t / 2)) || d (c .RE2 / 2)) in
+    simp (any-never, or-false) (RE-last address second (d (c .RE / 2)))
+  where
+    RE-last : (a b re : Bool) → (a || b || re) ≡ (a || re || b)
+    RE-last true b re = refl
+    RE-last false true re = sym (or-true re)
+    RE-last false false re = sym (or-false re)
 
 -- no line before the address codes makes a memory loop
 pub loops-before : (c : Netlist) (p : ℕ) → p < addressLine c 0 → PassedTo c MemoryLoop loopFault p

@@ -9,7 +9,7 @@ use Rattle.netlist.specs.NetOf.{codeOf, netOf, alone}
 use Rattle.netlist.specs.Places.{lineAt}
 use Rattle.netlist.specs.Faults.{sizeFault, tieFault, loopFaultBy, loopFault}
 use Rattle.netlist.specs.declared.Line.{Line}
-use Rattle.netlist.specs.declared.Line.the-variants.{Sizes, Memory, Latch, Gate, Address, WriteData, Control}
+use Rattle.netlist.specs.declared.Line.the-variants.{Sizes, Memory, Latch, Gate, Address, WriteData, SecondAddress, SecondEnable, Control}
 use Rattle.netlist.specs.declared.Netlist.{Netlist}
 use Rattle.netlist.proofs.NetOf.{lineAt-lists, sizeFault-lists, depends-latches}
 use Rattle.netlist_scan.specs.AnyLine.{anyLine}
@@ -35,6 +35,8 @@ module _ (r : Netlist) (latches gates : List ℕ) where
       same (Gate g) = refl
       same (Address t) = refl
       same (WriteData t) = refl
+      same (SecondAddress t) = refl
+      same SecondEnable = refl
       same Control = refl
 
   -- the tests of memory loops
@@ -49,6 +51,8 @@ module _ (r : Netlist) (latches gates : List ℕ) where
       same (Gate g) = refl
       same (Address t) = depends-latches r latches gates (codeOf (r .address) t / 2)
       same (WriteData t) = refl
+      same (SecondAddress t) = depends-latches r latches gates (codeOf (r .address2) t / 2)
+      same SecondEnable = depends-latches r latches gates (r .re2 .0 / 2)
       same Control = depends-latches r latches gates (r .re .0 / 2)
 
   -- the pass over the lists that looks for memory loops
@@ -56,6 +60,6 @@ module _ (r : Netlist) (latches gates : List ℕ) where
   unfolding netOf loopFaultBy anyLine
   any-loop-lists d = refl
 
--- so the tests of the port
+-- so the tests of the ports
 pub test-ports-latches : (r : Netlist) (latches gates : List ℕ) → testPorts (netOf r [] gates) ≡ testPorts (netOf r latches gates)
 test-ports-latches r latches gates = rw (← test-ties-lists r [] gates, test-ties-lists r latches gates, test-loops-latches r latches gates)

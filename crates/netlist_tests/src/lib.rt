@@ -7,7 +7,7 @@ use refusals::Refusal;
 use refusals::Verdict;
 ghost use mathlib.Core.Path.{_≡_};
 ghost use mathlib.Core.List.{[]};
-ghost use Prim.Native.Nat.{_≤_, _<_};
+ghost use Prim.Native.Nat.{ℕ, _/_, _≤_, _<_};
 ghost use Rattle.model.specs.Circuit.{isRead, dependsOnRead};
 ghost use Rattle.model.specs.Search.{firstWhere};
 ghost use Rattle.model.specs.Acceptance.{SizesFit, WithinLimits};
@@ -17,8 +17,9 @@ ghost use Rattle.netlist.specs.Places.{HasLine};
 ghost use Rattle.netlist.specs.Faults.{sizeFault, codeFault, isTied, loopFaultBy};
 ghost use Rattle.netlist_scan.specs.AnyLine.{anyLine};
 ghost use Rattle.netlist_tests.specs.Record.{testLines, testTies, testLoops, testPorts, recordVerdict};
+ghost use Rattle.netlist_tests.specs.OnePort.{testAddress, anyDependent};
 
-// Tests the numbers of lines N and M (refusal 4).
+// Tests the numbers of lines N and M or T (refusal 4).
 pub fn test_sizes(net: Netlist) -> Verdict
     ensures { λ r. ⌜ r ≡ testLines (alone net) Refusal.Size sizeFault ⌝ }
 {
@@ -91,15 +92,32 @@ fn first_tie(address: [Code; 12], m: u32) -> u32
     m
 }
 
-// Tests the address codes for ties, in line order (refusal 17).
+// Tests a port's m address codes for ties, in line order; their lines begin at a place.
+fn test_address(address: [Code; 12], m: u32, line: u32) -> Verdict
+    requires { ⌜ (m ≤ 12) × (line ≤ 1000) ⌝ }
+    ensures { λ r. ⌜ r ≡ testAddress (codeOf address) m line ⌝ }
+{
+    let t = first_tie(address, m);
+    if t < m {
+        return Verdict::Refused(Refusal::TiedAddress, line + t);
+    }
+    Verdict::Passed
+}
+
+// Tests each port's address codes for ties, in line order (refusal 17).
 fn test_ties(net: Netlist) -> Verdict
     requires { ⌜ SizesFit (alone net) ⌝ }
     ensures { λ r. ⌜ r ≡ testTies (alone net) ⌝ }
 {
+    let line = 3 + net.latches + net.gates;
     let address = net.address;
-    let t = first_tie(address, net.m);
-    if t < net.m {
-        return Verdict::Refused(Refusal::TiedAddress, 3 + net.latches + net.gates + t);
+    let ties = test_address(address, net.m, line);
+    if let Verdict::Refused(_, _) = ties {
+        return ties;
+    }
+    if 0 < net.second_port {
+        let second = net.address2;
+        return test_address(second, net.m, line + net.m + net.n);
     }
     Verdict::Passed
 }
@@ -154,6 +172,15 @@ fn loop_fault(net: Netlist, flags: &[bool; 601], line: Line) -> bool
             flags[w]
         }
         Line::WriteData(_) => false,
+        Line::SecondAddress(t) => {
+            let at = t as usize;
+            let w = net.address2[at].wire_index();
+            flags[w]
+        }
+        Line::SecondEnable => {
+            let w = net.re2.wire_index();
+            flags[w]
+        }
         Line::Control => {
             let w = net.re.wire_index();
             flags[w]
@@ -161,24 +188,38 @@ fn loop_fault(net: Netlist, flags: &[bool; 601], line: Line) -> bool
     }
 }
 
+// Whether any of a port's m address codes, or its RE, depends on a read bit, by such a table.
+fn any_dependent(address: [Code; 12], m: u32, re: Code, flags: &[bool; 601]) -> bool
+    requires { ⌜ (m ≤ 12) × ((t : ℕ) → t < m → codeOf address t / 2 ≤ 600) × (re .0 / 2 ≤ 600) ⌝ }
+    ensures { λ r. ⌜ r ≡ anyDependent (entry (now (flags .entry))) (codeOf address) m (re .0) ⌝ }
+{
+    let mut any = false;
+    let mut t = 0;
+    while t < m {
+        let at = t as usize;
+        let w = address[at].wire_index();
+        any = any | flags[w];
+        t += 1;
+    }
+    let w = re.wire_index();
+    any | flags[w]
+}
+
 // Whether any line makes a memory loop, by such a table.
 fn any_loop(net: Netlist, flags: &[bool; 601]) -> bool
     requires { ⌜ WithinLimits (alone net) ⌝ }
     ensures { λ r. ⌜ r ≡ anyLine (alone net) (loopFaultBy (entry (now (flags .entry)))) ⌝ }
 {
-    let mut any = false;
-    let mut t = 0;
-    while t < net.m {
-        let at = t as usize;
-        let w = net.address[at].wire_index();
-        any = any | flags[w];
-        t += 1;
+    let address = net.address;
+    let any = any_dependent(address, net.m, net.re, flags);
+    if 0 < net.second_port {
+        let second = net.address2;
+        return any | any_dependent(second, net.m, net.re2, flags);
     }
-    let w = net.re.wire_index();
-    any | flags[w]
+    any
 }
 
-// Tests the address codes and RE, in line order (refusal 6). A place is looked for only where there is one. The lines before the
+// Tests each port's address codes and RE, in line order (refusal 6). A place is looked for only where there is one. The lines before the
 // address codes make no memory loop.
 fn test_loops(net: Netlist, gates: &UnpackedList) -> Verdict
     requires { ⌜ WithinLimits (netOf net [] (now gates)) ⌝ }
@@ -200,7 +241,7 @@ fn test_loops(net: Netlist, gates: &UnpackedList) -> Verdict
     Verdict::Passed
 }
 
-// Tests the memory's port: ties, then memory loops.
+// Tests the memory's ports: ties, then memory loops.
 pub fn test_ports(net: Netlist, gates: &UnpackedList) -> Verdict
     requires { ⌜ WithinLimits (netOf net [] (now gates)) ⌝ }
     ensures { λ r. ⌜ r ≡ testPorts (netOf net [] (now (gates .entry))) ⌝ }

@@ -12,11 +12,11 @@ use lib.ListN.{getD}
 use Rattle.model.proofs.Booleans.{and-true}
 use Rattle.sheet_lines.specs.Letters.{letterOf, kindOf, rowOf, isKnown, contentOf, contentNumber, ContentsAsPrinted}
 use Rattle.sheet_lines.specs.declared.Kind.{Kind}
-use Rattle.sheet_lines.specs.declared.Kind.the-variants.{Sizes, Memory, Latch, Gate, Address, WriteData, Control, Unknown}
+use Rattle.sheet_lines.specs.declared.Kind.the-variants.{Sizes, Memory, TwoPorts, Latch, Gate, Address, WriteData, SecondAddress, SecondEnable, Control, Unknown}
 
 -- the kinds in the order of their rows, and the first of a list that has the letter c
 abbrev pub kinds : List Kind
-kinds = Sizes ∷ Memory ∷ Latch ∷ Gate ∷ Address ∷ WriteData ∷ Control ∷ []
+kinds = Sizes ∷ Memory ∷ TwoPorts ∷ Latch ∷ Gate ∷ Address ∷ WriteData ∷ SecondAddress ∷ SecondEnable ∷ Control ∷ []
 
 abbrev firstWith : ℕ → List Kind → Kind
 firstWith c [] = Unknown
@@ -42,10 +42,13 @@ pub kindOf-letterOf : (k : Kind) → isKnown k ≡ true → kindOf (letterOf k) 
 unfolding kindOf
 kindOf-letterOf Sizes h = refl
 kindOf-letterOf Memory h = refl
+kindOf-letterOf TwoPorts h = refl
 kindOf-letterOf Latch h = refl
 kindOf-letterOf Gate h = refl
 kindOf-letterOf Address h = refl
 kindOf-letterOf WriteData h = refl
+kindOf-letterOf SecondAddress h = refl
+kindOf-letterOf SecondEnable h = refl
 kindOf-letterOf Control h = refl
 kindOf-letterOf Unknown h = absurd (false≢true h)
 
@@ -60,35 +63,38 @@ every-at (suc n) f h i l =
     let p : (f n ≡ true) × (every n f ≡ true) = and-true (f n) (every n f) .0 h in
     ⊎-elim (λ (e : i ≡ n). rw e (p .0)) (λ (b : i < n). every-at n f (p .1) i b) (eq-or-lt-of-le (le-of-suc-le-suc l))
 
-kind-at-row : (k : Kind) → rowOf k < 7 → getD kinds (rowOf k) Unknown ≡ k
+kind-at-row : (k : Kind) → rowOf k < 10 → getD kinds (rowOf k) Unknown ≡ k
 kind-at-row Sizes h = refl
 kind-at-row Memory h = refl
+kind-at-row TwoPorts h = refl
 kind-at-row Latch h = refl
 kind-at-row Gate h = refl
 kind-at-row Address h = refl
 kind-at-row WriteData h = refl
+kind-at-row SecondAddress h = refl
+kind-at-row SecondEnable h = refl
 kind-at-row Control h = refl
 kind-at-row Unknown h = absurd (omega arith)
 
--- whether an entry of a table says what the rule says, and whether all 21 do
+-- whether an entry of a table says what the rule says, and whether all 30 do
 abbrev pub entry-right : List (List ℕ) → ℕ → ℕ → Bool
 entry-right table row column =
     eqb (getD (getD table row []) column 0) (contentNumber (contentOf (getD kinds row Unknown) column))
 
 abbrev pub table-right : List (List ℕ) → Bool
-table-right table = every 7 (λ row. every 3 (entry-right table row))
+table-right table = every 10 (λ row. every 3 (entry-right table row))
 
 -- a table that passes that one test says at every row and column what the rule says
 pub table-follows : (table : List (List ℕ)) → table-right table ≡ true → ContentsAsPrinted table
 unfolding ContentsAsPrinted
 table-follows table right k column l c =
-    let at-row : every 3 (entry-right table (rowOf k)) ≡ true = every-at 7 (λ row. every 3 (entry-right table row)) right (rowOf k) l in
+    let at-row : every 3 (entry-right table (rowOf k)) ≡ true = every-at 10 (λ row. every 3 (entry-right table row)) right (rowOf k) l in
     let at-column : entry-right table (rowOf k) column ≡ true = every-at 3 (entry-right table (rowOf k)) at-row column c in
     eqb-true _ _ at-column ∙ ap (λ (k : Kind). contentNumber (contentOf k column)) (kind-at-row k l)
 
 -- what such a table says at the row of a kind
 pub content-at :
-    (table : List (List ℕ)) → ContentsAsPrinted table → (k : Kind) (row column : ℕ) → row ≡ rowOf k → rowOf k < 7 → column < 3 →
+    (table : List (List ℕ)) → ContentsAsPrinted table → (k : Kind) (row column : ℕ) → row ≡ rowOf k → rowOf k < 10 → column < 3 →
     getD (getD table row []) column 0 ≡ contentNumber (contentOf k column)
 unfolding ContentsAsPrinted
 content-at table rule k row column e l c = rw e (rule k column l c)

@@ -19,7 +19,7 @@ use Rattle.sheet_fields.proofs.Fields.{fieldOf-field, fieldOf-empty, field-fiel
 use Rattle.sheet_lines.specs.Letters.{Content, mustBeEmpty, mustBeFilled, mayBeEmpty, contentNumber, letterOf, kindOf, isKnown, contentOf}
 use Rattle.sheet_lines.specs.Lines.{fieldIn, asWanted, allAsWanted, valueOf, leftEmpty, lineWith, lineOf, printedField, fieldText, lineText, LinesAsWritten}
 use Rattle.sheet_lines.specs.declared.Kind.{Kind}
-use Rattle.sheet_lines.specs.declared.Kind.the-variants.{Sizes, Memory, Latch, Gate, Address, WriteData, Control, Unknown}
+use Rattle.sheet_lines.specs.declared.Kind.the-variants.{Sizes, Memory, TwoPorts, Latch, Gate, Address, WriteData, SecondAddress, SecondEnable, Control, Unknown}
 use Rattle.sheet_lines.specs.declared.ParsedLine.the-variants.{Misprint, Read}
 use Rattle.sheet_lines.proofs.Letters.{letterOf-kindOf, kindOf-letterOf}
 
@@ -97,10 +97,13 @@ firm : (k : Kind) (d e x : ℕ) → (printedField (contentOf k 0) d x ≡ printe
 unfolding contentOf
 firm Sizes d e x = (refl, refl)
 firm Memory d e x = (refl, refl)
+firm TwoPorts d e x = (refl, refl)
 firm Latch d e x = (refl, refl)
 firm Gate d e x = (refl, refl)
 firm Address d e x = (refl, refl)
 firm WriteData d e x = (refl, refl)
+firm SecondAddress d e x = (refl, refl)
+firm SecondEnable d e x = (refl, refl)
 firm Control d e x = (refl, refl)
 firm Unknown d e x = (refl, refl)
 

@@ -2,21 +2,24 @@
 ghost use mathlib.Core.Path.{_≡_};
 ghost use Prim.Native.Nat.{_<_};
 ghost use Rattle.refusals.specs.Refusal.{replyOf};
-ghost use Rattle.sheet_lines.specs.Letters.{letterOf, kindOf, rowOf, contentNumber, contentOf, ContentsAsPrinted};
+ghost use Rattle.sheet_lines.specs.Letters.{letterOf, kindOf, rowOf, secondPortOf, contentNumber, contentOf, ContentsAsPrinted};
 ghost use Rattle.sheet_lines.specs.Lines.{asWanted, valueOf, leftEmpty, lineWith, lineOf, LinesAsWritten};
 ghost use Rattle.sheet_lines.specs.Depth.{depthField, fieldVerdict, depthVerdict, withDepth, depthLine};
 use refusals::Refusal;
 use refusals::Verdict;
 use sheet_fields::Field;
 
-// Which line it is: the rows of the table in RULES S5, and any other letter.
+// Which line it is: the letters of RULES S5 in their order, and any other.
 pub enum Kind {
     Sizes,
     Memory,
+    TwoPorts,
     Latch,
     Gate,
     Address,
     WriteData,
+    SecondAddress,
+    SecondEnable,
     Control,
     Unknown,
 }
@@ -46,14 +49,17 @@ pub const MUST_BE_FILLED: u8 = 1;
 
 pub const MAY_BE_EMPTY: u8 = 2;
 
-// Of each field, in the order of the table in RULES S5.
-const CONTENTS: [[u8; 3]; 7] = [
+// Of each field, a row for each letter (RULES S8).
+const CONTENTS: [[u8; 3]; 10] = [
     [MUST_BE_FILLED, MUST_BE_FILLED, MUST_BE_FILLED], // N
     [MUST_BE_FILLED, MUST_BE_FILLED, MAY_BE_EMPTY], // M
+    [MUST_BE_FILLED, MUST_BE_FILLED, MAY_BE_EMPTY], // T
     [MUST_BE_FILLED, MUST_BE_FILLED, MUST_BE_EMPTY], // L
     [MUST_BE_FILLED, MUST_BE_FILLED, MUST_BE_EMPTY], // G
     [MUST_BE_FILLED, MUST_BE_EMPTY, MUST_BE_EMPTY], // A
     [MUST_BE_FILLED, MUST_BE_EMPTY, MUST_BE_EMPTY], // D
+    [MUST_BE_FILLED, MUST_BE_EMPTY, MUST_BE_EMPTY], // B
+    [MUST_BE_FILLED, MUST_BE_EMPTY, MUST_BE_EMPTY], // R
     [MUST_BE_FILLED, MUST_BE_FILLED, MUST_BE_FILLED], // C
 ];
 
@@ -64,10 +70,13 @@ fn kind_of(letter: u8) -> Kind
     match letter {
         b'N' => Kind::Sizes,
         b'M' => Kind::Memory,
+        b'T' => Kind::TwoPorts,
         b'L' => Kind::Latch,
         b'G' => Kind::Gate,
         b'A' => Kind::Address,
         b'D' => Kind::WriteData,
+        b'B' => Kind::SecondAddress,
+        b'R' => Kind::SecondEnable,
         b'C' => Kind::Control,
         _ => Kind::Unknown,
     }
@@ -80,33 +89,49 @@ pub fn letter_of(kind: Kind) -> u8
     match kind {
         Kind::Sizes => b'N',
         Kind::Memory => b'M',
+        Kind::TwoPorts => b'T',
         Kind::Latch => b'L',
         Kind::Gate => b'G',
         Kind::Address => b'A',
         Kind::WriteData => b'D',
+        Kind::SecondAddress => b'B',
+        Kind::SecondEnable => b'R',
         Kind::Control => b'C',
         Kind::Unknown => 0,
     }
 }
 
-// The row of the table that a kind has, and 7 where the letter is unknown.
+// The row of the table that a kind has, and 10 where the letter is unknown.
 pub fn row_of(kind: Kind) -> usize
     ensures { λ r. ⌜ r ≡ rowOf kind ⌝ }
 {
     match kind {
         Kind::Sizes => 0,
         Kind::Memory => 1,
-        Kind::Latch => 2,
-        Kind::Gate => 3,
-        Kind::Address => 4,
-        Kind::WriteData => 5,
-        Kind::Control => 6,
-        Kind::Unknown => 7,
+        Kind::TwoPorts => 2,
+        Kind::Latch => 3,
+        Kind::Gate => 4,
+        Kind::Address => 5,
+        Kind::WriteData => 6,
+        Kind::SecondAddress => 7,
+        Kind::SecondEnable => 8,
+        Kind::Control => 9,
+        Kind::Unknown => 10,
     }
 }
 
+// 1 where the letter says that there is a second read port, else 0.
+pub fn second_port_of(kind: Kind) -> u32
+    ensures { λ r. ⌜ r ≡ secondPortOf kind ⌝ }
+{
+    if row_of(kind) == row_of(Kind::TwoPorts) {
+        return 1;
+    }
+    0
+}
+
 // The table: at every row and column it says what RULES S5 and S11 say.
-fn contents() -> [[u8; 3]; 7]
+fn contents() -> [[u8; 3]; 10]
     ensures { λ table. ⌜ ContentsAsPrinted table ⌝ }
 {
     CONTENTS
@@ -114,7 +139,7 @@ fn contents() -> [[u8; 3]; 7]
 
 // What the table says of a column, 0 to 2.
 pub fn content_of(kind: Kind, column: usize) -> u8
-    requires { ⌜ (rowOf kind < 7) × (column < 3) ⌝ }
+    requires { ⌜ (rowOf kind < 10) × (column < 3) ⌝ }
     ensures { λ r. ⌜ r ≡ contentNumber (contentOf kind column) ⌝ }
 {
     let row = row_of(kind);
@@ -124,7 +149,7 @@ pub fn content_of(kind: Kind, column: usize) -> u8
 
 // Whether a field is as its letter wants it.
 fn is_wanted(kind: Kind, column: usize, field: Field) -> bool
-    requires { ⌜ (rowOf kind < 7) × (column < 3) ⌝ }
+    requires { ⌜ (rowOf kind < 10) × (column < 3) ⌝ }
     ensures { λ r. ⌜ r ≡ asWanted (contentOf kind column) field ⌝ }
 {
     let content = content_of(kind, column);
@@ -148,7 +173,7 @@ fn value_of(field: Field) -> u32
 
 // 1 where a third field that may be filled is empty, else 0.
 fn left_empty(kind: Kind, third: Field) -> u32
-    requires { ⌜ rowOf kind < 7 ⌝ }
+    requires { ⌜ rowOf kind < 10 ⌝ }
     ensures { λ r. ⌜ r ≡ leftEmpty (contentOf kind 2) third ⌝ }
 {
     if content_of(kind, 2) == MAY_BE_EMPTY {
@@ -165,7 +190,7 @@ fn left_empty(kind: Kind, third: Field) -> u32
 fn line_with(kind: Kind, first: Field, second: Field, third: Field) -> ParsedLine
     ensures { λ r. ⌜ r ≡ lineWith kind first second third ⌝ }
 {
-    if 7 <= row_of(kind) {
+    if 10 <= row_of(kind) {
         return ParsedLine::Misprint;
     }
     if !is_wanted(kind, 0, first) {

@@ -1,4 +1,4 @@
-// The loop by which a file is read line by line into the record and the lists (RULES S5 to S7 and T53): a reader moves on, and each of
+// The loop by which a file is read line by line into the record and the lists (RULES S5, S7, S13, S14 and T53): a reader moves on, and each of
 // its answers is taken. It is a crate of its own because it is proved by hand: no wrong version of what it calls checks it anew.
 use netlist::UnpackedList;
 use sheet_parse::SheetReader;

@@ -1,8 +1,8 @@
 -- The netlist as far as a line and the netlist of the whole file (specs/Files.antt): one line more, the faults
 -- of the last line, and the last line of all. No contract cites this file.
 use Prim.Native.Nat.{ℕ, _+_, _-_, _*_, _%_, _≤_, _<_}
-use mathlib.Core.Path.{_≡_, refl, sym, _∙_, ap, fun-ext}
-use mathlib.Core.Bool.{false, cond, not, _||_}
+use mathlib.Core.Path.{_≡_, refl, sym, _∙_, ap, subst, fun-ext}
+use mathlib.Core.Bool.{Bool, true, false, cond, not, _||_}
 use mathlib.Core.Logic.{by-cases}
 use mathlib.Core.List.{List}
 use native.Mathlib.Decide.{ℕ-discrete, decLt, decLe}
@@ -14,14 +14,16 @@ use borrow.Author.Tests.{ltb-false, eqb-true, eqb-false, not-false, lt-ltb, le-l
 use Rattle.model.specs.Netlist.{Netlist}
 use Rattle.model.specs.Agree.{SameSizes}
 use Rattle.model.proofs.Booleans.{neither-true}
-use Rattle.netlist.specs.Places.{latchLine, gateLine, addressLine, dataLine, controlLine, lineAt}
+use Rattle.netlist.specs.Places.{latchLine, gateLine, addressLine, dataLine, secondAddressLine, secondEnableLine, controlLine, lineAt}
 use Rattle.netlist.specs.Faults.{sizeFault, codeFault}
 use Rattle.netlist.specs.declared.Line as Due
-use Rattle.netlist.specs.declared.Line.the-variants.{Sizes, Memory, Latch, Gate, Address, WriteData, Control}
+use Rattle.netlist.specs.declared.Line.the-variants.{Sizes, Memory, Latch, Gate, Address, WriteData, SecondAddress, SecondEnable, Control}
+use Rattle.sheet_lines.specs.Letters.{rowOf, secondPortOf}
 use Rattle.sheet_lines.specs.Lines.{lineOf}
+use Rattle.sheet_lines.specs.declared.Kind.{Kind}
 use Rattle.sheet_lines.specs.declared.ParsedLine.{ParsedLine}
-use Rattle.sheet_lines.specs.declared.ParsedLine.the-variants.{Misprint}
-use Rattle.sheet_parse.specs.Files.{lineCount, lineIn, firstNumber, secondNumber, thirdNumber, emptyThird, sizesIn, netOfLines, netIn}
+use Rattle.sheet_lines.specs.declared.ParsedLine.the-variants.{Misprint, Read}
+use Rattle.sheet_parse.specs.Files.{lineCount, lineIn, firstNumber, secondNumber, thirdNumber, emptyThird, secondPortIn, sizesIn, netOfLines, netIn}
 use Rattle.sheet_parse.specs.FileTests.{ragged}
 use Rattle.sheet_steps.specs.LineIndex.{lineIndex}
 use Rattle.sheet_steps.specs.Steps.{numberAfter, stored}
@@ -35,7 +37,21 @@ linesTo file p q = cond (leb q p) (lineIn file q) Misprint
 unfoldable pub netTo : List ℕ → ℕ → Netlist
 netTo file p = netOfLines (sizesIn file) (linesTo file p)
 
+-- a letter says at most one port more
+second-most : (line : ParsedLine) → secondPortIn line ≤ 1
+second-most Misprint = omega arith
+second-most (Read k x y z e) = by-letter (eqb (rowOf k) 2)
+  where
+    by-letter : (b : Bool) → cond b 1 0 ≤ 1
+    by-letter true = omega arith
+    by-letter false = omega arith
+
 module _ (file : List ℕ) where
+  -- so a file has one port or two
+  pub ports-in : sizesIn file .secondPort ≤ 1
+  unfolding sizesIn
+  ports-in = second-most (lineIn file 2)
+
   -- a line that is read, and one that is not yet
   pub linesTo-read : (p q : ℕ) → q ≤ p → linesTo file p q ≡ lineIn file q
   linesTo-read p q h = rw (le-leb q p h)
@@ -47,11 +63,11 @@ module _ (file : List ℕ) where
   module _ (p : ℕ) (b : p + 1 ≤ controlLine (sizesIn file)) (f : ParsedLine → ℕ) (x : Due.Line) where
     here : InRow (sizesIn file) x → p + 1 ≡ placeOf (sizesIn file) x → numberAfter (lineAt (sizesIn file) (p + 1)) x (f (lineIn file (p + 1))) (f (linesTo file p (placeOf (sizesIn file) x))) ≡ f (linesTo file (p + 1) (placeOf (sizesIn file) x))
     here r e =
-        rw (sameLine-here (sizesIn file) (p + 1) (omega arith) b x r e, linesTo-read (p + 1) (placeOf (sizesIn file) x) (omega arith), ← e)
+        rw (sameLine-here (sizesIn file) ports-in (p + 1) (omega arith) b x r e, linesTo-read (p + 1) (placeOf (sizesIn file) x) (omega arith), ← e)
 
     elsewhere : (p + 1 ≡ placeOf (sizesIn file) x → ⊥) → numberAfter (lineAt (sizesIn file) (p + 1)) x (f (lineIn file (p + 1))) (f (linesTo file p (placeOf (sizesIn file) x))) ≡ f (linesTo file (p + 1) (placeOf (sizesIn file) x))
     elsewhere n =
-        rw (sameLine-elsewhere (sizesIn file) (p + 1) (omega arith) b x n)
+        rw (sameLine-elsewhere (sizesIn file) ports-in (p + 1) (omega arith) b x n)
         (by-cases (decLe (placeOf (sizesIn file) x) p)
         (λ h. rw (linesTo-read p (placeOf (sizesIn file) x) h, linesTo-read (p + 1) (placeOf (sizesIn file) x) (omega arith)))
         (λ h. rw (linesTo-unread p (placeOf (sizesIn file) x) (omega arith), linesTo-unread (p + 1) (placeOf (sizesIn file) x) (omega arith))))
@@ -61,18 +77,25 @@ module _ (file : List ℕ) where
         by-cases (decLt (lineIndex x) (sizeOfRow (sizesIn file) (rowOfLine x)))
         (λ r. rw (lt-ltb (lineIndex x) (sizeOfRow (sizesIn file) (rowOfLine x)) r)
         (by-cases (ℕ-discrete (p + 1) (placeOf (sizesIn file) x)) (here r) elsewhere))
-        (λ r. rw (le-ltb (lineIndex x) (sizeOfRow (sizesIn file) (rowOfLine x)) (omega arith), sameLine-none (sizesIn file) (p + 1) (omega arith) b x r))
+        (λ r. rw (le-ltb (lineIndex x) (sizeOfRow (sizesIn file) (rowOfLine x)) (omega arith), sameLine-none (sizesIn file) ports-in (p + 1) (omega arith) b x r))
 
-  -- the same of the last line, which is alone of its kind
+  -- the same of the second RE and of the last line, each alone of its kind
+  enable-next : (p : ℕ) (b : p + 1 ≤ controlLine (sizesIn file)) (f : ParsedLine → ℕ)
+      → numberAfter (lineAt (sizesIn file) (p + 1)) SecondEnable (f (lineIn file (p + 1))) (cond (ltb 0 (sizesIn file .secondPort)) (f (linesTo file p (secondEnableLine (sizesIn file)))) 0) ≡ cond (ltb 0 (sizesIn file .secondPort)) (f (linesTo file (p + 1) (secondEnableLine (sizesIn file)))) 0
+  enable-next p b f = simp add-zero at (number-next p b f SecondEnable)
+
   control-next : (p : ℕ) (b : p + 1 ≤ controlLine (sizesIn file)) (f : ParsedLine → ℕ)
       → numberAfter (lineAt (sizesIn file) (p + 1)) Control (f (lineIn file (p + 1))) (f (linesTo file p (controlLine (sizesIn file)))) ≡ f (linesTo file (p + 1) (controlLine (sizesIn file)))
-  control-next p b f = simp add-zero at (number-next p b f Control)
+  control-next p b f =
+      subst (λ (q : ℕ). numberAfter (lineAt (sizesIn file) (p + 1)) Control (f (lineIn file (p + 1))) (f (linesTo file p q)) ≡ f (linesTo file (p + 1) q))
+      (add-zero (controlLine (sizesIn file))) (number-next p b f Control)
 
   -- one line more puts its numbers into the netlist
   pub stored-next : (p : ℕ) → p + 1 ≤ controlLine (sizesIn file)
-      → stored (netTo file p) (lineAt (sizesIn file) (p + 1)) (firstNumber (lineIn file (p + 1))) (secondNumber (lineIn file (p + 1))) (thirdNumber (lineIn file (p + 1))) (emptyThird (lineIn file (p + 1))) ≡ netTo file (p + 1)
+      → (kind : Kind) → secondPortOf kind ≡ secondPortIn (lineIn file (p + 1))
+      → stored (netTo file p) (lineAt (sizesIn file) (p + 1)) kind (firstNumber (lineIn file (p + 1))) (secondNumber (lineIn file (p + 1))) (thirdNumber (lineIn file (p + 1))) (emptyThird (lineIn file (p + 1))) ≡ netTo file (p + 1)
   unfolding stored netTo netOfLines
-  stored-next p b =
+  stored-next p b kind second =
       λ i. record {
         inputs = number-next p b firstNumber Sizes i;
         latches = number-next p b secondNumber Sizes i;
@@ -81,6 +104,7 @@ module _ (file : List ℕ) where
         n = number-next p b secondNumber Memory i;
         initialWord = number-next p b thirdNumber Memory i;
         unknownStart = number-next p b emptyThird Memory i;
+        secondPort = (ap (λ (s : ℕ). numberAfter (lineAt (sizesIn file) (p + 1)) Memory s (secondPortIn (linesTo file p 2))) second ∙ number-next p b secondPortIn Memory) i;
         next = λ l. number-next p b firstNumber (Latch l) i;
         reset = λ l. number-next p b secondNumber (Latch l) i;
         left = λ g. number-next p b firstNumber (Gate g) i;
@@ -90,6 +114,8 @@ module _ (file : List ℕ) where
         WE = control-next p b firstNumber i;
         RE = control-next p b secondNumber i;
         P = control-next p b thirdNumber i;
+        address2 = λ t. number-next p b firstNumber (SecondAddress t) i;
+        RE2 = enable-next p b firstNumber i;
       }
 
   -- the lines of the file's netlist are where its sizes have them
@@ -122,6 +148,8 @@ module _ (file : List ℕ) where
   sizeFault-to p (Gate g) h = refl
   sizeFault-to p (Address t) h = refl
   sizeFault-to p (WriteData t) h = refl
+  sizeFault-to p (SecondAddress t) h = refl
+  sizeFault-to p SecondEnable h = refl
   sizeFault-to p Control h = refl
 
   pub codeFault-to : (p : ℕ) (x : Due.Line) → placeOf (sizesIn file) x ≤ p → codeFault (netTo file p) x ≡ codeFault (netIn file) x
@@ -136,6 +164,10 @@ module _ (file : List ℕ) where
       rw (linesTo-read p 1 (omega arith), linesTo-read p 2 (omega arith), linesTo-read p (addressLine (sizesIn file) t) h)
   codeFault-to p (WriteData t) h =
       rw (linesTo-read p 1 (omega arith), linesTo-read p 2 (omega arith), linesTo-read p (dataLine (sizesIn file) t) h)
+  codeFault-to p (SecondAddress t) h =
+      rw (linesTo-read p 1 (omega arith), linesTo-read p 2 (omega arith), linesTo-read p (secondAddressLine (sizesIn file) t) h)
+  codeFault-to p SecondEnable h =
+      rw (linesTo-read p 1 (omega arith), linesTo-read p 2 (omega arith), linesTo-read p (secondEnableLine (sizesIn file)) (omega arith))
   codeFault-to p Control h =
       rw (linesTo-read p 1 (omega arith), linesTo-read p 2 (omega arith), linesTo-read p (controlLine (sizesIn file)) (omega arith))
 
@@ -155,17 +187,17 @@ module _ (file : List ℕ) where
           (λ h. linesTo-read (lineCount file) q h)
           (λ h. linesTo-unread (lineCount file) q (omega arith) ∙ sym (lineIn-past q (omega arith)))
 
--- a file that is not ragged: whole lines, at least one and at most 615
+-- a file that is not ragged: whole lines, at least one and at most 627
 pub record WholeLines (file : List ℕ) : Type 0 where
   pub some : 1 ≤ length file
   pub whole : length file ≡ 32 * lineCount file
-  pub most : length file ≤ 19680
+  pub most : length file ≤ 20064
 
 pub whole-lines : (file : List ℕ) → ragged file ≡ false → WholeLines file
 unfolding ragged
 whole-lines file e =
-    let long = neither-true (eqb (length file) 0 || not (eqb (length file % 32) 0)) (ltb 19680 (length file)) .0 e in
+    let long = neither-true (eqb (length file) 0 || not (eqb (length file % 32) 0)) (ltb 20064 (length file)) .0 e in
     let part = neither-true (eqb (length file) 0) (not (eqb (length file % 32) 0)) .0 (long .0) in
     let none : length file ≡ 0 → ⊥ = eqb-false (length file) 0 (part .0) in
     let rest : length file % 32 ≡ 0 = eqb-true (length file % 32) 0 (not-false (eqb (length file % 32) 0) (part .1)) in
-    record { some = omega arith; whole = omega arith; most = ltb-false 19680 (length file) (long .1) }
+    record { some = omega arith; whole = omega arith; most = ltb-false 20064 (length file) (long .1) }

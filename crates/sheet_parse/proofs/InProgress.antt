@@ -15,7 +15,7 @@ use Rattle.model.specs.Gather.{gather}
 use Rattle.model.specs.Acceptance.{SizesFit}
 use Rattle.literals.specs.declared.Code.{Code}
 use Rattle.netlist.specs.NetOf.{codeOf, netOf, alone}
-use Rattle.netlist.specs.Places.{controlLine, latchLine, gateLine, addressLine, dataLine}
+use Rattle.netlist.specs.Places.{latchLine, gateLine, addressLine, dataLine, secondAddressLine, secondEnableLine, controlLine}
 use Rattle.netlist.specs.RecordOf.{recordOf, noNetlist, upTo}
 use Rattle.netlist.specs.declared.Netlist.{Netlist}
 use Rattle.sheet_lines.specs.declared.ParsedLine.{ParsedLine}
@@ -73,6 +73,7 @@ module _ (file : List ℕ) where
         n = 0;
         initialWord = 0;
         unknownStart = 0;
+        secondPort = 0;
         next = λ l. (no-code (2 * l) ∙ sym (unread (s .latches) firstNumber (latchLine s) refl (λ x. omega arith) l)) i;
         reset = λ l. (no-code (2 * l + 1) ∙ sym (unread (s .latches) secondNumber (latchLine s) refl (λ x. omega arith) l)) i;
         left = λ g. (no-code (2 * g) ∙ sym (unread (s .gates) firstNumber (gateLine s) refl (λ x. omega arith) g)) i;
@@ -82,6 +83,8 @@ module _ (file : List ℕ) where
         WE = sym (unread-last firstNumber refl) i;
         RE = sym (unread-last secondNumber refl) i;
         P = sym (unread-last thirdNumber refl) i;
+        address2 = λ t. (no-code-of 12 t refl ∙ sym (unread (s .secondPort * s .m) firstNumber (secondAddressLine s) refl (λ x. omega arith) t)) i;
+        RE2 = sym (unread (s .secondPort) firstNumber (λ x. secondEnableLine s) refl (λ x. omega arith) 0) i;
       }
 
   read-none : ReadTo file 0 (recordOf noNetlist) noCodes noCodes
@@ -95,6 +98,7 @@ module _ (file : List ℕ) where
                   record {
                     address-codes = refl;
                     data-codes = refl;
+                    second-codes = refl;
                     latch-codes = length-replicate {A = ℕ} 1200 0;
                     gate-codes = length-replicate {A = ℕ} 1200 0;
                   };

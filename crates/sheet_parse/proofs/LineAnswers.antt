@@ -20,12 +20,12 @@ use Rattle.sheet_parse.specs.Progress.{noLineAfter, lineAfter}
 use Rattle.sheet_parse.proofs.Files.{WholeLines}
 
 module _ (file : List ℕ) (line : ℕ) where
-  -- a line that is there is one of the first 615, and its 32 bytes are the file's
-  pub line-there : hasLine file line ≡ true → (line < 615) × (32 * line + 32 ≤ length file)
+  -- a line that is there is one of the first 627, and its 32 bytes are the file's
+  pub line-there : hasLine file line ≡ true → (line < 627) × (32 * line + 32 ≤ length file)
   unfolding hasLine
   line-there h =
-      let both = and-true (ltb line 615) (leb (32 * line + 32) (length file)) .0 h in
-      (ltb-true line 615 (both .0), leb-true (32 * line + 32) (length file) (both .1))
+      let both = and-true (ltb line 627) (leb (32 * line + 32) (length file)) .0 h in
+      (ltb-true line 627 (both .0), leb-true (32 * line + 32) (length file) (both .1))
 
   -- behind the last line of a file of whole lines there is none
   pub line-none : hasLine file line ≡ false → WholeLines file → line ≤ lineCount file → line ≡ lineCount file
@@ -33,7 +33,7 @@ module _ (file : List ℕ) (line : ℕ) where
   line-none h whole within =
       by-cases (decLt line (lineCount file))
       (λ less. absurd (false≢true (sym h ∙ rw (
-        lt-ltb line 615 (omega (arith, whole .whole, whole .most)),
+        lt-ltb line 627 (omega (arith, whole .whole, whole .most)),
         le-leb (32 * line + 32) (length file) (omega (arith, whole .whole)),
       ))))
       (λ more. omega arith)

@@ -28,19 +28,18 @@ use Rattle.netlist.specs.declared.Netlist.{Netlist}
 use Rattle.netlist.proofs.NetOf.{sizes-lists}
 use Rattle.netlist.proofs.Places.{at-sizes, at-memory}
 use Rattle.netlist.proofs.Faults.{sizes-fit}
-use Rattle.sheet_lines.specs.Letters.{rowOf}
 use Rattle.sheet_lines.specs.declared.Kind.{Kind}
 use Rattle.sheet_lines.specs.declared.ParsedLine.the-variants as ParsedLine
 use Rattle.sheet_steps.specs.declared.SheetAnswer.{SheetAnswer}
 use Rattle.sheet_parse.specs.Files.{lineIn, sizesIn, netIn}
-use Rattle.sheet_steps.specs.Due.{kindDue}
-use Rattle.sheet_parse.specs.FileTests.{misprinted, isOf, notDue, testLineIn}
+use Rattle.sheet_steps.specs.Due.{isDue}
+use Rattle.sheet_parse.specs.FileTests.{misprinted, isLine, notDue, testLineIn}
 use Rattle.sheet_steps.specs.LineFaults.{faultsAt}
 use Rattle.sheet_steps.specs.Steps.{stepNet, stepVerdict, SizesKnown, Outcome}
 use Rattle.sheet_steps.specs.Lists.{Holds}
 use Rattle.sheet_steps.proofs.Places.{placeOf, place-lineAt}
 use Rattle.sheet_steps.proofs.Records.{outcome-same}
-use Rattle.sheet_parse.proofs.Files.{netTo, stored-next, lineAt-in, controlLine-in, sizes-to, due-to, past-to, sizeFault-to, codeFault-to}
+use Rattle.sheet_parse.proofs.Files.{netTo, ports-in, stored-next, lineAt-in, controlLine-in, sizes-to, due-to, past-to, sizeFault-to, codeFault-to}
 
 -- within the last line and of the kind due, or else past it or unlike
 not-within : (q k : ℕ) (b : Bool) → not (leb q k && b) ≡ (ltb k q || not b)
@@ -56,15 +55,15 @@ test-misprint c file q e = rw e
 
 -- a printed line
 test-printed : (c : M.Netlist) (file : List ℕ) (q : ℕ) (kind : Kind) (x y z u : ℕ) → lineIn file q ≡ ParsedLine.Read kind x y z u
-    → testLineIn c file q ≡ (refuseIf (ltb (controlLine c) q || not (eqb (rowOf kind) (rowOf (kindDue (lineAt c q))))) OutOfOrder q then faultsAt c (lineAt c q) q)
+    → testLineIn c file q ≡ (refuseIf (ltb (controlLine c) q || not (isDue (lineAt c q) kind)) OutOfOrder q then faultsAt c (lineAt c q) q)
 unfolding testLineIn notDue _then_
-test-printed c file q kind x y z u e = rw (e, not-within q (controlLine c) (eqb (rowOf kind) (rowOf (kindDue (lineAt c q)))))
+test-printed c file q kind x y z u e = rw (e, not-within q (controlLine c) (isDue (lineAt c q) kind))
 
 module _ (file : List ℕ) (p : ℕ) (kind : Kind) (x y z u : ℕ) (e : lineIn file (p + 1) ≡ ParsedLine.Read kind x y z u) where
   -- a line not behind the last puts its numbers into the netlist
-  pub stepNet-next : p + 1 ≤ controlLine (netIn file) → stepNet (netTo file p) x y z u (p + 1) ≡ netTo file (p + 1)
+  pub stepNet-next : p + 1 ≤ controlLine (netIn file) → stepNet (netTo file p) kind x y z u (p + 1) ≡ netTo file (p + 1)
   unfolding stepNet
-  stepNet-next b = rw (due-to file p, ← lineAt-in file (p + 1)) (rw e at (stored-next file p (rw (controlLine-in file) b)))
+  stepNet-next b = rw (due-to file p, ← lineAt-in file (p + 1)) (rw e at (stored-next file p (rw (controlLine-in file) b) kind (rw e)))
 
   -- its faults are those in the whole file
   faults-next : p + 1 ≤ controlLine (netIn file) → faultsAt (netTo file (p + 1)) (lineAt (netIn file) (p + 1)) (p + 1) ≡ faultsAt (netIn file) (lineAt (netIn file) (p + 1)) (p + 1)
@@ -72,7 +71,7 @@ module _ (file : List ℕ) (p : ℕ) (kind : Kind) (x y z u : ℕ) (e : lineIn f
   faults-next b = rw (sizeFault-to file (p + 1) (lineAt (netIn file) (p + 1)) read, codeFault-to file (p + 1) (lineAt (netIn file) (p + 1)) read)
     where
       read : placeOf (sizesIn file) (lineAt (netIn file) (p + 1)) ≤ p + 1
-      read = rw (← lineAt-in file (p + 1)) (omega (arith, place-lineAt (sizesIn file) (p + 1) (omega arith) (rw (controlLine-in file) b)))
+      read = rw (← lineAt-in file (p + 1)) (omega (arith, place-lineAt (sizesIn file) (ports-in file) (p + 1) (omega arith) (rw (controlLine-in file) b)))
 
   -- so is its verdict
   pub step-next : stepVerdict (netTo file p) kind x y z u (p + 1) ≡ testLineIn (netIn file) file (p + 1)
@@ -128,6 +127,8 @@ module _ (file : List ℕ) (p : ℕ) (passed : inOrder (testLineIn (netIn file) 
         of-gate = λ g b. refl;
         of-address = λ t b. refl;
         of-data = λ t b. refl;
+        of-second-address = λ some t b. refl;
+        of-second-enable = λ some. refl;
         of-control = refl;
       })
 
@@ -146,13 +147,13 @@ sizesKnown-to file p r latches gates read h =
 pub within-last : (c : M.Netlist) (file : List ℕ) (q : ℕ) → testLineIn c file q ≡ Passed → q ≤ controlLine c
 unfolding notDue
 within-last c file q e =
-    let b = isOf (kindDue (lineAt c q)) (lineIn file q) in
+    let b = isLine (lineAt c q) (lineIn file q) in
     ltb-false (controlLine c) q (neither-true (ltb (controlLine c) q) (not b) .0 (sym (not-within q (controlLine c) b) ∙ no-fault c file q e .due) .0)
 
 -- what a line does to the record and the lists as far as they are read is what it does in the whole file
 pub outcome-next : (file : List ℕ) (p : ℕ) (r : Netlist) (latches gates : List ℕ) → ReadTo file p r latches gates
     → (kind : Kind) (x y z u : ℕ) → lineIn file (p + 1) ≡ ParsedLine.Read kind x y z u → (sheet : SheetAnswer) (newLatches newGates : List ℕ)
-    → Outcome sheet newLatches newGates (stepVerdict (netOf r latches gates) kind x y z u (p + 1)) (stepNet (netOf r latches gates) x y z u (p + 1))
+    → Outcome sheet newLatches newGates (stepVerdict (netOf r latches gates) kind x y z u (p + 1)) (stepNet (netOf r latches gates) kind x y z u (p + 1))
     → Outcome sheet newLatches newGates (testLineIn (netIn file) file (p + 1)) (netTo file (p + 1))
 outcome-next file p r latches gates read kind x y z u e sheet newLatches newGates o =
     outcome-same (testLineIn (netIn file) file (p + 1)) (step-next file p kind x y z u e)

@@ -11,15 +11,14 @@ use Rattle.refusals.specs.Tests.{refuseIf, _then_}
 use Rattle.refusals.specs.declared.Refusal.the-variants.{Misprint, OutOfOrder}
 use Rattle.refusals.specs.declared.Verdict.{Verdict}
 use Rattle.netlist.specs.Places.{lineAt, controlLine}
-use Rattle.sheet_lines.specs.Letters.{rowOf}
-use Rattle.sheet_lines.specs.declared.Kind.{Kind}
+use Rattle.netlist.specs.declared.Line.{Line}
 use Rattle.sheet_lines.specs.declared.ParsedLine.{ParsedLine}
 use Rattle.sheet_lines.specs.declared.ParsedLine.the-variants as ParsedLine
-use Rattle.sheet_steps.specs.Due.{kindDue}
+use Rattle.sheet_steps.specs.Due.{isDue}
 use Rattle.sheet_steps.specs.LineFaults.{faultsAt}
 use Rattle.sheet_parse.specs.Files.{lineIn}
 
--- RULES T1: "the file is empty, its length is no multiple of 32 bytes, or it has more than 19,680 bytes"
+-- RULES T1: "the file is empty, its length is no multiple of 32 bytes, or it has more than 20,064 bytes"
 unfoldable pub ragged : List ℕ → Bool
 ragged file = eqb (length file) 0 || not (eqb (length file % lineBytes) 0) || ltb mostBytes (length file)
 
@@ -28,14 +27,14 @@ abbrev pub misprinted : ParsedLine → Bool
 misprinted ParsedLine.Misprint = true
 misprinted (ParsedLine.Read k x y z e) = false
 
--- whether a line is of a kind
-abbrev pub isOf : Kind → ParsedLine → Bool
-isOf k ParsedLine.Misprint = false
-isOf k (ParsedLine.Read kind x y z e) = eqb (rowOf kind) (rowOf k)
+-- whether a line that is read is the line due
+abbrev pub isLine : Line → ParsedLine → Bool
+isLine due ParsedLine.Misprint = false
+isLine due (ParsedLine.Read kind x y z e) = isDue due kind
 
 -- RULES T3: "not the line due, .. or a line too many"
 unfoldable pub notDue : Netlist → List ℕ → ℕ → Bool
-notDue c file p = not (leb p (controlLine c) && isOf (kindDue (lineAt c p)) (lineIn file p))
+notDue c file p = not (leb p (controlLine c) && isLine (lineAt c p) (lineIn file p))
 
 -- RULES T53: "line by line, at each line 2, then 3, then 4 or 5"; the place is the line, the first being 1 (RULES S7)
 unfoldable pub testLineIn : Netlist → List ℕ → ℕ → Verdict

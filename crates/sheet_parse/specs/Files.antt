@@ -1,13 +1,16 @@
--- The netlist that the lines of a file give (RULES S5 to S7). The sizes stand in lines 1 and 2, and they alone say where
+-- The netlist that the lines of a file give (RULES S5, S7, S13 and S14). The sizes stand in lines 1 and 2, and they alone say where
 -- everything else stands. Cited by the functions that read a file, by the other specs here and those of sheet_tests, sheet_reader and
 -- program_input, and by calls/specs/Starred.
 use Prim.Native.Nat.{ℕ, _-_, _*_, _/_}
+use mathlib.Core.Bool.{cond}
 use mathlib.Core.List.{List}
+use lib.Dec.{ltb}
 use lib.ListN.{length, take, drop}
 use Rattle.model.specs.Limits.{lineBytes}
 use Rattle.model.specs.Netlist.{Netlist}
-use Rattle.netlist.specs.Places.{sizesLine, memoryLine, latchLine, gateLine, addressLine, dataLine, controlLine}
+use Rattle.netlist.specs.Places.{sizesLine, memoryLine, latchLine, gateLine, addressLine, dataLine, secondAddressLine, secondEnableLine, controlLine}
 use Rattle.netlist.specs.RecordOf.{withoutCodes, upTo}
+use Rattle.sheet_lines.specs.Letters.{secondPortOf}
 use Rattle.sheet_lines.specs.Lines.{lineOf}
 use Rattle.sheet_lines.specs.declared.ParsedLine.{ParsedLine}
 use Rattle.sheet_lines.specs.declared.ParsedLine.the-variants.{Misprint, Read}
@@ -37,13 +40,18 @@ abbrev pub emptyThird : ParsedLine → ℕ
 emptyThird Misprint = 0
 emptyThird (Read k x y z e) = e
 
--- the sizes in lines N and M, with no codes
+-- 1 where its letter says that there is a second port
+abbrev pub secondPortIn : ParsedLine → ℕ
+secondPortIn Misprint = 0
+secondPortIn (Read k x y z e) = secondPortOf k
+
+-- the sizes in line N and line M or T, with no codes
 unfoldable pub sizesIn : List ℕ → Netlist
 sizesIn file =
     let sizes = lineIn file sizesLine in
     let memory = lineIn file memoryLine in
     withoutCodes
-    (record { inputs = firstNumber sizes; latches = secondNumber sizes; gates = thirdNumber sizes; m = firstNumber memory; n = secondNumber memory; initialWord = thirdNumber memory; unknownStart = emptyThird memory })
+    (record { inputs = firstNumber sizes; latches = secondNumber sizes; gates = thirdNumber sizes; m = firstNumber memory; n = secondNumber memory; initialWord = thirdNumber memory; unknownStart = emptyThird memory; secondPort = secondPortIn memory })
 
 -- the netlist whose numbers stand in the given lines, at the places that the sizes s have
 unfoldable pub netOfLines : Netlist → (ℕ → ParsedLine) → Netlist
@@ -56,6 +64,7 @@ netOfLines s line =
       n = secondNumber (line memoryLine);
       initialWord = thirdNumber (line memoryLine);
       unknownStart = emptyThird (line memoryLine);
+      secondPort = secondPortIn (line memoryLine);
       next = upTo (s .latches) (λ l. firstNumber (line (latchLine s l)));
       reset = upTo (s .latches) (λ l. secondNumber (line (latchLine s l)));
       left = upTo (s .gates) (λ g. firstNumber (line (gateLine s g)));
@@ -65,6 +74,8 @@ netOfLines s line =
       WE = firstNumber (line (controlLine s));
       RE = secondNumber (line (controlLine s));
       P = thirdNumber (line (controlLine s));
+      address2 = upTo (s .secondPort * s .m) (λ t. firstNumber (line (secondAddressLine s t)));
+      RE2 = cond (ltb 0 (s .secondPort)) (firstNumber (line (secondEnableLine s))) 0;
     }
 
 unfoldable pub netIn : List ℕ → Netlist

@@ -16,7 +16,7 @@ use Rattle.sheet_parse.specs.declared.LineAnswer.the-variants.{Line, Ref
 use Rattle.sheet_parse.specs.declared.LineReply.{LineReply}
 use Rattle.sheet_parse.specs.Files.{lineIn}
 
--- whether there is a line behind the first `line`: 32 bytes of the file, and no sheet has more than 615 lines (RULES S6)
+-- whether there is a line behind the first `line`: 32 bytes of the file, and no sheet has more than 627 lines (RULES S13)
 unfoldable pub hasLine : List ℕ → ℕ → Bool
 hasLine file line = ltb line mostLines && leb (lineBytes * line + lineBytes) (length file)
 

@@ -40,7 +40,7 @@ answerVerdict c (Answer.Refused r q) p = Refused r q
 answerVerdict c Answer.NoLine p = Passed
 
 abbrev pub answerNet : Netlist → LineAnswer → ℕ → Netlist
-answerNet c (Answer.Line kind x y z e) p = stepNet c x y z e p
+answerNet c (Answer.Line kind x y z e) p = stepNet c kind x y z e p
 answerNet c (Answer.Refused r q) p = c
 answerNet c Answer.NoLine p = c
 

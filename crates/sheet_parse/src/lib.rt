@@ -1,5 +1,5 @@
 // The sheet reader, which carries the file and its own line number (RULES S10 and L2), and what one answer of it more does to the record
-// and the lists (RULES S5 to S7 and T53). The loop over its answers is crate `sheet_loop`.
+// and the lists (RULES S5, S7, S13, S14 and T53). The loop over its answers is crate `sheet_loop`.
 use netlist::UnpackedList;
 use refusals::Refusal;
 use refusals::Verdict;
@@ -57,7 +57,7 @@ pub fn is_ragged(file: &[u8]) -> bool
     ensures { λ r. ⌜ r ≡ ragged (now (file .entry)) ⌝ }
 {
     let size = file.len();
-    (size == 0) | (size % 32 != 0) | (19680 < size)
+    (size == 0) | (size % 32 != 0) | (20064 < size)
 }
 
 // The line behind the first `line` lines, as it is read.
@@ -70,13 +70,13 @@ fn parse_line(file: &[u8], line: u32) -> ParsedLine
     sheet_lines::read_line(&file[start..end])
 }
 
-// Whether there is a line behind the first `line` lines: one that is missing or cut short is none, nor is one behind the 615 that a
+// Whether there is a line behind the first `line` lines: one that is missing or cut short is none, nor is one behind the 627 that a
 // sheet has at most.
 fn has_line(file: &[u8], line: u32) -> bool
     ensures { λ r. ⌜ r ≡ hasLine (now (file .entry)) line ⌝ }
 {
     let end = 32 * (line as usize) + 32;
-    (line < 615) & (end <= file.len())
+    (line < 627) & (end <= file.len())
 }
 
 // Where there is no line, none is read.
@@ -193,7 +193,7 @@ pub fn take_answer(
     line: LineAnswer,
     place: u32,
 ) -> Progress
-    requires { ⌜ FullLength (progress .sheet .net .address) (progress .sheet .net .«write_data») (now latches) (now gates) × SizesKnown (alone (progress .sheet .net)) place ⌝ }
+    requires { ⌜ FullLength (progress .sheet .net) (now latches) (now gates) × SizesKnown (alone (progress .sheet .net)) place ⌝ }
     ensures { λ r. ⌜ Outcome (r .sheet) (now (latches .exit)) (now (gates .exit)) (answerVerdict (netOf (progress .sheet .net) (now (latches .entry)) (now (gates .entry))) line place) (answerNet (netOf (progress .sheet .net) (now (latches .entry)) (now (gates .entry))) line place) × (r .more ≡ moreAfter line (r .sheet .verdict)) ⌝ }
 {
     let sheet = progress.sheet;

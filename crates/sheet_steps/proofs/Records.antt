@@ -30,7 +30,7 @@ gather-all : (xs : List Code) (n : ℕ) → length xs ≡ n → gather n (codeEn
 gather-all xs n e = gather-codes xs n (omega arith) ∙ take-all n xs (omega arith)
 
 -- a record of full length is the record of the netlist that it stands for
-record-of : (r : Netlist) (latches gates : List ℕ) → FullLength (r .address) (r .«write_data») latches gates
+record-of : (r : Netlist) (latches gates : List ℕ) → FullLength r latches gates
     → r ≡ recordOf (netOf r latches gates)
 unfolding recordOf netOf
 record-of r latches gates full =
@@ -42,11 +42,14 @@ record-of r latches gates full =
       n = r .n;
       «initial_word» = r .«initial_word»;
       «unknown_start» = r .«unknown_start»;
+      «second_port» = r .«second_port»;
       address = sym (gather-all (r .address) 12 (full .address-codes)) i;
       «write_data» = sym (gather-all (r .«write_data») 32 (full .data-codes)) i;
       we = r .we;
       re = r .re;
       p = r .p;
+      address2 = sym (gather-all (r .address2) 12 (full .second-codes)) i;
+      re2 = r .re2;
     }
 
 module _ {sheet : SheetAnswer} {latches gates : List ℕ} {v : Verdict} {c : M.Netlist} (o : Outcome sheet latches gates v c) where

@@ -17,13 +17,12 @@ use Rattle.model.specs.Netlist as M
 use Rattle.model.specs.Agree.{sizesOf, SameSizes}
 use Rattle.model.proofs.Agree.{sizesFit-same}
 use Rattle.netlist.specs.Places.{controlLine, lineAt}
-use Rattle.sheet_lines.specs.Letters.{rowOf}
 use Rattle.sheet_lines.specs.declared.Kind.{Kind}
 use Rattle.netlist.specs.NetOf.{codeOf, netOf, alone, putNumbers}
 use Rattle.netlist.proofs.PutNumbers.{length-putNumbers, firstAt-putNumbers, secondAt-putNumbers}
 use Rattle.netlist.specs.declared.Netlist.{Netlist}
 use Rattle.netlist.specs.declared.Line.the-variants.{Latch, Gate}
-use Rattle.sheet_steps.specs.Due.{kindDue}
+use Rattle.sheet_steps.specs.Due.{isDue}
 use Rattle.sheet_steps.specs.Steps.{stored, stepNet, stepVerdict, SizesKnown}
 use Rattle.sheet_steps.specs.Lists.{FullLength, Holds}
 use Rattle.sheet_steps.specs.LineFaults.{faultsAt}
@@ -42,9 +41,9 @@ code-set xs i x h = fun-ext at
         (λ e. rw (ne-eqb i j e) (ap (λ (k : Code). k .0) (getD-set-other xs i j (record { 0 = x }) (record { 0 = 0 }) (λ q. e (omega arith)))))
 
 -- a line's numbers put into a record and lists of full length
-module _ (r : Netlist) (latches gates : List ℕ) (full : FullLength (r .address) (r .«write_data») latches gates) (x y z e : ℕ) where
+module _ (r : Netlist) (latches gates : List ℕ) (full : FullLength r latches gates) (kind : Kind) (x y z e : ℕ) where
   -- those of a latch
-  pub holds-latch : (l : ℕ) → l < 600 → Holds r (putNumbers l x y latches) gates (stored (netOf r latches gates) (Latch l) x y z e)
+  pub holds-latch : (l : ℕ) → l < 600 → Holds r (putNumbers l x y latches) gates (stored (netOf r latches gates) (Latch l) kind x y z e)
   unfolding netOf stored
   holds-latch l h =
       record {
@@ -52,6 +51,7 @@ module _ (r : Netlist) (latches gates : List ℕ) (full : FullLength (r .address
             record {
               address-codes = full .address-codes;
               data-codes = full .data-codes;
+              second-codes = full .second-codes;
               latch-codes = rw length-putNumbers (full .latch-codes);
               gate-codes = full .gate-codes;
             };
@@ -59,7 +59,7 @@ module _ (r : Netlist) (latches gates : List ℕ) (full : FullLength (r .address
       }
 
   -- of a gate
-  pub holds-gate : (g : ℕ) → g < 600 → Holds r latches (putNumbers g x y gates) (stored (netOf r latches gates) (Gate g) x y z e)
+  pub holds-gate : (g : ℕ) → g < 600 → Holds r latches (putNumbers g x y gates) (stored (netOf r latches gates) (Gate g) kind x y z e)
   unfolding netOf stored
   holds-gate g h =
       record {
@@ -67,6 +67,7 @@ module _ (r : Netlist) (latches gates : List ℕ) (full : FullLength (r .address
             record {
               address-codes = full .address-codes;
               data-codes = full .data-codes;
+              second-codes = full .second-codes;
               latch-codes = full .latch-codes;
               gate-codes = rw length-putNumbers (full .gate-codes);
             };
@@ -74,18 +75,18 @@ module _ (r : Netlist) (latches gates : List ℕ) (full : FullLength (r .address
       }
 
 -- a line of codes leaves the sizes
-same-stored : (c d : M.Netlist) (p x y z e : ℕ) → 3 ≤ p → SameSizes c (stored c (lineAt d p) x y z e)
+same-stored : (c d : M.Netlist) (kind : Kind) (p x y z e : ℕ) → 3 ≤ p → SameSizes c (stored c (lineAt d p) kind x y z e)
 unfolding stored
-same-stored c d p x y z e h =
-    codes-from-3 d p (λ due. SameSizes c (stored c due x y z e)) h (λ l. refl) (λ g. refl) (λ t. refl) (λ t. refl) refl
+same-stored c d kind p x y z e h =
+    codes-from-3 d p (λ due. SameSizes c (stored c due kind x y z e)) h (λ l. refl) (λ g. refl) (λ t. refl) (λ t. refl) (λ t. refl) refl refl
 
 -- the record after a line, from line 3 on: its sizes, and so the line due at this place
-module _ (r next : Netlist) (latches gates newLatches newGates : List ℕ) (p x y z e : ℕ)
-    (holds : Holds next newLatches newGates (stepNet (netOf r latches gates) x y z e p)) where
+module _ (r next : Netlist) (latches gates newLatches newGates : List ℕ) (kind : Kind) (p x y z e : ℕ)
+    (holds : Holds next newLatches newGates (stepNet (netOf r latches gates) kind x y z e p)) where
   sizes-step : 3 ≤ p → SameSizes (alone r) (alone next)
   unfolding netOf stepNet
   sizes-step h =
-      same-stored (netOf r latches gates) (netOf r latches gates) p x y z e h ∙ sym (ap sizesOf (holds .net-is))
+      same-stored (netOf r latches gates) (netOf r latches gates) kind p x y z e h ∙ sym (ap sizesOf (holds .net-is))
 
   pub sizesKnown-step : SizesKnown (alone r) p → SizesKnown (alone next) p
   sizesKnown-step known h = sizesFit-same (alone r) (alone next) (sizes-step h) (known h)
@@ -96,13 +97,13 @@ module _ (r next : Netlist) (latches gates newLatches newGates : List ℕ) (p x 
 -- the verdict on a line, by whether it is out of order
 module _ (c : M.Netlist) (kind : Kind) (p : ℕ) where
   abbrev pub outOfOrder : Bool
-  outOfOrder = ltb (controlLine c) p || not (eqb (rowOf kind) (rowOf (kindDue (lineAt c p))))
+  outOfOrder = ltb (controlLine c) p || not (isDue (lineAt c p) kind)
 
   module _ (x y z e : ℕ) where
     pub step-refused : outOfOrder ≡ true → stepVerdict c kind x y z e p ≡ Refused OutOfOrder p
     unfolding stepVerdict _then_
     step-refused h = rw h
 
-    pub step-due : outOfOrder ≡ false → stepVerdict c kind x y z e p ≡ faultsAt (stepNet c x y z e p) (lineAt c p) p
+    pub step-due : outOfOrder ≡ false → stepVerdict c kind x y z e p ≡ faultsAt (stepNet c kind x y z e p) (lineAt c p) p
     unfolding stepVerdict _then_
     step-due h = rw h

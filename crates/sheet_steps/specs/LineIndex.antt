@@ -4,7 +4,7 @@ use mathlib.Core.Bool.{Bool, _&&_}
 use lib.Dec.{eqb}
 use Rattle.model.specs.Limits.{mostWires, mostAddressBits, mostDataBits}
 use Rattle.netlist.specs.declared.Line.{Line}
-use Rattle.netlist.specs.declared.Line.the-variants.{Sizes, Memory, Latch, Gate, Address, WriteData, Control}
+use Rattle.netlist.specs.declared.Line.the-variants.{Sizes, Memory, Latch, Gate, Address, WriteData, SecondAddress, SecondEnable, Control}
 use Rattle.sheet_lines.specs.Letters.{rowOf}
 use Rattle.sheet_steps.specs.Due.{kindDue}
 
@@ -16,6 +16,8 @@ lineIndex (Latch l) = l
 lineIndex (Gate g) = g
 lineIndex (Address t) = t
 lineIndex (WriteData t) = t
+lineIndex (SecondAddress t) = t
+lineIndex SecondEnable = 0
 lineIndex Control = 0
 
 -- how many lines of its kind the record and the lists have room for
@@ -26,6 +28,8 @@ roomFor (Latch l) = mostWires
 roomFor (Gate g) = mostWires
 roomFor (Address t) = mostAddressBits
 roomFor (WriteData t) = mostDataBits
+roomFor (SecondAddress t) = mostAddressBits
+roomFor SecondEnable = 1
 roomFor Control = 1
 
 -- whether two lines are the same: of one kind, and with the same number

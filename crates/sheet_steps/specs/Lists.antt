@@ -6,21 +6,21 @@ use mathlib.Core.List.{List}
 use lib.ListN.{length}
 use Rattle.refusals.specs.declared.Verdict.{Verdict}
 use Rattle.refusals.specs.declared.Verdict.the-variants.{Passed, Refused}
-use Rattle.literals.specs.declared.Code.{Code}
 use Rattle.model.specs.Netlist.{Netlist}
 use Rattle.netlist.specs.NetOf.{netOf}
 use Rattle.netlist.specs.declared.Netlist as R
 
 -- a record's arrays and unpacked lists of full length
-pub record FullLength (address writeData : List Code) (latches gates : List ℕ) : Type 0 where
-  pub address-codes : length address ≡ 12
-  pub data-codes : length writeData ≡ 32
+pub record FullLength (r : R.Netlist) (latches gates : List ℕ) : Type 0 where
+  pub address-codes : length (r .address) ≡ 12
+  pub data-codes : length (r .«write_data») ≡ 32
+  pub second-codes : length (r .address2) ≡ 12
   pub latch-codes : length latches ≡ 1200
   pub gate-codes : length gates ≡ 1200
 
 -- a record and lists of full length that stand for the netlist c
 pub record Holds (r : R.Netlist) (latches gates : List ℕ) (c : Netlist) : Type 0 where
-  pub full : FullLength (r .address) (r .«write_data») latches gates
+  pub full : FullLength r latches gates
   pub net-is : netOf r latches gates ≡ c
 
 -- lists that were lent to be used up: nothing is said of what they hold

@@ -4,7 +4,7 @@ use Prim.Native.Nat.{ℕ, _≤_}
 use mathlib.Core.Path.{_≡_}
 use mathlib.Core.Bool.{cond, not, _||_}
 use mathlib.Core.List.{List}
-use lib.Dec.{eqb, ltb}
+use lib.Dec.{ltb}
 use Rattle.refusals.specs.Tests.{refuseIf, _then_}
 use Rattle.refusals.specs.declared.Refusal.the-variants.{OutOfOrder}
 use Rattle.refusals.specs.declared.Verdict.{Verdict}
@@ -14,11 +14,11 @@ use Rattle.netlist.specs.NetOf.{netOf}
 use Rattle.netlist.specs.Places.{lineAt, controlLine}
 use Rattle.netlist.specs.declared.Netlist as R
 use Rattle.netlist.specs.declared.Line.{Line}
-use Rattle.netlist.specs.declared.Line.the-variants.{Sizes, Memory, Latch, Gate, Address, WriteData, Control}
-use Rattle.sheet_lines.specs.Letters.{rowOf}
+use Rattle.netlist.specs.declared.Line.the-variants.{Sizes, Memory, Latch, Gate, Address, WriteData, SecondAddress, SecondEnable, Control}
+use Rattle.sheet_lines.specs.Letters.{secondPortOf}
 use Rattle.sheet_lines.specs.declared.Kind.{Kind}
 use Rattle.sheet_steps.specs.declared.SheetAnswer.{SheetAnswer}
-use Rattle.sheet_steps.specs.Due.{kindDue}
+use Rattle.sheet_steps.specs.Due.{isDue}
 use Rattle.sheet_steps.specs.LineIndex.{sameLine}
 use Rattle.sheet_steps.specs.LineFaults.{faultsAt}
 use Rattle.sheet_steps.specs.Records.{sheetAnswer}
@@ -28,9 +28,10 @@ use Rattle.sheet_steps.specs.Lists.{FullLength, Holds, ListsBeside}
 abbrev pub numberAfter : Line → Line → ℕ → ℕ → ℕ
 numberAfter due at new old = cond (sameLine due at) new old
 
--- a netlist with the numbers of line `due` put where that line has them, e saying whether its third field is left empty
-unfoldable pub stored : Netlist → Line → ℕ → ℕ → ℕ → ℕ → Netlist
-stored c due x y z e =
+-- a netlist with the numbers of line `due` put where that line has them, e saying whether its third field is left empty, and its kind
+-- which letter line 2 has
+unfoldable pub stored : Netlist → Line → Kind → ℕ → ℕ → ℕ → ℕ → Netlist
+stored c due kind x y z e =
     record {
       inputs = numberAfter due Sizes x (c .inputs);
       latches = numberAfter due Sizes y (c .latches);
@@ -39,6 +40,7 @@ stored c due x y z e =
       n = numberAfter due Memory y (c .n);
       initialWord = numberAfter due Memory z (c .initialWord);
       unknownStart = numberAfter due Memory e (c .unknownStart);
+      secondPort = numberAfter due Memory (secondPortOf kind) (c .secondPort);
       next = λ l. numberAfter due (Latch l) x (c .next l);
       reset = λ l. numberAfter due (Latch l) y (c .reset l);
       left = λ g. numberAfter due (Gate g) x (c .left g);
@@ -48,23 +50,24 @@ stored c due x y z e =
       WE = numberAfter due Control x (c .WE);
       RE = numberAfter due Control y (c .RE);
       P = numberAfter due Control z (c .P);
+      address2 = λ t. numberAfter due (SecondAddress t) x (c .address2 t);
+      RE2 = numberAfter due SecondEnable x (c .RE2);
     }
 
 -- the record r is the old one with the numbers of line `due` put in, whatever the lists
-abbrev pub StoredIn : R.Netlist → R.Netlist → Line → ℕ → ℕ → ℕ → ℕ → Type 0
-StoredIn r old due x y z e =
-    (latches gates : List ℕ) → FullLength (old .address) (old .«write_data») latches gates
-    → Holds r latches gates (stored (netOf old latches gates) due x y z e)
+abbrev pub StoredIn : R.Netlist → R.Netlist → Line → Kind → ℕ → ℕ → ℕ → ℕ → Type 0
+StoredIn r old due kind x y z e =
+    (latches gates : List ℕ) → FullLength old latches gates → Holds r latches gates (stored (netOf old latches gates) due kind x y z e)
 
 -- the netlist c of the lines before place p, with the numbers of the line at p
-unfoldable pub stepNet : Netlist → ℕ → ℕ → ℕ → ℕ → ℕ → Netlist
-stepNet c x y z e p = stored c (lineAt c p) x y z e
+unfoldable pub stepNet : Netlist → Kind → ℕ → ℕ → ℕ → ℕ → ℕ → Netlist
+stepNet c kind x y z e p = stored c (lineAt c p) kind x y z e
 
 -- RULES T53, "3, then 4 or 5", at place p: a line of this kind and with these numbers
 unfoldable pub stepVerdict : Netlist → Kind → ℕ → ℕ → ℕ → ℕ → ℕ → Verdict
 stepVerdict c kind x y z e p =
-    refuseIf (ltb (controlLine c) p || not (eqb (rowOf kind) (rowOf (kindDue (lineAt c p))))) OutOfOrder p
-    then faultsAt (stepNet c x y z e p) (lineAt c p) p
+    refuseIf (ltb (controlLine c) p || not (isDue (lineAt c p) kind)) OutOfOrder p
+    then faultsAt (stepNet c kind x y z e p) (lineAt c p) p
 
 -- the answer with verdict v and netlist c, and the lists beside it
 pub record Outcome (sheet : SheetAnswer) (latches gates : List ℕ) (v : Verdict) (c : Netlist) : Type 0 where

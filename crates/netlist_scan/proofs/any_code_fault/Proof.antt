@@ -5,7 +5,7 @@ use native.Mathlib.Omega.{arith}
 use Rattle.model.specs.Netlist.{gateWire}
 use Rattle.netlist.specs.NetOf.{netOf, alone}
 use Rattle.netlist.specs.Faults.{codeFault}
-use Rattle.netlist_scan.specs.AnyLine.{anyLatch, anyGate, anyInRecord, anyLine}
+use Rattle.netlist_scan.specs.AnyLine.{anyLatch, anyGate, anyAbove, anyInSecond, anyInRecord, anyLine}
 use Rattle.netlist_scan.proofs.any_code_fault.Statement.{statement}
 use Rattle.netlist_scan.proofs.any_code_fault.Tie as tie
 
@@ -27,7 +27,7 @@ any-in-record-requires : tie.Need-any-in-record-requires
 any-in-record-requires c κs = c .before .before .before .before .pre
 
 returns : tie.Need-returns
-unfolding netOf codeFault anyLatch anyGate anyInRecord anyLine
+unfolding netOf codeFault anyLatch anyGate anyAbove anyInSecond anyInRecord anyLine
 returns c =
     let net = c .before .before .before .before .before .args .net in
     let own : (g : ℕ) → c .before .before .before .first-gate-wire .result .0 + g ≡ gateWire (alone net) g = λ g. omega (arith, c .before .before .before .first-gate-wire .ensures) in

@@ -1,87 +1,50 @@
--- `netlist_tests::any_loop` meets its contract. The loop's invariant: what was found is what the first t address codes have. No line but
--- these and line C can make a memory loop.
-use Prim.Native.Nat.{_-_, _/_, _≤_}
-use mathlib.Core.Path.{_≡_}
-use mathlib.Core.Bool.{false, or-false}
+-- `netlist_tests::any_loop` meets its contract: the lines are those of the ports, one by one.
+use Prim.Native.Nat.{ℕ, _/_, _≤_, _<_}
+use mathlib.Core.Path.{sym}
+use mathlib.Core.Bool.{or-false}
 use native.Mathlib.Omega.{arith}
-use Rattle.netlist.specs.NetOf.{codeOf, netOf}
-use Rattle.netlist.specs.Faults.{loopFaultBy}
-use Rattle.netlist_scan.specs.AnyLine.{anyLine}
-use Rattle.model.specs.Search.{anyBelow}
-use Rattle.model.proofs.Search.{any-none, any-next, any-never}
-use Rattle.netlist.specs.WireTable.{entry}
+use borrow.Author.Tests.{lt-ltb, le-ltb}
+use Rattle.model.specs.Netlist.{IsPort, port}
+use Rattle.model.specs.Acceptance.{WithinLimits}
+use Rattle.model.proofs.Ports.{first-port, second-port}
+use Rattle.netlist.specs.NetOf.{netOf, alone}
+use Rattle.netlist.specs.declared.Netlist.{Netlist}
+use Rattle.netlist_tests.proofs.Dependence.{anyLine-ports}
 use Rattle.netlist_tests.proofs.any_loop.Statement.{statement}
 use Rattle.netlist_tests.proofs.any_loop.Tie as tie
 
-abbrev Inv-loop : tie.InvT-loop
-Inv-loop flags net any₀ t₀ any t = (t ≤ net .m) × (any ≡ anyBelow t (λ x. entry flags (codeOf (net .address) x / 2)))
-
-abbrev μ-loop : tie.MeasureT-loop
-μ-loop flags net any₀ t₀ any t = net .m - t
-
-loop-holds : tie.Need-loop-holds Inv-loop μ-loop
-loop-holds c = (omega arith, any-none false _)
-
-cast-at : tie.Need-cast-at Inv-loop μ-loop
-cast-at c = omega arith
-
-mul-wire-index : tie.Need-mul-wire-index Inv-loop μ-loop
-mul-wire-index c = omega arith
-
-element-copy-out-wire-index : tie.Need-element-copy-out-wire-index Inv-loop μ-loop
+-- the wires of a port are within the table
+wires-within : (r : Netlist) → WithinLimits (alone r) → (p : ℕ) → IsPort (alone r) p
+    → (r .m ≤ 12) × ((t : ℕ) → t < r .m → port (alone r) p .address t / 2 ≤ 600) × (port (alone r) p .RE / 2 ≤ 600)
 unfolding netOf
-element-copy-out-wire-index c = omega arith
-
-wire-index-requires : tie.Need-wire-index-requires Inv-loop μ-loop
-wire-index-requires c κs = tt
-
-element-copy-out-any : tie.Need-element-copy-out-any Inv-loop μ-loop
-unfolding netOf codeOf
-element-copy-out-any c = omega (arith, c .before .before .before .before .pre .codes .address-fits (c .before .before .before .loop .t) (c .before .before .loop-test .taken), c .before .before .before .before .pre .sizes)
-
-add-t : tie.Need-add-t Inv-loop μ-loop
-unfolding netOf
-add-t c = omega arith
-
-loop-less : tie.Need-loop-less Inv-loop μ-loop
-loop-less c = omega arith
-
-loop-again : tie.Need-loop-again Inv-loop μ-loop
-unfolding codeOf
-loop-again c = (
-  omega arith,
-  rw (c .before .before .before .before .loop .inv .1, c .before .wire-index .ensures) (any-next false _ (c .before .before .before .before .loop .t)),
+wires-within r h p is = (
+  omega (arith, h .sizes),
+  λ t b. omega (arith, h .codes .address-fits p is t b, h .sizes),
+  omega (arith, h .codes .RE-fits p is, h .sizes),
 )
 
-wire-index-requires-2 : tie.Need-wire-index-requires-2 Inv-loop μ-loop
-wire-index-requires-2 c κs = tt
-
-element-copy-out-result : tie.Need-element-copy-out-result Inv-loop μ-loop
+any-dependent-requires : tie.Need-any-dependent-requires
 unfolding netOf
-element-copy-out-result c = omega (arith, c .before .before .before .before .pre .codes .RE-fits, c .before .before .before .before .pre .sizes)
+any-dependent-requires c κs =
+    let net = c .before .args .net in
+    wires-within net (c .before .pre) 1 (first-port (alone net))
 
-returns : tie.Need-returns Inv-loop μ-loop
-unfolding netOf loopFaultBy anyLine
+any-dependent-requires-2 : tie.Need-any-dependent-requires-2
+unfolding netOf
+any-dependent-requires-2 c κs =
+    let net = c .before .before .before .before .before .args .net in
+    wires-within net (c .before .before .before .before .before .pre) 2 (second-port (alone net) (c .before .if1 .taken))
+
+returns : tie.Need-returns
+unfolding netOf
 returns c =
-    let net = c .before .before .before .before .before .args .t1 in
-    let all : c .before .before .before .before .loop .t ≡ net .m = omega arith in
-    rw (c .before .before .before .before .loop .inv .1, all, c .before .wire-index2 .ensures) (simp (any-never, or-false))
+    rw (anyLine-ports (alone (c .before .before .before .before .before .before .args .net)), c .before .before .before .before .any-dependent .ensures, c .any-dependent2 .ensures, lt-ltb _ _ (c .before .before .if1 .taken))
+
+returns-2 : tie.Need-returns-2
+unfolding netOf
+returns-2 c =
+    rw (anyLine-ports (alone (c .before .before .before .before .args .net)), c .before .before .any-dependent .ensures, le-ltb _ _ (c .if1 .left))
+    (sym (or-false _))
 
 pub any-loop-spec : {M : Type 1} → statement M
-any-loop-spec =
-    tie.close
-    (tie.spec
-    Inv-loop
-    μ-loop
-    loop-holds
-    cast-at
-    mul-wire-index
-    element-copy-out-wire-index
-    wire-index-requires
-    element-copy-out-any
-    add-t
-    loop-less
-    loop-again
-    wire-index-requires-2
-    element-copy-out-result
-    returns)
+any-loop-spec = tie.close (tie.spec any-dependent-requires any-dependent-requires-2 returns returns-2)

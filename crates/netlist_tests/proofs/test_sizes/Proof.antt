@@ -1,4 +1,4 @@
--- `netlist_tests::test_sizes` meets its contract: only lines N and M hold sizes.
+-- `netlist_tests::test_sizes` meets its contract: only the first two lines hold sizes.
 use mathlib.Core.Path.{_≡_, refl, sym, _∙_, ap}
 use mathlib.Core.Bool.{true, false}
 use native.Mathlib.Omega.{arith}
@@ -53,6 +53,8 @@ returns-3 c =
       of-gate = λ g h. refl;
       of-address = λ t h. refl;
       of-data = λ t h. refl;
+      of-second-address = λ some t h. refl;
+      of-second-enable = λ some. refl;
       of-control = refl;
     }))
 

@@ -1,43 +1,95 @@
--- `netlist_tests::test_ties` meets its contract: the first tied address code decides.
-use mathlib.Core.Path.{sym}
+-- `netlist_tests::test_ties` meets its contract: where the first port has no tie, a second port decides.
+use mathlib.Core.Path.{_≡_, sym}
+use native.Mathlib.Nat.{add-zero}
 use native.Mathlib.Omega.{arith}
-use Rattle.model.specs.Search.{IsFirst}
-use Rattle.model.proofs.Search.{firstWhere-is}
+use borrow.Author.Tests.{lt-ltb, le-ltb}
+use Rattle.refusals.specs.Tests.{_then_}
+use Rattle.model.specs.Netlist.{port}
 use Rattle.netlist.specs.NetOf.{netOf, alone}
-use Rattle.netlist.specs.Faults.{isTied}
-use Rattle.netlist_tests.proofs.Ties.{tie-found, ties-none}
+use Rattle.netlist.specs.Places.{addressLine}
+use Rattle.netlist_tests.specs.OnePort.{testAddress}
+use Rattle.netlist_tests.proofs.Ties.{ties-by-ports}
 use Rattle.netlist_tests.proofs.test_ties.Statement.{statement}
 use Rattle.netlist_tests.proofs.test_ties.Tie as tie
 
-first-tie-requires : tie.Need-first-tie-requires
+add-line : tie.Need-add-line
 unfolding netOf
-first-tie-requires c κs = omega arith
+add-line c = omega (arith, c .before .pre)
 
-add-t6 : tie.Need-add-t6
+add-line-2 : tie.Need-add-line-2
 unfolding netOf
-add-t6 c = omega (arith, c .before .before .before .before .before .pre)
+add-line-2 c = omega (arith, c .before .before .pre)
 
-add-t7 : tie.Need-add-t7
+test-address-requires : tie.Need-test-address-requires
 unfolding netOf
-add-t7 c = omega (arith, c .before .before .before .before .before .before .pre)
+test-address-requires c κs = (omega (arith, c .before .before .before .pre), omega (arith, c .before .before .before .pre))
 
-add-t8 : tie.Need-add-t8
+-- what the test of the first port's codes says
+tested : (c : tie.After-test-address)
+    → let d = alone (c .before .before .before .before .args .net) in
+    testAddress (port d 1 .address) (d .m) (addressLine d 0) ≡ c .test-address .result
 unfolding netOf
-add-t8 c = omega (arith, c .before .before .before .before .before .before .pre)
+tested c = rw add-zero (sym (c .test-address .ensures))
+
+enum-told : tie.Need-enum-told
+enum-told c = c .match .keys1
 
 returns : tie.Need-returns
-unfolding netOf
+unfolding netOf _then_
 returns c =
-    let d = alone (c .before .before .before .before .before .before .args .net) in
-    sym (tie-found d (rw (c .before .before .before .before .first-tie .ensures) (firstWhere-is (isTied (d .address)) (d .m))) (c .before .before .if1 .taken))
+    let refused = c .enum-told .given .1 in
+    rw (ties-by-ports (alone (c .before .before .before .before .before .before .args .net)), tested (c .before .before), refused)
+
+enum-told-2 : tie.Need-enum-told-2
+enum-told-2 c = c .match .keys2
+
+add-test-address : tie.Need-add-test-address
+unfolding netOf
+add-test-address c = omega (arith, c .before .before .before .before .before .before .before .before .before .before .pre)
+
+add-test-address-2 : tie.Need-add-test-address-2
+unfolding netOf
+add-test-address-2 c = omega (arith, c .before .before .before .before .before .before .before .before .before .before .before .pre)
+
+test-address-requires-2 : tie.Need-test-address-requires-2
+unfolding netOf
+test-address-requires-2 c κs =
+    let fit = c .before .before .before .before .before .before .before .before .before .before .before .pre in
+    (omega (arith, fit), omega (arith, fit))
 
 returns-2 : tie.Need-returns-2
-unfolding netOf
+unfolding netOf _then_
 returns-2 c =
-    let d = alone (c .before .before .before .before .args .net) in
-    let first : IsFirst (isTied (d .address)) (d .m) (c .before .before .first-tie .result) =
-    rw (c .before .before .first-tie .ensures) (firstWhere-is (isTied (d .address)) (d .m)) in
-    sym (ties-none d first (omega (arith, first .within)))
+    rw (
+      ties-by-ports (alone (c .before .before .before .before .before .before .before .before .before .before .before .before .args .net)),
+      tested (c .before .before .before .before .before .before .before .before),
+      c .before .before .before .before .before .before .enum-told2 .given .1,
+      lt-ltb _ _ (c .before .before .before .before .if1 .taken),
+    )
+    (rw add-zero (c .test-address2 .ensures))
+
+returns-3 : tie.Need-returns-3
+unfolding netOf _then_
+returns-3 c =
+    rw (
+      ties-by-ports (alone (c .before .before .before .before .before .before .before .before .args .net)),
+      tested (c .before .before .before .before),
+      c .before .before .enum-told2 .given .1,
+      le-ltb _ _ (c .if1 .left),
+    )
 
 pub test-ties-spec : {M : Type 1} → statement M
-test-ties-spec = tie.close (tie.spec first-tie-requires add-t6 add-t7 add-t8 returns returns-2)
+test-ties-spec =
+    tie.close
+    (tie.spec
+    add-line
+    add-line-2
+    test-address-requires
+    enum-told
+    returns
+    enum-told-2
+    add-test-address
+    add-test-address-2
+    test-address-requires-2
+    returns-2
+    returns-3)

@@ -34,20 +34,35 @@ returns-7 c = rw (c .match .keys7)
 
 returns-8 : tie.Need-returns-8
 unfolding kindOf
-returns-8 c =
+returns-8 c = rw (c .match .keys8)
+
+returns-9 : tie.Need-returns-9
+unfolding kindOf
+returns-9 c = rw (c .match .keys9)
+
+returns-10 : tie.Need-returns-10
+unfolding kindOf
+returns-10 c = rw (c .match .keys10)
+
+returns-11 : tie.Need-returns-11
+unfolding kindOf
+returns-11 c =
     let letter = c .before .args .letter in
     let none = c .match .rest in
     simp (
-      ne-eqb letter 78 (none .0 .0 .0 .0 .0 .0 .1),
-      ne-eqb letter 77 (none .0 .0 .0 .0 .0 .1),
-      ne-eqb letter 76 (none .0 .0 .0 .0 .1),
-      ne-eqb letter 71 (none .0 .0 .0 .1),
-      ne-eqb letter 65 (none .0 .0 .1),
-      ne-eqb letter 68 (none .0 .1),
+      ne-eqb letter 78 (none .0 .0 .0 .0 .0 .0 .0 .0 .0 .1),
+      ne-eqb letter 77 (none .0 .0 .0 .0 .0 .0 .0 .0 .1),
+      ne-eqb letter 84 (none .0 .0 .0 .0 .0 .0 .0 .1),
+      ne-eqb letter 76 (none .0 .0 .0 .0 .0 .0 .1),
+      ne-eqb letter 71 (none .0 .0 .0 .0 .0 .1),
+      ne-eqb letter 65 (none .0 .0 .0 .0 .1),
+      ne-eqb letter 68 (none .0 .0 .0 .1),
+      ne-eqb letter 66 (none .0 .0 .1),
+      ne-eqb letter 82 (none .0 .1),
       ne-eqb letter 67 (none .1),
     )
 
 pub kind-of-spec : {M : Type 1} → statement M
 kind-of-spec =
     tie.close
-    (tie.spec returns returns-2 returns-3 returns-4 returns-5 returns-6 returns-7 returns-8)
+    (tie.spec returns returns-2 returns-3 returns-4 returns-5 returns-6 returns-7 returns-8 returns-9 returns-10 returns-11)

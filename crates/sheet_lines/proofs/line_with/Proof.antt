@@ -12,7 +12,7 @@ use Rattle.sheet_lines.proofs.line_with.Tie as tie
 
 -- what each test that is passed says
 known : (c : tie.Else1) → isKnown (c .before .before .args .kind) ≡ true
-known c = lt-ltb (rowOf (c .before .before .args .kind)) 7 (omega arith)
+known c = lt-ltb (rowOf (c .before .before .args .kind)) 10 (omega arith)
 
 first-wanted :
     (c : tie.Else2) →
@@ -35,7 +35,7 @@ row-of-requires c κs = search needs
 returns : tie.Need-returns
 returns c =
     let x = c .before .before .args in
-    let unknown = le-ltb (rowOf (x .kind)) 7 (omega (arith, c .before .row-of .ensures)) in
+    let unknown = le-ltb (rowOf (x .kind)) 10 (omega (arith, c .before .row-of .ensures)) in
     sym (lineWith-tests (x .kind) (x .first) (x .second) (x .third) false _ _ _ unknown refl refl refl)
 
 is-wanted-requires : tie.Need-is-wanted-requires

@@ -304,7 +304,7 @@ module _ {M : Type 1} (𝓤 : URA M) (H : Heap 𝓤) (A : Atoms 𝓤) (W : Given
             (vptr b₁ o₁ ∷ [], (vptr b₂ o₂ ∷ [], (lineVal p ∷ [], (vint w32 (number p) ∷ [], tt)))),
           ),
         ) tt
-        (factI 𝓤 (FullLength (net .address) (net .«write_data») lat gat × SizesKnown (alone net) (number p)) (emp 𝓤)
+        (factI 𝓤 (FullLength net lat gat × SizesKnown (alone net) (number p)) (emp 𝓤)
         (read .holds .full, sizes-next (now file) lines p net lat gat within read))
         (and-then ! (load ! (from ! (stop !)) (look ! 19 refl))
         (and-then ! (load ! (from ! (stop !)) (look ! 11 refl))

@@ -55,8 +55,20 @@ enum-known-due-4 c = search needs
 store-data-requires : tie.Need-store-data-requires
 store-data-requires c κs = within (c .before .due4 .given .1) (c .before .before .before .pre .1)
 
+enum-known-due-5 : tie.Need-enum-known-due-5
+enum-known-due-5 c = search needs
+
+store-second-address-requires : tie.Need-store-second-address-requires
+store-second-address-requires c κs = within (c .before .due5 .given .1) (c .before .before .before .pre .1)
+
 enum-told-3 : tie.Need-enum-told-3
 enum-told-3 c = search needs
+
+store-second-enable-requires : tie.Need-store-second-enable-requires
+store-second-enable-requires c κs = search needs
+
+enum-told-4 : tie.Need-enum-told-4
+enum-told-4 c = search needs
 
 store-control-requires : tie.Need-store-control-requires
 store-control-requires c κs = search needs
@@ -78,7 +90,7 @@ returns-3 c =
     let a = start .args in
     let due = c .before .before .before .due in
     rw (due .given .1, c .put-numbers .ensures)
-    (holds-latch (a .net) (a .latches .now) (a .gates .now) (start .pre .0) (a .first) (a .second) (a .third) (a .empty) (due .given .0 .0) (within (due .given .1) (start .pre .1)))
+    (holds-latch (a .net) (a .latches .now) (a .gates .now) (start .pre .0) (a .kind) (a .first) (a .second) (a .third) (a .empty) (due .given .0 .0) (within (due .given .1) (start .pre .1)))
 
 returns-4 : tie.Need-returns-4
 returns-4 c =
@@ -86,7 +98,7 @@ returns-4 c =
     let a = start .args in
     let due = c .before .before .before .due2 in
     rw (due .given .1, c .put-numbers2 .ensures)
-    (holds-gate (a .net) (a .latches .now) (a .gates .now) (start .pre .0) (a .first) (a .second) (a .third) (a .empty) (due .given .0 .0) (within (due .given .1) (start .pre .1)))
+    (holds-gate (a .net) (a .latches .now) (a .gates .now) (start .pre .0) (a .kind) (a .first) (a .second) (a .third) (a .empty) (due .given .0 .0) (within (due .given .1) (start .pre .1)))
 
 returns-5 : tie.Need-returns-5
 unfolding stored
@@ -103,8 +115,20 @@ returns-6 c =
 returns-7 : tie.Need-returns-7
 unfolding stored
 returns-7 c =
+    let start = c .before .before .before .before in
+    rw (c .before .before .due5 .given .1) (c .store-second-address .ensures (start .args .latches .now) (start .args .gates .now) (start .pre .0))
+
+returns-8 : tie.Need-returns-8
+unfolding stored
+returns-8 c =
     let start = c .before .before .before in
-    rw (c .before .enum-told3 .given .1) (c .store-control .ensures (start .args .latches .now) (start .args .gates .now) (start .pre .0))
+    rw (c .before .enum-told3 .given .1) (c .store-second-enable .ensures (start .args .latches .now) (start .args .gates .now) (start .pre .0))
+
+returns-9 : tie.Need-returns-9
+unfolding stored
+returns-9 c =
+    let start = c .before .before .before in
+    rw (c .before .enum-told4 .given .1) (c .store-control .ensures (start .args .latches .now) (start .args .gates .now) (start .pre .0))
 
 pub store-spec : {M : Type 1} → statement M
 store-spec =
@@ -124,7 +148,11 @@ store-spec =
     store-address-requires
     enum-known-due-4
     store-data-requires
+    enum-known-due-5
+    store-second-address-requires
     enum-told-3
+    store-second-enable-requires
+    enum-told-4
     store-control-requires
     returns
     returns-2
@@ -132,4 +160,6 @@ store-spec =
     returns-4
     returns-5
     returns-6
-    returns-7)
+    returns-7
+    returns-8
+    returns-9)

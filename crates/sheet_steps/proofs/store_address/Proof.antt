@@ -25,6 +25,7 @@ returns c latches gates full =
           record {
             address-codes = simp length-set (full .address-codes);
             data-codes = full .data-codes;
+            second-codes = full .second-codes;
             latch-codes = full .latch-codes;
             gate-codes = full .gate-codes;
           };

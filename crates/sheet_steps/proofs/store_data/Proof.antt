@@ -25,6 +25,7 @@ returns c latches gates full =
           record {
             address-codes = full .address-codes;
             data-codes = simp length-set (full .data-codes);
+            second-codes = full .second-codes;
             latch-codes = full .latch-codes;
             gate-codes = full .gate-codes;
           };

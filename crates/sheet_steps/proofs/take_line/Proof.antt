@@ -1,7 +1,6 @@
 -- `sheet_steps::take_line` meets its contract: a test that refuses is passed on; the line due is put into the record and the lists, and tested there.
 use mathlib.Core.Path.{_≡_, sym, _∙_}
 use mathlib.Core.Bool.{not, _||_}
-use lib.Dec.{eqb}
 use Rattle.netlist.specs.NetOf.{netOf, alone}
 use Rattle.netlist.specs.Places.{lineAt}
 use Rattle.netlist.proofs.NetOf.{lineAt-lists}
@@ -21,15 +20,14 @@ due c =
     c .line-due .ensures ∙ lineAt-lists (a .net) (a .latches .now) (a .gates .now) (a .place)
 
 -- whether the line is out of order, in the record with its lists
-tested : (c : tie.After-row-due) → (c .before .before .is-past-last .result || not (eqb (c .before .row-of .result) (c .row-due .result))) ≡ outOfOrder (netOf (c .before .before .before .before .args .net) (c .before .before .before .before .args .latches .now) (c .before .before .before .before .args .gates .now)) (c .before .before .before .before .args .kind) (c .before .before .before .before .args .place)
+tested : (c : tie.After-is-due) → (c .before .is-past-last .result || not (c .is-due .result)) ≡ outOfOrder (netOf (c .before .before .before .args .net) (c .before .before .before .args .latches .now) (c .before .before .before .args .gates .now)) (c .before .before .before .args .kind) (c .before .before .before .args .place)
 unfolding netOf
-tested c =
-    rw (c .before .before .is-past-last .ensures, c .before .row-of .ensures, c .row-due .ensures, due (c .before .before .before))
+tested c = rw (c .before .is-past-last .ensures, c .is-due .ensures, due (c .before .before))
 
 -- the line put into the record and the lists
-taken : (c : tie.After-store) → Holds (c .store .result) (c .store .last .1 .0) (c .store .last .1 .1 .0) (stepNet (netOf (c .before .before .before .before .before .before .before .before .args .net) (c .before .before .before .before .before .before .before .before .args .latches .now) (c .before .before .before .before .before .before .before .before .args .gates .now)) (c .before .before .before .before .before .before .before .before .args .first) (c .before .before .before .before .before .before .before .before .args .second) (c .before .before .before .before .before .before .before .before .args .third) (c .before .before .before .before .before .before .before .before .args .empty) (c .before .before .before .before .before .before .before .before .args .place))
+taken : (c : tie.After-store) → Holds (c .store .result) (c .store .last .1 .0) (c .store .last .1 .1 .0) (stepNet (netOf (c .before .before .before .before .before .before .before .args .net) (c .before .before .before .before .before .before .before .args .latches .now) (c .before .before .before .before .before .before .before .args .gates .now)) (c .before .before .before .before .before .before .before .args .kind) (c .before .before .before .before .before .before .before .args .first) (c .before .before .before .before .before .before .before .args .second) (c .before .before .before .before .before .before .before .args .third) (c .before .before .before .before .before .before .before .args .empty) (c .before .before .before .before .before .before .before .args .place))
 unfolding stepNet
-taken c = rw (due (c .before .before .before .before .before .before .before)) at (c .store .ensures)
+taken c = rw (due (c .before .before .before .before .before .before)) at (c .store .ensures)
 
 line-due-requires : tie.Need-line-due-requires
 line-due-requires c κs = search needs
@@ -37,44 +35,41 @@ line-due-requires c κs = search needs
 is-past-last-requires : tie.Need-is-past-last-requires
 is-past-last-requires c κs = search needs
 
-row-of-requires : tie.Need-row-of-requires
-row-of-requires c κs = search needs
-
-row-due-requires : tie.Need-row-due-requires
-row-due-requires c κs = search needs
+is-due-requires : tie.Need-is-due-requires
+is-due-requires c κs = search needs
 
 refused-requires : tie.Need-refused-requires
 refused-requires c κs = search needs
 
 returns : tie.Need-returns
 returns c =
-    let a = c .before .before .before .before .before .before .args in
+    let a = c .before .before .before .before .before .args in
     let d = netOf (a .net) (a .latches .now) (a .gates .now) in
     rw (c .refused .ensures)
-    (outcome-refused (a .latches .now) (a .gates .now) (stepNet d (a .first) (a .second) (a .third) (a .empty) (a .place))
+    (outcome-refused (a .latches .now) (a .gates .now) (stepNet d (a .kind) (a .first) (a .second) (a .third) (a .empty) (a .place))
     (step-refused d (a .kind) (a .place) (a .first) (a .second) (a .third) (a .empty) (sym (tested (c .before .before)) ∙ c .before .if1 .taken)))
 
 store-requires : tie.Need-store-requires
 store-requires c κs =
-    let start = c .before .before .before .before .before .before .before in
-    (start .pre .0, rw (c .before .before .before .before .before .before .line-due .ensures) (roomFor-due (alone (start .args .net)) (start .args .place) (start .pre .1)))
+    let start = c .before .before .before .before .before .before in
+    (start .pre .0, rw (c .before .before .before .before .before .line-due .ensures) (roomFor-due (alone (start .args .net)) (start .args .place) (start .pre .1)))
 
 test-stored-requires : tie.Need-test-stored-requires
 test-stored-requires c κs =
-    let start = c .before .before .before .before .before .before .before .before .before .before in
+    let start = c .before .before .before .before .before .before .before .before .before in
     let a = start .args in
     let next = c .before .before .store .result in
-    (sizesKnown-step (a .net) next (a .latches .now) (a .gates .now) _ _ (a .place) (a .first) (a .second) (a .third) (a .empty) (taken (c .before .before)) (start .pre .1), c .before .before .before .before .before .before .before .before .before .line-due .ensures ∙ due-step (a .net) next (a .latches .now) (a .gates .now) _ _ (a .place) (a .first) (a .second) (a .third) (a .empty) (taken (c .before .before)))
+    (sizesKnown-step (a .net) next (a .latches .now) (a .gates .now) _ _ (a .kind) (a .place) (a .first) (a .second) (a .third) (a .empty) (taken (c .before .before)) (start .pre .1), c .before .before .before .before .before .before .before .before .line-due .ensures ∙ due-step (a .net) next (a .latches .now) (a .gates .now) _ _ (a .kind) (a .place) (a .first) (a .second) (a .third) (a .empty) (taken (c .before .before)))
 
 -- the verdict on it, in the record with its lists
 judged : (c : tie.After-test-stored) →
-    let a = c .before .before .before .before .before .before .before .before .before .before .before .args in
+    let a = c .before .before .before .before .before .before .before .before .before .before .args in
     c .test-stored .result ≡ stepVerdict (netOf (a .net) (a .latches .now) (a .gates .now)) (a .kind) (a .first) (a .second) (a .third) (a .empty) (a .place)
 judged c =
-    let a = c .before .before .before .before .before .before .before .before .before .before .before .args in
+    let a = c .before .before .before .before .before .before .before .before .before .before .args in
     let d = netOf (a .net) (a .latches .now) (a .gates .now) in
     c .test-stored .ensures
-    ∙ rw (taken (c .before .before .before) .net-is, due (c .before .before .before .before .before .before .before .before .before .before))
+    ∙ rw (taken (c .before .before .before) .net-is, due (c .before .before .before .before .before .before .before .before .before))
     (sym (step-due d (a .kind) (a .place) (a .first) (a .second) (a .third) (a .empty) (sym (tested (c .before .before .before .before .before .before .before)) ∙ c .before .before .before .before .before .before .if1 .left)))
 
 enum-known-verdict : tie.Need-enum-known-verdict
@@ -103,8 +98,7 @@ take-line-spec =
     (tie.spec
     line-due-requires
     is-past-last-requires
-    row-of-requires
-    row-due-requires
+    is-due-requires
     refused-requires
     returns
     store-requires

@@ -1,0 +1,36 @@
+-- `sheet_steps::store_second_address` meets its contract: one entry of the array is set.
+use Prim.Native.Nat.{_<_}
+use native.Mathlib.Omega.{arith}
+use lib.ListN.{length, length-set}
+use Rattle.netlist.specs.NetOf.{netOf}
+use Rattle.sheet_steps.specs.Steps.{stored}
+use Rattle.sheet_steps.proofs.Steps.{code-set}
+use borrow.Author.Needs.{needs}
+use Rattle.sheet_steps.proofs.store_second_address.Statement.{statement}
+use Rattle.sheet_steps.proofs.store_second_address.Tie as tie
+
+mul-next : tie.Need-mul-next
+mul-next c = search needs
+
+way-write-given-next : tie.Need-way-write-given-next
+way-write-given-next c = search needs
+
+returns : tie.Need-returns
+unfolding netOf stored
+returns c latches gates full =
+    let a = c .before .args in
+    let b : a .t < length (a .net .address2) = omega (arith, full .second-codes, c .before .pre) in
+    record {
+      full =
+          record {
+            address-codes = full .address-codes;
+            data-codes = full .data-codes;
+            second-codes = simp length-set (full .second-codes);
+            latch-codes = full .latch-codes;
+            gate-codes = full .gate-codes;
+          };
+      net-is = rw (code-set (a .net .address2) (a .t) (a .first) b);
+    }
+
+pub store-second-address-spec : {M : Type 1} → statement M
+store-second-address-spec = tie.close (tie.spec mul-next way-write-given-next returns)
