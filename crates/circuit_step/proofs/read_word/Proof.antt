@@ -1,10 +1,8 @@
 -- `circuit_step::read_word` meets its contract.
-use Prim.Native.Nat.{ℕ, _-_, _*_, _/_, _^_, _≤_, _<_}
+use Prim.Native.Nat.{_-_, _*_, _/_, _^_, _<_}
 use mathlib.Core.Path.{sym, _∙_}
-use native.Mathlib.Nat.{mul-le-mul-right}
 use native.Mathlib.Omega.{arith}
-use Rattle.model.specs.Netlist.{Netlist, IsPort, port}
-use Rattle.model.specs.Acceptance.{SizesFit}
+use Rattle.model.proofs.Ports.{first-read-most}
 use Rattle.model.proofs.Memory.{address-below}
 use Rattle.model.proofs.Circuit.{readData-port}
 use Rattle.netlist.specs.NetOf.{netOf, alone}
@@ -43,23 +41,17 @@ returns c =
 sub-own : tie.Need-sub-own
 sub-own c = omega (arith, c .before .before .before .pre .2 .0)
 
--- the bits of a port begin at n at most
-first-most : (c : Netlist) → SizesFit c → (p : ℕ) → IsPort c p → (p - 1) * c .n ≤ 32
-first-most c sizes p here =
-    let most : (p - 1) * c .n ≤ 1 * c .n = mul-le-mul-right (c .n) (omega (arith, here .1, sizes .kind-fits)) in
-    omega (arith, most, sizes .n-most)
-
 mul-own : tie.Need-mul-own
 unfolding netOf
-mul-own c = omega (arith, first-most (alone (c .before .before .before .before .args .net)) (c .before .before .before .before .pre .0 .sizes) (c .before .before .before .before .args .p) (c .before .before .before .before .pre .2))
+mul-own c = omega (arith, first-read-most (alone (c .before .before .before .before .args .net)) (c .before .before .before .before .args .p) (c .before .before .before .before .pre .2) (c .before .before .before .before .pre .0 .sizes), c .before .before .before .before .pre .0 .sizes .n-most)
 
 cast-own : tie.Need-cast-own
 unfolding netOf
-cast-own c = omega (arith, first-most (alone (c .before .before .before .before .args .net)) (c .before .before .before .before .pre .0 .sizes) (c .before .before .before .before .args .p) (c .before .before .before .before .pre .2))
+cast-own c = omega (arith, first-read-most (alone (c .before .before .before .before .args .net)) (c .before .before .before .before .args .p) (c .before .before .before .before .pre .2) (c .before .before .before .before .pre .0 .sizes), c .before .before .before .before .pre .0 .sizes .n-most)
 
 shr-own : tie.Need-shr-own
 unfolding netOf
-shr-own c = omega (arith, first-most (alone (c .before .before .before .before .args .net)) (c .before .before .before .before .pre .0 .sizes) (c .before .before .before .before .args .p) (c .before .before .before .before .pre .2))
+shr-own c = omega (arith, first-read-most (alone (c .before .before .before .before .args .net)) (c .before .before .before .before .args .p) (c .before .before .before .before .pre .2) (c .before .before .before .before .pre .0 .sizes), c .before .before .before .before .pre .0 .sizes .n-most)
 
 cast-result-2 : tie.Need-cast-result-2
 cast-result-2 c = search needs
