@@ -1,8 +1,9 @@
 -- Laws of specs/Calls.antt: which tests a call passes, and demand 3 of the calls. No contract cites this file.
-use Prim.Native.Nat.{ℕ, _+_, _≤_, _<_}
-use mathlib.Core.Path.{_≡_, refl, _∙_, ap}
+use Prim.Native.Nat.{ℕ, _+_, _*_, _≤_, _<_}
+use mathlib.Core.Path.{_≡_, refl, sym, _∙_, ap}
 use mathlib.Core.Bool.{true, not}
 use mathlib.Core.List.{List}
+use native.Mathlib.Nat.{mul-le-mul-left}
 use native.Mathlib.Omega.{arith}
 use lib.Dec.{ltb}
 use lib.IntN.{ℤ}
@@ -10,12 +11,17 @@ use lib.ListN.{length, take, drop}
 use lib.Seq.{take-append-seam}
 use borrow.Author.Tests.{ltb-false, le-ltb, not-false}
 use Rattle.model.specs.Netlist.{Netlist, ports}
-use Rattle.model.specs.Acceptance.{Accepted}
+use Rattle.model.specs.Limits.{mostLines}
+use Rattle.model.specs.Acceptance.{SizesFit, Accepted}
 use Rattle.model.specs.Variables.{base}
 use Rattle.model.specs.Groups.{inDepth}
 use Rattle.model.specs.Numbers.{numbersOf, formula}
 use Rattle.model.specs.declared.Group.{Group}
-use Rattle.model.proofs.Variables.{base-most}
+use Rattle.model.specs.Agree.{Agree}
+use Rattle.model.proofs.Ports.{second-most}
+use Rattle.model.proofs.Variables.{base-most, base-most-single}
+use Rattle.model.proofs.Agree.{agree-itself, second-same}
+use Rattle.model.proofs.SameNumbers.{numbers-same}
 use Rattle.model.proofs.Gather.{all-weaken}
 use Rattle.model.proofs.Joined.{joined-same, order-inDepth}
 use Rattle.model.proofs.Claim.{encodes}
@@ -27,6 +33,7 @@ use Rattle.refusals.specs.declared.Verdict.the-variants.{Passed, Refused}
 use Rattle.refusals.specs.Slices.{testRoom, withCount, contentsAfter}
 use Rattle.refusals.proofs.Tests.{refuseIf-passes, then-passes}
 use Rattle.refusals.proofs.Slices.{room-enough}
+use Rattle.netlist.specs.Places.{controlLine}
 use Rattle.netlist_tests.specs.Record.{recordVerdict}
 use Rattle.netlist_tests.proofs.Acceptance.{passes-accepted}
 use Rattle.call_unpacked.specs.Calls.{testDepth, testGroup, testNumbers, writeVerdict, groupVerdict, headingVerdict, groupSent, groupLeaves, CallsEncode}
@@ -45,7 +52,7 @@ numbers-suffice c k ok d =
 
 pub variables-fit : (c : Netlist) (k v : ℕ) → Accepted c → k ≤ 255 → v ≡ base c (k + 1) → 2147483647 < v → ⊥
 variables-fit c k v ok d e h =
-    let most : base c (k + 1) ≤ 675841 = base-most c (ok .limits .sizes) (k + 1) (omega arith) in
+    let most : base c (k + 1) ≤ 1198081 = base-most c (ok .limits .sizes) (k + 1) (omega arith) in
     omega arith
 
 module _ (c : Netlist) (latchCount gateCount k : ℕ) (record-passed : recordVerdict c latchCount gateCount ≡ Passed) (most : k ≤ 255) where
@@ -71,28 +78,37 @@ module _ (c : Netlist) (latchCount gateCount k : ℕ) (record-passed : recordVer
   group-numbers g old there enough =
       rw (group-passes g (length old) there enough) (take-append-seam (numbersOf c k g) (drop (length (numbersOf c k g)) old))
 
--- demand 3 of the calls over d, for an accepted netlist c with the same numbers
+-- no sheet has more than 627 lines: where there are lines of a second port, it has read bits among the wires
+lines-most : (c : Netlist) → SizesFit c → controlLine c ≤ mostLines
+lines-most c fit =
+    let bits : c .secondPort * 1 ≤ c .secondPort * c .n = mul-le-mul-left (c .secondPort) (fit .n-least) in
+    omega (arith, fit .wires-fit, fit .m-most, second-most fit (c .m))
+
+-- demand 3 of the calls over d, for an accepted netlist c that agrees with d
 pub calls-encode-for : (c d : Netlist) (latchCount gateCount k : ℕ) → recordVerdict d latchCount gateCount ≡ Passed → k ≤ 255
-    → Accepted c → ((g : Group) → numbersOf d k g ≡ numbersOf c k g) → CallsEncode c d latchCount gateCount k
+    → Accepted c → Agree c d → CallsEncode c d latchCount gateCount k
 unfolding formula
-calls-encode-for c d latchCount gateCount k passed most ok same =
+calls-encode-for c d latchCount gateCount k passed most ok agree =
     record {
       calls-formula = λ slice enough.
           joined-same (all-weaken
-          (λ g there. group-numbers d latchCount gateCount k passed most g (slice g) there (rw (same g) (enough g there)) ∙ same g)
+          (λ g there.
+          let same : numbersOf d k g ≡ numbersOf c k g = sym (numbers-same c d agree k g there) in
+          group-numbers d latchCount gateCount k passed most g (slice g) (rw (← second-same c d agree) there) (rw same (enough g there)) ∙ same)
           (order-inDepth (ports c) k));
       formula-encodes = encodes c ok k;
       formula-stated = stated c ok k;
       variables-most = base-most c (ok .limits .sizes) (k + 1) (omega arith);
+      variables-single = λ single. base-most-single c (ok .limits .sizes) single (k + 1) (omega arith);
       numbers-suffice = numbers-suffice d k (accepted d latchCount gateCount k passed most) most;
-      lines-most = omega (arith, ok .limits .sizes .wires-fit, ok .limits .sizes .m-most);
+      lines-most = lines-most c (ok .limits .sizes);
     }
 
 -- for the netlist itself
 pub calls-encode : (c : Netlist) (latchCount gateCount k : ℕ) → recordVerdict c latchCount gateCount ≡ Passed → k ≤ 255
     → CallsEncode c c latchCount gateCount k
 calls-encode c latchCount gateCount k passed most =
-    calls-encode-for c c latchCount gateCount k passed most (accepted c latchCount gateCount k passed most) (λ g. refl)
+    calls-encode-for c c latchCount gateCount k passed most (accepted c latchCount gateCount k passed most) (agree-itself c)
 
 -- one test more behind two whose verdict is known
 tests-more : (first second more : Verdict) {v : Verdict} → v ≡ (first then second) → first then second then more ≡ v then more

@@ -1,5 +1,5 @@
 // The numbers of the variables of a record's frames and pairs, and the literals that two frames have in common: the port of the
-// memory, B(i), Q, N and Z, S (RULES V2 to V5, G9, G11).
+// memory, B(i), Q, N and Z, S (RULES V2 to V5, V8, G9, G11, G37).
 use literals::Code;
 use literals::Numbering;
 use literals::Term;

@@ -1,12 +1,12 @@
-// How many clauses of a depth are written (RULES G23, G28 and G34): counted in what the groups' own writer writes, by one group of each class of
-// groups that have equally many.
+// How many clauses of a depth are written (RULES G23, G28, G34 and G37): counted in what the groups' own writer writes, by one group of each
+// class of groups that have equally many, at each port.
 use model::Group;
 use netlist::Netlist;
 use netlist::UnpackedList;
 ghost use mathlib.Core.Path.{_≡_};
 ghost use mathlib.Core.Bool.{true};
 ghost use mathlib.Core.List.{[], _∷_};
-ghost use Prim.Native.Nat.{_+_, _-_, _*_, _/_, _≤_};
+ghost use Prim.Native.Nat.{_+_, _-_, _*_, _/_, _≤_, _<_};
 ghost use lib.ListN.{length};
 ghost use Rattle.model.specs.Netlist.{ports};
 ghost use Rattle.model.specs.Acceptance.{Accepted};
@@ -14,7 +14,7 @@ ghost use Rattle.model.specs.Groups.{inDepth};
 ghost use Rattle.model.specs.Numbers.{numbersOf, formula, clausesIn};
 ghost use Rattle.model.specs.declared.Group.the-variants.{Wires, Pair, Closing};
 ghost use Rattle.netlist.specs.NetOf.{netOf};
-ghost use Rattle.group_counts.specs.PairCounts.{groupCount, pairCounts};
+ghost use Rattle.group_counts.specs.PairCounts.{groupCount, portsCount, pairCounts};
 
 // The clauses that a number ends: the end mark one, any other none.
 fn count_end(z: i32) -> usize
@@ -57,6 +57,45 @@ fn count_group(
     count_ends(&numbers[..count]) as u32
 }
 
+// Those of pair (j, i) at each port.
+fn count_pair(
+    numbers: &mut [i32],
+    net: Netlist,
+    latches: &UnpackedList,
+    gates: &UnpackedList,
+    j: u32,
+    i: u32,
+) -> u32
+    requires { ⌜ Accepted (netOf net (now latches) (now gates)) × (j < i) × (i ≤ 255) × (5992 ≤ length (now numbers)) ⌝ }
+    ensures { λ r. ⌜ (r ≡ portsCount (netOf net (now (latches .entry)) (now (gates .entry))) (Pair j i)) × (r ≤ 11984) ⌝ }
+    ensures scratch { λ _. ⌜ length (now (numbers .exit)) ≡ length (now (numbers .entry)) ⌝ }
+{
+    let first = count_group(numbers, net, latches, gates, 255, Group::Pair(j, i, 1));
+    if net.second_port == 0 {
+        return first;
+    }
+    first + count_group(numbers, net, latches, gates, 255, Group::Pair(j, i, 2))
+}
+
+// Those of a frame's closing at each port.
+fn count_closing(
+    numbers: &mut [i32],
+    net: Netlist,
+    latches: &UnpackedList,
+    gates: &UnpackedList,
+    i: u32,
+) -> u32
+    requires { ⌜ Accepted (netOf net (now latches) (now gates)) × (i ≤ 255) × (5992 ≤ length (now numbers)) ⌝ }
+    ensures { λ r. ⌜ (r ≡ portsCount (netOf net (now (latches .entry)) (now (gates .entry))) (Closing i)) × (r ≤ 11984) ⌝ }
+    ensures scratch { λ _. ⌜ length (now (numbers .exit)) ≡ length (now (numbers .entry)) ⌝ }
+{
+    let first = count_group(numbers, net, latches, gates, 255, Group::Closing(i, 1));
+    if net.second_port == 0 {
+        return first;
+    }
+    first + count_group(numbers, net, latches, gates, 255, Group::Closing(i, 2))
+}
+
 // Those of a frame's wires and closing.
 fn count_frame(
     numbers: &mut [i32],
@@ -67,17 +106,17 @@ fn count_frame(
 ) -> u32
     requires { ⌜ Accepted (netOf net (now latches) (now gates)) × (i ≤ 255) × (5992 ≤ length (now numbers)) ⌝ }
     ensures { λ r. ⌜ (r ≡ groupCount (netOf net (now (latches .entry)) (now (gates .entry))) (Wires i)
-        + groupCount (netOf net (now (latches .entry)) (now (gates .entry))) (Closing i 1)) × (r ≤ 11984) ⌝ }
+        + portsCount (netOf net (now (latches .entry)) (now (gates .entry))) (Closing i)) × (r ≤ 17976) ⌝ }
     ensures scratch { λ _. ⌜ length (now (numbers .exit)) ≡ length (now (numbers .entry)) ⌝ }
 {
     let wires = count_group(numbers, net, latches, gates, 255, Group::Wires(i));
-    wires + count_group(numbers, net, latches, gates, 255, Group::Closing(i, 1))
+    wires + count_closing(numbers, net, latches, gates, i)
 }
 
 // A product with a bound, so that sums of it fit.
 fn product(a: u32, b: u32) -> u32
-    requires { ⌜ (a ≤ 32640) × (b ≤ 11984) ⌝ }
-    ensures { λ r. ⌜ (r ≡ a * b) × (r ≤ 391157760) ⌝ }
+    requires { ⌜ (a ≤ 32640) × (b ≤ 23968) ⌝ }
+    ensures { λ r. ⌜ (r ≡ a * b) × (r ≤ 782315520) ⌝ }
 {
     a * b
 }
@@ -98,12 +137,12 @@ fn count_later_pairs(
     gates: &UnpackedList,
 ) -> u32
     requires { ⌜ Accepted (netOf net (now latches) (now gates)) × (5992 ≤ length (now numbers)) ⌝ }
-    ensures { λ r. ⌜ (r ≡ groupCount (netOf net (now (latches .entry)) (now (gates .entry))) (Pair 1 2 1)
-        + groupCount (netOf net (now (latches .entry)) (now (gates .entry))) (Pair 0 2 1)) × (r ≤ 11984) ⌝ }
+    ensures { λ r. ⌜ (r ≡ portsCount (netOf net (now (latches .entry)) (now (gates .entry))) (Pair 1 2)
+        + portsCount (netOf net (now (latches .entry)) (now (gates .entry))) (Pair 0 2)) × (r ≤ 23968) ⌝ }
     ensures scratch { λ _. ⌜ length (now (numbers .exit)) ≡ length (now (numbers .entry)) ⌝ }
 {
-    let near = count_group(numbers, net, latches, gates, 255, Group::Pair(1, 2, 1));
-    near + count_group(numbers, net, latches, gates, 255, Group::Pair(0, 2, 1))
+    let near = count_pair(numbers, net, latches, gates, 1, 2);
+    near + count_pair(numbers, net, latches, gates, 0, 2)
 }
 
 // The clauses of all pairs of a depth above 0. Those with frame 0, whose Z is RE and may be a constant, are classes of their own: of a given
@@ -116,12 +155,12 @@ fn count_some_pairs(
     depth: u32,
 ) -> u32
     requires { ⌜ Accepted (netOf net (now latches) (now gates)) × (1 ≤ depth) × (depth ≤ 255) × (5992 ≤ length (now numbers)) ⌝ }
-    ensures { λ r. ⌜ (r ≡ pairCounts (netOf net (now (latches .entry)) (now (gates .entry))) depth) × (r ≤ 782321512) ⌝ }
+    ensures { λ r. ⌜ (r ≡ pairCounts (netOf net (now (latches .entry)) (now (gates .entry))) depth) × (r ≤ 1564643024) ⌝ }
     ensures scratch { λ _. ⌜ length (now (numbers .exit)) ≡ length (now (numbers .entry)) ⌝ }
 {
-    let first = count_group(numbers, net, latches, gates, 255, Group::Pair(0, 1, 1));
+    let first = count_pair(numbers, net, latches, gates, 0, 1);
     let later = count_later_pairs(numbers, net, latches, gates);
-    let far = count_group(numbers, net, latches, gates, 255, Group::Pair(1, 3, 1));
+    let far = count_pair(numbers, net, latches, gates, 1, 3);
     let above = depth - 1;
     first + product(above, later) + product(other_pairs(above), far)
 }
@@ -135,7 +174,7 @@ fn count_pairs(
     depth: u32,
 ) -> u32
     requires { ⌜ Accepted (netOf net (now latches) (now gates)) × (depth ≤ 255) × (5992 ≤ length (now numbers)) ⌝ }
-    ensures { λ r. ⌜ (r ≡ pairCounts (netOf net (now (latches .entry)) (now (gates .entry))) depth) × (r ≤ 782321512) ⌝ }
+    ensures { λ r. ⌜ (r ≡ pairCounts (netOf net (now (latches .entry)) (now (gates .entry))) depth) × (r ≤ 1564643024) ⌝ }
     ensures scratch { λ _. ⌜ length (now (numbers .exit)) ≡ length (now (numbers .entry)) ⌝ }
 {
     if depth == 0 {

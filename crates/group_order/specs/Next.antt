@@ -1,4 +1,4 @@
--- What stands first in a list of groups, and that the walk from group to group ends (RULES L6). Cited by `next_group` and by the text of a
+-- What stands first in a list of groups, and that the walk from group to group ends (RULES L14). Cited by `next_group` and by the text of a
 -- depth.
 use Prim.Native.Nat.{ℕ, _+_, _-_, _*_}
 use mathlib.Core.List.{List, [], _∷_}

@@ -1,4 +1,4 @@
-// The order of the groups of a depth (RULES G15, "Order of the whole").
+// The order of the groups of a depth (RULES G15 and G37).
 ghost use mathlib.Core.Path.{_≡_};
 ghost use Prim.Native.Nat.{ℕ, _≤_};
 ghost use mathlib.Core.List.{List, _∷_, _++_};

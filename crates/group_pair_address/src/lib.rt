@@ -1,5 +1,5 @@
-// The address comparison of a pair (j, i) at a port (RULES G6 and G7): the clauses of each bit, and the clause that
-// makes E true where all bits are equal.
+// The address comparison of a pair (j, i) at a port (RULES G6, G7 and G38): the clauses of each bit, and the clause that
+// makes E true where all bits are equal. The address of the writing frame is the first port's at either port.
 use clause_variables::Port;
 use literals::Code;
 use literals::Term;

@@ -30,7 +30,7 @@ listsShort c latchCount gateCount = ltb latchCount (c .latches) || ltb gateCount
 abbrev pub testTies : Netlist → Verdict
 testTies c = testLines c TiedAddress tieFault
 
--- RULES T6: "the first A line concerned, else the C line"; of two ports (RULES C29) A or B, else R, else C
+-- RULES T6: "the first A or B line concerned, else the R line, else the C line"
 abbrev pub testLoops : Netlist → Verdict
 testLoops c = testLines c MemoryLoop loopFault
 

@@ -1,4 +1,5 @@
 -- `call_unpacked::test_group` meets its contract: the first test that refuses answers.
+use mathlib.Core.List.{[]}
 use mathlib.Core.Path.{_≡_, sym, _∙_}
 use borrow.Author.Tests.{not-true, not-false}
 use borrow.Author.Needs.{needs}
@@ -6,9 +7,10 @@ use Rattle.refusals.specs.Tests.{_then_}
 use Rattle.refusals.specs.declared.Refusal.the-variants.{NoSuchGroup}
 use Rattle.refusals.specs.declared.Verdict.the-variants.{Passed, Refused}
 use Rattle.netlist.specs.NetOf.{netOf}
+use Rattle.netlist.proofs.NetOf.{sizes-lists}
 use Rattle.netlist_tests.specs.Record.{recordVerdict}
 use Rattle.call_unpacked.specs.Calls.{testDepth, testGroup}
-use Rattle.call_unpacked.proofs.Calls.{depth-more}
+use Rattle.call_unpacked.proofs.Calls.{depth-shown, depth-more}
 use Rattle.call_unpacked.proofs.test_group.Statement.{statement}
 use Rattle.call_unpacked.proofs.test_group.Tie as tie
 
@@ -29,7 +31,9 @@ enum-told-2 : tie.Need-enum-told-2
 enum-told-2 c = search needs
 
 port-count-requires : tie.Need-port-count-requires
-port-count-requires c κs = search needs
+port-count-requires c κs =
+    let tested = sym (c .before .before .test-depth .ensures) ∙ c .enum-told2 .given .1 in
+    sizes-lists _ _ _ [] [] (depth-shown _ _ _ _ tested .0 .limits .sizes)
 
 is-in-depth-requires : tie.Need-is-in-depth-requires
 is-in-depth-requires c κs = search needs
@@ -47,7 +51,7 @@ asked c =
     (sym (c .enum-told2 .given .1) ∙ c .before .before .test-depth .ensures))
 
 returns-2 : tie.Need-returns-2
-unfolding testGroup
+unfolding testGroup netOf
 returns-2 c =
     let a = c .before .before .before .before .before .before .args in
     let there = rw (c .before .before .port-count .ensures) at (c .before .is-in-depth .ensures) in
@@ -55,7 +59,7 @@ returns-2 c =
     sym e ∙ asked (c .before .before .before)
 
 returns-3 : tie.Need-returns-3
-unfolding testGroup
+unfolding testGroup netOf
 returns-3 c =
     let a = c .before .before .before .before .before .before .args in
     let there = rw (c .before .before .port-count .ensures) at (c .before .is-in-depth .ensures) in

@@ -1,9 +1,7 @@
 -- `group_counts::count_frame` meets its contract.
-use native.Mathlib.Omega.{arith}
 use borrow.Author.Needs.{needs}
 use borrow.Author.Tests.{le-leb}
 use Rattle.model.specs.Groups.{inDepth}
-use Rattle.model.proofs.Joined.{closing-inDepth}
 use Rattle.group_counts.proofs.count_frame.Statement.{statement}
 use Rattle.group_counts.proofs.count_frame.Tie as tie
 
@@ -11,9 +9,8 @@ count-group-requires : tie.Need-count-group-requires
 unfolding inDepth
 count-group-requires c κs = search (needs, le-leb)
 
-count-group-requires-2 : tie.Need-count-group-requires-2
-count-group-requires-2 c κs =
-    let there = closing-inDepth 1 255 _ 1 .1 (c .before .before .before .before .pre .1, (omega arith, omega arith)) in search needs
+count-closing-requires : tie.Need-count-closing-requires
+count-closing-requires c κs = search needs
 
 add-result : tie.Need-add-result
 add-result c = search needs
@@ -25,4 +22,4 @@ returns : tie.Need-returns
 returns c = search needs
 
 pub count-frame-spec : {M : Type 1} → statement M
-count-frame-spec = tie.close (tie.spec count-group-requires count-group-requires-2 add-result same-length returns)
+count-frame-spec = tie.close (tie.spec count-group-requires count-closing-requires add-result same-length returns)

@@ -1,20 +1,17 @@
 -- `group_counts::count_some_pairs` meets its contract: four classes of pairs.
-use Rattle.model.specs.Groups.{inDepth}
 use Rattle.group_counts.proofs.Counted.{some-counted}
 use borrow.Author.Needs.{needs}
 use Rattle.group_counts.proofs.count_some_pairs.Statement.{statement}
 use Rattle.group_counts.proofs.count_some_pairs.Tie as tie
 
-count-group-requires : tie.Need-count-group-requires
-unfolding inDepth
-count-group-requires c κs = search needs
+count-pair-requires : tie.Need-count-pair-requires
+count-pair-requires c κs = search needs
 
 count-later-pairs-requires : tie.Need-count-later-pairs-requires
 count-later-pairs-requires c κs = search needs
 
-count-group-requires-2 : tie.Need-count-group-requires-2
-unfolding inDepth
-count-group-requires-2 c κs = search needs
+count-pair-requires-2 : tie.Need-count-pair-requires-2
+count-pair-requires-2 c κs = search needs
 
 sub-above : tie.Need-sub-above
 sub-above c = search needs
@@ -44,7 +41,7 @@ returns c =
     let second = c .before .before .product .ensures in (
       (
         rw (first .0, second .0, c .before .other-pairs .ensures .0)
-            (some-counted _ (c .before .before .before .before .before .before .before .before .before .before .before .before .args .depth) _ _ _ (p .1) (c .before .before .before .before .before .before .before .before .before .before .count-group .ensures .0 .0) (c .before .before .before .before .before .before .before .count-later-pairs .ensures .0 .0) (c .before .before .before .before .count-group2 .ensures .0 .0)),
+            (some-counted _ (c .before .before .before .before .before .before .before .before .before .before .before .before .args .depth) _ _ _ (p .1) (c .before .before .before .before .before .before .before .before .before .before .count-pair .ensures .0 .0) (c .before .before .before .before .before .before .before .count-later-pairs .ensures .0 .0) (c .before .before .before .before .count-pair2 .ensures .0 .0)),
         search needs,
       ),
       search needs,
@@ -54,9 +51,9 @@ pub count-some-pairs-spec : {M : Type 1} → statement M
 count-some-pairs-spec =
     tie.close
     (tie.spec
-    count-group-requires
+    count-pair-requires
     count-later-pairs-requires
-    count-group-requires-2
+    count-pair-requires-2
     sub-above
     product-requires
     add-result
