@@ -35,7 +35,7 @@ signsOf ys v = cond (among (pos v) ys) 1 0 + cond (among (negℤ (pos v)) ys) 2 
 
 -- Entries of a table of signs, 0 to the greatest variable that there may be (RULES V6)
 abbrev pub tableSize : ℕ
-tableSize = 675842
+tableSize = 1198082
 
 -- a table that has the signs of every variable it has an entry for
 pub record SignsOf (ys : List ℤ) (table : List ℕ) : Type 0 where

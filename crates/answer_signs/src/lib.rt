@@ -8,13 +8,13 @@ ghost use Rattle.answer_signs.specs.Signs.{SignsOf, trueIn, unclearIn};
 ghost use Rattle.answer_signs.specs.Marks.{Marked, withSign, TableTells};
 
 // By variable: bit 0 where it stood plain, bit 1 where it stood negated. The last is the greatest variable that there may be.
-pub type SignTable = [u8; 675842];
+pub type SignTable = [u8; 1198082];
 
 // A table of no signs.
 pub fn no_signs() -> SignTable
     ensures { λ r. ⌜ SignsOf [] r ⌝ }
 {
-    [0; 675842]
+    [0; 1198082]
 }
 
 // An entry with one sign more.
@@ -40,7 +40,7 @@ pub fn mark(signs: &mut SignTable, number: i32)
 {
     let parts = parts_of(number);
     let v = parts.value as usize;
-    if v < 675842 {
+    if v < 1198082 {
         signs[v] = with_sign(signs[v], parts.sign);
     }
 }
@@ -51,7 +51,7 @@ pub fn is_true(signs: &SignTable, variable: u32) -> bool
     ensures table { λ _. ⌜ TableTells ⌝ }
 {
     let v = variable as usize;
-    if v < 675842 {
+    if v < 1198082 {
         return signs[v] % 2 == 1;
     }
     false
@@ -62,7 +62,7 @@ pub fn is_unclear(signs: &SignTable, variable: u32) -> bool
     ensures { λ r. ⌜ r ≡ unclearIn (now (signs .entry)) variable ⌝ }
 {
     let v = variable as usize;
-    if v < 675842 {
+    if v < 1198082 {
         let entry = signs[v];
         if entry == 0 {
             return true;

@@ -13,12 +13,13 @@ use lib.ListN.{length, getD, set, drop, length-set}
 use lib.Seq.{getD-set-same, getD-set-other, drop-set-lt}
 use borrow.Author.Tests.{eq-eqb, ne-eqb}
 use Rattle.model.specs.Bits.{odd, bit}
-use Rattle.model.specs.Netlist.{Netlist, port, readBits, readWire, lastWire}
+use Rattle.model.specs.Netlist.{Netlist, IsPort, port, readBits, readWire, lastWire}
 use Rattle.model.specs.Circuit.{Values, codeValue, sources, sweep, conjunction, evaluate, State, addressOf, writeAddress, readData, firstPass, frame, wordWritten, step}
 use Rattle.model.specs.Acceptance.{CodesFit, WithinLimits, IsCode}
 use Rattle.model.proofs.Bits.{fromBits-same}
 use Rattle.model.proofs.Memory.{address-below}
-use Rattle.model.proofs.Circuit.{evaluate-solves, solutions-agree, code-same, address-same, readData-same}
+use Rattle.model.proofs.Ports.{first-port, each-bit, bit-within}
+use Rattle.model.proofs.Circuit.{evaluate-solves, solutions-agree, code-same, address-same, readData-port, readData-same}
 use Rattle.netlist.specs.NetOf.{netOf}
 use Rattle.netlist.specs.declared.Netlist as Record
 use Rattle.netlist.specs.WireTable.{entry, HasBelow}
@@ -52,8 +53,9 @@ code-in c q x h = code-below q x (omega arith)
 
 -- the address and the word written too
 module _ {c : Netlist} (limits : WithinLimits c) {v : Values} {table : List Bool} (q : HasBelow (lastWire c + 1) v table) where
-  pub address-in : addressOf c (port c 1) (entry table) ≡ addressOf c (port c 1) v
-  address-in = address-same c (port c 1) (entry table) v (λ t h. code-in c q (c .address t) (limits .codes .address-fits t h))
+  pub address-in : (p : ℕ) → IsPort c p → addressOf c (port c p) (entry table) ≡ addressOf c (port c p) v
+  address-in p here =
+      address-same c (port c p) (entry table) v (λ t h. code-in c q (port c p .address t) (limits .codes .address-fits p here t h))
 
   pub word-in : wordWritten c (entry table) ≡ wordWritten c v
   unfolding wordWritten
@@ -82,21 +84,23 @@ module _ {c : Netlist} (limits : WithinLimits c) {s : State} {f : ℕ → Bool} 
     first-in : HasBelow (lastWire c + 1) (firstPass c s f) table
     first-in = below-same q (λ w h. first-alike w (omega arith))
 
-    read-alike : (t : ℕ) → t < readBits c → readData c (stateIn [] memory word) (entry table) t ≡ readData c s (firstPass c s f) t
-    unfolding readData
-    read-alike t h =
-        rw (
-          code-in c first-in (c .RE) (limits .codes .RE-fits),
-          address-in limits first-in,
-          held .memory-held (addressOf c (port c 1) (firstPass c s f)) (address-below c (port c 1) (firstPass c s f)),
-          held .word-held t h,
-        )
+    read-alike : (r : ℕ) → r < readBits c → readData c (stateIn [] memory word) (entry table) r ≡ readData c s (firstPass c s f) r
+    read-alike =
+        each-bit c (λ r. readData c (stateIn [] memory word) (entry table) r ≡ readData c s (firstPass c s f) r)
+        (λ p here t h.
+        readData-port c p here (stateIn [] memory word) (entry table) t h
+        ∙ rw (
+          code-in c first-in (port c p .RE) (limits .codes .RE-fits p here),
+          address-in limits first-in p here,
+          held .memory-held (addressOf c (port c p) (firstPass c s f)) (address-below c (port c p) (firstPass c s f)),
+          held .word-held (port c p .firstRead + t) (bit-within c p here t h),
+        ) (sym (readData-port c p here s (firstPass c s f) t h)))
 
     -- the second pass
-    pub frame-alike : (read : ℕ) → ((t : ℕ) → bit read t ≡ readData c (stateIn [] memory word) (entry table) t)
+    pub frame-alike : (read : ℕ) → ((t : ℕ) → t < readBits c → bit read t ≡ readData c (stateIn [] memory word) (entry table) t)
         → (w : ℕ) → w ≤ lastWire c → evaluate c (entry inputs) (entry latches) (bit read) w ≡ frame c s f w
     unfolding frame
-    frame-alike read e = evaluate-alike (limits .codes) (fed .input-fed) (held .latch-held) (λ t h. e t ∙ read-alike t h)
+    frame-alike read e = evaluate-alike (limits .codes) (fed .input-fed) (held .latch-held) (λ t h. e t h ∙ read-alike t h)
 
 -- the memory behind the 2^m words stays
 pub behind-memoryAfter : (c : Netlist) (v : Values) (memory : List ℕ) → drop (2 ^ c .m) (memoryAfter c v memory) ≡ drop (2 ^ c .m) memory
@@ -128,7 +132,7 @@ step-holds {c} limits {s} {v} {table} q {latches} {next} {memory} held size each
       latch-held = λ l h. each l h ∙ code-in c q (c .next l) (limits .codes .next-fits l h);
       memory-size = omega (arith, held .memory-size, length-memoryAfter c (entry table) memory);
       memory-held = λ x h.
-          rw (code-in c q (c .WE) (limits .codes .WE-fits), address-in limits q, word-in limits q) (at x h (codeValue v (c .WE)));
+          rw (code-in c q (c .WE) (limits .codes .WE-fits), address-in limits q 1 (first-port c), word-in limits q) (at x h (codeValue v (c .WE)));
       word-held = λ t h. reads t h ∙ q .has (readWire c t) (omega arith);
     }
   where

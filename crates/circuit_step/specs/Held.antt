@@ -1,4 +1,4 @@
--- A state and a feed of the model in what is lent: the latches in a table, the memory in a slice, the word held as a number, the inputs in a
+-- A state and a feed of the model in what is lent: the latches in a table, the memory in a slice, the words held as one number, the inputs in a
 -- table (RULES C19 and C20). Cited by the functions that step a frame and by those that run through the frames.
 use Prim.Native.Nat.{ℕ, _+_, _^_, _≤_, _<_}
 use mathlib.Core.Path.{_≡_}
@@ -12,11 +12,11 @@ use Rattle.model.specs.Circuit.{Values, codeValue, State, writeAddress, frame, 
 use Rattle.model.specs.Acceptance.{WithinLimits}
 use Rattle.netlist.specs.WireTable.{entry, HasBelow}
 
--- the state that the lent latches and memory hold with the word held
+-- the state that the lent latches and memory hold with the words held
 abbrev pub stateIn : List Bool → List ℕ → ℕ → State
 stateIn latches memory held = record { latch = entry latches; memory = λ x. getD memory x 0; held = bit held }
 
--- they hold the state s: on its latches, its 2^m words and the n bits of the word held; what is behind these is not the circuit's
+-- they hold the state s: on its latches, its 2^m words and the bits of the words held; what is behind these is not the circuit's
 pub record HoldsState (c : Netlist) (s : State) (latches : List Bool) (memory : List ℕ) (held : ℕ) : Type 0 where
   pub latch-size : length latches ≡ mostWires
   pub latch-held : (l : ℕ) → l < c .latches → entry latches l ≡ s .latch l

@@ -6,7 +6,7 @@ use Rattle.model.specs.Search.{anyBelow}
 use Rattle.model.specs.Netlist.{Netlist, port}
 use Rattle.model.specs.Circuit.{Values, codeValue, State, Feeds, addressOf, run}
 
--- a frame with the values v reads or writes the word at x
+-- a frame with the values v reads or writes the word at x, by the first port: an unknown start has no other
 unfoldable pub touches : Netlist → Values → ℕ → Bool
 touches c v x = eqb x (addressOf c (port c 1) v) && (codeValue v (port c 1 .RE) || codeValue v (c .WE))
 

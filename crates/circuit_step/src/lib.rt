@@ -1,6 +1,6 @@
 // One frame of the circuit with its whole memory: the values of its wires, and the state that the next frame begins in (RULES C4, C6, C7,
-// C12, C15, C17, C21 and C22). Latches and memory are lent, the word held is a number; what holds of them is said of every state of the model
-// that they hold.
+// C12, C15, C17, C21, C22 and C28). Latches and memory are lent; the words held are a number, the second port's bits above the first's. What
+// holds of them is said of every state of the model that they hold.
 use circuit_values::SourceValues;
 use circuit_values::WireValues;
 use literals::Code;
@@ -12,27 +12,43 @@ ghost use mathlib.Core.Bool.{Bool};
 ghost use mathlib.Core.List.{[]};
 ghost use lib.ListN.{length};
 ghost use Rattle.model.specs.Bits.{bit};
-ghost use Rattle.model.specs.Netlist.{readWire, lastWire};
+ghost use Rattle.model.specs.Netlist.{IsPort, port, readBits, readWire, lastWire};
 ghost use Rattle.model.specs.Circuit.{codeValue, State, readData, frame};
 ghost use Rattle.model.specs.Acceptance.{WithinLimits};
 ghost use Rattle.netlist.specs.NetOf.{netOf, alone};
 ghost use Rattle.netlist.specs.WireTable.{entry, HasBelow};
 ghost use Rattle.circuit_step.specs.Held.{stateIn, HoldsState, Fed, memoryAfter, StepFits, Stepped};
 
-// The word of the read bits: the memory's at the address where RE is true, and the word held where it is not.
-fn read_word(values: &WireValues, net: Netlist, memory: &[u32], held: u32) -> u32
-    requires { ⌜ WithinLimits (alone net) × (2 ^ net .m ≤ length (now memory)) ⌝ }
-    ensures { λ r. ⌜ ((t : ℕ) → bit r t ≡ readData (alone net) (stateIn [] (now (memory .entry)) held) (entry (now (values .entry))) t) ⌝ }
+// The word of a port's read bits: the memory's at its address where its RE is true, and the one held for it where it is not.
+fn read_word(values: &WireValues, net: Netlist, memory: &[u32], held: u64, p: u32) -> u32
+    requires { ⌜ WithinLimits (alone net) × (2 ^ net .m ≤ length (now memory)) × IsPort (alone net) p ⌝ }
+    ensures { λ r. ⌜ ((t : ℕ) → t < net .n → bit r t
+        ≡ readData (alone net) (stateIn [] (now (memory .entry)) held) (entry (now (values .entry))) (port (alone net) p .firstRead + t)) ⌝ }
 {
-    if circuit_values::code_value(values, net.re) {
-        let address = circuit_values::address_of(values, net);
+    if circuit_values::is_reading(values, net, p) {
+        let address = circuit_values::address_of(values, net, p);
         return memory[address as usize];
     }
-    held
+    let own = held >> ((p - 1) * net.n);
+    (own % 4294967296) as u32
 }
 
-// The values of a frame, by two passes: the first with every read bit 0, which settles address and RE, the second with the word that is read.
-// Answers this word: its bits are the read bits.
+// The words of all ports' read bits.
+fn read_words(values: &WireValues, net: Netlist, memory: &[u32], held: u64) -> u64
+    requires { ⌜ WithinLimits (alone net) × (2 ^ net .m ≤ length (now memory)) ⌝ }
+    ensures { λ r. ⌜ ((t : ℕ) → t < readBits (alone net)
+        → bit r t ≡ readData (alone net) (stateIn [] (now (memory .entry)) held) (entry (now (values .entry))) t) ⌝ }
+{
+    let first = read_word(values, net, memory, held, 1);
+    if net.second_port == 0 {
+        return first as u64;
+    }
+    let second = read_word(values, net, memory, held, 2);
+    circuit_values::two_words(net.n, first, second)
+}
+
+// The values of a frame, by two passes: the first with every read bit 0, which settles addresses and REs, the second with the words that are
+// read. Answers these words: their bits are the read bits.
 fn put_frame(
     values: &mut WireValues,
     net: Netlist,
@@ -40,26 +56,26 @@ fn put_frame(
     inputs: &SourceValues,
     state: &SourceValues,
     memory: &[u32],
-    held: u32,
-) -> u32
+    held: u64,
+) -> u64
     requires { ⌜ WithinLimits (netOf net [] (now gates)) × (length (now values) ≡ 601) × (2 ^ net .m ≤ length (now memory)) ⌝ }
     ensures values { λ _. ⌜ ((s : State) (f : ℕ → Bool) → HoldsState (alone net) s (now (state .entry)) (now (memory .entry)) held → Fed (alone net) f (now (inputs .entry))
         → HasBelow (lastWire (alone net) + 1) (frame (netOf net [] (now (gates .entry))) s f) (now (values .exit))) ⌝ }
-    ensures word { λ r. ⌜ ((t : ℕ) → t < net .n → bit r t ≡ entry (now (values .exit)) (readWire (alone net) t)) ⌝ }
+    ensures words { λ r. ⌜ ((t : ℕ) → t < readBits (alone net) → bit r t ≡ entry (now (values .exit)) (readWire (alone net) t)) ⌝ }
 {
     circuit_values::evaluate(values, net, gates, inputs, state, 0);
-    let word = read_word(values, net, memory, held);
-    circuit_values::evaluate(values, net, gates, inputs, state, word);
-    word
+    let words = read_words(values, net, memory, held);
+    circuit_values::evaluate(values, net, gates, inputs, state, words);
+    words
 }
 
-// Writes the word at the address where WE is true.
+// Writes the word at the first port's address where WE is true.
 fn write_memory(values: &WireValues, net: Netlist, memory: &mut [u32])
     requires { ⌜ WithinLimits (alone net) × (2 ^ net .m ≤ length (now memory)) ⌝ }
     ensures { λ _. ⌜ now (memory .exit) ≡ memoryAfter (alone net) (entry (now (values .entry))) (now (memory .entry)) ⌝ }
 {
     if circuit_values::code_value(values, net.we) {
-        let address = circuit_values::address_of(values, net);
+        let address = circuit_values::address_of(values, net, 1);
         memory[address as usize] = circuit_values::word_written(values, net);
     }
 }
@@ -77,8 +93,8 @@ fn put_latches(values: &WireValues, net: Netlist, latches: &UnpackedList, state:
     }
 }
 
-// Steps one frame: its values, then its write and all latches at once, both from these values; the word of its read bits is answered, and is
-// the next one held. Lent latches and memory that hold a state of the model before hold the next one after; the memory behind the 2^m
+// Steps one frame: its values, then its write and all latches at once, both from these values; the words of its read bits are answered, and are
+// the next ones held. Lent latches and memory that hold a state of the model before hold the next one after; the memory behind the 2^m
 // words stays.
 pub fn step_frame(
     values: &mut WireValues,
@@ -88,14 +104,14 @@ pub fn step_frame(
     latches: &UnpackedList,
     gates: &UnpackedList,
     inputs: &SourceValues,
-    held: u32,
-) -> u32
+    held: u64,
+) -> u64
     requires { ⌜ StepFits (netOf net (now latches) (now gates)) (now values) (now state) (now memory) ⌝ }
     ensures { λ r. ⌜ Stepped (netOf net (now (latches .entry)) (now (gates .entry))) (now (inputs .entry)) (now (state .entry)) (now (memory .entry)) held
         (now (values .exit)) (now (state .exit)) (now (memory .exit)) r ⌝ }
 {
-    let word = put_frame(values, net, gates, inputs, state, memory, held);
+    let words = put_frame(values, net, gates, inputs, state, memory, held);
     write_memory(values, net, memory);
     put_latches(values, net, latches, state);
-    word
+    words
 }

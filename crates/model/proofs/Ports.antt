@@ -65,6 +65,17 @@ unknown-number word (suc u) e = omega arith
 pub unknown-single : {c : Netlist} → SizesFit c → isUnknown (start c) ≡ true → (p : ℕ) → IsPort c p → p ≡ 1
 unknown-single {c} fit e p here = omega (arith, here .0, here .1, fit .kind-fits, unknown-number (c .initialWord) (c .unknownStart) e)
 
+-- so what holds of the first then holds of each
+pub unknown-each : {c : Netlist} → SizesFit c → isUnknown (start c) ≡ true → (P : ℕ → Type 0) → P 1 → (p : ℕ) → IsPort c p → P p
+unknown-each fit e P first p here = rw (unknown-single fit e p here) first
+
+-- and there are as many read bits as a word has
+pub unknown-bits : {c : Netlist} → SizesFit c → isUnknown (start c) ≡ true → readBits c ≡ c .n
+unknown-bits {c} fit e =
+    by-cases (ℕ-discrete (c .secondPort) 0)
+    (λ none. rw none (omega arith))
+    (λ some. absurd (omega (arith, unknown-single fit e 2 (second-port c (omega (arith, some))))))
+
 -- a read bit, by its port
 pub record PortBit (c : Netlist) (r : ℕ) : Type 0 where
   pub of : ℕ
@@ -108,6 +119,12 @@ module _ (c : Netlist) (p : ℕ) (here : IsPort c p) where
   -- its read bits are read bits
   pub bit-within : (t : ℕ) → t < c .n → port c p .firstRead + t < readBits c
   bit-within t b = omega (arith, b, within (c .n))
+
+  -- the first of them is at most as far as a word is long
+  pub first-read-most : SizesFit c → port c p .firstRead ≤ c .n
+  first-read-most fit =
+      let most : (p - 1) * c .n ≤ 1 * c .n = mul-le-mul-right (c .n) (omega (arith, here .1, fit .kind-fits)) in
+      omega arith
 
   -- its variables: m + 4 of a pair, behind those of the ports before it
   pub variables-within : port c p .firstVariable + (c .m + 4) ≤ stride c

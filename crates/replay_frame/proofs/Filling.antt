@@ -15,14 +15,15 @@ use lib.Seq.{getD-set-same, getD-set-other, drop-set-lt}
 use borrow.Author.Tests.{eq-eqb, ne-eqb}
 use Rattle.model.specs.Bits.{bit}
 use Rattle.model.specs.Search.{anyBelow}
-use Rattle.model.specs.Netlist.{Netlist, isUnknown, start, port, lastWire}
-use Rattle.model.specs.Circuit.{Values, codeValue, State, addressOf, evaluate, firstPass, stateAt, run}
+use Rattle.model.specs.Netlist.{Netlist, isUnknown, start, IsPort, port, lastWire}
+use Rattle.model.specs.Circuit.{Values, codeValue, State, addressOf, evaluate, readData, firstPass, stateAt, run}
 use Rattle.model.specs.Acceptance.{SizesFit, WithinLimits, Accepted}
 use Rattle.model.specs.Claim.{feedOf}
 use Rattle.model.proofs.Booleans.{and-true, or-true}
 use Rattle.model.proofs.Start.{given-is-known, unknown-is-unknown}
+use Rattle.model.proofs.Ports.{first-port}
 use Rattle.model.proofs.Memory.{address-below}
-use Rattle.model.proofs.Circuit.{code-same, address-same}
+use Rattle.model.proofs.Circuit.{code-same, address-same, readData-port}
 use Rattle.netlist.specs.NetOf.{netOf}
 use Rattle.netlist.specs.declared.Netlist as Record
 use Rattle.netlist.specs.WireTable.{entry, HasBelow}
@@ -40,6 +41,13 @@ address-small c sizes v =
     let most : 2 ^ c .m ≤ 2 ^ 12 = pow-mono {i = c .m} {j = 12} (sizes .m-most) in
     omega (arith, most, address-below c (port c 1) v)
 
+-- what the first port reads
+pub readData-first : (c : Netlist) (s : State) (v : Values) (t : ℕ) → t < c .n
+    → readData c s v t ≡ cond (codeValue v (c .RE)) (bit (s .memory (addressOf c (port c 1) v)) t) (s .held t)
+readData-first c s v t h =
+    let e : port c 1 .firstRead + t ≡ t = omega arith in
+    rw e at (readData-port c 1 (first-port c) s v t h)
+
 -- where the start is given, nothing is filled
 pub none-filled : {c : Netlist} {touched inputs latches : List Bool} {word : ℕ} {memory : List ℕ} → c .unknownStart ≡ 0
     → WordFilled c touched inputs latches word memory memory false
@@ -53,8 +61,8 @@ pub filled-by : {c : Netlist} → WithinLimits c → {inputs latches table : Lis
     → WordFilled c touched inputs latches word memory memory′ r
 filled-by {c} limits {inputs} {latches} {table} q u {touched} {word} {memory} e m =
     record {
-      fills-is = e ∙ rw (unknown-is-unknown (c .initialWord) (c .unknownStart) u, code-in c q (c .RE) (limits .codes .RE-fits), address-in limits q);
-      memory-is = m ∙ rw (address-in limits q);
+      fills-is = e ∙ rw (unknown-is-unknown (c .initialWord) (c .unknownStart) u, code-in c q (c .RE) (limits .codes .RE-fits 1 (first-port c)), address-in limits q 1 (first-port c));
+      memory-is = m ∙ rw (address-in limits q 1 (first-port c));
     }
 
 -- the latches of a record have no part in its first pass
@@ -76,7 +84,12 @@ last-not p q true e = let h = and-true q false .0 (and-true p (q && false) .0 e 
 last-not p q false e = refl
 
 module _ {c : Netlist} (ok : Accepted c) (y : Said) (i : ℕ) where
-  -- a frame that fills is at a word that no frame before has touched
+  -- a frame that fills is one of an unknown start
+  pub fills-unknown : fills c y i ≡ true → isUnknown (start c) ≡ true
+  unfolding fillsFrom
+  fills-unknown e = and-true (isUnknown (start c)) _ .0 e .0
+
+  -- it is at a word that no frame before has touched
   pub fills-untouched : fills c y i ≡ true → touchedFrom c y (startWords c y i) i (addressFrom c y (startWords c y i) i) ≡ false
   unfolding fillsFrom
   fills-untouched e = last-not (isUnknown (start c)) (codeValue (runFrom c y (startWords c y i) i) (c .RE)) _ e
@@ -106,7 +119,7 @@ module _ {c : Netlist} (ok : Accepted c) (y : Said) (i : ℕ) where
       by : (b : Bool) → fills c y i ≡ b → runFrom c y (startWords c y (suc i)) j ≡ runFrom c y (startWords c y i) j
       by true e =
           ap (λ s. run c s (feedOf c (y .value)) j) (begun-filled e)
-          ∙ run-untouched ok _ (wordSaid c y i) (begunFrom c y (startWords c y i)) (feedOf c (y .value)) i (fills-untouched e) j h
+          ∙ run-untouched ok (fills-unknown e) _ (wordSaid c y i) (begunFrom c y (startWords c y i)) (feedOf c (y .value)) i (fills-untouched e) j h
       by false e = ap (λ words. runFrom c y words j) (begun-kept e)
 
   -- and have touched the same words
@@ -119,7 +132,7 @@ module _ {c : Netlist} (ok : Accepted c) (y : Said) (i : ℕ) where
       ≡ withWord (addressFrom c y (startWords c y i) i) (wordSaid c y i) (replayedState c y i)
   state-filled e =
       ap (λ s. stateAt c s (feedOf c (y .value)) i) (begun-filled e)
-      ∙ state-untouched ok _ (wordSaid c y i) (begunFrom c y (startWords c y i)) (feedOf c (y .value)) i (fills-untouched e)
+      ∙ state-untouched ok (fills-unknown e) _ (wordSaid c y i) (begunFrom c y (startWords c y i)) (feedOf c (y .value)) i (fills-untouched e)
 
   -- or is the same where nothing is filled
   pub state-on : (P : State → Type 0)
@@ -136,13 +149,13 @@ module _ {c : Netlist} (ok : Accepted c) (y : Said) (i : ℕ) where
   latches-on = state-on (λ s. LatchesAlike c s (replayedState c y i)) (λ e l h. refl) (λ l h. refl)
 
   -- so RE and the address are the same whether or not the frame's own word is filled
-  pub RE-on : codeValue (replayed c y i) (c .RE) ≡ codeValue (runFrom c y (startWords c y i) i) (c .RE)
+  pub RE-on : (p : ℕ) → IsPort c p → codeValue (replayed c y i) (port c p .RE) ≡ codeValue (runFrom c y (startWords c y i) i) (port c p .RE)
   unfolding run
   RE-on = RE-alike ok (stateFrom c y (startWords c y (suc i)) i) (replayedState c y i) (feedOf c (y .value) i) (feedOf c (y .value) i) latches-on (λ x h. refl)
 
   pub address-on : addressOf c (port c 1) (replayed c y i) ≡ addressFrom c y (startWords c y i) i
   unfolding run
-  address-on = address-alike ok (stateFrom c y (startWords c y (suc i)) i) (replayedState c y i) (feedOf c (y .value) i) (feedOf c (y .value) i) latches-on (λ x h. refl)
+  address-on = address-alike ok (stateFrom c y (startWords c y (suc i)) i) (replayedState c y i) (feedOf c (y .value) i) (feedOf c (y .value) i) latches-on (λ x h. refl) 1 (first-port c)
 
   module _ {latches inputs touched : List Bool} {memory memory′ : List ℕ} {word : ℕ} {r : Bool} (held : HoldsState c (replayedState c y i) latches memory word)
       (fed : Fed c (feedOf c (y .value) i) inputs) (marks : TouchedIs c y i touched)
@@ -152,16 +165,16 @@ module _ {c : Netlist} (ok : Accepted c) (y : Said) (i : ℕ) where
     unfolding run
     RE-is =
         code-same (evaluate c (entry inputs) (entry latches) (bit 0)) (firstPass c (replayedState c y i) (feedOf c (y .value) i)) (c .RE)
-        (first-alike (ok .limits) held fed (c .RE / 2) (omega (arith, ok .limits .codes .RE-fits)))
-        ∙ RE-settled ok (replayedState c y i) (feedOf c (y .value) i)
+        (first-alike (ok .limits) held fed (c .RE / 2) (omega (arith, ok .limits .codes .RE-fits 1 (first-port c))))
+        ∙ RE-settled ok 1 (first-port c) (replayedState c y i) (feedOf c (y .value) i)
 
     address-is : addressOf c (port c 1) (evaluate c (entry inputs) (entry latches) (bit 0)) ≡ addressFrom c y (startWords c y i) i
     unfolding run
     address-is =
         address-same c (port c 1) (evaluate c (entry inputs) (entry latches) (bit 0)) (firstPass c (replayedState c y i) (feedOf c (y .value) i))
         (λ t h. code-same (evaluate c (entry inputs) (entry latches) (bit 0)) (firstPass c (replayedState c y i) (feedOf c (y .value) i)) (c .address t)
-        (first-alike (ok .limits) held fed (c .address t / 2) (omega (arith, ok .limits .codes .address-fits t h))))
-        ∙ address-settled ok (replayedState c y i) (feedOf c (y .value) i)
+        (first-alike (ok .limits) held fed (c .address t / 2) (omega (arith, ok .limits .codes .address-fits 1 (first-port c) t h))))
+        ∙ address-settled ok 1 (first-port c) (replayedState c y i) (feedOf c (y .value) i)
 
     -- it is told rightly whether the frame fills a word
     pub filled-is : r ≡ fills c y i
@@ -206,7 +219,7 @@ module _ {c : Netlist} (ok : Accepted c) (y : Said) (i : ℕ) where
       → TouchedIs c y (i + 1) (touchedAfter c (entry values) touched)
   unfolding touchedAfter touchedBefore anyBelow touches
   touchedAfter-is {touched} {values} marks q =
-      rw (code-in c q (c .RE) (ok .limits .codes .RE-fits), code-in c q (c .WE) (ok .limits .codes .WE-fits), address-in (ok .limits) q)
+      rw (code-in c q (c .RE) (ok .limits .codes .RE-fits 1 (first-port c)), code-in c q (c .WE) (ok .limits .codes .WE-fits), address-in (ok .limits) q 1 (first-port c))
       (record {
         size = length-of (codeValue (replayed c y i) (c .RE) || codeValue (replayed c y i) (c .WE)) ∙ marks .size;
         has = λ x h. rw add-one (

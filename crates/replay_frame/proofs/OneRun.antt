@@ -11,19 +11,20 @@ use lib.Pow.{pow-pos}
 use borrow.Author.Tests.{eq-eqb, ne-eqb}
 use Rattle.model.specs.Search.{anyBelow}
 use Rattle.model.specs.Netlist.{Netlist, Start, given, unknown, isUnknown, start, port, readBits, readWire}
-use Rattle.model.specs.Circuit.{codeValue, addressOf, readData, run, Begins, Starts}
+use Rattle.model.specs.Circuit.{codeValue, addressOf, run, Begins, Starts}
 use Rattle.model.specs.Variables.{base}
 use Rattle.model.specs.Claim.{feedOf}
 use Rattle.model.specs.Agree.{givenWord}
 use Rattle.model.specs.Acceptance.{Accepted}
 use Rattle.model.proofs.Bits.{fromBits-below, bit-fromBits}
 use Rattle.model.proofs.Booleans.{neither-true}
+use Rattle.model.proofs.Ports.{first-port, unknown-bits}
 use Rattle.model.proofs.Circuit.{frame-is}
 use Rattle.model.proofs.Memory.{address-below, word-below}
 use Rattle.circuit_step.specs.Touched.{touches, touchedBefore}
 use Rattle.circuit_step.proofs.Touched.{any-same, not-read, word-untouched}
 use Rattle.replay_frame.specs.Replay.{Said, begunFrom, runFrom, stateFrom, touchedFrom, addressFrom, fillsFrom, wordSaid, startWords, fills, replayed, replayedState, OneRunTheorem, RoomTheorem}
-use Rattle.replay_frame.proofs.Filling.{runs-on, touched-on, fills-reads, state-filled, RE-on, address-on}
+use Rattle.replay_frame.proofs.Filling.{readData-first, fills-unknown, runs-on, touched-on, fills-reads, state-filled, RE-on, address-on}
 
 -- a memory of one word
 begins-given : (n : ℕ) (s : Start) → Begins n s (λ x. givenWord s)
@@ -75,17 +76,18 @@ module _ {c : Netlist} (ok : Accepted c) (y : Said) where
       let same : runFrom c y (startWords c y n) i ≡ replayed c y i = sym (frame-on ok y i n h) in
       ap (λ b. isUnknown (start c) && b)
       (ap₂ (λ b t. b && not t)
-      (ap (λ v. codeValue v (c .RE)) same ∙ RE-on ok y i)
+      (ap (λ v. codeValue v (c .RE)) same ∙ RE-on ok y i 1 (first-port c))
       (touched-from i n (omega arith) (addressFrom c y (startWords c y n) i)
       ∙ ap (touchedFrom c y (startWords c y i) i) (ap (addressOf c (port c 1)) same ∙ address-on ok y i)))
 
   -- a frame that fills a word reads what is said
   reads-said : (i : ℕ) → fills c y i ≡ true → (t : ℕ) → t < readBits c → replayed c y i (readWire c t) ≡ y .value (base c i + readWire c t)
-  unfolding run readData wordSaid
+  unfolding run wordSaid
   reads-said i e t h =
+      let within : t < c .n = omega (arith, h, unknown-bits (ok .limits .sizes) (fills-unknown ok y i e)) in
       frame-is ok (stateFrom c y (startWords c y (suc i)) i) (feedOf c (y .value) i) .at-read t h
-      ∙ rw (RE-on ok y i, fills-reads ok y i e, address-on ok y i, state-filled ok y i e, eq-eqb (addressFrom c y (startWords c y i) i) _ refl)
-      (bit-fromBits (c .n) (λ t. y .value (base c i + readWire c t)) t h)
+      ∙ rw (readData-first c (stateFrom c y (startWords c y (suc i)) i) (replayed c y i) t within, RE-on ok y i 1 (first-port c), fills-reads ok y i e, address-on ok y i, state-filled ok y i e, eq-eqb (addressFrom c y (startWords c y i) i) _ refl)
+      (bit-fromBits (c .n) (λ t. y .value (base c i + readWire c t)) t within)
 
   -- a word that no frame touches is begun with as the word given
   begun-untouched : (n x : ℕ) → touchedFrom c y (startWords c y n) n x ≡ false → startWords c y n x ≡ givenWord (start c)
@@ -99,11 +101,11 @@ module _ {c : Netlist} (ok : Accepted c) (y : Said) where
           → cond (b && eqb x (addressFrom c y (startWords c y i) i)) (wordSaid c y i) (startWords c y i x) ≡ startWords c y i x
       kept false e none = refl
       kept true e none =
-          rw (ne-eqb x _ (λ at. not-read c (replayed c y i) x none (RE-on ok y i ∙ fills-reads ok y i e) (address-on ok y i ∙ sym at)))
+          rw (ne-eqb x _ (λ at. not-read c (replayed c y i) x none (RE-on ok y i 1 (first-port c) ∙ fills-reads ok y i e) (address-on ok y i ∙ sym at)))
 
   word-left : (n x : ℕ) → touchedFrom c y (startWords c y n) n x ≡ false → replayedState c y n .memory x ≡ givenWord (start c)
   unfolding begunFrom
-  word-left n x none = word-untouched ok x (begunFrom c y (startWords c y n)) (feedOf c (y .value)) n none ∙ begun-untouched n x none
+  word-left n x none = word-untouched c x (begunFrom c y (startWords c y n)) (feedOf c (y .value)) n none ∙ begun-untouched n x none
 
 pub one-run : OneRunTheorem
 one-run c ok y k =

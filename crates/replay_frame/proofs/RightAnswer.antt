@@ -11,23 +11,24 @@ use lib.Dec.{eqb}
 use borrow.Author.Tests.{eq-eqb, ne-eqb, eqb-true}
 use Rattle.model.specs.Bits.{odd, bit, fromBits}
 use Rattle.model.specs.Search.{anyBelow}
-use Rattle.model.specs.Netlist.{Netlist, Start, given, unknown, isUnknown, start, port, readBits, readWire}
-use Rattle.model.specs.Circuit.{codeValue, State, addressOf, readData, wordWritten, step, stateAt, run, Begins}
+use Rattle.model.specs.Netlist.{Netlist, Start, given, unknown, isUnknown, start, port, readWire}
+use Rattle.model.specs.Circuit.{codeValue, State, addressOf, wordWritten, step, stateAt, run, Begins}
 use Rattle.model.specs.Variables.{base}
 use Rattle.model.specs.Acceptance.{Accepted}
 use Rattle.model.specs.Claim.{Satisfies, feedOf, Agrees, Breaks}
 use Rattle.model.proofs.Booleans.{and-true, or-true, neither-true, cond-same}
 use Rattle.model.proofs.Bits.{fromBits-same}
 use Rattle.model.proofs.Search.{firstWhere-is, first-least}
+use Rattle.model.proofs.Ports.{first-port, unknown-each, unknown-bits}
 use Rattle.model.proofs.Circuit.{frame-is}
 use Rattle.model.proofs.Agree.{agree-itself}
 use Rattle.model.proofs.SameRuns.{SameState, agrees-same, breaks-same}
 use Rattle.model.proofs.Claim.{encodes}
 use Rattle.circuit_step.specs.Touched.{touches, touchedBefore}
 use Rattle.circuit_step.proofs.Alike.{RE-alike, address-alike}
-use Rattle.circuit_step.proofs.Touched.{not-written, frame-reads}
+use Rattle.circuit_step.proofs.Touched.{step-leaves, frame-reads}
 use Rattle.replay_frame.specs.Replay.{Said, begunFrom, runFrom, stateFrom, touchedFrom, addressFrom, fillsFrom, wordSaid, startWords, fills, replayed, replayedState, violates, firstViolation, BearsOut}
-use Rattle.replay_frame.proofs.Filling.{fills-untouched, touched-on, state-filled, state-on}
+use Rattle.replay_frame.proofs.Filling.{readData-first, fills-untouched, touched-on, state-filled, state-on}
 use Rattle.replay_frame.proofs.OneRun.{begins-at, one-run}
 
 -- a number is that of its bits
@@ -82,21 +83,23 @@ module _ {c : Netlist} (ok : Accepted c) (y : Said) (k : ℕ) (free : isUnknown 
 
     RE-same : codeValue (runFrom c y (startWords c y i) i) (c .RE) ≡ codeValue (runFrom c y memory i) (c .RE)
     unfolding run
-    RE-same = RE-alike ok (replayedState c y i) own (feedOf c (y .value) i) (feedOf c (y .value) i) (λ l h. ap (λ f. f l) (q .latches-same)) (λ x h. refl)
+    RE-same = RE-alike ok (replayedState c y i) own (feedOf c (y .value) i) (feedOf c (y .value) i) (λ l h. ap (λ f. f l) (q .latches-same)) (λ x h. refl) 1 (first-port c)
 
     at-same : addressFrom c y (startWords c y i) i ≡ at
     unfolding run
-    at-same = address-alike ok (replayedState c y i) own (feedOf c (y .value) i) (feedOf c (y .value) i) (λ l h. ap (λ f. f l) (q .latches-same)) (λ x h. refl)
+    at-same = address-alike ok (replayedState c y i) own (feedOf c (y .value) i) (feedOf c (y .value) i) (λ l h. ap (λ f. f l) (q .latches-same)) (λ x h. refl) 1 (first-port c)
 
     -- what is said of the read bits of a frame that reads a word not touched before is the word that the memory has there
     said-is : codeValue (runFrom c y memory i) (c .RE) ≡ true → touched at ≡ false → wordSaid c y i ≡ memory at
-    unfolding wordSaid Agrees run readData
+    unfolding wordSaid Agrees run
     said-is r none =
-        fromBits-same (c .n) (λ t. y .value (base c i + readWire c t)) (bit (memory at)) (λ t h. agrees i d (readWire c t) (omega arith) (omega arith) ∙ reads t h)
+        fromBits-same (c .n) (λ t. y .value (base c i + readWire c t)) (bit (memory at)) (λ t h. agrees i d (readWire c t) (omega arith) (omega (arith, h, unknown-bits (ok .limits .sizes) free)) ∙ reads t h)
         ∙ fromBits-bit (c .n) (memory at) (below at)
       where
-        reads : (t : ℕ) → t < readBits c → runFrom c y memory i (readWire c t) ≡ bit (memory at) t
-        reads t h = frame-is ok own (feedOf c (y .value) i) .at-read t h ∙ rw (r, q .others-kept at none)
+        reads : (t : ℕ) → t < c .n → runFrom c y memory i (readWire c t) ≡ bit (memory at) t
+        reads t h =
+            frame-is ok own (feedOf c (y .value) i) .at-read t (omega (arith, h, unknown-bits (ok .limits .sizes) free))
+            ∙ rw (readData-first c own (runFrom c y memory i) t h, r, q .others-kept at none)
 
     fills-there : codeValue (runFrom c y memory i) (c .RE) ≡ true → touched at ≡ false → fills c y i ≡ true
     unfolding fillsFrom
@@ -127,7 +130,9 @@ module _ {c : Netlist} (ok : Accepted c) (y : Said) (k : ℕ) (free : isUnknown 
     -- and has its values
     same-frame : replayed c y i ≡ runFrom c y memory i
     unfolding run
-    same-frame = frame-reads ok filled own (feedOf c (y .value) i) filled-latches filled-held filled-there
+    same-frame = frame-reads ok filled own (feedOf c (y .value) i) filled-latches filled-held
+        (unknown-each (ok .limits .sizes) free (λ p. codeValue (runFrom c y memory i) (port c p .RE) ≡ true
+        → filled .memory (addressOf c (port c p) (runFrom c y memory i)) ≡ own .memory (addressOf c (port c p) (runFrom c y memory i))) filled-there)
 
     -- a word that it or a frame before has touched, and that it does not write, is the same before it
     touched-now : (x : ℕ) → (codeValue (runFrom c y memory i) (c .WE) && eqb x at) ≡ false
@@ -146,12 +151,6 @@ module _ {c : Netlist} (ok : Accepted c) (y : Said) (k : ℕ) (free : isUnknown 
             let e = and-true (eqb x at) (codeValue (runFrom c y memory i) (c .RE) || codeValue (runFrom c y memory i) (c .WE)) .0 (sym (ap (λ v. touches c v x) same-frame) ∙ now) in
             there (e .0) (or-true (codeValue (runFrom c y memory i) (c .RE)) (codeValue (runFrom c y memory i) (c .WE)) .0 (e .1))
 
-    -- one that it does not touch, it leaves
-    left-there : (x : ℕ) → touches c (runFrom c y memory i) x ≡ false → (b : Bool) → codeValue (runFrom c y memory i) (c .WE) ≡ b
-        → cond (b && eqb x at) (wordWritten c (runFrom c y memory i)) (own .memory x) ≡ own .memory x
-    left-there x none false e = refl
-    left-there x none true e = rw (ne-eqb x at (λ a. not-written c (runFrom c y memory i) x none e (sym a)))
-
     goes-on : GoesAs c y memory (suc i)
     unfolding stateAt step run touchedBefore anyBelow
     goes-on =
@@ -163,7 +162,7 @@ module _ {c : Netlist} (ok : Accepted c) (y : Said) (k : ℕ) (free : isUnknown 
               ∙ cond-same (codeValue (runFrom c y memory i) (c .WE) && eqb x at) (λ e. refl) (λ e. touched-now x e h);
           others-kept = λ x none.
               let e = neither-true (touchedFrom c y (startWords c y (suc i)) i x) (touches c (replayed c y i) x) .0 none in
-              left-there x (sym (ap (λ v. touches c v x) same-frame) ∙ e .1) (codeValue (runFrom c y memory i) (c .WE)) refl
+              step-leaves c (runFrom c y memory i) x (sym (ap (λ v. touches c v x) same-frame) ∙ e .1) own
               ∙ q .others-kept x (sym (touched-on ok y i x) ∙ e .0);
         }
 

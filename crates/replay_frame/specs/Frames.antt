@@ -29,7 +29,7 @@ pub record TouchedIs (c : Netlist) (y : Said) (i : ℕ) (touched : List Bool) : 
   pub size : length touched ≡ 2 ^ mostAddressBits
   pub has : (x : ℕ) → x < 2 ^ c .m → entry touched x ≡ touchedFrom c y (startWords c y i) i x
 
--- what a frame asks: latches, memory and the word held are the state in which it begins
+-- what a frame asks: latches, memory and the words held are the state in which it begins
 pub record FrameBegins (c : Netlist) (y : Said) (i : ℕ) (values inputs latches touched : List Bool) (memory : List ℕ) (held : ℕ) : Type 0 where
   pub accepted : Accepted c
   pub depth : i ≤ mostDepth

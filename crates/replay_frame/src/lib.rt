@@ -1,4 +1,4 @@
-// One frame of a replay: the circuit is fed what an answer says of the frame's inputs, in frame 0 also of the idle word; a word of an unknown
+// One frame of a replay: the circuit is fed what an answer says of the frame's inputs, in frame 0 also of the idle words; a word of an unknown
 // start that it reads is filled as the answer says; and it is stepped (RULES Y11 to Y13).
 use answer_signs::SignTable;
 use circuit_values::SourceValues;
@@ -6,21 +6,21 @@ use circuit_values::WireValues;
 use netlist::Netlist;
 use netlist::UnpackedList;
 ghost use mathlib.Core.Path.{_≡_};
-ghost use Prim.Native.Nat.{ℕ, _+_, _^_, _≤_, _<_};
+ghost use Prim.Native.Nat.{ℕ, suc, _+_, _^_, _≤_, _<_};
 ghost use mathlib.Core.Bool.{not, _&&_};
 ghost use mathlib.Core.List.{[]};
 ghost use lib.ListN.{length};
 ghost use Rattle.model.specs.Bits.{bit, fromBits};
 ghost use Rattle.model.specs.Search.{anyBelow};
 ghost use Rattle.model.specs.Wrote.{Wrote};
-ghost use Rattle.model.specs.Netlist.{port, lastWire};
+ghost use Rattle.model.specs.Netlist.{ports, IsPort, port, readBits, lastWire};
 ghost use Rattle.model.specs.Circuit.{codeValue, addressOf};
 ghost use Rattle.model.specs.Acceptance.{SizesFit, WithinLimits};
 ghost use Rattle.model.specs.Claim.{idleOf};
 ghost use Rattle.netlist.specs.NetOf.{netOf, alone};
 ghost use Rattle.netlist.specs.WireTable.{entry};
 ghost use Rattle.answer_signs.specs.Signs.{trueIn, unclearIn};
-ghost use Rattle.replay_frame.specs.Replay.{saidIn, wordSaid, fills, digitOf, frameLine};
+ghost use Rattle.replay_frame.specs.Replay.{saidIn, wordSaid, fills, readUnclear, digitOf, frameLine};
 ghost use Rattle.replay_frame.specs.Frames.{touchedAfter, WordFilled, FrameBegins, FrameDone, FrameJudged};
 
 // What a frame of a replay shows: that it is fed something unclear, and that it breaks the property.
@@ -32,9 +32,9 @@ pub struct FrameVerdict {
 // Whether a frame has read or written a word, for each of the 4,096 there may be.
 pub type TouchedWords = [bool; 4096];
 
-// A frame that was stepped: the word held behind it, and whether it filled a word.
+// A frame that was stepped: the words held behind it, and whether it filled a word.
 pub struct FrameStepped {
-    pub held: u32,
+    pub held: u64,
     pub filled: bool,
 }
 
@@ -104,7 +104,7 @@ pub fn put_line(out: &mut [u8], values: &WireValues, net: Netlist) -> usize
     wires + 1
 }
 
-// The word of the read bits of frame i, as the signs say it.
+// The word of the first port's read bits in frame i, as the signs say it.
 fn word_said(net: Netlist, signs: &SignTable, i: u32) -> u32
     requires { ⌜ SizesFit (alone net) × (i ≤ 255) ⌝ }
     ensures { λ r. ⌜ r ≡ wordSaid (alone net) (saidIn (now (signs .entry))) i ⌝ }
@@ -114,12 +114,18 @@ fn word_said(net: Netlist, signs: &SignTable, i: u32) -> u32
     word_of(signs, base + read, net.n)
 }
 
-// The idle word, which is held before frame 0: what the signs say of the read bits of frame 0.
-pub fn idle_word(net: Netlist, signs: &SignTable) -> u32
+// The idle words, which are held before frame 0: what the signs say of the read bits of frame 0, port by port.
+pub fn idle_words(net: Netlist, signs: &SignTable) -> u64
     requires { ⌜ SizesFit (alone net) ⌝ }
-    ensures { λ r. ⌜ ((t : ℕ) → t < net .n → bit r t ≡ idleOf (alone net) (trueIn (now (signs .entry))) t) ⌝ }
+    ensures { λ r. ⌜ ((t : ℕ) → t < readBits (alone net) → bit r t ≡ idleOf (alone net) (trueIn (now (signs .entry))) t) ⌝ }
 {
-    word_said(net, signs, 0)
+    let read = clause_variables::frame_base(net, 0) + netlist::first_read_wire(net).0;
+    let first = word_of(signs, read, net.n);
+    if net.second_port == 0 {
+        return first as u64;
+    }
+    let second = word_of(signs, read + net.n, net.n);
+    circuit_values::two_words(net.n, first, second)
 }
 
 // Whether a frame reads a word that no frame before has touched.
@@ -129,13 +135,13 @@ fn reads_untouched(values: &WireValues, touched: &TouchedWords, net: Netlist) ->
         && not (entry (now (touched .entry)) (addressOf (alone net) (port (alone net) 1) (entry (now (values .entry)))))) ⌝ }
 {
     if circuit_values::code_value(values, net.re) {
-        let address = circuit_values::address_of(values, net);
+        let address = circuit_values::address_of(values, net, 1);
         return !touched[address as usize];
     }
     false
 }
 
-// Fills a word of an unknown start where frame i reads it: by the first pass, which settles address and RE. Answers whether it does.
+// Fills a word of an unknown start where frame i reads it: by the first pass, which settles address and RE. An unknown start has one port. Answers whether it does.
 fn fill_word(
     values: &mut WireValues,
     memory: &mut [u32],
@@ -158,7 +164,7 @@ fn fill_word(
     }
     circuit_values::evaluate(values, net, gates, inputs, state, 0);
     if reads_untouched(values, touched, net) {
-        let address = circuit_values::address_of(values, net);
+        let address = circuit_values::address_of(values, net, 1);
         memory[address as usize] = word_said(net, signs, i);
         return true;
     }
@@ -172,12 +178,12 @@ fn mark_touched(values: &WireValues, touched: &mut TouchedWords, net: Netlist)
 {
     let reads = circuit_values::code_value(values, net.re);
     if reads | circuit_values::code_value(values, net.we) {
-        let address = circuit_values::address_of(values, net);
+        let address = circuit_values::address_of(values, net, 1);
         touched[address as usize] = true;
     }
 }
 
-// Steps frame i with the word held before it, fed what the signs say of its inputs and of a word that it fills.
+// Steps frame i with the words held before it, fed what the signs say of its inputs and of a word that it fills.
 pub fn step_fed(
     values: &mut WireValues,
     inputs: &mut SourceValues,
@@ -189,7 +195,7 @@ pub fn step_fed(
     gates: &UnpackedList,
     signs: &SignTable,
     i: u32,
-    held: u32,
+    held: u64,
 ) -> FrameStepped
     requires { ⌜ FrameBegins (netOf net (now latches) (now gates)) (saidIn (now signs)) i (now values) (now inputs) (now state) (now touched) (now memory) held ⌝ }
     ensures done { λ r. ⌜ FrameDone (netOf net (now (latches .entry)) (now (gates .entry))) (saidIn (now (signs .entry))) i (now (memory .entry))
@@ -204,6 +210,46 @@ pub fn step_fed(
     FrameStepped { held: next, filled }
 }
 
+// Whether a port's read bits of frame i are fed, in frame 0 or to be filled, and one of them is unclear.
+fn read_unclear(
+    values: &WireValues,
+    net: Netlist,
+    signs: &SignTable,
+    i: u32,
+    filled: bool,
+    p: u32,
+) -> bool
+    requires { ⌜ WithinLimits (alone net) × (i ≤ 255) × IsPort (alone net) p ⌝ }
+    ensures { λ r. ⌜ r ≡ readUnclear (alone net) (unclearIn (now (signs .entry))) i filled (entry (now (values .entry))) (port (alone net) p) ⌝ }
+{
+    let reads = circuit_values::is_reading(values, net, p);
+    if filled | ((i == 0) & !reads) {
+        let base = clause_variables::frame_base(net, i);
+        let read = netlist::first_read_wire(net).0 + (p - 1) * net.n;
+        return any_unclear(signs, base + read, net.n);
+    }
+    false
+}
+
+// Whether any port's are.
+fn any_read_unclear(
+    values: &WireValues,
+    net: Netlist,
+    signs: &SignTable,
+    i: u32,
+    filled: bool,
+) -> bool
+    requires { ⌜ WithinLimits (alone net) × (i ≤ 255) ⌝ }
+    ensures { λ r. ⌜ r ≡ anyBelow (ports (alone net))
+        (λ x. readUnclear (alone net) (unclearIn (now (signs .entry))) i filled (entry (now (values .entry))) (port (alone net) (suc x))) ⌝ }
+{
+    let first = read_unclear(values, net, signs, i, filled, 1);
+    if net.second_port == 0 {
+        return first;
+    }
+    first | read_unclear(values, net, signs, i, filled, 2)
+}
+
 // What frame i shows, by the table of its values.
 pub fn judge_frame(
     values: &WireValues,
@@ -216,13 +262,11 @@ pub fn judge_frame(
     ensures { λ r. ⌜ FrameJudged (alone net) (unclearIn (now (signs .entry))) i filled (entry (now (values .entry))) r ⌝ }
 {
     let base = clause_variables::frame_base(net, i);
-    let read = netlist::first_read_wire(net).0;
     let input_fault = any_unclear(signs, base + 1, net.inputs);
-    let read_fault = any_unclear(signs, base + read, net.n);
-    let reads = circuit_values::code_value(values, net.re);
+    let read_fault = any_read_unclear(values, net, signs, i, filled);
     let holds = circuit_values::code_value(values, net.p);
     FrameVerdict {
-        fault: input_fault | ((filled | ((i == 0) & !reads)) & read_fault),
+        fault: input_fault | read_fault,
         broken: !holds,
     }
 }

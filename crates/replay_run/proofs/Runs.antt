@@ -1,7 +1,7 @@
 -- Laws of specs/Runs.antt: what a frame shows and writes by its table, and what a run has left frame by frame. No contract cites this file.
-use Prim.Native.Nat.{ℕ, _+_, _^_, _≤_, _<_}
+use Prim.Native.Nat.{ℕ, suc, _+_, _^_, _≤_, _<_}
 use mathlib.Core.Path.{_≡_, refl, sym, _∙_, ap}
-use mathlib.Core.Bool.{Bool, true, false}
+use mathlib.Core.Bool.{Bool, true, false, _||_}
 use mathlib.Core.List.{List}
 use mathlib.Core.Logic.{by-cases}
 use native.Mathlib.Decide.{ℕ-discrete}
@@ -10,9 +10,10 @@ use lib.Dec.{eqb}
 use lib.ListN.{length}
 use borrow.Author.Tests.{eq-eqb, ne-eqb}
 use Rattle.model.specs.Bits.{bit}
-use Rattle.model.specs.Search.{firstWhere, IsFirst}
+use Rattle.model.specs.Search.{anyBelow, firstWhere, IsFirst}
 use Rattle.model.specs.Wrote.{over, Wrote}
-use Rattle.model.specs.Netlist.{Netlist, readBits, lastWire}
+use Rattle.model.specs.Netlist.{Netlist, ports, port, readBits, inputWire, lastWire}
+use Rattle.model.specs.Variables.{base}
 use Rattle.model.specs.Acceptance.{WithinLimits}
 use Rattle.model.specs.Claim.{idleOf}
 use Rattle.model.proofs.Search.{firstWhere-is, first-unique}
@@ -21,6 +22,7 @@ use Rattle.call_lists.proofs.Delivered.{length-delivered, delivered-at}
 use Rattle.netlist.specs.WireTable.{entry, HasBelow}
 use Rattle.circuit_step.specs.Held.{HoldsState}
 use Rattle.circuit_step.proofs.Held.{code-in}
+use Rattle.circuit_step.proofs.Touched.{any-same}
 use Rattle.replay_frame.specs.Replay.{Said, begunFrom, fills, replayed, fedUnclear, feedFault, violates, frameLine}
 use Rattle.replay_frame.specs.Frames.{FrameJudged}
 use Rattle.replay_frame.specs.declared.FrameVerdict.{FrameVerdict}
@@ -61,7 +63,8 @@ module _ {c : Netlist} (limits : WithinLimits c) (y : Said) (i : ℕ) {table : L
   unfolding feedFault fedUnclear violates
   shown-by f j =
       record {
-        fault-is = j .fault-is ∙ rw (code-in c q (c .RE) (limits .codes .RE-fits), f);
+        fault-is = j .fault-is ∙ ap (λ reads. anyBelow (c .inputs) (λ x. y .unclear (base c i + inputWire c x)) || reads)
+            (any-same (ports c) (λ x h. rw (code-in c q (port c (suc x) .RE) (limits .codes .RE-fits (suc x) (omega arith, h)), f)));
         broken-is = j .broken-is ∙ rw (code-in c q (c .P) (limits .codes .P-fits));
       }
 

@@ -30,10 +30,10 @@ pub struct RunVerdict {
     pub first: u32,
 }
 
-// One frame of a run: what it shows, and the word held behind it.
+// One frame of a run: what it shows, and the words held behind it.
 pub struct FrameRun {
     pub shown: FrameVerdict,
-    pub held: u32,
+    pub held: u64,
 }
 
 // A table of wires to be filled.
@@ -90,14 +90,14 @@ fn put_resets(state: &mut SourceValues, net: Netlist, latches: &UnpackedList)
     }
 }
 
-// Puts latches and memory into the state in which frame 0 begins, and answers the word held there, the idle word.
+// Puts latches and memory into the state in which frame 0 begins, and answers the words held there, the idle words.
 fn put_initial(
     state: &mut SourceValues,
     memory: &mut [u32],
     net: Netlist,
     latches: &UnpackedList,
     signs: &SignTable,
-) -> u32
+) -> u64
     requires { ⌜ SizesFit (alone net) × (length (now state) ≡ 600) × (2 ^ net .m ≤ length (now memory)) ⌝ }
     ensures held { λ r. ⌜ HoldsState (netOf net (now (latches .entry)) []) (begunFrom (netOf net (now (latches .entry)) []) (saidIn (now (signs .entry))) (λ _. givenWord (start (alone net))))
         (now (state .exit)) (now (memory .exit)) r ⌝ }
@@ -109,7 +109,7 @@ fn put_initial(
         netlist::given_word(net.initial_word, net.unknown_start),
     );
     put_resets(state, net, latches);
-    replay_frame::idle_word(net, signs)
+    replay_frame::idle_words(net, signs)
 }
 
 // The first frame that breaks the property, with frame i looked at too: i where none did before, else as it was.
@@ -139,7 +139,7 @@ fn run_frame(
     gates: &UnpackedList,
     signs: &SignTable,
     i: u32,
-    held: u32,
+    held: u64,
 ) -> FrameRun
     requires { ⌜ FrameBegins (netOf net (now latches) (now gates)) (saidIn (now signs)) i (now values) (now inputs) (now state) (now touched) (now memory) held
         × (lastWire (alone net) + 1 ≤ length (now out)) ⌝ }

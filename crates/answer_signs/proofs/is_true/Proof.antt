@@ -14,11 +14,11 @@ element-copy-out-result c = search needs
 
 returns : tie.Need-returns
 unfolding trueIn odd
-returns c = (sym (rw (lt-ltb (c .before .before .args .variable) 675842 (omega arith))), table-tells)
+returns c = (sym (rw (lt-ltb (c .before .before .args .variable) 1198082 (omega arith))), table-tells)
 
 returns-2 : tie.Need-returns-2
 unfolding trueIn odd
-returns-2 c = (sym (rw (le-ltb (c .before .args .variable) 675842 (omega arith))), table-tells)
+returns-2 c = (sym (rw (le-ltb (c .before .args .variable) 1198082 (omega arith))), table-tells)
 
 pub is-true-spec : {M : Type 1} → statement M
 is-true-spec = tie.close (tie.spec element-copy-out-result returns returns-2)

@@ -6,7 +6,7 @@ use Rattle.answer_signs.proofs.no_signs.Statement.{statement}
 use Rattle.answer_signs.proofs.no_signs.Tie as tie
 
 returns : tie.Need-returns
-returns c = none (replicate 675842 0) (length-replicate {0} {A = ℕ} 675842 0) (replicate-zero 675842)
+returns c = none (replicate 1198082 0) (length-replicate {0} {A = ℕ} 1198082 0) (replicate-zero 1198082)
 
 pub no-signs-spec : {M : Type 1} → statement M
 no-signs-spec = tie.close (tie.spec returns)

@@ -6,6 +6,7 @@ use native.Mathlib.Omega.{arith}
 use Rattle.model.specs.Netlist.{port}
 use Rattle.model.specs.Circuit.{addressOf}
 use Rattle.model.proofs.Memory.{address-below}
+use Rattle.model.proofs.Ports.{first-port}
 use Rattle.netlist.specs.NetOf.{netOf, alone}
 use Rattle.netlist.proofs.NetOf.{sizes-lists, limits-alone}
 use Rattle.replay_frame.proofs.Filling.{none-filled, filled-by}
@@ -29,7 +30,7 @@ reads-untouched-requires c κs =
 address-of-requires : tie.Need-address-of-requires
 address-of-requires c κs =
     let start = c .before .before .before .before .before .before .before .before .before in
-    limits-alone (start .args .net) [] (start .args .gates .now) (start .pre .0)
+    (limits-alone (start .args .net) [] (start .args .gates .now) (start .pre .0), first-port (alone (start .args .net)))
 
 word-said-requires : tie.Need-word-said-requires
 word-said-requires c κs =

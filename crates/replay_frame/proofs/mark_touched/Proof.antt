@@ -2,6 +2,7 @@
 use mathlib.Core.Path.{sym, _∙_, ap₂}
 use mathlib.Core.Bool.{_||_}
 use native.Mathlib.Omega.{arith}
+use Rattle.model.proofs.Ports.{first-port}
 use Rattle.netlist.specs.NetOf.{netOf, alone}
 use Rattle.netlist.specs.WireTable.{entry}
 use Rattle.replay_frame.specs.Frames.{touchedAfter}
@@ -13,7 +14,7 @@ use Rattle.replay_frame.proofs.mark_touched.Tie as tie
 code-value-requires : tie.Need-code-value-requires
 unfolding netOf
 code-value-requires c κs =
-    omega (arith, c .pre .0 .sizes, c .pre .0 .codes .RE-fits)
+    omega (arith, c .pre .0 .sizes, c .pre .0 .codes .RE-fits 1 (first-port (alone (c .args .net))))
 
 code-value-requires-2 : tie.Need-code-value-requires-2
 unfolding netOf

@@ -1,6 +1,7 @@
 -- `replay_frame::reads_untouched` meets its contract.
 use mathlib.Core.Path.{sym, _∙_}
 use native.Mathlib.Omega.{arith}
+use Rattle.model.proofs.Ports.{first-port}
 use Rattle.netlist.specs.NetOf.{netOf, alone}
 use Rattle.netlist.specs.WireTable.{entry}
 use Rattle.replay_frame.proofs.Filling.{address-small}
@@ -11,7 +12,7 @@ use Rattle.replay_frame.proofs.reads_untouched.Tie as tie
 code-value-requires : tie.Need-code-value-requires
 unfolding netOf
 code-value-requires c κs =
-    omega (arith, c .pre .0 .sizes, c .pre .0 .codes .RE-fits)
+    omega (arith, c .pre .0 .sizes, c .pre .0 .codes .RE-fits 1 (first-port (alone (c .args .net))))
 
 address-of-requires : tie.Need-address-of-requires
 address-of-requires c κs = search needs

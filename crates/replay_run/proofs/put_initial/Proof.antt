@@ -23,8 +23,8 @@ fill-words-requires c κs = search needs
 put-resets-requires : tie.Need-put-resets-requires
 put-resets-requires c κs = search needs
 
-idle-word-requires : tie.Need-idle-word-requires
-idle-word-requires c κs = search needs
+idle-words-requires : tie.Need-idle-words-requires
+idle-words-requires c κs = search needs
 
 same-length : tie.Need-same-length
 same-length c = search needs
@@ -37,11 +37,11 @@ returns c =
     let d = netOf (a .net) (a .latches .now) [] in
     let first = c .before .before .before .before .before .before .given-word in
     rw (c .before .before .before .before .before .fill-words .ensures, c .before .before .before .before .before .before .before .word-count .ensures, ← first .ensures) (
-      initial-held d _ (a .memory .now) (start .pre .2) (c .before .put-resets .ensures .0) (c .before .put-resets .ensures .1) (saidIn (a .signs .now)) (c .idle-word .ensures) (first .result),
+      initial-held d _ (a .memory .now) (start .pre .2) (c .before .put-resets .ensures .0) (c .before .put-resets .ensures .1) (saidIn (a .signs .now)) (c .idle-words .ensures) (first .result),
       behind-delivered (λ _. first .result) (2 ^ d .m) (a .memory .now),
     )
 
 pub put-initial-spec : {M : Type 1} → statement M
 put-initial-spec =
     tie.close
-    (tie.spec word-count-requires given-word-requires fill-words-requires put-resets-requires idle-word-requires same-length returns)
+    (tie.spec word-count-requires given-word-requires fill-words-requires put-resets-requires idle-words-requires same-length returns)
