@@ -2,13 +2,13 @@
 -- No contract cites this file.
 use Prim.Native.Nat.{ℕ, _+_, _/_, _<_, _≤_}
 use mathlib.Core.Path.{_≡_, refl, sym, _∙_, ap}
-use mathlib.Core.Bool.{Bool, true, false, cond}
+use mathlib.Core.Bool.{Bool, true, false}
 use native.Mathlib.Omega.{arith}
-use lib.Dec.{eqb, ltb}
+use lib.Dec.{ltb}
 use borrow.Author.Tests.{ltb-true, ltb-false, ne-eqb}
 use Rattle.model.specs.Bits.{odd}
 use Rattle.model.specs.Netlist.{Netlist, Port, readWire}
-use Rattle.model.specs.Circuit.{Values, codeValue}
+use Rattle.model.specs.Circuit.{codeValue}
 use Rattle.model.specs.Variables.{base, wireAt, codeAt, wireIn, codeIn, readBit}
 use Rattle.model.specs.Numbers.{Assignment}
 use Rattle.model.specs.Trace.{assigned}

@@ -10,7 +10,7 @@ use native.Mathlib.Decide.{ℕ-discrete}
 use native.Mathlib.Omega.{arith}
 use lib.Dec.{eqb}
 use borrow.Author.Tests.{eq-eqb, ne-eqb}
-use Rattle.model.specs.Netlist.{Netlist, Start, startOf, isUnknown, start, ports, IsPort, port, readBits}
+use Rattle.model.specs.Netlist.{Netlist, startOf, isUnknown, start, ports, IsPort, port, readBits}
 use Rattle.model.specs.Acceptance.{SizesFit}
 use Rattle.model.specs.Variables.{stride}
 

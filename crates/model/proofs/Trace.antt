@@ -1,26 +1,25 @@
 -- Where a read's word comes from, as S and Z say it, and what follows from what an assignment feeds (specs/Trace.antt), proved.
 -- No contract cites this file.
 use Prim.Native.Nat.{ℕ, zero, suc, zero-le, _+_, _-_, _*_, _/_, _%_, _≤_, _<_}
-use mathlib.Core.Path.{_≡_, refl, sym, _∙_, ap, ap₂, subst}
+use mathlib.Core.Path.{_≡_, refl, sym, _∙_, ap, ap₂}
 use mathlib.Core.Bool.{Bool, true, false, not, cond, _&&_, and-false, true≢false}
 use mathlib.Core.Logic.{⊎-elim, by-cases}
-use native.Mathlib.Nat.{le-refl, le-of-lt, div-add-mod', mod-lt, div-lt-iff-lt-mul, zero-mul}
+use native.Mathlib.Nat.{le-refl, div-add-mod', mod-lt, div-lt-iff-lt-mul, zero-mul}
 use native.Mathlib.Numerals.{add-one}
 use native.Mathlib.Decide.{decLt, decLe, ℕ-discrete}
 use native.Mathlib.Omega.{arith}
 use lib.Dec.{eqb, ltb}
-use lib.IntN.{ℤ, pos, negsuc, negℤ}
+use lib.IntN.{pos, negℤ}
 use Rattle.model.specs.Bits.{odd}
-use Rattle.model.specs.Netlist.{Netlist, Start, isUnknown, start, ports, Port, IsPort, port, latchWire, inputWire, readWire, lastWire}
+use Rattle.model.specs.Netlist.{Netlist, isUnknown, start, ports, IsPort, port, lastWire}
 use Rattle.model.specs.Circuit.{Values, codeValue, State, addressOf, Begins}
 use Rattle.model.specs.Acceptance.{Accepted}
-use Rattle.model.specs.Clauses.{Literal, known, plus, minus}
-use Rattle.model.specs.Variables.{stride, base, pairBase, codeAt, codeIn, noneSince, selected, pairLiterals, Numbered, constant, wire, pair}
-use Rattle.model.specs.Numbers.{literalNumber, Assignment, numberTrue}
-use Rattle.model.specs.Claim.{Satisfies, feedOf, idleOf, Agrees}
+use Rattle.model.specs.Clauses.{known, plus, minus}
+use Rattle.model.specs.Variables.{stride, base, pairBase, codeAt, noneSince, selected, pairLiterals, Numbered, constant, wire, pair}
+use Rattle.model.specs.Numbers.{Assignment, numberTrue}
+use Rattle.model.specs.Claim.{feedOf, idleOf, Agrees}
 use Rattle.model.specs.Trace.{assigned, writes, hits, Source, from-start, from-frame, literalTrue, startRead, frameRead, FedAlike, IsEqualBit, equal-bit, Traced, TraceTheorem}
 use Rattle.model.proofs.Booleans.{and-true, not-true-false}
-use Rattle.model.proofs.Ports.{bit-within}
 use Rattle.model.proofs.Variables.{base-least, pairBase-base, noneSince-last, noneSince-earlier}
 use Rattle.model.proofs.Circuit.{address-same}
 use Rattle.model.proofs.Truth.{value, PairHolds}
@@ -28,12 +27,12 @@ use Rattle.model.proofs.InFrame.{assigned-zero, assigned-wire, codeIn-v
 use Rattle.model.proofs.Forwarding.{Chain, source-exists, none-clear, none-idle}
 use Rattle.model.proofs.Agreement.{Same, code-agrees, write-agrees, writes-agrees}
 use Rattle.model.proofs.AssignedReads.{E-value, s-value, chain-value, S-value}
-use Rattle.model.proofs.Groups.{FramesHold, DepthHolds}
+use Rattle.model.proofs.Groups.{DepthHolds}
 use Rattle.model.proofs.Numbering.{numbered}
 use Rattle.model.proofs.StartMemory.{Explains, start-explains, given-explains}
 use Rattle.model.proofs.AssignmentToRun.{FedAs, assignment-agrees}
 use Rattle.model.proofs.Ports.{unknown-single}
-use Rattle.model.proofs.Claim.{depth-holds, begun, begun-starts}
+use Rattle.model.proofs.Claim.{depth-holds, begun}
 
 -- the source of a read that a chain says
 chain-source : (i : ℕ) (hit none : ℕ → Bool) → Chain i hit none → none i ≡ true → Source i hit (none 0) (λ j. hit j && none (suc j))

@@ -13,7 +13,6 @@ pub mod Groups
 pub mod Numbers
 pub mod Counts
 pub mod Claim
-pub mod OnePort
 pub mod Trace
 pub mod Wrote
 pub mod Search

@@ -1,4 +1,4 @@
-// The numbered errors (RULES T1 to T18), and what a chain of tests answers.
+// The numbered errors (RULES T1 to T17), and what a chain of tests answers.
 ghost use mathlib.Core.Path.{_≡_};
 ghost use Rattle.refusals.specs.Refusal.{refusalNumber, replyOf};
 
@@ -21,7 +21,6 @@ pub enum Refusal {
     NoViolation,
     WrongBase,
     TiedAddress,
-    SecondPort,
 }
 
 // What a chain of tests answers: none refuses, or the first that does, with its place (0: none).
@@ -67,7 +66,6 @@ pub fn number(refusal: Refusal) -> u32
         Refusal::NoViolation => 15,
         Refusal::WrongBase => 16,
         Refusal::TiedAddress => 17,
-        Refusal::SecondPort => 18,
     }
 }
 
