@@ -26,6 +26,7 @@ use Rattle.model.proofs.Gather.{all-weaken}
 use Rattle.model.proofs.Joined.{joined-same, order-inDepth}
 use Rattle.model.proofs.Claim.{encodes}
 use Rattle.model.proofs.Stated.{stated}
+use Rattle.model.proofs.Trace.{traced}
 use Rattle.refusals.specs.Tests.{_then_}
 use Rattle.refusals.specs.declared.Refusal.the-variants.{NoSuchGroup}
 use Rattle.refusals.specs.declared.Verdict.{Verdict}
@@ -98,6 +99,7 @@ calls-encode-for c d latchCount gateCount k passed most ok agree =
           (order-inDepth (ports c) k));
       formula-encodes = encodes c ok k;
       formula-stated = stated c ok k;
+      formula-traced = traced c ok k;
       variables-most = base-most c (ok .limits .sizes) (k + 1) (omega arith);
       variables-single = λ single. base-most-single c (ok .limits .sizes) single (k + 1) (omega arith);
       numbers-suffice = numbers-suffice d k (accepted d latchCount gateCount k passed most) most;

@@ -14,6 +14,7 @@ use Rattle.model.specs.Variables.{base}
 use Rattle.model.specs.Groups.{inDepth, groupOrder}
 use Rattle.model.specs.Numbers.{numbersOf, joined, formula, clausesIn}
 use Rattle.model.specs.Claim.{Encodes, Stated}
+use Rattle.model.specs.Trace.{Traced}
 use Rattle.model.specs.declared.Group.{Group}
 use Rattle.refusals.specs.Refusal.{refusalNumber}
 use Rattle.refusals.specs.Tests.{refuseIf, _then_}
@@ -85,7 +86,7 @@ headingSent c latchCount gateCount k =
 
 -- Demand 3, of the calls over the netlist d, for the netlist c that is meant: d itself, or that of the sheet which d was read from
 -- (past the sizes the two may differ). RULES A2, A13 and A14: each group is asked for once with room enough, and the numbers are joined in
--- the order of the whole. Those numbers are c's formula, and the formula encodes the runs and is as `Stated` says; the variables are at
+-- the order of the whole. Those numbers are c's formula, and the formula encodes the runs and is as `Stated` and `Traced` say; the variables are at
 -- most 1,198,081, with one port 675,841 (RULES V6), so that refusal 10 is never met; and c's sheet has at most 627 lines (RULES S13).
 abbrev pub RoomEnough : Netlist → ℕ → (Group → List ℤ) → Type 0
 RoomEnough c k slice = (g : Group) → inDepth (ports c) k g ≡ true → length (numbersOf c k g) ≤ length (slice g)
@@ -98,6 +99,7 @@ pub record CallsEncode (c d : Netlist) (latchCount gateCount k : ℕ) : Type 0 w
       ≡ formula c k
   pub formula-encodes : Encodes c k
   pub formula-stated : Stated c k
+  pub formula-traced : Traced c k
   pub variables-most : base c (k + 1) ≤ 1198081
   pub variables-single : ports c ≡ 1 → base c (k + 1) ≤ 675841
   pub numbers-suffice : testNumbers d k ≡ Passed
