@@ -32,11 +32,14 @@ withAddress net codes =
       n = net .n;
       «initial_word» = net .«initial_word»;
       «unknown_start» = net .«unknown_start»;
+      «second_port» = net .«second_port»;
       address = codes;
       «write_data» = net .«write_data»;
       we = net .we;
       re = net .re;
       p = net .p;
+      address2 = net .address2;
+      re2 = net .re2;
     }
 
 abbrev pub withData : Netlist → List Code → Netlist
@@ -49,11 +52,14 @@ withData net codes =
       n = net .n;
       «initial_word» = net .«initial_word»;
       «unknown_start» = net .«unknown_start»;
+      «second_port» = net .«second_port»;
       address = net .address;
       «write_data» = codes;
       we = net .we;
       re = net .re;
       p = net .p;
+      address2 = net .address2;
+      re2 = net .re2;
     }
 
 abbrev pub withControl : Netlist → ℕ → ℕ → ℕ → Netlist
@@ -66,11 +72,14 @@ withControl net we re p =
       n = net .n;
       «initial_word» = net .«initial_word»;
       «unknown_start» = net .«unknown_start»;
+      «second_port» = net .«second_port»;
       address = net .address;
       «write_data» = net .«write_data»;
       we = record { 0 = we };
       re = record { 0 = re };
       p = record { 0 = p };
+      address2 = net .address2;
+      re2 = net .re2;
     }
 
 -- the first m outputs are the record's address codes; the n behind them its write-data codes

@@ -55,11 +55,14 @@ pub fn text_sizes(counts: Counts, m: u32, n: u32, word: u32, unknown: u32) -> Ne
         n,
         initial_word: word,
         unknown_start: unknown,
+        second_port: 0,
         address: [none; 12],
         write_data: [none; 32],
         we: none,
         re: none,
         p: none,
+        address2: [none; 12],
+        re2: none,
     }
 }
 

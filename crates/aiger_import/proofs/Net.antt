@@ -154,6 +154,10 @@ module _ (s : List ℕ) (r : Netlist) (ready : TextReady s r) where
             put .data-codes .has
             ∙ upTo-same (r .n) (λ t. outputCode table (r .m + t)) (λ t. codeFrom s c (outputAt s (r .m + t))) (λ t b. due (r .m + t) (omega arith))
 
+        second-is : codeOf (net .address2) ≡ (λ t. 0)
+        unfolding recordOf gather
+        second-is = fun-ext (λ t. no-code-of 12 t (ap (λ (x : Netlist). x .address2) whole))
+
         net-is : netOf net latches gates ≡ aagNet s (r .m) (r .n) (r .«initial_word») (r .«unknown_start»)
         unfolding netOf netOfCodes recordOf
         net-is =
@@ -165,6 +169,7 @@ module _ (s : List ℕ) (r : Netlist) (ready : TextReady s r) where
               n = whole i .n;
               initialWord = whole i .«initial_word»;
               unknownStart = whole i .«unknown_start»;
+              secondPort = whole i .«second_port»;
               next = next-is i;
               reset = reset-is i;
               left = left-is i;
@@ -174,7 +179,13 @@ module _ (s : List ℕ) (r : Netlist) (ready : TextReady s r) where
               WE = (ap (λ (x : Netlist). x .we .0) whole ∙ due (r .m + r .n) (omega arith)) i;
               RE = (ap (λ (x : Netlist). x .re .0) whole ∙ due (r .m + r .n + 1) (omega arith)) i;
               P = (ap (λ (x : Netlist). x .p .0) whole ∙ due (r .m + r .n + 2) (omega arith)) i;
+              address2 = second-is i;
+              RE2 = whole i .re2 .0;
             }
+
+        second-full : length (net .address2) ≡ 12
+        unfolding recordOf gather
+        second-full = rw (ap (λ (x : Netlist). x .address2) whole)
 
         of-text : Holds net latches gates (aagNet s (r .m) (r .n) (r .«initial_word») (r .«unknown_start»))
         of-text =
@@ -183,6 +194,7 @@ module _ (s : List ℕ) (r : Netlist) (ready : TextReady s r) where
                   record {
                     address-codes = put .address-codes .full;
                     data-codes = put .data-codes .full;
+                    second-codes = second-full;
                     latch-codes = latchList .full;
                     gate-codes = gateList .full;
                   };

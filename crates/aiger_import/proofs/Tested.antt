@@ -17,7 +17,7 @@ use Rattle.netlist.specs.RecordOf.{recordOf}
 use Rattle.netlist.specs.Places.{lineAt}
 use Rattle.netlist.specs.Faults.{sizeFault, codeFault}
 use Rattle.netlist.specs.declared.Line.{Line}
-use Rattle.netlist.specs.declared.Line.the-variants.{Sizes, Memory, Latch, Gate, Address, WriteData, Control}
+use Rattle.netlist.specs.declared.Line.the-variants.{Sizes, Memory, Latch, Gate, Address, WriteData, SecondAddress, SecondEnable, Control}
 use Rattle.netlist.specs.declared.Netlist.{Netlist}
 use Rattle.netlist.proofs.NetOf.{limits-without-latches}
 use Rattle.netlist.proofs.Faults.{sizes-fit}
@@ -47,6 +47,8 @@ module _ (s : List ℕ) (m n word unknown : ℕ) where
       same (Gate g) = refl
       same (Address t) = refl
       same (WriteData t) = refl
+      same (SecondAddress t) = refl
+      same SecondEnable = refl
       same Control = refl
 
   module _ (h : Counts) (counts-are : h ≡ countsIn s) (r : Netlist) (sizes-are : r ≡ recordOf (textSizes h m n word unknown)) where

@@ -10,6 +10,7 @@ use borrow.Author.Tests.{lt-ltb}
 use Rattle.model.specs.Netlist.{Netlist, gateWire, lastWire}
 use Rattle.model.specs.Network.{renamed}
 use Rattle.model.specs.Acceptance.{CodesFit}
+use Rattle.model.proofs.Ports.{each-port}
 use Rattle.refusals.specs.declared.Refusal.the-variants.{CodeOutside}
 use Rattle.refusals.specs.declared.Verdict.the-variants.{Passed}
 use Rattle.netlist.specs.Faults.{codeFault}
@@ -76,10 +77,16 @@ module _ (s : List ℕ) (ok : WellDefined s) (m n word unknown : ℕ) (fits : Fi
         right-fits = λ g b.
             rw (lt-ltb g (countsIn s .gates) b)
             (code-below (textGateLine (countsIn s) g) g (numberAt s (textGateLine (countsIn s) g) 2) (omega arith) (right-known s ok g b));
-        address-fits = λ t b. rw (lt-ltb t m b) (code-fits (outputAt s t) (output-known s ok t (omega arith)));
+        address-fits =
+            each-port (aagNet s m n word unknown) (λ a e. (t : ℕ) → t < m → a t ≤ 2 * lastWire (aagNet s m n word unknown) + 1)
+            (λ t b. rw (lt-ltb t m b) (code-fits (outputAt s t) (output-known s ok t (omega arith))))
+            (λ some. absurd (omega (arith, some)));
         data-fits = λ t b. rw (lt-ltb t n b) (code-fits (outputAt s (m + t)) (output-known s ok (m + t) (omega arith)));
         WE-fits = code-fits (outputAt s (m + n)) (output-known s ok (m + n) (omega arith));
-        RE-fits = code-fits (outputAt s (m + n + 1)) (output-known s ok (m + n + 1) (omega arith));
+        RE-fits =
+            each-port (aagNet s m n word unknown) (λ a e. e ≤ 2 * lastWire (aagNet s m n word unknown) + 1)
+            (code-fits (outputAt s (m + n + 1)) (output-known s ok (m + n + 1) (omega arith)))
+            (λ some. absurd (omega (arith, some)));
         P-fits = omega (arith, code-fits (outputAt s (m + n + 2)) (output-known s ok (m + n + 2) (omega arith)));
       }
 

@@ -7,7 +7,8 @@ use mathlib.Core.List.{List}
 use Rattle.model.specs.Netlist.{Netlist, inputWire, latchWire, readWire, gateWire}
 use Rattle.model.specs.Circuit.{Values}
 use Rattle.model.specs.Agree.{Agree}
-use Rattle.model.proofs.Agree.{inputs-same, latches-same, gates-same, m-same, n-same, accepted-same}
+use Rattle.model.proofs.Agree.{inputs-same, latches-same, gates-same, m-same, n-same, second-same, accepted-same}
+use Rattle.model.proofs.Ports.{first-port}
 use Rattle.model.proofs.SameNumbers.{base-same, numbers-same}
 use Rattle.model.proofs.SameRuns.{evaluate-same, code-value-same}
 use Rattle.refusals.specs.declared.Verdict.the-variants.{Passed}
@@ -36,16 +37,17 @@ module _ (s : List ℕ) (c d : Netlist) (q : Agree c d) (input latch : ℕ → B
         latch-same = λ l b. sym (wire-same (latchWire d l)) ∙ rw (← inputs-same c d q) (r .latch-same l (rw (latches-same c d q) b));
         gate-same = λ g b.
             sym (wire-same (gateWire d g))
-            ∙ rw (← inputs-same c d q, ← latches-same c d q, ← n-same c d q) (r .gate-same g (rw (gates-same c d q) b));
+            ∙ rw (← inputs-same c d q, ← latches-same c d q, ← n-same c d q, ← second-same c d q) (r .gate-same g (rw (gates-same c d q) b));
         next-same = λ l b.
             let at : l < c .latches = rw (latches-same c d q) b in sym (code-value-same c d q wire-same (q .next-same l at)) ∙ r .next-same l at;
         address-same = λ t b.
-            let at : t < c .m = rw (m-same c d q) b in sym (code-value-same c d q wire-same (q .address-same t at)) ∙ r .address-same t at;
+            let at : t < c .m = rw (m-same c d q) b in
+            sym (code-value-same c d q wire-same (q .address-same 1 (first-port c) t at)) ∙ r .address-same t at;
         data-same = λ t b.
             let at : t < c .n = rw (n-same c d q) b in
             sym (code-value-same c d q wire-same (q .data-same t at)) ∙ rw (← m-same c d q) (r .data-same t at);
         WE-same = sym (code-value-same c d q wire-same (q .WE-same)) ∙ rw (← m-same c d q, ← n-same c d q) (r .WE-same);
-        RE-same = sym (code-value-same c d q wire-same (q .RE-same)) ∙ rw (← m-same c d q, ← n-same c d q) (r .RE-same);
+        RE-same = sym (code-value-same c d q wire-same (q .RE-same 1 (first-port c))) ∙ rw (← m-same c d q, ← n-same c d q) (r .RE-same);
         P-same = sym (code-value-same c d q wire-same (q .P-same)) ∙ rw (← m-same c d q, ← n-same c d q) (r .P-same);
       }
 
@@ -78,7 +80,6 @@ module _ (s : List ℕ) (m n word unknown : ℕ) (d : Netlist) (latchCount gateC
         );
         same-values = λ input latch v text. values-same s c d q input latch v (text-same-values s ok m n word unknown fits input latch v text);
         variables-same = λ i. sym (base-same c d q i);
-        numbers-same = λ k g. sym (numbers-same c d q k g);
-        calls-encode = λ k most.
-            calls-encode-for c d latchCount gateCount k not-refused most (tests .accepted) (λ g. sym (numbers-same c d q k g));
+        numbers-same = λ k g h. sym (numbers-same c d q k g (rw (second-same c d q) h));
+        calls-encode = λ k most. calls-encode-for c d latchCount gateCount k not-refused most (tests .accepted) q;
       }

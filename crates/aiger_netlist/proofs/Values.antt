@@ -132,7 +132,7 @@ module _ (s : List ℕ) (ok : WellDefined s) where
             let enough = fits .inputs-enough in
             record {
               input-same = λ x b. solved .at-input x b ∙ sym (text .at-input x (omega arith));
-              read-same = λ t b. solved .at-read t b ∙ sym (text .at-input (countsIn s .inputs - n + t) (omega arith));
+              read-same = λ t b. solved .at-read t (omega arith) ∙ sym (text .at-input (countsIn s .inputs - n + t) (omega arith));
               latch-same = λ l b. solved .at-latch l b ∙ sym (text .at-latch l b);
               gate-same = λ g b. ap w (sym (gate-wire g b)) ∙ gate-value g b;
               next-same = λ l b.

@@ -4,14 +4,15 @@
 -- sheet that was read (RULES A1). The lists of d have latchCount and gateCount records. Cited by aiger_import/specs/ImportCall.
 use Prim.Native.Nat.{ℕ, _≤_}
 use mathlib.Core.Path.{_≡_}
-use mathlib.Core.Bool.{Bool}
+use mathlib.Core.Bool.{Bool, true}
 use mathlib.Core.List.{List}
 use Rattle.model.specs.Limits.{mostDepth}
-use Rattle.model.specs.Netlist.{Netlist}
+use Rattle.model.specs.Netlist.{Netlist, ports}
 use Rattle.model.specs.Circuit.{Values}
 use Rattle.model.specs.Agree.{Agree}
 use Rattle.model.specs.Variables.{base}
 use Rattle.model.specs.Numbers.{numbersOf}
+use Rattle.model.specs.Groups.{inDepth}
 use Rattle.model.specs.declared.Group.{Group}
 use Rattle.refusals.specs.declared.Verdict.the-variants.{Passed}
 use Rattle.netlist_tests.specs.Record.{recordVerdict}
@@ -25,5 +26,5 @@ pub record Imported (s : List ℕ) (m n word unknown : ℕ) (d : Netlist) (latch
   pub has-values : (input latch : ℕ → Bool) → (v : Values) × TextValues s input latch v
   pub same-values : (input latch : ℕ → Bool) (v : Values) → TextValues s input latch v → SameValues s d (valuesOf d input latch) v
   pub variables-same : (i : ℕ) → base d i ≡ base (aagNet s m n word unknown) i
-  pub numbers-same : (k : ℕ) (g : Group) → numbersOf d k g ≡ numbersOf (aagNet s m n word unknown) k g
+  pub numbers-same : (k : ℕ) (g : Group) → inDepth (ports d) k g ≡ true → numbersOf d k g ≡ numbersOf (aagNet s m n word unknown) k g
   pub calls-encode : (k : ℕ) → k ≤ mostDepth → CallsEncode (aagNet s m n word unknown) d latchCount gateCount k

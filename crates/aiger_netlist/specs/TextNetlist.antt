@@ -1,6 +1,6 @@
 -- The netlist that an ASCII AIGER text describes (RULES I6 to I8). The caller gives m, n, the start word and whether it is unknown; the text's last n inputs are
--- the read bits, its outputs are address, write data, WE, RE and P, and each latch starts at 0. Variables become wires in the order of
--- their lines. Cited by `import_text`, aiger_import/specs/ImportCall, specs/ImportVerdict and specs/Imported.
+-- the read bits, its outputs are address, write data, WE, RE and P, and each latch starts at 0; there is no second port. Variables become wires
+-- in the order of their lines. Cited by `import_text`, aiger_import/specs/ImportCall, specs/ImportVerdict and specs/Imported.
 use Prim.Native.Nat.{ℕ, _+_, _-_}
 use mathlib.Core.Bool.{cond}
 use mathlib.Core.List.{List}
@@ -17,7 +17,7 @@ use Rattle.aiger_definitions.specs.Definitions.{numberAt, definedAt}
 abbrev pub textSizes : Counts → ℕ → ℕ → ℕ → ℕ → Netlist
 textSizes h m n word unknown =
     withoutCodes
-    (record { inputs = h .inputs - n; latches = h .latches; gates = h .gates; m = m; n = n; initialWord = word; unknownStart = unknown })
+    (record { inputs = h .inputs - n; latches = h .latches; gates = h .gates; m = m; n = n; initialWord = word; unknownStart = unknown; secondPort = 0 })
 
 -- the wire of what line p defines, in a netlist of the sizes c: an input, a read bit, a latch or a gate
 unfoldable pub wireOf : Counts → Netlist → ℕ → ℕ
@@ -49,6 +49,7 @@ netOfCodes h c code =
       n = c .n;
       initialWord = c .initialWord;
       unknownStart = c .unknownStart;
+      secondPort = c .secondPort;
       next = upTo (c .latches) (λ l. code (textLatchLine h l) 1);
       reset = λ l. 0;
       left = upTo (c .gates) (λ g. code (textGateLine h g) 1);
@@ -58,6 +59,8 @@ netOfCodes h c code =
       WE = code (textOutputLine h (c .m + c .n)) 0;
       RE = code (textOutputLine h (c .m + c .n + 1)) 0;
       P = code (textOutputLine h (c .m + c .n + 2)) 0;
+      address2 = λ t. 0;
+      RE2 = 0;
     }
 
 abbrev pub aagNet : List ℕ → ℕ → ℕ → ℕ → ℕ → Netlist
