@@ -245,7 +245,7 @@ fn group_at(
     call_unpacked::write_tested(net, latches, gates, position.depth, group, out)
 }
 
-// The same of a group by its kind, and of a pair by its j: the record has the frame.
+// The same of a group by its kind and port, and of a pair by its j: the record has the frame.
 pub fn write_group_at(
     net: Netlist,
     latches: &UnpackedList,
@@ -255,10 +255,11 @@ pub fn write_group_at(
     position: Position,
     kind: u32,
     j: u32,
+    port: u32,
     out: &mut [i32],
 ) -> CountReply
-    ensures answer { λ r. ⌜ r ≡ groupAtSent (netOf net (now (latches .entry)) (now (gates .entry))) «latch_count» «gate_count» position (groupOf kind j (position .frame)) (length (now (out .entry))) ⌝ }
-    ensures borrowed { λ r. ⌜ now (out .exit) ≡ groupAtLeaves (netOf net (now (latches .entry)) (now (gates .entry))) «latch_count» «gate_count» position (groupOf kind j (position .frame)) (now (out .entry)) ⌝ }
+    ensures answer { λ r. ⌜ r ≡ groupAtSent (netOf net (now (latches .entry)) (now (gates .entry))) «latch_count» «gate_count» position (groupOf kind j (position .frame) port) (length (now (out .entry))) ⌝ }
+    ensures borrowed { λ r. ⌜ now (out .exit) ≡ groupAtLeaves (netOf net (now (latches .entry)) (now (gates .entry))) «latch_count» «gate_count» position (groupOf kind j (position .frame) port) (now (out .entry)) ⌝ }
 {
     call_replies::group_numbers(group_at(
         net,
@@ -267,7 +268,7 @@ pub fn write_group_at(
         gates,
         gate_count,
         position,
-        call_replies::group_of(kind, j, position.frame),
+        call_replies::group_of(kind, j, position.frame, port),
         out,
     ))
 }

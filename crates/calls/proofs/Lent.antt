@@ -21,6 +21,7 @@ netOf-unpacked net latches gates = λ i.
       n = net .n;
       initialWord = net .«initial_word»;
       unknownStart = net .«unknown_start»;
+      secondPort = net .«second_port»;
       next = λ l. getD-over latches 1200 (2 * l) i;
       reset = λ l. getD-over latches 1200 (2 * l + 1) i;
       left = λ g. getD-over gates 1200 (2 * g) i;
@@ -30,4 +31,6 @@ netOf-unpacked net latches gates = λ i.
       WE = net .we .0;
       RE = net .re .0;
       P = net .p .0;
+      address2 = codeOf (net .address2);
+      RE2 = net .re2 .0;
     }

@@ -5,6 +5,7 @@ use native.Mathlib.Nat.{mul-le-mul}
 use native.Mathlib.Numerals.{add-one}
 use native.Mathlib.Omega.{arith}
 use Rattle.model.specs.Variables.{base}
+use Rattle.model.proofs.Ports.{stride-most}
 use Rattle.model.proofs.Variables.{base-suc, base-most}
 use Rattle.netlist.specs.NetOf.{netOf, alone}
 use borrow.Author.Needs.{needs}
@@ -21,15 +22,15 @@ add-t4 c = search needs
 bounds : (c : tie.After-numbering) →
     let p = c .before .args .position in
     let n = c .numbering .result in
-    (p .base + n .wires ≤ 676441) × (n .stride ≤ 16) × (p .frame * n .stride ≤ 254 * 16)
+    (p .base + n .wires ≤ 1198681) × (n .stride ≤ 32) × (p .frame * n .stride ≤ 254 * 32)
 unfolding netOf
 bounds c =
     let a = c .before .args in
     let sizes = c .before .pre .0 in
-    let stride-most : c .numbering .result .stride ≤ 16 = omega (arith, c .numbering .ensures .1, sizes .m-most) in (
+    let pair-most : c .numbering .result .stride ≤ 32 = rw (c .numbering .ensures .1) (stride-most sizes) in (
       omega (arith, c .before .pre .2, base-most (alone (a .net)) sizes (a .position .frame) (omega (arith, c .before .pre .1)), c .numbering .ensures .0, sizes .wires-fit),
-      stride-most,
-      mul-le-mul (c .before .pre .1) stride-most,
+      pair-most,
+      mul-le-mul (c .before .pre .1) pair-most,
     )
 
 add-t5 : tie.Need-add-t5
