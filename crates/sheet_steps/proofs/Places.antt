@@ -73,7 +73,7 @@ module _ (c : Netlist) (x y : Line) (h : sameLine x y ≡ true) where
 -- of a netlist with one port or two
 module _ (c : Netlist) (one : c .secondPort ≤ 1) where
   -- a line is in its row where the netlist has it
-  second-address : (t : ℕ) → (t < c .secondPort * c .m) ↔ ((0 < c .secondPort) × (t < c .m))
+  pub second-address : (t : ℕ) → (t < c .secondPort * c .m) ↔ ((0 < c .secondPort) × (t < c .m))
   second-address t =
       ⊎-elim (λ (none : (c .secondPort ≡ 0) × (c .secondPort * c .m ≡ 0)). (λ h. absurd (omega arith), λ h. absurd (omega arith)))
       (λ (is : (c .secondPort ≡ 1) × (c .secondPort * c .m ≡ c .m)). (λ h. (omega arith, omega arith), λ h. omega arith))
