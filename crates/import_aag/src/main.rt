@@ -34,10 +34,10 @@ fn no_text() -> [u8; 4194305]
 }
 
 // As many bytes as the longest sheet has.
-fn no_sheet() -> [u8; 19680]
-    ensures { λ r. ⌜ length r ≡ 19680 ⌝ }
+fn no_sheet() -> [u8; 20064]
+    ensures { λ r. ⌜ length r ≡ 20064 ⌝ }
 {
-    [0; 19680]
+    [0; 20064]
 }
 
 // Prints what is made of the text read. Where that is nothing, says so on standard error.

@@ -70,9 +70,9 @@ fn write_import(
     word: u32,
     unknown: u32,
 ) -> usize
-    requires { ⌜ 19680 ≤ length (now out) ⌝ }
+    requires { ⌜ 20064 ≤ length (now out) ⌝ }
     ensures text { λ r. ⌜ Wrote (printedText more (now (text .entry)) m n word unknown) (now (out .entry)) (now (out .exit)) r ⌝ }
-    ensures most { λ r. ⌜ r ≤ 19680 ⌝ }
+    ensures most { λ r. ⌜ r ≤ 20064 ⌝ }
 {
     let mut latches = sheet_tests::no_codes();
     let mut gates = sheet_tests::no_codes();
@@ -96,9 +96,9 @@ fn write_import(
 
 // The same of what was read of a text: of more than 4 MiB only the first 4 MiB are looked at.
 pub fn write_output(out: &mut [u8], read: &[u8], m: u32, n: u32, word: u32, unknown: u32) -> usize
-    requires { ⌜ 19680 ≤ length (now out) ⌝ }
+    requires { ⌜ 20064 ≤ length (now out) ⌝ }
     ensures text { λ r. ⌜ Wrote (importOutput (now (read .entry)) m n word unknown) (now (out .entry)) (now (out .exit)) r ⌝ }
-    ensures most { λ r. ⌜ r ≤ 19680 ⌝ }
+    ensures most { λ r. ⌜ r ≤ 20064 ⌝ }
     ensures room { λ _. ⌜ ImportRoomSuffices ⌝ }
     ensures codes { λ _. ⌜ NoCodeOutside ⌝ }
     ensures prefix { λ _. ⌜ PrefixSuffices ⌝ }

@@ -7,6 +7,7 @@ use Rattle.model.specs.Acceptance.{SizesFit, WithinLimits}
 use Rattle.refusals.specs.declared.Verdict.the-variants.{Passed}
 use Rattle.netlist.specs.NetOf.{netOf, alone}
 use Rattle.netlist.proofs.NetOf.{sizes-lists}
+use Rattle.call_unpacked.proofs.Calls.{lines-most}
 use Rattle.sheet_steps.proofs.Records.{verdict-is, holds}
 use Rattle.aiger_netlist.specs.TextNetlist.{aagNet}
 use Rattle.aiger_netlist.specs.ImportVerdict.{importVerdict}
@@ -64,7 +65,7 @@ put-sheet-requires : tie.Need-put-sheet-requires
 unfolding netOf
 put-sheet-requires c κs =
     let fit = sizes (c .before .before .before) in
-    (fit, omega (arith, fit .wires-fit, fit .m-most, c .before .before .before .before .before .before .before .before .before .before .before .before .pre))
+    (fit, omega (arith, lines-most _ fit, c .before .before .before .before .before .before .before .before .before .before .before .before .pre))
 
 same-length-2 : tie.Need-same-length-2
 same-length-2 c = search needs
@@ -73,10 +74,9 @@ returns-2 : tie.Need-returns-2
 returns-2 c =
     let told = c .before .before .before .before .before .before in
     let a = c .before .before .before .before .before .before .before .before .before .before .before .before .before .before .before .args in
-    let fit = limits told .sizes in
     let w = rw (holds (told .before .before .import-text .ensures) (passed told) .net-is) at (c .before .before .put-sheet .ensures) in (
       rw (printed-passed (a .more) (a .text .now) (a .m) (a .n) (a .word) (a .unknown) (passed told)) w,
-      omega (arith, w .counted, length-sheetText _ (limits told), fit .wires-fit, fit .m-most),
+      omega (arith, w .counted, length-sheetText _ (limits told), lines-most _ (limits told .sizes)),
     )
 
 pub write-import-spec : {M : Type 1} → statement M
