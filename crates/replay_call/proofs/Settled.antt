@@ -1,17 +1,17 @@
 -- The theorems of specs/Settled.antt: the first frame that is fed something unclear is reached by clear values alone. No contract cites this file.
-use Prim.Native.Nat.{ℕ, zero, suc, _+_, _<_}
+use Prim.Native.Nat.{ℕ, zero, suc, _+_, _-_, _<_}
 use mathlib.Core.Path.{_≡_, refl, sym, _∙_, ap₂}
 use mathlib.Core.Bool.{Bool, true, false, not, _&&_, _||_}
-use native.Mathlib.Nat.{zero-add}
 use native.Mathlib.Omega.{arith}
 use lib.Dec.{eqb}
 use Rattle.model.specs.Search.{anyBelow}
-use Rattle.model.specs.Netlist.{Netlist, ports, port, readBits, inputWire, readWire}
+use Rattle.model.specs.Netlist.{Netlist, ports, IsPort, port, inputWire, readWire}
 use Rattle.model.specs.Circuit.{codeValue, run, stateAt}
 use Rattle.model.specs.Acceptance.{Accepted}
 use Rattle.model.specs.Variables.{base}
 use Rattle.model.specs.Claim.{feedOf, idleOf}
 use Rattle.model.proofs.Bits.{fromBits-same}
+use Rattle.model.proofs.Ports.{first-port}
 use Rattle.model.proofs.Search.{none-below}
 use Rattle.model.proofs.Booleans.{neither-true}
 use Rattle.circuit_step.proofs.Alike.{InputsAlike, RE-alike}
@@ -34,35 +34,45 @@ module _ {c : Netlist} (ok : Accepted c) {y z : Said} (same : (v : ℕ) → y .u
   unfolding feedFault fedUnclear
   inputs-alike i e = inputs-clear i (neither-true (anyBelow (c .inputs) (λ x. y .unclear (base c i + inputWire c x))) _ .0 e .0)
 
-  -- and the same read bits where they are fed
-  reads-alike : (i : ℕ) → feedFault c y i ≡ false → (fills c y i || (eqb i 0 && not (codeValue (replayed c y i) (c .RE)))) ≡ true
-      → (t : ℕ) → t < readBits c → y .value (base c i + readWire c t) ≡ z .value (base c i + readWire c t)
+  -- and the same read bits of a port where they are fed
+  reads-alike : (i : ℕ) → feedFault c y i ≡ false → (p : ℕ) → IsPort c p
+      → (fills c y i || (eqb i 0 && not (codeValue (replayed c y i) (port c p .RE)))) ≡ true
+      → (t : ℕ) → t < c .n → y .value (base c i + readWire c (port c p .firstRead + t)) ≡ z .value (base c i + readWire c (port c p .firstRead + t))
   unfolding feedFault fedUnclear
-  reads-alike i e r t h =
+  reads-alike i e p here r t h =
       let none = neither-true (anyBelow (c .inputs) (λ x. y .unclear (base c i + inputWire c x))) _ .0 e .1 in
-      let q = none-below (λ x. readUnclear c (y .unclear) i (fills c y i) (replayed c y i) (port c (suc x))) (ports c) .0 none 0 (omega arith) in
-      clear (base c i + readWire c t)
-      (rw (zero-add t) at (none-below (λ t. y .unclear (base c i + readWire c (0 + t))) (c .n) .0 (only (rw r at q)) t h))
+      let own : suc (p - 1) ≡ p = omega (arith, here .0) in
+      let q : readUnclear c (y .unclear) i (fills c y i) (replayed c y i) (port c p) ≡ false
+      = rw own at (none-below (λ x. readUnclear c (y .unclear) i (fills c y i) (replayed c y i) (port c (suc x))) (ports c) .0 none (p - 1) (omega (arith, here .0, here .1))) in
+      clear (base c i + readWire c (port c p .firstRead + t))
+      (none-below (λ t. y .unclear (base c i + readWire c (port c p .firstRead + t))) (c .n) .0 (only (rw r at q)) t h)
     where
       only : {b : Bool} → (true && b) ≡ false → b ≡ false
       only e = e
 
   -- RE in frame 0 is that of the replay, whatever the memory
-  RE-first : (words : ℕ → ℕ) → codeValue (replayed c y 0) (c .RE) ≡ codeValue (runFrom c y words 0) (c .RE)
+  RE-first : (words : ℕ → ℕ) (p : ℕ) → IsPort c p → codeValue (replayed c y 0) (port c p .RE) ≡ codeValue (runFrom c y words 0) (port c p .RE)
   unfolding run stateAt begunFrom
   RE-first words = RE-alike ok (begunFrom c y (startWords c y 1)) (begunFrom c y words) (feedOf c (y .value) 0) (feedOf c (y .value) 0) (λ l h. refl) (λ x h. refl)
 
+  -- the word that is said to be filled is the same
+  word-alike : (i : ℕ) → feedFault c y i ≡ false → fills c y i ≡ true → wordSaid c y i ≡ wordSaid c z i
+  unfolding wordSaid
+  word-alike i none f =
+      fromBits-same (c .n) (λ t. y .value (base c i + readWire c t)) (λ t. z .value (base c i + readWire c t))
+      (λ t h. let e : port c 1 .firstRead + t ≡ t = omega arith in rw e at (reads-alike i none 1 (first-port c) (rw f) t h))
+
   -- where no frame before has a fault, they are said alike
   pub said-alike : (i : ℕ) → ((j : ℕ) → j < i → feedFault c y j ≡ false) → SaidAlike c y z i
-  unfolding wordSaid idleOf
+  unfolding idleOf
   said-alike i none =
       record {
         inputs-said = λ j h. inputs-alike j (none j h);
-        words-said = λ j h f. fromBits-same (readBits c) (λ t. y .value (base c j + readWire c t)) (λ t. z .value (base c j + readWire c t)) (reads-alike j (none j h) (rw f));
-        idle-said = λ h words r. reads-alike 0 (none 0 h) (idle-fed (fills c y 0) (RE-first words ∙ r));
+        words-said = λ j h. word-alike j (none j h);
+        idle-said = λ h words p here r. reads-alike 0 (none 0 h) p here (idle-fed (fills c y 0) (RE-first words p here ∙ r));
       }
     where
-      idle-fed : (b : Bool) → codeValue (replayed c y 0) (c .RE) ≡ false → (b || (true && not (codeValue (replayed c y 0) (c .RE)))) ≡ true
+      idle-fed : (b : Bool) {reads : Bool} → reads ≡ false → (b || (true && not reads)) ≡ true
       idle-fed true e = refl
       idle-fed false e = rw e
 
@@ -76,7 +86,7 @@ module _ {c : Netlist} (ok : Accepted c) {y z : Said} (same : (v : ℕ) → y .u
       (any-same (c .inputs) (λ x h. same (base c i + inputWire c x)))
       (λ e. any-same (ports c) (λ x b.
       ap₂ _&&_
-      (ap₂ (λ b r. b || (eqb i 0 && not r)) (fills-said ok i q words (inputs-clear i e)) (RE-on ok y i ∙ RE-said ok i q words (inputs-clear i e) ∙ sym (RE-on ok z i)))
+      (ap₂ (λ b r. b || (eqb i 0 && not r)) (fills-said ok i q words (inputs-clear i e)) (RE-on ok y i (suc x) (omega arith, b) ∙ RE-said ok i q words (inputs-clear i e) (suc x) (omega arith, b) ∙ sym (RE-on ok z i (suc x) (omega arith, b))))
       (any-same (c .n) (λ t h. same (base c i + readWire c (port c (suc x) .firstRead + t))))))
     where
       by-inputs : {a b r r′ : Bool} (q : Bool) → a ≡ q → a ≡ b → (a ≡ false → r ≡ r′) → (a || r) ≡ (b || r′)

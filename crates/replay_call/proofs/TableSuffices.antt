@@ -8,12 +8,13 @@ use lib.Dec.{eqb}
 use lib.ListN.{length}
 use lib.IntN.{ℤ}
 use Rattle.model.specs.Search.{firstWhere, IsFirst}
-use Rattle.model.specs.Netlist.{Netlist, ports, port, readBits, inputWire, readWire, lastWire}
+use Rattle.model.specs.Netlist.{Netlist, ports, IsPort, port, inputWire, readWire, lastWire}
 use Rattle.model.specs.Circuit.{codeValue}
 use Rattle.model.specs.Acceptance.{Accepted, IsCode}
 use Rattle.model.specs.Variables.{base}
 use Rattle.model.specs.Claim.{feedOf, idleOf}
 use Rattle.model.proofs.Bits.{fromBits-same}
+use Rattle.model.proofs.Ports.{first-port, bit-within}
 use Rattle.model.proofs.Search.{firstWhere-is, first-unique}
 use Rattle.model.proofs.Gather.{gather-same}
 use Rattle.model.proofs.Variables.{base-suc, base-monotone, base-most}
@@ -34,7 +35,7 @@ use Rattle.circuit_step.proofs.Alike.{InputsAlike, StatesAlike, states-same}
 use Rattle.circuit_step.proofs.Touched.{any-same}
 use Rattle.replay_frame.specs.Replay.{Said, saidIn, wordSaid, startWords, replayed, replayedState, fedUnclear, feedFault, violates, firstViolation, frameLine, traceText}
 use Rattle.replay_frame.proofs.Replay.{line-same}
-use Rattle.replay_frame.proofs.SaidAlike.{SaidAlike, begun-alike, fills-said, words-alike, runs-alike}
+use Rattle.replay_frame.proofs.SaidAlike.{IdlesAlike, SaidAlike, begun-alike, fills-said, words-alike, runs-alike}
 use Rattle.replay_call.specs.ReplayCall.{replayTests, fedFault, runVerdict, outcome, wordsLeft, unlessRefused, replayAnswer, replayReply, replaySent, afterTests, replayMemory, traceAfter, replayTrace}
 use Rattle.replay_call.specs.Settled.{saidBy}
 use Rattle.replay_call.specs.Table.{TableSuffices}
@@ -68,18 +69,21 @@ module _ {c : Netlist} (ok : Accepted c) (k : ℕ) {y z : Said} (say : SayAlike 
   unfolding feedOf
   inputs i h x l = say .value-alike (base c i + inputWire c x) (within i (inputWire c x) h (omega arith))
 
-  idles : (t : ℕ) → t < readBits c → idleOf c (y .value) t ≡ idleOf c (z .value) t
+  reads-within : (i p : ℕ) → IsPort c p → (t : ℕ) → i ≤ k → t < c .n → base c i + readWire c (port c p .firstRead + t) ≤ base c (k + 1)
+  reads-within i p here t h l = within i (readWire c (port c p .firstRead + t)) h (omega (arith, bit-within c p here t l))
+
+  idles : (words : ℕ → ℕ) → IdlesAlike c y z words
   unfolding idleOf
-  idles t l = say .value-alike (base c 0 + readWire c t) (within 0 (readWire c t) (omega arith) (omega arith))
+  idles words p here r t l = say .value-alike (base c 0 + readWire c (port c p .firstRead + t)) (reads-within 0 p here t (omega arith) l)
 
   said-alike : (i : ℕ) → i ≤ k + 1 → SaidAlike c y z i
   unfolding wordSaid
   said-alike i h =
       record {
         inputs-said = λ j l. inputs j (omega arith);
-        words-said = λ j l f. fromBits-same (readBits c) (λ t. y .value (base c j + readWire c t)) (λ t. z .value (base c j + readWire c t))
-            (λ t b. say .value-alike (base c j + readWire c t) (within j (readWire c t) (omega arith) (omega arith)));
-        idle-said = λ l words r. idles;
+        words-said = λ j l f. fromBits-same (c .n) (λ t. y .value (base c j + readWire c t)) (λ t. z .value (base c j + readWire c t))
+            (λ t b. say .value-alike (base c j + readWire c t) (omega (arith, reads-within j 1 (first-port c) t (omega arith) b)));
+        idle-said = λ l. idles;
       }
 
   runs : (i : ℕ) → i ≤ k → (w : ℕ) → w ≤ lastWire c → replayed c y i w ≡ replayed c z i w
@@ -94,8 +98,8 @@ module _ {c : Netlist} (ok : Accepted c) (k : ℕ) {y z : Said} (say : SayAlike 
       any-same (k + 1) (λ i h.
       ap₂ _||_ (any-same (c .inputs) (λ x l. say .unclear-alike (base c i + inputWire c x) (within i (inputWire c x) (omega arith) (omega arith))))
       (any-same (ports c) (λ x b.
-      ap₂ _&&_ (ap₂ (λ b r. b || (eqb i 0 && not r)) (fills-said ok i (said-alike i (omega arith)) (words-alike ok i (said-alike i (omega arith))) (inputs i (omega arith))) (codes i (omega arith) (port c (suc x) .RE) (ok .limits .codes .RE-fits)))
-      (any-same (c .n) (λ t l. say .unclear-alike (base c i + readWire c (port c (suc x) .firstRead + t)) (within i (readWire c (port c (suc x) .firstRead + t)) (omega arith) (omega arith)))))))
+      ap₂ _&&_ (ap₂ (λ f r. f || (eqb i 0 && not r)) (fills-said ok i (said-alike i (omega arith)) (words-alike ok i (said-alike i (omega arith))) (inputs i (omega arith))) (codes i (omega arith) (port c (suc x) .RE) (ok .limits .codes .RE-fits (suc x) (omega arith, b))))
+      (any-same (c .n) (λ t l. say .unclear-alike (base c i + readWire c (port c (suc x) .firstRead + t)) (reads-within i (suc x) (omega arith, b) t (omega arith) l))))))
 
   first : firstViolation c y k ≡ firstViolation c z k
   unfolding firstViolation violates
@@ -112,7 +116,7 @@ module _ {c : Netlist} (ok : Accepted c) (k : ℕ) {y z : Said} (say : SayAlike 
   unfolding delivered
   words old =
       let states : StatesAlike c (feedOf c (y .value) (k + 1)) (replayedState c y (k + 1)) (replayedState c z (k + 1))
-      = states-same ok (feedOf c (y .value)) (feedOf c (z .value)) (begun-alike c y z (startWords c y (k + 1)) (startWords c z (k + 1)) (λ x b. words-alike ok (k + 1) (said-alike (k + 1) (omega arith)) x) (λ r. idles)) (k + 1) (λ j l. inputs j (omega arith)) in
+      = states-same ok (feedOf c (y .value)) (feedOf c (z .value)) (begun-alike c y z (startWords c y (k + 1)) (startWords c z (k + 1)) (λ x b. words-alike ok (k + 1) (said-alike (k + 1) (omega arith)) x) (idles (startWords c y (k + 1)))) (k + 1) (λ j l. inputs j (omega arith)) in
       rw (gather-same (2 ^ c .m) (λ t. replayedState c y (k + 1) .memory t ∷ []) (λ t. replayedState c z (k + 1) .memory t ∷ []) (λ t h. rw (states .memory-alike t h)))
 
   outcome-alike : (kind : AnswerKind) → outcome c k kind y ≡ outcome c k kind z
@@ -137,7 +141,7 @@ accepted-at c latchCount gateCount k words room h =
 -- the table says what the numbers say, of every variable of the file
 table-says : {c : Netlist} {k : ℕ} {ys : List ℤ} {signs : List ℕ} → SignsOf ys signs → Accepted c × (k ≤ 255) → SayAlike c k (saidIn signs) (saidBy ys)
 table-says {c} {k} {ys} {signs} is (ok, d) =
-    let most : base c (k + 1) ≤ 675841 = base-most c (ok .limits .sizes) (k + 1) (omega arith) in
+    let most : base c (k + 1) ≤ 1198081 = base-most c (ok .limits .sizes) (k + 1) (omega arith) in
     record {
       value-alike = λ v h. table-tells .true-is ys signs is v (omega arith);
       unclear-alike = λ v h. table-tells .unclear-is ys signs is v (omega arith);
