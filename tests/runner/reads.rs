@@ -198,7 +198,7 @@ fn longest(tally: &mut Tally, library: &Library) {
     let rows = [
         (one.clone(), ACCEPTED),
         (two.clone(), ACCEPTED),
-        // What was 1 at 0 while no sheet had more than 615 lines.
+        // A line too many is one while the file is no longer than a sheet may be.
         ([&one[..], &line].concat(), (OUT_OF_ORDER, 616)),
         ([&one[..], &[b'?'; LINE_BYTES]].concat(), (MISPRINT, 616)),
         ([&one[..], &line.repeat(12)].concat(), (OUT_OF_ORDER, 616)),
