@@ -666,7 +666,7 @@ fn reads_hold(netlist: &Netlist, run: &Run, port: u32) -> bool {
 
 /// Each fault, and which checks are to notice it on T netlists: demand 3's first half, its second half,
 /// the lengths, the heading, and the numbers of the whole. The first seven are those of one port.
-const FAULTS: [(Fault, [bool; 5]); 16] = [
+const FAULTS: [(Fault, [bool; 5]); 20] = [
     (Fault::OwnFrameWrite, [true, true, true, true, true]),
     (Fault::OldestWrite, [true, true, true, false, true]),
     (Fault::ReaderWriteEnable, [true, true, false, false, true]),
@@ -675,15 +675,20 @@ const FAULTS: [(Fault, [bool; 5]); 16] = [
     (Fault::HolderReadEnable, [true, true, false, false, true]),
     (Fault::NewestPairCounted, [false, false, true, true, false]),
     (Fault::SecondAddressWrites, [true, true, true, true, true]),
+    (Fault::WriteBySecondAddress, [true, true, true, true, true]),
     (Fault::SecondPortReadsFirst, [true, true, true, true, true]),
     (Fault::FirstReadEnable, [true, true, true, true, true]),
+    // A port that is to read nothing, or to hold its word, finds no assignment; nothing wrong is let in.
+    (Fault::FirstEnableInChain, [false, true, true, true, true]),
     (Fault::FirstWordHeld, [true, true, false, false, true]),
+    (Fault::HeldWordsExchanged, [true, true, false, false, true]),
     // The closing's last clause still asks for a selected write or the start: nothing wrong is let in.
     (Fault::FirstUntouched, [false, true, true, true, true]),
     (Fault::FirstPending, [false, true, false, false, true]),
     (Fault::SecondPortOmitted, [true, false, false, true, true]),
     (Fault::SecondPortBehind, [false, false, false, false, true]),
     (Fault::PortByPort, [false, false, false, false, true]),
+    (Fault::PortsExchanged, [false, false, false, false, true]),
 ];
 
 pub fn faults(tally: &mut Tally) {
