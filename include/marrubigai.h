@@ -19,8 +19,8 @@
 /* the version of this interface: the first number goes up where a program that was written for the version before has to be changed, the
  * second where something is added; while the first is 0, the second goes up for both */
 #define MARRUBIGAI_VERSION_MAJOR 0
-#define MARRUBIGAI_VERSION_MINOR 8
-#define MARRUBIGAI_VERSION "0.8"
+#define MARRUBIGAI_VERSION_MINOR 9
+#define MARRUBIGAI_VERSION "0.9"
 
 #if defined(__GNUC__) /* Clang says so too */
 #define MARRUBIGAI_ANSWERS __attribute__((warn_unused_result))
@@ -34,12 +34,13 @@
 extern "C" {
 #endif
 
-/* limits: what is above them is refused; the least m and n is 1 */
+/* limits: what is above them is refused, and the last follows from the others; the least m and n is 1 */
 enum marrubigai_limit {
   MARRUBIGAI_MOST_DEPTH = 255,
-  MARRUBIGAI_MOST_ADDRESS_BITS = 12, /* m */
-  MARRUBIGAI_MOST_DATA_BITS = 32,    /* n */
-  MARRUBIGAI_MOST_WIRES = 600        /* inputs, latches and gates each, and with the n read bits all together */
+  MARRUBIGAI_MOST_ADDRESS_BITS = 12,  /* m */
+  MARRUBIGAI_MOST_DATA_BITS = 32,     /* n */
+  MARRUBIGAI_MOST_WIRES = 600,        /* inputs, latches and gates each, and with the n read bits of each port all together */
+  MARRUBIGAI_MOST_VARIABLES = 1198081 /* of a formula; with one port 675,841 */
 };
 
 /* 2 x wire, plus 1 for the inverted wire; 0 is false, 1 is true */
@@ -49,8 +50,10 @@ typedef struct {
   uint32_t inputs, latches, gates;
   uint32_t m, n, initial_word; /* address width, data width, what every word starts as */
   uint32_t unknown_start; /* 0, or 1: each word starts as anything, each by itself, and initial_word is not looked at; above 1 is refused */
+  uint32_t second_port; /* 0, or 1: a second read port, whose n read bits follow the first's; above 1 is refused, and 1 beside an unknown start */
   marrubigai_code address[MARRUBIGAI_MOST_ADDRESS_BITS], write_data[MARRUBIGAI_MOST_DATA_BITS]; /* bit 0 first; those past the widths are ignored */
   marrubigai_code we, re, p; /* write enable, read enable, property */
+  marrubigai_code address2[MARRUBIGAI_MOST_ADDRESS_BITS], re2; /* where the second port reads, and its read enable; ignored where there is none: only `address` writes */
 } marrubigai_netlist;
 
 typedef struct { marrubigai_code next; uint32_t reset; } marrubigai_latch;
@@ -66,7 +69,7 @@ typedef struct { uint32_t depth, frame, base; } marrubigai_position; /* a runnin
 typedef struct { uint32_t number, place; marrubigai_position position; } marrubigai_position_reply;
 typedef struct { uint32_t number, place; int32_t literal; } marrubigai_literal_reply;
 typedef struct { uint32_t number, place, claimed, first; } marrubigai_replay_reply; /* claimed: 1 where the answer claims to be unsatisfiable */
-typedef struct { uint32_t end, kind, j, i; } marrubigai_group_reply; /* end: 1 where no group follows, and the others are then 0 */
+typedef struct { uint32_t end, kind, j, i, port; } marrubigai_group_reply; /* end: 1 where no group follows; what does not apply is 0 */
 typedef struct { uint32_t major, minor; } marrubigai_version_reply;
 
 /* a refusal's number */
@@ -99,7 +102,7 @@ enum marrubigai_way { MARRUBIGAI_START = 0, MARRUBIGAI_ON = 1, MARRUBIGAI_BACK =
 
 /* room that is always enough */
 enum marrubigai_room {
-  MARRUBIGAI_SHEET_BYTES = 19680, /* no sheet has more */
+  MARRUBIGAI_SHEET_BYTES = 20064, /* no sheet has more; with one port 19,680 */
   MARRUBIGAI_LIST_ROOM = 600,     /* latches or gates */
   MARRUBIGAI_GROUP_ROOM = 5992,   /* numbers of a group */
   MARRUBIGAI_HEADER_BYTES = 28,   /* what put_header writes, or put_refusal */
@@ -147,35 +150,39 @@ MARRUBIGAI_ANSWERS marrubigai_version_reply marrubigai_version(void);
 MARRUBIGAI_LENT marrubigai_sheet_reply marrubigai_read(const uint8_t *file, size_t bytes, marrubigai_latch *latches, size_t latch_room,
     marrubigai_gate *gates, size_t gate_room);
 
-/* imports a netlist in ASCII AIGER, for a memory of m address bits and n data bits whose words all start as `word`, or as anything where
- * `unknown` is 1 (`word` then counts for nothing; a number above 1 is refused): the last n inputs of the text are the read bits, in order from
- * bit 0; its outputs are the m address bits, the n write-data bits, write enable, read enable and the property, m + n + 3 in all. Record and
- * lists as where a sheet is read; every latch has reset 0. No order or name of inputs is tested beyond their number: docs/LIBRARY.md says what to
- * look at in a text that a tool has written.
+/* imports a netlist in ASCII AIGER, for a memory with one port, of m address bits and n data bits, whose words all start as `word`, or as
+ * anything where `unknown` is 1 (`word` then counts for nothing; a number above 1 is refused): the last n inputs of the text are the read bits,
+ * in order from bit 0; its outputs are the m address bits, the n write-data bits, write enable, read enable and the property, m + n + 3 in all.
+ * Record and lists as where a sheet is read; every latch has reset 0. No order or name of inputs is tested beyond their number: docs/LIBRARY.md
+ * says what to look at in a text that a tool has written.
  * Its time: the text is gone through for each block of 262,144 variables that its lines name, 8,192 blocks at most. 1 MB as tools write it, with
  * the variables 1 to M, takes some 10 ms; 1 MB with variables all over the 2^31, the worst known, took 45 s. */
 MARRUBIGAI_LENT marrubigai_sheet_reply marrubigai_import(const uint8_t *text, size_t bytes, uint32_t m, uint32_t n, uint32_t word,
     uint32_t unknown, marrubigai_latch *latches, size_t latch_room, marrubigai_gate *gates, size_t gate_room);
 
-/* the line behind the first `line` lines of a sheet: its letter, its fields (0 where one is empty), 1 as `empty` where it is an M line whose
- * start word is left empty, and how many lines are read with it, one more. Where it is misprinted, 2 with its place, line + 1, and it is read
- * too: letter and fields are 0, and `line` is the place. Where there is none (missing, cut short, or behind 615 lines, the most that a sheet
- * has), number and letter are 0 and the line number is `line` itself. */
+/* the line behind the first `line` lines of a sheet: its letter, its fields (0 where one is empty), 1 as `empty` where it is an M or T line
+ * whose start word is left empty, and how many lines are read with it, one more. Where it is misprinted, 2 with its place, line + 1, and it is
+ * read too: letter and fields are 0, and `line` is the place. Where there is none (missing, cut short, or behind 627 lines, the most that a
+ * sheet has), number and letter are 0 and the line number is `line` itself. */
 MARRUBIGAI_LENT marrubigai_line_reply marrubigai_next_line(const uint8_t *file, size_t bytes, uint32_t line);
 
 /* how many variables and clauses the formula of a depth has */
 MARRUBIGAI_LENT marrubigai_heading_reply marrubigai_heading(marrubigai_netlist net, const marrubigai_latch *latches, size_t latch_count,
     const marrubigai_gate *gates, size_t gate_count, uint32_t depth);
 
-/* writes the clauses of one group, each ended by 0, and answers how many numbers that is: wires or closing of frame i, pair (j, i),
- * or the property; j counts only for a pair, and i not for the property. Only the property's numbers depend on the depth: not P of frames
- * 0 to depth, and 0. Constants are left out: where P is code 0 there are none, where it is code 1 they are -1 and 0. */
+/* writes the clauses of one group, each ended by 0, and answers how many numbers that is: the wires of frame i, the pair (j, i) or the closing
+ * of frame i of a port (1, or 2 where there is a second), or the property; j counts only for a pair, i not for the property, and the port only
+ * for a pair and a closing. Only the property's numbers depend on the depth: not P of frames 0 to depth, and 0. Constants are left out: where P
+ * is code 0 there are none, where it is code 1 they are -1 and 0. */
 MARRUBIGAI_LENT marrubigai_count_reply marrubigai_write_group(marrubigai_netlist net, const marrubigai_latch *latches, size_t latch_count,
-    const marrubigai_gate *gates, size_t gate_count, uint32_t depth, uint32_t kind, uint32_t j, uint32_t i, int32_t *out, size_t room);
+    const marrubigai_gate *gates, size_t gate_count, uint32_t depth, uint32_t kind, uint32_t j, uint32_t i, uint32_t port, int32_t *out,
+    size_t room);
 
-/* the group that follows one in the order of the whole at a depth, which begins with the wires of frame 0: kind MARRUBIGAI_WIRES, j 0 and i 0.
- * Behind the property, and behind what is no group of the depth, comes the end. j counts only for a pair, and i not for the property. */
-MARRUBIGAI_ANSWERS marrubigai_group_reply marrubigai_next_group(uint32_t depth, uint32_t kind, uint32_t j, uint32_t i);
+/* the group that follows one in the order of the whole at a depth with so many ports (second_port + 1), which begins with the wires of frame 0:
+ * kind MARRUBIGAI_WIRES and zeros. Behind the property, behind what is no group of the depth, and where the number of ports is neither 1 nor 2,
+ * comes the end. j, i and port count as in marrubigai_write_group. */
+MARRUBIGAI_ANSWERS marrubigai_group_reply marrubigai_next_group(uint32_t depth, uint32_t ports, uint32_t kind, uint32_t j, uint32_t i,
+    uint32_t port);
 
 /* moves a running record, which the caller keeps: to frame 0 of its depth (START: frame and base are not looked at), one frame on, or back to frame
  * 0. The base is then that of the frame. A refused start answers zeros; another refused move answers the record as it was handed in, and so does a
@@ -185,23 +192,24 @@ MARRUBIGAI_LENT marrubigai_position_reply marrubigai_move(marrubigai_netlist net
 
 /* the group of a running record's frame: what marrubigai_write_group writes and answers for its depth and frame, after the test of its base */
 MARRUBIGAI_LENT marrubigai_count_reply marrubigai_write_group_at(marrubigai_netlist net, const marrubigai_latch *latches, size_t latch_count,
-    const marrubigai_gate *gates, size_t gate_count, marrubigai_position position, uint32_t kind, uint32_t j, int32_t *out, size_t room);
+    const marrubigai_gate *gates, size_t gate_count, marrubigai_position position, uint32_t kind, uint32_t j, uint32_t port, int32_t *out,
+    size_t room);
 
 /* the literal of a code in a running record's frame, as it stands in clauses: a variable's number, negative where it is inverted; 1 where the
  * code is true, -1 where it is false. That of the code `net.p ^ 1` is the literal of not-P. The lists have no part in it. */
 MARRUBIGAI_ANSWERS marrubigai_literal_reply marrubigai_literal_at(marrubigai_netlist net, marrubigai_position position, marrubigai_code code);
 
-/* writes the one sheet that stands for a record with its lists, and answers its length, 32 x (latches + gates + m + n + 3) bytes: 9 where the
- * buffer is shorter. marrubigai_read of it gives the same record and lists in all entries that are used, and a sheet that was read is written
- * as the same bytes. */
+/* writes the one sheet that stands for a record with its lists, and answers its length, 32 x (latches + gates + m + n + 3) bytes, and with a
+ * second port 32 x (m + 1) more: 9 where the buffer is shorter. marrubigai_read of it gives the same record and lists in all entries that are
+ * used, and a sheet that was read is written as the same bytes. */
 MARRUBIGAI_LENT marrubigai_count_reply marrubigai_write_sheet(marrubigai_netlist net, const marrubigai_latch *latches, size_t latch_count,
     const marrubigai_gate *gates, size_t gate_count, uint8_t *out, size_t room);
 
-/* runs a solver's answer, in the SAT Competition's output form, through the frames 0 to depth. Only the inputs are taken from it, and the read
- * bits of frame 0 where that does not read; from an unknown start also the read bits of a frame that reads a word which no earlier frame read or
- * wrote: they are this word at first, and a word that no frame reads or writes is 0. The chip is stepped with its whole memory, the first 2^m words
- * lent, whatever they hold. `first` is then the first frame that breaks the property, and the trace holds for each frame a line of V digits 0 or 1,
- * wire 1 first: (depth + 1)(V + 1) bytes.
+/* runs a solver's answer, in the SAT Competition's output form, through the frames 0 to depth. Only the inputs are taken from it, and of each
+ * port the read bits of frame 0 where it does not read there; from an unknown start also the read bits of a frame that reads a word which no
+ * earlier frame read or wrote: they are this word at first, and a word that no frame reads or writes is 0. The chip is stepped with its whole
+ * memory, the first 2^m words lent, whatever they hold. `first` is then the first frame that breaks the property, and the trace holds for each
+ * frame a line of V digits 0 or 1, wire 1 first: (depth + 1)(V + 1) bytes.
  * Where the answer is `s UNSATISFIABLE`, claimed is 1 and nothing was written. 14 where it is malformed, or gives something that the run is fed no
  * value or both; 15 where the run breaks nothing; 9 where memory or trace are shorter than their need, tested before the answer counts. After 14 the
  * first 2^m words are 0; after 15, and where a frame is answered, they are the chip's after frame `depth`; after any other refusal they are as they

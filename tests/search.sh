@@ -43,7 +43,15 @@ done
 { line N 0 0 0; line M 1 1 0; line A 0; line D 0; line C 0 0 0; } > "$work/false.sheet"
 { line N 0 1 0; line M 1 1 0; line L 0 0; line A 0; line D 0; line C 0 3 0; } > "$work/reading.sheet" # RE is an inverted latch
 { line N 0 0 0; line M 1 1 0; line A 0; line D 0; line C 0 0 1; } > "$work/true.sheet"
+# two ports: from frame 2 on a 1 is written to address 0, and the second port reads address 0, or address 1
+two_ports() { line N 0 2 0; line T 1 1 0; line L 1 0; line L 2 0; line A 0; line D 1; line B "$1"; line R 1; line C 4 0 9; }
+two_ports 0 > "$work/second.sheet"
+two_ports 1 > "$work/never.sheet"
 for depth in 3 4 255; do check "the chain to depth $depth" agree "$work/chain.sheet" "$depth"; done
+for depth in 2 3 12; do
+  check "two ports to depth $depth" agree "$work/second.sheet" "$depth"
+  check "two ports to depth $depth, where nothing is broken" agree "$work/never.sheet" "$depth"
+done
 ends() { # what, status, printed, arguments ..
   local what=$1 status=$2 printed=$3
   shift 3
@@ -53,6 +61,8 @@ ends() { # what, status, printed, arguments ..
 ends "the chain" 10 "$work/chain.sheet: the property is broken in frame 4 at the earliest" "$work/chain.sheet" 255
 ends "a property that is false" 10 "$work/false.sheet: the property is broken in frame 0 at the earliest" "$work/false.sheet" 0
 ends "a property that is false in a chip that reads" 10 "$work/reading.sheet: the property is broken in frame 0 at the earliest" "$work/reading.sheet" 3
+ends "a second port" 10 "$work/second.sheet: the property is broken in frame 3 at the earliest" "$work/second.sheet" 12
+ends "a second port that reads what is never written" 20 "$work/never.sheet: no run breaks the property in frames 0 to 12" "$work/never.sheet" 12
 ends "a property that is true" 20 "$work/true.sheet: no run breaks the property in frames 0 to 255" "$work/true.sheet" 255
 
 said() { check "$1: said" [ "$(head -n 1 "$work/said")" = "$2" ]; }
@@ -65,7 +75,7 @@ said "depth 256" "refused 7 at 0"
 line C 0 0 1 >> "$work/true.sheet"
 ends "a line too many" 1 "" "$work/true.sheet" 1
 said "a line too many" "refused 3 at 6"
-for _ in $(seq 616); do line C 0 0 1; done > "$work/long.sheet"
+for _ in $(seq 628); do line C 0 0 1; done > "$work/long.sheet"
 ends "a sheet that is too long" 1 "" "$work/long.sheet" 1
 said "a sheet that is too long" "refused 1 at 0"
 

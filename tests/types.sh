@@ -63,7 +63,7 @@ lists='latches|gates|codes|latch_codes|gate_codes|list'
 # Where a wire's or a code's place in a table is taken.
 tables='crates/circuit_values/src/lib.rt crates/netlist_tests/src/lib.rt'
 # By how much a wire is moved on: one latch, read bit or gate, one more, all latches, all read bits.
-offsets='l|read + t|g|1|net.latches|net.n'
+offsets='l|read + t|g|1|net.latches|read_count(net)'
 
 # One check for each place that a rule looks at: a signature, a statement, a list, a table's place, a wire moved on, a name given anew.
 apart() { # files
@@ -126,7 +126,7 @@ apart() { # files
         verdict(code !~ / as [iu](8|16|32|64|128)[^0-9]/ && code !~ /-> [^{]*usize/ && code !~ /&mut [^,)]*usize/, "a place in a table does not stay one")
       }
       rest = code
-      while (match(rest, /\.offset\([^)]*\)/)) {
+      while (match(rest, /\.offset\(([^()]|\([^()]*\))*\)/)) {
         argument = substr(rest, RSTART + 8, RLENGTH - 9); rest = substr(rest, RSTART + RLENGTH)
         verdict(index(offsets, "|" argument "|"), ".offset(" argument ")")
       }
@@ -139,7 +139,7 @@ apart() { # files
       signatures()
       if (inside) constructors()
       else { statements(); named(); places() }
-      verdict(code !~ /[^A-Za-z0-9_](code|wire|next|left|right|we|re|p): u32[^0-9]/, "a code or a wire as a plain number")
+      verdict(code !~ /[^A-Za-z0-9_](code|wire|next|left|right|we|re|re2|p): u32[^0-9]/, "a code or a wire as a plain number")
       verdict(code !~ /(Wire|Code|Lit) (as |\{ ?0)/ && code !~ /= (literals::)?(Wire|Code|Lit) ?;/, "one of the types by another name")
     }
     BEGIN {
@@ -199,6 +199,7 @@ fn f(w: Wire) -> bool { let mut codes = [0; 1]; codes[0] = w.0; is_above(Code(co
 fn f(x: u32) -> Code { Code(x) }
 pub extern "C" fn f(net: Netlist, code: u32) -> LiteralReply { g(net) }
 pub struct Latch { pub next: u32, pub reset: u32 }
+pub struct Netlist { pub address2: [Code; 12], pub re2: u32 }
 fn f(x: i32) -> Lit { Lit(x) }
 fn f(w: Wire) -> u32 { let Wire(x) = w; x }
 fn f(t: Term) -> Wire { first().offset(1) }
@@ -213,6 +214,7 @@ fn f(net: Netlist, b: u32) -> Term { Term::in_pair(b, net.we.wire_index() as u32
 fn f(net: Netlist, gates: &UnpackedList) -> Wire { let x = gates[0] / 2; netlist::first_read_wire(net).offset(x) }
 fn f(net: Netlist, gates: &UnpackedList) -> Wire { let g = gates[0] / 2; netlist::first_read_wire(net).offset(g) }
 fn f(net: Netlist, x: u32) -> Wire { netlist::first_read_wire(net).offset(x / 2) }
+fn f(net: Netlist, x: u32) -> Wire { netlist::first_read_wire(net).offset(read_count(net) + x) }
 fn f(numbers: &UnpackedList) -> u32 { numbers[0] }
 fn f(gates: &UnpackedList) -> u32 { let numbers = gates; numbers[0] }
 use literals::Wire as W;

@@ -41,19 +41,20 @@ static marrubigai_position moved(marrubigai_position position, uint32_t way) {
   return reply.position;
 }
 
-static void add_group(CCaDiCaL *solver, marrubigai_position position, uint32_t kind, uint32_t j) {
-  marrubigai_count_reply reply =
-      marrubigai_write_group_at(net, latches, net.latches, gates, net.gates, position, kind, j, numbers, MARRUBIGAI_GROUP_ROOM);
+static void add_group(CCaDiCaL *solver, marrubigai_position position, marrubigai_group_reply group) {
+  marrubigai_count_reply reply = marrubigai_write_group_at(net, latches, net.latches, gates, net.gates, position, group.kind, group.j,
+                                                           group.port, numbers, MARRUBIGAI_GROUP_ROOM);
   test(reply.number, reply.place);
   for (size_t t = 0; t < reply.count; t++) ccadical_add(solver, numbers[t]); // each clause ends in 0, as the solver wants it
 }
 
 // the groups of the record's frame: from its wires on, in the order of the whole
 static void add_frame(CCaDiCaL *solver, marrubigai_position position) {
+  const uint32_t ports = net.second_port + 1;
   marrubigai_group_reply group = {.kind = MARRUBIGAI_WIRES, .i = position.frame};
   while (group.kind != MARRUBIGAI_PROPERTY && group.i == position.frame) {
-    add_group(solver, position, group.kind, group.j);
-    group = marrubigai_next_group(position.depth, group.kind, group.j, group.i);
+    add_group(solver, position, group);
+    group = marrubigai_next_group(position.depth, ports, group.kind, group.j, group.i, group.port);
   }
 }
 

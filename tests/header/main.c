@@ -1,5 +1,5 @@
-// include/marrubigai.h against the static library: the layout of every struct, and each exported function on two sheets and at
-// refusals. What is expected was worked out by hand from docs/RULES.md. The last line is 'N passed, M failed'.
+// include/marrubigai.h against the static library: the layout of every struct, and each exported function on two M sheets, two T sheets
+// and at refusals. What is expected was worked out by hand from docs/RULES.md. The last line is 'N passed, M failed'.
 // Build: cc -std=c11 main.c -L FOLDER -lmarrubigai
 
 #include <stdio.h>
@@ -11,7 +11,7 @@
 #define FIELD(type, field, at) _Static_assert(offsetof(type, field) == (at), #type "." #field)
 
 SIZE(marrubigai_code, 4);
-SIZE(marrubigai_netlist, 216);
+SIZE(marrubigai_netlist, 272);
 FIELD(marrubigai_netlist, inputs, 0);
 FIELD(marrubigai_netlist, latches, 4);
 FIELD(marrubigai_netlist, gates, 8);
@@ -19,11 +19,14 @@ FIELD(marrubigai_netlist, m, 12);
 FIELD(marrubigai_netlist, n, 16);
 FIELD(marrubigai_netlist, initial_word, 20);
 FIELD(marrubigai_netlist, unknown_start, 24);
-FIELD(marrubigai_netlist, address, 28);
-FIELD(marrubigai_netlist, write_data, 76);
-FIELD(marrubigai_netlist, we, 204);
-FIELD(marrubigai_netlist, re, 208);
-FIELD(marrubigai_netlist, p, 212);
+FIELD(marrubigai_netlist, second_port, 28);
+FIELD(marrubigai_netlist, address, 32);
+FIELD(marrubigai_netlist, write_data, 80);
+FIELD(marrubigai_netlist, we, 208);
+FIELD(marrubigai_netlist, re, 212);
+FIELD(marrubigai_netlist, p, 216);
+FIELD(marrubigai_netlist, address2, 220);
+FIELD(marrubigai_netlist, re2, 268);
 SIZE(marrubigai_latch, 8);
 FIELD(marrubigai_latch, next, 0);
 FIELD(marrubigai_latch, reset, 4);
@@ -39,7 +42,7 @@ FIELD(marrubigai_heading_reply, number, 0);
 FIELD(marrubigai_heading_reply, place, 4);
 FIELD(marrubigai_heading_reply, variables, 8);
 FIELD(marrubigai_heading_reply, clauses, 12);
-SIZE(marrubigai_sheet_reply, 224);
+SIZE(marrubigai_sheet_reply, 280);
 FIELD(marrubigai_sheet_reply, number, 0);
 FIELD(marrubigai_sheet_reply, place, 4);
 FIELD(marrubigai_sheet_reply, net, 8);
@@ -69,11 +72,12 @@ FIELD(marrubigai_replay_reply, number, 0);
 FIELD(marrubigai_replay_reply, place, 4);
 FIELD(marrubigai_replay_reply, claimed, 8);
 FIELD(marrubigai_replay_reply, first, 12);
-SIZE(marrubigai_group_reply, 16);
+SIZE(marrubigai_group_reply, 20);
 FIELD(marrubigai_group_reply, end, 0);
 FIELD(marrubigai_group_reply, kind, 4);
 FIELD(marrubigai_group_reply, j, 8);
 FIELD(marrubigai_group_reply, i, 12);
+FIELD(marrubigai_group_reply, port, 16);
 SIZE(marrubigai_version_reply, 8);
 FIELD(marrubigai_version_reply, major, 0);
 FIELD(marrubigai_version_reply, minor, 4);
@@ -135,6 +139,37 @@ static const marrubigai_netlist DISTINCT_NET = {
 static const marrubigai_latch DISTINCT_LATCHES[] = {{.next = 22, .reset = 1}, {.next = 17, .reset = 0}};
 static const marrubigai_gate DISTINCT_GATES[] = {{.left = 21, .right = 3}};
 
+// the chip of the full run with a second port, which reads address 1, where nothing is written: read bits are wires 2 and 3
+static const marrubigai_netlist TWO_PORTS = {
+    .inputs = 1, .m = 1, .n = 1, .second_port = 1, .write_data = {2}, .we = 1, .re = 1, .p = 5, .address2 = {1}, .re2 = 1};
+
+// the same latches and gate with a second port: read bits are wires 6 to 10 and 11 to 15, the gate is wire 16
+static const char DISTINCT_TWO[] =
+    LINE("N", "         3", "         2", "         1")
+    LINE("T", "         4", "         5", "         6")
+    LINE("L", "        22", "         1", EMPTY)
+    LINE("L", "        17", "         0", EMPTY)
+    LINE("G", "        21", "         3", EMPTY)
+    LINE("A", "         8", EMPTY, EMPTY)
+    LINE("A", "         5", EMPTY, EMPTY)
+    LINE("A", "         7", EMPTY, EMPTY)
+    LINE("A", "        10", EMPTY, EMPTY)
+    LINE("D", "        12", EMPTY, EMPTY)
+    LINE("D", "        24", EMPTY, EMPTY)
+    LINE("D", "        26", EMPTY, EMPTY)
+    LINE("D", "        28", EMPTY, EMPTY)
+    LINE("D", "        30", EMPTY, EMPTY)
+    LINE("B", "         9", EMPTY, EMPTY)
+    LINE("B", "         2", EMPTY, EMPTY)
+    LINE("B", "         4", EMPTY, EMPTY)
+    LINE("B", "         6", EMPTY, EMPTY)
+    LINE("R", "         3", EMPTY, EMPTY)
+    LINE("C", "        33", "        11", "        13");
+
+static const marrubigai_netlist DISTINCT_TWO_NET = {
+    .inputs = 3, .latches = 2, .gates = 1, .m = 4, .n = 5, .initial_word = 6, .second_port = 1,
+    .address = {8, 5, 7, 10}, .write_data = {12, 24, 26, 28, 30}, .we = 33, .re = 11, .p = 13, .address2 = {9, 2, 4, 6}, .re2 = 3};
+
 // lists that a chip without latches and gates lends with length 0, and lists that a sheet is read into
 enum { ROOM = 4 };
 static marrubigai_latch latches[ROOM];
@@ -190,6 +225,23 @@ static void reading(void) {
         answers_sheet(read_text(DISTINCT, bytes, ROOM, ROOM), MARRUBIGAI_PASSED, 0, &DISTINCT_NET) &&
             lists_hold(DISTINCT_LATCHES, 2, DISTINCT_GATES, 1));
   check("lists of exactly the sizes", answers_sheet(read_text(DISTINCT, bytes, 2, 1), MARRUBIGAI_PASSED, 0, &DISTINCT_NET));
+  const size_t longer = sizeof DISTINCT_TWO - 1;
+  check("so is every field of a record with a second port",
+        answers_sheet(read_text(DISTINCT_TWO, longer, ROOM, ROOM), MARRUBIGAI_PASSED, 0, &DISTINCT_TWO_NET) &&
+            lists_hold(DISTINCT_LATCHES, 2, DISTINCT_GATES, 1));
+  char changed[sizeof DISTINCT_TWO];
+  memcpy(changed, DISTINCT_TWO, sizeof changed);
+  memset(changed + 32 + 21, ' ', 10);
+  check("a second port with an empty start word gives 4 at line 2",
+        answers_sheet(read_text(changed, longer, ROOM, ROOM), MARRUBIGAI_SIZE, 2, &nothing));
+  memcpy(changed, DISTINCT_TWO, sizeof changed);
+  changed[32] = 'M'; // then read bits are wires 6 to 10, the gate is wire 11, and code 23 is the largest
+  check("the letter M for its T gives 5 at the second line of its write data",
+        answers_sheet(read_text(changed, longer, ROOM, ROOM), MARRUBIGAI_CODE, 11, &nothing));
+  memcpy(changed, DISTINCT_TWO, 14 * 32);
+  memcpy(changed + 14 * 32, DISTINCT_TWO + 19 * 32, 32);
+  check("without its B and R lines it gives 3 at the C line",
+        answers_sheet(read_text(changed, 15 * 32, ROOM, ROOM), MARRUBIGAI_OUT_OF_ORDER, 15, &nothing));
   check("a latch list too short gives 9, place 0",
         answers_sheet(read_text(DISTINCT, bytes, 1, ROOM), MARRUBIGAI_NO_ROOM, 0, &nothing) && lists_hold(0, 0, 0, 0));
   check("a gate list too short gives 9, place 0",
@@ -303,6 +355,9 @@ static void lines(void) {
   check("behind the last line there is none", answers_line(15, (marrubigai_line_reply){0, 0, 0, 0, 0, 0, 0, 15}));
   check("a line cut short is none",
         answers_line_of(DISTINCT, bytes - 1, 14, (marrubigai_line_reply){0, 0, 0, 0, 0, 0, 0, 14}));
+  check("the line of two ports", answers_line_of(DISTINCT_TWO, sizeof DISTINCT_TWO - 1, 1, (marrubigai_line_reply){0, 0, 'T', 4, 5, 6, 0, 2}));
+  check("a second address bit", answers_line_of(DISTINCT_TWO, sizeof DISTINCT_TWO - 1, 14, (marrubigai_line_reply){0, 0, 'B', 9, 0, 0, 0, 15}));
+  check("the second read enable", answers_line_of(DISTINCT_TWO, sizeof DISTINCT_TWO - 1, 18, (marrubigai_line_reply){0, 0, 'R', 3, 0, 0, 0, 19}));
   check("the greatest line number stays", answers_line(UINT32_MAX, (marrubigai_line_reply){0, 0, 0, 0, 0, 0, 0, UINT32_MAX}));
 }
 
@@ -316,6 +371,38 @@ static void headings(void) {
   // B(3) = 1 + 3 x 11 + 8 x 3; wires 6 and 2 x 7, pairs 3 x 36, closings 6 and 2 x 16, property 1
   check("depth 2 of the other: 58 variables, 167 clauses",
         answers_heading(marrubigai_heading(DISTINCT_NET, DISTINCT_LATCHES, 2, DISTINCT_GATES, 1, 2), MARRUBIGAI_PASSED, 0, 58, 167));
+  check("depth 1 of two ports: 17 variables, 28 clauses",
+        answers_heading(marrubigai_heading(TWO_PORTS, latches, 0, gates, 0, 1), MARRUBIGAI_PASSED, 0, 17, 28));
+  // B(3) = 1 + 3 x 16 + 2 x 8 x 3; wires 6 and 2 x 7, pairs 3 x 2 x 36, closings 2 x 6 and 2 x 2 x 16, property 1
+  check("depth 2 of the other with two: 97 variables, 313 clauses",
+        answers_heading(marrubigai_heading(DISTINCT_TWO_NET, DISTINCT_LATCHES, 2, DISTINCT_GATES, 1, 2), MARRUBIGAI_PASSED, 0, 97, 313));
+  marrubigai_netlist port = TWO_PORTS;
+  port.second_port = 2;
+  check("a second_port of 2 gives 4 at line 2", answers_heading(marrubigai_heading(port, latches, 0, gates, 0, 1), MARRUBIGAI_SIZE, 2, 0, 0));
+  port.second_port = UINT32_MAX;
+  check("so does the greatest number", answers_heading(marrubigai_heading(port, latches, 0, gates, 0, 1), MARRUBIGAI_SIZE, 2, 0, 0));
+  port.second_port = port.unknown_start = 1;
+  check("so does an unknown start beside it", answers_heading(marrubigai_heading(port, latches, 0, gates, 0, 1), MARRUBIGAI_SIZE, 2, 0, 0));
+  port = TWO_PORTS;
+  port.address2[0] = 4;
+  port.re2 = port.re = 6;
+  check("the first port's read bit as the second's address gives 6 at the B line",
+        answers_heading(marrubigai_heading(port, latches, 0, gates, 0, 1), MARRUBIGAI_MEMORY_LOOP, 5, 0, 0));
+  port.address2[0] = 1;
+  check("a read bit as both read enables gives 6 at the R line",
+        answers_heading(marrubigai_heading(port, latches, 0, gates, 0, 1), MARRUBIGAI_MEMORY_LOOP, 6, 0, 0));
+  port.re2 = 1;
+  check("the second port's read bit as the first's read enable gives 6 at the C line",
+        answers_heading(marrubigai_heading(port, latches, 0, gates, 0, 1), MARRUBIGAI_MEMORY_LOOP, 7, 0, 0));
+  port = DISTINCT_TWO_NET;
+  port.address2[2] = 8;
+  port.re2 = 12;
+  check("the wire of a second address bit, inverted, as another gives 17 at its B line, before 6",
+        answers_heading(marrubigai_heading(port, DISTINCT_LATCHES, 2, DISTINCT_GATES, 1, 2), MARRUBIGAI_TIED_ADDRESS, 17, 0, 0));
+  port = CHIP;
+  port.address2[0] = port.re2 = UINT32_MAX;
+  check("without a second port its numbers are not looked at",
+        marrubigai_heading(port, latches, 0, gates, 0, 1).number == MARRUBIGAI_PASSED);
   marrubigai_netlist unknown = CHIP;
   unknown.initial_word = UINT32_MAX;
   unknown.unknown_start = 2;
@@ -351,21 +438,22 @@ typedef struct {
   uint32_t depth;
 } lent;
 
-static marrubigai_count_reply group(lent of, uint32_t kind, uint32_t j, uint32_t i, size_t room) {
+static marrubigai_count_reply group(lent of, uint32_t kind, uint32_t j, uint32_t i, uint32_t port, size_t room) {
   for (size_t t = 0; t < MOST; t++) out[t] = UNWRITTEN;
-  return marrubigai_write_group(*of.net, of.latches, of.net->latches, of.gates, of.net->gates, of.depth, kind, j, i, out, room);
+  return marrubigai_write_group(*of.net, of.latches, of.net->latches, of.gates, of.net->gates, of.depth, kind, j, i, port, out, room);
 }
 
 // the numbers in a slice of exactly their length, and nothing behind it
-static void writes(const char *what, lent of, uint32_t kind, uint32_t j, uint32_t i, const int32_t *numbers, size_t count) {
-  marrubigai_count_reply reply = group(of, kind, j, i, count);
+static void writes(const char *what, lent of, uint32_t kind, uint32_t j, uint32_t i, uint32_t port, const int32_t *numbers, size_t count) {
+  marrubigai_count_reply reply = group(of, kind, j, i, port, count);
   int holds = reply.number == 0 && reply.place == 0 && reply.count == count;
   for (size_t t = 0; t < MOST; t++) holds = holds && out[t] == (t < count ? numbers[t] : UNWRITTEN);
   check(what, holds);
 }
 
-static void refuses(const char *what, lent of, uint32_t kind, uint32_t j, uint32_t i, size_t room, uint32_t number, uint32_t place) {
-  marrubigai_count_reply reply = group(of, kind, j, i, room);
+static void refuses(const char *what, lent of, uint32_t kind, uint32_t j, uint32_t i, uint32_t port, size_t room, uint32_t number,
+                    uint32_t place) {
+  marrubigai_count_reply reply = group(of, kind, j, i, port, room);
   int holds = reply.number == number && reply.place == place && reply.count == 0;
   for (size_t t = 0; t < MOST; t++) holds = holds && out[t] == UNWRITTEN;
   check(what, holds);
@@ -384,27 +472,27 @@ static void groups(void) {
       -10, -5, 2, 0, -10, 5, -2, 0};
   static const int32_t closing_1[] = {-9, -5, 0, 9, 10, 0};
   static const int32_t property[] = {3, 5, 0};
-  writes("wires of frame 0", chip, MARRUBIGAI_WIRES, 0, 0, wires_0, COUNT(wires_0));
-  writes("closing of frame 0", chip, MARRUBIGAI_CLOSING, 0, 0, closing_0, COUNT(closing_0));
-  writes("wires of frame 1: none, into a slice of length 0", chip, MARRUBIGAI_WIRES, 0, 1, 0, 0);
+  writes("wires of frame 0", chip, MARRUBIGAI_WIRES, 0, 0, 0, wires_0, COUNT(wires_0));
+  writes("closing of frame 0", chip, MARRUBIGAI_CLOSING, 0, 0, 1, closing_0, COUNT(closing_0));
+  writes("wires of frame 1: none, into a slice of length 0", chip, MARRUBIGAI_WIRES, 0, 1, 0, 0, 0);
   check("the pair has 31 numbers", COUNT(pair_0_1) == 31);
-  writes("pair (0, 1)", chip, MARRUBIGAI_PAIR, 0, 1, pair_0_1, COUNT(pair_0_1));
-  writes("pair (0, 1) at another depth", (lent){&CHIP, latches, gates, 255}, MARRUBIGAI_PAIR, 0, 1, pair_0_1, COUNT(pair_0_1));
-  writes("closing of frame 1", chip, MARRUBIGAI_CLOSING, 0, 1, closing_1, COUNT(closing_1));
-  writes("closing of frame 1 at another depth", (lent){&CHIP, latches, gates, 255}, MARRUBIGAI_CLOSING, 0, 1, closing_1,
+  writes("pair (0, 1)", chip, MARRUBIGAI_PAIR, 0, 1, 1, pair_0_1, COUNT(pair_0_1));
+  writes("pair (0, 1) at another depth", (lent){&CHIP, latches, gates, 255}, MARRUBIGAI_PAIR, 0, 1, 1, pair_0_1, COUNT(pair_0_1));
+  writes("closing of frame 1", chip, MARRUBIGAI_CLOSING, 0, 1, 1, closing_1, COUNT(closing_1));
+  writes("closing of frame 1 at another depth", (lent){&CHIP, latches, gates, 255}, MARRUBIGAI_CLOSING, 0, 1, 1, closing_1,
          COUNT(closing_1));
-  writes("property", chip, MARRUBIGAI_PROPERTY, 0, 0, property, COUNT(property));
+  writes("property", chip, MARRUBIGAI_PROPERTY, 0, 0, 0, property, COUNT(property));
   marrubigai_netlist constant = CHIP;
   constant.p = 0;
-  writes("a property that is false: nothing, into a slice of length 0", (lent){&constant, latches, gates, 1}, MARRUBIGAI_PROPERTY, 0, 0, 0, 0);
+  writes("a property that is false: nothing, into a slice of length 0", (lent){&constant, latches, gates, 1}, MARRUBIGAI_PROPERTY, 0, 0, 0, 0, 0);
   static const int32_t empty[] = {-1, 0};
   constant.p = 1;
-  writes("a property that is true: the clause left empty", (lent){&constant, latches, gates, 1}, MARRUBIGAI_PROPERTY, 0, 0, empty,
+  writes("a property that is true: the clause left empty", (lent){&constant, latches, gates, 1}, MARRUBIGAI_PROPERTY, 0, 0, 0, empty,
          COUNT(empty));
-  refuses("a slice of 30 gives 9", chip, MARRUBIGAI_PAIR, 0, 1, 30, MARRUBIGAI_NO_ROOM, 0);
-  refuses("pair (1, 1) gives 8", chip, MARRUBIGAI_PAIR, 1, 1, MOST, MARRUBIGAI_NO_SUCH_GROUP, 0);
-  refuses("a kind above 3 gives 8", chip, MARRUBIGAI_PROPERTY + 1, 0, 1, MOST, MARRUBIGAI_NO_SUCH_GROUP, 0);
-  refuses("depth 256 gives 7", (lent){&CHIP, latches, gates, 256}, MARRUBIGAI_PAIR, 0, 1, MOST, MARRUBIGAI_DEPTH, 0);
+  refuses("a slice of 30 gives 9", chip, MARRUBIGAI_PAIR, 0, 1, 1, 30, MARRUBIGAI_NO_ROOM, 0);
+  refuses("pair (1, 1) gives 8", chip, MARRUBIGAI_PAIR, 1, 1, 1, MOST, MARRUBIGAI_NO_SUCH_GROUP, 0);
+  refuses("a kind above 3 gives 8", chip, MARRUBIGAI_PROPERTY + 1, 0, 1, 1, MOST, MARRUBIGAI_NO_SUCH_GROUP, 0);
+  refuses("depth 256 gives 7", (lent){&CHIP, latches, gates, 256}, MARRUBIGAI_PAIR, 0, 1, 1, MOST, MARRUBIGAI_DEPTH, 0);
 
   // B(1) = 12, B(2) = 31
   const lent other = {&DISTINCT_NET, DISTINCT_LATCHES, DISTINCT_GATES, 2};
@@ -422,15 +510,52 @@ static void groups(void) {
       -17, -18, 7, 0, -17, 18, -7, 0, -17, -19, 8, 0, -17, 19, -8, 0, -17, -20, 9, 0, -17, 20, -9, 0,
       -17, -21, 10, 0, -17, 21, -10, 0, -17, -22, 11, 0, -17, 22, -11, 0, 17, 30, 31, 0};
   static const int32_t other_property[] = {7, 18, 37, 0};
-  writes("latches by their resets, and a gate", other, MARRUBIGAI_WIRES, 0, 0, first_wires, COUNT(first_wires));
-  writes("latches by their next codes, and a gate", other, MARRUBIGAI_WIRES, 0, 1, second_wires, COUNT(second_wires));
-  writes("the start word", other, MARRUBIGAI_CLOSING, 0, 0, first_closing, COUNT(first_closing));
-  writes("the start word, and the word held", other, MARRUBIGAI_CLOSING, 0, 1, second_closing, COUNT(second_closing));
-  writes("the property of three frames", other, MARRUBIGAI_PROPERTY, 0, 0, other_property, COUNT(other_property));
+  writes("latches by their resets, and a gate", other, MARRUBIGAI_WIRES, 0, 0, 0, first_wires, COUNT(first_wires));
+  writes("latches by their next codes, and a gate", other, MARRUBIGAI_WIRES, 0, 1, 0, second_wires, COUNT(second_wires));
+  writes("the start word", other, MARRUBIGAI_CLOSING, 0, 0, 1, first_closing, COUNT(first_closing));
+  writes("the start word, and the word held", other, MARRUBIGAI_CLOSING, 0, 1, 1, second_closing, COUNT(second_closing));
+  writes("the property of three frames", other, MARRUBIGAI_PROPERTY, 0, 0, 0, other_property, COUNT(other_property));
   marrubigai_netlist outside = DISTINCT_NET;
   outside.p = 24;
-  refuses("code 24 of 11 wires gives 5 at the C line", (lent){&outside, DISTINCT_LATCHES, DISTINCT_GATES, 2}, MARRUBIGAI_WIRES, 0, 0,
+  refuses("code 24 of 11 wires gives 5 at the C line", (lent){&outside, DISTINCT_LATCHES, DISTINCT_GATES, 2}, MARRUBIGAI_WIRES, 0, 0, 0,
           MOST, MARRUBIGAI_CODE, 15);
+}
+
+// depth 1 of two ports: the wires of the frames are 2 to 4 and 5 to 7, the pair (0, 1) is 8 to 12 for the first port and 13 to 17 for the second
+static void port_groups(void) {
+  const lent chip = {&CHIP, latches, gates, 1}, two = {&TWO_PORTS, latches, gates, 1};
+  static const int32_t wires_0[] = {1, 0};
+  static const int32_t closing_0[] = {-3, 0}, second_closing_0[] = {-4, 0};
+  static const int32_t pair[] = {
+      9, 0, -9, 8, 0,
+      -10, 8, 0, 10, -8, 0,
+      -11, -10, 0, 11, 10, 0,
+      -12, 10, 0, 12, -10, 0,
+      -12, -6, 2, 0, -12, 6, -2, 0};
+  // the first address of frame 0 is 0, the second of frame 1 is 1
+  static const int32_t second_pair[] = {
+      -13, 0, -14, 13, 0,
+      -15, 13, 0, 15, -13, 0,
+      -16, -15, 0, 16, 15, 0,
+      -17, 15, 0, 17, -15, 0,
+      -17, -7, 2, 0, -17, 7, -2, 0};
+  static const int32_t closing_1[] = {-11, -6, 0, 11, 12, 0}, second_closing_1[] = {-16, -7, 0, 16, 17, 0};
+  static const int32_t property[] = {3, 6, 0};
+  writes("wires of frame 0, whatever the port", two, MARRUBIGAI_WIRES, 0, 0, UINT32_MAX, wires_0, COUNT(wires_0));
+  writes("the first port's closing of frame 0", two, MARRUBIGAI_CLOSING, 0, 0, 1, closing_0, COUNT(closing_0));
+  writes("the second port's", two, MARRUBIGAI_CLOSING, 0, 0, 2, second_closing_0, COUNT(second_closing_0));
+  writes("the first port's pair", two, MARRUBIGAI_PAIR, 0, 1, 1, pair, COUNT(pair));
+  writes("the second port's pair", two, MARRUBIGAI_PAIR, 0, 1, 2, second_pair, COUNT(second_pair));
+  writes("the first port's closing of frame 1", two, MARRUBIGAI_CLOSING, 0, 1, 1, closing_1, COUNT(closing_1));
+  writes("the second port's of frame 1", two, MARRUBIGAI_CLOSING, 0, 1, 2, second_closing_1, COUNT(second_closing_1));
+  writes("the property, whatever the port", two, MARRUBIGAI_PROPERTY, 0, 0, 3, property, COUNT(property));
+  refuses("a slice of 30 gives 9 for the second port too", two, MARRUBIGAI_PAIR, 0, 1, 2, 30, MARRUBIGAI_NO_ROOM, 0);
+  refuses("port 0 gives 8", two, MARRUBIGAI_PAIR, 0, 1, 0, MOST, MARRUBIGAI_NO_SUCH_GROUP, 0);
+  refuses("port 3 gives 8", two, MARRUBIGAI_CLOSING, 0, 1, 3, MOST, MARRUBIGAI_NO_SUCH_GROUP, 0);
+  refuses("the greatest number gives 8, before 9", two, MARRUBIGAI_CLOSING, 0, 1, UINT32_MAX, 0, MARRUBIGAI_NO_SUCH_GROUP, 0);
+  refuses("port 2 of a chip with one gives 8", chip, MARRUBIGAI_PAIR, 0, 1, 2, MOST, MARRUBIGAI_NO_SUCH_GROUP, 0);
+  refuses("so does its closing", chip, MARRUBIGAI_CLOSING, 0, 0, 2, MOST, MARRUBIGAI_NO_SUCH_GROUP, 0);
+  refuses("depth 256 gives 7 before it", (lent){&CHIP, latches, gates, 256}, MARRUBIGAI_PAIR, 0, 1, 2, MOST, MARRUBIGAI_DEPTH, 0);
 }
 
 static void moves(const char *what, lent of, marrubigai_position from, uint32_t way, uint32_t number, marrubigai_position to) {
@@ -441,11 +566,11 @@ static void moves(const char *what, lent of, marrubigai_position from, uint32_t 
 }
 
 // a group through a record: the same numbers, or a refusal, as by frame number
-static void at(const char *what, lent of, marrubigai_position position, uint32_t kind, uint32_t j, size_t room, uint32_t number,
-               const int32_t *numbers, size_t count) {
+static void at(const char *what, lent of, marrubigai_position position, uint32_t kind, uint32_t j, uint32_t port, size_t room,
+               uint32_t number, const int32_t *numbers, size_t count) {
   for (size_t t = 0; t < MOST; t++) out[t] = UNWRITTEN;
   marrubigai_count_reply reply = marrubigai_write_group_at(*of.net, of.latches, of.net->latches, of.gates, of.net->gates, position,
-                                                           kind, j, out, room);
+                                                           kind, j, port, out, room);
   int holds = reply.number == number && reply.place == 0 && reply.count == count;
   for (size_t t = 0; t < MOST; t++) holds = holds && out[t] == (t < count ? numbers[t] : UNWRITTEN);
   check(what, holds);
@@ -476,12 +601,25 @@ static void positions(void) {
 
   static const int32_t closing[] = {-9, -5, 0, 9, 10, 0};
   static const int32_t property[] = {3, 5, 0};
-  at("closing of the record's frame", chip, last, MARRUBIGAI_CLOSING, 0, COUNT(closing), MARRUBIGAI_PASSED, closing, COUNT(closing));
-  at("the property, from any frame", chip, first, MARRUBIGAI_PROPERTY, 0, COUNT(property), MARRUBIGAI_PASSED, property, COUNT(property));
-  at("a slice of 5 gives 9", chip, last, MARRUBIGAI_CLOSING, 0, 5, MARRUBIGAI_NO_ROOM, 0, 0);
-  at("a wrong base gives 16 before 9", chip, wrong, MARRUBIGAI_CLOSING, 0, 5, MARRUBIGAI_WRONG_BASE, 0, 0);
-  at("pair (1, 1) gives 8 before 16", chip, wrong, MARRUBIGAI_PAIR, 1, MOST, MARRUBIGAI_NO_SUCH_GROUP, 0, 0);
-  at("a frame above the depth gives 8 for the property too", chip, past, MARRUBIGAI_PROPERTY, 0, MOST, MARRUBIGAI_NO_SUCH_GROUP, 0, 0);
+  at("closing of the record's frame", chip, last, MARRUBIGAI_CLOSING, 0, 1, COUNT(closing), MARRUBIGAI_PASSED, closing, COUNT(closing));
+  at("the property, from any frame", chip, first, MARRUBIGAI_PROPERTY, 0, 0, COUNT(property), MARRUBIGAI_PASSED, property, COUNT(property));
+  at("a slice of 5 gives 9", chip, last, MARRUBIGAI_CLOSING, 0, 1, 5, MARRUBIGAI_NO_ROOM, 0, 0);
+  at("a wrong base gives 16 before 9", chip, wrong, MARRUBIGAI_CLOSING, 0, 1, 5, MARRUBIGAI_WRONG_BASE, 0, 0);
+  at("pair (1, 1) gives 8 before 16", chip, wrong, MARRUBIGAI_PAIR, 1, 1, MOST, MARRUBIGAI_NO_SUCH_GROUP, 0, 0);
+  at("a frame above the depth gives 8 for the property too", chip, past, MARRUBIGAI_PROPERTY, 0, 0, MOST, MARRUBIGAI_NO_SUCH_GROUP, 0, 0);
+
+  // two ports: B(0) = 1, B(1) = 4, B(2) = 17
+  const lent two = {&TWO_PORTS, latches, gates, 1};
+  const marrubigai_position first_of_two = {2, 0, 1}, second_of_two = {2, 1, 4}, last_of_two = {2, 2, 17};
+  static const int32_t second_closing[] = {-16, -7, 0, 16, 17, 0};
+  moves("a frame on with two ports", two, first_of_two, MARRUBIGAI_ON, MARRUBIGAI_PASSED, second_of_two);
+  moves("and another", two, second_of_two, MARRUBIGAI_ON, MARRUBIGAI_PASSED, last_of_two);
+  moves("the base of one port gives 16", two, (marrubigai_position){2, 2, 12}, MARRUBIGAI_BACK, MARRUBIGAI_WRONG_BASE,
+        (marrubigai_position){2, 2, 12});
+  at("the second port's closing", two, second_of_two, MARRUBIGAI_CLOSING, 0, 2, COUNT(second_closing), MARRUBIGAI_PASSED, second_closing,
+     COUNT(second_closing));
+  at("port 3 gives 8 before 16 and 9", two, (marrubigai_position){2, 1, 5}, MARRUBIGAI_CLOSING, 0, 3, 0, MARRUBIGAI_NO_SUCH_GROUP, 0, 0);
+  at("port 2 of a chip with one gives 8", chip, last, MARRUBIGAI_CLOSING, 0, 2, MOST, MARRUBIGAI_NO_SUCH_GROUP, 0, 0);
 
   literal("wire 2 in frame 1", last, 4, MARRUBIGAI_PASSED, 5);
   literal("inverted", last, 5, MARRUBIGAI_PASSED, -5);
@@ -539,7 +677,30 @@ static void replays(void) {
   check("depth 256 gives 7", answers_replay(replay_text(256, "", WORDS, LINES), MARRUBIGAI_DEPTH, 0, 0) && untouched());
 }
 
-enum { MOST_BYTES = 600, UNPRINTED = 0xa5 };
+// Two ports at depth 1: wires are the input, the first port's read bit and the second's, variables 2 to 4 and 5 to 7.
+static void port_replays(void) {
+  uint32_t words[2] = {UNTOUCHED, UNTOUCHED};
+  uint8_t lines[2 * 4];
+  static const uint8_t answer[] = "s SATISFIABLE\nv 2 -5 0\n", idle[] = "s SATISFIABLE\nv 2 -5 4 0\n";
+  check("the first port reads what frame 0 wrote, the second what is there from the start",
+        answers_replay(marrubigai_replay(TWO_PORTS, latches, 0, gates, 0, 1, answer, sizeof answer - 1, words, 2, lines, sizeof lines),
+                       MARRUBIGAI_PASSED, 0, 1) &&
+            words[0] == 0 && words[1] == 0 && memcmp(lines, "100\n010\n", sizeof lines) == 0);
+  check("a trace of one port's length gives 9",
+        answers_replay(marrubigai_replay(TWO_PORTS, latches, 0, gates, 0, 1, answer, sizeof answer - 1, words, 2, lines, 6),
+                       MARRUBIGAI_NO_ROOM, 0, 0));
+  marrubigai_netlist silent = TWO_PORTS;
+  silent.re2 = 0;
+  check("where the second port does not read in frame 0, its read bit may not be missing",
+        answers_replay(marrubigai_replay(silent, latches, 0, gates, 0, 1, answer, sizeof answer - 1, words, 2, lines, sizeof lines),
+                       MARRUBIGAI_NO_ANSWER, 0, 0));
+  check("it is held then",
+        answers_replay(marrubigai_replay(silent, latches, 0, gates, 0, 1, idle, sizeof idle - 1, words, 2, lines, sizeof lines),
+                       MARRUBIGAI_PASSED, 0, 1) &&
+            memcmp(lines, "101\n011\n", sizeof lines) == 0);
+}
+
+enum { MOST_BYTES = 700, UNPRINTED = 0xa5 };
 static uint8_t text[MOST_BYTES];
 
 static uint8_t *unprinted(void) {
@@ -599,6 +760,11 @@ static void sheets(void) {
   check("so is no byte", not_printed(marrubigai_write_sheet(CHIP, latches, 0, gates, 0, unprinted(), 0)));
   check("each number in its field",
         printed(marrubigai_write_sheet(DISTINCT_NET, DISTINCT_LATCHES, 2, DISTINCT_GATES, 1, unprinted(), longer), DISTINCT));
+  check("each number of two ports in its field",
+        printed(marrubigai_write_sheet(DISTINCT_TWO_NET, DISTINCT_LATCHES, 2, DISTINCT_GATES, 1, unprinted(), sizeof DISTINCT_TWO - 1),
+                DISTINCT_TWO));
+  check("one byte less is too short for it",
+        not_printed(marrubigai_write_sheet(DISTINCT_TWO_NET, DISTINCT_LATCHES, 2, DISTINCT_GATES, 1, unprinted(), sizeof DISTINCT_TWO - 2)));
   check("a record with a memory loop is 6 at line 3",
         refused_at(marrubigai_write_sheet((marrubigai_netlist){.inputs = 1, .m = 1, .n = 1, .address = {4}, .re = 1}, latches, 0, gates, 0,
                                           unprinted(), MOST_BYTES),
@@ -614,13 +780,13 @@ static void rooms(void) {
   // every gate is of the read bit with itself, wire 1: no constant
   for (size_t g = 0; g < 599; g++) most_gates[g] = (marrubigai_gate){.left = 2, .right = 2};
   const marrubigai_netlist largest = {.gates = 599, .m = 1, .n = 1};
-  check("the largest group", marrubigai_write_group(largest, latches, 0, most_gates, 599, 0, MARRUBIGAI_WIRES, 0, 0, numbers,
+  check("the largest group", marrubigai_write_group(largest, latches, 0, most_gates, 599, 0, MARRUBIGAI_WIRES, 0, 0, 0, numbers,
                                                     MARRUBIGAI_GROUP_ROOM).count == MARRUBIGAI_GROUP_ROOM);
   static uint8_t sheet[MARRUBIGAI_SHEET_BYTES + 32];
   check("the longest sheet is not ragged",
         marrubigai_read(sheet, MARRUBIGAI_SHEET_BYTES, latches, 0, gates, 0).number == MARRUBIGAI_MISPRINT);
-  const marrubigai_netlist most_lines = {.gates = 599, .m = 12, .n = 1};
-  check("the longest sheet written", marrubigai_write_sheet(most_lines, latches, 0, most_gates, 599, sheet, sizeof sheet).count ==
+  const marrubigai_netlist most_lines = {.gates = 598, .m = 12, .n = 1, .second_port = 1};
+  check("the longest sheet written", marrubigai_write_sheet(most_lines, latches, 0, most_gates, 598, sheet, sizeof sheet).count ==
                                          MARRUBIGAI_SHEET_BYTES);
   check("a longer one is", marrubigai_read(sheet, sizeof sheet, latches, 0, gates, 0).number == MARRUBIGAI_RAGGED);
   check("the longest header", marrubigai_put_header(text, MARRUBIGAI_HEADER_BYTES, UINT32_MAX, UINT32_MAX).count == MARRUBIGAI_HEADER_BYTES);
@@ -641,37 +807,57 @@ static void rooms(void) {
   check("the longest number", marrubigai_put_clauses(text, MARRUBIGAI_NUMBER_BYTES, longest, 1).count == MARRUBIGAI_NUMBER_BYTES);
 }
 
-static int follows(uint32_t depth, uint32_t kind, uint32_t j, uint32_t i, marrubigai_group_reply expected) {
-  marrubigai_group_reply reply = marrubigai_next_group(depth, kind, j, i);
-  return reply.end == expected.end && reply.kind == expected.kind && reply.j == expected.j && reply.i == expected.i;
+static int follows(uint32_t ports, uint32_t kind, uint32_t j, uint32_t i, uint32_t port, marrubigai_group_reply expected) {
+  marrubigai_group_reply reply = marrubigai_next_group(2, ports, kind, j, i, port);
+  return reply.end == expected.end && reply.kind == expected.kind && reply.j == expected.j && reply.i == expected.i &&
+         reply.port == expected.port;
 }
 
-static void orders(void) {
-  static const marrubigai_group_reply end = {.end = 1};
-  check("behind the wires of frame 0 comes its closing",
-        follows(2, MARRUBIGAI_WIRES, 0, 0, (marrubigai_group_reply){0, MARRUBIGAI_CLOSING, 0, 0}));
-  check("then the wires of frame 1", follows(2, MARRUBIGAI_CLOSING, 0, 0, (marrubigai_group_reply){0, MARRUBIGAI_WIRES, 0, 1}));
-  check("behind the wires of frame 2 comes the pair (1, 2)",
-        follows(2, MARRUBIGAI_WIRES, 9, 2, (marrubigai_group_reply){0, MARRUBIGAI_PAIR, 1, 2}));
-  check("then (0, 2)", follows(2, MARRUBIGAI_PAIR, 1, 2, (marrubigai_group_reply){0, MARRUBIGAI_PAIR, 0, 2}));
-  check("then its closing", follows(2, MARRUBIGAI_PAIR, 0, 2, (marrubigai_group_reply){0, MARRUBIGAI_CLOSING, 0, 2}));
-  check("then the property", follows(2, MARRUBIGAI_CLOSING, 9, 2, (marrubigai_group_reply){0, MARRUBIGAI_PROPERTY, 0, 0}));
-  check("then the end", follows(2, MARRUBIGAI_PROPERTY, 9, 9, end));
-  check("behind a frame over the depth there is none", follows(2, MARRUBIGAI_WIRES, 0, 3, end));
-  check("nor behind a pair of a frame with itself", follows(2, MARRUBIGAI_PAIR, 2, 2, end));
-  check("nor behind what is no kind", follows(2, 4, 0, 0, end));
-  // the walk of the program that prints a formula: each group is there, and their clauses are those of the heading
+// groups that are written and clauses in them, from the wires of frame 0 on
+static void walked(const char *what, const marrubigai_netlist *net, uint32_t depth, uint32_t most, uint32_t expected) {
   uint32_t clauses = 0, groups = 0;
-  marrubigai_group_reply group = {0, MARRUBIGAI_WIRES, 0, 0};
+  marrubigai_group_reply group = {.kind = MARRUBIGAI_WIRES};
   int32_t numbers[64];
   while (!group.end && groups < 100) {
     marrubigai_count_reply reply =
-        marrubigai_write_group(CHIP, latches, 0, gates, 0, 1, group.kind, group.j, group.i, numbers, COUNT(numbers));
+        marrubigai_write_group(*net, latches, 0, gates, 0, depth, group.kind, group.j, group.i, group.port, numbers, COUNT(numbers));
     for (size_t t = 0; t < reply.count; t++) clauses += numbers[t] == 0;
     groups += reply.number == MARRUBIGAI_PASSED;
-    group = marrubigai_next_group(1, group.kind, group.j, group.i);
+    group = marrubigai_next_group(depth, net->second_port + 1, group.kind, group.j, group.i, group.port);
   }
-  check("depth 1 has six groups, and 15 clauses in them", groups == 6 && clauses == 15);
+  check(what, groups == most && clauses == expected);
+}
+
+// depth 2
+static void orders(void) {
+  static const marrubigai_group_reply end = {.end = 1};
+  check("behind the wires of frame 0 comes its closing",
+        follows(1, MARRUBIGAI_WIRES, 0, 0, 0, (marrubigai_group_reply){0, MARRUBIGAI_CLOSING, 0, 0, 1}));
+  check("then the wires of frame 1", follows(1, MARRUBIGAI_CLOSING, 0, 0, 1, (marrubigai_group_reply){0, MARRUBIGAI_WIRES, 0, 1, 0}));
+  check("behind the wires of frame 2 comes the pair (1, 2)",
+        follows(1, MARRUBIGAI_WIRES, 9, 2, 9, (marrubigai_group_reply){0, MARRUBIGAI_PAIR, 1, 2, 1}));
+  check("then (0, 2)", follows(1, MARRUBIGAI_PAIR, 1, 2, 1, (marrubigai_group_reply){0, MARRUBIGAI_PAIR, 0, 2, 1}));
+  check("then its closing", follows(1, MARRUBIGAI_PAIR, 0, 2, 1, (marrubigai_group_reply){0, MARRUBIGAI_CLOSING, 0, 2, 1}));
+  check("then the property", follows(1, MARRUBIGAI_CLOSING, 9, 2, 1, (marrubigai_group_reply){0, MARRUBIGAI_PROPERTY, 0, 0, 0}));
+  check("then the end", follows(1, MARRUBIGAI_PROPERTY, 9, 9, 9, end));
+  check("behind a frame over the depth there is none", follows(1, MARRUBIGAI_WIRES, 0, 3, 0, end));
+  check("nor behind a pair of a frame with itself", follows(1, MARRUBIGAI_PAIR, 2, 2, 1, end));
+  check("nor behind what is no kind", follows(1, 4, 0, 0, 1, end));
+  check("nor behind a second port that is not there", follows(1, MARRUBIGAI_CLOSING, 0, 2, 2, end));
+  check("behind a closing comes the second port's", follows(2, MARRUBIGAI_CLOSING, 0, 0, 1, (marrubigai_group_reply){0, MARRUBIGAI_CLOSING, 0, 0, 2}));
+  check("then the wires of the next frame", follows(2, MARRUBIGAI_CLOSING, 0, 0, 2, (marrubigai_group_reply){0, MARRUBIGAI_WIRES, 0, 1, 0}));
+  check("behind a pair comes the second port's", follows(2, MARRUBIGAI_PAIR, 1, 2, 1, (marrubigai_group_reply){0, MARRUBIGAI_PAIR, 1, 2, 2}));
+  check("then the first port's next pair", follows(2, MARRUBIGAI_PAIR, 1, 2, 2, (marrubigai_group_reply){0, MARRUBIGAI_PAIR, 0, 2, 1}));
+  check("behind the last pair the closing", follows(2, MARRUBIGAI_PAIR, 0, 2, 2, (marrubigai_group_reply){0, MARRUBIGAI_CLOSING, 0, 2, 1}));
+  check("behind the last closing the property", follows(2, MARRUBIGAI_CLOSING, 0, 2, 2, (marrubigai_group_reply){0, MARRUBIGAI_PROPERTY, 0, 0, 0}));
+  check("behind port 0 there is none", follows(2, MARRUBIGAI_CLOSING, 0, 2, 0, end));
+  check("nor behind port 3", follows(2, MARRUBIGAI_CLOSING, 0, 2, 3, end));
+  check("no ports have no group", follows(0, MARRUBIGAI_WIRES, 0, 0, 0, end));
+  check("three have none", follows(3, MARRUBIGAI_WIRES, 0, 0, 0, end));
+  check("nor has the greatest number", follows(UINT32_MAX, MARRUBIGAI_CLOSING, 0, 0, 1, end));
+  // the walk of the program that prints a formula: each group is there, and their clauses are those of the heading
+  walked("depth 1 has six groups, and 15 clauses in them", &CHIP, 1, 6, 15);
+  walked("with two ports nine, and 28", &TWO_PORTS, 1, 9, 28);
 }
 
 // what the header calls a limit is the last that is taken
@@ -681,6 +867,13 @@ static void limits(void) {
   marrubigai_netlist net = {.m = MARRUBIGAI_MOST_ADDRESS_BITS, .n = MARRUBIGAI_MOST_DATA_BITS};
   net.inputs = MARRUBIGAI_MOST_WIRES - MARRUBIGAI_MOST_DATA_BITS;
   check("the largest record", marrubigai_heading(net, latches, 0, gates, 0, 0).number == MARRUBIGAI_PASSED);
+  check("its variables at the largest depth", marrubigai_heading(net, latches, 0, gates, 0, MARRUBIGAI_MOST_DEPTH).variables == 675841);
+  marrubigai_netlist two = net;
+  two.second_port = 1;
+  two.inputs -= MARRUBIGAI_MOST_DATA_BITS;
+  check("the most variables", marrubigai_heading(two, latches, 0, gates, 0, MARRUBIGAI_MOST_DEPTH).variables == MARRUBIGAI_MOST_VARIABLES);
+  two.inputs++;
+  check("one wire more with two ports", answers_heading(marrubigai_heading(two, latches, 0, gates, 0, 0), MARRUBIGAI_SIZE, 2, 0, 0));
   marrubigai_netlist wider = net, longer = net, larger = net, most = net;
   wider.n = MARRUBIGAI_MOST_DATA_BITS + 1;
   wider.inputs = 0;
@@ -707,8 +900,10 @@ int main(int count, char **arguments) {
   lines();
   headings();
   groups();
+  port_groups();
   positions();
   replays();
+  port_replays();
   printing();
   sheets();
   rooms();

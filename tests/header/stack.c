@@ -1,5 +1,6 @@
 // The stack that each exported call takes, by what is overwritten of a thread's own, is within what the header states. What is measured is
-// the deepest call of each kind: the largest record, a satisfiable answer, a text that passes. The last line is 'N passed, M failed'.
+// the deepest call of each kind: the largest records with one port and with two, a satisfiable answer, a text that passes. The last line is
+// 'N passed, M failed'.
 // Build: cc -std=gnu11 -pthread stack.c -L FOLDER -lmarrubigai
 
 #include <pthread.h>
@@ -9,10 +10,12 @@
 
 #include "../../include/marrubigai.h"
 
-enum { BYTES = 4 << 20, UNTOUCHED = 0xa5 };
+enum { BYTES = 4 << 20, UNTOUCHED = 0xa5, GATES = 500, ANSWER_BYTES = 16 << 20 };
 
-static const marrubigai_netlist net = {
-    .inputs = 68, .gates = 500, .m = 12, .n = 32, .address = {2, 4, 6, 8, 10, 12, 14, 16, 18, 20, 22, 24}, .we = 2, .re = 1};
+// 600 wires; where there is a second port, its read bits take the place of inputs
+static marrubigai_netlist net = {
+    .inputs = 68, .gates = GATES, .m = 12, .n = 32, .address = {2, 4, 6, 8, 10, 12, 14, 16, 18, 20, 22, 24}, .we = 2, .re = 1,
+    .address2 = {24, 22, 20, 18, 16, 14, 12, 10, 8, 6, 4, 2}, .re2 = 1};
 static marrubigai_latch latches[MARRUBIGAI_LIST_ROOM];
 static marrubigai_gate gates[MARRUBIGAI_LIST_ROOM];
 static int32_t numbers[MARRUBIGAI_GROUP_ROOM];
@@ -27,27 +30,28 @@ static int none(void) { return 1; }
 static int read_sheet(void) { return marrubigai_read(sheet, sheet_bytes, latches, 600, gates, 600).number == 0; }
 static int import(void) { return marrubigai_import(aag, sizeof aag - 1, 1, 1, 0, 0, latches, 600, gates, 600).number == 0; }
 static int next_line(void) { return marrubigai_next_line(sheet, sheet_bytes, 0).number == 0; }
-static int heading(void) { return marrubigai_heading(net, latches, 0, gates, 500, 255).number == 0; }
+static int heading(void) { return marrubigai_heading(net, latches, 0, gates, GATES, 255).number == 0; }
 static int write_group(void) {
-  return marrubigai_write_group(net, latches, 0, gates, 500, 255, MARRUBIGAI_PAIR, 3, 200, numbers, 1).number == MARRUBIGAI_NO_ROOM;
+  return marrubigai_write_group(net, latches, 0, gates, GATES, 255, MARRUBIGAI_PAIR, 3, 200, net.second_port + 1, numbers,
+                                1).number == MARRUBIGAI_NO_ROOM;
 }
 static int move(void) {
-  return marrubigai_move(net, latches, 0, gates, 500, (marrubigai_position){255, 0, 1}, MARRUBIGAI_ON).number == 0;
+  return marrubigai_move(net, latches, 0, gates, GATES, (marrubigai_position){255, 0, 1}, MARRUBIGAI_ON).number == 0;
 }
 static int write_group_at(void) {
-  return marrubigai_write_group_at(net, latches, 0, gates, 500, (marrubigai_position){255, 0, 1}, MARRUBIGAI_WIRES, 0, numbers,
+  return marrubigai_write_group_at(net, latches, 0, gates, GATES, (marrubigai_position){255, 0, 1}, MARRUBIGAI_WIRES, 0, 0, numbers,
                                    MARRUBIGAI_GROUP_ROOM).number == 0;
 }
 static int literal_at(void) { return marrubigai_literal_at(net, (marrubigai_position){255, 0, 1}, 2).number == 0; }
-static int write_sheet(void) { return marrubigai_write_sheet(net, latches, 0, gates, 500, text, sizeof text).number == 0; }
+static int write_sheet(void) { return marrubigai_write_sheet(net, latches, 0, gates, GATES, text, sizeof text).number == 0; }
 static int replay(void) {
-  return marrubigai_replay(net, latches, 0, gates, 500, 255, answer, answer_bytes, words, MARRUBIGAI_MEMORY_WORDS, trace,
+  return marrubigai_replay(net, latches, 0, gates, GATES, 255, answer, answer_bytes, words, MARRUBIGAI_MEMORY_WORDS, trace,
                            MARRUBIGAI_TRACE_BYTES).number == 0;
 }
 static int put_clauses(void) { return marrubigai_put_clauses(text, sizeof text, numbers, 1000).number == 0; }
 static int put_others(void) {
   return marrubigai_put_header(text, 28, 1, 2).number + marrubigai_put_refusal(text, 28, 1, 2).number + marrubigai_put_number(text, 28, -5).number +
-             marrubigai_next_group(255, 0, 0, 0).end + marrubigai_version().major == 0;
+             marrubigai_next_group(255, net.second_port + 1, 0, 0, 0, 0).end + marrubigai_version().major == 0;
 }
 
 static const struct {
@@ -88,24 +92,36 @@ static size_t taken(int (*call)(void)) {
   return BYTES - low;
 }
 
+// the gates, which an import writes over
+static void fill_gates(void) {
+  for (size_t g = 0; g < GATES; g++) gates[g] = (marrubigai_gate){.left = 2, .right = 4};
+}
+
 int main(void) {
   int passed = 0, failed = 0;
-  for (size_t g = 0; g < 500; g++) gates[g] = (marrubigai_gate){.left = 2, .right = 4};
-  sheet_bytes = marrubigai_write_sheet(net, latches, 0, gates, 500, sheet, sizeof sheet).count;
-  answer = malloc(8000000);
-  char *end = (char *)answer + sprintf((char *)answer, "s SATISFIABLE\n");
-  for (int v = 1; v <= 675841; v++) end += sprintf(end, "v %d\n", v);
-  end += sprintf(end, "v 0\n");
-  answer_bytes = (size_t)(end - (char *)answer);
   const size_t own = taken(none); // the thread's
-  for (size_t t = 0; t < sizeof calls / sizeof *calls; t++) {
-    for (size_t g = 0; g < 500; g++) gates[g] = (marrubigai_gate){.left = 2, .right = 4}; // an import writes over them
-    const size_t bytes = taken(calls[t].call) - own;
-    const int holds = answered && bytes <= calls[t].stated;
-    printf("%s%s: %zu bytes of stack, stated %zu\n", holds ? "" : "FAILED: ", calls[t].name, bytes, calls[t].stated);
-    if (holds) passed++;
-    else failed++;
+  answer = malloc(ANSWER_BYTES);
+  for (uint32_t ports = 1; ports <= 2; ports++) {
+    net.second_port = ports - 1;
+    net.inputs = MARRUBIGAI_MOST_WIRES - GATES - ports * MARRUBIGAI_MOST_DATA_BITS;
+    fill_gates();
+    sheet_bytes = marrubigai_write_sheet(net, latches, 0, gates, GATES, sheet, sizeof sheet).count;
+    const uint32_t variables = marrubigai_heading(net, latches, 0, gates, GATES, 255).variables;
+    char *end = (char *)answer + sprintf((char *)answer, "s SATISFIABLE\n");
+    for (uint32_t v = 1; v <= variables; v++) end += sprintf(end, "v %u\n", (unsigned)v);
+    end += sprintf(end, "v 0\n");
+    answer_bytes = (size_t)(end - (char *)answer);
+    for (size_t t = 0; t < sizeof calls / sizeof *calls; t++) {
+      fill_gates();
+      const size_t bytes = taken(calls[t].call) - own;
+      const int holds = answered && bytes <= calls[t].stated;
+      printf("%s%s with %u port%s: %zu bytes of stack, stated %zu\n", holds ? "" : "FAILED: ", calls[t].name, (unsigned)ports,
+             ports == 1 ? "" : "s", bytes, calls[t].stated);
+      if (holds) passed++;
+      else failed++;
+    }
   }
+  free(answer);
   printf("%d passed, %d failed\n", passed, failed);
   return failed != 0;
 }

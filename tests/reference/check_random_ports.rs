@@ -22,8 +22,8 @@ use super::formula::{
 use super::netlist::{Gate, Netlist, FIRST_PORT, MAX_DEPTH, SECOND_PORT};
 use super::position::{start, FrameGroup, Position};
 use super::random::{
-    damaged_record, damaged_sheet, random_feeds, tiny_two_ports, wide_two_ports, Random, Shape,
-    SHAPES,
+    damaged_record, damaged_sheet, random_feeds, tiny_two_ports, two_port_shapes, wide_two_ports,
+    Random,
 };
 use super::random_answers::{
     answer_case_of, call_case_of, two_port_draft, written, Draft, CALL_FAULTS, FEED_FAULTS, UNSEEN,
@@ -41,42 +41,11 @@ fn read(sheet: &[u8]) -> Result<Netlist, Refusal> {
     read_sheet_knowing(Known::TwoPorts, sheet, 600, 600)
 }
 
-/// Shapes of the second port that random netlists must have often.
-#[rustfmt::skip]
-const PORT_SHAPES: [Shape; 9] = [
-    ("both addresses the same", |it| it.address_codes_of(1) == it.address_codes_of(2)),
-    ("second address without constants", |it| it.address_codes_of(2).iter().all(|code| *code > 1)),
-    ("a constant against a wire", |it| {
-        compared(it).any(|(first, second)| (first < 2) != (second < 2))
-    }),
-    ("two different constants", |it| compared(it).any(|(first, second)| first + second == 1)),
-    ("a wire in both addresses", |it| {
-        let wires: HashSet<u32> = it.address_codes_of(1).iter().map(|code| code / 2).collect();
-        it.address_codes_of(2).iter().any(|code| *code > 1 && wires.contains(&(code / 2)))
-    }),
-    ("constant second RE", |it| it.second_read_enable < 2),
-    ("both REs the same", |it| it.read_enable == it.second_read_enable),
-    ("gate of a second read bit", |it| {
-        let second = it.read_bits(SECOND_PORT);
-        it.gates.iter().any(|gate| second.contains(&(gate.left / 2)))
-    }),
-    ("P of a second read bit", |it| it.read_bits(SECOND_PORT).contains(&(it.property / 2))),
-];
-
-/// The address bits of both ports, bit by bit.
-fn compared(netlist: &Netlist) -> impl Iterator<Item = (u32, u32)> + '_ {
-    let first = netlist.address_codes_of(FIRST_PORT).iter().copied();
-    first.zip(netlist.address_codes_of(SECOND_PORT).iter().copied())
-}
-
-/// Shapes of `SHAPES` that a T sheet cannot have.
-const NOT_OF_TWO_PORTS: [&str; 1] = ["unknown start"];
-
 /// A sheet's netlist and a netlist's sheet are each other's inverse, unused entries or not, and the
 /// random netlists have every shape that the other families rely on.
 pub fn round_trip(tally: &mut Tally) {
     let mut random = Random::new(40);
-    let shapes = [&SHAPES[..], &PORT_SHAPES[..]].concat();
+    let shapes = two_port_shapes();
     let mut found = vec![0; shapes.len()];
     for round in 0..500 {
         let netlist = wide_two_ports(&mut random);
@@ -102,11 +71,7 @@ pub fn round_trip(tally: &mut Tally) {
         }
     }
     for (count, (name, _)) in found.iter().zip(&shapes) {
-        let possible = !NOT_OF_TWO_PORTS.contains(name);
-        tally.check(
-            (name, count),
-            if possible { *count >= 20 } else { *count == 0 },
-        );
+        tally.check((name, count), *count >= 20);
     }
 }
 
@@ -701,7 +666,7 @@ fn reads_hold(netlist: &Netlist, run: &Run, port: u32) -> bool {
 
 /// Each fault, and which checks are to notice it on T netlists: demand 3's first half, its second half,
 /// the lengths, the heading, and the numbers of the whole. The first seven are those of one port.
-const FAULTS: [(Fault, [bool; 5]); 16] = [
+const FAULTS: [(Fault, [bool; 5]); 20] = [
     (Fault::OwnFrameWrite, [true, true, true, true, true]),
     (Fault::OldestWrite, [true, true, true, false, true]),
     (Fault::ReaderWriteEnable, [true, true, false, false, true]),
@@ -710,15 +675,20 @@ const FAULTS: [(Fault, [bool; 5]); 16] = [
     (Fault::HolderReadEnable, [true, true, false, false, true]),
     (Fault::NewestPairCounted, [false, false, true, true, false]),
     (Fault::SecondAddressWrites, [true, true, true, true, true]),
+    (Fault::WriteBySecondAddress, [true, true, true, true, true]),
     (Fault::SecondPortReadsFirst, [true, true, true, true, true]),
     (Fault::FirstReadEnable, [true, true, true, true, true]),
+    // A port that is to read nothing, or to hold its word, finds no assignment; nothing wrong is let in.
+    (Fault::FirstEnableInChain, [false, true, true, true, true]),
     (Fault::FirstWordHeld, [true, true, false, false, true]),
+    (Fault::HeldWordsExchanged, [true, true, false, false, true]),
     // The closing's last clause still asks for a selected write or the start: nothing wrong is let in.
     (Fault::FirstUntouched, [false, true, true, true, true]),
     (Fault::FirstPending, [false, true, false, false, true]),
     (Fault::SecondPortOmitted, [true, false, false, true, true]),
     (Fault::SecondPortBehind, [false, false, false, false, true]),
     (Fault::PortByPort, [false, false, false, false, true]),
+    (Fault::PortsExchanged, [false, false, false, false, true]),
 ];
 
 pub fn faults(tally: &mut Tally) {

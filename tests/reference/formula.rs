@@ -63,12 +63,18 @@ pub enum Fault {
     UnknownStartsZero,
     /// The second port compares its own address of frame j, not the one that writes.
     SecondAddressWrites,
+    /// Both ports compare the second address of frame j: it is the one that writes.
+    WriteBySecondAddress,
     /// The second port compares the first address of frame i.
     SecondPortReadsFirst,
     /// The second port is enabled by the first port's RE.
     FirstReadEnable,
+    /// The second port's chain begins with the first port's RE: N of its newest pair, and Z of frame 0.
+    FirstEnableInChain,
     /// The second port holds the first port's word.
     FirstWordHeld,
+    /// Each port holds the other's word.
+    HeldWordsExchanged,
     /// The second port's Z is the first port's.
     FirstUntouched,
     /// The second port's N above the newest pair is the first port's PS.
@@ -79,6 +85,8 @@ pub enum Fault {
     SecondPortBehind,
     /// All pairs of a frame come before those of the second port, as do the closings.
     PortByPort,
+    /// Each pair and closing of the second port comes before the first port's.
+    PortsExchanged,
 }
 
 #[derive(Clone, Copy, Debug, PartialEq, Eq)]
@@ -498,6 +506,10 @@ impl<'a> Formula<'a> {
             };
             match self.fault {
                 Fault::PortByPort => groups.extend(ports.clone().flat_map(of_port)),
+                Fault::PortsExchanged => groups.extend(of_memory.iter().flat_map(|group| {
+                    let group = *group;
+                    ports.clone().rev().map(move |port| PortGroup { port, group })
+                })),
                 _ => groups.extend(of_memory.iter().flat_map(|group| {
                     let group = *group;
                     ports.clone().map(move |port| PortGroup { port, group })
@@ -656,6 +668,7 @@ impl<'a> Formula<'a> {
     ) {
         let [writing, reading] = match self.fault {
             Fault::SecondAddressWrites => [port, port],
+            Fault::WriteBySecondAddress => [self.netlist.port_count(), port],
             Fault::SecondPortReadsFirst => [FIRST_PORT, FIRST_PORT],
             _ => [FIRST_PORT, port],
         };
@@ -716,8 +729,17 @@ impl<'a> Formula<'a> {
         };
         match neighbour {
             Some(other) => self.pair_variables(pending_port, other, i).pending,
-            None => self.read_enable(port, i),
+            None => self.read_enable_in_chain(port, i),
         }
+    }
+
+    /// RE of a port where its chain begins: at the newest pair, or as Z of frame 0.
+    fn read_enable_in_chain(&self, port: u32, i: u32) -> Literal {
+        let port = match self.fault {
+            Fault::FirstEnableInChain => FIRST_PORT,
+            _ => port,
+        };
+        self.read_enable(port, i)
     }
 
     /// Z of frame i: PS of the pair (0, i), or RE when there is no pair.
@@ -727,7 +749,7 @@ impl<'a> Formula<'a> {
             _ => port,
         };
         match (self.writers(i), self.fault) {
-            (0, _) => self.read_enable(port, i),
+            (0, _) => self.read_enable_in_chain(port, i),
             (writers, Fault::OldestWrite) => self.pair_variables(port, writers - 1, i).pending,
             _ => self.pair_variables(port, 0, i).pending,
         }
@@ -771,6 +793,7 @@ impl<'a> Formula<'a> {
         };
         let held_port = match self.fault {
             Fault::FirstWordHeld => FIRST_PORT,
+            Fault::HeldWordsExchanged => FIRST_PORT + self.netlist.port_count() - port,
             _ => port,
         };
         let idle = -self.read_enable(port, enable_frame);

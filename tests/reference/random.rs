@@ -1,7 +1,9 @@
 //! Deterministic random netlists, feeds and damaged sheets.
 
 use super::circuit::Feed;
-use super::netlist::{Gate, Latch, Netlist, MAX_ADDRESS_WIDTH, MAX_DATA_WIDTH, MAX_WIRES};
+use super::netlist::{
+    Gate, Latch, Netlist, FIRST_PORT, MAX_ADDRESS_WIDTH, MAX_DATA_WIDTH, MAX_WIRES, SECOND_PORT,
+};
 use super::sheet::{FIELDS, FIELD_BYTES, LINE_BYTES};
 
 /// How many of a hundred random netlists have an unknown start.
@@ -270,6 +272,38 @@ pub const SHAPES: [Shape; 23] = [
     ("WE depends on a read bit", |it| depends(it, it.write_enable)),
     ("write data depends on a read bit", |it| depends(it, it.write_data[0])),
 ];
+
+/// Shapes of the second port that random netlists with two must have often.
+#[rustfmt::skip]
+const PORT_SHAPES: [Shape; 9] = [
+    ("both addresses the same", |it| it.address_codes_of(1) == it.address_codes_of(2)),
+    ("second address without constants", |it| it.address_codes_of(2).iter().all(|code| *code > 1)),
+    ("a constant against a wire", |it| compared(it).any(|(first, second)| (first < 2) != (second < 2))),
+    ("two different constants", |it| compared(it).any(|(first, second)| first + second == 1)),
+    ("a wire in both addresses", |it| {
+        let has = |code: u32| it.address_codes_of(1).iter().any(|other| other / 2 == code / 2);
+        it.address_codes_of(2).iter().any(|code| *code > 1 && has(*code))
+    }),
+    ("constant second RE", |it| it.second_read_enable < 2),
+    ("both REs the same", |it| it.read_enable == it.second_read_enable),
+    ("gate of a second read bit", |it| {
+        let second = it.read_bits(SECOND_PORT);
+        it.gates.iter().any(|gate| second.contains(&(gate.left / 2)))
+    }),
+    ("P of a second read bit", |it| it.read_bits(SECOND_PORT).contains(&(it.property / 2))),
+];
+
+/// The address bits of both ports, bit by bit.
+fn compared(netlist: &Netlist) -> impl Iterator<Item = (u32, u32)> + '_ {
+    let first = netlist.address_codes_of(FIRST_PORT).iter().copied();
+    first.zip(netlist.address_codes_of(SECOND_PORT).iter().copied())
+}
+
+/// The shapes that random netlists with two ports must have often: an unknown start is none of them.
+pub fn two_port_shapes() -> Vec<Shape> {
+    let possible = SHAPES.iter().filter(|(name, _)| *name != "unknown start");
+    possible.chain(&PORT_SHAPES).copied().collect()
+}
 
 fn depends(netlist: &Netlist, code: u32) -> bool {
     netlist.read_dependence()[code as usize / 2]

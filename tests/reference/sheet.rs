@@ -14,9 +14,9 @@ pub enum Known {
     TwoPorts,
 }
 
-/// What the programs under test know. This is the one place that changes with K10's landing: all
-/// functions and rows that do not say which sheets there are go by it.
-pub const KNOWN: Known = Known::OnePort;
+/// What the programs under test know: all functions and rows that do not say which sheets there are go
+/// by it.
+pub const KNOWN: Known = Known::TwoPorts;
 
 impl Known {
     /// The limit of refusal 1: as many lines as any sheet has, 615 or 627.

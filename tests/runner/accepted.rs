@@ -2,15 +2,18 @@
 
 use super::process::{difference, Program};
 use super::reference::check_examples::{full_run_rows, input, of_sizes};
-use super::reference::formula::{number_count, Fault, Formula};
+use super::reference::check_ports::{two_of_sizes, two_port_runs};
+use super::reference::formula::{Fault, Formula};
 use super::reference::netlist::{Netlist, MAX_DEPTH};
-use super::reference::random::{fill, wide_netlist, Random, SHAPES};
+use super::reference::random::{
+    fill, two_port_shapes, wide_netlist, wide_two_ports, Random, Shape, SHAPES,
+};
 use super::reference::sheet::{write_depth, write_sheet};
 use super::reference::Tally;
 
 /// The full run (RULES P17), and the runs that were worked out by hand: no second implementation.
 pub fn full_runs(program: &Program, tally: &mut Tally) {
-    for (depth, short, text) in full_run_rows() {
+    for (depth, short, text) in full_run_rows().into_iter().chain(two_port_runs()) {
         let bytes = input(depth, short);
         let ran = program.run(&bytes);
         let holds = ran.ended_well() && ran.output == text.as_bytes();
@@ -35,6 +38,7 @@ pub fn every_depth(program: &Program, tally: &mut Tally) {
             gate_count: random.below(3),
             address_width: random.pick(&[1, 1, 1, 2]),
             data_width: random.pick(&[1, 1, 1, 2]),
+            two_ports: depth % 2,
             ..Netlist::default()
         };
         let netlist = fill(&mut random, sizes);
@@ -50,21 +54,38 @@ fn depth_within(netlist: &Netlist, most: u32, numbers: i64) -> u32 {
     let fits = |depth: &u32| {
         let formula = Formula::new(netlist, *depth, Fault::None);
         let lengths = formula
-            .groups()
+            .port_groups()
             .into_iter()
-            .map(|group| number_count(netlist, *depth, group));
+            .map(|asked| formula.port_counts(asked)[1]);
         lengths.sum::<i64>() <= numbers
     };
     (1..=most).take_while(fits).last().unwrap_or(0)
 }
 
-/// Sheets of every shape, each shape at least twenty times.
+/// M sheets of every shape.
 pub fn random_sheets(program: &Program, tally: &mut Tally) {
     let mut random = Random::new(102);
-    let mut shapes = [0; SHAPES.len()];
+    sheets_of(program, tally, &mut random, wide_netlist, &SHAPES);
+}
+
+/// T sheets of every shape.
+pub fn random_two_ports(program: &Program, tally: &mut Tally) {
+    let mut random = Random::new(104);
+    sheets_of(program, tally, &mut random, wide_two_ports, &two_port_shapes());
+}
+
+/// Random sheets, each shape at least twenty times.
+fn sheets_of(
+    program: &Program,
+    tally: &mut Tally,
+    random: &mut Random,
+    netlist: fn(&mut Random) -> Netlist,
+    shapes: &[Shape],
+) {
+    let mut counts = vec![0; shapes.len()];
     let mut depths = [0; MAX_DEPTH as usize + 1];
-    for round in 0..3_000 {
-        let mut netlist = wide_netlist(&mut random);
+    for round in 0..2_500 {
+        let mut netlist = netlist(random);
         if random.percent(5) {
             only_constants(&mut netlist);
         }
@@ -74,7 +95,7 @@ pub fn random_sheets(program: &Program, tally: &mut Tally) {
             random.below(MAX_DEPTH + 1)
         };
         let depth = depth_within(&netlist, most, random.pick(&NUMBERS));
-        for (count, (_, has_shape)) in shapes.iter_mut().zip(SHAPES) {
+        for (count, (_, has_shape)) in counts.iter_mut().zip(shapes) {
             *count += usize::from(has_shape(&netlist));
         }
         depths[depth as usize] += 1;
@@ -86,7 +107,7 @@ pub fn random_sheets(program: &Program, tally: &mut Tally) {
             depth,
         );
     }
-    for (count, (name, _)) in shapes.iter().zip(SHAPES) {
+    for (count, (name, _)) in counts.iter().zip(shapes) {
         tally.check((name, count), *count >= 20);
     }
     let different = depths.iter().filter(|count| **count > 0).count();
@@ -100,6 +121,7 @@ fn only_constants(netlist: &mut Netlist) {
         gates,
         address,
         write_data,
+        second_address,
         ..
     } = netlist;
     let operands = gates
@@ -109,25 +131,28 @@ fn only_constants(netlist: &mut Netlist) {
     let controls = [
         &mut netlist.write_enable,
         &mut netlist.read_enable,
+        &mut netlist.second_read_enable,
         &mut netlist.property,
     ];
     let codes = operands
         .chain(next)
         .chain(address)
         .chain(write_data)
+        .chain(second_address)
         .chain(controls);
     codes.for_each(|code| *code %= 2);
 }
 
-/// The sheet on which the speed is measured, and the sizes with the most clauses and variables.
+/// The sheet on which the speed is measured, and the sizes with the most clauses and variables, of one port and of two.
 pub fn largest(program: &Program, tally: &mut Tally) {
     let mut random = Random::new(103);
     let measured = of_sizes([60, 100, 408], [12, 32]);
     let most_clauses = of_sizes([0, 0, 568], [12, 32]);
-    for sizes in [measured, most_clauses] {
+    let of_two_ports = two_of_sizes([0, 24, 512], [12, 32]);
+    for sizes in [measured, most_clauses, of_two_ports] {
         let name = format!(
-            "{}, {} and {}",
-            sizes.inputs, sizes.latch_count, sizes.gate_count
+            "{}, {} and {}, {} ports",
+            sizes.inputs, sizes.latch_count, sizes.gate_count, sizes.port_count()
         );
         let empty = Netlist {
             latches: vec![],

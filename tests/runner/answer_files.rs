@@ -150,7 +150,7 @@ pub fn long(replay: &Replay, tally: &mut Tally) {
         (
             "30 MB of values",
             "s SATISFIABLE\n",
-            million("v 2 -4 675841 -2147483647\n"),
+            million("v 2 -4 1198081 -2147483647\n"),
             30,
             "v 0\n",
             RUN,

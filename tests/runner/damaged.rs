@@ -2,20 +2,37 @@
 
 use super::process::Program;
 use super::reference::check_examples::{accepted, input, of_sizes, FULL_RUN, RICH};
+use super::reference::check_ports::{
+    largest_two_port_sheet, two_of_sizes, two_port_length_rows, two_port_sheet_rows, CONSTANT_READS,
+    TWO_RICH,
+};
 use super::reference::check_refusals::{
-    field_and_letter_rows, input_rows, largest_sheet, length_rows, short_sheet_rows, text_fits,
+    field_and_letter_rows, input_rows, largest_sheet, length_rows, short_sheet_rows, text_fits, Row,
 };
 use super::reference::netlist::{Kind, Netlist};
-use super::reference::random::{tiny_netlist, wide_netlist, Random};
+use super::reference::random::{
+    tiny_netlist, tiny_two_ports, wide_netlist, wide_two_ports, Random,
+};
 use super::reference::sheet::{
     expand, write_depth, write_sheet, DEPTH_LINE_BYTES, FIELD_BYTES, LINE_BYTES, MAX_SHEET_BYTES,
 };
 use super::reference::Tally;
 
+/// The second implementation's rows of sheets of both kinds.
+pub fn sheet_rows() -> Vec<Row> {
+    [
+        field_and_letter_rows(),
+        short_sheet_rows(),
+        length_rows(),
+        two_port_sheet_rows(),
+        two_port_length_rows(),
+    ]
+    .concat()
+}
+
 /// The second implementation's tables: the verdict that was written down, and its whole text.
 pub fn tables(program: &Program, tally: &mut Tally) {
-    let sheets = [field_and_letter_rows(), short_sheet_rows(), length_rows()].concat();
-    let sheet_inputs = sheets
+    let sheet_inputs = sheet_rows()
         .into_iter()
         .map(|(name, sheet, expected)| (name, [write_depth(1), sheet].concat(), expected));
     for (name, bytes, expected) in sheet_inputs.chain(input_rows()) {
@@ -25,16 +42,35 @@ pub fn tables(program: &Program, tally: &mut Tally) {
 }
 
 /// Inputs of every length up to a line more than a small sheet's, and of lengths around the longest
-/// sheet's and far above it.
+/// sheet's of each kind and far above it.
 pub fn lengths(program: &Program, tally: &mut Tally) {
-    let small = [input(1, FULL_RUN), expand("C 1 1 5")].concat();
-    for length in 0..=small.len() {
-        program.agrees(tally, &format!("{length} bytes"), &small[..length]);
+    for short in [FULL_RUN, CONSTANT_READS] {
+        let small = [input(1, short), expand("C 1 1 5")].concat();
+        for length in 0..=small.len() {
+            program.agrees(tally, &format!("{length} bytes"), &small[..length]);
+        }
     }
-    let largest = [write_depth(0), largest_sheet()].concat();
+    for largest in [largest_sheet(), largest_two_port_sheet()] {
+        lengths_around(program, tally, &[write_depth(0), largest].concat());
+    }
+    // Lines too many for a small sheet, up to and above the longest file: 3 there, 1 above.
+    for lines in [6, 615, 616, 626, 627, 628, 1_000] {
+        let mut bytes = input(1, FULL_RUN);
+        bytes.extend(expand("C 1 1 5").repeat(lines - 5));
+        program.agrees(tally, &format!("{lines} lines, 5 due"), &bytes);
+    }
+    let misprint = [input(1, FULL_RUN), vec![b'?'; 1 << 20]].concat();
+    program.agrees(tally, "a megabyte behind the sheet", &misprint);
+}
+
+/// A largest sheet cut, and with something behind it.
+fn lengths_around(program: &Program, tally: &mut Tally, largest: &[u8]) {
+    let own = largest.len();
     let limit = DEPTH_LINE_BYTES + MAX_SHEET_BYTES;
-    let around =
-        (limit - LINE_BYTES - 1..=limit + 2 * LINE_BYTES).chain([32_768, 65_536, 65_537, 1 << 20]);
+    let around = [own - LINE_BYTES - 1, own - LINE_BYTES, own - 1, own, own + 1, own + LINE_BYTES]
+        .into_iter()
+        .chain(limit - LINE_BYTES - 1..=limit + 2 * LINE_BYTES)
+        .chain([32_768, 65_536, 65_537, 1 << 20]);
     for length in around {
         // Behind a whole sheet: its last line again, line feeds, and bytes of no meaning.
         let last_line = largest[largest.len() - LINE_BYTES..].to_vec();
@@ -43,20 +79,12 @@ pub fn lengths(program: &Program, tally: &mut Tally) {
                 .iter()
                 .cycle()
                 .take(length.saturating_sub(largest.len()));
-            let mut bytes = largest.clone();
+            let mut bytes = largest.to_vec();
             bytes.extend(repeated);
             bytes.truncate(length);
             program.agrees(tally, &format!("{length} bytes"), &bytes);
         }
     }
-    // Lines too many for a small sheet, up to and above the longest file: 3 there, 1 above.
-    for lines in [6, 614, 615, 616, 1_000] {
-        let mut bytes = input(1, FULL_RUN);
-        bytes.extend(expand("C 1 1 5").repeat(lines - 5));
-        program.agrees(tally, &format!("{lines} lines, 5 due"), &bytes);
-    }
-    let misprint = [input(1, FULL_RUN), vec![b'?'; 1 << 20]].concat();
-    program.agrees(tally, "a megabyte behind the sheet", &misprint);
 }
 
 /// The depth line: every byte in its last column and in its first and last digit's, and values.
@@ -94,15 +122,21 @@ pub fn sizes(program: &Program, tally: &mut Tally) {
     }
     for counts in rows {
         for widths in [[1, 1], [12, 1], [1, 2], [1, 32], [12, 32]] {
-            let bytes = [write_depth(0), write_sheet(&of_sizes(counts, widths))].concat();
-            program.agrees(tally, &format!("sizes {counts:?} {widths:?}"), &bytes);
+            for netlist in [of_sizes(counts, widths), two_of_sizes(counts, widths)] {
+                let name = format!("sizes {counts:?} {widths:?} {} ports", netlist.port_count());
+                let bytes = [write_depth(0), write_sheet(&netlist)].concat();
+                program.agrees(tally, &name, &bytes);
+            }
         }
     }
     for m in [0, 1, 2, 11, 12, 13, 14] {
         for n in [0, 1, 2, 31, 32, 33, 34] {
             let lines = "/A 0".repeat(m) + &"/D 0".repeat(n);
-            let short = format!("N 0 0 0/M {m} {n} 0{lines}/C 0 0 0");
-            program.agrees(tally, &format!("widths {m} {n}"), &input(1, &short));
+            let second = "/B 0".repeat(m) + "/R 0";
+            for (letter, behind) in [("M", ""), ("T", second.as_str())] {
+                let short = format!("N 0 0 0/{letter} {m} {n} 0{lines}{behind}/C 0 0 0");
+                program.agrees(tally, &format!("widths {letter} {m} {n}"), &input(1, &short));
+            }
         }
     }
     for n in 1..=32usize {
@@ -116,12 +150,12 @@ pub fn sizes(program: &Program, tally: &mut Tally) {
             words + 1,
             u64::from(u32::MAX),
         ] {
-            let short = format!("N 0 0 0/M 1 {n} {start}/A 0{}/C 0 0 0", "/D 0".repeat(n));
-            program.agrees(
-                tally,
-                &format!("start word {start} of {n} bits"),
-                &input(0, &short),
-            );
+            for (letter, behind) in [("M", ""), ("T", "/B 0/R 0")] {
+                let data = "/D 0".repeat(n);
+                let short = format!("N 0 0 0/{letter} 1 {n} {start}/A 0{data}{behind}/C 0 0 0");
+                let name = format!("start word {start} of {n} bits, {letter}");
+                program.agrees(tally, &name, &input(0, &short));
+            }
         }
     }
 }
@@ -132,9 +166,13 @@ pub fn fields(program: &Program, tally: &mut Tally) {
     let mut netlists = vec![
         accepted(RICH),
         accepted(FULL_RUN),
+        accepted(TWO_RICH),
+        accepted(CONSTANT_READS),
         wide_netlist(&mut random),
+        wide_two_ports(&mut random),
     ];
-    netlists.extend((0..12).map(|_| tiny_netlist(&mut random)));
+    netlists.extend((0..9).map(|_| tiny_netlist(&mut random)));
+    netlists.extend((0..9).map(|_| tiny_two_ports(&mut random)));
     for (round, netlist) in netlists.iter().enumerate() {
         let sheet = write_sheet(netlist);
         // All lines of a small sheet; the last ones of a large one.
@@ -163,7 +201,7 @@ pub fn fields(program: &Program, tally: &mut Tally) {
 /// The values on both sides of every limit that may apply to a line, and those that no field takes.
 fn limits(netlist: &Netlist, place: u32) -> Vec<u64> {
     let limit = match netlist.line_at(place) {
-        Some((Kind::Sizes | Kind::Memory, _)) => {
+        Some((Kind::Sizes | Kind::Memory | Kind::TwoPortMemory, _)) => {
             return vec![0, 1, 12, 13, 32, 33, 600, 601, u64::from(u32::MAX), 1 << 32]
         }
         Some((Kind::Gate, index)) => 2 * (netlist.first_gate() + index as u32),

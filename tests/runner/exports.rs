@@ -3,7 +3,7 @@
 
 use super::reference::answer::Claim;
 use super::reference::answer_calls::{Call, Outcome};
-use super::reference::formula::Group;
+use super::reference::formula::{Group, PortGroup};
 use super::reference::netlist::{Gate, Latch, Netlist};
 use super::reference::position::Position;
 use super::reference::refusal::Refusal;
@@ -22,11 +22,14 @@ struct Record {
     n: u32,
     initial_word: u32,
     unknown_start: u32,
+    second_port: u32,
     address: [Code; 12],
     write_data: [Code; 32],
     we: Code,
     re: Code,
     p: Code,
+    address2: [Code; 12],
+    re2: Code,
 }
 
 #[repr(C)]
@@ -121,6 +124,7 @@ struct GroupReply {
     kind: u32,
     j: u32,
     i: u32,
+    port: u32,
 }
 
 #[repr(C)]
@@ -133,7 +137,14 @@ struct VersionReply {
 extern "C" {
     fn marrubigai_version() -> VersionReply;
 
-    fn marrubigai_next_group(depth: u32, kind: u32, j: u32, i: u32) -> GroupReply;
+    fn marrubigai_next_group(
+        depth: u32,
+        ports: u32,
+        kind: u32,
+        j: u32,
+        i: u32,
+        port: u32,
+    ) -> GroupReply;
 
     fn marrubigai_write_group(
         net: Record,
@@ -145,6 +156,7 @@ extern "C" {
         kind: u32,
         j: u32,
         i: u32,
+        port: u32,
         out: *mut i32,
         room: usize,
     ) -> CountReply;
@@ -177,6 +189,7 @@ extern "C" {
         position: PositionRecord,
         kind: u32,
         j: u32,
+        port: u32,
         out: *mut i32,
         room: usize,
     ) -> CountReply;
@@ -256,11 +269,14 @@ fn record_of(netlist: &Netlist) -> Record {
         n: netlist.data_width,
         initial_word: netlist.start_word,
         unknown_start: netlist.unknown_start,
+        second_port: netlist.two_ports,
         address: netlist.address.map(Code),
         write_data: netlist.write_data.map(Code),
         we: Code(netlist.write_enable),
         re: Code(netlist.read_enable),
         p: Code(netlist.property),
+        address2: netlist.second_address.map(Code),
+        re2: Code(netlist.second_read_enable),
     }
 }
 
@@ -349,14 +365,30 @@ fn answer<T>(
     }
 }
 
-/// Kind, j and i of a group. Numbers that the kind has no use for are as odd as can be.
-pub fn parameters(group: Group) -> (u32, u32, u32) {
+/// A group as a call is asked for it: kind, j, i and port.
+pub type Numbers = (u32, u32, u32, u32);
+
+/// The four numbers of a group. Those that its kind has no use for are as odd as can be.
+pub fn parameters(PortGroup { port, group }: PortGroup) -> Numbers {
     match group {
-        Group::Wires(i) => (0, u32::MAX, i),
-        Group::Pair(j, i) => (1, j, i),
-        Group::Closing(i) => (2, u32::MAX, i),
-        Group::Property => (3, u32::MAX, u32::MAX),
+        Group::Wires(i) => (0, u32::MAX, i, u32::MAX),
+        Group::Pair(j, i) => (1, j, i, port),
+        Group::Closing(i) => (2, u32::MAX, i, port),
+        Group::Property => (3, u32::MAX, u32::MAX, u32::MAX),
     }
+}
+
+/// The group that four numbers ask for. A kind above 3 is no group, which is tested in 8's place as a pair of a
+/// frame with itself is.
+pub fn asked_for((kind, j, i, port): Numbers) -> PortGroup {
+    let group = match kind {
+        0 => Group::Wires(i),
+        1 => Group::Pair(j, i),
+        2 => Group::Closing(i),
+        3 => Group::Property,
+        _ => Group::Pair(i, i),
+    };
+    PortGroup { port, group }
 }
 
 /// The version of the header that the library is built for.
@@ -366,16 +398,16 @@ pub fn version() -> (u32, u32) {
     (reply.major, reply.minor)
 }
 
-/// Kind, j and i of the group that follows one in the order of a depth, `None` at the end; what does not apply must be 0.
-pub fn next_group(depth: u32, (kind, j, i): (u32, u32, u32)) -> Result<Option<Group>, &'static str> {
+/// The group that follows one in the order of a depth with so many ports, `None` at the end; what does not apply must be 0.
+pub fn next_group(depth: u32, ports: u32, (kind, j, i, port): Numbers) -> Result<Option<PortGroup>, &'static str> {
     // SAFETY: nothing is lent.
-    let reply = unsafe { marrubigai_next_group(depth, kind, j, i) };
-    match (reply.end, reply.kind, reply.j, reply.i) {
-        (0, 0, 0, i) => Ok(Some(Group::Wires(i))),
-        (0, 1, j, i) => Ok(Some(Group::Pair(j, i))),
-        (0, 2, 0, i) => Ok(Some(Group::Closing(i))),
-        (0, 3, 0, 0) => Ok(Some(Group::Property)),
-        (1, 0, 0, 0) => Ok(None),
+    let reply = unsafe { marrubigai_next_group(depth, ports, kind, j, i, port) };
+    match (reply.end, reply.kind, reply.j, reply.i, reply.port) {
+        (0, 0, 0, i, 0) => Ok(Some(PortGroup::first(Group::Wires(i)))),
+        (0, 1, j, i, port) => Ok(Some(PortGroup { port, group: Group::Pair(j, i) })),
+        (0, 2, 0, i, port) => Ok(Some(PortGroup { port, group: Group::Closing(i) })),
+        (0, 3, 0, 0, 0) => Ok(Some(PortGroup::first(Group::Property))),
+        (1, 0, 0, 0, 0) => Ok(None),
         _ => Err("no group and no end"),
     }
 }
@@ -413,7 +445,7 @@ impl Lists {
     pub fn write_group(
         &self,
         depth: u32,
-        (kind, j, i): (u32, u32, u32),
+        (kind, j, i, port): Numbers,
         room: usize,
     ) -> Answer<Vec<i32>> {
         // SAFETY: each pointer and length are those of a live slice, and only `out` is written to.
@@ -428,6 +460,7 @@ impl Lists {
                 kind,
                 j,
                 i,
+                port,
                 out,
                 room,
             )
@@ -484,11 +517,11 @@ impl Lists {
         ((reply.number, reply.place), Position { depth, frame, base })
     }
 
-    /// A group call through a running record, with a slice of `room` numbers: the numbers written.
+    /// A group call through a running record, by kind, j and port, with a slice of `room` numbers: the numbers written.
     pub fn write_group_at(
         &self,
         position: Position,
-        (kind, j): (u32, u32),
+        (kind, j, port): (u32, u32, u32),
         room: usize,
     ) -> Answer<Vec<i32>> {
         // SAFETY: each pointer and length are those of a live slice, and only `out` is written to.
@@ -502,6 +535,7 @@ impl Lists {
                 position_record(position),
                 kind,
                 j,
+                port,
                 out,
                 room,
             )
@@ -705,11 +739,14 @@ fn netlist_of(net: Record, latches: &[LatchRecord], gates: &[GateRecord]) -> Net
         data_width: net.n,
         start_word: net.initial_word,
         unknown_start: net.unknown_start,
+        two_ports: net.second_port,
         address: net.address.map(|code| code.0),
         write_data: net.write_data.map(|code| code.0),
         write_enable: net.we.0,
         read_enable: net.re.0,
         property: net.p.0,
+        second_address: net.address2.map(|code| code.0),
+        second_read_enable: net.re2.0,
         latches: latches
             .iter()
             .map(|latch| Latch {
@@ -724,6 +761,5 @@ fn netlist_of(net: Record, latches: &[LatchRecord], gates: &[GateRecord]) -> Net
                 right: gate.right.0,
             })
             .collect(),
-        ..Netlist::default()
     }
 }

@@ -14,7 +14,7 @@ use std::time::{Duration, Instant};
 
 use super::process::{collect, shown, start, whole, Program, Ran};
 use super::reference::check_examples::{input, FULL_RUN, RICH};
-use super::reference::check_refusals::largest_sheet;
+use super::reference::check_ports::largest_two_port_sheet;
 use super::reference::netlist::MAX_DEPTH;
 use super::reference::sheet::write_depth;
 use super::reference::Tally;
@@ -47,7 +47,7 @@ fn in_pieces(program: &Program, bytes: &[u8], size: usize, pause: bool) -> Ran {
 
 /// Input in pieces of many sizes, with pauses, so that each read answers one piece; and cut off anywhere.
 pub fn pieces(program: &Program, tally: &mut Tally) {
-    let largest = [write_depth(0), largest_sheet()].concat();
+    let largest = [write_depth(0), largest_two_port_sheet()].concat();
     let too_long = [largest.clone(), vec![b'\n'; 3_000]].concat();
     let whole = input(1, FULL_RUN);
     let rows: [(&str, &[u8], usize, bool); 10] = [

@@ -1,9 +1,9 @@
 //! Hostile inputs through the programs, each compared with the second implementation.
 
-use super::mutate::{change_bytes, sheet};
+use super::mutate::{change_bytes, draft, sheet};
 use super::process::Program;
 use super::reference::random::Random;
-use super::reference::random_answers::{random_draft, written, written_unsatisfiable};
+use super::reference::random_answers::{written, written_unsatisfiable};
 use super::reference::sheet::{read_depth, read_sheet, write_depth, write_sheet, FIELD_BYTES};
 use super::reference::Tally;
 use super::replays::Replay;
@@ -75,7 +75,7 @@ pub fn inputs(program: &Program, tally: &mut Tally, seed: u64, count: usize) {
 
 /// An input of `replay` and an answer: one of them or both hostile.
 pub fn input_and_answer(random: &mut Random) -> (Vec<u8>, Vec<u8>) {
-    let draft = random_draft(random);
+    let draft = draft(random);
     let mut answer = if random.percent(90) {
         written(random, &draft.numbers)
     } else {

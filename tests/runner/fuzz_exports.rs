@@ -1,13 +1,12 @@
 //! Hostile calls of the exported functions, each compared with the second implementation.
 
-use super::mutate::{change_bytes, netlist, sheet, LIMITS};
+use super::exports::Numbers;
+use super::mutate::{change_bytes, draft, netlist, sheet, LIMITS};
 use super::reference::answer_calls::{marks, Call as ReplayCall};
-use super::reference::check_examples::{accepted, FULL_RUN};
-use super::reference::formula::{Fault, Formula};
 use super::reference::netlist::{Gate, Latch, Netlist};
-use super::reference::random::{damaged_record, tie, Random};
+use super::reference::random::{damaged_record, tie, tiny_netlist, wide_netlist, Random};
 use super::reference::random_aiger::{damaged_call, draft_of, Call as ImportCall, Numbering};
-use super::reference::random_answers::{random_draft, written, written_unsatisfiable, CALL_FAULTS};
+use super::reference::random_answers::{written, written_unsatisfiable, CALL_FAULTS};
 use super::reference::Tally;
 use super::{calls, literals, positions, prints, Library};
 
@@ -16,7 +15,7 @@ fn record(random: &mut Random) -> Netlist {
     let mut record = netlist(random);
     for _ in 0..random.below(4) {
         let number = random.pick(&LIMITS);
-        let entry = match random.below(14) {
+        let entry = match random.below(18) {
             0 => &mut record.inputs,
             1 => &mut record.latch_count,
             2 => &mut record.gate_count,
@@ -35,6 +34,13 @@ fn record(random: &mut Random) -> Netlist {
             11 => &mut record.unknown_start,
             12 if (2..=12).contains(&record.address_width) => {
                 tie(random, &mut record);
+                continue;
+            }
+            13 => &mut record.second_read_enable,
+            // Of an M record it does not count at all.
+            14 => &mut record.second_address[random.index(12)],
+            15 => {
+                record.two_ports = random.pick(&[0, 1, 2, u32::MAX]);
                 continue;
             }
             _ => {
@@ -93,6 +99,18 @@ fn small_or_limit(random: &mut Random) -> u32 {
     }
 }
 
+/// A port, or a number of ports: mostly one that there is, or may be.
+fn port(random: &mut Random) -> u32 {
+    random.pick(&[1, 1, 1, 2, 2, 2, 0, 3, u32::MAX])
+}
+
+/// The numbers of a group: kind, j, i and port.
+fn group(random: &mut Random) -> Numbers {
+    let mut number = || small_or_limit(random);
+    let (kind, j, i) = (number(), number(), number());
+    (kind, j, i, port(random))
+}
+
 /// A length of a lent slice or list: around what small records need, none, or more than any needs.
 fn room(random: &mut Random) -> usize {
     let some = random.index(130);
@@ -104,7 +122,12 @@ fn import_call(random: &mut Random) -> ImportCall {
     let mut call = if random.percent(20) {
         damaged_call(random)
     } else {
-        let mut netlist = netlist(random);
+        // A text stands for a netlist with one port.
+        let mut netlist = if random.percent(90) {
+            tiny_netlist(random)
+        } else {
+            wide_netlist(random)
+        };
         for latch in &mut netlist.latches {
             latch.reset = 0;
         }
@@ -130,7 +153,7 @@ fn import_call(random: &mut Random) -> ImportCall {
 
 /// A replay of a sound call or of one with faults in any part of it, or of parts that have nothing to do with each other.
 fn replay_call(random: &mut Random) -> ReplayCall {
-    let draft = random_draft(random);
+    let draft = draft(random);
     let mut answer = if random.percent(85) {
         written(random, &draft.numbers)
     } else {
@@ -176,7 +199,6 @@ fn change_header(random: &mut Random, text: &mut Vec<u8>) {
 
 pub fn calls(library: &Library, tally: &mut Tally, seed: u64, count: usize) {
     let mut random = Random::new(seed);
-    let any = accepted(FULL_RUN); // the order of the groups is that of every netlist
     for _ in 0..count {
         match random.below(17) {
             0 => {
@@ -194,11 +216,7 @@ pub fn calls(library: &Library, tally: &mut Tally, seed: u64, count: usize) {
             5..=8 => {
                 let netlist = record(&mut random);
                 let depth = small_or_limit(&mut random);
-                let of = (
-                    small_or_limit(&mut random),
-                    small_or_limit(&mut random),
-                    small_or_limit(&mut random),
-                );
+                let of = group(&mut random);
                 library.group_agrees(tally, &netlist, depth, of, room(&mut random));
             }
             9 | 10 => {
@@ -220,14 +238,9 @@ pub fn calls(library: &Library, tally: &mut Tally, seed: u64, count: usize) {
                 literals::any(library, tally, &mut random, &netlist);
             }
             15 => {
-                let depth = random.below(6);
-                let of = (
-                    small_or_limit(&mut random),
-                    small_or_limit(&mut random),
-                    small_or_limit(&mut random),
-                );
-                let groups = Formula::new(&any, depth, Fault::None).groups();
-                calls::order_agrees(tally, &groups, depth, of);
+                let (depth, ports) = (random.below(6), port(&mut random));
+                let of = group(&mut random);
+                calls::order_agrees(tally, &calls::order_of(depth, ports), depth, ports, of);
             }
             _ => {
                 let netlist = record(&mut random);

@@ -64,7 +64,7 @@ pub struct Library {
 /// A name, its checks, and whether they are part of a sample.
 type Family = (&'static str, fn(&Library, &mut Tally), bool);
 
-const FAMILIES: [Family; 39] = [
+const FAMILIES: [Family; 41] = [
     ("facts of the full run", calls::stated, true),
     ("table of group calls", calls::table_of_calls, true),
     ("table of records", calls::table_of_records, true),
@@ -80,6 +80,7 @@ const FAMILIES: [Family; 39] = [
     ("tables of sheets", reads::tables, true),
     ("rooms of lists", reads::rooms, false),
     ("damaged sheets", reads::damaged, false),
+    ("ties and loops by line", reads::ties_and_loops, false),
     ("lines of sheets", reads::lines, true),
     ("tables of written sheets", written_sheets::tables, true),
     ("sheets written and read back", written_sheets::round_trips, false),
@@ -98,6 +99,7 @@ const FAMILIES: [Family; 39] = [
     ("random texts", prints::random, false),
     ("joined texts", prints::joined, false),
     ("replays by hand", replay_calls::by_hand, true),
+    ("replays of two ports by hand", replay_calls::two_ports_by_hand, true),
     ("replays with sets of faults", replay_calls::fault_sets, false),
     ("replays of random answers", replay_calls::random_answers, false),
     ("replays of damaged answers", replay_calls::damaged, false),

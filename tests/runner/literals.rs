@@ -1,16 +1,17 @@
 //! Literals of a running record's frame (RULES R8 and T52) through the static library: by hand, and against the groups that its calls write.
 //! No paper has this call, and so the second implementation has none.
 
-use super::calls::differ;
+use super::calls::{differ, record_rows};
 use super::exports::{Answer, Lists};
+use super::mutate::wide;
 use super::positions::{hostile_position, ON, START};
 use super::reference::check_examples::{accepted, FULL_RUN, RICH};
+use super::reference::check_ports::TWO_RICH;
 use super::reference::check_position::position_of;
-use super::reference::check_refusals::RECORDS;
 use super::reference::formula::frame_base;
 use super::reference::netlist::{Netlist, MAX_DEPTH};
 use super::reference::position::Position;
-use super::reference::random::{wide_netlist, Random};
+use super::reference::random::Random;
 use super::reference::refusal::*;
 use super::reference::Tally;
 use super::{Counts, Library};
@@ -74,6 +75,24 @@ const OF_RICH: [Row; 8] = [
     ([2, 2, 16], 8, Err(WRONG_BASE)),
 ];
 
+/// Of `TWO_RICH`: V = 7 and m = 2, so B is 1, 8, 27 and, in frame 255, 1 + 255 * 7 + 12 * 255 * 254 / 2. Wires 5 and 6 are the second port's read bits,
+/// wire 7 is the gate.
+const OF_TWO_RICH: [Row; 12] = [
+    ([2, 0, 1], 10, Ok(6)),
+    ([2, 0, 1], 15, Ok(-8)),
+    ([2, 1, 8], 10, Ok(13)),
+    ([2, 1, 8], 12, Ok(14)),
+    ([2, 2, 27], 11, Ok(-32)),
+    ([2, 2, 27], 14, Ok(34)),
+    ([255, 255, 390_406], 14, Ok(390_413)),
+    ([2, 1, 8], 16, Err(CODE)),
+    ([2, 2, 27], u32::MAX, Err(CODE)),
+    // The bases of the M sheet with these sizes, and with as many wires.
+    ([2, 1, 6], 8, Err(WRONG_BASE)),
+    ([2, 2, 17], 8, Err(WRONG_BASE)),
+    ([2, 2, 21], 8, Err(WRONG_BASE)),
+];
+
 impl Library {
     /// What the call answers; counted.
     fn literal(&self, lists: &Lists, position: Position, code: u32) -> Answer<i32> {
@@ -115,7 +134,8 @@ fn due(netlist: &Netlist, position: Position, code: u32) -> Result<i32, Refusal>
 
 /// The rows, and every record of the table of records: only 4 is tested of it.
 pub fn tables(library: &Library, tally: &mut Tally) {
-    for (short, rows) in [(FULL_RUN, &OF_FULL_RUN[..]), (RICH, &OF_RICH[..])] {
+    let tables = [(FULL_RUN, &OF_FULL_RUN[..]), (RICH, &OF_RICH[..]), (TWO_RICH, &OF_TWO_RICH[..])];
+    for (short, rows) in tables {
         let netlist = accepted(short);
         let lists = Lists::new(&netlist);
         for (row, code, expected) in rows {
@@ -125,9 +145,7 @@ pub fn tables(library: &Library, tally: &mut Tally) {
             library.literal_agrees(tally, &netlist, position_of(*row), *code);
         }
     }
-    for (name, change, (number, place)) in RECORDS {
-        let mut record = accepted(RICH);
-        change(&mut record);
+    for (name, record, (number, place)) in record_rows() {
         // Of frame 0, whose base is that of every record; then with all the faults behind 4.
         let found = library.literal(&Lists::new(&record), position_of([2, 0, 1]), 8);
         let expected = match number {
@@ -135,8 +153,8 @@ pub fn tables(library: &Library, tally: &mut Tally) {
             _ => Ok(5),
         };
         tally.equal((name, "frame 0"), found, Ok(expected));
-        for row in [[256, 300, 7], [1, 2, 7], [2, 1, 7], [2, 1, 6], [2, 0, 1]] {
-            for code in [0, 8, 12, u32::MAX] {
+        for row in [[256, 300, 7], [1, 2, 7], [2, 1, 7], [2, 1, 6], [2, 1, 8], [2, 0, 1]] {
+            for code in [0, 8, 12, 16, u32::MAX] {
                 library.literal_agrees(tally, &record, position_of(row), code);
             }
         }
@@ -211,8 +229,8 @@ fn wires(netlist: &Netlist, before: Option<&[i32]>, own: &[i32]) -> Vec<i32> {
 pub fn groups(library: &Library, tally: &mut Tally) {
     let mut random = Random::new(1401);
     let mut constants = 0;
-    for round in 0..160 {
-        let mut netlist = wide_netlist(&mut random);
+    for round in 0..200 {
+        let mut netlist = wide(&mut random);
         if round % 8 == 0 {
             netlist.property = round / 8 % 2;
             constants += 1;
@@ -229,7 +247,7 @@ pub fn groups(library: &Library, tally: &mut Tally) {
             let own = literals(library, tally, &lists, &netlist, position);
             tally.equal((round, frame, "constants"), &own[..2], &[-1, 1][..]);
             let due = wires(&netlist, before.as_deref(), &own);
-            let found = lists.write_group(depth, (0, 0, frame), due.len());
+            let found = lists.write_group(depth, (0, 0, frame, 0), due.len());
             tally.check_with((round, frame, "wires"), found == Ok(Ok(due)), || {
                 format!(": {netlist:?}")
             });
@@ -238,7 +256,7 @@ pub fn groups(library: &Library, tally: &mut Tally) {
             position = lists.move_position(position, ON).1;
         }
         let due = written(&[property]);
-        let found = lists.write_group(depth, (3, 0, 0), due.len());
+        let found = lists.write_group(depth, (3, 0, 0, 0), due.len());
         tally.check_with((round, "property"), found == Ok(Ok(due)), || {
             format!(": {netlist:?}")
         });

@@ -29,10 +29,11 @@ use replays::Replay;
 type Family = (&'static str, fn(&Program, &mut Tally));
 type ReplayFamily = (&'static str, fn(&Replay, &mut Tally));
 
-const FAMILIES: [Family; 17] = [
+const FAMILIES: [Family; 18] = [
     ("full runs, by hand", accepted::full_runs),
     ("every depth", accepted::every_depth),
-    ("random sheets", accepted::random_sheets),
+    ("random M sheets", accepted::random_sheets),
+    ("random T sheets", accepted::random_two_ports),
     ("largest sheets at depth 255", accepted::largest),
     ("tables of refusals", damaged::tables),
     ("lengths of inputs", damaged::lengths),
@@ -64,7 +65,7 @@ const REPLAY_FAMILIES: [ReplayFamily; 15] = [
     ("solvers that are wrong, by hand", replays::liars),
     ("random answers, sound and faulty", replays::random_answers),
     ("answers damaged at every byte", replays::damaged),
-    ("the largest chip at depth 255", replays::largest),
+    ("the largest chips at depth 255", replays::largest),
     ("answers of CaDiCaL and MiniSat", replays::solvers),
     ("answers that cannot be read", answer_files::unreadable),
     ("answers in pieces", answer_files::pieces),

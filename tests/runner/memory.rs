@@ -5,7 +5,7 @@ use std::fs;
 use super::fuzz;
 use super::process::Program;
 use super::reference::check_examples::{input, FULL_RUN, RICH};
-use super::reference::check_refusals::largest_sheet;
+use super::reference::check_ports::{largest_two_port_sheet, TWO_RICH};
 use super::reference::random::Random;
 use super::reference::sheet::write_depth;
 use super::reference::Tally;
@@ -20,8 +20,9 @@ pub fn sample(program: &Program, tally: &mut Tally, count: usize) {
         Vec::new(),
         input(1, FULL_RUN),
         input(12, RICH),
-        [write_depth(1), largest_sheet()].concat(),
-        [write_depth(1), largest_sheet(), vec![b'?'; 1 << 16]].concat(),
+        input(7, TWO_RICH),
+        [write_depth(1), largest_two_port_sheet()].concat(),
+        [write_depth(1), largest_two_port_sheet(), vec![b'?'; 1 << 16]].concat(),
     ];
     while inputs.len() < count {
         inputs.push(fuzz::input(&mut random));

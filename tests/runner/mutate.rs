@@ -1,15 +1,38 @@
 //! Hostile inputs from sound ones, by structure (lines, fields, numbers at limits) and by bytes.
 
 use super::reference::netlist::Netlist;
-use super::reference::random::{damaged_record, damaged_sheet, tiny_netlist, wide_netlist, Random};
+use super::reference::random::{
+    damaged_record, damaged_sheet, tiny_netlist, tiny_two_ports, wide_netlist, wide_two_ports, Random,
+};
+use super::reference::random_answers::{random_draft, two_port_draft, Draft};
 use super::reference::sheet::{write_sheet, FIELDS, FIELD_BYTES, LINE_BYTES, MAX_SHEET_BYTES};
 
-/// Mostly small, since small sheets are judged quickly and have every kind of line as well.
+/// With one port or two, and mostly small, since small sheets are judged quickly and have every kind of line as well.
 pub fn netlist(random: &mut Random) -> Netlist {
-    if random.percent(90) {
+    if random.percent(10) {
+        wide(random)
+    } else if random.percent(50) {
         tiny_netlist(random)
     } else {
+        tiny_two_ports(random)
+    }
+}
+
+/// Of any shape within the limits, with one port or two.
+pub fn wide(random: &mut Random) -> Netlist {
+    if random.percent(50) {
         wide_netlist(random)
+    } else {
+        wide_two_ports(random)
+    }
+}
+
+/// A run of a chip with one port or two, and an answer that feeds it.
+pub fn draft(random: &mut Random) -> Draft {
+    if random.percent(50) {
+        random_draft(random)
+    } else {
+        two_port_draft(random)
     }
 }
 
@@ -52,7 +75,7 @@ pub fn sheet(random: &mut Random) -> Vec<u8> {
     bytes
 }
 
-/// One number of the N or the M line replaced, or left out.
+/// One number of line 1 or 2 replaced, or left out.
 fn change_sizes(random: &mut Random, sheet: &mut [u8]) {
     let at = random.index(2) * LINE_BYTES + 1 + random.index(FIELDS) * FIELD_BYTES;
     let number = random.pick(&LIMITS).to_string();
@@ -78,10 +101,14 @@ fn lines_of_letters(random: &mut Random) -> Vec<u8> {
             (b'N', 3),
             (b'M', 3),
             (b'M', 2),
+            (b'T', 3),
+            (b'T', 2),
             (b'L', 2),
             (b'G', 2),
             (b'A', 1),
             (b'D', 1),
+            (b'B', 1),
+            (b'R', 1),
             (b'C', 3),
         ]);
         bytes.push(letter);
@@ -107,7 +134,7 @@ fn spliced(one: &[u8], other: &[u8], random: &mut Random) -> Vec<u8> {
 }
 
 /// Bytes that are near to sound ones: digits, letters, blanks of other kinds, ends of ranges.
-const BYTES: &[u8] = b" 0123456789NMLGADCTBRnmlgadc\n\r\t\0\x0b\x0c-+./:x\x7f\x80\xa0\xff";
+const BYTES: &[u8] = b" 0123456789NMTLGADBRCnmtlgadbrc\n\r\t\0\x0b\x0c-+./:x\x7f\x80\xa0\xff";
 
 /// One to four changes of single bytes and of stretches of bytes.
 pub fn change_bytes(random: &mut Random, bytes: &mut Vec<u8>) {

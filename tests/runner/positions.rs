@@ -3,16 +3,17 @@
 
 use std::collections::BTreeMap;
 
-use super::calls::differ;
+use super::calls::{differ, record_rows};
 use super::exports::{Answer, Lists};
-use super::mutate::{netlist, LIMITS};
-use super::reference::check_examples::{accepted, FULL_RUN, RICH};
+use super::mutate::{netlist, wide, LIMITS};
+use super::reference::check_examples::{accepted, FULL_RUN};
+use super::reference::check_ports::{CONSTANT_READS, PORT_POSITIONS};
 use super::reference::check_position::{position_of, POSITIONS};
-use super::reference::check_refusals::{Verdict, ACCEPTED, RECORDS};
-use super::reference::formula::{frame_base, group_call};
+use super::reference::check_refusals::{Verdict, ACCEPTED};
+use super::reference::formula::{frame_base, group_exists, port_group_call, PortGroup};
 use super::reference::netlist::{Netlist, MAX_DEPTH};
 use super::reference::position::{start, FrameGroup, Position};
-use super::reference::random::{damaged_record, wide_netlist, Random};
+use super::reference::random::{damaged_record, Random};
 use super::reference::refusal::*;
 use super::reference::Tally;
 use super::{Counts, Library};
@@ -45,8 +46,11 @@ fn due_move(netlist: &Netlist, position: Position, way: u32) -> Moved {
     (result.map_or_else(verdict, |()| ACCEPTED), moved)
 }
 
+/// A group of the record's frame as a call is asked for it: kind, j and port.
+type Numbers = (u32, u32, u32);
+
 /// The group of a kind; no such kind is tested in 8's place, as a pair of a frame with itself is.
-fn group_of(position: Position, (kind, j): (u32, u32)) -> FrameGroup {
+fn group_of(position: Position, (kind, j, _): Numbers) -> FrameGroup {
     match kind {
         0 => FrameGroup::Wires,
         1 => FrameGroup::Pair(j),
@@ -56,12 +60,13 @@ fn group_of(position: Position, (kind, j): (u32, u32)) -> FrameGroup {
     }
 }
 
-fn kind_of(group: FrameGroup) -> (u32, u32) {
+/// What the kind has no use for is as odd as can be.
+fn numbers_of(group: FrameGroup, port: u32) -> Numbers {
     match group {
-        FrameGroup::Wires => (0, u32::MAX),
-        FrameGroup::Pair(j) => (1, j),
-        FrameGroup::Closing => (2, u32::MAX),
-        FrameGroup::Property => (3, u32::MAX),
+        FrameGroup::Wires => (0, u32::MAX, u32::MAX),
+        FrameGroup::Pair(j) => (1, j, port),
+        FrameGroup::Closing => (2, u32::MAX, port),
+        FrameGroup::Property => (3, u32::MAX, u32::MAX),
     }
 }
 
@@ -78,7 +83,7 @@ impl Library {
         &self,
         lists: &Lists,
         position: Position,
-        of: (u32, u32),
+        of: Numbers,
         room: usize,
     ) -> Answer<Vec<i32>> {
         let found = lists.write_group_at(position, of, room);
@@ -108,11 +113,11 @@ impl Library {
         tally: &mut Tally,
         netlist: &Netlist,
         position: Position,
-        of: (u32, u32),
+        of: Numbers,
         room: usize,
     ) -> Verdict {
         let found = self.group_at(&Lists::new(netlist), position, of, room);
-        let due = position.group(netlist, group_of(position, of), room);
+        let due = position.port_group(netlist, of.2, group_of(position, of), room);
         let verdict = due.as_ref().err().map_or(ACCEPTED, |refusal| (refusal.number, refusal.place));
         let due = Ok(due);
         tally.check_with((position, of, room), found == due, || {
@@ -122,7 +127,7 @@ impl Library {
     }
 }
 
-/// The second implementation's table with the verdicts that were written down, and every record that is refused.
+/// The second implementation's tables with the verdicts that were written down, and every record that is refused.
 pub fn tables(library: &Library, tally: &mut Tally) {
     let netlist = accepted(FULL_RUN);
     let lists = Lists::new(&netlist);
@@ -130,30 +135,63 @@ pub fn tables(library: &Library, tally: &mut Tally) {
         let position = position_of(row);
         tally.equal((row, "on"), library.moved(&lists, position, ON).0, on);
         tally.equal((row, "back"), library.moved(&lists, position, BACK).0, back);
-        let found = library.group_at(&lists, position, (2, 0), 600);
-        let number = found.map(|it| it.err().map_or(0, |refusal| refusal.number));
+        let number = number_of(library.group_at(&lists, position, (2, 0, 1), 600));
         tally.equal((row, "closing"), number, Ok(closing.0));
-        for way in [START, ON, BACK, 3, 255, u32::MAX] {
-            library.move_agrees(tally, &netlist, position, way);
-        }
-        for kind in [0, 1, 2, 3, 4, u32::MAX] {
-            for j in [0, 1, row[1], u32::MAX] {
-                for room in [0, 30, 31, 600] {
-                    library.group_at_agrees(tally, &netlist, position, (kind, j), room);
-                }
-            }
-        }
+        calls_agree(library, tally, &netlist, row);
     }
-    for (_, change, _) in RECORDS {
-        let mut record = accepted(RICH);
-        change(&mut record);
-        for row in [[256, 300, 7], [1, 2, 7], [1, 0, 7], [1, 0, 1], [2, 1, 6]] {
+    let netlist = accepted(CONSTANT_READS);
+    let lists = Lists::new(&netlist);
+    for (row, port, j, room, expected) in PORT_POSITIONS {
+        let found = library.group_at(&lists, position_of(row), (1, j, port), room);
+        let found = found.map(|it| it.map(|numbers| numbers.len()).map_err(|it| it.number));
+        tally.equal((row, port, j, room), found, Ok(expected));
+        calls_agree(library, tally, &netlist, row);
+    }
+    // By hand: V = 3 and 2(m + 4) = 10, so B is 1, 4, 17, 40 and 73.
+    let mut position = position_of([4, 7, 7]);
+    for (frame, base) in [1, 4, 17, 40, 73].into_iter().enumerate() {
+        let way = if frame == 0 { START } else { ON };
+        let found = library.moved(&lists, position, way);
+        position = position_of([4, frame as u32, base]);
+        tally.equal(("base of two ports", frame), found, (ACCEPTED, position));
+    }
+    tally.equal("back", library.moved(&lists, position, BACK), (ACCEPTED, position_of([4, 0, 1])));
+    tally.equal("past the depth", library.moved(&lists, position, ON), ((NO_SUCH_GROUP, 0), position));
+    // The base of the M sheet with these sizes, which is handed back.
+    let wrong = position_of([4, 2, 12]);
+    for way in [ON, BACK] {
+        tally.equal(("wrong base", way), library.moved(&lists, wrong, way), ((WRONG_BASE, 0), wrong));
+    }
+    for (_, record, _) in record_rows() {
+        for row in [[256, 300, 7], [1, 2, 7], [1, 0, 7], [1, 0, 1], [2, 1, 6], [2, 1, 8]] {
             for way in [START, ON, BACK, 3] {
                 library.move_agrees(tally, &record, position_of(row), way);
             }
-            for of in [(0, 0), (1, 0), (2, 0), (3, 0), (9, 0)] {
+            for of in [(0, 0, 0), (1, 0, 1), (1, 0, 2), (2, 0, 1), (2, 0, 2), (2, 0, 3), (3, 0, 0), (9, 0, 1)] {
                 library.group_at_agrees(tally, &record, position_of(row), of, 0);
                 library.group_at_agrees(tally, &record, position_of(row), of, 600);
+            }
+        }
+    }
+}
+
+/// The number of the refusal that a call answers, 0 where it is none.
+fn number_of<T>(found: Answer<T>) -> Result<u32, &'static str> {
+    found.map(|it| it.err().map_or(0, |refusal| refusal.number))
+}
+
+/// Every move of a record, and groups of its frame: every kind, every port, and rooms around what the pair needs.
+fn calls_agree(library: &Library, tally: &mut Tally, netlist: &Netlist, row: [u32; 3]) {
+    let position = position_of(row);
+    for way in [START, ON, BACK, 3, 255, u32::MAX] {
+        library.move_agrees(tally, netlist, position, way);
+    }
+    for kind in [0, 1, 2, 3, 4, u32::MAX] {
+        for j in [0, 1, row[1], u32::MAX] {
+            for port in [0, 1, 2, 3, u32::MAX] {
+                for room in [0, 30, 31, 600] {
+                    library.group_at_agrees(tally, netlist, position, (kind, j, port), room);
+                }
             }
         }
     }
@@ -162,8 +200,8 @@ pub fn tables(library: &Library, tally: &mut Tally) {
 /// From frame 0 through all frames and back: the base is the formula's, and the groups are those by frame number.
 pub fn walks(library: &Library, tally: &mut Tally) {
     let mut random = Random::new(1201);
-    for round in 0..120 {
-        let netlist = wide_netlist(&mut random);
+    for round in 0..160 {
+        let netlist = wide(&mut random);
         let lists = Lists::new(&netlist);
         let depth = random.pick(&[0, 1, 3, 3, 6, MAX_DEPTH]);
         let any = Position {
@@ -180,10 +218,11 @@ pub fn walks(library: &Library, tally: &mut Tally) {
             if frame < 4 || frame == depth {
                 let mut groups = vec![FrameGroup::Wires, FrameGroup::Closing, FrameGroup::Property];
                 groups.extend([0, frame / 2, frame.saturating_sub(1)].map(FrameGroup::Pair));
-                for group in groups {
-                    let by_frame = group_call(&netlist, depth, position.numbered(group), 6_000);
-                    let found = library.group_at(&lists, position, kind_of(group), 6_000);
-                    tally.check((round, frame, group), found == Ok(by_frame));
+                for (group, port) in groups.into_iter().flat_map(|group| [1, 2].map(|port| (group, port))) {
+                    let asked = PortGroup { port, group: position.numbered(group) };
+                    let by_frame = port_group_call(&netlist, depth, asked, 6_000);
+                    let found = library.group_at(&lists, position, numbers_of(group, port), 6_000);
+                    tally.check((round, frame, group, port), found == Ok(by_frame));
                 }
             }
             let zero = Position {
@@ -253,8 +292,8 @@ pub fn hostile_position(random: &mut Random, netlist: &Netlist) -> Position {
     Position { depth, frame, base }
 }
 
-/// Which tests a call fails, each taken alone: the record's, 7, 8, 16 and 9.
-fn failing(netlist: &Netlist, position: Position, exists: bool, room: Option<(FrameGroup, usize)>) -> Vec<u32> {
+/// Which tests a call fails, each taken alone: the record's, 7, 8, 16 and 9, where a group is asked for with so much room.
+fn failing(netlist: &Netlist, position: Position, exists: bool, room: Option<(FrameGroup, u32, usize)>) -> Vec<u32> {
     let mut numbers = Vec::new();
     let accepted = match netlist.check() {
         Ok(()) => true,
@@ -274,9 +313,10 @@ fn failing(netlist: &Netlist, position: Position, exists: bool, room: Option<(Fr
         if i64::from(position.base) != frame_base(netlist, position.frame) {
             numbers.push(WRONG_BASE);
         }
-        let short = |(group, room): (FrameGroup, usize)| {
+        let short = |(group, port, room): (FrameGroup, u32, usize)| {
             let depth = position.depth.clamp(position.frame, MAX_DEPTH);
-            let found = group_call(netlist, depth, position.numbered(group), room);
+            let asked = PortGroup { port, group: position.numbered(group) };
+            let found = port_group_call(netlist, depth, asked, room);
             found.err().map(|refusal| refusal.number) == Some(NO_ROOM)
         };
         if room.map_or(false, short) {
@@ -306,10 +346,18 @@ pub fn any(library: &Library, tally: &mut Tally, random: &mut Random) -> (Call, 
         netlist.address[1] = netlist.address[0] ^ random.below(2);
     }
     if random.percent(8) {
-        netlist.read_enable = 2 * netlist.inputs.saturating_add(netlist.latch_count).min(599) + 2;
+        netlist.second_address[1] = netlist.second_address[0] ^ random.below(2);
+    }
+    if random.percent(8) {
+        let read_bit = 2 * netlist.inputs.saturating_add(netlist.latch_count).min(599) + 2;
+        let [first, second] = [&mut netlist.read_enable, &mut netlist.second_read_enable];
+        *if random.percent(50) { first } else { second } = read_bit;
     }
     if random.percent(5) {
         netlist.unknown_start = random.pick(&[0, 1, 2, u32::MAX]);
+    }
+    if random.percent(5) {
+        netlist.two_ports = random.pick(&[0, 1, 2, u32::MAX]);
     }
     if random.percent(5) {
         netlist.gate_count = random.pick(&LIMITS);
@@ -330,11 +378,13 @@ pub fn any(library: &Library, tally: &mut Tally, random: &mut Random) -> (Call, 
         };
         return (call, library.move_agrees(tally, &netlist, position, way), failing);
     }
-    let of = (random.below(5), depth_or_frame(random));
+    let of = (random.below(5), depth_or_frame(random), random.pick(&[0, 1, 1, 1, 2, 2, 2, 3, u32::MAX]));
     let room = random.pick(&[0, 0, 20, 60, 600, 6_000]);
     let group = group_of(position, of);
-    let exists = !matches!(group, FrameGroup::Pair(j) if j >= position.frame);
-    let failing = failing(&netlist, position, exists, Some((group, room)));
+    // A port is that of an accepted record; the frame is judged apart.
+    let asked = PortGroup { port: of.2, group: position.numbered(group) };
+    let exists = group_exists(&netlist, position.frame, asked);
+    let failing = failing(&netlist, position, exists, Some((group, of.2, room)));
     (Call::Group, library.group_at_agrees(tally, &netlist, position, of, room), failing)
 }
 

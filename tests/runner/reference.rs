@@ -18,6 +18,8 @@ pub mod answer_calls;
 pub mod check_answers;
 #[path = "../reference/check_examples.rs"]
 pub mod check_examples;
+#[path = "../reference/check_ports.rs"]
+pub mod check_ports;
 #[path = "../reference/check_position.rs"]
 pub mod check_position;
 #[path = "../reference/check_refusals.rs"]

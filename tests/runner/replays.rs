@@ -5,22 +5,23 @@ use std::fs;
 use std::path::{Path, PathBuf};
 use std::process::Command;
 
+use super::damaged::sheet_rows;
+use super::mutate::draft;
 use super::process::{shown, Program};
 use super::reference::agreement::{agrees, feeds_of_model};
 use super::reference::answer::{replay, Answer};
 use super::reference::answer_calls::Call;
 use super::reference::check_answers::{form_rows, replay_rows, satisfiable, BARE};
-use super::reference::check_examples::{accepted, input, of_sizes, FULL_RUN};
-use super::reference::check_refusals::{
-    field_and_letter_rows, length_rows, short_sheet_rows, ACCEPTED,
-};
+use super::reference::check_examples::{accepted, bytes_of, input, of_sizes, FULL_RUN};
+use super::reference::check_ports::{two_of_sizes, TWO_PORT_REPLAYS, TWO_READS};
+use super::reference::check_refusals::ACCEPTED;
 use super::reference::circuit::Run;
 use super::reference::formula::{frame_base, refusal_text};
 use super::reference::netlist::{Netlist, MAX_DEPTH};
-use super::reference::random::{random_feeds, tiny_netlist, Random};
+use super::reference::random::{random_feeds, tiny_netlist, tiny_two_ports, Random};
 use super::reference::random_aiger::{every_byte, every_line};
 use super::reference::random_answers::{
-    answer_case, written, Draft, FEED_FAULTS, TEXT_FAULTS, UNSEEN,
+    answer_case_of, written, Draft, FEED_FAULTS, TEXT_FAULTS, UNSEEN,
 };
 use super::reference::refusal::{Refusal, BAD_ANSWER, NOTHING_BREAKS};
 use super::reference::sheet::{read_sheet, write_depth};
@@ -88,8 +89,12 @@ pub fn by_hand(replay: &Replay, tally: &mut Tally) {
     for (name, input, answer, expected) in replay_rows() {
         replay.prints(tally, &name, &input, &answer, &expected);
     }
-    let sheets = [field_and_letter_rows(), short_sheet_rows(), length_rows()].concat();
-    for (name, sheet, (number, place)) in sheets {
+    for (depth, numbers, expected) in TWO_PORT_REPLAYS {
+        let expected = expected.map_or_else(refused, bytes_of);
+        let name = format!("two ports, depth {depth}, {numbers}");
+        replay.prints(tally, &name, &input(depth, TWO_READS), &satisfiable(numbers), &expected);
+    }
+    for (name, sheet, (number, place)) in sheet_rows() {
         let expected = match (number, place) {
             ACCEPTED => CLAIMED_TEXT.to_vec(),
             _ => refusal_text(Refusal { number, place }),
@@ -141,8 +146,9 @@ pub fn forms(replay: &Replay, tally: &mut Tally) {
 pub fn random_answers(replay: &Replay, tally: &mut Tally) {
     let mut random = Random::new(1001);
     let mut counts: BTreeMap<&str, usize> = BTreeMap::new();
-    for round in 0..1_800 {
-        let (name, call, outcome) = answer_case(&mut random);
+    for round in 0..2_400 {
+        let draft = draft(&mut random);
+        let (name, call, outcome) = answer_case_of(&mut random, draft);
         *counts.entry(name).or_default() += 1;
         replay.call(
             tally,
@@ -158,37 +164,48 @@ pub fn random_answers(replay: &Replay, tally: &mut Tally) {
     );
 }
 
-/// One answer damaged at every byte and in every line.
+/// Two answers damaged at every byte and in every line.
 pub fn damaged(replay: &Replay, tally: &mut Tally) {
-    let sound = b"c\ns SATISFIABLE\nv 2\nv -4 0\n";
-    let bytes = input(1, FULL_RUN);
-    replay.prints(tally, "undamaged", &bytes, sound, b"1\n10\n01\n");
-    for (index, text) in [every_byte(sound), every_line(sound)]
-        .concat()
-        .iter()
-        .enumerate()
-    {
-        replay.agrees(tally, &format!("damaged answer {index}"), &bytes, text);
+    let rows: [(u32, &str, &[u8], &[u8]); 2] = [
+        (1, FULL_RUN, b"c\ns SATISFIABLE\nv 2\nv -4 0\n", b"1\n10\n01\n"),
+        (0, TWO_READS, b"s SATISFIABLE\nv -2 -3 -4 -5 6 -7\nv -9 0\n", b"0\n000010101\n"),
+    ];
+    for (depth, short, sound, printed) in rows {
+        let bytes = input(depth, short);
+        replay.prints(tally, "undamaged", &bytes, sound, printed);
+        for (index, text) in [every_byte(sound), every_line(sound)]
+            .concat()
+            .iter()
+            .enumerate()
+        {
+            replay.agrees(tally, &format!("damaged answer {index}"), &bytes, text);
+        }
     }
 }
 
-/// The largest chip at the greatest depth, with a value for each of its 675,841 variables.
+/// The largest chips at the greatest depth, with a value for each variable: 675,841 with one port, 1,198,081 with two.
 pub fn largest(replay: &Replay, tally: &mut Tally) {
-    let mut netlist = of_sizes([12, 0, 556], [12, 32]);
-    netlist.start_word = u32::MAX;
-    netlist.write_enable = 1;
-    netlist.property = 2;
     let mut random = Random::new(1003);
-    let feeds = random_feeds(&mut random, &netlist, MAX_DEPTH);
-    let mut draft = Draft::new(&netlist, MAX_DEPTH, Run::new(&netlist, &feeds));
-    let (_, all_others) = UNSEEN[0];
-    all_others(&mut random, &mut draft);
-    let answer = written(&mut random, &draft.numbers);
-    let call = draft.call(&mut random, answer);
-    let expected = call.of_run(&draft.run).printed();
-    tally.check(("a run of", expected.len()), expected.len() > 256 * 601);
-    replay.call(tally, "the largest chip", &call, &expected);
-    tally.remark = format!(" (an answer of {} bytes)", call.answer.len());
+    let chips = [of_sizes([12, 0, 556], [12, 32]), two_of_sizes([12, 0, 524], [12, 32])];
+    let mut bytes = Vec::new();
+    for (mut netlist, variables) in chips.into_iter().zip([675_841, 1_198_081]) {
+        netlist.start_word = u32::MAX;
+        netlist.write_enable = 1;
+        netlist.property = 2;
+        let feeds = random_feeds(&mut random, &netlist, MAX_DEPTH);
+        let mut draft = Draft::new(&netlist, MAX_DEPTH, Run::new(&netlist, &feeds));
+        let (_, all_others) = UNSEEN[0];
+        all_others(&mut random, &mut draft);
+        let largest = draft.numbers.iter().map(|number| number.abs()).max();
+        tally.equal("the largest variable", largest, Some(variables));
+        let answer = written(&mut random, &draft.numbers);
+        let call = draft.call(&mut random, answer);
+        let expected = call.of_run(&draft.run).printed();
+        tally.check(("a run of", expected.len()), expected.len() > 256 * 601);
+        replay.call(tally, "the largest chip", &call, &expected);
+        bytes.push(call.answer.len().to_string());
+    }
+    tally.remark = format!(" (answers of {} bytes)", bytes.join(" and "));
 }
 
 /// What a solver says, and whether it found an assignment.
@@ -240,9 +257,10 @@ fn completed(answer: Vec<u8>, variables: usize) -> Vec<u8> {
 /// answer that is satisfiable the run has every wire as the solver said.
 pub fn solvers(replay: &Replay, tally: &mut Tally) {
     let mut random = Random::new(1004);
-    let mut cases: Vec<(Netlist, u32)> = (0..70)
+    let mut cases: Vec<(Netlist, u32)> = (0..50)
         .map(|_| (tiny_netlist(&mut random), random.below(5)))
         .collect();
+    cases.extend((0..50).map(|_| (tiny_two_ports(&mut random), random.below(4))));
     for (name, depth) in [
         ("fourth-revision/faulty", 3),
         ("fifth-revision/faulty", 6),

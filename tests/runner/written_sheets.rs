@@ -1,15 +1,17 @@
 //! Sheets written back (K9) through the static library: the bytes, the length, what is left untouched, and the order of the tests; that a sheet
 //! which is read is written as it was, and one that is written is read as the record.
 
-use super::calls::differ;
+use super::calls::{differ, record_rows};
 use super::exports::{read, Answer, Lists};
-use super::mutate::{netlist, LIMITS};
+use super::mutate::{netlist, wide, LIMITS};
+use super::reads::sheet_rows;
 use super::reference::check_examples::{accepted, FULL_RUN, RICH};
+use super::reference::check_ports::TWO_RICH;
 use super::reference::check_position::change_unused;
-use super::reference::check_refusals::{short_sheet_rows, verdict, ACCEPTED, RECORDS};
+use super::reference::check_refusals::{verdict, ACCEPTED};
 use super::reference::netlist::{Gate, Netlist};
-use super::reference::random::{damaged_record, damaged_sheet, tie, wide_netlist, Random};
-use super::reference::sheet::{expand, read_sheet, write_back, write_sheet, MAX_SHEET_BYTES};
+use super::reference::random::{damaged_record, damaged_sheet, tie, Random};
+use super::reference::sheet::{read_sheet, write_back, write_sheet, MAX_SHEET_BYTES};
 use super::reference::Tally;
 use super::{Counts, Library};
 
@@ -30,10 +32,7 @@ impl Library {
 
 /// Every accepted sheet of the tables comes back byte for byte; every record of the table of records.
 pub fn tables(library: &Library, tally: &mut Tally) {
-    let rows = short_sheet_rows()
-        .into_iter()
-        .chain([FULL_RUN, RICH].map(|short| (short.to_string(), expand(short), ACCEPTED)));
-    for (name, sheet, expected) in rows {
+    for (name, sheet, expected) in sheet_rows() {
         if expected != ACCEPTED {
             continue;
         }
@@ -44,10 +43,9 @@ pub fn tables(library: &Library, tally: &mut Tally) {
             library.sheet_agrees(tally, &netlist, room);
         }
     }
-    for (name, change, expected) in RECORDS {
-        let mut record = accepted(RICH);
-        change(&mut record);
-        for room in [0, 287, 288, 600] {
+    // nine lines of `RICH`, twelve of `TWO_RICH`
+    for (name, record, expected) in record_rows() {
+        for room in [0, 287, 288, 383, 384, 600] {
             library.sheet_agrees(tally, &record, room);
         }
         if expected != ACCEPTED {
@@ -60,14 +58,15 @@ pub fn tables(library: &Library, tally: &mut Tally) {
 /// Read what was written and write what was read: the same record in all used entries, the same bytes.
 pub fn round_trips(library: &Library, tally: &mut Tally) {
     let mut random = Random::new(1301);
-    let mut unknown = 0;
-    for round in 0..3_000 {
+    let [mut unknown, mut two_ports] = [0; 2];
+    for round in 0..4_000 {
         let netlist = if round % 4 == 0 {
-            wide_netlist(&mut random)
+            wide(&mut random)
         } else {
             netlist(&mut random)
         };
         unknown += usize::from(netlist.has_unknown_start());
+        two_ports += usize::from(netlist.has_two_ports());
         let mut record = netlist.clone();
         change_unused(&mut random, &mut record);
         let sheet = write_sheet(&netlist);
@@ -82,10 +81,11 @@ pub fn round_trips(library: &Library, tally: &mut Tally) {
             library.sheet_agrees(tally, &record, room);
         }
         let mut damaged = damaged_record(&mut random, &record);
-        match random.below(4) {
+        match random.below(5) {
             0 => damaged.unknown_start = random.pick(&LIMITS),
             1 => damaged.start_word = random.pick(&LIMITS),
             2 => tie(&mut random, &mut damaged),
+            3 => damaged.two_ports = random.pick(&LIMITS),
             _ => damaged.latch_count = random.pick(&LIMITS),
         }
         for room in [0, need, MAX_SHEET_BYTES] {
@@ -93,14 +93,15 @@ pub fn round_trips(library: &Library, tally: &mut Tally) {
         }
     }
     tally.check(("unknown starts", unknown), unknown >= 200);
+    tally.check(("second ports", two_ports), two_ports >= 1_000);
 }
 
 /// Sheets with a change or two: those that are still accepted are written as they were.
 pub fn damaged_sheets(library: &Library, tally: &mut Tally) {
     let mut random = Random::new(1302);
     let mut accepted = 0;
-    for round in 0..6_000 {
-        let netlist = wide_netlist(&mut random);
+    for round in 0..8_000 {
+        let netlist = wide(&mut random);
         let sheet = damaged_sheet(&mut random, &write_sheet(&netlist));
         if let Ok(Ok(found)) = read(&sheet, 600, 600) {
             accepted += 1;
@@ -115,14 +116,17 @@ pub fn damaged_sheets(library: &Library, tally: &mut Tally) {
 
 /// Buffers of every length around the need, of a small sheet, a middling one and the largest.
 pub fn rooms(library: &Library, tally: &mut Tally) {
-    let largest = Netlist {
-        gate_count: 599,
+    let [one, two] = [0, 1].map(|two_ports| Netlist {
+        gate_count: 599 - two_ports,
         address_width: 12,
         data_width: 1,
+        two_ports,
         gates: vec![Gate { left: 2, right: 2 }; 599],
         ..Netlist::default()
-    };
-    for netlist in [accepted(FULL_RUN), accepted(RICH), largest] {
+    });
+    tally.equal("the longest of all", write_sheet(&two).len(), MAX_SHEET_BYTES);
+    let small = [FULL_RUN, RICH, TWO_RICH].map(accepted);
+    for netlist in small.into_iter().chain([one, two]) {
         let need = write_sheet(&netlist).len();
         for room in (0..34).chain(need.saturating_sub(40)..need + 40) {
             library.sheet_agrees(tally, &netlist, room);

@@ -1,13 +1,16 @@
-//! Demand 3 of one formula text, by the public solvers and the simulated chip. A text from the program
-//! and a text from a wrong generator are judged alike.
+//! Demand 3 of one formula text, by the public solvers and the simulated chip, and demand 2, by the
+//! second implementation's text. A text from the program and a text from a wrong generator are judged
+//! alike.
 
 use super::cadical::Cadical;
 use super::cases::all_runs;
 use super::programs::{Answer, Programs};
 use super::reference::agreement::{agrees, feeds_of_model, first_reads, variable};
 use super::reference::circuit::{word, Run};
-use super::reference::formula::pair_base;
-use super::reference::netlist::Netlist;
+use super::reference::formula::{
+    clauses_text, header_text, pair_base_of, Fault, Formula as Reference,
+};
+use super::reference::netlist::{Netlist, FIRST_PORT};
 use super::reference::random::{random_feeds, Random};
 use super::reference::solver::satisfies;
 
@@ -19,6 +22,8 @@ const SAMPLE: usize = 24;
 /// What is wrong with a text.
 #[derive(Clone, Copy, Debug, Default, PartialEq, Eq)]
 pub struct Faults {
+    /// Demand 2: it is not the text of the second implementation. No solver sees the order of clauses.
+    pub text: bool,
     /// A solver does not take the file, the solvers differ, or a model is none.
     pub file: bool,
     /// Demand 3's first half: an assignment that differs from its run, or whose run breaks nothing.
@@ -48,6 +53,7 @@ pub fn judge(programs: &Programs, netlist: &Netlist, depth: u32, text: &[u8]) ->
             return judgement;
         }
     };
+    judgement.faults.text = text != due_text(netlist, depth);
     let answers = programs.solve(text);
     judgement.satisfiable = answers[0].is_satisfiable();
     judgement.faults.file = answers[0].is_satisfiable() != answers[1].is_satisfiable();
@@ -66,6 +72,13 @@ pub fn judge(programs: &Programs, netlist: &Netlist, depth: u32, text: &[u8]) ->
     }
     compare_runs(&mut judgement, netlist, depth, &formula);
     judgement
+}
+
+/// The second implementation's text.
+fn due_text(netlist: &Netlist, depth: u32) -> Vec<u8> {
+    let formula = Reference::new(netlist, depth, Fault::None);
+    let header = header_text(formula.variable_count(), formula.clause_total());
+    [header, clauses_text(&formula.numbers())].concat()
 }
 
 /// Numbers of which each 0 ends one clause, over variables 1 to `variables`.
@@ -155,17 +168,21 @@ fn projection(netlist: &Netlist, run: &Run) -> Vec<i32> {
 }
 
 /// RULES M5: where the bits are equal e holds; where they differ it may be either, unless all others
-/// hold (E is false then, and not all e may hold).
+/// hold (E is false then, and not all e may hold). Of each port: its address of frame i against the
+/// address that writes in frame j.
 fn bits_as_stated(solver: &mut Cadical, netlist: &Netlist, run: &Run, feed: &[i32]) -> bool {
     let m = netlist.address_width;
-    let address = |frame: u32| word(&run.frames[frame as usize], netlist.address_codes());
+    let address = |port: u32, frame: u32| {
+        word(&run.frames[frame as usize], netlist.address_codes_of(port))
+    };
     let mut can_be = |literal: i32| solver.solve(&[feed, &[literal]].concat()).is_some();
     let frames = run.frames.len() as u32;
-    let mut pairs = (0..frames).flat_map(|i| (0..i).map(move |j| (j, i)));
-    pairs.all(|(j, i)| {
-        let differing = address(j) ^ address(i);
+    let pairs = (0..frames).flat_map(|i| (0..i).map(move |j| (j, i)));
+    let mut pairs = pairs.flat_map(|pair| netlist.ports().map(move |port| (port, pair)));
+    pairs.all(|(port, (j, i))| {
+        let differing = address(FIRST_PORT, j) ^ address(port, i);
         (0..m).all(|bit| {
-            let e = pair_base(netlist, j, i) as i32 + 2 + bit as i32;
+            let e = pair_base_of(netlist, port, j, i) as i32 + 2 + bit as i32;
             let differs = (differing >> bit) & 1 == 1;
             let others_differ = differing & !(1 << bit) != 0;
             can_be(-e) == differs && can_be(e) == (!differs || others_differ)

@@ -3,6 +3,7 @@
 //! Arguments: the program `frames`, a folder for scratch files, the folder of the examples.
 //! Build: rustc -O --edition 2021 main.rs (Debian's packages libcadical-dev and g++)
 
+mod blind;
 mod cadical;
 mod cases;
 mod judge;
@@ -17,7 +18,10 @@ use std::path::PathBuf;
 use cadical::Cadical;
 use std::collections::HashSet;
 
-use cases::{all_runs, depends_on_read_bit, small_cases, unknown_cases, Case};
+use cases::{
+    all_runs, depends_on_read_bit, depends_on_second, small_cases, two_port_cases, unknown_cases,
+    Case,
+};
 use judge::{judge, read_dimacs, Faults};
 use programs::{Answer, Programs};
 use reference::agreement::{all_feeds, all_memories, variable, Frames};
@@ -25,8 +29,8 @@ use reference::circuit::Run;
 use reference::sheet::{expand, read_sheet};
 use reference::tally::{Report, Tally};
 
-/// Random sheets that the program's formulas are judged on.
-const SHEETS: usize = 2400;
+/// Random sheets of each kind that the program's formulas are judged on.
+const SHEETS: usize = 1600;
 
 fn main() {
     let arguments: Vec<PathBuf> = std::env::args_os().skip(1).map(PathBuf::from).collect();
@@ -42,13 +46,26 @@ fn main() {
     report.family("strict reading", |tally| strict_reading(tally, &programs));
     report.family("the full run's sheet", |tally| full_run(tally, &programs));
     report.family("reads that must agree", |tally| agreeing_reads(tally, &programs));
+    report.family("both ports' reads", |tally| both_reads(tally, &programs));
     report.family("starting memories", starting_memories);
-    report.family("random sheets", |tally| random_sheets(tally, &programs));
+    report.family("random M sheets", |tally| {
+        let unknown = judged(tally, &programs, &small_cases(1, SHEETS), &SHAPES);
+        tally.check(("an unknown start", unknown), 10 * unknown >= SHEETS);
+    });
+    report.family("random T sheets", |tally| {
+        judged(tally, &programs, &two_port_cases(6, SHEETS), &TWO_PORT_SHAPES);
+    });
     report.family("stories", |tally| {
         stories::stories(tally, &programs, examples)
     });
     report.family("wrong generators", |tally| {
         wrong::wrong_generators(tally, &programs)
+    });
+    report.family("wrong generators of two ports", |tally| {
+        wrong::wrong_two_ports(tally, &programs)
+    });
+    report.family("reads that depend on the other port's", |tally| {
+        blind::loops_between_ports(tally, &programs)
     });
     report.finish()
 }
@@ -142,6 +159,57 @@ fn agreeing_reads(tally: &mut Tally, programs: &Programs) {
     }
 }
 
+/// Whether the words read at once differ: wires inputs 1 to 3, read bits 4 and 5, and gates of which the last is their equality. Both addresses are
+/// input 1 or 2, input 3 is written in every frame.
+const READS_EQUAL: &str = "G 8 11/G 9 10/G 13 15";
+
+/// The second port's address and RE, and whether the words can differ up to frames 0, 1 and 2. The start word is 0.
+const BOTH_READS: [(&str, &str, [bool; 3]); 7] = [
+    // one address: one word
+    ("2", "1", [false, false, false]),
+    // an address of its own, or never the first one: from frame 1 on a written word is read beside one that is not
+    ("4", "1", [false, true, true]),
+    ("3", "1", [false, true, true]),
+    // address 0 alone
+    ("0", "1", [false, true, true]),
+    // a port that never reads has any word in frame 0, and keeps it
+    ("2", "0", [true, true, true]),
+    // it does not read while input 2 is false
+    ("2", "4", [true, true, true]),
+    ("2", "5", [true, true, true]),
+];
+
+/// By hand: two reads of one address in a frame are one word, and the second port's idle word is its own.
+fn both_reads(tally: &mut Tally, programs: &Programs) {
+    for (address, enable, breaks) in BOTH_READS {
+        let sheet = expand(&format!("N 3 0 3/T 1 1 0/{READS_EQUAL}/A 2/D 6/B {address}/R {enable}/C 1 1 16"));
+        let netlist = read_sheet(&sheet, 0, 3).expect("an accepted sheet");
+        for (depth, satisfiable) in breaks.into_iter().enumerate() {
+            let name = (address, enable, depth);
+            let depth = depth as u32;
+            let text = programs.frames(&netlist, depth);
+            let judgement = judge(programs, &netlist, depth, &text);
+            tally.equal((name, "faults"), judgement.faults, Faults::default());
+            tally.check((name, "all runs"), judgement.all_runs);
+            tally.equal((name, "verdict"), judgement.satisfiable, satisfiable);
+        }
+    }
+    // Where only input 2 enables the second port, the words of frame 1 differ only if it is false there, or other words were read in frame 0.
+    let sheet = expand(&format!("N 3 0 3/T 1 1 0/{READS_EQUAL}/A 2/D 6/B 2/R 4/C 1 1 16"));
+    let netlist = read_sheet(&sheet, 0, 3).expect("an accepted sheet");
+    let formula = read_dimacs(&programs.frames(&netlist, 1)).expect("a formula");
+    let mut solver = Cadical::new(formula.variables, &formula.numbers);
+    let [first, second] = [0, 1].map(|frame| variable(&netlist, frame, 2) as i32);
+    for (assumed, possible) in [
+        ([first, second], false),
+        ([first, -second], true),
+        ([-first, second], true),
+        ([-first, -second], true),
+    ] {
+        tally.equal(assumed, solver.solve(&assumed).is_some(), possible);
+    }
+}
+
 /// The runs that `all_runs` finds for an unknown start are those from each whole starting memory.
 fn starting_memories(tally: &mut Tally) {
     let is_small = |case: &&Case| {
@@ -170,7 +238,7 @@ fn starting_memories(tally: &mut Tally) {
 
 type Shape = (&'static str, fn(&Case) -> bool);
 
-/// What the random sheets must have often.
+/// What the random M sheets must have often.
 #[rustfmt::skip]
 const SHAPES: [Shape; 11] = [
     ("k = 0", |it| it.depth == 0),
@@ -186,8 +254,27 @@ const SHAPES: [Shape; 11] = [
     ("WE depends on a read bit", |it| depends_on_read_bit(&it.netlist, it.netlist.write_enable)),
 ];
 
-fn random_sheets(tally: &mut Tally, programs: &Programs) {
-    let cases = small_cases(1, SHEETS);
+/// What the random T sheets must have often.
+#[rustfmt::skip]
+const TWO_PORT_SHAPES: [Shape; 14] = [
+    ("k = 0", |it| it.depth == 0),
+    ("k = 4", |it| it.depth == 4),
+    ("m = 1", |it| it.netlist.address_width == 1),
+    ("m = 2", |it| it.netlist.address_width == 2),
+    ("n = 1", |it| it.netlist.data_width == 1),
+    ("n = 2", |it| it.netlist.data_width == 2),
+    ("no input", |it| it.netlist.inputs == 0),
+    ("no latch", |it| it.netlist.latch_count == 0),
+    ("one RE constant, the other not", |it| (it.netlist.read_enable > 1) != (it.netlist.second_read_enable > 1)),
+    ("no RE constant", |it| it.netlist.read_enable > 1 && it.netlist.second_read_enable > 1),
+    ("both addresses the same", |it| it.netlist.address == it.netlist.second_address),
+    ("the addresses differ", |it| it.netlist.address != it.netlist.second_address),
+    ("P depends on a second read bit", |it| depends_on_second(&it.netlist, it.netlist.property)),
+    ("write data depends on a second read bit", |it| depends_on_second(&it.netlist, it.netlist.write_data[0])),
+];
+
+/// Judges the program's formulas; answers on how many sheets with an unknown start all runs were compared.
+fn judged(tally: &mut Tally, programs: &Programs, cases: &[Case], shapes: &[Shape]) -> usize {
     let (mut satisfiable, mut all_runs, mut breaking) = (0, [0, 0], 0);
     let mut unknown = 0;
     for (index, Case { netlist, depth }) in cases.iter().enumerate() {
@@ -201,25 +288,26 @@ fn random_sheets(tally: &mut Tally, programs: &Programs) {
         breaking += judgement.breaking_runs;
         unknown += usize::from(judgement.all_runs && netlist.has_unknown_start());
     }
-    for (name, has_shape) in SHAPES {
+    let sheets = cases.len();
+    for (name, has_shape) in shapes {
         let count = cases.iter().filter(|case| has_shape(case)).count();
-        tally.check((name, count), 10 * count >= SHEETS);
+        tally.check((name, count), 10 * count >= sheets);
     }
-    tally.check(("satisfiable", satisfiable), 4 * satisfiable >= SHEETS);
+    tally.check(("satisfiable", satisfiable), 4 * satisfiable >= sheets);
     tally.check(
         ("unsatisfiable", satisfiable),
-        4 * (SHEETS - satisfiable) >= SHEETS,
+        4 * (sheets - satisfiable) >= sheets,
     );
     let compared = all_runs[0] + all_runs[1];
     tally.check(
         ("sheets with all runs compared", compared),
-        2 * compared >= SHEETS,
+        2 * compared >= sheets,
     );
-    tally.check(("and an unknown start", unknown), 10 * unknown >= SHEETS);
     tally.remark = format!(
         " ({satisfiable} satisfiable, {} not; all runs compared on {} and {} of them, {breaking} breaking; {unknown} of these sheets have an unknown start)",
-        SHEETS - satisfiable,
+        sheets - satisfiable,
         all_runs[1],
         all_runs[0],
     );
+    unknown
 }

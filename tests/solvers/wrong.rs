@@ -1,11 +1,11 @@
-//! The wrong generators of RULES M1 to M5 and M9 to M14: the test that the program passes must
-//! catch each of them.
+//! The wrong generators of RULES M1 to M5 and M9 to M14, and those of a second port: the test that the
+//! program passes must catch each of them.
 
-use super::cases::{small_cases, unknown_cases, Case};
+use super::cases::{small_cases, two_port_cases, unknown_cases, Case};
 use super::judge::{judge, Faults};
 use super::programs::Programs;
 use super::reference::agreement::variable;
-use super::reference::formula::{Fault, Formula, Group};
+use super::reference::formula::{clauses_text, header_text, Fault, Formula, Group};
 use super::reference::netlist::Netlist;
 use super::reference::tally::Tally;
 
@@ -25,51 +25,115 @@ pub enum Mistake {
 }
 use Mistake::{HeldInFrameZero, HeldTwoFramesBefore, HeldWordLost, Of};
 
-/// Each wrong generator, and what is to be found wrong with its texts: nothing else may be.
-#[rustfmt::skip]
-const WRONG: [(Mistake, Faults); 13] = [
-    (Of(Fault::OwnFrameWrite), Faults { assignment_to_run: true, run_to_assignment: true, ..NONE }),
-    (Of(Fault::OldestWrite), Faults { assignment_to_run: true, run_to_assignment: true, ..NONE }),
-    (Of(Fault::ReaderWriteEnable), Faults { assignment_to_run: true, run_to_assignment: true, ..NONE }),
-    (Of(Fault::IdleReadsZero), Faults { run_to_assignment: true, ..NONE }),
-    (Of(Fault::EqualitySettled), Faults { bit_equality: true, ..NONE }),
-    (HeldWordLost, Faults { assignment_to_run: true, ..NONE }),
-    (HeldInFrameZero, Faults { run_to_assignment: true, ..NONE }),
-    (HeldTwoFramesBefore, Faults { assignment_to_run: true, run_to_assignment: true, ..NONE }),
-    (Of(Fault::AgreementOmitted), Faults { assignment_to_run: true, ..NONE }),
-    (Of(Fault::AgreementOfNeighbours), Faults { assignment_to_run: true, ..NONE }),
-    (Of(Fault::AgreementWithoutEarlier), Faults { run_to_assignment: true, ..NONE }),
-    (Of(Fault::AgreementWithoutLater), Faults { run_to_assignment: true, ..NONE }),
-    (Of(Fault::UnknownStartsZero), Faults { run_to_assignment: true, ..NONE }),
-];
-const NONE: Faults = Faults {
-    file: false,
-    assignment_to_run: false,
-    run_to_assignment: false,
-    bit_equality: false,
-};
+/// What is found wrong with the text of each of these generators, beside that it is another than the second
+/// implementation's: nothing else may be.
+#[derive(Clone, Copy)]
+enum Seen {
+    /// Both halves of demand 3.
+    Both,
+    /// That, and an e of other bits.
+    BothAndBits,
+    /// Assignments that are no run's.
+    Assignments,
+    /// Runs without an assignment.
+    Runs,
+    /// An e that is bound, or not where it belongs.
+    Bits,
+    /// Nothing that a solver could see: the order of the clauses.
+    TextAlone,
+}
+use Seen::{Assignments, Bits, Both, BothAndBits, Runs, TextAlone};
 
+fn faults_of(seen: Seen) -> Faults {
+    Faults {
+        text: true,
+        file: false,
+        assignment_to_run: matches!(seen, Both | BothAndBits | Assignments),
+        run_to_assignment: matches!(seen, Both | BothAndBits | Runs),
+        bit_equality: matches!(seen, Bits | BothAndBits),
+    }
+}
+
+const WRONG: [(Mistake, Seen); 13] = [
+    (Of(Fault::OwnFrameWrite), Both),
+    (Of(Fault::OldestWrite), Both),
+    (Of(Fault::ReaderWriteEnable), Both),
+    (Of(Fault::IdleReadsZero), Runs),
+    (Of(Fault::EqualitySettled), Bits),
+    (HeldWordLost, Assignments),
+    (HeldInFrameZero, Runs),
+    (HeldTwoFramesBefore, Both),
+    (Of(Fault::AgreementOmitted), Assignments),
+    (Of(Fault::AgreementOfNeighbours), Assignments),
+    (Of(Fault::AgreementWithoutEarlier), Runs),
+    (Of(Fault::AgreementWithoutLater), Runs),
+    (Of(Fault::UnknownStartsZero), Runs),
+];
+
+/// The same on T sheets: the mistakes of one port, each in both, and those of a second port.
+const WRONG_OF_TWO_PORTS: [(Mistake, Seen); 20] = [
+    (Of(Fault::OwnFrameWrite), Both),
+    (Of(Fault::OldestWrite), Both),
+    (Of(Fault::ReaderWriteEnable), Both),
+    (Of(Fault::IdleReadsZero), Runs),
+    (Of(Fault::EqualitySettled), Bits),
+    (HeldWordLost, Assignments),
+    (HeldInFrameZero, Runs),
+    (HeldTwoFramesBefore, Both),
+    (Of(Fault::SecondAddressWrites), BothAndBits),
+    (Of(Fault::WriteBySecondAddress), BothAndBits),
+    (Of(Fault::SecondPortReadsFirst), BothAndBits),
+    (Of(Fault::FirstReadEnable), Both),
+    (Of(Fault::FirstEnableInChain), Runs),
+    (Of(Fault::FirstPending), Runs),
+    (Of(Fault::FirstUntouched), Runs),
+    (Of(Fault::FirstWordHeld), Both),
+    (Of(Fault::HeldWordsExchanged), Both),
+    (Of(Fault::SecondPortBehind), Bits),
+    (Of(Fault::PortByPort), TextAlone),
+    (Of(Fault::PortsExchanged), TextAlone),
+];
+
+/// On M sheets: those of an unknown start where it is unknown, the others on any.
 pub fn wrong_generators(tally: &mut Tally, programs: &Programs) {
     let any_start = small_cases(2, SHEETS);
     let unknown_start = unknown_cases(3, SHEETS);
-    let mut remarks = Vec::new();
-    for (mistake, expected) in WRONG {
-        let (mut found, mut caught) = (NONE, 0);
-        let cases = if is_of_unknown_start(mistake) {
-            &unknown_start
+    let cases_for = |mistake: Mistake| {
+        if is_of_unknown_start(mistake) {
+            unknown_start.as_slice()
         } else {
-            &any_start
-        };
-        for Case { netlist, depth } in cases {
-            let text = wrong_text(netlist, *depth, mistake);
+            any_start.as_slice()
+        }
+    };
+    caught(tally, programs, &WRONG, cases_for);
+}
+
+/// On T sheets.
+pub fn wrong_two_ports(tally: &mut Tally, programs: &Programs) {
+    let cases = two_port_cases(7, SHEETS);
+    caught(tally, programs, &WRONG_OF_TWO_PORTS, |_| cases.as_slice());
+}
+
+fn caught<'a>(
+    tally: &mut Tally,
+    programs: &Programs,
+    mistakes: &[(Mistake, Seen)],
+    cases_for: impl Fn(Mistake) -> &'a [Case],
+) {
+    let mut remarks = Vec::new();
+    for (mistake, seen) in mistakes {
+        let (mut found, mut caught) = (Faults::default(), 0);
+        for Case { netlist, depth } in cases_for(*mistake) {
+            let text = wrong_text(netlist, *depth, *mistake);
             let faults = judge(programs, netlist, *depth, &text).faults;
-            caught += usize::from(faults != NONE);
+            caught += usize::from(faults != Faults::default());
+            found.text |= faults.text;
             found.file |= faults.file;
             found.assignment_to_run |= faults.assignment_to_run;
             found.run_to_assignment |= faults.run_to_assignment;
             found.bit_equality |= faults.bit_equality;
         }
-        tally.equal(mistake, found, expected);
+        tally.equal(mistake, found, faults_of(*seen));
         remarks.push(format!("{mistake:?} {caught}"));
     }
     tally.remark = format!(" (caught, of {SHEETS} sheets: {})", remarks.join(", "));
@@ -94,30 +158,28 @@ pub fn wrong_text(netlist: &Netlist, depth: u32, mistake: Mistake) -> Vec<u8> {
         _ => Fault::None,
     };
     let formula = Formula::new(netlist, depth, fault);
-    let groups = formula.groups().into_iter();
+    let groups = formula.port_groups().into_iter();
     let numbers: Vec<i32> = groups
-        .flat_map(|group| match group {
-            Group::Closing(frame) => closing(netlist, frame, &formula.group(group), mistake),
-            _ => formula.group(group),
+        .flat_map(|asked| match asked.group {
+            Group::Closing(frame) => {
+                closing(netlist, asked.port, frame, &formula.port_group(asked), mistake)
+            }
+            _ => formula.port_group(asked),
         })
         .collect();
     let clauses = numbers.iter().filter(|number| **number == 0).count();
-    let mut text = format!("p cnf {} {clauses}\n", formula.variable_count());
-    for number in numbers {
-        text += &number.to_string();
-        text += if number == 0 { "\n" } else { " " };
-    }
-    text.into_bytes()
+    let header = header_text(formula.variable_count(), clauses as i64);
+    [header, clauses_text(&numbers)].concat()
 }
 
-/// The closing of a frame with the mistake. A later frame's has n clauses of the start word unless it is unknown, then 2n of the word held, each with its literal of
-/// the frame before at the end, but none where RE is true; and (¬RE Z S ..), but not where RE is false.
-fn closing(netlist: &Netlist, frame: u32, numbers: &[i32], mistake: Mistake) -> Vec<i32> {
+/// A port's closing of a frame with the mistake. A later frame's has n clauses of the start word unless it is unknown, then 2n of the word held,
+/// each with its literal of the frame before at the end, but none where RE is true; and (¬RE Z S ..), but not where RE is false.
+fn closing(netlist: &Netlist, port: u32, frame: u32, numbers: &[i32], mistake: Mistake) -> Vec<i32> {
     let bits = netlist.data_width as usize;
-    let (frame, first_read_bit) = (frame as usize, netlist.first_read_bit() as usize);
+    let (frame, first_read_bit) = (frame as usize, netlist.read_bits(port).start as usize);
     let ended = numbers.split_inclusive(|number| *number == 0);
     let mut clauses: Vec<Vec<i32>> = ended.map(<[i32]>::to_vec).collect();
-    let read_enable = netlist.read_enable;
+    let read_enable = netlist.read_enable_of(port);
     let first = if netlist.has_unknown_start() { 0 } else { bits };
     let held = first..first + if read_enable == 1 { 0 } else { 2 * bits };
     match mistake {
