@@ -287,15 +287,15 @@ void MemoryCut::join_reads(size_t port) {
 
 Memory MemoryCut::finish() {
   gather();
-  bool leaves_array = false;
+  bool is_read = std::count(plan.counts.begin(), plan.counts.end(), 1) > 0, leaves_array = false;
   for (size_t port = 0; port < memory.ports.size(); port++) {
-    std::vector<Access> accesses = port == 0 ? writes : std::vector<Access>();
+    std::vector<Access> accesses = port == 0 && is_read ? writes : std::vector<Access>();
     for (size_t at = 0; at < readers; at++)
       if (plan.counts[at] && plan.port[at] == port) accesses.push_back(reads[at]);
     memory.ports[port].address = joined_address(accesses);
     leaves_array = leaves_array || in_array(memory.ports[port].address) != TRUE;
   }
-  if (leaves_array)
+  if (is_read && leaves_array)
     memory.notes.push_back("memory " + cell.name + " has " + words_text(cell) + ", and its index can be beyond them: what is written there is " +
                            "dropped, and what is read there is what the memory begins as");
   join_writes();
