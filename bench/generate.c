@@ -12,14 +12,17 @@ enum { MOST_WIRES = 600, MOST_ADDRESS = 12, MOST_DATA = 32, LINE = 32, FIELD = 1
 
 typedef struct { int left, right; } Gate;
 typedef struct { int next, reset; } Latch;
+// how a port reads; `block` is where its variables begin among those of a pair
+typedef struct { int address[MOST_ADDRESS], read_enable, first_read, block; } Port;
 
-static int depth, inputs, latches, gates, m, n, wires, first_latch, first_read, first_gate;
+static int depth, inputs, latches, gates, m, n, wires, first_latch, first_gate, ports, step;
 static unsigned start_word;
 static int unknown_start;
-static int write_enable, read_enable, property;
+static int write_enable, property;
 static Latch latch[MOST_WIRES];
 static Gate gate[MOST_WIRES];
-static int address[MOST_ADDRESS], write_data[MOST_DATA];
+static int write_data[MOST_DATA];
+static Port port[2]; // the first port's address is the one that is written at
 
 static unsigned field(const char *line, int index) {
   char text[FIELD + 1] = {0};
@@ -28,32 +31,39 @@ static unsigned field(const char *line, int index) {
 }
 
 static void read_input(void) {
-  static char input[FIELD + 1 + 615 * LINE];
+  static char input[FIELD + 1 + 627 * LINE];
   size_t length = fread(input, 1, sizeof input, stdin);
-  int latch_lines = 0, gate_lines = 0, address_lines = 0, data_lines = 0;
+  int latch_lines = 0, gate_lines = 0, address_lines = 0, data_lines = 0, second_lines = 0;
   depth = atoi(input);
   for (const char *line = input + FIELD + 1; line + LINE <= input + length; line += LINE) {
     int a = (int)field(line, 0), b = (int)field(line, 1);
     unsigned c = field(line, 2);
     switch (line[0]) {
       case 'N': inputs = a; latches = b; gates = (int)c; break;
-      case 'M': m = a; n = b; start_word = c; unknown_start = line[3 * FIELD] == ' '; break;
+      case 'M':
+      case 'T': m = a; n = b; start_word = c; unknown_start = line[3 * FIELD] == ' '; ports = line[0] == 'T' ? 2 : 1; break;
       case 'L': latch[latch_lines++] = (Latch){a, b}; break;
       case 'G': gate[gate_lines++] = (Gate){a, b}; break;
-      case 'A': address[address_lines++] = a; break;
+      case 'A': port[0].address[address_lines++] = a; break;
       case 'D': write_data[data_lines++] = a; break;
-      case 'C': write_enable = a; read_enable = b; property = (int)c; break;
+      case 'B': port[1].address[second_lines++] = a; break;
+      case 'R': port[1].read_enable = a; break;
+      case 'C': write_enable = a; port[0].read_enable = b; property = (int)c; break;
     }
   }
   first_latch = inputs + 1;
-  first_read = first_latch + latches;
-  first_gate = first_read + n;
-  wires = inputs + latches + n + gates;
+  for (int p = 0; p < ports; p++) {
+    port[p].first_read = first_latch + latches + p * n;
+    port[p].block = p * (m + 4);
+  }
+  first_gate = first_latch + latches + ports * n;
+  wires = inputs + latches + ports * n + gates;
+  step = ports * (m + 4);
 }
 
-// B(i) and Q(j, i) (RULES V2 and V4)
-static int frame_base(int i) { return 1 + i * wires + (m + 4) * (i * (i - 1) / 2); }
-static int pair_base(int base, int j) { return base + wires + j * (m + 4); }
+// B(i) and Q(j, i) of a port (RULES V2, V4 and V8)
+static int frame_base(int i) { return 1 + i * wires + step * (i * (i - 1) / 2); }
+static int pair_base(int base, int p, int j) { return base + wires + j * step + port[p].block; }
 
 // Here a constant is 1, true, or -1, false: no clause but the first is about variable 1 (RULES V7 and G29).
 enum { TRUE = 1, FALSE = -1 };
@@ -101,14 +111,14 @@ static Out wires_group(Out out, int i) {
 }
 
 // Z of a frame (RULES G11)
-static int untouched(int i) {
+static int untouched(int p, int i) {
   int base = frame_base(i);
-  return i == 0 ? literal(read_enable, base) : pair_base(base, 0) + m + 3;
+  return i == 0 ? literal(port[p].read_enable, base) : pair_base(base, p, 0) + m + 3;
 }
 
-// RULES G32: of these only Z of frame 0 may be a constant
+// RULES G32, of an only port: of these only Z of frame 0 may be a constant
 static Out agreement(Out out, int all_equal, int j, int i) {
-  int zj = untouched(j), zi = untouched(i), earlier = frame_base(j) + first_read, later = frame_base(i) + first_read;
+  int zj = untouched(0, j), zi = untouched(0, i), earlier = frame_base(j) + port[0].first_read, later = frame_base(i) + port[0].first_read;
   if (zj == FALSE) return out;
   for (int t = 0; t < n; t++) {
     out = end(put(put(put(keep(put(out, -all_equal), -zj), -zi), -(later + t)), earlier + t));
@@ -117,12 +127,12 @@ static Out agreement(Out out, int all_equal, int j, int i) {
   return out;
 }
 
-static Out pair_group(Out out, int j, int i) {
+static Out pair_group(Out out, int p, int j, int i) {
   int reader = frame_base(i), writer = frame_base(j);
-  int base = pair_base(reader, j);
+  int base = pair_base(reader, p, j);
   int all_equal = base + 1, valid = base + m + 2, none_since = base + m + 3, selected = base + m + 4;
   for (int t = 0; t < m; t++) {
-    int e = base + 2 + t, aj = literal(address[t], writer), ai = literal(address[t], reader);
+    int e = base + 2 + t, aj = literal(port[0].address[t], writer), ai = literal(port[p].address[t], reader);
     out = clause3(out, -all_equal, aj, -ai);
     out = clause3(out, -all_equal, -aj, ai);
     out = clause3(out, e, aj, ai);
@@ -130,22 +140,22 @@ static Out pair_group(Out out, int j, int i) {
   }
   for (int t = 0; t < m; t++) out = put(out, -(base + 2 + t));
   out = end(put(out, all_equal));
-  int newer = j == i - 1 ? literal(read_enable, reader) : pair_base(reader, j + 1) + m + 3;
+  int newer = j == i - 1 ? literal(port[p].read_enable, reader) : base + step + m + 3;
   out = and_gate(out, valid, all_equal, literal(write_enable, writer));
   out = and_gate(out, none_since, -valid, newer);
   out = and_gate(out, selected, valid, newer);
-  for (int t = 0; t < n; t++) out = equal_if(out, selected, reader + first_read + t, literal(write_data[t], writer));
+  for (int t = 0; t < n; t++) out = equal_if(out, selected, reader + port[p].first_read + t, literal(write_data[t], writer));
   return unknown_start ? agreement(out, all_equal, j, i) : out;
 }
 
-static Out closing_group(Out out, int i) {
-  int base = frame_base(i), re = literal(read_enable, base), z = untouched(i);
-  for (int t = 0; t < n && !unknown_start; t++) out = equal_if(out, z, base + first_read + t, start_word >> t & 1 ? TRUE : FALSE);
-  for (int t = 0; t < n && i > 0; t++) out = equal_if(out, -re, base + first_read + t, frame_base(i - 1) + first_read + t);
+static Out closing_group(Out out, int p, int i) {
+  int base = frame_base(i), re = literal(port[p].read_enable, base), z = untouched(p, i);
+  for (int t = 0; t < n && !unknown_start; t++) out = equal_if(out, z, base + port[p].first_read + t, start_word >> t & 1 ? TRUE : FALSE);
+  for (int t = 0; t < n && i > 0; t++) out = equal_if(out, -re, base + port[p].first_read + t, frame_base(i - 1) + port[p].first_read + t);
   if (re == FALSE || z == TRUE) return out;
   if (re == TRUE && z == FALSE && i == 0) return empty(out);
   out = keep(keep(out, -re), z);
-  for (int j = 0; j < i; j++) out = put(out, pair_base(base, j) + m + 4);
+  for (int j = 0; j < i; j++) out = put(out, pair_base(base, p, j) + m + 4);
   return end(out);
 }
 
@@ -156,8 +166,8 @@ static Out property_group(Out out) {
   return end(out);
 }
 
-// How many clauses are written: of a gate, of an equality, of the pairs, of the closings, of the agreement that an unknown start asks of the pairs,
-// those with frame 0 for themselves (RULES G34). Any variable stands for all, 2.
+// How many clauses are written: of a gate, of an equality, of a port's pairs, of its closings, of the agreement that an unknown start asks of the
+// pairs, those with frame 0 for themselves (RULES G34). Any variable stands for all, 2.
 enum { VARIABLE = 2 };
 
 static int kind(int code) { return code < 2 ? literal(code, 0) : VARIABLE; }
@@ -165,18 +175,21 @@ static int written(int a, int b, int c) { return a != TRUE && b != TRUE && c != 
 static int and_clauses(int a, int b) { return (a != TRUE) + (b != TRUE) + written(FALSE, -a, -b); }
 static int equal_clauses(int condition, int b) { return written(-condition, FALSE, b) + written(-condition, FALSE, -b); }
 
-static int pair_clauses(int newer) {
+// A constant bit leaves one clause with E and one with e; a second one leaves E alone where they differ, else e.
+static int address_clauses(int written_bit, int read_bit) {
+  int constants = (written_bit != VARIABLE) + (read_bit != VARIABLE);
+  return constants == 0 ? 4 : constants == 1 ? 2 : 1;
+}
+
+static int pair_clauses(int p, int newer) {
   int count = 1 + and_clauses(VARIABLE, kind(write_enable)) + 2 * and_clauses(VARIABLE, newer);
-  for (int t = 0; t < m; t++) {
-    int a = kind(address[t]);
-    count += a == VARIABLE ? 4 : 1;
-  }
+  for (int t = 0; t < m; t++) count += address_clauses(kind(port[0].address[t]), kind(port[p].address[t]));
   for (int t = 0; t < n; t++) count += equal_clauses(VARIABLE, kind(write_data[t]));
   return count;
 }
 
-static int closing_clauses(int z, int later) {
-  int re = kind(read_enable), count = written(-re, z, FALSE);
+static int closing_clauses(int p, int z, int later) {
+  int re = kind(port[p].read_enable), count = written(-re, z, FALSE);
   for (int t = 0; t < n; t++) {
     if (!unknown_start) count += equal_clauses(z, start_word >> t & 1 ? TRUE : FALSE);
     if (later) count += equal_clauses(-re, VARIABLE);
@@ -185,17 +198,22 @@ static int closing_clauses(int z, int later) {
 }
 
 static int agreement_clauses(void) {
-  int with_first = kind(read_enable) == FALSE ? 0 : depth;
+  int with_first = kind(port[0].read_enable) == FALSE ? 0 : depth;
   return unknown_start ? 2 * n * (with_first + depth * (depth - 1) / 2) : 0;
 }
 
+static int port_clauses(int p) {
+  int re = kind(port[p].read_enable);
+  return depth * pair_clauses(p, re) + depth * (depth - 1) / 2 * pair_clauses(p, VARIABLE) + closing_clauses(p, re, 0) +
+         depth * closing_clauses(p, VARIABLE, 1);
+}
+
 static int all_clauses(void) {
-  int re = kind(read_enable), gate_clauses = 0, latch_clauses = 0;
-  for (int g = 0; g < gates; g++) gate_clauses += and_clauses(kind(gate[g].left), kind(gate[g].right));
-  for (int q = 0; q < latches; q++) latch_clauses += kind(latch[q].next) == VARIABLE ? 2 : 1;
-  return 1 + latches + depth * latch_clauses + (depth + 1) * gate_clauses + depth * pair_clauses(re) +
-         depth * (depth - 1) / 2 * pair_clauses(VARIABLE) + agreement_clauses() + closing_clauses(re, 0) +
-         depth * closing_clauses(VARIABLE, 1) + (property != 0);
+  int count = 1 + latches + agreement_clauses() + (property != 0);
+  for (int g = 0; g < gates; g++) count += (depth + 1) * and_clauses(kind(gate[g].left), kind(gate[g].right));
+  for (int q = 0; q < latches; q++) count += depth * (kind(latch[q].next) == VARIABLE ? 2 : 1);
+  for (int p = 0; p < ports; p++) count += port_clauses(p);
+  return count;
 }
 
 int main(void) {
@@ -206,8 +224,9 @@ int main(void) {
   out = header(out, frame_base(frames), clauses);
   for (int i = 0; i <= depth; i++) {
     out = wires_group(out, i);
-    for (int j = i - 1; j >= 0; j--) out = pair_group(out, j, i);
-    out = closing_group(out, i);
+    for (int j = i - 1; j >= 0; j--)
+      for (int p = 0; p < ports; p++) out = pair_group(out, p, j, i);
+    for (int p = 0; p < ports; p++) out = closing_group(out, p, i);
   }
   close_output(property_group(out));
   return 0;

@@ -1,6 +1,6 @@
 // Every group of a depth through the exported calls, each of which tests its record: the same input as `frames`, the numbers into a
 // buffer that is written over. Prints how many numbers that is. With the argument `headings` instead: the least processor time that a heading
-// of the depth took, in microseconds, with the start as it is and with an unknown one.
+// of the depth took, in microseconds, with the start as it is and, of one port, with an unknown one.
 
 #include <stdio.h>
 #include <stdlib.h>
@@ -16,10 +16,10 @@ static marrubigai_gate gates[MARRUBIGAI_LIST_ROOM];
 static marrubigai_netlist net;
 static uint32_t depth;
 
-static size_t group(uint32_t kind, uint32_t j, uint32_t i) {
+static size_t group(uint32_t kind, uint32_t j, uint32_t i, uint32_t port) {
   static int32_t numbers[MARRUBIGAI_GROUP_ROOM];
   marrubigai_count_reply reply =
-      marrubigai_write_group(net, latches, net.latches, gates, net.gates, depth, kind, j, i, numbers, MARRUBIGAI_GROUP_ROOM);
+      marrubigai_write_group(net, latches, net.latches, gates, net.gates, depth, kind, j, i, port, numbers, MARRUBIGAI_GROUP_ROOM);
   if (reply.number != 0) exit(1);
   return reply.count;
 }
@@ -48,17 +48,20 @@ int main(int words, char **word) {
   if (sheet.number != 0) return 1;
   net = sheet.net;
   if (words > 1 && strcmp(word[1], "headings") == 0) {
-    double given = heading_time();
+    printf("%.2f\n", heading_time());
+    if (net.second_port) return 0;
     net.unknown_start = 1;
-    printf("%.2f %.2f\n", given, heading_time());
+    printf("%.2f\n", heading_time());
     return 0;
   }
+  uint32_t ports = 1 + net.second_port;
   for (uint32_t i = 0; i <= depth; i++) {
-    count += group(MARRUBIGAI_WIRES, 0, i);
-    for (uint32_t j = i; j > 0; j--) count += group(MARRUBIGAI_PAIR, j - 1, i);
-    count += group(MARRUBIGAI_CLOSING, 0, i);
+    count += group(MARRUBIGAI_WIRES, 0, i, 0);
+    for (uint32_t j = i; j > 0; j--)
+      for (uint32_t port = 1; port <= ports; port++) count += group(MARRUBIGAI_PAIR, j - 1, i, port);
+    for (uint32_t port = 1; port <= ports; port++) count += group(MARRUBIGAI_CLOSING, 0, i, port);
   }
-  count += group(MARRUBIGAI_PROPERTY, 0, 0);
+  count += group(MARRUBIGAI_PROPERTY, 0, 0, 0);
   printf("%zu\n", count);
   return 0;
 }

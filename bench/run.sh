@@ -1,12 +1,13 @@
 #!/usr/bin/env bash
 # Measures `frames` on bench/largest.sheet, of the largest kind (I = 60, L = 100, A = 408, m = 12, n = 32; its codes were drawn once), at
-# depths 15, 63 and 255, and at depth 63 on the same sheet with half of its codes made constants and with its start unknown, beside a C
-# generator of the same text that is optimised by hand and one that prints through fprintf; of the library, every group of depth 255 through the
-# exported call, which tests its record each time, the heading of depth 255, and the import of ASCII AIGER texts (bench/text.rs); and `replay`
-# (bench/replay.sh). Every figure is the best of several repetitions, all programs and inputs in turn, input from a file, output to /dev/null;
-# the time is the process's processor time (user and system), so that other work on the machine matters little; instructions are counted once,
-# by valgrind where it is installed. It says which of our own targets (1.25 times, 4 times, 4 MiB, 20%, 0.2 ms, 50 ms) are reached, and
-# fails only where a program fails or the texts differ.
+# depths 15, 63 and 255, and at depth 63 on the same sheet with half of its codes made constants and with its start unknown; on
+# bench/largest_two_ports.sheet, the largest with two ports (A = 376, else as the other), at depths 63 and 255; all beside a C generator of the
+# same text that is optimised by hand and one that prints through fprintf; of the library, every group of depth 255 through the exported call, which
+# tests its record each time, the heading of depth 255, and the import of ASCII AIGER texts (bench/text.rs); and `replay` (bench/replay.sh). Every
+# figure is the best of several repetitions, all programs and inputs in turn, input from a file, output to /dev/null; the time is the process's
+# processor time (user and system), so that other work on the machine matters little; instructions are counted once, by valgrind where it is
+# installed. It says which of our own targets (1.25 times, of two ports 1.05 times, 4 times, 4 MiB, 20%, 20 µs, 50 ms) are reached, and fails only
+# where a program fails or the texts differ.
 # Arguments: repetitions (100; a tenth as many of the slow generator and of the imports), and `worst` for the worst import known as well, which
 # takes a minute; the program is target/bin/frames unless FRAMES names another.
 set -euo pipefail
@@ -30,12 +31,14 @@ compile -o "$work/library" bench/library.c -L target/staticlib -lmarrubigai
 compile -o "$work/import" bench/import.c -L target/staticlib -lmarrubigai
 rustc -O --edition 2021 -o "$work/text" bench/text.rs
 
-# The inputs: a depth, or what is changed in the sheet at depth 63. Where half of the codes are constants, clauses are left out, and literals;
-# an unknown start asks that reads agree. Depth 0 is the start of the process, the reading of the sheet and next to no text. The longest run
-# comes first: the one behind it in the next repetition, which finds the caches full of something else, is then not the shortest.
-inputs=(255 63 15 0 constants unknown)
+# The inputs: a depth, T and a depth for the sheet with two ports, or what is changed in the other sheet at depth 63. Where half of the codes are
+# constants, clauses are left out, and literals; an unknown start asks that reads agree. Depth 0 is the start of the process, the reading of the
+# sheet and next to no text. The longest run comes first: the one behind it in the next repetition, which finds the caches full of something else,
+# is then not the shortest.
+inputs=(T255 255 T63 63 15 0 constants unknown)
 sheet() {
   case $1 in
+    T*) cat bench/largest_two_ports.sheet ;;
     constants) awk -f bench/constants.awk bench/largest.sheet ;;
     unknown) sed '2s/.\{10\}$/          /' bench/largest.sheet ;;
     *) cat bench/largest.sheet ;;
@@ -46,7 +49,7 @@ fast=()
 slow=()
 for name in "${inputs[@]}"; do
   input=$work/input.$name
-  case $name in [0-9]*) depth=$name ;; *) depth=63 ;; esac
+  case $name in T* | [0-9]*) depth=${name#T} ;; *) depth=63 ;; esac
   { printf '%10d\n' "$depth"; sheet "$name"; } > "$input"
   for other in optimised formatted; do
     "$work/$other" < "$input" | cmp - <("$frames" < "$input") || { echo "frames and $other differ: $name" >&2; exit 1; }
@@ -55,14 +58,18 @@ for name in "${inputs[@]}"; do
   fast+=("$input" "$frames" "$input" "$work/optimised")
   slow+=("$input" "$work/formatted")
 done
-input=$work/input.255
-[ "$("$work/library" < "$input")" -eq "$("$frames" < "$input" | tail -n +2 | wc -w)" ] ||
-  { echo "the library writes other numbers than frames prints" >&2; exit 1; }
+libraries=()
+headings=
+for input in "$work/input.255" "$work/input.T255"; do
+  [ "$("$work/library" < "$input")" -eq "$("$frames" < "$input" | tail -n +2 | wc -w)" ] ||
+    { echo "the library writes other numbers than frames prints: $input" >&2; exit 1; }
+  libraries+=("$input" "$work/library")
+  headings="$headings $("$work/library" headings < "$input" | tr '\n' ' ')"
+done
 
 echo "the three programs print the same; measuring $repetitions times" >&2
-"$work/measure" "$repetitions" "$input" "$work/library" "${fast[@]}" > "$work/fast.out"
+"$work/measure" "$repetitions" "${libraries[@]}" "${fast[@]}" > "$work/fast.out"
 "$work/measure" $(((repetitions + 9) / 10)) "${slow[@]}" > "$work/slow.out"
-headings=$("$work/library" headings < "$input")
 counted() {
   ! command -v valgrind > /dev/null 2>&1 ||
     valgrind --tool=callgrind --callgrind-out-file=/dev/null "$1" < "$work/input.63" 2>&1 > /dev/null | awk '/Collected/ { print $NF }'
@@ -80,20 +87,24 @@ awk -v inputs="${inputs[*]}" -v bytes="${bytes[*]}" -v headings="$headings" -v i
       formatted[k] / 1000, time[k] / optimised[k], formatted[k] / time[k], 1000 * time[k] / size[k], resident[k]
   }
   function times(k) { return sprintf("%.2f", time[k] / optimised[k]) }
+  function groups(k, what) {
+    say(library[k] <= time[k], what ", all groups through the library, at most the time of frames",
+      sprintf("%.2f (%.2f ms)", library[k] / time[k], library[k] / 1000))
+  }
   BEGIN {
     most = split(inputs, name, " "); split(bytes, counts, " "); split(headings, heading, " "); split(instructions, executed, " ")
     for (d = 1; d <= most; d++) size[name[d]] = counts[d]
   }
   FNR < NR { formatted[name[FNR]] = $1; next }
-  FNR == 1 { library = $1; next }
-  FNR % 2 == 0 { time[name[FNR / 2]] = $1; resident[name[FNR / 2]] = $2; next }
-  { optimised[name[(FNR - 1) / 2]] = $1 }
+  FNR <= 2 { library[FNR == 1 ? 255 : "T255"] = $1; next }
+  FNR % 2 { time[name[(FNR - 1) / 2]] = $1; resident[name[(FNR - 1) / 2]] = $2; next }
+  { optimised[name[(FNR - 2) / 2]] = $1 }
   END {
     print "depth         bytes  frames, optimised, formatted: ms  frames/optimised  formatted/frames  ns/byte  resident: KiB"
-    for (d = 4; d >= 1; d--) row(name[d])
-    for (d = 5; d <= most; d++) row(name[d])
-    for (d = 3; d >= 1; d--) {
-      k = name[d]
+    most = split("0 15 63 255 constants unknown T63 T255", shown, " ")
+    for (d = 1; d <= most; d++) row(shown[d])
+    for (d = 2; d <= 4; d++) {
+      k = shown[d]
       say(time[k] <= 1.25 * optimised[k], "depth " k ", at most 1.25 times the optimised generator", times(k))
       say(formatted[k] >= 4 * time[k], "depth " k ", at least 4 times faster than formatted printing", sprintf("%.1f", formatted[k] / time[k]))
       say(resident[k] <= 4096, "depth " k ", at most 4 MiB resident", resident[k] " KiB")
@@ -103,14 +114,21 @@ awk -v inputs="${inputs[*]}" -v bytes="${bytes[*]}" -v headings="$headings" -v i
       sprintf("%.2f of the bytes, %.2f of the time, %s times the optimised generator", size[k] / size[63], time[k] / time[63], times(k)))
     k = "unknown"
     say(time[k] <= 1.25 * optimised[k], "depth 63, the start unknown, at most 1.25 times the optimised generator", times(k))
+    for (d = 7; d <= most; d++) {
+      k = shown[d]
+      say(time[k] <= 1.05 * optimised[k], "two ports, depth " substr(k, 2) ", at most 1.05 times the optimised generator", times(k))
+    }
+    say(resident["T255"] <= 4096, "two ports, depth 255, at most 4 MiB resident", resident["T255"] " KiB")
     # what depth 0 takes is the start of the process: no cost of a byte
     flat = change(time, time[0], size[0])
     say(flat >= -20 && flat <= 20, "cost per byte from depth 63 to 255 within 20%, the time of depth 0 taken off", sprintf("%+.0f%%", flat))
     printf "         the same of the optimised generator: %+.0f%%\n", change(optimised, optimised[0], size[0])
     printf "         with the time of depth 0: frames %+.0f%%, the optimised generator %+.0f%%\n", change(time, 0, 0), change(optimised, 0, 0)
     if (executed[2]) printf "         instructions for each byte at depth 63: frames %.2f, the optimised generator %.2f\n", executed[1] / size[63], executed[2] / size[63]
-    say(library <= time[255], "depth 255, all groups through the library, at most the time of frames", sprintf("%.2f (%.2f ms)", library / time[255], library / 1000))
-    say(heading[1] < 200 && heading[2] < 200, "a heading of depth 255 in under 0.2 ms", sprintf("%.1f µs, of an unknown start %.1f µs", heading[1], heading[2]))
+    groups(255, "depth 255")
+    groups("T255", "two ports, depth 255")
+    say(heading[1] <= 20 && heading[2] <= 20 && heading[3] <= 20, "a heading of depth 255 in at most 20 µs",
+      sprintf("%.1f µs, of an unknown start %.1f µs, of two ports %.1f µs", heading[1], heading[2], heading[3]))
   }' "$work/fast.out" "$work/slow.out"
 
 # Imports: each text with the number and place that it is refused with, 0 0 where it is accepted.

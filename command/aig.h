@@ -31,6 +31,8 @@ public:
   Lit lor(Lit left, Lit right) { return land(left ^ 1, right ^ 1) ^ 1; }
   Lit lxor(Lit left, Lit right) { return land(land(left, right) ^ 1, land(left ^ 1, right ^ 1) ^ 1); }
   Lit mux(Lit condition, Lit then, Lit otherwise);
+  // a gate of its own that is what the literal is
+  Lit add_copy(Lit literal) { return add({Kind::gate, false, literal, TRUE}); }
 
   const Node &node(uint32_t index) const { return nodes[index]; }
   size_t size() const { return nodes.size(); }

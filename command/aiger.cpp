@@ -193,7 +193,7 @@ Chip chip_of_aiger(const std::string &path, const std::string &content, const Op
   property.name = "property_holds";
   property.code = chip.net.p;
   chip.properties.push_back(property);
-  show_port_of_record(chip);
+  show_ports_of_record(chip);
   name_words(chip, symbols, content);
   if (options.start.kind == Start::Kind::as_given)
     chip.notes.push_back("a text does not say what the memory begins as: each word may be anything (--start WORD for a memory that is filled)");

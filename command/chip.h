@@ -26,6 +26,13 @@ struct Bench {
   std::string obstacle; // why a run cannot be tried, where it cannot
 };
 
+// A port of the memory as it is shown. A bit of an address that is a constant or another bit's wire is no bit of the sheet's address, and a data
+// bit on which no property depends is no bit of the sheet's words.
+struct ShownPort {
+  std::vector<uint32_t> address, read_data;
+  marrubigai_code re = 0;
+};
+
 struct Chip {
   marrubigai_netlist net{}; // its property is put in by `of`
   std::vector<marrubigai_latch> latches;
@@ -34,10 +41,9 @@ struct Chip {
 
   std::vector<Word> shown; // the table's columns
   std::vector<Word> named; // every word that has a name
-  // The memory's port as it is shown. A bit of an address that is a constant or another bit's wire is no bit of the sheet's address, and a data
-  // bit on which no property depends is no bit of the sheet's words.
   std::string memory_name;
-  std::vector<uint32_t> address, read_data, write_data;
+  std::vector<ShownPort> ports; // one or two; the first one's address is the one that is written at
+  std::vector<uint32_t> write_data;
   Bench bench;
   std::vector<std::string> notes; // what the user should know of how the chip was made
 
@@ -56,14 +62,18 @@ struct Chip {
     static const marrubigai_gate none{};
     return gates.empty() ? &none : gates.data();
   }
-  uint32_t wires() const { return net.inputs + net.latches + net.n + net.gates; }
-  uint32_t first_read() const { return net.inputs + net.latches + 1; }
+  uint32_t read_bits() const { return (1 + net.second_port) * net.n; }
+  uint32_t wires() const { return net.inputs + net.latches + read_bits() + net.gates; }
+  // of a port, 0 or 1
+  uint32_t first_read(size_t port = 0) const { return net.inputs + net.latches + 1 + static_cast<uint32_t>(port) * net.n; }
 };
 
-// the port as the record has it, for a chip that came as a sheet or a text
-inline void show_port_of_record(Chip &chip) {
+// the ports as the record has them, for a chip that came as a sheet or a text
+inline void show_ports_of_record(Chip &chip) {
   const marrubigai_netlist &net = chip.net;
-  chip.address.assign(net.address, net.address + net.m);
+  chip.ports.push_back({{net.address, net.address + net.m}, {}, net.re});
+  if (net.second_port) chip.ports.push_back({{net.address2, net.address2 + net.m}, {}, net.re2});
+  for (size_t port = 0; port < chip.ports.size(); port++)
+    for (uint32_t t = 0; t < net.n; t++) chip.ports[port].read_data.push_back(2 * (chip.first_read(port) + t));
   chip.write_data.assign(net.write_data, net.write_data + net.n);
-  for (uint32_t t = 0; t < net.n; t++) chip.read_data.push_back(2 * (chip.first_read() + t));
 }

@@ -62,8 +62,9 @@ std::string bench_text(const Options &options, const Chip &chip, const Run &run)
   // the words that a run reads of what the memory begins as
   std::set<Bits> filled;
   for (const Access &access : accesses(chip, run))
-    if (access.reads && !access.writer && filled.insert(access.address).second)
-      text << "    dut." << chip.memory_name << "[" << literal(access.address) << "] = " << literal(access.read) << ";\n";
+    for (const Access::Read &read : access.reads)
+      if (!read.writer && filled.insert(read.address).second)
+        text << "    dut." << chip.memory_name << "[" << literal(read.address) << "] = " << literal(read.word) << ";\n";
   for (uint32_t i = 0; i < run.frames(); i++) {
     if (i > 0) set_inputs(i);
     text << "    #1 \\" << bench.clock << "  = " << bench.rising << "; #1 \\" << bench.clock << "  = " << !bench.rising << ";\n";

@@ -1,6 +1,8 @@
 #include "emission.h"
 
 #include <algorithm>
+#include <map>
+#include <set>
 
 #include "failure.h"
 
@@ -8,55 +10,78 @@ namespace {
 
 enum { MOST_WIRES = 600, MOST_ADDRESS_BITS = 12, MOST_DATA_BITS = 32 };
 
-// address bits that are neither a constant nor another bit, inverted or not: they tell the words apart that can be reached
-std::vector<Lit> own_bits(const std::vector<Lit> &address) {
-  std::vector<Lit> own;
-  for (Lit bit : address)
-    if (bit > TRUE && std::none_of(own.begin(), own.end(), [&](Lit other) { return other / 2 == bit / 2; })) own.push_back(bit);
-  return own;
-}
-
 struct Cone {
   std::vector<char> has; // of each node
-  std::vector<size_t> data_bits; // of the memory, those that something depends on
+  std::vector<char> ports; // of the memory, those that something depends on
+  std::vector<size_t> data_bits; // the same, bit by bit
 };
 
-Cone cone_of(const Aig &aig, const MemoryPort &port, std::vector<Lit> stack) {
+Cone cone_of(const Aig &aig, const Memory &memory, std::vector<Lit> stack) {
   Cone cone;
   cone.has.assign(aig.size(), 0);
-  bool reads = false;
+  cone.ports.assign(memory.ports.size(), 0);
+  std::map<uint32_t, std::pair<size_t, size_t>> reads; // a node's port and bit
+  for (size_t port = 0; port < memory.ports.size(); port++)
+    for (size_t bit = 0; bit < memory.ports[port].read.size(); bit++) reads[memory.ports[port].read[bit] / 2] = {port, bit};
+  std::set<size_t> data_bits;
+  auto push = [&](const std::vector<Lit> &literals) { stack.insert(stack.end(), literals.begin(), literals.end()); };
   while (!stack.empty()) {
     uint32_t index = stack.back() / 2;
     stack.pop_back();
     if (cone.has[index]) continue;
     cone.has[index] = 1;
     const Aig::Node &node = aig.node(index);
-    if (node.kind == Aig::Kind::latch || node.kind == Aig::Kind::gate) stack.push_back(node.left);
-    if (node.kind == Aig::Kind::gate) stack.push_back(node.right);
+    if (node.kind == Aig::Kind::latch) push({node.left});
+    if (node.kind == Aig::Kind::gate) push({node.left, node.right});
     if (node.kind != Aig::Kind::read) continue;
-    size_t bit = static_cast<size_t>(std::find(port.read.begin(), port.read.end(), 2 * index) - port.read.begin());
-    cone.data_bits.push_back(bit);
-    stack.push_back(port.write_data[bit]);
-    if (reads) continue;
-    reads = true;
-    stack.insert(stack.end(), port.address.begin(), port.address.end());
-    stack.push_back(port.we);
-    stack.push_back(port.re);
+    auto [port, bit] = reads.at(index);
+    data_bits.insert(bit);
+    push({memory.write_data[bit]});
+    if (cone.ports[port]) continue;
+    cone.ports[port] = 1;
+    push(memory.ports[0].address); // what is read was written there
+    push(memory.ports[port].address);
+    push({memory.we, memory.ports[port].re});
   }
-  std::sort(cone.data_bits.begin(), cone.data_bits.end());
+  cone.data_bits.assign(data_bits.begin(), data_bits.end());
   return cone;
 }
 
-void set_start(marrubigai_netlist &net, const MemoryPort &port, const std::vector<size_t> &data_bits, const Start &start) {
-  std::string words = "memory " + port.name + " (" + port.source + ")";
-  net.unknown_start = 0;
-  if (start.kind == Start::Kind::unknown) net.unknown_start = 1;
-  if (start.kind == Start::Kind::word && port.read.size() < 32 && start.word >> port.read.size() != 0)
-    throw Failure("--start " + std::to_string(start.word) + ": a word of " + words + " has " + std::to_string(port.read.size()) + " bits");
+// The address of each port, without the bits that tell no words apart: those that are the same constant in all ports, and those that are an earlier
+// bit, inverted or not, in all of them alike.
+std::vector<std::vector<Lit>> own_bits(Aig &aig, const std::vector<ReadPort> &ports) {
+  std::vector<std::vector<Lit>> own(ports.size());
+  auto bits = [&](size_t t) {
+    std::vector<Lit> made;
+    for (const ReadPort &port : ports) made.push_back(port.address[t]);
+    return made;
+  };
+  auto inverted = [](std::vector<Lit> word) {
+    for (Lit &bit : word) bit ^= 1;
+    return word;
+  };
+  std::set<std::vector<Lit>> known{std::vector<Lit>(ports.size(), FALSE), std::vector<Lit>(ports.size(), TRUE)};
+  for (size_t t = 0; t < ports[0].address.size(); t++) {
+    std::vector<Lit> these = bits(t);
+    if (!known.insert(these).second || !known.insert(inverted(these)).second) continue;
+    for (size_t port = 0; port < ports.size(); port++) {
+      // the same wire twice in one address would be refused, also where the other address has two wires there
+      bool tied = std::any_of(own[port].begin(), own[port].end(), [&](Lit bit) { return bit > TRUE && bit / 2 == these[port] / 2; });
+      own[port].push_back(tied ? aig.add_copy(these[port]) : these[port]);
+    }
+  }
+  return own;
+}
+
+void set_start(marrubigai_netlist &net, const Memory &memory, const std::vector<size_t> &data_bits, const Start &start) {
+  std::string words = "memory " + memory.name + " (" + memory.source + ")";
+  size_t width = memory.write_data.size();
+  if (start.kind == Start::Kind::word && width < 32 && start.word >> width != 0)
+    throw Failure("--start " + std::to_string(start.word) + ": a word of " + words + " has " + std::to_string(width) + " bits");
   size_t unknown = 0;
   for (size_t t = 0; t < data_bits.size(); t++) {
     size_t bit = data_bits[t];
-    char value = port.start[bit];
+    char value = memory.start[bit];
     if (start.kind == Start::Kind::word) value = bit < 32 && start.word >> bit & 1 ? '1' : '0';
     if (start.kind == Start::Kind::unknown) value = 'x';
     if (value == '*')
@@ -66,6 +91,9 @@ void set_start(marrubigai_netlist &net, const MemoryPort &port, const std::vecto
     if (value == '1') net.initial_word |= uint32_t{1} << t;
   }
   if (unknown == 0) return;
+  if (net.second_port)
+    throw Failure(words + " begins unknown and has two addresses in one frame: with two ports what it begins as must be given.\n"
+                          "Fill it in an initial block, or ask from a word of your own (--start 0): then this is what is read before it is written.");
   if (unknown != data_bits.size())
     throw Failure(words + " begins with words of which some bits are given and others are unknown, which is not built.\n"
                           "Fill whole words, or ask from a start of your own (--start unknown, --start 0).");
@@ -81,15 +109,20 @@ std::vector<uint32_t> Emission::codes_of(const std::vector<Lit> &literals) const
   return made;
 }
 
-Emission emit(const Aig &aig, const MemoryPort &port, const std::vector<Lit> &roots, const Start &start) {
-  Cone cone = cone_of(aig, port, roots);
-  Emission made;
-  Chip &chip = made.chip;
-  std::vector<Lit> address = cone.data_bits.empty() ? std::vector<Lit>() : own_bits(port.address);
-  for (Lit bit : address)
-    if (aig.depends_on(bit, Aig::Kind::read))
-      throw Failure(port.source + ": the address of memory " + port.name + " depends on a word that it reads in the same frame.\n" +
+Emission emit(Aig &aig, const Memory &memory, const std::vector<Lit> &roots, const Start &start) {
+  Cone cone = cone_of(aig, memory, roots);
+  std::vector<ReadPort> ports; // those of the record: the second only where something depends on it
+  for (size_t port = 0; port < memory.ports.size(); port++)
+    if (port == 0 || cone.ports[port]) ports.push_back(memory.ports[port]);
+  if (!cone.ports[0]) ports[0].re = FALSE; // it only writes
+  for (const ReadPort &port : ports)
+    for (Lit bit : port.address)
+      if (!cone.data_bits.empty() && aig.depends_on(bit, Aig::Kind::read))
+        throw NoFit(memory.source + ": the address of memory " + memory.name + " depends on a word that it reads in the same frame.\n" +
                     "Put a register on the path, so that the address comes from a word that an earlier step read.");
+  std::vector<std::vector<Lit>> address(ports.size());
+  if (!cone.data_bits.empty()) address = own_bits(aig, ports);
+  cone.has.resize(aig.size(), 1); // copies of address bits
   std::vector<uint32_t> inputs, latches, gates;
   for (uint32_t index = 1; index < aig.size(); index++) {
     if (!cone.has[index]) continue;
@@ -98,51 +131,59 @@ Emission emit(const Aig &aig, const MemoryPort &port, const std::vector<Lit> &ro
     if (kind == Aig::Kind::latch) latches.push_back(index);
     if (kind == Aig::Kind::gate) gates.push_back(index);
   }
-  size_t data_bits = std::max<size_t>(cone.data_bits.size(), 1), wires = inputs.size() + latches.size() + data_bits + gates.size();
-  std::string counts = std::to_string(inputs.size()) + " inputs, " + std::to_string(latches.size()) + " registers, " + std::to_string(data_bits) +
+  size_t data_bits = std::max<size_t>(cone.data_bits.size(), 1), read_bits = ports.size() * data_bits;
+  size_t wires = inputs.size() + latches.size() + read_bits + gates.size();
+  std::string counts = std::to_string(inputs.size()) + " inputs, " + std::to_string(latches.size()) + " registers, " + std::to_string(read_bits) +
                        " read bits, " + std::to_string(gates.size()) + " gates";
-  if (address.size() > MOST_ADDRESS_BITS)
-    throw Failure(port.source + ": memory " + port.name + " has " + std::to_string(address.size()) + " address bits, and 12 is the most.\n" +
+  if (address[0].size() > MOST_ADDRESS_BITS)
+    throw Failure(memory.source + ": memory " + memory.name + " has " + std::to_string(address[0].size()) + " address bits, and 12 is the most.\n" +
                   "Make it smaller by a parameter (-P).");
   if (data_bits > MOST_DATA_BITS)
-    throw TooLarge(port.source + ": what is asked about depends on " + std::to_string(data_bits) + " data bits of memory " + port.name +
+    throw TooLarge(memory.source + ": what is asked about depends on " + std::to_string(data_bits) + " data bits of memory " + memory.name +
                   ", and 32 is the most.\nMake the words narrower by a parameter (-P).");
   if (wires > MOST_WIRES)
     throw TooLarge("what is asked about depends on " + std::to_string(wires) + " wires (" + counts + "), and 600 is the most.\n" +
                   "Make the design smaller by a parameter (-P): narrower words, fewer of them.");
+  Emission made;
   made.codes.assign(aig.size(), NO_CODE);
   made.codes[0] = 0;
   uint32_t wire = 0;
   auto number = [&](uint32_t index) { made.codes[index] = 2 * ++wire; };
   for (uint32_t index : inputs) number(index);
   for (uint32_t index : latches) number(index);
+  for (const ReadPort &port : ports)
+    for (size_t bit : cone.data_bits) number(port.read[bit] / 2);
   if (cone.data_bits.empty()) wire++; // a memory that nothing depends on, of one bit
-  for (size_t bit : cone.data_bits) number(port.read[bit] / 2);
   for (uint32_t index : gates) number(index);
 
+  Chip &chip = made.chip;
   marrubigai_netlist &net = chip.net;
   net.inputs = static_cast<uint32_t>(inputs.size());
   net.latches = static_cast<uint32_t>(latches.size());
   net.gates = static_cast<uint32_t>(gates.size());
-  net.m = static_cast<uint32_t>(std::max<size_t>(address.size(), 1));
+  net.m = static_cast<uint32_t>(std::max<size_t>(address[0].size(), 1));
   net.n = static_cast<uint32_t>(data_bits);
-  for (size_t t = 0; t < address.size(); t++) net.address[t] = made.code(address[t]);
-  for (size_t t = 0; t < cone.data_bits.size(); t++) net.write_data[t] = made.code(port.write_data[cone.data_bits[t]]);
+  net.second_port = ports.size() == 2;
+  for (size_t t = 0; t < address[0].size(); t++) net.address[t] = made.code(address[0][t]);
+  for (size_t t = 0; net.second_port && t < address[1].size(); t++) net.address2[t] = made.code(address[1][t]);
+  for (size_t t = 0; t < cone.data_bits.size(); t++) net.write_data[t] = made.code(memory.write_data[cone.data_bits[t]]);
   for (uint32_t index : latches) chip.latches.push_back({made.code(aig.node(index).left), aig.node(index).reset});
   for (uint32_t index : gates) chip.gates.push_back({made.code(aig.node(index).left), made.code(aig.node(index).right)});
-  chip.memory_name = port.name;
+  chip.memory_name = memory.name;
   if (cone.data_bits.empty()) {
-    chip.notes.push_back("what is asked about does not depend on the memory " + port.name);
+    chip.notes.push_back("what is asked about does not depend on the memory " + memory.name);
   } else {
-    net.we = made.code(port.we);
-    net.re = made.code(port.re);
-    set_start(net, port, cone.data_bits, start);
+    net.we = made.code(memory.we);
+    net.re = made.code(ports[0].re);
+    if (net.second_port) net.re2 = made.code(ports[1].re);
+    set_start(net, memory, cone.data_bits, start);
   }
-  chip.address = made.codes_of(port.address);
-  chip.write_data = made.codes_of(port.write_data);
-  chip.read_data = made.codes_of(port.read);
+  for (const ReadPort &port : ports)
+    chip.ports.push_back({made.codes_of(port.address), made.codes_of(port.read), cone.data_bits.empty() ? 0 : made.code(port.re)});
+  chip.write_data = made.codes_of(memory.write_data);
   std::string begins = net.unknown_start ? "unknown" : std::to_string(net.initial_word);
-  chip.notes.push_back("memory " + port.name + " (" + port.source + "): " + std::to_string(net.m) + " address bits, " + std::to_string(net.n) +
-                       " data bits, start " + begins + "; " + std::to_string(wires) + " wires of at most 600 (" + counts + ")");
+  chip.notes.push_back("memory " + memory.name + " (" + memory.source + "): " + std::to_string(net.m) + " address bits, " + std::to_string(net.n) +
+                       " data bits, " + (net.second_port ? "two ports, " : "") + "start " + begins + "; " + std::to_string(wires) +
+                       " wires of at most 600 (" + counts + ")");
   return made;
 }

@@ -13,4 +13,4 @@ struct Emission {
 };
 
 // Only what the roots depend on is kept: of the memory too, bit by bit, as no data bit depends on another. A Failure where it does not fit.
-Emission emit(const Aig &aig, const MemoryPort &port, const std::vector<Lit> &roots, const Start &start);
+Emission emit(Aig &aig, const Memory &memory, const std::vector<Lit> &roots, const Start &start);

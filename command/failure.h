@@ -17,7 +17,7 @@ struct TooLarge : Failure {
   using Failure::Failure;
 };
 
-// the memory does not fit into one port, as it was read; it may fit when it is read in another way
+// the memory does not fit into its ports, as it was read; it may fit when it is read in another way, or has one more
 struct NoFit : Failure {
   using Failure::Failure;
 };

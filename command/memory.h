@@ -1,12 +1,18 @@
-// The memory of a design, cut out of it: what goes into its one port and what comes out of it.
+// The memory of a design, cut out of it: what goes into its ports and what comes out of them.
 #pragma once
 
 #include "logic.h"
 
-struct MemoryPort {
+struct ReadPort {
+  std::vector<Lit> address, read; // bit 0 first; read: the port's output, new nodes of the graph
+  Lit re = FALSE;
+};
+
+struct Memory {
   std::string name, source;
-  std::vector<Lit> address, write_data, read; // bit 0 first; read: the memory's output, new nodes of the graph
-  Lit we = FALSE, re = FALSE;
+  std::vector<ReadPort> ports; // one or two; the address of the first is the one that is written at
+  std::vector<Lit> write_data; // bit 0 first
+  Lit we = FALSE;
   // What every word begins as, bit 0 first: 0, 1, x where it is unknown, * where it differs from word to word.
   std::string start;
   std::vector<std::string> notes;
@@ -15,17 +21,27 @@ struct MemoryPort {
 // Finds the memory, which the user may have chosen by its name. A Failure where there is none, or several.
 const Cell &only_memory(const Design &design, const std::string &chosen);
 
-// In two steps, as what goes into the memory may depend on what comes out of it: made, its output drives the logic behind it; finished, it has
-// its port. What does not fit into one port is a Failure that says so by name.
+// Of each read of the source, the port that it goes through, and whether anything that is asked about depends on it.
+struct PortPlan {
+  std::vector<size_t> port;
+  std::vector<char> counts;
+};
+PortPlan one_port(const Cell &memory);
+PortPlan port_for_each(const Cell &memory);
+
+// In two steps, as what goes into the memory may depend on what comes out of it: made, its output drives the logic behind it; finished, it has its
+// ports, and all registers have their next values. What does not fit into the ports is a NoFit that says so by name.
 class MemoryCut {
 public:
-  MemoryCut(Logic &logic, const Cell &cell);
-  MemoryPort finish();
+  MemoryCut(Logic &logic, const Cell &cell, const PortPlan &plan);
+  Memory finish();
+  // In place of finish, of a cut with a port for each read: which of two ports each can go through. Reads that the roots do not depend on do not
+  // count. What does not fit into two ports is a NoFit.
+  PortPlan two_ports(const std::vector<Lit> &roots);
 
 private:
   // a port of yosys' memory
   struct Access {
-    bool writes = false;
     Lit active = TRUE; // whether it does something in this frame
     std::vector<Lit> address;
     std::vector<Lit> enable, data; // of a write, bit by bit
@@ -34,17 +50,24 @@ private:
   Logic &logic;
   Aig &aig;
   const Cell &cell;
+  const PortPlan plan;
   size_t width, address_bits, readers, writers;
   std::vector<std::vector<Register>> output; // of each clocked read, the register behind the memory; else empty
-  MemoryPort port;
+  std::vector<Access> writes, reads;
+  Memory memory;
 
   [[noreturn]] void refuse(const std::string &what) const;
   bool is_clocked(size_t reader) const { return cell.bits("RD_CLK_ENABLE")[reader] == '1'; }
+  const std::vector<Lit> &word_of(size_t reader) const { return memory.ports[plan.port[reader]].read; }
   Access write_access(size_t at);
   Access read_access(size_t at);
+  void gather();
+  void finish_output(size_t reader);
+  void finish_registers();
+  bool can_part(const Access &one, const Access &other) const;
+  std::vector<char> reads_below(std::vector<Lit> roots) const;
   std::vector<Lit> joined_address(std::vector<Access> accesses);
-  void join_writes(const std::vector<Access> &writes);
-  void join_reads(const std::vector<Access> &reads, bool partial_writes);
-  void finish_output(size_t reader, const Access &read);
-  Lit in_array() const;
+  void join_writes();
+  void join_reads(size_t port);
+  Lit in_array(const std::vector<Lit> &address) const;
 };

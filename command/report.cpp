@@ -56,6 +56,27 @@ std::string word_json(const std::vector<uint32_t> &codes, const Run &run, uint32
   return quoted(written(run.bits(codes, frame), radix));
 }
 
+std::string read_json(const Access::Read &read, Radix radix) {
+  return "\"read\": " + quoted(written(read.word, radix)) + ", \"written_in\": " + (read.writer ? std::to_string(*read.writer) : "null");
+}
+
+// the first port's address, read and write; the second port's read as an object of its own
+std::string access_json(const Access &access, Radix radix) {
+  std::vector<std::string> members;
+  auto address = [&](const Bits &bits) { return "\"address\": " + quoted(written(bits, radix)); };
+  for (const Access::Read &read : access.reads)
+    if (read.port == 0) members = {address(read.address), read_json(read, radix)};
+  if (access.write) {
+    if (members.empty()) members.push_back(address(access.write->address));
+    members.push_back("\"write\": " + quoted(written(access.write->word, radix)));
+  }
+  for (const Access::Read &read : access.reads)
+    if (read.port == 1) members.push_back("\"second\": {" + address(read.address) + ", " + read_json(read, radix) + "}");
+  std::string text;
+  for (const std::string &member : members) text += (text.empty() ? "" : ", ") + member;
+  return "{" + text + "}";
+}
+
 std::string run_json(const Chip &chip, const Property &property, const Run &run, Radix radix) {
   std::vector<Access> memory = accesses(chip, run);
   const std::vector<Word> words = chip.named.empty() ? columns(chip, property) : chip.named;
@@ -68,15 +89,7 @@ std::string run_json(const Chip &chip, const Property &property, const Run &run,
       bool idle = is_idle(chip, run, words[w].codes, i);
       text += (w ? ", " : "") + quoted(words[w].name) + ": " + (idle ? "null" : word_json(words[w].codes, run, i, radix));
     }
-    const Access &access = memory[i];
-    text += "}, \"memory\": {";
-    if (access.reads || access.writes) text += "\"address\": " + quoted(written(access.address, radix));
-    if (access.reads) {
-      text += ", \"read\": " + quoted(written(access.read, radix)) + ", \"written_in\": ";
-      text += access.writer ? std::to_string(*access.writer) : "null";
-    }
-    if (access.writes) text += ", \"write\": " + quoted(written(access.written, radix));
-    text += "}}";
+    text += "}, \"memory\": " + access_json(memory[i], radix) + "}";
   }
   return text + "\n    ]";
 }
@@ -117,8 +130,9 @@ std::string chip_json(const Searched &searched, Radix radix) {
   std::string text = "{\"inputs\": " + std::to_string(chip.net.inputs) + ", \"latches\": " + std::to_string(chip.net.latches) +
                      ", \"gates\": " + std::to_string(chip.net.gates) + ", \"wires\": " + std::to_string(chip.wires()) + ",\n   \"memory\": {";
   if (!chip.memory_name.empty()) text += "\"name\": " + quoted(chip.memory_name) + ", ";
-  text += "\"address_bits\": " + std::to_string(chip.net.m) + ", \"data_bits\": " + std::to_string(chip.net.n) + ", \"start\": " +
-          (chip.net.unknown_start ? "null" : std::to_string(chip.net.initial_word)) + "},\n   \"notes\": [";
+  text += "\"address_bits\": " + std::to_string(chip.net.m) + ", \"data_bits\": " + std::to_string(chip.net.n) + ", \"ports\": " +
+          std::to_string(chip.ports.size()) + ", \"start\": " + (chip.net.unknown_start ? "null" : std::to_string(chip.net.initial_word)) +
+          "},\n   \"notes\": [";
   for (size_t at = 0; at < chip.notes.size(); at++) text += (at ? ", " : "") + quoted(chip.notes[at]);
   text += "],\n   \"properties\": [";
   for (size_t p = 0; p < searched.verdicts.size(); p++) text += (p ? ",\n    " : "\n    ") + property_json(searched, p, radix);

@@ -17,7 +17,7 @@ std::string answer_text(const Chip &chip, const std::vector<marrubigai_position>
   };
   for (uint32_t i = 0; i <= depth; i++) {
     for (uint32_t w = 1; w <= chip.net.inputs; w++) add(w, frames[i]);
-    for (uint32_t t = 0; t < chip.net.n; t++) add(chip.first_read() + t, frames[i]);
+    for (uint32_t t = 0; t < chip.read_bits(); t++) add(chip.first_read() + t, frames[i]);
   }
   return text + "v 0\n";
 }
@@ -60,22 +60,29 @@ std::vector<Access> accesses(const Chip &chip, const Run &run) {
   std::map<Bits, uint32_t> writers;
   for (uint32_t i = 0; i < run.frames(); i++) {
     Access access;
-    access.reads = run.value(chip.net.re, i);
-    access.writes = run.value(chip.net.we, i);
-    access.address = run.bits(chip.address, i);
-    access.read = run.bits(chip.read_data, i);
-    access.written = run.bits(chip.write_data, i);
-    auto writer = writers.find(access.address);
-    if (writer != writers.end()) access.writer = writer->second;
-    if (access.writes) writers[access.address] = i;
+    for (size_t port = 0; port < chip.ports.size(); port++) {
+      const ShownPort &shown = chip.ports[port];
+      if (!run.value(shown.re, i)) continue;
+      Access::Read read{port, run.bits(shown.address, i), run.bits(shown.read_data, i), std::nullopt};
+      auto writer = writers.find(read.address);
+      if (writer != writers.end()) read.writer = writer->second;
+      access.reads.push_back(read);
+    }
+    if (run.value(chip.net.we, i)) {
+      access.write = Access::Write{run.bits(chip.ports[0].address, i), run.bits(chip.write_data, i)};
+      writers[access.write->address] = i;
+    }
     made.push_back(access);
   }
   return made;
 }
 
 bool is_idle(const Chip &chip, const Run &run, const std::vector<uint32_t> &codes, uint32_t frame) {
-  if (frame > 0 || run.value(chip.net.re, frame)) return false;
-  for (uint32_t code : codes)
-    if (code != NO_CODE && code / 2 >= chip.first_read() && code / 2 < chip.first_read() + chip.net.n) return true;
+  if (frame > 0) return false;
+  for (size_t port = 0; port < chip.ports.size(); port++) {
+    if (run.value(chip.ports[port].re, frame)) continue;
+    for (uint32_t code : codes)
+      if (code != NO_CODE && code / 2 >= chip.first_read(port) && code / 2 < chip.first_read(port) + chip.net.n) return true;
+  }
   return false;
 }

@@ -19,9 +19,16 @@ struct Run {
 
 // What the memory does in a frame.
 struct Access {
-  bool reads = false, writes = false;
-  Bits address, read, written;
-  std::optional<uint32_t> writer; // the frame that wrote the word that is read; none: it is of the start
+  struct Read {
+    size_t port; // 0 or 1
+    Bits address, word;
+    std::optional<uint32_t> writer; // the frame that wrote the word; none: it is of the start
+  };
+  struct Write {
+    Bits address, word;
+  };
+  std::vector<Read> reads; // at most one for each port
+  std::optional<Write> write;
 };
 
 // Steps the chip with its whole memory through the frames 0 to `depth`, fed what `value` says of the literals (true or false for a variable), and
@@ -31,5 +38,5 @@ Run replay(const Chip &chip, const Property &property, const std::vector<marrubi
 
 std::vector<Access> accesses(const Chip &chip, const Run &run);
 
-// a word with a read bit of frame 0 where that does not read: it is no word of the memory
+// a word with a read bit of frame 0 where its port does not read: it is no word of the memory
 bool is_idle(const Chip &chip, const Run &run, const std::vector<uint32_t> &codes, uint32_t frame);

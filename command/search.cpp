@@ -54,18 +54,20 @@ private:
     frames.push_back(reply.position);
   }
 
-  void add_group(uint32_t kind, uint32_t j) {
+  void add_group(uint32_t kind, uint32_t j, uint32_t port) {
     auto reply = marrubigai_write_group_at(chip.net, chip.latch_list(), chip.net.latches, chip.gate_list(), chip.net.gates, frames.back(), kind, j,
-                                           numbers.data(), numbers.size());
+                                           port, numbers.data(), numbers.size());
     test(reply.number, reply.place);
     for (size_t t = 0; t < reply.count; t++) solver.add(numbers[t]);
   }
 
   void add_frame() {
     move();
-    add_group(MARRUBIGAI_WIRES, 0);
-    for (uint32_t j = frames.back().frame; j > 0; j--) add_group(MARRUBIGAI_PAIR, j - 1);
-    add_group(MARRUBIGAI_CLOSING, 0);
+    uint32_t ports = 1 + chip.net.second_port;
+    add_group(MARRUBIGAI_WIRES, 0, 0);
+    for (uint32_t j = frames.back().frame; j > 0; j--)
+      for (uint32_t port = 1; port <= ports; port++) add_group(MARRUBIGAI_PAIR, j - 1, port);
+    for (uint32_t port = 1; port <= ports; port++) add_group(MARRUBIGAI_CLOSING, 0, port);
   }
 
   // not P of a frame

@@ -70,7 +70,7 @@ Chip chip_of_sheet(const std::string &path, const std::string &content, const Op
   property.name = "property";
   property.code = chip.net.p;
   chip.properties.push_back(property);
-  show_port_of_record(chip);
+  show_ports_of_record(chip);
   if (options.names_file.empty()) {
     show_unnamed(chip);
   } else {
@@ -82,6 +82,8 @@ Chip chip_of_sheet(const std::string &path, const std::string &content, const Op
 
 void apply_start(Chip &chip, const Start &start) {
   if (start.kind == Start::Kind::as_given) return;
+  if (start.kind == Start::Kind::unknown && chip.net.second_port)
+    throw Failure("--start unknown: this memory has two ports, and with two ports what it begins as must be given");
   chip.net.unknown_start = start.kind == Start::Kind::unknown;
   chip.net.initial_word = start.word;
   if (chip.net.n < 32 && start.word >> chip.net.n != 0)

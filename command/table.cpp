@@ -6,14 +6,18 @@ namespace {
 
 std::string right(const std::string &text, size_t width) { return std::string(width > text.size() ? width - text.size() : 0, ' ') + text; }
 
+// Where two ports can read, it says which does.
 std::string memory_text(const Chip &chip, const Access &access, Radix radix) {
-  std::string at = " at " + written(access.address, radix), text;
-  if (access.reads) {
-    text = "reads " + written(access.read, radix) + at + " (";
-    text += access.writer ? "written in frame " + std::to_string(*access.writer) : chip.net.unknown_start ? "unknown start" : "start word";
+  std::string text;
+  bool both = chip.ports.size() == 2 && chip.ports[0].re != 0 && chip.ports[1].re != 0;
+  for (const Access::Read &read : access.reads) {
+    text += (text.empty() ? "" : ", ") + (both ? "port " + std::to_string(read.port + 1) + " " : "");
+    text += "reads " + written(read.word, radix) + " at " + written(read.address, radix) + " (";
+    text += read.writer ? "written in frame " + std::to_string(*read.writer) : chip.net.unknown_start ? "unknown start" : "start word";
     text += ")";
   }
-  if (access.writes) text += (text.empty() ? "writes " : ", writes ") + written(access.written, radix) + at;
+  if (access.write)
+    text += (text.empty() ? "writes " : ", writes ") + written(access.write->word, radix) + " at " + written(access.write->address, radix);
   return text.empty() ? "idle" : text;
 }
 

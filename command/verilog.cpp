@@ -38,8 +38,8 @@ void test_statements(const Design &design) {
 
 class Chipmaker {
 public:
-  Chipmaker(const Design &read, const Options &wanted)
-      : design(read), options(wanted), logic(read, wanted.resets), memory_cell(only_memory(read, wanted.memory)), cut(logic, memory_cell) {}
+  Chipmaker(const Design &read, const Options &wanted, const PortPlan &plan)
+      : design(read), options(wanted), logic(read, wanted.resets), cut(logic, only_memory(read, wanted.memory), plan) {}
 
   std::vector<Property> asked_about() {
     find_statements();
@@ -48,28 +48,19 @@ public:
     return made;
   }
 
+  PortPlan two_ports() { return cut.two_ports(find_roots()); }
+
   Chip make() {
-    find_statements();
-    Lit allowed = assumptions();
-    std::vector<Lit> roots;
-    for (Statement &statement : statements) {
-      statement.seen = logic.aig.land(statement.seen, allowed);
-      roots.push_back(statement.seen);
-    }
-    for (const std::string &name : options.watched) {
-      std::vector<Lit> bits = logic.lits(watched_net(name).bits);
-      roots.insert(roots.end(), bits.begin(), bits.end());
-    }
-    MemoryPort port = cut.finish();
-    logic.finish_registers();
-    Emission emission = emit(logic.aig, port, roots, options.start);
+    std::vector<Lit> roots = find_roots();
+    Memory memory = cut.finish();
+    Emission emission = emit(logic.aig, memory, roots, options.start);
     Chip &chip = emission.chip;
     for (Statement &statement : statements) {
       statement.property.code = emission.code(statement.seen) ^ 1;
       chip.properties.push_back(statement.property);
     }
     chip.net.p = chip.properties[0].code;
-    chip.notes.insert(chip.notes.end(), port.notes.begin(), port.notes.end());
+    chip.notes.insert(chip.notes.end(), memory.notes.begin(), memory.notes.end());
     chip.notes.insert(chip.notes.end(), design.warnings.begin(), design.warnings.end());
     note_inputs(emission);
     name_words(emission);
@@ -81,9 +72,24 @@ private:
   const Design &design;
   const Options &options;
   Logic logic;
-  const Cell &memory_cell;
   MemoryCut cut;
   std::vector<Statement> statements;
+
+  // what is kept of the design is what these depend on
+  std::vector<Lit> find_roots() {
+    find_statements();
+    Lit allowed = assumptions();
+    std::vector<Lit> roots;
+    for (Statement &statement : statements) {
+      statement.seen = logic.aig.land(statement.seen, allowed);
+      roots.push_back(statement.seen);
+    }
+    for (const std::string &name : options.watched) {
+      std::vector<Lit> bits = logic.lits(watched_net(name).bits);
+      roots.insert(roots.end(), bits.begin(), bits.end());
+    }
+    return roots;
+  }
 
   bool is_wanted(const Property &property) const {
     if (options.properties.empty() && options.covers.empty()) return true;
@@ -264,12 +270,21 @@ private:
   }
 };
 
-std::vector<Chip> chips_of_design(const Design &design, const Options &options) {
+enum class Ports { one, at_most_two };
+
+Chip chip_of_design(const Design &design, const Options &options, Ports ports) {
+  const Cell &memory = only_memory(design, options.memory);
+  if (ports == Ports::one) return Chipmaker(design, options, one_port(memory)).make();
+  PortPlan plan = Chipmaker(design, options, port_for_each(memory)).two_ports();
+  return Chipmaker(design, options, plan).make();
+}
+
+std::vector<Chip> chips_of_design(const Design &design, const Options &options, Ports ports) {
   test_statements(design);
   try {
-    return {Chipmaker(design, options).make()};
+    return {chip_of_design(design, options, ports)};
   } catch (const TooLarge &together) {
-    std::vector<Property> statements = Chipmaker(design, options).asked_about();
+    std::vector<Property> statements = Chipmaker(design, options, one_port(only_memory(design, options.memory))).asked_about();
     if (statements.size() < 2) throw;
     std::vector<Chip> chips;
     for (const Property &statement : statements) {
@@ -277,7 +292,7 @@ std::vector<Chip> chips_of_design(const Design &design, const Options &options) 
       one.properties.clear(), one.covers.clear();
       (statement.kind == Property::Kind::cover ? one.covers : one.properties).push_back(statement.name);
       try {
-        chips.push_back(Chipmaker(design, one).make());
+        chips.push_back(chip_of_design(design, one, ports));
       } catch (const TooLarge &alone) {
         throw Failure(statement.name + ", asked about by itself: " + alone.message);
       }
@@ -293,13 +308,24 @@ bool is_verilog(const std::string &path) { return ends_with(path, ".v") || ends_
 std::vector<Chip> chips_of_verilog(const Options &options, Stop &stop) {
   for (const std::string &file : options.files)
     if (!is_verilog(file)) throw Failure(file + ": only Verilog (.v, .sv) can be given in several files", USAGE);
+  // One port makes fewer clauses than two, and reads that have their registers fit where others do not.
+  Design as_written = read_verilog(options, Reads::as_written, stop);
   try {
-    return chips_of_design(read_verilog(options, Reads::as_written, stop), options);
-  } catch (const NoFit &as_written) {
+    return chips_of_design(as_written, options, Ports::one);
+  } catch (const NoFit &) {
+  }
+  Design clocked = read_verilog(options, Reads::clocked, stop);
+  try {
+    return chips_of_design(clocked, options, Ports::one);
+  } catch (const NoFit &) {
+  }
+  try {
+    return chips_of_design(as_written, options, Ports::at_most_two);
+  } catch (const NoFit &no_fit) {
     try {
-      return chips_of_design(read_verilog(options, Reads::clocked, stop), options);
+      return chips_of_design(clocked, options, Ports::at_most_two);
     } catch (const NoFit &) {
-      throw as_written;
+      throw no_fit;
     }
   }
 }

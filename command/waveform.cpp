@@ -83,11 +83,16 @@ std::string waveform(const Chip &chip, const Property &property, const Run &run)
   Waveform made;
   Scope top, memory, words;
   made.declare(top, "property", {property.code});
-  made.declare(memory, "address", chip.address);
-  made.declare(memory, "read_data", chip.read_data);
+  made.declare(memory, "address", chip.ports[0].address);
+  made.declare(memory, "read_data", chip.ports[0].read_data);
   made.declare(memory, "write_data", chip.write_data);
   made.declare(memory, "RE", {chip.net.re});
   made.declare(memory, "WE", {chip.net.we});
+  if (chip.net.second_port) {
+    made.declare(memory, "address2", chip.ports[1].address);
+    made.declare(memory, "read_data2", chip.ports[1].read_data);
+    made.declare(memory, "RE2", {chip.net.re2});
+  }
   for (const Word &word : chip.named) {
     std::string name = word.name;
     Scope &scope = scope_of(words, name);

@@ -3,7 +3,7 @@
 # A line of NAMES is a name and its codes, the lowest bit first; RUN is what `replay` prints: the first frame that breaks the property,
 # then for each frame 0 to K its wires' values, wire 1 first.
 # It fails, and nothing is printed, where the sheet has no C line, RUN is no run of this sheet to frame K, or a name stands for something
-# that is no code of the sheet.
+# that is no code of the sheet. What a port has is in lists by its number, 1 or 2: address, read_data, re, and its first read bit, first_read.
 
 function value(code, frame,   wire, bit) { # of a code in a frame; code 0 is false
   wire = int(code / 2)
@@ -37,12 +37,20 @@ function field_text(column) { return substr($0, 2 + 10 * column, 10) }
 function field(column) { return field_text(column) + 0 }
 
 file == "names" && NF { name[++names] = $1; $1 = ""; codes[names] = $0 }
-file == "sheet" && /^N/ { V = field(0) + field(1) + field(2); first_read = field(0) + field(1) + 1 }
-file == "sheet" && /^M/ { m = field(0); n = field(1); V += n; for (t = 0; t < n; t++) read_data = read_data " " 2 * (first_read + t) }
-file == "sheet" && /^M/ { unknown_start = field_text(2) !~ /[0-9]/ }
-file == "sheet" && /^A/ { address = address " " field(0) }
+file == "sheet" && /^N/ { V = field(0) + field(1) + field(2); first_read[1] = field(0) + field(1) + 1 }
+file == "sheet" && /^[MT]/ {
+  ports = /^T/ ? 2 : 1
+  n = field(1)
+  V += ports * n
+  unknown_start = field_text(2) !~ /[0-9]/
+  first_read[2] = first_read[1] + n
+  for (port = 1; port <= ports; port++) for (t = 0; t < n; t++) read_data[port] = read_data[port] " " 2 * (first_read[port] + t)
+}
+file == "sheet" && /^A/ { address[1] = address[1] " " field(0) }
 file == "sheet" && /^D/ { write_data = write_data " " field(0) }
-file == "sheet" && /^C/ { we = field(0); re = field(1); property = field(2) }
+file == "sheet" && /^B/ { address[2] = address[2] " " field(0) }
+file == "sheet" && /^R/ { re[2] = field(0) }
+file == "sheet" && /^C/ { we = field(0); re[1] = field(1); property = field(2) }
 file == "run" && FNR == 1 { first = $0 }
 file == "run" && FNR > 1 { wires[lines++] = $0 }
 

@@ -1,5 +1,6 @@
 # Writes a run as a waveform (VCD, IEEE 1364) for a viewer: frame i is time i. With run.awk, whose head says how it is called.
-# Signals: `property`; in `memory` what the memory's port has; in `words` the named words, or in `wires` all wires where none is named.
+# Signals: `property`; in `memory` what its ports have, the second port's with a 2 behind; in `words` the named words, or in `wires` all wires
+# where none is named.
 # Every value is the run's, also that of read bits in a frame that does not read.
 
 function id_of(signal,   id) { # printable characters, as many as it takes: digits to the base 94
@@ -37,11 +38,16 @@ END {
   scope("circuit")
   declare("property", property)
   scope("memory")
-  declare("address", address)
-  declare("read_data", read_data)
+  declare("address", address[1])
+  declare("read_data", read_data[1])
   declare("write_data", write_data)
-  declare("RE", re)
+  declare("RE", re[1])
   declare("WE", we)
+  if (ports == 2) {
+    declare("address2", address[2])
+    declare("read_data2", read_data[2])
+    declare("RE2", re[2])
+  }
   end_scope()
   scope(names > 0 ? "words" : "wires")
   for (w = 1; w <= names; w++) declare(name[w], codes[w])

@@ -88,6 +88,28 @@ ends "two sheets" 2 "" "one sheet or one text at a time: chip.sheet is too many"
 cp "$work/files/chip.sheet" "$work/files/-q"
 ends "a sheet by what is in it, with an odd name" 10 "-q: the property is broken in frame 1 at the earliest" "" -q -- -q
 
+# two ports: the latch, 0 in frame 0 alone, is the address that is written at; the second port reads at 0, and one of these sheets' first port too
+two_ports() { line N 1 1 1; line T 1 1 0; line L 1 0; line G 3 8; line A 4; line D 2; line B 0; line R 1; line C 1 "$1" 11; }
+two_ports 0 > "$work/files/two.sheet"
+two_ports 1 > "$work/files/both.sheet"
+printf 'input 2\nread 8\n' > "$work/files/two.names"
+ends "two addresses in a frame" 10 "two.sheet: the property is broken in frame 1 at the earliest (words in hex):
+frame  input  read  memory
+    0      1     0  reads 0 at 0 (start word), writes 1 at 0
+    1      0     1  reads 1 at 0 (written in frame 0), writes 0 at 1  <- property broken" "" --names two.names two.sheet
+ends "two ports that read" 10 "both.sheet: the property is broken in frame 1 at the earliest (words in hex):
+frame  input  read  memory
+    0      1     0  port 1 reads 0 at 0 (start word), port 2 reads 0 at 0 (start word), writes 1 at 0
+    1      0     1  port 1 reads 0 at 1 (start word), port 2 reads 1 at 0 (written in frame 0), writes 0 at 1  <- property broken" "" --names two.names both.sheet
+ends "two ports, from another start" 10 "two.sheet: the property is broken in frame 0 at the earliest" "" -q --start 1 two.sheet
+ends "two ports, from an unknown start" 1 "" "--start unknown: this memory has two ports, and with two ports what it begins as must be given" --start unknown two.sheet
+# In each frame one of the ports reads: the input says which. The second port's bit is not 0 only where it is free.
+{ line N 1 0 0; line T 1 1 0; line A 0; line D 0; line B 1; line R 2; line C 0 3 7; } > "$work/files/turns.sheet"
+printf 'first 4\nsecond 6\n' > "$work/files/turns.names"
+ends "the idle bits of one port" 10 "turns.sheet: the property is broken in frame 0 at the earliest (words in hex):
+frame  first  second  memory
+    0      0       -  port 1 reads 0 at 0 (start word)  <- property broken" "" --names turns.names turns.sheet
+
 # quiet frames are folded: a chain of latches, so that frame 4 is the first; nothing changes that is shown
 { line N 0 4 0; line M 1 1 0; line L 1 0; line L 2 0; line L 4 0; line L 6 0; line A 0; line D 0; line C 0 0 9; } > "$work/files/chain.sheet"
 printf 'last 8\n' > "$work/files/chain.names"
@@ -114,7 +136,7 @@ done
 ### refusals by their words, and files of other kinds
 sed 's/^A         0/A         4/' "$work/files/chip.sheet" > "$work/files/loop.sheet"
 ends "a memory loop" 1 "" "loop.sheet: refused 6 (memory loop) at line 4: A         4
-The address or read enable depends" loop.sheet
+An address or a read enable depends" loop.sheet
 head -c 100 "$work/files/chip.sheet" > "$work/files/ragged.sheet"
 ends "a ragged sheet" 1 "" "ragged.sheet: refused 1 (ragged)" ragged.sheet
 kind() { # file, what it is
@@ -192,6 +214,7 @@ second_opinion carton_counter 44 6 "$designs/carton_counter.v" -auto-top
 second_opinion histogram 24 9 "$designs/histogram.v" -auto-top
 second_opinion lookup 51 9 "$designs/lookup.v" -auto-top
 second_opinion registers 33 5 "$designs/registers.v" -auto-top
+second_opinion queue 42 7 "$designs/queue.v" "-top queue -chparam BITS 2 -chparam WIDTH 4" -P BITS=2 -P WIDTH=4
 around() { # design with its parameters, its other inputs
   printf '`include "%s.v"\nmodule around (input clock, %s);\n' "${1%% *}" "$2"
   printf 'reg reset = 1; always @(posedge clock) reset <= 0;\n%s dut (.*);\nendmodule\n' "$1"
@@ -206,13 +229,13 @@ design lookup 51 9 9
 design registers 33 1 5
 design stack 49 3 6 --reset reset -P DEPTH=3 -P WIDTH=4
 design cache 43 1 7 --reset reset -P INDEX=2 -P TAG=3
+design queue 42 2 8 -P BITS=2 -P WIDTH=4
 run -q -k 9 --cover cache.v:44 --reset reset -P INDEX=2 -P TAG=3 cache.v
 check "a cover alone: status" same 10 "$?"
 check "a cover alone" same "cache.v: cover cache.v:44 is reached in frame 6 at the earliest" "$(cat "$work/out")"
 run -q -k 3 --cover cache.v:44 --reset reset -P INDEX=2 -P TAG=3 cache.v
 check "a cover that is not reached: status" same 20 "$?"
 check "a cover that is not reached" same "cache.v: cover cache.v:44 is not reached in frames 0 to 3, by the solver's word" "$(cat "$work/out")"
-ends "two addresses" 1 "" "queue.v:9: memory words (16 words of 8 bits) is read at one address and written at another in the same frame: this needs a second port, which this version does not have." queue.v
 unset folder
 
 # A small design, changed: what sed makes of it.
@@ -262,12 +285,31 @@ says "an assumption broken before" 20 "chip.v: assert chip.v:11 holds in frames 
 says "an assumption broken behind" 10 "chip.v: assert chip.v:11 is broken in frame 2 at the earliest" 's/^endmodule/reg was = 0; always @(posedge clock) was <= last == 9; always @* assume (!was); endmodule/'
 # memories that fit, and those that do not
 says "the other address, clocked and at other times" 10 "chip.v: assert chip.v:11 is broken in frame 2 at the earliest" 's/wire .*//; s/last <= q/else last <= mem[b]/; s/<= d;/<= d; /'
-two="chip.v:2: memory mem (4 words of 4 bits) is read at one address and written at another in the same frame: this needs a second port, which this version does not have."
-says "two addresses" 1 "$two" 's/mem\[a\];/mem[b];/'
-says "two reads" 1 "chip.v:2: memory mem (4 words of 4 bits) is read at two addresses in one frame: this needs a second port" 's/last <= q/else last <= q + mem[b]/; s/last != 9/last + q != 9/'
+ports() { "$work/json_value" <(cd "$work/files" && "$sanitized" --json -q -k 2 chip.v) chips 0 memory ports; }
+check "the other address, clocked and at other times: one port" same 1 "$(ports)"
+says "two addresses" 10 "chip.v: assert chip.v:11 is broken in frame 2 at the earliest" 's/mem\[a\];/mem[b];/'
+check "two addresses: two ports" same 2 "$(ports)"
+says "two addresses, from an unknown start" 1 "memory mem (chip.v:2) begins unknown and has two addresses in one frame: with two ports what it begins as must be given.
+Fill it in an initial block, or ask from a word of your own (--start 0)" 's/mem\[a\];/mem[b];/; 4s/.*//'
+says "two addresses, --start unknown" 1 "memory mem (chip.v:2) begins unknown and has two addresses in one frame" 's/mem\[a\];/mem[b];/' --start unknown
+says "two addresses, from a start of one's own" 10 "chip.v: assert chip.v:11 is broken in frame 1 at the earliest" 's/mem\[a\];/mem[b];/; 4s/.*//' --start 9
+says "two reads, one at the address that is written at" 10 "chip.v: assert chip.v:11 is broken in frame 1 at the earliest" 's/last <= q/last <= q + mem[b]/; s/last != 9/last + q != 15/; s/if (we)/if (we \& d < 6)/'
+check "two reads, one at the address that is written at: two ports" same 2 "$(ports)"
+says "two reads that differ" 10 "chip.v: assert chip.v:11 is broken in frame 3 at the earliest" 's/last <= q/last <= q ^ mem[b]/; s/last != 9/last != 12/; s/if (we)/if (we \& d[3:2] != 3)/; s/= 5/= 0/'
+says "reads at the first address and at another in turn" 10 "chip.v: assert chip.v:11 is broken in frame 2 at the earliest" 's/mem\[a\];/mem[we ? a : b];/; s/if (we)/if (d != 9)/; s/last != 9/last != 3/'
+says "bits written by themselves, at another address" 10 "chip.v: assert chip.v:11 is broken in frame 3 at the earliest" 's/mem\[a\];/mem[b];/; s/mem\[a\] <= d/begin mem[a][1:0] <= d[1:0]; if (reset) mem[a][3:2] <= d[3:2]; end/; s/last != 9/last != 14/; s/if (we)/if (we \& d != 14)/'
+says "an address with one wire twice" 10 "chip.v: assert chip.v:11 is broken in frame 2 at the earliest" 's/mem\[a\];/mem[b];/; s/mem\[a\] <= d/mem[{a[0], a[0]}] <= d/; s/last != 9/last != 9 | b != 3/'
+says "an address that is never reached" 20 "chip.v: assert chip.v:11 holds in frames 0 to 4, by the solver's word" 's/mem\[a\];/mem[b];/; s/mem\[a\] <= d/mem[{a[0], a[0]}] <= d/; s/last <= q/last <= b == 2 ? q : 0/'
+says "addresses with a constant" 10 "chip.v: assert chip.v:11 is broken in frame 2 at the earliest" 's/mem\[a\];/mem[{1'"'"'b1, b[0]}];/'
+says "addresses that never meet" 20 "chip.v: assert chip.v:11 holds in frames 0 to 4, by the solver's word" 's/mem\[a\];/mem[{1'"'"'b1, b[0]}];/; s/mem\[a\] <= d/mem[{1'"'"'b0, a[0]}] <= d/'
+says "a register before the address" 10 "chip.v: assert chip.v:11 is broken in frame 1 at the earliest" 's/wire .*/reg [1:0] at; wire [3:0] q = mem[at]; always @(posedge clock) at <= a;/; s/last != 9/q != 9/'
+says "a read that counts for another assertion alone" 10 "chip.v: assert chip.v:11 is broken in frame 2 at the earliest" 's/^endmodule/always @* assert (mem[b] + mem[d[1:0]] < 31); endmodule/' --property chip.v:11
+says "a memory that counts for another assertion alone" 10 "chip.v: assert chip.v:11 is broken in frame 1 at the earliest" 's/last <= q/mem[b] <= 1; last <= d/; s/^endmodule/always @* assert (q != 3); endmodule/' --property chip.v:11
+says "two reads and a write at three addresses" 1 "chip.v:2: memory mem (4 words of 4 bits) is read at two addresses in one frame and written at a third: it can have two ports, of which the first writes." 's/if (we) mem\[a\]/if (we) mem[d[1:0]]/; s/last <= q/last <= q + mem[b]/'
+says "three reads" 1 "chip.v:2: memory mem (4 words of 4 bits) is read at three addresses in one frame, and it can have two ports." 's/last <= q/last <= q + mem[b] + mem[d[1:0]]/'
+alone=yes says "an index beyond the array, at another address" 20 "chip.v: assert chip.v:11 holds in frames 0 to 4, by the solver's word" 's/0:3/0:2/; s/mem\[a\];/mem[b];/; s/if (we)/if (we \& a == 3)/; s/i < 4/i < 3/'
 says "two writes" 1 "chip.v:2: memory mem (4 words of 4 bits) is written at two addresses in one frame" 's/last <= q/mem[b] <= 1; last <= q/'
 says "two writes of which one is made" 10 "chip.v: assert chip.v:11 is broken in frame 2 at the earliest" 's/if (we) mem\[a\] <= d/if (we) mem[a] <= d; else if (reset) mem[a] <= 9/'
-says "a register before the address" 1 "$two" 's/wire .*/reg [1:0] at; wire [3:0] q = mem[at]; always @(posedge clock) at <= a;/; s/last != 9/q != 9/'
 says "bits written by themselves" 10 "chip.v: assert chip.v:11 is broken in frame 4 at the earliest" 's/mem\[a\] <= d/begin mem[a][1:0] <= d[1:0]; if (reset) mem[a][3:2] <= d[3:2]; end/; s/last != 9/last != 13/; s/= 5/= 1/' --reset '!reset=2' -k 5
 # other tools take what is read beyond the array for undefined
 alone=yes says "an index beyond the array" 20 "chip.v: assert chip.v:11 holds in frames 0 to 4, by the solver's word" 's/0:3/0:2/; s/if (we)/if (we \& a == 3)/; s/i < 4/i < 3/'
@@ -341,6 +383,11 @@ check "it stops at once" [ $((SECONDS - began)) -le 10 ]
 run --vcd run.vcd --names chip.names chip.sheet
 bash scripts/find.sh --vcd "$work/script.vcd" "$work/files/chip.sheet" 1 > /dev/null
 check "the waveform is the script's" same "$(grep -v '^\$comment' "$work/script.vcd")" "$(grep -v '^\$comment' "$work/files/run.vcd")"
+run --vcd run.vcd --names two.names both.sheet
+cp "$work/files/two.names" "$work/files/both.names"
+bash scripts/find.sh --vcd "$work/script.vcd" "$work/files/both.sheet" 1 > /dev/null
+check "the waveform of two ports is the script's" same "$(grep -v '^\$comment' "$work/script.vcd")" "$(grep -v '^\$comment' "$work/files/run.vcd")"
+check "the waveform of two ports has both" same 3 "$(grep -cE '^\$var wire 1 . (address2|read_data2|RE2) \$end$' "$work/files/run.vcd")"
 ends "the sheet as the waveform" 2 "" "the waveform would be written over chip.sheet" --vcd chip.sheet chip.sheet
 ends "a waveform that cannot be written" 1 "" "none/run.vcd: it cannot be written" --vcd none/run.vcd chip.sheet
 rm -f "$work/files/run.vcd"
@@ -363,6 +410,12 @@ run --json --radix dec --names chip.names chip.sheet
 check "JSON: status" same "10 broken 1 run 0 0 solver" "$(echo $(value status; for at in verdict frame by; do value chips 0 properties 0 $at; done; for at in from to by; do value chips 0 properties 0 safe $at; done))"
 check "JSON: the run" same "list of 2 1 0 1 0 0 1" "$(echo $(value chips 0 properties 0 run; value chips 0 properties 0 run 0 words input; value chips 0 properties 0 run 0 words read
   value chips 0 properties 0 run 0 memory write; value chips 0 properties 0 run 1 memory written_in; value chips 0 properties 0 run 1 holds; value chips 0 properties 0 run 1 memory read))"
+run --json --names two.names both.sheet
+check "JSON of two ports" same "2 1 0 0 null of 0 0 1 0" "$(echo $(value chips 0 memory ports; for at in address read write; do value chips 0 properties 0 run 1 memory $at; done
+  value chips 0 properties 0 run 1 memory written_in; for at in address read written_in; do value chips 0 properties 0 run 1 memory second $at; done))"
+run --json --names two.names two.sheet
+check "JSON of a port that only writes" same "1 0 object of 3" "$(echo $(for at in address write second; do value chips 0 properties 0 run 1 memory $at; done))"
+check "JSON of a port that only writes: it reads nothing" [ -z "$(value chips 0 properties 0 run 1 memory read)" ]
 folder=$designs run --json -k 3 histogram.v
 check "JSON of a design" same "20 counts 3 3 0 assert holds histogram.v:24 cover reached" \
   "$(echo $(value status; value chips 0 memory name; value chips 0 memory address_bits; value chips 0 memory data_bits; value chips 0 memory start
@@ -394,7 +447,7 @@ done
 ### hostile files
 check "the damager is built" tool hostile
 (cd examples/verilog && yosys -Q -T -q -p 'read_verilog -formal stack.v; prep -flatten; write_json /dev/fd/3' 3> "$work/stack.json")
-"$work/hostile" 1000 "${SEED:-1}" examples/echo/chip.sheet examples/fifth-revision/faulty.sheet "$work/files/chip.aag" "$work/files/cut.aag" "$work/stack.json" \
+"$work/hostile" 1000 "${SEED:-1}" examples/echo/chip.sheet examples/fifth-revision/faulty.sheet examples/seventh-revision/faulty.sheet "$work/files/chip.aag" "$work/files/cut.aag" "$work/stack.json" \
   > "$work/hostile.out" 2>&1
 check "damaged files by the thousand: status" same 0 $?
 check "damaged files by the thousand" same "1 passed, 0 failed" "$(tail -n 1 "$work/hostile.out")"

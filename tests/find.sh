@@ -273,6 +273,43 @@ ends "a word of 32 bits" 10 "wide.sheet: a run breaks the property, first in fra
 frame        read  memory
     0  4294967295  reads 4294967295 at 0 (start word)  <- property broken" "" wide.sheet 0
 
+# Two ports. The latch is 0 in frame 0 alone: it is the address that is written at, and the second port reads at 0. The property breaks where that
+# reads a 1 and the input is false (the gate). Wires: input, latch, a read bit of each port, gate.
+two_ports() { # read enable of the first port
+  line N 1 1 1; line T 1 1 0; line L 1 0; line G 3 8; line A 4; line D 2; line B 0; line R 1; line C 1 "$1" 11
+}
+two_ports 0 > "$work/sheets/two.sheet"
+printf 'input 2\nread 8\n' > "$work/sheets/two.names"
+ends "two addresses in a frame" 10 "two.sheet: a run breaks the property, first in frame 1:
+frame  input  read  memory
+    0      1     0  reads 0 at 0 (start word), writes 1 at 0
+    1      0     1  reads 1 at 0 (written in frame 0), writes 0 at 1  <- property broken" "" two.sheet 1
+two_ports 1 > "$work/sheets/both.sheet"
+printf 'input 2\nfirst 6\nsecond 8\n' > "$work/sheets/both.names"
+ends "two ports that read" 10 "both.sheet: a run breaks the property, first in frame 1:
+frame  input  first  second  memory
+    0      1      0       0  port 1 reads 0 at 0 (start word), port 2 reads 0 at 0 (start word), writes 1 at 0
+    1      0      0       1  port 1 reads 0 at 1 (start word), port 2 reads 1 at 0 (written in frame 0), writes 0 at 1  <- property broken" "" both.sheet 1
+# In each frame one of the ports reads: the input says which. The property is that the second port's bit is 0, so that it breaks only where it is free.
+{ line N 1 0 0; line T 1 1 0; line A 0; line D 0; line B 1; line R 2; line C 0 3 7; } > "$work/sheets/turns.sheet"
+printf 'first 4\nsecond 6\nwords 4 6\n' > "$work/sheets/turns.names"
+ends "the idle bits of one port" 10 "turns.sheet: a run breaks the property, first in frame 0:
+frame  first  second  words  memory
+    0      0       -      -  port 1 reads 0 at 0 (start word)  <- property broken" "" turns.sheet 0
+two_ports 1 | sed '2s/0$/ /' | wrong_sheet
+refused 4 "(size) at line 2: T         1         1" wrong.sheet 1
+two_ports 1 | sed '/^R/d' | wrong_sheet
+refused 3 "(out of order) at line 8: C         1         1        11" wrong.sheet 1
+one_bit | sed '/^D/p; s/^D         2/B         0/' | wrong_sheet
+refused 3 "(out of order) at line 6: B         0" wrong.sheet 1
+two_ports 1 | sed '/^B/s/0/6/' | wrong_sheet
+refused 6 "(memory loop) at line 7: B         6" wrong.sheet 1
+two_ports 6 | sed '/^R/s/1/8/' | wrong_sheet
+refused 6 "(memory loop) at line 8: R         8" wrong.sheet 1
+# a wire that both addresses have is no tie
+{ line N 1 1 0; line T 2 1 0; line L 1 0; line A 2; line A 4; line D 2; line B 4; line B 5; line R 1; line C 1 1 7; } | wrong_sheet
+refused 17 "(tied address) at line 8: B         5" wrong.sheet 1
+
 # The waveform's file: written where a run is shown and nowhere else.
 waveform() { # what, status, arguments ..
   printf 'old\n' > "$work/sheets/run.vcd"

@@ -11,15 +11,21 @@ pub struct Inputs {
     pub size: Word,
 }
 
-/// A chip with these latches, the total among them, beside a memory of eight sizes. The size scanned is fifty, or a hundred if the carton is large.
+/// A chip with these latches, the total among them, beside a memory of eight sizes.
 pub fn counter(latches: &[(&'static str, u32)]) -> (Chip, Inputs) {
     let inputs = [("scan", 1), ("count", 1), ("large", 1), ("carton", 3)];
     let mut c = Chip::new(&inputs, latches, [3, 8, 0]);
+    let size = size_scanned(&mut c);
+    let (scan, count, carton) = (c.bit("scan"), c.bit("count"), c.word("carton"));
+    (c, Inputs { scan, count, carton, size })
+}
+
+/// Fifty, or a hundred if the carton is large.
+pub fn size_scanned(c: &mut Chip) -> Word {
     let large = c.bit("large");
     let size = c.choose(large, &number(100, 8), &number(50, 8));
     c.name("size", &size);
-    let (scan, count, carton) = (c.bit("scan"), c.bit("count"), c.word("carton"));
-    (c, Inputs { scan, count, carton, size })
+    size
 }
 
 /// The adder: where a carton is counted, the operand is added to the total. The sum.

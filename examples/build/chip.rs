@@ -2,7 +2,7 @@
 
 use std::ops::Not;
 
-use super::netlist::{Gate, Latch, Netlist};
+use super::netlist::{Gate, Latch, Netlist, FIRST_PORT, SECOND_PORT};
 use super::sheet::{write_sheet, FIELD_BYTES, LINE_BYTES};
 
 /// One wire or its inverse, or a constant: a code (RULES W3).
@@ -44,11 +44,29 @@ pub struct Chip {
 
 impl Chip {
     /// Names with their widths for inputs and latches (reset 0), then address width, data width and start
-    /// word of the memory. These wires come before all gates.
+    /// word of a memory with one port. These wires come before all gates.
     pub fn new(
         inputs: &[(&'static str, u32)],
         latches: &[(&'static str, u32)],
         memory: [u32; 3],
+    ) -> Chip {
+        Chip::with_memory(inputs, latches, memory, 0)
+    }
+
+    /// The same with a second port, which reads at an address of its own.
+    pub fn with_two_ports(
+        inputs: &[(&'static str, u32)],
+        latches: &[(&'static str, u32)],
+        memory: [u32; 3],
+    ) -> Chip {
+        Chip::with_memory(inputs, latches, memory, 1)
+    }
+
+    fn with_memory(
+        inputs: &[(&'static str, u32)],
+        latches: &[(&'static str, u32)],
+        memory: [u32; 3],
+        two_ports: u32,
     ) -> Chip {
         let width = |words: &[(&str, u32)]| words.iter().map(|(_, width)| width).sum();
         let [address_width, data_width, start_word] = memory;
@@ -59,6 +77,7 @@ impl Chip {
                 address_width,
                 data_width,
                 start_word,
+                two_ports,
                 ..Netlist::default()
             },
             start_unknown: false,
@@ -183,11 +202,16 @@ impl Chip {
     }
 
     pub fn read_data(&self) -> Word {
-        self.netlist
-            .read_data_codes()
-            .into_iter()
-            .map(Bit)
-            .collect()
+        self.read_data_of(FIRST_PORT)
+    }
+
+    pub fn second_read_data(&self) -> Word {
+        self.read_data_of(SECOND_PORT)
+    }
+
+    fn read_data_of(&self, port: u32) -> Word {
+        let codes = self.netlist.read_data_codes_of(port).into_iter();
+        codes.map(Bit).collect()
     }
 
     pub fn connect_memory(
@@ -205,6 +229,13 @@ impl Chip {
         }
         self.netlist.read_enable = read_enable.0;
         self.netlist.write_enable = write_enable.0;
+    }
+
+    pub fn connect_second_port(&mut self, address: &[Bit], read_enable: Bit) {
+        for (code, bit) in self.netlist.second_address.iter_mut().zip(address) {
+            *code = bit.0;
+        }
+        self.netlist.second_read_enable = read_enable.0;
     }
 
     pub fn property(&mut self, property: Bit) {

@@ -13,6 +13,7 @@ mod netlist;
 #[allow(dead_code)]
 #[path = "../../tests/reference/refusal.rs"]
 mod refusal;
+mod seventh_revision;
 #[allow(dead_code)]
 #[path = "../../tests/reference/sheet.rs"]
 mod sheet;
@@ -40,6 +41,8 @@ fn main() {
         ("sixth-revision/unknown", sixth_revision::chip(Memory::Unknown)),
         ("sixth-revision/cleared", sixth_revision::chip(Memory::Cleared)),
         ("sixth-revision/repaired", sixth_revision::chip(Memory::Flagged)),
+        ("seventh-revision/faulty", seventh_revision::chip(false)),
+        ("seventh-revision/repaired", seventh_revision::chip(true)),
     ];
     for (name, chip) in chips {
         let path = folder.join(name);

@@ -18,7 +18,7 @@ std::mt19937 random_source;
 size_t below(size_t bound) { return random_source() % bound; }
 
 std::string damaged(std::string text, const std::string &other) {
-  static const char chosen[] = "0123456789 \n\t-aglioNMLGADC{}[],:\"\\\xff"; // and the byte 0 behind them
+  static const char chosen[] = "0123456789 \n\t-aglioNMTLGADBRC{}[],:\"\\\xff"; // and the byte 0 behind them
   static const std::string bytes(chosen, sizeof chosen);
   for (size_t times = 1 + below(4); times > 0; times--) {
     size_t at = text.empty() ? 0 : below(text.size()), count = text.empty() ? 0 : below(std::min<size_t>(text.size() - at, 64) + 1);

@@ -28,7 +28,7 @@ use Fact::{Is, Other, Same};
 type Story = (&'static str, u32, &'static [Fact]);
 
 #[rustfmt::skip]
-const STORIES: [Story; 12] = [
+const STORIES: [Story; 15] = [
     ("echo/chip", 0, &[]),
     ("echo/chip", 1, &[Is(0, "input", 1), Is(1, "read", 1)]),
     // Fifty is written, a hundred is written over it; two frames later the carton is counted with the fifty.
@@ -55,13 +55,23 @@ const STORIES: [Story; 12] = [
     ]),
     ("sixth-revision/cleared", 12, &[]),
     ("sixth-revision/repaired", 12, &[]),
+    // A frame takes a size and puts another: the size that it took is taken again.
+    ("seventh-revision/faulty", 1, &[]),
+    ("seventh-revision/faulty", 2, &[
+        Is(0, "scan", 1), Is(0, "end", 0),
+        Is(1, "scan", 1), Is(1, "count", 1), Is(1, "first", 0), Is(1, "end", 1),
+        Is(2, "count", 1), Is(2, "first", 0), Is(2, "end", 2), Is(2, "waiting", 1), Same(1, 2, "operand"), Same(0, 2, "first"),
+    ]),
+    ("seventh-revision/repaired", 12, &[]),
 ];
 
 /// Where a wrong generator misleads a designer: it misses a fault, or reports one in a repaired chip.
-const MISLED: [(&str, u32, Fault, bool); 3] = [
+const MISLED: [(&str, u32, Fault, bool); 5] = [
     ("fifth-revision/faulty", 4, Fault::OwnFrameWrite, false),
     ("sixth-revision/unknown", 4, Fault::UnknownStartsZero, false),
     ("fourth-revision/repaired", 5, Fault::OldestWrite, true),
+    ("seventh-revision/faulty", 4, Fault::FirstPending, false),
+    ("seventh-revision/repaired", 4, Fault::SecondAddressWrites, true),
 ];
 
 pub fn stories(tally: &mut Tally, programs: &Programs, examples: &Path) {

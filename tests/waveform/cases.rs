@@ -3,7 +3,8 @@
 use std::fs;
 
 use super::reference::circuit::value;
-use super::reference::random::{wide_netlist, Random};
+use super::reference::netlist::SECOND_PORT;
+use super::reference::random::{wide_netlist, wide_two_ports, Random};
 use super::reference::sheet::{read_sheet, write_sheet};
 use super::vcd::{add, Signals};
 
@@ -52,6 +53,11 @@ impl Case {
         signal("memory write_data", netlist.write_data_codes());
         signal("memory RE", &[netlist.read_enable]);
         signal("memory WE", &[netlist.write_enable]);
+        if netlist.has_two_ports() {
+            signal("memory address2", netlist.address_codes_of(SECOND_PORT));
+            signal("memory read_data2", &netlist.read_data_codes_of(SECOND_PORT));
+            signal("memory RE2", &[netlist.second_read_enable]);
+        }
         for line in self.names.lines() {
             let mut words = line.split_whitespace();
             let name = words.next().expect("a name");
@@ -91,6 +97,8 @@ pub fn examples() -> Vec<Case> {
         example("fourth-revision/faulty", 7),
         example("fifth-revision/faulty", 1),
         example("sixth-revision/unknown", 1),
+        example("seventh-revision/faulty", 2),
+        example("seventh-revision/faulty", 9),
     ];
     let bare = named.iter().map(|case| Case {
         names: String::new(),
@@ -108,14 +116,20 @@ pub fn odd_names() -> Case {
     }
 }
 
-/// Sheets of all shapes, without names. Some have no run that breaks their property.
+/// Sheets of all shapes, without names, of one port and of two in turn. Some have no run that breaks their property.
 pub fn random_cases() -> Vec<Case> {
     let mut random = Random::new(901);
-    let case = |round| Case {
-        name: format!("random sheet {round}"),
-        sheet: write_sheet(&wide_netlist(&mut random)),
-        names: String::new(),
-        depth: random.below(5),
+    let case = |round| {
+        let netlist = match round % 2 {
+            0 => wide_netlist(&mut random),
+            _ => wide_two_ports(&mut random),
+        };
+        Case {
+            name: format!("random sheet {round}"),
+            sheet: write_sheet(&netlist),
+            names: String::new(),
+            depth: random.below(5),
+        }
     };
-    (0..60).map(case).collect()
+    (0..120).map(case).collect()
 }

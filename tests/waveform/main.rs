@@ -211,7 +211,7 @@ fn main() {
         sheets(tally, &files, &[odd_names()], 1)
     });
     report.family("random sheets", |tally| {
-        sheets(tally, &files, &random_cases(), 12)
+        sheets(tally, &files, &random_cases(), 24)
     });
     report.family("changed values", |tally| changed_values(tally, &files));
     report.finish()
