@@ -127,7 +127,7 @@ fn print_answer(input: &[u8], sent: &mut usize, failed: &mut bool)
 
 // One byte more than the longest input that is accepted, so that a longer one is seen to be too long.
 fn main() {
-    let mut bytes = [0; 19692];
+    let mut bytes = [0; 20076];
     let count = io::read_full(0, &mut bytes);
     let mut sent = 0;
     let mut failed = false;

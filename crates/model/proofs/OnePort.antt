@@ -2,7 +2,7 @@
 -- conversion of sheets with two ports; no contract cites this file yet.
 use Prim.Native.Nat.{ℕ, zero, suc, _+_, _-_, _*_, _/_, _≤_, _<_}
 use mathlib.Core.Path.{_≡_, refl, sym, _∙_, ap, ap₂, subst}
-use mathlib.Core.Bool.{Bool, true, false, cond, _&&_, true≢false}
+use mathlib.Core.Bool.{Bool, false, cond, _&&_, true≢false}
 use mathlib.Core.Logic.{_↔_, by-cases}
 use native.Mathlib.Nat.{zero-mul, one-mul, add-zero}
 use native.Mathlib.Decide.{decLt}
@@ -27,7 +27,7 @@ use Rattle.model.proofs.SameRuns.{starts-same, same-state, code-value-s
 unfoldable pub namesSecond : Netlist → ℕ → Bool
 namesSecond c x = leb (readWire c (c .n)) (x / 2) && ltb (x / 2) (gateWire c 0)
 
--- the number of a wire once those read bits are gone, and of such a wire before (RULES O1)
+-- the number of a wire once those read bits are gone, and of such a wire before
 unfoldable pub oneWire : Netlist → ℕ → ℕ
 oneWire c w = cond (ltb w (gateWire c 0)) w (w - c .secondPort * c .n)
 
@@ -62,7 +62,7 @@ onePort c =
     }
 
 -- Every run of one is a run of the other: from the same states, whatever is fed, with the same values on the wires that both have, and in each
--- frame alike in whether the property is broken (RULES O3).
+-- frame alike in whether the property is broken.
 pub record SameRuns (c d : Netlist) : Type 0 where
   pub starts-alike : (s : State) → Starts c s ↔ Starts d s
   pub wires-alike : (s : State) (f : Feeds) (i w : ℕ) → w ≤ lastWire d → run d s f i w ≡ run c s f i (keptWire c w)

@@ -271,7 +271,7 @@ marrubigai-write-group-meets 𝓤 H A W mem run 𝓣 known-group known-inner kno
                   goes-dropped 𝓤 H A W 3 (plain (λ _. u32)) yes (λ κs x e. refl),
                   (
                     goes-dropped 𝓤 H A W 3 (plain (λ _. u32)) yes (λ κs x e. refl),
-                  (goes-gave-slice 𝓤 H A W 3 2 tt (plain (λ _. i32)), tt),
+                    (goes-gave-slice 𝓤 H A W 3 2 tt (plain (λ _. i32)), tt),
                   ),
                 ),
               ),

@@ -2,7 +2,7 @@
 use Prim.Native.Nat.{_+_}
 use native.Mathlib.Omega.{arith}
 use Rattle.model.proofs.Ports.{second-most}
-use Rattle.netlist.specs.NetOf.{netOf, alone}
+use Rattle.netlist.specs.NetOf.{netOf}
 use Rattle.netlist.proofs.control_line.Statement.{statement}
 use Rattle.netlist.proofs.control_line.Tie as tie
 

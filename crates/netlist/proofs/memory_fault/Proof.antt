@@ -2,7 +2,6 @@
 use Prim.Native.Nat.{_+_, _≤_}
 use mathlib.Core.Path.{sym, _∙_}
 use native.Mathlib.Omega.{arith}
-use borrow.Author.Needs.{needs}
 use Rattle.netlist.specs.NetOf.{netOf, alone}
 use Rattle.netlist.specs.Faults.{sizeFault}
 use Rattle.netlist.proofs.Faults.{at-most, memory-rest}

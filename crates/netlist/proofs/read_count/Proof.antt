@@ -1,7 +1,7 @@
 -- `netlist::read_count` meets its contract: a second port has no more read bits than the first.
 use native.Mathlib.Omega.{arith}
 use Rattle.model.proofs.Ports.{second-most}
-use Rattle.netlist.specs.NetOf.{netOf, alone}
+use Rattle.netlist.specs.NetOf.{netOf}
 use Rattle.netlist.proofs.read_count.Statement.{statement}
 use Rattle.netlist.proofs.read_count.Tie as tie
 
