@@ -23,12 +23,16 @@ crates/call_position/src/lib.rt number: 0, place: 0, literal: number_of(code.in_
 crates/netlist/src/lib.rt Wire(wire_count(net))
 crates/netlist/src/lib.rt Wire(1 + net.inputs)
 crates/replay_frame/src/lib.rt let read = netlist::first_read_wire(net).0
+crates/replay_frame/src/lib.rt let read = clause_variables::frame_base(net, 0) + netlist::first_read_wire(net).0
+crates/replay_frame/src/lib.rt let read = netlist::first_read_wire(net).0 + (port_number - 1) * net.n
 # what a sheet has is stored
 crates/sheet_steps/src/lib.rt next.address[at].0 = first
 crates/sheet_steps/src/lib.rt next.write_data[at].0 = first
 crates/sheet_steps/src/lib.rt next.we.0 = first
 crates/sheet_steps/src/lib.rt next.re.0 = second
 crates/sheet_steps/src/lib.rt next.p.0 = third
+crates/sheet_steps/src/lib.rt next.address2[at].0 = first
+crates/sheet_steps/src/lib.rt next.re2.0 = first
 crates/sheet_steps/src/lib.rt netlist::put_numbers(latches, l as usize, first, second)
 crates/sheet_steps/src/lib.rt netlist::put_numbers(gates, g as usize, first, second)
 # a literal of a text of AIGER becomes the code of the wire that a table has for it, and is stored
@@ -53,6 +57,8 @@ crates/sheet_writer/src/lib.rt let left = gates[at]
 crates/sheet_writer/src/lib.rt let right = gates[at + 1]
 crates/sheet_writer/src/lib.rt let code = net.address[at].0
 crates/sheet_writer/src/lib.rt let code = net.write_data[at].0
+crates/sheet_writer/src/lib.rt let code = net.address2[at].0
+crates/sheet_writer/src/lib.rt kind: Kind::SecondEnable, first: net.re2.0, second: 0, third: 0, empty: 0,
 crates/sheet_writer/src/lib.rt kind: Kind::Control, first: net.we.0, second: net.re.0, third: net.p.0, empty: 0,
 # the second number of a latch is its reset, no code
 crates/netlist/src/lib.rt latch_fault(last, Code(latches[at]), latches[at + 1])

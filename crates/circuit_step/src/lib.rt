@@ -19,17 +19,26 @@ ghost use Rattle.netlist.specs.NetOf.{netOf, alone};
 ghost use Rattle.netlist.specs.WireTable.{entry, HasBelow};
 ghost use Rattle.circuit_step.specs.Held.{stateIn, HoldsState, Fed, memoryAfter, StepFits, Stepped};
 
-// The word of a port's read bits: the memory's at its address where its RE is true, and the one held for it where it is not.
-fn read_word(values: &WireValues, net: Netlist, memory: &[u32], held: u64, p: u32) -> u32
-    requires { ⌜ WithinLimits (alone net) × (2 ^ net .m ≤ length (now memory)) × IsPort (alone net) p ⌝ }
-    ensures { λ r. ⌜ ((t : ℕ) → t < net .n → bit r t
-        ≡ readData (alone net) (stateIn [] (now (memory .entry)) held) (entry (now (values .entry))) (port (alone net) p .firstRead + t)) ⌝ }
+// Two words of n bits as one: the second above the first. What the first has behind its n bits is dropped.
+pub fn two_words(n: u32, first: u32, second: u32) -> u64
+    requires { ⌜ n ≤ 32 ⌝ }
+    ensures { λ r. ⌜ ((t : ℕ) → t < n → (bit r t ≡ bit first t) × (bit r (n + t) ≡ bit second t)) ⌝ }
 {
-    if circuit_values::is_reading(values, net, p) {
-        let address = circuit_values::address_of(values, net, p);
+    let above = (second as u64) << n;
+    above + (first as u64) % (1 << n)
+}
+
+// The word of a port's read bits: the memory's at its address where its RE is true, and the one held for it where it is not.
+fn read_word(values: &WireValues, net: Netlist, memory: &[u32], held: u64, port_number: u32) -> u32
+    requires { ⌜ WithinLimits (alone net) × (2 ^ net .m ≤ length (now memory)) × IsPort (alone net) «port_number» ⌝ }
+    ensures { λ r. ⌜ ((t : ℕ) → t < net .n → bit r t
+        ≡ readData (alone net) (stateIn [] (now (memory .entry)) held) (entry (now (values .entry))) (port (alone net) «port_number» .firstRead + t)) ⌝ }
+{
+    if circuit_values::is_reading(values, net, port_number) {
+        let address = circuit_values::address_of(values, net, port_number);
         return memory[address as usize];
     }
-    let own = held >> ((p - 1) * net.n);
+    let own = held >> ((port_number - 1) * net.n);
     (own % 4294967296) as u32
 }
 
@@ -44,7 +53,7 @@ fn read_words(values: &WireValues, net: Netlist, memory: &[u32], held: u64) -> u
         return first as u64;
     }
     let second = read_word(values, net, memory, held, 2);
-    circuit_values::two_words(net.n, first, second)
+    two_words(net.n, first, second)
 }
 
 // The values of a frame, by two passes: the first with every read bit 0, which settles addresses and REs, the second with the words that are

@@ -113,43 +113,34 @@ pub fn with_bit(number: u32, t: u32, value: bool) -> u32
     number
 }
 
-// Two words of n bits as one: the second above the first. What the first has behind its n bits is dropped.
-pub fn two_words(n: u32, first: u32, second: u32) -> u64
-    requires { ⌜ n ≤ 32 ⌝ }
-    ensures { λ r. ⌜ ((t : ℕ) → t < n → (bit r t ≡ bit first t) × (bit r (n + t) ≡ bit second t)) ⌝ }
-{
-    let above = (second as u64) << n;
-    above + (first as u64) % (1 << n)
-}
-
 // A code of a port: the first port's or the second's.
-fn of_port(p: u32, first: Code, second: Code) -> Code
-    ensures { λ r. ⌜ r .0 ≡ cond (eqb p 1) (first .0) (second .0) ⌝ }
+fn of_port(number: u32, first: Code, second: Code) -> Code
+    ensures { λ r. ⌜ r .0 ≡ cond (eqb number 1) (first .0) (second .0) ⌝ }
 {
-    if p == 1 {
+    if number == 1 {
         return first;
     }
     second
 }
 
 // RE of a port, by a table of the wires.
-pub fn is_reading(values: &WireValues, net: Netlist, p: u32) -> bool
-    requires { ⌜ WithinLimits (alone net) × IsPort (alone net) p ⌝ }
-    ensures { λ r. ⌜ r ≡ codeValue (entry (now (values .entry))) (port (alone net) p .RE) ⌝ }
+pub fn is_reading(values: &WireValues, net: Netlist, port_number: u32) -> bool
+    requires { ⌜ WithinLimits (alone net) × IsPort (alone net) «port_number» ⌝ }
+    ensures { λ r. ⌜ r ≡ codeValue (entry (now (values .entry))) (port (alone net) «port_number» .RE) ⌝ }
 {
-    code_value(values, of_port(p, net.re, net.re2))
+    code_value(values, of_port(port_number, net.re, net.re2))
 }
 
 // The address at a port, by a table of the wires.
-pub fn address_of(values: &WireValues, net: Netlist, p: u32) -> u32
-    requires { ⌜ WithinLimits (alone net) × IsPort (alone net) p ⌝ }
-    ensures { λ r. ⌜ r ≡ addressOf (alone net) (port (alone net) p) (entry (now (values .entry))) ⌝ }
+pub fn address_of(values: &WireValues, net: Netlist, port_number: u32) -> u32
+    requires { ⌜ WithinLimits (alone net) × IsPort (alone net) «port_number» ⌝ }
+    ensures { λ r. ⌜ r ≡ addressOf (alone net) (port (alone net) «port_number») (entry (now (values .entry))) ⌝ }
 {
     let mut number = 0;
     let mut t: u32 = 0;
     while t < net.m {
         let at = t as usize;
-        let code = of_port(p, net.address[at], net.address2[at]);
+        let code = of_port(port_number, net.address[at], net.address2[at]);
         number = with_bit(number, t, code_value(values, code));
         t += 1;
     }

@@ -60,15 +60,15 @@ fn any_address(last: Wire, address: [Code; 12], m: u32) -> bool
 }
 
 // Whether any write-data code is outside its limit.
-fn any_data(last: Wire, codes: [Code; 32], n: u32) -> bool
+fn any_data(last: Wire, write_data: [Code; 32], n: u32) -> bool
     requires { ⌜ n ≤ 32 ⌝ }
-    ensures { λ r. ⌜ r ≡ anyAbove (last .0) (codeOf codes) n ⌝ }
+    ensures { λ r. ⌜ r ≡ anyAbove (last .0) (codeOf «write_data») n ⌝ }
 {
     let mut any = false;
     let mut t = 0;
     while t < n {
         let at = t as usize;
-        any = any | codes[at].is_above(last);
+        any = any | write_data[at].is_above(last);
         t += 1;
     }
     any

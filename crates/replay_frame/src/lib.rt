@@ -125,7 +125,7 @@ pub fn idle_words(net: Netlist, signs: &SignTable) -> u64
         return first as u64;
     }
     let second = word_of(signs, read + net.n, net.n);
-    circuit_values::two_words(net.n, first, second)
+    circuit_step::two_words(net.n, first, second)
 }
 
 // Whether a frame reads a word that no frame before has touched.
@@ -217,15 +217,15 @@ fn read_unclear(
     signs: &SignTable,
     i: u32,
     filled: bool,
-    p: u32,
+    port_number: u32,
 ) -> bool
-    requires { ⌜ WithinLimits (alone net) × (i ≤ 255) × IsPort (alone net) p ⌝ }
-    ensures { λ r. ⌜ r ≡ readUnclear (alone net) (unclearIn (now (signs .entry))) i filled (entry (now (values .entry))) (port (alone net) p) ⌝ }
+    requires { ⌜ WithinLimits (alone net) × (i ≤ 255) × IsPort (alone net) «port_number» ⌝ }
+    ensures { λ r. ⌜ r ≡ readUnclear (alone net) (unclearIn (now (signs .entry))) i filled (entry (now (values .entry))) (port (alone net) «port_number») ⌝ }
 {
-    let reads = circuit_values::is_reading(values, net, p);
+    let reads = circuit_values::is_reading(values, net, port_number);
     if filled | ((i == 0) & !reads) {
         let base = clause_variables::frame_base(net, i);
-        let read = netlist::first_read_wire(net).0 + (p - 1) * net.n;
+        let read = netlist::first_read_wire(net).0 + (port_number - 1) * net.n;
         return any_unclear(signs, base + read, net.n);
     }
     false

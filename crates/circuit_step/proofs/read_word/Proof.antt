@@ -36,22 +36,22 @@ unfolding netOf
 returns c =
     let start = c .before .before .before .before .before in
     let a = start .args in
-    λ t h. rw (readData-port (alone (a .net)) (a .p) (start .pre .2) _ (entry (a .values .now)) t h, sym (c .before .before .before .is-reading .ensures) ∙ c .before .before .if1 .taken, c .before .address-of .ensures)
+    λ t h. rw (readData-port (alone (a .net)) (a .port-number) (start .pre .2) _ (entry (a .values .now)) t h, sym (c .before .before .before .is-reading .ensures) ∙ c .before .before .if1 .taken, c .before .address-of .ensures)
 
 sub-own : tie.Need-sub-own
 sub-own c = omega (arith, c .before .before .before .pre .2 .0)
 
 mul-own : tie.Need-mul-own
 unfolding netOf
-mul-own c = omega (arith, first-read-most (alone (c .before .before .before .before .args .net)) (c .before .before .before .before .args .p) (c .before .before .before .before .pre .2) (c .before .before .before .before .pre .0 .sizes), c .before .before .before .before .pre .0 .sizes .n-most)
+mul-own c = omega (arith, first-read-most (alone (c .before .before .before .before .args .net)) (c .before .before .before .before .args .port-number) (c .before .before .before .before .pre .2) (c .before .before .before .before .pre .0 .sizes), c .before .before .before .before .pre .0 .sizes .n-most)
 
 cast-own : tie.Need-cast-own
 unfolding netOf
-cast-own c = omega (arith, first-read-most (alone (c .before .before .before .before .args .net)) (c .before .before .before .before .args .p) (c .before .before .before .before .pre .2) (c .before .before .before .before .pre .0 .sizes), c .before .before .before .before .pre .0 .sizes .n-most)
+cast-own c = omega (arith, first-read-most (alone (c .before .before .before .before .args .net)) (c .before .before .before .before .args .port-number) (c .before .before .before .before .pre .2) (c .before .before .before .before .pre .0 .sizes), c .before .before .before .before .pre .0 .sizes .n-most)
 
 shr-own : tie.Need-shr-own
 unfolding netOf
-shr-own c = omega (arith, first-read-most (alone (c .before .before .before .before .args .net)) (c .before .before .before .before .args .p) (c .before .before .before .before .pre .2) (c .before .before .before .before .pre .0 .sizes), c .before .before .before .before .pre .0 .sizes .n-most)
+shr-own c = omega (arith, first-read-most (alone (c .before .before .before .before .args .net)) (c .before .before .before .before .args .port-number) (c .before .before .before .before .pre .2) (c .before .before .before .before .pre .0 .sizes), c .before .before .before .before .pre .0 .sizes .n-most)
 
 cast-result-2 : tie.Need-cast-result-2
 cast-result-2 c = search needs
@@ -61,8 +61,8 @@ unfolding netOf
 returns-2 c =
     let start = c .before .before .before .before in
     let a = start .args in
-    let first = (a .p - 1) * a .net .n in
-    λ t h. rw (readData-port (alone (a .net)) (a .p) (start .pre .2) _ (entry (a .values .now)) t h, sym (c .before .before .is-reading .ensures) ∙ c .before .if1 .left)
+    let first = (a .port-number - 1) * a .net .n in
+    λ t h. rw (readData-port (alone (a .net)) (a .port-number) (start .pre .2) _ (entry (a .values .now)) t h, sym (c .before .before .is-reading .ensures) ∙ c .before .if1 .left)
     (bit-mod (a .held / 2 ^ first) 32 t (omega (arith, h, start .pre .0 .sizes .n-most)) ∙ bit-div (a .held) first t)
 
 pub read-word-spec : {M : Type 1} → statement M

@@ -58,7 +58,7 @@ unfolding netOf codeOf
 code-value-requires c κs =
     let start = c .before .before .before .before .before in
     let t = c .before .before .before .before .loop .t in
-    omega (arith, c .of-port .ensures, port-address (alone (start .args .t2)) (start .args .p) t, start .pre .0 .sizes, start .pre .0 .codes .address-fits (start .args .p) (start .pre .1) t (c .before .before .before .loop-test .taken))
+    omega (arith, c .of-port .ensures, port-address (alone (start .args .t2)) (start .args .port-number) t, start .pre .0 .sizes, start .pre .0 .codes .address-fits (start .args .port-number) (start .pre .1) t (c .before .before .before .loop-test .taken))
 
 with-bit-requires : tie.Need-with-bit-requires Inv-loop μ-loop
 unfolding netOf
@@ -81,7 +81,7 @@ loop-again c =
     let a = c .before .before .before .before .before .before .before .args in
     let t = c .before .before .before .before .before .before .loop .t in (
       omega arith,
-      rw (c .with-bit .ensures, c .before .code-value .ensures, c .before .before .of-port .ensures, ← port-address (alone (a .t2)) (a .p) t, c .before .before .before .before .before .before .loop .inv .1) (fromBits-next t _),
+      rw (c .with-bit .ensures, c .before .code-value .ensures, c .before .before .of-port .ensures, ← port-address (alone (a .t2)) (a .port-number) t, c .before .before .before .before .before .before .loop .inv .1) (fromBits-next t _),
     )
 
 returns : tie.Need-returns Inv-loop μ-loop

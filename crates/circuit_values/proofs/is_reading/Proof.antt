@@ -12,7 +12,7 @@ code-value-requires : tie.Need-code-value-requires
 unfolding netOf
 code-value-requires c κs =
     let start = c .before in
-    omega (arith, c .of-port .ensures, start .pre .0 .sizes, start .pre .0 .codes .RE-fits (start .args .p) (start .pre .1))
+    omega (arith, c .of-port .ensures, start .pre .0 .sizes, start .pre .0 .codes .RE-fits (start .args .port-number) (start .pre .1))
 
 returns : tie.Need-returns
 unfolding netOf

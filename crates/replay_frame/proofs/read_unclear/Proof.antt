@@ -32,28 +32,28 @@ unfolding netOf
 mul-read c =
     let start = c .before .before .before .before .before in
     let a = start .args in
-    omega (arith, first-read-most (alone (a .net)) (a .p) (start .pre .2) (start .pre .0 .sizes), start .pre .0 .sizes .n-most)
+    omega (arith, first-read-most (alone (a .net)) (a .port-number) (start .pre .2) (start .pre .0 .sizes), start .pre .0 .sizes .n-most)
 
 add-read : tie.Need-add-read
 unfolding netOf
 add-read c =
     let start = c .before .before .before .before .before .before in
     let a = start .args in
-    omega (arith, first-read-most (alone (a .net)) (a .p) (start .pre .2) (start .pre .0 .sizes), c .before .before .first-read-wire .ensures, start .pre .0 .sizes)
+    omega (arith, first-read-most (alone (a .net)) (a .port-number) (start .pre .2) (start .pre .0 .sizes), c .before .before .first-read-wire .ensures, start .pre .0 .sizes)
 
 add-any-unclear : tie.Need-add-any-unclear
 unfolding netOf
 add-any-unclear c =
     let start = c .before .before .before .before .before .before in
     let a = start .args in
-    omega (arith, first-read-most (alone (a .net)) (a .p) (start .pre .2) (start .pre .0 .sizes), c .before .before .first-read-wire .ensures, base-most (alone (a .net)) (start .pre .0 .sizes) (a .i) (omega (arith, start .pre .1)), c .before .before .before .frame-base .ensures, start .pre .0 .sizes)
+    omega (arith, first-read-most (alone (a .net)) (a .port-number) (start .pre .2) (start .pre .0 .sizes), c .before .before .first-read-wire .ensures, base-most (alone (a .net)) (start .pre .0 .sizes) (a .i) (omega (arith, start .pre .1)), c .before .before .before .frame-base .ensures, start .pre .0 .sizes)
 
 any-unclear-requires : tie.Need-any-unclear-requires
 unfolding netOf
 any-unclear-requires c κs =
     let start = c .before .before .before .before .before .before in
     let a = start .args in
-    omega (arith, first-read-most (alone (a .net)) (a .p) (start .pre .2) (start .pre .0 .sizes), c .before .before .first-read-wire .ensures, base-most (alone (a .net)) (start .pre .0 .sizes) (a .i) (omega (arith, start .pre .1)), c .before .before .before .frame-base .ensures, start .pre .0 .sizes)
+    omega (arith, first-read-most (alone (a .net)) (a .port-number) (start .pre .2) (start .pre .0 .sizes), c .before .before .first-read-wire .ensures, base-most (alone (a .net)) (start .pre .0 .sizes) (a .i) (omega (arith, start .pre .1)), c .before .before .before .frame-base .ensures, start .pre .0 .sizes)
 
 returns : tie.Need-returns
 unfolding netOf
@@ -65,7 +65,7 @@ returns c =
     let unclear : ℕ → Bool = unclearIn (a .signs .now) in
     rw (sym (ap (λ reads. a .filled || (eqb (a .i) 0 && not reads)) (c .before .before .before .before .before .before .is-reading .ensures)) ∙ c .before .before .before .before .before .if1 .taken)
     (c .any-unclear .ensures ∙ any-same (d .n) (λ t h.
-    let e : b .result + (read .result .0 + port d (a .p) .firstRead) + t ≡ base d (a .i) + readWire d (port d (a .p) .firstRead + t) = omega (arith, b .ensures, read .ensures) in ap unclear e))
+    let e : b .result + (read .result .0 + port d (a .port-number) .firstRead) + t ≡ base d (a .i) + readWire d (port d (a .port-number) .firstRead + t) = omega (arith, b .ensures, read .ensures) in ap unclear e))
 
 returns-2 : tie.Need-returns-2
 unfolding netOf

@@ -1,12 +1,12 @@
--- `circuit_values::two_words` meets its contract: 64 bits have room for both words.
+-- `circuit_step::two_words` meets its contract: 64 bits have room for both words.
 use Prim.Native.Nat.{_*_, _^_, _≤_}
 use native.Mathlib.Nat.{mul-le-mul-right, pow-le-pow-right, mod-lt}
 use native.Mathlib.Omega.{arith}
 use lib.Pow.{pow-pos}
 use Rattle.circuit_values.proofs.Bits.{one-above, word-above, two-first, two-second}
 use borrow.Author.Needs.{needs}
-use Rattle.circuit_values.proofs.two_words.Statement.{statement}
-use Rattle.circuit_values.proofs.two_words.Tie as tie
+use Rattle.circuit_step.proofs.two_words.Statement.{statement}
+use Rattle.circuit_step.proofs.two_words.Tie as tie
 
 shl-above : tie.Need-shl-above
 shl-above c = search needs
