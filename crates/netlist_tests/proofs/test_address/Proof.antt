@@ -1,5 +1,4 @@
 -- `netlist_tests::test_address` meets its contract: the first tied code decides.
-use mathlib.Core.Path.{_≡_}
 use native.Mathlib.Omega.{arith}
 use borrow.Author.Tests.{lt-ltb, le-ltb}
 use Rattle.netlist_tests.specs.OnePort.{testAddress}
