@@ -79,7 +79,7 @@ module _ (c : Netlist) (latchCount gateCount k : ℕ) (record-passed : recordVer
       rw (group-passes g (length old) there enough) (take-append-seam (numbersOf c k g) (drop (length (numbersOf c k g)) old))
 
 -- no sheet has more than 627 lines: where there are lines of a second port, it has read bits among the wires
-lines-most : (c : Netlist) → SizesFit c → controlLine c ≤ mostLines
+pub lines-most : (c : Netlist) → SizesFit c → controlLine c ≤ mostLines
 lines-most c fit =
     let bits : c .secondPort * 1 ≤ c .secondPort * c .n = mul-le-mul-left (c .secondPort) (fit .n-least) in
     omega (arith, fit .wires-fit, fit .m-most, second-most fit (c .m))

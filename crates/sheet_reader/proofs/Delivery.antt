@@ -1,6 +1,6 @@
 -- What a call that reads a netlist c leaves in the lists that it is lent, from its answer and what stands in its own unpacked lists
 -- (`Outcome`): for any verdict and any netlist. Cited by `read` and by the export that imports a text.
-use Prim.Native.Nat.{ℕ, _≤_}
+use Prim.Native.Nat.{ℕ, _≤_, _<_}
 use mathlib.Core.Path.{_≡_, refl, sym, _∙_, ap}
 use mathlib.Core.List.{List}
 use native.Mathlib.Omega.{arith}
@@ -11,10 +11,12 @@ use Rattle.refusals.specs.Slices.{contentsAfter}
 use Rattle.model.specs.Netlist as M
 use Rattle.model.specs.Acceptance.{Accepted}
 use Rattle.model.specs.Agree.{Agree}
+use Rattle.model.specs.Gather.{gather}
 use Rattle.literals.specs.declared.Code.{Code}
 use Rattle.netlist.specs.NetOf.{codeOf, netOf}
 use Rattle.netlist.specs.RecordOf.{codeEntry, recordOf}
 use Rattle.model.proofs.Agree.{accepted-same}
+use Rattle.model.proofs.Ports.{by-port}
 use Rattle.netlist_tests.specs.Record.{recordVerdict}
 use Rattle.netlist_tests.proofs.Acceptance.{passes-accepted}
 use Rattle.sheet_steps.specs.declared.SheetAnswer.{SheetAnswer}
@@ -39,6 +41,7 @@ module _ (c : M.Netlist) (accepted : Accepted c) (latches : List LatchEntry) (ga
   unfolding netOf codeOf recordOf latchCodes gateCodes
   agree =
       let sizes = accepted .limits .sizes in
+      let d = netOf (recordOf c) (latchCodes (delivered (c .latches) (latchOf c) latches)) (gateCodes (delivered (c .gates) (gateOf c) gates)) in
       let wide = sizes .m-most in
       let deep = sizes .n-most in
       let latch = delivered-pairs (λ (l : LatchEntry). l .next .0) (λ (l : LatchEntry). l .reset) (c .latches) (latchOf c) latches
@@ -51,16 +54,18 @@ module _ (c : M.Netlist) (accepted : Accepted c) (latches : List LatchEntry) (ga
         reset-same = λ l h. sym (latch l h .1);
         left-same = λ g h. sym (gate g h .0);
         right-same = λ g h. sym (gate g h .1);
-        address-same = λ t h. sym (ap (λ (k : Code). k .0)
-            (getD-gather-alone 12 1 (codeEntry (c .address)) (λ t. refl) t 0 t (omega arith) (omega arith) (omega arith)
-            (record { 0 = 0 })));
-        data-same = λ t h. sym (ap (λ (k : Code). k .0)
-            (getD-gather-alone 32 1 (codeEntry (c .writeData)) (λ t. refl) t 0 t (omega arith) (omega arith) (omega arith)
-            (record { 0 = 0 })));
+        address-same =
+            by-port sizes (λ p. (t : ℕ) → t < c .m → M.port c p .address t ≡ M.port d p .address t)
+            (λ t h. code 12 (c .address) t (omega arith)) (λ some t h. code 12 (c .address2) t (omega arith));
+        data-same = λ t h. code 32 (c .writeData) t (omega arith);
         WE-same = refl;
-        RE-same = refl;
+        RE-same = λ p here. refl;
         P-same = refl;
       }
+    where
+      -- a code in an array of the record
+      code : (n : ℕ) (f : ℕ → ℕ) (t : ℕ) → t < n → f t ≡ codeOf (gather n (codeEntry f)) t
+      code n f t h = sym (ap (λ (k : Code). k .0) (getD-gather-alone n 1 (codeEntry f) (λ t. refl) t 0 t h (omega arith) (omega arith) (record { 0 = 0 })))
 
   -- no test of records refuses them
   pub not-refused : recordVerdict (netLent (recordOf c) (delivered (c .latches) (latchOf c) latches) (delivered (c .gates) (gateOf c) gates))

@@ -54,8 +54,8 @@ module _ (file : List ℕ) (latches : List LatchEntry) (gates : List GateEntry) 
         record {
           not-refused = fine;
           variables-same = λ i. sym (base-same c _ same i);
-          numbers-same = λ k g. sym (numbers-same c _ same k g);
-          calls-encode = λ k most. calls-encode-for c _ _ _ k fine most (sheet-fits .accepted e) (λ g. sym (numbers-same c _ same k g));
+          numbers-same = λ k g h. sym (numbers-same c _ same k g h);
+          calls-encode = λ k most. calls-encode-for c _ _ _ k fine most (sheet-fits .accepted e) same;
         }
 
     pub reads : Reads sheet (newLatches latches gates sheet-fits sheet latchList gateList codes)

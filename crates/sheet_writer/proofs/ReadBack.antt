@@ -19,6 +19,7 @@ use Rattle.netlist.specs.Faults.{sizeFault, codeFault}
 use Rattle.netlist.proofs.Places.{every-place}
 use Rattle.netlist.proofs.Faults.{Without, sizes-fit, codes-fit}
 use Rattle.netlist_tests.proofs.Acceptance.{lists-long, ports-pass}
+use Rattle.call_unpacked.proofs.Calls.{lines-most}
 use Rattle.sheet_steps.specs.LineFaults.{faultsAt}
 use Rattle.sheet_steps.proofs.Places.{lineAt-known}
 use Rattle.sheet_parse.specs.Files.{lineCount, netIn}
@@ -27,7 +28,7 @@ use Rattle.sheet_tests.specs.Sheet.{endVerdict, fileVerdict, sheetVerdict}
 use Rattle.sheet_tests.proofs.Verdicts.{file-lines, end-whole}
 use Rattle.sheet_tests.proofs.Codes.{sheet-passed}
 use Rattle.sheet_writer.specs.SheetText.{sheetText}
-use Rattle.sheet_writer.proofs.SheetText.{not-misprinted, of-kind-due, length-sheetText, line-in, agrees-read, ends-same}
+use Rattle.sheet_writer.proofs.SheetText.{not-misprinted, is-due, length-sheetText, line-in, agrees-read, ends-same}
 
 module _ (c : Netlist) (accepted : Accepted c) where
   abbrev file : List ℕ
@@ -60,7 +61,7 @@ module _ (c : Netlist) (accepted : Accepted c) where
       rw (
         ne-eqb (length file) 0 (λ e. omega arith),
         eq-eqb (length file % 32) 0 (omega arith),
-        le-ltb 19680 (length file) (omega (arith, sizes .wires-fit, sizes .m-most)),
+        le-ltb 20064 (length file) (omega (arith, lines-most c sizes)),
       )
 
   -- no line is refused
@@ -72,7 +73,7 @@ module _ (c : Netlist) (accepted : Accepted c) where
         ← due p,
         le-leb p (controlLine c) b,
         line-in c (accepted .limits) p l b,
-        of-kind-due c (lineAt c p),
+        is-due c (lineAt c p),
       )
 
   line-passes : (p : ℕ) → 1 ≤ p → p ≤ controlLine c → testLineIn read file p ≡ Passed

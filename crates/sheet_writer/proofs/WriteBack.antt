@@ -1,13 +1,13 @@
 -- A sheet that is accepted is the sheet of the netlist that it is read as (specs/WriteCall.antt). No contract cites this file.
 use Prim.Native.Nat.{ℕ, _+_, _-_, _*_, _≤_, _<_}
 use mathlib.Core.Path.{_≡_, refl, sym, _∙_, ap}
-use mathlib.Core.Bool.{true, false≢true}
+use mathlib.Core.Bool.{Bool, true, false, _&&_, _||_, false≢true}
 use mathlib.Core.List.{List}
 use native.Mathlib.Nat.{add-zero}
 use native.Mathlib.Omega.{arith}
-use lib.Dec.{leb}
+use lib.Dec.{eqb, leb}
 use lib.ListN.{getD, length, take, drop}
-use borrow.Author.Tests.{eqb-true, lt-ltb, not-false}
+use borrow.Author.Tests.{eqb-true, ne-eqb, lt-ltb, not-false}
 use Rattle.model.proofs.Booleans.{and-true}
 use Rattle.model.proofs.Gather.{gathers-same}
 use Rattle.refusals.specs.declared.Refusal.the-variants.{Ragged}
@@ -17,63 +17,102 @@ use Rattle.netlist.specs.Places.{controlLine, lineAt, HasLine}
 use Rattle.netlist.specs.declared.Line.{Line}
 use Rattle.netlist.specs.declared.Line.the-variants as Due
 use Rattle.netlist.proofs.Places.{has-lineAt}
-use Rattle.sheet_lines.specs.Letters.{rowOf, contentOf}
+use Rattle.sheet_lines.specs.Letters.{rowOf, secondPortOf, contentOf}
 use Rattle.sheet_lines.specs.Lines.{lineText}
 use Rattle.sheet_lines.specs.declared.Kind.{Kind}
-use Rattle.sheet_lines.specs.declared.Kind.the-variants.{Sizes, Memory, Latch, Gate, Address, WriteData, Control, Unknown}
+use Rattle.sheet_lines.specs.declared.Kind.the-variants.{Sizes, Memory, TwoPorts, Latch, Gate, Address, WriteData, SecondAddress, SecondEnable, Control, Unknown}
 use Rattle.sheet_lines.specs.declared.ParsedLine.{ParsedLine}
 use Rattle.sheet_lines.specs.declared.ParsedLine.the-variants.{Misprint, Read}
 use Rattle.sheet_lines.proofs.Letters.{kinds}
 use Rattle.sheet_lines.proofs.Lines.{lines-as-written}
-use Rattle.sheet_steps.specs.Due.{kindDue}
-use Rattle.sheet_steps.proofs.Places.{placeOf, place-lineAt}
+use Rattle.sheet_steps.specs.Due.{kindDue, isDue}
+use Rattle.sheet_steps.proofs.Places.{placeOf, second-address, place-lineAt}
 use Rattle.sheet_parse.specs.Files.{lineCount, lineIn, sizesIn, netOfLines, netIn}
-use Rattle.sheet_parse.specs.FileTests.{ragged, isOf, notDue, testLineIn}
-use Rattle.sheet_parse.proofs.Files.{whole-lines}
+use Rattle.sheet_parse.specs.FileTests.{ragged, isLine, notDue, testLineIn}
+use Rattle.sheet_parse.proofs.Files.{ports-in, whole-lines}
 use Rattle.sheet_parse.proofs.LineTests.{line-passed, within-last}
 use Rattle.sheet_tests.specs.Sheet.{fileVerdict}
 use Rattle.sheet_tests.proofs.Codes.{lines-pass, end-passes}
-use Rattle.sheet_writer.specs.SheetText.{printedLine, printedText, sheetText}
+use Rattle.sheet_writer.specs.SheetText.{memoryKind, printedLine, printedText, sheetText}
 use Rattle.sheet_writer.proofs.Parts.{parts-gather}
 
 -- a kind is known by its row
 kind-in-row : (k : Kind) → getD kinds (rowOf k) Unknown ≡ k
 kind-in-row Sizes = refl
 kind-in-row Memory = refl
+kind-in-row TwoPorts = refl
 kind-in-row Latch = refl
 kind-in-row Gate = refl
 kind-in-row Address = refl
 kind-in-row WriteData = refl
+kind-in-row SecondAddress = refl
+kind-in-row SecondEnable = refl
 kind-in-row Control = refl
 kind-in-row Unknown = refl
 
 row-one-kind : (k l : Kind) → rowOf k ≡ rowOf l → k ≡ l
 row-one-kind k l e = sym (kind-in-row k) ∙ ap (λ row. getD kinds row Unknown) e ∙ kind-in-row l
 
--- a line of a kind, and its numbers
-record OfKind (k : Kind) (line : ParsedLine) : Type 0 where
+-- a line that is due, and its numbers
+record DueLine (due : Line) (line : ParsedLine) : Type 0 where
+  kind : Kind
   x : ℕ
   y : ℕ
   z : ℕ
   empty : ℕ
-  is : line ≡ Read k x y z empty
+  is-due : isDue due kind ≡ true
+  is : line ≡ Read kind x y z empty
 
-of-kind : (k : Kind) (line : ParsedLine) → isOf k line ≡ true → OfKind k line
-of-kind k Misprint h = absurd (false≢true h)
-of-kind k (Read kind x y z e) h = record { x = x; y = y; z = z; empty = e; is = ap (λ l. Read l x y z e) (row-one-kind kind k (eqb-true (rowOf kind) (rowOf k) h)) }
+due-line : (due : Line) (line : ParsedLine) → isLine due line ≡ true → DueLine due line
+due-line due Misprint h = absurd (false≢true h)
+due-line due (Read kind x y z e) h = record { kind = kind; x = x; y = y; z = z; empty = e; is-due = h; is = refl }
+
+-- its kind, and that of the second line
+kind-due : (due : Line) (k : Kind) → (rowOf (kindDue due) ≡ 1 → ⊥) → isDue due k ≡ true → k ≡ kindDue due
+kind-due due k other h =
+    row-one-kind k (kindDue due)
+    (eqb-true (rowOf k) (rowOf (kindDue due)) (first (eqb (rowOf k) (rowOf (kindDue due))) (eqb (rowOf k) 2) (rw (ne-eqb (rowOf (kindDue due)) 1 other) at h)))
+  where
+    first : (x y : Bool) → (x || (y && false)) ≡ true → x ≡ true
+    first true y h = refl
+    first false true h = h
+    first false false h = h
+
+second-kind : (k : Kind) → isDue Due.Memory k ≡ true → memoryKind (secondPortOf k) ≡ k
+second-kind Sizes h = absurd (false≢true h)
+second-kind Memory h = refl
+second-kind TwoPorts h = refl
+second-kind Latch h = absurd (false≢true h)
+second-kind Gate h = absurd (false≢true h)
+second-kind Address h = absurd (false≢true h)
+second-kind WriteData h = absurd (false≢true h)
+second-kind SecondAddress h = absurd (false≢true h)
+second-kind SecondEnable h = absurd (false≢true h)
+second-kind Control h = absurd (false≢true h)
+second-kind Unknown h = absurd (false≢true h)
 
 module _ (file : List ℕ) where
   -- a line's text is that of the numbers that are read there: what stands in an empty field does not show
-  text-of-line : (due : Line) → HasLine (netIn file) due → (x y z empty : ℕ) → lineIn file (placeOf (netIn file) due) ≡ Read (kindDue due) x y z empty
-      → printedText (printedLine (netIn file) due) ≡ lineText (kindDue due) x y z empty
+  text-of-line : (due : Line) → HasLine (netIn file) due → (k : Kind) → isDue due k ≡ true → (x y z empty : ℕ) → lineIn file (placeOf (netIn file) due) ≡ Read k x y z empty
+      → printedText (printedLine (netIn file) due) ≡ lineText k x y z empty
   unfolding printedText printedLine netIn netOfLines sizesIn lineText contentOf
-  text-of-line Due.Sizes h x y z empty e = rw e
-  text-of-line Due.Memory h x y z empty e = rw e
-  text-of-line (Due.Latch l) h x y z empty e = rw (lt-ltb l _ h, e)
-  text-of-line (Due.Gate g) h x y z empty e = rw (lt-ltb g _ h, e)
-  text-of-line (Due.Address t) h x y z empty e = rw (lt-ltb t _ h, e)
-  text-of-line (Due.WriteData t) h x y z empty e = rw (lt-ltb t _ h, e)
-  text-of-line Due.Control h x y z empty e = rw (simp add-zero at e)
+  text-of-line Due.Sizes h k is x y z empty e = rw (kind-due Due.Sizes k (λ q. omega arith) is, e)
+  text-of-line Due.Memory h k is x y z empty e = rw (e, second-kind k is)
+  text-of-line (Due.Latch l) h k is x y z empty e = rw (kind-due (Due.Latch l) k (λ q. omega arith) is, lt-ltb l _ h, e)
+  text-of-line (Due.Gate g) h k is x y z empty e = rw (kind-due (Due.Gate g) k (λ q. omega arith) is, lt-ltb g _ h, e)
+  text-of-line (Due.Address t) h k is x y z empty e = rw (kind-due (Due.Address t) k (λ q. omega arith) is, lt-ltb t _ h, e)
+  text-of-line (Due.WriteData t) h k is x y z empty e = rw (kind-due (Due.WriteData t) k (λ q. omega arith) is, lt-ltb t _ h, e)
+  text-of-line (Due.SecondAddress t) h k is x y z empty e =
+      rw (kind-due (Due.SecondAddress t) k (λ q. omega arith) is, lt-ltb t _ (second-address (sizesIn file) (ports-in file) t .1 h), e)
+  text-of-line Due.SecondEnable h k is x y z empty e =
+      rw (kind-due Due.SecondEnable k (λ q. omega arith) is, lt-ltb 0 _ h, simp add-zero at e)
+  text-of-line Due.Control h k is x y z empty e =
+      let place : controlLine (netIn file) + 0 ≡ controlLine (netIn file) = add-zero _ in
+      rw (kind-due Due.Control k (λ q. omega arith) is, sym (ap (lineIn file) place) ∙ e)
+
+  one-port-more : netIn file .secondPort ≤ 1
+  unfolding netIn netOfLines sizesIn
+  one-port-more = ports-in file
 
   module _ (passed : fileVerdict file ≡ Passed) where
     whole : length file ≡ 32 * lineCount file
@@ -97,11 +136,11 @@ module _ (file : List ℕ) where
         let due = lineAt c (p + 1) in
         let back : p + 1 - 1 ≡ p = omega arith in
         let sound = line-passed file (lineCount file) (lines-pass file passed) (p + 1) (omega arith) (omega (arith, ends)) in
-        let kind = and-true (leb (p + 1) (controlLine c)) (isOf (kindDue due) (lineIn file (p + 1))) .0 (not-false _ (sound .due)) .1 in
-        let line = of-kind (kindDue due) (lineIn file (p + 1)) kind in
-        let place : placeOf c due ≡ p + 1 = place-lineAt c (p + 1) (omega arith) (omega arith) in
-        text-of-line due (has-lineAt c (p + 1)) (line .x) (line .y) (line .z) (line .empty) (ap (lineIn file) place ∙ line .is)
-        ∙ sym (lines-as-written .read→text (take 32 (drop (32 * (p + 1 - 1)) file)) (kindDue due) (line .x) (line .y) (line .z) (line .empty) (line .is))
+        let kind = and-true (leb (p + 1) (controlLine c)) (isLine due (lineIn file (p + 1))) .0 (not-false _ (sound .due)) .1 in
+        let line = due-line due (lineIn file (p + 1)) kind in
+        let place : placeOf c due ≡ p + 1 = place-lineAt c one-port-more (p + 1) (omega arith) (omega arith) in
+        text-of-line due (has-lineAt c (p + 1)) (line .kind) (line .is-due) (line .x) (line .y) (line .z) (line .empty) (ap (lineIn file) place ∙ line .is)
+        ∙ sym (lines-as-written .read→text (take 32 (drop (32 * (p + 1 - 1)) file)) (line .kind) (line .x) (line .y) (line .z) (line .empty) (line .is))
         ∙ ap (λ q. take 32 (drop (32 * q) file)) back
 
     pub written-back : sheetText (netIn file) ≡ file

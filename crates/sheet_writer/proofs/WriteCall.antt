@@ -3,9 +3,9 @@ use Prim.Native.Nat.{ℕ}
 use mathlib.Core.Path.{_≡_, sym, _∙_}
 use mathlib.Core.List.{List}
 use lib.ListN.{length}
-use Rattle.model.specs.Netlist.{Netlist}
+use Rattle.model.specs.Netlist.{Netlist, IsPort}
 use Rattle.model.specs.Agree.{Agree}
-use Rattle.model.proofs.Agree.{latches-same, gates-same, m-same, n-same}
+use Rattle.model.proofs.Agree.{latches-same, gates-same, m-same, n-same, second-same}
 use Rattle.refusals.specs.Slices.{contentsAfter}
 use Rattle.refusals.specs.declared.Verdict.the-variants.{Passed}
 use Rattle.netlist_tests.proofs.Acceptance.{passes-accepted}
@@ -34,12 +34,15 @@ agree-then c d e p q =
       reset-same = λ l h. p .reset-same l h ∙ q .reset-same l (rw (← latches-same c d p) h);
       left-same = λ g h. p .left-same g h ∙ q .left-same g (rw (← gates-same c d p) h);
       right-same = λ g h. p .right-same g h ∙ q .right-same g (rw (← gates-same c d p) h);
-      address-same = λ t h. p .address-same t h ∙ q .address-same t (rw (← m-same c d p) h);
+      address-same = λ x here t h. p .address-same x here t h ∙ q .address-same x (port-of x here) t (rw (← m-same c d p) h);
       data-same = λ t h. p .data-same t h ∙ q .data-same t (rw (← n-same c d p) h);
       WE-same = p .WE-same ∙ q .WE-same;
-      RE-same = p .RE-same ∙ q .RE-same;
+      RE-same = λ x here. p .RE-same x here ∙ q .RE-same x (port-of x here);
       P-same = p .P-same ∙ q .P-same;
     }
+  where
+    port-of : (x : ℕ) → IsPort c x → IsPort d x
+    port-of x here = (here .0, rw (← second-same c d p) (here .1))
 
 -- what is read into lent lists agrees with what the file says
 module _ (file : List ℕ) (latches : List LatchEntry) (gates : List GateEntry) where

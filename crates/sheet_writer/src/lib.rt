@@ -23,7 +23,7 @@ ghost use Rattle.sheet_fields.specs.declared.Field.the-variants.{Empty, Filled}
 ghost use Rattle.sheet_lines.specs.Letters.{rowOf, contentOf};
 ghost use Rattle.sheet_lines.specs.Lines.{printedField, fieldText};
 ghost use Rattle.dimacs.specs.PrintCalls.{printReply};
-ghost use Rattle.sheet_writer.specs.SheetText.{printedLine, printedText, sheetText};
+ghost use Rattle.sheet_writer.specs.SheetText.{memoryKind, printedLine, printedText, sheetText};
 ghost use Rattle.sheet_writer.specs.WriteCall.{writeSent, writeLeaves, SheetWritten};
 
 // A line to be printed: its kind and three numbers, 0 where a field is always empty; and 1 where one that may be filled is to be left empty.
@@ -33,6 +33,16 @@ pub struct PrintedLine {
     pub second: u32,
     pub third: u32,
     pub empty: u32,
+}
+
+// The kind of the second line: M, or T where there is a second port.
+fn memory_kind(second_port: u32) -> Kind
+    ensures { λ r. ⌜ r ≡ memoryKind «second_port» ⌝ }
+{
+    if second_port == 0 {
+        return Kind::Memory;
+    }
+    Kind::TwoPorts
 }
 
 // The numbers of a line.
@@ -54,7 +64,7 @@ fn printed_line(
             empty: 0,
         },
         Line::Memory => PrintedLine {
-            kind: Kind::Memory,
+            kind: memory_kind(net.second_port),
             first: net.m,
             second: net.n,
             third: net.initial_word,
@@ -106,6 +116,24 @@ fn printed_line(
                 empty: 0,
             }
         }
+        Line::SecondAddress(t) => {
+            let at = t as usize;
+            let code = net.address2[at].0;
+            PrintedLine {
+                kind: Kind::SecondAddress,
+                first: code,
+                second: 0,
+                third: 0,
+                empty: 0,
+            }
+        }
+        Line::SecondEnable => PrintedLine {
+            kind: Kind::SecondEnable,
+            first: net.re2.0,
+            second: 0,
+            third: 0,
+            empty: 0,
+        },
         Line::Control => PrintedLine {
             kind: Kind::Control,
             first: net.we.0,
@@ -118,7 +146,7 @@ fn printed_line(
 
 // Whether a column of a line is printed as a number: where the table says so, and where it leaves both open, unless it is to be empty.
 fn is_printed(kind: Kind, column: usize, empty: u32) -> bool
-    requires { ⌜ (rowOf kind < 7) × (column < 3) ⌝ }
+    requires { ⌜ (rowOf kind < 10) × (column < 3) ⌝ }
     ensures { λ r. ⌜ ((x : ℕ) → printedField (contentOf kind column) empty x ≡ cond r (Filled x) Empty) ⌝ }
 {
     let content = sheet_lines::content_of(kind, column);
@@ -138,7 +166,7 @@ fn put_column(out: &mut [u8], filled: bool, x: u32) -> usize
 
 // Writes a line of 32 bytes: which fields have a number the table of letters says.
 fn put_line(out: &mut [u8], line: PrintedLine) -> usize
-    requires { ⌜ (rowOf (line .kind) < 7) × (32 ≤ length (now out)) ⌝ }
+    requires { ⌜ (rowOf (line .kind) < 10) × (32 ≤ length (now out)) ⌝ }
     ensures { λ r. ⌜ Wrote (printedText line) (now (out .entry)) (now (out .exit)) r × (r ≤ 32) ⌝ }
 {
     let kind = line.kind;

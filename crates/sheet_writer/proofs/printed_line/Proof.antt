@@ -14,6 +14,9 @@ enum-told c = search needs
 enum-told-2 : tie.Need-enum-told-2
 enum-told-2 c = search needs
 
+memory-kind-requires : tie.Need-memory-kind-requires
+memory-kind-requires c κs = search needs
+
 enum-known-line : tie.Need-enum-known-line
 enum-known-line c = search needs
 
@@ -86,8 +89,23 @@ mul-code-2 c = search needs
 element-copy-out-code-2 : tie.Need-element-copy-out-code-2
 element-copy-out-code-2 c = omega (arith, subst (HasLine (alone (c .before .before .before .args .t1))) (c .before .line4 .given .1) (c .before .before .before .pre .1), c .before .before .before .pre .0 .n-most)
 
+enum-known-line-5 : tie.Need-enum-known-line-5
+enum-known-line-5 c = search needs
+
+cast-at-5 : tie.Need-cast-at-5
+cast-at-5 c = search needs
+
+mul-code-3 : tie.Need-mul-code-3
+mul-code-3 c = search needs
+
+element-copy-out-code-3 : tie.Need-element-copy-out-code-3
+element-copy-out-code-3 c = omega (arith, subst (HasLine (alone (c .before .before .before .args .t1))) (c .before .line5 .given .1) (c .before .before .before .pre .1) .1, c .before .before .before .pre .0 .m-most)
+
 enum-told-3 : tie.Need-enum-told-3
 enum-told-3 c = search needs
+
+enum-told-4 : tie.Need-enum-told-4
+enum-told-4 c = search needs
 
 returns : tie.Need-returns
 unfolding netOf printedLine
@@ -95,7 +113,7 @@ returns c = rw (c .enum-told .given .1)
 
 returns-2 : tie.Need-returns-2
 unfolding netOf printedLine
-returns-2 c = rw (c .enum-told2 .given .1)
+returns-2 c = rw (c .before .enum-told2 .given .1, c .memory-kind .ensures)
 
 returns-3 : tie.Need-returns-3
 unfolding netOf printedLine
@@ -114,8 +132,16 @@ unfolding netOf printedLine codeOf
 returns-6 c = rw (c .before .line4 .given .1)
 
 returns-7 : tie.Need-returns-7
+unfolding netOf printedLine codeOf
+returns-7 c = rw (c .before .line5 .given .1)
+
+returns-8 : tie.Need-returns-8
 unfolding netOf printedLine
-returns-7 c = rw (c .enum-told3 .given .1)
+returns-8 c = rw (c .enum-told3 .given .1)
+
+returns-9 : tie.Need-returns-9
+unfolding netOf printedLine
+returns-9 c = rw (c .enum-told4 .given .1)
 
 pub printed-line-spec : {M : Type 1} → statement M
 printed-line-spec =
@@ -123,6 +149,7 @@ printed-line-spec =
     (tie.spec
     enum-told
     enum-told-2
+    memory-kind-requires
     enum-known-line
     cast-at
     mul-at
@@ -147,11 +174,18 @@ printed-line-spec =
     cast-at-4
     mul-code-2
     element-copy-out-code-2
+    enum-known-line-5
+    cast-at-5
+    mul-code-3
+    element-copy-out-code-3
     enum-told-3
+    enum-told-4
     returns
     returns-2
     returns-3
     returns-4
     returns-5
     returns-6
-    returns-7)
+    returns-7
+    returns-8
+    returns-9)

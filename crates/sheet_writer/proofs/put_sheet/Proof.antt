@@ -13,6 +13,7 @@ use Rattle.model.proofs.Wrote.{wrote-then}
 use Rattle.netlist.specs.NetOf.{netOf, alone}
 use Rattle.netlist.specs.Places.{lineAt}
 use Rattle.netlist.specs.declared.Netlist.{Netlist}
+use Rattle.call_unpacked.proofs.Calls.{lines-most}
 use Rattle.sheet_writer.specs.SheetText.{printedLine, printedText, sheetText}
 use Rattle.sheet_writer.proofs.put_sheet.Statement.{statement}
 use Rattle.sheet_writer.proofs.put_sheet.Tie as tie
@@ -51,7 +52,9 @@ part-put-line-at-end : tie.Need-part-put-line-at-end Inv-loop μ-loop
 part-put-line-at-end c = search needs
 
 add-put-line-at : tie.Need-add-put-line-at Inv-loop μ-loop
-add-put-line-at c = omega arith
+add-put-line-at c =
+    let start = c .before .before .before .before .before in
+    omega (arith, c .before .before .before .control-line .ensures, lines-most (alone (start .args .net)) (start .pre .0))
 
 put-line-at-requires : tie.Need-put-line-at-requires Inv-loop μ-loop
 put-line-at-requires c κs =
