@@ -144,7 +144,7 @@ fn print_answer(input: &[u8]) {
 
 // One byte more than the longest input that is accepted, so that a longer one is seen to be too long.
 fn main() {
-    let mut bytes = [0; 19692];
+    let mut bytes = [0; 20076];
     let count = io::read_full(0, &mut bytes);
     print_answer(&bytes[..count]);
 }
