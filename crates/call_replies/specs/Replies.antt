@@ -1,8 +1,10 @@
 -- What the numbers of an exported function stand for: a group for four numbers, and the fields of a reply (RULES L5 and L12 to L14). Cited by
 -- the functions of `call_replies` and by the exported functions.
 use Prim.Native.Nat.{ℕ}
-use mathlib.Core.Bool.{cond}
-use lib.Dec.{eqb}
+use mathlib.Core.Bool.{cond, _&&_}
+use mathlib.Core.List.{List, []}
+use lib.Dec.{eqb, leb}
+use Rattle.model.specs.Groups.{groupOrder}
 use Rattle.model.specs.declared.Group.{Group}
 use Rattle.model.specs.declared.Group.the-variants.{Wires, Pair, Closing, Property}
 use Rattle.refusals.specs.Refusal.{replyOf}
@@ -18,6 +20,10 @@ use Rattle.call_replies.specs.declared.SheetReply.{SheetReply}
 unfoldable pub groupOf : ℕ → ℕ → ℕ → ℕ → Group
 groupOf kind j i p =
     cond (eqb kind 0) (Wires i) (cond (eqb kind 1) (Pair j i p) (cond (eqb kind 2) (Closing i p) (cond (eqb kind 3) Property (Pair i i p))))
+
+-- the order of the groups with so many ports: no record has another number of them than 1 or 2 (RULES L14)
+unfoldable pub orderFor : ℕ → ℕ → List Group
+orderFor ports k = cond (leb 1 ports && leb ports 2) (groupOrder ports k) []
 
 -- the four numbers of a group, and of what comes next in the order
 unfoldable pub groupNumbers : Group → GroupReply

@@ -1,3 +1,4 @@
 pub mod SheetReplies
 pub mod TextReplies
 pub mod NumbersCall
+pub mod Order

@@ -43,7 +43,7 @@ ghost use Rattle.call_position.specs.GroupsAt.{groupAtSent, groupAtLeaves, ByFr
 ghost use Rattle.call_position.specs.Literals.{literalSent, InverseNegated};
 ghost use Rattle.netlist.specs.NetOf.{alone};
 ghost use Rattle.sheet_writer.specs.WriteCall.{writeSent, writeLeaves, SheetWritten};
-ghost use Rattle.call_replies.specs.Replies.{groupOf, nextNumbers, sheetNumbers, headerVersion};
+ghost use Rattle.call_replies.specs.Replies.{groupOf, orderFor, nextNumbers, sheetNumbers, headerVersion};
 
 // The version of include/marrubigai.h that the library is built for.
 #[no_mangle]
@@ -91,10 +91,16 @@ pub extern "C" fn marrubigai_next_group(
     i: u32,
     port: u32,
 ) -> GroupReply
-    ensures follows { λ r. ⌜ ((xs ys : List Group) → groupOrder ports depth ≡ xs ++ groupOf kind j i port ∷ ys → r ≡ nextNumbers (firstGroup ys)) ⌝ }
-    ensures absent { λ r. ⌜ (((xs ys : List Group) → groupOrder ports depth ≡ xs ++ groupOf kind j i port ∷ ys → ⊥) → r ≡ nextNumbers Next.End) ⌝ }
+    ensures follows { λ r. ⌜ ((xs ys : List Group) → orderFor ports depth ≡ xs ++ groupOf kind j i port ∷ ys → r ≡ nextNumbers (firstGroup ys)) ⌝ }
+    ensures absent { λ r. ⌜ (((xs ys : List Group) → orderFor ports depth ≡ xs ++ groupOf kind j i port ∷ ys → ⊥) → r ≡ nextNumbers Next.End) ⌝ }
     ensures begins { λ r. ⌜ firstGroup (groupOrder ports depth) ≡ Next.Then (groupOf 0 0 0 0) ⌝ }
 {
+    if ports == 0 {
+        return call_replies::next_numbers(Next::End);
+    }
+    if 2 < ports {
+        return call_replies::next_numbers(Next::End);
+    }
     call_replies::next_numbers(group_order::next_group(
         ports,
         depth,

@@ -2,7 +2,7 @@
 -- the groups from it on, `next` comes after them, and nothing is printed yet or fewer groups remain.
 use Prim.Native.Nat.{ℕ, _+_, _-_, _≤_, _<_}
 use mathlib.Core.Path.{_≡_, refl, _∙_, ap}
-use mathlib.Core.List.{List, _∷_, _++_}
+use mathlib.Core.List.{List, [], _∷_, _++_}
 use mathlib.Core.Logic.{_⊎_, inl, inr}
 use native.Mathlib.Omega.{arith}
 use borrow.Author.Needs.{needs}
@@ -12,6 +12,7 @@ use Rattle.model.specs.Netlist.{ports}
 use Rattle.model.specs.Groups.{groupOrder}
 use Rattle.model.specs.declared.Group.{Group}
 use Rattle.netlist.specs.NetOf.{netOf, alone}
+use Rattle.netlist.proofs.NetOf.{sizes-lists}
 use Rattle.group_order.specs.Next.{firstGroup, remainingAfter, remainingFrom}
 use Rattle.group_order.specs.declared.Next.{Next}
 use Rattle.group_order.specs.declared.Next.the-variants.{Then}
@@ -43,7 +44,9 @@ abbrev μ-loop : tie.MeasureT-loop
 μ-loop text₀ numbers₀ table net latches gates depth count last bytes₀ next₀ text numbers bytes next = remainingFrom (ports (netOf net latches gates)) depth next
 
 port-count-requires : tie.Need-port-count-requires Inv-loop μ-loop
-port-count-requires c κs = search needs
+port-count-requires c κs =
+    let start = c .before .before in
+    sizes-lists (start .args .net) (start .args .latches .now) (start .args .gates .now) [] [] (start .pre .0 .limits .sizes)
 
 sub-last : tie.Need-sub-last Inv-loop μ-loop
 sub-last c = search needs
@@ -121,11 +124,13 @@ followed c =
     (e .0, e .1 .1)
 
 loop-less : tie.Need-loop-less Inv-loop μ-loop
+unfolding netOf
 loop-less c =
     let told = c .before .before .before .before .before .before .before in
     rw (told .before .next .given .1) (omega (arith, followed c .1))
 
 loop-again : tie.Need-loop-again Inv-loop μ-loop
+unfolding netOf
 loop-again c =
     let told = c .before .before .before .before .before .before .before in
     let start = told .before .before .before .before .before .before .before .before in
@@ -152,6 +157,7 @@ same-length-2 : tie.Need-same-length-2 Inv-loop μ-loop
 same-length-2 c = search needs
 
 returns : tie.Need-returns Inv-loop μ-loop
+unfolding netOf
 returns c =
     let start = c .before .before .before .before .before in
     let at = c .before .loop in (
@@ -169,6 +175,7 @@ same-length-4 : tie.Need-same-length-4 Inv-loop μ-loop
 same-length-4 c = search needs
 
 returns-2 : tie.Need-returns-2 Inv-loop μ-loop
+unfolding netOf
 returns-2 c =
     let at = c .before .before .before .loop in
     rw (c .enum-told .given .1) (
