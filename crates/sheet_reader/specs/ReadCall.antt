@@ -39,8 +39,8 @@ gatesAfter file latches gates = gatesBeside (readVerdict file latches gates) (ne
 
 -- What holds of the record and the lists that `read` leaves where it refuses nothing. RULES A1: "A sheet is accepted if it passes every
 -- test of sheets, and a record with its lists if it passes every test of records"; here both pass. Demands 2 and 3 hold of both: the
--- variables and the numbers of every group of a depth are those of the sheet's netlist, and the numbers that the group calls over record and lists
--- leave, joined, are the formula of the sheet's netlist, of which demand 3 holds.
+-- variables and the numbers of every group of a depth are those of the sheet's netlist, and the numbers that the group calls over record
+-- and lists leave, joined, are the formula of the sheet's netlist, of which demand 3 holds.
 pub record SheetDelivered (file : List ℕ) (r : Netlist) (latches : List LatchEntry) (gates : List GateEntry) : Type 0 where
   pub not-refused : recordVerdict (netLent r latches gates) (length latches) (length gates) ≡ Passed
   pub variables-same : (i : ℕ) → base (netLent r latches gates) i ≡ base (netIn file) i
