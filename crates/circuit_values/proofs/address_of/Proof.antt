@@ -1,6 +1,6 @@
 -- `circuit_values::address_of` meets its contract. The loop's invariant: the first t bits make the number.
 use Prim.Native.Nat.{_-_, _≤_}
-use mathlib.Core.Path.{_≡_, sym, _∙_}
+use mathlib.Core.Path.{_≡_}
 use native.Mathlib.Omega.{arith}
 use Rattle.model.specs.Bits.{fromBits}
 use Rattle.model.specs.Netlist.{port}

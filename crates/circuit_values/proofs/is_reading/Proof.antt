@@ -1,7 +1,6 @@
 -- `circuit_values::is_reading` meets its contract.
 use native.Mathlib.Omega.{arith}
-use Rattle.model.specs.Netlist.{port}
-use Rattle.netlist.specs.NetOf.{netOf, alone}
+use Rattle.netlist.specs.NetOf.{netOf}
 use borrow.Author.Needs.{needs}
 use Rattle.circuit_values.proofs.is_reading.Statement.{statement}
 use Rattle.circuit_values.proofs.is_reading.Tie as tie
