@@ -15,7 +15,9 @@ use super::formula::{
 use super::netlist::{Gate, Kind, Latch, Netlist, FIRST_PORT, SECOND_PORT};
 use super::position::{start, FrameGroup};
 use super::refusal::*;
-use super::sheet::{expand, read_line, read_sheet, write_back, write_depth, write_sheet, LINE_BYTES};
+use super::sheet::{
+    expand, read_line, read_sheet, write_back, write_depth, write_sheet, LINE_BYTES,
+};
 use super::Tally;
 
 /// No code is a constant. Wires: inputs 1 to 6, which are first address, second address, write data, WE,

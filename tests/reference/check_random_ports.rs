@@ -17,8 +17,8 @@ use super::check_random_answers::{answer_breaks, assigned_text, Runs};
 use super::check_refusals::verdict;
 use super::circuit::{value, word, Run, Values};
 use super::formula::{
-    clause_bound, counts, frame_base, frames, heading, number_bound, pair_base_of,
-    pair_size, port_group_call, Fault, Formula, Group, Heading, PortGroup,
+    clause_bound, counts, frame_base, frames, heading, number_bound, pair_base_of, pair_size,
+    port_group_call, Fault, Formula, Group, Heading, PortGroup,
 };
 use super::netlist::{Gate, Netlist, FIRST_PORT, MAX_DEPTH, SECOND_PORT};
 use super::position::{start, FrameGroup, Position};
@@ -32,9 +32,7 @@ use super::random_answers::{
 use super::refusal::{
     Refusal, CODE, MEMORY_LOOP, MISPRINT, NO_ROOM, OUT_OF_ORDER, RAGGED, SIZE, TIED_ADDRESS,
 };
-use super::sheet::{
-    expand, read_sheet, write_back, write_depth, write_sheet, LINE_BYTES,
-};
+use super::sheet::{expand, read_sheet, write_back, write_depth, write_sheet, LINE_BYTES};
 use super::solver::Solver;
 use super::Tally;
 

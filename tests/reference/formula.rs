@@ -508,7 +508,10 @@ impl<'a> Formula<'a> {
                 Fault::PortByPort => groups.extend(ports.clone().flat_map(of_port)),
                 Fault::PortsExchanged => groups.extend(of_memory.iter().flat_map(|group| {
                     let group = *group;
-                    ports.clone().rev().map(move |port| PortGroup { port, group })
+                    ports
+                        .clone()
+                        .rev()
+                        .map(move |port| PortGroup { port, group })
                 })),
                 _ => groups.extend(of_memory.iter().flat_map(|group| {
                     let group = *group;
