@@ -1,4 +1,4 @@
--- Which netlists are accepted (RULES A1, W7 to W9, W11 to W13, W15, W19, W20, C8 and C27). Cited by the
+-- Which netlists are accepted (RULES A1, W7 to W9, W11 to W13, W15, W19, W20, W22, C8, C27 and C29). Cited by the
 -- theorem, by what writes clauses, and by the tests of records, which are proved to pass exactly these.
 use Prim.Native.Nat.{ℕ, _+_, _*_, _/_, _^_, _≤_, _<_}
 use mathlib.Core.Path.{_≡_}
@@ -22,7 +22,7 @@ pub record SizesFit (c : Netlist) : Type 0 where
   pub m-most : c .m ≤ mostAddressBits
   pub n-least : 1 ≤ c .n
   pub n-most : c .n ≤ mostDataBits
-  -- a second port only where the start is given
+  -- each 0 or 1, and a second port only where the start is given (RULES W19 and W22)
   pub kind-fits : c .unknownStart + c .secondPort ≤ 1
   pub word-fits : StartFits (c .n) (start c)
   pub wires-fit : lastWire c ≤ mostWires
@@ -48,11 +48,11 @@ pub record WithinLimits (c : Netlist) : Type 0 where
   pub sizes : SizesFit c
   pub codes : CodesFit c
 
--- refusal 17 (RULES T17): two address codes of one wire, inverted or not. Wire 0 is the constants': they may repeat.
+-- refusal 17 (RULES T17): two address codes of a port that are of one wire, inverted or not. Wire 0 is the constants': they may repeat.
 pub record NoTie (c : Netlist) (p : Port) : Type 0 where
   pub tie-free : (s t : ℕ) → s < t → t < c .m → p .address s / 2 ≡ p .address t / 2 → p .address t / 2 ≡ 0
 
--- refusal 6 (RULES T6): an address code or RE depends on a read bit
+-- refusal 6 (RULES T6): an address code or RE depends on a read bit, of whichever port
 pub record NoLoop (c : Netlist) (p : Port) : Type 0 where
   pub address-free : (t : ℕ) → t < c .m → dependsOnRead c (p .address t / 2) ≡ false
   pub RE-free : dependsOnRead c (p .RE / 2) ≡ false

@@ -1,4 +1,4 @@
--- The sequential circuit with its whole memory, and its runs through time frames (RULES C2 to C4, C6, C7, C9, C12 and C15 to C24). Cited by
+-- The sequential circuit with its whole memory, and its runs through time frames (RULES C2 to C4, C6, C7, C9, C12, C15 to C24 and C28). Cited by
 -- the claim, and for dependence on a read bit by the tests of records.
 use Prim.Native.Nat.{ℕ, zero, suc, _-_, _/_, _%_, _^_, _<_}
 use mathlib.Core.Path.{_≡_}
@@ -64,20 +64,21 @@ pub record State : Type 0 where
 abbrev pub Feeds : Type 0
 Feeds = ℕ → ℕ → Bool
 
--- the address at a port (RULES W18), and that of the write: the first port's
+-- the address at a port (RULES W18), and that of the write: the first port's (RULES C28)
 unfoldable pub addressOf : Netlist → Port → Values → ℕ
 addressOf c p v = fromBits (c .m) (λ t. codeValue v (p .address t))
 
 abbrev pub writeAddress : Netlist → Values → ℕ
 writeAddress c v = addressOf c (port c 1) v
 
--- the read bits that follow from the state before this frame's write, and from the address and RE in the values v (RULES C4, C17, C18)
+-- The read bits that follow from the state before this frame's write, and from the addresses and REs in the values v: each is of a port, n
+-- to a port (RULES C4, C17, C18, C28 and W21).
 unfoldable pub readData : Netlist → State → Values → ℕ → Bool
 readData c s v r =
     let p = port c (suc (r / c .n)) in
     cond (codeValue v (p .RE)) (bit (s .memory (addressOf c p v)) (r % c .n)) (s .held r)
 
--- One frame. First pass: every read bit 0, which settles address and RE. Second pass: all gates afresh, with the read bits. RULES C12 and C21.
+-- One frame. First pass: every read bit 0, which settles addresses and REs. Second pass: all gates afresh, with the read bits. RULES C12 and C21.
 unfoldable pub firstPass : Netlist → State → (ℕ → Bool) → Values
 firstPass c s input = evaluate c input (s .latch) (λ t. false)
 

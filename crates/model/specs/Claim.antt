@@ -29,7 +29,7 @@ use Rattle.model.specs.declared.Group.{Group}
 unfoldable pub Satisfies : Netlist → ℕ → Assignment → Type 0
 Satisfies c k a = allTrue a (clausesIn (formula c k)) ≡ true
 
--- what an assignment feeds in frame i, its input variables; and its idle word, frame 0's read-bit variables (RULES A12)
+-- what an assignment feeds in frame i, its input variables; and its idle word, frame 0's read-bit variables, of every port (RULES A12)
 unfoldable pub feedOf : Netlist → Assignment → Feeds
 feedOf c a i x = a (base c i + inputWire c x)
 

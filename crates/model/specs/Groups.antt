@@ -1,4 +1,4 @@
--- The four groups of clauses and the order of the whole (RULES G3 to G15). Cited by every group call and by
+-- The four groups of clauses and the order of the whole (RULES G3 to G15 and G37). Cited by every group call and by
 -- what writes a group.
 use Prim.Native.Nat.{ℕ, zero, suc, _+_}
 use mathlib.Core.Bool.{Bool, true, cond, _&&_}
@@ -43,7 +43,7 @@ atPorts ports g = gather ports (λ x. g (suc x) ∷ [])
 unfoldable pub frameGroups : ℕ → ℕ → List Group
 frameGroups ports i = Wires i ∷ gatherDown i (λ j. atPorts ports (Pair j i)) ++ atPorts ports (Closing i)
 
--- the order of the whole: the frames 0 to k, then the property (RULES G15)
+-- the order of the whole: the frames 0 to k, then the property (RULES G15 and G37)
 unfoldable pub groupOrder : ℕ → ℕ → List Group
 groupOrder ports k = gather (k + 1) (frameGroups ports) ++ Property ∷ []
 

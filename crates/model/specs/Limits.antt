@@ -1,4 +1,4 @@
--- The limits, by name (RULES W7 to W10, S1, S6 and T1). Cited by every test that holds a number to its limit.
+-- The limits, by name (RULES W7 to W10, S1, S13 and T1). Cited by every test that holds a number to its limit.
 use Prim.Native.Nat.{ℕ, _+_, _*_}
 
 -- RULES W7: "each from 0 to 600"; RULES W9: "V is at most 600"

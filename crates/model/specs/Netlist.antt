@@ -1,4 +1,4 @@
--- A netlist with one memory: the record with its lists (RULES W14 to W17, W19 and W20), and the numbers of its wires (RULES W1).
+-- A netlist with one memory: the record with its lists (RULES W14 to W17 and W19 to W22), and the numbers of its wires (RULES W1).
 -- Cited by nearly every other file.
 use Prim.Native.Nat.{ℕ, zero, suc, _+_, _-_, _*_, _≤_}
 use mathlib.Core.Bool.{Bool, true, false, cond}
@@ -62,7 +62,7 @@ pub record Port : Type 0 where
   -- its first variable, counted from the first of all ports' variables for a pair of frames
   pub firstVariable : ℕ
 
--- how many there are, numbered from 1 (RULES G15)
+-- how many there are, numbered from 1 (RULES G37)
 abbrev pub ports : Netlist → ℕ
 ports c = suc (c .secondPort)
 

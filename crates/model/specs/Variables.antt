@@ -1,4 +1,4 @@
--- The numbering of variables (RULES V2 to V7), and the literals that it gives. Cited by `Groups`, by the
+-- The numbering of variables (RULES V2 to V8), and the literals that it gives. Cited by `Groups`, by the
 -- claim, and by what makes a literal.
 use Prim.Native.Nat.{ℕ, _+_, _-_, _*_, _/_, _≤_, _<_}
 use mathlib.Core.Path.{_≡_}
@@ -8,7 +8,7 @@ use Rattle.model.specs.Bits.{odd}
 use Rattle.model.specs.Netlist.{Netlist, Port, ports, port, lastWire, readWire}
 use Rattle.model.specs.Clauses.{Literal, known, plus, minus, PairLiterals, ClosingLiterals}
 
--- how many variables a pair of frames has, over all ports (RULES V5)
+-- how many variables a pair of frames has, over all ports (RULES V5 and V8)
 abbrev pub stride : Netlist → ℕ
 stride c = ports c * (c .m + 4)
 
@@ -19,7 +19,7 @@ baseOf wires stride i = 1 + i * wires + stride * i * (i - 1) / 2
 unfoldable pub base : Netlist → ℕ → ℕ
 base c i = baseOf (lastWire c) (stride c) i
 
--- Q: the variables of pair (j, i) at a port start after it (RULES V4). Again from plain numbers, and of a netlist
+-- Q: the variables of pair (j, i) at a port start after it (RULES V4 and V8). Again from plain numbers, and of a netlist
 unfoldable pub pairBaseOf : ℕ → ℕ → ℕ → ℕ → ℕ → ℕ
 pairBaseOf wires stride first j i = baseOf wires stride i + wires + j * stride + first
 

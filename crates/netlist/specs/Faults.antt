@@ -61,7 +61,7 @@ codeFault c Control = aboveLimit (lastWire c) (c .WE) || aboveLimit (lastWire c)
 unfoldable pub isTied : (ℕ → ℕ) → ℕ → Bool
 isTied address t = not (eqb (address t / 2) 0) && seen (λ s. address s / 2) t (address t / 2)
 
--- RULES T17: "an A line whose wire an earlier A line has", and likewise of B lines
+-- RULES T17: "an A line whose wire an earlier A line has, or a B line whose wire an earlier B line has"
 unfoldable pub tieFault : Netlist → Line → Bool
 tieFault c Sizes = false
 tieFault c Memory = false

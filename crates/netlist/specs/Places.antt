@@ -1,4 +1,4 @@
--- The lines of a netlist's sheet (RULES S6 and S7): what stands at which place, the first being 1. A fault of a record has
+-- The lines of a netlist's sheet (RULES S7, S13 and S14): what stands at which place, the first being 1. A fault of a record has
 -- the place that it would have in a sheet. Cited by the tests of records, by the sheet reader and by call_unpacked/specs/Calls.
 use Prim.Native.Nat.{ℕ, _+_, _-_, _*_, _<_}
 use mathlib.Core.Bool.{cond}
