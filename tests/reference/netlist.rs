@@ -52,7 +52,7 @@ pub struct Netlist {
     pub gates: Vec<Gate>,
 }
 
-/// The kinds of lines of a sheet, in the order in which they stand (RULES S5 and S6).
+/// The kinds of lines of a sheet, in the order in which they stand (RULES S5 and S13).
 #[derive(Clone, Copy, Debug, PartialEq, Eq)]
 pub enum Kind {
     Sizes,

@@ -1,6 +1,6 @@
 //! Sheets: reading, the depth line before a sheet, and writing.
-//! RULES S1 to S10, T34 to T37, T53, P1 and P4; the empty start field of K7, 17 of K8, K9, and the T
-//! sheets of K10.
+//! RULES S1 to S5, S7 to S10, T34 to T37, T53, P1 and P4; the empty start field of K7, 17 of K8, K9,
+//! and the T sheets of K10.
 
 use super::netlist::{Gate, Kind, Latch, Netlist, MAX_DEPTH};
 use super::refusal::{require, Refusal, DEPTH, MISPRINT, NO_ROOM, OUT_OF_ORDER, RAGGED};

@@ -1,5 +1,5 @@
-//! Sheets that only a test of the other port's read bits refuses: an address or RE of one port depends on a read bit of the other, and on none of its
-//! own. The program refuses them; a generator that took them would be caught.
+//! Sheets that only a test of the other port's read bits refuses (RULES C29): an address or RE of one port depends on a read bit of the other, and on
+//! none of its own. The program refuses them; a generator that took them would be caught.
 
 use super::cases::{two_port_cases, Case};
 use super::judge::{judge, Faults};

@@ -1,4 +1,4 @@
-//! The wrong generators of RULES M1 to M5 and M9 to M14, and those of a second port: the test that the
+//! The wrong generators of RULES M1 to M5 and M9 to M18, and others of a second port: the test that the
 //! program passes must catch each of them.
 
 use super::cases::{small_cases, two_port_cases, unknown_cases, Case};
