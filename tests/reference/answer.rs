@@ -7,7 +7,7 @@ use super::circuit::{feed_of_words, Circuit, Feed, Run, Values};
 use super::formula::{frame_base, refusal_text};
 use super::netlist::{Netlist, FIRST_PORT, MAX_ADDRESS_WIDTH, MAX_DEPTH};
 use super::refusal::{require, Refusal, BAD_ANSWER, DEPTH, NOTHING_BREAKS, NO_ROOM};
-use super::sheet::{read_depth, read_sheet_knowing, Known, KNOWN};
+use super::sheet::{read_depth, read_sheet};
 
 /// A well-formed answer.
 #[derive(Clone, Debug, PartialEq, Eq)]
@@ -159,18 +159,13 @@ pub fn replay_call(
 /// What the program prints for this standard input and this content of the file `answer`, which is
 /// empty where the file can't be opened.
 pub fn replay(input: &[u8], answer: &[u8]) -> Vec<u8> {
-    replay_knowing(KNOWN, input, answer)
+    replay_text(input, answer).unwrap_or_else(refusal_text)
 }
 
-/// The same with the sheets that there are.
-pub fn replay_knowing(known: Known, input: &[u8], answer: &[u8]) -> Vec<u8> {
-    replay_text(known, input, answer).unwrap_or_else(refusal_text)
-}
-
-fn replay_text(known: Known, input: &[u8], answer: &[u8]) -> Result<Vec<u8>, Refusal> {
+fn replay_text(input: &[u8], answer: &[u8]) -> Result<Vec<u8>, Refusal> {
     let (depth, sheet) = read_depth(input)?;
     // The program has room for every accepted sheet and its run, so 9 does not occur.
-    let netlist = read_sheet_knowing(known, sheet, usize::MAX, usize::MAX)?;
+    let netlist = read_sheet(sheet, usize::MAX, usize::MAX)?;
     let mut memory = vec![0; 1 << MAX_ADDRESS_WIDTH];
     let mut trace = vec![0; trace_size(&netlist, depth)];
     match replay_call(&netlist, depth, answer, &mut memory, &mut trace)? {

@@ -1,26 +1,22 @@
 //! K10 by hand: T sheets, their records, groups, positions, runs and replays.
 
 use super::agreement::compare;
-use super::answer::replay_knowing;
+use super::answer::replay;
 use super::answer_calls::Call;
 use super::check_answers::satisfiable;
-use super::check_examples::{accepted, bytes_of, of_sizes, FULL_RUN, RICH};
+use super::check_examples::{accepted, bytes_of, input, of_sizes, FULL_RUN, RICH};
 use super::check_position::position_of;
-use super::check_refusals::{
-    field_and_letter_rows, input_rows, largest_sheet, length_rows, short_sheet_rows, verdict, Row,
-    Verdict, ACCEPTED, RECORDS,
-};
+use super::check_refusals::{largest_sheet, verdict, Row, Verdict, ACCEPTED, RECORDS};
 use super::circuit::{Circuit, Feed, Run};
 use super::formula::{
-    counts, frame_base, frames_knowing, group_call, heading, pair_base, pair_base_of,
-    port_group_call, refusal_text, Fault, Formula, Group, Heading, PortGroup,
+    counts, frame_base, frames, group_call, heading, pair_base, pair_base_of, port_group_call,
+    refusal_text, Fault, Formula, Group, Heading, PortGroup,
 };
 use super::netlist::{Gate, Kind, Latch, Netlist, FIRST_PORT, SECOND_PORT};
 use super::position::{start, FrameGroup};
 use super::refusal::*;
 use super::sheet::{
-    expand, read_line, read_line_knowing, read_sheet_knowing, write_back, write_depth, write_sheet,
-    Known, KNOWN, LINE_BYTES, MAX_SHEET_BYTES,
+    expand, read_line, read_sheet, write_back, write_depth, write_sheet, LINE_BYTES,
 };
 use super::Tally;
 
@@ -136,16 +132,6 @@ const TWO_RICH_TEXT: [&str; 17] = [
     "6 13 32 0\n",
 ];
 
-/// The netlist of an accepted short form, T sheets included.
-pub fn accepted_two(short: &str) -> Netlist {
-    read_sheet_knowing(Known::TwoPorts, &expand(short), 600, 600).expect("an accepted sheet")
-}
-
-/// The input of the programs: a depth and the sheet of a short form.
-fn input(depth: u32, short: &str) -> Vec<u8> {
-    [write_depth(depth), expand(short)].concat()
-}
-
 /// Depth, sheet and text of the runs that were worked out by hand.
 pub fn two_port_runs() -> [(u32, &'static str, String); 4] {
     [
@@ -158,16 +144,9 @@ pub fn two_port_runs() -> [(u32, &'static str, String); 4] {
 
 pub fn texts(tally: &mut Tally) {
     for (depth, short, text) in two_port_runs() {
-        let printed = frames_knowing(Known::TwoPorts, &input(depth, short));
+        let printed = frames(&input(depth, short));
         let printed = String::from_utf8(printed).expect("ASCII");
         tally.equal((short, depth), printed, text);
-        // To a program without K10, T is an unknown letter.
-        let printed = frames_knowing(Known::OnePort, &input(depth, short));
-        let refused = Refusal {
-            number: MISPRINT,
-            place: 2,
-        };
-        tally.equal((short, "one port"), printed, refusal_text(refused));
     }
     // `CONSTANT_READS`: what is written in a frame reaches the first port in the next, and the second
     // never; the last input is free and all e are settled. `TWO_READS` at depth 0: each port's word is
@@ -179,7 +158,7 @@ pub fn texts(tally: &mut Tally) {
         (CONSTANT_READS, 2, 6),
         (TWO_READS, 0, 32),
     ] {
-        let found = compare(&accepted_two(short), depth, Fault::None);
+        let found = compare(&accepted(short), depth, Fault::None);
         tally.check((short, depth, "demand 3"), found.holds());
         tally.equal((short, depth, "assignments"), found.models, models);
     }
@@ -188,7 +167,7 @@ pub fn texts(tally: &mut Tally) {
 
 /// B and Q, by their formulas with 2(m + 4) for m + 4.
 fn numbering_by_hand(tally: &mut Tally) {
-    let netlist = accepted_two(TWO_READS);
+    let netlist = accepted(TWO_READS);
     let bases = [1, 10, 29, 58, 97];
     for (frame, base) in bases.iter().enumerate() {
         tally.equal(("B", frame), frame_base(&netlist, frame as u32), *base);
@@ -498,10 +477,10 @@ pub fn two_port_length_rows() -> Vec<Row> {
 }
 
 pub fn sheets(tally: &mut Tally) {
-    let judge = |sheet: &[u8]| verdict(read_sheet_knowing(Known::TwoPorts, sheet, 600, 600));
+    let judge = |sheet: &[u8]| verdict(read_sheet(sheet, 600, 600));
     for (name, sheet, expected) in two_port_sheet_rows() {
         tally.equal(&name, judge(&sheet), expected);
-        let text = frames_knowing(Known::TwoPorts, &[write_depth(0), sheet].concat());
+        let text = frames(&[write_depth(0), sheet].concat());
         let (number, place) = expected;
         let fits = match expected {
             ACCEPTED => text.starts_with(b"p cnf "),
@@ -513,29 +492,6 @@ pub fn sheets(tally: &mut Tally) {
     for (name, sheet, expected) in two_port_length_rows() {
         tally.equal(name, judge(&sheet), expected);
     }
-    // M sheets are judged as they were, but for the letters T, B and R and for the limit of refusal 1.
-    let is_touched = |sheet: &[u8]| {
-        let letters = sheet.chunks(LINE_BYTES).map(|line| line[0]);
-        sheet.len() > Known::OnePort.max_sheet_bytes()
-            || letters.clone().any(|letter| b"TBR".contains(&letter))
-    };
-    let rows = [field_and_letter_rows(), short_sheet_rows(), length_rows()].concat();
-    let mut untouched = 0;
-    for (name, sheet, expected) in rows {
-        if !is_touched(&sheet) {
-            untouched += 1;
-            tally.equal((name, "one port"), judge(&sheet), expected);
-        }
-    }
-    for (name, bytes, expected) in input_rows() {
-        if !is_touched(bytes.get(11..).unwrap_or_default()) {
-            let text = frames_knowing(Known::TwoPorts, &bytes);
-            let (number, place) = expected;
-            let refused = text == refusal_text(Refusal { number, place });
-            tally.equal((name, "input"), refused, expected != ACCEPTED);
-        }
-    }
-    tally.check(("rows of one port", untouched), untouched >= 490);
     rooms_and_rows(tally);
     letters(tally);
 }
@@ -560,7 +516,7 @@ fn rooms_and_rows(tally: &mut Tally) {
             (TIED_ADDRESS, 8),
         ),
     ] {
-        let result = read_sheet_knowing(Known::TwoPorts, &expand(short), latch_room, gate_room);
+        let result = read_sheet(&expand(short), latch_room, gate_room);
         tally.equal((short, latch_room, gate_room), verdict(result), expected);
     }
     // What is read: entries past the sizes are 0.
@@ -583,13 +539,13 @@ fn rooms_and_rows(tally: &mut Tally) {
     expected.address[..2].copy_from_slice(&[4, 3]);
     expected.write_data[..2].copy_from_slice(&[14, 8]);
     expected.second_address[..2].copy_from_slice(&[3, 1]);
-    tally.equal("record", accepted_two(TWO_RICH), expected);
-    let record = read_sheet_knowing(Known::TwoPorts, &expand(RICH), 600, 600);
+    tally.equal("record", accepted(TWO_RICH), expected);
+    let record = read_sheet(&expand(RICH), 600, 600);
     tally.equal("record of an M sheet", record, Ok(accepted(RICH)));
     tally.equal("kind of an M sheet", accepted(RICH).two_ports, 0);
 }
 
-/// Lines alone: the three new letters, known and unknown.
+/// Lines alone: the letters of a second port.
 fn letters(tally: &mut Tally) {
     let (full, first) = ([Some(1), Some(2), Some(3)], [Some(1), None, None]);
     let rows = [
@@ -608,28 +564,7 @@ fn letters(tally: &mut Tally) {
     ];
     for (short, expected) in rows {
         let line = expand(short);
-        tally.equal(short, read_line_knowing(Known::TwoPorts, &line), expected);
-        tally.equal(short, read_line_knowing(Known::OnePort, &line), None);
-        let known = read_line_knowing(KNOWN, &line);
-        tally.equal((short, "as known"), read_line(&line), known);
-    }
-    tally.equal("limit", MAX_SHEET_BYTES, KNOWN.max_sheet_bytes());
-    tally.equal(
-        "limit of one port",
-        Known::OnePort.max_sheet_bytes(),
-        19_680,
-    );
-    tally.equal(
-        "limit of two ports",
-        Known::TwoPorts.max_sheet_bytes(),
-        20_064,
-    );
-    for short in [
-        "N 1 2 3", "M 1 2 3", "L 1 2", "G 1 2", "A 1", "D 1", "C 1 2 3", "? 1",
-    ] {
-        let line = expand(short);
-        let one = read_line_knowing(Known::OnePort, &line);
-        tally.equal(short, read_line_knowing(Known::TwoPorts, &line), one);
+        tally.equal(short, read_line(&line), expected);
     }
 }
 
@@ -728,7 +663,7 @@ pub const ONE_PORT_RECORDS: [RecordRow; 7] = [
 /// Every record above with its verdict, changed already.
 pub fn two_port_record_rows() -> Vec<(&'static str, Netlist, Verdict)> {
     let changed = |short: &str, (name, change, expected): RecordRow| {
-        let mut record = accepted_two(short);
+        let mut record = accepted(short);
         change(&mut record);
         (name, record, expected)
     };
@@ -759,7 +694,7 @@ pub fn records(tally: &mut Tally) {
         }
         tally.equal((name, "heading"), verdict(heading(&record, 256)), expected);
         tally.equal((name, "start"), verdict(start(&record, 256)), expected);
-        let mut call = Call::new(&accepted_two(TWO_RICH), 0, Vec::new(), [0, 0]);
+        let mut call = Call::new(&accepted(TWO_RICH), 0, Vec::new(), [0, 0]);
         (call.netlist, call.depth) = (record, 256);
         let found = verdict(call.outcome().result);
         tally.equal((name, "replay"), found, expected);
@@ -868,7 +803,7 @@ pub const PORT_NEEDS: [(&str, u32, u32, Group, usize); 36] = [
 ];
 
 pub fn group_calls(tally: &mut Tally) {
-    let netlist = accepted_two(CONSTANT_READS);
+    let netlist = accepted(CONSTANT_READS);
     for (depth, port, group, expected) in PORT_CALLS {
         let asked = PortGroup { port, group };
         check_call(tally, &netlist, depth, asked, expected);
@@ -886,7 +821,7 @@ pub fn group_calls(tally: &mut Tally) {
     }
     for (short, depth, port, group, need) in PORT_NEEDS {
         let asked = PortGroup { port, group };
-        check_call(tally, &accepted_two(short), depth, asked, Ok(need));
+        check_call(tally, &accepted(short), depth, asked, Ok(need));
     }
     // An M sheet has no second port.
     let netlist = accepted(FULL_RUN);
@@ -911,7 +846,7 @@ pub fn group_calls(tally: &mut Tally) {
         Ok(2),
     );
     for (depth, expected) in [(0, ACCEPTED), (255, ACCEPTED), (256, (DEPTH, 0))] {
-        let found = verdict(heading(&accepted_two(TWO_RICH), depth));
+        let found = verdict(heading(&accepted(TWO_RICH), depth));
         tally.equal(("heading", depth), found, expected);
     }
 }
@@ -969,7 +904,7 @@ pub const PORT_POSITIONS: [([u32; 3], u32, u32, usize, Result<usize, u32>); 18] 
 ];
 
 pub fn positions(tally: &mut Tally) {
-    let netlist = accepted_two(CONSTANT_READS);
+    let netlist = accepted(CONSTANT_READS);
     for (row, port, j, room, expected) in PORT_POSITIONS {
         let found = position_of(row).port_group(&netlist, port, FrameGroup::Pair(j), room);
         let found = found.map(|numbers| numbers.len()).map_err(|it| it.number);
@@ -1057,7 +992,7 @@ fn feed_of((inputs, words, _): &Frame) -> Feed {
 }
 
 pub fn memory_runs(tally: &mut Tally) {
-    let netlist = accepted_two(TWO_READS);
+    let netlist = accepted(TWO_READS);
     let runs: [(&[Frame], Option<usize>, [u32; 2]); 4] = [
         (&FRAMES, Some(1), [0, 1]),
         (&IDLE_FRAMES, None, [0, 1]),
@@ -1133,7 +1068,7 @@ pub const TWO_PORT_REPLAYS: [(u32, &str, Result<&str, u32>); 28] = [
 pub fn replays(tally: &mut Tally) {
     for (depth, numbers, expected) in TWO_PORT_REPLAYS {
         let answer = satisfiable(numbers);
-        let printed = replay_knowing(Known::TwoPorts, &input(depth, TWO_READS), &answer);
+        let printed = replay(&input(depth, TWO_READS), &answer);
         let expected = match expected {
             Ok(short) => bytes_of(short),
             Err(number) => refusal_text(Refusal { number, place: 0 }),
@@ -1142,17 +1077,11 @@ pub fn replays(tally: &mut Tally) {
         tally.check_with(name, printed == expected, || {
             format!(": found {}", printed.escape_ascii())
         });
-        let unknown = replay_knowing(Known::OnePort, &input(depth, TWO_READS), &answer);
-        let misprint = Refusal {
-            number: MISPRINT,
-            place: 2,
-        };
-        tally.equal((name, "one port"), unknown, refusal_text(misprint));
     }
-    let text = replay_knowing(Known::TwoPorts, &input(1, TWO_READS), b"s UNSATISFIABLE\n");
+    let text = replay(&input(1, TWO_READS), b"s UNSATISFIABLE\n");
     tally.equal("none", text, b"claimed unsatisfiable\n".to_vec());
     // Memory and trace: V is that of two ports.
-    let netlist = accepted_two(TWO_READS);
+    let netlist = accepted(TWO_READS);
     for (numbers, words) in [
         ("-2 3 -4 5 6 7 -11 -12 -13 -14 -15 16 0", [0, 1]),
         ("2 -3 -4 5 6 7 -11 12 -13 -14 -15 16 0", [1, 0]),
@@ -1191,7 +1120,7 @@ pub fn written_back(tally: &mut Tally) {
     sheets.push(largest_two_port_sheet());
     for sheet in sheets {
         let lines = sheet.len() / LINE_BYTES;
-        let netlist = read_sheet_knowing(Known::TwoPorts, &sheet, 600, 600).expect("accepted");
+        let netlist = read_sheet(&sheet, 600, 600).expect("accepted");
         let need = sheet.len();
         for room in [need, need + 1, usize::MAX] {
             let found = write_back(&netlist, room);

@@ -9,7 +9,7 @@ use super::number::print_number;
 use super::position::{start, FrameGroup, Position};
 use super::random::{damaged_record, tiny_netlist, wide_netlist, Random};
 use super::refusal::*;
-use super::sheet::{expand, read_sheet, write_back, Known, KNOWN, LINE_BYTES};
+use super::sheet::{expand, read_sheet, write_back, LINE_BYTES};
 use super::Tally;
 
 /// Depth, frame, base, and the verdicts on `FULL_RUN`: V = 2 and m = 1, so B is 1, 3, 10, 22 and then
@@ -305,7 +305,7 @@ pub fn change_unused(random: &mut Random, netlist: &mut Netlist) {
         for code in &mut netlist.second_address[netlist.address_width as usize..] {
             *code = any();
         }
-    } else if KNOWN == Known::TwoPorts {
+    } else {
         netlist.second_address = netlist.second_address.map(|_| any());
         netlist.second_read_enable = any();
     }

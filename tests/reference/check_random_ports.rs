@@ -6,18 +6,19 @@ use super::agreement::{
     agrees, breaking_runs, compare, compare_with, feed_literals, feeds_of_model,
     propagation_follows_run,
 };
-use super::answer::{replay_knowing, Claim};
+use super::answer::{replay, Claim};
 use super::answer_calls::Call;
 use super::check_answers::satisfiable;
-use super::check_ports::{accepted_two, two_of_sizes, CONSTANT_READS, TWO_READS, TWO_RICH};
+use super::check_examples::accepted;
+use super::check_ports::{two_of_sizes, CONSTANT_READS, TWO_READS, TWO_RICH};
 use super::check_position::change_unused;
 use super::check_random::{counted, dimacs, heading_holds, lengths_hold, without_constants};
 use super::check_random_answers::{answer_breaks, assigned_text, Runs};
 use super::check_refusals::verdict;
 use super::circuit::{value, word, Run, Values};
 use super::formula::{
-    clause_bound, counts, frame_base, frames_knowing, heading, number_bound, pair_base_of,
-    pair_size, port_group_call, Fault, Formula, Group, Heading, PortGroup,
+    clause_bound, counts, frame_base, frames, heading, number_bound, pair_base_of, pair_size,
+    port_group_call, Fault, Formula, Group, Heading, PortGroup,
 };
 use super::netlist::{Gate, Netlist, FIRST_PORT, MAX_DEPTH, SECOND_PORT};
 use super::position::{start, FrameGroup, Position};
@@ -31,14 +32,12 @@ use super::random_answers::{
 use super::refusal::{
     Refusal, CODE, MEMORY_LOOP, MISPRINT, NO_ROOM, OUT_OF_ORDER, RAGGED, SIZE, TIED_ADDRESS,
 };
-use super::sheet::{
-    expand, read_sheet_knowing, write_back, write_depth, write_sheet, Known, LINE_BYTES,
-};
+use super::sheet::{expand, read_sheet, write_back, write_depth, write_sheet, LINE_BYTES};
 use super::solver::Solver;
 use super::Tally;
 
 fn read(sheet: &[u8]) -> Result<Netlist, Refusal> {
-    read_sheet_knowing(Known::TwoPorts, sheet, 600, 600)
+    read_sheet(sheet, 600, 600)
 }
 
 /// A sheet's netlist and a netlist's sheet are each other's inverse, unused entries or not, and the
@@ -61,11 +60,6 @@ pub fn round_trip(tally: &mut Tally) {
         tally.check((round, "unused entries"), written == Ok(sheet.clone()));
         let short = verdict(write_back(&record, sheet.len() - 1));
         tally.equal((round, "short"), short, (NO_ROOM, 0));
-        // A program without K10 stops at line 2.
-        let refused = verdict(read_sheet_knowing(Known::OnePort, &sheet, 600, 600));
-        let too_long = sheet.len() > Known::OnePort.max_sheet_bytes();
-        let expected = if too_long { (RAGGED, 0) } else { (MISPRINT, 2) };
-        tally.equal((round, "one port"), refused, expected);
         for (count, (_, has_shape)) in found.iter_mut().zip(&shapes) {
             *count += usize::from(has_shape(&netlist));
         }
@@ -396,7 +390,7 @@ pub fn headings(tally: &mut Tally) {
         let fits = largest.map_or(false, |largest| i64::from(largest) <= variables);
         tally.check((round, "largest variable"), fits);
         let input = [write_depth(depth), write_sheet(&netlist)].concat();
-        let text = frames_knowing(Known::TwoPorts, &input);
+        let text = frames(&input);
         let whole = dimacs(expected, &numbers).into_bytes();
         tally.check((round, "text"), text == whole);
     }
@@ -608,7 +602,7 @@ pub fn constant_sets(tally: &mut Tally) {
             });
         let lines = format!("N 1 1 0/T 1 1 {start}/L 8 1/A {address}/D {data}/B {second}");
         let short = format!("{lines}/R {second_read}/C {write} {read} {property}");
-        let netlist = accepted_two(&short);
+        let netlist = accepted(&short);
         let depth = if set % 7 == 0 { 2 } else { 1 };
         let found = compare(&netlist, depth, Fault::None);
         tally.check((&short, "demand 3"), found.holds());
@@ -815,7 +809,7 @@ pub fn answers(tally: &mut Tally) {
         let call = draft.call(&mut random, answer);
         let expected = call.of_run(&draft.run);
         tally.check((round, "outcome"), call.outcome() == expected);
-        let printed = replay_knowing(Known::TwoPorts, &call.input(), &call.answer);
+        let printed = replay(&call.input(), &call.answer);
         tally.check((round, "printed"), printed == expected.printed());
         let reads = |port| value(&draft.run.frames[0], draft.netlist.read_enable_of(port));
         idle[usize::from(!reads(1)) + 2 * usize::from(!reads(2))] += 1;
@@ -827,7 +821,7 @@ pub fn answers(tally: &mut Tally) {
         let draft = two_port_draft(&mut random);
         let (name, call, expected) = answer_case_of(&mut random, draft);
         tally.check((round, name), call.outcome() == expected);
-        let printed = replay_knowing(Known::TwoPorts, &call.input(), &call.answer);
+        let printed = replay(&call.input(), &call.answer);
         tally.check((round, name, "printed"), printed == expected.printed());
         let draft = two_port_draft(&mut random);
         let (name, call, expected) = call_case_of(&mut random, draft);
@@ -884,7 +878,7 @@ pub fn assignments(tally: &mut Tally) {
             &[2, 3, 4, 5][..],
         ),
     ] {
-        let runs = Runs::new(accepted_two(short), depth);
+        let runs = Runs::new(accepted(short), depth);
         for choice in 0..4u32.pow(variables.len() as u32) {
             let mut numbers = Vec::new();
             for (index, variable) in variables.iter().enumerate() {

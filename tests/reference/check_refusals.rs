@@ -5,9 +5,7 @@ use super::check_examples::{accepted, input, of_sizes, FULL_RUN, RICH, UNKNOWN_R
 use super::formula::{frames, group_call, heading, refusal_text, Group};
 use super::netlist::{Gate, Latch, Netlist};
 use super::refusal::*;
-use super::sheet::{
-    expand, read_sheet, write_depth, write_sheet, Known, FIELDS, FIELD_BYTES, KNOWN, LINE_BYTES,
-};
+use super::sheet::{expand, read_sheet, write_depth, write_sheet, FIELDS, FIELD_BYTES, LINE_BYTES};
 use super::Tally;
 
 /// Number and place, with (0, 0) where nothing is refused.
@@ -17,14 +15,6 @@ pub type Verdict = (u32, u32);
 pub type Row = (String, Vec<u8>, Verdict);
 
 pub const ACCEPTED: Verdict = (0, 0);
-
-/// The verdict before K10, or the one since, by what the programs know.
-const fn by_known(before: Verdict, since: Verdict) -> Verdict {
-    match KNOWN {
-        Known::OnePort => before,
-        Known::TwoPorts => since,
-    }
-}
 
 pub fn verdict<T>(result: Result<T, Refusal>) -> Verdict {
     match result {
@@ -146,8 +136,7 @@ fn letters() -> Vec<Row> {
         sheet[0] = letter;
         let expected = match letter {
             b'N' => ACCEPTED,
-            b'M' | b'C' => (OUT_OF_ORDER, 1),
-            b'T' => by_known((MISPRINT, 1), (OUT_OF_ORDER, 1)),
+            b'M' | b'C' | b'T' => (OUT_OF_ORDER, 1),
             _ => (MISPRINT, 1),
         };
         (format!("letter {letter}"), sheet, expected)
@@ -183,10 +172,10 @@ const SHEETS: [(&str, Verdict); 91] = [
     ("N 1 1 1/M 2 2 2/L 10 1/A 4/A 4/A 3/D 10/D 8/C 11 5 9", (OUT_OF_ORDER, 4)),
     ("N 1 1 1/M 2 2 2/L 10 1/A 2 7/A 4/A 3/D 10/D 8/C 11 5 9", (MISPRINT, 4)),
     ("N 1 0 0/C 1 1/A 0/D 2/C 1 1 5", (MISPRINT, 2)),
-    // Letters of later kinds are unknown, and letters are upper case.
-    ("N 1 0 0/T 1 1 0", by_known((MISPRINT, 2), (OUT_OF_ORDER, 3))),
-    ("N 1 0 0/M 1 1 0/B 0", by_known((MISPRINT, 3), (OUT_OF_ORDER, 3))),
-    ("N 1 0 0/M 1 1 0/R 0", by_known((MISPRINT, 3), (OUT_OF_ORDER, 3))),
+    // Letters of a second port, and letters are upper case.
+    ("N 1 0 0/T 1 1 0", (OUT_OF_ORDER, 3)),
+    ("N 1 0 0/M 1 1 0/B 0", (OUT_OF_ORDER, 3)),
+    ("N 1 0 0/M 1 1 0/R 0", (OUT_OF_ORDER, 3)),
     ("N 1 0 0/m 1 1 0", (MISPRINT, 2)),
     // Line by line: an earlier line's refusal comes first, whatever its number.
     ("N 601 0 0/M 1 1", (SIZE, 1)),
@@ -401,7 +390,7 @@ pub fn length_rows() -> Vec<Row> {
         (
             "a line over",
             [&largest[..], &last_line].concat(),
-            by_known((RAGGED, 0), (OUT_OF_ORDER, 616)),
+            (OUT_OF_ORDER, 616),
         ),
         (
             "615 lines, 5 due",
@@ -719,7 +708,7 @@ pub fn input_rows() -> Vec<Row> {
         (
             "a line over",
             with(&[&largest[..], &[b'?'; 32]].concat()),
-            by_known((RAGGED, 0), (MISPRINT, 616)),
+            (MISPRINT, 616),
         ),
         ("misprint", input(255, "N 1 0 0/?"), (MISPRINT, 2)),
         ("missing line", input(255, "N 1 0 0"), (OUT_OF_ORDER, 2)),

@@ -8,7 +8,7 @@ use std::ops::{Neg, RangeInclusive};
 
 use super::netlist::{Netlist, FIRST_PORT, MAX_DEPTH, SECOND_PORT};
 use super::refusal::{require, Refusal, DEPTH, NO_ROOM, NO_SUCH_GROUP, OUT_OF_NUMBERS};
-use super::sheet::{read_depth, read_sheet_knowing, write_field, Known, KNOWN};
+use super::sheet::{read_depth, read_sheet, write_field};
 
 /// Deliberate mistakes of a generator (RULES M1 to M5, two on K3, some on K4, some on K7, the last on
 /// K10). They show that the checks notice them; `None` is the formula of the rules.
@@ -508,7 +508,10 @@ impl<'a> Formula<'a> {
                 Fault::PortByPort => groups.extend(ports.clone().flat_map(of_port)),
                 Fault::PortsExchanged => groups.extend(of_memory.iter().flat_map(|group| {
                     let group = *group;
-                    ports.clone().rev().map(move |port| PortGroup { port, group })
+                    ports
+                        .clone()
+                        .rev()
+                        .map(move |port| PortGroup { port, group })
                 })),
                 _ => groups.extend(of_memory.iter().flat_map(|group| {
                     let group = *group;
@@ -878,18 +881,13 @@ pub fn heading(netlist: &Netlist, depth: u32) -> Result<Heading, Refusal> {
 
 /// What `frames` prints for this standard input.
 pub fn frames(input: &[u8]) -> Vec<u8> {
-    frames_knowing(KNOWN, input)
+    formula_text(input).unwrap_or_else(refusal_text)
 }
 
-/// The same with the sheets that there are.
-pub fn frames_knowing(known: Known, input: &[u8]) -> Vec<u8> {
-    formula_text(known, input).unwrap_or_else(refusal_text)
-}
-
-fn formula_text(known: Known, input: &[u8]) -> Result<Vec<u8>, Refusal> {
+fn formula_text(input: &[u8]) -> Result<Vec<u8>, Refusal> {
     let (depth, sheet) = read_depth(input)?;
     // The program's lists have room for every accepted sheet, so 9 does not occur.
-    let netlist = read_sheet_knowing(known, sheet, usize::MAX, usize::MAX)?;
+    let netlist = read_sheet(sheet, usize::MAX, usize::MAX)?;
     let Heading { variables, clauses } = heading(&netlist, depth)?;
     let mut text = header_text(variables, clauses);
     let formula = Formula::new(&netlist, depth, Fault::None);

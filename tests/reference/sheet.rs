@@ -1,42 +1,13 @@
 //! Sheets: reading, the depth line before a sheet, and writing.
-//! RULES S1 to S5, S7 to S10, S13, T34 to T37, T53, P1 and P4; the empty start field of K7, 17 of K8, K9, and the T
-//! sheets of K10.
+//! RULES S1 to S5, S7 to S10, T34 to T37, T53, P1 and P4; the empty start field of K7, 17 of K8, K9,
+//! and the T sheets of K10.
 
 use super::netlist::{Gate, Kind, Latch, Netlist, MAX_DEPTH};
 use super::refusal::{require, Refusal, DEPTH, MISPRINT, NO_ROOM, OUT_OF_ORDER, RAGGED};
 
-/// Which sheets there are.
-#[derive(Clone, Copy, Debug, PartialEq, Eq)]
-pub enum Known {
-    /// M sheets alone, as before K10: T, B and R are unknown letters.
-    OnePort,
-    /// M and T sheets.
-    TwoPorts,
-}
-
-/// What the programs under test know: all functions and rows that do not say which sheets there are go
-/// by it.
-pub const KNOWN: Known = Known::TwoPorts;
-
-impl Known {
-    /// The limit of refusal 1: as many lines as any sheet has, 615 or 627.
-    pub const fn max_sheet_bytes(self) -> usize {
-        match self {
-            Known::OnePort => 19_680,
-            Known::TwoPorts => 20_064,
-        }
-    }
-
-    fn letters(self) -> &'static [LetterRow] {
-        match self {
-            Known::OnePort => &LETTERS[..OLD_LETTERS],
-            Known::TwoPorts => &LETTERS,
-        }
-    }
-}
-
 pub const LINE_BYTES: usize = 32;
-pub const MAX_SHEET_BYTES: usize = KNOWN.max_sheet_bytes();
+/// The limit of refusal 1: as many lines as any sheet has, 627 of a T sheet; an M sheet has 615 at most.
+pub const MAX_SHEET_BYTES: usize = 20_064;
 pub const FIELD_BYTES: usize = 10;
 pub const FIELDS: usize = 3;
 /// Ten columns and a line feed.
@@ -55,20 +26,17 @@ use Want::{Either, Empty, Number};
 
 type LetterRow = (u8, Kind, [Want; FIELDS]);
 
-/// How many letters there were before K10; the others stand behind them.
-const OLD_LETTERS: usize = 7;
-
 const LETTERS: [LetterRow; 10] = [
     (b'N', Kind::Sizes, [Number, Number, Number]),
     (b'M', Kind::Memory, [Number, Number, Either]),
+    (b'T', Kind::TwoPortMemory, [Number, Number, Either]),
     (b'L', Kind::Latch, [Number, Number, Empty]),
     (b'G', Kind::Gate, [Number, Number, Empty]),
     (b'A', Kind::Address, [Number, Empty, Empty]),
     (b'D', Kind::WriteData, [Number, Empty, Empty]),
-    (b'C', Kind::Control, [Number, Number, Number]),
-    (b'T', Kind::TwoPortMemory, [Number, Number, Either]),
     (b'B', Kind::SecondAddress, [Number, Empty, Empty]),
     (b'R', Kind::SecondReadEnable, [Number, Empty, Empty]),
+    (b'C', Kind::Control, [Number, Number, Number]),
 ];
 
 /// The number in a field; none for an empty field and for everything that is not a number.
@@ -88,12 +56,7 @@ fn read_number(field: &[u8]) -> Option<u32> {
 /// The kind and the fields of a line, none for an empty field; none at all for a misprint.
 /// The fields are judged by the letter on the line, whichever line is due.
 pub fn read_line(line: &[u8]) -> Option<(Kind, [Option<u32>; FIELDS])> {
-    read_line_knowing(KNOWN, line)
-}
-
-/// The same with the sheets that there are.
-pub fn read_line_knowing(known: Known, line: &[u8]) -> Option<(Kind, [Option<u32>; FIELDS])> {
-    let (_, kind, wants) = *known.letters().iter().find(|row| row.0 == line[0])?;
+    let (_, kind, wants) = *LETTERS.iter().find(|row| row.0 == line[0])?;
     let (fields, end) = line[1..].split_at(FIELDS * FIELD_BYTES);
     let mut numbers = [None; FIELDS];
     for (index, field) in fields.chunks(FIELD_BYTES).enumerate() {
@@ -150,12 +113,12 @@ fn may_stand(kind: Kind, due: Kind) -> bool {
 }
 
 /// One line's tests: 2, 3, then 4 or 5. The line is stored before its limits are tested.
-fn take_line(known: Known, netlist: &mut Netlist, line: &[u8], place: u32) -> Result<(), Refusal> {
+fn take_line(netlist: &mut Netlist, line: &[u8], place: u32) -> Result<(), Refusal> {
     let misprint = Refusal {
         number: MISPRINT,
         place,
     };
-    let (kind, fields) = read_line_knowing(known, line).ok_or(misprint)?;
+    let (kind, fields) = read_line(line).ok_or(misprint)?;
     let due = netlist.line_at(place);
     let index = match due {
         Some((kind_due, index)) if may_stand(kind, kind_due) => index,
@@ -168,25 +131,15 @@ fn take_line(known: Known, netlist: &mut Netlist, line: &[u8], place: u32) -> Re
 /// Reads a sheet for a caller that lends a latch list and a gate list of these lengths.
 /// On success the netlist's lists are the records that the lent lists would begin with.
 pub fn read_sheet(file: &[u8], latch_room: usize, gate_room: usize) -> Result<Netlist, Refusal> {
-    read_sheet_knowing(KNOWN, file, latch_room, gate_room)
-}
-
-/// The same with the sheets that there are.
-pub fn read_sheet_knowing(
-    known: Known,
-    file: &[u8],
-    latch_room: usize,
-    gate_room: usize,
-) -> Result<Netlist, Refusal> {
     let whole_lines = !file.is_empty() && file.len() % LINE_BYTES == 0;
-    let within = file.len() <= known.max_sheet_bytes();
+    let within = file.len() <= MAX_SHEET_BYTES;
     require(whole_lines && within, RAGGED, 0)?;
 
     let mut netlist = Netlist::default();
     let mut lines = 0;
     for line in file.chunks(LINE_BYTES) {
         lines += 1;
-        take_line(known, &mut netlist, line, lines)?;
+        take_line(&mut netlist, line, lines)?;
     }
     // Before line 2 is read the widths are 0 and the count is still above 1: M or T is then missing.
     require(lines == netlist.line_count(), OUT_OF_ORDER, lines + 1)?;

@@ -71,7 +71,13 @@ pub fn random_sheets(program: &Program, tally: &mut Tally) {
 /// T sheets of every shape.
 pub fn random_two_ports(program: &Program, tally: &mut Tally) {
     let mut random = Random::new(104);
-    sheets_of(program, tally, &mut random, wide_two_ports, &two_port_shapes());
+    sheets_of(
+        program,
+        tally,
+        &mut random,
+        wide_two_ports,
+        &two_port_shapes(),
+    );
 }
 
 /// Random sheets, each shape at least twenty times.
@@ -152,7 +158,10 @@ pub fn largest(program: &Program, tally: &mut Tally) {
     for sizes in [measured, most_clauses, of_two_ports] {
         let name = format!(
             "{}, {} and {}, {} ports",
-            sizes.inputs, sizes.latch_count, sizes.gate_count, sizes.port_count()
+            sizes.inputs,
+            sizes.latch_count,
+            sizes.gate_count,
+            sizes.port_count()
         );
         let empty = Netlist {
             latches: vec![],

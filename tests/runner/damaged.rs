@@ -3,8 +3,8 @@
 use super::process::Program;
 use super::reference::check_examples::{accepted, input, of_sizes, FULL_RUN, RICH};
 use super::reference::check_ports::{
-    largest_two_port_sheet, two_of_sizes, two_port_length_rows, two_port_sheet_rows, CONSTANT_READS,
-    TWO_RICH,
+    largest_two_port_sheet, two_of_sizes, two_port_length_rows, two_port_sheet_rows,
+    CONSTANT_READS, TWO_RICH,
 };
 use super::reference::check_refusals::{
     field_and_letter_rows, input_rows, largest_sheet, length_rows, short_sheet_rows, text_fits, Row,
@@ -67,10 +67,17 @@ pub fn lengths(program: &Program, tally: &mut Tally) {
 fn lengths_around(program: &Program, tally: &mut Tally, largest: &[u8]) {
     let own = largest.len();
     let limit = DEPTH_LINE_BYTES + MAX_SHEET_BYTES;
-    let around = [own - LINE_BYTES - 1, own - LINE_BYTES, own - 1, own, own + 1, own + LINE_BYTES]
-        .into_iter()
-        .chain(limit - LINE_BYTES - 1..=limit + 2 * LINE_BYTES)
-        .chain([32_768, 65_536, 65_537, 1 << 20]);
+    let around = [
+        own - LINE_BYTES - 1,
+        own - LINE_BYTES,
+        own - 1,
+        own,
+        own + 1,
+        own + LINE_BYTES,
+    ]
+    .into_iter()
+    .chain(limit - LINE_BYTES - 1..=limit + 2 * LINE_BYTES)
+    .chain([32_768, 65_536, 65_537, 1 << 20]);
     for length in around {
         // Behind a whole sheet: its last line again, line feeds, and bytes of no meaning.
         let last_line = largest[largest.len() - LINE_BYTES..].to_vec();
@@ -135,7 +142,11 @@ pub fn sizes(program: &Program, tally: &mut Tally) {
             let second = "/B 0".repeat(m) + "/R 0";
             for (letter, behind) in [("M", ""), ("T", second.as_str())] {
                 let short = format!("N 0 0 0/{letter} {m} {n} 0{lines}{behind}/C 0 0 0");
-                program.agrees(tally, &format!("widths {letter} {m} {n}"), &input(1, &short));
+                program.agrees(
+                    tally,
+                    &format!("widths {letter} {m} {n}"),
+                    &input(1, &short),
+                );
             }
         }
     }

@@ -134,7 +134,11 @@ fn due(netlist: &Netlist, position: Position, code: u32) -> Result<i32, Refusal>
 
 /// The rows, and every record of the table of records: only 4 is tested of it.
 pub fn tables(library: &Library, tally: &mut Tally) {
-    let tables = [(FULL_RUN, &OF_FULL_RUN[..]), (RICH, &OF_RICH[..]), (TWO_RICH, &OF_TWO_RICH[..])];
+    let tables = [
+        (FULL_RUN, &OF_FULL_RUN[..]),
+        (RICH, &OF_RICH[..]),
+        (TWO_RICH, &OF_TWO_RICH[..]),
+    ];
     for (short, rows) in tables {
         let netlist = accepted(short);
         let lists = Lists::new(&netlist);
@@ -153,7 +157,14 @@ pub fn tables(library: &Library, tally: &mut Tally) {
             _ => Ok(5),
         };
         tally.equal((name, "frame 0"), found, Ok(expected));
-        for row in [[256, 300, 7], [1, 2, 7], [2, 1, 7], [2, 1, 6], [2, 1, 8], [2, 0, 1]] {
+        for row in [
+            [256, 300, 7],
+            [1, 2, 7],
+            [2, 1, 7],
+            [2, 1, 6],
+            [2, 1, 8],
+            [2, 0, 1],
+        ] {
             for code in [0, 8, 12, 16, u32::MAX] {
                 library.literal_agrees(tally, &record, position_of(row), code);
             }

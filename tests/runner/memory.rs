@@ -22,7 +22,12 @@ pub fn sample(program: &Program, tally: &mut Tally, count: usize) {
         input(12, RICH),
         input(7, TWO_RICH),
         [write_depth(1), largest_two_port_sheet()].concat(),
-        [write_depth(1), largest_two_port_sheet(), vec![b'?'; 1 << 16]].concat(),
+        [
+            write_depth(1),
+            largest_two_port_sheet(),
+            vec![b'?'; 1 << 16],
+        ]
+        .concat(),
     ];
     while inputs.len() < count {
         inputs.push(fuzz::input(&mut random));

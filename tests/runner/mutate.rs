@@ -2,7 +2,8 @@
 
 use super::reference::netlist::Netlist;
 use super::reference::random::{
-    damaged_record, damaged_sheet, tiny_netlist, tiny_two_ports, wide_netlist, wide_two_ports, Random,
+    damaged_record, damaged_sheet, tiny_netlist, tiny_two_ports, wide_netlist, wide_two_ports,
+    Random,
 };
 use super::reference::random_answers::{random_draft, two_port_draft, Draft};
 use super::reference::sheet::{write_sheet, FIELDS, FIELD_BYTES, LINE_BYTES, MAX_SHEET_BYTES};

@@ -92,7 +92,13 @@ pub fn by_hand(replay: &Replay, tally: &mut Tally) {
     for (depth, numbers, expected) in TWO_PORT_REPLAYS {
         let expected = expected.map_or_else(refused, bytes_of);
         let name = format!("two ports, depth {depth}, {numbers}");
-        replay.prints(tally, &name, &input(depth, TWO_READS), &satisfiable(numbers), &expected);
+        replay.prints(
+            tally,
+            &name,
+            &input(depth, TWO_READS),
+            &satisfiable(numbers),
+            &expected,
+        );
     }
     for (name, sheet, (number, place)) in sheet_rows() {
         let expected = match (number, place) {
@@ -167,8 +173,18 @@ pub fn random_answers(replay: &Replay, tally: &mut Tally) {
 /// Two answers damaged at every byte and in every line.
 pub fn damaged(replay: &Replay, tally: &mut Tally) {
     let rows: [(u32, &str, &[u8], &[u8]); 2] = [
-        (1, FULL_RUN, b"c\ns SATISFIABLE\nv 2\nv -4 0\n", b"1\n10\n01\n"),
-        (0, TWO_READS, b"s SATISFIABLE\nv -2 -3 -4 -5 6 -7\nv -9 0\n", b"0\n000010101\n"),
+        (
+            1,
+            FULL_RUN,
+            b"c\ns SATISFIABLE\nv 2\nv -4 0\n",
+            b"1\n10\n01\n",
+        ),
+        (
+            0,
+            TWO_READS,
+            b"s SATISFIABLE\nv -2 -3 -4 -5 6 -7\nv -9 0\n",
+            b"0\n000010101\n",
+        ),
     ];
     for (depth, short, sound, printed) in rows {
         let bytes = input(depth, short);
@@ -186,7 +202,10 @@ pub fn damaged(replay: &Replay, tally: &mut Tally) {
 /// The largest chips at the greatest depth, with a value for each variable: 675,841 with one port, 1,198,081 with two.
 pub fn largest(replay: &Replay, tally: &mut Tally) {
     let mut random = Random::new(1003);
-    let chips = [of_sizes([12, 0, 556], [12, 32]), two_of_sizes([12, 0, 524], [12, 32])];
+    let chips = [
+        of_sizes([12, 0, 556], [12, 32]),
+        two_of_sizes([12, 0, 524], [12, 32]),
+    ];
     let mut bytes = Vec::new();
     for (mut netlist, variables) in chips.into_iter().zip([675_841, 1_198_081]) {
         netlist.start_word = u32::MAX;

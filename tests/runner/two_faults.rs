@@ -89,9 +89,17 @@ fn faults_of(lines: usize, last_line: &str, others: &[&str]) -> Vec<Fault> {
         cut("no sheet", lines * LINE_BYTES, (RAGGED, 0)),
         append("a byte long", b"\n".to_vec(), (RAGGED, 0)),
         append("628 lines", last_line.repeat(628 - lines), (RAGGED, 0)),
-        cut("last line missing", LINE_BYTES, (OUT_OF_ORDER, lines as u32)),
+        cut(
+            "last line missing",
+            LINE_BYTES,
+            (OUT_OF_ORDER, lines as u32),
+        ),
         append("a line too many", last_line.clone(), (OUT_OF_ORDER, behind)),
-        append("627 lines", last_line.repeat(627 - lines), (OUT_OF_ORDER, behind)),
+        append(
+            "627 lines",
+            last_line.repeat(627 - lines),
+            (OUT_OF_ORDER, behind),
+        ),
         append(
             "a misprint too many",
             vec![b'?'; LINE_BYTES],

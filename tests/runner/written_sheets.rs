@@ -124,7 +124,11 @@ pub fn rooms(library: &Library, tally: &mut Tally) {
         gates: vec![Gate { left: 2, right: 2 }; 599],
         ..Netlist::default()
     });
-    tally.equal("the longest of all", write_sheet(&two).len(), MAX_SHEET_BYTES);
+    tally.equal(
+        "the longest of all",
+        write_sheet(&two).len(),
+        MAX_SHEET_BYTES,
+    );
     let small = [FULL_RUN, RICH, TWO_RICH].map(accepted);
     for netlist in small.into_iter().chain([one, two]) {
         let need = write_sheet(&netlist).len();

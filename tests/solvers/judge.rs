@@ -172,9 +172,8 @@ fn projection(netlist: &Netlist, run: &Run) -> Vec<i32> {
 /// address that writes in frame j.
 fn bits_as_stated(solver: &mut Cadical, netlist: &Netlist, run: &Run, feed: &[i32]) -> bool {
     let m = netlist.address_width;
-    let address = |port: u32, frame: u32| {
-        word(&run.frames[frame as usize], netlist.address_codes_of(port))
-    };
+    let address =
+        |port: u32, frame: u32| word(&run.frames[frame as usize], netlist.address_codes_of(port));
     let mut can_be = |literal: i32| solver.solve(&[feed, &[literal]].concat()).is_some();
     let frames = run.frames.len() as u32;
     let pairs = (0..frames).flat_map(|i| (0..i).map(move |j| (j, i)));

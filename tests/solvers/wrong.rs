@@ -1,4 +1,4 @@
-//! The wrong generators of RULES M1 to M5 and M9 to M14, and those of a second port: the test that the
+//! The wrong generators of RULES M1 to M5 and M9 to M18, and others of a second port: the test that the
 //! program passes must catch each of them.
 
 use super::cases::{small_cases, two_port_cases, unknown_cases, Case};
@@ -161,9 +161,13 @@ pub fn wrong_text(netlist: &Netlist, depth: u32, mistake: Mistake) -> Vec<u8> {
     let groups = formula.port_groups().into_iter();
     let numbers: Vec<i32> = groups
         .flat_map(|asked| match asked.group {
-            Group::Closing(frame) => {
-                closing(netlist, asked.port, frame, &formula.port_group(asked), mistake)
-            }
+            Group::Closing(frame) => closing(
+                netlist,
+                asked.port,
+                frame,
+                &formula.port_group(asked),
+                mistake,
+            ),
             _ => formula.port_group(asked),
         })
         .collect();
@@ -174,7 +178,13 @@ pub fn wrong_text(netlist: &Netlist, depth: u32, mistake: Mistake) -> Vec<u8> {
 
 /// A port's closing of a frame with the mistake. A later frame's has n clauses of the start word unless it is unknown, then 2n of the word held,
 /// each with its literal of the frame before at the end, but none where RE is true; and (¬RE Z S ..), but not where RE is false.
-fn closing(netlist: &Netlist, port: u32, frame: u32, numbers: &[i32], mistake: Mistake) -> Vec<i32> {
+fn closing(
+    netlist: &Netlist,
+    port: u32,
+    frame: u32,
+    numbers: &[i32],
+    mistake: Mistake,
+) -> Vec<i32> {
     let bits = netlist.data_width as usize;
     let (frame, first_read_bit) = (frame as usize, netlist.read_bits(port).start as usize);
     let ended = numbers.split_inclusive(|number| *number == 0);
