@@ -3,14 +3,15 @@
 use Prim.Native.Nat.{_-_, _^_, _<_}
 use mathlib.Core.Path.{_≡_, sym, _∙_}
 use mathlib.Core.Bool.{true}
-use mathlib.Core.List.{[], _++_}
+use mathlib.Core.List.{[]}
 use native.Mathlib.Omega.{arith}
 use borrow.Author.Needs.{needs}
-use lib.ListN.{length, take, length-append}
+use lib.ListN.{length}
 use lib.Seq.{length-take-le}
 use Rattle.model.proofs.Booleans.{not-true-false}
 use Rattle.answer_scan.specs.Scan.{LineKept, ScanBehind}
 use Rattle.replay.specs.SomeText.{SomeText}
+use Rattle.replay.proofs.SomeText.{one-more}
 use Rattle.replay.proofs.scan_file.Statement.{statement}
 use Rattle.replay.proofs.scan_file.Tie as tie
 
@@ -53,15 +54,10 @@ scan-bytes-requires c κs = c .before .before .before .before .before .before .b
 returns : tie.Need-returns Inv-loop μ-loop
 returns c =
     let inv = c .before .before .before .before .before .before .before .before .before .before .loop .inv in
-    let read = c .before .before .before .before .before .read-piece in
-    let part = take (read .result) (read .last .1 .0) in (
+    let read = c .before .before .before .before .before .read-piece in (
       c .scan-bytes .ensures .0,
       (
-        record {
-          text = inv .2 .text ++ part;
-          counted = length-append (inv .2 .text) part ∙ omega (arith, inv .2 .counted, length-take-le (read .result) (read .last .1 .0) (read .ensures .0), read .ensures .1 .0);
-          holds = c .scan-bytes .ensures .1 _ (inv .2 .holds);
-        },
+        one-more (inv .2) (c .scan-bytes .ensures .1) (omega (arith, read .ensures .1 .0, slice-aggregate-scan-bytes (c .before))),
         not-true-false _ (λ h. omega (arith, read .ensures .1 .1 h .0, read .kept .1 .0, inv .0, c .before .before .before .if1 .taken)),
       ),
     )
@@ -82,11 +78,7 @@ loop-again c =
     let full = read .kept .1 .0 ∙ inv .0 in (
       full,
       c .scan-bytes2 .ensures .0,
-      record {
-        text = inv .2 .text ++ read .last .1 .0;
-        counted = length-append (inv .2 .text) (read .last .1 .0) ∙ omega (arith, inv .2 .counted, full, read .ensures .0, read .ensures .1 .0, c .before .before .before .if1 .left);
-        holds = c .scan-bytes2 .ensures .1 _ (inv .2 .holds);
-      },
+      one-more (inv .2) (c .scan-bytes2 .ensures .1) (omega (arith, full, read .ensures .0, read .ensures .1 .0, c .before .before .before .if1 .left)),
       λ h. read .ensures .1 .1 h .1,
     )
 
