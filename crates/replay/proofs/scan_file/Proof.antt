@@ -46,7 +46,7 @@ array-share-prefix-piece : tie.Need-array-share-prefix-piece Inv-loop μ-loop
 array-share-prefix-piece c = search needs
 
 slice-aggregate-scan-bytes : tie.Need-slice-aggregate-scan-bytes Inv-loop μ-loop
-slice-aggregate-scan-bytes c = sym (length-take-le _ _ (array-share-prefix-piece (c .before)))
+slice-aggregate-scan-bytes c = sym (length-take-le _ (c .before .before .before .before .read-piece .last .1 .0) (array-share-prefix-piece (c .before)))
 
 scan-bytes-requires : tie.Need-scan-bytes-requires Inv-loop μ-loop
 scan-bytes-requires c κs = c .before .before .before .before .before .before .before .before .before .loop .inv .1
