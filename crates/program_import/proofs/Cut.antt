@@ -17,7 +17,7 @@ use Rattle.aiger_netlist.specs.ImportVerdict.{importVerdict}
 use Rattle.aiger_import.specs.ImportCall.{importedWord}
 use Rattle.sheet_writer.specs.SheetText.{sheetText}
 use Rattle.program_input.specs.Input.{textOrRefusal}
-use Rattle.program_import.specs.Printed.{importText, stopsAtEnd, printedText, mostText, importOutput}
+use Rattle.program_import.specs.Printed.{importText, stopsAtEnd, importTextCut, mostText, importOutput}
 
 -- no text is cut whose import does not stop
 uncut : (more : Bool) (xs : List ℕ) → cond (more && false) [] xs ≡ xs
@@ -26,23 +26,23 @@ uncut false xs = refl
 
 module _ (more : Bool) (s : List ℕ) (m n word unknown : ℕ) where
   pub printed-passed : importVerdict s m n (importedWord word unknown) unknown 600 600 ≡ Passed
-      → printedText more s m n word unknown ≡ sheetText (aagNet s m n (importedWord word unknown) unknown)
-  unfolding printedText stopsAtEnd importText textOrRefusal
+      → importTextCut more s m n word unknown ≡ sheetText (aagNet s m n (importedWord word unknown) unknown)
+  unfolding importTextCut stopsAtEnd importText textOrRefusal
   printed-passed e = rw e (uncut more (sheetText (aagNet s m n (importedWord word unknown) unknown)))
 
   pub printed-refused : (r : Refusal) (p : ℕ) → importVerdict s m n (importedWord word unknown) unknown 600 600 ≡ Refused r p
-      → printedText more s m n word unknown
+      → importTextCut more s m n word unknown
       ≡ cond (more && (eqb (refusalNumber r) 11 && ltb (length (linesOf s)) p)) [] (refusalText (refusalNumber r) p)
-  unfolding printedText stopsAtEnd importText textOrRefusal
+  unfolding importTextCut stopsAtEnd importText textOrRefusal
   printed-refused r p e = rw e
 
 module _ (s : List ℕ) (m n word unknown : ℕ) where
   -- what is read whole, and what is not
-  pub output-whole : length s ≤ mostText → importOutput s m n word unknown ≡ printedText false s m n word unknown
+  pub output-whole : length s ≤ mostText → importOutput s m n word unknown ≡ importTextCut false s m n word unknown
   unfolding importOutput
   output-whole h =
-      ap₂ (λ (b : Bool) (t : List ℕ). printedText b t m n word unknown) (le-ltb mostText (length s) h) (take-all mostText s h)
+      ap₂ (λ (b : Bool) (t : List ℕ). importTextCut b t m n word unknown) (le-ltb mostText (length s) h) (take-all mostText s h)
 
-  pub output-cut : mostText < length s → importOutput s m n word unknown ≡ printedText true (take mostText s) m n word unknown
+  pub output-cut : mostText < length s → importOutput s m n word unknown ≡ importTextCut true (take mostText s) m n word unknown
   unfolding importOutput
-  output-cut h = ap₂ (λ (b : Bool) (t : List ℕ). printedText b t m n word unknown) (lt-ltb mostText (length s) h) refl
+  output-cut h = ap₂ (λ (b : Bool) (t : List ℕ). importTextCut b t m n word unknown) (lt-ltb mostText (length s) h) refl

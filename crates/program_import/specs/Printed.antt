@@ -30,9 +30,9 @@ unfoldable pub stopsAtEnd : List ℕ → Verdict → Bool
 stopsAtEnd s Passed = false
 stopsAtEnd s (Refused r p) = eqb (refusalNumber r) 11 && ltb (length (linesOf s)) p
 
--- what is printed of the text s, `more` where it is the beginning of a longer one: nothing, where what stands behind s could change it
-unfoldable pub printedText : Bool → List ℕ → ℕ → ℕ → ℕ → ℕ → List ℕ
-printedText more s m n word unknown =
+-- what is printed of the text s, which is cut from a longer one where there is `more`: nothing, where what stands behind s could change it
+unfoldable pub importTextCut : Bool → List ℕ → ℕ → ℕ → ℕ → ℕ → List ℕ
+importTextCut more s m n word unknown =
     cond (more && stopsAtEnd s (importVerdict s m n (importedWord word unknown) unknown mostWires mostWires)) [] (importText s m n word unknown)
 
 -- RULES P23: the first 4 MiB of what is read are judged
@@ -40,7 +40,7 @@ abbrev pub mostText : ℕ
 mostText = 4194304
 
 unfoldable pub importOutput : List ℕ → ℕ → ℕ → ℕ → ℕ → List ℕ
-importOutput s m n word unknown = printedText (ltb mostText (length s)) (take mostText s) m n word unknown
+importOutput s m n word unknown = importTextCut (ltb mostText (length s)) (take mostText s) m n word unknown
 
 -- so it is what would be printed of the whole text, however it goes on: what stands behind them changes nothing, but where nothing is printed
 abbrev pub PrefixSuffices : Type 0

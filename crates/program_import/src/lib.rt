@@ -9,7 +9,7 @@ ghost use lib.ListN.{length};
 ghost use Rattle.model.specs.Wrote.{Wrote};
 ghost use Rattle.dimacs.specs.Text.{refusalText};
 ghost use Rattle.text_words.specs.Words.{linesOf};
-ghost use Rattle.program_import.specs.Printed.{printedText, importOutput, PrefixSuffices, ImportRoomSuffices, NoCodeOutside};
+ghost use Rattle.program_import.specs.Printed.{importTextCut, importOutput, PrefixSuffices, ImportRoomSuffices, NoCodeOutside};
 
 // One line more, where a byte is a line feed.
 fn line_end(x: u8) -> usize
@@ -71,7 +71,7 @@ fn write_import(
     unknown: u32,
 ) -> usize
     requires { ⌜ 20064 ≤ length (now out) ⌝ }
-    ensures text { λ r. ⌜ Wrote (printedText more (now (text .entry)) m n word unknown) (now (out .entry)) (now (out .exit)) r ⌝ }
+    ensures text { λ r. ⌜ Wrote (importTextCut more (now (text .entry)) m n word unknown) (now (out .entry)) (now (out .exit)) r ⌝ }
     ensures most { λ r. ⌜ r ≤ 20064 ⌝ }
 {
     let mut latches = sheet_tests::no_codes();

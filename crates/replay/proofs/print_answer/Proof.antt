@@ -15,10 +15,14 @@ read-input-requires : tie.Need-read-input-requires
 read-input-requires c κs = search needs
 
 print-refusal-requires : tie.Need-print-refusal-requires
-print-refusal-requires c κs = λ answer. refused-replay _ _ answer (c .before .before .read-input .ensures .0) (λ none. omega arith)
+print-refusal-requires c κs =
+    let pre = c .before .before .before .before .before .before .before .before .before .before .before .pre in
+    (λ answer. refused-replay _ _ answer (c .before .before .before .before .before .read-input .ensures .0) (λ none. omega arith), pre .0, pre .1)
 
 replay-file-requires : tie.Need-replay-file-requires
-replay-file-requires c κs = c .before .before .before .before .read-input .ensures .1 .0 (c .before .before .if1 .left)
+replay-file-requires c κs =
+    let pre = c .before .before .before .before .before .before .before .before .before .before .before .before .before .pre in
+    (c .before .before .before .before .before .before .before .read-input .ensures .1 .0 (c .before .before .before .before .before .if1 .left), pre .0, pre .1)
 
 returns : tie.Need-returns
 returns c = search needs

@@ -19,15 +19,19 @@ write-refusal-requires c κs =
 
 array-share-prefix-text : tie.Need-array-share-prefix-text
 array-share-prefix-text c =
-    let start = c .before .before .before .before in
-    let written = c .before .write-refusal in
+    let start = c .before .before .before .before .before in
+    let written = c .before .before .write-refusal in
     omega (arith, written .ensures .counted, written .kept .0, length-refusalText (start .args .number) (start .args .place) (start .fits .number .fits) (start .fits .place .fits))
 
 slice-aggregate-write-text : tie.Need-slice-aggregate-write-text
 slice-aggregate-write-text c = sym (length-take-le _ _ (array-share-prefix-text (c .before)))
 
 write-text-requires : tie.Need-write-text-requires
-write-text-requires c κs = record { text = []; printed-is = wrote-front (c .before .before .write-refusal .ensures) ∙ sym (c .before .before .before .before .before .pre []) }
+write-text-requires c κs =
+    let pre = c .before .before .before .before .before .before .pre in (
+      record { text = []; counted = sym (pre .1); holds = λ answer ends. wrote-front (c .before .before .before .write-refusal .ensures) ∙ sym (pre .0 answer) },
+      pre .2,
+    )
 
 returns : tie.Need-returns
 returns c = search needs

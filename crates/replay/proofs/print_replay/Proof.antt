@@ -1,9 +1,10 @@
 -- `replay::print_replay` meets its contract: what was written into the buffer is all that is to be printed, for the text that was read.
-use mathlib.Core.Path.{sym, _∙_}
+use mathlib.Core.Path.{sym, _∙_, ap}
 use native.Mathlib.Omega.{arith}
 use borrow.Author.Needs.{needs}
 use lib.Seq.{length-take-le}
 use Rattle.group_counts.proofs.Counted.{wrote-front}
+use Rattle.program_replay.specs.Printed.{replayText}
 use Rattle.program_replay.proofs.Printed.{taken-replay}
 use Rattle.replay.proofs.print_replay.Statement.{statement}
 use Rattle.replay.proofs.print_replay.Tie as tie
@@ -27,9 +28,16 @@ slice-aggregate-write-text c = sym (length-take-le _ _ (array-share-prefix-text 
 
 write-text-requires : tie.Need-write-text-requires
 write-text-requires c κs =
-    let start = c .before .before .before .before .before .before in
+    let start = c .before .before .before .before .before .before .before in
     let some = start .pre .1 in
-    record { text = some .text; printed-is = wrote-front (c .before .before .write-replay .ensures .0 (some .text) (some .read)) ∙ sym (taken-replay (some .text) (start .pre .0)) }
+    let written = wrote-front (c .before .before .before .write-replay .ensures .0 (some .text) (some .holds)) in (
+      record {
+        text = some .text;
+        counted = some .counted;
+        holds = λ answer ends. written ∙ sym (ap (replayText (start .args .input .now)) (ends (start .pre .2)) ∙ taken-replay (some .text) (start .pre .0));
+      },
+      start .pre .3,
+    )
 
 returns : tie.Need-returns
 returns c = search needs
