@@ -10,6 +10,7 @@ ghost use mathlib.Core.Path.{_≡_};
 ghost use lib.ListN.{length};
 ghost use Rattle.model.specs.Acceptance.{PathTheorem};
 ghost use Rattle.model.specs.Claim.{EncodingTheorem, StatedTheorem};
+ghost use Rattle.model.specs.Trace.{TraceTheorem};
 ghost use Rattle.calls.specs.Starred.{Starred};
 ghost use Rattle.call_unpacked.specs.Calls.{groupReply, headingReply};
 ghost use Rattle.calls.specs.LentCalls.{headingFor, groupFor, numbersAfter, HeadingClaim, AcceptedTheorem};
@@ -25,7 +26,7 @@ pub fn heading(
     ensures claim { λ r. ⌜ HeadingClaim net (now (latches .entry)) (now (gates .entry)) depth ⌝ }
     ensures paths { λ r. ⌜ PathTheorem ⌝ }
     ensures accepted { λ r. ⌜ AcceptedTheorem ⌝ }
-    ensures theorems { λ r. ⌜ EncodingTheorem × StatedTheorem ⌝ }
+    ensures theorems { λ r. ⌜ EncodingTheorem × StatedTheorem × TraceTheorem ⌝ }
     ensures starred { λ r. ⌜ Starred ⌝ }
 {
     let mut latch_codes = [0; 1200];

@@ -21,6 +21,7 @@ ghost use mathlib.Core.List.{List, _∷_, _++_};
 ghost use lib.ListN.{length};
 ghost use Rattle.model.specs.Acceptance.{PathTheorem};
 ghost use Rattle.model.specs.Claim.{EncodingTheorem, StatedTheorem};
+ghost use Rattle.model.specs.Trace.{TraceTheorem};
 ghost use Rattle.model.specs.Groups.{groupOrder};
 ghost use Rattle.group_order.specs.Next.{firstGroup};
 ghost use Rattle.call_lists.specs.Lent.{netLent};
@@ -120,7 +121,7 @@ pub extern "C" fn marrubigai_heading(
     ensures claim { λ r. ⌜ HeadingClaim net (now (latches .entry)) (now (gates .entry)) depth ⌝ }
     ensures paths { λ r. ⌜ PathTheorem ⌝ }
     ensures accepted { λ r. ⌜ AcceptedTheorem ⌝ }
-    ensures theorems { λ r. ⌜ EncodingTheorem × StatedTheorem ⌝ }
+    ensures theorems { λ r. ⌜ EncodingTheorem × StatedTheorem × TraceTheorem ⌝ }
     ensures starred { λ r. ⌜ Starred ⌝ }
 {
     call_replies::heading_numbers(calls::heading(net, latches, gates, depth))

@@ -45,6 +45,7 @@ use Rattle.model.specs.Wrote.{over}
 use Rattle.model.proofs.Dependence.{paths}
 use Rattle.model.proofs.Claim.{encodes}
 use Rattle.model.proofs.Stated.{stated as stated-of}
+use Rattle.model.proofs.Trace.{traced}
 use Rattle.netlist_tests.proofs.Acceptance.{passes-accepted}
 use Rattle.call_lists.specs.declared.LatchEntry.{LatchEntry}
 use Rattle.call_lists.specs.declared.GateEntry.{GateEntry}
@@ -221,7 +222,7 @@ module _ {M : Type 1} (𝓤 : URA M) (H : Heap 𝓤) (A : Atoms 𝓤) (W : Given
           (netOf-unpacked net (latchCodes (ls .now)) (gateCodes (gs .now)))))
           (both 𝓤 (factI 𝓤 _ (emp 𝓤) (calls-encode _ _ _ _))
           (both 𝓤 (factI 𝓤 _ (emp 𝓤) paths) (both 𝓤 (factI 𝓤 _ (emp 𝓤) passes-accepted)
-          (both 𝓤 (factI 𝓤 _ (emp 𝓤) (encodes, stated-of)) (factI 𝓤 _ (emp 𝓤) starred)))))))))))))))))))))))))
+          (both 𝓤 (factI 𝓤 _ (emp 𝓤) (encodes, stated-of, traced)) (factI 𝓤 _ (emp 𝓤) starred)))))))))))))))))))))))))
 
 heading-meets : {M : Type 1} (𝓤 : URA M) (H : Heap 𝓤) (A : Atoms 𝓤) (W : Given 𝓤 H A) (mem : Memory → SProp 𝓤)
     (run : Routine → Fun 𝓤) (𝓣 : Tables 𝓤 H)

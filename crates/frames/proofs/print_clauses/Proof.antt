@@ -4,10 +4,12 @@ use Prim.Native.Nat.{_+_, _*_, _≤_}
 use mathlib.Core.Path.{_≡_, sym, _∙_}
 use native.Mathlib.Omega.{arith}
 use borrow.Author.Needs.{needs}
+use mathlib.Core.List.{[]}
 use lib.ListN.{length, take}
 use lib.Seq.{length-take-le}
 use Rattle.model.specs.Netlist.{ports}
 use Rattle.netlist.specs.NetOf.{netOf, alone}
+use Rattle.netlist.proofs.NetOf.{sizes-lists}
 use Rattle.text_writer.specs.Table.{tableBelow}
 use Rattle.text_writer.proofs.Table.{filled-table}
 use Rattle.group_order.specs.Next.{remainingFrom}
@@ -40,12 +42,14 @@ loop-holds : tie.Need-loop-holds Inv-loop μ-loop
 loop-holds c =
     let start = c .before .before .before .before .before .before in
     let filled = c .before .before .before .fill-table in
-    let taken = start .pre .0 in (
+    let taken = start .pre .0 in
+    let sizes = sizes-lists (start .args .taken .net) (start .args .latches .now) (start .args .gates .now) [] [] (rw (taken .net-is) (taken .accepted .limits .sizes)) in
+    let ports-most : ports (alone (start .args .taken .net)) ≤ 2 = omega (arith, sizes .kind-fits) in (
       search needs,
       search needs,
       filled-table _ _ (search needs) (filled .ensures),
       header-printed (taken-frames taken) (start .pre .1) (c .first-group .ensures _),
-      omega (arith, start .pre .2, first-remaining 1 (start .args .taken .depth) (c .first-group .result) (omega arith) (taken .depth-most) (c .first-group .ensures _)),
+      omega (arith, start .pre .2, first-remaining (ports (alone (start .args .taken .net))) (start .args .taken .depth) (c .first-group .result) ports-most (taken .depth-most) (c .first-group .ensures _)),
     )
 
 enum-known-next : tie.Need-enum-known-next Inv-loop μ-loop
