@@ -115,7 +115,7 @@ enum marrubigai_room {
 enum marrubigai_stack {
   MARRUBIGAI_CALL_STACK = 65536,   /* any but the next two */
   MARRUBIGAI_IMPORT_STACK = 327680,
-  MARRUBIGAI_REPLAY_STACK = 917504
+  MARRUBIGAI_REPLAY_STACK = 1441792
 };
 
 /* a refusal's word; "passed" for 0, and "unknown" for what is no refusal's number */
