@@ -13,8 +13,8 @@ ghost use Rattle.program_input.specs.Input.{InputTaken};
 ghost use Rattle.program_output.specs.Printed.{formulaHeader, framesText};
 
 // Writes to standard output the text that is next, behind the `sent` bytes that it was given before, and counts it: nothing else writes there, and
-// the input is lent only for what is asked of the text. Where writing fails, says so on standard error and writes no more: the header's count of
-// clauses tells that what came before is not whole.
+// the input is lent only for what is asked of the text. Where writing fails, says so on standard error and writes nothing more, whatever it is given:
+// the header's count of clauses tells that what came before is not whole.
 fn write_next(input: &[u8], sent: &mut usize, failed: &mut bool, text: &[u8])
     requires { ⌜ (now text ≡ take (length (now text)) (drop (now sent) (framesText (now input)))) × (now sent + length (now text) < 2 ^ 64) ⌝ }
     ensures { λ _. ⌜ now (sent .exit) ≡ now (sent .entry) + length (now (text .entry)) ⌝ }
@@ -110,7 +110,7 @@ fn print_formula(
     print_clauses(input, sent, failed, taken, latches, gates);
 }
 
-// Hands all that is printed for an input to `write_next`.
+// Prints what is due for an input: all of it is handed to `write_next`.
 fn print_answer(input: &[u8], sent: &mut usize, failed: &mut bool)
     requires { ⌜ (now sent ≡ 0) × (now failed ≡ false) ⌝ }
     ensures { λ _. ⌜ now (sent .exit) ≡ length (framesText (now (input .entry))) ⌝ }

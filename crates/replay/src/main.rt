@@ -19,8 +19,8 @@ ghost use Rattle.program_input.specs.Input.{InputTaken};
 ghost use Rattle.program_replay.specs.Printed.{replayText};
 ghost use Rattle.replay.specs.SomeText.{SomeText, PrintedFor};
 
-// Writes to standard output all that is printed for an input and its answer, in one piece, once: nothing else writes there, and what is known of the
-// input and the answer is lent only for what is asked of the text. Where writing fails, says so on standard error.
+// Writes to standard output all that is printed for an input and its answer, in one piece, once: nothing else writes there. The input, how many bytes
+// of the answer were read and whether there may be more are lent only for what is asked of the text. Where writing fails, says so on standard error.
 fn write_text(input: &[u8], got: &usize, more: &bool, printed: &mut bool, text: &[u8])
     requires { ⌜ SomeText (now got) (PrintedFor (now input) (now more) (now text)) × (now printed ≡ false) ⌝ }
     ensures { λ _. ⌜ now (printed .exit) ≡ true ⌝ }
@@ -55,8 +55,9 @@ fn open_answer(more: &mut bool) -> i32 {
     file
 }
 
-// Reads the next piece of an open file, until the buffer is full or the file ends, and counts its bytes: nothing else reads. A piece that is not
-// full is the last: the file ends there, or a read has failed. A loop has to end, and nothing says that a file does: no file has 2^63 bytes.
+// Reads the next piece of an open file, until the buffer is full or the file ends, and counts its bytes: nothing else reads the file. A piece that is
+// not full is the last: the file ends there, or a read has failed. A loop has to end, and nothing says that a file does, so there is no more behind
+// 2^63 bytes: no file has so many.
 fn read_piece(file: i32, piece: &mut [u8], got: &mut usize, more: &mut bool) -> usize
     requires { ⌜ now got + length (now piece) < 2 ^ 64 ⌝ }
     ensures within { λ r. ⌜ r ≤ length (now (piece .exit)) ⌝ }
@@ -70,7 +71,7 @@ fn read_piece(file: i32, piece: &mut [u8], got: &mut usize, more: &mut bool) -> 
     bytes
 }
 
-// Reads all of an open file, piece by piece, into a table of no signs, and scans all that it reads.
+// Reads a file to its end, piece by piece, and scans all that is read into a table of no signs.
 fn scan_file(file: i32, got: &mut usize, more: &mut bool, signs: &mut SignTable) -> Scan
     requires { ⌜ SignsOf [] (now signs) × (now got ≡ 0) ⌝ }
     ensures holds { λ r. ⌜ LineKept (r .position) (r .line) ⌝ }
@@ -163,7 +164,7 @@ fn replay_file(
     );
 }
 
-// Prints what is due for an input, once.
+// Prints what is due for an input and its answer, of which nothing was read.
 fn print_answer(input: &[u8], got: &mut usize, more: &mut bool, printed: &mut bool)
     requires { ⌜ (now got ≡ 0) × (now printed ≡ false) ⌝ }
     ensures { λ _. ⌜ now (printed .exit) ≡ true ⌝ }
