@@ -33,6 +33,17 @@ pub record SameCounts (a b : Aig) : Type 0 where
   pub outputs-same : a .outputs ≡ b .outputs
   pub gates-same : a .network .gates ≡ b .network .gates
 
+-- one graph: the same variables and codes, as far as there are some
+pub record SameAig (a b : Aig) : Type 0 where
+  pub counts-same : SameCounts a b
+  pub input-same : (x : ℕ) → x < a .inputs → a .inputVariable x ≡ b .inputVariable x
+  pub latch-same : (l : ℕ) → l < a .latches → a .latchVariable l ≡ b .latchVariable l
+  pub next-same : (l : ℕ) → l < a .latches → a .next l ≡ b .next l
+  pub output-same : (o : ℕ) → o < a .outputs → a .output o ≡ b .output o
+  pub own-same : (g : ℕ) → g < a .network .gates → a .network .own g ≡ b .network .own g
+  pub left-same : (g : ℕ) → g < a .network .gates → a .network .left g ≡ b .network .left g
+  pub right-same : (g : ℕ) → g < a .network .gates → a .network .right g ≡ b .network .right g
+
 -- each gate, next state and output, in order, has in one graph, where u are the values, the value that it has in the other, where v are
 pub record SameInOrder (a b : Aig) (u v : Values) : Type 0 where
   pub counts-same : SameCounts a b
