@@ -1,5 +1,5 @@
 -- A graph and the same under other numbers have the same values (specs/Aig.antt, specs/RecordAig.antt). No contract cites this file.
-use Prim.Native.Nat.{ℕ, _+_, _-_, _/_, _≤_, _<_}
+use Prim.Native.Nat.{ℕ, _+_, _-_, _*_, _/_, _%_, _≤_, _<_}
 use mathlib.Core.Path.{_≡_, refl, sym, _∙_, ap}
 use mathlib.Core.Bool.{Bool}
 use mathlib.Core.Logic.{by-cases}
@@ -11,8 +11,8 @@ use Rattle.model.specs.Circuit.{Values, codeValue}
 use Rattle.model.specs.Network.{renamed}
 use Rattle.model.specs.Acceptance.{CodesFit}
 use Rattle.model.proofs.Circuit.{Solves, evaluate-solves}
-use Rattle.model.proofs.Renumbering.{networkOf, Renumbers, SourceWire, netlist-defined, wire-defined, gates-same-value, codes-same-value, solves-obeys, renumbered-obeys}
-use Rattle.aiger_graph.specs.Aig.{Aig, AigValues, SameCounts, SameInOrder}
+use Rattle.model.proofs.Renumbering.{SameOperands, straight, crossed, Renumbers, SourceWire, netlist-defined, wire-defined, gates-same-value, codes-same-value, solves-obeys, renumbered-obeys}
+use Rattle.aiger_graph.specs.Aig.{Aig, AigValues, SameCounts, SameAig, SameInOrder}
 use Rattle.aiger_graph.specs.RecordAig.{inputOrRead, outputOf, recordAig, valuesOf}
 
 -- the graph b is a, where variable x has the number ρ x
@@ -24,7 +24,76 @@ pub record RenumbersAig (ρ : ℕ → ℕ) (a b : Aig) : Type 0 where
   pub output-renamed : (o : ℕ) → o < a .outputs → b .output o ≡ renamed ρ (a .output o)
   pub gates-renamed : Renumbers ρ (a .network) (b .network)
 
--- so values of b are values of a, seen through ρ
+-- where ρ has an inverse, a is b by it
+renamed-back : (ρ σ : ℕ → ℕ) → ((x : ℕ) → σ (ρ x) ≡ x) → (x : ℕ) → renamed σ (renamed ρ x) ≡ x
+unfolding renamed
+renamed-back ρ σ back x =
+    let variable : (2 * ρ (x / 2) + x % 2) / 2 ≡ ρ (x / 2) = omega arith in
+    rw (variable, back (x / 2)) (omega arith)
+
+operands-back : {a b x y : ℕ} (ρ σ : ℕ → ℕ) → ((z : ℕ) → σ (ρ z) ≡ z) → SameOperands (renamed ρ a) (renamed ρ b) x y
+    → SameOperands (renamed σ x) (renamed σ y) a b
+operands-back {a} {b} ρ σ back (straight e f) = straight (rw e (sym (renamed-back ρ σ back a))) (rw f (sym (renamed-back ρ σ back b)))
+operands-back {a} {b} ρ σ back (crossed e f) = crossed (rw f (sym (renamed-back ρ σ back a))) (rw e (sym (renamed-back ρ σ back b)))
+
+pub renumbers-back : {ρ σ : ℕ → ℕ} {a b : Aig} → ((x : ℕ) → σ (ρ x) ≡ x) → RenumbersAig ρ a b → RenumbersAig σ b a
+renumbers-back {ρ} {σ} {a} {b} back r =
+    let counts = r .counts-same in
+    let gates = r .gates-renamed in
+    record {
+      counts-same =
+          record {
+            inputs-same = sym (counts .inputs-same);
+            latches-same = sym (counts .latches-same);
+            outputs-same = sym (counts .outputs-same);
+            gates-same = sym (counts .gates-same);
+          };
+      inputs-renamed = λ x h. rw (r .inputs-renamed x (rw (counts .inputs-same) h)) (sym (back (a .inputVariable x)));
+      latches-renamed = λ l h. rw (r .latches-renamed l (rw (counts .latches-same) h)) (sym (back (a .latchVariable l)));
+      next-renamed = λ l h. rw (r .next-renamed l (rw (counts .latches-same) h)) (sym (renamed-back ρ σ back (a .next l)));
+      output-renamed = λ o h. rw (r .output-renamed o (rw (counts .outputs-same) h)) (sym (renamed-back ρ σ back (a .output o)));
+      gates-renamed =
+          record {
+            zero-kept = rw (gates .zero-kept) at (back 0);
+            gates-same = counts .gates-same;
+            own-same = λ g h. rw (gates .own-same g (rw (counts .gates-same) h)) (sym (back (a .network .own g)));
+            operands-same = λ g h. operands-back ρ σ back (gates .operands-same g (rw (counts .gates-same) h));
+          };
+    }
+
+-- and whatever is the same graph as b has a's numbers too
+operands-moved : {a b x y z w : ℕ} → z ≡ x → w ≡ y → SameOperands a b x y → SameOperands a b z w
+operands-moved p q (straight e f) = straight (p ∙ e) (q ∙ f)
+operands-moved p q (crossed e f) = crossed (p ∙ e) (q ∙ f)
+
+pub renumbers-same : {ρ : ℕ → ℕ} {a b d : Aig} → RenumbersAig ρ a b → SameAig d b → RenumbersAig ρ a d
+renumbers-same {ρ} {a} {b} {d} r same =
+    let counts = same .counts-same in
+    let first = r .counts-same in
+    let gates = r .gates-renamed in
+    let within : (g : ℕ) → g < a .network .gates → g < d .network .gates = λ g h. omega (arith, counts .gates-same, first .gates-same) in
+    record {
+      counts-same =
+          record {
+            inputs-same = first .inputs-same ∙ sym (counts .inputs-same);
+            latches-same = first .latches-same ∙ sym (counts .latches-same);
+            outputs-same = first .outputs-same ∙ sym (counts .outputs-same);
+            gates-same = first .gates-same ∙ sym (counts .gates-same);
+          };
+      inputs-renamed = λ x h. same .input-same x (omega (arith, counts .inputs-same, first .inputs-same)) ∙ r .inputs-renamed x h;
+      latches-renamed = λ l h. same .latch-same l (omega (arith, counts .latches-same, first .latches-same)) ∙ r .latches-renamed l h;
+      next-renamed = λ l h. same .next-same l (omega (arith, counts .latches-same, first .latches-same)) ∙ r .next-renamed l h;
+      output-renamed = λ o h. same .output-same o (omega (arith, counts .outputs-same, first .outputs-same)) ∙ r .output-renamed o h;
+      gates-renamed =
+          record {
+            zero-kept = gates .zero-kept;
+            gates-same = counts .gates-same ∙ gates .gates-same;
+            own-same = λ g h. same .own-same g (within g h) ∙ gates .own-same g h;
+            operands-same = λ g h. operands-moved (same .left-same g (within g h)) (same .right-same g (within g h)) (gates .operands-same g h);
+          };
+    }
+
+-- values of b are values of a, seen through ρ
 pub renumbered-values : {ρ : ℕ → ℕ} {a b : Aig} → RenumbersAig ρ a b → {input latch : ℕ → Bool} {v : Values}
     → AigValues b input latch v → AigValues a input latch (λ x. v (ρ x))
 renumbered-values {ρ} {a} {b} r {input} {latch} {v} w =
