@@ -102,21 +102,22 @@ renumbers c =
     }
 
 -- a code stays below a bound on wires
-pub code-below : (c : Netlist) (last x : ℕ) → c .inputs + c .latches + readBits c < last → x < 2 * last → fileCode c x < 2 * last
+pub code-below : (o : FileOrder) (last x : ℕ) → o .inputs + o .latches + o .reads < last → x < 2 * last
+    → renamed (fileVariable o) x < 2 * last
 unfolding renamed
-code-below c last x b h = omega (arith, variable-below (orderOf c) last (x / 2) b (omega arith))
+code-below o last x b h = omega (arith, variable-below o last (x / 2) b (omega arith))
 
 -- and a file has room for it
 pub writable : {c : Netlist} → WithinLimits c → Writable (aigOf c)
 writable {c} fits =
     let limit : (x : ℕ) → x / 2 ≤ lastWire c → fileCode c x ≤ 2 * (c .inputs + readBits c + c .latches + c .gates) + 1 =
-    λ x h. omega (arith, code-below c (lastWire c + 1) x (omega arith) (omega arith)) in
+    λ x h. omega (arith, code-below (orderOf c) (lastWire c + 1) x (omega arith) (omega arith)) in
     record {
       input-in-order = λ x h. refl;
       latch-in-order = λ l h. refl;
       gate-in-order = λ g h. omega arith;
       left-below = λ g h.
-          omega (arith, code-below c (gateWire c g) (c .left g) (omega arith) (fits .codes .left-fits g h), code-below c (gateWire c g) (c .right g) (omega arith) (fits .codes .right-fits g h));
+          omega (arith, code-below (orderOf c) (gateWire c g) (c .left g) (omega arith) (fits .codes .left-fits g h), code-below (orderOf c) (gateWire c g) (c .right g) (omega arith) (fits .codes .right-fits g h));
       right-below = λ g h. omega arith;
       next-below = λ l h. limit (c .next l) (omega (arith, fits .codes .next-fits l h));
       output-below = λ o h. limit (outputOf c o) (output-fits (fits .codes) o);
