@@ -1,6 +1,7 @@
 // The binary AIGER file of a record and unpacked lists: header, next codes, outputs, gates.
 use aiger_binary::put_code;
 use aiger_binary::put_gate;
+use aiger_binary::put_header;
 use aiger_ordered::FileOrder;
 use aiger_ordered::file_code;
 use literals::Code;
@@ -93,3 +94,20 @@ fn put_gates(out: &mut [u8], order: FileOrder, gates: &UnpackedList, count: u32)
     at
 }
 
+// Writes the file of a record.
+pub fn put_file(out: &mut [u8], net: Netlist, latches: &UnpackedList, gates: &UnpackedList) -> usize
+    requires { ⌜ WithinLimits (netOf net (now latches) (now gates)) × (4096 ≤ length (now out)) ⌝ }
+    ensures { λ r. ⌜ Wrote (aigText (aigOf (netOf net (now (latches .entry)) (now (gates .entry))))) (now (out .entry)) (now (out .exit)) r × (r ≤ 4096) ⌝ }
+{
+    let order = aiger_ordered::order_of(net);
+    let header = put_header(
+        out,
+        net.inputs + order.reads,
+        net.latches,
+        net.m + net.n + 3,
+        net.gates,
+    );
+    let nexts = header + put_nexts(&mut out[header..], order, latches, net.latches);
+    let outputs = nexts + put_outputs(&mut out[nexts..], order, net);
+    outputs + put_gates(&mut out[outputs..], order, gates, net.gates)
+}

@@ -48,7 +48,7 @@ add-t20 : tie.Need-add-t20
 add-t20 c = search needs
 
 put-gate-requires : tie.Need-put-gate-requires
-put-gate-requires c κs = 
+put-gate-requires c κs =
     let start = c .before .before .before .before .before .before .before .before .before .before in
     let order = start .args .order in
     let own = ownIn order (start .args .g) in
@@ -67,7 +67,7 @@ same-length : tie.Need-same-length
 same-length c = search needs
 
 returns : tie.Need-returns
-returns c = 
+returns c =
     let both = c .before .before .before .before .before .before .before .larger-first .ensures in
     rw (both .0, both .1, c .before .before .before .before .before .before .before .before .before .before .file-code .ensures .0, c .before .before .before .before .before .before .before .before .file-code2 .ensures .0) at (c .before .before .put-gate .ensures)
 
