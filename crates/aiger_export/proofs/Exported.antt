@@ -36,3 +36,8 @@ module _ (c : Netlist) (latchCount gateCount : ℕ) (passed : testExport c latch
         );
         same-values = λ input latch v w. renumbered-same c (limits .codes) input latch file-renumbers w;
       }
+
+-- where no test refuses it
+pub exported-passed : (c : Netlist) (latchCount gateCount room : ℕ) → exportVerdict c latchCount gateCount room ≡ Passed → Exported c (exportText c)
+unfolding exportVerdict
+exported-passed c latchCount gateCount room e = exported c latchCount gateCount (first-passes (testExport c latchCount gateCount) _ e)
