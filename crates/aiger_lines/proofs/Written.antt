@@ -16,7 +16,7 @@ use Rattle.decimal.proofs.TextValue.{sameText-refl, sameText-true, numberIn-dig
 use Rattle.text_words.specs.Words.{linesOf, wordsOf, spaced, Without}
 use Rattle.text_words.proofs.Words.{parts-first, parts-none, words-first, EachWithout, nothing, also, spaced-words, words-spaced, digits-without}
 use Rattle.aiger_lines.specs.Numbers.{isUnsigned, unsignedValue, allUnsigned, unsignedValues, wordNumbers, wordsAt}
-use Rattle.aiger_lines.specs.Parts.{aag, headerNumbers, numbersOnLine}
+use Rattle.aiger_lines.specs.Parts.{aag, numbersBehind, headerNumbers, numbersOnLine}
 use Rattle.aiger_lines.specs.Written.{numbersText, lineWithNumbers, TextAsWritten}
 
 -- no number has a space among its digits
@@ -89,8 +89,10 @@ of-words (w ∷ ws) l = by-word ws (sameText w aag) refl l
 header-line : (s : List ℕ) → 0 < length (headerNumbers (wordsOf s)) → s ≡ aag ++ space ∷ numbersText (headerNumbers (wordsOf s))
 header-line s l = sym (spaced-words s) ∙ of-words (wordsOf s) l
 
-line-header : (xs : List ℕ) → 0 < length xs → ((i : ℕ) → getD xs i 0 < 2 ^ 32) → headerNumbers (wordsOf (aag ++ space ∷ numbersText xs)) ≡ xs
-line-header xs l h = ap headerNumbers (words-first aag (numbersText xs) aag-without) ∙ rw (sameText-refl aag) (line-numbers xs l h)
+-- whatever word it begins with
+pub line-behind : (word : List ℕ) → Without space word → (xs : List ℕ) → 0 < length xs → ((i : ℕ) → getD xs i 0 < 2 ^ 32)
+    → numbersBehind word (wordsOf (word ++ space ∷ numbersText xs)) ≡ xs
+line-behind word w xs l h = ap (numbersBehind word) (words-first word (numbersText xs) w) ∙ rw (sameText-refl word) (line-numbers xs l h)
 
 -- a number on a line fits 32 bits
 unsignedValue-fits : (w : List ℕ) (r : Number) → numberIn w ≡ r → unsignedValue r < 2 ^ 32
@@ -142,5 +144,5 @@ read-as-written = record {
     back : (b : Bool) (xs : List ℕ) → 0 < length xs → ((i : ℕ) → getD xs i 0 < 2 ^ 32)
         → cond b (headerNumbers (wordsOf (cond b (aag ++ space ∷ numbersText xs) (numbersText xs))))
         (wordNumbers (wordsOf (cond b (aag ++ space ∷ numbersText xs) (numbersText xs)))) ≡ xs
-    back true xs l h = line-header xs l h
+    back true xs l h = line-behind aag aag-without xs l h
     back false xs l h = line-numbers xs l h

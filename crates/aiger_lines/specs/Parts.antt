@@ -15,10 +15,14 @@ use Rattle.aiger_lines.specs.declared.Part.the-variants.{Header, Input, 
 abbrev pub aag : List ℕ
 aag = 97 ∷ 97 ∷ 103 ∷ []
 
--- the numbers behind `aag`
+-- the numbers behind a word, which a header begins with; none where it does not
+abbrev pub numbersBehind : List ℕ → List (List ℕ) → List ℕ
+numbersBehind word [] = []
+numbersBehind word (w ∷ ws) = cond (sameText w word) (wordNumbers ws) []
+
+-- those behind `aag`
 abbrev pub headerNumbers : List (List ℕ) → List ℕ
-headerNumbers [] = []
-headerNumbers (w ∷ ws) = cond (sameText w aag) (wordNumbers ws) []
+headerNumbers ws = numbersBehind aag ws
 
 -- the numbers on line p: none where the text has no such line, or where a word is no number
 unfoldable pub numbersOnLine : List ℕ → ℕ → List ℕ

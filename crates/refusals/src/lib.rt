@@ -1,4 +1,4 @@
-// The numbered errors (RULES T1 to T17), and what a chain of tests answers.
+// The numbered errors (RULES T1 to T17 and T19), and what a chain of tests answers.
 ghost use mathlib.Core.Path.{_≡_};
 ghost use Rattle.refusals.specs.Refusal.{refusalNumber, replyOf};
 
@@ -21,6 +21,7 @@ pub enum Refusal {
     NoViolation,
     WrongBase,
     TiedAddress,
+    Reset,
 }
 
 // What a chain of tests answers: none refuses, or the first that does, with its place (0: none).
@@ -66,6 +67,7 @@ pub fn number(refusal: Refusal) -> u32
         Refusal::NoViolation => 15,
         Refusal::WrongBase => 16,
         Refusal::TiedAddress => 17,
+        Refusal::Reset => 19,
     }
 }
 

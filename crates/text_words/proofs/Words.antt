@@ -1,5 +1,5 @@
 -- Laws of specs/Words.antt: parts of a text in pieces, parts found from the left, parts joined. No contract cites this file.
-use Prim.Native.Nat.{ℕ, zero, suc}
+use Prim.Native.Nat.{ℕ, zero, suc, _<_}
 use mathlib.Core.Path.{_≡_, refl, sym, _∙_, ap, ap₂}
 use mathlib.Core.Bool.{Bool, true, false, cond}
 use mathlib.Core.List.{List, [], _∷_, _++_, append-assoc, append-nil}
@@ -9,7 +9,7 @@ use lib.ListN.{length, take, length-append}
 use lib.Seq.{take-at}
 use borrow.Author.Tests.{eq-eqb, eqb-true, ne-eqb, leb-true}
 use Rattle.model.proofs.Booleans.{and-true}
-use Rattle.decimal.specs.Digits.{digits, space}
+use Rattle.decimal.specs.Digits.{digits, space, lineFeed}
 use Rattle.decimal.proofs.TextValue.{isDigit, allDigits, allDigits-digits}
 use Rattle.text_words.specs.Words.{partsAfter, restAfter, wordsOf, spaced, ended, Without}
 
@@ -46,6 +46,12 @@ module _ (e : ℕ) where
 
   without-tail : (x : ℕ) (s : List ℕ) → Without e (x ∷ s) → Without e s
   without-tail x s w i l h = w (suc i) (omega arith) h
+
+  -- nor do two joined
+  pub without-append : (s t : List ℕ) → Without e s → Without e t → Without e (s ++ t)
+  without-append [] t v w i l h = w i l h
+  without-append (x ∷ s) t v w zero l h = v 0 (omega arith) h
+  without-append (x ∷ s) t v w (suc i) l h = without-append s t (without-tail x s v) w i (omega arith) h
 
   pub parts-none : (begun s : List ℕ) → Without e s → partsAfter e begun s ≡ []
   unfolding partsAfter
@@ -136,14 +142,18 @@ unfolding spaced
 words-spaced w [] (also n nothing) = words-last w n
 words-spaced w (x ∷ ws) (also n m) = words-first w (spaced (x ∷ ws)) n ∙ ap (λ (xs : List (List ℕ)). w ∷ xs) (words-spaced x ws m)
 
--- digits have no space among them
-without-space : (s : List ℕ) → allDigits s ≡ true → Without space s
-unfolding allDigits isDigit
-without-space [] d i l h = omega arith
-without-space (c ∷ s) d zero l h =
-    let first = and-true (isDigit c) (allDigits s) .0 d .0 in
-    omega (arith, leb-true 48 c (and-true (leb 48 c) (leb c 57) .0 first .0))
-without-space (c ∷ s) d (suc i) l h = without-space s (and-true (isDigit c) (allDigits s) .0 d .1) i (omega arith) h
+-- digits have no space among them, no line feed and no other byte below theirs
+module _ (e : ℕ) (below : e < 48) where
+  without-below : (s : List ℕ) → allDigits s ≡ true → Without e s
+  unfolding allDigits isDigit
+  without-below [] d i l h = omega arith
+  without-below (c ∷ s) d zero l h =
+      let first = and-true (isDigit c) (allDigits s) .0 d .0 in
+      omega (arith, leb-true 48 c (and-true (leb 48 c) (leb c 57) .0 first .0))
+  without-below (c ∷ s) d (suc i) l h = without-below s (and-true (isDigit c) (allDigits s) .0 d .1) i (omega arith) h
 
 pub digits-without : (x : ℕ) → Without space (digits x)
-digits-without x = without-space (digits x) (allDigits-digits x)
+digits-without x = without-below space (omega arith) (digits x) (allDigits-digits x)
+
+pub digits-unended : (x : ℕ) → Without lineFeed (digits x)
+digits-unended x = without-below lineFeed (omega arith) (digits x) (allDigits-digits x)

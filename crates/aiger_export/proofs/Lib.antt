@@ -1,0 +1,3 @@
+-- Laws of specs/. No contract cites them.
+pub mod ExportCall
+pub mod Exported

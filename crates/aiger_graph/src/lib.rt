@@ -1,0 +1,1 @@
+// The and-inverter graphs of AIGER files and of records.
