@@ -60,7 +60,19 @@ crates/sheet_writer/src/lib.rt let code = net.write_data[at].0
 crates/sheet_writer/src/lib.rt let code = net.address2[at].0
 crates/sheet_writer/src/lib.rt kind: Kind::SecondEnable, first: net.re2.0, second: 0, third: 0, empty: 0,
 crates/sheet_writer/src/lib.rt kind: Kind::Control, first: net.we.0, second: net.re.0, third: net.p.0, empty: 0,
+# the codes of a binary file have numbers of their own, made and compared in one crate, and their differences are printed
+crates/aiger_ordered/src/lib.rt let w = wire.0
+crates/aiger_ordered/src/lib.rt return Wire(w + order.reads)
+crates/aiger_ordered/src/lib.rt return Wire(w - order.latches)
+crates/aiger_ordered/src/lib.rt let x = code.0
+crates/aiger_ordered/src/lib.rt Code(2 * file_variable(order, Wire(x / 2)).0 + x % 2)
+crates/aiger_ordered/src/lib.rt if left.0 < right.0
+crates/aiger_writer/src/lib.rt let own = Wire(1 + order.inputs + order.latches + order.reads + g)
+crates/aiger_binary/src/lib.rt put_number(out, code.0, LINE_FEED)
+crates/aiger_binary/src/lib.rt let first = put_short(out, 2 * own.0 - larger.0)
+crates/aiger_binary/src/lib.rt first + put_short(&mut out[first..], larger.0 - smaller.0)
 # the second number of a latch is its reset, no code
+crates/aiger_export/src/lib.rt if latches[at] == 1
 crates/netlist/src/lib.rt latch_fault(last, Code(latches[at]), latches[at + 1])
 crates/netlist_scan/src/lib.rt any = any | netlist::latch_fault(last, Code(latches[at]), latches[at + 1])
 crates/group_latches/src/lib.rt let reset = latches[(2 * l + 1) as usize]

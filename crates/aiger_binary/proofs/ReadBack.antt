@@ -1,27 +1,27 @@
 -- The file that a graph is written as says this graph (specs/BinaryFile.antt, specs/BinaryText.antt). No contract cites this file.
-use Prim.Native.Nat.{ℕ, zero, suc, _+_, _-_, _*_, _^_, _≤_, _<_}
+use Prim.Native.Nat.{ℕ, zero, suc, _+_, _-_, _*_, _^_, _<_}
 use mathlib.Core.Path.{_≡_, refl, sym, _∙_, ap}
 use mathlib.Core.Logic.{by-cases}
-use mathlib.Core.List.{List, [], _∷_, _++_, append-assoc, append-nil, map}
+use mathlib.Core.List.{List, [], _∷_, _++_, append-assoc, append-nil}
 use native.Mathlib.Decide.{decLt}
 use native.Mathlib.Nat.{not-suc-le-zero}
 use native.Mathlib.Numerals.{add-one}
 use native.Mathlib.Omega.{arith}
-use lib.ListN.{length, getD}
+use lib.ListN.{getD}
 use borrow.Author.Tests.{ne-eqb}
 use Rattle.model.specs.Gather.{gather}
 use Rattle.decimal.specs.Digits.{digits, space, lineFeed}
 use Rattle.text_words.specs.Words.{linesOf, spaced, Without}
 use Rattle.text_words.proofs.Words.{without-append, digits-unended}
 use Rattle.aiger_lines.specs.Numbers.{wordsAt}
-use Rattle.aiger_lines.specs.Parts.{numbersBehind, numbersOnLine, countsOf}
+use Rattle.aiger_lines.specs.Parts.{numbersOnLine, countsOf}
 use Rattle.aiger_lines.specs.declared.Counts.{Counts}
 use Rattle.aiger_lines.specs.Written.{numbersText, lineWithNumbers}
 use Rattle.aiger_lines.proofs.Written.{line-behind, read-as-written}
 use Rattle.aiger_graph.specs.Aig.{Aig, SameAig}
 use Rattle.aiger_difference.specs.Difference.{behindDifferences, differenceAt, differenceBytes}
 use Rattle.aiger_difference.proofs.Difference.{difference-read, difference-behind}
-use Rattle.aiger_binary.specs.BinaryFile.{aig, binaryHeader, binaryCounts, nextLine, outputLine, gateBytes, aigWith, aigIn, IsCodeLine, WellFormed, IsBinary}
+use Rattle.aiger_binary.specs.BinaryFile.{aig, binaryHeader, binaryCounts, nextLine, outputLine, gateBytes, aigWith, aigIn, IsBinary}
 use Rattle.aiger_binary.specs.BinaryText.{headerCounts, headerLine, codeLine, gateText, aigText, Writable}
 use Rattle.aiger_binary.proofs.Lines.{Lines, one-line, lines-append, no-line, lines-gather, line-at}
 use Rattle.aiger_binary.proofs.Differences.{Differences, one-difference, differences-append, differences-gather}

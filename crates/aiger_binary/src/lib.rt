@@ -13,6 +13,9 @@ ghost use Rattle.aiger_lines.specs.Written.{numbersText};
 ghost use Rattle.aiger_difference.specs.Difference.{differenceBytes};
 ghost use Rattle.aiger_binary.specs.BinaryText.{headerLine, codeLine, gateText};
 
+// What ends a line.
+const LINE_FEED: u8 = b'\n';
+
 // Writes a number of at most four digits, and a byte behind it.
 fn put_number(out: &mut [u8], x: u32, byte: u8) -> usize
     requires { ⌜ (x < 10000) × (5 ≤ length (now out)) ⌝ }
@@ -47,7 +50,7 @@ pub fn put_code(out: &mut [u8], code: Code) -> usize
     requires { ⌜ (code .0 < 10000) × (5 ≤ length (now out)) ⌝ }
     ensures { λ r. ⌜ Wrote (codeLine (code .0)) (now (out .entry)) (now (out .exit)) r × (r ≤ 5) ⌝ }
 {
-    put_number(out, code.0, b'\n')
+    put_number(out, code.0, LINE_FEED)
 }
 
 // Writes a difference of at most fourteen bits.

@@ -3,24 +3,22 @@ use Prim.Native.Nat.{ℕ, _≤_, _<_}
 use mathlib.Core.Path.{_≡_, sym, _∙_}
 use mathlib.Core.Bool.{false}
 use mathlib.Core.Logic.{by-cases}
-use native.Mathlib.Decide.{decLt, ℕ-discrete}
+use native.Mathlib.Decide.{ℕ-discrete}
 use native.Mathlib.Omega.{arith}
 use lib.Dec.{eqb, ltb}
-use lib.ListN.{length}
-use borrow.Author.Tests.{eq-eqb, ltb-false, eqb-true}
-use mathlib.Core.Bool.{true, true≢false}
+use borrow.Author.Tests.{eq-eqb, ltb-false}
+use mathlib.Core.Bool.{true≢false}
 use Rattle.model.specs.Netlist.{Netlist}
 use Rattle.model.specs.Acceptance.{Accepted}
-use Rattle.model.specs.Search.{IsFirst, firstWhere}
+use Rattle.model.specs.Search.{firstWhere}
 use Rattle.model.proofs.Search.{firstWhere-is}
-use Rattle.refusals.specs.Slices.{testRoom}
 use Rattle.refusals.specs.declared.Refusal.the-variants.{Reset}
 use Rattle.refusals.specs.declared.Verdict.the-variants.{Passed}
 use Rattle.refusals.proofs.Tests.{first-passes, rest-passes, refuseIf-passes}
 use Rattle.netlist.specs.Places.{latchLine}
 use Rattle.netlist_tests.specs.Record.{recordVerdict}
 use Rattle.netlist_tests.proofs.Acceptance.{passes-accepted}
-use Rattle.aiger_export.specs.ExportCall.{exportText, testSinglePort, testResets, testExport, exportVerdict}
+use Rattle.aiger_export.specs.ExportCall.{testSinglePort, testResets, testExport}
 
 -- the record is accepted
 pub accepted : (c : Netlist) (latchCount gateCount : ℕ) → testExport c latchCount gateCount ≡ Passed → Accepted c

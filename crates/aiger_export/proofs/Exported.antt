@@ -1,15 +1,12 @@
 -- What is promised of a record's file (specs/Exported.antt). Cited by `export_binary`.
 use Prim.Native.Nat.{ℕ}
-use mathlib.Core.Path.{_≡_, refl}
+use mathlib.Core.Path.{_≡_}
 use Rattle.model.specs.Netlist.{Netlist}
-use Rattle.model.specs.Circuit.{Values}
 use Rattle.refusals.specs.declared.Verdict.the-variants.{Passed}
 use Rattle.refusals.proofs.Tests.{first-passes}
-use Rattle.aiger_graph.specs.Aig.{Aig}
 use Rattle.aiger_graph.specs.RecordAig.{recordAig, valuesOf}
 use Rattle.aiger_graph.proofs.Values.{RenumbersAig, renumbers-back, renumbers-same, renumbered-values, record-values, renumbered-same}
 use Rattle.aiger_binary.specs.BinaryFile.{aigIn}
-use Rattle.aiger_binary.specs.BinaryText.{aigText}
 use Rattle.aiger_binary.proofs.ReadBack.{read-as, is-binary}
 use Rattle.aiger_ordered.specs.OrderedAig.{orderOf, fileVariable, aigOf}
 use Rattle.aiger_ordered.proofs.OrderedAig.{swapped, variable-back, renumbers, writable}

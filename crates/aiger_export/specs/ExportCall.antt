@@ -31,7 +31,7 @@ testResets c = let l = firstWhere (λ l. eqb (c .reset l) 1) (c .latches) in ref
 unfoldable pub testExport : Netlist → ℕ → ℕ → Verdict
 testExport c latchCount gateCount = recordVerdict c latchCount gateCount then testSinglePort c then testResets c
 
--- "then 9", with a buffer of `room` bytes
+-- RULES X7: "then 9", with a buffer of `room` bytes
 unfoldable pub exportVerdict : Netlist → ℕ → ℕ → ℕ → Verdict
 exportVerdict c latchCount gateCount room = testExport c latchCount gateCount then testRoom (length (exportText c)) room
 

@@ -1,6 +1,6 @@
 -- Laws of specs/OrderedAig.antt: a record's graph under the numbers of a file, which has room for it. No contract cites this file.
-use Prim.Native.Nat.{ℕ, _+_, _-_, _*_, _/_, _%_, _≤_, _<_, min, max}
-use mathlib.Core.Path.{_≡_, refl, sym, _∙_, ap}
+use Prim.Native.Nat.{ℕ, _+_, _-_, _*_, _/_, _≤_, _<_, min, max}
+use mathlib.Core.Path.{_≡_, refl, sym, _∙_}
 use mathlib.Core.Logic.{by-cases}
 use native.Mathlib.Decide.{decLt}
 use native.Mathlib.Omega.{arith}
@@ -9,7 +9,6 @@ use Rattle.model.specs.Netlist.{Netlist, readBits, latchWire, gateWire, lastWir
 use Rattle.model.specs.Network.{renamed}
 use Rattle.model.specs.Acceptance.{WithinLimits}
 use Rattle.model.proofs.Renumbering.{SameOperands, straight, crossed}
-use Rattle.aiger_graph.specs.Aig.{Aig}
 use Rattle.aiger_graph.specs.RecordAig.{inputOrRead, outputOf, recordAig}
 use Rattle.aiger_graph.proofs.Values.{RenumbersAig, output-fits}
 use Rattle.aiger_binary.specs.BinaryText.{Writable}

@@ -1,10 +1,9 @@
 -- `aiger_difference::difference_length` meets its contract.
-use mathlib.Core.Path.{sym, ap, _∙_}
+use mathlib.Core.Path.{sym, ap}
 use native.Mathlib.Omega.{arith}
 use borrow.Author.Needs.{needs}
 use lib.Count.{leading-le}
 use lib.ListN.{length}
-use Rattle.aiger_difference.specs.Difference.{differenceBytes}
 use Rattle.aiger_difference.proofs.Difference.{bytes-single, zeros-bytes}
 use Rattle.aiger_difference.proofs.difference_length.Statement.{statement}
 use Rattle.aiger_difference.proofs.difference_length.Tie as tie

@@ -10,12 +10,10 @@ use Rattle.refusals.specs.Tests.{_then_}
 use Rattle.refusals.specs.Slices.{withCount, contentsAfter}
 use Rattle.refusals.specs.declared.Verdict.the-variants.{Passed}
 use Rattle.refusals.proofs.Slices.{room-enough, room-short}
-use Rattle.refusals.proofs.Tests.{first-passes}
 use Rattle.model.specs.Wrote.{Wrote}
 use Rattle.netlist.specs.NetOf.{netOf}
 use Rattle.dimacs.specs.PrintCalls.{printReply}
 use Rattle.aiger_export.specs.ExportCall.{exportText, testExport, exportVerdict, exportSent, exportLeaves}
-use Rattle.aiger_export.specs.Exported.{Exported}
 use Rattle.aiger_export.proofs.ExportCall.{accepted}
 use Rattle.aiger_export.proofs.Exported.{exported-passed}
 use Rattle.aiger_export.proofs.export_binary.Statement.{statement}

@@ -8,7 +8,7 @@ use Rattle.model.specs.Acceptance.{WithinLimits}
 use Rattle.model.proofs.Wrote.{wrote-then, rest-within, rest-room}
 use Rattle.netlist.specs.NetOf.{firstAt, netOf, alone}
 use Rattle.netlist.specs.declared.Netlist.{Netlist}
-use Rattle.netlist.proofs.NetOf.{sizes-lists, limits-without-latches, limits-without-gates}
+use Rattle.netlist.proofs.NetOf.{limits-without-latches, limits-without-gates}
 use Rattle.aiger_graph.specs.RecordAig.{outputOf}
 use Rattle.aiger_graph.proofs.Values.{output-fits}
 use Rattle.aiger_binary.specs.BinaryText.{aigText}

@@ -1,5 +1,4 @@
 -- `aiger_writer::put_gate_at` meets its contract.
-use mathlib.Core.Path.{_≡_}
 use native.Mathlib.Omega.{arith}
 use Rattle.netlist.specs.NetOf.{firstAt, secondAt}
 use Rattle.aiger_ordered.proofs.OrderedAig.{code-below}
