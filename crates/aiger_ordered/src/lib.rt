@@ -3,7 +3,7 @@ use literals::Code;
 use literals::Wire;
 use netlist::Netlist;
 ghost use mathlib.Core.Path.{_≡_};
-ghost use Prim.Native.Nat.{_+_, _≤_, _<_, min, max};
+ghost use Prim.Native.Nat.{_+_, _≤_, _<_};
 ghost use Rattle.model.specs.Network.{renamed};
 ghost use Rattle.model.specs.Acceptance.{SizesFit};
 ghost use Rattle.netlist.specs.NetOf.{alone};
@@ -15,12 +15,6 @@ pub struct FileOrder {
     pub inputs: u32,
     pub latches: u32,
     pub reads: u32,
-}
-
-// The two codes of a gate by the numbers of the file.
-pub struct Operands {
-    pub larger: Code,
-    pub smaller: Code,
 }
 
 // The order of a record's file.
@@ -61,22 +55,6 @@ pub fn file_code(order: FileOrder, code: Code) -> Code
 {
     let x = code.0;
     Code(2 * file_variable(order, Wire(x / 2)).0 + x % 2)
-}
-
-// Two codes, the larger first.
-pub fn larger_first(left: Code, right: Code) -> Operands
-    ensures { λ r. ⌜ (r .larger .0 ≡ max (left .0) (right .0)) × (r .smaller .0 ≡ min (left .0) (right .0)) ⌝ }
-{
-    if left.0 < right.0 {
-        return Operands {
-            larger: right,
-            smaller: left,
-        };
-    }
-    Operands {
-        larger: left,
-        smaller: right,
-    }
 }
 
 // The code of an output: address, write data, WE, RE, P.

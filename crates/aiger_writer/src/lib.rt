@@ -67,17 +67,21 @@ fn put_outputs(out: &mut [u8], order: FileOrder, net: Netlist) -> usize
     at
 }
 
-// Writes gate g.
+// Writes gate g. The larger of its codes by the numbers of the file goes first.
 fn put_gate_at(out: &mut [u8], order: FileOrder, gates: &UnpackedList, g: u32) -> usize
     requires { ⌜ (ownIn order g ≤ 600) × (firstAt (now gates) g < 2 * ownIn order g) × (secondAt (now gates) g < 2 * ownIn order g) × (4 ≤ length (now out)) ⌝ }
     ensures { λ r. ⌜ Wrote (gateTextAt order (now (gates .entry)) g) (now (out .entry)) (now (out .exit)) r × (r ≤ 4) ⌝ }
 {
     let at = 2 * (g as usize);
-    let left = file_code(order, Code(gates[at]));
-    let right = file_code(order, Code(gates[at + 1]));
-    let operands = aiger_ordered::larger_first(left, right);
+    let first = Code(gates[at]);
+    let second = Code(gates[at + 1]);
     let own = Wire(1 + order.inputs + order.latches + order.reads + g);
-    put_gate(out, own, operands.larger, operands.smaller)
+    let left = file_code(order, first);
+    let right = file_code(order, second);
+    if left.0 < right.0 {
+        return put_gate(out, own, right, left);
+    }
+    put_gate(out, own, left, right)
 }
 
 // Writes all gates, one behind the other.
