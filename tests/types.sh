@@ -66,7 +66,7 @@ crates/aiger_ordered/src/lib.rt return Wire(w + order.reads)
 crates/aiger_ordered/src/lib.rt return Wire(w - order.latches)
 crates/aiger_ordered/src/lib.rt let x = code.0
 crates/aiger_ordered/src/lib.rt Code(2 * file_variable(order, Wire(x / 2)).0 + x % 2)
-crates/aiger_ordered/src/lib.rt if left.0 < right.0
+crates/aiger_writer/src/lib.rt if left.0 < right.0
 crates/aiger_writer/src/lib.rt let own = Wire(1 + order.inputs + order.latches + order.reads + g)
 crates/aiger_binary/src/lib.rt put_number(out, code.0, LINE_FEED)
 crates/aiger_binary/src/lib.rt let first = put_short(out, 2 * own.0 - larger.0)
