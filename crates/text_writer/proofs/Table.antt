@@ -11,12 +11,21 @@ use lib.Seq.{getD-append-add, drop-length}
 use Rattle.decimal.specs.Digits.{digit, digits}
 use Rattle.decimal.proofs.Digits.{digits-single, digits-snoc}
 use Rattle.model.specs.Wrote.{Wrote}
-use Rattle.text_writer.proofs.Writing.{wrote-two, wrote-four}
+use Rattle.text_writer.proofs.Writing.{wrote-two, wrote-three, wrote-four}
 use Rattle.text_writer.specs.Table.{pairDigits, fourDigits, tableBelow}
 
 -- a number of two digits
 pub digits-pair : (x : ℕ) → 10 ≤ x → x < 100 → digits x ≡ pairDigits x
 digits-pair x l h = rw (digits-snoc x l, digits-single (x / 10) (omega arith))
+
+-- a number of three digits
+pub digits-three : (x : ℕ) → 100 ≤ x → x < 1000 → digits x ≡ digit (x / 100 % 10) ∷ pairDigits (x % 100)
+digits-three x l h =
+    let q : x / 10 / 10 ≡ x / 100 = omega arith in
+    let t : x / 100 % 10 ≡ x / 100 = omega arith in
+    let d : x / 10 % 10 ≡ x % 100 / 10 = omega arith in
+    let u : x % 10 ≡ x % 100 % 10 = omega arith in
+    rw (digits-snoc x (omega arith), digits-snoc (x / 10) (omega arith), q, digits-single (x / 100) (omega arith), t, d, u)
 
 -- a number of three digits or more, before a text: its last two digits as a pair
 digits-behind-pair : (x : ℕ) (t : List ℕ) → 100 ≤ x → digits x ++ t ≡ digits (x / 100) ++ (pairDigits (x % 100) ++ t)
@@ -82,6 +91,14 @@ module _ (table : List ℕ) (is-table : table ≡ tableBelow 10000) where
   wrote-pair-by x old h l =
       let low : x % 100 ≡ x = omega arith in
       rw (byte x 2 (omega arith) (omega arith), byte x 3 (omega arith) (omega arith), low) (wrote-two (digit (x / 10)) (digit (x % 10)) old l)
+
+  pub wrote-three-by :
+      (x : ℕ) (old : List ℕ) → 100 ≤ x → x < 1000 → 3 ≤ length old →
+      Wrote (digits x) old
+      (set (set (set old 0 (getD table (x * 4 + 1) 0)) 1 (getD table (x * 4 + 2) 0)) 2 (getD table (x * 4 + 3) 0)) 3
+  wrote-three-by x old l h room =
+      rw (digits-three x l h, byte x 1 (omega arith) (omega arith), byte x 2 (omega arith) (omega arith), byte x 3 (omega arith) (omega arith))
+      (wrote-three (digit (x / 100 % 10)) (digit (x % 100 / 10)) (digit (x % 100 % 10)) old room)
 
   pub wrote-four-by :
       (x : ℕ) (old : List ℕ) → x < 10000 → 4 ≤ length old →

@@ -1,4 +1,4 @@
--- Laws of `Wrote` and `Extends`: two bytes, four bytes, a word copied byte by byte, room for a second writer behind a first, and bytes set
+-- Laws of `Wrote` and `Extends`: two bytes, three, four, a word copied byte by byte, room for a second writer behind a first, and bytes set
 -- behind what is written. No contract cites this file.
 use Prim.Native.Nat.{ℕ, suc, _+_, _-_, _≤_, _<_}
 use mathlib.Core.Path.{_≡_, refl, ap}
@@ -17,6 +17,13 @@ pub wrote-two : (a b : ℕ) (old : List ℕ) → 2 ≤ length old → Wrote (a �
 wrote-two a b [] h = absurd (omega arith)
 wrote-two a b (x ∷ []) h = absurd (omega arith)
 wrote-two a b (x ∷ y ∷ old) h = record { counted = refl; leaves = refl }
+
+-- three bytes
+pub wrote-three : (a b c : ℕ) (old : List ℕ) → 3 ≤ length old → Wrote (a ∷ b ∷ c ∷ []) old (set (set (set old 0 a) 1 b) 2 c) 3
+wrote-three a b c [] h = absurd (omega arith)
+wrote-three a b c (x ∷ []) h = absurd (omega arith)
+wrote-three a b c (x ∷ y ∷ []) h = absurd (omega arith)
+wrote-three a b c (x ∷ y ∷ z ∷ old) h = record { counted = refl; leaves = refl }
 
 -- four bytes
 pub wrote-four :

@@ -33,10 +33,10 @@ pub fn write_word(out: &mut [u8], word: &[u8]) -> usize
     i
 }
 
-// How many ten thousands a number below 1,000,000 has. Below that bound one product and one shift do: less than a compiler, which
+// How many ten thousands a number below 1,500,000 has. Below that bound one product and one shift do: less than a compiler, which
 // does not know the bound, makes of the division.
 fn ten_thousands(x: u32) -> u32
-    requires { ⌜ x < 1000000 ⌝ }
+    requires { ⌜ x < 1500000 ⌝ }
     ensures { λ r. ⌜ r ≡ x / 10000 ⌝ }
 {
     ((x as u64) * 429497 / 4294967296) as u32
@@ -89,6 +89,21 @@ fn write_pair(out: &mut [u8], x: u32, table: &[u8]) -> usize
     2
 }
 
+// Writes the three digits of a number from 100 to 999 from the table, in the same way.
+fn write_three(out: &mut [u8], x: u32, table: &[u8]) -> usize
+    requires { ⌜ (now table ≡ tableBelow 10000) × (100 ≤ x) × (x < 1000) × (3 ≤ length (now out)) ⌝ }
+    ensures { λ r. ⌜ Wrote (digits x) (now (out .entry)) (now (out .exit)) r ⌝ }
+{
+    let i = (x as usize) * 4;
+    let hundreds = table[i + 1];
+    let tens = table[i + 2];
+    let ones = table[i + 3];
+    out[0] = hundreds;
+    out[1] = tens;
+    out[2] = ones;
+    3
+}
+
 // Writes the four digits of a number below 10,000 from the table, in the same way.
 fn write_four(out: &mut [u8], x: u32, table: &[u8]) -> usize
     requires { ⌜ (now table ≡ tableBelow 10000) × (x < 10000) × (4 ≤ length (now out)) ⌝ }
@@ -115,16 +130,19 @@ fn write_four_spaced(out: &mut [u8], x: u32, table: &[u8]) -> usize
     first + write_byte(&mut out[first..], b' ')
 }
 
-// Writes the digits of a number below 100, and answers how many they are.
+// Writes the digits of a number below 1,000, and answers how many they are.
 fn write_leading(out: &mut [u8], x: u32, table: &[u8]) -> usize
-    requires { ⌜ (now table ≡ tableBelow 10000) × (x < 100) × (length (digits x) ≤ length (now out)) ⌝ }
+    requires { ⌜ (now table ≡ tableBelow 10000) × (x < 1000) × (length (digits x) ≤ length (now out)) ⌝ }
     ensures { λ r. ⌜ Wrote (digits x) (now (out .entry)) (now (out .exit)) r ⌝ }
 {
     if x < 10 {
         out[0] = b'0' + (x as u8);
         return 1;
     }
-    write_pair(out, x, table)
+    if x < 100 {
+        return write_pair(out, x, table);
+    }
+    write_three(out, x, table)
 }
 
 // Writes the digits of a number below 10,000 and a space. Few numbers are below 1,000: these take the slow way.
@@ -138,9 +156,9 @@ fn write_short_spaced(out: &mut [u8], x: u32, table: &[u8]) -> usize
     write_four_spaced(out, x, table)
 }
 
-// Writes the digits of a number of five or six digits and a space.
+// Writes the digits of a number of five digits or more, below 1,500,000, and a space.
 fn write_long_spaced(out: &mut [u8], x: u32, table: &[u8]) -> usize
-    requires { ⌜ (now table ≡ tableBelow 10000) × (10000 ≤ x) × (x < 1000000) × (length (digits x ++ space ∷ []) ≤ length (now out)) ⌝ }
+    requires { ⌜ (now table ≡ tableBelow 10000) × (10000 ≤ x) × (x < 1500000) × (length (digits x ++ space ∷ []) ≤ length (now out)) ⌝ }
     ensures { λ r. ⌜ Wrote (digits x ++ space ∷ []) (now (out .entry)) (now (out .exit)) r ⌝ }
 {
     let high = ten_thousands(x);
@@ -157,8 +175,8 @@ pub fn write_ended(out: &mut [u8], x: u32, byte: u8) -> usize
     count + write_byte(&mut out[count..], byte)
 }
 
-// Writes a number's digits and a space by the table. No variable has more than six digits: a longer number takes the slow way. Five
-// digits and six make the same call, each in its own branch, where the compiler knows the place of every byte.
+// Writes a number's digits and a space by the table. Every variable is below 1,500,000: a greater number takes the slow way. Five
+// digits, six and seven make the same call, each in its own branch, where the compiler knows the place of every byte.
 fn write_by_table(out: &mut [u8], x: u32, table: &[u8]) -> usize
     requires { ⌜ (now table ≡ tableBelow 10000) × (length (digits x ++ space ∷ []) ≤ length (now out)) ⌝ }
     ensures { λ r. ⌜ Wrote (digits x ++ space ∷ []) (now (out .entry)) (now (out .exit)) r ⌝ }
@@ -170,6 +188,9 @@ fn write_by_table(out: &mut [u8], x: u32, table: &[u8]) -> usize
         return write_long_spaced(out, x, table);
     }
     if x < 1000000 {
+        return write_long_spaced(out, x, table);
+    }
+    if x < 1500000 {
         return write_long_spaced(out, x, table);
     }
     write_ended(out, x, b' ')

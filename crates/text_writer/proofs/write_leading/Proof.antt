@@ -1,4 +1,4 @@
--- `text_writer::write_leading` meets its contract: one digit, or a pair.
+-- `text_writer::write_leading` meets its contract: one digit, a pair, or three.
 use Prim.Native.Nat.{ℕ}
 use mathlib.Core.Path.{ap}
 use native.Mathlib.Omega.{arith}
@@ -6,7 +6,7 @@ use lib.ListN.{length}
 use Rattle.decimal.specs.Digits.{digit}
 use Rattle.decimal.proofs.Digits.{digits-single, length-digits-some}
 use Rattle.model.proofs.Wrote.{wrote-one}
-use Rattle.text_writer.proofs.Table.{digits-pair}
+use Rattle.text_writer.proofs.Table.{digits-pair, digits-three}
 use borrow.Author.Needs.{needs}
 use Rattle.text_writer.proofs.write_leading.Statement.{statement}
 use Rattle.text_writer.proofs.write_leading.Tie as tie
@@ -33,7 +33,7 @@ returns c =
 
 write-pair-requires : tie.Need-write-pair-requires
 write-pair-requires c κs =
-    let start = c .before .before .before .before in
+    let start = c .before .before .before .before .before in
     (start .pre .0, omega arith, omega (arith, ap length (digits-pair (start .args .x) (omega arith) (omega arith))))
 
 same-length-2 : tie.Need-same-length-2
@@ -41,8 +41,19 @@ same-length-2 c = search needs
 
 returns-2 : tie.Need-returns-2
 returns-2 c =
-    let start = c .before .before .before .before .before .before .before in
+    let start = c .before .before .before .before .before .before .before .before in
     rw (digits-pair (start .args .x) (omega arith) (omega arith)) (c .before .before .write-pair .ensures)
+
+write-three-requires : tie.Need-write-three-requires
+write-three-requires c κs =
+    let start = c .before .before .before .before .before in
+    (start .pre .0, omega arith, omega arith, omega (arith, ap length (digits-three (start .args .x) (omega arith) (omega arith))))
+
+same-length-3 : tie.Need-same-length-3
+same-length-3 c = search needs
+
+returns-3 : tie.Need-returns-3
+returns-3 c = c .before .before .write-three .ensures
 
 pub write-leading-spec : {M : Type 1} → statement M
 write-leading-spec =
@@ -55,4 +66,7 @@ write-leading-spec =
     returns
     write-pair-requires
     same-length-2
-    returns-2)
+    returns-2
+    write-three-requires
+    same-length-3
+    returns-3)
