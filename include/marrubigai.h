@@ -72,7 +72,7 @@ typedef struct { uint32_t number, place, claimed, first; } marrubigai_replay_rep
 typedef struct { uint32_t end, kind, j, i, port; } marrubigai_group_reply; /* end: 1 where no group follows; what does not apply is 0 */
 typedef struct { uint32_t major, minor; } marrubigai_version_reply;
 
-/* a refusal's number */
+/* a refusal's number; 10 is none, and is not used again */
 enum marrubigai_refusal {
   MARRUBIGAI_PASSED = 0, /* nothing is refused */
   MARRUBIGAI_RAGGED = 1,
@@ -84,7 +84,6 @@ enum marrubigai_refusal {
   MARRUBIGAI_DEPTH = 7,
   MARRUBIGAI_NO_SUCH_GROUP = 8,
   MARRUBIGAI_NO_ROOM = 9,
-  MARRUBIGAI_OUT_OF_NUMBERS = 10,
   MARRUBIGAI_NOT_AIGER = 11,
   MARRUBIGAI_INTERFACE = 12,
   MARRUBIGAI_UNDEFINED = 13,
@@ -131,7 +130,6 @@ static inline const char *marrubigai_refusal_word(uint32_t number) {
     case MARRUBIGAI_DEPTH: return "depth";
     case MARRUBIGAI_NO_SUCH_GROUP: return "no such group";
     case MARRUBIGAI_NO_ROOM: return "no room";
-    case MARRUBIGAI_OUT_OF_NUMBERS: return "out of numbers";
     case MARRUBIGAI_NOT_AIGER: return "not aiger";
     case MARRUBIGAI_INTERFACE: return "interface";
     case MARRUBIGAI_UNDEFINED: return "undefined";

@@ -86,7 +86,6 @@ FIELD(marrubigai_version_reply, minor, 4);
 #define VERSION(major, minor) TEXT(major) "." TEXT(minor)
 
 // no record is refused by it (docs/LIBRARY.md), so no call below answers it
-_Static_assert(MARRUBIGAI_OUT_OF_NUMBERS == 10, "out of numbers");
 
 static int passed, failed;
 

@@ -9,7 +9,7 @@ use Rattle.refusals.specs.Tests.{_then_}
 use Rattle.refusals.specs.declared.Verdict.{Verdict}
 use Rattle.refusals.proofs.Tests.{passed-then}
 use Rattle.netlist_tests.specs.Record.{recordVerdict}
-use Rattle.call_unpacked.specs.Calls.{testDepth, testGroup, writeVerdict, groupVerdict, groupSent, groupLeaves}
+use Rattle.call_unpacked.specs.Calls.{testDepth, testGroup, testGroupRoom, groupVerdict, groupSent, groupLeaves}
 use Rattle.call_unpacked.proofs.Calls.{group-more}
 use Rattle.call_position.specs.Positions.{testFrame}
 use Rattle.call_position.specs.GroupsAt.{groupAtVerdict, groupAtSent, groupAtLeaves, ByFrame}
@@ -20,11 +20,11 @@ module _ (c : M.Netlist) (latchCount gateCount : ℕ) (p : Position) where
   -- the verdict from those of its parts
   pub group-at-tested : (g : Group) (room : ℕ) {v w : Verdict}
       → v ≡ (recordVerdict c latchCount gateCount then testDepth (p .depth) then testGroup c (p .depth) g) → w ≡ testFrame c p (p .frame)
-      → groupAtVerdict c latchCount gateCount p g room ≡ v then w then writeVerdict c (p .depth) g room
+      → groupAtVerdict c latchCount gateCount p g room ≡ v then w then testGroupRoom c (p .depth) g room
   unfolding groupAtVerdict
   group-at-tested g room {v} e f =
-      group-more c latchCount gateCount (p .depth) g (testFrame c p (p .frame) then writeVerdict c (p .depth) g room) e
-      ∙ ap (λ w. v then w then writeVerdict c (p .depth) g room) (sym f)
+      group-more c latchCount gateCount (p .depth) g (testFrame c p (p .frame) then testGroupRoom c (p .depth) g room) e
+      ∙ ap (λ w. v then w then testGroupRoom c (p .depth) g room) (sym f)
 
   -- the groups of a record that stands on its frame are those by frame number
   pub by-frame : (g : Group) (old : List ℤ) → ByFrame c latchCount gateCount p g old

@@ -12,15 +12,15 @@ use Rattle.refusals.specs.Slices.{withCount, contentsAfter}
 use Rattle.refusals.specs.declared.CountReply.{CountReply}
 use Rattle.refusals.specs.declared.Verdict.{Verdict}
 use Rattle.netlist_tests.specs.Record.{recordVerdict}
-use Rattle.call_unpacked.specs.Calls.{testDepth, testGroup, writeVerdict, groupSent, groupLeaves}
+use Rattle.call_unpacked.specs.Calls.{testDepth, testGroup, testGroupRoom, groupSent, groupLeaves}
 use Rattle.call_position.specs.Positions.{testFrame, Stands}
 use Rattle.call_position.specs.declared.Position.{Position}
 
--- RULES T51: "the record with its lists, then 7, 8, 16, 10, 9"
+-- RULES T51: "the record with its lists, then 7, 8, 16, 9"
 unfoldable pub groupAtVerdict : Netlist → ℕ → ℕ → Position → Group → ℕ → Verdict
 groupAtVerdict c latchCount gateCount p g room =
     recordVerdict c latchCount gateCount then testDepth (p .depth) then testGroup c (p .depth) g then testFrame c p (p .frame)
-    then writeVerdict c (p .depth) g room
+    then testGroupRoom c (p .depth) g room
 
 -- what the call answers, and what it leaves in the slice
 unfoldable pub groupAtSent : Netlist → ℕ → ℕ → Position → Group → ℕ → CountReply

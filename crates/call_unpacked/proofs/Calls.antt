@@ -37,24 +37,12 @@ use Rattle.refusals.proofs.Slices.{room-enough}
 use Rattle.netlist.specs.Places.{controlLine}
 use Rattle.netlist_tests.specs.Record.{recordVerdict}
 use Rattle.netlist_tests.proofs.Acceptance.{passes-accepted}
-use Rattle.call_unpacked.specs.Calls.{testDepth, testGroup, testNumbers, writeVerdict, groupVerdict, headingVerdict, groupSent, groupLeaves, CallsEncode}
+use Rattle.call_unpacked.specs.Calls.{testDepth, testGroup, testGroupRoom, groupVerdict, headingVerdict, groupSent, groupLeaves, CallsEncode}
 
 -- a depth passes up to 255
 pub depth-passes : (k : ℕ) → testDepth k ≡ Passed → k ≤ 255
 unfolding testDepth
 depth-passes k h = ltb-false 255 k (refuseIf-passes (ltb 255 k) _ 0 .0 h)
-
--- no accepted record meets refusal 10
-pub numbers-suffice : (c : Netlist) (k : ℕ) → Accepted c → k ≤ 255 → testNumbers c k ≡ Passed
-unfolding testNumbers
-numbers-suffice c k ok d =
-    refuseIf-passes (ltb 2147483647 (base c (k + 1))) _ 0 .1
-    (le-ltb 2147483647 (base c (k + 1)) (omega (arith, base-most c (ok .limits .sizes) (k + 1) (omega arith))))
-
-pub variables-fit : (c : Netlist) (k v : ℕ) → Accepted c → k ≤ 255 → v ≡ base c (k + 1) → 2147483647 < v → ⊥
-variables-fit c k v ok d e h =
-    let most : base c (k + 1) ≤ 1198081 = base-most c (ok .limits .sizes) (k + 1) (omega arith) in
-    omega arith
 
 module _ (c : Netlist) (latchCount gateCount k : ℕ) (record-passed : recordVerdict c latchCount gateCount ≡ Passed) (most : k ≤ 255) where
   accepted : Accepted c
@@ -66,8 +54,8 @@ module _ (c : Netlist) (latchCount gateCount k : ℕ) (record-passed : recordVer
   unfolding groupVerdict testGroup testDepth
   group-passes g room there enough =
       passes record-passed (passes (refuseIf-passes (ltb 255 k) _ 0 .1 (le-ltb 255 k most))
-      (passes (refuseIf-passes (not (inDepth (ports c) k g)) _ 0 .1 (ap not there)) (passes (numbers-suffice c k accepted most)
-      (room-enough (length (numbersOf c k g)) room enough))))
+      (passes (refuseIf-passes (not (inDepth (ports c) k g)) _ 0 .1 (ap not there))
+      (room-enough (length (numbersOf c k g)) room enough)))
     where
       passes : {v w : Verdict} → v ≡ Passed → w ≡ Passed → (v then w) ≡ Passed
       passes {v} {w} p q = then-passes v w .1 (p, q)
@@ -101,8 +89,8 @@ calls-encode-for c d latchCount gateCount k passed most ok agree =
       formula-stated = stated c ok k;
       formula-traced = traced c ok k;
       variables-most = base-most c (ok .limits .sizes) (k + 1) (omega arith);
+      numbers-most = λ g there x. omega (arith, stated c ok k .numbers-within g there x, base-most c (ok .limits .sizes) (k + 1) (omega arith));
       variables-single = λ single. base-most-single c (ok .limits .sizes) single (k + 1) (omega arith);
-      numbers-suffice = numbers-suffice d k (accepted d latchCount gateCount k passed most) most;
       lines-most = lines-most c (ok .limits .sizes);
     }
 
@@ -130,11 +118,6 @@ module _ (c : Netlist) (latchCount gateCount k : ℕ) where
       → recordVerdict c latchCount gateCount then testDepth k then more ≡ v then more
   depth-more more = tests-more (recordVerdict c latchCount gateCount) (testDepth k) more
 
-  pub heading-tested : {v : Verdict} → v ≡ (recordVerdict c latchCount gateCount then testDepth k)
-      → headingVerdict c latchCount gateCount k ≡ v then testNumbers c k
-  unfolding headingVerdict
-  heading-tested = depth-more (testNumbers c k)
-
   module _ (g : Group) where
     -- what the tests of a group call up to 8 have shown
     pub group-shown : recordVerdict c latchCount gateCount then testDepth k then testGroup c k g ≡ Passed
@@ -156,12 +139,6 @@ module _ (c : Netlist) (latchCount gateCount k : ℕ) where
         ∙ tests-more (recordVerdict c latchCount gateCount) (testDepth k then testGroup c k g) more e
 
     pub group-tested : (room : ℕ) {v : Verdict} → v ≡ (recordVerdict c latchCount gateCount then testDepth k then testGroup c k g)
-        → groupVerdict c latchCount gateCount k g room ≡ v then writeVerdict c k g room
+        → groupVerdict c latchCount gateCount k g room ≡ v then testGroupRoom c k g room
     unfolding groupVerdict
-    group-tested room = group-more (writeVerdict c k g room)
-
--- 10 is never met, so only the room is tested
-pub write-room : (c : Netlist) (k : ℕ) (g : Group) (room : ℕ) → Accepted c → k ≤ 255
-    → writeVerdict c k g room ≡ testRoom (length (numbersOf c k g)) room
-unfolding _then_
-write-room c k g room ok d = rw (numbers-suffice c k ok d)
+    group-tested room = group-more (testGroupRoom c k g room)

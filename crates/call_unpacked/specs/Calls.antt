@@ -6,8 +6,8 @@ use mathlib.Core.Path.{_≡_}
 use mathlib.Core.Bool.{true, not}
 use mathlib.Core.List.{List}
 use lib.Dec.{ltb}
-use lib.IntN.{ℤ}
-use lib.ListN.{length, take}
+use lib.IntN.{ℤ, pos, natAbs}
+use lib.ListN.{length, take, getD}
 use Rattle.model.specs.Limits.{mostDepth, mostLines}
 use Rattle.model.specs.Netlist.{Netlist, ports}
 use Rattle.model.specs.Variables.{base}
@@ -20,7 +20,7 @@ use Rattle.refusals.specs.Refusal.{refusalNumber}
 use Rattle.refusals.specs.Tests.{refuseIf, _then_}
 use Rattle.refusals.specs.Slices.{testRoom, withCount, contentsAfter}
 use Rattle.refusals.specs.declared.CountReply.{CountReply}
-use Rattle.refusals.specs.declared.Refusal.the-variants.{Depth, NoSuchGroup, OutOfNumbers}
+use Rattle.refusals.specs.declared.Refusal.the-variants.{Depth, NoSuchGroup}
 use Rattle.refusals.specs.declared.Verdict.{Verdict}
 use Rattle.refusals.specs.declared.Verdict.the-variants.{Passed, Refused}
 use Rattle.netlist.specs.Places.{controlLine}
@@ -39,22 +39,18 @@ testDepth k = refuseIf (ltb mostDepth k) Depth 0
 unfoldable pub testGroup : Netlist → ℕ → Group → Verdict
 testGroup c k g = refuseIf (not (inDepth (ports c) k g)) NoSuchGroup 0
 
--- RULES T10: "a variable above 2,147,483,647", of the depth
-unfoldable pub testNumbers : Netlist → ℕ → Verdict
-testNumbers c k = refuseIf (ltb 2147483647 (base c (k + 1))) OutOfNumbers 0
+-- 9 of the group's exact length, with a slice of `room` numbers
+abbrev pub testGroupRoom : Netlist → ℕ → Group → ℕ → Verdict
+testGroupRoom c k g room = testRoom (length (numbersOf c k g)) room
 
--- 10, then 9 of the group's exact length, with a slice of `room` numbers
-abbrev pub writeVerdict : Netlist → ℕ → Group → ℕ → Verdict
-writeVerdict c k g room = testNumbers c k then testRoom (length (numbersOf c k g)) room
-
--- RULES T40: "the record with its lists, then 7, 8, 10, 9". It is of a record whose lists have latchCount and gateCount records
+-- RULES T40: "the record with its lists, then 7, 8, 9". It is of a record whose lists have latchCount and gateCount records
 unfoldable pub groupVerdict : Netlist → ℕ → ℕ → ℕ → Group → ℕ → Verdict
 groupVerdict c latchCount gateCount k g room =
-    recordVerdict c latchCount gateCount then testDepth k then testGroup c k g then writeVerdict c k g room
+    recordVerdict c latchCount gateCount then testDepth k then testGroup c k g then testGroupRoom c k g room
 
 -- RULES T41: a heading call has no group and writes nothing, so no 8 and no 9
 unfoldable pub headingVerdict : Netlist → ℕ → ℕ → ℕ → Verdict
-headingVerdict c latchCount gateCount k = recordVerdict c latchCount gateCount then testDepth k then testNumbers c k
+headingVerdict c latchCount gateCount k = recordVerdict c latchCount gateCount then testDepth k
 
 -- a verdict, with the heading beside it. RULES T43: "A count, a heading .. is all zeros"
 unfoldable pub withHeading : Verdict → ℕ → ℕ → HeadingReply
@@ -87,7 +83,7 @@ headingSent c latchCount gateCount k =
 -- Demand 3, of the calls over the netlist d, for the netlist c that is meant: d itself, or that of the sheet which d was read from
 -- (past the sizes the two may differ). RULES A2, A13 and A14: each group is asked for once with room enough, and the numbers are joined in
 -- the order of the whole. Those numbers are c's formula, and the formula encodes the runs and is as `Stated` and `Traced` say; the variables are at
--- most 1,198,081, with one port 675,841 (RULES V6), so that refusal 10 is never met; and c's sheet has at most 627 lines (RULES S13).
+-- most 1,198,081, and so is every number of every group, negative or not, with one port 675,841 (RULES V6); and c's sheet has at most 627 lines (RULES S13).
 abbrev pub RoomEnough : Netlist → ℕ → (Group → List ℤ) → Type 0
 RoomEnough c k slice = (g : Group) → inDepth (ports c) k g ≡ true → length (numbersOf c k g) ≤ length (slice g)
 
@@ -101,6 +97,6 @@ pub record CallsEncode (c d : Netlist) (latchCount gateCount k : ℕ) : Type 0 w
   pub formula-stated : Stated c k
   pub formula-traced : Traced c k
   pub variables-most : base c (k + 1) ≤ 1198081
+  pub numbers-most : (g : Group) → inDepth (ports c) k g ≡ true → (x : ℕ) → natAbs (getD (numbersOf c k g) x (pos 0)) ≤ 1198081
   pub variables-single : ports c ≡ 1 → base c (k + 1) ≤ 675841
-  pub numbers-suffice : testNumbers d k ≡ Passed
   pub lines-most : controlLine c ≤ mostLines

@@ -17,7 +17,7 @@ ghost use Rattle.refusals.specs.Tests.{_then_};
 ghost use Rattle.refusals.specs.Slices.{withCount, contentsAfter};
 ghost use Rattle.netlist.specs.NetOf.{netOf};
 ghost use Rattle.netlist_tests.specs.Record.{recordVerdict};
-ghost use Rattle.call_unpacked.specs.Calls.{testDepth, testGroup, writeVerdict, groupReply, groupSent, groupLeaves, headingReply, headingSent};
+ghost use Rattle.call_unpacked.specs.Calls.{testDepth, testGroup, testGroupRoom, groupReply, groupSent, groupLeaves, headingReply, headingSent};
 
 // What a group call answers: how many numbers it wrote, or the refusal with its place.
 pub enum GroupAnswer {
@@ -84,9 +84,6 @@ pub fn heading(
         return HeadingAnswer::Refused(refusal, place);
     }
     let variables = clause_variables::frame_base(net, depth + 1);
-    if 2147483647 < variables {
-        return HeadingAnswer::Refused(Refusal::OutOfNumbers, 0);
-    }
     HeadingAnswer::Heading {
         variables,
         clauses: group_counts::clause_count(net, latches, gates, depth),
@@ -128,7 +125,7 @@ fn copy_numbers(out: &mut [i32], numbers: &[i32]) -> usize
     i
 }
 
-// Writes a group that is there, after the tests of 10 and 9. How many numbers it has shows when it is written: into a slice without room
+// Writes a group that is there, after the test of 9. How many numbers it has shows when it is written: into a slice without room
 // for every group it is written aside first.
 pub fn write_tested(
     net: Netlist,
@@ -139,12 +136,9 @@ pub fn write_tested(
     out: &mut [i32],
 ) -> GroupAnswer
     requires { ⌜ Accepted (netOf net (now latches) (now gates)) × (depth ≤ 255) × (inDepth (ports (netOf net (now latches) (now gates))) depth group ≡ true) ⌝ }
-    ensures answer { λ r. ⌜ groupReply r ≡ withCount (writeVerdict (netOf net (now (latches .entry)) (now (gates .entry))) depth group (length (now (out .entry)))) (length (numbersOf (netOf net (now (latches .entry)) (now (gates .entry))) depth group)) ⌝ }
-    ensures borrowed { λ r. ⌜ now (out .exit) ≡ contentsAfter (writeVerdict (netOf net (now (latches .entry)) (now (gates .entry))) depth group (length (now (out .entry)))) (numbersOf (netOf net (now (latches .entry)) (now (gates .entry))) depth group) (now (out .entry)) ⌝ }
+    ensures answer { λ r. ⌜ groupReply r ≡ withCount (testGroupRoom (netOf net (now (latches .entry)) (now (gates .entry))) depth group (length (now (out .entry)))) (length (numbersOf (netOf net (now (latches .entry)) (now (gates .entry))) depth group)) ⌝ }
+    ensures borrowed { λ r. ⌜ now (out .exit) ≡ contentsAfter (testGroupRoom (netOf net (now (latches .entry)) (now (gates .entry))) depth group (length (now (out .entry)))) (numbersOf (netOf net (now (latches .entry)) (now (gates .entry))) depth group) (now (out .entry)) ⌝ }
 {
-    if 2147483647 < clause_variables::frame_base(net, depth + 1) {
-        return GroupAnswer::Refused(Refusal::OutOfNumbers, 0);
-    }
     if 5992 <= out.len() {
         return GroupAnswer::Written(groups::put_group(out, net, latches, gates, depth, group));
     }

@@ -10,7 +10,7 @@ use Rattle.refusals.specs.declared.Refusal.{Refusal}
 use Rattle.refusals.specs.declared.Verdict.{Verdict}
 use Rattle.refusals.specs.declared.Verdict.the-variants.{Passed, Refused}
 use Rattle.refusals.specs.declared.Reply.{Reply}
-use Rattle.refusals.specs.declared.Refusal.the-variants.{Ragged, Misprint, OutOfOrder, Size, CodeOutside, MemoryLoop, Depth, NoSuchGroup, NoRoom, OutOfNumbers, NotAiger, Interface, Undefined, NoAnswer, NoViolation, WrongBase, TiedAddress, Reset}
+use Rattle.refusals.specs.declared.Refusal.the-variants.{Ragged, Misprint, OutOfOrder, Size, CodeOutside, MemoryLoop, Depth, NoSuchGroup, NoRoom, NotAiger, Interface, Undefined, NoAnswer, NoViolation, WrongBase, TiedAddress, SecondPort, Reset}
 
 -- every word's number is at least 1
 pub refusalNumber-some : (r : Refusal) → 1 ≤ refusalNumber r
@@ -23,7 +23,6 @@ refusalNumber-some MemoryLoop = omega arith
 refusalNumber-some Depth = omega arith
 refusalNumber-some NoSuchGroup = omega arith
 refusalNumber-some NoRoom = omega arith
-refusalNumber-some OutOfNumbers = omega arith
 refusalNumber-some NotAiger = omega arith
 refusalNumber-some Interface = omega arith
 refusalNumber-some Undefined = omega arith
@@ -31,6 +30,7 @@ refusalNumber-some NoAnswer = omega arith
 refusalNumber-some NoViolation = omega arith
 refusalNumber-some WrongBase = omega arith
 refusalNumber-some TiedAddress = omega arith
+refusalNumber-some SecondPort = omega arith
 refusalNumber-some Reset = omega arith
 
 -- so number 0 is sent back where no test refuses
@@ -50,14 +50,14 @@ refusalOf n =
     (cond (eqb n 7) Depth
     (cond (eqb n 8) NoSuchGroup
     (cond (eqb n 9) NoRoom
-    (cond (eqb n 10) OutOfNumbers
     (cond (eqb n 11) NotAiger
     (cond (eqb n 12) Interface
     (cond (eqb n 13) Undefined
     (cond (eqb n 14) NoAnswer
     (cond (eqb n 15) NoViolation
     (cond (eqb n 16) WrongBase
-    (cond (eqb n 17) TiedAddress Reset))))))))))))))))
+    (cond (eqb n 17) TiedAddress
+    (cond (eqb n 18) SecondPort Reset))))))))))))))))
 
 abbrev verdictOf : Reply → Verdict
 verdictOf r = cond (eqb (r .number) 0) Passed (Refused (refusalOf (r .number)) (r .place))
@@ -73,7 +73,6 @@ verdictOf-reply (Refused MemoryLoop p) = refl
 verdictOf-reply (Refused Depth p) = refl
 verdictOf-reply (Refused NoSuchGroup p) = refl
 verdictOf-reply (Refused NoRoom p) = refl
-verdictOf-reply (Refused OutOfNumbers p) = refl
 verdictOf-reply (Refused NotAiger p) = refl
 verdictOf-reply (Refused Interface p) = refl
 verdictOf-reply (Refused Undefined p) = refl
@@ -81,6 +80,7 @@ verdictOf-reply (Refused NoAnswer p) = refl
 verdictOf-reply (Refused NoViolation p) = refl
 verdictOf-reply (Refused WrongBase p) = refl
 verdictOf-reply (Refused TiedAddress p) = refl
+verdictOf-reply (Refused SecondPort p) = refl
 verdictOf-reply (Refused Reset p) = refl
 
 -- so a verdict is known by what it sends back

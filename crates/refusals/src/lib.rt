@@ -1,8 +1,8 @@
-// The numbered errors (RULES T1 to T17 and T19), and what a chain of tests answers.
+// The numbered errors (RULES T1 to T19), and what a chain of tests answers.
 ghost use mathlib.Core.Path.{_≡_};
 ghost use Rattle.refusals.specs.Refusal.{refusalNumber, replyOf};
 
-// A case for each word of the table, in its order.
+// A case for each word of the table, in its order. 10 had no input left that meets it, and its number is not used again.
 pub enum Refusal {
     Ragged,
     Misprint,
@@ -13,7 +13,6 @@ pub enum Refusal {
     Depth,
     NoSuchGroup,
     NoRoom,
-    OutOfNumbers,
     NotAiger,
     Interface,
     Undefined,
@@ -21,6 +20,7 @@ pub enum Refusal {
     NoViolation,
     WrongBase,
     TiedAddress,
+    SecondPort,
     Reset,
 }
 
@@ -59,7 +59,6 @@ pub fn number(refusal: Refusal) -> u32
         Refusal::Depth => 7,
         Refusal::NoSuchGroup => 8,
         Refusal::NoRoom => 9,
-        Refusal::OutOfNumbers => 10,
         Refusal::NotAiger => 11,
         Refusal::Interface => 12,
         Refusal::Undefined => 13,
@@ -67,6 +66,7 @@ pub fn number(refusal: Refusal) -> u32
         Refusal::NoViolation => 15,
         Refusal::WrongBase => 16,
         Refusal::TiedAddress => 17,
+        Refusal::SecondPort => 18,
         Refusal::Reset => 19,
     }
 }

@@ -7,7 +7,7 @@ use Rattle.refusals.specs.Tests.{_then_}
 use Rattle.refusals.specs.Slices.{withCount, contentsAfter}
 use Rattle.netlist.specs.NetOf.{netOf}
 use Rattle.netlist.proofs.NetOf.{sizes-lists}
-use Rattle.call_unpacked.specs.Calls.{groupReply, writeVerdict}
+use Rattle.call_unpacked.specs.Calls.{groupReply, testGroupRoom}
 use Rattle.call_unpacked.proofs.Calls.{group-shown}
 use Rattle.call_position.specs.GroupsAt.{groupAtVerdict, groupAtSent, groupAtLeaves}
 use Rattle.call_position.proofs.Positions.{testFrame-lists}
@@ -42,7 +42,7 @@ tested : (c : tie.After-test-frame) →
     let a = c .before .before .before .before .args in
     (room : ℕ) →
     groupAtVerdict (netOf (a .net) (a .latches .now) (a .gates .now)) (a .latch-count) (a .gate-count) (a .position) (a .group) room
-    ≡ c .test-frame .result then writeVerdict (netOf (a .net) (a .latches .now) (a .gates .now)) (a .position .depth) (a .group) room
+    ≡ c .test-frame .result then testGroupRoom (netOf (a .net) (a .latches .now) (a .gates .now)) (a .position .depth) (a .group) room
 unfolding _then_
 tested c room =
     let a = c .before .before .before .before .args in

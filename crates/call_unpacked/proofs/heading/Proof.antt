@@ -8,8 +8,8 @@ use Rattle.model.specs.Acceptance.{Accepted}
 use Rattle.refusals.specs.Tests.{_then_}
 use Rattle.netlist.specs.NetOf.{netOf}
 use Rattle.netlist.proofs.NetOf.{sizes-lists, base-lists}
-use Rattle.call_unpacked.specs.Calls.{headingReply, withHeading, headingSent}
-use Rattle.call_unpacked.proofs.Calls.{depth-shown, heading-tested, numbers-suffice, variables-fit}
+use Rattle.call_unpacked.specs.Calls.{headingReply, withHeading, headingVerdict, headingSent}
+use Rattle.call_unpacked.proofs.Calls.{depth-shown}
 use Rattle.call_unpacked.proofs.heading.Statement.{statement}
 use Rattle.call_unpacked.proofs.heading.Tie as tie
 
@@ -20,8 +20,8 @@ enum-known-refusal : tie.Need-enum-known-refusal
 enum-known-refusal c = search needs
 
 returns : tie.Need-returns
-unfolding headingReply withHeading headingSent _then_
-returns c = rw (heading-tested _ _ _ _ (sym (c .before .refusal .given .1) ∙ c .before .before .before .test-depth .ensures))
+unfolding headingReply withHeading headingSent headingVerdict
+returns c = rw (sym (c .before .before .before .test-depth .ensures) ∙ c .before .refusal .given .1)
 
 enum-told : tie.Need-enum-told
 enum-told c = search needs
@@ -38,21 +38,15 @@ add-frame-base c = let most = shown c .1 in search needs
 frame-base-requires : tie.Need-frame-base-requires
 frame-base-requires c κs = (sizes-lists _ _ _ [] [] (shown c .0 .limits .sizes), omega (arith, shown c .1))
 
-returns-2 : tie.Need-returns-2
-returns-2 c =
-    let ok = shown (c .before .before) in
-    absurd (variables-fit _ _ _ (ok .0) (ok .1) (c .before .frame-base .ensures ∙ base-lists _ _ _ _) (c .if1 .taken))
-
 clause-count-requires : tie.Need-clause-count-requires
-clause-count-requires c κs = shown (c .before .before)
+clause-count-requires c κs = shown (c .before)
 
-returns-3 : tie.Need-returns-3
-unfolding headingReply withHeading headingSent _then_
-returns-3 c =
-    let start = c .before .before .before in
-    let ok = shown start in
+returns-2 : tie.Need-returns-2
+unfolding headingReply withHeading headingSent headingVerdict
+returns-2 c =
+    let start = c .before .before in
     let a = start .before .before .before .args in
-    rw (heading-tested _ _ _ _ (sym (start .enum-told .given .1) ∙ start .before .before .test-depth .ensures), numbers-suffice _ _ (ok .0) (ok .1), c .before .before .frame-base .ensures ∙ base-lists (a .net) (a .latches .now) (a .gates .now) (a .depth + 1), c .clause-count .ensures)
+    rw (sym (start .before .before .test-depth .ensures) ∙ start .enum-told .given .1, c .before .frame-base .ensures ∙ base-lists (a .net) (a .latches .now) (a .gates .now) (a .depth + 1), c .clause-count .ensures)
 
 pub heading-spec : {M : Type 1} → statement M
 heading-spec =
@@ -64,6 +58,5 @@ heading-spec =
     enum-told
     add-frame-base
     frame-base-requires
-    returns-2
     clause-count-requires
-    returns-3)
+    returns-2)
