@@ -1,4 +1,4 @@
-//! Self-test of the second implementation, which is written from the customer's papers (K1 to K11
+//! Self-test of the second implementation, which is written from the customer's papers (K1 to K12
 //! included), not from the code: each family of checks prints one line, the last line is the total.
 //! Build: rustc -O --edition 2021 main.rs
 
@@ -10,6 +10,7 @@ mod answer_calls;
 mod check_aiger;
 mod check_answers;
 mod check_examples;
+mod check_largest;
 mod check_one_port;
 mod check_ports;
 mod check_position;
@@ -35,7 +36,7 @@ use tally::{Report, Tally};
 
 type Family = (&'static str, fn(&mut Tally));
 
-const FAMILIES: [Family; 75] = [
+const FAMILIES: [Family; 77] = [
     ("full runs, byte for byte", check_examples::full_runs),
     ("a run of the chip, by hand", check_examples::memory_run),
     (
@@ -51,7 +52,7 @@ const FAMILIES: [Family; 75] = [
     ("sheets, refusals 1 to 6, 9 and 17", check_refusals::sheets),
     ("sheets, length", check_refusals::sheet_lengths),
     ("records, refusals 3 to 6 and 17", check_refusals::records),
-    ("group calls, refusals 7 to 10", check_refusals::group_calls),
+    ("group calls, refusals 7 to 9", check_refusals::group_calls),
     ("group calls, exact needs", check_refusals::needs),
     ("refusals of frames", check_refusals::frames_refusals),
     ("solver against brute force", check_random::solver),
@@ -159,6 +160,8 @@ const FAMILIES: [Family; 75] = [
         check_one_port::wrong_conversions,
     ),
     ("assignments of K11", check_one_port::assignments),
+    ("the largest variable, all sizes", check_largest::all_sizes),
+    ("the largest variable, groups", check_largest::groups),
 ];
 
 fn main() {
