@@ -1,15 +1,17 @@
-//! Self-test of the second implementation, which is written from the customer's papers (K1 to K12
+//! Self-test of the second implementation, which is written from the customer's papers (K1 to K12 and K14
 //! included), not from the code: each family of checks prints one line, the last line is the total.
 //! Build: rustc -O --edition 2021 main.rs
 
 mod agreement;
 mod aiger;
+mod aiger_binary;
 mod aiger_values;
 mod answer;
 mod answer_calls;
 mod check_aiger;
 mod check_answers;
 mod check_examples;
+mod check_export;
 mod check_largest;
 mod check_one_port;
 mod check_ports;
@@ -19,6 +21,7 @@ mod check_random_answers;
 mod check_random_ports;
 mod check_refusals;
 mod circuit;
+mod export;
 mod formula;
 mod netlist;
 mod number;
@@ -36,7 +39,7 @@ use tally::{Report, Tally};
 
 type Family = (&'static str, fn(&mut Tally));
 
-const FAMILIES: [Family; 77] = [
+const FAMILIES: [Family; 84] = [
     ("full runs, byte for byte", check_examples::full_runs),
     ("a run of the chip, by hand", check_examples::memory_run),
     (
@@ -162,6 +165,13 @@ const FAMILIES: [Family; 77] = [
     ("assignments of K11", check_one_port::assignments),
     ("the largest variable, all sizes", check_largest::all_sizes),
     ("the largest variable, groups", check_largest::groups),
+    ("binary AIGER, the decoder", check_export::decoder),
+    ("files of K14, by hand", check_export::by_hand),
+    ("files of K14, random", check_export::random_records),
+    ("files of K14, all values", check_export::all_record_values),
+    ("files of K14, from texts", check_export::texts),
+    ("files of K14, refusals", check_export::random_refusals),
+    ("files of K14, wrong values", check_export::wrong_files),
 ];
 
 fn main() {
