@@ -1,4 +1,4 @@
-//! Self-test of the second implementation, which is written from the customer's papers (K1 to K12 and K14
+//! Self-test of the second implementation, which is written from the customer's papers (K1 to K14
 //! included), not from the code: each family of checks prints one line, the last line is the total.
 //! Build: rustc -O --edition 2021 main.rs
 
@@ -14,6 +14,7 @@ mod check_examples;
 mod check_export;
 mod check_largest;
 mod check_one_port;
+mod check_one_write;
 mod check_ports;
 mod check_position;
 mod check_random;
@@ -26,11 +27,13 @@ mod formula;
 mod netlist;
 mod number;
 mod one_port;
+mod one_write;
 mod position;
 mod random;
 mod random_aiger;
 mod random_answers;
 mod refusal;
+mod second_assignment;
 mod sheet;
 mod solver;
 mod tally;
@@ -39,7 +42,7 @@ use tally::{Report, Tally};
 
 type Family = (&'static str, fn(&mut Tally));
 
-const FAMILIES: [Family; 84] = [
+const FAMILIES: [Family; 91] = [
     ("full runs, byte for byte", check_examples::full_runs),
     ("a run of the chip, by hand", check_examples::memory_run),
     (
@@ -172,6 +175,25 @@ const FAMILIES: [Family; 84] = [
     ("files of K14, from texts", check_export::texts),
     ("files of K14, refusals", check_export::random_refusals),
     ("files of K14, wrong values", check_export::wrong_files),
+    ("sources of K13, by hand", check_one_write::by_hand),
+    (
+        "sources of K13, all assignments",
+        check_one_write::all_assignments,
+    ),
+    (
+        "sources of K13, altered assignments",
+        check_one_write::altered_assignments,
+    ),
+    ("sources of K13, faults", check_one_write::faults),
+    (
+        "settled by choices, all assignments",
+        check_one_write::settled_assignments,
+    ),
+    (
+        "settled by choices, doubled formulas",
+        check_one_write::doubled_formulas,
+    ),
+    ("K13 on wide netlists", check_one_write::wide_netlists),
 ];
 
 fn main() {
