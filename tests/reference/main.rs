@@ -1,15 +1,20 @@
-//! Self-test of the second implementation, which is written from the customer's papers (K1 to K10
+//! Self-test of the second implementation, which is written from the customer's papers (K1 to K14
 //! included), not from the code: each family of checks prints one line, the last line is the total.
 //! Build: rustc -O --edition 2021 main.rs
 
 mod agreement;
 mod aiger;
+mod aiger_binary;
 mod aiger_values;
 mod answer;
 mod answer_calls;
 mod check_aiger;
 mod check_answers;
 mod check_examples;
+mod check_export;
+mod check_largest;
+mod check_one_port;
+mod check_one_write;
 mod check_ports;
 mod check_position;
 mod check_random;
@@ -17,14 +22,18 @@ mod check_random_answers;
 mod check_random_ports;
 mod check_refusals;
 mod circuit;
+mod export;
 mod formula;
 mod netlist;
 mod number;
+mod one_port;
+mod one_write;
 mod position;
 mod random;
 mod random_aiger;
 mod random_answers;
 mod refusal;
+mod second_assignment;
 mod sheet;
 mod solver;
 mod tally;
@@ -33,7 +42,7 @@ use tally::{Report, Tally};
 
 type Family = (&'static str, fn(&mut Tally));
 
-const FAMILIES: [Family; 68] = [
+const FAMILIES: [Family; 91] = [
     ("full runs, byte for byte", check_examples::full_runs),
     ("a run of the chip, by hand", check_examples::memory_run),
     (
@@ -49,7 +58,7 @@ const FAMILIES: [Family; 68] = [
     ("sheets, refusals 1 to 6, 9 and 17", check_refusals::sheets),
     ("sheets, length", check_refusals::sheet_lengths),
     ("records, refusals 3 to 6 and 17", check_refusals::records),
-    ("group calls, refusals 7 to 10", check_refusals::group_calls),
+    ("group calls, refusals 7 to 9", check_refusals::group_calls),
     ("group calls, exact needs", check_refusals::needs),
     ("refusals of frames", check_refusals::frames_refusals),
     ("solver against brute force", check_random::solver),
@@ -147,6 +156,44 @@ const FAMILIES: [Family; 68] = [
         "answers of two ports, all assignments",
         check_random_ports::assignments,
     ),
+    ("sheets of K11, by hand", check_one_port::by_hand),
+    ("sheets of K11, every use", check_one_port::every_use),
+    ("records of K11", check_one_port::records),
+    ("sheets of K11, random", check_one_port::random_sheets),
+    ("runs of K11", check_one_port::runs),
+    (
+        "runs of K11, wrong conversions",
+        check_one_port::wrong_conversions,
+    ),
+    ("assignments of K11", check_one_port::assignments),
+    ("the largest variable, all sizes", check_largest::all_sizes),
+    ("the largest variable, groups", check_largest::groups),
+    ("binary AIGER, the decoder", check_export::decoder),
+    ("files of K14, by hand", check_export::by_hand),
+    ("files of K14, random", check_export::random_records),
+    ("files of K14, all values", check_export::all_record_values),
+    ("files of K14, from texts", check_export::texts),
+    ("files of K14, refusals", check_export::random_refusals),
+    ("files of K14, wrong values", check_export::wrong_files),
+    ("sources of K13, by hand", check_one_write::by_hand),
+    (
+        "sources of K13, all assignments",
+        check_one_write::all_assignments,
+    ),
+    (
+        "sources of K13, altered assignments",
+        check_one_write::altered_assignments,
+    ),
+    ("sources of K13, faults", check_one_write::faults),
+    (
+        "settled by choices, all assignments",
+        check_one_write::settled_assignments,
+    ),
+    (
+        "settled by choices, doubled formulas",
+        check_one_write::doubled_formulas,
+    ),
+    ("K13 on wide netlists", check_one_write::wide_netlists),
 ];
 
 fn main() {

@@ -52,8 +52,27 @@ impl Solver {
 
     /// Visits every assignment that makes all clauses true; entry v is the value of variable v.
     pub fn models(&mut self, visit: &mut dyn FnMut(&[bool])) {
+        self.search(&mut |model| {
+            visit(model);
+            true
+        });
+    }
+
+    /// An assignment that makes all clauses true, if there is one.
+    pub fn first_model(&mut self) -> Option<Vec<bool>> {
+        let mut first = None;
+        self.search(&mut |model| {
+            first = Some(model.to_vec());
+            false
+        });
+        first
+    }
+
+    /// Visits assignments that make all clauses true as long as the visitor asks for more; whether it
+    /// still does.
+    fn search(&mut self, visit: &mut dyn FnMut(&[bool]) -> bool) -> bool {
         if self.contradiction {
-            return;
+            return true;
         }
         let free = match self.values.iter().skip(1).position(Option::is_none) {
             Some(before) => before + 1,
@@ -68,13 +87,15 @@ impl Solver {
         };
         for literal in [free as i32, -(free as i32)] {
             let mark = self.trail.len();
-            if self.assume(literal) {
-                self.models(visit);
-            }
+            let more = !self.assume(literal) || self.search(visit);
             for index in self.trail.drain(mark..) {
                 self.values[index] = None;
             }
+            if !more {
+                return false;
+            }
         }
+        true
     }
 
     fn literal_value(&self, literal: i32) -> Option<bool> {
