@@ -197,6 +197,12 @@ MARRUBIGAI_LENT marrubigai_count_reply marrubigai_write_group_at(marrubigai_netl
  * code is true, -1 where it is false. That of the code `net.p ^ 1` is the literal of not-P. The lists have no part in it. */
 MARRUBIGAI_ANSWERS marrubigai_literal_reply marrubigai_literal_at(marrubigai_netlist net, marrubigai_position position, marrubigai_code code);
 
+/* the literal that says where a word that a port reads comes from, as it stands in clauses: of a pair of frames j < i, whether frame i reads what
+ * frame j wrote; of a closing of frame i, whether it reads what the word was at the start. Where frame i reads at the port, one of these is true, and
+ * else none. A wires group or the property has none, which is 8. The lists have no part in it. */
+MARRUBIGAI_ANSWERS marrubigai_literal_reply marrubigai_source_literal(marrubigai_netlist net, uint32_t depth, uint32_t kind, uint32_t j, uint32_t i,
+    uint32_t port);
+
 /* writes the one sheet that stands for a record with its lists, and answers its length, 32 x (latches + gates + m + n + 3) bytes, and with a
  * second port 32 x (m + 1) more: 9 where the buffer is shorter. marrubigai_read of it gives the same record and lists in all entries that are
  * used, and a sheet that was read is written as the same bytes. */

@@ -26,10 +26,9 @@ use Rattle.netlist.proofs.Faults.{sizes-fit}
 use Rattle.netlist_tests.specs.Record.{testLines}
 use Rattle.netlist_tests.proofs.Record.{testLines-passes}
 use Rattle.literals.proofs.Literal.{codeAt-inverted, codeAt-wire}
-use Rattle.call_unpacked.specs.Calls.{testDepth}
 use Rattle.call_unpacked.proofs.Calls.{depth-passes}
 use Rattle.call_position.specs.Positions.{testFrame}
-use Rattle.call_position.specs.Literals.{literalVerdict, withLiteral, literalSent, inverse, InverseNegated}
+use Rattle.call_position.specs.Literals.{numberingVerdict, literalVerdict, withLiteral, literalSent, inverse, InverseNegated}
 use Rattle.call_position.specs.declared.Position.{Position}
 use Rattle.call_position.specs.declared.LiteralReply.{LiteralReply}
 use Rattle.call_position.proofs.Positions.{frame-shown}
@@ -38,17 +37,24 @@ use Rattle.call_position.proofs.Positions.{frame-shown}
 pub sizes-shown : (c : M.Netlist) → testLines c Size sizeFault ≡ Passed → SizesFit c
 sizes-shown c h = sizes-fit c .0 (testLines-passes c Size sizeFault .0 h)
 
+-- and where that of the depth does too
+pub numbering-shown : (c : M.Netlist) (k : ℕ) → numberingVerdict c k ≡ Passed → SizesFit c × (k ≤ 255)
+unfolding numberingVerdict
+numbering-shown c k h =
+    let a = then-passes (testLines c Size sizeFault) _ .0 h in
+    (sizes-shown c (a .0), depth-passes k (a .1))
+
 -- what a literal call that is not refused has shown
 pub literal-shown : (c : M.Netlist) (p : Position) (x : ℕ) → literalVerdict c p x ≡ Passed
     → SizesFit c × (p .frame ≤ 255) × (p .base ≡ base c (p .frame)) × IsCode c x
 unfolding literalVerdict
 literal-shown c p x h =
-    let a = then-passes (testLines c Size sizeFault) _ .0 h in
-    let b = then-passes (testDepth (p .depth)) _ .0 (a .1) in
-    let d = then-passes (testFrame c p (p .frame)) _ .0 (b .1) in
+    let a = then-passes (numberingVerdict c (p .depth)) _ .0 h in
+    let b = numbering-shown c (p .depth) (a .0) in
+    let d = then-passes (testFrame c p (p .frame)) _ .0 (a .1) in
     let f = frame-shown c p (p .frame) (d .0) in (
-      sizes-shown c (a .0),
-      omega (arith, f .0, depth-passes (p .depth) (b .0)),
+      b .0,
+      omega (arith, f .0, b .1),
       f .1,
       ltb-false (2 * lastWire c + 1) x (refuseIf-passes (ltb (2 * lastWire c + 1) x) CodeOutside 0 .0 (d .1)),
     )
@@ -93,18 +99,14 @@ module _ (c : M.Netlist) (p : Position) (x : ℕ) where
   inverse-passes : literalVerdict c p x ≡ Passed → literalVerdict c p (inverse x) ≡ Passed
   unfolding literalVerdict
   inverse-passes h =
-      let a = then-passes (testLines c Size sizeFault) _ .0 h in
-      let b = then-passes (testDepth (p .depth)) _ .0 (a .1) in
-      let d = then-passes (testFrame c p (p .frame)) _ .0 (b .1) in
+      let a = then-passes (numberingVerdict c (p .depth)) _ .0 h in
+      let d = then-passes (testFrame c p (p .frame)) _ .0 (a .1) in
       let most = 2 * lastWire c + 1 in
       let fits = inverse-code c x (ltb-false most x (refuseIf-passes (ltb most x) CodeOutside 0 .0 (d .1))) in
-      then-passes (testLines c Size sizeFault) _ .1 (
+      then-passes (numberingVerdict c (p .depth)) _ .1 (
         a .0,
-        then-passes (testDepth (p .depth)) _ .1 (
-          b .0,
-          then-passes (testFrame c p (p .frame)) _ .1
-              (d .0, refuseIf-passes (ltb most (inverse x)) CodeOutside 0 .1 (le-ltb most (inverse x) fits)),
-        ),
+        then-passes (testFrame c p (p .frame)) _ .1
+            (d .0, refuseIf-passes (ltb most (inverse x)) CodeOutside 0 .1 (le-ltb most (inverse x) fits)),
       )
 
   -- and answered as the negated number

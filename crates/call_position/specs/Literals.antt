@@ -21,10 +21,14 @@ use Rattle.call_position.specs.Positions.{testFrame}
 use Rattle.call_position.specs.declared.Position.{Position}
 use Rattle.call_position.specs.declared.LiteralReply.{LiteralReply}
 
+-- 4, then 7: what the numbering of a depth needs
+unfoldable pub numberingVerdict : Netlist → ℕ → Verdict
+numberingVerdict c k = testLines c Size sizeFault then testDepth k
+
 -- RULES T52: "4, then 7, 8, 16, then 5 where the code is above 2V + 1"
 unfoldable pub literalVerdict : Netlist → Position → ℕ → Verdict
 literalVerdict c p x =
-    testLines c Size sizeFault then testDepth (p .depth) then testFrame c p (p .frame)
+    numberingVerdict c (p .depth) then testFrame c p (p .frame)
     then refuseIf (ltb (2 * lastWire c + 1) x) CodeOutside 0
 
 unfoldable pub withLiteral : Verdict → ℤ → LiteralReply

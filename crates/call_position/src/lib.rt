@@ -24,7 +24,7 @@ ghost use Rattle.call_replies.specs.Replies.{groupOf};
 ghost use Rattle.call_position.specs.Positions.{testBase, testFrame, atFrame};
 ghost use Rattle.call_position.specs.Moves.{moveOf, testMove, movedTo, keptAt, withPosition, moveSent};
 ghost use Rattle.call_position.specs.GroupsAt.{groupAtSent, groupAtLeaves};
-ghost use Rattle.call_position.specs.Literals.{literalVerdict, withLiteral, literalSent, InverseNegated};
+ghost use Rattle.call_position.specs.Literals.{numberingVerdict, literalVerdict, withLiteral, literalSent, InverseNegated};
 
 // A running record: where a caller that goes frame by frame stands.
 #[repr(C)]
@@ -274,7 +274,7 @@ pub fn write_group_at(
 }
 
 // The number of a literal: 1 and -1 are the constants.
-fn number_of(term: Term) -> i32
+pub fn number_of(term: Term) -> i32
     requires { ⌜ IsTerm term ⌝ }
     ensures number { λ r. ⌜ r ≡ literalNumber (literalOf term) ⌝ }
     ensures bounded { λ r. ⌜ natAbs r < 2147483648 ⌝ }
@@ -287,7 +287,7 @@ fn number_of(term: Term) -> i32
 }
 
 // What a refused literal call answers.
-fn no_literal(refusal: Refusal, place: u32) -> LiteralReply
+pub fn no_literal(refusal: Refusal, place: u32) -> LiteralReply
     ensures { λ r. ⌜ r ≡ withLiteral (Verdict.Refused refusal place) (pos 0) ⌝ }
 {
     LiteralReply {
@@ -297,16 +297,27 @@ fn no_literal(refusal: Refusal, place: u32) -> LiteralReply
     }
 }
 
-// The tests of a literal call. It looks at no list, so none is lent.
-fn test_literal(net: Netlist, position: Position, code: Code) -> Verdict
-    ensures { λ r. ⌜ r ≡ literalVerdict (alone net) position (code .0) ⌝ }
+// Refusal 4, then 7.
+pub fn test_numbering(net: Netlist, depth: u32) -> Verdict
+    ensures { λ r. ⌜ r ≡ numberingVerdict (alone net) depth ⌝ }
 {
     let sizes = netlist_tests::test_sizes(net);
     if let Verdict::Refused(_, _) = sizes {
         return sizes;
     }
-    if 255 < position.depth {
+    if 255 < depth {
         return Verdict::Refused(Refusal::Depth, 0);
+    }
+    Verdict::Passed
+}
+
+// The tests of a literal call. It looks at no list, so none is lent.
+fn test_literal(net: Netlist, position: Position, code: Code) -> Verdict
+    ensures { λ r. ⌜ r ≡ literalVerdict (alone net) position (code .0) ⌝ }
+{
+    let asked = test_numbering(net, position.depth);
+    if let Verdict::Refused(_, _) = asked {
+        return asked;
     }
     let place = test_frame(net, position);
     if let Verdict::Refused(_, _) = place {

@@ -41,6 +41,7 @@ ghost use Rattle.replay_call.specs.RightAnswer.{RightAnswerTheorem};
 ghost use Rattle.replay_answer.specs.ReplayAnswer.{replayFor, memoryFor, traceFor};
 ghost use Rattle.call_position.specs.Moves.{moveOf, moveSent, MoveStands};
 ghost use Rattle.call_position.specs.GroupsAt.{groupAtSent, groupAtLeaves, ByFrame};
+ghost use Rattle.call_source.specs.Sources.{sourceSent};
 ghost use Rattle.call_position.specs.Literals.{literalSent, InverseNegated};
 ghost use Rattle.netlist.specs.NetOf.{alone};
 ghost use Rattle.sheet_writer.specs.WriteCall.{writeSent, writeLeaves, SheetWritten};
@@ -333,6 +334,21 @@ pub extern "C" fn marrubigai_literal_at(
     ensures inverse { λ r. ⌜ InverseNegated (alone net) position (code .0) r ⌝ }
 {
     call_position::literal_at(net, position, code)
+}
+
+// `call_source::source_literal`, of a group by its numbers.
+#[no_mangle]
+pub extern "C" fn marrubigai_source_literal(
+    net: Netlist,
+    depth: u32,
+    kind: u32,
+    j: u32,
+    i: u32,
+    port: u32,
+) -> LiteralReply
+    ensures { λ r. ⌜ r ≡ sourceSent (alone net) depth (groupOf kind j i port) ⌝ }
+{
+    call_source::source_literal(net, depth, call_replies::group_of(kind, j, i, port))
 }
 
 // `sheet_writer::write_sheet`, of lent lists.
