@@ -4,8 +4,8 @@
 use super::agreement::compare;
 use super::circuit::{Feed, Run};
 use super::formula::{
-    clause_count, frame_base, frames, group_call, heading, number_count, variables_fit, Fault,
-    Formula, Group, Heading,
+    clause_count, frame_base, frames, group_call, heading, number_count, Fault, Formula, Group,
+    Heading,
 };
 use super::netlist::{Gate, Latch, Netlist};
 use super::refusal::{Refusal, DEPTH, MEMORY_LOOP, NO_ROOM, NO_SUCH_GROUP};
@@ -505,13 +505,6 @@ pub fn largest_sizes(tally: &mut Tally) {
             .fold(most, i64::max);
     }
     tally.equal("largest number of variables", most, 675_841);
-    for (variables, fit) in [
-        (675_841, true),
-        (2_147_483_647, true),
-        (2_147_483_648, false),
-    ] {
-        tally.equal("variables fit", variables_fit(variables), fit);
-    }
 
     // Constants only take away, and the address needs wires that no read bit reaches: with a latch
     // there are the most numbers, with a gate of constants the most clauses.

@@ -1,4 +1,4 @@
-//! Every refusal with its place at its boundaries, as tables (RULES T1 to T10, T34 to T37, T39 to
+//! Every refusal with its place at its boundaries, as tables (RULES T1 to T9, T34 to T37, T39 to
 //! T41, T53, T54 and P4; the empty start field of K7, and K8).
 
 use super::check_examples::{accepted, input, of_sizes, FULL_RUN, RICH, UNKNOWN_RICH};

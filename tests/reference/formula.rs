@@ -6,8 +6,8 @@
 use std::io::Write;
 use std::ops::{Neg, RangeInclusive};
 
-use super::netlist::{Netlist, FIRST_PORT, MAX_DEPTH, SECOND_PORT};
-use super::refusal::{require, Refusal, DEPTH, NO_ROOM, NO_SUCH_GROUP, OUT_OF_NUMBERS};
+use super::netlist::{Netlist, FIRST_PORT, MAX_ADDRESS_WIDTH, MAX_DEPTH, MAX_WIRES, SECOND_PORT};
+use super::refusal::{require, Refusal, DEPTH, NO_ROOM, NO_SUCH_GROUP};
 use super::sheet::{read_depth, read_sheet, write_field};
 
 /// Deliberate mistakes of a generator (RULES M1 to M5, two on K3, some on K4, some on K7, the last on
@@ -129,9 +129,20 @@ pub struct Heading {
 
 /// B(i): the wires of frame i are numbered from B(i) + 1.
 pub fn frame_base(netlist: &Netlist, frame: u32) -> i64 {
+    base_of_sizes(netlist.wire_count(), pair_step(netlist), frame)
+}
+
+/// B(i) by V and by the variables of one pair of every port.
+fn base_of_sizes(wires: u32, step: i64, frame: u32) -> i64 {
     let i = i64::from(frame);
-    let wires = i64::from(netlist.wire_count());
-    1 + i * wires + pair_step(netlist) * i * (i - 1) / 2
+    1 + i * i64::from(wires) + step * i * (i - 1) / 2
+}
+
+/// The largest variable of a sheet of either kind at any depth (K12): B(k + 1) grows with V, with m, with
+/// the ports and with k, so it is that of all limits together.
+pub fn largest_variable() -> i64 {
+    let step = i64::from(SECOND_PORT * (MAX_ADDRESS_WIDTH + 4));
+    base_of_sizes(MAX_WIRES, step, MAX_DEPTH + 1)
 }
 
 /// Q of the pair (j, i) of the first port: its variables are numbered from Q + 1.
@@ -817,16 +828,9 @@ impl<'a> Formula<'a> {
     }
 }
 
-/// A variable's literal. The largest variable of an M sheet is 675,841 (RULES V6), that of a T sheet
-/// 1,198,081.
+/// A variable's literal; see `largest_variable`.
 fn number(variable: i64) -> Literal {
     Literal::Number(i32::try_from(variable).expect("a variable number within the bound"))
-}
-
-/// Whether all variables can be written as clause numbers (refusal 10). No accepted record at a
-/// depth of at most 255 fails this.
-pub fn variables_fit(variables: i64) -> bool {
-    variables <= i64::from(i32::MAX)
 }
 
 /// Whether there is this group of an accepted netlist: the port, the frame and the pair.
@@ -841,7 +845,7 @@ pub fn group_exists(netlist: &Netlist, depth: u32, asked: PortGroup) -> bool {
 }
 
 /// A group call for the first port with a lent slice of `room` numbers: the record's tests, then 7, 8,
-/// 10, 9. The result is what is written; its length is the count.
+/// 9. The result is what is written; its length is the count.
 pub fn group_call(
     netlist: &Netlist,
     depth: u32,
@@ -861,22 +865,20 @@ pub fn port_group_call(
     netlist.check()?;
     require(depth <= MAX_DEPTH, DEPTH, 0)?;
     require(group_exists(netlist, depth, asked), NO_SUCH_GROUP, 0)?;
-    let formula = Formula::new(netlist, depth, Fault::None);
-    require(variables_fit(formula.variable_count()), OUT_OF_NUMBERS, 0)?;
     let need = counts(netlist, depth, asked)[1];
     require(room as u64 >= need as u64, NO_ROOM, 0)?;
-    Ok(formula.port_group(asked))
+    Ok(Formula::new(netlist, depth, Fault::None).port_group(asked))
 }
 
-/// The heading call: the record's tests, then 7 and 10.
+/// The heading call: the record's tests, then 7.
 pub fn heading(netlist: &Netlist, depth: u32) -> Result<Heading, Refusal> {
     netlist.check()?;
     require(depth <= MAX_DEPTH, DEPTH, 0)?;
     let formula = Formula::new(netlist, depth, Fault::None);
-    let variables = formula.variable_count();
-    require(variables_fit(variables), OUT_OF_NUMBERS, 0)?;
-    let clauses = formula.clause_total();
-    Ok(Heading { variables, clauses })
+    Ok(Heading {
+        variables: formula.variable_count(),
+        clauses: formula.clause_total(),
+    })
 }
 
 /// What `frames` prints for this standard input.

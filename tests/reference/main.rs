@@ -1,15 +1,19 @@
-//! Self-test of the second implementation, which is written from the customer's papers (K1 to K10
+//! Self-test of the second implementation, which is written from the customer's papers (K1 to K12 and K14
 //! included), not from the code: each family of checks prints one line, the last line is the total.
 //! Build: rustc -O --edition 2021 main.rs
 
 mod agreement;
 mod aiger;
+mod aiger_binary;
 mod aiger_values;
 mod answer;
 mod answer_calls;
 mod check_aiger;
 mod check_answers;
 mod check_examples;
+mod check_export;
+mod check_largest;
+mod check_one_port;
 mod check_ports;
 mod check_position;
 mod check_random;
@@ -17,9 +21,11 @@ mod check_random_answers;
 mod check_random_ports;
 mod check_refusals;
 mod circuit;
+mod export;
 mod formula;
 mod netlist;
 mod number;
+mod one_port;
 mod position;
 mod random;
 mod random_aiger;
@@ -33,7 +39,7 @@ use tally::{Report, Tally};
 
 type Family = (&'static str, fn(&mut Tally));
 
-const FAMILIES: [Family; 68] = [
+const FAMILIES: [Family; 84] = [
     ("full runs, byte for byte", check_examples::full_runs),
     ("a run of the chip, by hand", check_examples::memory_run),
     (
@@ -49,7 +55,7 @@ const FAMILIES: [Family; 68] = [
     ("sheets, refusals 1 to 6, 9 and 17", check_refusals::sheets),
     ("sheets, length", check_refusals::sheet_lengths),
     ("records, refusals 3 to 6 and 17", check_refusals::records),
-    ("group calls, refusals 7 to 10", check_refusals::group_calls),
+    ("group calls, refusals 7 to 9", check_refusals::group_calls),
     ("group calls, exact needs", check_refusals::needs),
     ("refusals of frames", check_refusals::frames_refusals),
     ("solver against brute force", check_random::solver),
@@ -147,6 +153,25 @@ const FAMILIES: [Family; 68] = [
         "answers of two ports, all assignments",
         check_random_ports::assignments,
     ),
+    ("sheets of K11, by hand", check_one_port::by_hand),
+    ("sheets of K11, every use", check_one_port::every_use),
+    ("records of K11", check_one_port::records),
+    ("sheets of K11, random", check_one_port::random_sheets),
+    ("runs of K11", check_one_port::runs),
+    (
+        "runs of K11, wrong conversions",
+        check_one_port::wrong_conversions,
+    ),
+    ("assignments of K11", check_one_port::assignments),
+    ("the largest variable, all sizes", check_largest::all_sizes),
+    ("the largest variable, groups", check_largest::groups),
+    ("binary AIGER, the decoder", check_export::decoder),
+    ("files of K14, by hand", check_export::by_hand),
+    ("files of K14, random", check_export::random_records),
+    ("files of K14, all values", check_export::all_record_values),
+    ("files of K14, from texts", check_export::texts),
+    ("files of K14, refusals", check_export::random_refusals),
+    ("files of K14, wrong values", check_export::wrong_files),
 ];
 
 fn main() {

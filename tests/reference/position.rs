@@ -75,7 +75,7 @@ impl Position {
     }
 
     /// A group of the first port through the position, with a lent slice of `room` numbers: the record's
-    /// tests, 7, 8, 16, 10, 9.
+    /// tests, 7, 8, 16, 9.
     pub fn group(
         &self,
         netlist: &Netlist,

@@ -1,4 +1,5 @@
-//! Refusals: a number (RULES T1 to T10; 11 to 13: K1; 14 and 15: K2; 16: K5; 17: K8) and a place.
+//! Refusals: a number (RULES T1 to T9; 11 to 13: K1; 14 and 15: K2; 16: K5; 17: K8; 18: K11;
+//! 19: K14) and a place. 10 was once a number and is not used again (K12).
 
 pub const RAGGED: u32 = 1;
 pub const MISPRINT: u32 = 2;
@@ -9,7 +10,6 @@ pub const MEMORY_LOOP: u32 = 6;
 pub const DEPTH: u32 = 7;
 pub const NO_SUCH_GROUP: u32 = 8;
 pub const NO_ROOM: u32 = 9;
-pub const OUT_OF_NUMBERS: u32 = 10;
 pub const NOT_WELL_FORMED: u32 = 11;
 pub const WRONG_COUNTS: u32 = 12;
 pub const UNDEFINED: u32 = 13;
@@ -17,6 +17,8 @@ pub const BAD_ANSWER: u32 = 14;
 pub const NOTHING_BREAKS: u32 = 15;
 pub const WRONG_BASE: u32 = 16;
 pub const TIED_ADDRESS: u32 = 17;
+pub const SECOND_PORT_USED: u32 = 18;
+pub const RESET_TO_1: u32 = 19;
 
 #[derive(Clone, Copy, Debug, PartialEq, Eq)]
 pub struct Refusal {
