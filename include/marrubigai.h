@@ -90,7 +90,8 @@ enum marrubigai_refusal {
   MARRUBIGAI_NO_ANSWER = 14,
   MARRUBIGAI_NO_VIOLATION = 15,
   MARRUBIGAI_WRONG_BASE = 16,
-  MARRUBIGAI_TIED_ADDRESS = 17
+  MARRUBIGAI_TIED_ADDRESS = 17,
+  MARRUBIGAI_RESET = 19
 };
 
 /* the kinds of group */
@@ -106,6 +107,7 @@ enum marrubigai_room {
   MARRUBIGAI_GROUP_ROOM = 5992,   /* numbers of a group */
   MARRUBIGAI_HEADER_BYTES = 28,   /* what put_header writes, or put_refusal */
   MARRUBIGAI_NUMBER_BYTES = 12,   /* clauses as text: for each number */
+  MARRUBIGAI_AIGER_BYTES = 3095,  /* what export writes */
   MARRUBIGAI_MEMORY_WORDS = 4096, /* words of a memory */
   MARRUBIGAI_TRACE_BYTES = 153856 /* the lines of a run */
 };
@@ -137,6 +139,7 @@ static inline const char *marrubigai_refusal_word(uint32_t number) {
     case MARRUBIGAI_NO_VIOLATION: return "no violation";
     case MARRUBIGAI_WRONG_BASE: return "wrong base";
     case MARRUBIGAI_TIED_ADDRESS: return "tied address";
+    case MARRUBIGAI_RESET: return "reset";
     default: return "unknown";
   }
 }
@@ -207,6 +210,13 @@ MARRUBIGAI_ANSWERS marrubigai_literal_reply marrubigai_source_literal(marrubigai
  * second port 32 x (m + 1) more: 9 where the buffer is shorter. marrubigai_read of it gives the same record and lists in all entries that are
  * used, and a sheet that was read is written as the same bytes. */
 MARRUBIGAI_LENT marrubigai_count_reply marrubigai_write_sheet(marrubigai_netlist net, const marrubigai_latch *latches, size_t latch_count,
+    const marrubigai_gate *gates, size_t gate_count, uint8_t *out, size_t room);
+
+/* writes a record with its lists as a binary AIGER file, for tools that compare circuits, and answers its length: 9 where the buffer is shorter.
+ * The file's inputs are the record's inputs and then its n read bits, its outputs those of marrubigai_import, and nothing stands behind its gates;
+ * m, n and the start word are not in it. Each gate, next state and output has in it the value that it has in the record. A second port is 3 at
+ * place 2, and the first latch with reset 1 is 19 at its line. */
+MARRUBIGAI_LENT marrubigai_count_reply marrubigai_export(marrubigai_netlist net, const marrubigai_latch *latches, size_t latch_count,
     const marrubigai_gate *gates, size_t gate_count, uint8_t *out, size_t room);
 
 /* runs a solver's answer, in the SAT Competition's output form, through the frames 0 to depth. Only the inputs are taken from it, and of each

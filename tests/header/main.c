@@ -772,6 +772,31 @@ static void sheets(void) {
         refused_at(marrubigai_write_sheet(DISTINCT_NET, DISTINCT_LATCHES, 1, DISTINCT_GATES, 1, unprinted(), 0), MARRUBIGAI_OUT_OF_ORDER, 0));
 }
 
+// The record of DISTINCT with reset 0 everywhere, as a binary file: its inputs stay 1 to 3, its read bits become 4 to 8, its latches 9 and 10, its
+// gate stays 11. The gate's codes are 17 and 3: the differences are 5 and 14.
+static const marrubigai_latch DISTINCT_ZERO[] = {{.next = 22, .reset = 0}, {.next = 17, .reset = 0}};
+static const char DISTINCT_AIG[] = "aig 11 8 2 12 1\n" "22\n13\n" "18\n5\n7\n20\n" "8\n10\n11\n12\n14\n" "23\n21\n9\n" "\5\16";
+
+static void exports(void) {
+  const size_t bytes = sizeof DISTINCT_AIG - 1;
+  check("the file of the full run's chip", printed(marrubigai_export(CHIP, latches, 0, gates, 0, unprinted(), MOST_BYTES),
+                                                   "aig 2 2 0 5 0\n0\n2\n1\n1\n5\n"));
+  check("a file in a buffer of its length",
+        printed(marrubigai_export(DISTINCT_NET, DISTINCT_ZERO, 2, DISTINCT_GATES, 1, unprinted(), bytes), DISTINCT_AIG));
+  check("one byte less is too short",
+        not_printed(marrubigai_export(DISTINCT_NET, DISTINCT_ZERO, 2, DISTINCT_GATES, 1, unprinted(), bytes - 1)));
+  marrubigai_netlist unknown = DISTINCT_NET;
+  unknown.unknown_start = 1;
+  check("the start does not show",
+        printed(marrubigai_export(unknown, DISTINCT_ZERO, 2, DISTINCT_GATES, 1, unprinted(), MOST_BYTES), DISTINCT_AIG));
+  check("a reset of 1 gives 19 at its line, before the room",
+        refused_at(marrubigai_export(DISTINCT_NET, DISTINCT_LATCHES, 2, DISTINCT_GATES, 1, unprinted(), 0), MARRUBIGAI_RESET, 3));
+  check("a second port gives 3 at line 2, before that",
+        refused_at(marrubigai_export(DISTINCT_TWO_NET, DISTINCT_LATCHES, 2, DISTINCT_GATES, 1, unprinted(), 0), MARRUBIGAI_OUT_OF_ORDER, 2));
+  check("a latch list shorter than its size gives 3, place 0, before both",
+        refused_at(marrubigai_export(DISTINCT_TWO_NET, DISTINCT_LATCHES, 1, DISTINCT_GATES, 1, unprinted(), 0), MARRUBIGAI_OUT_OF_ORDER, 0));
+}
+
 // what the header calls room enough is what the largest of its kind needs, and no more, but for the lists: V leaves 599
 static void rooms(void) {
   static marrubigai_gate most_gates[MARRUBIGAI_LIST_ROOM];
@@ -788,6 +813,13 @@ static void rooms(void) {
   check("the longest sheet written", marrubigai_write_sheet(most_lines, latches, 0, most_gates, 598, sheet, sizeof sheet).count ==
                                          MARRUBIGAI_SHEET_BYTES);
   check("a longer one is", marrubigai_read(sheet, sizeof sheet, latches, 0, gates, 0).number == MARRUBIGAI_RAGGED);
+  // a gate takes four bytes at most, and the line of a latch five: all codes are of latches whose variables are above 499
+  static marrubigai_latch most_latches[MARRUBIGAI_LIST_ROOM];
+  for (size_t l = 0; l < 568; l++) most_latches[l] = (marrubigai_latch){.next = 1137, .reset = 0};
+  marrubigai_netlist all_latches = {.latches = 568, .m = 12, .n = 32, .we = 1137, .re = 1137, .p = 1137};
+  for (uint32_t t = 0; t < 12; t++) all_latches.address[t] = 1000 + 2 * t;
+  for (size_t t = 0; t < 32; t++) all_latches.write_data[t] = 1137;
+  check("the longest file", marrubigai_export(all_latches, most_latches, 568, gates, 0, sheet, sizeof sheet).count == MARRUBIGAI_AIGER_BYTES);
   check("the longest header", marrubigai_put_header(text, MARRUBIGAI_HEADER_BYTES, UINT32_MAX, UINT32_MAX).count == MARRUBIGAI_HEADER_BYTES);
   check("a refusal", marrubigai_put_refusal(text, MARRUBIGAI_HEADER_BYTES, UINT32_MAX, UINT32_MAX).count == MARRUBIGAI_HEADER_BYTES);
   check("the longest number, and one byte behind it", marrubigai_put_number(text, MARRUBIGAI_NUMBER_BYTES, INT32_MIN).count + 1 == MARRUBIGAI_NUMBER_BYTES);
@@ -905,6 +937,7 @@ int main(int count, char **arguments) {
   port_replays();
   printing();
   sheets();
+  exports();
   rooms();
   orders();
   limits();

@@ -1,16 +1,20 @@
 -- What is promised of a record's file (specs/Exported.antt). Cited by `export_binary`.
 use Prim.Native.Nat.{ℕ}
 use mathlib.Core.Path.{_≡_}
+use mathlib.Core.Bool.{Bool}
 use Rattle.model.specs.Netlist.{Netlist}
+use Rattle.model.specs.Circuit.{Values}
 use Rattle.refusals.specs.declared.Verdict.the-variants.{Passed}
-use Rattle.refusals.proofs.Tests.{first-passes}
+use Rattle.aiger_graph.specs.Aig.{AigValues, SameInOrder}
 use Rattle.aiger_graph.specs.RecordAig.{recordAig, valuesOf}
-use Rattle.aiger_graph.proofs.Values.{RenumbersAig, renumbers-back, renumbers-same, renumbered-values, record-values, renumbered-same}
+use Rattle.aiger_graph.proofs.Values.{RenumbersAig, renumbers-back, renumbers-same, renumbered-values, renumbered-same, same-then}
+use Rattle.aiger_graph.proofs.RecordAig.{record-defined, record-values}
 use Rattle.aiger_binary.specs.BinaryFile.{aigIn}
 use Rattle.aiger_binary.proofs.ReadBack.{read-as, is-binary}
 use Rattle.aiger_ordered.specs.OrderedAig.{orderOf, fileVariable, aigOf}
 use Rattle.aiger_ordered.proofs.OrderedAig.{swapped, variable-back, renumbers, writable}
-use Rattle.aiger_export.specs.ExportCall.{exportText, testExport, exportVerdict}
+use Rattle.aiger_netlist.proofs.Imported.{imported}
+use Rattle.aiger_export.specs.ExportCall.{exportText, testExport}
 use Rattle.aiger_export.specs.Exported.{Exported}
 use Rattle.aiger_export.proofs.ExportCall.{accepted, resets-zero}
 
@@ -18,6 +22,12 @@ module _ (c : Netlist) (latchCount gateCount : ℕ) (passed : testExport c latch
   -- the file's graph is the record's, under other numbers
   file-renumbers : RenumbersAig (fileVariable (orderOf c)) (recordAig c) (aigIn (exportText c))
   file-renumbers = renumbers-same (renumbers c) (read-as (aigOf c) (writable (accepted c latchCount gateCount passed .limits)))
+
+  same-values : (input latch : ℕ → Bool) (v : Values) → AigValues (aigIn (exportText c)) input latch v
+      → SameInOrder (recordAig c) (aigIn (exportText c)) (valuesOf c input latch) v
+  same-values input latch v w =
+      let fits = accepted c latchCount gateCount passed .limits .codes in
+      renumbered-same file-renumbers (record-defined fits) (record-values c fits input latch) w
 
   pub exported : Exported c (exportText c)
   exported =
@@ -31,10 +41,7 @@ module _ (c : Netlist) (latchCount gateCount : ℕ) (passed : testExport c latch
           λ x. valuesOf c input latch (fileVariable (swapped (orderOf c)) x),
           renumbered-values (renumbers-back (variable-back (orderOf c)) file-renumbers) (record-values c (limits .codes) input latch),
         );
-        same-values = λ input latch v w. renumbered-same c (limits .codes) input latch file-renumbers w;
+        same-values = same-values;
+        same-as-text = λ s m n word unknown latches gates taken agree input latch u v text file.
+            same-then (imported s m n word unknown c latches gates taken agree .same-values input latch u text) (same-values input latch v file);
       }
-
--- where no test refuses it
-pub exported-passed : (c : Netlist) (latchCount gateCount room : ℕ) → exportVerdict c latchCount gateCount room ≡ Passed → Exported c (exportText c)
-unfolding exportVerdict
-exported-passed c latchCount gateCount room e = exported c latchCount gateCount (first-passes (testExport c latchCount gateCount) _ e)

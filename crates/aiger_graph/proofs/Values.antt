@@ -1,19 +1,12 @@
--- A graph and the same under other numbers have the same values (specs/Aig.antt, specs/RecordAig.antt). No contract cites this file.
-use Prim.Native.Nat.{ℕ, _+_, _-_, _*_, _/_, _%_, _≤_, _<_}
-use mathlib.Core.Path.{_≡_, sym, _∙_, ap}
+-- A graph and the same under other numbers have the same values (specs/Aig.antt). No contract cites this file.
+use Prim.Native.Nat.{ℕ, _+_, _*_, _/_, _%_, _<_}
+use mathlib.Core.Path.{_≡_, refl, sym, _∙_, ap}
 use mathlib.Core.Bool.{Bool}
-use mathlib.Core.Logic.{by-cases}
-use native.Mathlib.Decide.{decLt, ℕ-discrete}
 use native.Mathlib.Omega.{arith}
-use borrow.Author.Tests.{lt-ltb, le-ltb, eq-eqb, ne-eqb}
-use Rattle.model.specs.Netlist.{Netlist, readBits, gateWire, lastWire}
 use Rattle.model.specs.Circuit.{Values, codeValue}
 use Rattle.model.specs.Network.{renamed}
-use Rattle.model.specs.Acceptance.{CodesFit}
-use Rattle.model.proofs.Circuit.{Solves, evaluate-solves}
-use Rattle.model.proofs.Renumbering.{SameOperands, straight, crossed, Renumbers, SourceWire, netlist-defined, wire-defined, gates-same-value, codes-same-value, solves-obeys, renumbered-obeys}
+use Rattle.model.proofs.Renumbering.{Defined, OperandsDefined, gate, SameOperands, straight, crossed, Renumbers, gates-same-value, codes-same-value, renumbered-obeys}
 use Rattle.aiger_graph.specs.Aig.{Aig, AigValues, SameCounts, SameAig, SameInOrder}
-use Rattle.aiger_graph.specs.RecordAig.{inputOrRead, outputOf, recordAig, valuesOf}
 
 -- the graph b is a, where variable x has the number ρ x
 pub record RenumbersAig (ρ : ℕ → ℕ) (a b : Aig) : Type 0 where
@@ -103,77 +96,60 @@ renumbered-values {ρ} {a} {b} r {input} {latch} {v} w =
       at-latch = λ l h. ap v (sym (r .latches-renamed l h)) ∙ w .at-latch l (rw (r .counts-same .latches-same) at h);
     }
 
--- an output's code is within its limit, where all codes are
-pub output-fits : {c : Netlist} → CodesFit c → (o : ℕ) → outputOf c o / 2 ≤ lastWire c
-unfolding outputOf
-output-fits {c} fits o =
-    by-cases (decLt o (c .m)) (λ b. rw (lt-ltb o (c .m) b) (omega (arith, fits .address-fits 1 (omega arith, omega arith) o b)))
-    (λ b. rw (le-ltb o (c .m) (omega arith))
-    (by-cases (decLt o (c .m + c .n)) (λ d. rw (lt-ltb o (c .m + c .n) d) (omega (arith, fits .data-fits (o - c .m) (omega arith))))
-    (λ d. rw (le-ltb o (c .m + c .n) (omega arith))
-    (by-cases (ℕ-discrete o (c .m + c .n)) (λ e. rw (eq-eqb o (c .m + c .n) e) (omega (arith, fits .WE-fits)))
-    (λ e. rw (ne-eqb o (c .m + c .n) e)
-    (by-cases (ℕ-discrete o (c .m + c .n + 1))
-    (λ f. rw (eq-eqb o (c .m + c .n + 1) f) (omega (arith, fits .RE-fits 1 (omega arith, omega arith))))
-    (λ f. rw (ne-eqb o (c .m + c .n + 1) f) (omega (arith, fits .P-fits)))))))))
+-- the variables of inputs and latches
+pub data AigSource (a : Aig) (v : ℕ) : Type 0 where
+  an-input : (x : ℕ) → x < a .inputs → v ≡ a .inputVariable x → AigSource a v
+  a-latch : (l : ℕ) → l < a .latches → v ≡ a .latchVariable l → AigSource a v
 
--- a record's own values are values of its graph
-module _ (c : Netlist) (fits : CodesFit c) (input latch : ℕ → Bool) where
-  abbrev u : Values
-  u = valuesOf c input latch
+-- every code names the constant, an input, a latch or a gate, for a gate's operand an earlier one
+pub record AigDefined (a : Aig) : Type 0 where
+  pub operands-defined : OperandsDefined (a .network) (AigSource a)
+  pub next-defined : (l : ℕ) → l < a .latches → Defined (a .network) (AigSource a) (a .next l / 2)
+  pub output-defined : (o : ℕ) → o < a .outputs → Defined (a .network) (AigSource a) (a .output o / 2)
 
-  solved : Solves c input latch (λ t. input (c .inputs + t)) u
-  solved = evaluate-solves c input latch (λ t. input (c .inputs + t)) fits
+-- whatever the values of a graph and of the same under other numbers are, everything has in one the value that it has in the other
+module _ {ρ : ℕ → ℕ} {a b : Aig} (r : RenumbersAig ρ a b) (defined : AigDefined a) {input latch : ℕ → Bool} {u v : Values}
+    (p : AigValues a input latch u) (q : AigValues b input latch v) where
+  seen : AigValues a input latch (λ x. v (ρ x))
+  seen = renumbered-values r q
 
-  input-value : (x : ℕ) → x < c .inputs + readBits c → u (inputOrRead c x) ≡ input x
-  unfolding inputOrRead
-  input-value x b =
-      by-cases (decLt x (c .inputs)) (λ l. rw (lt-ltb x (c .inputs) l) (solved .at-input x l))
-      (λ l.
-      let back : c .inputs + (x - c .inputs) ≡ x = omega arith in
-      rw (le-ltb x (c .inputs) (omega arith)) (solved .at-read (x - c .inputs) (omega arith) ∙ ap input back))
+  sources-same : (x : ℕ) → AigSource a x → u x ≡ v (ρ x)
+  sources-same x (an-input y h e) = rw e (p .at-input y h ∙ sym (seen .at-input y h))
+  sources-same x (a-latch l h e) = rw e (p .at-latch l h ∙ sym (seen .at-latch l h))
 
-  pub record-values : AigValues (recordAig c) input latch u
-  record-values = record { gates-obeyed = solves-obeys solved; at-input = input-value; at-latch = solved .at-latch }
+  code-value : (x : ℕ) → Defined (a .network) (AigSource a) (x / 2) → codeValue u x ≡ codeValue v (renamed ρ x)
+  code-value = codes-same-value (r .gates-renamed) (defined .operands-defined) (p .gates-obeyed) (q .gates-obeyed) sources-same
 
-  -- whatever the values of the same graph under other numbers are, everything has in it the value that it has in the record
-  module _ {ρ : ℕ → ℕ} {b : Aig} (r : RenumbersAig ρ (recordAig c) b) {v : Values} (w : AigValues b input latch v) where
-    seen : AigValues (recordAig c) input latch (λ x. v (ρ x))
-    seen = renumbered-values r w
+  pub renumbered-same : SameInOrder a b u v
+  renumbered-same =
+      record {
+        counts-same = r .counts-same;
+        input-same = λ x h. p .at-input x h ∙ sym (q .at-input x (rw (r .counts-same .inputs-same) at h));
+        latch-same = λ l h. p .at-latch l h ∙ sym (q .at-latch l (rw (r .counts-same .latches-same) at h));
+        gate-same = λ g h.
+            gates-same-value (r .gates-renamed) (defined .operands-defined) (p .gates-obeyed) (q .gates-obeyed) sources-same
+            (a .network .own g) (gate g h refl)
+            ∙ ap v (sym (r .gates-renamed .own-same g h));
+        next-same = λ l h. code-value (a .next l) (defined .next-defined l h) ∙ ap (codeValue v) (sym (r .next-renamed l h));
+        output-same = λ o h. code-value (a .output o) (defined .output-defined o h) ∙ ap (codeValue v) (sym (r .output-renamed o h));
+      }
 
-    -- a wire before the gates is the constant's, an input's, a latch's or a read bit's
-    sources-same : (x : ℕ) → SourceWire c x → u x ≡ v (ρ x)
-    unfolding inputOrRead
-    sources-same x b =
-        by-cases (ℕ-discrete x 0) (λ z. rw z (solved .at-zero ∙ sym (seen .gates-obeyed .at-zero)))
-        (λ z.
-        by-cases (decLt x (1 + c .inputs))
-        (λ l.
-        let e : 1 + (x - 1) ≡ x = omega arith in
-        rw (e, lt-ltb (x - 1) (c .inputs) (omega arith)) at (solved .at-input (x - 1) (omega arith) ∙ sym (seen .at-input (x - 1) (omega arith))))
-        (λ l.
-        by-cases (decLt x (1 + c .inputs + c .latches))
-        (λ k.
-        let e : 1 + c .inputs + (x - (1 + c .inputs)) ≡ x = omega arith in
-        rw e at (solved .at-latch (x - (1 + c .inputs)) (omega arith) ∙ sym (seen .at-latch (x - (1 + c .inputs)) (omega arith))))
-        (λ k.
-        let t : ℕ = x - (1 + c .inputs + c .latches) in
-        let e : 1 + c .inputs + c .latches + t ≡ x = omega arith in
-        let f : c .inputs + t - c .inputs ≡ t = omega arith in
-        rw (f, e, le-ltb (c .inputs + t) (c .inputs) (omega arith)) at (solved .at-read t (omega arith) ∙ sym (seen .at-input (c .inputs + t) (omega arith))))))
-
-    code-value : (x : ℕ) → x / 2 ≤ lastWire c → codeValue u x ≡ codeValue v (renamed ρ x)
-    code-value x h =
-        codes-same-value (r .gates-renamed) (netlist-defined fits) (solves-obeys solved) (w .gates-obeyed) sources-same x (wire-defined c (x / 2) h)
-
-    pub renumbered-same : SameInOrder (recordAig c) b u v
-    renumbered-same =
-        record {
-          counts-same = r .counts-same;
-          gate-same = λ g h.
-              gates-same-value (r .gates-renamed) (netlist-defined fits) (solves-obeys solved) (w .gates-obeyed) sources-same (gateWire c g)
-              (wire-defined c (gateWire c g) (omega arith))
-              ∙ ap v (sym (r .gates-renamed .own-same g h));
-          next-same = λ l h. code-value (c .next l) (omega (arith, fits .next-fits l h)) ∙ ap (codeValue v) (sym (r .next-renamed l h));
-          output-same = λ o h. code-value (outputOf c o) (output-fits fits o) ∙ ap (codeValue v) (sym (r .output-renamed o h));
-        }
+-- and so on from one to the next
+pub same-then : {a b d : Aig} {u v w : Values} → SameInOrder a b u v → SameInOrder b d v w → SameInOrder a d u w
+same-then {a} {b} {d} p q =
+    let first = p .counts-same in
+    let then = q .counts-same in
+    record {
+      counts-same =
+          record {
+            inputs-same = first .inputs-same ∙ then .inputs-same;
+            latches-same = first .latches-same ∙ then .latches-same;
+            outputs-same = first .outputs-same ∙ then .outputs-same;
+            gates-same = first .gates-same ∙ then .gates-same;
+          };
+      input-same = λ x h. p .input-same x h ∙ q .input-same x (rw (first .inputs-same) at h);
+      latch-same = λ l h. p .latch-same l h ∙ q .latch-same l (rw (first .latches-same) at h);
+      gate-same = λ g h. p .gate-same g h ∙ q .gate-same g (rw (first .gates-same) at h);
+      next-same = λ l h. p .next-same l h ∙ q .next-same l (rw (first .latches-same) at h);
+      output-same = λ o h. p .output-same o h ∙ q .output-same o (rw (first .outputs-same) at h);
+    }

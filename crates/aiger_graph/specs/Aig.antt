@@ -1,6 +1,6 @@
 -- An and-inverter graph as AIGER has it (the format report of 2007), however it is numbered and written: an ASCII text, a binary file, a
 -- record. What it says of the values of its variables, as equations; and when two graphs have the same values, in order. Cited by
--- aiger_graph/specs/RecordAig and by what is said of a file.
+-- aiger_graph/specs/RecordAig, and by what is said of a text that is imported and of a file that is exported.
 use Prim.Native.Nat.{ℕ, _<_}
 use mathlib.Core.Path.{_≡_}
 use mathlib.Core.Bool.{Bool}
@@ -44,9 +44,12 @@ pub record SameAig (a b : Aig) : Type 0 where
   pub left-same : (g : ℕ) → g < a .network .gates → a .network .left g ≡ b .network .left g
   pub right-same : (g : ℕ) → g < a .network .gates → a .network .right g ≡ b .network .right g
 
--- each gate, next state and output, in order, has in one graph, where u are the values, the value that it has in the other, where v are
+-- each input, latch, gate, next state and output, in order, has in one graph, where u are the values, the value that it has in the other,
+-- where v are
 pub record SameInOrder (a b : Aig) (u v : Values) : Type 0 where
   pub counts-same : SameCounts a b
+  pub input-same : (x : ℕ) → x < a .inputs → u (a .inputVariable x) ≡ v (b .inputVariable x)
+  pub latch-same : (l : ℕ) → l < a .latches → u (a .latchVariable l) ≡ v (b .latchVariable l)
   pub gate-same : (g : ℕ) → g < a .network .gates → u (a .network .own g) ≡ v (b .network .own g)
   pub next-same : (l : ℕ) → l < a .latches → codeValue u (a .next l) ≡ codeValue v (b .next l)
   pub output-same : (o : ℕ) → o < a .outputs → codeValue u (a .output o) ≡ codeValue v (b .output o)

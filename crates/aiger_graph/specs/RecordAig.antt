@@ -1,5 +1,5 @@
 -- The graph of a record, by its own wires and codes: the read bits are its last inputs, its outputs address, write data, WE, RE and P
--- (RULES I6). Cited by what is said of a file that is exported.
+-- (RULES I6). Cited by what is said of a text that is imported and of a file that is exported.
 use Prim.Native.Nat.{ℕ, _+_, _-_}
 use mathlib.Core.Bool.{Bool, cond}
 use lib.Dec.{ltb, eqb}

@@ -23,7 +23,7 @@ use Rattle.aiger_lines.specs.declared.Part.the-variants.{Latch}
 use Rattle.aiger_lines.proofs.Parts.{well-count}
 use Rattle.aiger_definitions.specs.Definitions.{numberAt}
 use Rattle.aiger_netlist.specs.TextNetlist.{codeFrom, netOfCodes, aagNet}
-use Rattle.aiger_netlist.specs.TextValues.{nextAt, outputAt}
+use Rattle.aiger_netlist.specs.TextAig.{nextAt, outputAt}
 use Rattle.aiger_netlist.proofs.Lines.{part-latch}
 use Rattle.aiger_netlist.proofs.Defined.{Known, constant, line, next-known, output-known, left-known, right-known}
 use Rattle.aiger_netlist.proofs.Codes.{wire-zero}

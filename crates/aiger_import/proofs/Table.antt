@@ -13,7 +13,7 @@ use Rattle.aiger_lines.specs.Steps.{Behind}
 use Rattle.aiger_lines.specs.declared.Counts.{Counts}
 use Rattle.aiger_definitions.specs.Definitions.{numberAt, definedAt}
 use Rattle.aiger_netlist.specs.TextNetlist.{wireOf}
-use Rattle.aiger_netlist.specs.TextValues.{outputAt}
+use Rattle.aiger_netlist.specs.TextAig.{outputAt}
 use Rattle.aiger_netlist.proofs.Lines.{Defining, by-input, by-latch, by-gate, defining-defines, wire-input, wire-read, wire-latch, wire-gate}
 use Rattle.aiger_codes.specs.WireTable.{WireTable}
 use Rattle.aiger_codes.specs.Filling.{firstsBehind, entryOf, putFrom, TableFilled}

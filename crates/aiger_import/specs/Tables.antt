@@ -14,7 +14,7 @@ use Rattle.aiger_lines.specs.Parts.{countsIn}
 use Rattle.aiger_lines.specs.Steps.{Behind}
 use Rattle.aiger_netlist.specs.TextNetlist.{textSizes}
 use Rattle.aiger_netlist.specs.ImportVerdict.{textVerdict}
-use Rattle.aiger_netlist.specs.TextValues.{outputAt}
+use Rattle.aiger_netlist.specs.TextAig.{outputAt}
 use Rattle.aiger_codes.specs.WireTable.{WireTable}
 
 -- the sizes of a text, with the caller's numbers in a record

@@ -21,7 +21,7 @@ use Rattle.aiger_lines.specs.Parts.{countsIn, linesDue, textGateLine}
 use Rattle.aiger_lines.specs.declared.Counts.{Counts}
 use Rattle.aiger_definitions.specs.Definitions.{numberAt}
 use Rattle.aiger_netlist.specs.TextNetlist.{textSizes, wireOf, wireOfVariable, codeFrom, netOfCodes, aagNet}
-use Rattle.aiger_netlist.specs.TextValues.{nextAt, outputAt}
+use Rattle.aiger_netlist.specs.TextAig.{nextAt, outputAt}
 use Rattle.aiger_netlist.proofs.Lines.{Defining, by-input, by-latch, by-gate, wire-input, wire-read, wire-latch, wire-gate}
 use Rattle.aiger_netlist.proofs.Defined.{WellDefined, Known, constant, line, wire-defined, next-known, output-known, left-known, right-known}
 

@@ -17,7 +17,7 @@ use Rattle.aiger_lines.proofs.Parts.{well-defined}
 use Rattle.aiger_definitions.specs.Definitions.{numberAt, definedAt, definesAgain, isUndefined, undefinedAt}
 use Rattle.aiger_definitions.proofs.Places.{defined-first, defined-before, latch-defined, output-defined, gate-defined}
 use Rattle.aiger_netlist.specs.TextNetlist.{wireOf, definingLine, wireOfVariable}
-use Rattle.aiger_netlist.specs.TextValues.{nextAt, outputAt}
+use Rattle.aiger_netlist.specs.TextAig.{nextAt, outputAt}
 use Rattle.aiger_netlist.proofs.Lines.{Defining, part-latch, part-output, part-gate, defining, defining-due, defining-defines}
 
 -- no line due has one of the faults

@@ -2,5 +2,5 @@
 -- Nothing here imports a law or a proof.
 pub mod TextNetlist
 pub mod ImportVerdict
-pub mod TextValues
+pub mod TextAig
 pub mod Imported

@@ -10,7 +10,8 @@ use Rattle.model.specs.Network.{renamed}
 use Rattle.model.specs.Acceptance.{WithinLimits}
 use Rattle.model.proofs.Renumbering.{SameOperands, straight, crossed}
 use Rattle.aiger_graph.specs.RecordAig.{inputOrRead, outputOf, recordAig}
-use Rattle.aiger_graph.proofs.Values.{RenumbersAig, output-fits}
+use Rattle.aiger_graph.proofs.Values.{RenumbersAig}
+use Rattle.aiger_graph.proofs.RecordAig.{output-fits}
 use Rattle.aiger_binary.specs.BinaryText.{Writable}
 use Rattle.aiger_ordered.specs.OrderedAig.{orderOf, fileVariable, fileCode, aigOf}
 use Rattle.aiger_ordered.specs.declared.FileOrder.{FileOrder}

@@ -45,6 +45,8 @@ ghost use Rattle.call_source.specs.Sources.{sourceSent};
 ghost use Rattle.call_position.specs.Literals.{literalSent, InverseNegated};
 ghost use Rattle.netlist.specs.NetOf.{alone};
 ghost use Rattle.sheet_writer.specs.WriteCall.{writeSent, writeLeaves, SheetWritten};
+ghost use Rattle.aiger_export.specs.ExportCall.{exportSent, exportLeaves};
+ghost use Rattle.aiger_export.specs.Exported.{ExportTheorem};
 ghost use Rattle.call_replies.specs.Replies.{groupOf, orderFor, nextNumbers, sheetNumbers, headerVersion};
 
 // The version of include/marrubigai.h that the library is built for.
@@ -368,6 +370,32 @@ pub extern "C" fn marrubigai_write_sheet(
     let mut gate_codes = [0; 1200];
     call_lists::unpack::unpack_gates(&mut gate_codes, gates);
     call_replies::print_numbers(sheet_writer::write_sheet(
+        net,
+        &latch_codes,
+        latches.len(),
+        &gate_codes,
+        gates.len(),
+        out,
+    ))
+}
+
+// `aiger_export::export_binary`, of lent lists.
+#[no_mangle]
+pub extern "C" fn marrubigai_export(
+    net: Netlist,
+    latches: &[LatchEntry],
+    gates: &[GateEntry],
+    out: &mut [u8],
+) -> CountReply
+    ensures answer { λ r. ⌜ r ≡ exportSent (netLent net (now (latches .entry)) (now (gates .entry))) (length (now (latches .entry))) (length (now (gates .entry))) (length (now (out .entry))) ⌝ }
+    ensures borrowed { λ _. ⌜ now (out .exit) ≡ exportLeaves (netLent net (now (latches .entry)) (now (gates .entry))) (length (now (latches .entry))) (length (now (gates .entry))) (now (out .entry)) ⌝ }
+    ensures exported { λ _. ⌜ ExportTheorem ⌝ }
+{
+    let mut latch_codes = [0; 1200];
+    call_lists::unpack::unpack_latches(&mut latch_codes, latches);
+    let mut gate_codes = [0; 1200];
+    call_lists::unpack::unpack_gates(&mut gate_codes, gates);
+    call_replies::print_numbers(aiger_export::export_binary(
         net,
         &latch_codes,
         latches.len(),

@@ -1,5 +1,5 @@
--- Which refusals an input can meet (RULES P6): those that its tests have, and 9 not, as 600 records are enough for every sheet that passes the
--- others. Cited by `read_input`.
+-- Which refusals an input can meet (RULES P6), and a sheet: those that their tests have, and 9 not, as 600 records are enough for every sheet that
+-- passes the others. Cited by `read_input`, and by what prints of a sheet alone.
 use Prim.Native.Nat.{ℕ, zero, suc, _+_, _≤_}
 use mathlib.Core.Path.{_≡_, refl, sym, _∙_, subst}
 use mathlib.Core.Bool.{Bool, true, false, not}
@@ -32,89 +32,96 @@ use Rattle.sheet_tests.proofs.Codes.{accepted-in}
 use Rattle.program_input.specs.Input.{sheetIn, OnlyInputRefusals}
 use Rattle.program_input.proofs.Replies.{depth-decides, sheet-decides}
 
--- a refusal of 1 to 7 or 17; and a verdict that has no other
-abbrev Due : Refusal → Type 0
-Due r = (refusalNumber r ≤ 7) ⊎ (refusalNumber r ≡ 17)
+-- a refusal of 1 to `most` or 17; and a verdict that has no other
+abbrev Due : ℕ → Refusal → Type 0
+Due most r = (refusalNumber r ≤ most) ⊎ (refusalNumber r ≡ 17)
 
-abbrev Only : Verdict → Type 0
-Only Passed = Unit {0}
-Only (Refused r p) = Due r
+abbrev pub Only : ℕ → Verdict → Type 0
+Only most Passed = Unit {0}
+Only most (Refused r p) = Due most r
 
-only-if : (b : Bool) (r : Refusal) (p : ℕ) → Due r → Only (refuseIf b r p)
-only-if true r p h = h
-only-if false r p h = tt
+only-if : (most : ℕ) (b : Bool) (r : Refusal) (p : ℕ) → Due most r → Only most (refuseIf b r p)
+only-if most true r p h = h
+only-if most false r p h = tt
 
-only-then : (v w : Verdict) → Only v → (v ≡ Passed → Only w) → Only (v then w)
+only-then : (most : ℕ) (v w : Verdict) → Only most v → (v ≡ Passed → Only most w) → Only most (v then w)
 unfolding _then_
-only-then Passed w a b = b refl
-only-then (Refused r p) w a b = a
+only-then most Passed w a b = b refl
+only-then most (Refused r p) w a b = a
 
-only-in-order : (test : ℕ → Verdict) → ((p : ℕ) → Only (test p)) → (n : ℕ) → Only (inOrder test n)
+only-in-order : (most : ℕ) (test : ℕ → Verdict) → ((p : ℕ) → Only most (test p)) → (n : ℕ) → Only most (inOrder test n)
 unfolding inOrder
-only-in-order test h zero = tt
-only-in-order test h (suc n) = only-then (inOrder test n) (test (suc n)) (only-in-order test h n) (λ e. h (suc n))
+only-in-order most test h zero = tt
+only-in-order most test h (suc n) = only-then most (inOrder test n) (test (suc n)) (only-in-order most test h n) (λ e. h (suc n))
 
-only-depth : (s : List ℕ) → Only (depthVerdict s)
+only-depth : (s : List ℕ) → Only 7 (depthVerdict s)
 unfolding depthVerdict fieldVerdict
 only-depth s =
     let f = depthField s in
-    only-then (refuseIf (not (asWanted mustBeFilled f)) Misprint 0) (refuseIf (ltb mostDepth (valueOf f)) Depth 0)
-    (only-if (not (asWanted mustBeFilled f)) Misprint 0 (inl (omega arith)))
-    (λ e. only-if (ltb mostDepth (valueOf f)) Depth 0 (inl (omega arith)))
+    only-then 7 (refuseIf (not (asWanted mustBeFilled f)) Misprint 0) (refuseIf (ltb mostDepth (valueOf f)) Depth 0)
+    (only-if 7 (not (asWanted mustBeFilled f)) Misprint 0 (inl (omega arith)))
+    (λ e. only-if 7 (ltb mostDepth (valueOf f)) Depth 0 (inl (omega arith)))
 
-only-lines : (c : Netlist) (r : Refusal) (fault : Netlist → Line → Bool) → Due r → Only (testLines c r fault)
+-- of a sheet, 1 to 6 and 17
+only-lines : (c : Netlist) (r : Refusal) (fault : Netlist → Line → Bool) → Due 6 r → Only 6 (testLines c r fault)
 unfolding testLines
-only-lines c r fault h = only-in-order (testLine c r fault) (λ p. only-if (fault c (lineAt c p)) r p h) (controlLine c)
+only-lines c r fault h = only-in-order 6 (testLine c r fault) (λ p. only-if 6 (fault c (lineAt c p)) r p h) (controlLine c)
 
-only-port : (c : Netlist) → Only (testPorts c)
+only-port : (c : Netlist) → Only 6 (testPorts c)
 only-port c =
-    only-then (testLines c TiedAddress tieFault) (testLines c MemoryLoop loopFault)
+    only-then 6 (testLines c TiedAddress tieFault) (testLines c MemoryLoop loopFault)
     (only-lines c TiedAddress tieFault (inr refl)) (λ e. only-lines c MemoryLoop loopFault (inl (omega arith)))
 
-only-line : (c : Netlist) (file : List ℕ) (p : ℕ) → Only (testLineIn c file p)
+only-line : (c : Netlist) (file : List ℕ) (p : ℕ) → Only 6 (testLineIn c file p)
 unfolding testLineIn faultsAt
 only-line c file p =
-    only-then (refuseIf (misprinted (lineIn file p)) Misprint p) (refuseIf (notDue c file p) OutOfOrder p then faultsAt c (lineAt c p) p)
-    (only-if (misprinted (lineIn file p)) Misprint p (inl (omega arith)))
-    (λ e. only-then (refuseIf (notDue c file p) OutOfOrder p) (faultsAt c (lineAt c p) p)
-    (only-if (notDue c file p) OutOfOrder p (inl (omega arith)))
-    (λ e. only-then (refuseIf (sizeFault c (lineAt c p)) Size p) (refuseIf (codeFault c (lineAt c p)) CodeOutside p)
-    (only-if (sizeFault c (lineAt c p)) Size p (inl (omega arith)))
-    (λ e. only-if (codeFault c (lineAt c p)) CodeOutside p (inl (omega arith)))))
+    only-then 6 (refuseIf (misprinted (lineIn file p)) Misprint p) (refuseIf (notDue c file p) OutOfOrder p then faultsAt c (lineAt c p) p)
+    (only-if 6 (misprinted (lineIn file p)) Misprint p (inl (omega arith)))
+    (λ e. only-then 6 (refuseIf (notDue c file p) OutOfOrder p) (faultsAt c (lineAt c p) p)
+    (only-if 6 (notDue c file p) OutOfOrder p (inl (omega arith)))
+    (λ e. only-then 6 (refuseIf (sizeFault c (lineAt c p)) Size p) (refuseIf (codeFault c (lineAt c p)) CodeOutside p)
+    (only-if 6 (sizeFault c (lineAt c p)) Size p (inl (omega arith)))
+    (λ e. only-if 6 (codeFault c (lineAt c p)) CodeOutside p (inl (omega arith)))))
 
 module _ (file : List ℕ) where
   lines : Verdict
   lines = inOrder (testLineIn (netIn file) file) (lineCount file)
 
-  only-end : Only (endVerdict (netIn file) (lineCount file))
+  only-end : Only 6 (endVerdict (netIn file) (lineCount file))
   unfolding endVerdict
   only-end =
       let missing = ltb (lineCount file) (controlLine (netIn file)) in
-      only-then (refuseIf missing OutOfOrder (lineCount file + 1)) (testPorts (netIn file))
-      (only-if missing OutOfOrder (lineCount file + 1) (inl (omega arith))) (λ e. only-port (netIn file))
+      only-then 6 (refuseIf missing OutOfOrder (lineCount file + 1)) (testPorts (netIn file))
+      (only-if 6 missing OutOfOrder (lineCount file + 1) (inl (omega arith))) (λ e. only-port (netIn file))
 
-  only-file : Only (fileVerdict file)
+  only-file : Only 6 (fileVerdict file)
   unfolding fileVerdict lines
   only-file =
-      only-then (refuseIf (ragged file) Ragged 0) (lines then endVerdict (netIn file) (lineCount file))
-      (only-if (ragged file) Ragged 0 (inl (omega arith)))
-      (λ e. only-then lines (endVerdict (netIn file) (lineCount file))
-      (only-in-order (testLineIn (netIn file) file) (only-line (netIn file) file) (lineCount file)) (λ e. only-end))
+      only-then 6 (refuseIf (ragged file) Ragged 0) (lines then endVerdict (netIn file) (lineCount file))
+      (only-if 6 (ragged file) Ragged 0 (inl (omega arith)))
+      (λ e. only-then 6 lines (endVerdict (netIn file) (lineCount file))
+      (only-in-order 6 (testLineIn (netIn file) file) (only-line (netIn file) file) (lineCount file)) (λ e. only-end))
 
   long-enough : fileVerdict file ≡ Passed → listsShort (netIn file) 600 600 ≡ false
   long-enough e =
       let fit = accepted-in file e .limits .sizes in
       lists-long (netIn file) 600 600 .1 (omega (arith, fit .latches-fit), omega (arith, fit .gates-fit))
 
-  only-sheet : Only (sheetIn file)
+  pub only-sheet : Only 6 (sheetIn file)
   unfolding sheetVerdict
   only-sheet =
-      only-then (fileVerdict file) (refuseIf (listsShort (netIn file) 600 600) NoRoom 0) only-file
+      only-then 6 (fileVerdict file) (refuseIf (listsShort (netIn file) 600 600) NoRoom 0) only-file
       (λ e. rw (long-enough e) tt)
+
+-- and no other of an input
+only-more : (v : Verdict) → Only 6 v → Only 7 v
+only-more Passed h = tt
+only-more (Refused r p) (inl h) = inl (omega arith)
+only-more (Refused r p) (inr h) = inr h
 
 pub only-refusals : OnlyInputRefusals
 only-refusals s r p e = by-depth (depthVerdict s) refl
   where
-    by-depth : (v : Verdict) → depthVerdict s ≡ v → Due r
-    by-depth Passed h = subst Only (sym (sheet-decides s h) ∙ e) (only-sheet (drop 11 s))
-    by-depth (Refused q x) h = subst Only (sym (depth-decides s h) ∙ e) (subst Only h (only-depth s))
+    by-depth : (v : Verdict) → depthVerdict s ≡ v → Due 7 r
+    by-depth Passed h = subst (Only 7) (sym (sheet-decides s h) ∙ e) (only-more (sheetIn (drop 11 s)) (only-sheet (drop 11 s)))
+    by-depth (Refused q x) h = subst (Only 7) (sym (depth-decides s h) ∙ e) (subst (Only 7) h (only-depth s))

@@ -1,27 +1,22 @@
 -- `aiger_export::export_binary` meets its contract: the tests of the record; the file aside, then the room and the copy.
-use Prim.Native.Nat.{ℕ, _≤_}
+use Prim.Native.Nat.{_≤_}
 use mathlib.Core.Path.{_≡_, sym, _∙_}
-use mathlib.Core.List.{List}
 use native.Mathlib.Omega.{arith}
 use borrow.Author.Needs.{needs}
-use lib.ListN.{length, take, drop}
-use lib.Seq.{length-take-le, take-append-seam}
+use lib.ListN.{length, take}
+use lib.Seq.{length-take-le}
 use Rattle.refusals.specs.Tests.{_then_}
 use Rattle.refusals.specs.Slices.{withCount, contentsAfter}
 use Rattle.refusals.specs.declared.Verdict.the-variants.{Passed}
 use Rattle.refusals.proofs.Slices.{room-enough, room-short}
-use Rattle.model.specs.Wrote.{Wrote}
 use Rattle.netlist.specs.NetOf.{netOf}
+use Rattle.group_counts.proofs.Counted.{wrote-front}
 use Rattle.dimacs.specs.PrintCalls.{printReply}
 use Rattle.aiger_export.specs.ExportCall.{exportText, testExport, exportVerdict, exportSent, exportLeaves}
 use Rattle.aiger_export.proofs.ExportCall.{accepted}
-use Rattle.aiger_export.proofs.Exported.{exported-passed}
+use Rattle.aiger_export.proofs.Exported.{exported}
 use Rattle.aiger_export.proofs.export_binary.Statement.{statement}
 use Rattle.aiger_export.proofs.export_binary.Tie as tie
-
--- what is written stands in front
-wrote-front : {xs old new : List ℕ} {r : ℕ} → Wrote xs old new r → take r new ≡ xs
-wrote-front {xs} {old} w = rw (w .counted, w .leaves) (take-append-seam xs (drop (length xs) old))
 
 test-export-requires : tie.Need-test-export-requires
 test-export-requires c κs = search needs
@@ -33,7 +28,7 @@ returns : tie.Need-returns
 unfolding printReply exportVerdict exportSent exportLeaves withCount contentsAfter _then_
 returns c =
     let v = sym (c .before .before .before .test-export .ensures) ∙ c .before .refusal .given .1 in
-    (rw v, (rw v, exported-passed _ _ _ _))
+    (rw v, (rw v, exported))
 
 enum-told : tie.Need-enum-told
 enum-told c = search needs
@@ -55,7 +50,7 @@ returns-2 c =
     let v = passed (c .before .before .before .before) in
     let w = c .before .before .put-file .ensures .0 in
     let short = room-short (length (exportText (netOf (a .net) (a .latches .now) (a .gates .now)))) (length (a .out .now)) (omega (arith, w .counted, c .if1 .taken)) in
-    (rw (v, short), (rw (v, short), exported-passed _ _ _ _))
+    (rw (v, short), (rw (v, short), exported))
 
 -- the file is within what was written aside
 within : (c : tie.After-put-file) → c .put-file .result ≤ length (c .put-file .last .0)
@@ -84,7 +79,7 @@ returns-3 c =
     let w = c .before .before .before .before .before .before .before .put-file .ensures .0 in
     let x = rw (wrote-front w) at (c .before .before .write-word .ensures) in
     let enough = room-enough (length (exportText (netOf (a .net) (a .latches .now) (a .gates .now)))) (length (a .out .now)) (omega (arith, w .counted, c .before .before .before .before .before .if1 .left)) in
-    (rw (v, enough, x .counted), (rw (v, enough) (x .leaves), exported-passed _ _ _ _))
+    (rw (v, enough, x .counted), (rw (v, enough) (x .leaves), exported))
 
 pub export-binary-spec : {M : Type 1} → statement M
 export-binary-spec =

@@ -10,7 +10,7 @@ use Rattle.netlist.specs.NetOf.{firstAt, netOf, alone}
 use Rattle.netlist.specs.declared.Netlist.{Netlist}
 use Rattle.netlist.proofs.NetOf.{limits-without-latches, limits-without-gates}
 use Rattle.aiger_graph.specs.RecordAig.{outputOf}
-use Rattle.aiger_graph.proofs.Values.{output-fits}
+use Rattle.aiger_graph.proofs.RecordAig.{output-fits}
 use Rattle.aiger_binary.specs.BinaryText.{aigText}
 use Rattle.aiger_writer.specs.Parts.{OrderFits, GatesFit}
 use Rattle.aiger_writer.proofs.put_file.Statement.{statement}

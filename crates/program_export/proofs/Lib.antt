@@ -1,0 +1,2 @@
+-- Laws of specs/. No contract cites them.
+pub mod Printed

@@ -1,0 +1,2 @@
+-- What `export_aig` prints. Nothing here imports a law or a proof.
+pub mod Printed
