@@ -90,9 +90,11 @@ report() {
 frames=target/bin/frames
 replay=target/bin/replay
 import=target/bin/import_aag
+export=target/bin/export_aig
+programs=("$frames" "$replay" "$import" "$export")
 
 # the longest first
-start "replay against the second implementation" replay "$logs/runner" "$frames" "$replay" "$import" replay
+start "replay against the second implementation" replay "$logs/runner" "${programs[@]}" replay
 echo "== the static library: rt staticlib marrubigai"
 linked=(-L target/staticlib -l static=marrubigai)
 if {
@@ -100,10 +102,10 @@ if {
     compile "$logs" verilog tests/verilog/main.rs "${linked[@]}"
 } > "$logs/staticlib.out" 2>&1; then
   pass
-  start "frames against the second implementation" frames "$logs/runner" "$frames" "$replay" "$import" frames docs/FORMAT.md
+  start "frames against the second implementation" frames "$logs/runner" "${programs[@]}" frames docs/FORMAT.md
   start "the library against the second implementation" library "$logs/library"
-  start "from Verilog to an imported netlist and a shown run, with yosys and abc" verilog \
-    bash tests/verilog.sh "$frames" "$replay" "$import" "$logs/verilog"
+  start "from Verilog to an imported netlist, an exported file and a shown run, with yosys and abc" verilog \
+    bash tests/verilog.sh "${programs[@]}" "$logs/verilog"
   start "a sample of the library's calls under valgrind" library-valgrind valgrind --quiet --error-exitcode=99 "$logs/library" sample
   start "the header for C against the library" header bash tests/header.sh
   start "the command marrubigai, with yosys and sanitizers" command bash tests/command.sh "$frames" "$replay"
@@ -112,7 +114,8 @@ else
   cat "$logs/staticlib.out"
   fail "the static library"
 fi
-start "import_aag against the second implementation" import_aag "$logs/runner" "$frames" "$replay" "$import" import_aag
+start "import_aag against the second implementation" import_aag "$logs/runner" "${programs[@]}" import_aag
+start "export_aig against the second implementation" export_aig "$logs/runner" "${programs[@]}" export_aig
 start "import_aag as a program" import bash tests/import.sh "$import"
 start "the second implementation's own tests" reference "$logs/reference"
 start "the formula of frames, with public solvers" solvers "$logs/solvers" "$frames" "$logs/solvers-scratch" examples

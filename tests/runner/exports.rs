@@ -221,6 +221,16 @@ extern "C" {
         room: usize,
     ) -> CountReply;
 
+    fn marrubigai_export(
+        net: Record,
+        latches: *const LatchRecord,
+        latch_count: usize,
+        gates: *const GateRecord,
+        gate_count: usize,
+        out: *mut u8,
+        room: usize,
+    ) -> CountReply;
+
     fn marrubigai_read(
         file: *const u8,
         length: usize,
@@ -472,6 +482,22 @@ impl Lists {
         // SAFETY: each pointer and length are those of a live slice, and only `out` is written to.
         written_into(room, unprinted, |out, room| unsafe {
             marrubigai_write_sheet(
+                self.record,
+                self.latches.as_ptr(),
+                self.latches.len(),
+                self.gates.as_ptr(),
+                self.gates.len(),
+                out,
+                room,
+            )
+        })
+    }
+
+    /// A call that writes the record's binary AIGER file into a buffer of `room` bytes: the bytes written.
+    pub fn export(&self, room: usize) -> Answer<Vec<u8>> {
+        // SAFETY: each pointer and length are those of a live slice, and only `out` is written to.
+        written_into(room, unprinted, |out, room| unsafe {
+            marrubigai_export(
                 self.record,
                 self.latches.as_ptr(),
                 self.latches.len(),

@@ -200,7 +200,7 @@ fn change_header(random: &mut Random, text: &mut Vec<u8>) {
 pub fn calls(library: &Library, tally: &mut Tally, seed: u64, count: usize) {
     let mut random = Random::new(seed);
     for _ in 0..count {
-        match random.below(17) {
+        match random.below(18) {
             0 => {
                 let file = sheet(&mut random);
                 let line = small_or_limit(&mut random);
@@ -241,6 +241,13 @@ pub fn calls(library: &Library, tally: &mut Tally, seed: u64, count: usize) {
                 let (depth, ports) = (random.below(6), port(&mut random));
                 let of = group(&mut random);
                 calls::order_agrees(tally, &calls::order_of(depth, ports), depth, ports, of);
+            }
+            16 => {
+                let mut netlist = record(&mut random);
+                if random.percent(70) {
+                    netlist.latches.iter_mut().for_each(|latch| latch.reset = 0);
+                }
+                library.export_agrees(tally, &netlist, room(&mut random));
             }
             _ => {
                 let netlist = record(&mut random);

@@ -4,6 +4,7 @@
 //! Build: rustc -O --edition 2021 -L FOLDER -l static=marrubigai library.rs
 
 mod calls;
+mod exported_files;
 mod exports;
 mod fuzz_exports;
 mod imports;
@@ -23,7 +24,7 @@ use reference::tally::{Report, Tally};
 
 /// How often a function answered each refusal number; entry 0 counts successes.
 #[derive(Default)]
-pub struct Counts([usize; 18]);
+pub struct Counts([usize; 20]);
 
 impl Counts {
     fn add<T>(counts: &RefCell<Counts>, answer: &Answer<T>) {
@@ -45,6 +46,7 @@ impl Counts {
 pub struct Library {
     reads: RefCell<Counts>,
     sheets: RefCell<Counts>,
+    exports: RefCell<Counts>,
     lines: RefCell<Counts>,
     imports: RefCell<Counts>,
     calls: RefCell<Counts>,
@@ -64,7 +66,7 @@ pub struct Library {
 /// A name, its checks, and whether they are part of a sample.
 type Family = (&'static str, fn(&Library, &mut Tally), bool);
 
-const FAMILIES: [Family; 41] = [
+const FAMILIES: [Family; 44] = [
     ("facts of the full run", calls::stated, true),
     ("table of group calls", calls::table_of_calls, true),
     ("table of records", calls::table_of_records, true),
@@ -86,6 +88,9 @@ const FAMILIES: [Family; 41] = [
     ("sheets written and read back", written_sheets::round_trips, false),
     ("sheets read and written back", written_sheets::damaged_sheets, false),
     ("rooms of sheets", written_sheets::rooms, false),
+    ("tables of exported files", exported_files::tables, true),
+    ("random records exported", exported_files::random_records, false),
+    ("texts imported and exported", exported_files::texts, false),
     ("tables of imports", imports::tables, false),
     ("imports, sets of faults", imports::fault_sets, false),
     ("imports, predicted faults", imports::predicted_faults, false),
@@ -110,9 +115,10 @@ const FAMILIES: [Family; 41] = [
 
 /// Each function, and the numbers that the tests must have made it answer: all that it has. 10 has none.
 fn every_number(library: &Library, tally: &mut Tally) {
-    let rows: [(&str, &RefCell<Counts>, &[usize]); 15] = [
+    let rows: [(&str, &RefCell<Counts>, &[usize]); 16] = [
         ("read", &library.reads, &[1, 2, 3, 4, 5, 6, 9, 17]),
         ("write_sheet", &library.sheets, &[3, 4, 5, 6, 9, 17]),
+        ("export", &library.exports, &[3, 4, 5, 6, 9, 17, 19]),
         ("next_line", &library.lines, &[2]),
         ("import", &library.imports, &[4, 6, 9, 11, 12, 13, 17]),
         ("write_group", &library.calls, &[3, 4, 5, 6, 7, 8, 9, 17]),

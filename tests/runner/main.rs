@@ -1,12 +1,13 @@
-//! Tests of the programs `frames`, `replay` and `import_aag` against the second implementation, with fixed seeds.
-//! `main FRAMES REPLAY IMPORT frames PAGE` runs those of `frames`, with the examples of the page; `replay` or `import_aag` in place of
-//! `frames PAGE` those of the others; `fuzz COUNT [SEED]` as many hostile inputs as asked for. The last line is `N passed, M failed`.
+//! Tests of the programs `frames`, `replay`, `import_aag` and `export_aig` against the second implementation, with fixed seeds.
+//! `main FRAMES REPLAY IMPORT EXPORT frames PAGE` runs those of `frames`, with the examples of the page; `replay`, `import_aag` or `export_aig`
+//! in place of `frames PAGE` those of the others; `fuzz COUNT [SEED]` as many hostile inputs as asked for. The last line is `N passed, M failed`.
 //! Started in the repository's folder.
 //! Build: rustc -O --edition 2021 main.rs
 
 mod accepted;
 mod answer_files;
 mod damaged;
+mod exported_sheets;
 mod faults;
 mod fuzz;
 mod memory;
@@ -149,10 +150,29 @@ fn of_import(import: &Program) -> Report {
     report
 }
 
+fn of_export(export: &Program) -> Report {
+    let mut report = Report::default();
+    report.family("tables of sheets", |tally| exported_sheets::tables(export, tally));
+    report.family("lengths of sheets", |tally| exported_sheets::lengths(export, tally));
+    report.family("random and hostile sheets", |tally| {
+        exported_sheets::sheets(export, tally, 306, 8_000)
+    });
+    report.family("streams", |tally| exported_sheets::streams(export, tally));
+    report.family("a sample under valgrind", |tally| {
+        let export = export.under(&memory::VALGRIND);
+        exported_sheets::sheets(&export, tally, 307, 24)
+    });
+    report.family("refusal numbers", |tally| {
+        every_number(export, tally, &exported_sheets::OF_EXPORT)
+    });
+    report
+}
+
 fn hostile(
     program: &Program,
     replay: &Replay,
     import: &Program,
+    export: &Program,
     count: usize,
     seed: Option<&&str>,
 ) -> Report {
@@ -167,30 +187,36 @@ fn hostile(
     report.family("import_aag: hostile texts", |tally| {
         texts::texts(import, tally, seed, count)
     });
+    report.family("export_aig: hostile sheets", |tally| {
+        exported_sheets::sheets(export, tally, seed, count)
+    });
     report
 }
 
 fn main() {
     let words: Vec<String> = std::env::args().skip(1).collect();
     let words: Vec<&str> = words.iter().map(String::as_str).collect();
-    let (paths, rest) = words.split_at(words.len().min(3));
+    let (paths, rest) = words.split_at(words.len().min(4));
     let folder = std::env::temp_dir().join(format!("runner-{}", std::process::id()));
     fs::create_dir(&folder).expect("a folder for answers and outputs");
     let program = Program::new(absolute(paths[0]), Path::new("."), frames);
     let replay = Replay::new(absolute(paths[1]), absolute(paths[0]), &folder);
     let import = Program::new(absolute(paths[2]), Path::new("."), |_| Vec::new());
+    let export = Program::new(absolute(paths[3]), Path::new("."), exported_sheets::printed);
     let report = match rest {
         ["frames", page] => of_frames(&program, Path::new(page), &folder),
         ["replay"] => of_replay(&replay),
         ["import_aag"] => of_import(&import),
+        ["export_aig"] => of_export(&export),
         ["fuzz", count, seed @ ..] if seed.len() <= 1 => hostile(
             &program,
             &replay,
             &import,
+            &export,
             count.parse().expect("how many inputs"),
             seed.first(),
         ),
-        _ => panic!("usage: FRAMES REPLAY IMPORT, then frames PAGE, replay, import_aag or fuzz COUNT [SEED]"),
+        _ => panic!("usage: FRAMES REPLAY IMPORT EXPORT, then frames PAGE, replay, import_aag, export_aig or fuzz COUNT [SEED]"),
     };
     fs::remove_dir_all(&folder).expect("removing the folder");
     report.finish()

@@ -28,10 +28,10 @@ impl Ran {
     }
 }
 
-/// How often each refusal number was printed; entry 0 counts formulas, runs and sheets.
+/// How often each refusal number was printed; entry 0 counts formulas, runs, sheets and binary files.
 pub type Counts = [usize; CLAIMED + 2];
 /// The entry for `claimed unsatisfiable`, behind those of all refusals; the next is for anything else.
-pub const CLAIMED: usize = 18;
+pub const CLAIMED: usize = 20;
 
 pub struct Program {
     path: PathBuf,
@@ -204,7 +204,8 @@ pub fn collect(mut child: Child) -> Ran {
 /// The entry of the counts that a text belongs to.
 pub fn outcome(output: &[u8]) -> usize {
     let is_run = output.first().map_or(false, u8::is_ascii_digit);
-    if is_run || output.starts_with(b"p cnf ") || output.starts_with(b"N ") {
+    let starts = [&b"p cnf "[..], b"N ", b"aig "];
+    if is_run || starts.iter().any(|start| output.starts_with(start)) {
         return 0;
     }
     if output == b"claimed unsatisfiable\n" {

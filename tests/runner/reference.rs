@@ -6,6 +6,8 @@
 pub mod agreement;
 #[path = "../reference/aiger.rs"]
 pub mod aiger;
+#[path = "../reference/aiger_binary.rs"]
+pub mod aiger_binary;
 #[path = "../reference/aiger_values.rs"]
 pub mod aiger_values;
 #[path = "../reference/check_aiger.rs"]
@@ -26,6 +28,8 @@ pub mod check_position;
 pub mod check_refusals;
 #[path = "../reference/circuit.rs"]
 pub mod circuit;
+#[path = "../reference/export.rs"]
+pub mod export;
 #[path = "../reference/formula.rs"]
 pub mod formula;
 #[path = "../reference/netlist.rs"]
