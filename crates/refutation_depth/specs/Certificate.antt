@@ -37,8 +37,11 @@ unfoldable pub foundOf : Netlist → ℕ → List ℤ → List ℕ → Checked
 foundOf c k lemmas hints = checked (base c (k + 1) + 1) (formula c k) lemmas hints
 
 -- a verdict and what is found as a reply (RULES U5)
+abbrev pub refusedWith : ℕ → ℕ → CertificateReply
+refusedWith number place = record { number = number; place = place; certified = 0; lemma = 0 }
+
 unfoldable pub certificateReply : Verdict → Checked → CertificateReply
-certificateReply (Refused r p) found = record { number = refusalNumber r; place = p; certified = 0; lemma = 0 }
+certificateReply (Refused r p) found = refusedWith (refusalNumber r) p
 certificateReply Passed Refuted = record { number = 0; place = 0; certified = 1; lemma = 0 }
 certificateReply Passed (Unjustified i) = record { number = 0; place = 0; certified = 0; lemma = i }
 

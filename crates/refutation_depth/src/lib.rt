@@ -16,7 +16,7 @@ ghost use Rattle.model.specs.Wrote.{over};
 ghost use Rattle.refusals.specs.Slices.{contentsAfter};
 ghost use Rattle.netlist.specs.NetOf.{netOf, alone};
 ghost use Rattle.refutation_depth.specs.Certified.{CertifiedInput};
-ghost use Rattle.refutation_depth.specs.Certificate.{marksNeed, roomVerdict, foundOf, certificateReply, certificateSent, storeAfter};
+ghost use Rattle.refutation_depth.specs.Certificate.{marksNeed, roomVerdict, foundOf, refusedWith, certificateReply, certificateSent, storeAfter};
 
 // What a check of a certificate answers: number and place (0 where it is not refused); 1 where the depth is certified; where it is not, the first lemma
 // that does not follow by its hints, counted from 0.
@@ -106,7 +106,7 @@ fn check_depth(
 
 // What is sent back of a refusal.
 fn refused(number: u32, place: u32) -> CertificateReply
-    ensures { λ r. ⌜ r ≡ (record { number = number; place = place; certified = 0; lemma = 0 } : CertificateReply) ⌝ }
+    ensures { λ r. ⌜ r ≡ refusedWith number place ⌝ }
 {
     CertificateReply {
         number,
@@ -187,5 +187,14 @@ pub fn certify(
     if taken.number != 0 {
         return refused(taken.number, taken.place);
     }
-    certify_net(taken.net, &latches, &gates, taken.depth, lemmas, hints, store, marks)
+    certify_net(
+        taken.net,
+        &latches,
+        &gates,
+        taken.depth,
+        lemmas,
+        hints,
+        store,
+        marks,
+    )
 }
