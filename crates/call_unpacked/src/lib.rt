@@ -113,7 +113,7 @@ pub fn test_group(
 }
 
 // Copies numbers to the start of a slice that has room for them.
-fn copy_numbers(out: &mut [i32], numbers: &[i32]) -> usize
+pub fn copy_numbers(out: &mut [i32], numbers: &[i32]) -> usize
     requires { ⌜ length (now numbers) ≤ length (now out) ⌝ }
     ensures { λ r. ⌜ Wrote (now (numbers .entry)) (now (out .entry)) (now (out .exit)) r ⌝ }
 {

@@ -13,6 +13,7 @@ use literals::Code;
 use model::Group;
 use netlist::Netlist;
 use refusals::CountReply;
+use refutation_depth::CertificateReply;
 use replay_call::ReplayReply;
 use sheet_parse::LineReply;
 use sheet_parse::SheetReader;
@@ -47,6 +48,8 @@ ghost use Rattle.netlist.specs.NetOf.{alone};
 ghost use Rattle.sheet_writer.specs.WriteCall.{writeSent, writeLeaves, SheetWritten};
 ghost use Rattle.aiger_export.specs.ExportCall.{exportSent, exportLeaves};
 ghost use Rattle.aiger_export.specs.Exported.{ExportTheorem};
+ghost use Rattle.refutation_depth.specs.Certified.{CertifiedInput};
+ghost use Rattle.refutation_depth.specs.Certificate.{certificateSent, storeAfter};
 ghost use Rattle.call_replies.specs.Replies.{groupOf, orderFor, nextNumbers, sheetNumbers, headerVersion};
 
 // The version of include/marrubigai.h that the library is built for.
@@ -403,4 +406,21 @@ pub extern "C" fn marrubigai_export(
         gates.len(),
         out,
     ))
+}
+
+// `refutation_depth::certify`.
+#[no_mangle]
+pub extern "C" fn marrubigai_certify(
+    input: &[u8],
+    lemmas: &[i32],
+    hints: &[u32],
+    store: &mut [i32],
+    marks: &mut [u32],
+) -> CertificateReply
+    ensures answer { λ r. ⌜ r ≡ certificateSent (now (input .entry)) (now (lemmas .entry)) (now (hints .entry)) (length (now (store .entry))) (length (now (marks .entry))) ⌝ }
+    ensures certified { λ r. ⌜ (r .certified ≡ 1 → CertifiedInput (now (input .entry))) ⌝ }
+    ensures store { λ _. ⌜ now (store .exit) ≡ storeAfter (now (input .entry)) (now (lemmas .entry)) (now (store .entry)) (length (now (marks .entry))) ⌝ }
+    ensures marks { λ r. ⌜ ((r .number ≡ 0 → ⊥) → now (marks .exit) ≡ now (marks .entry)) ⌝ }
+{
+    refutation_depth::certify(input, lemmas, hints, store, marks)
 }

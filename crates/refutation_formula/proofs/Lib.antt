@@ -1,0 +1,4 @@
+-- Laws for the proofs of this crate. No contract cites them.
+pub mod Order
+pub mod WhereRoom
+pub mod SoFar
