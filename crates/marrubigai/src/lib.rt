@@ -44,6 +44,7 @@ ghost use Rattle.call_position.specs.GroupsAt.{groupAtSent, groupAtLeaves, ByFr
 ghost use Rattle.call_position.specs.Literals.{literalSent, InverseNegated};
 ghost use Rattle.netlist.specs.NetOf.{alone};
 ghost use Rattle.sheet_writer.specs.WriteCall.{writeSent, writeLeaves, SheetWritten};
+ghost use Rattle.sheet_one_port.specs.OnePortCall.{onePortSent, onePortLeaves, OnePortTheorem};
 ghost use Rattle.call_replies.specs.Replies.{groupOf, orderFor, nextNumbers, sheetNumbers, headerVersion};
 
 // The version of include/marrubigai.h that the library is built for.
@@ -359,4 +360,14 @@ pub extern "C" fn marrubigai_write_sheet(
         gates.len(),
         out,
     ))
+}
+
+// `sheet_one_port::convert`.
+#[no_mangle]
+pub extern "C" fn marrubigai_one_port(file: &[u8], out: &mut [u8]) -> CountReply
+    ensures answer { λ r. ⌜ r ≡ onePortSent (now (file .entry)) (length (now (out .entry))) ⌝ }
+    ensures borrowed { λ _. ⌜ now (out .exit) ≡ onePortLeaves (now (file .entry)) (now (out .entry)) ⌝ }
+    ensures converted { λ _. ⌜ OnePortTheorem ⌝ }
+{
+    call_replies::print_numbers(sheet_one_port::convert(file, out))
 }

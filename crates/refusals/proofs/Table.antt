@@ -10,7 +10,7 @@ use Rattle.refusals.specs.declared.Refusal.{Refusal}
 use Rattle.refusals.specs.declared.Verdict.{Verdict}
 use Rattle.refusals.specs.declared.Verdict.the-variants.{Passed, Refused}
 use Rattle.refusals.specs.declared.Reply.{Reply}
-use Rattle.refusals.specs.declared.Refusal.the-variants.{Ragged, Misprint, OutOfOrder, Size, CodeOutside, MemoryLoop, Depth, NoSuchGroup, NoRoom, OutOfNumbers, NotAiger, Interface, Undefined, NoAnswer, NoViolation, WrongBase, TiedAddress, Reset}
+use Rattle.refusals.specs.declared.Refusal.the-variants.{Ragged, Misprint, OutOfOrder, Size, CodeOutside, MemoryLoop, Depth, NoSuchGroup, NoRoom, OutOfNumbers, NotAiger, Interface, Undefined, NoAnswer, NoViolation, WrongBase, TiedAddress, SecondPort, Reset}
 
 -- every word's number is at least 1
 pub refusalNumber-some : (r : Refusal) → 1 ≤ refusalNumber r
@@ -31,6 +31,7 @@ refusalNumber-some NoAnswer = omega arith
 refusalNumber-some NoViolation = omega arith
 refusalNumber-some WrongBase = omega arith
 refusalNumber-some TiedAddress = omega arith
+refusalNumber-some SecondPort = omega arith
 refusalNumber-some Reset = omega arith
 
 -- so number 0 is sent back where no test refuses
@@ -57,7 +58,8 @@ refusalOf n =
     (cond (eqb n 14) NoAnswer
     (cond (eqb n 15) NoViolation
     (cond (eqb n 16) WrongBase
-    (cond (eqb n 17) TiedAddress Reset))))))))))))))))
+    (cond (eqb n 17) TiedAddress
+    (cond (eqb n 18) SecondPort Reset)))))))))))))))))
 
 abbrev verdictOf : Reply → Verdict
 verdictOf r = cond (eqb (r .number) 0) Passed (Refused (refusalOf (r .number)) (r .place))
@@ -81,6 +83,7 @@ verdictOf-reply (Refused NoAnswer p) = refl
 verdictOf-reply (Refused NoViolation p) = refl
 verdictOf-reply (Refused WrongBase p) = refl
 verdictOf-reply (Refused TiedAddress p) = refl
+verdictOf-reply (Refused SecondPort p) = refl
 verdictOf-reply (Refused Reset p) = refl
 
 -- so a verdict is known by what it sends back

@@ -1,8 +1,8 @@
--- The numbers of the refusals (RULES T1 to T17 and T19): the only place that has them. Cited by `number`, `reply_of` and every
+-- The numbers of the refusals (RULES T1 to T19): the only place that has them. Cited by `number`, `reply_of` and every
 -- definition of what is sent back.
 use Prim.Native.Nat.{ℕ}
 use Rattle.refusals.specs.declared.Refusal.{Refusal}
-use Rattle.refusals.specs.declared.Refusal.the-variants.{Ragged, Misprint, OutOfOrder, Size, CodeOutside, MemoryLoop, Depth, NoSuchGroup, NoRoom, OutOfNumbers, NotAiger, Interface, Undefined, NoAnswer, NoViolation, WrongBase, TiedAddress, Reset}
+use Rattle.refusals.specs.declared.Refusal.the-variants.{Ragged, Misprint, OutOfOrder, Size, CodeOutside, MemoryLoop, Depth, NoSuchGroup, NoRoom, OutOfNumbers, NotAiger, Interface, Undefined, NoAnswer, NoViolation, WrongBase, TiedAddress, SecondPort, Reset}
 use Rattle.refusals.specs.declared.Verdict.{Verdict}
 use Rattle.refusals.specs.declared.Verdict.the-variants.{Passed, Refused}
 use Rattle.refusals.specs.declared.Reply.{Reply}
@@ -26,6 +26,7 @@ refusalNumber NoAnswer = 14
 refusalNumber NoViolation = 15
 refusalNumber WrongBase = 16
 refusalNumber TiedAddress = 17
+refusalNumber SecondPort = 18
 refusalNumber Reset = 19
 
 -- RULES T43: "A refusal returns its number and place"; where nothing is refused both are 0

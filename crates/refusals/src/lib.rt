@@ -1,4 +1,4 @@
-// The numbered errors (RULES T1 to T17 and T19), and what a chain of tests answers.
+// The numbered errors (RULES T1 to T19), and what a chain of tests answers.
 ghost use mathlib.Core.Path.{_≡_};
 ghost use Rattle.refusals.specs.Refusal.{refusalNumber, replyOf};
 
@@ -21,6 +21,7 @@ pub enum Refusal {
     NoViolation,
     WrongBase,
     TiedAddress,
+    SecondPort,
     Reset,
 }
 
@@ -67,6 +68,7 @@ pub fn number(refusal: Refusal) -> u32
         Refusal::NoViolation => 15,
         Refusal::WrongBase => 16,
         Refusal::TiedAddress => 17,
+        Refusal::SecondPort => 18,
         Refusal::Reset => 19,
     }
 }
