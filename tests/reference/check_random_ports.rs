@@ -504,8 +504,9 @@ pub fn ports_alike(tally: &mut Tally) {
     }
 }
 
-/// For each variable of the M netlist's formula, the one of the T netlist's.
-fn renumbering(two: &Netlist, one: &Netlist, old_wires: &[u32], depth: u32) -> Vec<i32> {
+/// For each variable of the M netlist's formula, the one of the T netlist's; a wire of the M netlist is
+/// that of `old_wires` in the T netlist.
+pub fn renumbering(two: &Netlist, one: &Netlist, old_wires: &[u32], depth: u32) -> Vec<i32> {
     let mut variables = vec![0; frame_base(one, depth + 1) as usize + 1];
     variables[1] = 1;
     for i in 0..=depth {

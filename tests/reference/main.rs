@@ -1,4 +1,4 @@
-//! Self-test of the second implementation, which is written from the customer's papers (K1 to K10
+//! Self-test of the second implementation, which is written from the customer's papers (K1 to K11
 //! included), not from the code: each family of checks prints one line, the last line is the total.
 //! Build: rustc -O --edition 2021 main.rs
 
@@ -10,6 +10,7 @@ mod answer_calls;
 mod check_aiger;
 mod check_answers;
 mod check_examples;
+mod check_one_port;
 mod check_ports;
 mod check_position;
 mod check_random;
@@ -20,6 +21,7 @@ mod circuit;
 mod formula;
 mod netlist;
 mod number;
+mod one_port;
 mod position;
 mod random;
 mod random_aiger;
@@ -33,7 +35,7 @@ use tally::{Report, Tally};
 
 type Family = (&'static str, fn(&mut Tally));
 
-const FAMILIES: [Family; 68] = [
+const FAMILIES: [Family; 75] = [
     ("full runs, byte for byte", check_examples::full_runs),
     ("a run of the chip, by hand", check_examples::memory_run),
     (
@@ -147,6 +149,16 @@ const FAMILIES: [Family; 68] = [
         "answers of two ports, all assignments",
         check_random_ports::assignments,
     ),
+    ("sheets of K11, by hand", check_one_port::by_hand),
+    ("sheets of K11, every use", check_one_port::every_use),
+    ("records of K11", check_one_port::records),
+    ("sheets of K11, random", check_one_port::random_sheets),
+    ("runs of K11", check_one_port::runs),
+    (
+        "runs of K11, wrong conversions",
+        check_one_port::wrong_conversions,
+    ),
+    ("assignments of K11", check_one_port::assignments),
 ];
 
 fn main() {

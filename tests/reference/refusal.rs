@@ -1,4 +1,5 @@
-//! Refusals: a number (RULES T1 to T10; 11 to 13: K1; 14 and 15: K2; 16: K5; 17: K8) and a place.
+//! Refusals: a number (RULES T1 to T10; 11 to 13: K1; 14 and 15: K2; 16: K5; 17: K8;
+//! 18: K11) and a place.
 
 pub const RAGGED: u32 = 1;
 pub const MISPRINT: u32 = 2;
@@ -17,6 +18,7 @@ pub const BAD_ANSWER: u32 = 14;
 pub const NOTHING_BREAKS: u32 = 15;
 pub const WRONG_BASE: u32 = 16;
 pub const TIED_ADDRESS: u32 = 17;
+pub const SECOND_PORT_USED: u32 = 18;
 
 #[derive(Clone, Copy, Debug, PartialEq, Eq)]
 pub struct Refusal {
