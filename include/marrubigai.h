@@ -91,6 +91,7 @@ enum marrubigai_refusal {
   MARRUBIGAI_NO_VIOLATION = 15,
   MARRUBIGAI_WRONG_BASE = 16,
   MARRUBIGAI_TIED_ADDRESS = 17,
+  MARRUBIGAI_SECOND_PORT = 18,
   MARRUBIGAI_RESET = 19
 };
 
@@ -139,6 +140,7 @@ static inline const char *marrubigai_refusal_word(uint32_t number) {
     case MARRUBIGAI_NO_VIOLATION: return "no violation";
     case MARRUBIGAI_WRONG_BASE: return "wrong base";
     case MARRUBIGAI_TIED_ADDRESS: return "tied address";
+    case MARRUBIGAI_SECOND_PORT: return "second port";
     case MARRUBIGAI_RESET: return "reset";
     default: return "unknown";
   }
@@ -211,6 +213,11 @@ MARRUBIGAI_ANSWERS marrubigai_literal_reply marrubigai_source_literal(marrubigai
  * used, and a sheet that was read is written as the same bytes. */
 MARRUBIGAI_LENT marrubigai_count_reply marrubigai_write_sheet(marrubigai_netlist net, const marrubigai_latch *latches, size_t latch_count,
     const marrubigai_gate *gates, size_t gate_count, uint8_t *out, size_t room);
+
+/* converts a sheet with two ports to one with one port that has the same runs, and answers its length, 32 x (m + 1) bytes less; a sheet with one
+ * port is written as it is. 1 to 6 and 17 as where a sheet is read; then 18 at the first line that has a code of a read bit of the second port, or
+ * at the R line where its code is not 0; then 9 where the buffer is shorter than what is to be written. */
+MARRUBIGAI_LENT marrubigai_count_reply marrubigai_one_port(const uint8_t *file, size_t bytes, uint8_t *out, size_t room);
 
 /* writes a record with its lists as a binary AIGER file, for tools that compare circuits, and answers its length: 9 where the buffer is shorter.
  * The file's inputs are the record's inputs and then its n read bits, its outputs those of marrubigai_import, and nothing stands behind its gates;

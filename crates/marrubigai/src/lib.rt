@@ -50,6 +50,7 @@ ghost use Rattle.aiger_export.specs.ExportCall.{exportSent, exportLeaves};
 ghost use Rattle.aiger_export.specs.Exported.{ExportTheorem};
 ghost use Rattle.refutation_depth.specs.Certified.{CertifiedInput};
 ghost use Rattle.refutation_depth.specs.Certificate.{certificateSent, storeAfter};
+ghost use Rattle.sheet_one_port.specs.OnePortCall.{onePortSent, onePortLeaves, OnePortTheorem};
 ghost use Rattle.call_replies.specs.Replies.{groupOf, orderFor, nextNumbers, sheetNumbers, headerVersion};
 
 // The version of include/marrubigai.h that the library is built for.
@@ -423,4 +424,14 @@ pub extern "C" fn marrubigai_certify(
     ensures marks { λ r. ⌜ ((r .number ≡ 0 → ⊥) → now (marks .exit) ≡ now (marks .entry)) ⌝ }
 {
     refutation_depth::certify(input, lemmas, hints, store, marks)
+}
+
+// `sheet_one_port::convert`.
+#[no_mangle]
+pub extern "C" fn marrubigai_one_port(file: &[u8], out: &mut [u8]) -> CountReply
+    ensures answer { λ r. ⌜ r ≡ onePortSent (now (file .entry)) (length (now (out .entry))) ⌝ }
+    ensures borrowed { λ _. ⌜ now (out .exit) ≡ onePortLeaves (now (file .entry)) (now (out .entry)) ⌝ }
+    ensures converted { λ _. ⌜ OnePortTheorem ⌝ }
+{
+    call_replies::print_numbers(sheet_one_port::convert(file, out))
 }

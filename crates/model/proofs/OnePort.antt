@@ -1,9 +1,9 @@
--- A netlist with two ports, of which nothing uses the second, as a netlist with one: that one is accepted too and has the same runs. For the
--- conversion of sheets with two ports; no contract cites this file yet.
+-- A netlist with two ports, of which nothing uses the second, as a netlist with one (specs/OnePort.antt): that one is accepted too and has
+-- the same runs. No contract cites this file.
 use Prim.Native.Nat.{ℕ, zero, suc, _+_, _-_, _*_, _/_, _≤_, _<_}
 use mathlib.Core.Path.{_≡_, refl, sym, _∙_, ap, ap₂, subst}
-use mathlib.Core.Bool.{Bool, false, cond, _&&_, true≢false}
-use mathlib.Core.Logic.{_↔_, by-cases}
+use mathlib.Core.Bool.{Bool, false, _&&_, true≢false}
+use mathlib.Core.Logic.{by-cases}
 use native.Mathlib.Nat.{zero-mul, one-mul, add-zero}
 use native.Mathlib.Decide.{decLt}
 use native.Mathlib.Omega.{arith}
@@ -14,6 +14,7 @@ use Rattle.model.specs.Circuit.{Values, codeValue, dependsOnRead, ReadPa
 use Rattle.model.specs.Network.{renamed}
 use Rattle.model.specs.Acceptance.{SizesFit, IsCode, CodesFit, Accepted}
 use Rattle.model.specs.Agree.{Agree}
+use Rattle.model.specs.OnePort.{namesSecond, oneWire, keptWire, oneCode, onePort, SameRuns}
 use Rattle.model.proofs.Booleans.{not-true-false, and-true}
 use Rattle.model.proofs.Bits.{fromBits-same}
 use Rattle.model.proofs.Ports.{first-port}
@@ -22,51 +23,6 @@ use Rattle.model.proofs.Circuit.{code-same, IsFrame, frame-is, frame-un
 use Rattle.model.proofs.Renumbering.{renamed-variable, renamed-value}
 use Rattle.model.proofs.Agree.{latches-same, n-same, start-same, lastWire-same}
 use Rattle.model.proofs.SameRuns.{starts-same, same-state, code-value-same, run-same}
-
--- whether a code is of a read bit of the second port
-unfoldable pub namesSecond : Netlist → ℕ → Bool
-namesSecond c x = leb (readWire c (c .n)) (x / 2) && ltb (x / 2) (gateWire c 0)
-
--- the number of a wire once those read bits are gone, and of such a wire before
-unfoldable pub oneWire : Netlist → ℕ → ℕ
-oneWire c w = cond (ltb w (gateWire c 0)) w (w - c .secondPort * c .n)
-
-unfoldable pub keptWire : Netlist → ℕ → ℕ
-keptWire c w = cond (ltb w (readWire c (c .n))) w (w + c .secondPort * c .n)
-
-abbrev pub oneCode : Netlist → ℕ → ℕ
-oneCode c = renamed (oneWire c)
-
-unfoldable pub onePort : Netlist → Netlist
-onePort c =
-    record {
-      inputs = c .inputs;
-      latches = c .latches;
-      gates = c .gates;
-      m = c .m;
-      n = c .n;
-      initialWord = c .initialWord;
-      unknownStart = c .unknownStart;
-      secondPort = 0;
-      next = λ l. oneCode c (c .next l);
-      reset = c .reset;
-      left = λ g. oneCode c (c .left g);
-      right = λ g. oneCode c (c .right g);
-      address = λ t. oneCode c (c .address t);
-      writeData = λ t. oneCode c (c .writeData t);
-      WE = oneCode c (c .WE);
-      RE = oneCode c (c .RE);
-      P = oneCode c (c .P);
-      address2 = λ t. 0;
-      RE2 = 0;
-    }
-
--- Every run of one is a run of the other: from the same states, whatever is fed, with the same values on the wires that both have, and in each
--- frame alike in whether the property is broken.
-pub record SameRuns (c d : Netlist) : Type 0 where
-  pub starts-alike : (s : State) → Starts c s ↔ Starts d s
-  pub wires-alike : (s : State) (f : Feeds) (i w : ℕ) → w ≤ lastWire d → run d s f i w ≡ run c s f i (keptWire c w)
-  pub property-alike : (s : State) (f : Feeds) (i : ℕ) → codeValue (run d s f i) (d .P) ≡ codeValue (run c s f i) (c .P)
 
 -- no code that counts is of the second port's read bits; the address codes and RE of the first port are not by themselves
 pub record Unused (c : Netlist) : Type 0 where

@@ -6,6 +6,7 @@ pub mod Circuit
 pub mod Network
 pub mod Acceptance
 pub mod Agree
+pub mod OnePort
 pub mod Gather
 pub mod Clauses
 pub mod Variables

@@ -1,0 +1,2 @@
+-- What `one_port` prints. Nothing here imports a law or a proof.
+pub mod Printed

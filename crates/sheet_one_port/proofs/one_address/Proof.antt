@@ -1,0 +1,67 @@
+-- `sheet_one_port::one_address` meets its contract. The loop has renumbered the address codes up to t.
+use Prim.Native.Nat.{_-_, _≤_}
+use mathlib.Core.Path.{_≡_}
+use native.Mathlib.Omega.{arith}
+use lib.ListN.{length}
+use Rattle.model.specs.OnePort.{oneCode}
+use Rattle.literals.specs.declared.Code.{Code}
+use Rattle.netlist.specs.NetOf.{codeOf, alone}
+use Rattle.sheet_one_port.proofs.Mapped.{Mapped, mapped-none, mapped-next}
+use Rattle.sheet_one_port.proofs.one_address.Statement.{statement}
+use Rattle.sheet_one_port.proofs.one_address.Tie as tie
+
+abbrev Inv-loop : tie.InvT-loop
+Inv-loop net address₀ t₀ address t = (t ≤ 12) × (length address₀ ≡ 12) × Mapped (λ (x : Code). x .0) (record { 0 = 0 }) (oneCode (alone net)) address₀ t address
+
+abbrev μ-loop : tie.MeasureT-loop
+μ-loop net address₀ t₀ address t = 12 - t
+
+loop-holds : tie.Need-loop-holds Inv-loop μ-loop
+loop-holds c = (omega arith, c .before .pre .1, mapped-none _ _ _ _)
+
+mul-one-code : tie.Need-mul-one-code Inv-loop μ-loop
+mul-one-code c = omega arith
+
+array-copy-out-one-code : tie.Need-array-copy-out-one-code Inv-loop μ-loop
+array-copy-out-one-code c = omega arith
+
+one-code-requires : tie.Need-one-code-requires Inv-loop μ-loop
+one-code-requires c κs = c .before .before .before .before .pre .0
+
+mul-address : tie.Need-mul-address Inv-loop μ-loop
+mul-address c = omega arith
+
+array-set-from-address : tie.Need-array-set-from-address Inv-loop μ-loop
+array-set-from-address c = omega arith
+
+add-t : tie.Need-add-t Inv-loop μ-loop
+add-t c = omega arith
+
+loop-less : tie.Need-loop-less Inv-loop μ-loop
+loop-less c = omega arith
+
+loop-again : tie.Need-loop-again Inv-loop μ-loop
+loop-again c =
+    let inv = c .before .before .before .loop .inv in
+    (omega arith, inv .1, mapped-next _ _ _ _ (inv .2) (omega arith) _ (c .one-code .ensures))
+
+returns : tie.Need-returns Inv-loop μ-loop
+unfolding codeOf
+returns c = λ x b. c .before .loop .inv .2 .mapped x (omega arith)
+
+pub one-address-spec : {M : Type 1} → statement M
+one-address-spec =
+    tie.close
+    (tie.spec
+    Inv-loop
+    μ-loop
+    loop-holds
+    mul-one-code
+    array-copy-out-one-code
+    one-code-requires
+    mul-address
+    array-set-from-address
+    add-t
+    loop-less
+    loop-again
+    returns)
