@@ -1,5 +1,5 @@
 -- Laws of specs/Calls.antt: which tests a call passes, and demand 3 of the calls. No contract cites this file.
-use Prim.Native.Nat.{ℕ, _+_, _*_, _≤_, _<_}
+use Prim.Native.Nat.{ℕ, _+_, _*_, _≤_}
 use mathlib.Core.Path.{_≡_, refl, sym, _∙_, ap}
 use mathlib.Core.Bool.{true, not}
 use mathlib.Core.List.{List}
@@ -13,7 +13,6 @@ use borrow.Author.Tests.{ltb-false, le-ltb, not-false}
 use Rattle.model.specs.Netlist.{Netlist, ports}
 use Rattle.model.specs.Limits.{mostLines}
 use Rattle.model.specs.Acceptance.{SizesFit, Accepted}
-use Rattle.model.specs.Variables.{base}
 use Rattle.model.specs.Groups.{inDepth}
 use Rattle.model.specs.Numbers.{numbersOf, formula}
 use Rattle.model.specs.declared.Group.{Group}
@@ -31,13 +30,13 @@ use Rattle.refusals.specs.Tests.{_then_}
 use Rattle.refusals.specs.declared.Refusal.the-variants.{NoSuchGroup}
 use Rattle.refusals.specs.declared.Verdict.{Verdict}
 use Rattle.refusals.specs.declared.Verdict.the-variants.{Passed, Refused}
-use Rattle.refusals.specs.Slices.{testRoom, withCount, contentsAfter}
+use Rattle.refusals.specs.Slices.{withCount, contentsAfter}
 use Rattle.refusals.proofs.Tests.{refuseIf-passes, then-passes}
 use Rattle.refusals.proofs.Slices.{room-enough}
 use Rattle.netlist.specs.Places.{controlLine}
 use Rattle.netlist_tests.specs.Record.{recordVerdict}
 use Rattle.netlist_tests.proofs.Acceptance.{passes-accepted}
-use Rattle.call_unpacked.specs.Calls.{testDepth, testGroup, testGroupRoom, groupVerdict, headingVerdict, groupSent, groupLeaves, CallsEncode}
+use Rattle.call_unpacked.specs.Calls.{testDepth, testGroup, testGroupRoom, groupVerdict, groupSent, groupLeaves, CallsEncode}
 
 -- a depth passes up to 255
 pub depth-passes : (k : ℕ) → testDepth k ≡ Passed → k ≤ 255

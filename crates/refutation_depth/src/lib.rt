@@ -10,7 +10,6 @@ ghost use mathlib.Core.List.{_++_};
 ghost use Prim.Native.Nat.{_+_, _*_, _≤_};
 ghost use lib.ListN.{length};
 ghost use Rattle.model.specs.Acceptance.{SizesFit, Accepted};
-ghost use Rattle.model.specs.Variables.{base};
 ghost use Rattle.model.specs.Numbers.{formula};
 ghost use Rattle.model.specs.Wrote.{over};
 ghost use Rattle.refusals.specs.Slices.{contentsAfter};

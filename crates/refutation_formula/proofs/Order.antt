@@ -1,11 +1,7 @@
 -- The groups that are next in the order of the whole, and how many there are. No contract cites this file.
-use Prim.Native.Nat.{ℕ, _+_, _-_, _*_, _≤_}
 use mathlib.Core.Path.{_≡_, refl, sym, _∙_, ap, subst}
 use mathlib.Core.List.{List, [], _∷_, _++_, append-assoc}
-use native.Mathlib.Nat.{mul-le-mul}
-use native.Mathlib.Omega.{arith}
 use lib.IntN.{ℤ}
-use Rattle.model.specs.Groups.{groupOrder}
 use Rattle.model.specs.Numbers.{joined}
 use Rattle.model.specs.declared.Group.{Group}
 use Rattle.group_order.specs.Next.{firstGroup}

@@ -1,5 +1,5 @@
 -- `call_source::of_closing` meets its contract.
-use mathlib.Core.Path.{_≡_, _∙_, ap}
+use mathlib.Core.Path.{_≡_, ap}
 use native.Mathlib.Omega.{arith}
 use Rattle.model.specs.Netlist.{port}
 use Rattle.model.specs.Variables.{closingLiterals}

@@ -5,7 +5,6 @@ use native.Mathlib.Omega.{arith}
 use borrow.Author.Needs.{needs}
 use mathlib.Core.List.{[]}
 use Rattle.model.specs.Acceptance.{Accepted}
-use Rattle.refusals.specs.Tests.{_then_}
 use Rattle.netlist.specs.NetOf.{netOf}
 use Rattle.netlist.proofs.NetOf.{sizes-lists, base-lists}
 use Rattle.call_unpacked.specs.Calls.{headingReply, withHeading, headingVerdict, headingSent}
