@@ -90,9 +90,10 @@ report() {
 frames=target/bin/frames
 replay=target/bin/replay
 import=target/bin/import_aag
+one_port=target/bin/one_port
 
 # the longest first
-start "replay against the second implementation" replay "$logs/runner" "$frames" "$replay" "$import" replay
+start "replay against the second implementation" replay "$logs/runner" "$frames" "$replay" "$import" "$one_port" replay
 echo "== the static library: rt staticlib marrubigai"
 linked=(-L target/staticlib -l static=marrubigai)
 if {
@@ -100,7 +101,7 @@ if {
     compile "$logs" verilog tests/verilog/main.rs "${linked[@]}"
 } > "$logs/staticlib.out" 2>&1; then
   pass
-  start "frames against the second implementation" frames "$logs/runner" "$frames" "$replay" "$import" frames docs/FORMAT.md
+  start "frames against the second implementation" frames "$logs/runner" "$frames" "$replay" "$import" "$one_port" frames docs/FORMAT.md
   start "the library against the second implementation" library "$logs/library"
   start "from Verilog to an imported netlist and a shown run, with yosys and abc" verilog \
     bash tests/verilog.sh "$frames" "$replay" "$import" "$logs/verilog"
@@ -112,7 +113,8 @@ else
   cat "$logs/staticlib.out"
   fail "the static library"
 fi
-start "import_aag against the second implementation" import_aag "$logs/runner" "$frames" "$replay" "$import" import_aag
+start "import_aag against the second implementation" import_aag "$logs/runner" "$frames" "$replay" "$import" "$one_port" import_aag
+start "one_port against the second implementation" one_port "$logs/runner" "$frames" "$replay" "$import" "$one_port" one_port
 start "import_aag as a program" import bash tests/import.sh "$import"
 start "the second implementation's own tests" reference "$logs/reference"
 start "the formula of frames, with public solvers" solvers "$logs/solvers" "$frames" "$logs/solvers-scratch" examples

@@ -9,6 +9,7 @@ mod fuzz_exports;
 mod imports;
 mod literals;
 mod mutate;
+mod one_ports;
 mod positions;
 mod prints;
 mod reads;
@@ -23,7 +24,7 @@ use reference::tally::{Report, Tally};
 
 /// How often a function answered each refusal number; entry 0 counts successes.
 #[derive(Default)]
-pub struct Counts([usize; 18]);
+pub struct Counts([usize; 20]);
 
 impl Counts {
     fn add<T>(counts: &RefCell<Counts>, answer: &Answer<T>) {
@@ -45,6 +46,7 @@ impl Counts {
 pub struct Library {
     reads: RefCell<Counts>,
     sheets: RefCell<Counts>,
+    one_ports: RefCell<Counts>,
     lines: RefCell<Counts>,
     imports: RefCell<Counts>,
     calls: RefCell<Counts>,
@@ -64,7 +66,7 @@ pub struct Library {
 /// A name, its checks, and whether they are part of a sample.
 type Family = (&'static str, fn(&Library, &mut Tally), bool);
 
-const FAMILIES: [Family; 41] = [
+const FAMILIES: [Family; 48] = [
     ("facts of the full run", calls::stated, true),
     ("table of group calls", calls::table_of_calls, true),
     ("table of records", calls::table_of_records, true),
@@ -86,6 +88,13 @@ const FAMILIES: [Family; 41] = [
     ("sheets written and read back", written_sheets::round_trips, false),
     ("sheets read and written back", written_sheets::damaged_sheets, false),
     ("rooms of sheets", written_sheets::rooms, false),
+    ("sheets for one port, by hand", one_ports::by_hand, true),
+    ("sheets for one port, tables", one_ports::tables, true),
+    ("sheets for one port, random, and every use of the second", one_ports::random_sheets, false),
+    ("sheets for one port, unchanged", one_ports::unchanged, false),
+    ("sheets for one port, rooms", one_ports::rooms, false),
+    ("sheets for one port, runs of both stepped", one_ports::runs, false),
+    ("sheets for one port, clauses of both solved", one_ports::clauses, false),
     ("tables of imports", imports::tables, false),
     ("imports, sets of faults", imports::fault_sets, false),
     ("imports, predicted faults", imports::predicted_faults, false),
@@ -110,9 +119,10 @@ const FAMILIES: [Family; 41] = [
 
 /// Each function, and the numbers that the tests must have made it answer: all that it has. 10 has none.
 fn every_number(library: &Library, tally: &mut Tally) {
-    let rows: [(&str, &RefCell<Counts>, &[usize]); 15] = [
+    let rows: [(&str, &RefCell<Counts>, &[usize]); 16] = [
         ("read", &library.reads, &[1, 2, 3, 4, 5, 6, 9, 17]),
         ("write_sheet", &library.sheets, &[3, 4, 5, 6, 9, 17]),
+        ("one_port", &library.one_ports, &[1, 2, 3, 4, 5, 6, 9, 17, 18]),
         ("next_line", &library.lines, &[2]),
         ("import", &library.imports, &[4, 6, 9, 11, 12, 13, 17]),
         ("write_group", &library.calls, &[3, 4, 5, 6, 7, 8, 9, 17]),

@@ -12,7 +12,7 @@ use super::reference::Tally;
 use super::replays::Replay;
 
 /// Whatever valgrind finds it says on standard error, and the status tells too.
-const VALGRIND: [&str; 3] = ["valgrind", "--quiet", "--error-exitcode=99"];
+pub const VALGRIND: [&str; 3] = ["valgrind", "--quiet", "--error-exitcode=99"];
 
 pub fn sample(program: &Program, tally: &mut Tally, count: usize) {
     let mut random = Random::new(401);

@@ -31,7 +31,7 @@ impl Ran {
 /// How often each refusal number was printed; entry 0 counts formulas, runs and sheets.
 pub type Counts = [usize; CLAIMED + 2];
 /// The entry for `claimed unsatisfiable`, behind those of all refusals; the next is for anything else.
-pub const CLAIMED: usize = 18;
+pub const CLAIMED: usize = 20;
 
 pub struct Program {
     path: PathBuf,
