@@ -46,7 +46,8 @@ if [[ -f $names ]]; then cat < "$names" > "$work/names" || fail "$names: it coul
 # The word of a refusal's number, and what to look for.
 explain() { IFS=$'\t' read -r _ word hint < <(grep "^$1"$'\t' "$here/refusals.txt"); }
 
-# Where the file is what `import_aag` prints of a text that it refuses, nothing is asked of `frames`, to which it would be a ragged sheet.
+# Where the file is what `import_aag` prints of a text that it refuses, or `one_port` of a second port in use, nothing is asked of `frames`, to which
+# it would be a ragged sheet.
 refused_import() {
   local number place word="" hint at=""
   [[ $(head -c 28 "$work/sheet" | LC_ALL=C tr -d '\0') =~ ^refused([ 0-9]{10})([ 0-9]{10})$ ]] || return
@@ -54,6 +55,7 @@ refused_import() {
   explain "$number"
   [[ -n $word ]] || return
   case $number in
+    18) fail "$sheet: this is no sheet but the refusal of a sheet for one port: $number ($word) at line $place of the sheet that was to be converted" "$hint" ;;
     11 | 13) at=" at line $place of the text" ;;
     *) [[ $place = 0 ]] || at=" at line $place of the sheet that it would be" ;;
   esac

@@ -154,6 +154,10 @@ imported 4 1 " at line 1 of the sheet that it would be"
 imported 4 2 " at line 2 of the sheet that it would be"
 imported 17 246 " at line 246 of the sheet that it would be"
 imported 6 3 " at line 3 of the sheet that it would be"
+printf 'refused%10d%10d\n' 18 7 | wrong_sheet
+check "refusal 18 has a hint" [ -n "$(hint 18)" ]
+ends "refusal 18 of a sheet for one port" 1 "" "wrong.sheet: this is no sheet but the refusal of a sheet for one port: 18 (second port) at line 7 of the sheet that was to be converted
+$(hint 18)" wrong.sheet 1
 printf 'refused%10d%10d\n' 99 0 | wrong_sheet
 refused 1 "(ragged)" wrong.sheet 1
 printf 'refused to be read' | wrong_sheet

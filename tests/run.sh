@@ -90,8 +90,9 @@ report() {
 frames=target/bin/frames
 replay=target/bin/replay
 import=target/bin/import_aag
+one_port=target/bin/one_port
 export=target/bin/export_aig
-programs=("$frames" "$replay" "$import" "$export")
+programs=("$frames" "$replay" "$import" "$one_port" "$export")
 
 # the longest first
 start "replay against the second implementation" replay "$logs/runner" "${programs[@]}" replay
@@ -115,6 +116,7 @@ else
   fail "the static library"
 fi
 start "import_aag against the second implementation" import_aag "$logs/runner" "${programs[@]}" import_aag
+start "one_port against the second implementation" one_port "$logs/runner" "${programs[@]}" one_port
 start "export_aig against the second implementation" export_aig "$logs/runner" "${programs[@]}" export_aig
 start "import_aag as a program" import bash tests/import.sh "$import"
 start "the second implementation's own tests" reference "$logs/reference"

@@ -71,6 +71,10 @@ crates/aiger_writer/src/lib.rt let own = Wire(1 + order.inputs + order.latches +
 crates/aiger_binary/src/lib.rt put_number(out, code.0, LINE_FEED)
 crates/aiger_binary/src/lib.rt let first = put_short(out, 2 * own.0 - larger.0)
 crates/aiger_binary/src/lib.rt first + put_short(&mut out[first..], larger.0 - smaller.0)
+# a sheet for one port: the second RE is compared with code 0, and codes behind the read bits that go are lowered in their lists
+crates/sheet_one_port/src/lib.rt code.0 == 0
+crates/sheet_one_port/src/lib.rt Code(code.0 - 2 * (net.second_port * net.n))
+crates/sheet_one_port/src/lib.rt codes[i] = one_code(net, Code(codes[i])).0
 # the second number of a latch is its reset, no code
 crates/aiger_export/src/lib.rt if latches[at] == 1
 crates/netlist/src/lib.rt latch_fault(last, Code(latches[at]), latches[at + 1])
@@ -80,8 +84,8 @@ crates/replay_run/src/lib.rt state[l] = latches[2 * l + 1] == 1'
 lists='latches|gates|codes|latch_codes|gate_codes|list'
 # Where a wire's or a code's place in a table is taken.
 tables='crates/circuit_values/src/lib.rt crates/netlist_tests/src/lib.rt'
-# By how much a wire is moved on: one latch, read bit or gate, one more, all latches, all read bits.
-offsets='l|read + t|g|1|net.latches|read_count(net)'
+# By how much a wire is moved on: one latch, read bit or gate, one more, all latches, all read bits, those of the first port.
+offsets='l|read + t|g|1|net.latches|read_count(net)|net.n'
 
 # One check for each place that a rule looks at: a signature, a statement, a list, a table's place, a wire moved on, a name given anew.
 apart() { # files

@@ -772,6 +772,46 @@ static void sheets(void) {
         refused_at(marrubigai_write_sheet(DISTINCT_NET, DISTINCT_LATCHES, 1, DISTINCT_GATES, 1, unprinted(), 0), MARRUBIGAI_OUT_OF_ORDER, 0));
 }
 
+// the input and the first port's bit read are wires 1 and 2; behind them wire 3, the second's, which nothing uses, and the gate, wire 4
+static const char UNUSED_TWO[] =
+    LINE("N", "         1", "         0", "         1")
+    LINE("T", "         1", "         1", "         0")
+    LINE("G", "         2", "         4", EMPTY)
+    LINE("A", "         0", EMPTY, EMPTY)
+    LINE("D", "         8", EMPTY, EMPTY)
+    LINE("B", "         2", EMPTY, EMPTY)
+    LINE("R", "         0", EMPTY, EMPTY)
+    LINE("C", "         1", "         1", "         9");
+static const char UNUSED_ONE[] =
+    LINE("N", "         1", "         0", "         1")
+    LINE("M", "         1", "         1", "         0")
+    LINE("G", "         2", "         4", EMPTY)
+    LINE("A", "         0", EMPTY, EMPTY)
+    LINE("D", "         6", EMPTY, EMPTY)
+    LINE("C", "         1", "         1", "         7");
+
+static marrubigai_count_reply one_port(const char *file, size_t bytes, size_t room) {
+  return marrubigai_one_port((const uint8_t *)file, bytes, unprinted(), room);
+}
+
+static void conversions(void) {
+  const size_t bytes = sizeof UNUSED_TWO - 1, need = sizeof UNUSED_ONE - 1;
+  check("a sheet for one port in a buffer of its length", printed(one_port(UNUSED_TWO, bytes, need), UNUSED_ONE));
+  check("in a longer one", printed(one_port(UNUSED_TWO, bytes, MOST_BYTES), UNUSED_ONE));
+  check("one byte less is too short", not_printed(one_port(UNUSED_TWO, bytes, need - 1)));
+  check("a sheet with one port is as it was", printed(one_port(UNUSED_ONE, need, need), UNUSED_ONE));
+  check("one byte less is too short for it too", not_printed(one_port(UNUSED_ONE, need, need - 1)));
+  check("a second port that is read is 18 at its line, whatever the room",
+        refused_at(one_port(DISTINCT_TWO, sizeof DISTINCT_TWO - 1, 0), MARRUBIGAI_SECOND_PORT, 3));
+  char changed[sizeof UNUSED_TWO];
+  memcpy(changed, UNUSED_TWO, sizeof changed);
+  changed[6 * 32 + 10] = '1';
+  check("one that reads is 18 at the R line", refused_at(one_port(changed, bytes, MOST_BYTES), MARRUBIGAI_SECOND_PORT, 7));
+  changed[6 * 32 + 10] = '6';
+  check("a memory loop comes before", refused_at(one_port(changed, bytes, MOST_BYTES), MARRUBIGAI_MEMORY_LOOP, 7));
+  check("an empty file is 1", refused_at(one_port(UNUSED_TWO, 0, MOST_BYTES), MARRUBIGAI_RAGGED, 0));
+}
+
 // The record of DISTINCT with reset 0 everywhere, as a binary file: its inputs stay 1 to 3, its read bits become 4 to 8, its latches 9 and 10, its
 // gate stays 11. The gate's codes are 17 and 3: the differences are 5 and 14.
 static const marrubigai_latch DISTINCT_ZERO[] = {{.next = 22, .reset = 0}, {.next = 17, .reset = 0}};
@@ -937,6 +977,7 @@ int main(int count, char **arguments) {
   port_replays();
   printing();
   sheets();
+  conversions();
   exports();
   rooms();
   orders();

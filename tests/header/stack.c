@@ -44,6 +44,10 @@ static int write_group_at(void) {
 }
 static int literal_at(void) { return marrubigai_literal_at(net, (marrubigai_position){255, 0, 1}, 2).number == 0; }
 static int write_sheet(void) { return marrubigai_write_sheet(net, latches, 0, gates, GATES, text, sizeof text).number == 0; }
+static int one_port(void) { // with two ports the second one reads
+  return marrubigai_one_port(sheet, sheet_bytes, text, sizeof text).number == (net.second_port ? MARRUBIGAI_SECOND_PORT : 0);
+}
+
 static int export(void) {
   return marrubigai_export(net, latches, 0, gates, GATES, text, sizeof text).number == (net.second_port ? MARRUBIGAI_OUT_OF_ORDER : 0);
 }
@@ -66,7 +70,7 @@ static const struct {
     {"next_line", next_line, MARRUBIGAI_CALL_STACK},   {"heading", heading, MARRUBIGAI_CALL_STACK},
     {"write_group", write_group, MARRUBIGAI_CALL_STACK}, {"move", move, MARRUBIGAI_CALL_STACK},
     {"write_group_at", write_group_at, MARRUBIGAI_CALL_STACK}, {"literal_at", literal_at, MARRUBIGAI_CALL_STACK},
-    {"write_sheet", write_sheet, MARRUBIGAI_CALL_STACK}, {"export", export, MARRUBIGAI_CALL_STACK},
+    {"write_sheet", write_sheet, MARRUBIGAI_CALL_STACK}, {"one_port", one_port, MARRUBIGAI_CALL_STACK}, {"export", export, MARRUBIGAI_CALL_STACK},
     {"replay", replay, MARRUBIGAI_REPLAY_STACK},
     {"put_clauses", put_clauses, MARRUBIGAI_CALL_STACK}, {"the others", put_others, MARRUBIGAI_CALL_STACK},
 };

@@ -221,6 +221,13 @@ extern "C" {
         room: usize,
     ) -> CountReply;
 
+    fn marrubigai_one_port(
+        file: *const u8,
+        length: usize,
+        out: *mut u8,
+        room: usize,
+    ) -> CountReply;
+
     fn marrubigai_export(
         net: Record,
         latches: *const LatchRecord,
@@ -673,6 +680,14 @@ pub fn read(file: &[u8], latch_room: usize, gate_room: usize) -> Answer<Netlist>
             gates.as_mut_ptr(),
             gates.len(),
         )
+    })
+}
+
+/// Converts a sheet to one port, into a buffer of `room` bytes: the bytes written.
+pub fn one_port(file: &[u8], room: usize) -> Answer<Vec<u8>> {
+    // SAFETY: each pointer and length are those of a live slice, and only `out` is written to.
+    written_into(room, unprinted, |out, room| unsafe {
+        marrubigai_one_port(file.as_ptr(), file.len(), out, room)
     })
 }
 

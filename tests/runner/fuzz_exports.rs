@@ -1,12 +1,13 @@
 //! Hostile calls of the exported functions, each compared with the second implementation.
 
 use super::exports::Numbers;
-use super::mutate::{change_bytes, draft, netlist, sheet, LIMITS};
+use super::mutate::{change_bytes, draft, netlist, sheet, unused, LIMITS};
 use super::reference::answer_calls::{marks, Call as ReplayCall};
 use super::reference::netlist::{Gate, Latch, Netlist};
-use super::reference::random::{damaged_record, tie, tiny_netlist, wide_netlist, Random};
+use super::reference::random::{damaged_record, tie, tiny_netlist, tiny_two_ports, wide_netlist, Random};
 use super::reference::random_aiger::{damaged_call, draft_of, Call as ImportCall, Numbering};
 use super::reference::random_answers::{written, written_unsatisfiable, CALL_FAULTS};
+use super::reference::sheet::write_sheet;
 use super::reference::Tally;
 use super::{calls, literals, positions, prints, Library};
 
@@ -200,7 +201,7 @@ fn change_header(random: &mut Random, text: &mut Vec<u8>) {
 pub fn calls(library: &Library, tally: &mut Tally, seed: u64, count: usize) {
     let mut random = Random::new(seed);
     for _ in 0..count {
-        match random.below(18) {
+        match random.below(19) {
             0 => {
                 let file = sheet(&mut random);
                 let line = small_or_limit(&mut random);
@@ -243,6 +244,14 @@ pub fn calls(library: &Library, tally: &mut Tally, seed: u64, count: usize) {
                 calls::order_agrees(tally, &calls::order_of(depth, ports), depth, ports, of);
             }
             16 => {
+                let file = if random.percent(60) {
+                    sheet(&mut random)
+                } else {
+                    write_sheet(&unused(tiny_two_ports(&mut random)))
+                };
+                library.conversion_agrees(tally, &file, 32 * room(&mut random));
+            }
+            17 => {
                 let mut netlist = record(&mut random);
                 if random.percent(70) {
                     netlist.latches.iter_mut().for_each(|latch| latch.reset = 0);

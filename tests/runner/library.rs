@@ -10,6 +10,7 @@ mod fuzz_exports;
 mod imports;
 mod literals;
 mod mutate;
+mod one_ports;
 mod positions;
 mod prints;
 mod reads;
@@ -46,6 +47,7 @@ impl Counts {
 pub struct Library {
     reads: RefCell<Counts>,
     sheets: RefCell<Counts>,
+    one_ports: RefCell<Counts>,
     exports: RefCell<Counts>,
     lines: RefCell<Counts>,
     imports: RefCell<Counts>,
@@ -66,7 +68,7 @@ pub struct Library {
 /// A name, its checks, and whether they are part of a sample.
 type Family = (&'static str, fn(&Library, &mut Tally), bool);
 
-const FAMILIES: [Family; 44] = [
+const FAMILIES: [Family; 51] = [
     ("facts of the full run", calls::stated, true),
     ("table of group calls", calls::table_of_calls, true),
     ("table of records", calls::table_of_records, true),
@@ -88,6 +90,13 @@ const FAMILIES: [Family; 44] = [
     ("sheets written and read back", written_sheets::round_trips, false),
     ("sheets read and written back", written_sheets::damaged_sheets, false),
     ("rooms of sheets", written_sheets::rooms, false),
+    ("sheets for one port, by hand", one_ports::by_hand, true),
+    ("sheets for one port, tables", one_ports::tables, true),
+    ("sheets for one port, random, and every use of the second", one_ports::random_sheets, false),
+    ("sheets for one port, unchanged", one_ports::unchanged, false),
+    ("sheets for one port, rooms", one_ports::rooms, false),
+    ("sheets for one port, runs of both stepped", one_ports::runs, false),
+    ("sheets for one port, clauses of both solved", one_ports::clauses, false),
     ("tables of exported files", exported_files::tables, true),
     ("random records exported", exported_files::random_records, false),
     ("texts imported and exported", exported_files::texts, false),
@@ -118,6 +127,7 @@ fn every_number(library: &Library, tally: &mut Tally) {
     let rows: [(&str, &RefCell<Counts>, &[usize]); 16] = [
         ("read", &library.reads, &[1, 2, 3, 4, 5, 6, 9, 17]),
         ("write_sheet", &library.sheets, &[3, 4, 5, 6, 9, 17]),
+        ("one_port", &library.one_ports, &[1, 2, 3, 4, 5, 6, 9, 17, 18]),
         ("export", &library.exports, &[3, 4, 5, 6, 9, 17, 19]),
         ("next_line", &library.lines, &[2]),
         ("import", &library.imports, &[4, 6, 9, 11, 12, 13, 17]),

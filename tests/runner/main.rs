@@ -1,6 +1,7 @@
-//! Tests of the programs `frames`, `replay`, `import_aag` and `export_aig` against the second implementation, with fixed seeds.
-//! `main FRAMES REPLAY IMPORT EXPORT frames PAGE` runs those of `frames`, with the examples of the page; `replay`, `import_aag` or `export_aig`
-//! in place of `frames PAGE` those of the others; `fuzz COUNT [SEED]` as many hostile inputs as asked for. The last line is `N passed, M failed`.
+//! Tests of the programs `frames`, `replay`, `import_aag`, `one_port` and `export_aig` against the second implementation, with fixed seeds.
+//! `main FRAMES REPLAY IMPORT ONE_PORT EXPORT frames PAGE` runs those of `frames`, with the examples of the page; `replay`, `import_aag`, `one_port`
+//! or `export_aig` in place of `frames PAGE` those of the others; `fuzz COUNT [SEED]` as many hostile inputs as asked for. The last line is
+//! `N passed, M failed`.
 //! Started in the repository's folder.
 //! Build: rustc -O --edition 2021 main.rs
 
@@ -12,6 +13,7 @@ mod faults;
 mod fuzz;
 mod memory;
 mod mutate;
+mod one_port_program;
 mod page;
 mod process;
 mod reference;
@@ -150,6 +152,22 @@ fn of_import(import: &Program) -> Report {
     report
 }
 
+fn of_one_port(one_port: &Program) -> Report {
+    let mut report = Report::default();
+    report.family("tables of sheets", |tally| one_port_program::tables(one_port, tally));
+    report.family("random and hostile sheets", |tally| {
+        one_port_program::sheets(one_port, tally, 306, 3_000)
+    });
+    report.family("streams", |tally| one_port_program::streams(one_port, tally));
+    report.family("a sample under valgrind", |tally| {
+        one_port_program::memory(one_port, tally)
+    });
+    report.family("refusal numbers", |tally| {
+        every_number(one_port, tally, &one_port_program::OF_ONE_PORT)
+    });
+    report
+}
+
 fn of_export(export: &Program) -> Report {
     let mut report = Report::default();
     report.family("tables of sheets", |tally| exported_sheets::tables(export, tally));
@@ -172,6 +190,7 @@ fn hostile(
     program: &Program,
     replay: &Replay,
     import: &Program,
+    one_port: &Program,
     export: &Program,
     count: usize,
     seed: Option<&&str>,
@@ -187,6 +206,9 @@ fn hostile(
     report.family("import_aag: hostile texts", |tally| {
         texts::texts(import, tally, seed, count)
     });
+    report.family("one_port: hostile sheets", |tally| {
+        one_port_program::sheets(one_port, tally, seed, count)
+    });
     report.family("export_aig: hostile sheets", |tally| {
         exported_sheets::sheets(export, tally, seed, count)
     });
@@ -196,27 +218,30 @@ fn hostile(
 fn main() {
     let words: Vec<String> = std::env::args().skip(1).collect();
     let words: Vec<&str> = words.iter().map(String::as_str).collect();
-    let (paths, rest) = words.split_at(words.len().min(4));
+    let (paths, rest) = words.split_at(words.len().min(5));
     let folder = std::env::temp_dir().join(format!("runner-{}", std::process::id()));
     fs::create_dir(&folder).expect("a folder for answers and outputs");
     let program = Program::new(absolute(paths[0]), Path::new("."), frames);
     let replay = Replay::new(absolute(paths[1]), absolute(paths[0]), &folder);
     let import = Program::new(absolute(paths[2]), Path::new("."), |_| Vec::new());
-    let export = Program::new(absolute(paths[3]), Path::new("."), exported_sheets::printed);
+    let one_port = Program::new(absolute(paths[3]), Path::new("."), one_port_program::printed);
+    let export = Program::new(absolute(paths[4]), Path::new("."), exported_sheets::printed);
     let report = match rest {
         ["frames", page] => of_frames(&program, Path::new(page), &folder),
         ["replay"] => of_replay(&replay),
         ["import_aag"] => of_import(&import),
+        ["one_port"] => of_one_port(&one_port),
         ["export_aig"] => of_export(&export),
         ["fuzz", count, seed @ ..] if seed.len() <= 1 => hostile(
             &program,
             &replay,
             &import,
+            &one_port,
             &export,
             count.parse().expect("how many inputs"),
             seed.first(),
         ),
-        _ => panic!("usage: FRAMES REPLAY IMPORT EXPORT, then frames PAGE, replay, import_aag, export_aig or fuzz COUNT [SEED]"),
+        _ => panic!("usage: FRAMES REPLAY IMPORT ONE_PORT EXPORT, then frames PAGE, replay, import_aag, one_port, export_aig or fuzz COUNT [SEED]"),
     };
     fs::remove_dir_all(&folder).expect("removing the folder");
     report.finish()

@@ -1,6 +1,6 @@
 //! Hostile inputs from sound ones, by structure (lines, fields, numbers at limits) and by bytes.
 
-use super::reference::netlist::Netlist;
+use super::reference::netlist::{Gate, Netlist, SECOND_PORT};
 use super::reference::random::{
     damaged_record, damaged_sheet, tiny_netlist, tiny_two_ports, wide_netlist, wide_two_ports,
     Random,
@@ -17,6 +17,26 @@ pub fn netlist(random: &mut Random) -> Netlist {
     } else {
         tiny_two_ports(random)
     }
+}
+
+/// The same netlist, whose second port nothing uses: its read bits give way to the first port's.
+pub fn unused(mut two: Netlist) -> Netlist {
+    let second = two.read_bits(SECOND_PORT);
+    let shift = 2 * two.data_width;
+    let kept = |code: u32| if second.contains(&(code / 2)) { code - shift } else { code };
+    for latch in &mut two.latches {
+        latch.next = kept(latch.next);
+    }
+    for gate in &mut two.gates {
+        *gate = Gate { left: kept(gate.left), right: kept(gate.right) };
+    }
+    for code in &mut two.write_data {
+        *code = kept(*code);
+    }
+    two.write_enable = kept(two.write_enable);
+    two.property = kept(two.property);
+    two.second_read_enable = 0;
+    two
 }
 
 /// Of any shape within the limits, with one port or two.

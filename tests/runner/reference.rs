@@ -36,6 +36,8 @@ pub mod formula;
 pub mod netlist;
 #[path = "../reference/number.rs"]
 pub mod number;
+#[path = "../reference/one_port.rs"]
+pub mod one_port;
 #[path = "../reference/position.rs"]
 pub mod position;
 #[path = "../reference/random.rs"]
