@@ -241,7 +241,7 @@ struct ReadersPath {
 
 /// Demand 3 takes the numbers that the calls leave and the formula that they are together as they come, what passes the tests by the theorem that
 /// says which netlists those are, and the depth as any.
-const UNOPENED: [&str; 11] = [
+const UNOPENED: [&str; 10] = [
     "model/Numbers/formula",
     "model/Numbers/numbersOf",
     "model/Groups/groupOrder",
@@ -250,7 +250,6 @@ const UNOPENED: [&str; 11] = [
     "netlist_tests/Record/recordVerdict",
     "call_unpacked/Calls/groupSent",
     "call_unpacked/Calls/groupLeaves",
-    "call_unpacked/Calls/testNumbers",
     "program_input/Input/inputVerdict",
     "sheet_lines/Depth/depthLine",
 ];
