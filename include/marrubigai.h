@@ -19,8 +19,8 @@
 /* the version of this interface: the first number goes up where a program that was written for the version before has to be changed, the
  * second where something is added; while the first is 0, the second goes up for both */
 #define MARRUBIGAI_VERSION_MAJOR 0
-#define MARRUBIGAI_VERSION_MINOR 9
-#define MARRUBIGAI_VERSION "0.9"
+#define MARRUBIGAI_VERSION_MINOR 10
+#define MARRUBIGAI_VERSION "0.10"
 
 #if defined(__GNUC__) /* Clang says so too */
 #define MARRUBIGAI_ANSWERS __attribute__((warn_unused_result))
