@@ -18,8 +18,7 @@ allowed='
 crates/clause_writer/src/lib.rt let x = a.0
 crates/clause_writer/src/lib.rt Term::True => 0, Term::False => 0, Term::Number(l) => put_lit(out, l),
 crates/call_position/src/lib.rt Term::True => 1, Term::False => -1, Term::Number(l) => l.0,
-crates/call_position/src/lib.rt number: 0, place: 0, literal: number_of(code.in_frame(position.base)),
-crates/call_source/src/lib.rt number: 0, place: 0, literal: call_position::number_of(source_in(net, depth, group)),
+crates/call_position/src/lib.rt number: 0, place: 0, literal: number_of(term),
 # wires are numbered from a count of them, and the variable of a read bit is looked up among signs
 crates/netlist/src/lib.rt Wire(wire_count(net))
 crates/netlist/src/lib.rt Wire(1 + net.inputs)

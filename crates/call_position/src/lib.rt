@@ -274,7 +274,7 @@ pub fn write_group_at(
 }
 
 // The number of a literal: 1 and -1 are the constants.
-pub fn number_of(term: Term) -> i32
+fn number_of(term: Term) -> i32
     requires { ⌜ IsTerm term ⌝ }
     ensures number { λ r. ⌜ r ≡ literalNumber (literalOf term) ⌝ }
     ensures bounded { λ r. ⌜ natAbs r < 2147483648 ⌝ }
@@ -283,6 +283,18 @@ pub fn number_of(term: Term) -> i32
         Term::True => 1,
         Term::False => -1,
         Term::Number(l) => l.0,
+    }
+}
+
+// What is sent back of a literal.
+pub fn answer_literal(term: Term) -> LiteralReply
+    requires { ⌜ IsTerm term ⌝ }
+    ensures { λ r. ⌜ r ≡ withLiteral Verdict.Passed (literalNumber (literalOf term)) ⌝ }
+{
+    LiteralReply {
+        number: 0,
+        place: 0,
+        literal: number_of(term),
     }
 }
 
@@ -337,9 +349,5 @@ pub fn literal_at(net: Netlist, position: Position, code: Code) -> LiteralReply
     if let Verdict::Refused(refusal, place) = test_literal(net, position, code) {
         return no_literal(refusal, place);
     }
-    LiteralReply {
-        number: 0,
-        place: 0,
-        literal: number_of(code.in_frame(position.base)),
-    }
+    answer_literal(code.in_frame(position.base))
 }

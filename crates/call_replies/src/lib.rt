@@ -104,7 +104,10 @@ pub struct VersionReply {
 pub fn version() -> VersionReply
     ensures { λ r. ⌜ r ≡ headerVersion ⌝ }
 {
-    VersionReply { major: 0, minor: 10 }
+    VersionReply {
+        major: 0,
+        minor: 10,
+    }
 }
 
 // So many were written.

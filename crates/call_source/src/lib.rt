@@ -102,9 +102,5 @@ pub fn source_literal(net: Netlist, depth: u32, group: Group) -> LiteralReply
     if let Verdict::Refused(refusal, place) = test_source(net, depth, group) {
         return call_position::no_literal(refusal, place);
     }
-    LiteralReply {
-        number: 0,
-        place: 0,
-        literal: call_position::number_of(source_in(net, depth, group)),
-    }
+    call_position::answer_literal(source_in(net, depth, group))
 }

@@ -1,8 +1,5 @@
 -- `call_position::literal_at` meets its contract: the tests, then the code in the frame.
 use mathlib.Core.Path.{sym, _∙_}
-use mir.Syntax.{w32}
-use mir.ValLaws.{toZ-ofZ}
-use Rattle.literals.proofs.Literal.{fits}
 use Rattle.clause_variables.proofs.Room.{code-numbered}
 use Rattle.call_position.specs.Literals.{withLiteral, literalSent}
 use Rattle.call_position.proofs.Literals.{literal-shown, sent-negated}
@@ -33,17 +30,15 @@ in-frame-requires c κs =
     let shown = literal-shown _ _ _ (sym (c .before .before .test-literal .ensures) ∙ c .enum-told .given .1) in
     code-numbered _ _ _ _ (shown .2) (shown .0) (shown .3) (shown .1)
 
-number-of-requires : tie.Need-number-of-requires
-number-of-requires c κs = search needs
+answer-literal-requires : tie.Need-answer-literal-requires
+answer-literal-requires c κs = search needs
 
 returns-2 : tie.Need-returns-2
 unfolding literalSent withLiteral
 returns-2 c =
     let passed = sym (c .before .before .before .before .test-literal .ensures) ∙ c .before .before .enum-told .given .1 in
     let shown = literal-shown _ _ _ passed in
-    let z = c .number-of .result in
-    sent-negated _ _ _
-    (rw (toZ-ofZ w32 z (fits z (c .number-of .ensures .1)), c .number-of .ensures .0, c .before .in-frame .ensures .0, passed, shown .2))
+    sent-negated _ _ _ (rw (c .answer-literal .ensures, c .before .in-frame .ensures .0, passed, shown .2))
 
 pub literal-at-spec : {M : Type 1} → statement M
 literal-at-spec =
@@ -55,5 +50,5 @@ literal-at-spec =
     returns
     enum-told
     in-frame-requires
-    number-of-requires
+    answer-literal-requires
     returns-2)

@@ -1,8 +1,5 @@
 -- `call_source::source_literal` meets its contract: the tests, then the literal.
 use mathlib.Core.Path.{sym, _∙_}
-use mir.Syntax.{w32}
-use mir.ValLaws.{toZ-ofZ}
-use Rattle.literals.proofs.Literal.{fits}
 use Rattle.call_position.specs.Literals.{withLiteral}
 use Rattle.call_source.specs.Sources.{sourceSent}
 use Rattle.call_source.proofs.Sources.{source-shown}
@@ -30,14 +27,13 @@ enum-told c = search needs
 source-in-requires : tie.Need-source-in-requires
 source-in-requires c κs = source-shown _ _ _ (sym (c .before .before .test-source .ensures) ∙ c .enum-told .given .1)
 
-number-of-requires : tie.Need-number-of-requires
-number-of-requires c κs = search needs
+answer-literal-requires : tie.Need-answer-literal-requires
+answer-literal-requires c κs = search needs
 
 returns-2 : tie.Need-returns-2
 unfolding sourceSent withLiteral
 returns-2 c =
-    let z = c .number-of .result in
-    rw (toZ-ofZ w32 z (fits z (c .number-of .ensures .1)), c .number-of .ensures .0, c .before .source-in .ensures .0, sym (c .before .before .before .before .test-source .ensures) ∙ c .before .before .enum-told .given .1)
+    rw (c .answer-literal .ensures, c .before .source-in .ensures .0, sym (c .before .before .before .before .test-source .ensures) ∙ c .before .before .enum-told .given .1)
 
 pub source-literal-spec : {M : Type 1} → statement M
 source-literal-spec =
@@ -49,5 +45,5 @@ source-literal-spec =
     returns
     enum-told
     source-in-requires
-    number-of-requires
+    answer-literal-requires
     returns-2)
