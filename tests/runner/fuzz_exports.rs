@@ -200,7 +200,7 @@ fn change_header(random: &mut Random, text: &mut Vec<u8>) {
 pub fn calls(library: &Library, tally: &mut Tally, seed: u64, count: usize) {
     let mut random = Random::new(seed);
     for _ in 0..count {
-        match random.below(17) {
+        match random.below(18) {
             0 => {
                 let file = sheet(&mut random);
                 let line = small_or_limit(&mut random);
@@ -238,6 +238,14 @@ pub fn calls(library: &Library, tally: &mut Tally, seed: u64, count: usize) {
                 literals::any(library, tally, &mut random, &netlist);
             }
             15 => {
+                let mut netlist = record(&mut random);
+                if random.percent(20) {
+                    netlist.read_enable = random.pick(&LIMITS);
+                }
+                let depth = small_or_limit(&mut random);
+                library.source_agrees(tally, &netlist, depth, group(&mut random));
+            }
+            16 => {
                 let (depth, ports) = (random.below(6), port(&mut random));
                 let of = group(&mut random);
                 calls::order_agrees(tally, &calls::order_of(depth, ports), depth, ports, of);

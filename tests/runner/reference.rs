@@ -32,6 +32,8 @@ pub mod formula;
 pub mod netlist;
 #[path = "../reference/number.rs"]
 pub mod number;
+#[path = "../reference/one_write.rs"]
+pub mod one_write;
 #[path = "../reference/position.rs"]
 pub mod position;
 #[path = "../reference/random.rs"]
@@ -42,6 +44,8 @@ pub mod random_aiger;
 pub mod random_answers;
 #[path = "../reference/refusal.rs"]
 pub mod refusal;
+#[path = "../reference/second_assignment.rs"]
+pub mod second_assignment;
 #[path = "../reference/sheet.rs"]
 pub mod sheet;
 #[path = "../reference/solver.rs"]
