@@ -1,6 +1,7 @@
 #!/usr/bin/env bash
 # The C program of docs/LIBRARY.md: the page shows the file, the page's line compiles it, its transcripts are what it prints, and it
-# finds the same earliest frame as the script, which asks the program `frames` and a solver anew at each depth.
+# finds the same earliest frame as the script, which asks the program `frames` and a solver anew at each depth. And the page's function that says
+# where a word that is read comes from, by tests/search/written_in.c.
 # Arguments: the programs `frames` and `replay`. After `rt staticlib marrubigai`; needs libcadical-dev.
 set -u
 FRAMES=$(readlink -f "$1")
@@ -11,10 +12,11 @@ page=docs/LIBRARY.md
 source=examples/search/search.c
 . tests/check.sh
 
-block() { # what stands behind the opening fence
-  awk -v kind="$1" '/^```/ { inside = !inside; wanted = $0 == "```" kind; next } inside && wanted' "$page"
+block() { # what stands behind the opening fence, and under which heading: any where none is given
+  awk -v kind="$1" -v heading="## ${2-}" '/^## / { here = heading == "## " || $0 == heading }
+    /^```/ { inside = !inside; wanted = here && $0 == "```" kind; next } inside && wanted' "$page"
 }
-check "the page shows the program" diff <(block c) "$source"
+check "the page shows the program" diff <(block c "A search depth by depth") "$source"
 rm -f target/search
 check "the page's line compiles it" bash -ec "$(block sh)"
 [ -x target/search ] || finish
@@ -78,5 +80,56 @@ said "a line too many" "refused 3 at 6"
 for _ in $(seq 628); do line C 0 0 1; done > "$work/long.sheet"
 ends "a sheet that is too long" 1 "" "$work/long.sheet" 1
 said "a sheet that is too long" "refused 1 at 0"
+
+# The page's function, in a program that runs each answer and keeps beside the memory which frame wrote a word last.
+sources() { # name of the program; the function on standard input
+  mkdir -p "$work/$1.d"
+  { echo '#include <ccadical.h>'; echo '#include <marrubigai.h>'; cat; } > "$work/$1.d/written_in.h"
+  cc -std=c11 -pedantic -Wall -Wextra -Werror -O -Iinclude -I"$work/$1.d" -o "$work/$1" tests/search/written_in.c -Ltarget/staticlib -lmarrubigai \
+    -lcadical -lstdc++ -lm
+}
+block c "Where a word that is read comes from" > "$work/function.c"
+check "the page's function compiles" sources right < "$work/function.c"
+names() { # what, lines due, sheet, depth, answers
+  check "$1" same "$2" "$("$work/right" "${@:3}"; s=$?; [ "$s" -eq 0 ] || echo "status $s")"
+}
+# Each of these chips has one answer but for inputs that do not count, or is asked for one.
+names "the first example" "start 0
+start 0" examples/echo/chip.sheet 1 9
+names "depth 3 of the first example" "start 0 1 2" examples/echo/chip.sheet 3 1
+# the second port reads address 0, which frame 2 writes; the first never reads
+names "the second port alone" "-/start -/start -/start -/2" "$work/second.sheet" 3 9
+# latches 1 to 3 are true from frame 1, 2 and 3 on. The address is latch 1 and frames 0 and 1 write: address 0, then address 1. It reads from frame 2 on, where
+# the address is 1, until frame 3 on it is 0 again (latch 1 and not latch 3, wire 5): the older write. P is false.
+{ line N 0 3 1; line M 1 1 0; line L 1 0; line L 2 0; line L 4 0; line G 2 7; line A 10; line D 1; line C 5 4 0; } > "$work/older.sheet"
+names "the newest write, and then an older one" "- - 1 0 0" "$work/older.sheet" 4 1
+# the same from an unknown start, reading in every frame
+{ line N 0 3 1; line M 1 1 ""; line L 1 0; line L 2 0; line L 4 0; line G 2 7; line A 10; line D 1; line C 5 1 0; } > "$work/unknown.sheet"
+names "an unknown start" "start start 1 0 0" "$work/unknown.sheet" 4 1
+# address, WE and RE are inputs, P is false: all 512 choices
+{ line N 3 0 0; line M 1 1 0; line A 2; line D 1; line C 4 6 0; } > "$work/free.sheet"
+says_same() { "$work/$1" "${@:2}" > "$work/lines"; }
+check "every choice of three frames" says_same right "$work/free.sheet" 2 1000
+check "there are 512" [ "$(wc -l < "$work/lines")" -eq 512 ]
+check "newest write, older write, start and no read are among them" [ "$(cut -d ' ' -f 3 "$work/lines" | sort -u | tr '\n' ' ')" = "- 0 1 start " ]
+# both addresses and both RE are inputs, every frame writes: all 4,096 choices
+{ line N 4 0 0; line T 1 1 0; line A 2; line D 1; line B 4; line R 8; line C 1 6 0; } > "$work/free_two.sheet"
+check "every choice of two ports" says_same right "$work/free_two.sheet" 2 5000
+check "there are 4,096" [ "$(wc -l < "$work/lines")" -eq 4096 ]
+check "the ports read from different frames" grep -q '0/1$' "$work/lines"
+check "one reads what the other does not" grep -q -- '-/start$' "$work/lines"
+for sheet in fourth-revision/faulty fifth-revision/faulty sixth-revision/unknown seventh-revision/faulty; do
+  check "$sheet, twelve runs" says_same right "examples/$sheet.sheet" 8 12
+done
+# other functions are noticed
+wrong() { # what, sheet, depth, edit of the function
+  check "$1 compiles" sources wrong < <(sed "$4" "$work/function.c")
+  check "$1 is noticed" bash -c '! "$@" > /dev/null' - "$work/wrong" "$2" "$3" 1000
+  cmp -s "$work/function.c" <(sed "$4" "$work/function.c") && check "$1 is another function" false
+}
+wrong "the frame behind the one that wrote" "$work/free.sheet" 2 's/return (int)j - 1/return (int)j/'
+wrong "the start where nothing is read" "$work/free.sheet" 2 's/ ? -1 : -2/ ? -1 : -1/'
+wrong "the first port's pairs for both" "$work/free_two.sheet" 2 's/j - 1, i, port)/j - 1, i, 1 + 0 * port)/'
+wrong "the first port's start for both" "$work/free_two.sheet" 2 's/0, i, port)/0, i, 1 + 0 * port)/'
 
 finish

@@ -85,8 +85,6 @@ FIELD(marrubigai_version_reply, minor, 4);
 #define TEXT(number) #number
 #define VERSION(major, minor) TEXT(major) "." TEXT(minor)
 
-// no record is refused by it (docs/LIBRARY.md), so no call below answers it
-
 static int passed, failed;
 
 static void check(const char *what, int holds) {
@@ -628,6 +626,50 @@ static void positions(void) {
   literal("a wrong base gives 16 before it", wrong, 6, MARRUBIGAI_WRONG_BASE, 0);
 }
 
+static void source(const char *what, marrubigai_netlist net, uint32_t depth, uint32_t kind, uint32_t j, uint32_t i, uint32_t port,
+                   uint32_t number, uint32_t place, int32_t expected) {
+  marrubigai_literal_reply reply = marrubigai_source_literal(net, depth, kind, j, i, port);
+  check(what, reply.number == number && reply.place == place && reply.literal == expected);
+}
+
+// the full run's chip: the pair (0, 1) is 6 to 10, so Z of frame 1 is 9; with two ports it is 8 to 12 and 13 to 17. Of the others it is 24 to 31, and 34 to 41
+// and 42 to 49 with two ports.
+static void sources(void) {
+  const uint32_t pair = MARRUBIGAI_PAIR, closing = MARRUBIGAI_CLOSING, none = MARRUBIGAI_NO_SUCH_GROUP;
+  source("S of the pair (0, 1)", CHIP, 1, pair, 0, 1, 1, MARRUBIGAI_PASSED, 0, 10);
+  source("Z of frame 1, whatever j is", CHIP, 1, closing, 9, 1, 1, MARRUBIGAI_PASSED, 0, 9);
+  source("Z of frame 0 is the read enable, which is true", CHIP, 0, closing, 0, 0, 1, MARRUBIGAI_PASSED, 0, 1);
+  marrubigai_netlist changed = CHIP;
+  changed.re = 0;
+  source("or false", changed, 0, closing, 0, 0, 1, MARRUBIGAI_PASSED, 0, -1);
+  source("or an inverted wire", DISTINCT_NET, 0, closing, 0, 0, 1, MARRUBIGAI_PASSED, 0, -6);
+  source("S of the other's pair", DISTINCT_NET, 1, pair, 0, 1, 1, MARRUBIGAI_PASSED, 0, 31);
+  source("and its Z", DISTINCT_NET, 1, closing, 0, 1, 1, MARRUBIGAI_PASSED, 0, 30);
+  source("S of a first port", TWO_PORTS, 1, pair, 0, 1, 1, MARRUBIGAI_PASSED, 0, 12);
+  source("S of a second port", TWO_PORTS, 1, pair, 0, 1, 2, MARRUBIGAI_PASSED, 0, 17);
+  source("Z of a second port", TWO_PORTS, 1, closing, 0, 1, 2, MARRUBIGAI_PASSED, 0, 16);
+  source("Z of a second port in frame 0 is its own read enable", DISTINCT_TWO_NET, 1, closing, 0, 0, 2, MARRUBIGAI_PASSED, 0, -2);
+  source("S of the other's second port", DISTINCT_TWO_NET, 1, pair, 0, 1, 2, MARRUBIGAI_PASSED, 0, 49);
+
+  source("depth 256 gives 7, before 8", CHIP, 256, pair, 0, 0, 1, MARRUBIGAI_DEPTH, 0, 0);
+  source("wires have no source", CHIP, 1, MARRUBIGAI_WIRES, 0, 0, 1, none, 0, 0);
+  source("the property has none", CHIP, 1, MARRUBIGAI_PROPERTY, 0, 0, 1, none, 0, 0);
+  source("kind 4 gives 8", CHIP, 1, MARRUBIGAI_PROPERTY + 1, 0, 1, 1, none, 0, 0);
+  source("so does pair (1, 1)", CHIP, 1, pair, 1, 1, 1, none, 0, 0);
+  source("so does a frame above the depth", CHIP, 1, closing, 0, 2, 1, none, 0, 0);
+  source("so does port 0", CHIP, 1, closing, 0, 1, 0, none, 0, 0);
+  source("so does port 2 of a chip with one", CHIP, 1, pair, 0, 1, 2, none, 0, 0);
+  source("so does port 3 of a chip with two", TWO_PORTS, 1, pair, 0, 1, 3, none, 0, 0);
+  changed.re = 6;
+  source("a read enable that is no code gives 5", changed, 1, closing, 0, 0, 1, MARRUBIGAI_CODE, 0, 0);
+  source("of a pair too", changed, 1, pair, 0, 1, 1, MARRUBIGAI_CODE, 0, 0);
+  source("8 comes before it", changed, 1, pair, 1, 1, 1, none, 0, 0);
+  changed.m = MARRUBIGAI_MOST_ADDRESS_BITS + 1;
+  source("4 comes first, at place 2", changed, 256, pair, 1, 1, 1, MARRUBIGAI_SIZE, 2, 0);
+  changed.gates = MARRUBIGAI_MOST_WIRES + 1;
+  source("or at place 1", changed, 256, pair, 1, 1, 1, MARRUBIGAI_SIZE, 1, 0);
+}
+
 // The full run's chip at depth 1: the input is variable 2 in frame 0 and 4 in frame 1, and every frame reads. Memory and trace are one word and one
 // byte longer than their need.
 enum { WORDS = 2, LINES = 2 * 3, UNTOUCHED = 0x5a };
@@ -973,6 +1015,7 @@ int main(int count, char **arguments) {
   groups();
   port_groups();
   positions();
+  sources();
   replays();
   port_replays();
   printing();

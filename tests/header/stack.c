@@ -43,6 +43,7 @@ static int write_group_at(void) {
                                    MARRUBIGAI_GROUP_ROOM).number == 0;
 }
 static int literal_at(void) { return marrubigai_literal_at(net, (marrubigai_position){255, 0, 1}, 2).number == 0; }
+static int source_literal(void) { return marrubigai_source_literal(net, 255, MARRUBIGAI_PAIR, 254, 255, net.second_port + 1).number == 0; }
 static int write_sheet(void) { return marrubigai_write_sheet(net, latches, 0, gates, GATES, text, sizeof text).number == 0; }
 static int one_port(void) { // with two ports the second one reads
   return marrubigai_one_port(sheet, sheet_bytes, text, sizeof text).number == (net.second_port ? MARRUBIGAI_SECOND_PORT : 0);
@@ -70,6 +71,7 @@ static const struct {
     {"next_line", next_line, MARRUBIGAI_CALL_STACK},   {"heading", heading, MARRUBIGAI_CALL_STACK},
     {"write_group", write_group, MARRUBIGAI_CALL_STACK}, {"move", move, MARRUBIGAI_CALL_STACK},
     {"write_group_at", write_group_at, MARRUBIGAI_CALL_STACK}, {"literal_at", literal_at, MARRUBIGAI_CALL_STACK},
+    {"source_literal", source_literal, MARRUBIGAI_CALL_STACK},
     {"write_sheet", write_sheet, MARRUBIGAI_CALL_STACK}, {"one_port", one_port, MARRUBIGAI_CALL_STACK}, {"export", export, MARRUBIGAI_CALL_STACK},
     {"replay", replay, MARRUBIGAI_REPLAY_STACK},
     {"put_clauses", put_clauses, MARRUBIGAI_CALL_STACK}, {"the others", put_others, MARRUBIGAI_CALL_STACK},

@@ -196,6 +196,15 @@ extern "C" {
 
     fn marrubigai_literal_at(net: Record, position: PositionRecord, code: Code) -> LiteralReply;
 
+    fn marrubigai_source_literal(
+        net: Record,
+        depth: u32,
+        kind: u32,
+        j: u32,
+        i: u32,
+        port: u32,
+    ) -> LiteralReply;
+
     fn marrubigai_replay(
         net: Record,
         latches: *const LatchRecord,
@@ -580,6 +589,15 @@ impl Lists {
         // SAFETY: nothing is lent.
         let reply =
             unsafe { marrubigai_literal_at(self.record, position_record(position), Code(code)) };
+        answer(reply.number, reply.place, reply.literal == 0, || {
+            Ok(reply.literal)
+        })
+    }
+
+    /// The literal of a pair or a closing that names the source of a read. The lists are not lent.
+    pub fn source_literal(&self, depth: u32, (kind, j, i, port): Numbers) -> Answer<i32> {
+        // SAFETY: nothing is lent.
+        let reply = unsafe { marrubigai_source_literal(self.record, depth, kind, j, i, port) };
         answer(reply.number, reply.place, reply.literal == 0, || {
             Ok(reply.literal)
         })

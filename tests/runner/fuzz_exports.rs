@@ -201,7 +201,7 @@ fn change_header(random: &mut Random, text: &mut Vec<u8>) {
 pub fn calls(library: &Library, tally: &mut Tally, seed: u64, count: usize) {
     let mut random = Random::new(seed);
     for _ in 0..count {
-        match random.below(19) {
+        match random.below(20) {
             0 => {
                 let file = sheet(&mut random);
                 let line = small_or_limit(&mut random);
@@ -239,11 +239,19 @@ pub fn calls(library: &Library, tally: &mut Tally, seed: u64, count: usize) {
                 literals::any(library, tally, &mut random, &netlist);
             }
             15 => {
+                let mut netlist = record(&mut random);
+                if random.percent(20) {
+                    netlist.read_enable = random.pick(&LIMITS);
+                }
+                let depth = small_or_limit(&mut random);
+                library.source_agrees(tally, &netlist, depth, group(&mut random));
+            }
+            16 => {
                 let (depth, ports) = (random.below(6), port(&mut random));
                 let of = group(&mut random);
                 calls::order_agrees(tally, &calls::order_of(depth, ports), depth, ports, of);
             }
-            16 => {
+            17 => {
                 let file = if random.percent(60) {
                     sheet(&mut random)
                 } else {
@@ -251,7 +259,7 @@ pub fn calls(library: &Library, tally: &mut Tally, seed: u64, count: usize) {
                 };
                 library.conversion_agrees(tally, &file, 32 * room(&mut random));
             }
-            17 => {
+            18 => {
                 let mut netlist = record(&mut random);
                 if random.percent(70) {
                     netlist.latches.iter_mut().for_each(|latch| latch.reset = 0);

@@ -16,6 +16,7 @@ mod prints;
 mod reads;
 mod reference;
 mod replay_calls;
+mod sources;
 mod written_sheets;
 
 use std::cell::RefCell;
@@ -56,6 +57,7 @@ pub struct Library {
     moves: RefCell<Counts>,
     groups_at: RefCell<Counts>,
     literals: RefCell<Counts>,
+    sources: RefCell<Counts>,
     headers: RefCell<Counts>,
     clauses: RefCell<Counts>,
     refusals: RefCell<Counts>,
@@ -68,7 +70,7 @@ pub struct Library {
 /// A name, its checks, and whether they are part of a sample.
 type Family = (&'static str, fn(&Library, &mut Tally), bool);
 
-const FAMILIES: [Family; 51] = [
+const FAMILIES: [Family; 54] = [
     ("facts of the full run", calls::stated, true),
     ("table of group calls", calls::table_of_calls, true),
     ("table of records", calls::table_of_records, true),
@@ -81,6 +83,9 @@ const FAMILIES: [Family; 51] = [
     ("hostile running records", positions::hostile, false),
     ("tables of literals", literals::tables, true),
     ("groups put together from literals", literals::groups, false),
+    ("tables of sources", sources::tables, true),
+    ("sources of random records", sources::random, false),
+    ("sources in the groups", sources::groups, false),
     ("tables of sheets", reads::tables, true),
     ("rooms of lists", reads::rooms, false),
     ("damaged sheets", reads::damaged, false),
@@ -122,9 +127,9 @@ const FAMILIES: [Family; 51] = [
     ("hostile calls", |library, tally| fuzz_exports::calls(library, tally, 701, 200_000), false),
 ];
 
-/// Each function, and the numbers that the tests must have made it answer: all that it has. 10 has none.
+/// Each function, and the numbers that the tests must have made it answer: all that it has.
 fn every_number(library: &Library, tally: &mut Tally) {
-    let rows: [(&str, &RefCell<Counts>, &[usize]); 16] = [
+    let rows: [(&str, &RefCell<Counts>, &[usize]); 18] = [
         ("read", &library.reads, &[1, 2, 3, 4, 5, 6, 9, 17]),
         ("write_sheet", &library.sheets, &[3, 4, 5, 6, 9, 17]),
         ("one_port", &library.one_ports, &[1, 2, 3, 4, 5, 6, 9, 17, 18]),
@@ -140,6 +145,7 @@ fn every_number(library: &Library, tally: &mut Tally) {
             &[3, 4, 5, 6, 7, 8, 9, 16, 17],
         ),
         ("literal_at", &library.literals, &[4, 5, 7, 8, 16]),
+        ("source_literal", &library.sources, &[4, 5, 7, 8]),
         ("put_header", &library.headers, &[9]),
         ("put_clauses", &library.clauses, &[9]),
         ("put_refusal", &library.refusals, &[9]),

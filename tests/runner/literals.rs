@@ -173,7 +173,7 @@ pub fn tables(library: &Library, tally: &mut Tally) {
 }
 
 /// What is written of clauses in which 1 and -1 stand for the constants (RULES G28 and G29): no wire has variable 1.
-fn written(clauses: &[Vec<i32>]) -> Vec<i32> {
+pub fn written(clauses: &[Vec<i32>]) -> Vec<i32> {
     let mut numbers = Vec::new();
     for clause in clauses.iter().filter(|clause| !clause.contains(&1)) {
         let before = numbers.len();
@@ -187,7 +187,7 @@ fn written(clauses: &[Vec<i32>]) -> Vec<i32> {
 }
 
 /// The literals of all codes in a frame. Each call is a check: none is refused.
-fn literals(
+pub fn literals(
     library: &Library,
     tally: &mut Tally,
     lists: &Lists,

@@ -38,6 +38,8 @@ pub mod netlist;
 pub mod number;
 #[path = "../reference/one_port.rs"]
 pub mod one_port;
+#[path = "../reference/one_write.rs"]
+pub mod one_write;
 #[path = "../reference/position.rs"]
 pub mod position;
 #[path = "../reference/random.rs"]
@@ -48,6 +50,8 @@ pub mod random_aiger;
 pub mod random_answers;
 #[path = "../reference/refusal.rs"]
 pub mod refusal;
+#[path = "../reference/second_assignment.rs"]
+pub mod second_assignment;
 #[path = "../reference/sheet.rs"]
 pub mod sheet;
 #[path = "../reference/solver.rs"]

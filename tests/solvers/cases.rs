@@ -2,7 +2,7 @@
 
 use super::reference::circuit::{feed_of_words, Circuit, Feed, Run};
 use super::reference::netlist::{Netlist, SECOND_PORT};
-use super::reference::random::{enable_often, fill, Random};
+use super::reference::random::{enable_often, fill, tiny_netlist, tiny_two_ports, Random};
 
 /// A netlist with a depth of at most 4.
 pub struct Case {
@@ -23,6 +23,27 @@ pub fn unknown_cases(seed: u64, count: usize) -> Vec<Case> {
 /// Netlists of two ports with m, n at most 2 whose property depends on a read bit.
 pub fn two_port_cases(seed: u64, count: usize) -> Vec<Case> {
     cases_of(seed, count, small_two_ports, |_| true)
+}
+
+/// Netlists of both kinds in turn, so small that all assignments to their formulas can be gone through.
+pub fn tiny_cases(seed: u64, count: usize) -> Vec<Case> {
+    let mut random = Random::new(seed);
+    let case = |index: usize| {
+        let mut netlist = match index % 2 {
+            0 => tiny_netlist(&mut random),
+            _ => tiny_two_ports(&mut random),
+        };
+        let few = netlist.inputs < 2 && netlist.address_width == 1;
+        // Then every run breaks the property.
+        if few && random.percent(30) {
+            netlist.property = 0;
+        }
+        Case {
+            depth: random.below(if few { 4 } else { 3 }),
+            netlist,
+        }
+    };
+    (0..count).map(case).collect()
 }
 
 fn cases_of(

@@ -1,5 +1,5 @@
 //! Demand 3 with public solvers: what `frames` prints is solved by CaDiCaL and MiniSat, and every answer
-//! is held to the simulated chip of the second implementation. The last line is the total.
+//! is held to the simulated chip of the second implementation; and K13, the source of each read. The last line is the total.
 //! Arguments: the program `frames`, a folder for scratch files, the folder of the examples.
 //! Build: rustc -O --edition 2021 main.rs (Debian's packages libcadical-dev and g++)
 
@@ -10,6 +10,7 @@ mod judge;
 mod programs;
 #[path = "../runner/reference.rs"]
 mod reference;
+mod sources;
 mod stories;
 mod wrong;
 
@@ -67,6 +68,19 @@ fn main() {
     report.family("reads that depend on the other port's", |tally| {
         blind::loops_between_ports(tally, &programs)
     });
+    report.family("sources in all assignments", |tally| {
+        sources::all_assignments(tally, &programs)
+    });
+    report.family("sources in solvers' answers", |tally| {
+        sources::answers(tally, &programs)
+    });
+    report.family("second assignments", |tally| {
+        sources::second_assignments(tally, &programs)
+    });
+    report.family("doubled formulas as files", |tally| {
+        sources::doubled_files(tally, &programs)
+    });
+    report.family("wrong generators and their sources", sources::wrong_generators);
     report.finish()
 }
 
