@@ -2,14 +2,16 @@
 # From Verilog to a netlist: scripts/verilog_to_aag.sh with the real yosys, what the library imports of its text, and abc's proof that this is
 # the circuit of the binary AIGER of the same yosys run (latches cut; inputs, outputs and latches matched by their order). The same comparison
 # must fail where two read bits are exchanged. Then everything that must stop the script, each with its message.
-# The sheet that `import_aag` prints is the second implementation's, byte for byte; and the page's commands, from Verilog to a shown run.
-# Arguments: the programs `frames`, `replay` and `import_aag`, and the program of tests/verilog.
+# The sheet that `import_aag` prints is the second implementation's, byte for byte; the file that `export_aig` makes of it is read by abc and yosys,
+# and is that circuit too, but not with a bit changed; and the page's commands, from Verilog to a shown run.
+# Arguments: the programs `frames`, `replay`, `import_aag` and `export_aig`, and the program of tests/verilog.
 set -u
 export FRAMES REPLAY
 FRAMES=$(readlink -f "$1")
 REPLAY=$(readlink -f "$2")
 import_aag=$(readlink -f "$3")
-importer=$(readlink -f "$4")
+export_aig=$(readlink -f "$4")
+importer=$(readlink -f "$5")
 cd "$(dirname "$0")/.." || exit 2
 . tests/check.sh
 
@@ -24,6 +26,48 @@ compared() { # file, file
   esac
 }
 
+# The same by the newer command of abc, of two AIGER files.
+compared_anew() { # file, file
+  local said
+  said=$(cd "$work" && berkeley-abc -q "&r $1; &cec $2" 2>&1)
+  case $said in
+    *"Networks are equivalent"*) echo equal ;;
+    *"Networks are NOT EQUIVALENT"*) echo different ;;
+    *) echo "$said" ;;
+  esac
+}
+
+# What yosys reads of a binary file: how many cells of each kind.
+cells() { # file
+  yosys -Q -T -p "read_aiger -module_name chip $work/$1; stat" 2>&1 | grep -E '^ +(\$|Number of cells)|ERROR'
+}
+
+# The file with a bit of one of its bytes changed.
+changed_bit() { # file, which byte from its end, the bit's weight
+  local byte
+  head -c -"$2" "$1"
+  byte=$(tail -c "$2" "$1" | head -c 1 | od -An -tu1)
+  printf "\\$(printf %03o $((byte ^ $3)))"
+  tail -c "$(($2 - 1))" "$1"
+}
+
+# The text, made a sheet by `import_aag` and of this a binary file by `export_aig` (NAME.sheet, NAME-out.aig), is the circuit of the binary file of
+# yosys: byte for byte, but for the symbols that yosys writes behind it, and by what abc finds. With P inverted, which is one bit, it is not.
+exported() { # name, m, n
+  "$import_aag" "$2" "$3" 0 < "$work/$1.aag" > "$work/$1.sheet"
+  "$export_aig" < "$work/$1.sheet" > "$work/$1-out.aig"
+  check "$1: exported as yosys' own file begins" cmp "$work/$1-out.aig" <(head -c "$(wc -c < "$work/$1-out.aig")" "$work/$1.aig")
+  check "$1: the exported file, by cec" same equal "$(compared "$1-out.aig" "$1.aig")"
+  check "$1: the exported file, by &cec" same equal "$(compared_anew "$1-out.aig" "$1.aig")"
+  check "$1: yosys reads it as its own" same "$(cells "$1.aig")" "$(cells "$1-out.aig")"
+  local lines
+  lines=$(awk 'NR == 1 { print 1 + $4 + $5 }' "$work/$1.aag")
+  changed_bit "$work/$1-out.aig" "$(($(tail -n +"$((lines + 1))" "$work/$1-out.aig" | wc -c) + 2))" 1 > "$work/$1-bit.aig"
+  check "$1: one bit is changed" same 1 "$(cmp -l "$work/$1-out.aig" "$work/$1-bit.aig" | wc -l)"
+  check "$1: with P inverted, by cec" same different "$(compared "$1-bit.aig" "$1.aig")"
+  check "$1: with P inverted, by &cec" same different "$(compared_anew "$1-bit.aig" "$1.aig")"
+}
+
 # The script makes a text and a binary file (NAME.aag, NAME.aig); the import of the text is the circuit of the binary file.
 translated() { # name, m, n, further arguments of the script ..
   local name=$1 m=$2 n=$3
@@ -34,6 +78,7 @@ translated() { # name, m, n, further arguments of the script ..
   check "$name: imported" same "0 0" "$("$importer" verdict "$work/$name.aag" "$m" "$n" 0)"
   "$importer" blif "$work/$name.aag" "$m" "$n" 0 > "$work/$name.blif"
   check "$name: the circuit of the binary file" same equal "$(compared "$name.blif" "$name.aig")"
+  exported "$name" "$m" "$n"
 }
 
 # The text with two of its lines exchanged.
@@ -55,6 +100,12 @@ for other in 10 16; do
   check "read bits of lines 9 and $other exchanged" same different "$(compared exchanged.blif repaired.aig)"
 done
 check "the repair is another circuit" same different "$(compared faulty.blif repaired.aig)"
+check "so is its exported file" same different "$(compared faulty-out.aig repaired.aig)"
+# One bit of the last two gates changed, the lowest of a difference.
+for byte in 1 2 3 4; do
+  changed_bit "$work/repaired-out.aig" $byte 1 > "$work/bit.aig"
+  check "the bit of byte $byte from the end changed" same different "$(compared bit.aig repaired.aig)"
+done
 
 # The chips of the sheets are these: the Verilog has the clock in front. And the formula of the imported netlist has the same answers.
 for chip in faulty repaired; do
