@@ -69,6 +69,7 @@ typedef struct { uint32_t depth, frame, base; } marrubigai_position; /* a runnin
 typedef struct { uint32_t number, place; marrubigai_position position; } marrubigai_position_reply;
 typedef struct { uint32_t number, place; int32_t literal; } marrubigai_literal_reply;
 typedef struct { uint32_t number, place, claimed, first; } marrubigai_replay_reply; /* claimed: 1 where the answer claims to be unsatisfiable */
+typedef struct { uint32_t number, place, certified; size_t lemma; } marrubigai_certificate_reply; /* lemma: where not certified, the first that does not follow */
 typedef struct { uint32_t end, kind, j, i, port; } marrubigai_group_reply; /* end: 1 where no group follows; what does not apply is 0 */
 typedef struct { uint32_t major, minor; } marrubigai_version_reply;
 
@@ -238,6 +239,17 @@ MARRUBIGAI_LENT marrubigai_count_reply marrubigai_export(marrubigai_netlist net,
 MARRUBIGAI_LENT marrubigai_replay_reply marrubigai_replay(marrubigai_netlist net, const marrubigai_latch *latches, size_t latch_count,
     const marrubigai_gate *gates, size_t gate_count, uint32_t depth, const uint8_t *answer, size_t bytes, uint32_t *memory, size_t words,
     uint8_t *trace, size_t trace_room);
+
+/* checks a certificate that no run breaks the property in the frames 0 to the depth: a refutation of the formula of an input, which is a depth line (the
+ * depth in ten columns, and a line feed) and a sheet, as the program `frames` reads it. Where `certified` is 1 this is proved: it rests on no solver, and
+ * on nothing that was lent. The lemmas are clauses, each ended by 0, down to an empty one; the hints are, for each lemma, how many they are and then
+ * where clauses start, as places in the formula's numbers (its groups in the order of the whole) with the lemmas behind them, counted from 0. Each lemma
+ * has to follow from what is before it by unit propagation along its hints. Where one does not, certified is 0 and `lemma` is the first such, from 0.
+ * The refusals are those of the input, as `frames` prints them; then 9 where the store has not room for the numbers of the formula and the lemmas, or the
+ * marks are not two for each of 0 to the variables that marrubigai_heading counts. After a refusal store and marks are as they were. Else the store
+ * begins with the formula's numbers and the lemmas, and the marks are scratch. */
+MARRUBIGAI_LENT marrubigai_certificate_reply marrubigai_certify(const uint8_t *input, size_t bytes, const int32_t *lemmas, size_t lemma_numbers,
+    const uint32_t *hints, size_t hint_count, int32_t *store, size_t store_room, uint32_t *marks, size_t mark_room);
 
 /* the text of the program `frames`: DIMACS' problem line, numbers that a group call wrote with a clause a line, and a refusal, its
  * number and place in ten columns each. Each answers how many bytes it wrote; 9 where the buffer is shorter than the text.

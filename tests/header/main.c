@@ -72,6 +72,11 @@ FIELD(marrubigai_replay_reply, number, 0);
 FIELD(marrubigai_replay_reply, place, 4);
 FIELD(marrubigai_replay_reply, claimed, 8);
 FIELD(marrubigai_replay_reply, first, 12);
+SIZE(marrubigai_certificate_reply, 24);
+FIELD(marrubigai_certificate_reply, number, 0);
+FIELD(marrubigai_certificate_reply, place, 4);
+FIELD(marrubigai_certificate_reply, certified, 8);
+FIELD(marrubigai_certificate_reply, lemma, 16);
 SIZE(marrubigai_group_reply, 20);
 FIELD(marrubigai_group_reply, end, 0);
 FIELD(marrubigai_group_reply, kind, 4);
@@ -718,6 +723,73 @@ static void replays(void) {
   check("depth 256 gives 7", answers_replay(replay_text(256, "", WORDS, LINES), MARRUBIGAI_DEPTH, 0, 0) && untouched());
 }
 
+// The full run's sheet at depth 0: its clauses are (1), (-3) and (3), at places 0, 2 and 4, and its variables 1 to 3. Store and marks are one number
+// longer than their need of six numbers with one lemma of one number, and of eight marks.
+enum { STORE = 6 + 1, MARKS = 8 };
+static int32_t store[STORE + 3];
+static uint32_t marks[MARKS + 1];
+
+static int lent_untouched(void) {
+  for (size_t t = 0; t < COUNT(store); t++)
+    if (store[t] != UNTOUCHED) return 0;
+  for (size_t t = 0; t < COUNT(marks); t++)
+    if (marks[t] != UNTOUCHED) return 0;
+  return 1;
+}
+
+static marrubigai_certificate_reply certify(const char *depth, const int32_t *lemmas, size_t numbers, const uint32_t *hints, size_t hint_count,
+                                            size_t store_room, size_t mark_room) {
+  static uint8_t input[11 + sizeof FULL_RUN];
+  memcpy(input, depth, 11);
+  memcpy(input + 11, FULL_RUN, sizeof FULL_RUN - 1);
+  for (size_t t = 0; t < COUNT(store); t++) store[t] = UNTOUCHED;
+  for (size_t t = 0; t < COUNT(marks); t++) marks[t] = UNTOUCHED;
+  return marrubigai_certify(input, 11 + sizeof FULL_RUN - 1, lemmas, numbers, hints, hint_count, store, store_room, marks, mark_room);
+}
+
+static int answers_certificate(marrubigai_certificate_reply reply, uint32_t number, uint32_t certified, size_t lemma) {
+  return reply.number == number && reply.place == 0 && reply.certified == certified && reply.lemma == lemma;
+}
+
+static void certificates(void) {
+  static const char zero[] = "         0\n", one[] = "         1\n", over[] = "       256\n";
+  static const int32_t empty[] = {0}, two[] = {-3, 0, 0}, other[] = {2, 0, 0}, past[] = {4, 0, 0};
+  static const uint32_t both[] = {2, 2, 4}, cited[] = {1, 2, 2, 6, 4}, itself[] = {1, 6, 2, 6, 4}, inside[] = {2, 3, 4}, none[] = {0},
+                        few[] = {3, 2, 4}, undecided[] = {1, 0, 2, 2, 4};
+  static const int32_t formula[] = {1, 0, -3, 0, 3, 0};
+  check("depth 0 is certified by the empty lemma and two hints, with store and marks of exactly their need",
+        answers_certificate(certify(zero, empty, 1, both, 3, STORE, MARKS), MARRUBIGAI_PASSED, 1, 0) && memcmp(store, formula, sizeof formula) == 0 &&
+            store[6] == 0 && store[7] == UNTOUCHED && marks[MARKS] == UNTOUCHED);
+  check("a lemma is cited by the next one",
+        answers_certificate(certify(zero, two, 3, cited, 5, COUNT(store), COUNT(marks)), MARRUBIGAI_PASSED, 1, 0) && store[6] == -3 && store[8] == 0);
+  check("no lemma may cite itself", answers_certificate(certify(zero, two, 3, itself, 5, COUNT(store), COUNT(marks)), MARRUBIGAI_PASSED, 0, 0));
+  check("no hint may point into a clause", answers_certificate(certify(zero, empty, 1, inside, 3, STORE, MARKS), MARRUBIGAI_PASSED, 0, 0));
+  check("an empty lemma is not believed", answers_certificate(certify(zero, empty, 1, none, 1, STORE, MARKS), MARRUBIGAI_PASSED, 0, 0));
+  check("fewer hints than are said", answers_certificate(certify(zero, empty, 1, few, 3, STORE, MARKS), MARRUBIGAI_PASSED, 0, 0));
+  check("no lemma at all", answers_certificate(certify(zero, empty, 0, both, 3, STORE, MARKS), MARRUBIGAI_PASSED, 0, 0));
+  check("a lemma that does not follow is the first",
+        answers_certificate(certify(zero, other, 3, undecided, 5, COUNT(store), COUNT(marks)), MARRUBIGAI_PASSED, 0, 0));
+  check("the second one is told", answers_certificate(certify(zero, two, 3, cited, 3, COUNT(store), COUNT(marks)), MARRUBIGAI_PASSED, 0, 1));
+  check("a variable past those of the depth", answers_certificate(certify(zero, past, 3, cited, 5, COUNT(store), COUNT(marks)), MARRUBIGAI_PASSED, 0, 0));
+  check("a store that is one number short gives 9",
+        answers_certificate(certify(zero, empty, 1, both, 3, STORE - 1, MARKS), MARRUBIGAI_NO_ROOM, 0, 0) && lent_untouched());
+  check("marks that are one short give 9",
+        answers_certificate(certify(zero, empty, 1, both, 3, STORE, MARKS - 1), MARRUBIGAI_NO_ROOM, 0, 0) && lent_untouched());
+  check("no store for the formula of depth 1",
+        answers_certificate(certify(one, empty, 1, both, 3, COUNT(store), COUNT(marks)), MARRUBIGAI_NO_ROOM, 0, 0) && lent_untouched());
+  check("depth 256 gives 7", answers_certificate(certify(over, empty, 1, both, 3, 0, 0), MARRUBIGAI_DEPTH, 0, 0) && lent_untouched());
+  static const uint8_t line[] = "         0\n";
+  check("a depth line alone gives 1", marrubigai_certify(line, 11, empty, 1, both, 3, store, 0, marks, 0).number == MARRUBIGAI_RAGGED);
+  static int32_t room[64];
+  static uint32_t more[22];
+  static uint8_t input[11 + sizeof FULL_RUN];
+  memcpy(input, one, 11);
+  memcpy(input + 11, FULL_RUN, sizeof FULL_RUN - 1);
+  check("depth 1, where a run breaks the property, is not certified",
+        answers_certificate(marrubigai_certify(input, 11 + sizeof FULL_RUN - 1, empty, 1, both, 3, room, COUNT(room), more, COUNT(more)),
+                            MARRUBIGAI_PASSED, 0, 0));
+}
+
 // Two ports at depth 1: wires are the input, the first port's read bit and the second's, variables 2 to 4 and 5 to 7.
 static void port_replays(void) {
   uint32_t words[2] = {UNTOUCHED, UNTOUCHED};
@@ -1018,6 +1090,7 @@ int main(int count, char **arguments) {
   sources();
   replays();
   port_replays();
+  certificates();
   printing();
   sheets();
   conversions();

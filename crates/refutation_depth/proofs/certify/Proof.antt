@@ -34,7 +34,7 @@ returns c = let a = c .before .before .before .before .before .before .before .b
 
 certify-net-requires : tie.Need-certify-net-requires
 certify-net-requires c κs = let t = c .before .before .before .before .before .before .read-input .ensures .1 .0 (c .before .before .before .before .if1 .left) in
-    (rw (t .net-is) (t .accepted), t .depth-most)
+    (rw (t .net-is) (t .accepted), omega (arith, t .depth-most))
 
 same-length : tie.Need-same-length
 same-length c = search needs
