@@ -255,9 +255,14 @@ const UNOPENED: [&str; 10] = [
 ];
 
 /// The ways in their order: each is told less what the ones before it have.
-const PATHS: [ReadersPath; 5] = [
+const PATHS: [ReadersPath; 6] = [
     ReadersPath {
-        promise: "demand 3 of a record",
+        promise: "no run to depth k, certified",
+        from: &["refutation_depth/Certified/CertifiedInput"],
+        shut: &[],
+    },
+    ReadersPath {
+        promise: "demand 3 of a record, besides",
         from: &["calls/LentCalls/HeadingClaim", "calls/LentCalls/AcceptedTheorem"],
         shut: &UNOPENED,
     },
