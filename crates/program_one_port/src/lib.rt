@@ -14,7 +14,8 @@ pub fn write_output(out: &mut [u8], file: &[u8]) -> usize
     ensures converted { λ _. ⌜ OnePortTheorem ⌝ }
     ensures refusals { λ _. ⌜ OnlyOnePortRefusals ⌝ }
 {
-    match sheet_one_port::convert(file, out) {
+    let answer = sheet_one_port::convert(file, out);
+    match answer {
         PrintAnswer::Written(count) => count,
         PrintAnswer::Refused(refusal, place) => {
             dimacs::write_refusal(out, refusals::number(refusal), place)
