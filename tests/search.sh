@@ -99,8 +99,8 @@ start 0" examples/echo/chip.sheet 1 9
 names "depth 3 of the first example" "start 0 1 2" examples/echo/chip.sheet 3 1
 # the second port reads address 0, which frame 2 writes; the first never reads
 names "the second port alone" "-/start -/start -/start -/2" "$work/second.sheet" 3 9
-# latches 1 to 3 are true from frame 1, 2 and 3 on. The address is latch 1 and frames 0 and 1 write: address 0, then address 1. It reads from frame 2 on, where
-# the address is 1, until frame 3 on it is 0 again (latch 1 and not latch 3, wire 5): the older write. P is false.
+# Latches 1 to 3 are true from frames 1, 2 and 3 on. The address is wire 5, latch 1 and not latch 3: 0, 1, 1, and from frame 3 on 0. Frames 0 and 1
+# write; it reads from frame 2 on: what frame 1 wrote, then what frame 0 did. P is false.
 { line N 0 3 1; line M 1 1 0; line L 1 0; line L 2 0; line L 4 0; line G 2 7; line A 10; line D 1; line C 5 4 0; } > "$work/older.sheet"
 names "the newest write, and then an older one" "- - 1 0 0" "$work/older.sheet" 4 1
 # the same from an unknown start, reading in every frame

@@ -637,8 +637,8 @@ static void source(const char *what, marrubigai_netlist net, uint32_t depth, uin
   check(what, reply.number == number && reply.place == place && reply.literal == expected);
 }
 
-// the full run's chip: the pair (0, 1) is 6 to 10, so Z of frame 1 is 9; with two ports it is 8 to 12 and 13 to 17. Of the others it is 24 to 31, and 34 to 41
-// and 42 to 49 with two ports.
+// the full run's chip: the pair (0, 1) is 6 to 10, so Z of frame 1 is 9; with two ports it is 8 to 12 and 13 to 17. Of the others it is 24 to 31, and
+// with two ports 34 to 41 and 42 to 49
 static void sources(void) {
   const uint32_t pair = MARRUBIGAI_PAIR, closing = MARRUBIGAI_CLOSING, none = MARRUBIGAI_NO_SUCH_GROUP;
   source("S of the pair (0, 1)", CHIP, 1, pair, 0, 1, 1, MARRUBIGAI_PASSED, 0, 10);

@@ -1,5 +1,6 @@
 //! Accepted sheets: what `frames` prints, byte for byte against the second implementation.
 
+use super::largest::{extremes, rows, Largest};
 use super::process::{difference, Program};
 use super::reference::check_examples::{full_run_rows, input, of_sizes};
 use super::reference::check_ports::{two_of_sizes, two_port_runs};
@@ -170,5 +171,20 @@ pub fn largest(program: &Program, tally: &mut Tally) {
         };
         let netlist = fill(&mut random, empty);
         agrees(program, tally, &name, &netlist, MAX_DEPTH);
+    }
+}
+
+/// The formulas with the most variables, clauses and bytes: their first line, how much is printed, and every number within the bound.
+pub fn bounds(program: &Program, tally: &mut Tally) {
+    for Largest { name, netlist, variables, clauses, bytes } in rows() {
+        let ran = program.run(&[write_depth(MAX_DEPTH), write_sheet(&netlist)].concat());
+        tally.check((name, "ended"), ran.ended_well());
+        let header = format!("p cnf {variables} {clauses}\n");
+        tally.check((name, "header"), ran.output.starts_with(header.as_bytes()));
+        tally.equal((name, "bytes"), ran.output.len(), bytes);
+        let body = std::str::from_utf8(&ran.output[header.len()..]).unwrap_or_default();
+        tally.equal((name, "lines"), body.matches('\n').count(), clauses as usize);
+        let numbers = body.split_ascii_whitespace().map(|word| word.parse().unwrap_or(i32::MAX));
+        tally.equal((name, "numbers"), extremes(numbers), [-variables, variables]);
     }
 }

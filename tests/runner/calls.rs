@@ -1,7 +1,8 @@
 //! Group and heading calls through the static library: answers, contents, what is left untouched, and
 //! refusals 3 to 9 of records and calls.
 
-use super::exports::{asked_for, next_group, parameters, version, Answer, Lists, Numbers};
+use super::exports::{asked_for, next_group, parameters, put_clauses, put_header, version, Answer, Lists, Numbers};
+use super::largest::{extremes, rows, Largest, MOST_VARIABLES};
 use super::mutate::wide;
 use super::reference::check_examples::{accepted, of_sizes, FULL_RUN, RICH};
 use super::reference::check_ports::{
@@ -426,5 +427,49 @@ pub fn formulas(library: &Library, tally: &mut Tally) {
             ..sizes
         };
         library.joined_agrees(tally, name, &fill(&mut random, empty), MAX_DEPTH);
+    }
+}
+
+/// The most numbers that a group has (RULES G36).
+fn most_numbers(netlist: &Netlist, depth: u32, group: Group) -> u32 {
+    let (latches, gates) = (netlist.latch_count, netlist.gate_count);
+    let (m, n) = (netlist.address_width, netlist.data_width);
+    let given = u32::from(!netlist.has_unknown_start());
+    match group {
+        Group::Wires(0) => 2 + 2 * latches + 10 * gates,
+        Group::Wires(_) => 6 * latches + 10 * gates,
+        Group::Pair(..) => 17 * m + 8 * n + 32 + 12 * n * (1 - given),
+        Group::Closing(0) => 3 + 8 * n * given,
+        Group::Closing(i) => 8 * n + i + 3 + 8 * n * given,
+        Group::Property => depth + 2,
+    }
+}
+
+/// Every number of every group of the largest formulas lies between the last variable and its negative, which both are written; as many clauses are
+/// written as the heading counts, and so is their text.
+pub fn bounds(library: &Library, tally: &mut Tally) {
+    let length = |text: Answer<Vec<u8>>| text.map_or(0, |it| it.map_or(0, |bytes| bytes.len()));
+    for Largest { name, netlist, variables, clauses, bytes } in rows() {
+        let lists = Lists::new(&netlist);
+        tally.equal((name, "heading"), lists.heading(MAX_DEPTH), Ok(Ok((variables as u32, clauses))));
+        let (mut all, mut written, mut within) = ([0, 0], 0, true);
+        let mut text = length(put_header(variables as u32, clauses, 28));
+        for asked in Formula::new(&netlist, MAX_DEPTH, Fault::None).port_groups() {
+            let room = most_numbers(&netlist, MAX_DEPTH, asked.group) as usize;
+            match library.group(&lists, MAX_DEPTH, parameters(asked), room) {
+                Ok(Ok(numbers)) => {
+                    let found = extremes(numbers.iter().copied());
+                    within &= found[0] >= -MOST_VARIABLES && found[1] <= MOST_VARIABLES;
+                    all = extremes(all.into_iter().chain(found));
+                    written += numbers.iter().filter(|number| **number == 0).count();
+                    text += length(put_clauses(&numbers, 12 * numbers.len()));
+                }
+                other => tally.check((name, asked, other), false),
+            }
+        }
+        tally.check((name, "within"), within);
+        tally.equal((name, "met"), all, [-variables, variables]);
+        tally.equal((name, "clauses"), written, clauses as usize);
+        tally.equal((name, "bytes"), text, bytes);
     }
 }

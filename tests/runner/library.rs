@@ -8,6 +8,7 @@ mod exported_files;
 mod exports;
 mod fuzz_exports;
 mod imports;
+mod largest;
 mod literals;
 mod mutate;
 mod one_ports;
@@ -70,13 +71,14 @@ pub struct Library {
 /// A name, its checks, and whether they are part of a sample.
 type Family = (&'static str, fn(&Library, &mut Tally), bool);
 
-const FAMILIES: [Family; 54] = [
+const FAMILIES: [Family; 55] = [
     ("facts of the full run", calls::stated, true),
     ("table of group calls", calls::table_of_calls, true),
     ("table of records", calls::table_of_records, true),
     ("rooms of groups", calls::rooms, false),
     ("lengths of lists", calls::list_lengths, false),
     ("joined groups", calls::formulas, false),
+    ("the largest variable in every group", calls::bounds, false),
     ("the order of the groups, and the version", calls::orders, true),
     ("tables of running records", positions::tables, true),
     ("running records through all frames", positions::walks, false),

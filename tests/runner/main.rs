@@ -11,6 +11,7 @@ mod damaged;
 mod exported_sheets;
 mod faults;
 mod fuzz;
+mod largest;
 mod memory;
 mod mutate;
 mod one_port_program;
@@ -32,12 +33,13 @@ use replays::Replay;
 type Family = (&'static str, fn(&Program, &mut Tally));
 type ReplayFamily = (&'static str, fn(&Replay, &mut Tally));
 
-const FAMILIES: [Family; 18] = [
+const FAMILIES: [Family; 19] = [
     ("full runs, by hand", accepted::full_runs),
     ("every depth", accepted::every_depth),
     ("random M sheets", accepted::random_sheets),
     ("random T sheets", accepted::random_two_ports),
     ("largest sheets at depth 255", accepted::largest),
+    ("the largest variable, the most clauses and bytes", accepted::bounds),
     ("tables of refusals", damaged::tables),
     ("lengths of inputs", damaged::lengths),
     ("depth lines", damaged::depth_lines),

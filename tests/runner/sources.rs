@@ -1,5 +1,5 @@
-//! Literals that say where a word that is read comes from (RULES L15 and T56) through the static library: by hand, against the second implementation's
-//! numbering, and against the groups that the library's calls write.
+//! Literals that say where a word that is read comes from (RULES L15 and T56) through the static library: by hand, against the second
+//! implementation's numbering, and against the groups that the library's calls write.
 
 use super::calls::{differ, record_rows};
 use super::exports::{asked_for, parameters, Answer, Lists, Numbers};
@@ -158,8 +158,8 @@ fn due(netlist: &Netlist, depth: u32, of: Numbers) -> Result<i32, Refusal> {
     })
 }
 
-/// The rows; every RE in frame 0, up to the first code that is none; and every record of the table of records, of which only 4, and 5 of the port's RE, are
-/// tested.
+/// The rows; every RE in frame 0, up to the first code that is none; and every record of the table of records, of which only 4, and 5 of the
+/// port's RE, are tested.
 pub fn tables(library: &Library, tally: &mut Tally) {
     let tables = [
         (FULL_RUN, &OF_FULL_RUN[..]),

@@ -1,7 +1,7 @@
-// The function `written_in` of docs/LIBRARY.md against the chip's own run: each answer of the solver is run by marrubigai_replay, and of each word of the
-// memory it is kept which frame wrote it last. Arguments: a sheet, a depth, and how many answers to look at, at most; no two have the same inputs.
-// Prints for each answer a line with the source of each read, frame by frame: a frame, `start`, or `-` where nothing is read; of two ports with a slash
-// between. Exit status: 0 the function says the same of all, 1 it does not, or a call is refused, or there is no answer.
+// The function `written_in` of docs/LIBRARY.md against the chip's own run: each answer of the solver is run by marrubigai_replay, and of each word
+// of the memory it is kept which frame wrote it last. Arguments: a sheet, a depth, and how many answers to look at, at most; no two have the same
+// inputs. Prints for each answer a line with the source of each read, frame by frame: a frame, `start`, or `-` where nothing is read; of two ports
+// with a slash between. Exit status: 0 the function says the same of all, 1 it does not, or a call is refused, or there is no answer.
 // Build: as docs/LIBRARY.md says, with the page's function as written_in.h.
 
 #include <ccadical.h>

@@ -1,5 +1,5 @@
-//! K13 on the clauses that `frames` prints (RULES A17 to A19): the source of each read in all assignments of small formulas and in a solver's answers, and
-//! the second assignment that a doubled formula would have. Definitions that are not K13's are seen to be wrong, or to promise less.
+//! K13 on the clauses that `frames` prints (RULES A17 to A19): the source of each read in all assignments of small formulas and in solvers'
+//! answers, and the second assignment that a doubled formula would have. Definitions that are not K13's are seen to be wrong, or to promise less.
 
 use super::cadical::Cadical;
 use super::cases::{small_cases, tiny_cases, two_port_cases, Case};
@@ -94,8 +94,9 @@ pub fn all_assignments(tally: &mut Tally, programs: &Programs) {
     // Counting the true ones is satisfied with every one of them.
     tally.equal("exactly one is true, whichever it is", one_accepts, altered);
     tally.remark = format!(
-        " ({assignments} assignments, {unknown} with an unknown start, {two_ports} with two ports; reads: {idle} idle, {start} of the start, {written} of a \
-         write, {several} where several frames wrote; the oldest write would be wrong in {oldest_fails}; {altered} with another source, all noticed)"
+        " ({assignments} assignments, {unknown} with an unknown start, {two_ports} with two ports; reads: {idle} idle, {start} of the start, \
+         {written} of a write, {several} where several frames wrote; the oldest write would be wrong in {oldest_fails}; {altered} with another \
+         source, all noticed)"
     );
 }
 
@@ -291,8 +292,8 @@ pub fn second_assignments(tally: &mut Tally, programs: &Programs) {
     let counts = [given, satisfiable, equalities, idle_later, idle_free, unknown];
     tally.check(("enough of each", counts), counts.iter().all(|it| *it >= 20));
     tally.remark = format!(
-        " ({given} with a start word, {satisfiable} of them satisfiable: two that differ in the e alone in {equalities}, {idle_later} of these with an idle frame \
-         behind frame 0; two whose idle bits differ in {idle_free}; with an unknown start two in {unknown})"
+        " ({given} with a start word, {satisfiable} of them satisfiable: two that differ in the e alone in {equalities}, {idle_later} of these \
+         with an idle frame behind frame 0; two whose idle bits differ in {idle_free}; with an unknown start two in {unknown})"
     );
 }
 
