@@ -256,7 +256,12 @@ const UNOPENED: [&str; 11] = [
 ];
 
 /// The ways in their order: each is told less what the ones before it have.
-const PATHS: [ReadersPath; 5] = [
+const PATHS: [ReadersPath; 6] = [
+    ReadersPath {
+        promise: "no run to a sheet's depth, certified",
+        from: &["refutation_depth/Certified/CertifiedInput"],
+        shut: &[],
+    },
     ReadersPath {
         promise: "demand 3 of a record",
         from: &["calls/LentCalls/HeadingClaim", "calls/LentCalls/AcceptedTheorem"],

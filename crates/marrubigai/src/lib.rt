@@ -46,7 +46,7 @@ ghost use Rattle.call_position.specs.Literals.{literalSent, InverseNegated};
 ghost use Rattle.netlist.specs.NetOf.{alone};
 ghost use Rattle.sheet_writer.specs.WriteCall.{writeSent, writeLeaves, SheetWritten};
 ghost use Rattle.refutation_depth.specs.Certified.{CertifiedInput};
-ghost use Rattle.refutation_depth.specs.Certificate.{certificateSent, storeAfter};
+ghost use Rattle.refutation_depth.specs.Certificate.{certificateSent, storeAfter, KeptAtRefusal};
 ghost use Rattle.call_replies.specs.Replies.{groupOf, orderFor, nextNumbers, sheetNumbers, headerVersion};
 
 // The version of include/marrubigai.h that the library is built for.
@@ -376,7 +376,7 @@ pub extern "C" fn marrubigai_certify(
     ensures answer { λ r. ⌜ r ≡ certificateSent (now (input .entry)) (now (lemmas .entry)) (now (hints .entry)) (length (now (store .entry))) (length (now (marks .entry))) ⌝ }
     ensures certified { λ r. ⌜ (r .certified ≡ 1 → CertifiedInput (now (input .entry))) ⌝ }
     ensures store { λ _. ⌜ now (store .exit) ≡ storeAfter (now (input .entry)) (now (lemmas .entry)) (now (store .entry)) (length (now (marks .entry))) ⌝ }
-    ensures marks { λ r. ⌜ ((r .number ≡ 0 → ⊥) → now (marks .exit) ≡ now (marks .entry)) ⌝ }
+    ensures marks { λ r. ⌜ KeptAtRefusal r (now (marks .entry)) (now (marks .exit)) ⌝ }
 {
     refutation_depth::certify(input, lemmas, hints, store, marks)
 }

@@ -1,5 +1,5 @@
 -- `refutation_depth::certify` meets its contract: the input's refusal is sent, or what comes of its netlist; and what is certified holds.
-use mathlib.Core.Path.{_≡_, refl, sym, _∙_, ap}
+use mathlib.Core.Path.{refl, sym, _∙_, ap}
 use native.Mathlib.Omega.{arith}
 use lib.ListN.{length}
 use Rattle.refutation_depth.specs.declared.CertificateReply.{CertificateReply}

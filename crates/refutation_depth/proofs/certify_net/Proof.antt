@@ -1,5 +1,5 @@
 -- `refutation_depth::certify_net` meets its contract: a refusal leaves everything, and else the check's answer is sent.
-use mathlib.Core.Path.{_≡_, refl, sym, _∙_, ap}
+use mathlib.Core.Path.{refl, sym, _∙_, ap}
 use Rattle.refusals.specs.Slices.{contentsAfter}
 use Rattle.refutation_depth.specs.Certificate.{certificateReply}
 use Rattle.refutation_depth.specs.declared.CertificateReply.{CertificateReply}
