@@ -114,7 +114,7 @@ impl Propagation {
         loop {
             let needed_first = self.through_needed < self.trail.len();
             let turn = if needed_first { &mut self.through_needed } else { &mut self.through_all };
-            let Some(literal) = self.trail.get(*turn).copied() else { return None };
+            let literal = *self.trail.get(*turn)?;
             *turn += 1;
             if let Some(id) = self.visit(slot(-literal), limit, needed_first) {
                 return Some(id);

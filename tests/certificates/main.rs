@@ -196,7 +196,10 @@ fn main() {
 
 /// A certificate damaged at each byte of its lists, or at many of them.
 fn damaged(tally: &mut Tally, input: &[u8], made: &Certificate) {
-    let Ok(formula) = formula_of(input, STORE_ROOM, MARK_ROOM) else { return tally.check("a formula", false) };
+    let formula = match formula_of(input, STORE_ROOM, MARK_ROOM) {
+        Ok(formula) => formula,
+        Err(why) => return tally.check(&why, false),
+    };
     let variables = variables_of(input);
     let file = file_of(made);
     let start = file.iter().position(|byte| *byte == b'\n').expect("a line") + 1;
@@ -205,8 +208,9 @@ fn damaged(tally: &mut Tally, input: &[u8], made: &Certificate) {
         for flip in [1, 0x80] {
             let mut other = file.clone();
             other[at] ^= flip;
-            let Some(other) = certificate_in(&other) else { continue };
-            agrees(tally, "damaged", input, &formula, variables, &other);
+            if let Some(other) = certificate_in(&other) {
+                agrees(tally, "damaged", input, &formula, variables, &other);
+            }
         }
     }
 }

@@ -97,7 +97,10 @@ fn follows(known: &[i32], lemma: &[i32], hints: &[u32], variables: u32) -> bool 
         return false;
     }
     for hint in hints {
-        let Some(clause) = clause_at(known, *hint as usize) else { return false };
+        let clause = match clause_at(known, *hint as usize) {
+            Some(clause) => clause,
+            None => return false,
+        };
         let free: HashSet<i32> = clause.iter().copied().filter(|number| !wrong.contains(number)).collect();
         if !within(clause) || free.len() > 1 {
             return false;
@@ -117,9 +120,10 @@ pub fn unjustified(formula: &[i32], certificate: &Certificate, variables: u32) -
     let mut at = formula.len();
     let mut hints = certificate.hints.as_slice();
     for index in 0.. {
-        let Some(length) = numbers[at..].iter().position(|number| *number == 0) else { return Some(index) };
-        let Some((count, rest)) = hints.split_first() else { return Some(index) };
-        let count = *count as usize;
+        let (length, count, rest) = match (numbers[at..].iter().position(|number| *number == 0), hints.split_first()) {
+            (Some(length), Some((count, rest))) => (length, *count as usize, rest),
+            _ => return Some(index),
+        };
         if rest.len() < count || !follows(&numbers[..at], &numbers[at..at + length], &rest[..count], variables) {
             return Some(index);
         }
