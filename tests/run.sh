@@ -100,7 +100,8 @@ echo "== the static library: rt staticlib marrubigai"
 linked=(-L target/staticlib -l static=marrubigai)
 if {
   rt staticlib marrubigai && compile "$logs" library tests/runner/library.rs "${linked[@]}" &&
-    compile "$logs" verilog tests/verilog/main.rs "${linked[@]}"
+    compile "$logs" verilog tests/verilog/main.rs "${linked[@]}" &&
+    compile "$logs" certificates tests/certificates/main.rs "${linked[@]}"
 } > "$logs/staticlib.out" 2>&1; then
   pass
   start "frames against the second implementation" frames "$logs/runner" "${programs[@]}" frames docs/FORMAT.md
@@ -108,6 +109,9 @@ if {
   start "from Verilog to an imported netlist, an exported file and a shown run, with yosys and abc" verilog \
     bash tests/verilog.sh "${programs[@]}" "$logs/verilog"
   start "a sample of the library's calls under valgrind" library-valgrind valgrind --quiet --error-exitcode=99 "$logs/library" sample
+  start "certificates from a solver's refutations, and damaged ones" certificates "$logs/certificates" examples "$logs/certificates-scratch"
+  start "a sample of certificates under valgrind" certificates-valgrind \
+    valgrind --quiet --error-exitcode=99 "$logs/certificates" examples "$logs/certificates-sample" sample
   start "the header for C against the library" header bash tests/header.sh
   start "the command marrubigai, with yosys and sanitizers" command bash tests/command.sh "$frames" "$replay"
   start "a search depth by depth with the library and CaDiCaL's" search bash tests/search.sh "$frames" "$replay"

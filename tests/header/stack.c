@@ -21,6 +21,7 @@ static marrubigai_gate gates[MARRUBIGAI_LIST_ROOM];
 static int32_t numbers[MARRUBIGAI_GROUP_ROOM];
 static uint8_t sheet[MARRUBIGAI_SHEET_BYTES], text[MARRUBIGAI_SHEET_BYTES], trace[MARRUBIGAI_TRACE_BYTES];
 static uint32_t words[MARRUBIGAI_MEMORY_WORDS];
+static int32_t store[2 * MARRUBIGAI_GROUP_ROOM];
 static size_t sheet_bytes;
 static const uint8_t aag[] = "aag 2 2 0 5 0\n2\n4\n0\n2\n1\n1\n5\n";
 static uint8_t *answer;
@@ -41,6 +42,21 @@ static int move(void) {
 static int write_group_at(void) {
   return marrubigai_write_group_at(net, latches, 0, gates, GATES, (marrubigai_position){255, 0, 1}, MARRUBIGAI_WIRES, 0, 0, numbers,
                                    MARRUBIGAI_GROUP_ROOM).number == 0;
+}
+// the formula is counted before there is seen to be no room; what is then checked is less deep
+static int certify(void) {
+  static uint8_t input[11 + MARRUBIGAI_SHEET_BYTES];
+  memcpy(input, "       255\n", 11);
+  memcpy(input + 11, sheet, sheet_bytes);
+  return marrubigai_certify(input, 11 + sheet_bytes, numbers, 0, words, 0, numbers, 1, words, 1).number == MARRUBIGAI_NO_ROOM;
+}
+static int certify_depth_0(void) {
+  static uint8_t input[11 + MARRUBIGAI_SHEET_BYTES];
+  memcpy(input, "         0\n", 11);
+  memcpy(input + 11, sheet, sheet_bytes);
+  static int32_t lemmas[1] = {0};
+  static uint32_t hints[2] = {1, 0};
+  return marrubigai_certify(input, 11 + sheet_bytes, lemmas, 1, hints, 2, store, sizeof store / sizeof *store, words, MARRUBIGAI_MEMORY_WORDS).number == 0;
 }
 static int literal_at(void) { return marrubigai_literal_at(net, (marrubigai_position){255, 0, 1}, 2).number == 0; }
 static int source_literal(void) { return marrubigai_source_literal(net, 255, MARRUBIGAI_PAIR, 254, 255, net.second_port + 1).number == 0; }
@@ -74,6 +90,7 @@ static const struct {
     {"source_literal", source_literal, MARRUBIGAI_CALL_STACK},
     {"write_sheet", write_sheet, MARRUBIGAI_CALL_STACK}, {"one_port", one_port, MARRUBIGAI_CALL_STACK}, {"export", export, MARRUBIGAI_CALL_STACK},
     {"replay", replay, MARRUBIGAI_REPLAY_STACK},
+    {"certify", certify, MARRUBIGAI_CALL_STACK},       {"certify at depth 0", certify_depth_0, MARRUBIGAI_CALL_STACK},
     {"put_clauses", put_clauses, MARRUBIGAI_CALL_STACK}, {"the others", put_others, MARRUBIGAI_CALL_STACK},
 };
 

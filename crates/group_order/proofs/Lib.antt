@@ -1,2 +1,3 @@
 pub mod InOrder
 pub mod Successor
+pub mod Remaining

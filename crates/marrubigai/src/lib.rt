@@ -49,7 +49,7 @@ ghost use Rattle.sheet_writer.specs.WriteCall.{writeSent, writeLeaves, SheetWri
 ghost use Rattle.aiger_export.specs.ExportCall.{exportSent, exportLeaves};
 ghost use Rattle.aiger_export.specs.Exported.{ExportTheorem};
 ghost use Rattle.refutation_depth.specs.Certified.{CertifiedInput};
-ghost use Rattle.refutation_depth.specs.Certificate.{certificateSent, storeAfter};
+ghost use Rattle.refutation_depth.specs.Certificate.{certificateSent, storeAfter, KeptAtRefusal};
 ghost use Rattle.sheet_one_port.specs.OnePortCall.{onePortSent, onePortLeaves, OnePortTheorem};
 ghost use Rattle.call_replies.specs.Replies.{groupOf, orderFor, nextNumbers, sheetNumbers, headerVersion};
 
@@ -421,7 +421,7 @@ pub extern "C" fn marrubigai_certify(
     ensures answer { λ r. ⌜ r ≡ certificateSent (now (input .entry)) (now (lemmas .entry)) (now (hints .entry)) (length (now (store .entry))) (length (now (marks .entry))) ⌝ }
     ensures certified { λ r. ⌜ (r .certified ≡ 1 → CertifiedInput (now (input .entry))) ⌝ }
     ensures store { λ _. ⌜ now (store .exit) ≡ storeAfter (now (input .entry)) (now (lemmas .entry)) (now (store .entry)) (length (now (marks .entry))) ⌝ }
-    ensures marks { λ r. ⌜ ((r .number ≡ 0 → ⊥) → now (marks .exit) ≡ now (marks .entry)) ⌝ }
+    ensures marks { λ r. ⌜ KeptAtRefusal r (now (marks .entry)) (now (marks .exit)) ⌝ }
 {
     refutation_depth::certify(input, lemmas, hints, store, marks)
 }

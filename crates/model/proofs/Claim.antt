@@ -6,13 +6,13 @@ use mathlib.Core.List.{List}
 use mathlib.Core.Logic.{_↔_, Iff·trans}
 use lib.Dec.{eqb}
 use Rattle.model.specs.Netlist.{Netlist, start, ports, port}
-use Rattle.model.specs.Circuit.{State, Feeds, run, Begins, Starts}
+use Rattle.model.specs.Circuit.{State, run, Begins}
 use Rattle.model.specs.Acceptance.{Accepted}
 use Rattle.model.specs.Clauses.{Clause}
 use Rattle.model.specs.Variables.{base}
 use Rattle.model.specs.Groups.{clausesOf, groupOrder}
 use Rattle.model.specs.Numbers.{keptOf, kept, isTrue, hasTrue, Assignment, formula, clausesIn, numberTrue, clauseTrue, allTrue}
-use Rattle.model.specs.Claim.{Satisfies, feedOf, idleOf, StartsAs, Agrees, Breaks, Encodes, EncodingTheorem}
+use Rattle.model.specs.Claim.{Satisfies, feedOf, idleOf, StartsAs, Agrees, Breaks, Safe, Encodes, EncodingTheorem}
 use Rattle.model.specs.declared.Group.the-variants.{Wires}
 use Rattle.model.proofs.Booleans.{eq-iff, and-true}
 use Rattle.model.proofs.Ports.{unknown-single, bit-within}
@@ -123,6 +123,5 @@ pub encodes : EncodingTheorem
 encodes c ok k = encodes-depth ok k
 
 -- What a designer relies on: where no assignment satisfies the clauses of depth k, no run breaks the property up to frame k.
-pub unsatisfiable→safe : {c : Netlist} {k : ℕ} → Encodes c k → ((a : Assignment) → Satisfies c k a → ⊥)
-    → (s : State) → Starts c s → (f : Feeds) → Breaks c s k f → ⊥
+pub unsatisfiable→safe : {c : Netlist} {k : ℕ} → Encodes c k → ((a : Assignment) → Satisfies c k a → ⊥) → Safe c k
 unsatisfiable→safe e none s starts f h = let found = e .run→assignment s starts f h in none (found .0) (found .1)

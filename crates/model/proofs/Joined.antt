@@ -49,6 +49,12 @@ pub formula-written : (c : Netlist) (k : ℕ) → formula c k ≡ written (joine
 unfolding formula numbersOf
 formula-written c k = joined-written (clausesOf c k) (groupOrder (ports c) k)
 
+-- one list of groups after the other
+pub joined-append : (f : Group → List ℤ) (gs hs : List Group) → joined f (gs ++ hs) ≡ joined f gs ++ joined f hs
+unfolding joined
+joined-append f [] hs = refl
+joined-append f (g ∷ gs) hs = rw (joined-append f gs hs, append-assoc (f g))
+
 -- what is joined needs to be the same at the groups joined alone
 pub joined-same : {f h : Group → List ℤ} {gs : List Group} → All (λ g. f g ≡ h g) gs → joined f gs ≡ joined h gs
 unfolding joined

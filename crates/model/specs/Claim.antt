@@ -49,6 +49,10 @@ Agrees c s k a f = (i : ℕ) → i ≤ k → (w : ℕ) → 1 ≤ w → w ≤ las
 unfoldable pub Breaks : Netlist → State → ℕ → Feeds → Type 0
 Breaks c s k f = (i : ℕ) × (i ≤ k) × (codeValue (run c s f i) (c .P) ≡ false)
 
+-- no run, from whatever state a run may begin in and whatever it is fed, breaks the property in a frame from 0 to k
+abbrev pub Safe : Netlist → ℕ → Type 0
+Safe c k = (s : State) → Starts c s → (f : Feeds) → Breaks c s k f → ⊥
+
 -- demand 3 (RULES A13, A15 and A14)
 pub record Encodes (c : Netlist) (k : ℕ) : Type 0 where
   pub assignment→run : (a : Assignment) → Satisfies c k a
@@ -73,7 +77,7 @@ pub record Stated (c : Netlist) (k : ℕ) : Type 0 where
   pub only-numbered : (a a′ : Assignment) → ((v : ℕ) → 1 ≤ v → v ≤ base c (k + 1) → a v ≡ a′ v) → Satisfies c k a → Satisfies c k a′
   pub all-numbered : (v : ℕ) → 1 ≤ v → v ≤ base c (k + 1) → Numbered c k v
   pub numbers-within : (g : Group) → inDepth (ports c) k g ≡ true → (x : ℕ) → natAbs (getD (numbersOf c k g) x (pos 0)) ≤ base c (k + 1)
-  pub unsatisfiable→safe : ((a : Assignment) → Satisfies c k a → ⊥) → (s : State) → Starts c s → (f : Feeds) → Breaks c s k f → ⊥
+  pub unsatisfiable→safe : ((a : Assignment) → Satisfies c k a → ⊥) → Safe c k
   pub clauses-counted : (g : Group) → inDepth (ports c) k g ≡ true → length (clausesIn (numbersOf c k g)) ≤ clauseCount c k g
   pub numbers-counted : (g : Group) → length (numbersOf c k g) ≤ numberCount c k g
   pub no-constants : (x : ℕ) → 1 ≤ x → x < length (clausesIn (formula c k)) → NoConstant (getD (clausesIn (formula c k)) x [])

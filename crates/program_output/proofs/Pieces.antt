@@ -3,7 +3,6 @@ use Prim.Native.Nat.{ℕ, _+_, _-_}
 use mathlib.Core.Path.{_≡_, refl, sym, _∙_, ap, subst}
 use mathlib.Core.Bool.{true}
 use mathlib.Core.List.{List, [], _∷_, _++_, append-assoc, append-nil}
-use lib.IntN.{ℤ}
 use lib.ListN.{length}
 use borrow.Rule.Slice.PartMut.{midOf, putMid}
 use Rattle.model.specs.Netlist.{Netlist, ports}
@@ -12,11 +11,12 @@ use Rattle.model.specs.Numbers.{numbersOf, joined}
 use Rattle.model.specs.Wrote.{Wrote}
 use Rattle.model.specs.declared.Group.{Group}
 use Rattle.model.proofs.Gather.{All, all-at}
-use Rattle.model.proofs.Joined.{order-inDepth}
+use Rattle.model.proofs.Joined.{joined-append, order-inDepth}
 use Rattle.model.proofs.Wrote.{wrote-nothing, wrote-then}
 use Rattle.group_order.specs.Next.{firstGroup}
 use Rattle.group_order.specs.declared.Next.{Next}
 use Rattle.group_order.specs.declared.Next.the-variants.{Then, End}
+use Rattle.group_order.proofs.Remaining.{Remaining, remaining-begins, none-remains}
 use Rattle.group_counts.proofs.Counted.{wrote-front}
 use Rattle.dimacs.specs.Text.{clauseText}
 use Rattle.dimacs.proofs.Text.{clauseText-append}
@@ -27,11 +27,6 @@ use Rattle.program_output.specs.Order.{OrderHas}
 pub orderHas-inDepth : (c : Netlist) (k : ℕ) (g : Group) → OrderHas c k g → inDepth (ports c) k g ≡ true
 orderHas-inDepth c k g s =
     all-at (s .before) g (s .behind) (subst (All (λ x. inDepth (ports c) k x ≡ true)) (s .order) (order-inDepth (ports c) k))
-
-joined-append : (f : Group → List ℤ) (gs hs : List Group) → joined f (gs ++ hs) ≡ joined f gs ++ joined f hs
-unfolding joined
-joined-append f [] hs = refl
-joined-append f (g ∷ gs) hs = ap (λ (t : List ℤ). f g ++ t) (joined-append f gs hs) ∙ sym (append-assoc (f g) (joined f gs) (joined f hs))
 
 -- the text of groups
 abbrev textOf : Netlist → ℕ → List Group → List ℕ
@@ -59,30 +54,6 @@ pub nothing-yet : (c : Netlist) (k : ℕ) (old : List ℕ) (next : Next) (from :
 unfolding clauseText joined
 nothing-yet c k old next from h =
     record { printed = []; remaining = from; in-order = refl; wrote = wrote-nothing old; next-remaining = h }
-
--- what remains begins with the group that is next
-pub record Remaining (g : Group) (gs : List Group) : Type 0 where
-  pub behind : List Group
-  pub begins : gs ≡ g ∷ behind
-
-groupOr : Group → Next → Group
-groupOr g (Then h) = h
-groupOr g End = g
-
-isThen : Next → Type 0
-isThen (Then g) = Unit {0}
-isThen End = ⊥
-
-pub remaining-begins : (g : Group) (gs : List Group) → Then g ≡ firstGroup gs → Remaining g gs
-unfolding isThen groupOr
-remaining-begins g [] h = absurd (subst isThen h tt)
-remaining-begins g (x ∷ gs) h =
-    record { behind = gs; begins = ap (λ (y : Group). y ∷ gs) (sym (ap (groupOr g) h)) }
-
-none-remains : (gs : List Group) → End ≡ firstGroup gs → gs ≡ []
-unfolding isThen
-none-remains [] h = refl
-none-remains (g ∷ gs) h = absurd (subst isThen (sym h) tt)
 
 module _ {c : Netlist} {k : ℕ} {old mid : List ℕ} {bytes : ℕ} {due : Group} (before from : List Group)
     (order : groupOrder (ports c) k ≡ before ++ from) (p : SoFar c k old mid bytes (Then due) from) where

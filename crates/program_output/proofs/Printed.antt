@@ -1,10 +1,8 @@
 -- Laws of specs/Printed.antt: what is printed for an input that is taken or refused, and that pieces printed one after the other are all of it.
 -- Cited by the functions of `frames` that print.
-use Prim.Native.Nat.{ℕ, _+_, _-_, _*_, _≤_}
+use Prim.Native.Nat.{ℕ, _+_}
 use mathlib.Core.Path.{_≡_, sym, _∙_, ap}
 use mathlib.Core.List.{List, [], _++_, append-assoc, append-nil}
-use native.Mathlib.Nat.{mul-le-mul}
-use native.Mathlib.Omega.{arith}
 use lib.ListN.{length, take, drop, length-append}
 use lib.Seq.{drop-at, take-append-seam}
 use Rattle.model.specs.Netlist.{Netlist, ports}
@@ -12,10 +10,9 @@ use Rattle.model.specs.Numbers.{formula}
 use Rattle.model.specs.declared.Group.{Group}
 use Rattle.model.specs.Groups.{groupOrder}
 use Rattle.netlist.specs.NetOf.{netOf}
-use Rattle.group_order.specs.Next.{firstGroup, remainingFrom}
+use Rattle.group_order.specs.Next.{firstGroup}
 use Rattle.group_order.specs.declared.Next.{Next}
 use Rattle.group_order.specs.declared.Next.the-variants.{Then, End}
-use Rattle.group_order.proofs.Successor.{order-first}
 use Rattle.dimacs.specs.Text.{clauseText, refusalText}
 use Rattle.program_input.specs.Input.{inputAnswer, InputTaken}
 use Rattle.program_input.proofs.Replies.{taken-text, refused-text}
@@ -90,13 +87,3 @@ module _ {whole : List ℕ} {c : Netlist} {k sent : ℕ} {g : Group} {buffer : L
 pub all-printed : {whole : List ℕ} {c : Netlist} {k sent : ℕ} → PrintedSo whole c k sent End → sent ≡ length whole
 all-printed {whole} p =
     sym (p .done-sent) ∙ ap length (sym (append-nil (p .done)) ∙ ap (λ (t : List ℕ). p .done ++ t) (sym (nothing-due (p .text-due))) ∙ sym (p .whole-is))
-
--- how many groups there are at most, with two ports or one: for each of 255 frames 513, and four
-pub first-remaining : (ports k : ℕ) (next : Next) → ports ≤ 2 → k ≤ 255 → next ≡ firstGroup (groupOrder ports k) → remainingFrom ports k next ≤ 130819
-first-remaining ports k next p h e =
-    let frames : k + 1 ≤ 256 = omega (arith, h) in
-    let closings : ports * (k + 1) ≤ 2 * 256 = mul-le-mul p frames in
-    let more : ports * (k + 1) + 1 ≤ 513 = omega (arith, closings) in
-    let all : k - 0 ≤ 255 = omega (arith, h) in
-    let product : (k - 0) * (ports * (k + 1) + 1) ≤ 255 * 513 = mul-le-mul all more in
-    rw (e, order-first ports k) (omega (arith, product, p))

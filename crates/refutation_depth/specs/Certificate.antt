@@ -1,6 +1,7 @@
--- What the call that checks a certificate answers and leaves (RULES U3 to U6): its tests, what is found of the lemmas, and both as one reply. Cited by
+-- What the call that checks a certificate answers and leaves (RULES U6 to U8): its tests, what is found of the lemmas, and both as one reply. Cited by
 -- `certify` and the exported call.
 use Prim.Native.Nat.{ℕ, _+_, _*_}
+use mathlib.Core.Path.{_≡_}
 use mathlib.Core.List.{List, _++_}
 use lib.IntN.{ℤ}
 use lib.ListN.{length, drop}
@@ -20,23 +21,23 @@ use Rattle.refutation_lemmas.specs.declared.Checked.{Checked}
 use Rattle.refutation_lemmas.specs.declared.Checked.the-variants.{Refuted, Unjustified}
 use Rattle.refutation_depth.specs.declared.CertificateReply.{CertificateReply}
 
--- RULES U4: two marks for each of 0 to B(k + 1)
+-- RULES U6: "2 × (B(k + 1) + 1)" marks
 unfoldable pub marksNeed : Netlist → ℕ → ℕ
 marksNeed c k = 2 * (base c (k + 1) + 1)
 
--- RULES U4: 9 for the store, then 9 for the marks
+-- RULES U6: "9 for the store, .. then 9 for the marks"
 unfoldable pub roomVerdict : Netlist → ℕ → ℕ → ℕ → ℕ → Verdict
 roomVerdict c k lemmas store marks = testRoom (length (formula c k) + lemmas) store then testRoom (marksNeed c k) marks
 
--- RULES U4: the tests of the input, then those
+-- RULES U6: "It tests the input by P4", then those
 unfoldable pub certifyVerdict : List ℕ → ℕ → ℕ → ℕ → Verdict
 certifyVerdict s lemmas store marks = inputVerdict s then roomVerdict (netIn (drop 11 s)) (depthLine s .depth) lemmas store marks
 
--- what is found of lemmas behind the formula, whose variables are 1 to B(k + 1)
+-- what is found of lemmas behind the formula, whose variables are 1 to B(k + 1) (RULES U3 to U5)
 unfoldable pub foundOf : Netlist → ℕ → List ℤ → List ℕ → Checked
 foundOf c k lemmas hints = checked (base c (k + 1) + 1) (formula c k) lemmas hints
 
--- a verdict and what is found as a reply (RULES U5)
+-- a verdict and what is found as a reply (RULES U7)
 abbrev pub refusedWith : ℕ → ℕ → CertificateReply
 refusedWith number place = record { number = number; place = place; certified = 0; lemma = 0 }
 
@@ -49,7 +50,11 @@ unfoldable pub certificateSent : List ℕ → List ℤ → List ℕ → ℕ → 
 certificateSent s lemmas hints store marks =
     certificateReply (certifyVerdict s (length lemmas) store marks) (foundOf (netIn (drop 11 s)) (depthLine s .depth) lemmas hints)
 
--- what is in the store then (RULES U6)
+-- what is in the store then (RULES U8)
 unfoldable pub storeAfter : List ℕ → List ℤ → List ℤ → ℕ → List ℤ
 storeAfter s lemmas store marks =
     contentsAfter (certifyVerdict s (length lemmas) (length store) marks) (formula (netIn (drop 11 s)) (depthLine s .depth) ++ lemmas) store
+
+-- the marks are as they were at a refusal; else nothing is said of them (RULES U8: "they are scratch")
+abbrev pub KeptAtRefusal : CertificateReply → List ℕ → List ℕ → Type 0
+KeptAtRefusal r old new = (r .number ≡ 0 → ⊥) → new ≡ old

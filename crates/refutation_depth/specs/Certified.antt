@@ -1,17 +1,11 @@
--- What is certified of an input (RULES U2): all that has to be believed of an answer "certified". Cited by `certify` and the exported call.
+-- What is certified of an input (RULES U2): all that has to be believed of an answer that certifies. Cited by `certify` and the exported call.
 use Prim.Native.Nat.{ℕ}
 use mathlib.Core.List.{List}
 use lib.ListN.{drop}
-use Rattle.model.specs.Netlist.{Netlist}
-use Rattle.model.specs.Circuit.{State, Feeds, Starts}
 use Rattle.model.specs.Acceptance.{Accepted}
-use Rattle.model.specs.Claim.{Breaks}
+use Rattle.model.specs.Claim.{Safe}
 use Rattle.sheet_lines.specs.Depth.{depthLine}
 use Rattle.sheet_parse.specs.Files.{netIn}
-
--- from whatever state a run may begin in, and whatever it is fed, no run breaks the property in a frame 0 to k
-abbrev pub Safe : Netlist → ℕ → Type 0
-Safe c k = (s : State) → Starts c s → (f : Feeds) → Breaks c s k f → ⊥
 
 -- the sheet behind the depth line is accepted, and its netlist is safe to the line's depth
 pub record CertifiedInput (s : List ℕ) : Type 0 where

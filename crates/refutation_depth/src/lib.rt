@@ -1,4 +1,4 @@
-// "No run to depth k" as an answer that is proved (RULES U1 to U7): the formula of an input's depth goes into a lent store, the lemmas of a refutation
+// No run to depth k, as an answer that is proved (RULES U1 to U8): the formula of an input's depth goes into a lent store, the lemmas of a refutation
 // behind it, and these are checked by their hints. Nothing that is lent is believed.
 use netlist::Netlist;
 use netlist::UnpackedList;
@@ -7,7 +7,7 @@ use refusals::Verdict;
 use refutation_lemmas::Checked;
 ghost use mathlib.Core.Path.{_≡_};
 ghost use mathlib.Core.List.{_++_};
-ghost use Prim.Native.Nat.{_+_, _*_, _≤_};
+ghost use Prim.Native.Nat.{_+_, _≤_};
 ghost use lib.ListN.{length};
 ghost use Rattle.model.specs.Acceptance.{SizesFit, Accepted};
 ghost use Rattle.model.specs.Numbers.{formula};
@@ -15,7 +15,7 @@ ghost use Rattle.model.specs.Wrote.{over};
 ghost use Rattle.refusals.specs.Slices.{contentsAfter};
 ghost use Rattle.netlist.specs.NetOf.{netOf, alone};
 ghost use Rattle.refutation_depth.specs.Certified.{CertifiedInput};
-ghost use Rattle.refutation_depth.specs.Certificate.{marksNeed, roomVerdict, foundOf, refusedWith, certificateReply, certificateSent, storeAfter};
+ghost use Rattle.refutation_depth.specs.Certificate.{marksNeed, roomVerdict, foundOf, refusedWith, certificateReply, certificateSent, storeAfter, KeptAtRefusal};
 
 // What a check of a certificate answers: number and place (0 where it is not refused); 1 where the depth is certified; where it is not, the first lemma
 // that does not follow by its hints, counted from 0.
@@ -151,7 +151,7 @@ fn certify_net(
         (foundOf (netOf net (now (latches .entry)) (now (gates .entry))) depth (now (lemmas .entry)) (now (hints .entry))) ⌝ }
     ensures store { λ _. ⌜ now (store .exit) ≡ contentsAfter (roomVerdict (netOf net (now (latches .entry)) (now (gates .entry))) depth (length (now (lemmas .entry))) (length (now (store .entry))) (length (now (marks .entry))))
         (formula (netOf net (now (latches .entry)) (now (gates .entry))) depth ++ now (lemmas .entry)) (now (store .entry)) ⌝ }
-    ensures marks { λ r. ⌜ ((r .number ≡ 0 → ⊥) → now (marks .exit) ≡ now (marks .entry)) ⌝ }
+    ensures marks { λ r. ⌜ KeptAtRefusal r (now (marks .entry)) (now (marks .exit)) ⌝ }
 {
     if let Verdict::Refused(refusal, place) = test_room(
         net,
@@ -178,7 +178,7 @@ pub fn certify(
     ensures answer { λ r. ⌜ r ≡ certificateSent (now (input .entry)) (now (lemmas .entry)) (now (hints .entry)) (length (now (store .entry))) (length (now (marks .entry))) ⌝ }
     ensures certified { λ r. ⌜ (r .certified ≡ 1 → CertifiedInput (now (input .entry))) ⌝ }
     ensures store { λ _. ⌜ now (store .exit) ≡ storeAfter (now (input .entry)) (now (lemmas .entry)) (now (store .entry)) (length (now (marks .entry))) ⌝ }
-    ensures marks { λ r. ⌜ ((r .number ≡ 0 → ⊥) → now (marks .exit) ≡ now (marks .entry)) ⌝ }
+    ensures marks { λ r. ⌜ KeptAtRefusal r (now (marks .entry)) (now (marks .exit)) ⌝ }
 {
     let mut latches = sheet_tests::no_codes();
     let mut gates = sheet_tests::no_codes();

@@ -1,4 +1,3 @@
 -- Laws for the proofs of this crate. No contract cites them.
-pub mod Order
 pub mod WhereRoom
 pub mod SoFar

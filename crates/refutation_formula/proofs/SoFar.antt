@@ -11,13 +11,12 @@ use Rattle.model.specs.Groups.{groupOrder, inDepth}
 use Rattle.model.specs.Numbers.{numbersOf, joined, formula}
 use Rattle.model.specs.declared.Group.{Group}
 use Rattle.model.proofs.Gather.{All, all-at}
-use Rattle.model.proofs.Joined.{order-inDepth}
+use Rattle.model.proofs.Joined.{joined-append, order-inDepth}
 use Rattle.group_order.specs.Next.{firstGroup}
 use Rattle.group_order.specs.declared.Next.{Next}
 use Rattle.group_order.specs.declared.Next.the-variants.{Then, End}
-use Rattle.program_output.proofs.Pieces.{Remaining, remaining-begins}
+use Rattle.group_order.proofs.Remaining.{Remaining, remaining-begins, none-remains}
 use Rattle.refutation_formula.specs.WhereRoom.{PutWhereRoom}
-use Rattle.refutation_formula.proofs.Order.{joined-append, none-remains}
 use Rattle.refutation_formula.proofs.WhereRoom.{put-nothing, put-then}
 
 -- of the groups in their order, the first ones are put, and `next` is the first of those that remain

@@ -1,4 +1,4 @@
--- A list put into a slice where there is room for it (RULES U4: how much room is needed is known before anything is written). Cited by the functions of
+-- A list put into a slice where there is room for it (RULES U6: "both at place 0, before anything is written"). Cited by the functions of
 -- this crate, and by no public contract.
 use Prim.Native.Nat.{ℕ, _≤_}
 use mathlib.Core.Path.{_≡_}

@@ -1,5 +1,5 @@
 -- Unit propagation along hints. A lemma follows from the clauses before it by reverse unit propagation (RUP) where its numbers, taken
--- as false, lead to a conflict through the clauses that its hints name. Cited by the functions of this crate.
+-- as false, lead to a conflict through the clauses that its hints name (RULES U4). Cited by the functions of this crate.
 use Prim.Native.Nat.{ℕ, zero, suc}
 use mathlib.Core.Bool.{Bool, true, false, cond, _&&_, _||_}
 use mathlib.Core.List.{List, [], _∷_}

@@ -1,4 +1,5 @@
--- A refutation: lemmas, each of which follows by its hints from what stands before it, down to the empty one. Cited by `check`.
+-- A refutation: lemmas, each of which follows by its hints from what stands before it, down to the empty one (RULES U3 and U5). Cited by `check`, and by
+-- the check of a certificate.
 use Prim.Native.Nat.{ℕ, suc}
 use mathlib.Core.Path.{_≡_}
 use mathlib.Core.Bool.{true, cond, _&&_}

@@ -14,10 +14,11 @@ use Rattle.text_writer.specs.Table.{tableBelow}
 use Rattle.text_writer.proofs.Table.{filled-table}
 use Rattle.group_order.specs.Next.{remainingFrom}
 use Rattle.group_order.specs.declared.Next.the-variants.{Then}
+use Rattle.group_order.proofs.Remaining.{first-remaining}
 use Rattle.program_output.specs.Printed.{framesText}
 use Rattle.program_output.specs.Pieces.{Continues}
 use Rattle.program_output.proofs.Pieces.{due-orderHas}
-use Rattle.program_output.proofs.Printed.{taken-frames, PrintedSo, header-printed, piece-stands, piece-printed, all-printed, first-remaining}
+use Rattle.program_output.proofs.Printed.{taken-frames, PrintedSo, header-printed, piece-stands, piece-printed, all-printed}
 use Rattle.frames.proofs.print_clauses.Statement.{statement}
 use Rattle.frames.proofs.print_clauses.Tie as tie
 

@@ -13,7 +13,7 @@ use Rattle.netlist.specs.NetOf.{netOf, alone}
 use Rattle.netlist.proofs.NetOf.{sizes-lists}
 use Rattle.group_order.specs.Next.{firstGroup, remainingAfter, remainingFrom}
 use Rattle.group_order.specs.declared.Next.the-variants.{Then}
-use Rattle.program_output.proofs.Printed.{first-remaining}
+use Rattle.group_order.proofs.Remaining.{first-remaining}
 use Rattle.refutation_formula.proofs.SoFar.{SoFar, nothing-yet, next-inDepth, one-more, all-put}
 use Rattle.refutation_formula.proofs.put_formula.Statement.{statement}
 use Rattle.refutation_formula.proofs.put_formula.Tie as tie
@@ -73,7 +73,7 @@ slice-aggregate-put-where-room c = search needs
 put-where-room-requires : tie.Need-put-where-room-requires Inv-loop μ-loop
 put-where-room-requires c κs =
     let p = c .before .before .before .before .before .before .before .before .before .pre in
-    (p .0, p .1, next-inDepth (so-far (c .before .before .before)), omega (arith, c .before .before .before .before .before .before .loop .inv .0))
+    (p .0, omega (arith, p .1), next-inDepth (so-far (c .before .before .before)), omega (arith, c .before .before .before .before .before .before .loop .inv .0))
 
 add-at : tie.Need-add-at Inv-loop μ-loop
 add-at c = omega (arith, c .before .before .before .before .before .before .before .before .before .loop .inv .2, c .before .before .put-where-room .ensures .0 .1)

@@ -48,7 +48,7 @@ returns c =
     let w = c .before .before .before .before .before .before .put-group .ensures in
     let most = numbers-most _ _ _ (p .0) (p .1) (p .2) in
     let x = rw (wrote-front (w .0)) at (c .before .copy-numbers .ensures) in
-    ((put-wrote _ (w .0 .counted) (c .before .before .before .before .if1 .taken) x, omega (arith, w .1, most)), search needs)
+    ((put-wrote _ (w .0 .counted) (omega (arith, c .before .before .before .before .if1 .taken)) x, omega (arith, w .1, most)), search needs)
 
 same-length-3 : tie.Need-same-length-3
 same-length-3 c = search needs
