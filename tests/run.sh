@@ -90,8 +90,8 @@ report() {
 frames=target/bin/frames
 replay=target/bin/replay
 import=target/bin/import_aag
-export=target/bin/export_aig
-programs=("$frames" "$replay" "$import" "$export")
+exporter=target/bin/export_aig
+programs=("$frames" "$replay" "$import" "$exporter")
 
 # the longest first
 start "replay against the second implementation" replay "$logs/runner" "${programs[@]}" replay

@@ -31,7 +31,7 @@ fn is_shown(of: &str, it: &Public) -> bool {
 }
 
 /// The crates whose functions the programs are put together from; what they promise must be believed too.
-const PROGRAM: [&str; 4] = ["program_input", "program_output", "program_replay", "program_import"];
+const PROGRAM: [&str; 5] = ["program_input", "program_output", "program_replay", "program_import", "program_export"];
 
 /// Definitions that no contract reaches, and why they stand in specs/.
 const UNREACHED: [(&str, &str); 0] = [];

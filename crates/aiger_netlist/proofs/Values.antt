@@ -1,6 +1,6 @@
 -- The netlist of a text has the graph of the text under other numbers, so that everything has in the netlist the value that it has in the
 -- text (specs/TextAig.antt). No contract cites this file.
-use Prim.Native.Nat.{ℕ, _+_, _-_, _/_, _≤_, _<_}
+use Prim.Native.Nat.{ℕ, _+_, _-_, _≤_, _<_}
 use mathlib.Core.Path.{_≡_, refl, sym, _∙_, ap}
 use mathlib.Core.List.{List}
 use mathlib.Core.Logic.{by-cases}
@@ -9,7 +9,7 @@ use native.Mathlib.Omega.{arith}
 use borrow.Author.Tests.{lt-ltb, le-ltb, eq-eqb, ne-eqb}
 use Rattle.model.specs.Netlist.{Netlist, inputWire, latchWire, readWire, gateWire}
 use Rattle.model.proofs.Renumbering as Renumbering
-use Rattle.model.proofs.Renumbering.{DefinedBefore, source, gate, Defined, straight, Renumbers}
+use Rattle.model.proofs.Renumbering.{DefinedBefore, source, gate, Defined, straight}
 use Rattle.aiger_graph.specs.RecordAig.{inputOrRead, outputOf, recordAig}
 use Rattle.aiger_graph.proofs.Values.{AigSource, an-input, a-latch, AigDefined, RenumbersAig}
 use Rattle.aiger_lines.specs.Parts.{countsIn, linesDue, textInputLine, textLatchLine, textGateLine}

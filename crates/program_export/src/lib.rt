@@ -3,7 +3,6 @@ use netlist::Netlist;
 use netlist::UnpackedList;
 use refusals::Refusal;
 use refusals::Verdict;
-ghost use mathlib.Core.Path.{_≡_};
 ghost use Prim.Native.Nat.{_≤_};
 ghost use lib.ListN.{length};
 ghost use Rattle.model.specs.Wrote.{Wrote};
