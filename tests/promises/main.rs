@@ -256,7 +256,7 @@ const UNOPENED: [&str; 11] = [
 ];
 
 /// The ways in their order: each is told less what the ones before it have.
-const PATHS: [ReadersPath; 5] = [
+const PATHS: [ReadersPath; 6] = [
     ReadersPath {
         promise: "demand 3 of a record",
         from: &["calls/LentCalls/HeadingClaim", "calls/LentCalls/AcceptedTheorem"],
@@ -280,6 +280,11 @@ const PATHS: [ReadersPath; 5] = [
     ReadersPath {
         promise: "demand 1 of a sheet, besides",
         from: &["sheet_tests/Sheet/sheetVerdict"],
+        shut: &[],
+    },
+    ReadersPath {
+        promise: "the export of a record, and from a text, besides",
+        from: &["aiger_export/ExportCall/exportSent", "aiger_export/ExportCall/exportLeaves", "aiger_export/Exported/ExportTheorem"],
         shut: &[],
     },
 ];
