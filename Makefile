@@ -13,9 +13,9 @@ command:
 
 # programs, library, header, pkg-config file and man page, under DESTDIR where that is given
 install: command
-	@test -x target/bin/frames && test -x target/bin/replay && test -x target/bin/import_aag && test -x target/bin/one_port || rt check frames replay import_aag one_port
+	@test -x target/bin/frames && test -x target/bin/replay && test -x target/bin/import_aag && test -x target/bin/one_port && test -x target/bin/export_aig || rt check frames replay import_aag one_port export_aig
 	install -d $(addprefix "$(DESTDIR)$(PREFIX)"/,bin include lib/pkgconfig share/man/man1)
-	install target/command/marrubigai target/bin/frames target/bin/replay target/bin/import_aag target/bin/one_port "$(DESTDIR)$(PREFIX)/bin"
+	install target/command/marrubigai target/bin/frames target/bin/replay target/bin/import_aag target/bin/one_port target/bin/export_aig "$(DESTDIR)$(PREFIX)/bin"
 	install -m 644 include/marrubigai.h "$(DESTDIR)$(PREFIX)/include"
 	install -m 644 target/staticlib/libmarrubigai.a "$(DESTDIR)$(PREFIX)/lib"
 	sed 's|@PREFIX@|$(PREFIX)|; s|@VERSION@|$(VERSION)|' command/marrubigai.pc.in > "$(DESTDIR)$(PREFIX)/lib/pkgconfig/marrubigai.pc"

@@ -3,10 +3,11 @@
 # depths 15, 63 and 255, and at depth 63 on the same sheet with half of its codes made constants and with its start unknown; on
 # bench/largest_two_ports.sheet, the largest with two ports (A = 376, else as the other), at depths 63 and 255; all beside a C generator of the
 # same text that is optimised by hand and one that prints through fprintf; of the library, every group of depth 255 through the exported call, which
-# tests its record each time, the heading of depth 255, and the import of ASCII AIGER texts (bench/text.rs); and `replay` (bench/replay.sh). Every
+# tests its record each time, the heading of depth 255, the export of 599 gates as binary AIGER, and the import of ASCII AIGER texts (bench/text.rs);
+# and `replay` (bench/replay.sh). Every
 # figure is the best of several repetitions, all programs and inputs in turn, input from a file, output to /dev/null; the time is the process's
 # processor time (user and system), so that other work on the machine matters little; instructions are counted once, by valgrind where it is
-# installed. It says which of our own targets (1.25 times, of two ports 1.05 times, 4 times, 4 MiB, 20%, 20 µs, 50 ms) are reached, and fails only
+# installed. It says which of our own targets (1.25 times, of two ports 1.05 times, 4 times, 4 MiB, 20%, 20 µs, 50 µs, 50 ms) are reached, and fails only
 # where a program fails or the texts differ.
 # Arguments: repetitions (100; a tenth as many of the slow generator and of the imports), and `worst` for the worst import known as well, which
 # takes a minute; the program is target/bin/frames unless FRAMES names another.
@@ -67,6 +68,8 @@ for input in "$work/input.255" "$work/input.T255"; do
   headings="$headings $("$work/library" headings < "$input" | tr '\n' ' ')"
 done
 
+exporting=$("$work/library" export < "$work/input.255")
+
 echo "the three programs print the same; measuring $repetitions times" >&2
 "$work/measure" "$repetitions" "${libraries[@]}" "${fast[@]}" > "$work/fast.out"
 "$work/measure" $(((repetitions + 9) / 10)) "${slow[@]}" > "$work/slow.out"
@@ -76,7 +79,7 @@ counted() {
 }
 instructions="$(counted "$frames") $(counted "$work/optimised")"
 
-awk -v inputs="${inputs[*]}" -v bytes="${bytes[*]}" -v headings="$headings" -v instructions="$instructions" '
+awk -v inputs="${inputs[*]}" -v bytes="${bytes[*]}" -v headings="$headings" -v exporting="$exporting" -v instructions="$instructions" '
   function say(met, what, figure) { printf "%-8s %s: %s\n", met ? "reached" : "missed", what, figure }
   # how much less or more a byte costs at depth 255 than at 63, in percent, with so much of the time taken off at each
   function change(time, off, less) {
@@ -129,6 +132,7 @@ awk -v inputs="${inputs[*]}" -v bytes="${bytes[*]}" -v headings="$headings" -v i
     groups("T255", "two ports, depth 255")
     say(heading[1] <= 20 && heading[2] <= 20 && heading[3] <= 20, "a heading of depth 255 in at most 20 µs",
       sprintf("%.1f µs, of an unknown start %.1f µs, of two ports %.1f µs", heading[1], heading[2], heading[3]))
+    say(exporting <= 50, "599 gates exported as binary AIGER in at most 50 µs", sprintf("%.1f µs", exporting))
   }' "$work/fast.out" "$work/slow.out"
 
 # Imports: each text with the number and place that it is refused with, 0 0 where it is accepted.

@@ -91,8 +91,8 @@ frames=target/bin/frames
 replay=target/bin/replay
 import=target/bin/import_aag
 one_port=target/bin/one_port
-export=target/bin/export_aig
-programs=("$frames" "$replay" "$import" "$one_port" "$export")
+exporter=target/bin/export_aig
+programs=("$frames" "$replay" "$import" "$one_port" "$exporter")
 
 # the longest first
 start "replay against the second implementation" replay "$logs/runner" "${programs[@]}" replay

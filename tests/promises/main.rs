@@ -286,6 +286,11 @@ const PATHS: [ReadersPath; 6] = [
         from: &["sheet_tests/Sheet/sheetVerdict"],
         shut: &[],
     },
+    ReadersPath {
+        promise: "the export of a record, and from a text, besides",
+        from: &["aiger_export/ExportCall/exportSent", "aiger_export/ExportCall/exportLeaves", "aiger_export/Exported/ExportTheorem"],
+        shut: &[],
+    },
 ];
 
 /// A row for each way, with the files whose definitions it needs and the lines of these.

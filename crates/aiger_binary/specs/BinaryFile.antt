@@ -1,4 +1,4 @@
--- What a binary AIGER file says (the format report of 2007), by reading it: a header, a line with the next code of each latch, a line with
+-- What a binary AIGER file says (the format report of 2007; RULES X3 and X4), by reading it: a header, a line with the next code of each latch, a line with
 -- each output, and behind them each gate as two differences. Variables are numbered in order: inputs, latches, gates. Cited by
 -- aiger_binary/specs/BinaryText and by what is said of a file that is exported.
 use Prim.Native.Nat.{ℕ, zero, suc, _+_, _-_, _*_, _≤_, _<_}

@@ -1,4 +1,4 @@
--- How a graph is written as a binary AIGER file: without symbols or comment, each difference in as few bytes as there are. That the file says
+-- How a graph is written as a binary AIGER file (RULES X3, X4 and X6): without symbols or comment, each difference in as few bytes as there are. That the file says
 -- the graph is the law `file-read` in proofs/ReadBack.antt. Cited by the functions that write a part of a file, and by what is said of
 -- a file that is exported.
 use Prim.Native.Nat.{ℕ, _+_, _-_, _*_, _^_, _≤_, _<_}

@@ -1,4 +1,4 @@
--- A number in bytes of seven bits each, the lowest first (the AIGER report of 2007): what bytes are read as, and how a number is written.
+-- A number in bytes of seven bits each, the lowest first (the AIGER report of 2007; RULES X4): what bytes are read as, and how a number is written.
 -- That a number is read back is the law `difference-read` in proofs/Difference.antt. Cited by `difference_length` and `put_difference`,
 -- and by what is said of a binary file.
 use Prim.Native.Nat.{ℕ, zero, suc, _+_, _-_, _*_, _/_, _%_}

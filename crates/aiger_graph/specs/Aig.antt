@@ -1,5 +1,5 @@
 -- An and-inverter graph as AIGER has it (the format report of 2007), however it is numbered and written: an ASCII text, a binary file, a
--- record. What it says of the values of its variables, as equations; and when two graphs have the same values, in order. Cited by
+-- record. What it says of the values of its variables, as equations; and when two graphs have the same values, in order (RULES I9, X5 and X8). Cited by
 -- aiger_graph/specs/RecordAig, and by what is said of a text that is imported and of a file that is exported.
 use Prim.Native.Nat.{ℕ, _<_}
 use mathlib.Core.Path.{_≡_}

@@ -1,4 +1,4 @@
--- The and-inverter graph that an ASCII AIGER text says (the AIGER report of 2007), by its own variables. Cited by specs/Imported, and by what
+-- The and-inverter graph that an ASCII AIGER text says (the AIGER report of 2007; RULES I3), by its own variables. Cited by specs/Imported, and by what
 -- is said of a file that is exported.
 use Prim.Native.Nat.{ℕ}
 use mathlib.Core.List.{List}

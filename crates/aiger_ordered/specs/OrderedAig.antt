@@ -1,4 +1,4 @@
--- The graph that is exported for a record: inputs, read bits, latches and gates numbered in this order, and of a gate's codes the larger
+-- The graph that is exported for a record (RULES X2 and X4): inputs, read bits, latches and gates numbered in this order, and of a gate's codes the larger
 -- by these numbers first. Cited by the functions that number a wire, a code and a gate's two, and by what is said of a file that is
 -- exported.
 use Prim.Native.Nat.{ℕ, _+_, _-_, min, max}
