@@ -255,7 +255,7 @@ const UNOPENED: [&str; 10] = [
 ];
 
 /// The ways in their order: each is told less what the ones before it have.
-const PATHS: [ReadersPath; 6] = [
+const PATHS: [ReadersPath; 8] = [
     ReadersPath {
         promise: "no run to depth k, certified",
         from: &["refutation_depth/Certified/CertifiedInput"],
