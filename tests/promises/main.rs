@@ -255,7 +255,7 @@ const UNOPENED: [&str; 10] = [
 ];
 
 /// The ways in their order: each is told less what the ones before it have.
-const PATHS: [ReadersPath; 8] = [
+const PATHS: [ReadersPath; 7] = [
     ReadersPath {
         promise: "no run to depth k, certified",
         from: &["refutation_depth/Certified/CertifiedInput"],
