@@ -69,7 +69,7 @@ typedef struct { uint32_t depth, frame, base; } marrubigai_position; /* a runnin
 typedef struct { uint32_t number, place; marrubigai_position position; } marrubigai_position_reply;
 typedef struct { uint32_t number, place; int32_t literal; } marrubigai_literal_reply;
 typedef struct { uint32_t number, place, claimed, first; } marrubigai_replay_reply; /* claimed: 1 where the answer claims to be unsatisfiable */
-typedef struct { uint32_t number, place, certified; size_t lemma; } marrubigai_certificate_reply; /* lemma: where not certified, the first that does not follow */
+typedef struct { uint32_t number, place, certified; size_t lemma; } marrubigai_certificate_reply; /* lemma: the first that does not follow */
 typedef struct { uint32_t end, kind, j, i, port; } marrubigai_group_reply; /* end: 1 where no group follows; what does not apply is 0 */
 typedef struct { uint32_t major, minor; } marrubigai_version_reply;
 

@@ -135,7 +135,8 @@ fn certified(tally: &mut Tally, what: &str, sheet: &[u8], depth: u32, folder: &P
         let refused = matches!(certify(&input, &made, store, marks), Ok((reply, _)) if reply.number == 9 && reply.place == 0);
         tally.check(&format!("{what}: room for {store} numbers and {marks} marks"), refused);
     }
-    println!("{what}: {} numbers, {} lemmas of the solver, {} needed, {} hints", formula.len(), lemmas.len(), made.lemmas.iter().filter(|z| **z == 0).count(), made.hints.len());
+    let needed = made.lemmas.iter().filter(|number| **number == 0).count();
+    println!("{what}: {} numbers, {} lemmas of the solver, {needed} needed, {} hints", formula.len(), lemmas.len(), made.hints.len());
     Ok(made)
 }
 

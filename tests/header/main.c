@@ -723,8 +723,8 @@ static void replays(void) {
   check("depth 256 gives 7", answers_replay(replay_text(256, "", WORDS, LINES), MARRUBIGAI_DEPTH, 0, 0) && untouched());
 }
 
-// The full run's sheet at depth 0: its clauses are (1), (-3) and (3), at places 0, 2 and 4, and its variables 1 to 3. Store and marks are one number
-// longer than their need of six numbers with one lemma of one number, and of eight marks.
+// The full run's sheet at depth 0: its clauses are (1), (-3) and (3), at places 0, 2 and 4, and its variables 1 to 3. STORE is the need with a lemma of one
+// number, MARKS that of marks; what is lent is longer.
 enum { STORE = 6 + 1, MARKS = 8 };
 static int32_t store[STORE + 3];
 static uint32_t marks[MARKS + 1];
