@@ -107,7 +107,7 @@ if {
   start "frames against the second implementation" frames "$logs/runner" "${programs[@]}" frames docs/FORMAT.md
   start "the library against the second implementation" library "$logs/library"
   start "from Verilog to an imported netlist, an exported file and a shown run, with yosys and abc" verilog \
-    bash tests/verilog.sh "${programs[@]}" "$logs/verilog"
+    bash tests/verilog.sh "$frames" "$replay" "$import" "$exporter" "$logs/verilog"
   start "a sample of the library's calls under valgrind" library-valgrind valgrind --quiet --error-exitcode=99 "$logs/library" sample
   start "certificates from a solver's refutations, and damaged ones" certificates "$logs/certificates" examples "$logs/certificates-scratch"
   start "a sample of certificates under valgrind" certificates-valgrind \
