@@ -372,7 +372,6 @@ module _ {c : Netlist} {zs : List ℤ} {s : State} {f : ℕ → Bool} {v : Value
       (noLaw-holds g)
       (noLaw-holds g)
 
-
   invariant-holds : (k x : ℕ) → Holds g (invariantLaw c zs k x)
   unfolding invariantLaw
   invariant-holds k x = go (ltb x (length zs)) refl
