@@ -51,6 +51,8 @@ ghost use Rattle.aiger_export.specs.Exported.{ExportTheorem};
 ghost use Rattle.refutation_depth.specs.Certified.{CertifiedInput};
 ghost use Rattle.refutation_depth.specs.Certificate.{certificateSent, storeAfter, KeptAtRefusal};
 ghost use Rattle.sheet_one_port.specs.OnePortCall.{onePortSent, onePortLeaves, OnePortTheorem};
+ghost use Rattle.invariant_check.specs.Forever.{CertifiedForever};
+ghost use Rattle.invariant_check.specs.ForeverCall.{foreverSent, foreverStore};
 ghost use Rattle.call_replies.specs.Replies.{groupOf, orderFor, nextNumbers, sheetNumbers, headerVersion};
 
 // The version of include/marrubigai.h that the library is built for.
@@ -434,4 +436,23 @@ pub extern "C" fn marrubigai_one_port(file: &[u8], out: &mut [u8]) -> CountReply
     ensures converted { λ _. ⌜ OnePortTheorem ⌝ }
 {
     call_replies::print_numbers(sheet_one_port::convert(file, out))
+}
+
+// `invariant_check::certify_forever`.
+#[no_mangle]
+pub extern "C" fn marrubigai_certify_forever(
+    file: &[u8],
+    invariant: &[i32],
+    requests: &[u32],
+    lemmas: &[i32],
+    hints: &[u32],
+    store: &mut [i32],
+    marks: &mut [u32],
+) -> CertificateReply
+    ensures answer { λ r. ⌜ r ≡ foreverSent (now (file .entry)) (now (invariant .entry)) (now (requests .entry)) (now (lemmas .entry)) (now (hints .entry)) (length (now (store .entry))) (length (now (marks .entry))) ⌝ }
+    ensures certified { λ r. ⌜ (r .certified ≡ 1 → CertifiedForever (now (file .entry))) ⌝ }
+    ensures store { λ _. ⌜ now (store .exit) ≡ foreverStore (now (file .entry)) (now (invariant .entry)) (now (requests .entry)) (now (lemmas .entry)) (now (store .entry)) ⌝ }
+    ensures marks { λ r. ⌜ ((r .number ≡ 0 → ⊥) → now (marks .exit) ≡ now (marks .entry)) ⌝ }
+{
+    invariant_check::certify_forever(file, invariant, requests, lemmas, hints, store, marks)
 }
