@@ -2,6 +2,7 @@
 use Prim.Native.Nat.{ℕ, zero, suc, _+_, _-_, _*_, _^_, _<_}
 use mathlib.Core.Path.{_≡_, refl, sym, _∙_, ap}
 use mathlib.Core.Logic.{by-cases}
+use mathlib.Core.Bool.{true}
 use mathlib.Core.List.{List, [], _∷_, _++_, append-assoc, append-nil}
 use native.Mathlib.Decide.{decLt}
 use native.Mathlib.Nat.{not-suc-le-zero}
@@ -19,8 +20,8 @@ use Rattle.aiger_lines.specs.declared.Counts.{Counts}
 use Rattle.aiger_lines.specs.Written.{numbersText, lineWithNumbers}
 use Rattle.aiger_lines.proofs.Written.{line-behind, read-as-written}
 use Rattle.aiger_graph.specs.Aig.{Aig, SameAig}
-use Rattle.aiger_difference.specs.Difference.{behindDifferences, differenceAt, differenceBytes}
-use Rattle.aiger_difference.proofs.Difference.{difference-read, difference-behind}
+use Rattle.aiger_difference.specs.Difference.{behindDifferences, isWhole, differenceAt, differenceBytes}
+use Rattle.aiger_difference.proofs.Difference.{difference-read, difference-behind, difference-whole}
 use Rattle.aiger_binary.specs.BinaryFile.{aig, binaryHeader, binaryCounts, nextLine, outputLine, gateBytes, aigWith, aigIn, IsBinary}
 use Rattle.aiger_binary.specs.BinaryText.{headerCounts, headerLine, codeLine, gateText, aigText, Writable}
 use Rattle.aiger_binary.proofs.Lines.{Lines, one-line, lines-append, no-line, lines-gather, line-at}
@@ -180,28 +181,36 @@ module _ (a : Aig) (ok : Writable a) where
       let at = gather-at (a .network .gates) gate g b in
       (at .0, rw (at .1) (differences-gather g gate (λ g. gate-differences (a .network .own g) (a .network .left g) (a .network .right g)) (gate g ++ at .0)))
 
+  first : ℕ → List ℕ
+  first g = differenceBytes (2 * a .network .own g - a .network .left g)
+
+  second : ℕ → List ℕ
+  second g = differenceBytes (a .network .left g - a .network .right g)
+
+  first-at : (g : ℕ) (b : g < a .network .gates) → behindDifferences (2 * g) (gateBytes h (aigText a)) ≡ first g ++ (second g ++ gate-behind g b .0)
+  unfolding gateText first second
+  first-at g b = rw (gates-behind, gate-behind g b .1) (append-assoc (first g) (second g) (gate-behind g b .0))
+
+  second-at : (g : ℕ) (b : g < a .network .gates) → behindDifferences (2 * g + 1) (gateBytes h (aigText a)) ≡ second g ++ gate-behind g b .0
+  unfolding behindDifferences first
+  second-at g b =
+      rw (add-one (2 * g), first-at g b) (difference-behind (second g ++ gate-behind g b .0) (2 * a .network .own g - a .network .left g))
+
   first-read : (g : ℕ) → g < a .network .gates → differenceAt (gateBytes h (aigText a)) (2 * g) ≡ 2 * a .network .own g - a .network .left g
-  unfolding gateText
-  first-read g b =
-      let at = gate-behind g b in
-      let first : List ℕ = differenceBytes (2 * a .network .own g - a .network .left g) in
-      let second : List ℕ = differenceBytes (a .network .left g - a .network .right g) in
-      rw (gates-behind, at .1, append-assoc first second (at .0)) (difference-read (second ++ at .0) (2 * a .network .own g - a .network .left g))
+  unfolding first
+  first-read g b = rw (first-at g b) (difference-read (second g ++ gate-behind g b .0) (2 * a .network .own g - a .network .left g))
 
   second-read : (g : ℕ) → g < a .network .gates → differenceAt (gateBytes h (aigText a)) (2 * g + 1) ≡ a .network .left g - a .network .right g
-  unfolding gateText behindDifferences
-  second-read g b =
-      let at = gate-behind g b in
-      let first : List ℕ = differenceBytes (2 * a .network .own g - a .network .left g) in
-      let second : List ℕ = differenceBytes (a .network .left g - a .network .right g) in
-      rw (
-        gates-behind,
-        add-one (2 * g),
-        at .1,
-        append-assoc first second (at .0),
-        difference-behind (second ++ at .0) (2 * a .network .own g - a .network .left g),
-      )
-      (difference-read (at .0) (a .network .left g - a .network .right g))
+  unfolding second
+  second-read g b = rw (second-at g b) (difference-read (gate-behind g b .0) (a .network .left g - a .network .right g))
+
+  both-whole : (g : ℕ) → g < a .network .gates
+      → (isWhole (behindDifferences (2 * g) (gateBytes h (aigText a))) ≡ true) × (isWhole (behindDifferences (2 * g + 1) (gateBytes h (aigText a))) ≡ true)
+  unfolding first second
+  both-whole g b = (
+    rw (first-at g b) (difference-whole (second g ++ gate-behind g b .0) (2 * a .network .own g - a .network .left g)),
+    rw (second-at g b) (difference-whole (gate-behind g b .0) (a .network .left g - a .network .right g)),
+  )
 
   -- so the file says the graph
   pub read-as : SameAig (aigIn (aigText a)) a
@@ -230,6 +239,7 @@ module _ (a : Aig) (ok : Writable a) where
               largest-is = refl;
               next-lines = λ l b. rw (next-read l b) (refl, ok .next-below l b);
               output-lines = λ o b. rw (output-read o b) (refl, ok .output-below o b);
+              differences-whole = λ g b. both-whole g b;
               first-difference = λ g b. rw (first-read g b) (omega (arith, ok .gate-in-order g b, ok .left-below g b), omega (arith, ok .gate-in-order g b));
               second-difference = λ g b.
                   rw (first-read g b, second-read g b) (omega (arith, ok .gate-in-order g b, ok .left-below g b, ok .right-below g b));

@@ -2,7 +2,7 @@
 -- That a number is read back is the law `difference-read` in proofs/Difference.antt. Cited by `difference_length` and `put_difference`,
 -- and by what is said of a binary file.
 use Prim.Native.Nat.{ℕ, zero, suc, _+_, _-_, _*_, _/_, _%_}
-use mathlib.Core.Bool.{cond}
+use mathlib.Core.Bool.{Bool, true, false, cond}
 use mathlib.Core.List.{List, [], _∷_}
 use lib.Dec.{ltb}
 
@@ -15,6 +15,11 @@ differenceIn (x ∷ s) = cond (ltb x 128) x (x - 128 + 128 * differenceIn s)
 unfoldable pub behindDifference : List ℕ → List ℕ
 behindDifference [] = []
 behindDifference (x ∷ s) = cond (ltb x 128) s (behindDifference s)
+
+-- whether it is there whole: with the byte below 128 that ends it
+unfoldable pub isWhole : List ℕ → Bool
+isWhole [] = false
+isWhole (x ∷ s) = cond (ltb x 128) true (isWhole s)
 
 -- what stands behind n of them; and the number there
 unfoldable pub behindDifferences : ℕ → List ℕ → List ℕ

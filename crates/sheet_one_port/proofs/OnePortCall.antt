@@ -11,7 +11,7 @@ use Rattle.model.specs.Netlist.{Netlist}
 use Rattle.model.specs.Acceptance.{Accepted}
 use Rattle.model.specs.Agree.{Agree}
 use Rattle.model.specs.Limits.{mostBytes}
-use Rattle.model.proofs.Agree.{accepted-same, second-same}
+use Rattle.model.proofs.Agree.{accepted-same}
 use Rattle.model.specs.OnePort.{onePort, SameRuns}
 use Rattle.model.proofs.OnePort.{one-accepted, same-runs, same-runs-single, same-runs-agree}
 use Rattle.refusals.specs.Tests.{_then_}
@@ -112,13 +112,8 @@ one-port-theorem =
           let one = onePort (netIn file) in
           passed-file (sheetText one) (one .latches) (one .gates)
           (sheet-passes one (accepted-text file passed) (one .latches) (one .gates) (le-refl _) (le-refl _));
-      single = λ file passed.
-          let one = onePort (netIn file) in
-          sym (second-same one (netIn (sheetText one)) (agrees-read one (accepted-text file passed .limits))) ∙ no-second (netIn file);
+      read-as = λ file passed. agrees-read (onePort (netIn file)) (accepted-text file passed .limits);
       same-runs = λ file passed.
           let one = onePort (netIn file) in
           same-runs-agree (runs-text file passed) (agrees-read one (accepted-text file passed .limits));
     }
-  where
-    no-second : (c : Netlist) → onePort c .secondPort ≡ 0
-    no-second c = unfold onePort in refl

@@ -4,6 +4,7 @@ use Prim.Native.Nat.{ℕ}
 use mathlib.Core.Path.{_≡_}
 use mathlib.Core.List.{List}
 use lib.ListN.{length}
+use Rattle.model.specs.Agree.{Agree}
 use Rattle.model.specs.OnePort.{onePort, SameRuns}
 use Rattle.refusals.specs.Tests.{_then_}
 use Rattle.refusals.specs.Slices.{testRoom, withCount, contentsAfter}
@@ -39,7 +40,8 @@ pub record OnePortTheorem : Type 0 where
   -- RULES O3: "A sheet with one port passes unchanged"
   pub unchanged : (file : List ℕ) → fileVerdict file ≡ Passed → netIn file .secondPort ≡ 0
       → (testSecond (netIn file) ≡ Passed) × (onePortText file ≡ file)
-  -- RULES O5: what is written passes every test of a sheet, has one port, and has the runs of the sheet that was handed in
+  -- RULES O5: what is written passes every test of a sheet, is read as the netlist without its second port, and has the runs of the sheet that
+  -- was handed in
   pub accepted : (file : List ℕ) → onePortTests file ≡ Passed → fileVerdict (onePortText file) ≡ Passed
-  pub single : (file : List ℕ) → onePortTests file ≡ Passed → netIn (onePortText file) .secondPort ≡ 0
+  pub read-as : (file : List ℕ) → onePortTests file ≡ Passed → Agree (onePort (netIn file)) (netIn (onePortText file))
   pub same-runs : (file : List ℕ) → onePortTests file ≡ Passed → SameRuns (netIn file) (netIn (onePortText file))
