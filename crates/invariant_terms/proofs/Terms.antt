@@ -17,9 +17,7 @@ use Rattle.model.specs.Circuit.{Values, State, codeValue, addressOf, step}
 use Rattle.model.specs.Numbers.{Assignment, numberTrue}
 use Rattle.model.proofs.Bits.{fromBits-below, bit-fromBits, fromBits-same}
 use Rattle.model.proofs.Booleans.{and-true, beq-true}
-use Rattle.text_writer.specs.Signed.{partsOf}
 use Rattle.invariant_terms.specs.StateBits.{stateCount, stateBit}
-use Rattle.invariant_terms.specs.Walk.{isEnd}
 use Rattle.invariant_terms.specs.Terms.{variable, agreeing, matched, failing, familyValue, stepAt, stateTerm, term, codeTerm, opposite, numberOf}
 
 -- codes: plain, negated, and the opposite
@@ -35,7 +33,7 @@ pub plain : (a : Assignment) (u : ℕ) → codeValue a (2 * u) ≡ a u
 unfolding codeValue
 plain a u = let h : 2 * u / 2 ≡ u = omega arith in rw (odd-twice u, h)
 
-negated : (a : Assignment) (u : ℕ) → codeValue a (2 * u + 1) ≡ not (a u)
+pub negated : (a : Assignment) (u : ℕ) → codeValue a (2 * u + 1) ≡ not (a u)
 unfolding codeValue
 negated a u = let h : (2 * u + 1) / 2 ≡ u = omega arith in rw (odd-more u, h)
 
@@ -76,17 +74,10 @@ number-value g x = go (odd x)
     go true = let e : suc (x / 2) - 1 ≡ x / 2 = omega arith in ap (λ (u : ℕ). not (g u)) e
     go false = let e : suc (x / 2) - 1 ≡ x / 2 = omega arith in ap g e
 
--- a number that is a term
-pub term-number : (g : ℕ → Bool) (z : ℤ) → isEnd z ≡ false → numberTrue (λ u. g (u - 1)) z ≡ codeValue g (2 * (partsOf z .value - 1) + partsOf z .sign)
-unfolding numberTrue isEnd
-term-number g (pos zero) h = absurd (true≢false h)
-term-number g (pos (suc u)) h =
-    let e : suc u - 1 ≡ u = omega arith in
-    let double : 2 * (suc u - 1) + 0 ≡ 2 * u = omega arith in
-    ap g e ∙ sym (ap (codeValue g) double ∙ plain g u)
-term-number g (negsuc u) h =
-    let e : suc u - 1 ≡ u = omega arith in
-    ap (λ (x : ℕ). not (g x)) e ∙ sym (ap (λ (x : ℕ). codeValue g (2 * x + 1)) e ∙ negated g u)
+-- a negated term
+pub negated-value : (g : ℕ → Bool) (b k j : ℕ) → codeValue g (term b k j + 1) ≡ not (codeValue g (term b k j))
+unfolding term
+negated-value g b k j = negated g (variable b k j) ∙ ap not (sym (plain g (variable b k j)))
 
 module _ (c : Netlist) (zs : List ℤ) (s : State) (v : Values) where
   abbrev pub valueIn : ℕ → Bool

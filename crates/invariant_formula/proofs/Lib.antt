@@ -1,0 +1,3 @@
+-- Laws for the crates that use them. No contract cites them.
+pub mod AtStart
+pub mod Soundness
