@@ -1,0 +1,13 @@
+-- `invariant_requests::law_of` meets its contract.
+use mathlib.Core.Path.{refl}
+use Rattle.invariant_axioms.specs.Laws.{lawOf}
+use Rattle.invariant_requests.proofs.law_of.Statement.{statement}
+use Rattle.invariant_requests.proofs.law_of.Tie as tie
+
+returns : tie.Need-returns
+unfolding lawOf
+returns c =
+    refl
+
+pub law-of-spec : {M : Type 1} → statement M
+law-of-spec = tie.close (tie.spec returns)
