@@ -3,26 +3,24 @@ use Prim.Native.Nat.{ℕ, zero, suc, _+_, _-_, _*_, _/_, _%_, _^_, _≤_, _<_}
 use mathlib.Core.Path.{_≡_, refl, sym, _∙_, ap}
 use mathlib.Core.Bool.{Bool, true, false, cond, not, _&&_, _||_, Bool·beq, true≢false, false≢true}
 use mathlib.Core.List.{List, [], _∷_, _++_}
-use mathlib.Core.Logic.{_⊎_, inl, inr, by-cases}
 use native.Mathlib.Omega.{arith}
 use native.Mathlib.Numerals.{add-one}
 use native.Mathlib.Nat.{add-zero, suc-mul, mul-le-mul-right}
-use native.Mathlib.Decide.{ℕ-discrete}
 use lib.Dec.{eqb, leb, ltb}
 use lib.IntN.{ℤ, pos, negsuc}
 use lib.ListN.{length, getD, drop, drop-of-length-le}
 use lib.Seq.{drop-cons}
 use borrow.Author.Tests.{eq-eqb, ne-eqb, ltb-true, leb-true, ltb-false}
 use Rattle.model.specs.Bits.{odd, bit}
-use Rattle.model.specs.Netlist.{Netlist, IsPort, port, ports, readBits, latchWire, readWire, gateWire}
-use Rattle.model.specs.Circuit.{Values, State, codeValue, addressOf, writeAddress, readData, wordWritten, step}
+use Rattle.model.specs.Netlist.{Netlist, port, readBits, latchWire, readWire, gateWire}
+use Rattle.model.specs.Circuit.{Values, State, codeValue, addressOf, writeAddress, wordWritten, step}
 use Rattle.model.specs.Acceptance.{Accepted, SizesFit}
 use Rattle.model.specs.Numbers.{Assignment, numberTrue}
-use Rattle.model.proofs.Booleans.{and-true, beq-true, either}
+use Rattle.model.proofs.Booleans.{and-true}
 use Rattle.model.proofs.Bits.{bit-fromBits}
 use Rattle.model.proofs.Circuit.{IsFrame, readData-port}
 use Rattle.text_writer.specs.Signed.{partsOf}
-use Rattle.invariant_terms.specs.StateBits.{stateCount, heldBit, wordBit, stateBit, stateValue}
+use Rattle.invariant_terms.specs.StateBits.{stateCount, heldBit, wordBit, stateValue}
 use Rattle.invariant_terms.specs.Walk.{isEnd, holdsIn}
 use Rattle.invariant_terms.specs.Terms.{matched, failing, stepAt, stateTerm, term, codeTerm, opposite, numberOf}
 use Rattle.invariant_terms.proofs.StateBits.{latch-bit, held-bit, word-bit, latch-within, held-within, word-within}

@@ -1,9 +1,9 @@
 -- Laws of specs/ForeverCall.antt and Forever.antt: which test decides, what lies in the store, and that what is certified holds. No contract cites this
 -- file.
-use Prim.Native.Nat.{ℕ, suc, _+_, _*_, _/_, _%_, _≤_, _<_}
-use mathlib.Core.Path.{_≡_, refl, sym, _∙_, ap}
+use Prim.Native.Nat.{ℕ, suc, _+_, _*_, _/_, _%_, _≤_}
+use mathlib.Core.Path.{_≡_, refl, _∙_, ap}
 use mathlib.Core.Bool.{Bool, true, false, cond, _&&_, false≢true}
-use mathlib.Core.List.{List, [], _∷_, _++_}
+use mathlib.Core.List.{List, [], _++_}
 use native.Mathlib.Omega.{arith}
 use lib.IntN.{ℤ, pos, negsuc}
 use lib.ListN.{length, getD, take, drop, length-append, length-drop}
@@ -11,7 +11,6 @@ use lib.Seq.{take-at, take-append-seam, drop-append-seam}
 use Rattle.model.specs.Netlist.{Netlist}
 use Rattle.model.specs.Gather.{gather}
 use Rattle.model.specs.Wrote.{over}
-use Rattle.model.specs.Acceptance.{Accepted}
 use Rattle.model.proofs.Gather.{length-gather}
 use Rattle.refusals.specs.Refusal.{refusalNumber}
 use Rattle.refusals.specs.Tests.{_then_}
@@ -31,9 +30,7 @@ use Rattle.refutation_lemmas.specs.declared.Checked.{Checked}
 use Rattle.refutation_lemmas.specs.declared.Checked.the-variants.{Refuted, Unjustified}
 use Rattle.refutation_lemmas.proofs.Soundness.{refuted-unsatisfiable}
 use Rattle.refutation_depth.specs.Certificate.{refusedWith, certificateReply}
-use Rattle.refutation_depth.specs.declared.CertificateReply.{CertificateReply}
 use Rattle.invariant_terms.specs.StateBits.{stateCount}
-use Rattle.invariant_terms.specs.Walk.{holdsIn}
 use Rattle.invariant_terms.proofs.Walk.{holds-same}
 use Rattle.invariant_axioms.specs.declared.Law.{Law}
 use Rattle.invariant_axioms.specs.Laws.{requested, lawFits, clauseOf}

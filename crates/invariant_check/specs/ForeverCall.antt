@@ -13,7 +13,7 @@ use Rattle.sheet_parse.specs.Files.{netIn}
 use Rattle.program_input.specs.Input.{sheetIn}
 use Rattle.refutation_lemmas.specs.Refutation.{checked}
 use Rattle.refutation_lemmas.specs.declared.Checked.{Checked}
-use Rattle.refutation_lemmas.specs.declared.Checked.the-variants.{Refuted, Unjustified}
+use Rattle.refutation_lemmas.specs.declared.Checked.the-variants.{Unjustified}
 use Rattle.refutation_depth.specs.Certificate.{certificateReply}
 use Rattle.refutation_depth.specs.declared.CertificateReply.{CertificateReply}
 use Rattle.invariant_formula.specs.Formula.{stepFormula}

@@ -1,6 +1,6 @@
 -- Laws of specs/AtStart.antt: what passes the test of the start is true in every state that a run may begin in. No contract cites this file.
-use Prim.Native.Nat.{ℕ, zero, suc, _+_, _-_, _/_, _%_, _<_}
-use mathlib.Core.Path.{_≡_, refl, sym, _∙_, ap}
+use Prim.Native.Nat.{ℕ, suc, _+_, _-_, _/_, _%_}
+use mathlib.Core.Path.{_≡_, refl, _∙_, ap}
 use mathlib.Core.Bool.{Bool, true, false, cond, not, Bool·beq, false≢true}
 use mathlib.Core.List.{List}
 use lib.Dec.{eqb, ltb}

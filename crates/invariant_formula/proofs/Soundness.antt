@@ -2,31 +2,31 @@
 -- this file.
 use Prim.Native.Nat.{ℕ, zero, suc, _+_, _-_, _*_, _/_, _%_, _^_, _≤_, _<_}
 use mathlib.Core.Path.{_≡_, refl, sym, _∙_, ap}
-use mathlib.Core.Bool.{Bool, true, false, cond, not, _&&_, _||_, true≢false}
+use mathlib.Core.Bool.{Bool, true, false, not, _||_, true≢false}
 use mathlib.Core.List.{List, [], _∷_, _++_, append-assoc}
 use mathlib.Core.Logic.{_⊎_, inl, inr}
 use native.Mathlib.Omega.{arith}
 use native.Mathlib.Nat.{mul-le-mul}
 use lib.Pow.{pow-pos}
 use borrow.Author.Tests.{lt-ltb, ltb-true}
-use lib.IntN.{ℤ, pos, negsuc, natAbs}
-use lib.ListN.{length, getD, drop}
-use Rattle.model.specs.Netlist.{Netlist, readBits}
-use Rattle.model.specs.Circuit.{Values, State, codeValue, frame, step, Starts}
+use lib.IntN.{ℤ, pos, negsuc}
+use lib.ListN.{length, getD}
+use Rattle.model.specs.Netlist.{Netlist}
+use Rattle.model.specs.Circuit.{Values, State, codeValue, frame, step}
 use Rattle.model.specs.Acceptance.{Accepted}
 use Rattle.model.specs.Gather.{gather}
-use Rattle.model.specs.Numbers.{Assignment, numberTrue, clausesIn, allTrue}
+use Rattle.model.specs.Numbers.{Assignment, numberTrue}
 use Rattle.model.proofs.Booleans.{and-true, either}
 use Rattle.model.proofs.Circuit.{frame-is}
 use Rattle.refutation_lemmas.specs.Propagation.{every, within}
 use Rattle.refutation_lemmas.specs.Refutation.{Unsatisfiable}
 use Rattle.invariant_terms.specs.Forever.{SafeForever}
-use Rattle.invariant_terms.specs.StateBits.{stateCount, stateBit, stateValue}
-use Rattle.invariant_terms.specs.Walk.{isEnd, holdsIn}
+use Rattle.invariant_terms.specs.StateBits.{stateCount, stateValue}
+use Rattle.invariant_terms.specs.Walk.{holdsIn}
 use Rattle.invariant_terms.specs.Terms.{failing, stepAt}
-use Rattle.invariant_terms.proofs.Forever.{Inductive, inductive→forever}
+use Rattle.invariant_terms.proofs.Forever.{inductive→forever}
 use Rattle.invariant_terms.proofs.Walk.{clauses-hold}
-use Rattle.invariant_axioms.specs.Laws.{requested, clauseOf}
+use Rattle.invariant_axioms.specs.Laws.{requested}
 use Rattle.invariant_axioms.proofs.Laws.{IsStep, requested-holds, clause-holds}
 use Rattle.invariant_formula.specs.Formula.{requestedClause, stepFormula}
 use Rattle.invariant_formula.specs.AtStart.{holdsAtStart, numberStarts}

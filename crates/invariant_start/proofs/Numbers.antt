@@ -1,13 +1,13 @@
 -- Laws of the test of one number: by its parts, and by whether a start word is given. No contract cites this file.
 use Prim.Native.Nat.{ℕ, zero, suc, _-_, _≤_, _<_}
-use mathlib.Core.Path.{_≡_, refl, sym, _∙_, ap}
+use mathlib.Core.Path.{_≡_, refl}
 use mathlib.Core.Bool.{Bool, true, false, Bool·beq, not}
 use native.Mathlib.Omega.{arith}
 use lib.Dec.{eqb}
-use lib.IntN.{ℤ, pos, negsuc, natAbs}
+use lib.IntN.{ℤ, pos, negsuc}
 use borrow.Author.Tests.{lt-ltb, le-ltb}
 use Rattle.model.specs.Bits.{bit}
-use Rattle.model.specs.Netlist.{Netlist, given, unknown, startOf}
+use Rattle.model.specs.Netlist.{Netlist, startOf}
 use Rattle.text_writer.specs.Signed.{partsOf}
 use Rattle.refutation_lemmas.specs.Propagation.{within}
 use Rattle.invariant_terms.specs.Walk.{isEnd}

@@ -1,6 +1,6 @@
 -- One number more of the test of the start. Cited by the functions of this crate, and by no public contract.
 use Prim.Native.Nat.{ℕ, suc}
-use mathlib.Core.Bool.{Bool, cond}
+use mathlib.Core.Bool.{cond}
 use lib.Dec.{eqb}
 use lib.IntN.{ℤ}
 use Rattle.model.specs.Netlist.{Netlist}

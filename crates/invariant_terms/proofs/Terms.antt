@@ -1,21 +1,19 @@
 -- Laws of specs/Terms.antt: what a term is in a step. No contract cites this file.
-use Prim.Native.Nat.{ℕ, zero, suc, _+_, _-_, _*_, _/_, _%_, _^_, _≤_, _<_}
+use Prim.Native.Nat.{ℕ, zero, suc, _+_, _-_, _*_, _/_, _%_, _^_, _<_}
 use mathlib.Core.Path.{_≡_, refl, sym, _∙_, ap}
-use mathlib.Core.Bool.{Bool, true, false, cond, not, _&&_, Bool·beq, true≢false, false≢true}
+use mathlib.Core.Bool.{Bool, true, false, cond, not, _&&_, Bool·beq}
 use mathlib.Core.List.{List}
 use mathlib.Core.Logic.{_⊎_, inl, inr, ⊎-elim, by-cases}
 use native.Mathlib.Omega.{arith}
 use native.Mathlib.Nat.{add-zero, le-of-suc-le-suc, eq-or-lt-of-le, pow-suc, div-one, div-eq-of-lt, div-div-eq-div-mul}
 use native.Mathlib.Decide.{ℕ-discrete}
-use lib.Dec.{eqb, ltb}
 use lib.IntN.{ℤ, pos, negsuc}
-use lib.ListN.{drop}
 use borrow.Author.Tests.{eq-eqb, ne-eqb, lt-ltb, le-ltb}
 use Rattle.model.specs.Bits.{odd, bit, fromBits}
-use Rattle.model.specs.Netlist.{Netlist, Port, port}
+use Rattle.model.specs.Netlist.{Netlist, port}
 use Rattle.model.specs.Circuit.{Values, State, codeValue, addressOf, step}
 use Rattle.model.specs.Numbers.{Assignment, numberTrue}
-use Rattle.model.proofs.Bits.{fromBits-below, bit-fromBits, fromBits-same}
+use Rattle.model.proofs.Bits.{bit-fromBits, fromBits-same}
 use Rattle.model.proofs.Booleans.{and-true, beq-true}
 use Rattle.invariant_terms.specs.StateBits.{stateCount, stateBit}
 use Rattle.invariant_terms.specs.Terms.{variable, agreeing, matched, failing, familyValue, stepAt, stateTerm, term, codeTerm, opposite, numberOf}

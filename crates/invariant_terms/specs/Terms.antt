@@ -1,7 +1,7 @@
 -- The variables in which one step of the circuit is said, and what each of them is, by the state in which a frame begins and the frame's values. A
 -- term is a code over them: twice a variable, one more where it is negated. None of this is believed: it is what certificates are checked against.
 use Prim.Native.Nat.{ℕ, zero, suc, _+_, _-_, _*_, _/_, _%_}
-use mathlib.Core.Bool.{Bool, true, false, cond, not, _&&_, Bool·beq}
+use mathlib.Core.Bool.{Bool, true, cond, not, _&&_, Bool·beq}
 use mathlib.Core.List.{List}
 use lib.Dec.{eqb, ltb}
 use lib.IntN.{ℤ, pos, negsuc}

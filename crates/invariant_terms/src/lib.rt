@@ -6,7 +6,7 @@ ghost use mathlib.Core.Path.{_≡_};
 ghost use Prim.Native.Nat.{_^_, _≤_, _<_};
 ghost use Rattle.model.specs.Acceptance.{SizesFit};
 ghost use Rattle.netlist.specs.NetOf.{alone};
-ghost use Rattle.invariant_terms.specs.StateBits.{stateCount, heldBit, wordBit};
+ghost use Rattle.invariant_terms.specs.StateBits.{stateCount, wordBit};
 ghost use Rattle.invariant_terms.specs.Terms.{term, codeTerm, opposite, numberOf};
 
 // How many words the memory has.

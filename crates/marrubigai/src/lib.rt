@@ -47,6 +47,8 @@ ghost use Rattle.netlist.specs.NetOf.{alone};
 ghost use Rattle.sheet_writer.specs.WriteCall.{writeSent, writeLeaves, SheetWritten};
 ghost use Rattle.refutation_depth.specs.Certified.{CertifiedInput};
 ghost use Rattle.refutation_depth.specs.Certificate.{certificateSent, storeAfter};
+ghost use Rattle.invariant_check.specs.Forever.{CertifiedForever};
+ghost use Rattle.invariant_check.specs.ForeverCall.{foreverSent, foreverStore};
 ghost use Rattle.call_replies.specs.Replies.{groupOf, orderFor, nextNumbers, sheetNumbers, headerVersion};
 
 // The version of include/marrubigai.h that the library is built for.
@@ -379,4 +381,23 @@ pub extern "C" fn marrubigai_certify(
     ensures marks { λ r. ⌜ ((r .number ≡ 0 → ⊥) → now (marks .exit) ≡ now (marks .entry)) ⌝ }
 {
     refutation_depth::certify(input, lemmas, hints, store, marks)
+}
+
+// `invariant_check::certify_forever`.
+#[no_mangle]
+pub extern "C" fn marrubigai_certify_forever(
+    file: &[u8],
+    invariant: &[i32],
+    requests: &[u32],
+    lemmas: &[i32],
+    hints: &[u32],
+    store: &mut [i32],
+    marks: &mut [u32],
+) -> CertificateReply
+    ensures answer { λ r. ⌜ r ≡ foreverSent (now (file .entry)) (now (invariant .entry)) (now (requests .entry)) (now (lemmas .entry)) (now (hints .entry)) (length (now (store .entry))) (length (now (marks .entry))) ⌝ }
+    ensures certified { λ r. ⌜ (r .certified ≡ 1 → CertifiedForever (now (file .entry))) ⌝ }
+    ensures store { λ _. ⌜ now (store .exit) ≡ foreverStore (now (file .entry)) (now (invariant .entry)) (now (requests .entry)) (now (lemmas .entry)) (now (store .entry)) ⌝ }
+    ensures marks { λ r. ⌜ ((r .number ≡ 0 → ⊥) → now (marks .exit) ≡ now (marks .entry)) ⌝ }
+{
+    invariant_check::certify_forever(file, invariant, requests, lemmas, hints, store, marks)
 }

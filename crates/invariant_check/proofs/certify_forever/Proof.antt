@@ -1,6 +1,5 @@
 -- `invariant_check::certify_forever` meets its contract: the sheet's refusal is sent, or what comes of its netlist; and what is certified holds.
-use native.Mathlib.Omega.{arith}
-use mathlib.Core.Path.{_≡_, refl, sym, ap, _∙_}
+use mathlib.Core.Path.{refl, sym, ap, _∙_}
 use mathlib.Core.List.{[]}
 use lib.ListN.{length}
 use Rattle.netlist.proofs.NetOf.{sizes-lists}

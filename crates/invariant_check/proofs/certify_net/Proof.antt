@@ -1,6 +1,6 @@
 -- `invariant_check::certify_net` meets its contract: a refusal leaves everything, and else the check's answer is sent.
 use native.Mathlib.Omega.{arith}
-use mathlib.Core.Path.{_≡_, refl, sym, ap, _∙_}
+use mathlib.Core.Path.{refl, ap, _∙_}
 use Rattle.refusals.specs.Slices.{contentsAfter}
 use Rattle.refusals.proofs.Slices.{room-enough, room-short}
 use Rattle.refutation_depth.specs.Certificate.{certificateReply}

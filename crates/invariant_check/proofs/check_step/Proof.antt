@@ -1,8 +1,6 @@
 -- `invariant_check::check_step` meets its contract: what is checked is the step and the lemmas behind it.
-use Prim.Native.Nat.{_+_, _≤_}
 use native.Mathlib.Omega.{arith}
-use mathlib.Core.Path.{_≡_, refl, sym, ap, _∙_}
-use lib.ListN.{length}
+use mathlib.Core.Path.{sym, _∙_}
 use lib.Seq.{length-take-le}
 use Rattle.invariant_formula.specs.Formula.{stepFormula}
 use Rattle.netlist.specs.NetOf.{netOf}

@@ -1,6 +1,5 @@
 -- `invariant_check::lay` meets its contract: the invariant stands behind the clauses asked for, and the lemmas behind it.
 use native.Mathlib.Omega.{arith}
-use mathlib.Core.Path.{_≡_, refl, sym, ap, _∙_}
 use Rattle.model.proofs.Wrote.{wrote-then, rest-within, rest-room}
 use Rattle.invariant_formula.specs.Formula.{stepFormula}
 use Rattle.invariant_check.specs.ForeverCall.{storeNeed}

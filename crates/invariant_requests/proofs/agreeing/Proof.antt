@@ -1,7 +1,7 @@
 -- `invariant_requests::agreeing` meets its contract.
 use Prim.Native.Nat.{_/_, _%_, _^_}
-use mathlib.Core.Path.{_≡_, refl, sym, _∙_}
-use borrow.Author.Tests.{eq-eqb, ne-eqb, lt-ltb, le-ltb, le-leb, lt-leb}
+use mathlib.Core.Path.{_∙_}
+use borrow.Author.Tests.{eq-eqb, ne-eqb}
 use Rattle.model.specs.Bits.{odd, bit}
 use borrow.Author.Needs.{needs}
 use Rattle.invariant_requests.proofs.agreeing.Statement.{statement}

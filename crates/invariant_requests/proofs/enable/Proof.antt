@@ -1,8 +1,7 @@
 -- `invariant_requests::enable` meets its contract.
-use Prim.Native.Nat.{ℕ}
 use native.Mathlib.Numerals.{add-one}
 use native.Mathlib.Omega.{arith}
-use mathlib.Core.Path.{_≡_, refl, sym, ap, _∙_}
+use mathlib.Core.Path.{ap, _∙_}
 use Rattle.model.specs.Netlist as M
 use Rattle.clause_variables.specs.PortOf.{portOf}
 use Rattle.netlist.specs.NetOf.{netOf}

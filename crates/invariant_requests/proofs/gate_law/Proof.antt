@@ -1,8 +1,7 @@
 -- `invariant_requests::gate_law` meets its contract.
 use native.Mathlib.Omega.{arith}
-use mathlib.Core.Path.{_≡_, refl, sym, _∙_}
-use borrow.Author.Tests.{eq-eqb, ne-eqb, lt-ltb, le-ltb, le-leb, lt-leb}
-use Prim.Native.Nat.{_+_}
+use mathlib.Core.Path.{_≡_, _∙_}
+use borrow.Author.Tests.{lt-ltb, le-ltb}
 use Rattle.model.specs.Netlist.{gateWire}
 use Rattle.netlist.specs.NetOf.{netOf, alone}
 use Rattle.invariant_axioms.specs.Laws.{gateLaw}

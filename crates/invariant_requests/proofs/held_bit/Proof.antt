@@ -1,8 +1,8 @@
 -- `invariant_requests::held_bit` meets its contract: a second port has its bits behind the first.
-use Prim.Native.Nat.{ℕ, suc, _+_, _*_, _/_, _%_, _^_, _≤_}
+use Prim.Native.Nat.{_*_, _≤_}
 use native.Mathlib.Nat.{mul-le-mul}
 use native.Mathlib.Omega.{arith}
-use mathlib.Core.Path.{_≡_, refl, sym, _∙_}
+use mathlib.Core.Path.{refl}
 use Rattle.netlist.specs.NetOf.{netOf}
 use Rattle.invariant_terms.specs.StateBits.{heldBit}
 use Rattle.invariant_requests.proofs.held_bit.Statement.{statement}

@@ -1,7 +1,7 @@
 -- `invariant_requests::next_law` meets its contract.
 use native.Mathlib.Omega.{arith}
-use mathlib.Core.Path.{_≡_, refl, sym, _∙_}
-use borrow.Author.Tests.{eq-eqb, ne-eqb, lt-ltb, le-ltb, le-leb, lt-leb}
+use mathlib.Core.Path.{_∙_}
+use borrow.Author.Tests.{lt-ltb, le-ltb}
 use Rattle.netlist.specs.NetOf.{netOf}
 use Rattle.invariant_axioms.specs.Laws.{nextLaw}
 use Rattle.invariant_terms.specs.StateBits.{stateCount}

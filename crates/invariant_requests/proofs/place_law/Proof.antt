@@ -1,7 +1,6 @@
 -- `invariant_requests::place_law` meets its contract: the parts tell whether it is an end mark.
-use Prim.Native.Nat.{ℕ}
 use native.Mathlib.Omega.{arith}
-use mathlib.Core.Path.{_≡_, refl, sym, ap, _∙_}
+use mathlib.Core.Path.{_≡_, sym, ap, _∙_}
 use Rattle.decimal.proofs.Signed.{read-back}
 use Rattle.text_writer.specs.Signed.{partsOf}
 use Rattle.text_writer.specs.declared.Parts.{Parts}

@@ -1,8 +1,8 @@
 -- `invariant_requests::read_wire` meets its contract: a second port has its wires behind the first.
-use Prim.Native.Nat.{ℕ, suc, _+_, _*_, _/_, _%_, _^_, _≤_}
+use Prim.Native.Nat.{_+_, _*_, _≤_}
 use native.Mathlib.Nat.{mul-le-mul}
 use native.Mathlib.Omega.{arith}
-use mathlib.Core.Path.{_≡_, refl, sym, _∙_}
+use mathlib.Core.Path.{_≡_, _∙_}
 use Rattle.model.specs.Netlist.{readWire}
 use Rattle.netlist.specs.NetOf.{netOf, alone}
 use borrow.Author.Needs.{needs}

@@ -1,6 +1,6 @@
 -- `invariant_requests::requested` meets its contract.
-use mathlib.Core.Path.{_≡_, refl, sym, _∙_}
-use borrow.Author.Tests.{eq-eqb, ne-eqb, lt-ltb, le-ltb, le-leb, lt-leb}
+use mathlib.Core.Path.{_∙_}
+use borrow.Author.Tests.{eq-eqb, ne-eqb}
 use Prim.Native.Nat.{_/_}
 use Rattle.netlist.specs.NetOf.{netOf}
 use Rattle.invariant_axioms.specs.Laws.{pick, constantLaw, latchLaw, nextLaw, failLaw, gateLaw, readPick, readLaw, wordPick, wordLaw, matchLaw, placeLaw, lastLaw, invariantLaw, requested}

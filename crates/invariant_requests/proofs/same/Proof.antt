@@ -1,5 +1,5 @@
 -- `invariant_requests::same` meets its contract.
-use mathlib.Core.Path.{_≡_, refl, sym, _∙_}
+use mathlib.Core.Path.{_∙_}
 use Rattle.invariant_axioms.specs.Laws.{same}
 use borrow.Author.Needs.{needs}
 use Rattle.invariant_requests.proofs.same.Statement.{statement}

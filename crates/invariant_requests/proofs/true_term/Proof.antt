@@ -1,5 +1,4 @@
 -- `invariant_requests::true_term` meets its contract.
-use mathlib.Core.Path.{_≡_, refl, sym, _∙_}
 use Rattle.invariant_axioms.specs.Laws.{falseTerm, trueTerm}
 use borrow.Author.Needs.{needs}
 use Rattle.invariant_requests.proofs.true_term.Statement.{statement}

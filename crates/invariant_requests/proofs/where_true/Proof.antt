@@ -1,5 +1,5 @@
 -- `invariant_requests::where_true` meets its contract.
-use mathlib.Core.Path.{_≡_, refl, sym, _∙_}
+use mathlib.Core.Path.{_∙_}
 use Rattle.invariant_axioms.specs.Laws.{whereTrue}
 use borrow.Author.Needs.{needs}
 use Rattle.invariant_requests.proofs.where_true.Statement.{statement}

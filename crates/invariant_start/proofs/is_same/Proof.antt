@@ -1,5 +1,4 @@
 -- `invariant_start::is_same` meets its contract.
-use mathlib.Core.Path.{_≡_, refl, sym, _∙_}
 use Rattle.invariant_start.proofs.Numbers.{beq-yes, beq-no}
 use Rattle.invariant_start.proofs.is_same.Statement.{statement}
 use Rattle.invariant_start.proofs.is_same.Tie as tie

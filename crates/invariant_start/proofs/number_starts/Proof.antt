@@ -1,6 +1,5 @@
 -- `invariant_start::number_starts` meets its contract.
-use Prim.Native.Nat.{ℕ, _-_}
-use mathlib.Core.Path.{_≡_, refl, sym, ap, _∙_}
+use mathlib.Core.Path.{_≡_, sym, ap, _∙_}
 use Rattle.decimal.proofs.Signed.{read-back}
 use Rattle.text_writer.specs.Signed.{partsOf}
 use Rattle.text_writer.specs.declared.Parts.{Parts}

@@ -1,5 +1,5 @@
 -- `invariant_start::word_starts` meets its contract.
-use mathlib.Core.Path.{_≡_, refl, sym, _∙_}
+use mathlib.Core.Path.{_∙_}
 use Rattle.model.specs.Bits.{odd, bit}
 use Rattle.netlist.specs.NetOf.{netOf}
 use Rattle.invariant_start.proofs.Numbers.{word-given, word-unknown}

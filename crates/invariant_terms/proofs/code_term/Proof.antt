@@ -1,6 +1,4 @@
 -- `invariant_terms::code_term` meets its contract.
-use mathlib.Core.Path.{ap}
-use Prim.Native.Nat.{ℕ, _+_, _%_}
 use Rattle.invariant_terms.specs.Terms.{codeTerm}
 use borrow.Author.Needs.{needs}
 use Rattle.invariant_terms.proofs.code_term.Statement.{statement}

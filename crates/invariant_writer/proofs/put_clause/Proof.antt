@@ -1,6 +1,6 @@
 -- `invariant_writer::put_clause` meets its contract.
 use native.Mathlib.Omega.{arith}
-use mathlib.Core.Path.{_≡_, refl, sym, _∙_}
+use mathlib.Core.Path.{sym, _∙_}
 use borrow.Author.Tests.{eq-eqb, ne-eqb}
 use Rattle.invariant_axioms.specs.Laws.{clauseOf}
 use Rattle.invariant_writer.proofs.Five.{small, opposite-most}

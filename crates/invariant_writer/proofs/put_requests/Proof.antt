@@ -3,7 +3,7 @@ use Prim.Native.Nat.{_-_}
 use native.Mathlib.Omega.{arith}
 use borrow.Author.Needs.{needs}
 use Rattle.netlist.specs.NetOf.{netOf}
-use Rattle.clause_writer.proofs.Turns.{Turns, turns-start, turns-room, turns-count, turns-next, turns-end}
+use Rattle.clause_writer.proofs.Turns.{Turns, turns-start, turns-next, turns-end}
 use Rattle.invariant_formula.specs.Formula.{requestedClause}
 use Rattle.invariant_writer.proofs.put_requests.Statement.{statement}
 use Rattle.invariant_writer.proofs.put_requests.Tie as tie

@@ -1,6 +1,5 @@
 -- `invariant_writer::put_terms` meets its contract.
 use native.Mathlib.Omega.{arith}
-use mathlib.Core.Path.{_≡_, refl, sym, _∙_}
 use lib.ListN.{length-set}
 use Rattle.invariant_writer.proofs.Five.{wrote-five, read-number}
 use borrow.Author.Needs.{needs}
