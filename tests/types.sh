@@ -25,6 +25,14 @@ crates/netlist/src/lib.rt Wire(1 + net.inputs)
 crates/replay_frame/src/lib.rt let read = netlist::first_read_wire(net).0
 crates/replay_frame/src/lib.rt let read = clause_variables::frame_base(net, 0) + netlist::first_read_wire(net).0
 crates/replay_frame/src/lib.rt let read = netlist::first_read_wire(net).0 + (port_number - 1) * net.n
+# a wire and a code become terms of a step, which have a numbering of their own, and a term a number of a clause; a latch's reset is looked at
+crates/invariant_terms/src/lib.rt term(b, 1, wire.0 as u64)
+crates/invariant_terms/src/lib.rt let x = code.0 as u64
+crates/invariant_writer/src/lib.rt out[0] = invariant_terms::number_of(a)
+crates/invariant_writer/src/lib.rt out[1] = invariant_terms::number_of(b)
+crates/invariant_writer/src/lib.rt out[2] = invariant_terms::number_of(c)
+crates/invariant_writer/src/lib.rt out[3] = invariant_terms::number_of(d)
+crates/invariant_start/src/lib.rt return is_same(latches[2 * (j as usize) + 1] == 1, value)
 # what a sheet has is stored
 crates/sheet_steps/src/lib.rt next.address[at].0 = first
 crates/sheet_steps/src/lib.rt next.write_data[at].0 = first
@@ -85,7 +93,7 @@ lists='latches|gates|codes|latch_codes|gate_codes|list'
 # Where a wire's or a code's place in a table is taken.
 tables='crates/circuit_values/src/lib.rt crates/netlist_tests/src/lib.rt'
 # By how much a wire is moved on: one latch, read bit or gate, one more, all latches, all read bits, those of the first port.
-offsets='l|read + t|g|1|net.latches|read_count(net)|net.n'
+offsets='l|read + t|q * net.n + t|g|1|net.latches|read_count(net)|net.n'
 
 # One check for each place that a rule looks at: a signature, a statement, a list, a table's place, a wire moved on, a name given anew.
 apart() { # files

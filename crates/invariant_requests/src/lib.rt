@@ -76,8 +76,8 @@ fn latch_law(net: Netlist, b: u64, l: u32) -> Law
     ensures { λ r. ⌜ r ≡ latchLaw (alone net) l ⌝ }
 {
     if l < net.latches {
-        let wire = netlist::first_latch_wire(net).offset(l).index() as u64;
-        return same(b, invariant_terms::term(b, 1, wire), 2 * (l as u64));
+        let wire = netlist::first_latch_wire(net).offset(l);
+        return same(b, invariant_terms::wire_term(b, wire), 2 * (l as u64));
     }
     no_law()
 }
@@ -138,8 +138,8 @@ fn gate_law(net: Netlist, gates: &UnpackedList, b: u64, k: u32, g: u32) -> Law
         let at = 2 * (g as usize);
         let left = invariant_terms::code_term(b, Code(gates[at]));
         let right = invariant_terms::code_term(b, Code(gates[at + 1]));
-        let wire = netlist::first_gate_wire(net).offset(g).index() as u64;
-        return pick_gate(b, k, invariant_terms::term(b, 1, wire), left, right);
+        let wire = netlist::first_gate_wire(net).offset(g);
+        return pick_gate(b, k, invariant_terms::wire_term(b, wire), left, right);
     }
     no_law()
 }
@@ -150,7 +150,7 @@ fn read_wire(net: Netlist, b: u64, q: u32, t: u32) -> u64
     ensures { λ r. ⌜ r ≡ term b 1 (readWire (alone net) (q * net .n + t)) ⌝ }
 {
     let wire = netlist::first_read_wire(net).offset(q * net.n + t);
-    invariant_terms::term(b, 1, wire.index() as u64)
+    invariant_terms::wire_term(b, wire)
 }
 
 fn held_bit(net: Netlist, q: u32, t: u32) -> u64

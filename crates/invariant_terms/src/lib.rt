@@ -1,6 +1,7 @@
 // "The property holds for ever": what it means, the bits of a whole state, and the terms in which one step of the circuit is said. A term is a code
 // over the step's variables, counted from 0: twice the variable, and one more where it is negated.
 use literals::Code;
+use literals::Wire;
 use netlist::Netlist;
 ghost use mathlib.Core.Path.{_≡_};
 ghost use Prim.Native.Nat.{_^_, _≤_, _<_};
@@ -40,6 +41,14 @@ pub fn term(b: u64, k: u64, j: u64) -> u64
     ensures { λ r. ⌜ (r ≡ term b k j) × (r ≤ 20000000000000) ⌝ }
 {
     2 * (b + 5 * j + k)
+}
+
+// The term of a wire.
+pub fn wire_term(b: u64, wire: Wire) -> u64
+    requires { ⌜ b ≤ 131736 ⌝ }
+    ensures { λ r. ⌜ r ≡ term b 1 (wire .0) ⌝ }
+{
+    term(b, 1, wire.0 as u64)
 }
 
 // The term of a code.

@@ -46,11 +46,8 @@ unfolding netOf
 offset-requires c κs =
     omega (arith, c .first-gate-wire .ensures, c .before .before .before .before .before .before .before .pre .0 .wires-fit)
 
-index-requires : tie.Need-index-requires
-index-requires c κs = search needs
-
-term-requires : tie.Need-term-requires
-term-requires c κs = search needs
+wire-term-requires : tie.Need-wire-term-requires
+wire-term-requires c κs = search needs
 
 pick-gate-requires : tie.Need-pick-gate-requires
 pick-gate-requires c κs = search needs
@@ -58,8 +55,8 @@ pick-gate-requires c κs = search needs
 returns : tie.Need-returns
 unfolding gateLaw netOf stateCount
 returns c =
-    let is : c .before .before .index .result ≡ gateWire (alone (c .before .before .before .before .before .before .before .before .before .before .before .args .net)) (c .before .before .before .before .before .before .before .before .before .before .before .args .g) = omega (arith, c .before .before .index .ensures, c .before .before .before .offset .ensures, c .before .before .before .before .first-gate-wire .ensures) in
-    c .pick-gate .ensures ∙ rw (c .before .term .ensures .0, is, c .before .before .before .before .before .code-term2 .ensures, c .before .before .before .before .before .before .before .code-term .ensures, c .before .before .before .before .before .before .before .before .before .before .before .pre .1, lt-ltb (c .before .before .before .before .before .before .before .before .before .before .before .args .g) (c .before .before .before .before .before .before .before .before .before .before .before .args .net .gates) (c .before .before .before .before .before .before .before .before .before .if1 .taken))
+    let is : c .before .before .offset .result .0 ≡ gateWire (alone (c .before .before .before .before .before .before .before .before .before .before .args .net)) (c .before .before .before .before .before .before .before .before .before .before .args .g) = omega (arith, c .before .before .offset .ensures, c .before .before .before .first-gate-wire .ensures) in
+    c .pick-gate .ensures ∙ rw (c .before .wire-term .ensures, is, c .before .before .before .before .code-term2 .ensures, c .before .before .before .before .before .before .code-term .ensures, c .before .before .before .before .before .before .before .before .before .before .pre .1, lt-ltb (c .before .before .before .before .before .before .before .before .before .before .args .g) (c .before .before .before .before .before .before .before .before .before .before .args .net .gates) (c .before .before .before .before .before .before .before .before .if1 .taken))
 
 no-law-requires : tie.Need-no-law-requires
 no-law-requires c κs = search needs
@@ -83,8 +80,7 @@ gate-law-spec =
     code-term-requires-2
     first-gate-wire-requires
     offset-requires
-    index-requires
-    term-requires
+    wire-term-requires
     pick-gate-requires
     returns
     no-law-requires

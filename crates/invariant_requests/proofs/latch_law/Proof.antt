@@ -18,11 +18,8 @@ unfolding netOf
 offset-requires c κs =
     omega (arith, c .first-latch-wire .ensures, c .before .before .before .pre .0 .inputs-fit)
 
-index-requires : tie.Need-index-requires
-index-requires c κs = search needs
-
-term-requires : tie.Need-term-requires
-term-requires c κs = search needs
+wire-term-requires : tie.Need-wire-term-requires
+wire-term-requires c κs = search needs
 
 mul-same : tie.Need-mul-same
 mul-same c = search needs
@@ -33,8 +30,8 @@ same-requires c κs = search needs
 returns : tie.Need-returns
 unfolding latchLaw netOf stateTerm
 returns c =
-    let is : c .before .before .index .result ≡ latchWire (alone (c .before .before .before .before .before .before .before .args .net)) (c .before .before .before .before .before .before .before .args .l) = omega (arith, c .before .before .index .ensures, c .before .before .before .offset .ensures, c .before .before .before .before .first-latch-wire .ensures) in
-    c .same .ensures ∙ rw (c .before .term .ensures .0, is, c .before .before .before .before .before .before .before .pre .1, lt-ltb (c .before .before .before .before .before .before .before .args .l) (c .before .before .before .before .before .before .before .args .net .latches) (c .before .before .before .before .before .if1 .taken))
+    let is : c .before .before .offset .result .0 ≡ latchWire (alone (c .before .before .before .before .before .before .args .net)) (c .before .before .before .before .before .before .args .l) = omega (arith, c .before .before .offset .ensures, c .before .before .before .first-latch-wire .ensures) in
+    c .same .ensures ∙ rw (c .before .wire-term .ensures, is, c .before .before .before .before .before .before .pre .1, lt-ltb (c .before .before .before .before .before .before .args .l) (c .before .before .before .before .before .before .args .net .latches) (c .before .before .before .before .if1 .taken))
 
 no-law-requires : tie.Need-no-law-requires
 no-law-requires c κs = search needs
@@ -50,8 +47,7 @@ latch-law-spec =
     (tie.spec
     first-latch-wire-requires
     offset-requires
-    index-requires
-    term-requires
+    wire-term-requires
     mul-same
     same-requires
     returns

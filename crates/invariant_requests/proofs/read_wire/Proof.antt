@@ -33,17 +33,14 @@ offset-requires c κs =
     let product : c .before .before .args .q * c .before .before .args .net .n ≤ 1 * 32 = mul-le-mul one (c .before .before .pre .0 .n-most) in
     omega (arith, c .before .first-read-wire .ensures)
 
-index-requires : tie.Need-index-requires
-index-requires c κs = search needs
-
-term-requires : tie.Need-term-requires
-term-requires c κs = search needs
+wire-term-requires : tie.Need-wire-term-requires
+wire-term-requires c κs = search needs
 
 returns : tie.Need-returns
 unfolding netOf
 returns c =
-    let is : c .before .index .result ≡ readWire (alone (c .before .before .before .before .before .args .net)) (c .before .before .before .before .before .args .q * c .before .before .before .before .before .args .net .n + c .before .before .before .before .before .args .t) = omega (arith, c .before .index .ensures, c .before .before .offset .ensures, c .before .before .before .before .first-read-wire .ensures) in
-    c .term .ensures .0 ∙ rw is
+    let is : c .before .offset .result .0 ≡ readWire (alone (c .before .before .before .before .args .net)) (c .before .before .before .before .args .q * c .before .before .before .before .args .net .n + c .before .before .before .before .args .t) = omega (arith, c .before .offset .ensures, c .before .before .before .first-read-wire .ensures) in
+    c .wire-term .ensures ∙ rw is
 
 pub read-wire-spec : {M : Type 1} → statement M
 read-wire-spec =
@@ -53,6 +50,5 @@ read-wire-spec =
     mul-offset
     add-offset
     offset-requires
-    index-requires
-    term-requires
+    wire-term-requires
     returns)
