@@ -251,6 +251,17 @@ MARRUBIGAI_LENT marrubigai_replay_reply marrubigai_replay(marrubigai_netlist net
 MARRUBIGAI_LENT marrubigai_certificate_reply marrubigai_certify(const uint8_t *input, size_t bytes, const int32_t *lemmas, size_t lemma_numbers,
     const uint32_t *hints, size_t hint_count, int32_t *store, size_t store_room, uint32_t *marks, size_t mark_room);
 
+/* checks a certificate that the property holds in every frame of every run, at any depth: an inductive invariant of a sheet, which has no depth line
+ * before it. Where `certified` is 1 this is proved: nothing that was lent is believed. The invariant is clauses, each ended by 0, over the bits of a
+ * state; each three of the requests ask for a clause about one step; lemmas and hints refute, as above, that a step from the invariant breaks the
+ * property or leaves the invariant (docs/LIBRARY.md has the numbering and the requests). Where it is not certified, `lemma` is the first lemma that does
+ * not follow, 0 where the invariant does not hold at the start. The refusals are those of a sheet; then 9 where the store has not room for five numbers
+ * for each three of the requests, the invariant and the lemmas. After a refusal store and marks are as they were. Else the store begins with these
+ * numbers, and the marks are scratch; two marks are needed for each variable. */
+MARRUBIGAI_LENT marrubigai_certificate_reply marrubigai_certify_forever(const uint8_t *sheet, size_t bytes, const int32_t *invariant,
+    size_t invariant_numbers, const uint32_t *requests, size_t request_numbers, const int32_t *lemmas, size_t lemma_numbers, const uint32_t *hints,
+    size_t hint_count, int32_t *store, size_t store_room, uint32_t *marks, size_t mark_room);
+
 /* the text of the program `frames`: DIMACS' problem line, numbers that a group call wrote with a clause a line, and a refusal, its
  * number and place in ten columns each. Each answers how many bytes it wrote; 9 where the buffer is shorter than the text.
  * put_clauses prints any number in decimal, INT32_MIN too, which is no clause number, and ends a line behind each 0. */

@@ -61,7 +61,7 @@ check "the README's formula" diff "$work/formula" "$work/printed"
 # What the demo says is proved is the README's section: its points, numbered from 1, as many as docs/TRUST.md says.
 bash scripts/proved.sh > "$work/proved"
 check "what is proved is told" [ $? -eq 0 ]
-words=(none one two three four five six seven eight nine ten)
+words=(none one two three four five six seven eight nine ten eleven twelve)
 told=$(sed -n 's/.*README.md#what-is-proved) tells in \([a-z]*\) points.*/\1/p' docs/TRUST.md)
 points=$(grep -cE '^[0-9]+\. ' "$work/proved")
 check "in as many points as docs/TRUST.md says: ${told:-none}" [ "${words[points]:-more}" = "$told" ]

@@ -25,7 +25,7 @@ crates/netlist/src/lib.rt Wire(1 + net.inputs)
 crates/replay_frame/src/lib.rt let read = netlist::first_read_wire(net).0
 crates/replay_frame/src/lib.rt let read = clause_variables::frame_base(net, 0) + netlist::first_read_wire(net).0
 crates/replay_frame/src/lib.rt let read = netlist::first_read_wire(net).0 + (port_number - 1) * net.n
-# a wire and a code become terms of a step, which have a numbering of their own, and a term a number of a clause; a latch's reset is looked at
+# a wire and a code become terms of a step, which have a numbering of their own, and a term a number of a clause; the reset of a latch is looked at
 crates/invariant_terms/src/lib.rt term(b, 1, wire.0 as u64)
 crates/invariant_terms/src/lib.rt let x = code.0 as u64
 crates/invariant_writer/src/lib.rt out[0] = invariant_terms::number_of(a)

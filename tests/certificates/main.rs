@@ -7,6 +7,7 @@
 #[path = "../runner/certificates.rs"]
 mod certificates;
 mod elaborate;
+mod forever;
 
 use std::path::Path;
 use std::process::{Command, Stdio};
@@ -191,6 +192,7 @@ fn main() {
             damaged(&mut tally, &input_of(&sheet(&format!("{revision}-revision/repaired.sheet")), 1), made);
         }
     }
+    forever::check(&mut tally, if depths.len() == 1 { 400 } else { 100_000 });
     println!("{} passed, {} failed", tally.passed, tally.failed);
     std::process::exit(i32::from(tally.failed != 0));
 }

@@ -1071,6 +1071,54 @@ static void limits(void) {
   check("more inputs than wires", answers_heading(marrubigai_heading(most, latches, 0, gates, 0, 0), MARRUBIGAI_SIZE, 1, 0, 0));
 }
 
+// A chip that reads and never writes: a memory of two words of one bit, at address 0, that begins as 0, and a property that says that the bit read is 0. Its
+// invariant says that word 0 is 0, which is bit 2 of a state: bit 1 is the bit held.
+static const char NEVER[] =
+    LINE("N", "         1", "         0", "         0")
+    LINE("M", "         1", "         1", "         0")
+    LINE("A", "         0", EMPTY, EMPTY)
+    LINE("D", "         2", EMPTY, EMPTY)
+    LINE("C", "         0", "         1", "         5");
+enum { NEVER_STORE = 9 * 5 + 2 + 1, NEVER_MARKS = 400 };
+static int32_t steps[NEVER_STORE];
+static uint32_t step_marks[NEVER_MARKS];
+
+static marrubigai_certificate_reply forever(const char *sheet, const int32_t *invariant, size_t numbers, size_t store_room, size_t mark_room) {
+  static const uint32_t requests[] = {0, 0, 0, 33, 0, 0, 35, 0, 0, 18, 0, 0, 7, 0, 0, 26, 0, 0, 40, 0, 0, 42, 1, 0, 40, 2, 0};
+  static const int32_t lemmas[] = {0};
+  static const uint32_t hints[] = {10, 0, 45, 5, 10, 15, 20, 25, 30, 35, 40};
+  for (size_t t = 0; t < COUNT(steps); t++) steps[t] = UNTOUCHED;
+  for (size_t t = 0; t < COUNT(step_marks); t++) step_marks[t] = UNTOUCHED;
+  return marrubigai_certify_forever((const uint8_t *)sheet, sizeof NEVER - 1, invariant, numbers, requests, COUNT(requests), lemmas, COUNT(lemmas), hints,
+                                    COUNT(hints), steps, store_room, step_marks, mark_room);
+}
+
+static void certificates_for_ever(void) {
+  static const int32_t invariant[] = {-2, 0}, other[] = {-1, 0}, past[] = {-4, 0};
+  char changed[sizeof NEVER];
+  check("a property that holds for ever is certified", answers_certificate(forever(NEVER, invariant, 2, NEVER_STORE, NEVER_MARKS), MARRUBIGAI_PASSED, 1, 0) &&
+                                                            steps[9 * 5] == -2 && steps[9 * 5 + 1] == 0 && steps[9 * 5 + 2] == 0);
+  check("not by an empty invariant", answers_certificate(forever(NEVER, invariant, 0, NEVER_STORE, NEVER_MARKS), MARRUBIGAI_PASSED, 0, 0));
+  check("not by another", answers_certificate(forever(NEVER, other, 2, NEVER_STORE, NEVER_MARKS), MARRUBIGAI_PASSED, 0, 0));
+  check("not by one of words past the memory", answers_certificate(forever(NEVER, past, 2, NEVER_STORE, NEVER_MARKS), MARRUBIGAI_PASSED, 0, 0));
+  check("not without marks", answers_certificate(forever(NEVER, invariant, 2, NEVER_STORE, 0), MARRUBIGAI_PASSED, 0, 0));
+  memcpy(changed, NEVER, sizeof changed);
+  changed[32 + 30] = '1';
+  check("not from a start of 1", answers_certificate(forever(changed, invariant, 2, NEVER_STORE, NEVER_MARKS), MARRUBIGAI_PASSED, 0, 0));
+  changed[32 + 30] = ' ';
+  check("not from an unknown start", answers_certificate(forever(changed, invariant, 2, NEVER_STORE, NEVER_MARKS), MARRUBIGAI_PASSED, 0, 0));
+  memcpy(changed, NEVER, sizeof changed);
+  changed[4 * 32 + 10] = '1';
+  check("not where each frame writes", answers_certificate(forever(changed, invariant, 2, NEVER_STORE, NEVER_MARKS), MARRUBIGAI_PASSED, 0, 0));
+  int whole = answers_certificate(forever(NEVER, invariant, 2, NEVER_STORE - 1, NEVER_MARKS), MARRUBIGAI_NO_ROOM, 0, 0);
+  for (size_t t = 0; t < COUNT(steps); t++) whole = whole && steps[t] == UNTOUCHED;
+  for (size_t t = 0; t < COUNT(step_marks); t++) whole = whole && step_marks[t] == UNTOUCHED;
+  check("a store one number short is 9, and everything is as it was", whole);
+  changed[4 * 32 + 10] = '9';
+  marrubigai_certificate_reply reply = forever(changed, invariant, 2, NEVER_STORE, NEVER_MARKS);
+  check("a code outside its limit is 5 at its line", reply.number == MARRUBIGAI_CODE && reply.place == 5 && reply.certified == 0 && reply.lemma == 0);
+}
+
 int main(int count, char **arguments) {
   if (count == 2 && strcmp(arguments[1], "words") == 0) { // for the script that compares them with the page
     for (uint32_t number = 0; number < 32; number++) printf("%u %s\n", (unsigned)number, marrubigai_refusal_word(number));
@@ -1091,6 +1139,7 @@ int main(int count, char **arguments) {
   replays();
   port_replays();
   certificates();
+  certificates_for_ever();
   printing();
   sheets();
   conversions();

@@ -50,6 +50,9 @@ static int certify(void) {
   memcpy(input + 11, sheet, sheet_bytes);
   return marrubigai_certify(input, 11 + sheet_bytes, numbers, 0, words, 0, numbers, 1, words, 1).number == MARRUBIGAI_NO_ROOM;
 }
+static int certify_forever(void) {
+  return marrubigai_certify_forever(sheet, sheet_bytes, numbers, 0, words, 0, numbers, 0, words, 0, numbers, 1, words, 1).number == MARRUBIGAI_PASSED;
+}
 static int certify_depth_0(void) {
   static uint8_t input[11 + MARRUBIGAI_SHEET_BYTES];
   memcpy(input, "         0\n", 11);
@@ -91,6 +94,7 @@ static const struct {
     {"write_sheet", write_sheet, MARRUBIGAI_CALL_STACK}, {"one_port", one_port, MARRUBIGAI_CALL_STACK}, {"export", export, MARRUBIGAI_CALL_STACK},
     {"replay", replay, MARRUBIGAI_REPLAY_STACK},
     {"certify", certify, MARRUBIGAI_CALL_STACK},       {"certify at depth 0", certify_depth_0, MARRUBIGAI_CALL_STACK},
+    {"certify_forever", certify_forever, MARRUBIGAI_CALL_STACK},
     {"put_clauses", put_clauses, MARRUBIGAI_CALL_STACK}, {"the others", put_others, MARRUBIGAI_CALL_STACK},
 };
 

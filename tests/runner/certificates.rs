@@ -29,6 +29,70 @@ extern "C" {
         marks: *mut u32,
         mark_room: usize,
     ) -> CertificateReply;
+
+    fn marrubigai_certify_forever(
+        sheet: *const u8,
+        bytes: usize,
+        invariant: *const i32,
+        invariant_numbers: usize,
+        requests: *const u32,
+        request_numbers: usize,
+        lemmas: *const i32,
+        lemma_numbers: usize,
+        hints: *const u32,
+        hint_count: usize,
+        store: *mut i32,
+        store_room: usize,
+        marks: *mut u32,
+        mark_room: usize,
+    ) -> CertificateReply;
+}
+
+/// A certificate for every depth: besides lemmas and hints an invariant, and which clauses of a step are asked for.
+#[derive(Clone, Debug)]
+pub struct Forever {
+    pub invariant: Vec<i32>,
+    pub requests: Vec<u32>,
+    pub refutation: Certificate,
+}
+
+/// The reply; or what is wrong with what the call has left.
+pub fn certify_forever(sheet: &[u8], certificate: &Forever, store_room: usize, mark_room: usize) -> Result<CertificateReply, String> {
+    let mut store = vec![UNTOUCHED; store_room + 2 * GUARDS];
+    let mut marks = vec![UNTOUCHED as u32; mark_room + 2 * GUARDS];
+    let lent = &certificate.refutation;
+    // SAFETY: each pointer and length are those of a live slice, and only store and marks are written to.
+    let reply = unsafe {
+        marrubigai_certify_forever(
+            sheet.as_ptr(),
+            sheet.len(),
+            certificate.invariant.as_ptr(),
+            certificate.invariant.len(),
+            certificate.requests.as_ptr(),
+            certificate.requests.len(),
+            lent.lemmas.as_ptr(),
+            lent.lemmas.len(),
+            lent.hints.as_ptr(),
+            lent.hints.len(),
+            store[GUARDS..].as_mut_ptr(),
+            store_room,
+            marks[GUARDS..].as_mut_ptr(),
+            mark_room,
+        )
+    };
+    let written = match reply.number {
+        0 => certificate.requests.len() / 3 * 5 + certificate.invariant.len() + lent.lemmas.len(),
+        _ => 0,
+    };
+    let outside = |at: usize| at < GUARDS || at >= GUARDS + written;
+    if (0..store.len()).any(|at| outside(at) && store[at] != UNTOUCHED) {
+        return Err("the store is written to outside its part".to_string());
+    }
+    let guarded = |at: usize| reply.number != 0 || at < GUARDS || at >= GUARDS + mark_room;
+    if (0..marks.len()).any(|at| guarded(at) && marks[at] != UNTOUCHED as u32) {
+        return Err("marks are written to that are not lent, or at a refusal".to_string());
+    }
+    Ok(reply)
 }
 
 /// A certificate: lemmas, each ended by 0, and for each how many hints there are and then the hints.

@@ -1,4 +1,4 @@
--- The laws of one step that may be asked for, by family, and the clause of one. None of this is believed: every law is proved to hold. Cited by the
+-- The laws of one step that may be asked for (RULES H4), by family, and the clause of one. None of this is believed: every law is proved to hold. Cited by the
 -- functions of this crate and by what writes the clauses.
 use Prim.Native.Nat.{ℕ, suc, _+_, _-_, _*_, _/_, _%_, _^_}
 use mathlib.Core.Bool.{Bool, cond, _&&_}

@@ -1,4 +1,4 @@
-// "The property holds for ever" as an answer that is proved: an inductive invariant is tested at the start, the clauses of one step under it go into a
+// That the property holds for ever, as an answer that is proved (RULES H1 to H6): an inductive invariant is tested at the start, the clauses of one step under it go into a
 // lent store, the lemmas of a refutation behind them, and these are checked by their hints. Nothing that is lent is believed.
 use netlist::Netlist;
 use netlist::UnpackedList;

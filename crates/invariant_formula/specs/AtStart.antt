@@ -1,4 +1,4 @@
--- The test of an invariant at the start: each of its numbers is of a bit of the state, and each of its clauses has one that is true in every state
+-- The test of an invariant at the start (RULES H3): each of its numbers is of a bit of the state, and each of its clauses has one that is true in every state
 -- that a run may begin in. None of this is believed. Cited by what tests it.
 use Prim.Native.Nat.{ℕ, suc, _+_, _-_, _%_}
 use mathlib.Core.Bool.{Bool, true, false, cond, _&&_, Bool·beq}

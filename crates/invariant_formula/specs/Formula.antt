@@ -1,4 +1,4 @@
--- The clauses of a step: those of the laws asked for, and the invariant. None of this is believed. Cited by what writes and checks them.
+-- The clauses of a step (RULES H4): those of the laws asked for, and the invariant. None of this is believed. Cited by what writes and checks them.
 use Prim.Native.Nat.{ℕ, _+_, _*_, _/_, _%_}
 use mathlib.Core.List.{List, _++_}
 use lib.IntN.{ℤ}

@@ -1,4 +1,4 @@
--- What an answer "certified for ever" says of a netlist. Cited by the call that certifies it.
+-- What is said of a netlist that is certified for ever (RULES H2). Cited by the call that certifies it.
 use Prim.Native.Nat.{ℕ}
 use mathlib.Core.Path.{_≡_}
 use mathlib.Core.Bool.{true}

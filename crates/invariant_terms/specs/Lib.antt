@@ -1,4 +1,4 @@
--- What "for ever" is, the bits of a state, clauses over them, and the variables of one step. Nothing here imports a law or a proof.
+-- What holding for ever is, the bits of a state, clauses over them, and the variables of one step. Nothing here imports a law or a proof.
 pub mod Forever
 pub mod StateBits
 pub mod Walk

@@ -1,4 +1,4 @@
--- The bits of a whole state, numbered from 0: the latches, then the words held, then the memory word by word, bit 0 first. Cited by the terms of a
+-- The bits of a whole state (RULES H3), numbered from 0: the latches, then the words held, then the memory word by word, bit 0 first. Cited by the terms of a
 -- step and the test of the start.
 use Prim.Native.Nat.{ℕ, _+_, _-_, _*_, _/_, _%_, _^_}
 use mathlib.Core.Bool.{Bool, cond}

@@ -1,4 +1,4 @@
--- The variables in which one step of the circuit is said, and what each of them is, by the state in which a frame begins and the frame's values. A
+-- The variables in which one step of the circuit is said (RULES H4), and what each of them is, by the state in which a frame begins and the frame's values. A
 -- term is a code over them: twice a variable, one more where it is negated. None of this is believed: it is what certificates are checked against.
 use Prim.Native.Nat.{ℕ, zero, suc, _+_, _-_, _*_, _/_, _%_}
 use mathlib.Core.Bool.{Bool, true, cond, not, _&&_, Bool·beq}

@@ -1,4 +1,4 @@
--- Whether every clause in a list of numbers has a number that passes a test, number by number. Cited by the test of the start and by the terms of
+-- Whether every clause in a list of numbers has a number that passes a test, number by number (RULES H3). Cited by the test of the start and by the terms of
 -- a step.
 use Prim.Native.Nat.{zero, suc}
 use mathlib.Core.Bool.{Bool, true, false, cond, _&&_, _||_}

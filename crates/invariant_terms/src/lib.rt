@@ -1,4 +1,4 @@
-// "The property holds for ever": what it means, the bits of a whole state, and the terms in which one step of the circuit is said. A term is a code
+// That the property holds for ever (RULES H2): what it means, the bits of a whole state, and the terms in which one step of the circuit is said. A term is a code
 // over the step's variables, counted from 0: twice the variable, and one more where it is negated.
 use literals::Code;
 use literals::Wire;

@@ -1,4 +1,4 @@
--- A signed number taken apart. Cited by `parts_of`.
+-- A signed number taken apart (RULES W4). Cited by `parts_of`, and by the laws of a step of an invariant.
 use Prim.Native.Nat.{suc}
 use lib.IntN.{ℤ, pos, negsuc}
 use Rattle.text_writer.specs.declared.Parts.{Parts}
