@@ -48,10 +48,16 @@ void Stop::at_frame(uint32_t now, uint32_t last) {
   if (show_progress) show_line();
 }
 
+void Stop::at_certificate() {
+  certifying = true;
+  if (show_progress) show_line();
+}
+
 void Stop::show_line() {
   shown_at = Clock::now();
   line_is_shown = true;
-  std::fprintf(stderr, "\r\033[Kframe %u of %u, %.1f s", frame, depth, seconds());
+  if (certifying) std::fprintf(stderr, "\r\033[Kcertificate, %.1f s", seconds());
+  else std::fprintf(stderr, "\r\033[Kframe %u of %u, %.1f s", frame, depth, seconds());
   std::fflush(stderr);
 }
 

@@ -25,6 +25,7 @@ public:
 
   // The progress line, on a terminal alone and rewritten in place.
   void at_frame(uint32_t frame, uint32_t depth);
+  void at_certificate();
   void clear_line();
 
 private:
@@ -32,5 +33,6 @@ private:
   bool has_deadline, show_progress, line_is_shown = false;
   Clock::time_point shown_at{};
   uint32_t frame = 0, depth = 0;
+  bool certifying = false;
   void show_line();
 };

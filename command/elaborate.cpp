@@ -1,0 +1,237 @@
+// Forward, the clauses are added one by one until unit propagation alone gives a conflict: the empty lemma follows there. Then backward, each lemma
+// that one behind it needs is derived by propagation from its negation through the clauses before it, those that are needed already first, and the
+// clauses that propagated on the way to the conflict are its hints. What the solver has deleted may be cited.
+
+#include "elaborate.h"
+
+#include <algorithm>
+#include <cstdlib>
+
+namespace {
+
+using Id = uint32_t;
+
+constexpr Id NONE = UINT32_MAX;
+constexpr unsigned STEPS_BETWEEN = 1 << 10; // a look at the clock costs more than a step
+
+uint32_t variable_of(int32_t literal) { return static_cast<uint32_t>(std::abs(literal)); }
+size_t slot(int32_t literal) { return 2 * size_t{variable_of(literal)} + (literal < 0); }
+
+// Clauses with two watched literals, and what is assigned.
+class Propagation {
+public:
+  Propagation(uint32_t variables, Stop &when)
+      : needed_watches(2 * size_t{variables} + 2), watches(needed_watches.size()), holds(needed_watches.size()), reason(variables + 1, NONE),
+        place(variables + 1), seen(variables + 1), stop(when) {}
+
+  size_t count() const { return needed.size(); }
+  size_t length() const { return trail.size(); }
+  bool is_needed(Id id) const { return needed[id]; }
+  std::vector<int32_t> clause(Id id) const {
+    return {literals.begin() + static_cast<std::ptrdiff_t>(starts[id]), literals.begin() + static_cast<std::ptrdiff_t>(starts[id + 1])};
+  }
+
+  void undo(size_t kept) {
+    for (; trail.size() > kept; trail.pop_back()) holds[slot(trail.back())] = false;
+    through_needed = std::min(through_needed, kept);
+    through_all = std::min(through_all, kept);
+  }
+
+  // Adds a clause, without repeats: a literal that is not false is watched if there is one. The answer is the clause where all are false.
+  Id add(const int32_t *begin, const int32_t *end) {
+    Id id = static_cast<Id>(count());
+    size_t start = literals.size();
+    for (; begin != end; begin++)
+      if (std::find(literals.begin() + static_cast<std::ptrdiff_t>(start), literals.end(), *begin) == literals.end()) literals.push_back(*begin);
+    starts.push_back(literals.size());
+    needed.push_back(false);
+    size_t open = start;
+    for (size_t at = start; at < literals.size() && open < start + 2; at++)
+      if (!is_false(literals[at])) std::swap(literals[open++], literals[at]);
+    if (literals.size() >= start + 2)
+      for (size_t at : {start, start + 1}) watches[slot(literals[at])].push_back(id);
+    if (open == start) return id;
+    if (open == start + 1 && !holds[slot(literals[start])]) assign(literals[start], id);
+    return NONE;
+  }
+
+  // Propagates through the clauses before `limit`, which never goes up. The answer is a clause that became false, or none.
+  Id propagate(Id limit) {
+    for (;;) {
+      bool needed_first = through_needed < trail.size();
+      size_t &turn = needed_first ? through_needed : through_all;
+      if (turn == trail.size()) return NONE;
+      Id conflict = visit(slot(-trail[turn++]), limit, needed_first);
+      if (conflict != NONE) return conflict;
+    }
+  }
+
+  // A clause that becomes false where all of a lemma's literals are, by propagation through the clauses before it; none where it does not follow.
+  Id refute(const std::vector<int32_t> &lemma, Id limit) {
+    for (int32_t literal : lemma) {
+      // a literal that is true already is made so by a clause in which it is then the last that is not false
+      if (holds[slot(literal)]) return reason[variable_of(literal)];
+      if (!is_false(literal)) assign(-literal, NONE);
+    }
+    return propagate(limit);
+  }
+
+  // The clauses that led to a clause becoming false, in their order, and that clause; all of them are needed. The lemma's own literals need none.
+  std::vector<Id> explain(Id conflict, const std::vector<int32_t> &lemma) {
+    std::vector<uint32_t> places;
+    for (int32_t literal : lemma) seen[variable_of(literal)] = true;
+    std::vector<Id> open{conflict}, ids;
+    while (!open.empty()) {
+      Id id = open.back();
+      open.pop_back();
+      for (size_t at = starts[id]; at < starts[id + 1]; at++) {
+        uint32_t variable = variable_of(literals[at]);
+        if (seen[variable]) continue;
+        seen[variable] = true;
+        places.push_back(place[variable]);
+        if (reason[variable] != NONE) open.push_back(reason[variable]);
+      }
+    }
+    std::sort(places.begin(), places.end());
+    for (uint32_t at : places) {
+      uint32_t variable = variable_of(trail[at]);
+      seen[variable] = false;
+      if (reason[variable] != NONE) ids.push_back(reason[variable]);
+    }
+    for (int32_t literal : lemma) seen[variable_of(literal)] = false;
+    ids.push_back(conflict);
+    for (Id id : ids) needed[id] = true;
+    return ids;
+  }
+
+private:
+  std::vector<int32_t> literals; // of all clauses, and where each begins
+  std::vector<size_t> starts{0};
+  std::vector<std::vector<Id>> needed_watches, watches; // by literal: the clauses that watch it; those that are needed apart from the others
+  std::vector<bool> needed;
+  std::vector<char> holds; // by literal
+  std::vector<Id> reason; // by variable: the clause that assigned it, and its place in the trail
+  std::vector<uint32_t> place;
+  std::vector<bool> seen;
+  std::vector<int32_t> trail;
+  size_t through_needed = 0, through_all = 0; // how much of the trail is propagated, through needed clauses and through all
+  Stop &stop;
+  unsigned steps = 0;
+
+  bool is_false(int32_t literal) const { return holds[slot(-literal)]; }
+
+  void assign(int32_t literal, Id id) {
+    holds[slot(literal)] = true;
+    reason[variable_of(literal)] = id;
+    place[variable_of(literal)] = static_cast<uint32_t>(trail.size());
+    trail.push_back(literal);
+  }
+
+  // another literal to watch in place of the second; whether there is one
+  bool watch_other(Id id) {
+    size_t second = starts[id] + 1;
+    for (size_t next = second + 1; next < starts[id + 1]; next++) {
+      if (is_false(literals[next])) continue;
+      std::swap(literals[second], literals[next]);
+      (needed[id] ? needed_watches : watches)[slot(literals[second])].push_back(id);
+      return true;
+    }
+    return false;
+  }
+
+  // Goes through the clauses that watch a literal which became false.
+  Id visit(size_t watched, Id limit, bool needed_first) {
+    if (++steps % STEPS_BETWEEN == 0 && stop.terminate()) throw Stopped();
+    std::vector<Id> &list = (needed_first ? needed_watches : watches)[watched];
+    size_t kept = 0, at = 0;
+    Id conflict = NONE;
+    while (at < list.size() && conflict == NONE) {
+      Id id = list[at++];
+      if (id >= limit) continue; // gone for good
+      size_t start = starts[id];
+      if (slot(literals[start]) == watched) std::swap(literals[start], literals[start + 1]);
+      int32_t other = literals[start];
+      bool settled = holds[slot(other)];
+      if (!settled && watch_other(id)) continue;
+      if (!needed_first && needed[id]) needed_watches[watched].push_back(id);
+      else list[kept++] = id;
+      if (settled) continue;
+      if (is_false(other)) conflict = id;
+      else assign(other, id);
+    }
+    list.erase(list.begin() + static_cast<std::ptrdiff_t>(kept), list.begin() + static_cast<std::ptrdiff_t>(at));
+    return conflict;
+  }
+};
+
+// Adds the clauses of a list until there is a conflict; notes where each begins, and the trail's length before it.
+class Forward {
+public:
+  Forward(Propagation &propagation, uint32_t most) : state(propagation), variables(most) {}
+  std::vector<size_t> lengths;
+  std::vector<size_t> places; // in the list, of the last one added
+  Id conflict = NONE;
+
+  void add(const std::vector<int32_t> &numbers) {
+    places.clear();
+    for (size_t begin = 0, end = 0; begin < numbers.size() && conflict == NONE; begin = end + 1) {
+      for (end = begin; numbers[end] != 0; end++)
+        if (numbers[end] == INT32_MIN || variable_of(numbers[end]) > variables)
+          throw NoCertificate("clause " + std::to_string(lengths.size()) + " has a variable above " + std::to_string(variables));
+      places.push_back(begin);
+      lengths.push_back(state.length());
+      conflict = state.add(&numbers[begin], &numbers[end]);
+      if (conflict == NONE) conflict = state.propagate(NONE);
+    }
+  }
+
+private:
+  Propagation &state;
+  uint32_t variables;
+};
+
+} // namespace
+
+Certificate elaborate(const std::vector<int32_t> &formula, const std::vector<int32_t> &lemmas, uint32_t variables, Stop &stop) {
+  size_t numbers = formula.size() + lemmas.size();
+  if (numbers > MOST_NUMBERS) throw NoCertificate("formula and refutation have " + std::to_string(numbers) + " numbers, too many to be kept");
+  Propagation state(variables, stop);
+  Forward forward(state, variables);
+  forward.add(formula);
+  std::vector<size_t> places = forward.places; // in the store, of each clause
+  forward.add(lemmas);
+  if (forward.conflict == NONE) throw NoCertificate("it does not lead to a conflict");
+
+  struct Derived {
+    std::vector<int32_t> lemma;
+    std::vector<Id> hints;
+    Id id;
+  };
+  size_t hint_count = 0;
+  Id first = static_cast<Id>(places.size());
+  std::vector<Derived> derived{{{}, state.explain(forward.conflict, {}), NONE}};
+  for (Id id = static_cast<Id>(state.count()); id-- > first;) {
+    state.undo(forward.lengths[id]);
+    if (!state.is_needed(id)) continue;
+    std::vector<int32_t> lemma = state.clause(id);
+    size_t length = state.length();
+    Id met = state.refute(lemma, id);
+    if (met == NONE) throw NoCertificate("its lemma " + std::to_string(id - first) + " does not follow by unit propagation");
+    derived.push_back({lemma, state.explain(met, lemma), id});
+    hint_count += derived.back().hints.size() + 1;
+    if (hint_count > MOST_NUMBERS) throw NoCertificate("it needs more than " + std::to_string(MOST_NUMBERS) + " hints, too many to be kept");
+    state.undo(length);
+  }
+  std::reverse(derived.begin(), derived.end());
+
+  Certificate made;
+  places.resize(state.count());
+  for (const Derived &one : derived) {
+    if (one.id != NONE) places[one.id] = formula.size() + made.lemmas.size();
+    made.lemmas.insert(made.lemmas.end(), one.lemma.begin(), one.lemma.end());
+    made.lemmas.push_back(0);
+    made.hints.push_back(static_cast<uint32_t>(one.hints.size()));
+    for (Id id : one.hints) made.hints.push_back(static_cast<uint32_t>(places[id]));
+  }
+  return made;
+}
