@@ -195,6 +195,7 @@ private:
 Certificate elaborate(const std::vector<int32_t> &formula, const std::vector<int32_t> &lemmas, uint32_t variables, Stop &stop) {
   size_t numbers = formula.size() + lemmas.size();
   if (numbers > MOST_NUMBERS) throw NoCertificate("formula and refutation have " + std::to_string(numbers) + " numbers, too many to be kept");
+  if (stop.terminate()) throw Stopped();
   Propagation state(variables, stop);
   Forward forward(state, variables);
   forward.add(formula);

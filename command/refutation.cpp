@@ -59,10 +59,10 @@ private:
 } // namespace
 
 Refutation::Refutation() {
-  const char *folder = std::getenv("TMPDIR");
-  std::string path = std::string(folder && *folder ? folder : "/tmp") + "/marrubigai.XXXXXX";
+  const char *given = std::getenv("TMPDIR");
+  std::string folder = given && *given ? given : "/tmp", path = folder + "/marrubigai.XXXXXX";
   int opened = mkostemp(path.data(), O_CLOEXEC);
-  if (opened < 0) throw Failure(path + ": no file can be made there: " + std::strerror(errno));
+  if (opened < 0) throw Failure(folder + ": no file can be made there: " + std::strerror(errno));
   unlink(path.c_str());
   file = fdopen(opened, "w+b");
   if (!file) {
