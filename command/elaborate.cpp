@@ -14,6 +14,12 @@ using Id = uint32_t;
 constexpr Id NONE = UINT32_MAX;
 constexpr unsigned STEPS_BETWEEN = 1 << 10; // a look at the clock costs more than a step
 
+// A clause that watches a literal, and another literal of it: where that one is true, the clause need not be looked at.
+struct Watch {
+  Id id;
+  int32_t other;
+};
+
 uint32_t variable_of(int32_t literal) { return static_cast<uint32_t>(std::abs(literal)); }
 size_t slot(int32_t literal) { return 2 * size_t{variable_of(literal)} + (literal < 0); }
 
@@ -49,7 +55,7 @@ public:
     for (size_t at = start; at < literals.size() && open < start + 2; at++)
       if (!is_false(literals[at])) std::swap(literals[open++], literals[at]);
     if (literals.size() >= start + 2)
-      for (size_t at : {start, start + 1}) watches[slot(literals[at])].push_back(id);
+      for (size_t at : {start, start + 1}) watches[slot(literals[at])].push_back({id, literals[2 * start + 1 - at]});
     if (open == start) return id;
     if (open == start + 1 && !holds[slot(literals[start])]) assign(literals[start], id);
     return NONE;
@@ -107,7 +113,7 @@ public:
 private:
   std::vector<int32_t> literals; // of all clauses, and where each begins
   std::vector<size_t> starts{0};
-  std::vector<std::vector<Id>> needed_watches, watches; // by literal: the clauses that watch it; those that are needed apart from the others
+  std::vector<std::vector<Watch>> needed_watches, watches; // by literal; those of clauses that are needed apart from the others
   std::vector<bool> needed;
   std::vector<char> holds; // by literal
   std::vector<Id> reason; // by variable: the clause that assigned it, and its place in the trail
@@ -133,7 +139,7 @@ private:
     for (size_t next = second + 1; next < starts[id + 1]; next++) {
       if (is_false(literals[next])) continue;
       std::swap(literals[second], literals[next]);
-      (needed[id] ? needed_watches : watches)[slot(literals[second])].push_back(id);
+      (needed[id] ? needed_watches : watches)[slot(literals[second])].push_back({id, literals[second - 1]});
       return true;
     }
     return false;
@@ -142,19 +148,24 @@ private:
   // Goes through the clauses that watch a literal which became false.
   Id visit(size_t watched, Id limit, bool needed_first) {
     if (++steps % STEPS_BETWEEN == 0 && stop.terminate()) throw Stopped();
-    std::vector<Id> &list = (needed_first ? needed_watches : watches)[watched];
+    std::vector<Watch> &list = (needed_first ? needed_watches : watches)[watched];
     size_t kept = 0, at = 0;
     Id conflict = NONE;
     while (at < list.size() && conflict == NONE) {
-      Id id = list[at++];
+      Watch watch = list[at++];
+      Id id = watch.id;
       if (id >= limit) continue; // gone for good
+      if (holds[slot(watch.other)]) {
+        list[kept++] = watch;
+        continue;
+      }
       size_t start = starts[id];
       if (slot(literals[start]) == watched) std::swap(literals[start], literals[start + 1]);
       int32_t other = literals[start];
       bool settled = holds[slot(other)];
       if (!settled && watch_other(id)) continue;
-      if (!needed_first && needed[id]) needed_watches[watched].push_back(id);
-      else list[kept++] = id;
+      if (!needed_first && needed[id]) needed_watches[watched].push_back({id, other});
+      else list[kept++] = {id, other};
       if (settled) continue;
       if (is_false(other)) conflict = id;
       else assign(other, id);
