@@ -34,7 +34,7 @@ void certify(const Chip &chip, const Options &options, Refutation &refutation, V
   stop.at_certificate();
   try {
     Formula formula = formula_of(chip, property, options.depth);
-    Certificate made = elaborate(formula.numbers, refutation.lemmas(), formula.variables, stop);
+    Certificate made = elaborate(formula.numbers, refutation.lemmas(stop), formula.variables, stop);
     Checked checked = check(chip, property, options.depth, made);
     if (!checked.certified) fail(property, options.depth, "the lemma " + std::to_string(checked.lemma) + " that was made of it does not follow by its hints");
     write_certificate(options.certificate_file, made);
@@ -51,6 +51,7 @@ void certify(const Chip &chip, const Options &options, Refutation &refutation, V
 
 Verdict check_certificate(const Chip &chip, const Options &options, Stop &stop) {
   const Property &property = chip.properties[0];
+  stop.end_at_once(" while the certificate was checked; nothing is known of the property\n");
   Certificate read = read_certificate(options.check_file);
   Checked checked = check(chip, property, options.depth, read);
   if (!checked.certified)

@@ -88,16 +88,17 @@ void Refutation::add_unit(CaDiCaL::Solver &solver, int32_t literal) { units.push
 
 void Refutation::finish(CaDiCaL::Solver &solver) { written(solver); }
 
-std::vector<int32_t> Refutation::lemmas() {
+std::vector<int32_t> Refutation::lemmas(Stop &stop) {
   std::rewind(file);
   DratReader reader(file);
   std::vector<int32_t> made;
-  size_t next = 0;
+  size_t next = 0, lines = 0;
   auto put_units = [&] {
     for (; next < units.size() && units[next].place <= reader.place(); next++) made.insert(made.end(), {units[next].literal, 0});
   };
   do {
     put_units();
+    if (++lines % 4096 == 0 && stop.terminate()) throw Stopped();
     if (made.size() > MOST_NUMBERS) throw NoCertificate("it has more than " + std::to_string(MOST_NUMBERS) + " numbers, too many to be kept");
   } while (reader.next(made));
   if (next < units.size()) throw NoCertificate("it is shorter than it was");

@@ -8,6 +8,8 @@
 #include <string>
 #include <vector>
 
+#include "stop.h"
+
 class Refutation {
 public:
   Refutation();
@@ -23,8 +25,8 @@ public:
   // behind the last answer, while there is the solver
   void finish(CaDiCaL::Solver &solver);
 
-  // all lemmas in their order, each ended by 0
-  std::vector<int32_t> lemmas();
+  // All lemmas in their order, each ended by 0. It throws NoCertificate, and Stopped.
+  std::vector<int32_t> lemmas(Stop &stop);
 
 private:
   struct Unit {

@@ -28,6 +28,10 @@ public:
   void at_certificate();
   void clear_line();
 
+  // From here on a signal or the end of the time ends the command where it is, for a call that asks nobody: with these words on standard error and
+  // status STOPPED. Nothing may be left that has to be cleaned up.
+  void end_at_once(const char *words);
+
 private:
   Clock::time_point began, deadline;
   bool has_deadline, show_progress, line_is_shown = false;

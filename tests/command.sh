@@ -540,6 +540,25 @@ done
 check "out of time while the certificate is made" same "yes 30" "$between $status"
 check "out of time while the certificate is made: it is not written" [ ! -e "$work/none" ]
 
+# A certificate that would take hours to check: lemma 0 is 1 two million times, which follows from the first clause; lemma 1's hints name it as often.
+many() { # four bytes as printf takes them: two million of them
+  printf "$1" > "$work/many"
+  for _ in $(seq 21); do cat "$work/many" "$work/many" > "$work/more"; mv "$work/more" "$work/many"; done
+  cat "$work/many"
+}
+formula_of() { { printf '%10d\n' 0; cat "$work/files/chip.sheet"; } | "$FRAMES" | sed 1d; }
+place=$(formula_of | wc -w)
+check "the first clause is 1, and places below 256 are enough" same "1 0 yes" "$(formula_of | head -n 1) $([ "$place" -lt 256 ] && echo yes)"
+{ printf 'marrubigai certificate 1 %d %d\n' $((2097152 + 3)) $((2 + 1 + 2097152)); many '\1\0\0\0'; printf '\0\0\0\0\2\0\0\0\0\0\0\0'
+  printf '\1\0\0\0\0\0\0\0\0\0\40\0'; many "\\$(printf %o "$place")\\0\\0\\0"; } > "$work/files/slow"
+ends "out of time while a certificate is checked" 30 "" "out of time while the certificate was checked; nothing is known of the property" --timeout 1 -k 0 --check slow chip.sheet
+(cd "$work/files" && exec "$plain" -k 0 --check slow chip.sheet) > "$work/out" 2> "$work/err" &
+sleep 1
+kill -INT $!
+wait $!
+check "interrupted while a certificate is checked: status" same 30 $?
+check "interrupted while a certificate is checked" same "interrupted while the certificate was checked; nothing is known of the property" "$(cat "$work/out" "$work/err")"
+
 ### installed into a folder, and a use of what was installed
 check "it is installed" make --no-print-directory install DESTDIR="$work/root" PREFIX=/opt/m > "$work/make" 2>&1
 installed=$work/root/opt/m
