@@ -12,6 +12,11 @@ namespace {
 using Id = uint32_t;
 
 constexpr Id NONE = UINT32_MAX;
+
+// what a lemma cites: a clause, or the unit at a place of the trail
+using Cited = uint32_t;
+constexpr Cited UNIT = uint32_t{1} << 31;
+bool is_unit(Cited cited) { return cited & UNIT; }
 constexpr unsigned STEPS_BETWEEN = 1 << 10; // a look at the clock costs more than a step
 
 // A clause that watches a literal, and another literal of it: where that one is true, the clause need not be looked at.
@@ -28,7 +33,7 @@ class Propagation {
 public:
   Propagation(uint32_t variables, Stop &when)
       : needed_watches(2 * size_t{variables} + 2), watches(needed_watches.size()), holds(needed_watches.size()), reason(variables + 1, NONE),
-        place(variables + 1), seen(variables + 1), stop(when) {}
+        place(variables + 1), unit_needed(variables + 1), seen(variables + 1), stop(when) {}
 
   size_t count() const { return needed.size(); }
   size_t length() const { return trail.size(); }
@@ -72,21 +77,33 @@ public:
     }
   }
 
-  // A clause that becomes false where all of a lemma's literals are, by propagation through the clauses before it; none where it does not follow.
-  Id refute(const std::vector<int32_t> &lemma, Id limit) {
+  // What a lemma follows from, by propagation from its negation through the clauses before `limit`; nothing where it does not follow.
+  std::vector<Cited> derive(const std::vector<int32_t> &lemma, Id limit) {
+    size_t base = trail.size();
+    std::vector<Cited> cited;
+    Id conflict = NONE;
     for (int32_t literal : lemma) {
-      // a literal that is true already is made so by a clause in which it is then the last that is not false
-      if (holds[slot(literal)]) return reason[variable_of(literal)];
-      if (!is_false(literal)) assign(-literal, NONE);
+      if (is_false(literal)) continue;
+      if (holds[slot(literal)]) {
+        if (place[variable_of(literal)] < base) cited = {cite(place[variable_of(literal)])}; // else it has a literal and its opposite
+        break;
+      }
+      assign(-literal, NONE);
     }
-    return propagate(limit);
+    if (cited.empty()) conflict = propagate(limit);
+    if (conflict != NONE) cited = explain(conflict, lemma, base);
+    undo(base);
+    return cited;
   }
 
-  // The clauses that led to a clause becoming false, in their order, and that clause; all of them are needed. The lemma's own literals need none.
-  std::vector<Id> explain(Id conflict, const std::vector<int32_t> &lemma) {
+  // What led to a clause becoming false, in its order, and that clause; all of it is needed. What was assigned before place `base` is cited as units,
+  // which have reasons of their own; the lemma's own literals need none.
+  std::vector<Cited> explain(Id conflict, const std::vector<int32_t> &lemma, size_t base) {
     std::vector<uint32_t> places;
+    std::vector<Cited> cited;
     for (int32_t literal : lemma) seen[variable_of(literal)] = true;
-    std::vector<Id> open{conflict}, ids;
+    std::vector<Id> open{conflict};
+    std::vector<uint32_t> met;
     while (!open.empty()) {
       Id id = open.back();
       open.pop_back();
@@ -94,20 +111,37 @@ public:
         uint32_t variable = variable_of(literals[at]);
         if (seen[variable]) continue;
         seen[variable] = true;
-        places.push_back(place[variable]);
-        if (reason[variable] != NONE) open.push_back(reason[variable]);
+        met.push_back(variable);
+        if (place[variable] < base) {
+          cited.push_back(cite(place[variable]));
+        } else {
+          places.push_back(place[variable]);
+          open.push_back(reason[variable]);
+        }
       }
     }
-    std::sort(places.begin(), places.end());
-    for (uint32_t at : places) {
-      uint32_t variable = variable_of(trail[at]);
-      seen[variable] = false;
-      if (reason[variable] != NONE) ids.push_back(reason[variable]);
-    }
+    for (uint32_t variable : met) seen[variable] = false;
     for (int32_t literal : lemma) seen[variable_of(literal)] = false;
-    ids.push_back(conflict);
-    for (Id id : ids) needed[id] = true;
-    return ids;
+    std::sort(places.begin(), places.end());
+    for (uint32_t at : places) cited.push_back(reason[variable_of(trail[at])]);
+    cited.push_back(conflict);
+    for (Cited one : cited)
+      if (!is_unit(one)) needed[one] = true;
+    return cited;
+  }
+
+  bool is_cited(size_t at) const { return unit_needed[at]; }
+  int32_t literal(size_t at) const { return trail[at]; }
+
+  // what a unit of the trail follows from: the units of the other literals of the clause that assigned it, and the clause
+  std::vector<Cited> explain_unit(size_t at) {
+    std::vector<Cited> cited;
+    Id id = reason[variable_of(trail[at])];
+    for (size_t each = starts[id]; each < starts[id + 1]; each++)
+      if (literals[each] != trail[at]) cited.push_back(cite(place[variable_of(literals[each])]));
+    cited.push_back(id);
+    needed[id] = true;
+    return cited;
   }
 
 private:
@@ -118,13 +152,18 @@ private:
   std::vector<char> holds; // by literal
   std::vector<Id> reason; // by variable: the clause that assigned it, and its place in the trail
   std::vector<uint32_t> place;
-  std::vector<bool> seen;
+  std::vector<bool> unit_needed, seen; // by place in the trail; by variable
   std::vector<int32_t> trail;
   size_t through_needed = 0, through_all = 0; // how much of the trail is propagated, through needed clauses and through all
   Stop &stop;
   unsigned steps = 0;
 
   bool is_false(int32_t literal) const { return holds[slot(-literal)]; }
+
+  Cited cite(uint32_t at) {
+    unit_needed[at] = true;
+    return UNIT | at;
+  }
 
   void assign(int32_t literal, Id id) {
     holds[slot(literal)] = true;
@@ -216,34 +255,49 @@ Certificate elaborate(const std::vector<int32_t> &formula, const std::vector<int
 
   struct Derived {
     std::vector<int32_t> lemma;
-    std::vector<Id> hints;
-    Id id;
+    std::vector<Cited> cited;
+    Cited self;
   };
-  size_t hint_count = 0;
+  std::vector<Derived> derived; // the last one first
+  size_t hints = 0;
+  auto keep = [&](const std::vector<int32_t> &lemma, const std::vector<Cited> &cited, Cited self) {
+    derived.push_back({lemma, cited, self});
+    hints += cited.size() + 1;
+    if (hints > MOST_NUMBERS) throw NoCertificate("it needs more than " + std::to_string(MOST_NUMBERS) + " hints, too many to be kept");
+  };
+  auto keep_units = [&](size_t from) {
+    for (size_t at = state.length(); at-- > from;)
+      if (state.is_cited(at)) keep({state.literal(at)}, state.explain_unit(at), UNIT | static_cast<Cited>(at));
+    state.undo(from);
+  };
   Id first = static_cast<Id>(places.size());
-  std::vector<Derived> derived{{{}, state.explain(forward.conflict, {}), NONE}};
+  keep({}, state.explain(forward.conflict, {}, forward.lengths.back()), NONE);
   for (Id id = static_cast<Id>(state.count()); id-- > first;) {
-    state.undo(forward.lengths[id]);
+    keep_units(forward.lengths[id]);
     if (!state.is_needed(id)) continue;
     std::vector<int32_t> lemma = state.clause(id);
-    size_t length = state.length();
-    Id met = state.refute(lemma, id);
-    if (met == NONE) throw NoCertificate("its lemma " + std::to_string(id - first) + " does not follow by unit propagation");
-    derived.push_back({lemma, state.explain(met, lemma), id});
-    hint_count += derived.back().hints.size() + 1;
-    if (hint_count > MOST_NUMBERS) throw NoCertificate("it needs more than " + std::to_string(MOST_NUMBERS) + " hints, too many to be kept");
-    state.undo(length);
+    std::vector<Cited> cited = state.derive(lemma, id);
+    if (cited.empty()) throw NoCertificate("its lemma " + std::to_string(id - first) + " does not follow by unit propagation");
+    keep(lemma, cited, id);
   }
-  std::reverse(derived.begin(), derived.end());
+  keep_units(0);
 
   Certificate made;
   places.resize(state.count());
-  for (const Derived &one : derived) {
-    if (one.id != NONE) places[one.id] = formula.size() + made.lemmas.size();
-    made.lemmas.insert(made.lemmas.end(), one.lemma.begin(), one.lemma.end());
+  std::vector<size_t> unit_places(size_t{variables} + 1);
+  for (auto one = derived.rbegin(); one != derived.rend(); one++) {
+    size_t here = formula.size() + made.lemmas.size();
+    if (one->self != NONE && is_unit(one->self)) {
+      bool known = one->cited.size() == 1; // it is a clause already
+      unit_places[one->self & ~UNIT] = known ? places[one->cited[0]] : here;
+      if (known) continue;
+    } else if (one->self != NONE) {
+      places[one->self] = here;
+    }
+    made.lemmas.insert(made.lemmas.end(), one->lemma.begin(), one->lemma.end());
     made.lemmas.push_back(0);
-    made.hints.push_back(static_cast<uint32_t>(one.hints.size()));
-    for (Id id : one.hints) made.hints.push_back(static_cast<uint32_t>(places[id]));
+    made.hints.push_back(static_cast<uint32_t>(one->cited.size()));
+    for (Cited cited : one->cited) made.hints.push_back(static_cast<uint32_t>(is_unit(cited) ? unit_places[cited & ~UNIT] : places[cited]));
   }
   return made;
 }
