@@ -61,7 +61,8 @@ private:
 // a count without a leading zero, and what is behind it is left; above the most that is taken where it is none
 size_t count_at(const std::string &line, size_t &at) {
   size_t begin = at, value = 0;
-  for (; at < line.size() && line[at] >= '0' && line[at] <= '9'; at++) value = std::min(10 * value + static_cast<size_t>(line[at] - '0'), MOST_NUMBERS + 1);
+  for (; at < line.size() && line[at] >= '0' && line[at] <= '9'; at++)
+    value = std::min(10 * value + static_cast<size_t>(line[at] - '0'), MOST_NUMBERS + 1);
   bool good = at > begin && (line[begin] != '0' || at == begin + 1);
   return good ? value : MOST_NUMBERS + 1;
 }

@@ -36,7 +36,8 @@ void certify(const Chip &chip, const Options &options, Refutation &refutation, V
     Formula formula = formula_of(chip, property, options.depth);
     Certificate made = elaborate(formula.numbers, refutation.lemmas(stop), formula.variables, stop);
     Checked checked = check(chip, property, options.depth, made);
-    if (!checked.certified) fail(property, options.depth, "the lemma " + std::to_string(checked.lemma) + " that was made of it does not follow by its hints");
+    if (!checked.certified)
+      fail(property, options.depth, "the lemma " + std::to_string(checked.lemma) + " that was made of it does not follow by its hints");
     write_certificate(options.certificate_file, made);
     verdict.certified = Verdict::Certified{options.certificate_file, made.lemma_count(), made.hints.size()};
     verdict.seconds = stop.seconds();

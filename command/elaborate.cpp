@@ -1,11 +1,13 @@
 // Forward, the clauses are added one by one until unit propagation alone gives a conflict: the empty lemma follows there. Then backward, each lemma
 // that one behind it needs is derived by propagation from its negation through the clauses before it, those that are needed already first, and the
-// clauses that propagated on the way to the conflict are its hints. What the solver has deleted may be cited.
+// clauses that propagated on the way to the conflict are its hints. What was fixed before becomes a lemma of its own, a unit, once: no lemma repeats how
+// it came about. What the solver has deleted may be cited.
 
 #include "elaborate.h"
 
 #include <algorithm>
 #include <cstdlib>
+#include <utility>
 
 namespace {
 
@@ -15,8 +17,9 @@ constexpr Id NONE = UINT32_MAX;
 
 // what a lemma cites: a clause, or the unit at a place of the trail
 using Cited = uint32_t;
-constexpr Cited UNIT = uint32_t{1} << 31;
+constexpr Cited UNIT = uint32_t{1} << 31; // no clause has such a number
 bool is_unit(Cited cited) { return cited & UNIT; }
+
 constexpr unsigned STEPS_BETWEEN = 1 << 10; // a look at the clock costs more than a step
 
 // A clause that watches a literal, and another literal of it: where that one is true, the clause need not be looked at.
@@ -99,11 +102,10 @@ public:
   // What led to a clause becoming false, in its order, and that clause; all of it is needed. What was assigned before place `base` is cited as units,
   // which have reasons of their own; the lemma's own literals need none.
   std::vector<Cited> explain(Id conflict, const std::vector<int32_t> &lemma, size_t base) {
-    std::vector<uint32_t> places;
-    std::vector<Cited> cited;
-    for (int32_t literal : lemma) seen[variable_of(literal)] = true;
     std::vector<Id> open{conflict};
-    std::vector<uint32_t> met;
+    std::vector<Cited> cited;
+    std::vector<uint32_t> met, places; // variables; of those that are no units
+    for (int32_t literal : lemma) seen[variable_of(literal)] = true;
     while (!open.empty()) {
       Id id = open.back();
       open.pop_back();
@@ -214,12 +216,12 @@ private:
   }
 };
 
-// Adds the clauses of a list until there is a conflict; notes where each begins, and the trail's length before it.
+// Adds clauses until there is a conflict.
 class Forward {
 public:
   Forward(Propagation &propagation, uint32_t most) : state(propagation), variables(most) {}
-  std::vector<size_t> lengths;
-  std::vector<size_t> places; // in the list, of the last one added
+  std::vector<size_t> lengths; // of the trail, before each clause
+  std::vector<size_t> places; // of the clauses in the list that was added last
   Id conflict = NONE;
 
   void add(const std::vector<int32_t> &numbers) {
@@ -260,9 +262,9 @@ Certificate elaborate(const std::vector<int32_t> &formula, const std::vector<int
   };
   std::vector<Derived> derived; // the last one first
   size_t hints = 0;
-  auto keep = [&](const std::vector<int32_t> &lemma, const std::vector<Cited> &cited, Cited self) {
-    derived.push_back({lemma, cited, self});
+  auto keep = [&](std::vector<int32_t> lemma, std::vector<Cited> cited, Cited self) {
     hints += cited.size() + 1;
+    derived.push_back({std::move(lemma), std::move(cited), self});
     if (hints > MOST_NUMBERS) throw NoCertificate("it needs more than " + std::to_string(MOST_NUMBERS) + " hints, too many to be kept");
   };
   auto keep_units = [&](size_t from) {
@@ -278,7 +280,7 @@ Certificate elaborate(const std::vector<int32_t> &formula, const std::vector<int
     std::vector<int32_t> lemma = state.clause(id);
     std::vector<Cited> cited = state.derive(lemma, id);
     if (cited.empty()) throw NoCertificate("its lemma " + std::to_string(id - first) + " does not follow by unit propagation");
-    keep(lemma, cited, id);
+    keep(std::move(lemma), std::move(cited), id);
   }
   keep_units(0);
 

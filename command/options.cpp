@@ -149,7 +149,8 @@ void test_certificate_options(const Options &options) {
 } // namespace
 
 Options parse_options(int count, char **arguments) {
-  enum { FROM = 256, ANY, PROPERTY, COVER, START, TIMEOUT, TOP, RESET, MEMORY, WIDTHS, NAMES, RADIX, WATCH, VCD, JSON, KEEP, CONFIRM, CERTIFICATE, CHECK, HELP, VERSION };
+  enum { FROM = 256, ANY, PROPERTY, COVER, START, TIMEOUT, TOP, RESET, MEMORY, WIDTHS, NAMES, RADIX, WATCH, VCD, JSON, KEEP, CONFIRM,
+         CERTIFICATE, CHECK, HELP, VERSION };
   static const option known[] = {
       {"depth", required_argument, nullptr, 'k'},     {"from", required_argument, nullptr, FROM},
       {"any", no_argument, nullptr, ANY},             {"property", required_argument, nullptr, PROPERTY},
