@@ -34,7 +34,7 @@ void certify(const Chip &chip, const Options &options, Refutation &refutation, V
   stop.at_certificate();
   try {
     Formula formula = formula_of(chip, property, options.depth);
-    Certificate made = elaborate(formula.numbers, refutation.lemmas(stop), formula.variables, stop);
+    Certificate made = elaborate(formula.numbers, refutation.learnt(stop), formula.variables, stop);
     Checked checked = check(chip, property, options.depth, made);
     if (!checked.certified)
       fail(property, options.depth, "the lemma " + std::to_string(checked.lemma) + " that was made of it does not follow by its hints");

@@ -1,12 +1,14 @@
 // Forward, the clauses are added one by one until unit propagation alone gives a conflict: the empty lemma follows there. Then backward, each lemma
-// that one behind it needs is derived by propagation from its negation through the clauses before it, those that are needed already first, and the
-// clauses that propagated on the way to the conflict are its hints. What was fixed before becomes a lemma of its own, a unit, once: no lemma repeats how
-// it came about. What the solver has deleted may be cited.
+// that one behind it needs is derived by propagation from its negation through the clauses before it, and the clauses that propagated on the way to the
+// conflict are its hints: those that are needed already first, and those that the solver had deleted last. What was fixed before becomes a lemma of its
+// own, a unit, once: no lemma repeats how it came about.
 
 #include "elaborate.h"
 
 #include <algorithm>
+#include <array>
 #include <cstdlib>
+#include <unordered_map>
 #include <utility>
 
 namespace {
@@ -35,8 +37,9 @@ size_t slot(int32_t literal) { return 2 * size_t{variable_of(literal)} + (litera
 class Propagation {
 public:
   Propagation(uint32_t variables, Stop &when)
-      : needed_watches(2 * size_t{variables} + 2), watches(needed_watches.size()), holds(needed_watches.size()), reason(variables + 1, NONE),
-        place(variables + 1), unit_needed(variables + 1), seen(variables + 1), stop(when) {}
+      : holds(2 * size_t{variables} + 2), reason(variables + 1, NONE), place(variables + 1), unit_needed(variables + 1), seen(variables + 1), stop(when) {
+    for (auto &lists : watches) lists.resize(holds.size());
+  }
 
   size_t count() const { return needed.size(); }
   size_t length() const { return trail.size(); }
@@ -47,9 +50,11 @@ public:
 
   void undo(size_t kept) {
     for (; trail.size() > kept; trail.pop_back()) holds[slot(trail.back())] = false;
-    through_needed = std::min(through_needed, kept);
-    through_all = std::min(through_all, kept);
+    for (size_t &turn : through) turn = std::min(turn, kept);
   }
+
+  // from here on it is looked at last
+  void rest(Id id) { resting[id] = static_cast<Id>(count()); }
 
   // Adds a clause, without repeats: a literal that is not false is watched if there is one. The answer is the clause where all are false.
   Id add(const int32_t *begin, const int32_t *end) {
@@ -59,11 +64,12 @@ public:
       if (std::find(literals.begin() + static_cast<std::ptrdiff_t>(start), literals.end(), *begin) == literals.end()) literals.push_back(*begin);
     starts.push_back(literals.size());
     needed.push_back(false);
+    resting.push_back(NONE);
     size_t open = start;
     for (size_t at = start; at < literals.size() && open < start + 2; at++)
       if (!is_false(literals[at])) std::swap(literals[open++], literals[at]);
     if (literals.size() >= start + 2)
-      for (size_t at : {start, start + 1}) watches[slot(literals[at])].push_back({id, literals[2 * start + 1 - at]});
+      for (size_t at : {start, start + 1}) watches[ACTIVE][slot(literals[at])].push_back({id, literals[2 * start + 1 - at]});
     if (open == start) return id;
     if (open == start + 1 && !holds[slot(literals[start])]) assign(literals[start], id);
     return NONE;
@@ -71,13 +77,16 @@ public:
 
   // Propagates through the clauses before `limit`, which never goes up. The answer is a clause that became false, or none.
   Id propagate(Id limit) {
-    for (;;) {
-      bool needed_first = through_needed < trail.size();
-      size_t &turn = needed_first ? through_needed : through_all;
-      if (turn == trail.size()) return NONE;
-      Id conflict = visit(slot(-trail[turn++]), limit, needed_first);
+    for (size_t rank = 0; rank < RANKS;) {
+      if (through[rank] == trail.size()) {
+        rank++;
+        continue;
+      }
+      Id conflict = visit(slot(-trail[through[rank]++]), limit, rank);
       if (conflict != NONE) return conflict;
+      rank = 0;
     }
+    return NONE;
   }
 
   // What a lemma follows from, by propagation from its negation through the clauses before `limit`; nothing where it does not follow.
@@ -149,14 +158,17 @@ public:
 private:
   std::vector<int32_t> literals; // of all clauses, and where each begins
   std::vector<size_t> starts{0};
-  std::vector<std::vector<Watch>> needed_watches, watches; // by literal; those of clauses that are needed apart from the others
+  // In which turn a clause is looked at: those that are needed, the others, those that the solver had deleted.
+  enum { NEEDED, ACTIVE, RESTING, RANKS };
+  std::array<std::vector<std::vector<Watch>>, RANKS> watches; // by literal
   std::vector<bool> needed;
+  std::vector<Id> resting; // by clause: how many there were when it was deleted
   std::vector<char> holds; // by literal
   std::vector<Id> reason; // by variable: the clause that assigned it, and its place in the trail
   std::vector<uint32_t> place;
   std::vector<bool> unit_needed, seen; // by place in the trail; by variable
   std::vector<int32_t> trail;
-  size_t through_needed = 0, through_all = 0; // how much of the trail is propagated, through needed clauses and through all
+  std::array<size_t, RANKS> through{}; // how much of the trail is propagated
   Stop &stop;
   unsigned steps = 0;
 
@@ -174,22 +186,24 @@ private:
     trail.push_back(literal);
   }
 
+  size_t rank_of(Id id, Id limit) const { return needed[id] ? NEEDED : resting[id] < limit ? RESTING : ACTIVE; }
+
   // another literal to watch in place of the second; whether there is one
-  bool watch_other(Id id) {
+  bool watch_other(Id id, Id limit) {
     size_t second = starts[id] + 1;
     for (size_t next = second + 1; next < starts[id + 1]; next++) {
       if (is_false(literals[next])) continue;
       std::swap(literals[second], literals[next]);
-      (needed[id] ? needed_watches : watches)[slot(literals[second])].push_back({id, literals[second - 1]});
+      watches[rank_of(id, limit)][slot(literals[second])].push_back({id, literals[second - 1]});
       return true;
     }
     return false;
   }
 
   // Goes through the clauses that watch a literal which became false.
-  Id visit(size_t watched, Id limit, bool needed_first) {
+  Id visit(size_t watched, Id limit, size_t rank) {
     if (++steps % STEPS_BETWEEN == 0 && stop.terminate()) throw Stopped();
-    std::vector<Watch> &list = (needed_first ? needed_watches : watches)[watched];
+    std::vector<Watch> &list = watches[rank][watched];
     size_t kept = 0, at = 0;
     Id conflict = NONE;
     while (at < list.size() && conflict == NONE) {
@@ -204,9 +218,10 @@ private:
       if (slot(literals[start]) == watched) std::swap(literals[start], literals[start + 1]);
       int32_t other = literals[start];
       bool settled = holds[slot(other)];
-      if (!settled && watch_other(id)) continue;
-      if (!needed_first && needed[id]) needed_watches[watched].push_back({id, other});
-      else list[kept++] = {id, other};
+      if (!settled && watch_other(id, limit)) continue;
+      size_t due = rank_of(id, limit);
+      if (due == rank) list[kept++] = {id, other};
+      else watches[due][watched].push_back({id, other});
       if (settled) continue;
       if (is_false(other)) conflict = id;
       else assign(other, id);
@@ -224,12 +239,18 @@ public:
   std::vector<size_t> places; // of the clauses in the list that was added last
   Id conflict = NONE;
 
-  void add(const std::vector<int32_t> &numbers) {
+  void add(const std::vector<int32_t> &numbers, const std::vector<Learnt::Deletion> &deletions = {}) {
     places.clear();
+    auto deletion = deletions.begin();
     for (size_t begin = 0, end = 0; begin < numbers.size() && conflict == NONE; begin = end + 1) {
       for (end = begin; numbers[end] != 0; end++)
         if (numbers[end] == INT32_MIN || variable_of(numbers[end]) > variables)
           throw NoCertificate("clause " + std::to_string(lengths.size()) + " has a variable above " + std::to_string(variables));
+      for (; deletion != deletions.end() && deletion->behind <= places.size(); deletion++) {
+        auto found = by_key.find(deletion->key);
+        if (found != by_key.end()) state.rest(found->second);
+      }
+      by_key[clause_key(&numbers[begin], &numbers[end])] = static_cast<Id>(state.count());
       places.push_back(begin);
       lengths.push_back(state.length());
       conflict = state.add(&numbers[begin], &numbers[end]);
@@ -240,19 +261,29 @@ public:
 private:
   Propagation &state;
   uint32_t variables;
+  std::unordered_map<uint64_t, Id> by_key;
 };
 
 } // namespace
 
-Certificate elaborate(const std::vector<int32_t> &formula, const std::vector<int32_t> &lemmas, uint32_t variables, Stop &stop) {
-  size_t numbers = formula.size() + lemmas.size();
+uint64_t clause_key(const int32_t *begin, const int32_t *end) {
+  uint64_t key = 0;
+  for (; begin != end; begin++) {
+    uint64_t mixed = (static_cast<uint32_t>(*begin) + uint64_t{1}) * 0x9e3779b97f4a7c15;
+    key += (mixed ^ mixed >> 29) * 0xbf58476d1ce4e5b9;
+  }
+  return key;
+}
+
+Certificate elaborate(const std::vector<int32_t> &formula, const Learnt &learnt, uint32_t variables, Stop &stop) {
+  size_t numbers = formula.size() + learnt.numbers.size();
   if (numbers > MOST_NUMBERS) throw NoCertificate("formula and refutation have " + std::to_string(numbers) + " numbers, too many to be kept");
   if (stop.terminate()) throw Stopped();
   Propagation state(variables, stop);
   Forward forward(state, variables);
   forward.add(formula);
   std::vector<size_t> places = forward.places; // in the store, of each clause
-  forward.add(lemmas);
+  forward.add(learnt.numbers, learnt.deletions);
   if (forward.conflict == NONE) throw NoCertificate("it does not lead to a conflict");
 
   struct Derived {

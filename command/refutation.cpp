@@ -19,18 +19,19 @@ public:
   explicit DratReader(std::FILE *read) : file(read) {}
   uint64_t place() const { return at; } // of the next line
 
-  // Appends the next line's clause where it is added, and nothing where it is deleted; false at the end.
-  bool next(std::vector<int32_t> &lemmas) {
+  enum class Line { addition, deletion, end };
+  // the next line's clause
+  Line next(std::vector<int32_t> &clause) {
+    clause.clear();
     int kind = byte();
-    if (kind == EOF) return false;
+    if (kind == EOF) return Line::end;
     if (kind != 'a' && kind != 'd') throw NoCertificate("a line of it begins with the byte " + std::to_string(kind));
     for (uint32_t read; (read = number()) != 0;) {
       if (read == 1) throw NoCertificate("it has a literal without a variable");
       int32_t variable = static_cast<int32_t>(read / 2);
-      if (kind == 'a') lemmas.push_back(read % 2 ? -variable : variable);
+      clause.push_back(read % 2 ? -variable : variable);
     }
-    if (kind == 'a') lemmas.push_back(0);
-    return true;
+    return kind == 'a' ? Line::addition : Line::deletion;
   }
 
 private:
@@ -88,19 +89,26 @@ void Refutation::add_unit(CaDiCaL::Solver &solver, int32_t literal) { units.push
 
 void Refutation::finish(CaDiCaL::Solver &solver) { written(solver); }
 
-std::vector<int32_t> Refutation::lemmas(Stop &stop) {
+Learnt Refutation::learnt(Stop &stop) {
   std::rewind(file);
   DratReader reader(file);
-  std::vector<int32_t> made;
-  size_t next = 0, lines = 0;
-  auto put_units = [&] {
-    for (; next < units.size() && units[next].place <= reader.place(); next++) made.insert(made.end(), {units[next].literal, 0});
+  Learnt made;
+  size_t unit = 0, added = 0, lines = 0;
+  auto add = [&](const std::vector<int32_t> &clause) {
+    made.numbers.insert(made.numbers.end(), clause.begin(), clause.end());
+    made.numbers.push_back(0);
+    added++;
   };
-  do {
-    put_units();
+  std::vector<int32_t> clause;
+  for (;;) {
+    for (; unit < units.size() && units[unit].place <= reader.place(); unit++) add({units[unit].literal});
+    DratReader::Line line = reader.next(clause);
+    if (line == DratReader::Line::end) break;
+    if (line == DratReader::Line::addition) add(clause);
+    else made.deletions.push_back({clause_key(clause.data(), clause.data() + clause.size()), added});
     if (++lines % 4096 == 0 && stop.terminate()) throw Stopped();
-    if (made.size() > MOST_NUMBERS) throw NoCertificate("it has more than " + std::to_string(MOST_NUMBERS) + " numbers, too many to be kept");
-  } while (reader.next(made));
-  if (next < units.size()) throw NoCertificate("it is shorter than it was");
+    if (made.numbers.size() > MOST_NUMBERS) throw NoCertificate("it has more than " + std::to_string(MOST_NUMBERS) + " numbers, too many to be kept");
+  }
+  if (unit < units.size()) throw NoCertificate("it is shorter than it was");
   return made;
 }

@@ -8,6 +8,7 @@
 #include <string>
 #include <vector>
 
+#include "elaborate.h"
 #include "stop.h"
 
 class Refutation {
@@ -25,8 +26,8 @@ public:
   // behind the last answer, while there is the solver
   void finish(CaDiCaL::Solver &solver);
 
-  // All lemmas in their order, each ended by 0. It throws NoCertificate, and Stopped.
-  std::vector<int32_t> lemmas(Stop &stop);
+  // What the solver wrote, with the units in their places. It throws NoCertificate, and Stopped.
+  Learnt learnt(Stop &stop);
 
 private:
   struct Unit {

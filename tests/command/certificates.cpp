@@ -42,7 +42,7 @@ std::string damaged(std::string text) {
 // whether elaborating ends with these words; empty: with a certificate
 bool ends_with_words(const std::string &words, const std::vector<int32_t> &formula, const std::vector<int32_t> &lemmas, Stop &stop) {
   try {
-    elaborate(formula, lemmas, 3, stop);
+    elaborate(formula, {lemmas, {}}, 3, stop);
     return words.empty();
   } catch (const NoCertificate &problem) {
     return words == problem.what();
