@@ -33,7 +33,7 @@ public:
   std::vector<Verdict> run() {
     if (plan.any) ask_once();
     else ask_by_frame();
-    if (plan.refutation) plan.refutation->finish(solver);
+    if (plan.refutation && verdicts[0].kind == Verdict::Kind::holds) plan.refutation->finish(solver);
     return std::move(verdicts);
   }
 

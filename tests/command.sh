@@ -499,6 +499,13 @@ ends "the sheet as the certificate" 2 "" "the certificate would be written over 
 ends "the waveform as the certificate" 2 "" "the certificate would be written over the waveform both" --vcd both --certificate both chip.sheet
 ends "a certificate that cannot be written" 1 "" "none/x: it cannot be written" --certificate none/x chip.sheet
 TMPDIR=$work/none ends "no place for the refutation" 1 "" "$work/none: no file can be made there" -k 0 --certificate x chip.sheet
+limited() { # the size of files is, to 4 KB
+  (trap '' XFSZ; ulimit -f 4; "$sanitized" -q -k 6 --certificate "$work/none" examples/fifth-revision/repaired.sheet) > "$work/out" 2> "$work/err"
+}
+limited
+check "no room for the refutation: status" same 1 $?
+check "no room for the refutation: said" grep -q "^the solver's refutation could not be written: the disk is full, or a limit reached" "$work/err"
+check "no room for the refutation: nothing is written" [ ! -s "$work/out" -a ! -e "$work/none" ]
 mkdir "$work/tmp"
 TMPDIR=$work/tmp run -q -k 0 --certificate x chip.sheet
 check "no refutation is left behind" rmdir "$work/tmp"
@@ -530,11 +537,11 @@ check "damaged certificates, and solvers that lie" grep -qE '^[0-9]+ passed, 0 f
 # Out of time while the certificate is made: the search is over sooner than that, so that some time is between.
 run -q -k 0 --keep "$work/lookup" "$here/examples/verilog/lookup.v"
 between=no
-for time in 0.4 0.6 0.9 1.3 1.9 2.8 4 6 9; do
+for time in 0.1 0.15 0.2 0.3 0.4 0.6 0.9 1.3 1.9 2.8 4 6 9 13; do
   rm -f "$work/none"
-  run -q -k 14 --timeout $time --certificate "$work/none" "$work/lookup/1.sheet"
+  run -q -k 18 --timeout $time --certificate "$work/none" "$work/lookup/1.sheet"
   status=$?
-  grep -qxF "$work/lookup/1.sheet: the property: out of time while its certificate was made; it holds in frames 0 to 14, by the solver's word" "$work/out" && between=yes && break
+  grep -qxF "$work/lookup/1.sheet: the property: out of time while its certificate was made; it holds in frames 0 to 18, by the solver's word" "$work/out" && between=yes && break
   [ $status -eq 20 ] && break
 done
 check "out of time while the certificate is made" same "yes 30" "$between $status"
@@ -552,8 +559,8 @@ check "the first clause is 1, and places below 256 are enough" same "1 0 yes" "$
 { printf 'marrubigai certificate 1 %d %d\n' $((2097152 + 3)) $((2 + 1 + 2097152)); many '\1\0\0\0'; printf '\0\0\0\0\2\0\0\0\0\0\0\0'
   printf '\1\0\0\0\0\0\0\0\0\0\40\0'; many "\\$(printf %o "$place")\\0\\0\\0"; } > "$work/files/slow"
 ends "out of time while a certificate is checked" 30 "" "out of time while the certificate was checked; nothing is known of the property" --timeout 1 -k 0 --check slow chip.sheet
-(cd "$work/files" && exec "$plain" -k 0 --check slow chip.sheet) > "$work/out" 2> "$work/err" &
-sleep 1
+(cd "$work/files" && exec "$plain" --timeout 60 -k 0 --check slow chip.sheet) > "$work/out" 2> "$work/err" &
+sleep 2
 kill -INT $!
 wait $!
 check "interrupted while a certificate is checked: status" same 30 $?
