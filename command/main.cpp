@@ -2,8 +2,10 @@
 
 #include <csignal>
 #include <cstdio>
+#include <optional>
 
 #include "aiger.h"
+#include "certify.h"
 #include "confirm.h"
 #include "failure.h"
 #include "files.h"
@@ -60,7 +62,11 @@ std::vector<Chip> load(const Options &options, Stop &stop) {
 }
 
 Searched search_chip(const Chip &chip, const Options &options, Stop &stop) {
-  std::vector<Verdict> verdicts = search(chip, Plan{options.depth, options.from, options.any}, stop);
+  if (!options.check_file.empty()) return {chip, {check_certificate(chip, options, stop)}};
+  std::optional<Refutation> refutation;
+  if (!options.certificate_file.empty()) refutation.emplace();
+  std::vector<Verdict> verdicts = search(chip, Plan{options.depth, options.from, options.any, refutation ? &*refutation : nullptr}, stop);
+  if (refutation && verdicts[0].kind == Verdict::Kind::holds) certify(chip, options, *refutation, verdicts[0], stop);
   for (size_t p = 0; options.confirm && p < verdicts.size(); p++)
     if (verdicts[p].run) verdicts[p].confirmed = confirm(options, chip, chip.properties[p], *verdicts[p].run, stop);
   return {chip, verdicts};
@@ -70,6 +76,8 @@ int run(const Options &options) {
   Stop stop(options.timeout, !options.quiet);
   test_outputs(options);
   std::vector<Chip> chips = load(options, stop);
+  if (!options.certificate_file.empty()) test_one_property(chips, "--certificate");
+  if (!options.check_file.empty()) test_one_property(chips, "--check");
   if (!options.keep_folder.empty()) keep_sheets(chips, options.keep_folder);
   std::vector<Searched> searched;
   for (const Chip &chip : chips) searched.push_back(search_chip(chip, options, stop));

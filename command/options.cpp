@@ -22,6 +22,8 @@ const char *const help_text =
     "      --cover NAME        this cover statement alone; may be given again\n"
     "      --start WORD        every word of the memory begins as WORD; or `unknown`, or `verilog`: as the file says\n"
     "      --timeout SECONDS   stop then\n"
+    "      --certificate FILE  of one property: where it holds, write a certificate of that, which the proved library has checked\n"
+    "      --check FILE        no search: check such a certificate for this chip and depth\n"
     "Verilog, as yosys takes it\n"
     "      --top NAME          the top module\n"
     "  -D X[=V]                define a macro;  -I DIR  look for included files there;  -P NAME=VALUE  set a parameter of the top module\n"
@@ -131,10 +133,24 @@ std::string written(int count, char **arguments) {
   return at > 0 && at < count ? arguments[at] : "?";
 }
 
+void test_certificate_options(const Options &options) {
+  if (!options.certificate_file.empty() && options.from > 0) wrong("a certificate is about all frames from 0 on: --certificate goes without --from");
+  if (options.check_file.empty()) return;
+  auto without = [](bool given, const char *option) {
+    if (given) wrong(std::string("--check looks for no run: it goes without ") + option);
+  };
+  without(!options.certificate_file.empty(), "--certificate");
+  without(options.any, "--any");
+  without(options.from > 0, "--from");
+  without(!options.vcd_file.empty(), "--vcd");
+  without(options.confirm, "--confirm");
+}
+
 } // namespace
 
 Options parse_options(int count, char **arguments) {
-  enum { FROM = 256, ANY, PROPERTY, COVER, START, TIMEOUT, TOP, RESET, MEMORY, WIDTHS, NAMES, RADIX, WATCH, VCD, JSON, KEEP, CONFIRM, HELP, VERSION };
+  enum { FROM = 256, ANY, PROPERTY, COVER, START, TIMEOUT, TOP, RESET, MEMORY, WIDTHS, NAMES, RADIX, WATCH, VCD, JSON, KEEP, CONFIRM,
+         CERTIFICATE, CHECK, HELP, VERSION };
   static const option known[] = {
       {"depth", required_argument, nullptr, 'k'},     {"from", required_argument, nullptr, FROM},
       {"any", no_argument, nullptr, ANY},             {"property", required_argument, nullptr, PROPERTY},
@@ -145,7 +161,8 @@ Options parse_options(int count, char **arguments) {
       {"radix", required_argument, nullptr, RADIX},   {"watch", required_argument, nullptr, WATCH},
       {"vcd", required_argument, nullptr, VCD},       {"json", no_argument, nullptr, JSON},
       {"keep", required_argument, nullptr, KEEP},     {"quiet", no_argument, nullptr, 'q'},
-      {"confirm", no_argument, nullptr, CONFIRM},
+      {"confirm", no_argument, nullptr, CONFIRM},     {"certificate", required_argument, nullptr, CERTIFICATE},
+      {"check", required_argument, nullptr, CHECK},
       {"help", no_argument, nullptr, HELP},           {"version", no_argument, nullptr, VERSION},
       {nullptr, 0, nullptr, 0}};
   Options options;
@@ -179,6 +196,8 @@ Options parse_options(int count, char **arguments) {
     case JSON: options.json = true; break;
     case KEEP: options.keep_folder = file("--keep"); break;
     case CONFIRM: options.confirm = true; break;
+    case CERTIFICATE: options.certificate_file = file("--certificate"); break;
+    case CHECK: options.check_file = file("--check"); break;
     case 'q': options.quiet = true; break;
     case HELP: options.show_help = true; break;
     case VERSION: options.show_version = true; break;
@@ -191,5 +210,6 @@ Options parse_options(int count, char **arguments) {
   if (options.files.empty()) wrong("a file is wanted");
   if (options.from > options.depth) wrong("--from is above the depth");
   if (options.any && options.from > 0) wrong("--any asks about all frames at once: it goes without --from");
+  test_certificate_options(options);
   return options;
 }

@@ -43,6 +43,7 @@ struct Options {
   double timeout = 0; // seconds; 0 is none
   // what is shown
   std::string vcd_file, keep_folder;
+  std::string certificate_file, check_file; // to be written; to be checked
   Radix radix = Radix::hex;
   std::vector<std::string> watched;
   bool json = false, quiet = false, confirm = false;

@@ -2,30 +2,32 @@
 
 #include <algorithm>
 
+#include "certificate.h"
 #include "failure.h"
 #include "files.h"
-#include "refusals.h"
 #include "table.h"
 #include "waveform.h"
 
 void test_outputs(const Options &options) {
-  if (!options.vcd_file.empty()) {
-    std::vector<std::string> read = options.files;
-    if (!options.names_file.empty()) read.push_back(options.names_file);
+  std::vector<std::string> read = options.files;
+  if (!options.names_file.empty()) read.push_back(options.names_file);
+  auto test = [&](const std::string &path, const std::string &what) {
+    if (path.empty()) return;
     for (const std::string &file : read)
-      if (same_file(file, options.vcd_file)) throw Failure("the waveform would be written over " + file, USAGE);
-    test_writable(options.vcd_file);
-  }
+      if (same_file(file, path)) throw Failure(what + " would be written over " + file, USAGE);
+    test_writable(path);
+  };
+  test(options.vcd_file, "the waveform");
+  test(options.certificate_file, "the certificate");
+  bool both = !options.vcd_file.empty() && !options.certificate_file.empty();
+  if (both && (options.vcd_file == options.certificate_file || same_file(options.vcd_file, options.certificate_file)))
+    throw Failure("the certificate would be written over the waveform " + options.vcd_file, USAGE);
   if (!options.keep_folder.empty()) make_folder(options.keep_folder);
 }
 
 namespace {
 
 void keep_sheet(const Chip &chip, const Property &property, const std::string &stem) {
-  std::vector<uint8_t> sheet(MARRUBIGAI_SHEET_BYTES);
-  auto reply = marrubigai_write_sheet(chip.of(property), chip.latch_list(), chip.net.latches, chip.gate_list(), chip.net.gates, sheet.data(),
-                                      sheet.size());
-  if (reply.number != MARRUBIGAI_PASSED) throw Failure("the sheet could not be written: " + refusal_word(reply.number));
   std::string names;
   for (const Word &word : columns(chip, property)) {
     if (std::find(word.codes.begin(), word.codes.end(), NO_CODE) != word.codes.end()) continue; // it has a bit that the sheet has not
@@ -33,7 +35,7 @@ void keep_sheet(const Chip &chip, const Property &property, const std::string &s
     for (uint32_t code : word.codes) names += " " + std::to_string(code);
     names += "\n";
   }
-  write_file(stem + ".sheet", std::string(sheet.begin(), sheet.begin() + static_cast<std::ptrdiff_t>(reply.count)));
+  write_file(stem + ".sheet", sheet_of(chip, property));
   write_file(stem + ".names", names);
 }
 

@@ -11,13 +11,13 @@
 #define KIT_VERSION "an unnamed kit"
 #endif
 
-namespace {
-
 std::string subject(const Property &property) {
   if (property.kind == Property::Kind::property) return "the property";
   std::string named = (property.kind == Property::Kind::cover ? "cover " : "assert ") + property.name;
   return property.source.empty() || property.source == property.name ? named : named + " (" + property.source + ")";
 }
+
+namespace {
 
 std::string frames_text(uint32_t from, uint32_t count) {
   uint32_t last = from + count - 1;
@@ -29,7 +29,8 @@ std::string verdict_text(const Property &property, const Verdict &verdict, const
   bool cover = property.kind == Property::Kind::cover;
   bool earliest = !options.any && options.from == 0;
   std::string holds = cover ? " is not reached in " : " holds in ";
-  std::string safe = verdict.safe == 0 ? "" : frames_text(verdict.from, verdict.safe) + ", by the solver's word";
+  std::string word = verdict.certified ? ", certified" : ", by the solver's word";
+  std::string safe = verdict.safe == 0 ? "" : frames_text(verdict.from, verdict.safe) + word;
   switch (verdict.kind) {
   case Verdict::Kind::broken:
     return subject(property) + (cover ? " is reached" : " is broken") + (earliest ? "" : " first") + " in frame " +
@@ -37,7 +38,15 @@ std::string verdict_text(const Property &property, const Verdict &verdict, const
   case Verdict::Kind::holds: return subject(property) + holds + safe;
   case Verdict::Kind::stopped: break;
   }
-  return subject(property) + ": " + stopped + "; " + (safe.empty() ? "nothing is known of it" : "it" + holds + safe);
+  std::string when = verdict.certifying ? " while its certificate was made; " : "; ";
+  return subject(property) + ": " + stopped + when + (safe.empty() ? "nothing is known of it" : "it" + holds + safe);
+}
+
+// what a certified verdict rests on
+std::string certified_text(const Chip &chip, const Verdict::Certified &certified) {
+  std::string sheet = chip.bench.top.empty() ? "" : "; that the sheet which it is about is the design's has to be (--keep writes it)";
+  return certified.file + ", " + std::to_string(certified.lemmas) + " lemmas with " + std::to_string(certified.hints) +
+         " hints, was checked by marrubigai_certify, which is proved: no solver has to be believed" + sheet;
 }
 
 std::string quoted(const std::string &text) {
@@ -116,8 +125,11 @@ std::string property_json(const Searched &searched, size_t p, Radix radix) {
   if (!verdict.confirmed.empty()) text += ", \"simulator\": " + quoted(verdict.confirmed);
   if (verdict.safe > 0) {
     text += ", \"safe\": {\"from\": " + std::to_string(verdict.from) + ", \"to\": " + std::to_string(verdict.from + verdict.safe - 1) +
-            ", \"by\": \"solver\"}";
+            ", \"by\": \"" + (verdict.certified ? "certificate" : "solver") + "\"}";
   }
+  if (verdict.certified)
+    text += ", \"certificate\": {\"file\": " + quoted(verdict.certified->file) + ", \"lemmas\": " + std::to_string(verdict.certified->lemmas) +
+            ", \"hints\": " + std::to_string(verdict.certified->hints) + "}";
   char seconds[32];
   std::snprintf(seconds, sizeof seconds, "%.3f", verdict.seconds);
   text += std::string(", \"seconds\": ") + seconds;
@@ -159,6 +171,7 @@ std::string report_text(const Report &report) {
       bool shown = verdict.run && !options.quiet;
       if (shown && options.radix != Radix::dec) text += std::string(" (words in ") + radix_words[static_cast<int>(options.radix)] + ")";
       text += shown ? ":\n" + table(searched.chip, property, *verdict.run, options.radix) : "\n";
+      if (verdict.certified && !options.quiet) text += report.file() + ": note: " + certified_text(searched.chip, *verdict.certified) + "\n";
       if (!verdict.confirmed.empty()) text += report.file() + ": " + subject(property) + ": " + verdict.confirmed + "\n";
     }
   }

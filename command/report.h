@@ -23,6 +23,9 @@ struct Report {
   const std::string &file() const { return options.files[0]; }
 };
 
+// a property in a sentence, as `assert no_nine (chip.v:11)`
+std::string subject(const Property &property);
+
 std::string report_text(const Report &report);
 std::string report_json(const Report &report);
 int exit_status(const Report &report);

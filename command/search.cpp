@@ -22,6 +22,7 @@ public:
     // Many short calls gain from neither stable phases nor local search; docs/COMMAND.md has what was measured.
     solver.set("stabilize", 0);
     solver.set("walk", 0);
+    if (plan.refutation) plan.refutation->trace(solver);
     solver.connect_terminator(&stop);
     for (Verdict &verdict : verdicts) verdict.from = plan.from;
   }
@@ -32,6 +33,7 @@ public:
   std::vector<Verdict> run() {
     if (plan.any) ask_once();
     else ask_by_frame();
+    if (plan.refutation && verdicts[0].kind == Verdict::Kind::holds) plan.refutation->finish(solver);
     return std::move(verdicts);
   }
 
@@ -107,6 +109,7 @@ private:
           continue;
         }
         if (answer != UNSATISFIABLE) return;
+        if (plan.refutation) plan.refutation->add_unit(solver, -broken);
         solver.add(-broken); // it follows from the clauses that are there
         solver.add(0);
         verdict.safe++;
@@ -126,12 +129,13 @@ private:
     auto heading = marrubigai_heading(chip.net, chip.latch_list(), chip.net.latches, chip.gate_list(), chip.net.gates, plan.depth);
     test(heading.number, heading.place);
     for (size_t p = 0; p < verdicts.size(); p++) {
-      // a variable of our own, behind those of the formula, that switches the property's clause on
-      int32_t asked = static_cast<int32_t>(heading.variables + 1 + p);
-      solver.add(-asked);
+      // A variable of our own, behind those of the formula, that switches the property's clause on; a single property's is on. So a refutation is one
+      // of the formula.
+      int32_t asked = verdicts.size() == 1 ? 0 : static_cast<int32_t>(heading.variables + 1 + p);
+      if (asked) solver.add(-asked);
       for (const marrubigai_position &frame : frames) solver.add(violation(chip.properties[p], frame));
       solver.add(0);
-      solver.assume(asked);
+      if (asked) solver.assume(asked);
       int answer = solver.solve();
       if (answer == SATISFIABLE) {
         take_model(verdicts[p], chip.properties[p]);

@@ -6,13 +6,20 @@
 #include <vector>
 
 #include "chip.h"
+#include "refutation.h"
 #include "run.h"
 #include "stop.h"
 
 struct Verdict {
   enum class Kind { broken, holds, stopped } kind = Kind::stopped;
-  // The frames that were asked about and that no run breaks the property in, by the solver's word: from `from`, so many.
+  // The frames that were asked about and that no run breaks the property in, from `from`, so many: by the solver's word, unless it is certified.
   uint32_t from = 0, safe = 0;
+  struct Certified {
+    std::string file;
+    size_t lemmas = 0, hints = 0;
+  };
+  std::optional<Certified> certified;
+  bool certifying = false; // it was stopped while its certificate was made
   std::optional<Run> run; // of a broken property
   std::string confirmed; // what a simulator says of the run, where it was asked
   double seconds = 0;
@@ -21,6 +28,7 @@ struct Verdict {
 struct Plan {
   uint32_t depth = 50, from = 0;
   bool any = false; // ask once about all frames
+  Refutation *refutation = nullptr; // where the solver writes its reasons, of a chip with one property
 };
 
 // A verdict for each property of the chip, in its order.

@@ -25,12 +25,18 @@ public:
 
   // The progress line, on a terminal alone and rewritten in place.
   void at_frame(uint32_t frame, uint32_t depth);
+  void at_certificate();
   void clear_line();
+
+  // From here on a signal or the end of the time ends the command where it is, for a call that asks nobody: with these words on standard error and
+  // status STOPPED. Nothing may be left that has to be cleaned up.
+  void end_at_once(const char *words);
 
 private:
   Clock::time_point began, deadline;
   bool has_deadline, show_progress, line_is_shown = false;
   Clock::time_point shown_at{};
   uint32_t frame = 0, depth = 0;
+  bool certifying = false;
   void show_line();
 };

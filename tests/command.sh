@@ -421,6 +421,151 @@ check "JSON of a design" same "20 counts 3 3 0 assert holds histogram.v:24 cover
   "$(echo $(value status; value chips 0 memory name; value chips 0 memory address_bits; value chips 0 memory data_bits; value chips 0 memory start
     for at in kind verdict source; do value chips 0 properties 0 $at; done; for at in kind verdict; do value chips 0 properties 1 $at; done))"
 
+### certificates: what holds is certified, and again by the file alone
+certified() { # what, what is said, options and file ..; once: how it is searched
+  local what=$1 said=$2
+  shift 2
+  rm -f "$work/made"
+  run -q ${once-} --certificate "$work/made" "$@"
+  check "$what, certified: status" same 20 $?
+  check "$what, certified" same "$said, certified" "$(cat "$work/out")"
+  run -q --check "$work/made" "$@"
+  check "$what, checked: status" same 20 $?
+  check "$what, checked" same "$said, certified" "$(cat "$work/out")"
+}
+not_certified() { # what, options and file ..
+  local what=$1
+  shift
+  run -q --check "$work/made" "$@"
+  check "$what is not certified: status" same 1 $?
+  check "$what is not certified: said" grep -qE "^$work/made: this does not certify that .* in the frames 0 to [0-9]+: of its [0-9]+ lemmas, the one numbered [0-9]+ from 0 is the first" "$work/err"
+  check "$what is not certified: nothing else" [ ! -s "$work/out" ]
+}
+folder=$designs
+certified "a design" "carton_counter.v: assert carton_counter.v:44 holds in frames 0 to 4" -k 4 carton_counter.v
+not_certified "a design with a fault" -k 4 -D FAULTY carton_counter.v
+not_certified "another depth" -k 5 carton_counter.v
+not_certified "a lower depth" -k 3 carton_counter.v
+not_certified "another start" -k 4 --start 1 carton_counter.v
+run -q -k 0 --keep "$work/held" carton_counter.v
+check "the sheet that it is about" same "$work/held/1.sheet: the property holds in frames 0 to 4, certified" "$("$plain" -q -k 4 --check "$work/made" "$work/held/1.sheet")"
+certified "a design with two ports" "queue.v: assert queue.v:42 holds in frames 0 to 5" -k 5 -P BITS=2 -P WIDTH=4 queue.v
+not_certified "a design with two ports and a fault" -k 5 -P BITS=2 -P WIDTH=4 -D FAULTY queue.v
+certified "a design that begins unknown" "registers.v: assert registers.v:33 holds in frames 0 to 4" -k 4 registers.v
+not_certified "a design that begins unknown, with a fault" -k 4 -D FAULTY registers.v
+once=--any certified "a design with a reset, asked once" "cache.v: assert cache.v:43 holds in frames 0 to 6" -k 6 --property cache.v:43 --reset reset -P INDEX=2 -P TAG=3 cache.v
+certified "a cover" "cache.v: cover cache.v:44 is not reached in frames 0 to 3" -k 3 --cover cache.v:44 --reset reset -P INDEX=2 -P TAG=3 cache.v
+several="a certificate is about one property; choose by --property histogram.v:24, --cover histogram.v:25"
+ends "a certificate of several" 2 "" "--certificate: $several" --certificate "$work/none" histogram.v
+ends "a check of several" 2 "" "--check: $several" --check "$work/made" histogram.v
+certified "one of several" "histogram.v: assert histogram.v:24 holds in frames 0 to 9" -k 9 --property histogram.v:24 histogram.v
+folder=$here
+for revision in fourth fifth sixth seventh; do
+  sheet=examples/$revision-revision/repaired.sheet
+  certified "$sheet" "$sheet: the property holds in frames 0 to 6" -k 6 $sheet
+  for fault in examples/$revision-revision/{faulty,unknown}.sheet; do [ -e "$fault" ] && not_certified "$fault" -k 6 "$fault"; done
+done
+sheet=examples/sixth-revision/repaired.sheet
+check "that sheet begins unknown" same "M         3         8" "$(sed -n 2p $sheet | sed 's/ *$//')"
+once=--any certified "a sheet that begins unknown, asked once" "$sheet: the property holds in frames 0 to 6" -k 6 $sheet
+unset folder
+certified "one frame" "chip.sheet: the property holds in frame 0" -k 0 chip.sheet
+certified "a text" "cut.aag: the property holds in frames 0 to 4" -k 4 --start 0 cut.aag
+{ line N 0 0 0; line M 1 1 0; line A 0; line D 0; line C 0 0 1; } > "$work/files/true.sheet"
+certified "a property that is a constant" "true.sheet: the property holds in frames 0 to 2" -k 2 true.sheet
+run -k 4 --certificate "$work/made" "$here/examples/fifth-revision/repaired.sheet"
+check "what it rests on is told" grep -qE "repaired.sheet: note: $work/made, [0-9]+ lemmas with [0-9]+ hints, was checked by marrubigai_certify, which is proved: no solver has to be believed$" "$work/out"
+(cd "$designs" && "$sanitized" -k 4 --certificate "$work/made" carton_counter.v) > "$work/out"
+check "what it rests on of Verilog" grep -q "no solver has to be believed; that the sheet which it is about is the design's has to be (--keep writes it)$" "$work/out"
+for way in certificate check; do
+  run --json -k 4 --$way "$work/made" "$here/examples/fifth-revision/repaired.sheet"
+  check "JSON of a certificate, --$way" same "20 holds 0 4 certificate $work/made" "$(echo $(value status; value chips 0 properties 0 verdict; for at in from to by; do value chips 0 properties 0 safe $at; done
+    value chips 0 properties 0 certificate file))"
+done
+run -q -k 4 "$here/examples/fifth-revision/repaired.sheet"
+check "without a certificate it is the solver's word" grep -q ", by the solver's word$" "$work/out"
+rm -f "$work/none"
+run -q --certificate "$work/none" chip.sheet
+check "what is broken has no certificate: status" same 10 $?
+check "what is broken has no certificate" [ ! -e "$work/none" ]
+
+# the command line, and files that are no certificates
+from="a certificate is about all frames from 0 on: --certificate goes without --from"
+wrong "a certificate from frame 1" "$from" --from 1 --certificate x chip.sheet
+for option in "--certificate y" --any "--from 1" "--vcd y" --confirm; do
+  wrong "--check and $option" "--check looks for no run: it goes without ${option% *}" --check x $option chip.sheet
+done
+ends "the sheet as the certificate" 2 "" "the certificate would be written over chip.sheet" --certificate chip.sheet chip.sheet
+ends "the waveform as the certificate" 2 "" "the certificate would be written over the waveform both" --vcd both --certificate both chip.sheet
+ends "a certificate that cannot be written" 1 "" "none/x: it cannot be written" --certificate none/x chip.sheet
+TMPDIR=$work/none ends "no place for the refutation" 1 "" "$work/none: no file can be made there" -k 0 --certificate x chip.sheet
+limited() { # the size of files is, to 4 KB
+  (trap '' XFSZ; ulimit -f 4; "$sanitized" -q -k 6 --certificate "$work/none" examples/fifth-revision/repaired.sheet) > "$work/out" 2> "$work/err"
+}
+limited
+check "no room for the refutation: status" same 1 $?
+check "no room for the refutation: said" grep -q "^the solver's refutation could not be written: the disk is full, or a limit reached" "$work/err"
+check "no room for the refutation: nothing is written" [ ! -s "$work/out" -a ! -e "$work/none" ]
+mkdir "$work/tmp"
+TMPDIR=$work/tmp run -q -k 0 --certificate x chip.sheet
+check "no refutation is left behind" rmdir "$work/tmp"
+no() { # what, file, why
+  ends "$1" 1 "" "$2: this is no certificate: $3" -k 0 --check "$2" chip.sheet
+}
+first="it does not begin with a line 'marrubigai certificate 1' and two numbers"
+counts="its first line is not 'marrubigai certificate 1' and two numbers up to 536870912"
+no "an empty certificate" empty "$first"
+no "a sheet as a certificate" chip.sheet "$counts"
+no "a file without an end" /dev/zero "$first"
+ends "a missing certificate" 1 "" "none: it cannot be opened: No such file" -k 0 --check none chip.sheet
+ends "a folder as a certificate" 1 "" ".: it cannot be read: Is a directory" -k 0 --check . chip.sheet
+heading() { printf 'marrubigai certificate 1%s\n%s' "$1" "$2" > "$work/files/bad"; }
+for counts_of in "" " 1" " 1 " " 1 1 " "  1 1" " 01 1" " -1 1" " 1 1x" " 536870913 1" " 99999999999999999999 1" " 1 99999999999999999999999"; do
+  heading "$counts_of" ""; no "a certificate of '$counts_of'" bad "$counts"
+done
+printf 'marrubigai certificate 2 0 0\n' > "$work/files/bad"; no "a certificate of another form" bad "$counts"
+heading " 536870912 536870912" abcdefg; no "a short certificate" bad "it is shorter than its first line says"
+heading " 1 1" abcdefghi; no "a long certificate" bad "it is longer than its first line says"
+heading " 0 0" ""; cp "$work/files/bad" "$work/made"
+not_certified "nothing" -k 0 chip.sheet
+check "the other damager is built" tool certificates
+run -q -k 2 --certificate "$work/made" "$here/examples/fifth-revision/repaired.sheet"
+"$work/certificates" 400 "${SEED:-1}" examples/fifth-revision/repaired.sheet examples/fifth-revision/faulty.sheet 2 "$work/made" "$work/scratch" > "$work/hostile.out" 2>&1
+check "damaged certificates, and solvers that lie: status" same 0 $?
+check "damaged certificates, and solvers that lie" grep -qE '^[0-9]+ passed, 0 failed$' "$work/hostile.out"
+
+# Out of time while the certificate is made: the search is over sooner than that, so that some time is between.
+run -q -k 0 --keep "$work/lookup" "$here/examples/verilog/lookup.v"
+between=no
+for time in 0.1 0.15 0.2 0.3 0.4 0.6 0.9 1.3 1.9 2.8 4 6 9 13; do
+  rm -f "$work/none"
+  run -q -k 18 --timeout $time --certificate "$work/none" "$work/lookup/1.sheet"
+  status=$?
+  grep -qxF "$work/lookup/1.sheet: the property: out of time while its certificate was made; it holds in frames 0 to 18, by the solver's word" "$work/out" && between=yes && break
+  [ $status -eq 20 ] && break
+done
+check "out of time while the certificate is made" same "yes 30" "$between $status"
+check "out of time while the certificate is made: it is not written" [ ! -e "$work/none" ]
+
+# A certificate that would take hours to check: lemma 0 is 1 two million times, which follows from the first clause; lemma 1's hints name it as often.
+many() { # four bytes as printf takes them: two million of them
+  printf "$1" > "$work/many"
+  for _ in $(seq 21); do cat "$work/many" "$work/many" > "$work/more"; mv "$work/more" "$work/many"; done
+  cat "$work/many"
+}
+formula_of() { { printf '%10d\n' 0; cat "$work/files/chip.sheet"; } | "$FRAMES" | sed 1d; }
+place=$(formula_of | wc -w)
+check "the first clause is 1, and places below 256 are enough" same "1 0 yes" "$(formula_of | head -n 1) $([ "$place" -lt 256 ] && echo yes)"
+{ printf 'marrubigai certificate 1 %d %d\n' $((2097152 + 3)) $((2 + 1 + 2097152)); many '\1\0\0\0'; printf '\0\0\0\0\2\0\0\0\0\0\0\0'
+  printf '\1\0\0\0\0\0\0\0\0\0\40\0'; many "\\$(printf %o "$place")\\0\\0\\0"; } > "$work/files/slow"
+ends "out of time while a certificate is checked" 30 "" "out of time while the certificate was checked; nothing is known of the property" --timeout 1 -k 0 --check slow chip.sheet
+(cd "$work/files" && exec "$plain" --timeout 60 -k 0 --check slow chip.sheet) > "$work/out" 2> "$work/err" &
+sleep 2
+kill -INT $!
+wait $!
+check "interrupted while a certificate is checked: status" same 30 $?
+check "interrupted while a certificate is checked" same "interrupted while the certificate was checked; nothing is known of the property" "$(cat "$work/out" "$work/err")"
+
 ### installed into a folder, and a use of what was installed
 check "it is installed" make --no-print-directory install DESTDIR="$work/root" PREFIX=/opt/m > "$work/make" 2>&1
 installed=$work/root/opt/m

@@ -1,0 +1,35 @@
+// From a solver's refutation to lemmas and hints (RULES U3). Nobody believes it: what it makes is checked by the library.
+#pragma once
+
+#include <cstdint>
+#include <stdexcept>
+#include <string>
+#include <vector>
+
+#include "certificate.h"
+#include "stop.h"
+
+// why there is no certificate: the refutation does not lead to a conflict, or is too large
+struct NoCertificate : std::runtime_error {
+  using std::runtime_error::runtime_error;
+};
+
+// it was time to stop
+struct Stopped {};
+
+// What a solver wrote: the clauses that it added, each ended by 0, and those that it deleted, by their keys. A deletion only says that a clause is
+// probably of no use from then on.
+struct Learnt {
+  struct Deletion {
+    uint64_t key;
+    size_t behind; // so many of the clauses that were added
+  };
+  std::vector<int32_t> numbers;
+  std::vector<Deletion> deletions;
+};
+
+// the same for the same literals in any order
+uint64_t clause_key(const int32_t *begin, const int32_t *end);
+
+// Lemmas and hints from a formula's numbers, clauses ended by 0 each, and what a solver learnt of it.
+Certificate elaborate(const std::vector<int32_t> &formula, const Learnt &learnt, uint32_t variables, Stop &stop);
