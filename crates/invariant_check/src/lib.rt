@@ -1,5 +1,5 @@
-// That the property holds for ever, as an answer that is proved (RULES H1 to H6): an inductive invariant is tested at the start, the clauses of one step under it go into a
-// lent store, the lemmas of a refutation behind them, and these are checked by their hints. Nothing that is lent is believed.
+// That the property holds for ever, as an answer that is proved (RULES H1 to H6): an inductive invariant is tested at the start, the clauses of one
+// step under it go into a lent store, the lemmas of a refutation behind them, and these are checked by their hints. Nothing that is lent is believed.
 use netlist::Netlist;
 use netlist::UnpackedList;
 use refusals::Refusal;
@@ -14,7 +14,7 @@ ghost use Rattle.model.specs.Acceptance.{SizesFit};
 ghost use Rattle.model.specs.Wrote.{over};
 ghost use Rattle.refusals.specs.Slices.{testRoom, contentsAfter};
 ghost use Rattle.netlist.specs.NetOf.{netOf, alone};
-ghost use Rattle.refutation_depth.specs.Certificate.{refusedWith, certificateReply};
+ghost use Rattle.refutation_depth.specs.Certificate.{certificateReply, KeptAtRefusal};
 ghost use Rattle.invariant_formula.specs.Formula.{stepFormula};
 ghost use Rattle.invariant_check.specs.Forever.{CertifiedForever};
 ghost use Rattle.invariant_check.specs.ForeverCall.{storeNeed, stepFound, foreverSent, foreverStore};
@@ -63,38 +63,6 @@ fn check_step(
     Checked::Unjustified(0)
 }
 
-// What is sent back of a refusal.
-fn refused(number: u32, place: u32) -> CertificateReply
-    ensures { λ r. ⌜ r ≡ refusedWith number place ⌝ }
-{
-    CertificateReply {
-        number,
-        place,
-        certified: 0,
-        lemma: 0,
-    }
-}
-
-// What is sent back of a check.
-fn reply_of(found: Checked) -> CertificateReply
-    ensures { λ r. ⌜ r ≡ certificateReply Verdict.Passed found ⌝ }
-{
-    match found {
-        Checked::Refuted => CertificateReply {
-            number: 0,
-            place: 0,
-            certified: 1,
-            lemma: 0,
-        },
-        Checked::Unjustified(lemma) => CertificateReply {
-            number: 0,
-            place: 0,
-            certified: 0,
-            lemma,
-        },
-    }
-}
-
 // Tests the room, and checks a refutation of the step. At a refusal store and marks are as they were; else what is left in the marks is scratch.
 fn certify_net(
     net: Netlist,
@@ -112,13 +80,13 @@ fn certify_net(
         (stepFound (netOf net (now (latches .entry)) (now (gates .entry))) (now (invariant .entry)) (now (requests .entry)) (now (lemmas .entry)) (now (hints .entry)) (length (now (marks .entry)))) ⌝ }
     ensures store { λ _. ⌜ now (store .exit) ≡ contentsAfter (testRoom (storeNeed (length (now (invariant .entry))) (length (now (requests .entry))) (length (now (lemmas .entry)))) (length (now (store .entry))))
         (stepFormula (netOf net (now (latches .entry)) (now (gates .entry))) (now (invariant .entry)) (now (requests .entry)) ++ now (lemmas .entry)) (now (store .entry)) ⌝ }
-    ensures marks { λ r. ⌜ ((r .number ≡ 0 → ⊥) → now (marks .exit) ≡ now (marks .entry)) ⌝ }
+    ensures marks { λ r. ⌜ KeptAtRefusal r (now (marks .entry)) (now (marks .exit)) ⌝ }
 {
     let need = requests.len() / 3 * 5 + invariant.len() + lemmas.len();
     if store.len() < need {
-        return refused(refusals::number(Refusal::NoRoom), 0);
+        return refutation_depth::refused(refusals::number(Refusal::NoRoom), 0);
     }
-    reply_of(check_step(
+    refutation_depth::reply_of(check_step(
         net,
         latches,
         gates,
@@ -144,14 +112,14 @@ pub fn certify_forever(
     ensures answer { λ r. ⌜ r ≡ foreverSent (now (file .entry)) (now (invariant .entry)) (now (requests .entry)) (now (lemmas .entry)) (now (hints .entry)) (length (now (store .entry))) (length (now (marks .entry))) ⌝ }
     ensures certified { λ r. ⌜ (r .certified ≡ 1 → CertifiedForever (now (file .entry))) ⌝ }
     ensures store { λ _. ⌜ now (store .exit) ≡ foreverStore (now (file .entry)) (now (invariant .entry)) (now (requests .entry)) (now (lemmas .entry)) (now (store .entry)) ⌝ }
-    ensures marks { λ r. ⌜ ((r .number ≡ 0 → ⊥) → now (marks .exit) ≡ now (marks .entry)) ⌝ }
+    ensures marks { λ r. ⌜ KeptAtRefusal r (now (marks .entry)) (now (marks .exit)) ⌝ }
 {
     let mut latches = sheet_tests::no_codes();
     let mut gates = sheet_tests::no_codes();
     let sheet = sheet_tests::read_codes(file, 600, 600, &mut latches, &mut gates);
     let verdict = sheet.verdict;
     if let Verdict::Refused(refusal, place) = verdict {
-        return refused(refusals::number(refusal), place);
+        return refutation_depth::refused(refusals::number(refusal), place);
     }
     certify_net(
         sheet.net,

@@ -104,7 +104,7 @@ fn check_depth(
 }
 
 // What is sent back of a refusal.
-fn refused(number: u32, place: u32) -> CertificateReply
+pub fn refused(number: u32, place: u32) -> CertificateReply
     ensures { λ r. ⌜ r ≡ refusedWith number place ⌝ }
 {
     CertificateReply {
@@ -116,7 +116,7 @@ fn refused(number: u32, place: u32) -> CertificateReply
 }
 
 // What is sent back of a check.
-fn reply_of(found: Checked) -> CertificateReply
+pub fn reply_of(found: Checked) -> CertificateReply
     ensures { λ r. ⌜ r ≡ certificateReply Verdict.Passed found ⌝ }
 {
     match found {
