@@ -25,7 +25,7 @@ use Rattle.sheet_steps.specs.LineFaults.{faultsAt}
 use Rattle.sheet_parse.specs.Files.{lineIn, sizesIn, netOfLines, netIn}
 use Rattle.sheet_parse.specs.FileTests.{ragged, notDue, testLineIn}
 use Rattle.sheet_tests.specs.Sheet.{endVerdict, fileVerdict, sheetVerdict}
-use Rattle.calls.specs.Starred.{sheet, loopSheet, net, rows, Starred}
+use Rattle.calls.specs.Starred.{sheet, net, rows, Starred}
 
 pub starred : Starred
 unfolding odd bit sweep isRead eitherWire dependsOnRead neg gather gatherDown andClauses sameIfClauses bitClauses addressBitClauses unequalOf allBits
@@ -35,5 +35,5 @@ unfolding odd bit sweep isRead eitherWire dependsOnRead neg gather gatherDown an
     recordVerdict testDepth testGroup testRoom groupVerdict headingVerdict digitsWithin digits field sameText
     valueAfter numberIn dropSpaces filledWith behindSpaces fieldOf kindOf contentOf fieldIn allAsWanted lineWith lineOf
     depthField fieldVerdict depthVerdict faultsAt lineIn sizesIn netOfLines netIn ragged notDue testLineIn endVerdict
-    fileVerdict sheetVerdict sheet loopSheet net rows
+    fileVerdict sheetVerdict sheet net rows
 starred = refl

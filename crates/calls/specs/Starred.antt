@@ -3,35 +3,32 @@
 use Prim.Native.Nat.{ℕ}
 use mathlib.Core.Path.{_≡_}
 use mathlib.Core.List.{List, [], _∷_, _++_, map}
-use lib.ListN.{length, set}
+use lib.ListN.{length}
 use Rattle.model.specs.Netlist.{Netlist}
 use Rattle.model.specs.Variables.{base}
 use Rattle.model.specs.Numbers.{numbersOf, formula, clausesIn}
 use Rattle.model.specs.declared.Group.the-variants.{Pair}
 use Rattle.refusals.specs.Refusal.{replyOf}
 use Rattle.refusals.specs.declared.Verdict.{Verdict}
-use Rattle.decimal.specs.Digits.{lineFeed, field}
+use Rattle.decimal.specs.Digits.{lineFeed, field, emptyField}
 use Rattle.sheet_lines.specs.Depth.{depthVerdict}
 use Rattle.sheet_parse.specs.Files.{netIn}
 use Rattle.sheet_tests.specs.Sheet.{sheetVerdict}
+use Rattle.sheet_text.specs.SheetText.{line}
 use Rattle.call_unpacked.specs.Calls.{groupVerdict, headingVerdict}
 
--- its bytes, a line here for each of its lines: `N 1 0 0`, `M 1 1 0`, `A 0`, `D 2`, `C 1 1 5`, each spread to 32 bytes (RULES P8)
-unfoldable pub sheet : List ℕ
-sheet =
-    78 ∷ 32 ∷ 32 ∷ 32 ∷ 32 ∷ 32 ∷ 32 ∷ 32 ∷ 32 ∷ 32 ∷ 49 ∷ 32 ∷ 32 ∷ 32 ∷ 32 ∷ 32 ∷ 32 ∷ 32 ∷ 32 ∷ 32 ∷ 48 ∷ 32 ∷ 32 ∷ 32 ∷ 32 ∷ 32 ∷ 32 ∷ 32 ∷ 32 ∷ 32 ∷ 48 ∷ 10
-    ∷ 77 ∷ 32 ∷ 32 ∷ 32 ∷ 32 ∷ 32 ∷ 32 ∷ 32 ∷ 32 ∷ 32 ∷ 49 ∷ 32 ∷ 32 ∷ 32 ∷ 32 ∷ 32 ∷ 32 ∷ 32 ∷ 32 ∷ 32 ∷ 49 ∷ 32 ∷ 32 ∷ 32 ∷ 32 ∷ 32 ∷ 32 ∷ 32 ∷ 32 ∷ 32 ∷ 48 ∷ 10
-    ∷ 65 ∷ 32 ∷ 32 ∷ 32 ∷ 32 ∷ 32 ∷ 32 ∷ 32 ∷ 32 ∷ 32 ∷ 48 ∷ 32 ∷ 32 ∷ 32 ∷ 32 ∷ 32 ∷ 32 ∷ 32 ∷ 32 ∷ 32 ∷ 32 ∷ 32 ∷ 32 ∷ 32 ∷ 32 ∷ 32 ∷ 32 ∷ 32 ∷ 32 ∷ 32 ∷ 32 ∷ 10
-    ∷ 68 ∷ 32 ∷ 32 ∷ 32 ∷ 32 ∷ 32 ∷ 32 ∷ 32 ∷ 32 ∷ 32 ∷ 50 ∷ 32 ∷ 32 ∷ 32 ∷ 32 ∷ 32 ∷ 32 ∷ 32 ∷ 32 ∷ 32 ∷ 32 ∷ 32 ∷ 32 ∷ 32 ∷ 32 ∷ 32 ∷ 32 ∷ 32 ∷ 32 ∷ 32 ∷ 32 ∷ 10
-    ∷ 67 ∷ 32 ∷ 32 ∷ 32 ∷ 32 ∷ 32 ∷ 32 ∷ 32 ∷ 32 ∷ 32 ∷ 49 ∷ 32 ∷ 32 ∷ 32 ∷ 32 ∷ 32 ∷ 32 ∷ 32 ∷ 32 ∷ 32 ∷ 49 ∷ 32 ∷ 32 ∷ 32 ∷ 32 ∷ 32 ∷ 32 ∷ 32 ∷ 32 ∷ 32 ∷ 53 ∷ 10 ∷ []
-
--- the same with address code 4, the read bit's: byte 74, the last column of the A line's first field, is the digit 4
-unfoldable pub loopSheet : List ℕ
-loopSheet = set sheet 74 52
+-- it has the lines `N 1 0 0`, `M 1 1 0`, `A 0`, `D 2`, `C 1 1 5` (RULES P8); or another address code
+unfoldable pub sheet : ℕ → List ℕ
+sheet address =
+    line 78 (field 1) (field 0) (field 0)
+    ++ line 77 (field 1) (field 1) (field 0)
+    ++ line 65 (field address) emptyField emptyField
+    ++ line 68 (field 2) emptyField emptyField
+    ++ line 67 (field 1) (field 1) (field 5)
 
 -- the netlist that it is read as
 unfoldable pub net : Netlist
-net = netIn sheet
+net = netIn (sheet 0)
 
 -- the numbers that the definitions give, and those that the rules state
 pub record Row : Type 0 where
@@ -62,7 +59,7 @@ rows =
     -- RULES F15: depth 1 has 15 clauses
     ∷ row (length (clausesIn (formula net 1)) ∷ []) (15 ∷ [])
     -- RULES F7: address code 0 is taken, 4 gives 6 at line 3
-    ∷ row (sent (sheetVerdict sheet 0 0) ++ sent (sheetVerdict loopSheet 0 0)) (0 ∷ 0 ∷ 6 ∷ 3 ∷ [])
+    ∷ row (sent (sheetVerdict (sheet 0) 0 0) ++ sent (sheetVerdict (sheet 4) 0 0)) (0 ∷ 0 ∷ 6 ∷ 3 ∷ [])
     -- RULES F8: depth 255 is taken, 256 gives 7, in a call and on the depth line
     ∷ row (sent (headingVerdict net 0 0 255) ++ sent (headingVerdict net 0 0 256) ++ sent (depthVerdict (depthText 255)) ++ sent (depthVerdict (depthText 256)))
     (0 ∷ 0 ∷ 7 ∷ 0 ∷ 0 ∷ 0 ∷ 7 ∷ 0 ∷ [])

@@ -1,7 +1,7 @@
 -- Laws of specs/ForeverCall.antt and Forever.antt: which test decides, what lies in the store, and that what is certified holds. No contract cites this
 -- file.
 use Prim.Native.Nat.{ℕ, suc, _+_, _*_, _/_, _%_, _≤_}
-use mathlib.Core.Path.{_≡_, refl, _∙_, ap}
+use mathlib.Core.Path.{_≡_, refl, sym, _∙_, ap}
 use mathlib.Core.Bool.{Bool, true, false, cond, _&&_, false≢true}
 use mathlib.Core.List.{List, [], _++_}
 use native.Mathlib.Omega.{arith}
@@ -22,7 +22,8 @@ use Rattle.refusals.proofs.Tests.{then-passes}
 use Rattle.netlist.specs.declared.Netlist as R
 use Rattle.netlist.specs.NetOf.{netOf}
 use Rattle.sheet_parse.specs.Files.{netIn}
-use Rattle.sheet_tests.proofs.Codes.{passed-sheet}
+use Rattle.sheet_tests.proofs.Codes.{passed-sheet, passed-file}
+use Rattle.sheet_text.proofs.WriteBack.{written-back}
 use Rattle.program_input.specs.Input.{sheetIn}
 use Rattle.refutation_lemmas.specs.Propagation.{every, within}
 use Rattle.refutation_lemmas.specs.Refutation.{checked}
@@ -137,6 +138,8 @@ certified-forever file zs requests lemmas hints store marks e =
     let accepted = passed-sheet file 600 600 sheet .0 in
     let found = refuted-found (holdsAtStart c zs) (checked (marks / 2) (stepFormula c zs requests) lemmas hints) (told .1) in
     record {
+      net = c;
+      is-sheet = sym (written-back file (passed-file file 600 600 sheet));
       accepted = accepted;
       safe = invariant→forever c accepted zs requests (found .0) (refuted-unsatisfiable (marks / 2) (stepFormula c zs requests) lemmas hints (found .1));
     }

@@ -17,7 +17,7 @@ use Rattle.netlist_tests.specs.Record.{testLines}
 use Rattle.aiger_netlist.specs.TextNetlist.{aagNet}
 use Rattle.aiger_netlist.specs.ImportVerdict.{textVerdict, importVerdict}
 use Rattle.aiger_import.specs.ImportCall.{importedWord}
-use Rattle.sheet_writer.specs.SheetText.{sheetText}
+use Rattle.sheet_text.specs.SheetText.{sheetText}
 use Rattle.program_input.specs.Input.{textOrRefusal}
 
 -- the netlist's sheet, or the refusal; lists of 600 records each are the program's own

@@ -26,7 +26,10 @@ use Rattle.netlist.specs.NetOf.{netOf, alone}
 use Rattle.netlist.proofs.NetOf.{base-lists}
 use Rattle.sheet_lines.specs.Depth.{depthVerdict, depthLine}
 use Rattle.sheet_parse.specs.Files.{netIn}
-use Rattle.sheet_tests.proofs.Codes.{passed-sheet}
+use Rattle.sheet_tests.proofs.Codes.{passed-sheet, passed-file}
+use Rattle.sheet_text.specs.SheetText.{inputText}
+use Rattle.sheet_text.proofs.WriteBack.{written-back}
+use Rattle.sheet_text.proofs.DepthText.{depth-text}
 use Rattle.program_input.specs.Input.{sheetIn, inputVerdict, inputAnswer}
 use Rattle.program_input.specs.declared.Input.{Input}
 use Rattle.refutation_lemmas.specs.Refutation.{checked}
@@ -150,14 +153,18 @@ certified-reply (Refused r p) found e = absurd (omega (arith, e))
 
 -- an input that is certified: its sheet is accepted, and as its formula has no model, no run breaks the property
 pub certified-input : (s : List ℕ) (lemmas : List ℤ) (hints : List ℕ) (store marks : ℕ) → certificateSent s lemmas hints store marks .certified ≡ 1 → CertifiedInput s
-unfolding certificateSent certifyVerdict inputVerdict foundOf Satisfies
+unfolding certificateSent certifyVerdict inputVerdict foundOf Satisfies inputText
 certified-input s lemmas hints store marks e =
     let c = netIn (drop 11 s) in
     let k = depthLine s .depth in
     let told = certified-reply _ _ e in
     let input = then-passes (inputVerdict s) (roomVerdict c k (length lemmas) store marks) .0 (told .0) .0 in
-    let accepted = passed-sheet (drop 11 s) 600 600 (then-passes (depthVerdict s) (sheetIn (drop 11 s)) .0 input .1) .0 in
+    let both = then-passes (depthVerdict s) (sheetIn (drop 11 s)) .0 input in
+    let accepted = passed-sheet (drop 11 s) 600 600 (both .1) .0 in
     record {
+      depth = k;
+      net = c;
+      is-input = rw (written-back (drop 11 s) (passed-file (drop 11 s) 600 600 (both .1))) (depth-text s (both .0));
       accepted = accepted;
       safe = unsatisfiable→safe (encodes c accepted k) (refuted-unsatisfiable (base c (k + 1) + 1) (formula c k) lemmas hints (told .1));
     }

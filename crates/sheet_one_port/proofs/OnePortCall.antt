@@ -25,10 +25,10 @@ use Rattle.sheet_steps.specs.declared.SheetAnswer.{SheetAnswer}
 use Rattle.sheet_parse.specs.Files.{netIn}
 use Rattle.sheet_tests.specs.Sheet.{fileVerdict, sheetVerdict}
 use Rattle.sheet_tests.proofs.Codes.{accepted-in, sheet-refused, sheet-passed, passed-file}
-use Rattle.sheet_writer.specs.SheetText.{sheetText}
-use Rattle.sheet_writer.proofs.SheetText.{agrees-read, one-sheet, length-sheetText}
+use Rattle.sheet_text.specs.SheetText.{sheetText}
+use Rattle.sheet_text.proofs.SheetText.{agrees-read, one-sheet, length-sheetText}
 use Rattle.sheet_writer.proofs.ReadBack.{sheet-passes}
-use Rattle.sheet_writer.proofs.WriteBack.{written-back}
+use Rattle.sheet_text.proofs.WriteBack.{written-back}
 use Rattle.sheet_one_port.specs.SecondPort.{testSecond}
 use Rattle.sheet_one_port.specs.OnePortCall.{onePortText, onePortTests, OnePortTheorem}
 use Rattle.sheet_one_port.specs.Renumbered.{ReadAsOne}

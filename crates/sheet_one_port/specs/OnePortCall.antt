@@ -13,7 +13,7 @@ use Rattle.refusals.specs.declared.Verdict.{Verdict}
 use Rattle.refusals.specs.declared.Verdict.the-variants.{Passed}
 use Rattle.sheet_parse.specs.Files.{netIn}
 use Rattle.sheet_tests.specs.Sheet.{fileVerdict}
-use Rattle.sheet_writer.specs.SheetText.{sheetText}
+use Rattle.sheet_text.specs.SheetText.{sheetText}
 use Rattle.sheet_one_port.specs.SecondPort.{testSecond}
 
 -- the sheet with one port

@@ -9,16 +9,17 @@ use Rattle.refusals.specs.Refusal.{replyOf}
 use Rattle.refusals.proofs.Table.{reply-passed}
 use Rattle.model.specs.Acceptance.{PathTheorem}
 use Rattle.model.proofs.Dependence.{paths}
-use Rattle.model.proofs.SameNumbers.{base-same, numbers-same}
 use Rattle.sheet_steps.specs.declared.SheetAnswer.{SheetAnswer}
 use Rattle.sheet_steps.proofs.Records.{verdict-is, record-is}
 use Rattle.sheet_parse.specs.Files.{netIn}
 use Rattle.sheet_tests.specs.Sheet.{sheetVerdict}
 use Rattle.sheet_tests.specs.Codes.{CodesRead}
-use Rattle.sheet_tests.proofs.Codes.{passed-sheet}
+use Rattle.sheet_tests.proofs.Codes.{passed-sheet, passed-file}
+use Rattle.sheet_text.proofs.SheetText.{one-sheet}
+use Rattle.sheet_text.proofs.WriteBack.{written-back}
 use Rattle.call_lists.specs.declared.LatchEntry.{LatchEntry}
 use Rattle.call_lists.specs.declared.GateEntry.{GateEntry}
-use Rattle.call_unpacked.proofs.Calls.{calls-encode-for}
+use Rattle.call_unpacked.proofs.Calls.{calls-encode}
 use Rattle.sheet_reader.specs.ReadCall.{readVerdict, readRecord, latchesAfter, gatesAfter, SheetDelivered}
 use Rattle.sheet_reader.proofs.Delivery.{Fits, newLatches, newGates, agrees, none-refused, latches-are, gates-are}
 
@@ -43,19 +44,17 @@ module _ (file : List ℕ) (latches : List LatchEntry) (gates : List GateEntry) 
 
   module _ (sheet : SheetAnswer) (latchList gateList : List ℕ)
       (codes : CodesRead file (length latches) (length gates) sheet latchList gateList) where
-    -- an accepted sheet's record and lists have its variables, its clauses and its demand 3
+    -- an accepted sheet is that of its record and lists, of which demand 3 holds
     sheet-delivered : sheetVerdict file (length latches) (length gates) ≡ Passed
         → SheetDelivered file (sheet .net) (newLatches latches gates sheet-fits sheet latchList gateList codes)
         (newGates latches gates sheet-fits sheet latchList gateList codes)
     sheet-delivered e =
-        let c = netIn file in
         let same = agrees latches gates sheet-fits sheet latchList gateList codes e in
         let fine = none-refused latches gates sheet-fits sheet latchList gateList codes e in
         record {
+          is-sheet = sym (written-back file (passed-file file (length latches) (length gates) e)) ∙ one-sheet (netIn file) _ same;
           not-refused = fine;
-          variables-same = λ i. sym (base-same c _ same i);
-          numbers-same = λ k g h. sym (numbers-same c _ same k g h);
-          calls-encode = λ k most. calls-encode-for c _ _ _ k fine most (sheet-fits .accepted e) same;
+          calls-encode = λ k most. calls-encode _ _ _ k fine most;
         }
 
     pub reads : Reads sheet (newLatches latches gates sheet-fits sheet latchList gateList codes)

@@ -2,21 +2,16 @@
 -- lists change", and T43, "a record that is returned beside them is all zeros"). Cited by `read` and `marrubigai_read`.
 use Prim.Native.Nat.{ℕ, _≤_}
 use mathlib.Core.Path.{_≡_}
-use mathlib.Core.Bool.{true}
 use mathlib.Core.List.{List}
 use lib.ListN.{length}
 use Rattle.model.specs.Limits.{mostDepth}
-use Rattle.model.specs.Netlist.{ports}
-use Rattle.model.specs.Groups.{inDepth}
-use Rattle.model.specs.Variables.{base}
-use Rattle.model.specs.Numbers.{numbersOf}
-use Rattle.model.specs.declared.Group.{Group}
 use Rattle.refusals.specs.declared.Verdict.{Verdict}
 use Rattle.refusals.specs.declared.Verdict.the-variants.{Passed}
 use Rattle.netlist.specs.declared.Netlist.{Netlist}
 use Rattle.netlist_tests.specs.Record.{recordVerdict}
 use Rattle.sheet_parse.specs.Files.{netIn}
 use Rattle.sheet_tests.specs.Sheet.{sheetVerdict}
+use Rattle.sheet_text.specs.SheetText.{sheetText}
 use Rattle.sheet_steps.specs.Records.{recordBeside}
 use Rattle.call_lists.specs.declared.LatchEntry.{LatchEntry}
 use Rattle.call_lists.specs.declared.GateEntry.{GateEntry}
@@ -37,12 +32,10 @@ latchesAfter file latches gates = latchesBeside (readVerdict file latches gates)
 unfoldable pub gatesAfter : List ℕ → List LatchEntry → List GateEntry → List GateEntry
 gatesAfter file latches gates = gatesBeside (readVerdict file latches gates) (netIn file) gates
 
--- What holds of the record and the lists that `read` leaves where it refuses nothing. RULES A1: "A sheet is accepted if it passes every
--- test of sheets, and a record with its lists if it passes every test of records"; here both pass. Demands 2 and 3 hold of both: the
--- variables and the numbers of every group of a depth are those of the sheet's netlist, and the numbers that the group calls over record
--- and lists leave, joined, are the formula of the sheet's netlist, of which demand 3 holds.
+-- What holds of the record and the lists that `read` leaves where it refuses nothing: the file is their sheet, byte for byte. RULES A1: "A sheet is
+-- accepted if it passes every test of sheets, and a record with its lists if it passes every test of records"; here both pass, and so demand 3 holds of
+-- the numbers that the group calls over record and lists leave.
 pub record SheetDelivered (file : List ℕ) (r : Netlist) (latches : List LatchEntry) (gates : List GateEntry) : Type 0 where
+  pub is-sheet : file ≡ sheetText (netLent r latches gates)
   pub not-refused : recordVerdict (netLent r latches gates) (length latches) (length gates) ≡ Passed
-  pub variables-same : (i : ℕ) → base (netLent r latches gates) i ≡ base (netIn file) i
-  pub numbers-same : (k : ℕ) (g : Group) → inDepth (ports (netIn file)) k g ≡ true → numbersOf (netLent r latches gates) k g ≡ numbersOf (netIn file) k g
-  pub calls-encode : (k : ℕ) → k ≤ mostDepth → CallsEncode (netIn file) (netLent r latches gates) (length latches) (length gates) k
+  pub calls-encode : (k : ℕ) → k ≤ mostDepth → CallsEncode (netLent r latches gates) (netLent r latches gates) (length latches) (length gates) k

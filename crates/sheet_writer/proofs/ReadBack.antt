@@ -27,8 +27,8 @@ use Rattle.sheet_parse.specs.FileTests.{ragged, notDue, testLineIn}
 use Rattle.sheet_tests.specs.Sheet.{endVerdict, fileVerdict, sheetVerdict}
 use Rattle.sheet_tests.proofs.Verdicts.{file-lines, end-whole}
 use Rattle.sheet_tests.proofs.Codes.{sheet-passed}
-use Rattle.sheet_writer.specs.SheetText.{sheetText}
-use Rattle.sheet_writer.proofs.SheetText.{not-misprinted, is-due, length-sheetText, line-in, agrees-read, ends-same}
+use Rattle.sheet_text.specs.SheetText.{sheetText}
+use Rattle.sheet_text.proofs.SheetText.{not-misprinted, is-due, length-sheetText, line-in, agrees-read, ends-same}
 
 module _ (c : Netlist) (accepted : Accepted c) where
   abbrev file : List ℕ

@@ -19,11 +19,11 @@ use Rattle.call_lists.specs.Delivered.{delivered}
 use Rattle.call_lists.specs.ListsBeside.{latchesBeside, gatesBeside}
 use Rattle.sheet_reader.specs.ReadCall.{readVerdict, readRecord, latchesAfter, gatesAfter}
 use Rattle.sheet_reader.proofs.Delivery.{agree}
-use Rattle.sheet_writer.specs.SheetText.{sheetText}
+use Rattle.sheet_text.specs.SheetText.{sheetText}
 use Rattle.sheet_writer.specs.WriteCall.{netRead, SheetWritten}
-use Rattle.sheet_writer.proofs.SheetText.{agrees-read, one-sheet}
+use Rattle.sheet_text.proofs.SheetText.{agrees-read, one-sheet}
 use Rattle.sheet_writer.proofs.ReadBack.{sheet-passes}
-use Rattle.sheet_writer.proofs.WriteBack.{written-back}
+use Rattle.sheet_text.proofs.WriteBack.{written-back}
 
 -- agreement goes on
 agree-then : (c d e : Netlist) → Agree c d → Agree d e → Agree c e

@@ -1,3 +1,3 @@
 -- The sheet of a record, and the call that writes it, in reading order. Nothing here imports a law or a proof.
-pub mod SheetText
+pub mod Printed
 pub mod WriteCall

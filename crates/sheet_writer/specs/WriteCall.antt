@@ -16,7 +16,7 @@ use Rattle.call_lists.specs.declared.LatchEntry.{LatchEntry}
 use Rattle.call_lists.specs.declared.GateEntry.{GateEntry}
 use Rattle.call_lists.specs.Lent.{netLent}
 use Rattle.sheet_reader.specs.ReadCall.{readVerdict, readRecord, latchesAfter, gatesAfter}
-use Rattle.sheet_writer.specs.SheetText.{sheetText}
+use Rattle.sheet_text.specs.SheetText.{sheetText}
 
 -- RULES B3: "the record with its lists, then 9" for the exact length, of lists that have latchCount and gateCount records and a buffer of
 -- `room` bytes

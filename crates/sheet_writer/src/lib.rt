@@ -23,7 +23,9 @@ ghost use Rattle.sheet_fields.specs.declared.Field.the-variants.{Empty, Filled}
 ghost use Rattle.sheet_lines.specs.Letters.{rowOf, contentOf};
 ghost use Rattle.sheet_lines.specs.Lines.{printedField, fieldText};
 ghost use Rattle.dimacs.specs.PrintCalls.{printReply};
-ghost use Rattle.sheet_writer.specs.SheetText.{memoryKind, printedLine, printedText, sheetText};
+ghost use Rattle.sheet_text.specs.SheetText.{sheetText};
+ghost use Rattle.sheet_text.specs.PrintedAt.{memoryKind, printedAt};
+ghost use Rattle.sheet_writer.specs.Printed.{printedLine, printedText};
 ghost use Rattle.sheet_writer.specs.WriteCall.{writeSent, writeLeaves, SheetWritten};
 
 // A line to be printed: its kind and three numbers, 0 where a field is always empty; and 1 where one that may be filled is to be left empty.
@@ -201,7 +203,7 @@ fn put_line_at(
     place: u32,
 ) -> usize
     requires { ⌜ SizesFit (alone net) × (32 ≤ length (now out)) ⌝ }
-    ensures { λ r. ⌜ Wrote (printedText (printedLine (netOf net (now (latches .entry)) (now (gates .entry))) (lineAt (alone net) place))) (now (out .entry)) (now (out .exit)) r × (r ≤ 32) ⌝ }
+    ensures { λ r. ⌜ Wrote (printedAt (netOf net (now (latches .entry)) (now (gates .entry))) (lineAt (alone net) place)) (now (out .entry)) (now (out .exit)) r × (r ≤ 32) ⌝ }
 {
     let line = netlist::line_at(net, place);
     put_line(out, printed_line(net, latches, gates, line))

@@ -13,7 +13,7 @@ use Rattle.refusals.proofs.Slices.{room-enough, room-short}
 use Rattle.netlist.specs.NetOf.{netOf, alone}
 use Rattle.netlist.proofs.NetOf.{sizes-lists}
 use Rattle.dimacs.specs.PrintCalls.{printReply}
-use Rattle.sheet_writer.proofs.SheetText.{length-sheetText}
+use Rattle.sheet_text.proofs.SheetText.{length-sheetText}
 use Rattle.sheet_one_port.specs.OnePortCall.{onePortText, onePortTests, onePortVerdict, onePortSent, onePortLeaves}
 use Rattle.sheet_one_port.proofs.OnePortCall.{text-same, accepted-text, one-port-theorem}
 use Rattle.sheet_one_port.proofs.convert.Statement.{statement}

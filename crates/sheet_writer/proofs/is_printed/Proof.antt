@@ -1,7 +1,7 @@
 -- `sheet_writer::is_printed` meets its contract: by the number that the table has for a column.
 use borrow.Author.Needs.{needs}
 use Rattle.sheet_lines.specs.Letters.{contentOf}
-use Rattle.sheet_writer.proofs.SheetText.{printed-by}
+use Rattle.sheet_writer.proofs.Printed.{printed-by}
 use Rattle.sheet_writer.proofs.is_printed.Statement.{statement}
 use Rattle.sheet_writer.proofs.is_printed.Tie as tie
 

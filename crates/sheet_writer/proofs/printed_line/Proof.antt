@@ -4,7 +4,7 @@ use borrow.Author.Needs.{needs}
 use mathlib.Core.Path.{subst}
 use Rattle.netlist.specs.NetOf.{codeOf, netOf, alone}
 use Rattle.netlist.specs.Places.{HasLine}
-use Rattle.sheet_writer.specs.SheetText.{printedLine}
+use Rattle.sheet_writer.specs.Printed.{printedLine}
 use Rattle.sheet_writer.proofs.printed_line.Statement.{statement}
 use Rattle.sheet_writer.proofs.printed_line.Tie as tie
 

@@ -3,7 +3,7 @@ use native.Mathlib.Omega.{arith}
 use borrow.Author.Needs.{needs}
 use Rattle.model.proofs.Wrote.{wrote-then}
 use Rattle.sheet_lines.specs.Lines.{lineText}
-use Rattle.sheet_writer.specs.SheetText.{printedText}
+use Rattle.sheet_writer.specs.Printed.{printedText}
 use Rattle.sheet_writer.proofs.put_line.Statement.{statement}
 use Rattle.sheet_writer.proofs.put_line.Tie as tie
 

@@ -2,7 +2,7 @@
 use borrow.Author.Needs.{needs}
 use Rattle.netlist.specs.NetOf.{alone}
 use Rattle.netlist.proofs.Places.{has-lineAt}
-use Rattle.sheet_writer.proofs.SheetText.{known-row}
+use Rattle.sheet_writer.proofs.Printed.{known-row, printed-due}
 use Rattle.sheet_writer.proofs.put_line_at.Statement.{statement}
 use Rattle.sheet_writer.proofs.put_line_at.Tie as tie
 
@@ -19,7 +19,7 @@ same-length : tie.Need-same-length
 same-length c = search needs
 
 returns : tie.Need-returns
-returns c = rw (← c .before .before .before .before .before .line-at .ensures, ← c .before .before .before .printed-line .ensures) (c .before .before .put-line .ensures)
+returns c = rw (← c .before .before .before .before .before .line-at .ensures, ← printed-due _ (c .before .before .before .before .before .line-at .result), ← c .before .before .before .printed-line .ensures) (c .before .before .put-line .ensures)
 
 pub put-line-at-spec : {M : Type 1} → statement M
 put-line-at-spec =

@@ -14,13 +14,14 @@ use Rattle.netlist.specs.NetOf.{netOf, alone}
 use Rattle.netlist.specs.Places.{lineAt}
 use Rattle.netlist.specs.declared.Netlist.{Netlist}
 use Rattle.call_unpacked.proofs.Calls.{lines-most}
-use Rattle.sheet_writer.specs.SheetText.{printedLine, printedText, sheetText}
+use Rattle.sheet_text.specs.PrintedAt.{printedAt}
+use Rattle.sheet_text.proofs.Placed.{placed}
 use Rattle.sheet_writer.proofs.put_sheet.Statement.{statement}
 use Rattle.sheet_writer.proofs.put_sheet.Tie as tie
 
 -- the line behind the first p lines
 abbrev lineBehind : Netlist → List ℕ → List ℕ → ℕ → List ℕ
-lineBehind net latches gates p = printedText (printedLine (netOf net latches gates) (lineAt (alone net) (p + 1)))
+lineBehind net latches gates p = printedAt (netOf net latches gates) (lineAt (alone net) (p + 1))
 
 abbrev Inv-loop : tie.InvT-loop
 Inv-loop out₀ net latches gates last at₀ place₀ out at place =
@@ -89,11 +90,13 @@ same-length : tie.Need-same-length Inv-loop μ-loop
 same-length c = search needs
 
 returns : tie.Need-returns Inv-loop μ-loop
-unfolding sheetText netOf lineAt
+unfolding netOf lineAt
 returns c =
     let at = c .before .loop in
     let all : at .place ≡ c .before .before .control-line .result = omega arith in
-    rw (all, c .before .before .control-line .ensures) at (at .inv .3)
+    let a = c .before .before .before .before .args in
+    rw (placed (netOf (a .net) (a .latches .now) (a .gates .now)) (omega (arith, c .before .before .before .before .pre .0 .kind-fits)))
+    (rw (all, c .before .before .control-line .ensures) at (at .inv .3))
 
 pub put-sheet-spec : {M : Type 1} → statement M
 put-sheet-spec =

@@ -14,9 +14,9 @@ use Rattle.netlist.proofs.NetOf.{sizes-lists}
 use Rattle.netlist_tests.specs.Record.{recordVerdict}
 use Rattle.netlist_tests.proofs.Acceptance.{passes-accepted}
 use Rattle.dimacs.specs.PrintCalls.{printReply}
-use Rattle.sheet_writer.specs.SheetText.{sheetText}
+use Rattle.sheet_text.specs.SheetText.{sheetText}
 use Rattle.sheet_writer.specs.WriteCall.{writeSheetVerdict, writeSent, writeLeaves}
-use Rattle.sheet_writer.proofs.SheetText.{length-sheetText}
+use Rattle.sheet_text.proofs.SheetText.{length-sheetText}
 use Rattle.sheet_writer.proofs.WriteCall.{sheet-written}
 use Rattle.sheet_writer.proofs.write_sheet.Statement.{statement}
 use Rattle.sheet_writer.proofs.write_sheet.Tie as tie

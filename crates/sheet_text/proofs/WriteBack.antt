@@ -1,4 +1,4 @@
--- A sheet that is accepted is the sheet of the netlist that it is read as (specs/WriteCall.antt). No contract cites this file.
+-- A sheet that is accepted is the sheet of the netlist that it is read as (specs/SheetText.antt). No contract cites this file.
 use Prim.Native.Nat.{ℕ, _+_, _-_, _*_, _≤_, _<_}
 use mathlib.Core.Path.{_≡_, refl, sym, _∙_, ap}
 use mathlib.Core.Bool.{Bool, true, false, _&&_, _||_, false≢true}
@@ -33,8 +33,10 @@ use Rattle.sheet_parse.proofs.Files.{ports-in, whole-lines}
 use Rattle.sheet_parse.proofs.LineTests.{line-passed, within-last}
 use Rattle.sheet_tests.specs.Sheet.{fileVerdict}
 use Rattle.sheet_tests.proofs.Codes.{lines-pass, end-passes}
-use Rattle.sheet_writer.specs.SheetText.{memoryKind, printedLine, printedText, sheetText}
-use Rattle.sheet_writer.proofs.Parts.{parts-gather}
+use Rattle.sheet_text.specs.SheetText.{sheetText}
+use Rattle.sheet_text.specs.PrintedAt.{memoryKind, printedAt}
+use Rattle.sheet_text.proofs.Parts.{parts-gather}
+use Rattle.sheet_text.proofs.Placed.{lineBehind, placed}
 
 -- a kind is known by its row
 kind-in-row : (k : Kind) → getD kinds (rowOf k) Unknown ≡ k
@@ -94,8 +96,8 @@ second-kind Unknown h = absurd (false≢true h)
 module _ (file : List ℕ) where
   -- a line's text is that of the numbers that are read there: what stands in an empty field does not show
   text-of-line : (due : Line) → HasLine (netIn file) due → (k : Kind) → isDue due k ≡ true → (x y z empty : ℕ) → lineIn file (placeOf (netIn file) due) ≡ Read k x y z empty
-      → printedText (printedLine (netIn file) due) ≡ lineText k x y z empty
-  unfolding printedText printedLine netIn netOfLines sizesIn lineText contentOf
+      → printedAt (netIn file) due ≡ lineText k x y z empty
+  unfolding printedAt netIn netOfLines sizesIn lineText contentOf
   text-of-line Due.Sizes h k is x y z empty e = rw (kind-due Due.Sizes k (λ q. omega arith) is, e)
   text-of-line Due.Memory h k is x y z empty e = rw (e, second-kind k is)
   text-of-line (Due.Latch l) h k is x y z empty e = rw (kind-due (Due.Latch l) k (λ q. omega arith) is, lt-ltb l _ h, e)
@@ -129,7 +131,7 @@ module _ (file : List ℕ) where
         omega (arith, within-last (netIn file) file (lineCount file) last, end-passes file passed .0)
 
     -- the line at a place, as it is printed
-    line-text : (p : ℕ) → p < controlLine (netIn file) → printedText (printedLine (netIn file) (lineAt (netIn file) (p + 1))) ≡ take 32 (drop (32 * p) file)
+    line-text : (p : ℕ) → p < controlLine (netIn file) → printedAt (netIn file) (lineAt (netIn file) (p + 1)) ≡ take 32 (drop (32 * p) file)
     unfolding notDue lineIn
     line-text p b =
         let c = netIn file in
@@ -144,7 +146,7 @@ module _ (file : List ℕ) where
         ∙ ap (λ q. take 32 (drop (32 * q) file)) back
 
     pub written-back : sheetText (netIn file) ≡ file
-    unfolding sheetText
     written-back =
-        gathers-same {f = λ p. printedText (printedLine (netIn file) (lineAt (netIn file) (p + 1)))} {h = λ p. take 32 (drop (32 * p) file)} ends line-text
+        placed (netIn file) one-port-more
+        ∙ gathers-same {f = lineBehind (netIn file)} {h = λ p. take 32 (drop (32 * p) file)} ends line-text
         ∙ parts-gather 32 (lineCount file) file whole

@@ -2,7 +2,8 @@
 -- as the netlist. No contract cites this file.
 use Prim.Native.Nat.{ℕ, zero, suc, _+_, _-_, _*_, _^_, _≤_, _<_}
 use mathlib.Core.Path.{_≡_, refl, sym, _∙_, ap, subst}
-use mathlib.Core.Bool.{Bool, true, false, cond, _&&_, _||_, true≢false}
+use mathlib.Core.List.{List, _++_}
+use mathlib.Core.Bool.{Bool, true, false, cond, true≢false}
 use mathlib.Core.Logic.{by-cases}
 use native.Mathlib.Nat.{one-mul}
 use native.Mathlib.Decide.{ℕ-discrete}
@@ -13,28 +14,29 @@ use lib.Pow.{pow-mono}
 use borrow.Author.Tests.{ne-eqb, lt-ltb}
 use Rattle.model.specs.Netlist.{Netlist, given, startOf, start, port}
 use Rattle.model.specs.Acceptance.{StartFits, SizesFit, WithinLimits}
+use Rattle.model.specs.Gather.{gather}
 use Rattle.model.specs.Agree.{givenWord, Agree}
 use Rattle.model.proofs.Agree.{same-at, inputs-same, latches-same, gates-same, m-same, n-same, second-same}
 use Rattle.model.proofs.Ports.{first-port, second-port, by-port}
 use Rattle.model.proofs.Gather.{length-gather, gathers-same}
+use Rattle.decimal.specs.Digits.{field, emptyField}
 use Rattle.netlist.specs.Places.{sizesLine, memoryLine, latchLine, gateLine, addressLine, dataLine, secondAddressLine, secondEnableLine, controlLine, lineAt, HasLine}
 use Rattle.netlist.specs.declared.Line.{Line}
 use Rattle.netlist.specs.declared.Line.the-variants as Due
 use Rattle.netlist.proofs.Places.{has-lineAt, at-sizes, at-memory, at-latch, at-gate, at-address, at-data, at-second-address, at-second-enable, at-control}
-use Rattle.sheet_fields.specs.declared.Field.the-variants.{Empty, Filled}
-use Rattle.sheet_lines.specs.Letters.{rowOf, secondPortOf, Content, mustBeEmpty, mustBeFilled, mayBeEmpty, contentNumber, contentOf}
-use Rattle.sheet_lines.specs.Lines.{lineOf, printedField, lineText}
+use Rattle.sheet_lines.specs.Letters.{secondPortOf, contentOf}
+use Rattle.sheet_lines.specs.Lines.{lineOf, lineText}
 use Rattle.sheet_lines.specs.declared.ParsedLine.{ParsedLine}
 use Rattle.sheet_lines.specs.declared.ParsedLine.the-variants.{Read}
-use Rattle.sheet_lines.specs.declared.Kind.{Kind}
 use Rattle.sheet_lines.specs.declared.Kind.the-variants.{Sizes, Memory, TwoPorts, Latch, Gate, Address, WriteData, SecondAddress, SecondEnable, Control}
 use Rattle.sheet_lines.proofs.Lines.{lines-as-written, lineOf-length}
 use Rattle.sheet_steps.specs.Due.{isDue}
 use Rattle.sheet_parse.specs.FileTests.{misprinted, isLine}
 use Rattle.sheet_parse.specs.Files.{lineIn, sizesIn, netOfLines, netIn}
-use Rattle.sheet_steps.proofs.Places.{lineAt-known}
-use Rattle.sheet_writer.specs.SheetText.{memoryKind, printedLine, printedText, sheetText}
-use Rattle.sheet_writer.proofs.Parts.{part-gather}
+use Rattle.sheet_text.specs.SheetText.{line, wordField, sheetText}
+use Rattle.sheet_text.specs.PrintedAt.{memoryKind, printedAt}
+use Rattle.sheet_text.proofs.Parts.{part-gather}
+use Rattle.sheet_text.proofs.Placed.{lineBehind, placed}
 
 -- what a netlist's line is read as
 abbrev pub readAs : Netlist → Line → ParsedLine
@@ -87,46 +89,6 @@ unfolding startOf givenWord
 given-again word zero = refl
 given-again word (suc unknown) = refl
 
--- the text of the memory's line has the word that is given
-memory-text : (k : Kind) (m n word unknown : ℕ) → contentOf k 2 ≡ mayBeEmpty
-    → lineText k m n word unknown ≡ lineText k m n (givenWord (startOf word unknown)) unknown
-unfolding lineText startOf givenWord
-memory-text k m n word zero h = refl
-memory-text k m n word (suc unknown) h = rw (h, ne-eqb (suc unknown) 0 (λ e. omega arith))
-
--- either letter's third field may be empty
-memory-third : (s : ℕ) → contentOf (memoryKind s) 2 ≡ mayBeEmpty
-unfolding contentOf
-memory-third s = by-ports (eqb s 0)
-  where
-    by-ports : (one : Bool) → contentOf (cond one Memory TwoPorts) 2 ≡ mayBeEmpty
-    by-ports true = refl
-    by-ports false = refl
-
--- what a column holds, by the table's number for it
-pub printed-by : (w : Content) (number empty x : ℕ) → number ≡ contentNumber w
-    → printedField w empty x ≡ cond (eqb number 1 || (eqb number 2 && eqb empty 0)) (Filled x) Empty
-printed-by mustBeEmpty number empty x e = rw e
-printed-by mustBeFilled number empty x e = rw e
-printed-by mayBeEmpty number empty x e = rw e
-
--- a line's letter is one of the table's
-pub known-row : (c : Netlist) (x : Line) → rowOf (printedLine c x .kind) < 10
-unfolding printedLine
-known-row c Due.Sizes = omega arith
-known-row c Due.Memory = by-ports (eqb (c .secondPort) 0)
-  where
-    by-ports : (one : Bool) → rowOf (cond one Memory TwoPorts) < 10
-    by-ports true = omega arith
-    by-ports false = omega arith
-known-row c (Due.Latch l) = omega arith
-known-row c (Due.Gate g) = omega arith
-known-row c (Due.Address t) = omega arith
-known-row c (Due.WriteData t) = omega arith
-known-row c (Due.SecondAddress t) = omega arith
-known-row c Due.SecondEnable = omega arith
-known-row c Due.Control = omega arith
-
 -- where there is a second port, its lines are there
 second-end : (c : Netlist) → SizesFit c → 0 < c .secondPort → (c .secondPort * c .m ≡ c .m) × (controlLine c ≡ secondEnableLine c + 1)
 second-end c fit some =
@@ -134,7 +96,16 @@ second-end c fit some =
     let times : (x : ℕ) → c .secondPort * x ≡ x = λ x. rw one (one-mul x) in
     (times (c .m), omega (arith, times (c .m + 1)))
 
+-- the field of the initial word, by the numbers of a record that agree
+word-given : (word unknown : ℕ) → wordField (startOf word unknown) ≡ cond (eqb unknown 0) (field (givenWord (startOf word unknown))) emptyField
+unfolding wordField startOf givenWord
+word-given word zero = refl
+word-given word (suc unknown) = rw (ne-eqb (suc unknown) 0 (λ e. omega arith))
+
 module _ (c : Netlist) (fits : WithinLimits c) where
+  by-place : sheetText c ≡ gather (controlLine c) (lineBehind c)
+  by-place = placed c (omega (arith, fits .sizes .kind-fits))
+
   -- a start word is a number of 32 bits, where one is given
   word-fits : (word : ℕ) → startOf (c .initialWord) (c .unknownStart) ≡ given word → word < 2 ^ 32
   unfolding StartFits
@@ -159,8 +130,8 @@ module _ (c : Netlist) (fits : WithinLimits c) where
       rw least (lines-as-written .text→read TwoPorts (c .m) (c .n) 0 1 refl (omega (arith, fits .sizes)) (omega (arith, fits .sizes)) (omega arith))
 
   -- a line of the netlist is read as what it says
-  pub printed-read : (x : Line) → HasLine c x → lineOf (printedText (printedLine c x)) ≡ readAs c x
-  unfolding printedLine printedText contentOf
+  pub printed-read : (x : Line) → HasLine c x → lineOf (printedAt c x) ≡ readAs c x
+  unfolding printedAt contentOf
   printed-read Due.Sizes h =
       lines-as-written .text→read Sizes (c .inputs) (c .latches) (c .gates) 0 refl (omega (arith, fits .sizes)) (omega (arith, fits .sizes)) (omega (arith, fits .sizes))
   printed-read Due.Memory h = memory-read (eqb (c .secondPort) 0) (c .unknownStart) refl
@@ -180,25 +151,25 @@ module _ (c : Netlist) (fits : WithinLimits c) where
       lines-as-written .text→read Control (c .WE) (c .RE) (c .P) 0 refl (omega (arith, fits .codes .WE-fits, fits .sizes .wires-fit)) (omega (arith, fits .codes .RE-fits 1 (first-port c), fits .sizes .wires-fit)) (omega (arith, fits .codes .P-fits, fits .sizes .wires-fit))
 
   -- so it has 32 bytes
-  length-printed : (x : Line) → HasLine c x → length (printedText (printedLine c x)) ≡ 32
+  length-printed : (x : Line) → HasLine c x → length (printedAt c x) ≡ 32
   length-printed x h =
-      by-cases (ℕ-discrete (length (printedText (printedLine c x))) 32) (λ e. e)
-      (λ n. absurd (true≢false (ap misprinted (sym (lineOf-length (printedText (printedLine c x)) n) ∙ printed-read x h) ∙ not-misprinted c x)))
+      by-cases (ℕ-discrete (length (printedAt c x)) 32) (λ e. e)
+      (λ n. absurd (true≢false (ap misprinted (sym (lineOf-length (printedAt c x) n) ∙ printed-read x h) ∙ not-misprinted c x)))
 
-  line-length : (p : ℕ) → p < controlLine c → length (printedText (printedLine c (lineAt c (p + 1)))) ≡ 32
+  line-length : (p : ℕ) → p < controlLine c → length (lineBehind c p) ≡ 32
   line-length p b = length-printed (lineAt c (p + 1)) (has-lineAt c (p + 1))
 
   pub length-sheetText : length (sheetText c) ≡ controlLine c * 32
-  unfolding sheetText
-  length-sheetText = length-gather (controlLine c) 32 (λ p. printedText (printedLine c (lineAt c (p + 1)))) line-length
+  length-sheetText = rw by-place (length-gather (controlLine c) 32 (lineBehind c) line-length)
 
   -- the line at a place is read as the line due there
   pub line-in : (p : ℕ) → 1 ≤ p → p ≤ controlLine c → lineIn (sheetText c) p ≡ readAs c (lineAt c p)
-  unfolding sheetText lineIn
+  unfolding lineIn
   line-in p l b =
       let back : p - 1 + 1 ≡ p = omega arith in
-      ap lineOf (part-gather 32 (controlLine c) (λ q. printedText (printedLine c (lineAt c (q + 1)))) line-length (p - 1) (omega arith))
-      ∙ printed-read (lineAt c (p - 1 + 1)) (has-lineAt c (p - 1 + 1)) ∙ ap (λ q. readAs c (lineAt c q)) back
+      rw by-place
+      (ap lineOf (part-gather 32 (controlLine c) (lineBehind c) line-length (p - 1) (omega arith))
+      ∙ printed-read (lineAt c (p - 1 + 1)) (has-lineAt c (p - 1 + 1)) ∙ ap (λ q. readAs c (lineAt c q)) back)
 
   -- the same of a line that is known
   line-is : (p : ℕ) (x : Line) → 1 ≤ p → p ≤ controlLine c → lineAt c p ≡ x → lineIn (sheetText c) p ≡ readAs c x
@@ -234,28 +205,51 @@ module _ (c : Netlist) (fits : WithinLimits c) where
         P-same = rw (sizes, memory, second, control);
       }
 
+-- a line of one code
+abbrev codeLine : ℕ → ℕ → List ℕ
+codeLine letter code = line letter (field code) emptyField emptyField
+
 -- netlists that agree have one sheet
 module _ (c d : Netlist) (q : Agree c d) where
-  printed-same : (x : Line) → HasLine c x → printedText (printedLine c x) ≡ printedText (printedLine d x)
-  unfolding printedLine printedText
-  printed-same Due.Sizes h = rw (inputs-same c d q, latches-same c d q, gates-same c d q)
-  printed-same Due.Memory h =
-      memory-text (memoryKind (c .secondPort)) (c .m) (c .n) (c .initialWord) (c .unknownStart) (memory-third (c .secondPort))
-      ∙ rw (m-same c d q, n-same c d q, second-same c d q, same-at c d (q .sizes-same) 5, same-at c d (q .sizes-same) 6)
-      (sym (memory-text (memoryKind (d .secondPort)) (d .m) (d .n) (d .initialWord) (d .unknownStart) (memory-third (d .secondPort))))
-  printed-same (Due.Latch l) h = rw (q .next-same l h, q .reset-same l h)
-  printed-same (Due.Gate g) h = rw (q .left-same g h, q .right-same g h)
-  printed-same (Due.Address t) h = rw (q .address-same 1 (first-port c) t h)
-  printed-same (Due.WriteData t) h = rw (q .data-same t h)
-  printed-same (Due.SecondAddress t) h = rw (q .address-same 2 (second-port c (h .0)) t (h .1))
-  printed-same Due.SecondEnable h = rw (q .RE-same 2 (second-port c h))
-  printed-same Due.Control h = rw (q .WE-same, q .RE-same 1 (first-port c), q .P-same)
-
   pub ends-same : controlLine c ≡ controlLine d
   ends-same = rw (latches-same c d q, gates-same c d q, m-same c d q, n-same c d q, second-same c d q)
+
+  -- the initial word shows where it is given
+  word-same : wordField (start c) ≡ wordField (start d)
+  word-same =
+      word-given (c .initialWord) (c .unknownStart) ∙ rw (same-at c d (q .sizes-same) 5, same-at c d (q .sizes-same) 6)
+      (sym (word-given (d .initialWord) (d .unknownStart)))
+
+  code-lines : (letter : ℕ) (f h : ℕ → ℕ) → ((t : ℕ) → t < c .m → f t ≡ h t) → gather (c .m) (λ t. codeLine letter (f t)) ≡ gather (d .m) (λ t. codeLine letter (h t))
+  code-lines letter f h same = gathers-same (m-same c d q) (λ t b. ap (codeLine letter) (same t b))
 
   pub one-sheet : sheetText c ≡ sheetText d
   unfolding sheetText
   one-sheet =
-      gathers-same {f = λ p. printedText (printedLine c (lineAt c (p + 1)))} {h = λ p. printedText (printedLine d (lineAt d (p + 1)))} ends-same
-      (λ p b. printed-same (lineAt c (p + 1)) (has-lineAt c (p + 1)) ∙ ap (λ x. printedText (printedLine d x)) (lineAt-known c d (p + 1) (λ h. q .sizes-same)))
+      let latches : gather (c .latches) (λ l. line 76 (field (c .next l)) (field (c .reset l)) emptyField) ≡ gather (d .latches) (λ l. line 76 (field (d .next l)) (field (d .reset l)) emptyField) =
+      gathers-same (latches-same c d q) (λ l h. rw (q .next-same l h, q .reset-same l h)) in
+      let gates : gather (c .gates) (λ g. line 71 (field (c .left g)) (field (c .right g)) emptyField) ≡ gather (d .gates) (λ g. line 71 (field (d .left g)) (field (d .right g)) emptyField) =
+      gathers-same (gates-same c d q) (λ g h. rw (q .left-same g h, q .right-same g h)) in
+      let second : gather (c .secondPort) (λ p. gather (c .m) (λ t. codeLine 66 (c .address2 t)) ++ codeLine 82 (c .RE2))
+      ≡ gather (d .secondPort) (λ p. gather (d .m) (λ t. codeLine 66 (d .address2 t)) ++ codeLine 82 (d .RE2)) =
+      gathers-same (second-same c d q)
+      (λ p b. rw (code-lines 66 (c .address2) (d .address2) (λ t h. q .address-same 2 (second-port c (omega arith)) t h), q .RE-same 2 (second-port c (omega arith)))) in
+      let words : gather (c .n) (λ t. codeLine 68 (c .writeData t)) ≡ gather (d .n) (λ t. codeLine 68 (d .writeData t)) =
+      gathers-same (n-same c d q) (λ t b. ap (codeLine 68) (q .data-same t b)) in
+      rw (
+        latches,
+        gates,
+        second,
+        code-lines 65 (c .address) (d .address) (λ t h. q .address-same 1 (first-port c) t h),
+        words,
+        word-same,
+        inputs-same c d q,
+        latches-same c d q,
+        gates-same c d q,
+        m-same c d q,
+        n-same c d q,
+        second-same c d q,
+        q .WE-same,
+        q .RE-same 1 (first-port c),
+        q .P-same,
+      )

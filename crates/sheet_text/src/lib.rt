@@ -1,0 +1,1 @@
+// The sheet of a netlist, as a text.
