@@ -284,7 +284,7 @@ const PATHS: [ReadersPath; 8] = [
     },
     ReadersPath {
         promise: "demand 3 of a sheet, besides",
-        from: &["sheet_reader/ReadCall/SheetDelivered", "program_input/Input/InputTaken"],
+        from: &["sheet_reader/ReadCall/SheetDelivered", "program_input/Input/InputEncoded"],
         shut: &UNOPENED,
     },
     ReadersPath {

@@ -20,9 +20,12 @@ use Rattle.sheet_lines.specs.Depth.{depthVerdict, depthLine}
 use Rattle.sheet_lines.proofs.Depth.{passed-most}
 use Rattle.sheet_steps.specs.Lists.{Holds, ListsBeside}
 use Rattle.sheet_parse.specs.Files.{netIn}
-use Rattle.sheet_tests.proofs.Codes.{passed-sheet}
+use Rattle.sheet_tests.proofs.Codes.{passed-sheet, passed-file}
+use Rattle.sheet_text.specs.SheetText.{inputText}
+use Rattle.sheet_text.proofs.WriteBack.{written-back}
+use Rattle.sheet_text.proofs.DepthText.{depth-text}
 use Rattle.program_input.specs.declared.Input.{Input}
-use Rattle.program_input.specs.Input.{sheetIn, inputVerdict, depthBeside, inputAnswer, InputTaken, textOrRefusal, textFor}
+use Rattle.program_input.specs.Input.{sheetIn, inputVerdict, depthBeside, inputAnswer, InputTaken, InputEncoded, textOrRefusal, textFor}
 
 -- the depth is refused
 pub depth-decides : (s : List ℕ) {r : Refusal} {p : ℕ} → depthVerdict s ≡ Refused r p → inputVerdict s ≡ Refused r p
@@ -53,9 +56,19 @@ input-taken s r latches gates e lists none =
       passed = passed;
       net-is = held .net-is;
       accepted = accepted;
-      encodes = encodes (netIn (drop 11 s)) accepted;
       depth-is = depth;
       depth-most = omega (arith, depth, passed-most s (parts .0));
+    }
+
+-- demand 3 of it
+pub input-encoded : {s : List ℕ} {r : Input} {latches gates : List ℕ} → InputTaken s r latches gates → InputEncoded s r latches gates
+unfolding inputVerdict inputText
+input-encoded {s} t =
+    let parts = then-passes (depthVerdict s) (sheetIn (drop 11 s)) .0 (t .passed) in
+    record {
+      is-input = rw (t .net-is, t .depth-is, written-back (drop 11 s) (passed-file (drop 11 s) 600 600 (parts .1))) (depth-text s (parts .0));
+      accepted = rw (t .net-is) (t .accepted);
+      encodes = rw (t .net-is) (encodes (netIn (drop 11 s)) (t .accepted));
     }
 
 -- what is printed for an input that is taken

@@ -21,6 +21,7 @@ use Rattle.sheet_lines.specs.Depth.{depthVerdict, depthLine}
 use Rattle.sheet_steps.specs.Records.{recordBeside}
 use Rattle.sheet_parse.specs.Files.{netIn}
 use Rattle.sheet_tests.specs.Sheet.{sheetVerdict}
+use Rattle.sheet_text.specs.SheetText.{inputText}
 use Rattle.program_input.specs.declared.Input.{Input}
 
 -- a sheet's verdict, for lists of 600 records
@@ -48,15 +49,19 @@ inputBeside v k c = withDepthAndRecord v k (recordBeside v c)
 unfoldable pub inputAnswer : List ℕ → Input
 inputAnswer s = inputBeside (inputVerdict s) (depthLine s .depth) (netIn (drop 11 s))
 
--- an input s that is not refused: what stands in the record and the lists is the sheet's netlist, which is accepted and of which demand 3
--- holds at every depth; and the depth is the depth line's
+-- an input s that is not refused: what stands in the record and the lists is the sheet's netlist, which is accepted; and the depth is the depth line's
 pub record InputTaken (s : List ℕ) (r : Input) (latches gates : List ℕ) : Type 0 where
   pub passed : inputVerdict s ≡ Passed
   pub net-is : netOf (r .net) latches gates ≡ netIn (drop 11 s)
   pub accepted : Accepted (netIn (drop 11 s))
-  pub encodes : (k : ℕ) → Encodes (netIn (drop 11 s)) k
   pub depth-is : r .depth ≡ depthLine s .depth
   pub depth-most : r .depth ≤ mostDepth
+
+-- demand 3 of such an input: it is its depth and the sheet of record and lists, byte for byte, and these are accepted and encoded at every depth
+pub record InputEncoded (s : List ℕ) (r : Input) (latches gates : List ℕ) : Type 0 where
+  pub is-input : s ≡ inputText (r .depth) (netOf (r .net) latches gates)
+  pub accepted : Accepted (netOf (r .net) latches gates)
+  pub encodes : (k : ℕ) → Encodes (netOf (r .net) latches gates) k
 
 -- what a program prints for an input: its text of the sheet's netlist and the depth, or the refusal (RULES P3)
 unfoldable pub textOrRefusal : Verdict → List ℕ → List ℕ

@@ -6,7 +6,7 @@ ghost use mathlib.Core.Path.{_≡_};
 ghost use Rattle.sheet_steps.specs.Lists.{ListsBeside};
 ghost use Rattle.sheet_parse.specs.Files.{netIn};
 ghost use Rattle.sheet_parse.specs.Progress.{noCodes};
-ghost use Rattle.program_input.specs.Input.{sheetIn, depthBeside, withDepthAndRecord, inputBeside, inputAnswer, InputTaken, OnlyInputRefusals};
+ghost use Rattle.program_input.specs.Input.{sheetIn, depthBeside, withDepthAndRecord, inputBeside, inputAnswer, InputTaken, InputEncoded, OnlyInputRefusals};
 
 // What an input is read as: a refusal's number and place (both 0 where it is taken), the depth, and the sheet's record. The depth and
 // the record are all zeros at a refusal.
@@ -64,6 +64,7 @@ pub fn read_input(input: &[u8], latches: &mut UnpackedList, gates: &mut Unpacked
     ensures answer { λ r. ⌜ r ≡ inputAnswer (now (input .entry)) ⌝ }
     ensures taken { λ r. ⌜ (r .number ≡ 0 → InputTaken (now (input .entry)) r (now (latches .exit)) (now (gates .exit))) ⌝ }
     ensures refusals { λ _. ⌜ OnlyInputRefusals ⌝ }
+    ensures encoded { λ r. ⌜ (r .number ≡ 0 → InputEncoded (now (input .entry)) r (now (latches .exit)) (now (gates .exit))) ⌝ }
 {
     let line = sheet_lines::read_depth(input);
     let verdict = line.verdict;
