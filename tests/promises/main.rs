@@ -62,8 +62,15 @@ struct Public {
     has_requires: bool,
     /// The parameters that are lent for writing and of whose last contents nothing is promised.
     unsaid: Vec<String>,
-    /// What each `ensures` is called, and the definitions that it cites.
-    promises: Vec<(String, Vec<(String, Module)>)>,
+    promises: Vec<Promise>,
+}
+
+/// An `ensures`.
+struct Promise {
+    called: String,
+    says: String,
+    /// The definitions that it cites.
+    cited: Vec<(String, Module)>,
 }
 
 impl Repository {
@@ -318,10 +325,11 @@ fn public(file: &str, name: &str, indent: &str, contract: &str, cited: &BTreeMap
         let (called, body) = clause.split_once('{').expect("an ensures");
         let words: BTreeSet<&str> = body.split(|c: char| c.is_whitespace() || "()⌜⌝{}".contains(c)).collect();
         let definitions = cited.iter().filter(|(name, _)| words.contains(name.as_str()));
-        promises.push((
-            called.trim().to_string(),
-            definitions.map(|(name, module)| (name.clone(), module.clone())).collect(),
-        ));
+        promises.push(Promise {
+            called: called.trim().to_string(),
+            says: body.trim().trim_end_matches('}').trim().to_string(),
+            cited: definitions.map(|(name, module)| (name.clone(), module.clone())).collect(),
+        });
         bodies += body;
     }
     let lent = head.split(['(', ',']).filter_map(|parameter| {
@@ -342,9 +350,9 @@ fn functions_block(functions: &[Public]) -> String {
     let mut text = String::from("| function | promise: the definitions that it cites |\n|---|---|\n");
     for it in functions {
         let own = it.file.split('/').next().expect("a crate");
-        let promises = it.promises.iter().map(|(called, definitions)| {
-            let names: Vec<String> = definitions.iter().map(|(name, _)| format!("`{name}`")).collect();
-            let called = if called.is_empty() { String::new() } else { format!("{called}: ") };
+        let promises = it.promises.iter().map(|promise| {
+            let names: Vec<String> = promise.cited.iter().map(|(name, _)| format!("`{name}`")).collect();
+            let called = if promise.called.is_empty() { String::new() } else { format!("{}: ", promise.called) };
             format!("{called}{}", names.join(" "))
         });
         let promises: Vec<String> = promises.collect();
@@ -354,7 +362,7 @@ fn functions_block(functions: &[Public]) -> String {
 }
 
 fn definitions_block<'a>(repository: &Repository, functions: impl Iterator<Item = &'a Public>) -> String {
-    let cited = functions.flat_map(|it| it.promises.iter().flat_map(|(_, names)| names));
+    let cited = functions.flat_map(|it| it.promises.iter().flat_map(|promise| &promise.cited));
     let reached = repository.reached(cited.map(|(_, module)| module.clone()).collect());
     let mut by_crate: BTreeMap<&str, Vec<(&str, usize)>> = BTreeMap::new();
     for module in &reached {

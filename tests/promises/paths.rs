@@ -1,6 +1,6 @@
 //! Readers' paths: for each promise the definitions and types that its contract reaches, in an order in which each stands behind what it uses.
 
-use super::{begun, code, import, path_of, words, Definition, Definitions, Module, Public, Repository};
+use super::{begun, code, import, path_of, Definition, Definitions, Module, Promise, Public, Repository};
 use std::collections::{BTreeMap, BTreeSet};
 
 /// How many lines a careful reader compares with their rules in a minute: the pace of a code inspection, some 120 lines an hour. It is assumed: no
@@ -273,6 +273,7 @@ fn declarations(repository: &Repository) -> BTreeMap<Declared, Vec<String>> {
                         open = open.filter(|_| !is_last);
                     }
                     None if line.starts_with("//") => comments.push(line),
+                    None if line.starts_with("#[") => {}
                     None => comments.clear(),
                 }
             }
@@ -321,13 +322,17 @@ impl<'a> Paths<'a> {
         Paths { definitions, functions, types: declarations(repository), order }
     }
 
+    /// A public function's promise.
+    fn promise(&self, function: &str, called: &str) -> &Promise {
+        let mut promises = self.functions.iter().filter(|it| it.name == function).flat_map(|it| &it.promises);
+        promises.find(|promise| promise.called == called).unwrap_or_else(|| panic!("{function} has no promise {called:?}"))
+    }
+
     /// Where a path begins, as the contracts have it.
     fn begins(&self, path: &ReadersPath) -> Vec<Definition> {
-        let begin = |(function, promise, name): &(&str, &str, &str)| {
-            let contracts = self.functions.iter().filter(|it| it.name == *function);
-            let mut cited = contracts.flat_map(|it| &it.promises).filter(|(called, _)| called == promise).flat_map(|(_, cited)| cited);
-            let found = cited.find(|(cited, _)| cited == name);
-            let (_, module) = found.unwrap_or_else(|| panic!("{function} does not promise {name} as {promise:?}"));
+        let begin = |(function, called, name): &(&str, &str, &str)| {
+            let found = self.promise(function, called).cited.iter().find(|(cited, _)| cited == name);
+            let (_, module) = found.unwrap_or_else(|| panic!("{function}'s promise {called:?} does not cite {name}"));
             (module.clone(), name.to_string())
         };
         path.from.iter().map(begin).collect()
@@ -345,7 +350,9 @@ impl<'a> Paths<'a> {
         let mut left = Vec::new();
         for (module, name) in definitions {
             let body = &self.definitions.known[module].iter().find(|(own, _)| own == name).expect("a definition").1;
-            let body = words(body);
+            // of a name in another module, the module's
+            let words = body.split(|c: char| c.is_whitespace() || "(){}[];,⌜⌝".contains(c));
+            let body: BTreeSet<&str> = words.filter_map(|word| word.split('.').next()).collect();
             for line in self.definitions.texts[module].lines() {
                 if let Some((it, names)) = declared(line, &module.0) {
                     if names.iter().any(|name| body.contains(name.as_str())) {
@@ -400,7 +407,8 @@ impl<'a> Paths<'a> {
                 *shut.entry(place).or_default() |= open.contains(&self.definitions.at(place));
             }
         }
-        found.extend(shut.iter().filter(|(_, is_met)| !**is_met).map(|(place, _)| format!("{place} is shut, and no path that shuts it leads there")));
+        let idle = shut.iter().filter(|(_, is_met)| !**is_met);
+        found.extend(idle.map(|(place, _)| format!("{place} is shut, and no path that shuts it leads there")));
         found
     }
 
@@ -458,8 +466,10 @@ impl<'a> Paths<'a> {
     pub fn text(&self, path: &ReadersPath) -> String {
         let reading = self.reading(path);
         let mut text = format!("{}: {}\n", path.label, path.promise);
-        for (function, promise, name) in path.from {
-            text += &format!("  {name}, promised by {function}{}\n", if promise.is_empty() { String::new() } else { format!(" ({promise})") });
+        let promises: BTreeSet<(&str, &str)> = path.from.iter().map(|(function, called, _)| (*function, *called)).collect();
+        for (function, called) in promises {
+            let ensures = if called.is_empty() { String::from("ensures") } else { format!("ensures {called}") };
+            text += &format!("\n{function} {ensures}\n  {}\n", self.promise(function, called).says);
         }
         let mut last = "";
         for it in &reading.types {
