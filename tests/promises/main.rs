@@ -221,9 +221,10 @@ impl Definitions {
         let mut reached = BTreeSet::new();
         while let Some((module, name)) = next.pop() {
             let known = self.known.get(&module).map(Vec::as_slice).unwrap_or(&[]);
-            // what is no definition's own name is a constructor of one of the file
+            // what is no definition's own name is a constructor of a type of the file
             let is_own = known.iter().any(|(other, _)| *other == name);
-            let wanted = |(own, body): &&(String, String)| *own == name || (!is_own && words(body).contains(name.as_str()));
+            let has = |body: &str| body.starts_with("pub data ") && words(body).contains(name.as_str());
+            let wanted = |(own, body): &&(String, String)| *own == name || (!is_own && has(body));
             for (own, body) in known.iter().filter(wanted) {
                 let one = (module.clone(), own.clone());
                 if !shut.contains(&one) && reached.insert(one) {
