@@ -111,28 +111,17 @@ impl Repository {
         }
         all
     }
-
-    /// The definitions' files that these reach by their `use` lines.
-    fn reached(&self, from: BTreeSet<Module>) -> BTreeSet<Module> {
-        let mut reached = from.clone();
-        let mut left: Vec<Module> = from.into_iter().collect();
-        while let Some((of, module)) = left.pop() {
-            let text = self.read(&path_of(&(of.clone(), module)));
-            for line in text.lines().filter(|line| line.starts_with("use Rattle·")) {
-                if let Some((next, _)) = import(line, &of) {
-                    if reached.insert(next.clone()) {
-                        left.push(next);
-                    }
-                }
-            }
-        }
-        reached
-    }
 }
 
 /// What separates words, of code and of definitions.
 fn words(text: &str) -> BTreeSet<&str> {
     text.split(|c: char| c.is_whitespace() || "(){}[];,.⌜⌝".contains(c)).collect()
+}
+
+/// Whether a name is one of the words; an operator where its parts are.
+fn is_word(name: &str, words: &BTreeSet<&str>) -> bool {
+    let is_operator = name.starts_with('_') || name.ends_with('_');
+    words.contains(name) || is_operator && name.split('_').filter(|part| !part.is_empty()).all(|part| words.contains(part))
 }
 
 /// A text without its comments.
@@ -154,10 +143,12 @@ fn sources(text: &str, own: &str, modules: &BTreeMap<Module, Vec<(String, String
     found
 }
 
-/// The name of the definition that a line of specs/ begins.
+/// The name of the definition that a line of specs/ begins. In a module with parameters it stands further right, as a record's fields do, which are
+/// no definitions.
 fn begun(line: &str) -> Option<&str> {
     const STARTS: [&str; 5] = ["unfoldable", "abbrev", "pub", "record", "data"];
-    let mut words = line.split(' ');
+    let inner = line.strip_prefix("  ").filter(|inner| ["unfoldable ", "abbrev "].iter().any(|start| inner.starts_with(start)));
+    let mut words = inner.unwrap_or(line).split(' ');
     let first = words.next().filter(|word| STARTS.contains(word));
     first.and_then(|_| words.find(|word| !STARTS.contains(word)))
 }
@@ -165,7 +156,7 @@ fn begun(line: &str) -> Option<&str> {
 /// The definitions of a file of specs/, each with its text: it begins at a line that says so and ends where the next begins.
 fn defined(text: &str) -> Vec<(String, String)> {
     let mut found: Vec<(String, String)> = Vec::new();
-    for line in code(text).lines().filter(|line| !line.starts_with("use ")) {
+    for line in code(text).lines().filter(|line| !["use ", "module ", "infix"].iter().any(|start| line.starts_with(start))) {
         if let Some(name) = begun(line) {
             found.push((name.to_string(), String::new()));
         }
@@ -231,7 +222,8 @@ impl Definitions {
                     let sources = sources(&self.texts[&module], &module.0, &self.known);
                     let here = known.iter().map(|(other, _)| (other.clone(), module.clone()));
                     let all: BTreeMap<String, Module> = sources.into_iter().chain(here).collect();
-                    next.extend(words(body).into_iter().filter_map(|word| Some((all.get(word)?.clone(), word.to_string()))));
+                    let words = words(body);
+                    next.extend(all.into_iter().filter(|(name, _)| is_word(name, &words)).map(|(name, module)| (module, name)));
                 }
             }
         }
@@ -362,23 +354,22 @@ fn functions_block(functions: &[Public]) -> String {
     text
 }
 
-fn definitions_block<'a>(repository: &Repository, functions: impl Iterator<Item = &'a Public>) -> String {
+fn definitions_block<'a>(all: &Definitions, functions: impl Iterator<Item = &'a Public>) -> String {
     let cited = functions.flat_map(|it| it.promises.iter().flat_map(|promise| &promise.cited));
-    let reached = repository.reached(cited.map(|(_, module)| module.clone()).collect());
-    let mut by_crate: BTreeMap<&str, Vec<(&str, usize)>> = BTreeMap::new();
-    for module in &reached {
-        let text = code(&repository.read(&path_of(module)));
-        let lines = text.lines().filter(|line| !line.trim().is_empty() && !line.starts_with("use ")).count();
-        by_crate.entry(&module.0).or_default().push((&module.1, lines));
+    let reached = all.reached(cited.map(|(name, module)| (module.clone(), name.clone())).collect(), &[]);
+    let files: BTreeSet<&Module> = reached.iter().map(|(module, _)| module).collect();
+    let mut by_crate: BTreeMap<&str, Vec<String>> = BTreeMap::new();
+    let mut sum = 0;
+    for module in &files {
+        let lines = all.lines(module, &reached);
+        sum += lines;
+        by_crate.entry(&module.0).or_default().push(format!("{} ({lines})", module.1));
     }
     let mut text = String::from("| crate | definitions (lines) |\n|---|---|\n");
-    let mut sum = 0;
-    for (of, modules) in by_crate {
-        let names: Vec<String> = modules.iter().map(|(module, lines)| format!("{module} ({lines})")).collect();
-        sum += modules.iter().map(|(_, lines)| lines).sum::<usize>();
-        text += &format!("| [{of}](../crates/{of}/specs) | {} |\n", names.join(", "));
+    for (of, files) in by_crate {
+        text += &format!("| [{of}](../crates/{of}/specs) | {} |\n", files.join(", "));
     }
-    text + &format!("\n{} files, {sum} lines, without comments, imports and blanks.\n", reached.len())
+    text + &format!("\n{} files, {sum} lines, without comments, imports and blanks.\n", files.len())
 }
 
 /// What an edit makes wrong.
@@ -534,7 +525,7 @@ fn main() {
     let blocks = [
         ("functions", functions_block(&functions)),
         ("paths", paths.block()),
-        ("definitions", definitions_block(&repository, functions.iter().chain(&program))),
+        ("definitions", definitions_block(&all, functions.iter().chain(&program))),
         ("assumed", axioms_block(&repository)),
         ("wrong programs", programs),
         ("wrong definitions", definitions),

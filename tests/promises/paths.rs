@@ -441,8 +441,7 @@ impl<'a> Paths<'a> {
             types_before.extend(reading.types);
         }
         table += &format!(
-            "\nAll paths together have {} lines of definitions and {} of types. What to read on each, in this order, with the lines that count of each \
-             file:\n\n",
+            "\nAll paths together have {} lines of definitions and {} of types. What to read on each, in this order, with the lines of each file:\n\n",
             self.lines(&before),
             self.type_lines(&types_before)
         );
@@ -514,7 +513,7 @@ fn begins_text(from: &[(&str, &str, &str)]) -> String {
 fn parts(text: &str) -> (String, Vec<(String, String)>) {
     let head: Vec<&str> = text.lines().take_while(|line| line.starts_with("--")).collect();
     let (mut found, mut comment): (Vec<(String, String)>, String) = (Vec::new(), String::new());
-    for line in text.lines().skip(head.len()).filter(|line| !line.starts_with("use ")) {
+    for line in text.lines().skip(head.len()).filter(|line| !line.starts_with("use ") && !line.starts_with("module ")) {
         if let Some(name) = begun(line) {
             found.push((name.to_string(), std::mem::take(&mut comment) + line + "\n"));
         } else if line.starts_with("--") {
