@@ -1,5 +1,5 @@
 # For a newcomer: `make demo` and `make test`. They need the Rattle kit (the command `rt`).
-.PHONY: demo command install test bench fuzz promises
+.PHONY: demo command install test bench fuzz promises trust reading figure
 PREFIX ?= /usr/local
 VERSION = $(shell sed -n 's/^\#define MARRUBIGAI_VERSION "\(.*\)"/\1/p' include/marrubigai.h)
 
@@ -33,6 +33,19 @@ N ?= 100000
 fuzz:
 	@bash tests/fuzz.sh $(N) $(SEED)
 
-# after `make test`: the public functions, the definitions that they promise, what is assumed, wrong programs and definitions
-promises:
-	@mkdir -p target/test && rustc -O --edition 2021 -o target/test/promises tests/promises/main.rs && target/test/promises print .
+# after `make test`: the public functions, the definitions that they promise, what is assumed, wrong programs and definitions; `trust` writes
+# them into docs/TRUST.md
+promises: target/test/promises
+	@$< print .
+trust: target/test/promises
+	@$< write .
+
+# what there is to read for one promise, in its order: make reading OF=certify; docs/TRUST.md has the paths
+reading: target/test/promises
+	@$< read "$(OF)" .
+target/test/promises: $(wildcard tests/promises/*.rs)
+	@mkdir -p $(@D) && rustc -O --edition 2021 -o $@ tests/promises/main.rs
+
+# the figure and the table of families in docs/ARCHITECTURE.md, from crates.txt
+figure:
+	@bash scripts/figure.sh

@@ -1,31 +1,30 @@
 #!/usr/bin/env bash
-# The table of layers in docs/ARCHITECTURE.md against crates.txt: it has every crate once, and each crate imports only crates of
-# lower rows, or further right in its own. One check for each crate. And each name that a file imports is used there: one check for each.
+# crates.txt: each crate stands once, in a family, and imports only crates before it; one check for each. The table of families in docs/ARCHITECTURE.md, and
+# the graph and the figure beside it, are those of crates.txt. And each name that a file imports is used there: one check for each.
 set -u
 cd "$(dirname "$0")/.." || exit 2
 
-layers() {
-  sed -n '/^## Layers/,/^## Where/p' docs/ARCHITECTURE.md | awk -F'|' '
-    FNR == NR { # the table: its second column has crates in backticks, numbered here as they stand
-      n = split($3, part, "`")
-      for (k = 2; k < n; k += 2) { at[part[k]] = ++count; times[part[k]]++ }
-      next
-    }
-    { sub(/#.*/, "") }
-    /:/ {
-      split($0, side, ":")
-      crate = side[1]
-      known[crate] = 1
-      why = times[crate] == 1 ? "" : " stands in the table " times[crate] + 0 " times"
-      for (n = split(side[2], import, " "); n > 0; n--)
-        if (crate in at && import[n] in at && at[import[n]] < at[crate]) why = why " imports " import[n] ", which stands higher"
+order() { # a list of crates: read for their places, then for their imports
+  awk '
+    /^#/ { if (/^# [^:]+: ./) families++; else { failed++; print "FAILED: a comment that names no family: " $0 }; next }
+    { colon = index($0, ":"); crate = substr($0, 1, colon - 1) }
+    FNR == NR { place[crate] = FNR; times[crate]++; named[crate] = families; next }
+    {
+      why = times[crate] == 1 ? "" : " stands there " times[crate] " times"
+      if (!named[crate]) why = why " stands in no family"
+      for (n = split(substr($0, colon + 1), import, " "); n > 0; n--)
+        if (import[n] in place && place[import[n]] >= FNR) why = why " imports " import[n] ", which stands behind it"
       if (why == "") passed++; else { failed++; print "FAILED: " crate why }
     }
-    END {
-      for (crate in at) if (!(crate in known)) { failed++; print "FAILED: " crate " is no crate" }
-      printf "%d passed, %d failed\n", passed, failed
-    }' - crates.txt
+    END { printf "%d passed, %d failed\n", passed, failed }' "$1" "$1"
 }
+
+holds() { # what is wrong where the command fails, command ..
+  local said
+  if said=$("${@:2}" 2>&1); then echo "1 passed, 0 failed"; else printf '%s\n' "$(head -n 5 <<<"$said")" "FAILED: $1" "0 passed, 1 failed"; fi
+}
+table() { sed -n '/^<!-- families -->$/,/^<!-- end -->$/p' docs/ARCHITECTURE.md | sed '1d;$d'; }
+families() { awk -v form="$1" -f scripts/families.awk crates.txt; }
 
 # A name is used where it is a word of the rest of the file, comments apart; an operator where its parts are.
 imports() { # files
@@ -60,13 +59,20 @@ imports() { # files
 }
 sample=$(mktemp)
 trap 'rm -f "$sample"' EXIT
-printf '%s\n' 'use A.{b, c as d, _+_, _*_, if_then_}' '-- b * f' 'd = if 1 then 2 + 3 -- b' > "$sample"
 
 {
-  layers
+  order crates.txt
+  # of the sample, b stands before what it imports, c twice, and d in no family
+  printf '%s\n' 'd:' '# f: one' 'a: io d' 'b: c' 'c: a' 'c: a' > "$sample"
+  holds "the rule of the order" [ "$(order "$sample" | tail -n 1)" = "1 passed, 4 failed" ]
+  holds "the table of families is not that of crates.txt (make figure)" diff <(table) <(families table)
+  holds "docs/architecture.dot is not the graph of crates.txt (make figure)" diff docs/architecture.dot <(families dot)
+  holds "docs/architecture.svg is not drawn from docs/architecture.dot (make figure)" \
+    grep -qxF "<!-- graph: $(cksum < docs/architecture.dot) -->" docs/architecture.svg
   imports $(find crates -path '*/must-fail' -prune -o \( -name '*.antt' -o -name '*.rt' \) -print | sort)
   # of the sample b and _*_ are not used
-  [ "$(imports "$sample" | tail -n 1)" = "3 passed, 2 failed" ] && echo "1 passed, 0 failed" || printf '%s\n' "FAILED: the rule of imports" "0 passed, 1 failed"
+  printf '%s\n' 'use A.{b, c as d, _+_, _*_, if_then_}' '-- b * f' 'd = if 1 then 2 + 3 -- b' > "$sample"
+  holds "the rule of imports" [ "$(imports "$sample" | tail -n 1)" = "3 passed, 2 failed" ]
 } | awk '
   /^[0-9]+ passed, [0-9]+ failed$/ { passed += $1; failed += $3; next }
   { print }

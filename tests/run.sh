@@ -130,7 +130,7 @@ start "the waveform of a run, by GTKWave's converters" waveform "$logs/waveform"
 start "the examples' sheets, and what the pages show of them" examples bash tests/examples.sh "$frames" "$replay"
 start "each must-fail edit is refused at a fact" edits bash tests/edits.sh
 start "wires, codes and clause numbers are kept apart" types bash tests/types.sh
-start "the table of layers is that of the imports" layers bash tests/layers.sh
+start "families of crates, their table and figure, and imports" layers bash tests/layers.sh
 start "citations and quotes stand in docs/RULES.md" rules "$logs/rules" .
 start "docs/TRUST.md says what the repository has" promises "$logs/promises" check .
 report

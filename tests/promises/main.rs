@@ -1,11 +1,15 @@
 //! What is promised and what must be believed, read off the repository: the public functions with the definitions that their
-//! contracts cite, the files in which those definitions stand, which of them each demand needs, the wrong programs and definitions that are
+//! contracts cite, the files in which those definitions stand, which of them each promise needs, the wrong programs and definitions that are
 //! refused, and the C functions whose contracts the check assumes. `print` prints it as docs/TRUST.md has it, `write` puts it there, and `check`
-//! holds the page to it.
+//! holds the page to it. `read` prints what there is to read for one promise.
 //! `check` also wants each definition in specs/ reached by the contract of some function: what only proofs need stands beside them.
 //! The last line of `check` is the total.
-//! Arguments: print, write or check; the repository's folder. The check's own output is read from target/log (after `rt ci` or `rt check`).
+//! Arguments: print, write or check, and the repository's folder; or read, the path's label, and the folder. What the proofs' check said is read from
+//! target/log (after `rt ci` or `rt check`), but for `read`.
 
+mod paths;
+
+use paths::{Paths, PATHS};
 use std::collections::{BTreeMap, BTreeSet};
 use std::fs;
 use std::path::{Path, PathBuf};
@@ -58,8 +62,15 @@ struct Public {
     has_requires: bool,
     /// The parameters that are lent for writing and of whose last contents nothing is promised.
     unsaid: Vec<String>,
-    /// What each `ensures` is called, and the definitions that it cites.
-    promises: Vec<(String, Vec<(String, Module)>)>,
+    promises: Vec<Promise>,
+}
+
+/// An `ensures`.
+struct Promise {
+    called: String,
+    says: String,
+    /// The definitions that it cites.
+    cited: Vec<(String, Module)>,
 }
 
 impl Repository {
@@ -100,28 +111,17 @@ impl Repository {
         }
         all
     }
-
-    /// The definitions' files that these reach by their `use` lines.
-    fn reached(&self, from: BTreeSet<Module>) -> BTreeSet<Module> {
-        let mut reached = from.clone();
-        let mut left: Vec<Module> = from.into_iter().collect();
-        while let Some((of, module)) = left.pop() {
-            let text = self.read(&path_of(&(of.clone(), module)));
-            for line in text.lines().filter(|line| line.starts_with("use Rattle·")) {
-                if let Some((next, _)) = import(line, &of) {
-                    if reached.insert(next.clone()) {
-                        left.push(next);
-                    }
-                }
-            }
-        }
-        reached
-    }
 }
 
 /// What separates words, of code and of definitions.
 fn words(text: &str) -> BTreeSet<&str> {
     text.split(|c: char| c.is_whitespace() || "(){}[];,.⌜⌝".contains(c)).collect()
+}
+
+/// Whether a name is one of the words; an operator where its parts are.
+fn is_word(name: &str, words: &BTreeSet<&str>) -> bool {
+    let is_operator = name.starts_with('_') || name.ends_with('_');
+    words.contains(name) || is_operator && name.split('_').filter(|part| !part.is_empty()).all(|part| words.contains(part))
 }
 
 /// A text without its comments.
@@ -143,13 +143,22 @@ fn sources(text: &str, own: &str, modules: &BTreeMap<Module, Vec<(String, String
     found
 }
 
+/// The name of the definition that a line of specs/ begins. In a module with parameters it stands further right, as a record's fields do, which are
+/// no definitions.
+fn begun(line: &str) -> Option<&str> {
+    const STARTS: [&str; 5] = ["unfoldable", "abbrev", "pub", "record", "data"];
+    let inner = line.strip_prefix("  ").filter(|inner| ["unfoldable ", "abbrev "].iter().any(|start| inner.starts_with(start)));
+    let mut words = inner.unwrap_or(line).split(' ');
+    let first = words.next().filter(|word| STARTS.contains(word));
+    first.and_then(|_| words.find(|word| !STARTS.contains(word)))
+}
+
 /// The definitions of a file of specs/, each with its text: it begins at a line that says so and ends where the next begins.
 fn defined(text: &str) -> Vec<(String, String)> {
     let mut found: Vec<(String, String)> = Vec::new();
-    for line in code(text).lines().filter(|line| !line.starts_with("use ")) {
-        if ["unfoldable ", "abbrev ", "pub ", "record ", "data "].iter().any(|start| line.starts_with(start)) {
-            let name = line.split(' ').find(|word| !["unfoldable", "abbrev", "pub", "record", "data"].contains(word));
-            found.push((name.unwrap_or("").to_string(), String::new()));
+    for line in code(text).lines().filter(|line| !["use ", "module ", "infix"].iter().any(|start| line.starts_with(start))) {
+        if let Some(name) = begun(line) {
+            found.push((name.to_string(), String::new()));
         }
         if let Some((_, body)) = found.last_mut() {
             *body += line;
@@ -203,15 +212,18 @@ impl Definitions {
         let mut reached = BTreeSet::new();
         while let Some((module, name)) = next.pop() {
             let known = self.known.get(&module).map(Vec::as_slice).unwrap_or(&[]);
-            // what is no definition's own name is a constructor of one of the file
-            let wanted = |(own, body): &&(String, String)| *own == name || (!known.iter().any(|(other, _)| *other == name) && words(body).contains(name.as_str()));
+            // what is no definition's own name is a constructor of a type of the file
+            let is_own = known.iter().any(|(other, _)| *other == name);
+            let has = |body: &str| body.starts_with("pub data ") && words(body).contains(name.as_str());
+            let wanted = |(own, body): &&(String, String)| *own == name || (!is_own && has(body));
             for (own, body) in known.iter().filter(wanted) {
                 let one = (module.clone(), own.clone());
                 if !shut.contains(&one) && reached.insert(one) {
                     let sources = sources(&self.texts[&module], &module.0, &self.known);
                     let here = known.iter().map(|(other, _)| (other.clone(), module.clone()));
                     let all: BTreeMap<String, Module> = sources.into_iter().chain(here).collect();
-                    next.extend(words(body).into_iter().filter_map(|word| Some((all.get(word)?.clone(), word.to_string()))));
+                    let words = words(body);
+                    next.extend(all.into_iter().filter(|(name, _)| is_word(name, &words)).map(|(name, module)| (module, name)));
                 }
             }
         }
@@ -239,97 +251,6 @@ impl Definitions {
         let all = self.known.iter().flat_map(|(module, known)| known.iter().map(move |(name, _)| (module.clone(), name.clone())));
         all.filter(|one| !reached.contains(one)).map(|((of, _), name)| format!("{of}/{name}")).collect()
     }
-}
-
-/// A reader's way to one promise.
-struct ReadersPath {
-    promise: &'static str,
-    /// where it begins
-    from: &'static [&'static str],
-    /// what it speaks of without saying what it is, so that a reader need not open it
-    shut: &'static [&'static str],
-}
-
-/// Demand 3 takes the numbers that the calls leave and the formula that they are together as they come, what passes the tests by the theorem that
-/// says which netlists those are, and the depth as any.
-const UNOPENED: [&str; 10] = [
-    "model/Numbers/formula",
-    "model/Numbers/numbersOf",
-    "model/Groups/groupOrder",
-    "model/Groups/inDepth",
-    "model/Claim/Stated",
-    "netlist_tests/Record/recordVerdict",
-    "call_unpacked/Calls/groupSent",
-    "call_unpacked/Calls/groupLeaves",
-    "program_input/Input/inputVerdict",
-    "sheet_lines/Depth/depthLine",
-];
-
-/// The ways in their order: each is told less what the ones before it have.
-const PATHS: [ReadersPath; 8] = [
-    ReadersPath {
-        promise: "no run to depth k, certified",
-        from: &["refutation_depth/Certified/CertifiedInput"],
-        shut: &[],
-    },
-    ReadersPath {
-        promise: "no run at any depth, certified, besides",
-        from: &["invariant_check/Forever/CertifiedForever"],
-        shut: &[],
-    },
-    ReadersPath {
-        promise: "demand 3 of a record, besides",
-        from: &["calls/LentCalls/HeadingClaim", "calls/LentCalls/AcceptedTheorem"],
-        shut: &UNOPENED,
-    },
-    ReadersPath {
-        promise: "demand 3 of a sheet, besides",
-        from: &["sheet_reader/ReadCall/SheetDelivered", "program_input/Input/InputEncoded"],
-        shut: &UNOPENED,
-    },
-    ReadersPath {
-        promise: "demand 2, besides",
-        from: &["model/Numbers/formula", "call_unpacked/Calls/groupLeaves", "call_unpacked/Calls/headingSent"],
-        shut: &["call_unpacked/Calls/groupVerdict", "call_unpacked/Calls/headingVerdict"],
-    },
-    ReadersPath {
-        promise: "demand 1 of the calls over a record, besides",
-        from: &["call_unpacked/Calls/groupVerdict", "call_unpacked/Calls/headingVerdict", "calls/LentCalls/groupFor", "calls/LentCalls/headingFor"],
-        shut: &[],
-    },
-    ReadersPath {
-        promise: "demand 1 of a sheet, besides",
-        from: &["sheet_tests/Sheet/sheetVerdict"],
-        shut: &[],
-    },
-    ReadersPath {
-        promise: "the export of a record, and from a text, besides",
-        from: &["aiger_export/ExportCall/exportSent", "aiger_export/ExportCall/exportLeaves", "aiger_export/Exported/ExportTheorem"],
-        shut: &[],
-    },
-];
-
-/// A row for each way, with the files whose definitions it needs and the lines of these.
-fn paths_block(definitions: &Definitions) -> String {
-    let mut text = String::from("| promise | begins with | definitions to read (lines) | lines |\n|---|---|---|---|\n");
-    let mut before = BTreeSet::new();
-    for path in &PATHS {
-        let places = |names: &[&str]| names.iter().map(|place| definitions.at(place)).collect::<Vec<_>>();
-        let reached = definitions.reached(places(path.from), &places(path.shut));
-        let new: BTreeSet<Definition> = reached.difference(&before).cloned().collect();
-        let mut by_crate: BTreeMap<&str, Vec<String>> = BTreeMap::new();
-        let mut sum = 0;
-        for module in new.iter().map(|(module, _)| module).collect::<BTreeSet<_>>() {
-            let lines = definitions.lines(module, &new);
-            sum += lines;
-            by_crate.entry(&module.0).or_default().push(format!("{} ({lines})", module.1));
-        }
-        let files: Vec<String> = by_crate.iter().map(|(of, files)| format!("[{of}](../crates/{of}/specs): {}", files.join(", "))).collect();
-        let begins: Vec<String> = path.from.iter().filter_map(|place| place.rsplit('/').next()).map(|name| format!("`{name}`")).collect();
-        text += &format!("| {} | {} | {} | {sum} |\n", path.promise, begins.join(" "), files.join("; "));
-        before.extend(reached);
-    }
-    text
 }
 
 fn path_of((of, module): &Module) -> String {
@@ -397,10 +318,11 @@ fn public(file: &str, name: &str, indent: &str, contract: &str, cited: &BTreeMap
         let (called, body) = clause.split_once('{').expect("an ensures");
         let words: BTreeSet<&str> = body.split(|c: char| c.is_whitespace() || "()⌜⌝{}".contains(c)).collect();
         let definitions = cited.iter().filter(|(name, _)| words.contains(name.as_str()));
-        promises.push((
-            called.trim().to_string(),
-            definitions.map(|(name, module)| (name.clone(), module.clone())).collect(),
-        ));
+        promises.push(Promise {
+            called: called.trim().to_string(),
+            says: body.trim().trim_end_matches('}').trim().to_string(),
+            cited: definitions.map(|(name, module)| (name.clone(), module.clone())).collect(),
+        });
         bodies += body;
     }
     let lent = head.split(['(', ',']).filter_map(|parameter| {
@@ -421,9 +343,9 @@ fn functions_block(functions: &[Public]) -> String {
     let mut text = String::from("| function | promise: the definitions that it cites |\n|---|---|\n");
     for it in functions {
         let own = it.file.split('/').next().expect("a crate");
-        let promises = it.promises.iter().map(|(called, definitions)| {
-            let names: Vec<String> = definitions.iter().map(|(name, _)| format!("`{name}`")).collect();
-            let called = if called.is_empty() { String::new() } else { format!("{called}: ") };
+        let promises = it.promises.iter().map(|promise| {
+            let names: Vec<String> = promise.cited.iter().map(|(name, _)| format!("`{name}`")).collect();
+            let called = if promise.called.is_empty() { String::new() } else { format!("{}: ", promise.called) };
             format!("{called}{}", names.join(" "))
         });
         let promises: Vec<String> = promises.collect();
@@ -432,23 +354,22 @@ fn functions_block(functions: &[Public]) -> String {
     text
 }
 
-fn definitions_block<'a>(repository: &Repository, functions: impl Iterator<Item = &'a Public>) -> String {
-    let cited = functions.flat_map(|it| it.promises.iter().flat_map(|(_, names)| names));
-    let reached = repository.reached(cited.map(|(_, module)| module.clone()).collect());
-    let mut by_crate: BTreeMap<&str, Vec<(&str, usize)>> = BTreeMap::new();
-    for module in &reached {
-        let text = code(&repository.read(&path_of(module)));
-        let lines = text.lines().filter(|line| !line.trim().is_empty() && !line.starts_with("use ")).count();
-        by_crate.entry(&module.0).or_default().push((&module.1, lines));
+fn definitions_block<'a>(all: &Definitions, functions: impl Iterator<Item = &'a Public>) -> String {
+    let cited = functions.flat_map(|it| it.promises.iter().flat_map(|promise| &promise.cited));
+    let reached = all.reached(cited.map(|(name, module)| (module.clone(), name.clone())).collect(), &[]);
+    let files: BTreeSet<&Module> = reached.iter().map(|(module, _)| module).collect();
+    let mut by_crate: BTreeMap<&str, Vec<String>> = BTreeMap::new();
+    let mut sum = 0;
+    for module in &files {
+        let lines = all.lines(module, &reached);
+        sum += lines;
+        by_crate.entry(&module.0).or_default().push(format!("{} ({lines})", module.1));
     }
     let mut text = String::from("| crate | definitions (lines) |\n|---|---|\n");
-    let mut sum = 0;
-    for (of, modules) in by_crate {
-        let names: Vec<String> = modules.iter().map(|(module, lines)| format!("{module} ({lines})")).collect();
-        sum += modules.iter().map(|(_, lines)| lines).sum::<usize>();
-        text += &format!("| [{of}](../crates/{of}/specs) | {} |\n", names.join(", "));
+    for (of, files) in by_crate {
+        text += &format!("| [{of}](../crates/{of}/specs) | {} |\n", files.join(", "));
     }
-    text + &format!("\n{} files, {sum} lines, without comments, imports and blanks.\n", reached.len())
+    text + &format!("\n{} files, {sum} lines, without comments, imports and blanks.\n", files.len())
 }
 
 /// What an edit makes wrong.
@@ -576,22 +497,35 @@ fn axioms_block(repository: &Repository) -> String {
 
 fn main() {
     let arguments: Vec<String> = std::env::args().skip(1).collect();
-    let (mode, folder) = match arguments.as_slice() {
-        [mode, folder] => (mode, folder),
+    let arguments: Vec<&str> = arguments.iter().map(String::as_str).collect();
+    let (mode, label, folder) = match arguments.as_slice() {
+        [mode @ ("print" | "write" | "check"), folder] => (*mode, "", *folder),
+        ["read", label, folder] => ("read", *label, *folder),
         _ => {
-            eprintln!("arguments: print, write or check, the repository's folder");
+            eprintln!("arguments: print, write or check, the repository's folder; or read, a path's label, the folder");
             std::process::exit(2);
         }
     };
     let repository = Repository(PathBuf::from(folder));
     let functions = repository.functions_of(&SHOWN, is_shown);
     let program = repository.functions_of(&PROGRAM, |_, _| true);
-    let ([programs, definitions], short) = edits_blocks(&repository, &functions);
     let all = Definitions::of(&repository);
+    let paths = Paths::of(&repository, &all, functions.iter().chain(&program).collect());
+    if mode == "read" {
+        match PATHS.iter().find(|path| path.label == label) {
+            Some(path) => print!("{}", paths.text(path)),
+            None => {
+                eprintln!("the paths are {}", PATHS.map(|path| path.label).join(", "));
+                std::process::exit(2);
+            }
+        }
+        return;
+    }
+    let ([programs, definitions], short) = edits_blocks(&repository, &functions);
     let blocks = [
         ("functions", functions_block(&functions)),
-        ("paths", paths_block(&all)),
-        ("definitions", definitions_block(&repository, functions.iter().chain(&program))),
+        ("paths", paths.block()),
+        ("definitions", definitions_block(&all, functions.iter().chain(&program))),
         ("assumed", axioms_block(&repository)),
         ("wrong programs", programs),
         ("wrong definitions", definitions),
@@ -633,6 +567,8 @@ fn main() {
     for what in short {
         check(what, false);
     }
+    let faults = paths.faults();
+    check(format!("the paths: {}", faults.join(", ")), faults.is_empty());
     let unreached = all.unreached(&repository);
     for name in &unreached {
         check(format!("{name} is reached by no contract: it belongs to proofs/"), UNREACHED.iter().any(|(known, _)| known == name));

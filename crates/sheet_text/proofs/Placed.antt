@@ -3,7 +3,7 @@
 use Prim.Native.Nat.{ℕ, zero, suc, _+_, _*_, _≤_, _<_}
 use mathlib.Core.Path.{_≡_, refl, sym, _∙_, ap, ap₂}
 use mathlib.Core.Bool.{Bool, true, false, cond}
-use mathlib.Core.List.{List, [], _++_, append-assoc, append-nil}
+use mathlib.Core.List.{List, _++_, append-assoc, append-nil}
 use native.Mathlib.Nat.{add-zero, zero-mul, one-mul}
 use native.Mathlib.Omega.{arith}
 use lib.Dec.{eqb}
@@ -12,7 +12,7 @@ use Rattle.model.specs.Gather.{gather}
 use Rattle.model.specs.Netlist.{Netlist, startOf}
 use Rattle.model.proofs.Gather.{gather-same}
 use Rattle.decimal.specs.Digits.{field, emptyField}
-use Rattle.netlist.specs.Places.{controlLine, lineAt, secondEnableLine}
+use Rattle.netlist.specs.Places.{controlLine, lineAt}
 use Rattle.netlist.specs.declared.Line.{Line}
 use Rattle.netlist.specs.declared.Line.the-variants as Due
 use Rattle.netlist.proofs.Places.{at-sizes, at-memory, at-latch, at-gate, at-address, at-data, at-second-address, at-second-enable, at-control}
