@@ -27,7 +27,7 @@ const FED_ANYTHING: [&str; 4] = [
 
 /// Demand 3 takes the numbers that the calls leave and the formula that they are together as they come, what passes the tests by the theorem that
 /// says which netlists those are, and the depth as any.
-const UNOPENED: [&str; 10] = [
+const UNOPENED: [&str; 8] = [
     "model/Numbers/formula",
     "model/Numbers/numbersOf",
     "model/Groups/groupOrder",
@@ -36,8 +36,6 @@ const UNOPENED: [&str; 10] = [
     "netlist_tests/Record/recordVerdict",
     "call_unpacked/Calls/groupSent",
     "call_unpacked/Calls/groupLeaves",
-    "program_input/Input/inputVerdict",
-    "sheet_lines/Depth/depthLine",
 ];
 
 /// The bound on numbers says of whatever is written how large it is.
