@@ -1,4 +1,4 @@
--- Laws of specs/ForeverCall.antt and Forever.antt: which test decides, what lies in the store, and that what is certified holds. No contract cites this
+-- Laws of specs/ForeverCall.antt and CertifiedForever.antt: which test decides, what lies in the store, and that what is certified holds. No contract cites this
 -- file.
 use Prim.Native.Nat.{ℕ, suc, _+_, _*_, _/_, _%_, _≤_}
 use mathlib.Core.Path.{_≡_, refl, sym, _∙_, ap}
@@ -30,12 +30,13 @@ use Rattle.refutation_depth.specs.Certificate.{refusedWith, certificateReply, s
 use Rattle.refutation_depth.proofs.Certificate.{certified-reply}
 use Rattle.invariant_terms.specs.StateBits.{stateCount}
 use Rattle.invariant_terms.proofs.Walk.{holds-same}
-use Rattle.invariant_axioms.specs.declared.Law.{Law}
-use Rattle.invariant_axioms.specs.Laws.{requested, lawFits, clauseOf}
+use Rattle.invariant_laws.specs.declared.Law.{Law}
+use Rattle.invariant_laws.specs.LawForms.{lawFits, clauseOf}
+use Rattle.invariant_axioms.specs.Laws.{requested}
 use Rattle.invariant_formula.specs.Formula.{requestedClause, stepFormula}
 use Rattle.invariant_formula.specs.AtStart.{bitStarts, numberStarts, holdsAtStart}
 use Rattle.invariant_formula.proofs.Soundness.{invariant→forever}
-use Rattle.invariant_check.specs.Forever.{CertifiedForever}
+use Rattle.invariant_check.specs.CertifiedForever.{CertifiedForever}
 use Rattle.invariant_check.specs.ForeverCall.{storeNeed, foreverVerdict, stepFound, foreverSent, foreverStore, stepScratch, foreverScratch}
 
 -- a clause of a law has five numbers

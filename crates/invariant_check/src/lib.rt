@@ -16,7 +16,7 @@ ghost use Rattle.refusals.specs.Slices.{testRoom, contentsAfter};
 ghost use Rattle.netlist.specs.NetOf.{netOf, alone};
 ghost use Rattle.refutation_depth.specs.Certificate.{certificateReply, scratchAfter, KeptBehind};
 ghost use Rattle.invariant_formula.specs.Formula.{stepFormula};
-ghost use Rattle.invariant_check.specs.Forever.{CertifiedForever};
+ghost use Rattle.invariant_check.specs.CertifiedForever.{CertifiedForever};
 ghost use Rattle.invariant_check.specs.ForeverCall.{storeNeed, stepFound, foreverSent, foreverStore, stepScratch, foreverScratch};
 
 // Puts the clauses of the step at the start of the store and the lemmas behind them, and answers where these begin.

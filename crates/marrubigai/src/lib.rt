@@ -51,7 +51,7 @@ ghost use Rattle.aiger_export.specs.Exported.{ExportTheorem};
 ghost use Rattle.refutation_depth.specs.Certified.{CertifiedInput};
 ghost use Rattle.refutation_depth.specs.Certificate.{certificateSent, storeAfter, marksScratch, KeptBehind};
 ghost use Rattle.sheet_one_port.specs.OnePortCall.{onePortSent, onePortLeaves, OnePortTheorem};
-ghost use Rattle.invariant_check.specs.Forever.{CertifiedForever};
+ghost use Rattle.invariant_check.specs.CertifiedForever.{CertifiedForever};
 ghost use Rattle.invariant_check.specs.ForeverCall.{foreverSent, foreverStore, foreverScratch};
 ghost use Rattle.call_replies.specs.Replies.{groupOf, orderFor, nextNumbers, sheetNumbers, headerVersion};
 
