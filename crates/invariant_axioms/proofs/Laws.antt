@@ -20,13 +20,15 @@ use Rattle.model.proofs.Booleans.{and-true}
 use Rattle.model.proofs.Bits.{bit-fromBits}
 use Rattle.model.proofs.Circuit.{IsFrame, readData-port}
 use Rattle.text_writer.specs.Signed.{partsOf}
-use Rattle.invariant_terms.specs.StateBits.{stateCount, heldBit, wordBit, stateValue}
+use Rattle.invariant_terms.specs.StateBits.{stateCount, heldBit, wordBit}
 use Rattle.invariant_terms.specs.Walk.{isEnd, holdsIn}
-use Rattle.invariant_terms.specs.Terms.{matched, failing, stepAt, stateTerm, term, codeTerm, opposite, numberOf}
-use Rattle.invariant_terms.proofs.StateBits.{latch-bit, held-bit, word-bit, latch-within, held-within, word-within}
+use Rattle.invariant_terms.specs.Terms.{stateTerm, term, codeTerm, opposite, numberOf}
+use Rattle.invariant_terms.proofs.StepValues.{matched, failing, stepAt}
+use Rattle.invariant_terms.proofs.StateBits.{stateValue, latch-bit, held-bit, word-bit, latch-within, held-within, word-within}
 use Rattle.invariant_terms.proofs.Terms.{opposite-value, negated-value, number-value, state-value, next-value, wire-value, match-value, none-value, found-value, code-value, match-none, match-more, match-address, address-match}
-use Rattle.invariant_axioms.specs.declared.Law.{Law}
-use Rattle.invariant_axioms.specs.Laws.{lawOf, noLaw, falseTerm, trueTerm, same, whereTrue, whereFalse, pick, constantLaw, latchLaw, nextLaw, failLaw, gateLaw, readPick, readLaw, wordPick, wordLaw, matchPick, matchLaw, placeLaw, lastLaw, invariantLaw, requested, lawFits, clauseOf}
+use Rattle.invariant_laws.specs.declared.Law.{Law}
+use Rattle.invariant_laws.specs.LawForms.{lawOf, noLaw, falseTerm, trueTerm, same, whereTrue, whereBoth, whereFalse, pick, lawFits, clauseOf}
+use Rattle.invariant_axioms.specs.Laws.{matchPick, placeLaw, lastLaw, invariantLaw, constantLaw, latchLaw, nextLaw, failLaw, gateLaw, readPick, readLaw, wordPick, wordLaw, matchLaw, requested}
 
 -- what a law says under values of the variables
 unfoldable pub Holds : (ℕ → Bool) → Law → Type 0
@@ -59,20 +61,19 @@ module _ (g : ℕ → Bool) where
   unfolding Holds same lawOf
   same-holds b left right e p q = e
 
+  whereBoth-holds : (x y left right : ℕ) → (codeValue g x ≡ true → codeValue g y ≡ true → codeValue g left ≡ codeValue g right)
+      → Holds g (whereBoth x y left right)
+  unfolding Holds whereBoth lawOf
+  whereBoth-holds x y left right e p q =
+      e (not-false-true (codeValue g x) (sym (opposite-value g x) ∙ p)) (not-false-true (codeValue g y) (sym (opposite-value g y) ∙ q))
+
   whereTrue-holds : (x left right : ℕ) → (codeValue g x ≡ true → codeValue g left ≡ codeValue g right) → Holds g (whereTrue x left right)
-  unfolding Holds whereTrue lawOf
-  whereTrue-holds x left right e p q = e (not-false-true (codeValue g x) (sym (opposite-value g x) ∙ p))
+  unfolding whereTrue
+  whereTrue-holds x left right e = whereBoth-holds x x left right (λ p q. e p)
 
   whereFalse-holds : (x left right : ℕ) → (codeValue g x ≡ false → codeValue g left ≡ codeValue g right) → Holds g (whereFalse x left right)
   unfolding Holds whereFalse lawOf
   whereFalse-holds x left right e p q = e p
-
-  -- where two terms are true
-  bothTrue-holds : (x y left right : ℕ) → (codeValue g x ≡ true → codeValue g y ≡ true → codeValue g left ≡ codeValue g right)
-      → Holds g (lawOf (opposite x) (opposite y) left right)
-  unfolding Holds lawOf
-  bothTrue-holds x y left right e p q =
-      e (not-false-true (codeValue g x) (sym (opposite-value g x) ∙ p)) (not-false-true (codeValue g y) (sym (opposite-value g y) ∙ q))
 
 -- A step: a frame of the circuit, and P is false in it or the invariant fails behind it
 pub record IsStep (c : Netlist) (zs : List ℤ) (s : State) (f : ℕ → Bool) (v : Values) : Type 0 where
@@ -100,7 +101,7 @@ module _ {c : Netlist} {zs : List ℤ} {s : State} {f : ℕ → Bool} {v : Value
   true-value = negated-value g b 1 0 ∙ ap not false-value
 
   constant-holds : Holds g (constantLaw c)
-  unfolding Holds constantLaw lawOf
+  unfolding Holds constantLaw whereFalse lawOf
   constant-holds p q = absurd (true≢false (sym true-value ∙ p))
 
   latch-holds : (l : ℕ) → Holds g (latchLaw c l)
@@ -186,9 +187,9 @@ module _ {c : Netlist} {zs : List ℤ} {s : State} {f : ℕ → Bool} {v : Value
         whereFalse-holds g _ _ _
         (λ p. read-is ∙ rw (sym re-is ∙ p) (sym (state-value c zs s v (heldBit c r) (held-within c r r-below) ∙ held-bit c s r r-below)))
 
-    word-holds : Holds g (lawOf (opposite (codeTerm b (port c (suc q) .RE))) (opposite (term b 2 (32 * x + 2 * c .m + q))) (term b 1 (readWire c r)) (stateTerm (wordBit c x t)))
+    word-holds : Holds g (whereBoth (codeTerm b (port c (suc q) .RE)) (term b 2 (32 * x + 2 * c .m + q)) (term b 1 (readWire c r)) (stateTerm (wordBit c x t)))
     word-holds =
-        bothTrue-holds g _ _ _ _
+        whereBoth-holds g _ _ _ _
         (λ p m. read-is
         ∙ rw (sym re-is ∙ p, match-address c v q x q-below x-below few (sym (match-value c zs s v (32 * x + 2 * c .m + q)) ∙ m))
         (sym (state-value c zs s v (wordBit c x t) (word-within c x t x-below t-below) ∙ word-bit c s x t t-below)))
@@ -244,10 +245,10 @@ module _ {c : Netlist} {zs : List ℤ} {s : State} {f : ℕ → Bool} {v : Value
         (sym (address-match c v 0 x (omega arith) x-below (omega (arith, sizes .m-most)) (sym e))
         ∙ ap (matched c v) (sym place) ∙ sym (match-value c zs s v (32 * x + 2 * c .m)) ∙ m)
 
-    written-holds : Holds g (lawOf (opposite (codeTerm b (c .WE))) (opposite (term b 2 (32 * x + 2 * c .m))) (term b 0 (wordBit c x t)) (codeTerm b (c .writeData t)))
+    written-holds : Holds g (whereBoth (codeTerm b (c .WE)) (term b 2 (32 * x + 2 * c .m)) (term b 0 (wordBit c x t)) (codeTerm b (c .writeData t)))
     unfolding wordWritten
     written-holds =
-        bothTrue-holds g _ _ _ _
+        whereBoth-holds g _ _ _ _
         (λ p m. after-is
         ∙ rw (sym we-is ∙ p, eq-eqb x (writeAddress c v) (sym (match-is-true m)))
         (bit-fromBits (c .n) (λ t. codeValue v (c .writeData t)) t t-below ∙ sym (code-value c zs s v (c .writeData t))))
@@ -346,7 +347,7 @@ module _ {c : Netlist} {zs : List ℤ} {s : State} {f : ℕ → Bool} {v : Value
         (same-holds g b _ _ (found-value c zs s v x ∙ failing-here true ∙ rw is (sym (found-value c zs s v (x + 1) ∙ failing-next true))))
         (noLaw-holds g)
 
-    place-holds : (k : ℕ) → Holds g (placeLaw c k x z)
+    place-holds : (k : ℕ) → Holds g (placeLaw b k x z)
     unfolding placeLaw
     place-holds k = go (isEnd z) refl
       where
@@ -361,7 +362,7 @@ module _ {c : Netlist} {zs : List ℤ} {s : State} {f : ℕ → Bool} {v : Value
   unfolding failing holdsIn
   failing-past found x past = rw (drop-of-length-le zs past)
 
-  last-holds : (k x : ℕ) → length zs ≤ x → Holds g (lastLaw c k x)
+  last-holds : (k x : ℕ) → length zs ≤ x → Holds g (lastLaw b k x)
   unfolding lastLaw
   last-holds k x past =
       pick-holds g k _ _ _ _
@@ -370,11 +371,11 @@ module _ {c : Netlist} {zs : List ℤ} {s : State} {f : ℕ → Bool} {v : Value
       (noLaw-holds g)
       (noLaw-holds g)
 
-  invariant-holds : (k x : ℕ) → Holds g (invariantLaw c zs k x)
+  invariant-holds : (k x : ℕ) → Holds g (invariantLaw b zs k x)
   unfolding invariantLaw
   invariant-holds k x = go (ltb x (length zs)) refl
     where
-      go : (p : Bool) → ltb x (length zs) ≡ p → Holds g (cond p (placeLaw c k x (getD zs x (pos 0))) (lastLaw c k x))
+      go : (p : Bool) → ltb x (length zs) ≡ p → Holds g (cond p (placeLaw b k x (getD zs x (pos 0))) (lastLaw b k x))
       go true e = place-holds x (getD zs x (pos 0)) (drop (suc x) zs) (drop-cons zs x (pos 0) (ltb-true x (length zs) e)) (rw add-one) k
       go false e = last-holds k x (ltb-false x (length zs) e)
 
@@ -386,7 +387,7 @@ module _ {c : Netlist} {zs : List ℤ} {s : State} {f : ℕ → Bool} {v : Value
       k = request / 2 % 4
 
       go : (p q r t u w : Bool) → Holds g (cond p (pick k (constantLaw c) (latchLaw c i) (nextLaw c i) (failLaw c))
-          (cond q (gateLaw c k i) (cond r (readLaw c k i j) (cond t (wordLaw c k i j) (cond u (matchLaw c k i j) (cond w (invariantLaw c zs k i) noLaw))))))
+          (cond q (gateLaw c k i) (cond r (readLaw c k i j) (cond t (wordLaw c k i j) (cond u (matchLaw c k i j) (cond w (invariantLaw b zs k i) noLaw))))))
       go true q r t u w = pick-holds g k _ _ _ _ constant-holds (latch-holds i) (next-holds i) fail-holds
       go false true r t u w = gate-holds k i
       go false false true t u w = read-holds k i j

@@ -1,3 +1,3 @@
--- Laws for the proofs of this crate and of those that use it. No contract cites them.
+-- Laws for the crates that use them. No contract cites them.
 pub mod Laws
-pub mod Picked
+pub mod Parts

@@ -1,8 +1,8 @@
--- The laws of one step that may be asked for (RULES H4), by family, and the clause of one. None of this is believed: every law is proved to hold. Cited by the
--- functions of this crate and by what writes the clauses.
+-- The laws of one step that may be asked for (RULES H4), by family. None of this is believed: every law is proved to hold. Cited by what works them out of a
+-- record and by what writes their clauses.
 use Prim.Native.Nat.{ℕ, suc, _+_, _-_, _*_, _/_, _%_, _^_}
-use mathlib.Core.Bool.{Bool, cond, _&&_}
-use mathlib.Core.List.{List, [], _∷_}
+use mathlib.Core.Bool.{cond, _&&_}
+use mathlib.Core.List.{List}
 use lib.Dec.{eqb, leb, ltb}
 use lib.IntN.{ℤ, pos}
 use lib.ListN.{length, getD}
@@ -11,36 +11,9 @@ use Rattle.model.specs.Netlist.{Netlist, port, latchWire, readWire, gateWire}
 use Rattle.text_writer.specs.Signed.{partsOf}
 use Rattle.invariant_terms.specs.StateBits.{stateCount, heldBit, wordBit}
 use Rattle.invariant_terms.specs.Walk.{isEnd}
-use Rattle.invariant_terms.specs.Terms.{stateTerm, term, codeTerm, opposite, numberOf}
-use Rattle.invariant_axioms.specs.declared.Law.{Law}
-
-unfoldable pub lawOf : ℕ → ℕ → ℕ → ℕ → Law
-lawOf guard second left right = record { guard = guard; second = second; left = left; right = right }
-
--- one that says nothing
-unfoldable pub noLaw : Law
-noLaw = lawOf 0 0 0 0
-
--- wire 0 and its opposite are the constants
-unfoldable pub falseTerm : ℕ → ℕ
-falseTerm b = term b 1 0
-
-unfoldable pub trueTerm : ℕ → ℕ
-trueTerm b = falseTerm b + 1
-
--- two terms that are equal, and equal where a term is true, or false
-unfoldable pub same : ℕ → ℕ → ℕ → Law
-same b left right = lawOf (falseTerm b) (falseTerm b) left right
-
-unfoldable pub whereTrue : ℕ → ℕ → ℕ → Law
-whereTrue x left right = lawOf (opposite x) (opposite x) left right
-
-unfoldable pub whereFalse : ℕ → ℕ → ℕ → Law
-whereFalse x left right = lawOf x x left right
-
--- one of four, by number
-unfoldable pub pick : ℕ → Law → Law → Law → Law → Law
-pick k a b c d = cond (eqb k 0) a (cond (eqb k 1) b (cond (eqb k 2) c d))
+use Rattle.invariant_terms.specs.Terms.{stateTerm, term, codeTerm, opposite}
+use Rattle.invariant_laws.specs.LawForms.{noLaw, falseTerm, trueTerm, same, whereTrue, whereBoth, whereFalse, pick}
+use Rattle.invariant_laws.specs.declared.Law.{Law}
 
 -- match 32 y + i of word y, for i = 2 t + q: of no bits; and of one bit more, where that bit of the address, a code, is word y's, and where it is not
 unfoldable pub matchPick : ℕ → ℕ → ℕ → ℕ → ℕ → Law
@@ -51,13 +24,27 @@ matchPick b k i y code =
     (whereFalse agree (term b 2 (32 * y + i + 2)) (falseTerm b))
     noLaw
 
+-- the number z at place h of the invariant, and behind its end: whether it fails from there on, with nothing found yet, and with something found
+unfoldable pub placeLaw : ℕ → ℕ → ℕ → ℤ → Law
+placeLaw b k h z =
+    let after = term b 0 (partsOf z .value - 1) + partsOf z .sign in
+    cond (isEnd z)
+    (pick k (same b (term b 3 h) (trueTerm b)) (same b (term b 4 h) (term b 3 (h + 1))) noLaw noLaw)
+    (pick k (whereTrue after (term b 3 h) (term b 4 (h + 1))) (whereFalse after (term b 3 h) (term b 3 (h + 1))) (same b (term b 4 h) (term b 4 (h + 1))) noLaw)
+
+unfoldable pub lastLaw : ℕ → ℕ → ℕ → Law
+lastLaw b k h = pick k (same b (term b 3 h) (falseTerm b)) (same b (term b 4 h) (falseTerm b)) noLaw noLaw
+
+unfoldable pub invariantLaw : ℕ → List ℤ → ℕ → ℕ → Law
+invariantLaw b zs k h = cond (ltb h (length zs)) (placeLaw b k h (getD zs h (pos 0))) (lastLaw b k h)
+
 module _ (c : Netlist) where
   abbrev b : ℕ
   b = stateCount c
 
   -- the constants; a latch's wire; a latch behind the step; and P is false, or the invariant fails behind the step
   unfoldable pub constantLaw : Law
-  constantLaw = lawOf (trueTerm b) (trueTerm b) (falseTerm b) (trueTerm b)
+  constantLaw = whereFalse (trueTerm b) (falseTerm b) (trueTerm b)
 
   unfoldable pub latchLaw : ℕ → Law
   latchLaw l = cond (ltb l (c .latches)) (same b (term b 1 (latchWire c l)) (stateTerm l)) noLaw
@@ -84,7 +71,7 @@ module _ (c : Netlist) where
       let r = q * c .n + t in
       let re = codeTerm b (port c (suc q) .RE) in
       pick k (whereFalse re (term b 1 (readWire c r)) (stateTerm (heldBit c r)))
-      (lawOf (opposite re) (opposite (term b 2 (32 * x + 2 * c .m + q))) (term b 1 (readWire c r)) (stateTerm (wordBit c x t)))
+      (whereBoth re (term b 2 (32 * x + 2 * c .m + q)) (term b 1 (readWire c r)) (stateTerm (wordBit c x t)))
       (same b (term b 0 (heldBit c r)) (term b 1 (readWire c r)))
       noLaw
 
@@ -100,7 +87,7 @@ module _ (c : Netlist) where
       let before = stateTerm (wordBit c x t) in
       let match = term b 2 (32 * x + 2 * c .m) in
       let we = codeTerm b (c .WE) in
-      pick k (lawOf (opposite we) (opposite match) after (codeTerm b (c .writeData t))) (whereFalse we after before) (whereFalse match after before) noLaw
+      pick k (whereBoth we match after (codeTerm b (c .writeData t))) (whereFalse we after before) (whereFalse match after before) noLaw
 
   unfoldable pub wordLaw : ℕ → ℕ → ℕ → Law
   wordLaw k t x = cond (ltb t (c .n) && ltb x (2 ^ c .m)) (wordPick k t x) noLaw
@@ -109,20 +96,6 @@ module _ (c : Netlist) where
   unfoldable pub matchLaw : ℕ → ℕ → ℕ → Law
   matchLaw k i y =
       cond (leb (i % 2) (c .secondPort) && ltb (i / 2) (c .m) && ltb y 4096) (matchPick b k i y (port c (suc (i % 2)) .address (i / 2))) noLaw
-
-  -- the number z at place h of the invariant, and behind its end: whether it fails from there on, with nothing found yet, and with something found
-  unfoldable pub placeLaw : ℕ → ℕ → ℤ → Law
-  placeLaw k h z =
-      let after = term b 0 (partsOf z .value - 1) + partsOf z .sign in
-      cond (isEnd z)
-      (pick k (same b (term b 3 h) (trueTerm b)) (same b (term b 4 h) (term b 3 (h + 1))) noLaw noLaw)
-      (pick k (whereTrue after (term b 3 h) (term b 4 (h + 1))) (whereFalse after (term b 3 h) (term b 3 (h + 1))) (same b (term b 4 h) (term b 4 (h + 1))) noLaw)
-
-  unfoldable pub lastLaw : ℕ → ℕ → Law
-  lastLaw k h = pick k (same b (term b 3 h) (falseTerm b)) (same b (term b 4 h) (falseTerm b)) noLaw noLaw
-
-  unfoldable pub invariantLaw : List ℤ → ℕ → ℕ → Law
-  invariantLaw zs k h = cond (ltb h (length zs)) (placeLaw k h (getD zs h (pos 0))) (lastLaw k h)
 
   -- what a request asks for: 8 × the family + 2 × the law in it + its direction, and two indices
   unfoldable pub requested : List ℤ → ℕ → ℕ → ℕ → Law
@@ -133,16 +106,4 @@ module _ (c : Netlist) where
       (cond (eqb family 1) (gateLaw k i)
       (cond (eqb family 2) (readLaw k i j)
       (cond (eqb family 3) (wordLaw k i j)
-      (cond (eqb family 4) (matchLaw k i j) (cond (eqb family 5) (invariantLaw zs k i) noLaw)))))
-
--- whether its terms have clause numbers
-unfoldable pub lawFits : Law → Bool
-lawFits x = ltb (x .guard) 4294967294 && ltb (x .second) 4294967294 && ltb (x .left) 4294967292 && ltb (x .right) 4294967292
-
--- the clause of one direction of a law, of five numbers; of one that has no clause numbers nothing is said
-unfoldable pub clauseOf : ℕ → Law → List ℤ
-clauseOf direction x =
-    cond (lawFits x)
-    (numberOf (x .guard) ∷ numberOf (x .second) ∷ numberOf (cond (eqb direction 0) (opposite (x .left)) (x .left))
-    ∷ numberOf (cond (eqb direction 0) (x .right) (opposite (x .right))) ∷ pos 0 ∷ [])
-    (numberOf 0 ∷ numberOf 0 ∷ numberOf 1 ∷ numberOf 1 ∷ pos 0 ∷ [])
+      (cond (eqb family 4) (matchLaw k i j) (cond (eqb family 5) (invariantLaw b zs k i) noLaw)))))

@@ -1,4 +1,4 @@
--- Laws of specs/ForeverCall.antt and Forever.antt: which test decides, what lies in the store, and that what is certified holds. No contract cites this
+-- Laws of specs/ForeverCall.antt and CertifiedForever.antt: which test decides, what lies in the store, and that what is certified holds. No contract cites this
 -- file.
 use Prim.Native.Nat.{ℕ, suc, _+_, _*_, _/_, _%_, _≤_}
 use mathlib.Core.Path.{_≡_, refl, sym, _∙_, ap}
@@ -6,17 +6,14 @@ use mathlib.Core.Bool.{Bool, true, false, cond, _&&_, false≢true}
 use mathlib.Core.List.{List, [], _++_}
 use native.Mathlib.Omega.{arith}
 use lib.IntN.{ℤ, pos, negsuc}
-use lib.ListN.{length, getD, take, drop, length-append, length-drop}
-use lib.Seq.{take-at, take-append-seam, drop-append-seam}
+use lib.ListN.{length, getD, drop, drop-of-length-le, length-append}
 use Rattle.model.specs.Netlist.{Netlist}
 use Rattle.model.specs.Gather.{gather}
-use Rattle.model.specs.Wrote.{over}
 use Rattle.model.proofs.Gather.{length-gather}
 use Rattle.refusals.specs.Refusal.{refusalNumber}
 use Rattle.refusals.specs.Tests.{_then_}
 use Rattle.refusals.specs.Slices.{testRoom, contentsAfter}
 use Rattle.refusals.specs.declared.Refusal.{Refusal}
-use Rattle.refusals.specs.declared.Verdict.{Verdict}
 use Rattle.refusals.specs.declared.Verdict.the-variants.{Passed, Refused}
 use Rattle.refusals.proofs.Tests.{then-passes}
 use Rattle.netlist.specs.declared.Netlist as R
@@ -30,16 +27,18 @@ use Rattle.refutation_lemmas.specs.Refutation.{checked}
 use Rattle.refutation_lemmas.specs.declared.Checked.{Checked}
 use Rattle.refutation_lemmas.specs.declared.Checked.the-variants.{Refuted, Unjustified}
 use Rattle.refutation_lemmas.proofs.Soundness.{refuted-unsatisfiable}
-use Rattle.refutation_depth.specs.Certificate.{refusedWith, certificateReply}
+use Rattle.refutation_depth.specs.Certificate.{refusedWith, certificateReply, scratchAfter}
+use Rattle.refutation_depth.proofs.Certificate.{certified-reply}
 use Rattle.invariant_terms.specs.StateBits.{stateCount}
 use Rattle.invariant_terms.proofs.Walk.{holds-same}
-use Rattle.invariant_axioms.specs.declared.Law.{Law}
-use Rattle.invariant_axioms.specs.Laws.{requested, lawFits, clauseOf}
+use Rattle.invariant_laws.specs.declared.Law.{Law}
+use Rattle.invariant_laws.specs.LawForms.{lawFits, clauseOf}
+use Rattle.invariant_axioms.specs.Laws.{requested}
 use Rattle.invariant_formula.specs.Formula.{requestedClause, stepFormula}
 use Rattle.invariant_formula.specs.AtStart.{bitStarts, numberStarts, holdsAtStart}
 use Rattle.invariant_formula.proofs.Soundness.{invariant→forever}
-use Rattle.invariant_check.specs.Forever.{CertifiedForever}
-use Rattle.invariant_check.specs.ForeverCall.{storeNeed, foreverVerdict, stepFound, foreverSent, foreverStore}
+use Rattle.invariant_check.specs.CertifiedForever.{CertifiedForever}
+use Rattle.invariant_check.specs.ForeverCall.{storeNeed, foreverVerdict, stepFound, foreverSent, foreverStore, stepScratch, foreverScratch}
 
 -- a clause of a law has five numbers
 length-either : (b : Bool) (xs ys : List ℤ) → length xs ≡ 5 → length ys ≡ 5 → length (cond b xs ys) ≡ 5
@@ -70,24 +69,12 @@ start-lists r latches gates zs =
     ap (λ (b : Bool). every (within (suc (stateCount (netOf r latches gates)))) zs && b)
     (holds-same (numberStarts (netOf r latches [])) (numberStarts (netOf r latches gates)) false zs (number-lists r latches gates))
 
--- two lists at the start of a store, one behind the other
-module _ (xs lemmas old store : List ℤ) (is : store ≡ over (xs ++ lemmas) old) where
-  pub laid-length : length xs + length lemmas ≤ length old → length store ≡ length old
-  laid-length h = ap length is ∙ simp (length-append, length-drop) (omega arith)
-
-  laid-both : take (length xs + length lemmas) store ≡ xs ++ lemmas
-  laid-both = rw is (take-at (xs ++ lemmas) (drop (length (xs ++ lemmas)) old) (length xs + length lemmas) (length-append xs lemmas))
-
-  pub laid-found : (n front : ℕ) (hints : List ℕ) (found : Checked) → front ≡ length xs
-      → found ≡ checked n (take front (take (front + length lemmas) store)) (drop front (take (front + length lemmas) store)) hints
-      → found ≡ checked n xs lemmas hints
-  laid-found n front hints found ef e = e ∙ rw (ef, laid-both, take-append-seam xs lemmas, drop-append-seam xs lemmas)
-
--- a check that is not refused
-pub passed-number : (found : Checked) → certificateReply Passed found .number ≡ 0
-unfolding certificateReply
-passed-number Refuted = refl
-passed-number (Unjustified i) = refl
+-- as many marks as are lent are all of them
+pub all-scratch : (old new : List ℕ) → length new ≡ length old → drop (length old) new ≡ drop (length old) old
+all-scratch old new e =
+    let most : length new ≤ length old = omega (arith, e) in
+    let all : length old ≤ length old = omega arith in
+    drop-of-length-le new most ∙ sym (drop-of-length-le old all)
 
 -- the sheet is refused, or taken
 module _ (file : List ℕ) (zs : List ℤ) (requests : List ℕ) (lemmas : List ℤ) where
@@ -112,12 +99,11 @@ module _ (file : List ℕ) (zs : List ℤ) (requests : List ℕ) (lemmas : List 
   unfolding foreverStore foreverVerdict _then_
   taken-store e store = rw e
 
--- what is certified was found, and nothing refused
-certified-reply : (v : Verdict) (found : Checked) → certificateReply v found .certified ≡ 1 → (v ≡ Passed) × (found ≡ Refuted)
-unfolding certificateReply
-certified-reply Passed Refuted e = (refl, refl)
-certified-reply Passed (Unjustified i) e = absurd (omega (arith, e))
-certified-reply (Refused r p) found e = absurd (omega (arith, e))
+  pub taken-scratch : sheetIn file ≡ Passed → (store marks : ℕ)
+      → scratchAfter (testRoom (storeNeed (length zs) (length requests) (length lemmas)) store) (stepScratch (netIn file) zs marks)
+      ≡ foreverScratch file zs (length requests) (length lemmas) store marks
+  unfolding foreverScratch foreverVerdict _then_
+  taken-scratch e store marks = rw e
 
 refuted-found : (b : Bool) (found : Checked) → cond b found (Unjustified 0) ≡ Refuted → (b ≡ true) × (found ≡ Refuted)
 refuted-found true found e = (refl, e)

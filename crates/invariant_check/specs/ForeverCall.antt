@@ -14,7 +14,7 @@ use Rattle.program_input.specs.Input.{sheetIn}
 use Rattle.refutation_lemmas.specs.Refutation.{checked}
 use Rattle.refutation_lemmas.specs.declared.Checked.{Checked}
 use Rattle.refutation_lemmas.specs.declared.Checked.the-variants.{Unjustified}
-use Rattle.refutation_depth.specs.Certificate.{certificateReply}
+use Rattle.refutation_depth.specs.Certificate.{certificateReply, scratchAfter}
 use Rattle.refutation_depth.specs.declared.CertificateReply.{CertificateReply}
 use Rattle.invariant_formula.specs.Formula.{stepFormula}
 use Rattle.invariant_formula.specs.AtStart.{holdsAtStart}
@@ -42,3 +42,11 @@ unfoldable pub foreverStore : List ℕ → List ℤ → List ℕ → List ℤ �
 foreverStore file invariant requests lemmas store =
     contentsAfter (foreverVerdict file (length invariant) (length requests) (length lemmas) (length store))
     (stepFormula (netIn file) invariant requests ++ lemmas) store
+
+-- how many of the marks are scratch: none where the invariant fails at the start, else all (RULES H6)
+unfoldable pub stepScratch : Netlist → List ℤ → ℕ → ℕ
+stepScratch c invariant marks = cond (holdsAtStart c invariant) marks 0
+
+unfoldable pub foreverScratch : List ℕ → List ℤ → ℕ → ℕ → ℕ → ℕ → ℕ
+foreverScratch file invariant requests lemmas store marks =
+    scratchAfter (foreverVerdict file (length invariant) requests lemmas store) (stepScratch (netIn file) invariant marks)

@@ -14,10 +14,10 @@ ghost use Rattle.model.specs.Acceptance.{SizesFit};
 ghost use Rattle.model.specs.Wrote.{over};
 ghost use Rattle.refusals.specs.Slices.{testRoom, contentsAfter};
 ghost use Rattle.netlist.specs.NetOf.{netOf, alone};
-ghost use Rattle.refutation_depth.specs.Certificate.{certificateReply, KeptAtRefusal};
+ghost use Rattle.refutation_depth.specs.Certificate.{certificateReply, scratchAfter, KeptBehind};
 ghost use Rattle.invariant_formula.specs.Formula.{stepFormula};
-ghost use Rattle.invariant_check.specs.Forever.{CertifiedForever};
-ghost use Rattle.invariant_check.specs.ForeverCall.{storeNeed, stepFound, foreverSent, foreverStore};
+ghost use Rattle.invariant_check.specs.CertifiedForever.{CertifiedForever};
+ghost use Rattle.invariant_check.specs.ForeverCall.{storeNeed, stepFound, foreverSent, foreverStore, stepScratch, foreverScratch};
 
 // Puts the clauses of the step at the start of the store and the lemmas behind them, and answers where these begin.
 fn lay(
@@ -39,7 +39,7 @@ fn lay(
     front
 }
 
-// Checks a refutation of the step, with room for it. What is left in the marks is scratch.
+// Checks a refutation of the step, with room for it. Where the invariant passes the test of the start, the marks are scratch.
 fn check_step(
     net: Netlist,
     latches: &UnpackedList,
@@ -54,6 +54,7 @@ fn check_step(
     requires { ⌜ SizesFit (alone net) × (storeNeed (length (now invariant)) (length (now requests)) (length (now lemmas)) ≤ length (now store)) ⌝ }
     ensures found { λ r. ⌜ r ≡ stepFound (netOf net (now (latches .entry)) (now (gates .entry))) (now (invariant .entry)) (now (requests .entry)) (now (lemmas .entry)) (now (hints .entry)) (length (now (marks .entry))) ⌝ }
     ensures store { λ _. ⌜ now (store .exit) ≡ over (stepFormula (netOf net (now (latches .entry)) (now (gates .entry))) (now (invariant .entry)) (now (requests .entry)) ++ now (lemmas .entry)) (now (store .entry)) ⌝ }
+    ensures marks { λ _. ⌜ KeptBehind (stepScratch (netOf net (now (latches .entry)) (now (gates .entry))) (now (invariant .entry)) (length (now (marks .entry)))) (now (marks .entry)) (now (marks .exit)) ⌝ }
 {
     let front = lay(store, net, latches, gates, invariant, requests, lemmas);
     if invariant_start::holds_at_start(net, latches, invariant) {
@@ -63,7 +64,7 @@ fn check_step(
     Checked::Unjustified(0)
 }
 
-// Tests the room, and checks a refutation of the step. At a refusal store and marks are as they were; else what is left in the marks is scratch.
+// Tests the room, and checks a refutation of the step. At a refusal store and marks are as they were.
 fn certify_net(
     net: Netlist,
     latches: &UnpackedList,
@@ -80,7 +81,8 @@ fn certify_net(
         (stepFound (netOf net (now (latches .entry)) (now (gates .entry))) (now (invariant .entry)) (now (requests .entry)) (now (lemmas .entry)) (now (hints .entry)) (length (now (marks .entry)))) ⌝ }
     ensures store { λ _. ⌜ now (store .exit) ≡ contentsAfter (testRoom (storeNeed (length (now (invariant .entry))) (length (now (requests .entry))) (length (now (lemmas .entry)))) (length (now (store .entry))))
         (stepFormula (netOf net (now (latches .entry)) (now (gates .entry))) (now (invariant .entry)) (now (requests .entry)) ++ now (lemmas .entry)) (now (store .entry)) ⌝ }
-    ensures marks { λ r. ⌜ KeptAtRefusal r (now (marks .entry)) (now (marks .exit)) ⌝ }
+    ensures marks { λ _. ⌜ KeptBehind (scratchAfter (testRoom (storeNeed (length (now (invariant .entry))) (length (now (requests .entry))) (length (now (lemmas .entry)))) (length (now (store .entry))))
+        (stepScratch (netOf net (now (latches .entry)) (now (gates .entry))) (now (invariant .entry)) (length (now (marks .entry))))) (now (marks .entry)) (now (marks .exit)) ⌝ }
 {
     let need = requests.len() / 3 * 5 + invariant.len() + lemmas.len();
     if store.len() < need {
@@ -112,7 +114,7 @@ pub fn certify_forever(
     ensures answer { λ r. ⌜ r ≡ foreverSent (now (file .entry)) (now (invariant .entry)) (now (requests .entry)) (now (lemmas .entry)) (now (hints .entry)) (length (now (store .entry))) (length (now (marks .entry))) ⌝ }
     ensures certified { λ r. ⌜ (r .certified ≡ 1 → CertifiedForever (now (file .entry))) ⌝ }
     ensures store { λ _. ⌜ now (store .exit) ≡ foreverStore (now (file .entry)) (now (invariant .entry)) (now (requests .entry)) (now (lemmas .entry)) (now (store .entry)) ⌝ }
-    ensures marks { λ r. ⌜ KeptAtRefusal r (now (marks .entry)) (now (marks .exit)) ⌝ }
+    ensures marks { λ _. ⌜ KeptBehind (foreverScratch (now (file .entry)) (now (invariant .entry)) (length (now (requests .entry))) (length (now (lemmas .entry))) (length (now (store .entry))) (length (now (marks .entry)))) (now (marks .entry)) (now (marks .exit)) ⌝ }
 {
     let mut latches = sheet_tests::no_codes();
     let mut gates = sheet_tests::no_codes();

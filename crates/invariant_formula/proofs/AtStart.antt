@@ -12,7 +12,8 @@ use Rattle.model.specs.Circuit.{State, Begins, Starts}
 use Rattle.model.specs.Numbers.{numberTrue}
 use Rattle.model.proofs.Booleans.{and-true, beq-true}
 use Rattle.refutation_lemmas.specs.Propagation.{every, within}
-use Rattle.invariant_terms.specs.StateBits.{stateCount, stateBit, stateValue}
+use Rattle.invariant_terms.specs.StateBits.{stateCount}
+use Rattle.invariant_terms.proofs.StateBits.{stateBit, stateValue}
 use Rattle.invariant_terms.specs.Walk.{holdsIn}
 use Rattle.invariant_terms.proofs.Walk.{holds-weaken}
 use Rattle.invariant_formula.specs.AtStart.{wordStarts, bitStarts, numberStarts, holdsAtStart}

@@ -20,11 +20,12 @@ use Rattle.model.proofs.Booleans.{and-true, either}
 use Rattle.model.proofs.Circuit.{frame-is}
 use Rattle.refutation_lemmas.specs.Propagation.{every, within}
 use Rattle.refutation_lemmas.specs.Refutation.{Unsatisfiable}
-use Rattle.invariant_terms.specs.Forever.{SafeForever}
-use Rattle.invariant_terms.specs.StateBits.{stateCount, stateValue}
+use Rattle.invariant_terms.specs.SafeForever.{SafeForever}
+use Rattle.invariant_terms.specs.StateBits.{stateCount}
 use Rattle.invariant_terms.specs.Walk.{holdsIn}
-use Rattle.invariant_terms.specs.Terms.{failing, stepAt}
-use Rattle.invariant_terms.proofs.Forever.{inductive→forever}
+use Rattle.invariant_terms.proofs.StateBits.{stateValue}
+use Rattle.invariant_terms.proofs.StepValues.{failing, stepAt}
+use Rattle.invariant_terms.proofs.Induction.{inductive→forever}
 use Rattle.invariant_terms.proofs.Walk.{clauses-hold}
 use Rattle.invariant_axioms.specs.Laws.{requested}
 use Rattle.invariant_axioms.proofs.Laws.{IsStep, requested-holds, clause-holds}

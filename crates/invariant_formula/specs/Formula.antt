@@ -5,7 +5,8 @@ use lib.IntN.{ℤ}
 use lib.ListN.{length, getD}
 use Rattle.model.specs.Netlist.{Netlist}
 use Rattle.model.specs.Gather.{gather}
-use Rattle.invariant_axioms.specs.Laws.{requested, clauseOf}
+use Rattle.invariant_laws.specs.LawForms.{clauseOf}
+use Rattle.invariant_axioms.specs.Laws.{requested}
 
 -- request x is three numbers: what is asked for, and two indices
 unfoldable pub requestedClause : Netlist → List ℤ → List ℕ → ℕ → List ℤ

@@ -1,2 +1,2 @@
 -- Laws for the proofs of this crate. No contract cites them.
-pub mod Parts
+pub mod Lists

@@ -10,7 +10,6 @@ use Rattle.model.specs.Bits.{bit}
 use Rattle.model.specs.Netlist.{Netlist, startOf}
 use Rattle.text_writer.specs.Signed.{partsOf}
 use Rattle.refutation_lemmas.specs.Propagation.{within}
-use Rattle.invariant_terms.specs.Walk.{isEnd}
 use Rattle.invariant_formula.specs.AtStart.{wordStarts, bitStarts, numberStarts}
 
 pub beq-yes : (a : Bool) → a ≡ Bool·beq a true
@@ -41,18 +40,6 @@ pub number-parts : (c : Netlist) (z : ℤ) → bitStarts c (partsOf z .value - 1
 unfolding numberStarts
 number-parts c (pos v) = refl
 number-parts c (negsuc v) = refl
-
-pub ends : (z : ℤ) → partsOf z .value ≡ 0 → isEnd z ≡ true
-unfolding isEnd
-ends (pos zero) e = refl
-ends (pos (suc v)) e = absurd (omega (arith, e))
-ends (negsuc v) e = absurd (omega (arith, e))
-
-pub goes-on : (z : ℤ) → (partsOf z .value ≡ 0 → ⊥) → isEnd z ≡ false
-unfolding isEnd
-goes-on (pos zero) h = absurd (h refl)
-goes-on (pos (suc v)) h = refl
-goes-on (negsuc v) h = refl
 
 pub outside : (b : ℕ) (z : ℤ) → b < partsOf z .value → within (suc b) z ≡ false
 unfolding within

@@ -1,13 +1,26 @@
--- Laws of specs/StateBits.antt: which bit of a state a number is. No contract cites this file.
+-- The bits of a state by their numbers, and which bit a number is: laws of specs/StateBits.antt. No contract cites this file.
 use Prim.Native.Nat.{ℕ, suc, _+_, _-_, _*_, _/_, _%_, _^_, _≤_, _<_}
 use mathlib.Core.Path.{_≡_, _∙_, ap}
+use mathlib.Core.Bool.{Bool, cond}
 use native.Mathlib.Omega.{arith}
 use native.Mathlib.Nat.{add-zero, suc-mul, mul-le-mul-right, mul-add-div-right, mul-add-mod-self-right, div-eq-of-lt, mod-eq-of-lt}
+use lib.Dec.{ltb}
 use borrow.Author.Tests.{lt-ltb, le-ltb}
 use Rattle.model.specs.Bits.{bit}
 use Rattle.model.specs.Netlist.{Netlist, readBits}
 use Rattle.model.specs.Circuit.{State}
-use Rattle.invariant_terms.specs.StateBits.{stateCount, heldBit, wordBit, stateBit}
+use Rattle.model.specs.Numbers.{Assignment}
+use Rattle.invariant_terms.specs.StateBits.{stateCount, heldBit, wordBit}
+
+unfoldable pub stateBit : Netlist → State → ℕ → Bool
+stateBit c s j =
+    let y = j - c .latches - readBits c in
+    cond (ltb j (c .latches)) (s .latch j)
+    (cond (ltb j (c .latches + readBits c)) (s .held (j - c .latches)) (bit (s .memory (y / c .n)) (y % c .n)))
+
+-- a state as an assignment: variable j + 1 is bit j
+unfoldable pub stateValue : Netlist → State → Assignment
+stateValue c s u = stateBit c s (u - 1)
 
 module _ (c : Netlist) (s : State) where
   pub latch-bit : (l : ℕ) → l < c .latches → stateBit c s l ≡ s .latch l

@@ -15,8 +15,10 @@ use Rattle.model.specs.Circuit.{Values, State, codeValue, addressOf, step}
 use Rattle.model.specs.Numbers.{Assignment, numberTrue}
 use Rattle.model.proofs.Bits.{bit-fromBits, fromBits-same}
 use Rattle.model.proofs.Booleans.{and-true, beq-true}
-use Rattle.invariant_terms.specs.StateBits.{stateCount, stateBit}
-use Rattle.invariant_terms.specs.Terms.{variable, agreeing, matched, failing, familyValue, stepAt, stateTerm, term, codeTerm, opposite, numberOf}
+use Rattle.invariant_terms.specs.StateBits.{stateCount}
+use Rattle.invariant_terms.specs.Terms.{variable, stateTerm, term, codeTerm, opposite, numberOf}
+use Rattle.invariant_terms.proofs.StateBits.{stateBit}
+use Rattle.invariant_terms.proofs.StepValues.{agreeing, matched, failing, familyValue, stepAt}
 
 -- codes: plain, negated, and the opposite
 odd-twice : (u : ℕ) → odd (2 * u) ≡ false

@@ -4,11 +4,12 @@ use literals::Code;
 use literals::Wire;
 use netlist::Netlist;
 ghost use mathlib.Core.Path.{_≡_};
+ghost use mathlib.Core.Bool.{cond};
 ghost use Prim.Native.Nat.{_^_, _≤_, _<_};
 ghost use Rattle.model.specs.Acceptance.{SizesFit};
 ghost use Rattle.netlist.specs.NetOf.{alone};
 ghost use Rattle.invariant_terms.specs.StateBits.{stateCount, wordBit};
-ghost use Rattle.invariant_terms.specs.Terms.{term, codeTerm, opposite, numberOf};
+ghost use Rattle.invariant_terms.specs.Terms.{stateTerm, term, codeTerm, opposite, numberOf};
 
 // How many words the memory has.
 pub fn word_count(net: Netlist) -> u64
@@ -41,6 +42,17 @@ pub fn term(b: u64, k: u64, j: u64) -> u64
     ensures { λ r. ⌜ (r ≡ term b k j) × (r ≤ 20000000000000) ⌝ }
 {
     2 * (b + 5 * j + k)
+}
+
+// The term of bit j of the state, or of the state behind the step.
+pub fn bit_term(b: u64, j: u64, behind: bool) -> u64
+    requires { ⌜ (b ≤ 131736) × (j ≤ 1000000000000) ⌝ }
+    ensures { λ r. ⌜ (r ≡ cond behind (term b 0 j) (stateTerm j)) × (r ≤ 20000000000000) ⌝ }
+{
+    if behind {
+        return term(b, 0, j);
+    }
+    2 * j
 }
 
 // The term of a wire.

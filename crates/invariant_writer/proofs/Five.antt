@@ -15,8 +15,8 @@ use Rattle.literals.proofs.Literal.{fits}
 use Rattle.model.specs.Bits.{odd}
 use Rattle.model.specs.Wrote.{Wrote}
 use Rattle.invariant_terms.specs.Terms.{opposite, numberOf}
-use Rattle.invariant_axioms.specs.declared.Law.{Law}
-use Rattle.invariant_axioms.specs.Laws.{lawFits}
+use Rattle.invariant_laws.specs.declared.Law.{Law}
+use Rattle.invariant_laws.specs.LawForms.{lawFits}
 
 pub wrote-five : (a b c d e : ℤ) (old : List ℤ) → 5 ≤ length old
     → Wrote (a ∷ b ∷ c ∷ d ∷ e ∷ []) old (set (set (set (set (set old 0 a) 1 b) 2 c) 3 d) 4 e) 5

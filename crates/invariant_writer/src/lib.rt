@@ -1,5 +1,5 @@
 // The clauses of the laws that requests ask for, written into a slice: five numbers each.
-use invariant_axioms::Law;
+use invariant_laws::Law;
 use netlist::Netlist;
 use netlist::UnpackedList;
 ghost use mathlib.Core.Path.{_≡_};
@@ -12,7 +12,7 @@ ghost use Rattle.model.specs.Gather.{gather};
 ghost use Rattle.model.specs.Wrote.{Wrote};
 ghost use Rattle.netlist.specs.NetOf.{netOf, alone};
 ghost use Rattle.invariant_terms.specs.Terms.{opposite, numberOf};
-ghost use Rattle.invariant_axioms.specs.Laws.{lawFits, clauseOf};
+ghost use Rattle.invariant_laws.specs.LawForms.{lawFits, clauseOf};
 ghost use Rattle.invariant_formula.specs.Formula.{requestedClause};
 
 // A clause of four terms.

@@ -49,10 +49,10 @@ ghost use Rattle.sheet_writer.specs.WriteCall.{writeSent, writeLeaves, SheetWri
 ghost use Rattle.aiger_export.specs.ExportCall.{exportSent, exportLeaves};
 ghost use Rattle.aiger_export.specs.Exported.{ExportTheorem};
 ghost use Rattle.refutation_depth.specs.Certified.{CertifiedInput};
-ghost use Rattle.refutation_depth.specs.Certificate.{certificateSent, storeAfter, KeptAtRefusal};
+ghost use Rattle.refutation_depth.specs.Certificate.{certificateSent, storeAfter, marksScratch, KeptBehind};
 ghost use Rattle.sheet_one_port.specs.OnePortCall.{onePortSent, onePortLeaves, OnePortTheorem};
-ghost use Rattle.invariant_check.specs.Forever.{CertifiedForever};
-ghost use Rattle.invariant_check.specs.ForeverCall.{foreverSent, foreverStore};
+ghost use Rattle.invariant_check.specs.CertifiedForever.{CertifiedForever};
+ghost use Rattle.invariant_check.specs.ForeverCall.{foreverSent, foreverStore, foreverScratch};
 ghost use Rattle.call_replies.specs.Replies.{groupOf, orderFor, nextNumbers, sheetNumbers, headerVersion};
 
 // The version of include/marrubigai.h that the library is built for.
@@ -423,7 +423,7 @@ pub extern "C" fn marrubigai_certify(
     ensures answer { λ r. ⌜ r ≡ certificateSent (now (input .entry)) (now (lemmas .entry)) (now (hints .entry)) (length (now (store .entry))) (length (now (marks .entry))) ⌝ }
     ensures certified { λ r. ⌜ (r .certified ≡ 1 → CertifiedInput (now (input .entry))) ⌝ }
     ensures store { λ _. ⌜ now (store .exit) ≡ storeAfter (now (input .entry)) (now (lemmas .entry)) (now (store .entry)) (length (now (marks .entry))) ⌝ }
-    ensures marks { λ r. ⌜ KeptAtRefusal r (now (marks .entry)) (now (marks .exit)) ⌝ }
+    ensures marks { λ _. ⌜ KeptBehind (marksScratch (now (input .entry)) (length (now (lemmas .entry))) (length (now (store .entry))) (length (now (marks .entry)))) (now (marks .entry)) (now (marks .exit)) ⌝ }
 {
     refutation_depth::certify(input, lemmas, hints, store, marks)
 }
@@ -452,7 +452,7 @@ pub extern "C" fn marrubigai_certify_forever(
     ensures answer { λ r. ⌜ r ≡ foreverSent (now (file .entry)) (now (invariant .entry)) (now (requests .entry)) (now (lemmas .entry)) (now (hints .entry)) (length (now (store .entry))) (length (now (marks .entry))) ⌝ }
     ensures certified { λ r. ⌜ (r .certified ≡ 1 → CertifiedForever (now (file .entry))) ⌝ }
     ensures store { λ _. ⌜ now (store .exit) ≡ foreverStore (now (file .entry)) (now (invariant .entry)) (now (requests .entry)) (now (lemmas .entry)) (now (store .entry)) ⌝ }
-    ensures marks { λ r. ⌜ KeptAtRefusal r (now (marks .entry)) (now (marks .exit)) ⌝ }
+    ensures marks { λ _. ⌜ KeptBehind (foreverScratch (now (file .entry)) (now (invariant .entry)) (length (now (requests .entry))) (length (now (lemmas .entry))) (length (now (store .entry))) (length (now (marks .entry)))) (now (marks .entry)) (now (marks .exit)) ⌝ }
 {
     invariant_check::certify_forever(file, invariant, requests, lemmas, hints, store, marks)
 }

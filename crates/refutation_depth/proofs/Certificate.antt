@@ -5,8 +5,8 @@ use mathlib.Core.Path.{_≡_, refl, _∙_, ap}
 use mathlib.Core.List.{List, _++_}
 use native.Mathlib.Omega.{arith}
 use lib.IntN.{ℤ}
-use lib.ListN.{length, take, drop, length-append}
-use lib.Seq.{length-take-le, take-at, take-append-seam, drop-append-seam}
+use lib.ListN.{length, take, drop, length-append, length-drop}
+use lib.Seq.{length-take-le, take-at, drop-at, take-append-seam, drop-append-seam}
 use Rattle.model.specs.Netlist.{Netlist}
 use Rattle.model.specs.Variables.{base}
 use Rattle.model.specs.Numbers.{formula}
@@ -37,7 +37,7 @@ use Rattle.refutation_lemmas.specs.declared.Checked.{Checked}
 use Rattle.refutation_lemmas.specs.declared.Checked.the-variants.{Refuted, Unjustified}
 use Rattle.refutation_lemmas.proofs.Soundness.{refuted-unsatisfiable}
 use Rattle.refutation_depth.specs.Certified.{CertifiedInput}
-use Rattle.refutation_depth.specs.Certificate.{marksNeed, roomVerdict, certifyVerdict, foundOf, refusedWith, certificateReply, certificateSent, storeAfter}
+use Rattle.refutation_depth.specs.Certificate.{marksNeed, roomVerdict, certifyVerdict, foundOf, refusedWith, certificateReply, certificateSent, storeAfter, scratchAfter, marksScratch}
 
 -- the lists have no part in the need of marks
 pub marks-lists : (r : R.Netlist) (latches gates : List ℕ) (k : ℕ) → marksNeed (alone r) k ≡ marksNeed (netOf r latches gates) k
@@ -72,33 +72,31 @@ module _ (c : Netlist) (k lemmas store marks : ℕ) where
       (room-shown (length (formula c k) + lemmas) store (parts .0), room-shown (marksNeed c k) marks (parts .1))
 
 -- two lists at the start of a store, one behind the other
-laid-both : (xs ys old : List ℤ) → take (length xs + length ys) (over (xs ++ ys) old) ≡ xs ++ ys
-laid-both xs ys old = take-at (xs ++ ys) (drop (length (xs ++ ys)) old) (length xs + length ys) (length-append xs ys)
+module _ (xs lemmas old store : List ℤ) (is : store ≡ over (xs ++ lemmas) old) where
+  pub laid-length : length xs + length lemmas ≤ length old → length store ≡ length old
+  laid-length h = ap length is ∙ simp (length-append, length-drop) (omega arith)
+
+  laid-both : take (length xs + length lemmas) store ≡ xs ++ lemmas
+  laid-both = rw is (take-at (xs ++ lemmas) (drop (length (xs ++ lemmas)) old) (length xs + length lemmas) (length-append xs lemmas))
+
+  pub laid-found : (n front : ℕ) (hints : List ℕ) (found : Checked) → front ≡ length xs
+      → found ≡ checked n (take front (take (front + length lemmas) store)) (drop front (take (front + length lemmas) store)) hints
+      → found ≡ checked n xs lemmas hints
+  laid-found n front hints found ef e = e ∙ rw (ef, laid-both, take-append-seam xs lemmas, drop-append-seam xs lemmas)
 
 -- what is found of the lemmas behind the formula, with as many marks as are needed
-pub laid-found : (c : Netlist) (k : ℕ) (lemmas old store : List ℤ) (marks hints : List ℕ) (front need : ℕ) (found : Checked)
+pub depth-found : (c : Netlist) (k : ℕ) (lemmas old store : List ℤ) (marks hints : List ℕ) (front need : ℕ) (found : Checked)
     → front ≡ length (formula c k) → store ≡ over (formula c k ++ lemmas) old → need ≡ marksNeed c k → need ≤ length marks
     → found ≡ checked (length (take need marks) / 2) (take front (take (front + length lemmas) store)) (drop front (take (front + length lemmas) store)) hints
     → found ≡ foundOf c k lemmas hints
 unfolding foundOf
-laid-found c k lemmas old store marks hints front need found ef es en room e =
-    e
-    ∙ rw (
-      length-take-le need marks room,
-      en,
-      marks-half c k,
-      ef,
-      es,
-      laid-both (formula c k) lemmas old,
-      take-append-seam (formula c k) lemmas,
-      drop-append-seam (formula c k) lemmas,
-    )
+depth-found c k lemmas old store marks hints front need found ef es en room e =
+    laid-found (formula c k) lemmas old store es (base c (k + 1) + 1) front hints found ef (e ∙ rw (length-take-le need marks room, en, marks-half c k))
 
--- a check that is not refused
-pub passed-number : (found : Checked) → certificateReply Passed found .number ≡ 0
-unfolding certificateReply
-passed-number Refuted = refl
-passed-number (Unjustified i) = refl
+-- marks of which the first are lent: those behind them stay
+pub behind-kept : (wanted need : ℕ) (old part : List ℕ) → need ≡ wanted → need ≤ length old → length part ≡ length (take need old)
+    → drop wanted (part ++ drop need old) ≡ drop wanted old
+behind-kept wanted need old part e room same = rw (← e) (drop-at part (drop need old) need (same ∙ length-take-le need old room))
 
 -- the input is refused
 module _ (w : Verdict) where
@@ -144,8 +142,14 @@ module _ (s : List ℕ) (e : inputVerdict s ≡ Passed) where
   unfolding storeAfter certifyVerdict _then_
   taken-store lemmas store marks = rw e
 
+  pub taken-scratch : (lemmas store marks : ℕ)
+      → marksScratch s lemmas store marks
+      ≡ scratchAfter (roomVerdict (netIn (drop 11 s)) (depthLine s .depth) lemmas store marks) (marksNeed (netIn (drop 11 s)) (depthLine s .depth))
+  unfolding marksScratch certifyVerdict _then_
+  taken-scratch lemmas store marks = rw e
+
 -- what is certified was found, and nothing refused
-certified-reply : (v : Verdict) (found : Checked) → certificateReply v found .certified ≡ 1 → (v ≡ Passed) × (found ≡ Refuted)
+pub certified-reply : (v : Verdict) (found : Checked) → certificateReply v found .certified ≡ 1 → (v ≡ Passed) × (found ≡ Refuted)
 unfolding certificateReply
 certified-reply Passed Refuted e = (refl, refl)
 certified-reply Passed (Unjustified i) e = absurd (omega (arith, e))

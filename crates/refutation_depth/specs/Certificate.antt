@@ -55,6 +55,14 @@ unfoldable pub storeAfter : List ℕ → List ℤ → List ℤ → ℕ → List 
 storeAfter s lemmas store marks =
     contentsAfter (certifyVerdict s (length lemmas) (length store) marks) (formula (netIn (drop 11 s)) (depthLine s .depth) ++ lemmas) store
 
--- the marks are as they were at a refusal; else nothing is said of them (RULES U8: "they are scratch")
-abbrev pub KeptAtRefusal : CertificateReply → List ℕ → List ℕ → Type 0
-KeptAtRefusal r old new = (r .number ≡ 0 → ⊥) → new ≡ old
+-- how many of the marks are scratch: at a refusal none, else those that are needed (RULES U8)
+unfoldable pub scratchAfter : Verdict → ℕ → ℕ
+scratchAfter Passed need = need
+scratchAfter (Refused r p) need = 0
+
+unfoldable pub marksScratch : List ℕ → ℕ → ℕ → ℕ → ℕ
+marksScratch s lemmas store marks = scratchAfter (certifyVerdict s lemmas store marks) (marksNeed (netIn (drop 11 s)) (depthLine s .depth))
+
+-- the marks behind those that are scratch are as they were
+abbrev pub KeptBehind : ℕ → List ℕ → List ℕ → Type 0
+KeptBehind scratch old new = drop scratch new ≡ drop scratch old

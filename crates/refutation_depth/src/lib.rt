@@ -15,7 +15,7 @@ ghost use Rattle.model.specs.Wrote.{over};
 ghost use Rattle.refusals.specs.Slices.{contentsAfter};
 ghost use Rattle.netlist.specs.NetOf.{netOf, alone};
 ghost use Rattle.refutation_depth.specs.Certified.{CertifiedInput};
-ghost use Rattle.refutation_depth.specs.Certificate.{marksNeed, roomVerdict, foundOf, refusedWith, certificateReply, certificateSent, storeAfter, KeptAtRefusal};
+ghost use Rattle.refutation_depth.specs.Certificate.{marksNeed, roomVerdict, foundOf, refusedWith, certificateReply, certificateSent, storeAfter, scratchAfter, marksScratch, KeptBehind};
 
 // What a check of a certificate answers: number and place (0 where it is not refused); 1 where the depth is certified; where it is not, the first lemma
 // that does not follow by its hints, counted from 0.
@@ -80,7 +80,7 @@ fn lay(
     front
 }
 
-// Checks a refutation of the formula, with room for it. What is left in the marks is scratch.
+// Checks a refutation of the formula, with room for it. The marks that are needed are scratch.
 fn check_depth(
     net: Netlist,
     latches: &UnpackedList,
@@ -96,6 +96,7 @@ fn check_depth(
         × (marksNeed (netOf net (now latches) (now gates)) depth ≤ length (now marks)) ⌝ }
     ensures found { λ r. ⌜ r ≡ foundOf (netOf net (now (latches .entry)) (now (gates .entry))) depth (now (lemmas .entry)) (now (hints .entry)) ⌝ }
     ensures store { λ _. ⌜ now (store .exit) ≡ over (formula (netOf net (now (latches .entry)) (now (gates .entry))) depth ++ now (lemmas .entry)) (now (store .entry)) ⌝ }
+    ensures marks { λ _. ⌜ KeptBehind (marksNeed (netOf net (now (latches .entry)) (now (gates .entry))) depth) (now (marks .entry)) (now (marks .exit)) ⌝ }
 {
     let front = lay(store, lemmas, net, latches, gates, depth);
     let end = front + lemmas.len();
@@ -135,7 +136,7 @@ pub fn reply_of(found: Checked) -> CertificateReply
     }
 }
 
-// Tests the room, and checks a refutation of the formula. At a refusal store and marks are as they were; else what is left in the marks is scratch.
+// Tests the room, and checks a refutation of the formula. At a refusal store and marks are as they were; else the marks that are needed are scratch.
 fn certify_net(
     net: Netlist,
     latches: &UnpackedList,
@@ -151,7 +152,8 @@ fn certify_net(
         (foundOf (netOf net (now (latches .entry)) (now (gates .entry))) depth (now (lemmas .entry)) (now (hints .entry))) ⌝ }
     ensures store { λ _. ⌜ now (store .exit) ≡ contentsAfter (roomVerdict (netOf net (now (latches .entry)) (now (gates .entry))) depth (length (now (lemmas .entry))) (length (now (store .entry))) (length (now (marks .entry))))
         (formula (netOf net (now (latches .entry)) (now (gates .entry))) depth ++ now (lemmas .entry)) (now (store .entry)) ⌝ }
-    ensures marks { λ r. ⌜ KeptAtRefusal r (now (marks .entry)) (now (marks .exit)) ⌝ }
+    ensures marks { λ _. ⌜ KeptBehind (scratchAfter (roomVerdict (netOf net (now (latches .entry)) (now (gates .entry))) depth (length (now (lemmas .entry))) (length (now (store .entry))) (length (now (marks .entry))))
+        (marksNeed (netOf net (now (latches .entry)) (now (gates .entry))) depth)) (now (marks .entry)) (now (marks .exit)) ⌝ }
 {
     if let Verdict::Refused(refusal, place) = test_room(
         net,
@@ -178,7 +180,7 @@ pub fn certify(
     ensures answer { λ r. ⌜ r ≡ certificateSent (now (input .entry)) (now (lemmas .entry)) (now (hints .entry)) (length (now (store .entry))) (length (now (marks .entry))) ⌝ }
     ensures certified { λ r. ⌜ (r .certified ≡ 1 → CertifiedInput (now (input .entry))) ⌝ }
     ensures store { λ _. ⌜ now (store .exit) ≡ storeAfter (now (input .entry)) (now (lemmas .entry)) (now (store .entry)) (length (now (marks .entry))) ⌝ }
-    ensures marks { λ r. ⌜ KeptAtRefusal r (now (marks .entry)) (now (marks .exit)) ⌝ }
+    ensures marks { λ _. ⌜ KeptBehind (marksScratch (now (input .entry)) (length (now (lemmas .entry))) (length (now (store .entry))) (length (now (marks .entry)))) (now (marks .entry)) (now (marks .exit)) ⌝ }
 {
     let mut latches = sheet_tests::no_codes();
     let mut gates = sheet_tests::no_codes();

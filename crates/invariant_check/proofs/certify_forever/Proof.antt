@@ -6,7 +6,7 @@ use Rattle.netlist.proofs.NetOf.{sizes-lists}
 use Rattle.sheet_tests.proofs.Codes.{passed-sheet}
 use Rattle.sheet_steps.proofs.Records.{verdict-is, holds}
 use Rattle.refutation_depth.specs.declared.CertificateReply.{CertificateReply}
-use Rattle.invariant_check.proofs.Certificate.{refused-sent, refused-kept, taken-sent, taken-store, certified-forever}
+use Rattle.invariant_check.proofs.Certificate.{refused-sent, refused-kept, taken-sent, taken-store, taken-scratch, certified-forever}
 use borrow.Author.Needs.{needs}
 use Rattle.invariant_check.proofs.certify_forever.Statement.{statement}
 use Rattle.invariant_check.proofs.certify_forever.Tie as tie
@@ -39,7 +39,7 @@ returns c =
       is,
       (
         λ e. certified-forever (a .file .now) (a .invariant .now) (a .requests .now) (a .lemmas .now) (a .hints .now) (length (a .store .now)) (length (a .marks .now)) (sym (ap (λ (r : CertificateReply). r .certified) is) ∙ e),
-        (refused-kept (a .file .now) (a .invariant .now) (a .requests .now) (a .lemmas .now) _ _ v (a .store .now), λ h. refl),
+        (refused-kept (a .file .now) (a .invariant .now) (a .requests .now) (a .lemmas .now) _ _ v (a .store .now), refl),
       ),
     )
 
@@ -70,7 +70,10 @@ returns-2 c =
       is,
       (
         λ e. certified-forever (a .file .now) (a .invariant .now) (a .requests .now) (a .lemmas .now) (a .hints .now) (length (a .store .now)) (length (a .marks .now)) (sym (ap (λ (r : CertificateReply). r .certified) is) ∙ e),
-        (told .1 .0 ∙ taken-store (a .file .now) (a .invariant .now) (a .requests .now) (a .lemmas .now) v (a .store .now), told .1 .1),
+        (
+          told .1 .0 ∙ taken-store (a .file .now) (a .invariant .now) (a .requests .now) (a .lemmas .now) v (a .store .now),
+          rw (← taken-scratch (a .file .now) (a .invariant .now) (a .requests .now) (a .lemmas .now) v (length (a .store .now)) (length (a .marks .now))) (told .1 .1),
+        ),
       ),
     )
 

@@ -1,11 +1,9 @@
 -- `invariant_check::certify_net` meets its contract: a refusal leaves everything, and else the check's answer is sent.
 use native.Mathlib.Omega.{arith}
-use mathlib.Core.Path.{refl, ap, _∙_}
+use mathlib.Core.Path.{refl, _∙_}
 use Rattle.refusals.specs.Slices.{contentsAfter}
 use Rattle.refusals.proofs.Slices.{room-enough, room-short}
-use Rattle.refutation_depth.specs.Certificate.{certificateReply}
-use Rattle.refutation_depth.specs.declared.CertificateReply.{CertificateReply}
-use Rattle.invariant_check.proofs.Certificate.{passed-number}
+use Rattle.refutation_depth.specs.Certificate.{certificateReply, scratchAfter}
 use Rattle.invariant_check.specs.ForeverCall.{storeNeed}
 use lib.ListN.{length}
 use borrow.Author.Needs.{needs}
@@ -31,7 +29,7 @@ returns : tie.Need-returns
 unfolding certificateReply contentsAfter storeNeed
 returns c =
     let v = room-short _ _ (c .before .before .if1 .taken) in
-    (c .refused .ensures ∙ rw (v, c .before .number .ensures), (rw v, λ h. refl))
+    (c .refused .ensures ∙ rw (v, c .before .number .ensures), (rw v, refl))
 
 check-step-requires : tie.Need-check-step-requires
 unfolding storeNeed
@@ -48,12 +46,12 @@ same-length-2 : tie.Need-same-length-2
 same-length-2 c = search needs
 
 returns-2 : tie.Need-returns-2
-unfolding contentsAfter storeNeed
+unfolding contentsAfter scratchAfter storeNeed
 returns-2 c =
     let a = c .before .before .before .before .before .before .before .before .before .before .before .args in
     let v = room-enough (storeNeed (length (a .invariant .now)) (length (a .requests .now)) (length (a .lemmas .now))) (length (a .store .now)) (omega (arith, c .before .before .before .before .before .before .before .if1 .left)) in
     let checked = c .before .before .before .before .check-step .ensures in
-    (c .reply-of .ensures ∙ rw (v, checked .0), (rw v (checked .1), λ h. absurd (h (ap (λ (r : CertificateReply). r .number) (c .reply-of .ensures) ∙ passed-number _))))
+    (c .reply-of .ensures ∙ rw (v, checked .0), (rw v (checked .1 .0), rw v (checked .1 .1)))
 
 pub certify-net-spec : {M : Type 1} → statement M
 certify-net-spec =

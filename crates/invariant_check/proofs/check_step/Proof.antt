@@ -1,11 +1,12 @@
 -- `invariant_check::check_step` meets its contract: what is checked is the step and the lemmas behind it.
 use native.Mathlib.Omega.{arith}
-use mathlib.Core.Path.{sym, _∙_}
+use mathlib.Core.Path.{refl, sym, _∙_}
 use lib.Seq.{length-take-le}
 use Rattle.invariant_formula.specs.Formula.{stepFormula}
 use Rattle.netlist.specs.NetOf.{netOf}
-use Rattle.invariant_check.proofs.Certificate.{length-formula, start-lists, laid-length, laid-found}
-use Rattle.invariant_check.specs.ForeverCall.{storeNeed, stepFound}
+use Rattle.refutation_depth.proofs.Certificate.{laid-length, laid-found}
+use Rattle.invariant_check.proofs.Certificate.{length-formula, start-lists, all-scratch}
+use Rattle.invariant_check.specs.ForeverCall.{storeNeed, stepFound, stepScratch}
 use borrow.Author.Needs.{needs}
 use Rattle.invariant_check.proofs.check_step.Statement.{statement}
 use Rattle.invariant_check.proofs.check_step.Tie as tie
@@ -49,25 +50,28 @@ same-length-2 : tie.Need-same-length-2
 same-length-2 c = search needs
 
 returns : tie.Need-returns
-unfolding stepFound
+unfolding stepFound stepScratch
 returns c =
     let start = c .before .before .before .before .before .before .before .before .before .before .before .before .before in
     let laid = c .before .before .before .before .before .before .before .before .lay .ensures in
     let a = start .args in
     let holds = sym (start-lists (a .net) (a .latches .now) (a .gates .now) (a .invariant .now)) ∙ sym (c .before .before .before .before .before .before .holds-at-start .ensures) ∙ c .before .before .before .before .before .if1 .taken in
-    (rw holds (laid-found _ (a .lemmas .now) (a .store .now) _ (laid .1) _ _ _ _ (laid .0) (c .before .before .check .ensures .0)), laid .1)
+    let check = c .before .before .check in (
+      rw holds (laid-found _ (a .lemmas .now) (a .store .now) _ (laid .1) _ _ _ _ (laid .0) (check .ensures .0)),
+      (laid .1, rw holds (all-scratch (a .marks .now) (check .last .1 .1 .1 .0) (check .ensures .1 .1))),
+    )
 
 same-length-3 : tie.Need-same-length-3
 same-length-3 c = search needs
 
 returns-2 : tie.Need-returns-2
-unfolding stepFound
+unfolding stepFound stepScratch
 returns-2 c =
     let start = c .before .before .before .before .before .before .before .before in
     let laid = c .before .before .before .lay .ensures in
     let a = start .args in
     let fails = sym (start-lists (a .net) (a .latches .now) (a .gates .now) (a .invariant .now)) ∙ sym (c .before .holds-at-start .ensures) ∙ c .if1 .left in
-    (rw fails, laid .1)
+    (rw fails, (laid .1, refl))
 
 pub check-step-spec : {M : Type 1} → statement M
 check-step-spec =

@@ -4,7 +4,6 @@ use mathlib.Core.Path.{_≡_, _∙_}
 use borrow.Author.Tests.{lt-ltb, le-ltb}
 use Rattle.model.specs.Netlist.{latchWire}
 use Rattle.netlist.specs.NetOf.{netOf, alone}
-use Rattle.invariant_terms.specs.Terms.{stateTerm}
 use Rattle.invariant_axioms.specs.Laws.{latchLaw}
 use borrow.Author.Needs.{needs}
 use Rattle.invariant_requests.proofs.latch_law.Statement.{statement}
@@ -21,17 +20,26 @@ offset-requires c κs =
 wire-term-requires : tie.Need-wire-term-requires
 wire-term-requires c κs = search needs
 
-mul-same : tie.Need-mul-same
-mul-same c = search needs
+bit-term-requires : tie.Need-bit-term-requires
+bit-term-requires c κs = search needs
 
 same-requires : tie.Need-same-requires
 same-requires c κs = search needs
 
 returns : tie.Need-returns
-unfolding latchLaw netOf stateTerm
+unfolding latchLaw netOf
 returns c =
-    let is : c .before .before .offset .result .0 ≡ latchWire (alone (c .before .before .before .before .before .before .args .net)) (c .before .before .before .before .before .before .args .l) = omega (arith, c .before .before .offset .ensures, c .before .before .before .first-latch-wire .ensures) in
-    c .same .ensures ∙ rw (c .before .wire-term .ensures, is, c .before .before .before .before .before .before .pre .1, lt-ltb (c .before .before .before .before .before .before .args .l) (c .before .before .before .before .before .before .args .net .latches) (c .before .before .before .before .if1 .taken))
+    let start = c .before .before .before .before .before .before .before in
+    let offset = c .before .before .before .offset in
+    let is : offset .result .0 ≡ latchWire (alone (start .args .net)) (start .args .l) = omega (arith, offset .ensures, c .before .before .before .before .first-latch-wire .ensures) in
+    c .same .ensures
+    ∙ rw (
+      c .before .bit-term .ensures .0,
+      c .before .before .wire-term .ensures,
+      is,
+      start .pre .1,
+      lt-ltb (start .args .l) (start .args .net .latches) (c .before .before .before .before .before .if1 .taken),
+    )
 
 no-law-requires : tie.Need-no-law-requires
 no-law-requires c κs = search needs
@@ -48,7 +56,7 @@ latch-law-spec =
     first-latch-wire-requires
     offset-requires
     wire-term-requires
-    mul-same
+    bit-term-requires
     same-requires
     returns
     no-law-requires

@@ -23,8 +23,8 @@ element-copy-out-t12 c =
 code-term-requires : tie.Need-code-term-requires
 code-term-requires c κs = search needs
 
-term-requires : tie.Need-term-requires
-term-requires c κs = search needs
+bit-term-requires : tie.Need-bit-term-requires
+bit-term-requires c κs = search needs
 
 same-requires : tie.Need-same-requires
 same-requires c κs = search needs
@@ -32,7 +32,7 @@ same-requires c κs = search needs
 returns : tie.Need-returns
 unfolding nextLaw netOf stateCount
 returns c =
-    c .same .ensures ∙ rw (c .before .term .ensures .0, c .before .before .code-term .ensures, c .before .before .before .before .before .before .pre .1, lt-ltb (c .before .before .before .before .before .before .args .l) (c .before .before .before .before .before .before .args .net .latches) (c .before .before .before .before .if1 .taken))
+    c .same .ensures ∙ rw (c .before .bit-term .ensures .0, c .before .before .code-term .ensures, c .before .before .before .before .before .before .pre .1, lt-ltb (c .before .before .before .before .before .before .args .l) (c .before .before .before .before .before .before .args .net .latches) (c .before .before .before .before .if1 .taken))
 
 no-law-requires : tie.Need-no-law-requires
 no-law-requires c κs = search needs
@@ -50,7 +50,7 @@ next-law-spec =
     mul-t9
     element-copy-out-t12
     code-term-requires
-    term-requires
+    bit-term-requires
     same-requires
     returns
     no-law-requires

@@ -8,7 +8,8 @@ use Rattle.text_writer.specs.declared.Parts.{Parts}
 use Rattle.netlist.specs.NetOf.{netOf, alone}
 use Rattle.invariant_terms.specs.StateBits.{stateCount}
 use Rattle.invariant_start.specs.Progress.{progress}
-use Rattle.invariant_start.proofs.Numbers.{ends, goes-on, outside, inside}
+use Rattle.invariant_axioms.proofs.Parts.{ends, goes-on}
+use Rattle.invariant_start.proofs.Numbers.{outside, inside}
 use borrow.Author.Needs.{needs}
 use Rattle.invariant_start.proofs.next.Statement.{statement}
 use Rattle.invariant_start.proofs.next.Tie as tie

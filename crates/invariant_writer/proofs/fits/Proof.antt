@@ -1,6 +1,6 @@
 -- `invariant_writer::fits` meets its contract.
 use mathlib.Core.Path.{refl}
-use Rattle.invariant_axioms.specs.Laws.{lawFits}
+use Rattle.invariant_laws.specs.LawForms.{lawFits}
 use Rattle.invariant_writer.proofs.fits.Statement.{statement}
 use Rattle.invariant_writer.proofs.fits.Tie as tie
 

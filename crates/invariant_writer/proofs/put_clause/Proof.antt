@@ -2,7 +2,7 @@
 use native.Mathlib.Omega.{arith}
 use mathlib.Core.Path.{sym, _∙_}
 use borrow.Author.Tests.{eq-eqb, ne-eqb}
-use Rattle.invariant_axioms.specs.Laws.{clauseOf}
+use Rattle.invariant_laws.specs.LawForms.{clauseOf}
 use Rattle.invariant_writer.proofs.Five.{small, opposite-most}
 use borrow.Author.Needs.{needs}
 use Rattle.invariant_writer.proofs.put_clause.Statement.{statement}

@@ -3,7 +3,7 @@ use mathlib.Core.Path.{refl, sym, _∙_, ap}
 use native.Mathlib.Omega.{arith}
 use lib.ListN.{length}
 use Rattle.refutation_depth.specs.declared.CertificateReply.{CertificateReply}
-use Rattle.refutation_depth.proofs.Certificate.{refused-sent, refused-kept, taken-sent, taken-store, certified-input}
+use Rattle.refutation_depth.proofs.Certificate.{refused-sent, refused-kept, taken-sent, taken-store, taken-scratch, certified-input}
 use borrow.Author.Needs.{needs}
 use Rattle.refutation_depth.proofs.certify.Statement.{statement}
 use Rattle.refutation_depth.proofs.certify.Tie as tie
@@ -28,7 +28,7 @@ returns c = let a = c .before .before .before .before .before .before .before .b
       is,
       (
         λ e. certified-input (a .input .now) (a .lemmas .now) (a .hints .now) (length (a .store .now)) (length (a .marks .now)) (sym (ap (λ (r : CertificateReply). r .certified) is) ∙ e),
-        (sym (refused-kept (a .input .now) (read .result) (read .ensures .0) (λ none. omega arith) (a .lemmas .now) (a .store .now) (length (a .marks .now))), λ h. refl),
+        (sym (refused-kept (a .input .now) (read .result) (read .ensures .0) (λ none. omega arith) (a .lemmas .now) (a .store .now) (length (a .marks .now))), refl),
       ),
     )
 
@@ -50,7 +50,10 @@ returns-2 c = let a = c .before .before .before .before .before .before .before 
       is,
       (
         λ e. certified-input (a .input .now) (a .lemmas .now) (a .hints .now) (length (a .store .now)) (length (a .marks .now)) (sym (ap (λ (r : CertificateReply). r .certified) is) ∙ e),
-        (told .1 .0 ∙ sym (taken-store (a .input .now) (t .passed) (a .lemmas .now) (a .store .now) (length (a .marks .now))), told .1 .1),
+        (
+          told .1 .0 ∙ sym (taken-store (a .input .now) (t .passed) (a .lemmas .now) (a .store .now) (length (a .marks .now))),
+          rw (taken-scratch (a .input .now) (t .passed) (length (a .lemmas .now)) (length (a .store .now)) (length (a .marks .now))) (told .1 .1),
+        ),
       ),
     )
 

@@ -1,9 +1,8 @@
 -- `refutation_depth::certify_net` meets its contract: a refusal leaves everything, and else the check's answer is sent.
-use mathlib.Core.Path.{refl, sym, _∙_, ap}
+use mathlib.Core.Path.{refl, sym, _∙_}
 use Rattle.refusals.specs.Slices.{contentsAfter}
-use Rattle.refutation_depth.specs.Certificate.{certificateReply}
-use Rattle.refutation_depth.specs.declared.CertificateReply.{CertificateReply}
-use Rattle.refutation_depth.proofs.Certificate.{both-shown, passed-number}
+use Rattle.refutation_depth.specs.Certificate.{certificateReply, scratchAfter}
+use Rattle.refutation_depth.proofs.Certificate.{both-shown}
 use borrow.Author.Needs.{needs}
 use Rattle.refutation_depth.proofs.certify_net.Statement.{statement}
 use Rattle.refutation_depth.proofs.certify_net.Tie as tie
@@ -23,7 +22,7 @@ refused-requires c κs = search needs
 returns : tie.Need-returns
 unfolding certificateReply contentsAfter
 returns c = let v = sym (c .before .before .before .before .before .test-room .ensures) ∙ c .before .before .before .refusal .given .1 in
-    (c .refused .ensures ∙ rw (v, c .before .number .ensures), (rw v, λ h. refl))
+    (c .refused .ensures ∙ rw (v, c .before .number .ensures), (rw v, refl))
 
 enum-told : tie.Need-enum-told
 enum-told c = search needs
@@ -43,12 +42,10 @@ same-length-2 : tie.Need-same-length-2
 same-length-2 c = search needs
 
 returns-2 : tie.Need-returns-2
-unfolding contentsAfter
+unfolding contentsAfter scratchAfter
 returns-2 c = let v = sym (c .before .before .before .before .before .before .before .before .before .test-room .ensures) ∙ c .before .before .before .before .before .before .before .enum-told .given .1 in
-    let checked = c .before .before .before .before .check-depth .ensures in (
-      c .reply-of .ensures ∙ rw (v, checked .0),
-      (rw v (checked .1), λ h. absurd (h (ap (λ (r : CertificateReply). r .number) (c .reply-of .ensures) ∙ passed-number _))),
-    )
+    let checked = c .before .before .before .before .check-depth .ensures in
+    (c .reply-of .ensures ∙ rw (v, checked .0), (rw v (checked .1 .0), rw v (checked .1 .1)))
 
 pub certify-net-spec : {M : Type 1} → statement M
 certify-net-spec =

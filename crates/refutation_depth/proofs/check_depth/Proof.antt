@@ -6,7 +6,7 @@ use native.Mathlib.Omega.{arith}
 use lib.ListN.{length}
 use lib.Seq.{length-take-le}
 use Rattle.netlist.proofs.NetOf.{sizes-lists}
-use Rattle.refutation_depth.proofs.Certificate.{marks-lists, laid-found}
+use Rattle.refutation_depth.proofs.Certificate.{marks-lists, depth-found, behind-kept}
 use borrow.Author.Needs.{needs}
 use Rattle.refutation_depth.proofs.check_depth.Statement.{statement}
 use Rattle.refutation_depth.proofs.check_depth.Tie as tie
@@ -50,7 +50,10 @@ returns c =
     let need = c .before .before .before .before .before .marks-need in
     let lists = marks-lists (start .args .net) (start .args .latches .now) (start .args .gates .now) (start .args .depth) in
     let room : need .result ≤ length (start .args .marks .now) = omega (arith, start .pre .3, need .ensures, lists) in
-    (laid-found _ _ _ _ _ _ _ _ _ _ (laid .0) (laid .1) (need .ensures ∙ lists) room (c .before .before .check .ensures .0), laid .1)
+    let check = c .before .before .check in (
+      depth-found _ _ _ _ _ _ _ _ _ _ (laid .0) (laid .1) (need .ensures ∙ lists) room (check .ensures .0),
+      (laid .1, behind-kept _ (need .result) (start .args .marks .now) (check .last .1 .1 .1 .0) (need .ensures ∙ lists) room (check .ensures .1 .1)),
+    )
 
 pub check-depth-spec : {M : Type 1} → statement M
 check-depth-spec =
