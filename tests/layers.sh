@@ -1,7 +1,7 @@
 #!/usr/bin/env bash
-# crates.txt: each crate stands once, in a family, and imports only crates before it; one check for each. The table of families in docs/ARCHITECTURE.md, and
-# the graph and the figure beside it, are those of crates.txt. The places that the pages for contributors name are there. And each name that a file
-# imports is used there: one check for each.
+# crates.txt: each crate stands once, in a family, and imports only crates before it; one check for each. The table of families in
+# docs/ARCHITECTURE.md, and the graph and the figure beside it, are those of crates.txt. The places that the pages for contributors name are there. And
+# each name that a file imports is used there: one check for each.
 set -u
 cd "$(dirname "$0")/.." || exit 2
 
