@@ -1,6 +1,7 @@
 #!/usr/bin/env bash
-# crates.txt: each crate stands once, in a family, and imports only crates before it; one check for each. The table of families in docs/ARCHITECTURE.md, and
-# the graph and the figure beside it, are those of crates.txt. And each name that a file imports is used there: one check for each.
+# crates.txt: each crate stands once, in a family, and imports only crates before it; one check for each. The table of families in
+# docs/ARCHITECTURE.md, and the graph and the figure beside it, are those of crates.txt. The places that the pages for contributors name are there. And
+# each name that a file imports is used there: one check for each.
 set -u
 cd "$(dirname "$0")/.." || exit 2
 
@@ -25,6 +26,14 @@ holds() { # what is wrong where the command fails, command ..
 }
 table() { sed -n '/^<!-- families -->$/,/^<!-- end -->$/p' docs/ARCHITECTURE.md | sed '1d;$d'; }
 families() { awk -v form="$1" -f scripts/families.awk crates.txt; }
+
+# The files and folders that pages name are there, a file of definitions without its ending; those of no crate in particular are passed over.
+places() { # pages
+  local place
+  for place in $(grep -ho '`[^` ]*/[^` ]*`' "$@" | tr -d '`' | grep -vE 'NAME|^(src|specs|proofs|must-fail|target)/' | sort -u); do
+    holds "there is no $place" [ -e "$place" -o -e "crates/$place" -o -e "crates/$place.antt" ]
+  done
+}
 
 # A name is used where it is a word of the rest of the file, comments apart; an operator where its parts are.
 imports() { # files
@@ -69,6 +78,9 @@ trap 'rm -f "$sample"' EXIT
   holds "docs/architecture.dot is not the graph of crates.txt (make figure)" diff docs/architecture.dot <(families dot)
   holds "docs/architecture.svg is not drawn from docs/architecture.dot (make figure)" \
     grep -qxF "<!-- graph: $(cksum < docs/architecture.dot) -->" docs/architecture.svg
+  places CONTRIBUTING.md docs/ARCHITECTURE.md
+  printf '%s\n' '`model/specs/Claim` and `model/specs/Claims`' > "$sample"
+  holds "the rule of places" [ "$(places "$sample" | grep -c '^1 passed')" = 1 ]
   imports $(find crates -path '*/must-fail' -prune -o \( -name '*.antt' -o -name '*.rt' \) -print | sort)
   # of the sample b and _*_ are not used
   printf '%s\n' 'use A.{b, c as d, _+_, _*_, if_then_}' '-- b * f' 'd = if 1 then 2 + 3 -- b' > "$sample"

@@ -26,13 +26,14 @@ const FED_ANYTHING: [&str; 4] = [
 ];
 
 /// Demand 3 takes the numbers that the calls leave and the formula that they are together as they come, what passes the tests by the theorem that
-/// says which netlists those are, and the depth as any.
-const UNOPENED: [&str; 8] = [
+/// says which netlists those are, and the depth as any; what else is promised beside it has paths of its own (K4 and K13).
+const UNOPENED: [&str; 9] = [
     "model/Numbers/formula",
     "model/Numbers/numbersOf",
     "model/Groups/groupOrder",
     "model/Groups/inDepth",
     "model/Claim/Stated",
+    "model/Trace/Traced",
     "netlist_tests/Record/recordVerdict",
     "call_unpacked/Calls/groupSent",
     "call_unpacked/Calls/groupLeaves",
