@@ -1,6 +1,7 @@
 #!/usr/bin/env bash
 # The table of layers in docs/ARCHITECTURE.md against crates.txt: it has every crate once, and each crate imports only crates of
-# lower rows, or further right in its own. One check for each crate. And each name that a file imports is used there: one check for each.
+# lower rows, or further right in its own. One check for each crate. Each crate that crates.txt has another import is named in a file of that
+# one, and each name that a file imports is used there: one check for each.
 set -u
 cd "$(dirname "$0")/.." || exit 2
 
@@ -25,6 +26,19 @@ layers() {
       for (crate in at) if (!(crate in known)) { failed++; print "FAILED: " crate " is no crate" }
       printf "%d passed, %d failed\n", passed, failed
     }' - crates.txt
+}
+
+# A crate is named by its path in code, `NAME::`, or by its library in a definition or proof, `Rattle.NAME`.
+listed() {
+  local crate imports import named
+  while IFS=: read -r crate imports; do
+    named=$(find "crates/$crate/src" "crates/$crate/specs" "crates/$crate/proofs" \( -name '*.antt' -o -name '*.rt' \) -exec cat {} + 2>/dev/null |
+      grep -vE '^ *(--|//)' | grep -oE 'Rattle·[a-z_0-9]+\.|[a-z_0-9]+::' | sed 's/Rattle·//; s/[.:]*$//' | sort -u)
+    for import in $imports; do
+      [ -d "crates/$import" ] || continue # the kit's
+      if grep -qx "$import" <<<"$named"; then echo "1 passed, 0 failed"; else printf '%s\n' "FAILED: $crate imports $import, and no file names it" "0 passed, 1 failed"; fi
+    done
+  done < <(sed 's/#.*//; /:/!d' crates.txt)
 }
 
 # A name is used where it is a word of the rest of the file, comments apart; an operator where its parts are.
@@ -64,6 +78,7 @@ printf '%s\n' 'use A.{b, c as d, _+_, _*_, if_then_}' '-- b * f' 'd = if 1 then 
 
 {
   layers
+  listed
   imports $(find crates -path '*/must-fail' -prune -o \( -name '*.antt' -o -name '*.rt' \) -print | sort)
   # of the sample b and _*_ are not used
   [ "$(imports "$sample" | tail -n 1)" = "3 passed, 2 failed" ] && echo "1 passed, 0 failed" || printf '%s\n' "FAILED: the rule of imports" "0 passed, 1 failed"
