@@ -46,7 +46,20 @@ if out=$(rt fmt --check 2>&1); then pass; else echo "$out"; fail "rt fmt --check
 echo "== proofs and must-fail edits: rt ci"
 log=$(mktemp)
 began=$SECONDS
-rt ci 2>&1 | tee "$log"
+# rt takes the crates of a level, and the edits, in batches and waits for the slowest of each: with three for a processor few processors idle. A check
+# takes up to 2 GB, and copies the modules that it reads to a temporary folder, up to 300 MB in 6,000 files: in memory, where that has the room.
+processors=$(nproc)
+jobs=$(awk -v most=$((3 * processors)) '/^MemAvailable:/ { fit = int($2 / 2500000) } END { print fit < 1 ? 1 : fit < most ? fit : most }' /proc/meminfo)
+in_memory() { # rt also runs programs from its temporary folder
+  local try
+  [ "$(df --output=avail /dev/shm 2>/dev/null | tail -n 1)" -gt $((jobs * 500000)) ] 2>/dev/null && try=$(mktemp -p /dev/shm) || return
+  printf '#!/bin/sh\n' > "$try" && chmod 755 "$try" && "$try" 2>/dev/null
+  set -- $?
+  rm -f "$try"
+  return "$1"
+}
+if in_memory; then rooms=/dev/shm; else rooms=${TMPDIR:-/tmp}; fi
+TMPDIR=$rooms RT_JOBS=$jobs rt ci 2>&1 | tee "$log"
 status=${PIPESTATUS[0]}
 echo "($((SECONDS - began)) s)"
 count "rt ci" "$status" "$log"
@@ -59,7 +72,6 @@ cat "$logs/compiled.out"
 
 # Starts a command whose last line is 'N passed, M failed'. As many run at a time as there are processors: no test may need a processor
 # for itself, and each has its own scratch files.
-processors=$(nproc)
 names=()
 headings=()
 start() { # heading, name, command ..

@@ -6,36 +6,6 @@ use Rattle.aiger_binary.specs.BinaryText.{gateText}
 use Rattle.aiger_binary.proofs.put_gate.Statement.{statement}
 use Rattle.aiger_binary.proofs.put_gate.Tie as tie
 
-mul-put-short : tie.Need-mul-put-short
-mul-put-short c = search needs
-
-sub-put-short : tie.Need-sub-put-short
-sub-put-short c = search needs
-
-put-short-requires : tie.Need-put-short-requires
-put-short-requires c κs = search needs
-
-sub-put-short-2 : tie.Need-sub-put-short-2
-sub-put-short-2 c = search needs
-
-part-put-short-start : tie.Need-part-put-short-start
-part-put-short-start c = search needs
-
-part-put-short-end : tie.Need-part-put-short-end
-part-put-short-end c = search needs
-
-sub-put-short-3 : tie.Need-sub-put-short-3
-sub-put-short-3 c = search needs
-
-put-short-requires-2 : tie.Need-put-short-requires-2
-put-short-requires-2 c κs = search needs
-
-add-result : tie.Need-add-result
-add-result c = search needs
-
-same-length : tie.Need-same-length
-same-length c = search needs
-
 returns : tie.Need-returns
 unfolding gateText
 returns c =
@@ -46,15 +16,5 @@ returns c =
 pub put-gate-spec : {M : Type 1} → statement M
 put-gate-spec =
     tie.close
-    (tie.spec
-    mul-put-short
-    sub-put-short
-    put-short-requires
-    sub-put-short-2
-    part-put-short-start
-    part-put-short-end
-    sub-put-short-3
-    put-short-requires-2
-    add-result
-    same-length
-    returns)
+    (tie.spec (λ c. search needs) (λ c. search needs) (λ c κs. search needs) (λ c. search needs) (λ c. search needs)
+    (λ c. search needs) (λ c. search needs) (λ c κs. search needs) (λ c. search needs) (λ c. search needs) returns)

@@ -13,9 +13,6 @@ write-ended-requires c κs =
     let start = c .before .before in
     omega (arith, length-append (digits (start .args .x)) (start .args .byte ∷ []), length-digits-most 4 (start .args .x) (omega arith) (omega arith))
 
-same-length : tie.Need-same-length
-same-length c = search needs
-
 returns : tie.Need-returns
 returns c =
     let start = c .before .before .before .before .before in
@@ -23,4 +20,4 @@ returns c =
     (written, omega (arith, written .counted, length-append (digits (start .args .x)) (start .args .byte ∷ []), length-digits-most 4 (start .args .x) (omega arith) (omega arith)))
 
 pub put-number-spec : {M : Type 1} → statement M
-put-number-spec = tie.close (tie.spec write-ended-requires same-length returns)
+put-number-spec = tie.close (tie.spec write-ended-requires (λ c. search needs) returns)

@@ -8,9 +8,6 @@ use Rattle.aiger_binary.proofs.put_short.Tie as tie
 put-difference-requires : tie.Need-put-difference-requires
 put-difference-requires c κs = let start = c .before .before in omega (arith, length-bytes-two (start .args .x) (omega arith))
 
-same-length : tie.Need-same-length
-same-length c = search needs
-
 returns : tie.Need-returns
 returns c =
     let start = c .before .before .before .before .before in
@@ -18,4 +15,4 @@ returns c =
     (written, omega (arith, written .counted, length-bytes-two (start .args .x) (omega arith)))
 
 pub put-short-spec : {M : Type 1} → statement M
-put-short-spec = tie.close (tie.spec put-difference-requires same-length returns)
+put-short-spec = tie.close (tie.spec put-difference-requires (λ c. search needs) returns)

@@ -90,9 +90,6 @@ sub-put-nexts c =
 part-put-nexts-start : tie.Need-part-put-nexts-start
 part-put-nexts-start c = omega (arith, sub-put-nexts c)
 
-part-put-nexts-end : tie.Need-part-put-nexts-end
-part-put-nexts-end c = search needs
-
 put-nexts-requires : tie.Need-put-nexts-requires
 put-nexts-requires c κs =
     let start = c .before .before .before .before .before .before .before .before .before .before in
@@ -118,9 +115,6 @@ sub-put-outputs c =
 
 part-put-outputs-start : tie.Need-part-put-outputs-start
 part-put-outputs-start c = omega (arith, sub-put-outputs c)
-
-part-put-outputs-end : tie.Need-part-put-outputs-end
-part-put-outputs-end c = search needs
 
 put-outputs-requires : tie.Need-put-outputs-requires
 put-outputs-requires c κs =
@@ -153,9 +147,6 @@ sub-put-gates c =
 part-put-gates-start : tie.Need-part-put-gates-start
 part-put-gates-start c = omega (arith, sub-put-gates c)
 
-part-put-gates-end : tie.Need-part-put-gates-end
-part-put-gates-end c = search needs
-
 put-gates-requires : tie.Need-put-gates-requires
 put-gates-requires c κs =
     let start = c .before .before .before .before .before .before .before .before .before .before .before .before .before .before .before .before .before .before in
@@ -172,9 +163,6 @@ add-result : tie.Need-add-result
 add-result c =
     let fits = sizes (c .before .before .before .before .before .before .before .before .before .before .before .before .before .before .before .before .before .before .before .before .before) in
     omega (arith, fits .wires, fits .m-most, fits .n-most, c .before .before .before .before .before .before .before .before .before .before .before .before .before .before .put-header .ensures .1, c .before .before .before .before .before .before .before .before .before .before .put-nexts .ensures .1, c .before .before .before .before .before .before .put-outputs .ensures .1, c .before .before .put-gates .ensures .1)
-
-same-length : tie.Need-same-length
-same-length c = search needs
 
 returns : tie.Need-returns
 unfolding netOf aigText outputOf
@@ -193,26 +181,7 @@ returns c =
 pub put-file-spec : {M : Type 1} → statement M
 put-file-spec =
     tie.close
-    (tie.spec
-    order-of-requires
-    add-put-header
-    add-put-header-2
-    add-put-header-3
-    put-header-requires
-    sub-put-nexts
-    part-put-nexts-start
-    part-put-nexts-end
-    put-nexts-requires
-    add-nexts
-    sub-put-outputs
-    part-put-outputs-start
-    part-put-outputs-end
-    put-outputs-requires
-    add-outputs
-    sub-put-gates
-    part-put-gates-start
-    part-put-gates-end
-    put-gates-requires
-    add-result
-    same-length
-    returns)
+    (tie.spec order-of-requires add-put-header add-put-header-2 add-put-header-3 put-header-requires sub-put-nexts
+    part-put-nexts-start (λ c. search needs) put-nexts-requires add-nexts sub-put-outputs part-put-outputs-start
+    (λ c. search needs) put-outputs-requires add-outputs sub-put-gates part-put-gates-start (λ c. search needs)
+    put-gates-requires add-result (λ c. search needs) returns)

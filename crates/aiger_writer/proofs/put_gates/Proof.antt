@@ -38,9 +38,6 @@ sub-put-gate-at c = omega (arith, room c)
 part-put-gate-at-start : tie.Need-part-put-gate-at-start Inv-loop μ-loop
 part-put-gate-at-start c = omega (arith, room c)
 
-part-put-gate-at-end : tie.Need-part-put-gate-at-end Inv-loop μ-loop
-part-put-gate-at-end c = search needs
-
 put-gate-at-requires : tie.Need-put-gate-at-requires Inv-loop μ-loop
 put-gate-at-requires c κs =
     let at = c .before .before .loop in
@@ -50,12 +47,6 @@ put-gate-at-requires c κs =
 
 add-at : tie.Need-add-at Inv-loop μ-loop
 add-at c = omega (arith, room (c .before .before .before .before), c .before .before .put-gate-at .ensures .1)
-
-add-g : tie.Need-add-g Inv-loop μ-loop
-add-g c = omega arith
-
-loop-less : tie.Need-loop-less Inv-loop μ-loop
-loop-less c = omega arith
 
 loop-again : tie.Need-loop-again Inv-loop μ-loop
 unfolding gather
@@ -71,9 +62,6 @@ loop-again c =
           (wrote-then (gather (at .g) text) (text (at .g)) (a .out .now) (at .out) (written .last .0) (at .at) (written .result) (at .inv .3) (written .ensures .0)),
     )
 
-same-length : tie.Need-same-length Inv-loop μ-loop
-same-length c = search needs
-
 returns : tie.Need-returns Inv-loop μ-loop
 returns c =
     let at = c .before .loop in
@@ -84,17 +72,5 @@ returns c =
 pub put-gates-spec : {M : Type 1} → statement M
 put-gates-spec =
     tie.close
-    (tie.spec
-    Inv-loop
-    μ-loop
-    loop-holds
-    sub-put-gate-at
-    part-put-gate-at-start
-    part-put-gate-at-end
-    put-gate-at-requires
-    add-at
-    add-g
-    loop-less
-    loop-again
-    same-length
-    returns)
+    (tie.spec Inv-loop μ-loop loop-holds sub-put-gate-at part-put-gate-at-start (λ c. search needs) put-gate-at-requires
+    add-at (λ c. omega arith) (λ c. omega arith) loop-again (λ c. search needs) returns)

@@ -38,9 +38,6 @@ sub-put-next c = omega (arith, room c)
 part-put-next-start : tie.Need-part-put-next-start Inv-loop μ-loop
 part-put-next-start c = omega (arith, room c)
 
-part-put-next-end : tie.Need-part-put-next-end Inv-loop μ-loop
-part-put-next-end c = search needs
-
 put-next-requires : tie.Need-put-next-requires Inv-loop μ-loop
 put-next-requires c κs =
     let at = c .before .before .loop in
@@ -50,12 +47,6 @@ put-next-requires c κs =
 
 add-at : tie.Need-add-at Inv-loop μ-loop
 add-at c = omega (arith, room (c .before .before .before .before), c .before .before .put-next .ensures .1)
-
-add-l : tie.Need-add-l Inv-loop μ-loop
-add-l c = omega arith
-
-loop-less : tie.Need-loop-less Inv-loop μ-loop
-loop-less c = omega arith
 
 loop-again : tie.Need-loop-again Inv-loop μ-loop
 unfolding gather
@@ -71,9 +62,6 @@ loop-again c =
           (wrote-then (gather (at .l) text) (text (at .l)) (a .out .now) (at .out) (written .last .0) (at .at) (written .result) (at .inv .3) (written .ensures .0)),
     )
 
-same-length : tie.Need-same-length Inv-loop μ-loop
-same-length c = search needs
-
 returns : tie.Need-returns Inv-loop μ-loop
 returns c =
     let at = c .before .loop in
@@ -84,17 +72,5 @@ returns c =
 pub put-nexts-spec : {M : Type 1} → statement M
 put-nexts-spec =
     tie.close
-    (tie.spec
-    Inv-loop
-    μ-loop
-    loop-holds
-    sub-put-next
-    part-put-next-start
-    part-put-next-end
-    put-next-requires
-    add-at
-    add-l
-    loop-less
-    loop-again
-    same-length
-    returns)
+    (tie.spec Inv-loop μ-loop loop-holds sub-put-next part-put-next-start (λ c. search needs) put-next-requires add-at
+    (λ c. omega arith) (λ c. omega arith) loop-again (λ c. search needs) returns)

@@ -47,9 +47,6 @@ sub-put-output c = omega (arith, room c)
 part-put-output-start : tie.Need-part-put-output-start Inv-loop μ-loop
 part-put-output-start c = omega (arith, room c)
 
-part-put-output-end : tie.Need-part-put-output-end Inv-loop μ-loop
-part-put-output-end c = search needs
-
 put-output-requires : tie.Need-put-output-requires Inv-loop μ-loop
 put-output-requires c κs =
     let at = c .before .before .loop in
@@ -63,9 +60,6 @@ add-at c = omega (arith, room (c .before .before .before .before), c .before .be
 add-o : tie.Need-add-o Inv-loop μ-loop
 unfolding netOf
 add-o c = let fits = c .before .before .before .before .before .before .before .before .pre .1 in omega (arith, fits .m-most, fits .n-most)
-
-loop-less : tie.Need-loop-less Inv-loop μ-loop
-loop-less c = omega arith
 
 loop-again : tie.Need-loop-again Inv-loop μ-loop
 unfolding gather
@@ -81,9 +75,6 @@ loop-again c =
           (wrote-then (gather (at .o) text) (text (at .o)) (a .out .now) (at .out) (written .last .0) (at .at) (written .result) (at .inv .3) (written .ensures .0)),
     )
 
-same-length : tie.Need-same-length Inv-loop μ-loop
-same-length c = search needs
-
 returns : tie.Need-returns Inv-loop μ-loop
 returns c =
     let at = c .before .loop in
@@ -94,19 +85,5 @@ returns c =
 pub put-outputs-spec : {M : Type 1} → statement M
 put-outputs-spec =
     tie.close
-    (tie.spec
-    Inv-loop
-    μ-loop
-    add-count
-    add-count-2
-    loop-holds
-    sub-put-output
-    part-put-output-start
-    part-put-output-end
-    put-output-requires
-    add-at
-    add-o
-    loop-less
-    loop-again
-    same-length
-    returns)
+    (tie.spec Inv-loop μ-loop add-count add-count-2 loop-holds sub-put-output part-put-output-start (λ c. search needs)
+    put-output-requires add-at add-o (λ c. omega arith) loop-again (λ c. search needs) returns)

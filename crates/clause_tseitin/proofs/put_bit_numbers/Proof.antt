@@ -5,39 +5,6 @@ use Rattle.clause_tseitin.proofs.BitParts.{bit-parts}
 use Rattle.clause_tseitin.proofs.put_bit_numbers.Statement.{statement}
 use Rattle.clause_tseitin.proofs.put_bit_numbers.Tie as tie
 
-negated-requires : tie.Need-negated-requires
-negated-requires c κs = search needs
-
-negated-requires-2 : tie.Need-negated-requires-2
-negated-requires-2 c κs = search needs
-
-put-same-numbers-requires : tie.Need-put-same-numbers-requires
-put-same-numbers-requires c κs = search needs
-
-mul-put-same-numbers : tie.Need-mul-put-same-numbers
-mul-put-same-numbers c = search needs
-
-sub-put-same-numbers : tie.Need-sub-put-same-numbers
-sub-put-same-numbers c = search needs
-
-part-put-same-numbers-start : tie.Need-part-put-same-numbers-start
-part-put-same-numbers-start c = search needs
-
-part-put-same-numbers-end : tie.Need-part-put-same-numbers-end
-part-put-same-numbers-end c = search needs
-
-negated-requires-3 : tie.Need-negated-requires-3
-negated-requires-3 c κs = search needs
-
-put-same-numbers-requires-2 : tie.Need-put-same-numbers-requires-2
-put-same-numbers-requires-2 c κs = search needs
-
-add-result : tie.Need-add-result
-add-result c = search needs
-
-same-length : tie.Need-same-length
-same-length c = search needs
-
 returns : tie.Need-returns
 returns c = (
   rw bit-parts
@@ -49,16 +16,6 @@ returns c = (
 pub put-bit-numbers-spec : {M : Type 1} → statement M
 put-bit-numbers-spec =
     tie.close
-    (tie.spec
-    negated-requires
-    negated-requires-2
-    put-same-numbers-requires
-    mul-put-same-numbers
-    sub-put-same-numbers
-    part-put-same-numbers-start
-    part-put-same-numbers-end
-    negated-requires-3
-    put-same-numbers-requires-2
-    add-result
-    same-length
-    returns)
+    (tie.spec (λ c κs. search needs) (λ c κs. search needs) (λ c κs. search needs) (λ c. search needs) (λ c. search needs)
+    (λ c. search needs) (λ c. search needs) (λ c κs. search needs) (λ c κs. search needs) (λ c. search needs)
+    (λ c. search needs) returns)

@@ -4,15 +4,6 @@ use Rattle.clause_tseitin.proofs.Numbers.{tested}
 use Rattle.clause_tseitin.proofs.put_same_if.Statement.{statement}
 use Rattle.clause_tseitin.proofs.put_same_if.Tie as tie
 
-is-number-requires : tie.Need-is-number-requires
-is-number-requires c κs = search needs
-
-is-number-requires-2 : tie.Need-is-number-requires-2
-is-number-requires-2 c κs = search needs
-
-is-number-requires-3 : tie.Need-is-number-requires-3
-is-number-requires-3 c κs = search needs
-
 number-requires : tie.Need-number-requires
 number-requires c κs = search (needs, tested)
 
@@ -22,21 +13,9 @@ number-requires-2 c κs = search (needs, tested)
 number-requires-3 : tie.Need-number-requires-3
 number-requires-3 c κs = search (needs, tested)
 
-put-same-numbers-requires : tie.Need-put-same-numbers-requires
-put-same-numbers-requires c κs = search needs
-
-same-length : tie.Need-same-length
-same-length c = search needs
-
 returns : tie.Need-returns
 returns c =
     rw (c .before .before .before .before .number .ensures .0, c .before .before .before .number2 .ensures .0, c .before .before .number3 .ensures .0) at (c .before .put-same-numbers .ensures)
-
-put-same-terms-requires : tie.Need-put-same-terms-requires
-put-same-terms-requires c κs = search needs
-
-same-length-2 : tie.Need-same-length-2
-same-length-2 c = search needs
 
 returns-2 : tie.Need-returns-2
 returns-2 c = c .before .put-same-terms .ensures
@@ -44,16 +23,5 @@ returns-2 c = c .before .put-same-terms .ensures
 pub put-same-if-spec : {M : Type 1} → statement M
 put-same-if-spec =
     tie.close
-    (tie.spec
-    is-number-requires
-    is-number-requires-2
-    is-number-requires-3
-    number-requires
-    number-requires-2
-    number-requires-3
-    put-same-numbers-requires
-    same-length
-    returns
-    put-same-terms-requires
-    same-length-2
-    returns-2)
+    (tie.spec (λ c κs. search needs) (λ c κs. search needs) (λ c κs. search needs) number-requires number-requires-2
+    number-requires-3 (λ c κs. search needs) (λ c. search needs) returns (λ c κs. search needs) (λ c. search needs) returns-2)

@@ -5,39 +5,6 @@ use Rattle.clause_writer.proofs.Wrote.{wrote-clauses}
 use Rattle.clause_tseitin.proofs.put_same_numbers.Statement.{statement}
 use Rattle.clause_tseitin.proofs.put_same_numbers.Tie as tie
 
-negated-requires : tie.Need-negated-requires
-negated-requires c κs = search needs
-
-negated-requires-2 : tie.Need-negated-requires-2
-negated-requires-2 c κs = search needs
-
-put-three-numbers-requires : tie.Need-put-three-numbers-requires
-put-three-numbers-requires c κs = search needs
-
-mul-put-three-numbers : tie.Need-mul-put-three-numbers
-mul-put-three-numbers c = search needs
-
-sub-put-three-numbers : tie.Need-sub-put-three-numbers
-sub-put-three-numbers c = search needs
-
-part-put-three-numbers-start : tie.Need-part-put-three-numbers-start
-part-put-three-numbers-start c = search needs
-
-part-put-three-numbers-end : tie.Need-part-put-three-numbers-end
-part-put-three-numbers-end c = search needs
-
-negated-requires-3 : tie.Need-negated-requires-3
-negated-requires-3 c κs = search needs
-
-put-three-numbers-requires-2 : tie.Need-put-three-numbers-requires-2
-put-three-numbers-requires-2 c κs = search needs
-
-add-result : tie.Need-add-result
-add-result c = search needs
-
-same-length : tie.Need-same-length
-same-length c = search needs
-
 returns : tie.Need-returns
 unfolding sameIfClauses
 returns c = (
@@ -49,16 +16,6 @@ returns c = (
 pub put-same-numbers-spec : {M : Type 1} → statement M
 put-same-numbers-spec =
     tie.close
-    (tie.spec
-    negated-requires
-    negated-requires-2
-    put-three-numbers-requires
-    mul-put-three-numbers
-    sub-put-three-numbers
-    part-put-three-numbers-start
-    part-put-three-numbers-end
-    negated-requires-3
-    put-three-numbers-requires-2
-    add-result
-    same-length
-    returns)
+    (tie.spec (λ c κs. search needs) (λ c κs. search needs) (λ c κs. search needs) (λ c. search needs) (λ c. search needs)
+    (λ c. search needs) (λ c. search needs) (λ c κs. search needs) (λ c κs. search needs) (λ c. search needs)
+    (λ c. search needs) returns)

@@ -7,12 +7,6 @@ use Rattle.model.proofs.Wrote.{wrote-one}
 use Rattle.clause_writer.proofs.put_lit.Statement.{statement}
 use Rattle.clause_writer.proofs.put_lit.Tie as tie
 
-slice-set-from-x : tie.Need-slice-set-from-x
-slice-set-from-x c = search needs
-
-same-length : tie.Need-same-length
-same-length c = search needs
-
 returns : tie.Need-returns
 returns c =
     let a = c .before .args .a in
@@ -20,4 +14,4 @@ returns c =
     (wrote-one (a .0) _ (c .before .pre .1), search needs)
 
 pub put-lit-spec : {M : Type 1} → statement M
-put-lit-spec = tie.close (tie.spec slice-set-from-x same-length returns)
+put-lit-spec = tie.close (tie.spec (λ c. search needs) (λ c. search needs) returns)

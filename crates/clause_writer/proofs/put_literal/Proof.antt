@@ -7,15 +7,6 @@ use Rattle.clause_writer.proofs.Wrote.{number-is-lit}
 use Rattle.clause_writer.proofs.put_literal.Statement.{statement}
 use Rattle.clause_writer.proofs.put_literal.Tie as tie
 
-enum-told : tie.Need-enum-told
-enum-told c = search needs
-
-enum-told-2 : tie.Need-enum-told-2
-enum-told-2 c = search needs
-
-enum-known-a : tie.Need-enum-known-a
-enum-known-a c = search needs
-
 put-lit-requires : tie.Need-put-lit-requires
 put-lit-requires c κs = search (needs, number-is-lit)
 
@@ -27,9 +18,6 @@ returns-2 : tie.Need-returns-2
 unfolding literalOf keptOf
 returns-2 c = rw (c .enum-told2 .given .1) (wrote-nothing _, search needs)
 
-same-length : tie.Need-same-length
-same-length c = search needs
-
 returns-3 : tie.Need-returns-3
 unfolding literalOf
 returns-3 c = rw (c .before .before .before .before .a .given .1) (c .before .put-lit .ensures)
@@ -37,12 +25,5 @@ returns-3 c = rw (c .before .before .before .before .a .given .1) (c .before .pu
 pub put-literal-spec : {M : Type 1} → statement M
 put-literal-spec =
     tie.close
-    (tie.spec
-    enum-told
-    enum-told-2
-    enum-known-a
-    put-lit-requires
-    returns
-    returns-2
-    same-length
-    returns-3)
+    (tie.spec (λ c. search needs) (λ c. search needs) (λ c. search needs) put-lit-requires returns returns-2
+    (λ c. search needs) returns-3)

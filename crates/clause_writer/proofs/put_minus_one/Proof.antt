@@ -5,14 +5,8 @@ use Rattle.model.proofs.Wrote.{wrote-one}
 use Rattle.clause_writer.proofs.put_minus_one.Statement.{statement}
 use Rattle.clause_writer.proofs.put_minus_one.Tie as tie
 
-slice-set-of-out : tie.Need-slice-set-of-out
-slice-set-of-out c = search needs
-
-same-length : tie.Need-same-length
-same-length c = search needs
-
 returns : tie.Need-returns
 returns c = (wrote-one (negsuc 0) (c .args .out .now) (c .pre), search needs)
 
 pub put-minus-one-spec : {M : Type 1} → statement M
-put-minus-one-spec = tie.close (tie.spec slice-set-of-out same-length returns)
+put-minus-one-spec = tie.close (tie.spec (λ c. search needs) (λ c. search needs) returns)

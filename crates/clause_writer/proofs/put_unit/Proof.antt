@@ -8,35 +8,8 @@ use borrow.Author.Needs.{needs}
 use Rattle.clause_writer.proofs.put_unit.Statement.{statement}
 use Rattle.clause_writer.proofs.put_unit.Tie as tie
 
-is-true-requires : tie.Need-is-true-requires
-is-true-requires c κs = search needs
-
 returns : tie.Need-returns
 returns c = (clause-left-out _ _ (hasTrue-one _ ∙ sym (c .before .is-true .ensures) ∙ c .if1 .taken), search needs)
-
-put-literal-requires : tie.Need-put-literal-requires
-put-literal-requires c κs = search needs
-
-mul-put-end : tie.Need-mul-put-end
-mul-put-end c = search needs
-
-sub-put-end : tie.Need-sub-put-end
-sub-put-end c = search needs
-
-part-put-end-start : tie.Need-part-put-end-start
-part-put-end-start c = search needs
-
-part-put-end-end : tie.Need-part-put-end-end
-part-put-end-end c = search needs
-
-put-end-requires : tie.Need-put-end-requires
-put-end-requires c κs = search needs
-
-add-result : tie.Need-add-result
-add-result c = search needs
-
-same-length : tie.Need-same-length
-same-length c = search needs
 
 returns-2 : tie.Need-returns-2
 returns-2 c =
@@ -52,15 +25,5 @@ returns-2 c =
 pub put-unit-spec : {M : Type 1} → statement M
 put-unit-spec =
     tie.close
-    (tie.spec
-    is-true-requires
-    returns
-    put-literal-requires
-    mul-put-end
-    sub-put-end
-    part-put-end-start
-    part-put-end-end
-    put-end-requires
-    add-result
-    same-length
-    returns-2)
+    (tie.spec (λ c κs. search needs) returns (λ c κs. search needs) (λ c. search needs) (λ c. search needs)
+    (λ c. search needs) (λ c. search needs) (λ c κs. search needs) (λ c. search needs) (λ c. search needs) returns-2)

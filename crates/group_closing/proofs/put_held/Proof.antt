@@ -13,13 +13,10 @@ returns c = rw (c .if1 .taken, held-first) (wrote-nothing _, omega arith)
 put-held-reads-requires : tie.Need-put-held-reads-requires
 put-held-reads-requires c κs = search (needs, room-later)
 
-same-length : tie.Need-same-length
-same-length c = search needs
-
 returns-2 : tie.Need-returns-2
 returns-2 c =
     let later = c .before .before .before .if1 .left in
     rw (held-later _ _ _ later, ne-eqb _ 0 later) (c .before .put-held-reads .ensures)
 
 pub put-held-spec : {M : Type 1} → statement M
-put-held-spec = tie.close (tie.spec returns put-held-reads-requires same-length returns-2)
+put-held-spec = tie.close (tie.spec returns put-held-reads-requires (λ c. search needs) returns-2)

@@ -22,9 +22,6 @@ abbrev μ-loop : tie.MeasureT-loop
 frame-base-requires : tie.Need-frame-base-requires Inv-loop μ-loop
 frame-base-requires c κs = let is = c .pre .0 in (is .fits .limits .sizes, omega arith)
 
-sub-frame-base : tie.Need-sub-frame-base Inv-loop μ-loop
-sub-frame-base c = search needs
-
 frame-base-requires-2 : tie.Need-frame-base-requires-2 Inv-loop μ-loop
 frame-base-requires-2 c κs = let is = c .before .pre .0 in (is .fits .limits .sizes, omega arith)
 
@@ -34,26 +31,11 @@ in-frame-requires c κs =
     let is = c .before .before .pre .0 in
     rw (c .before .frame-base .ensures) (code-has-number _ (is .fits .limits .sizes) _ _ (is .depth) (is .fits .port-RE-fits))
 
-negated-requires : tie.Need-negated-requires Inv-loop μ-loop
-negated-requires c κs = search needs
-
 first-read-wire-requires : tie.Need-first-read-wire-requires Inv-loop μ-loop
 first-read-wire-requires c κs = c .before .before .before .before .pre .0 .fits .limits .sizes
 
 loop-holds : tie.Need-loop-holds Inv-loop μ-loop
 loop-holds c = turns-start _ _ _ _ (c .before .before .before .before .before .pre .2)
-
-mul-put-held-bit : tie.Need-mul-put-held-bit Inv-loop μ-loop
-mul-put-held-bit c = search needs
-
-sub-put-held-bit : tie.Need-sub-put-held-bit Inv-loop μ-loop
-sub-put-held-bit c = search needs
-
-part-put-held-bit-start : tie.Need-part-put-held-bit-start Inv-loop μ-loop
-part-put-held-bit-start c = search needs
-
-part-put-held-bit-end : tie.Need-part-put-held-bit-end Inv-loop μ-loop
-part-put-held-bit-end c = search needs
 
 add-offset : tie.Need-add-offset Inv-loop μ-loop
 unfolding netOf portOf
@@ -81,19 +63,10 @@ add-at c =
     let count = turns-count (c .before .before .before .before .before .loop .inv) (c .before .before .before .before .loop-test .taken) (c .before .put-held-bit .ensures .1) in
     search needs
 
-add-t : tie.Need-add-t Inv-loop μ-loop
-add-t c = search needs
-
-loop-less : tie.Need-loop-less Inv-loop μ-loop
-loop-less c = search needs
-
 loop-again : tie.Need-loop-again Inv-loop μ-loop
 unfolding netOf portOf
 loop-again c =
     turns-next (c .before .before .before .before .before .loop .inv) (c .before .before .before .before .loop-test .taken) (rw (c .before .before .offset .ensures) at (c .before .put-held-bit .ensures))
-
-same-length : tie.Need-same-length Inv-loop μ-loop
-same-length c = search needs
 
 returns : tie.Need-returns Inv-loop μ-loop
 unfolding portOf
@@ -105,26 +78,7 @@ returns c =
 pub put-held-reads-spec : {M : Type 1} → statement M
 put-held-reads-spec =
     tie.close
-    (tie.spec
-    Inv-loop
-    μ-loop
-    frame-base-requires
-    sub-frame-base
-    frame-base-requires-2
-    in-frame-requires
-    negated-requires
-    first-read-wire-requires
-    loop-holds
-    mul-put-held-bit
-    sub-put-held-bit
-    part-put-held-bit-start
-    part-put-held-bit-end
-    add-offset
-    offset-requires
-    put-held-bit-requires
-    add-at
-    add-t
-    loop-less
-    loop-again
-    same-length
-    returns)
+    (tie.spec Inv-loop μ-loop frame-base-requires (λ c. search needs) frame-base-requires-2 in-frame-requires
+    (λ c κs. search needs) first-read-wire-requires loop-holds (λ c. search needs) (λ c. search needs) (λ c. search needs)
+    (λ c. search needs) add-offset offset-requires put-held-bit-requires add-at (λ c. search needs) (λ c. search needs)
+    loop-again (λ c. search needs) returns)

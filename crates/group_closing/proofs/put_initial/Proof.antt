@@ -10,9 +10,6 @@ use Rattle.group_closing.proofs.put_initial.Tie as tie
 put-initial-reads-requires : tie.Need-put-initial-reads-requires
 put-initial-reads-requires c κs = search (needs, room-given)
 
-same-length : tie.Need-same-length
-same-length c = search needs
-
 returns : tie.Need-returns
 returns c =
     let given = c .before .before .before .if1 .taken in
@@ -25,4 +22,4 @@ returns-2 c =
     rw (initial-unknown _ _ _ _ unknown, unknown-nothing _ _ _ unknown) (wrote-nothing _, omega arith)
 
 pub put-initial-spec : {M : Type 1} → statement M
-put-initial-spec = tie.close (tie.spec put-initial-reads-requires same-length returns returns-2)
+put-initial-spec = tie.close (tie.spec put-initial-reads-requires (λ c. search needs) returns returns-2)

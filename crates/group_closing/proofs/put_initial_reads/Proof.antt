@@ -29,18 +29,6 @@ first-read-wire-requires c κs = c .before .before .pre .0 .fits .limits .sizes
 loop-holds : tie.Need-loop-holds Inv-loop μ-loop
 loop-holds c = turns-start _ _ _ _ (c .before .before .before .pre .1)
 
-mul-put-initial-bit : tie.Need-mul-put-initial-bit Inv-loop μ-loop
-mul-put-initial-bit c = search needs
-
-sub-put-initial-bit : tie.Need-sub-put-initial-bit Inv-loop μ-loop
-sub-put-initial-bit c = search needs
-
-part-put-initial-bit-start : tie.Need-part-put-initial-bit-start Inv-loop μ-loop
-part-put-initial-bit-start c = search needs
-
-part-put-initial-bit-end : tie.Need-part-put-initial-bit-end Inv-loop μ-loop
-part-put-initial-bit-end c = search needs
-
 add-offset : tie.Need-add-offset Inv-loop μ-loop
 unfolding netOf portOf
 add-offset c = search needs
@@ -67,19 +55,10 @@ add-at c =
     let count = turns-count (c .before .before .before .before .before .loop .inv) (c .before .before .before .before .loop-test .taken) (c .before .put-initial-bit .ensures .1) in
     search needs
 
-add-t : tie.Need-add-t Inv-loop μ-loop
-add-t c = search needs
-
-loop-less : tie.Need-loop-less Inv-loop μ-loop
-loop-less c = search needs
-
 loop-again : tie.Need-loop-again Inv-loop μ-loop
 unfolding netOf portOf
 loop-again c =
     turns-next (c .before .before .before .before .before .loop .inv) (c .before .before .before .before .loop-test .taken) (rw (c .before .before .offset .ensures) at (c .before .put-initial-bit .ensures))
-
-same-length : tie.Need-same-length Inv-loop μ-loop
-same-length c = search needs
 
 returns : tie.Need-returns Inv-loop μ-loop
 returns c =
@@ -89,23 +68,6 @@ returns c =
 pub put-initial-reads-spec : {M : Type 1} → statement M
 put-initial-reads-spec =
     tie.close
-    (tie.spec
-    Inv-loop
-    μ-loop
-    none-since-requires
-    frame-base-requires
-    first-read-wire-requires
-    loop-holds
-    mul-put-initial-bit
-    sub-put-initial-bit
-    part-put-initial-bit-start
-    part-put-initial-bit-end
-    add-offset
-    offset-requires
-    put-initial-bit-requires
-    add-at
-    add-t
-    loop-less
-    loop-again
-    same-length
-    returns)
+    (tie.spec Inv-loop μ-loop none-since-requires frame-base-requires first-read-wire-requires loop-holds (λ c. search needs)
+    (λ c. search needs) (λ c. search needs) (λ c. search needs) add-offset offset-requires put-initial-bit-requires add-at
+    (λ c. search needs) (λ c. search needs) loop-again (λ c. search needs) returns)

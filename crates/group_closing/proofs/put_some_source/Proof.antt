@@ -10,24 +10,9 @@ use Rattle.group_closing.proofs.OfClosing.{neither}
 use Rattle.group_closing.proofs.put_some_source.Statement.{statement}
 use Rattle.group_closing.proofs.put_some_source.Tie as tie
 
-frame-base-requires : tie.Need-frame-base-requires
-frame-base-requires c κs = search needs
-
 in-frame-requires : tie.Need-in-frame-requires
 unfolding portOf
 in-frame-requires c κs = search (needs, numbered)
-
-negated-requires : tie.Need-negated-requires
-negated-requires c κs = search needs
-
-none-since-requires : tie.Need-none-since-requires
-none-since-requires c κs = search needs
-
-is-true-requires : tie.Need-is-true-requires
-is-true-requires c κs = search needs
-
-is-true-requires-2 : tie.Need-is-true-requires-2
-is-true-requires-2 c κs = search needs
 
 returns : tie.Need-returns
 unfolding someSource closingLiterals portOf
@@ -39,9 +24,6 @@ returns c =
 put-source-clause-requires : tie.Need-put-source-clause-requires
 put-source-clause-requires c κs = (search needs, search needs, search needs, search (needs, neither), search needs)
 
-same-length : tie.Need-same-length
-same-length c = search needs
-
 returns-2 : tie.Need-returns-2
 unfolding someSource closingLiterals portOf
 returns-2 c =
@@ -51,14 +33,5 @@ returns-2 c =
 pub put-some-source-spec : {M : Type 1} → statement M
 put-some-source-spec =
     tie.close
-    (tie.spec
-    frame-base-requires
-    in-frame-requires
-    negated-requires
-    none-since-requires
-    is-true-requires
-    is-true-requires-2
-    returns
-    put-source-clause-requires
-    same-length
-    returns-2)
+    (tie.spec (λ c κs. search needs) in-frame-requires (λ c κs. search needs) (λ c κs. search needs) (λ c κs. search needs)
+    (λ c κs. search needs) returns put-source-clause-requires (λ c. search needs) returns-2)

@@ -13,65 +13,8 @@ use Rattle.group_closing.proofs.OfClosing.{sources-none}
 use Rattle.group_closing.proofs.put_source_clause.Statement.{statement}
 use Rattle.group_closing.proofs.put_source_clause.Tie as tie
 
-put-literal-requires : tie.Need-put-literal-requires
-put-literal-requires c κs = search needs
-
-mul-put-literal : tie.Need-mul-put-literal
-mul-put-literal c = search needs
-
-sub-put-literal : tie.Need-sub-put-literal
-sub-put-literal c = search needs
-
-part-put-literal-start : tie.Need-part-put-literal-start
-part-put-literal-start c = search needs
-
-part-put-literal-end : tie.Need-part-put-literal-end
-part-put-literal-end c = search needs
-
-put-literal-requires-2 : tie.Need-put-literal-requires-2
-put-literal-requires-2 c κs = search needs
-
-add-b : tie.Need-add-b
-add-b c = search needs
-
-mul-put-sources : tie.Need-mul-put-sources
-mul-put-sources c = search needs
-
-sub-put-sources : tie.Need-sub-put-sources
-sub-put-sources c = search needs
-
-part-put-sources-start : tie.Need-part-put-sources-start
-part-put-sources-start c = search needs
-
-part-put-sources-end : tie.Need-part-put-sources-end
-part-put-sources-end c = search needs
-
 put-sources-requires : tie.Need-put-sources-requires
 put-sources-requires c κs = (search needs, search needs)
-
-add-d : tie.Need-add-d
-add-d c = search needs
-
-mul-put-end : tie.Need-mul-put-end
-mul-put-end c = search needs
-
-sub-put-end : tie.Need-sub-put-end
-sub-put-end c = search needs
-
-part-put-end-start : tie.Need-part-put-end-start
-part-put-end-start c = search needs
-
-part-put-end-end : tie.Need-part-put-end-end
-part-put-end-end c = search needs
-
-put-end-requires : tie.Need-put-end-requires
-put-end-requires c κs = search needs
-
-add-result : tie.Need-add-result
-add-result c = search needs
-
-same-length : tie.Need-same-length
-same-length c = search needs
 
 returns : tie.Need-returns
 returns c =
@@ -92,25 +35,7 @@ returns c =
 pub put-source-clause-spec : {M : Type 1} → statement M
 put-source-clause-spec =
     tie.close
-    (tie.spec
-    put-literal-requires
-    mul-put-literal
-    sub-put-literal
-    part-put-literal-start
-    part-put-literal-end
-    put-literal-requires-2
-    add-b
-    mul-put-sources
-    sub-put-sources
-    part-put-sources-start
-    part-put-sources-end
-    put-sources-requires
-    add-d
-    mul-put-end
-    sub-put-end
-    part-put-end-start
-    part-put-end-end
-    put-end-requires
-    add-result
-    same-length
-    returns)
+    (tie.spec (λ c κs. search needs) (λ c. search needs) (λ c. search needs) (λ c. search needs) (λ c. search needs)
+    (λ c κs. search needs) (λ c. search needs) (λ c. search needs) (λ c. search needs) (λ c. search needs) (λ c. search needs)
+    put-sources-requires (λ c. search needs) (λ c. search needs) (λ c. search needs) (λ c. search needs) (λ c. search needs)
+    (λ c κs. search needs) (λ c. search needs) (λ c. search needs) returns)

@@ -56,18 +56,6 @@ in-pair-requires c κs =
     let number = pair-has-number (alone (a .net)) (portOf (a .port)) (is .fits) (c .before .loop .j) (a .i) (a .net .m + 4) (c .loop-test .taken) (is .depth) (omega arith) in
     (rw e number, omega arith)
 
-mul-put-literal : tie.Need-mul-put-literal Inv-loop μ-loop
-mul-put-literal c = search needs
-
-sub-put-literal : tie.Need-sub-put-literal Inv-loop μ-loop
-sub-put-literal c = search needs
-
-part-put-literal-start : tie.Need-part-put-literal-start Inv-loop μ-loop
-part-put-literal-start c = search needs
-
-part-put-literal-end : tie.Need-part-put-literal-end Inv-loop μ-loop
-part-put-literal-end c = search needs
-
 put-literal-requires : tie.Need-put-literal-requires Inv-loop μ-loop
 put-literal-requires c κs =
     (c .before .in-pair .ensures .1, turns-room (c .before .before .before .loop .inv) (c .before .before .loop-test .taken))
@@ -77,18 +65,9 @@ add-at c =
     let count = turns-count (c .before .before .before .before .before .loop .inv) (c .before .before .before .before .loop-test .taken) (c .before .put-literal .ensures .1) in
     search needs
 
-add-j : tie.Need-add-j Inv-loop μ-loop
-add-j c = search needs
-
-loop-less : tie.Need-loop-less Inv-loop μ-loop
-loop-less c = search needs
-
 loop-again : tie.Need-loop-again Inv-loop μ-loop
 loop-again c =
     turns-next (c .before .before .before .before .before .loop .inv) (c .before .before .before .before .loop-test .taken) (rw (c .before .before .before .in-pair .ensures .0) at (c .before .put-literal .ensures))
-
-same-length : tie.Need-same-length Inv-loop μ-loop
-same-length c = search needs
 
 returns : tie.Need-returns Inv-loop μ-loop
 unfolding netOf
@@ -100,24 +79,6 @@ returns c =
 pub put-sources-spec : {M : Type 1} → statement M
 put-sources-spec =
     tie.close
-    (tie.spec
-    Inv-loop
-    μ-loop
-    pair-base-requires
-    numbering-requires
-    add-offset
-    loop-holds
-    mul-in-pair
-    add-in-pair
-    in-pair-requires
-    mul-put-literal
-    sub-put-literal
-    part-put-literal-start
-    part-put-literal-end
-    put-literal-requires
-    add-at
-    add-j
-    loop-less
-    loop-again
-    same-length
-    returns)
+    (tie.spec Inv-loop μ-loop pair-base-requires numbering-requires add-offset loop-holds mul-in-pair add-in-pair
+    in-pair-requires (λ c. search needs) (λ c. search needs) (λ c. search needs) (λ c. search needs) put-literal-requires
+    add-at (λ c. search needs) (λ c. search needs) loop-again (λ c. search needs) returns)

@@ -54,18 +54,6 @@ element-copy-out-t19 : tie.Need-element-copy-out-t19 Inv-loop μ-loop
 unfolding netOf
 element-copy-out-t19 c = search needs
 
-mul-put-latch : tie.Need-mul-put-latch Inv-loop μ-loop
-mul-put-latch c = search needs
-
-sub-put-latch : tie.Need-sub-put-latch Inv-loop μ-loop
-sub-put-latch c = search needs
-
-part-put-latch-start : tie.Need-part-put-latch-start Inv-loop μ-loop
-part-put-latch-start c = search needs
-
-part-put-latch-end : tie.Need-part-put-latch-end Inv-loop μ-loop
-part-put-latch-end c = search needs
-
 offset-requires : tie.Need-offset-requires Inv-loop μ-loop
 unfolding netOf
 offset-requires c κs = search needs
@@ -86,18 +74,9 @@ add-at c =
     let count = turns-count (c .before .before .before .before .before .before .loop .inv) (c .before .before .before .before .before .loop-test .taken) (c .before .put-latch .ensures .1) in
     search needs
 
-add-l : tie.Need-add-l Inv-loop μ-loop
-add-l c = search needs
-
-loop-less : tie.Need-loop-less Inv-loop μ-loop
-loop-less c = search needs
-
 loop-again : tie.Need-loop-again Inv-loop μ-loop
 loop-again c =
     turns-next (c .before .before .before .before .before .before .loop .inv) (c .before .before .before .before .before .loop-test .taken) (rw (c .before .before .offset .ensures) at (c .before .put-latch .ensures))
-
-same-length : tie.Need-same-length Inv-loop μ-loop
-same-length c = search needs
 
 returns : tie.Need-returns Inv-loop μ-loop
 returns c =
@@ -106,27 +85,7 @@ returns c =
 pub put-latches-spec : {M : Type 1} → statement M
 put-latches-spec =
     tie.close
-    (tie.spec
-    Inv-loop
-    μ-loop
-    frame-base-requires
-    add-frame-base
-    frame-base-requires-2
-    first-latch-wire-requires
-    loop-holds
-    mul-t14
-    cast-t15
-    mul-t16
-    element-copy-out-t19
-    mul-put-latch
-    sub-put-latch
-    part-put-latch-start
-    part-put-latch-end
-    offset-requires
-    put-latch-requires
-    add-at
-    add-l
-    loop-less
-    loop-again
-    same-length
-    returns)
+    (tie.spec Inv-loop μ-loop frame-base-requires add-frame-base frame-base-requires-2 first-latch-wire-requires loop-holds
+    mul-t14 cast-t15 mul-t16 element-copy-out-t19 (λ c. search needs) (λ c. search needs) (λ c. search needs)
+    (λ c. search needs) offset-requires put-latch-requires add-at (λ c. search needs) (λ c. search needs) loop-again
+    (λ c. search needs) returns)

@@ -4,27 +4,9 @@ use borrow.Author.Needs.{needs}
 use Rattle.group_latches.proofs.put_reset.Statement.{statement}
 use Rattle.group_latches.proofs.put_reset.Tie as tie
 
-in-frame-requires : tie.Need-in-frame-requires
-in-frame-requires c κs = search needs
-
-put-unit-requires : tie.Need-put-unit-requires
-put-unit-requires c κs = search needs
-
-same-length : tie.Need-same-length
-same-length c = search needs
-
 returns : tie.Need-returns
 returns c =
     rw (eq-eqb _ 1 (c .before .before .before .if1 .taken)) (rw (c .before .before .before .before .in-frame .ensures .0) at (c .before .put-unit .ensures))
-
-negated-requires : tie.Need-negated-requires
-negated-requires c κs = search needs
-
-put-unit-requires-2 : tie.Need-put-unit-requires-2
-put-unit-requires-2 c κs = search needs
-
-same-length-2 : tie.Need-same-length-2
-same-length-2 c = search needs
 
 returns-2 : tie.Need-returns-2
 returns-2 c =
@@ -33,12 +15,5 @@ returns-2 c =
 pub put-reset-spec : {M : Type 1} → statement M
 put-reset-spec =
     tie.close
-    (tie.spec
-    in-frame-requires
-    put-unit-requires
-    same-length
-    returns
-    negated-requires
-    put-unit-requires-2
-    same-length-2
-    returns-2)
+    (tie.spec (λ c κs. search needs) (λ c κs. search needs) (λ c. search needs) returns (λ c κs. search needs)
+    (λ c κs. search needs) (λ c. search needs) returns-2)

@@ -49,18 +49,6 @@ element-copy-out-reset : tie.Need-element-copy-out-reset Inv-loop μ-loop
 unfolding netOf
 element-copy-out-reset c = search needs
 
-mul-put-reset : tie.Need-mul-put-reset Inv-loop μ-loop
-mul-put-reset c = search needs
-
-sub-put-reset : tie.Need-sub-put-reset Inv-loop μ-loop
-sub-put-reset c = search needs
-
-part-put-reset-start : tie.Need-part-put-reset-start Inv-loop μ-loop
-part-put-reset-start c = search needs
-
-part-put-reset-end : tie.Need-part-put-reset-end Inv-loop μ-loop
-part-put-reset-end c = search needs
-
 offset-requires : tie.Need-offset-requires Inv-loop μ-loop
 unfolding netOf
 offset-requires c κs = search needs
@@ -79,18 +67,9 @@ add-at c =
     let count = turns-count (c .before .before .before .before .before .before .loop .inv) (c .before .before .before .before .before .loop-test .taken) (c .before .put-reset .ensures .1) in
     search needs
 
-add-l : tie.Need-add-l Inv-loop μ-loop
-add-l c = search needs
-
-loop-less : tie.Need-loop-less Inv-loop μ-loop
-loop-less c = search needs
-
 loop-again : tie.Need-loop-again Inv-loop μ-loop
 loop-again c =
     turns-next (c .before .before .before .before .before .before .loop .inv) (c .before .before .before .before .before .loop-test .taken) (rw (c .before .before .offset .ensures) at (c .before .put-reset .ensures))
-
-same-length : tie.Need-same-length Inv-loop μ-loop
-same-length c = search needs
 
 returns : tie.Need-returns Inv-loop μ-loop
 returns c =
@@ -99,26 +78,6 @@ returns c =
 pub put-resets-spec : {M : Type 1} → statement M
 put-resets-spec =
     tie.close
-    (tie.spec
-    Inv-loop
-    μ-loop
-    frame-base-requires
-    first-latch-wire-requires
-    loop-holds
-    mul-reset
-    add-reset
-    cast-reset
-    mul-reset-2
-    element-copy-out-reset
-    mul-put-reset
-    sub-put-reset
-    part-put-reset-start
-    part-put-reset-end
-    offset-requires
-    put-reset-requires
-    add-at
-    add-l
-    loop-less
-    loop-again
-    same-length
-    returns)
+    (tie.spec Inv-loop μ-loop frame-base-requires first-latch-wire-requires loop-holds mul-reset add-reset cast-reset
+    mul-reset-2 element-copy-out-reset (λ c. search needs) (λ c. search needs) (λ c. search needs) (λ c. search needs)
+    offset-requires put-reset-requires add-at (λ c. search needs) (λ c. search needs) loop-again (λ c. search needs) returns)

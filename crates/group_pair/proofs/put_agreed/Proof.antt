@@ -15,9 +15,6 @@ returns c =
 put-agreed-reads-requires : tie.Need-put-agreed-reads-requires
 put-agreed-reads-requires c κs = search (needs, room-unknown)
 
-same-length : tie.Need-same-length
-same-length c = search needs
-
 returns-2 : tie.Need-returns-2
 returns-2 c =
     let unknown = c .before .before .before .if1 .left in
@@ -25,4 +22,4 @@ returns-2 c =
     rw (agreed-unknown _ _ _ _ unknown, unknown-whole _ _ _ unknown) (w .0, omega (arith, w .1))
 
 pub put-agreed-spec : {M : Type 1} → statement M
-put-agreed-spec = tie.close (tie.spec returns put-agreed-reads-requires same-length returns-2)
+put-agreed-spec = tie.close (tie.spec returns put-agreed-reads-requires (λ c. search needs) returns-2)

@@ -17,9 +17,6 @@ Inv-loop out₀ j i q addressEqual earlier later before reading first read n at�
 abbrev μ-loop : tie.MeasureT-loop
 μ-loop out₀ j i q addressEqual earlier later before reading first read n at₀ t₀ out at t = n - t
 
-pair-base-requires : tie.Need-pair-base-requires Inv-loop μ-loop
-pair-base-requires c κs = search needs
-
 in-pair-requires : tie.Need-in-pair-requires Inv-loop μ-loop
 in-pair-requires c κs = search (needs, numbered)
 
@@ -40,18 +37,6 @@ first-read-wire-requires c κs = c .before .before .before .before .before .befo
 
 loop-holds : tie.Need-loop-holds Inv-loop μ-loop
 loop-holds c = turns-start _ _ _ _ (c .before .before .before .before .before .before .before .pre .1)
-
-mul-put-agreed-bit : tie.Need-mul-put-agreed-bit Inv-loop μ-loop
-mul-put-agreed-bit c = search needs
-
-sub-put-agreed-bit : tie.Need-sub-put-agreed-bit Inv-loop μ-loop
-sub-put-agreed-bit c = search needs
-
-part-put-agreed-bit-start : tie.Need-part-put-agreed-bit-start Inv-loop μ-loop
-part-put-agreed-bit-start c = search needs
-
-part-put-agreed-bit-end : tie.Need-part-put-agreed-bit-end Inv-loop μ-loop
-part-put-agreed-bit-end c = search needs
 
 add-offset : tie.Need-add-offset Inv-loop μ-loop
 unfolding netOf portOf
@@ -85,16 +70,10 @@ add-t : tie.Need-add-t Inv-loop μ-loop
 unfolding netOf
 add-t c = omega (arith, c .before .before .before .before .loop-test .taken, c .before .before .before .before .before .before .before .before .before .before .before .before .before .pre .0 .fits .limits .sizes .n-most)
 
-loop-less : tie.Need-loop-less Inv-loop μ-loop
-loop-less c = search needs
-
 loop-again : tie.Need-loop-again Inv-loop μ-loop
 unfolding netOf portOf
 loop-again c =
     turns-next (c .before .before .before .before .before .loop .inv) (c .before .before .before .before .loop-test .taken) (rw (c .before .before .offset .ensures) at (c .before .put-agreed-bit .ensures))
-
-same-length : tie.Need-same-length Inv-loop μ-loop
-same-length c = search needs
 
 returns : tie.Need-returns Inv-loop μ-loop
 returns c =
@@ -104,27 +83,7 @@ returns c =
 pub put-agreed-reads-spec : {M : Type 1} → statement M
 put-agreed-reads-spec =
     tie.close
-    (tie.spec
-    Inv-loop
-    μ-loop
-    pair-base-requires
-    in-pair-requires
-    none-since-requires
-    none-since-requires-2
-    frame-base-requires
-    frame-base-requires-2
-    first-read-wire-requires
-    loop-holds
-    mul-put-agreed-bit
-    sub-put-agreed-bit
-    part-put-agreed-bit-start
-    part-put-agreed-bit-end
-    add-offset
-    offset-requires
-    put-agreed-bit-requires
-    add-at
-    add-t
-    loop-less
-    loop-again
-    same-length
-    returns)
+    (tie.spec Inv-loop μ-loop (λ c κs. search needs) in-pair-requires none-since-requires none-since-requires-2
+    frame-base-requires frame-base-requires-2 first-read-wire-requires loop-holds (λ c. search needs) (λ c. search needs)
+    (λ c. search needs) (λ c. search needs) add-offset offset-requires put-agreed-bit-requires add-at add-t
+    (λ c. search needs) loop-again (λ c. search needs) returns)

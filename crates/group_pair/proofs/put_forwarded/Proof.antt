@@ -44,18 +44,6 @@ element-copy-out-wd : tie.Need-element-copy-out-wd Inv-loop μ-loop
 unfolding netOf portOf
 element-copy-out-wd c = search needs
 
-mul-put-forwarded-bit : tie.Need-mul-put-forwarded-bit Inv-loop μ-loop
-mul-put-forwarded-bit c = search needs
-
-sub-put-forwarded-bit : tie.Need-sub-put-forwarded-bit Inv-loop μ-loop
-sub-put-forwarded-bit c = search needs
-
-part-put-forwarded-bit-start : tie.Need-part-put-forwarded-bit-start Inv-loop μ-loop
-part-put-forwarded-bit-start c = search needs
-
-part-put-forwarded-bit-end : tie.Need-part-put-forwarded-bit-end Inv-loop μ-loop
-part-put-forwarded-bit-end c = search needs
-
 add-offset : tie.Need-add-offset Inv-loop μ-loop
 unfolding netOf portOf
 add-offset c = search needs
@@ -88,16 +76,10 @@ unfolding netOf
 add-t c =
     omega (arith, c .before .before .before .before .before .loop-test .taken, c .before .before .before .before .before .before .before .before .before .before .before .pre .0 .fits .limits .sizes .n-most)
 
-loop-less : tie.Need-loop-less Inv-loop μ-loop
-loop-less c = search needs
-
 loop-again : tie.Need-loop-again Inv-loop μ-loop
 unfolding codeOf netOf portOf
 loop-again c =
     turns-next (c .before .before .before .before .before .before .loop .inv) (c .before .before .before .before .before .loop-test .taken) (rw (c .before .before .offset .ensures) at (c .before .put-forwarded-bit .ensures))
-
-same-length : tie.Need-same-length Inv-loop μ-loop
-same-length c = search needs
 
 returns : tie.Need-returns Inv-loop μ-loop
 returns c =
@@ -107,27 +89,7 @@ returns c =
 pub put-forwarded-spec : {M : Type 1} → statement M
 put-forwarded-spec =
     tie.close
-    (tie.spec
-    Inv-loop
-    μ-loop
-    selected-requires
-    frame-base-requires
-    frame-base-requires-2
-    first-read-wire-requires
-    loop-holds
-    cast-wd
-    mul-wd
-    element-copy-out-wd
-    mul-put-forwarded-bit
-    sub-put-forwarded-bit
-    part-put-forwarded-bit-start
-    part-put-forwarded-bit-end
-    add-offset
-    offset-requires
-    put-forwarded-bit-requires
-    add-at
-    add-t
-    loop-less
-    loop-again
-    same-length
+    (tie.spec Inv-loop μ-loop selected-requires frame-base-requires frame-base-requires-2 first-read-wire-requires loop-holds
+    cast-wd mul-wd element-copy-out-wd (λ c. search needs) (λ c. search needs) (λ c. search needs) (λ c. search needs)
+    add-offset offset-requires put-forwarded-bit-requires add-at add-t (λ c. search needs) loop-again (λ c. search needs)
     returns)

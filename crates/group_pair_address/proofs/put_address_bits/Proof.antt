@@ -29,9 +29,6 @@ frame-base-requires-2 c κs = let is = c .before .before .pre .0 in (is .fits .l
 loop-holds : tie.Need-loop-holds Inv-loop μ-loop
 loop-holds c = turns-start _ _ _ _ (c .before .before .before .pre .1)
 
-cast-x : tie.Need-cast-x Inv-loop μ-loop
-cast-x c = search needs
-
 mul-x : tie.Need-mul-x Inv-loop μ-loop
 unfolding netOf
 mul-x c = search needs
@@ -40,9 +37,6 @@ element-copy-out-x : tie.Need-element-copy-out-x Inv-loop μ-loop
 unfolding netOf
 element-copy-out-x c = search needs
 
-cast-y : tie.Need-cast-y Inv-loop μ-loop
-cast-y c = search needs
-
 mul-y : tie.Need-mul-y Inv-loop μ-loop
 unfolding netOf
 mul-y c = search needs
@@ -50,18 +44,6 @@ mul-y c = search needs
 element-copy-out-y : tie.Need-element-copy-out-y Inv-loop μ-loop
 unfolding netOf
 element-copy-out-y c = search needs
-
-mul-put-address-bit : tie.Need-mul-put-address-bit Inv-loop μ-loop
-mul-put-address-bit c = search needs
-
-sub-put-address-bit : tie.Need-sub-put-address-bit Inv-loop μ-loop
-sub-put-address-bit c = search needs
-
-part-put-address-bit-start : tie.Need-part-put-address-bit-start Inv-loop μ-loop
-part-put-address-bit-start c = search needs
-
-part-put-address-bit-end : tie.Need-part-put-address-bit-end Inv-loop μ-loop
-part-put-address-bit-end c = search needs
 
 put-address-bit-requires : tie.Need-put-address-bit-requires Inv-loop μ-loop
 unfolding codeOf netOf portOf
@@ -84,19 +66,10 @@ add-at c =
     let count = turns-count (c .before .before .before .before .before .before .loop .inv) (c .before .before .before .before .before .loop-test .taken) (c .before .put-address-bit .ensures .1) in
     search needs
 
-add-t : tie.Need-add-t Inv-loop μ-loop
-add-t c = search needs
-
-loop-less : tie.Need-loop-less Inv-loop μ-loop
-loop-less c = search needs
-
 loop-again : tie.Need-loop-again Inv-loop μ-loop
 unfolding codeOf netOf portOf
 loop-again c =
     turns-next (c .before .before .before .before .before .before .loop .inv) (c .before .before .before .before .before .loop-test .taken) (c .before .put-address-bit .ensures)
-
-same-length : tie.Need-same-length Inv-loop μ-loop
-same-length c = search needs
 
 returns : tie.Need-returns Inv-loop μ-loop
 returns c =
@@ -106,27 +79,7 @@ returns c =
 pub put-address-bits-spec : {M : Type 1} → statement M
 put-address-bits-spec =
     tie.close
-    (tie.spec
-    Inv-loop
-    μ-loop
-    pair-base-requires
-    frame-base-requires
-    frame-base-requires-2
-    loop-holds
-    cast-x
-    mul-x
-    element-copy-out-x
-    cast-y
-    mul-y
-    element-copy-out-y
-    mul-put-address-bit
-    sub-put-address-bit
-    part-put-address-bit-start
-    part-put-address-bit-end
-    put-address-bit-requires
-    add-at
-    add-t
-    loop-less
-    loop-again
-    same-length
-    returns)
+    (tie.spec Inv-loop μ-loop pair-base-requires frame-base-requires frame-base-requires-2 loop-holds (λ c. search needs)
+    mul-x element-copy-out-x (λ c. search needs) mul-y element-copy-out-y (λ c. search needs) (λ c. search needs)
+    (λ c. search needs) (λ c. search needs) put-address-bit-requires add-at (λ c. search needs) (λ c. search needs) loop-again
+    (λ c. search needs) returns)

@@ -9,53 +9,8 @@ use Rattle.group_pair_address.proofs.BitsOf.{all-bits-kept, all-bits-no
 use Rattle.group_pair_address.proofs.put_all_bits.Statement.{statement}
 use Rattle.group_pair_address.proofs.put_all_bits.Tie as tie
 
-pair-base-requires : tie.Need-pair-base-requires
-pair-base-requires c κs = search needs
-
 in-pair-requires : tie.Need-in-pair-requires
 in-pair-requires c κs = search (needs, numbered)
-
-put-unequal-bits-requires : tie.Need-put-unequal-bits-requires
-put-unequal-bits-requires c κs = search needs
-
-mul-put-literal : tie.Need-mul-put-literal
-mul-put-literal c = search needs
-
-sub-put-literal : tie.Need-sub-put-literal
-sub-put-literal c = search needs
-
-part-put-literal-start : tie.Need-part-put-literal-start
-part-put-literal-start c = search needs
-
-part-put-literal-end : tie.Need-part-put-literal-end
-part-put-literal-end c = search needs
-
-put-literal-requires : tie.Need-put-literal-requires
-put-literal-requires c κs = search needs
-
-add-b : tie.Need-add-b
-add-b c = search needs
-
-mul-put-end : tie.Need-mul-put-end
-mul-put-end c = search needs
-
-sub-put-end : tie.Need-sub-put-end
-sub-put-end c = search needs
-
-part-put-end-start : tie.Need-part-put-end-start
-part-put-end-start c = search needs
-
-part-put-end-end : tie.Need-part-put-end-end
-part-put-end-end c = search needs
-
-put-end-requires : tie.Need-put-end-requires
-put-end-requires c κs = search needs
-
-add-result : tie.Need-add-result
-add-result c = search needs
-
-same-length : tie.Need-same-length
-same-length c = search needs
 
 returns : tie.Need-returns
 unfolding pairLiterals
@@ -72,21 +27,6 @@ returns c =
 pub put-all-bits-spec : {M : Type 1} → statement M
 put-all-bits-spec =
     tie.close
-    (tie.spec
-    pair-base-requires
-    in-pair-requires
-    put-unequal-bits-requires
-    mul-put-literal
-    sub-put-literal
-    part-put-literal-start
-    part-put-literal-end
-    put-literal-requires
-    add-b
-    mul-put-end
-    sub-put-end
-    part-put-end-start
-    part-put-end-end
-    put-end-requires
-    add-result
-    same-length
-    returns)
+    (tie.spec (λ c κs. search needs) in-pair-requires (λ c κs. search needs) (λ c. search needs) (λ c. search needs)
+    (λ c. search needs) (λ c. search needs) (λ c κs. search needs) (λ c. search needs) (λ c. search needs) (λ c. search needs)
+    (λ c. search needs) (λ c. search needs) (λ c κs. search needs) (λ c. search needs) (λ c. search needs) returns)

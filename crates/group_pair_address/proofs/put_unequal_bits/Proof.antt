@@ -31,21 +31,6 @@ in-pair-requires c κs =
     let is = c .before .before .before .pre .0 in
     (rw (c .before .before .pair-base .ensures) (pair-has-number _ _ (is .fits) _ _ _ (is .earlier) (is .depth) (omega arith)), omega arith)
 
-mul-put-literal : tie.Need-mul-put-literal Inv-loop μ-loop
-mul-put-literal c = search needs
-
-sub-put-literal : tie.Need-sub-put-literal Inv-loop μ-loop
-sub-put-literal c = search needs
-
-part-put-literal-start : tie.Need-part-put-literal-start Inv-loop μ-loop
-part-put-literal-start c = search needs
-
-part-put-literal-end : tie.Need-part-put-literal-end Inv-loop μ-loop
-part-put-literal-end c = search needs
-
-negated-requires : tie.Need-negated-requires Inv-loop μ-loop
-negated-requires c κs = search needs
-
 put-literal-requires : tie.Need-put-literal-requires Inv-loop μ-loop
 put-literal-requires c κs =
     (c .negated .ensures .1, turns-room (c .before .before .before .before .loop .inv) (c .before .before .before .loop-test .taken))
@@ -55,18 +40,9 @@ add-at c =
     let count = turns-count (c .before .before .before .before .before .before .loop .inv) (c .before .before .before .before .before .loop-test .taken) (c .before .put-literal .ensures .1) in
     search needs
 
-add-t : tie.Need-add-t Inv-loop μ-loop
-add-t c = search needs
-
-loop-less : tie.Need-loop-less Inv-loop μ-loop
-loop-less c = search needs
-
 loop-again : tie.Need-loop-again Inv-loop μ-loop
 loop-again c =
     turns-next (c .before .before .before .before .before .before .loop .inv) (c .before .before .before .before .before .loop-test .taken) (rw (c .before .before .negated .ensures .0, c .before .before .before .before .in-pair .ensures .0) at (c .before .put-literal .ensures))
-
-same-length : tie.Need-same-length Inv-loop μ-loop
-same-length c = search needs
 
 returns : tie.Need-returns Inv-loop μ-loop
 returns c =
@@ -76,22 +52,6 @@ returns c =
 pub put-unequal-bits-spec : {M : Type 1} → statement M
 put-unequal-bits-spec =
     tie.close
-    (tie.spec
-    Inv-loop
-    μ-loop
-    pair-base-requires
-    loop-holds
-    add-in-pair
-    in-pair-requires
-    mul-put-literal
-    sub-put-literal
-    part-put-literal-start
-    part-put-literal-end
-    negated-requires
-    put-literal-requires
-    add-at
-    add-t
-    loop-less
-    loop-again
-    same-length
-    returns)
+    (tie.spec Inv-loop μ-loop pair-base-requires loop-holds add-in-pair in-pair-requires (λ c. search needs)
+    (λ c. search needs) (λ c. search needs) (λ c. search needs) (λ c κs. search needs) put-literal-requires add-at
+    (λ c. search needs) (λ c. search needs) loop-again (λ c. search needs) returns)

@@ -63,18 +63,6 @@ element-copy-out-t21 : tie.Need-element-copy-out-t21 Inv-loop μ-loop
 unfolding netOf
 element-copy-out-t21 c = search needs
 
-mul-put-gate : tie.Need-mul-put-gate Inv-loop μ-loop
-mul-put-gate c = search needs
-
-sub-put-gate : tie.Need-sub-put-gate Inv-loop μ-loop
-sub-put-gate c = search needs
-
-part-put-gate-start : tie.Need-part-put-gate-start Inv-loop μ-loop
-part-put-gate-start c = search needs
-
-part-put-gate-end : tie.Need-part-put-gate-end Inv-loop μ-loop
-part-put-gate-end c = search needs
-
 offset-requires : tie.Need-offset-requires Inv-loop μ-loop
 unfolding netOf
 offset-requires c κs = search needs
@@ -96,18 +84,9 @@ add-at c =
     let count = turns-count (c .before .before .before .before .before .before .before .loop .inv) (omega arith) (c .before .put-gate .ensures .1) in
     search needs
 
-add-g : tie.Need-add-g Inv-loop μ-loop
-add-g c = search needs
-
-loop-less : tie.Need-loop-less Inv-loop μ-loop
-loop-less c = search needs
-
 loop-again : tie.Need-loop-again Inv-loop μ-loop
 loop-again c =
     turns-next (c .before .before .before .before .before .before .before .loop .inv) (omega arith) (rw (c .before .before .offset .ensures) at (c .before .put-gate .ensures))
-
-same-length : tie.Need-same-length Inv-loop μ-loop
-same-length c = search needs
 
 returns : tie.Need-returns Inv-loop μ-loop
 returns c =
@@ -116,30 +95,7 @@ returns c =
 pub put-gates-spec : {M : Type 1} → statement M
 put-gates-spec =
     tie.close
-    (tie.spec
-    Inv-loop
-    μ-loop
-    frame-base-requires
-    first-gate-wire-requires
-    loop-holds
-    mul-t13
-    cast-t14
-    mul-t15
-    element-copy-out-t18
-    mul-t13-2
-    add-t18
-    cast-t15
-    mul-t14
-    element-copy-out-t21
-    mul-put-gate
-    sub-put-gate
-    part-put-gate-start
-    part-put-gate-end
-    offset-requires
-    put-gate-requires
-    add-at
-    add-g
-    loop-less
-    loop-again
-    same-length
-    returns)
+    (tie.spec Inv-loop μ-loop frame-base-requires first-gate-wire-requires loop-holds mul-t13 cast-t14 mul-t15
+    element-copy-out-t18 mul-t13-2 add-t18 cast-t15 mul-t14 element-copy-out-t21 (λ c. search needs) (λ c. search needs)
+    (λ c. search needs) (λ c. search needs) offset-requires put-gate-requires add-at (λ c. search needs) (λ c. search needs)
+    loop-again (λ c. search needs) returns)

@@ -9,29 +9,8 @@ use Rattle.group_wires.proofs.put_later_wires.Tie as tie
 put-latches-requires : tie.Need-put-latches-requires
 put-latches-requires c κs = search (needs, frame-without-gates)
 
-mul-put-gates : tie.Need-mul-put-gates
-mul-put-gates c = search needs
-
-sub-put-gates : tie.Need-sub-put-gates
-sub-put-gates c = search needs
-
-part-put-gates-start : tie.Need-part-put-gates-start
-part-put-gates-start c = search needs
-
-part-put-gates-end : tie.Need-part-put-gates-end
-part-put-gates-end c = search needs
-
-add-put-gates : tie.Need-add-put-gates
-add-put-gates c = search needs
-
 put-gates-requires : tie.Need-put-gates-requires
 put-gates-requires c κs = search (needs, frame-without-latches)
-
-add-result : tie.Need-add-result
-add-result c = search needs
-
-same-length : tie.Need-same-length
-same-length c = search needs
 
 returns : tie.Need-returns
 returns c =
@@ -41,14 +20,5 @@ returns c =
 pub put-later-wires-spec : {M : Type 1} → statement M
 put-later-wires-spec =
     tie.close
-    (tie.spec
-    put-latches-requires
-    mul-put-gates
-    sub-put-gates
-    part-put-gates-start
-    part-put-gates-end
-    add-put-gates
-    put-gates-requires
-    add-result
-    same-length
-    returns)
+    (tie.spec put-latches-requires (λ c. search needs) (λ c. search needs) (λ c. search needs) (λ c. search needs)
+    (λ c. search needs) put-gates-requires (λ c. search needs) (λ c. search needs) returns)

@@ -11,20 +11,11 @@ use Rattle.group_wires.proofs.put_wires.Tie as tie
 put-first-wires-requires : tie.Need-put-first-wires-requires
 put-first-wires-requires c κs = search (needs, room-first)
 
-same-length : tie.Need-same-length
-same-length c = search needs
-
 returns : tie.Need-returns
 returns c = rw (c .before .before .before .if1 .taken) (c .before .put-first-wires .ensures)
 
-sub-put-later-wires : tie.Need-sub-put-later-wires
-sub-put-later-wires c = search needs
-
 put-later-wires-requires : tie.Need-put-later-wires-requires
 put-later-wires-requires c κs = search (needs, frame-again, room-later)
-
-same-length-2 : tie.Need-same-length-2
-same-length-2 c = search needs
 
 returns-2 : tie.Need-returns-2
 returns-2 c =
@@ -36,11 +27,5 @@ returns-2 c =
 pub put-wires-spec : {M : Type 1} → statement M
 put-wires-spec =
     tie.close
-    (tie.spec
-    put-first-wires-requires
-    same-length
-    returns
-    sub-put-later-wires
-    put-later-wires-requires
-    same-length-2
-    returns-2)
+    (tie.spec put-first-wires-requires (λ c. search needs) returns (λ c. search needs) put-later-wires-requires
+    (λ c. search needs) returns-2)

@@ -1,4 +1,5 @@
 -- `sheet_steps::store_data` meets its contract: one entry of the array is set.
+use mathlib.Core.Path.{refl}
 use Prim.Native.Nat.{_<_}
 use native.Mathlib.Omega.{arith}
 use lib.ListN.{length, length-set}
@@ -6,6 +7,7 @@ use Rattle.netlist.specs.NetOf.{netOf}
 use Rattle.sheet_steps.specs.Steps.{stored}
 use Rattle.sheet_steps.proofs.Steps.{code-set}
 use borrow.Author.Needs.{needs}
+use Rattle.sheet_steps.proofs.Lists.{full-kept}
 use Rattle.sheet_steps.proofs.store_data.Statement.{statement}
 use Rattle.sheet_steps.proofs.store_data.Tie as tie
 
@@ -21,14 +23,7 @@ returns c latches gates full =
     let a = c .before .args in
     let b : a .t < length (a .net .«write_data») = omega (arith, full .data-codes, c .before .pre) in
     record {
-      full =
-          record {
-            address-codes = full .address-codes;
-            data-codes = simp length-set (full .data-codes);
-            second-codes = full .second-codes;
-            latch-codes = full .latch-codes;
-            gate-codes = full .gate-codes;
-          };
+      full = full-kept full refl (simp length-set) refl;
       net-is = rw (code-set (a .net .«write_data») (a .t) (a .first) b);
     }
 

@@ -1,7 +1,9 @@
 -- `sheet_steps::store_memory` meets its contract: it sets what the line has.
+use mathlib.Core.Path.{refl}
 use borrow.Author.Needs.{needs}
 use Rattle.netlist.specs.NetOf.{netOf}
 use Rattle.sheet_steps.specs.Steps.{stored}
+use Rattle.sheet_steps.proofs.Lists.{full-kept}
 use Rattle.sheet_steps.proofs.store_memory.Statement.{statement}
 use Rattle.sheet_steps.proofs.store_memory.Tie as tie
 
@@ -12,14 +14,7 @@ returns : tie.Need-returns
 unfolding netOf stored
 returns c latches gates full =
     record {
-      full =
-          record {
-            address-codes = full .address-codes;
-            data-codes = full .data-codes;
-            second-codes = full .second-codes;
-            latch-codes = full .latch-codes;
-            gate-codes = full .gate-codes;
-          };
+      full = full-kept full refl refl refl;
       net-is = rw (c .second-port-of .ensures);
     }
 

@@ -2,23 +2,13 @@
 use mathlib.Core.Path.{refl}
 use Rattle.netlist.specs.NetOf.{netOf}
 use Rattle.sheet_steps.specs.Steps.{stored}
+use Rattle.sheet_steps.proofs.Lists.{full-kept}
 use Rattle.sheet_steps.proofs.store_sizes.Statement.{statement}
 use Rattle.sheet_steps.proofs.store_sizes.Tie as tie
 
 returns : tie.Need-returns
 unfolding netOf stored
-returns c latches gates full =
-    record {
-      full =
-          record {
-            address-codes = full .address-codes;
-            data-codes = full .data-codes;
-            second-codes = full .second-codes;
-            latch-codes = full .latch-codes;
-            gate-codes = full .gate-codes;
-          };
-      net-is = refl;
-    }
+returns c latches gates full = record { full = full-kept full refl refl refl; net-is = refl }
 
 pub store-sizes-spec : {M : Type 1} → statement M
 store-sizes-spec = tie.close (tie.spec returns)

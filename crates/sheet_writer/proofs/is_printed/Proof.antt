@@ -5,11 +5,8 @@ use Rattle.sheet_writer.proofs.Printed.{printed-by}
 use Rattle.sheet_writer.proofs.is_printed.Statement.{statement}
 use Rattle.sheet_writer.proofs.is_printed.Tie as tie
 
-content-of-requires : tie.Need-content-of-requires
-content-of-requires c κs = search needs
-
 returns : tie.Need-returns
 returns c = λ x. printed-by (contentOf (c .before .args .kind) (c .before .args .column)) (c .content-of .result) (c .before .args .empty) x (c .content-of .ensures)
 
 pub is-printed-spec : {M : Type 1} → statement M
-is-printed-spec = tie.close (tie.spec content-of-requires returns)
+is-printed-spec = tie.close (tie.spec (λ c κs. search needs) returns)

@@ -5,24 +5,9 @@ use Rattle.decimal.proofs.Digits.{length-field}
 use Rattle.sheet_writer.proofs.put_column.Statement.{statement}
 use Rattle.sheet_writer.proofs.put_column.Tie as tie
 
-put-field-requires : tie.Need-put-field-requires
-put-field-requires c κs = search needs
-
-same-length : tie.Need-same-length
-same-length c = search needs
-
 returns : tie.Need-returns
 returns c = let w = c .before .before .put-field .ensures in
     rw (c .before .before .before .before .if1 .taken) (w, omega (arith, w .counted, length-field (c .before .before .before .before .before .before .args .x) (c .before .before .before .before .before .before .fits .x .fits)))
-
-slice-aggregate-write-word : tie.Need-slice-aggregate-write-word
-slice-aggregate-write-word c = search needs
-
-write-word-requires : tie.Need-write-word-requires
-write-word-requires c κs = search needs
-
-same-length-2 : tie.Need-same-length-2
-same-length-2 c = search needs
 
 returns-2 : tie.Need-returns-2
 returns-2 c = let w = c .before .before .write-word .ensures in
@@ -31,11 +16,5 @@ returns-2 c = let w = c .before .before .write-word .ensures in
 pub put-column-spec : {M : Type 1} → statement M
 put-column-spec =
     tie.close
-    (tie.spec
-    put-field-requires
-    same-length
-    returns
-    slice-aggregate-write-word
-    write-word-requires
-    same-length-2
-    returns-2)
+    (tie.spec (λ c κs. search needs) (λ c. search needs) returns (λ c. search needs) (λ c κs. search needs)
+    (λ c. search needs) returns-2)

@@ -49,9 +49,6 @@ sub-put-line-at c = omega (arith, room c)
 part-put-line-at-start : tie.Need-part-put-line-at-start Inv-loop μ-loop
 part-put-line-at-start c = omega (arith, room c)
 
-part-put-line-at-end : tie.Need-part-put-line-at-end Inv-loop μ-loop
-part-put-line-at-end c = search needs
-
 add-put-line-at : tie.Need-add-put-line-at Inv-loop μ-loop
 add-put-line-at c =
     let start = c .before .before .before .before .before in
@@ -65,12 +62,6 @@ put-line-at-requires c κs =
 
 add-at : tie.Need-add-at Inv-loop μ-loop
 add-at c = omega (arith, room (c .before .before .before .before), c .before .before .put-line-at .ensures .1)
-
-add-place : tie.Need-add-place Inv-loop μ-loop
-add-place c = omega arith
-
-loop-less : tie.Need-loop-less Inv-loop μ-loop
-loop-less c = omega arith
 
 loop-again : tie.Need-loop-again Inv-loop μ-loop
 unfolding gather
@@ -86,9 +77,6 @@ loop-again c =
           (wrote-then (gather (at .place) line) (line (at .place)) (a .out .now) (at .out) (written .last .0) (at .at) (written .result) (at .inv .3) (written .ensures .0)),
     )
 
-same-length : tie.Need-same-length Inv-loop μ-loop
-same-length c = search needs
-
 returns : tie.Need-returns Inv-loop μ-loop
 unfolding netOf lineAt
 returns c =
@@ -101,19 +89,5 @@ returns c =
 pub put-sheet-spec : {M : Type 1} → statement M
 put-sheet-spec =
     tie.close
-    (tie.spec
-    Inv-loop
-    μ-loop
-    control-line-requires
-    loop-holds
-    sub-put-line-at
-    part-put-line-at-start
-    part-put-line-at-end
-    add-put-line-at
-    put-line-at-requires
-    add-at
-    add-place
-    loop-less
-    loop-again
-    same-length
-    returns)
+    (tie.spec Inv-loop μ-loop control-line-requires loop-holds sub-put-line-at part-put-line-at-start (λ c. search needs)
+    add-put-line-at put-line-at-requires add-at (λ c. omega arith) (λ c. omega arith) loop-again (λ c. search needs) returns)

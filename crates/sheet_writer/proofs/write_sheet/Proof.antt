@@ -21,20 +21,11 @@ use Rattle.sheet_writer.proofs.WriteCall.{sheet-written}
 use Rattle.sheet_writer.proofs.write_sheet.Statement.{statement}
 use Rattle.sheet_writer.proofs.write_sheet.Tie as tie
 
-test-record-requires : tie.Need-test-record-requires
-test-record-requires c κs = search needs
-
-enum-known-refusal : tie.Need-enum-known-refusal
-enum-known-refusal c = search needs
-
 returns : tie.Need-returns
 unfolding printReply writeSheetVerdict writeSent writeLeaves withCount contentsAfter _then_
 returns c =
     let v = sym (c .before .before .before .test-record .ensures) ∙ c .before .refusal .given .1 in
     (rw v, (rw v, sheet-written))
-
-enum-told : tie.Need-enum-told
-enum-told c = search needs
 
 -- the record is accepted, its sizes fit, and so its sheet is so long
 module _ (c : tie.After-enum-told) where
@@ -46,12 +37,6 @@ module _ (c : tie.After-enum-told) where
 
 control-line-requires : tie.Need-control-line-requires
 control-line-requires c κs = sizes-lists _ _ _ [] [] (accepted c .limits .sizes)
-
-cast-if1 : tie.Need-cast-if1
-cast-if1 c = search needs
-
-mul-if1 : tie.Need-mul-if1
-mul-if1 c = search needs
 
 returns-2 : tie.Need-returns-2
 unfolding netOf printReply writeSheetVerdict writeSent writeLeaves withCount contentsAfter _then_
@@ -66,9 +51,6 @@ put-sheet-requires : tie.Need-put-sheet-requires
 put-sheet-requires c κs =
     (sizes-lists _ _ _ [] [] (accepted (c .before .before .before) .limits .sizes), omega (arith, c .before .if1 .left, c .before .before .control-line .ensures))
 
-same-length : tie.Need-same-length
-same-length c = search needs
-
 returns-3 : tie.Need-returns-3
 unfolding netOf printReply writeSheetVerdict writeSent writeLeaves withCount contentsAfter _then_
 returns-3 c =
@@ -82,15 +64,5 @@ returns-3 c =
 pub write-sheet-spec : {M : Type 1} → statement M
 write-sheet-spec =
     tie.close
-    (tie.spec
-    test-record-requires
-    enum-known-refusal
-    returns
-    enum-told
-    control-line-requires
-    cast-if1
-    mul-if1
-    returns-2
-    put-sheet-requires
-    same-length
-    returns-3)
+    (tie.spec (λ c κs. search needs) (λ c. search needs) returns (λ c. search needs) control-line-requires (λ c. search needs)
+    (λ c. search needs) returns-2 put-sheet-requires (λ c. search needs) returns-3)
