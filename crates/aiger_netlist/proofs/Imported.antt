@@ -1,17 +1,16 @@
 -- What is promised of a netlist that agrees with that of a text which nothing refuses (specs/Imported.antt). Cited by the export that imports a
 -- text.
 use Prim.Native.Nat.{ℕ}
-use mathlib.Core.Path.{_≡_, sym}
+use mathlib.Core.Path.{_≡_}
 use mathlib.Core.List.{List}
 use Rattle.model.specs.Netlist.{Netlist}
 use Rattle.model.specs.Agree.{Agree}
 use Rattle.model.specs.Acceptance.{Accepted}
-use Rattle.model.proofs.Agree.{latches-same, gates-same, second-same, accepted-same}
-use Rattle.model.proofs.SameNumbers.{base-same, numbers-same}
+use Rattle.model.proofs.Agree.{latches-same, gates-same, accepted-same}
 use Rattle.refusals.specs.declared.Verdict.the-variants.{Passed}
 use Rattle.netlist_tests.specs.Record.{recordVerdict}
 use Rattle.netlist_tests.proofs.Acceptance.{passes-accepted}
-use Rattle.call_unpacked.proofs.Calls.{calls-encode-for}
+use Rattle.call_unpacked.proofs.Calls.{calls-encode}
 use Rattle.aiger_graph.specs.RecordAig.{recordAig, valuesOf}
 use Rattle.aiger_graph.proofs.Values.{RenumbersAig, renumbers-same, renumbered-values, renumbered-same}
 use Rattle.aiger_graph.proofs.RecordAig.{record-values, agree-aig}
@@ -60,7 +59,5 @@ module _ (s : List ℕ) (m n word unknown : ℕ) (d : Netlist) (latchCount gateC
         );
         same-values = λ input latch v text.
             renumbered-same renumbers (text-defined s (well-defined s m n (tests .text))) text (record-values d fits input latch);
-        variables-same = λ i. sym (base-same c d q i);
-        numbers-same = λ k g h. sym (numbers-same c d q k g (rw (second-same c d q) h));
-        calls-encode = λ k most. calls-encode-for c d latchCount gateCount k not-refused most (tests .accepted) q;
+        calls-encode = λ k most. calls-encode d latchCount gateCount k not-refused most;
       }

@@ -1,19 +1,14 @@
 -- What holds of a netlist d that is delivered for an ASCII AIGER text, where nothing is refused. No test of records refuses it; it is
 -- the text's netlist, below the sizes; whatever values inputs and latches have, there are values of the text's variables, and
--- everything has in d the value that it has in the text (RULES I9); demands 2 and 3 hold of it for the text's netlist, as they do of a
--- sheet that was read (RULES A1). The lists of d have latchCount and gateCount records. Cited by aiger_import/specs/ImportCall.
+-- everything has in d the value that it has in the text (RULES I9); demand 3 holds of the calls over it (RULES A1). The lists of d have latchCount and gateCount records. Cited by aiger_import/specs/ImportCall.
 use Prim.Native.Nat.{ℕ, _≤_}
 use mathlib.Core.Path.{_≡_}
-use mathlib.Core.Bool.{Bool, true}
+use mathlib.Core.Bool.{Bool}
 use mathlib.Core.List.{List}
 use Rattle.model.specs.Limits.{mostDepth}
-use Rattle.model.specs.Netlist.{Netlist, ports}
+use Rattle.model.specs.Netlist.{Netlist}
 use Rattle.model.specs.Circuit.{Values}
 use Rattle.model.specs.Agree.{Agree}
-use Rattle.model.specs.Variables.{base}
-use Rattle.model.specs.Numbers.{numbersOf}
-use Rattle.model.specs.Groups.{inDepth}
-use Rattle.model.specs.declared.Group.{Group}
 use Rattle.refusals.specs.declared.Verdict.the-variants.{Passed}
 use Rattle.netlist_tests.specs.Record.{recordVerdict}
 use Rattle.call_unpacked.specs.Calls.{CallsEncode}
@@ -28,6 +23,4 @@ pub record Imported (s : List ℕ) (m n word unknown : ℕ) (d : Netlist) (latch
   pub has-values : (input latch : ℕ → Bool) → (v : Values) × AigValues (textAig s) input latch v
   pub same-values : (input latch : ℕ → Bool) (v : Values) → AigValues (textAig s) input latch v
       → SameInOrder (textAig s) (recordAig d) v (valuesOf d input latch)
-  pub variables-same : (i : ℕ) → base d i ≡ base (aagNet s m n word unknown) i
-  pub numbers-same : (k : ℕ) (g : Group) → inDepth (ports d) k g ≡ true → numbersOf d k g ≡ numbersOf (aagNet s m n word unknown) k g
-  pub calls-encode : (k : ℕ) → k ≤ mostDepth → CallsEncode (aagNet s m n word unknown) d latchCount gateCount k
+  pub calls-encode : (k : ℕ) → k ≤ mostDepth → CallsEncode d latchCount gateCount k

@@ -1,6 +1,6 @@
 -- Laws of specs/Calls.antt: which tests a call passes, and demand 3 of the calls. No contract cites this file.
 use Prim.Native.Nat.{ℕ, _+_, _*_, _≤_}
-use mathlib.Core.Path.{_≡_, refl, sym, _∙_, ap}
+use mathlib.Core.Path.{_≡_, refl, _∙_, ap}
 use mathlib.Core.Bool.{true, not}
 use mathlib.Core.List.{List}
 use native.Mathlib.Nat.{mul-le-mul-left}
@@ -16,16 +16,12 @@ use Rattle.model.specs.Acceptance.{SizesFit, Accepted}
 use Rattle.model.specs.Groups.{inDepth}
 use Rattle.model.specs.Numbers.{numbersOf, formula}
 use Rattle.model.specs.declared.Group.{Group}
-use Rattle.model.specs.Agree.{Agree}
 use Rattle.model.proofs.Ports.{second-most}
 use Rattle.model.proofs.Variables.{base-most, base-most-single}
-use Rattle.model.proofs.Agree.{agree-itself, second-same}
-use Rattle.model.proofs.SameNumbers.{numbers-same}
 use Rattle.model.proofs.Gather.{all-weaken}
 use Rattle.model.proofs.Joined.{joined-same, order-inDepth}
 use Rattle.model.proofs.Claim.{encodes}
 use Rattle.model.proofs.Stated.{stated}
-use Rattle.model.proofs.Trace.{traced}
 use Rattle.refusals.specs.Tests.{_then_}
 use Rattle.refusals.specs.declared.Refusal.the-variants.{NoSuchGroup}
 use Rattle.refusals.specs.declared.Verdict.{Verdict}
@@ -36,7 +32,7 @@ use Rattle.refusals.proofs.Slices.{room-enough}
 use Rattle.netlist.specs.Places.{controlLine}
 use Rattle.netlist_tests.specs.Record.{recordVerdict}
 use Rattle.netlist_tests.proofs.Acceptance.{passes-accepted}
-use Rattle.call_unpacked.specs.Calls.{testDepth, testGroup, testGroupRoom, groupVerdict, groupSent, groupLeaves, CallsEncode}
+use Rattle.call_unpacked.specs.Calls.{testDepth, testGroup, testGroupRoom, groupVerdict, groupSent, groupLeaves, CallsEncode, BoundTheorem}
 
 -- a depth passes up to 255
 pub depth-passes : (k : ℕ) → testDepth k ≡ Passed → k ≤ 255
@@ -72,32 +68,25 @@ lines-most c fit =
     let bits : c .secondPort * 1 ≤ c .secondPort * c .n = mul-le-mul-left (c .secondPort) (fit .n-least) in
     omega (arith, fit .wires-fit, fit .m-most, second-most fit (c .m))
 
--- demand 3 of the calls over d, for an accepted netlist c that agrees with d
-pub calls-encode-for : (c d : Netlist) (latchCount gateCount k : ℕ) → recordVerdict d latchCount gateCount ≡ Passed → k ≤ 255
-    → Accepted c → Agree c d → CallsEncode c d latchCount gateCount k
+-- demand 3 of the calls
+pub calls-encode : (c : Netlist) (latchCount gateCount k : ℕ) → recordVerdict c latchCount gateCount ≡ Passed → k ≤ 255
+    → CallsEncode c latchCount gateCount k
 unfolding formula
-calls-encode-for c d latchCount gateCount k passed most ok agree =
+calls-encode c latchCount gateCount k passed most =
     record {
       calls-formula = λ slice enough.
-          joined-same (all-weaken
-          (λ g there.
-          let same : numbersOf d k g ≡ numbersOf c k g = sym (numbers-same c d agree k g there) in
-          group-numbers d latchCount gateCount k passed most g (slice g) (rw (← second-same c d agree) there) (rw same (enough g there)) ∙ same)
-          (order-inDepth (ports c) k));
-      formula-encodes = encodes c ok k;
-      formula-stated = stated c ok k;
-      formula-traced = traced c ok k;
+          joined-same (all-weaken (λ g there. group-numbers c latchCount gateCount k passed most g (slice g) there (enough g there)) (order-inDepth (ports c) k));
+      formula-encodes = encodes c (accepted c latchCount gateCount k passed most) k;
+    }
+
+pub bounded : BoundTheorem
+bounded c ok k most =
+    record {
       variables-most = base-most c (ok .limits .sizes) (k + 1) (omega arith);
       numbers-most = λ g there x. omega (arith, stated c ok k .numbers-within g there x, base-most c (ok .limits .sizes) (k + 1) (omega arith));
       variables-single = λ single. base-most-single c (ok .limits .sizes) single (k + 1) (omega arith);
       lines-most = lines-most c (ok .limits .sizes);
     }
-
--- for the netlist itself
-pub calls-encode : (c : Netlist) (latchCount gateCount k : ℕ) → recordVerdict c latchCount gateCount ≡ Passed → k ≤ 255
-    → CallsEncode c c latchCount gateCount k
-calls-encode c latchCount gateCount k passed most =
-    calls-encode-for c c latchCount gateCount k passed most (accepted c latchCount gateCount k passed most) (agree-itself c)
 
 -- one test more behind two whose verdict is known
 tests-more : (first second more : Verdict) {v : Verdict} → v ≡ (first then second) → first then second then more ≡ v then more

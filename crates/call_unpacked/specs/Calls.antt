@@ -13,8 +13,8 @@ use Rattle.model.specs.Netlist.{Netlist, ports}
 use Rattle.model.specs.Variables.{base}
 use Rattle.model.specs.Groups.{inDepth, groupOrder}
 use Rattle.model.specs.Numbers.{numbersOf, joined, formula, clausesIn}
-use Rattle.model.specs.Claim.{Encodes, Stated}
-use Rattle.model.specs.Trace.{Traced}
+use Rattle.model.specs.Acceptance.{Accepted}
+use Rattle.model.specs.Claim.{Encodes}
 use Rattle.model.specs.declared.Group.{Group}
 use Rattle.refusals.specs.Refusal.{refusalNumber}
 use Rattle.refusals.specs.Tests.{refuseIf, _then_}
@@ -80,23 +80,27 @@ unfoldable pub headingSent : Netlist → ℕ → ℕ → ℕ → HeadingReply
 headingSent c latchCount gateCount k =
     withHeading (headingVerdict c latchCount gateCount k) (base c (k + 1)) (length (clausesIn (formula c k)))
 
--- Demand 3, of the calls over the netlist d, for the netlist c that is meant: d itself, or that of the sheet which d was read from
--- (past the sizes the two may differ). RULES A2, A13 and A14: each group is asked for once with room enough, and the numbers are joined in
--- the order of the whole. Those numbers are c's formula, and the formula encodes the runs and is as `Stated` and `Traced` say; the variables are at
--- most 1,198,081, and so is every number of every group, negative or not, with one port 675,841 (RULES V6); and c's sheet has at most 627 lines (RULES S13).
+-- Demand 3 of the calls (RULES A2, A13 and A14): each group is asked for once with room enough, and the numbers are joined in the order of the whole.
+-- Those numbers are the formula, and the formula encodes the runs.
 abbrev pub RoomEnough : Netlist → ℕ → (Group → List ℤ) → Type 0
 RoomEnough c k slice = (g : Group) → inDepth (ports c) k g ≡ true → length (numbersOf c k g) ≤ length (slice g)
 
-pub record CallsEncode (c d : Netlist) (latchCount gateCount k : ℕ) : Type 0 where
+pub record CallsEncode (c : Netlist) (latchCount gateCount k : ℕ) : Type 0 where
   pub calls-formula : (slice : Group → List ℤ) → RoomEnough c k slice
       → joined
-      (λ g. take (groupSent d latchCount gateCount k g (length (slice g)) .count) (groupLeaves d latchCount gateCount k g (slice g)))
+      (λ g. take (groupSent c latchCount gateCount k g (length (slice g)) .count) (groupLeaves c latchCount gateCount k g (slice g)))
       (groupOrder (ports c) k)
       ≡ formula c k
   pub formula-encodes : Encodes c k
-  pub formula-stated : Stated c k
-  pub formula-traced : Traced c k
+
+-- how large a depth can be: the variables are at most 1,198,081, and so is every number of every group, negative or not, with one port 675,841 (RULES V6);
+-- and the sheet has at most 627 lines (RULES S13)
+pub record Bounded (c : Netlist) (k : ℕ) : Type 0 where
   pub variables-most : base c (k + 1) ≤ 1198081
   pub numbers-most : (g : Group) → inDepth (ports c) k g ≡ true → (x : ℕ) → natAbs (getD (numbersOf c k g) x (pos 0)) ≤ 1198081
   pub variables-single : ports c ≡ 1 → base c (k + 1) ≤ 675841
   pub lines-most : controlLine c ≤ mostLines
+
+-- of every accepted netlist: `bounded` in proofs/Calls.antt is of this type
+abbrev pub BoundTheorem : Type 0
+BoundTheorem = (c : Netlist) → Accepted c → (k : ℕ) → k ≤ mostDepth → Bounded c k

@@ -34,7 +34,7 @@ numbersAfter net latches gates k g old = groupLeaves (netLent net latches gates)
 abbrev pub HeadingClaim : Netlist → List LatchEntry → List GateEntry → ℕ → Type 0
 HeadingClaim net latches gates k =
     recordVerdict (netLent net latches gates) (length latches) (length gates) ≡ Passed → k ≤ mostDepth
-    → CallsEncode (netLent net latches gates) (netLent net latches gates) (length latches) (length gates) k
+    → CallsEncode (netLent net latches gates) (length latches) (length gates) k
 
 -- The tests of a record pass exactly the netlists of which the theorems speak (RULES A1), with lists that are long enough. Promised by
 -- `heading`; `passes-accepted` in netlist_tests/proofs/Acceptance.antt is of this type.

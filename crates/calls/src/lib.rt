@@ -12,7 +12,7 @@ ghost use Rattle.model.specs.Acceptance.{PathTheorem};
 ghost use Rattle.model.specs.Claim.{EncodingTheorem, StatedTheorem};
 ghost use Rattle.model.specs.Trace.{TraceTheorem};
 ghost use Rattle.calls.specs.Starred.{Starred};
-ghost use Rattle.call_unpacked.specs.Calls.{groupReply, headingReply};
+ghost use Rattle.call_unpacked.specs.Calls.{groupReply, headingReply, BoundTheorem};
 ghost use Rattle.calls.specs.LentCalls.{headingFor, groupFor, numbersAfter, HeadingClaim, AcceptedTheorem};
 
 // The heading of a depth, RULES G23: "the variables that are numbered .. and the clauses that are really written".
@@ -26,7 +26,7 @@ pub fn heading(
     ensures claim { λ r. ⌜ HeadingClaim net (now (latches .entry)) (now (gates .entry)) depth ⌝ }
     ensures paths { λ r. ⌜ PathTheorem ⌝ }
     ensures accepted { λ r. ⌜ AcceptedTheorem ⌝ }
-    ensures theorems { λ r. ⌜ EncodingTheorem × StatedTheorem × TraceTheorem ⌝ }
+    ensures theorems { λ r. ⌜ EncodingTheorem × StatedTheorem × TraceTheorem × BoundTheorem ⌝ }
     ensures starred { λ r. ⌜ Starred ⌝ }
 {
     let mut latch_codes = [0; 1200];

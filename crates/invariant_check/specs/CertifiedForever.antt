@@ -4,8 +4,8 @@ use mathlib.Core.Path.{_≡_}
 use mathlib.Core.List.{List}
 use Rattle.model.specs.Netlist.{Netlist}
 use Rattle.model.specs.Acceptance.{Accepted}
+use Rattle.model.specs.Claim.{SafeForever}
 use Rattle.sheet_text.specs.SheetText.{sheetText}
-use Rattle.invariant_terms.specs.SafeForever.{SafeForever}
 
 -- it is the sheet of a netlist, byte for byte, which is accepted and whose property holds in every frame of every run
 pub record CertifiedForever (file : List ℕ) : Type 0 where

@@ -20,7 +20,7 @@ use Rattle.model.proofs.Booleans.{and-true, either}
 use Rattle.model.proofs.Circuit.{frame-is}
 use Rattle.refutation_lemmas.specs.Propagation.{every, within}
 use Rattle.refutation_lemmas.specs.Refutation.{Unsatisfiable}
-use Rattle.invariant_terms.specs.SafeForever.{SafeForever}
+use Rattle.model.specs.Claim.{SafeForever}
 use Rattle.invariant_terms.specs.StateBits.{stateCount}
 use Rattle.invariant_terms.specs.Walk.{holdsIn}
 use Rattle.invariant_terms.proofs.StateBits.{stateValue}

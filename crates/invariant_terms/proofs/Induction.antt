@@ -4,7 +4,7 @@ use mathlib.Core.Path.{_≡_}
 use mathlib.Core.Bool.{Bool, true}
 use Rattle.model.specs.Netlist.{Netlist}
 use Rattle.model.specs.Circuit.{State, Feeds, codeValue, frame, step, stateAt, run, Starts}
-use Rattle.invariant_terms.specs.SafeForever.{SafeForever}
+use Rattle.model.specs.Claim.{SafeForever}
 
 -- an inductive invariant: it holds at the start, and where it holds, P does, and the step keeps it
 pub record Inductive (c : Netlist) (I : State → Type 0) : Type 0 where
@@ -20,4 +20,4 @@ module _ (c : Netlist) (I : State → Type 0) (q : Inductive c I) where
 
   pub inductive→forever : SafeForever c
   unfolding run
-  inductive→forever s b f i = q .property (stateAt c s f i) (holds-at s b f i) (f i)
+  inductive→forever k s b f i h = q .property (stateAt c s f i) (holds-at s b f i) (f i)

@@ -1,5 +1,4 @@
 -- What holding for ever is, the bits of a state, clauses over them, and the variables of one step. Nothing here imports a law or a proof.
-pub mod SafeForever
 pub mod StateBits
 pub mod Walk
 pub mod Terms

@@ -26,6 +26,7 @@ ghost use Rattle.model.specs.Trace.{TraceTheorem};
 ghost use Rattle.model.specs.Groups.{groupOrder};
 ghost use Rattle.group_order.specs.Next.{firstGroup};
 ghost use Rattle.call_lists.specs.Lent.{netLent};
+ghost use Rattle.call_unpacked.specs.Calls.{BoundTheorem};
 ghost use Rattle.calls.specs.LentCalls.{headingFor, groupFor, numbersAfter, HeadingClaim, AcceptedTheorem};
 ghost use Rattle.calls.specs.Starred.{Starred};
 ghost use Rattle.decimal.specs.Digits.{signedDigits};
@@ -130,7 +131,7 @@ pub extern "C" fn marrubigai_heading(
     ensures claim { λ r. ⌜ HeadingClaim net (now (latches .entry)) (now (gates .entry)) depth ⌝ }
     ensures paths { λ r. ⌜ PathTheorem ⌝ }
     ensures accepted { λ r. ⌜ AcceptedTheorem ⌝ }
-    ensures theorems { λ r. ⌜ EncodingTheorem × StatedTheorem × TraceTheorem ⌝ }
+    ensures theorems { λ r. ⌜ EncodingTheorem × StatedTheorem × TraceTheorem × BoundTheorem ⌝ }
     ensures starred { λ r. ⌜ Starred ⌝ }
 {
     call_replies::heading_numbers(calls::heading(net, latches, gates, depth))

@@ -1,12 +1,12 @@
 -- Demand 3, proved: every accepted netlist is encoded, at every depth; and what a designer relies on.
 use Prim.Native.Nat.{ℕ, zero-le, _+_, _≤_}
 use mathlib.Core.Path.{_≡_, refl, sym, _∙_, ap}
-use mathlib.Core.Bool.{true, false, _||_, or-false}
+use mathlib.Core.Bool.{Bool, true, false, _||_, or-false}
 use mathlib.Core.List.{List}
 use mathlib.Core.Logic.{_↔_, Iff·trans}
 use lib.Dec.{eqb}
 use Rattle.model.specs.Netlist.{Netlist, start, ports, port}
-use Rattle.model.specs.Circuit.{State, run, Begins}
+use Rattle.model.specs.Circuit.{State, codeValue, run, Begins}
 use Rattle.model.specs.Acceptance.{Accepted}
 use Rattle.model.specs.Clauses.{Clause}
 use Rattle.model.specs.Variables.{base}
@@ -124,4 +124,10 @@ encodes c ok k = encodes-depth ok k
 
 -- What a designer relies on: where no assignment satisfies the clauses of depth k, no run breaks the property up to frame k.
 pub unsatisfiable→safe : {c : Netlist} {k : ℕ} → Encodes c k → ((a : Assignment) → Satisfies c k a → ⊥) → Safe c k
-unsatisfiable→safe e none s starts f h = let found = e .run→assignment s starts f h in none (found .0) (found .1)
+unfolding Breaks
+unsatisfiable→safe e none s starts f i h =
+    holds (codeValue (run _ s f i) _) (λ broken. let found = e .run→assignment s starts f (i, (h, broken)) in none (found .0) (found .1))
+  where
+    holds : (b : Bool) → (b ≡ false → ⊥) → b ≡ true
+    holds true n = refl
+    holds false n = absurd (n refl)

@@ -1,5 +1,5 @@
 -- Demand 3, the correctness of the encoding in both directions (`Encodes`), and the theorem (`EncodingTheorem`).
--- RULES A2 to A4, A6, A7, A10 and A12 to A16.
+-- RULES A2 to A4, A6, A7, A10, A12 to A16 and H2.
 --
 -- `Satisfies c k a`: the assignment a makes every clause true that stands in the numbers written for depth k.
 -- First direction: whatever assignment does so, there is a state that a run may begin in, the word held being frame 0's read bits, from
@@ -49,9 +49,12 @@ Agrees c s k a f = (i : ℕ) → i ≤ k → (w : ℕ) → 1 ≤ w → w ≤ las
 unfoldable pub Breaks : Netlist → State → ℕ → Feeds → Type 0
 Breaks c s k f = (i : ℕ) × (i ≤ k) × (codeValue (run c s f i) (c .P) ≡ false)
 
--- no run, from whatever state a run may begin in and whatever it is fed, breaks the property in a frame from 0 to k
+-- from whatever state a run may begin in, and whatever it is fed, the property holds in every frame from 0 to k; and in every frame (RULES A16 and H2)
 abbrev pub Safe : Netlist → ℕ → Type 0
-Safe c k = (s : State) → Starts c s → (f : Feeds) → Breaks c s k f → ⊥
+Safe c k = (s : State) → Starts c s → (f : Feeds) (i : ℕ) → i ≤ k → codeValue (run c s f i) (c .P) ≡ true
+
+abbrev pub SafeForever : Netlist → Type 0
+SafeForever c = (k : ℕ) → Safe c k
 
 -- demand 3 (RULES A13, A15 and A14)
 pub record Encodes (c : Netlist) (k : ℕ) : Type 0 where

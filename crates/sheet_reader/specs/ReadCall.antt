@@ -38,4 +38,4 @@ gatesAfter file latches gates = gatesBeside (readVerdict file latches gates) (ne
 pub record SheetDelivered (file : List ℕ) (r : Netlist) (latches : List LatchEntry) (gates : List GateEntry) : Type 0 where
   pub is-sheet : file ≡ sheetText (netLent r latches gates)
   pub not-refused : recordVerdict (netLent r latches gates) (length latches) (length gates) ≡ Passed
-  pub calls-encode : (k : ℕ) → k ≤ mostDepth → CallsEncode (netLent r latches gates) (netLent r latches gates) (length latches) (length gates) k
+  pub calls-encode : (k : ℕ) → k ≤ mostDepth → CallsEncode (netLent r latches gates) (length latches) (length gates) k

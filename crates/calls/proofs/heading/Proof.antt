@@ -65,7 +65,7 @@ use Rattle.call_lists.proofs.unpack.unpack_gates.Symbol as gates-def
 use Rattle.call_lists.proofs.unpack.unpack_gates.Symbol.{name as #gates}
 use Rattle.call_lists.proofs.unpack.unpack_gates.Met as gates-thm
 use Rattle.call_unpacked.specs.Calls.{headingReply, headingSent}
-use Rattle.call_unpacked.proofs.Calls.{calls-encode}
+use Rattle.call_unpacked.proofs.Calls.{calls-encode, bounded}
 use Rattle.calls.proofs.Starred.{starred}
 use Rattle.call_unpacked.proofs.HeadingAnswer as Answer
 use Rattle.call_unpacked.proofs.HeadingAnswer.Laws as Answer′
@@ -222,7 +222,7 @@ module _ {M : Type 1} (𝓤 : URA M) (H : Heap 𝓤) (A : Atoms 𝓤) (W : Given
           (netOf-unpacked net (latchCodes (ls .now)) (gateCodes (gs .now)))))
           (both 𝓤 (factI 𝓤 _ (emp 𝓤) (calls-encode _ _ _ _))
           (both 𝓤 (factI 𝓤 _ (emp 𝓤) paths) (both 𝓤 (factI 𝓤 _ (emp 𝓤) passes-accepted)
-          (both 𝓤 (factI 𝓤 _ (emp 𝓤) (encodes, stated-of, traced)) (factI 𝓤 _ (emp 𝓤) starred)))))))))))))))))))))))))
+          (both 𝓤 (factI 𝓤 _ (emp 𝓤) (encodes, stated-of, traced, bounded)) (factI 𝓤 _ (emp 𝓤) starred)))))))))))))))))))))))))
 
 heading-meets : {M : Type 1} (𝓤 : URA M) (H : Heap 𝓤) (A : Atoms 𝓤) (W : Given 𝓤 H A) (mem : Memory → SProp 𝓤)
     (run : Routine → Fun 𝓤) (𝓣 : Tables 𝓤 H)

@@ -43,7 +43,7 @@ use Rattle.call_lists.proofs.LatchEntry as L
 use Rattle.call_lists.proofs.GateEntry as G
 use Rattle.sheet_reader.proofs.Facts.{All, gathered, spread}
 use Rattle.hand_proofs.proofs.Walk.{calls-told, _&_, cell, frees-all, meets-of}
-use Rattle.call_unpacked.specs.Calls.{headingReply}
+use Rattle.call_unpacked.specs.Calls.{headingReply, BoundTheorem}
 use Rattle.model.specs.Acceptance.{PathTheorem}
 use Rattle.model.specs.Claim.{EncodingTheorem, StatedTheorem}
 use Rattle.model.specs.Trace.{TraceTheorem}
@@ -104,7 +104,7 @@ module _ {M : Type 1} (𝓤 : URA M) (H : Heap 𝓤) (A : Atoms 𝓤) (W : Given
 
     -- what else `calls::heading` says, which is of no answer
     abbrev Claimed : List {1} (Type 0)
-    Claimed = HeadingClaim net (ls .now) (gs .now) k ∷ PathTheorem ∷ AcceptedTheorem ∷ (EncodingTheorem × StatedTheorem × TraceTheorem) ∷ Starred ∷ []
+    Claimed = HeadingClaim net (ls .now) (gs .now) k ∷ PathTheorem ∷ AcceptedTheorem ∷ (EncodingTheorem × StatedTheorem × TraceTheorem × BoundTheorem) ∷ Starred ∷ []
 
     abbrev Post : Val → SProp 𝓤
     Post = walkOf 𝓤 H A f.ended stayed (f.clauses 𝓤 H A mem run) .post (((κ₀, (κ₁, tt)), (q₀, (q₁, tt)), tt, a, vals), tt)
