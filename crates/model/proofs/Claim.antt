@@ -126,7 +126,7 @@ encodes c ok k = encodes-depth ok k
 pub unsatisfiable→safe : {c : Netlist} {k : ℕ} → Encodes c k → ((a : Assignment) → Satisfies c k a → ⊥) → Safe c k
 unfolding Breaks
 unsatisfiable→safe e none s starts f i h =
-    holds (codeValue (run _ s f i) _) (λ broken. let found = e .run→assignment s starts f (i, (h, broken)) in none (found .0) (found .1))
+    holds (codeValue (run _ s f i) _) (λ broken. let found = e .run→assignment s starts f (i, h, broken) in none (found .0) (found .1))
   where
     holds : (b : Bool) → (b ≡ false → ⊥) → b ≡ true
     holds true n = refl
