@@ -1,7 +1,7 @@
 #!/usr/bin/env bash
 # crates.txt: each crate stands once, in a family, and imports only crates before it; one check for each. The table of families in
-# docs/ARCHITECTURE.md, and the graph and the figure beside it, are those of crates.txt. The places that the pages for contributors name are there. Each
-# crate that crates.txt has another import is named in a file of that one, and each name that a file imports is used there: one check for each.
+# docs/ARCHITECTURE.md, and the graph and the figure beside it, are those of crates.txt. The places that the pages for contributors name are there. And
+# each name that a file imports is used there: one check for each.
 set -u
 cd "$(dirname "$0")/.." || exit 2
 
@@ -33,19 +33,6 @@ places() { # pages
   for place in $(grep -ho '`[^` ]*/[^` ]*`' "$@" | tr -d '`' | grep -vE 'NAME|^(src|specs|proofs|must-fail|target)/' | sort -u); do
     holds "there is no $place" [ -e "$place" -o -e "crates/$place" -o -e "crates/$place.antt" ]
   done
-}
-
-# A crate is named by its path in code, `NAME::`, or by its library in a definition or proof, `Rattle.NAME`.
-listed() {
-  local crate imports import named
-  while IFS=: read -r crate imports; do
-    named=$(find "crates/$crate/src" "crates/$crate/specs" "crates/$crate/proofs" \( -name '*.antt' -o -name '*.rt' \) -exec cat {} + 2>/dev/null |
-      grep -vE '^ *(--|//)' | grep -oE 'Rattle·[a-z_0-9]+\.|[a-z_0-9]+::' | sed 's/Rattle·//; s/[.:]*$//' | sort -u)
-    for import in $imports; do
-      [ -d "crates/$import" ] || continue # the kit's
-      if grep -qx "$import" <<<"$named"; then echo "1 passed, 0 failed"; else printf '%s\n' "FAILED: $crate imports $import, and no file names it" "0 passed, 1 failed"; fi
-    done
-  done < <(sed 's/#.*//; /:/!d' crates.txt)
 }
 
 # A name is used where it is a word of the rest of the file, comments apart; an operator where its parts are.
@@ -84,7 +71,6 @@ trap 'rm -f "$sample"' EXIT
 
 {
   order crates.txt
-  listed
   # of the sample, b stands before what it imports, c twice, and d in no family
   printf '%s\n' 'd:' '# f: one' 'a: io d' 'b: c' 'c: a' 'c: a' > "$sample"
   holds "the rule of the order" [ "$(order "$sample" | tail -n 1)" = "1 passed, 4 failed" ]
