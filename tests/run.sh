@@ -106,17 +106,25 @@ one_port=target/bin/one_port
 exporter=target/bin/export_aig
 programs=("$frames" "$replay" "$import" "$one_port" "$exporter")
 
-# the longest first
-start "replay against the second implementation" replay "$logs/runner" "${programs[@]}" replay
-echo "== the static library: rt staticlib marrubigai"
+# The library is built beside the tests that need none of it.
 linked=(-L target/staticlib -l static=marrubigai)
-if {
-  rt staticlib marrubigai && compile "$logs" library tests/runner/library.rs "${linked[@]}" &&
-    compile "$logs" verilog tests/verilog/main.rs "${linked[@]}" &&
-    compile "$logs" certificates tests/certificates/main.rs "${linked[@]}"
-} > "$logs/staticlib.out" 2>&1; then
+{
+  {
+    rt staticlib marrubigai && compile "$logs" library tests/runner/library.rs "${linked[@]}" &&
+      compile "$logs" certificates tests/certificates/main.rs "${linked[@]}" &&
+      compile "$logs" verilog tests/verilog/main.rs "${linked[@]}"
+  } > "$logs/staticlib.out" 2>&1
+  echo $? > "$logs/staticlib.status"
+} &
+start "frames against the second implementation" frames "$logs/runner" "${programs[@]}" frames docs/FORMAT.md
+start "replay against the second implementation" replay "$logs/runner" "${programs[@]}" replay
+start "the formula of frames, with public solvers" solvers "$logs/solvers" "$frames" "$logs/solvers-scratch" examples
+start "the second implementation's own tests" reference "$logs/reference"
+while [ ! -f "$logs/staticlib.status" ] && wait -n; do :; done
+echo "== the static library: rt staticlib marrubigai"
+if [ "$(cat "$logs/staticlib.status")" = 0 ]; then
   pass
-  start "frames against the second implementation" frames "$logs/runner" "${programs[@]}" frames docs/FORMAT.md
+  start "the command marrubigai, with yosys and sanitizers" command bash tests/command.sh "$frames" "$replay"
   start "the library against the second implementation" library "$logs/library"
   start "from Verilog to an imported netlist, an exported file and a shown run, with yosys and abc" verilog \
     bash tests/verilog.sh "$frames" "$replay" "$import" "$exporter" "$logs/verilog"
@@ -125,7 +133,6 @@ if {
   start "a sample of certificates under valgrind" certificates-valgrind \
     valgrind --quiet --error-exitcode=99 "$logs/certificates" examples "$logs/certificates-sample" sample
   start "the header for C against the library" header bash tests/header.sh
-  start "the command marrubigai, with yosys and sanitizers" command bash tests/command.sh "$frames" "$replay"
   start "a search depth by depth with the library and CaDiCaL's" search bash tests/search.sh "$frames" "$replay"
 else
   cat "$logs/staticlib.out"
@@ -135,8 +142,6 @@ start "import_aag against the second implementation" import_aag "$logs/runner" "
 start "one_port against the second implementation" one_port "$logs/runner" "${programs[@]}" one_port
 start "export_aig against the second implementation" export_aig "$logs/runner" "${programs[@]}" export_aig
 start "import_aag as a program" import bash tests/import.sh "$import"
-start "the second implementation's own tests" reference "$logs/reference"
-start "the formula of frames, with public solvers" solvers "$logs/solvers" "$frames" "$logs/solvers-scratch" examples
 start "the script that looks for a run and shows it" find bash tests/find.sh "$frames" "$replay"
 start "the waveform of a run, by GTKWave's converters" waveform "$logs/waveform" "$frames" "$replay" "$logs/waveform-scratch"
 start "the examples' sheets, and what the pages show of them" examples bash tests/examples.sh "$frames" "$replay"
