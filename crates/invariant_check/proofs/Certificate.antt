@@ -21,7 +21,7 @@ use Rattle.netlist.specs.NetOf.{netOf}
 use Rattle.sheet_parse.specs.Files.{netIn}
 use Rattle.sheet_tests.proofs.Codes.{passed-sheet}
 use Rattle.program_input.specs.Input.{sheetIn}
-use Rattle.refutation_lemmas.specs.Propagation.{every, within}
+use Rattle.refutation_hints.specs.Propagation.{every, within}
 use Rattle.refutation_lemmas.specs.Refutation.{checked}
 use Rattle.refutation_lemmas.specs.declared.Checked.{Checked}
 use Rattle.refutation_lemmas.specs.declared.Checked.the-variants.{Refuted, Unjustified}
