@@ -762,6 +762,7 @@ static void certificates(void) {
             store[6] == 0 && store[7] == UNTOUCHED && marks[MARKS] == UNTOUCHED);
   check("a lemma is cited by the next one",
         answers_certificate(certify(zero, two, 3, cited, 5, COUNT(store), COUNT(marks)), MARRUBIGAI_PASSED, 1, 0) && store[6] == -3 && store[8] == 0);
+  check("a mark behind the need is as it was", marks[MARKS] == UNTOUCHED);
   check("no lemma may cite itself", answers_certificate(certify(zero, two, 3, itself, 5, COUNT(store), COUNT(marks)), MARRUBIGAI_PASSED, 0, 0));
   check("no hint may point into a clause", answers_certificate(certify(zero, empty, 1, inside, 3, STORE, MARKS), MARRUBIGAI_PASSED, 0, 0));
   check("an empty lemma is not believed", answers_certificate(certify(zero, empty, 1, none, 1, STORE, MARKS), MARRUBIGAI_PASSED, 0, 0));
@@ -1105,6 +1106,9 @@ static void certificates_for_ever(void) {
   memcpy(changed, NEVER, sizeof changed);
   changed[32 + 30] = '1';
   check("not from a start of 1", answers_certificate(forever(changed, invariant, 2, NEVER_STORE, NEVER_MARKS), MARRUBIGAI_PASSED, 0, 0));
+  int kept = 1;
+  for (size_t t = 0; t < COUNT(step_marks); t++) kept = kept && step_marks[t] == UNTOUCHED;
+  check("where the invariant fails at the start the marks are as they were", kept);
   changed[32 + 30] = ' ';
   check("not from an unknown start", answers_certificate(forever(changed, invariant, 2, NEVER_STORE, NEVER_MARKS), MARRUBIGAI_PASSED, 0, 0));
   memcpy(changed, NEVER, sizeof changed);

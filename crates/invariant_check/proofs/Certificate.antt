@@ -22,7 +22,7 @@ use Rattle.sheet_parse.specs.Files.{netIn}
 use Rattle.sheet_tests.proofs.Codes.{passed-sheet, passed-file}
 use Rattle.sheet_text.proofs.WriteBack.{written-back}
 use Rattle.program_input.specs.Input.{sheetIn}
-use Rattle.refutation_lemmas.specs.Propagation.{every, within}
+use Rattle.refutation_hints.specs.Propagation.{every, within}
 use Rattle.refutation_lemmas.specs.Refutation.{checked}
 use Rattle.refutation_lemmas.specs.declared.Checked.{Checked}
 use Rattle.refutation_lemmas.specs.declared.Checked.the-variants.{Refuted, Unjustified}

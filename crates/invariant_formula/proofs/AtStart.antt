@@ -11,7 +11,7 @@ use Rattle.model.specs.Netlist.{Netlist, Start, given, unknown, start, readBits
 use Rattle.model.specs.Circuit.{State, Begins, Starts}
 use Rattle.model.specs.Numbers.{numberTrue}
 use Rattle.model.proofs.Booleans.{and-true, beq-true}
-use Rattle.refutation_lemmas.specs.Propagation.{every, within}
+use Rattle.refutation_hints.specs.Propagation.{every, within}
 use Rattle.invariant_terms.specs.StateBits.{stateCount}
 use Rattle.invariant_terms.proofs.StateBits.{stateBit, stateValue}
 use Rattle.invariant_terms.specs.Walk.{holdsIn}

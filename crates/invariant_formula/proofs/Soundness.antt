@@ -18,7 +18,7 @@ use Rattle.model.specs.Gather.{gather}
 use Rattle.model.specs.Numbers.{Assignment, numberTrue}
 use Rattle.model.proofs.Booleans.{and-true, either}
 use Rattle.model.proofs.Circuit.{frame-is}
-use Rattle.refutation_lemmas.specs.Propagation.{every, within}
+use Rattle.refutation_hints.specs.Propagation.{every, within}
 use Rattle.refutation_lemmas.specs.Refutation.{Unsatisfiable}
 use Rattle.model.specs.Claim.{SafeForever}
 use Rattle.invariant_terms.specs.StateBits.{stateCount}

@@ -9,7 +9,7 @@ use borrow.Author.Tests.{lt-ltb, le-ltb}
 use Rattle.model.specs.Bits.{bit}
 use Rattle.model.specs.Netlist.{Netlist, startOf}
 use Rattle.text_writer.specs.Signed.{partsOf}
-use Rattle.refutation_lemmas.specs.Propagation.{within}
+use Rattle.refutation_hints.specs.Propagation.{within}
 use Rattle.invariant_formula.specs.AtStart.{wordStarts, bitStarts, numberStarts}
 
 pub beq-yes : (a : Bool) → a ≡ Bool·beq a true

@@ -11,7 +11,7 @@ use lib.ListN.{length, getD, drop, drop-of-length-le}
 use lib.Seq.{drop-cons}
 use borrow.Author.Tests.{lt-ltb}
 use Rattle.model.specs.Netlist.{Netlist}
-use Rattle.refutation_lemmas.specs.Propagation.{every, within}
+use Rattle.refutation_hints.specs.Propagation.{every, within}
 use Rattle.invariant_terms.specs.StateBits.{stateCount}
 use Rattle.invariant_terms.specs.Walk.{isEnd, holdsIn}
 use Rattle.invariant_formula.specs.AtStart.{numberStarts, holdsAtStart}

@@ -4,7 +4,7 @@ use mathlib.Core.Bool.{cond}
 use lib.Dec.{eqb}
 use lib.IntN.{ℤ}
 use Rattle.model.specs.Netlist.{Netlist}
-use Rattle.refutation_lemmas.specs.Propagation.{within}
+use Rattle.refutation_hints.specs.Propagation.{within}
 use Rattle.invariant_terms.specs.StateBits.{stateCount}
 use Rattle.invariant_terms.specs.Walk.{isEnd}
 use Rattle.invariant_formula.specs.AtStart.{numberStarts}

@@ -12,11 +12,11 @@ use lib.ListN.{length, getD, take, drop, length-drop, drop-of-length-le}
 use lib.Seq.{drop-cons, drop-drop, take-add, length-take-le}
 use Rattle.model.specs.Numbers.{clausesIn}
 use Rattle.model.proofs.Booleans.{iff-eq}
-use Rattle.refutation_lemmas.specs.Propagation.{follows}
+use Rattle.refutation_hints.specs.Propagation.{follows}
 use Rattle.refutation_lemmas.specs.Refutation.{checkedFrom}
-use Rattle.refutation_lemmas.specs.Marks.{beforeEnd}
+use Rattle.refutation_lemmas.specs.Ends.{beforeEnd}
 use Rattle.refutation_lemmas.specs.declared.Checked.the-variants.{Refuted, Unjustified}
-use Rattle.refutation_lemmas.proofs.Clauses.{first-clause, no-clause, clause-ended}
+use Rattle.refutation_lemmas.proofs.Ends.{first-clause, no-clause, clause-ended}
 
 -- a lemma between two places of the store, and what stands before the next
 module _ (store : List ℤ) (at end : ℕ) (e : end ≡ at + beforeEnd (drop at store)) (l : end < length store) where

@@ -1,4 +1,3 @@
--- What a refutation by lemmas and hints is, and how the code keeps what is false. Nothing here imports a law or a proof.
-pub mod Propagation
+-- What a refutation by lemmas and hints is, and where a lemma ends. Nothing here imports a law or a proof.
 pub mod Refutation
-pub mod Marks
+pub mod Ends

@@ -8,7 +8,7 @@ use lib.Dec.{eqb, leb}
 use lib.IntN.{ℤ, pos}
 use lib.ListN.{length, take, drop}
 use Rattle.model.specs.Numbers.{clausesIn, Assignment, allTrue}
-use Rattle.refutation_lemmas.specs.Propagation.{follows}
+use Rattle.refutation_hints.specs.Propagation.{follows}
 use Rattle.refutation_lemmas.specs.declared.Checked.{Checked}
 use Rattle.refutation_lemmas.specs.declared.Checked.the-variants.{Refuted, Unjustified}
 

@@ -11,9 +11,9 @@ use lib.IntN.{ℤ}
 use lib.ListN.{length, getD, take, drop, length-drop}
 use Rattle.model.specs.Numbers.{clausesIn}
 use Rattle.model.proofs.Booleans.{and-true}
-use Rattle.refutation_lemmas.specs.Propagation.{follows}
+use Rattle.refutation_hints.specs.Propagation.{follows}
 use Rattle.refutation_lemmas.specs.Refutation.{checkedFrom, checked, Unsatisfiable}
-use Rattle.refutation_lemmas.specs.Marks.{UpTo}
+use Rattle.refutation_hints.specs.Marks.{UpTo}
 use Rattle.refutation_lemmas.specs.declared.Checked.{Checked}
 use Rattle.refutation_lemmas.specs.declared.Checked.the-variants.{Refuted, Unjustified}
 use Rattle.refutation_lemmas.proofs.Lemmas.{checked-here, checked-none, checked-over}

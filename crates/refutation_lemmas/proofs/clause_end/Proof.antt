@@ -5,9 +5,10 @@ use native.Mathlib.Omega.{arith}
 use borrow.Author.Needs.{needs}
 use lib.IntN.{pos}
 use lib.ListN.{length, getD, drop}
-use Rattle.refutation_lemmas.specs.Marks.{slotOf, beforeEnd}
-use Rattle.refutation_lemmas.proofs.Marks.{slot-read}
-use Rattle.refutation_lemmas.proofs.Clauses.{ends-at, goes-on, ended}
+use Rattle.refutation_hints.specs.Marks.{slotOf}
+use Rattle.refutation_lemmas.specs.Ends.{beforeEnd}
+use Rattle.refutation_hints.proofs.Marks.{slot-read}
+use Rattle.refutation_lemmas.proofs.Ends.{ends-at, goes-on, ended}
 use Rattle.refutation_lemmas.proofs.clause_end.Statement.{statement}
 use Rattle.refutation_lemmas.proofs.clause_end.Tie as tie
 
