@@ -16,7 +16,7 @@ int main(void) {
     bytes += more;
     if (bytes == room && (text = realloc(text, room *= 2)) == NULL) return 1;
   }
-  marrubigai_sheet_reply reply = marrubigai_import(text, bytes, 1, 1, 0, 0, latches, MARRUBIGAI_LIST_ROOM, gates, MARRUBIGAI_LIST_ROOM);
+  marrubigai_sheet_reply reply = marrubigai_import(text, bytes, 1, 1, 0, 0, 0, latches, MARRUBIGAI_LIST_ROOM, gates, MARRUBIGAI_LIST_ROOM);
   printf("%u %u\n", (unsigned)reply.number, (unsigned)reply.place);
   return 0;
 }

@@ -62,33 +62,53 @@ uint32_t width_of(const std::vector<std::string> &names, const std::string &port
   return width;
 }
 
+// The names of the read bits, and of the outputs: those of a second port have a 2 behind them.
+struct Names {
+  std::vector<std::string> reads, outputs;
+};
+
+Names names_of(const Widths &widths) {
+  Names names;
+  auto add = [](std::vector<std::string> &list, const char *port, uint32_t width) {
+    for (uint32_t at = 0; at < width; at++) list.push_back(bit_name(port, width, at));
+  };
+  bool two = widths.ports == 2;
+  add(names.reads, "read_data", widths.data);
+  if (two) add(names.reads, "read_data2", widths.data);
+  add(names.outputs, "address", widths.address);
+  add(names.outputs, "write_data", widths.data);
+  if (two) add(names.outputs, "address2", widths.address);
+  if (two) add(names.outputs, "read_enable2", 1);
+  for (const char *one : {"write_enable", "read_enable", "property_holds"}) add(names.outputs, one, 1);
+  return names;
+}
+
 // Where symbols name the ports they have to stand as the import takes them: it reads no name, and would take another order for another chip.
 void test_ports(const std::string &path, const Symbols &symbols, const Widths &widths) {
   auto expect = [&](const std::string &name, const std::string &due, const std::string &what) {
     if (!name.empty() && name != due) throw Failure(path + ": " + what + " is " + name + ", and " + due + " is due\n" +
-        "The last inputs are read_data; the outputs address, write_data, write_enable, read_enable, property_holds (docs/VERILOG.md).");
+        "The last inputs are read_data; the outputs address, write_data, write_enable, read_enable, property_holds. With two ports read_data2 stands " +
+        "behind read_data, and address2 and read_enable2 behind write_data (docs/VERILOG.md).");
   };
-  uint32_t m = widths.address, n = widths.data;
-  if (symbols.inputs < n || symbols.outputs != m + n + 3)
+  Names names = names_of(widths);
+  size_t reads = names.reads.size(), outputs = names.outputs.size();
+  if (symbols.inputs < reads || symbols.outputs != outputs)
     throw Failure(path + ": it has " + std::to_string(symbols.inputs) + " inputs and " + std::to_string(symbols.outputs) + " outputs; " +
-                  std::to_string(m) + " address bits and " + std::to_string(n) + " data bits need at least " + std::to_string(n) + " inputs and " +
-                  std::to_string(m + n + 3) + " outputs");
-  for (uint32_t at = 0; at < n; at++)
-    expect(symbols.input[symbols.inputs - n + at], bit_name("read_data", n, at), "input " + std::to_string(symbols.inputs - n + at));
-  for (uint32_t at = 0; at < m + n + 3; at++) {
-    std::string due = at < m ? bit_name("address", m, at)
-                      : at < m + n ? bit_name("write_data", n, at - m)
-                                   : at == m + n ? "write_enable" : at == m + n + 1 ? "read_enable" : "property_holds";
-    expect(symbols.output[at], due, "output " + std::to_string(at));
-  }
+                  std::to_string(widths.address) + " address bits and " + std::to_string(widths.data) + " data bits" +
+                  (widths.ports == 2 ? " with two ports" : "") + " need at least " + std::to_string(reads) + " inputs and " +
+                  std::to_string(outputs) + " outputs");
+  size_t first = symbols.inputs - reads;
+  for (size_t at = 0; at < reads; at++) expect(symbols.input[first + at], names.reads[at], "input " + std::to_string(first + at));
+  for (size_t at = 0; at < outputs; at++) expect(symbols.output[at], names.outputs[at], "output " + std::to_string(at));
 }
 
 Widths widths_of(const std::string &path, const Symbols &symbols, const Options &options) {
   if (options.widths) return *options.widths;
-  Widths widths{width_of(symbols.output, "address"), width_of(symbols.output, "write_data")};
+  uint32_t ports = width_of(symbols.output, "address2") > 0 ? 2 : 1;
+  Widths widths{width_of(symbols.output, "address"), width_of(symbols.output, "write_data"), ports};
   if (widths.address == 0 || widths.data == 0)
     throw Failure(path + ": its symbols do not tell how wide the memory is (outputs named address and write_data); say it: --widths 3,8 for three "
-                         "address bits and eight data bits");
+                         "address bits and eight data bits, --widths 3,8,2 with two read ports");
   return widths;
 }
 
@@ -174,15 +194,16 @@ Chip chip_of_aiger(const std::string &path, const std::string &content, const Op
   if (!kind.empty()) throw Failure(path + ": this is no ASCII AIGER but " + kind);
   Symbols symbols = symbols_of(content);
   bool counted = symbols.outputs > 0;
-  Widths widths = counted ? widths_of(path, symbols, options) : options.widths.value_or(Widths{1, 1});
+  Widths widths = counted ? widths_of(path, symbols, options) : options.widths.value_or(Widths{1, 1, 1});
   if (counted) test_ports(path, symbols, widths);
   Chip chip;
   chip.latches.resize(MARRUBIGAI_LIST_ROOM);
   chip.gates.resize(MARRUBIGAI_LIST_ROOM);
   bool unknown = options.start.kind != Start::Kind::word;
+  if (unknown && widths.ports == 2) throw Failure(path + ": this memory has two ports, and with two ports what it begins as must be given (--start WORD)");
   auto reply = marrubigai_import(reinterpret_cast<const uint8_t *>(content.data()), content.size(), widths.address, widths.data,
-                                 unknown ? 0 : options.start.word, unknown, chip.latches.data(), chip.latches.size(), chip.gates.data(),
-                                 chip.gates.size());
+                                 unknown ? 0 : options.start.word, unknown, widths.ports - 1, chip.latches.data(), chip.latches.size(),
+                                 chip.gates.data(), chip.gates.size());
   if (reply.number != MARRUBIGAI_PASSED) {
     bool of_text = reply.number == MARRUBIGAI_NOT_AIGER || reply.number == MARRUBIGAI_UNDEFINED;
     std::string at = reply.place == 0 ? "" : " at line " + std::to_string(reply.place) + (of_text ? "" : " of the sheet that it would be");

@@ -31,7 +31,7 @@ const char *const help_text =
     "      --memory NAME       the array that stays a memory where there are several; the others become registers\n"
     "      --confirm           try the run on the original files with a simulator (iverilog)\n"
     "ASCII AIGER and sheets\n"
-    "      --widths M,N        address bits and data bits of a text whose symbols do not tell them\n"
+    "      --widths M,N[,2]    address bits and data bits of a text whose symbols do not tell them; 2: it has two read ports\n"
     "      --names FILE        names of a sheet's words: in each line a name and its codes, lowest bit first\n"
     "What is shown\n"
     "      --radix hex|dec|bin how words are written (default hex)\n"
@@ -95,12 +95,13 @@ Reset reset(const std::string &text) {
 }
 
 Widths widths(const std::string &text) {
-  size_t comma = text.find(',');
+  size_t comma = text.find(','), second = comma == std::string::npos ? comma : text.find(',', comma + 1);
   auto address = number(text.substr(0, comma), 12);
-  auto data = comma == std::string::npos ? std::nullopt : number(text.substr(comma + 1), 32);
-  if (!address || !data || *address == 0 || *data == 0)
-    wrong("'" + text + "': --widths wants address bits (1 to 12), a comma, data bits (1 to 32)");
-  return {static_cast<uint32_t>(*address), static_cast<uint32_t>(*data)};
+  auto data = comma == std::string::npos ? std::nullopt : number(text.substr(comma + 1, second - comma - 1), 32);
+  auto ports = second == std::string::npos ? std::optional<uint64_t>(1) : number(text.substr(second + 1), 2);
+  if (!address || !data || !ports || *address == 0 || *data == 0 || *ports == 0)
+    wrong("'" + text + "': --widths wants address bits (1 to 12), a comma, data bits (1 to 32), and for two read ports ,2");
+  return {static_cast<uint32_t>(*address), static_cast<uint32_t>(*data), static_cast<uint32_t>(*ports)};
 }
 
 double seconds(const std::string &text) {

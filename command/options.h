@@ -22,7 +22,7 @@ struct Reset {
 };
 
 struct Widths {
-  uint32_t address = 0, data = 0;
+  uint32_t address = 0, data = 0, ports = 1;
 };
 
 struct Options {

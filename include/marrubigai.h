@@ -19,8 +19,8 @@
 /* the version of this interface: the first number goes up where a program that was written for the version before has to be changed, the
  * second where something is added; while the first is 0, the second goes up for both */
 #define MARRUBIGAI_VERSION_MAJOR 0
-#define MARRUBIGAI_VERSION_MINOR 10
-#define MARRUBIGAI_VERSION "0.10"
+#define MARRUBIGAI_VERSION_MINOR 11
+#define MARRUBIGAI_VERSION "0.11"
 
 #if defined(__GNUC__) /* Clang says so too */
 #define MARRUBIGAI_ANSWERS __attribute__((warn_unused_result))
@@ -154,15 +154,17 @@ MARRUBIGAI_ANSWERS marrubigai_version_reply marrubigai_version(void);
 MARRUBIGAI_LENT marrubigai_sheet_reply marrubigai_read(const uint8_t *file, size_t bytes, marrubigai_latch *latches, size_t latch_room,
     marrubigai_gate *gates, size_t gate_room);
 
-/* imports a netlist in ASCII AIGER, for a memory with one port, of m address bits and n data bits, whose words all start as `word`, or as
- * anything where `unknown` is 1 (`word` then counts for nothing; a number above 1 is refused): the last n inputs of the text are the read bits,
- * in order from bit 0; its outputs are the m address bits, the n write-data bits, write enable, read enable and the property, m + n + 3 in all.
+/* imports a netlist in ASCII AIGER, for a memory of m address bits and n data bits, whose words all start as `word`, or as anything where `unknown`
+ * is 1 (`word` then counts for nothing; a number above 1 is refused): the last n inputs of the text are the read bits, in order from bit 0; its
+ * outputs are the m address bits, the n write-data bits, write enable, read enable and the property, m + n + 3 in all. Where `second_port` is 1 the
+ * memory has two ports (a number above 1 is refused, and so is 1 beside an unknown start): the last 2n inputs are the read bits, the first port's
+ * first, and behind the write data the second port's m address bits and its read enable are outputs too, 2m + n + 4 in all.
  * Record and lists as where a sheet is read; every latch has reset 0. No order or name of inputs is tested beyond their number: docs/LIBRARY.md
  * says what to look at in a text that a tool has written.
  * Its time: the text is gone through for each block of 262,144 variables that its lines name, 8,192 blocks at most. 1 MB as tools write it, with
  * the variables 1 to M, takes some 10 ms; 1 MB with variables all over the 2^31, the worst known, took 45 s. */
 MARRUBIGAI_LENT marrubigai_sheet_reply marrubigai_import(const uint8_t *text, size_t bytes, uint32_t m, uint32_t n, uint32_t word,
-    uint32_t unknown, marrubigai_latch *latches, size_t latch_room, marrubigai_gate *gates, size_t gate_room);
+    uint32_t unknown, uint32_t second_port, marrubigai_latch *latches, size_t latch_room, marrubigai_gate *gates, size_t gate_room);
 
 /* the line behind the first `line` lines of a sheet: its letter, its fields (0 where one is empty), 1 as `empty` where it is an M or T line
  * whose start word is left empty, and how many lines are read with it, one more. Where it is misprinted, 2 with its place, line + 1, and it is
@@ -221,9 +223,9 @@ MARRUBIGAI_LENT marrubigai_count_reply marrubigai_write_sheet(marrubigai_netlist
 MARRUBIGAI_LENT marrubigai_count_reply marrubigai_one_port(const uint8_t *file, size_t bytes, uint8_t *out, size_t room);
 
 /* writes a record with its lists as a binary AIGER file, for tools that compare circuits, and answers its length: 9 where the buffer is shorter.
- * The file's inputs are the record's inputs and then its n read bits, its outputs those of marrubigai_import, and nothing stands behind its gates;
- * m, n and the start word are not in it. Each gate, next state and output has in it the value that it has in the record. A second port is 3 at
- * place 2, and the first latch with reset 1 is 19 at its line. */
+ * The file's inputs are the record's inputs and then its n read bits, its outputs those of marrubigai_import with one port, and nothing stands behind
+ * its gates; m, n and the start word are not in it. Each gate, next state and output has in it the value that it has in the record. A second port is
+ * 3 at place 2, and the first latch with reset 1 is 19 at its line. */
 MARRUBIGAI_LENT marrubigai_count_reply marrubigai_export(marrubigai_netlist net, const marrubigai_latch *latches, size_t latch_count,
     const marrubigai_gate *gates, size_t gate_count, uint8_t *out, size_t room);
 

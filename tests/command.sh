@@ -52,7 +52,8 @@ wrong "from above the depth" "--from is above the depth" -k 3 --from 4 chip.shee
 wrong "a radix that is none" "'oct' is no radix: hex, dec or bin" --radix oct chip.sheet
 wrong "a time that is none" "'0' is no time: seconds, above 0" --timeout 0 chip.sheet
 wrong "a start that is none" "'x' is no start: a word (50 or 0x32), \`unknown\` or \`verilog\`" --start x chip.sheet
-wrong "widths that are none" "'3': --widths wants address bits (1 to 12), a comma, data bits (1 to 32)" --widths 3 chip.aag
+wrong "widths that are none" "'3': --widths wants address bits (1 to 12), a comma, data bits (1 to 32), and for two read ports ,2" --widths 3 chip.aag
+wrong "three ports" "'3,8,3': --widths wants address bits (1 to 12), a comma, data bits (1 to 32), and for two read ports ,2" --widths 3,8,3 chip.aag
 run --help; check "help: status" same 0 $?
 check "help names every option of the parser" same "$(grep -oE '\{"[a-z]+", (no|required)_argument' command/options.cpp | cut -d '"' -f 2 | sort -u)" \
   "$(grep -oE -- '--[a-z]+' "$work/out" | sed 's/--//' | sort -u)"
@@ -164,6 +165,18 @@ ends "a text with widths" 10 "bare.aag: the property is broken in frame 1 at the
 ends "other widths" 1 "" "bare.aag: it has 2 inputs and 5 outputs; 2 address bits and 1 data bits need" --widths 2,1 bare.aag
 sed 's/o2 write_enable/o2 read_enable/; s/o3 read_enable/o3 write_enable/' "$work/files/chip.aag" > "$work/files/exchanged.aag"
 ends "ports exchanged" 1 "" "exchanged.aag: output 2 is read_enable, and write_enable is due" exchanged.aag
+# a second port that reads at the input what the first has written: x in address 0, and the property is that no 1 is read there
+{ printf 'aag 3 3 0 7 0\n2\n4\n6\n0\n2\n2\n1\n1\n1\n7\n'; } > "$work/files/bare2.aag"
+{ cat "$work/files/bare2.aag"; printf 'i0 input\ni1 read_data\ni2 read_data2\no0 address\no1 write_data\no2 address2\no3 read_enable2\n'
+  printf 'o4 write_enable\no5 read_enable\no6 property_holds\n'; } > "$work/files/two.aag"
+ends "a text with two ports" 10 "two.aag: the property is broken in frame 1 at the earliest" "" -q --start 0 two.aag
+run --start 0 --radix dec two.aag; check "its read words" grep -q '^frame  input  read_data  read_data2  memory$' "$work/out"
+ends "its start" 1 "" "two.aag: this memory has two ports, and with two ports what it begins as must be given (--start WORD)" two.aag
+ends "a text with two ports and widths" 10 "bare2.aag: the property is broken in frame 1 at the earliest" "" -q --start 0 --widths 1,1,2 bare2.aag
+ends "too few ports" 1 "" "bare2.aag: it has 3 inputs and 7 outputs; 1 address bits and 1 data bits need at least 1 inputs and 5" --widths 1,1 bare2.aag
+ends "too many ports" 1 "" "bare.aag: it has 2 inputs and 5 outputs; 1 address bits and 1 data bits with two ports need at least 2" --widths 1,1,2 bare.aag
+sed 's/i1 read_data$/i1 read_data2/; s/i2 read_data2$/i2 read_data/' "$work/files/two.aag" > "$work/files/swapped.aag"
+ends "read words exchanged" 1 "" "swapped.aag: input 1 is read_data2, and read_data is due" --start 0 swapped.aag
 sed '1s/aag/agg/' "$work/files/chip.aag" > "$work/files/broken.aag"
 ends "a damaged text" 1 "" "broken.aag: refused 11 (not aiger) at line 1" broken.aag
 for macro in "" FAULTY; do

@@ -29,6 +29,11 @@ prints "a comment behind it" "$(sheet 0)" "" 1 1 0 < <(printf "${chip}c\nsome te
 prints "wires in their order" "$(line N 1 1 2; line M 1 1 0; line L 5 0; line G 2 6; line G 8 5; line A 2; line D 10; line C 11 1 7)" "" 1 1 0 \
   < <(printf 'aag 5 2 1 5 2\n2\n4\n6 7\n2\n10\n11\n1\n5\n8 2 4\n10 8 7\n')
 
+# the same chip with a second port that reads at the input's bit: its read bit is the last input, its address and read enable stand behind the data
+two='aag 3 3 0 7 0\n2\n4\n6\n0\n2\n2\n0\n1\n1\n5\n'
+prints "two ports" "$(line N 1 0 0; line T 1 1 1; line A 0; line D 2; line B 2; line R 0; line C 1 1 5)" "" 1 1 1 2 < <(printf "$two")
+prints "one port, said" "$(sheet 1)" "" 1 1 1 1 < <(printf "$chip")
+
 prints "no text" "$(refusal 11 1)" "" 1 1 0 < /dev/null
 prints "a line cut short" "$(refusal 11 8)" "" 1 1 0 < <(printf "${chip%??}")
 prints "fewer outputs than are due" "$(refusal 12 0)" "" 2 1 0 < <(printf 'aag 2 2 0 5 0\n2\n4\n0\n2\n1\n1\n5\n')
@@ -37,14 +42,22 @@ prints "a start word of two bits" "$(refusal 4 2)" "" 1 1 2 < <(printf "$chip")
 prints "one wire on two address bits" "$(refusal 17 4)" "" 2 1 0 < <(printf 'aag 2 2 0 6 0\n2\n4\n2\n3\n0\n1\n1\n5\n')
 prints "the address is the read bit" "$(refusal 6 3)" "" 1 1 0 < <(printf 'aag 2 2 0 5 0\n2\n4\n4\n2\n1\n1\n5\n')
 
-usage="usage: import_aag m n [start] < text.aag > sheet"
+prints "a text of one port for two" "$(refusal 12 0)" "" 1 1 0 2 < <(printf "$chip")
+prints "a text of two ports for one" "$(refusal 12 0)" "" 1 1 0 < <(printf "$two")
+prints "too large a start word with two ports" "$(refusal 4 2)" "" 1 1 2 2 < <(printf "$two")
+prints "the second address is a read bit" "$(refusal 6 5)" "" 1 1 0 2 < <(printf 'aag 3 3 0 7 0\n2\n4\n6\n0\n2\n4\n0\n1\n1\n5\n')
+
+usage="usage: import_aag m n [start [ports]] < text.aag > sheet"
 prints "no arguments" "" "$usage" < <(printf "$chip")
 prints "one argument" "" "$usage" 1 < <(printf "$chip")
-prints "four arguments" "" "$usage" 1 1 0 0 < <(printf "$chip")
+prints "no port" "" "$usage" 1 1 0 0 < <(printf "$chip")
+prints "three ports" "" "$usage" 1 1 0 3 < <(printf "$chip")
+prints "five arguments" "" "$usage" 1 1 0 1 1 < <(printf "$chip")
 for wrong in "" " 1" 1x 01 -1 +1 1.0 4294967296 11111111111; do
   prints "'$wrong' for m" "" "$usage" "$wrong" 1 0 < <(printf "$chip")
   prints "'$wrong' for n" "" "$usage" 1 "$wrong" 0 < <(printf "$chip")
   prints "'$wrong' for the start word" "" "$usage" 1 1 "$wrong" < <(printf "$chip")
+  prints "'$wrong' for the ports" "" "$usage" 1 1 0 "$wrong" < <(printf "$chip")
 done
 prints "the largest numbers" "$(refusal 12 0)" "" 4294967295 4294967295 4294967295 < <(printf "$chip")
 

@@ -273,15 +273,25 @@ static const marrubigai_netlist IMPORTED_NET = {
 static const marrubigai_latch IMPORTED_LATCHES[] = {{.next = 13, .reset = 0}};
 static const marrubigai_gate IMPORTED_GATES[] = {{.left = 3, .right = 4}, {.left = 11, .right = 6}};
 
-static marrubigai_sheet_reply import_start(const char *text, size_t bytes, uint32_t m, uint32_t word, uint32_t unknown, size_t latch_room,
-                                           size_t gate_room) {
+static marrubigai_sheet_reply import_kind(const char *text, size_t bytes, uint32_t m, uint32_t word, uint32_t unknown, uint32_t second_port,
+                                          size_t latch_room, size_t gate_room) {
   fill_lists();
-  return marrubigai_import((const uint8_t *)text, bytes, m, 2, word, unknown, latches, latch_room, gates, gate_room);
+  return marrubigai_import((const uint8_t *)text, bytes, m, 2, word, unknown, second_port, latches, latch_room, gates, gate_room);
 }
 
 static marrubigai_sheet_reply import_text(const char *text, size_t bytes, uint32_t m, uint32_t word, size_t latch_room, size_t gate_room) {
-  return import_start(text, bytes, m, word, 0, latch_room, gate_room);
+  return import_kind(text, bytes, m, word, 0, 0, latch_room, gate_room);
 }
+
+// A chip with two ports: an input, read bits 2, 3 and 4, 5, no latch and no gate. Of m = 1 and n = 2 there are eight outputs.
+static const char TEXT_OF_TWO_PORTS[] =
+    "aag 5 5 0 8 0\n"
+    "2\n" "4\n" "6\n" "8\n" "10\n"
+    "2\n" "4\n" "11\n" "3\n" "1\n" "9\n" "0\n" "7\n";
+
+static const marrubigai_netlist TWO_PORT_NET = {
+    .inputs = 1, .m = 1, .n = 2, .initial_word = 3, .second_port = 1,
+    .address = {2}, .write_data = {4, 11}, .we = 9, .re = 0, .p = 7, .address2 = {3}, .re2 = 1};
 
 // the text with the byte at a place replaced, for m = 2 and the start word 3
 static marrubigai_sheet_reply import_damaged(const char *line, size_t at, char byte) {
@@ -315,10 +325,19 @@ static void importing(void) {
   unknown_net.initial_word = 0;
   unknown_net.unknown_start = 1;
   check("an unknown start is imported, whatever the start word",
-        answers_sheet(import_start(TEXT_OF_A_CHIP, bytes, 2, 4, 1, ROOM, ROOM), MARRUBIGAI_PASSED, 0, &unknown_net) &&
+        answers_sheet(import_kind(TEXT_OF_A_CHIP, bytes, 2, 4, 1, 0, ROOM, ROOM), MARRUBIGAI_PASSED, 0, &unknown_net) &&
             lists_hold(IMPORTED_LATCHES, 1, IMPORTED_GATES, 2));
   check("a number above 1 beside the start word gives 4 at line 2 of a sheet",
-        answers_sheet(import_start(TEXT_OF_A_CHIP, bytes, 2, 3, 2, ROOM, ROOM), MARRUBIGAI_SIZE, 2, &nothing) && lists_hold(0, 0, 0, 0));
+        answers_sheet(import_kind(TEXT_OF_A_CHIP, bytes, 2, 3, 2, 0, ROOM, ROOM), MARRUBIGAI_SIZE, 2, &nothing) && lists_hold(0, 0, 0, 0));
+  const size_t two_bytes = sizeof TEXT_OF_TWO_PORTS - 1;
+  check("a text with two ports is imported",
+        answers_sheet(import_kind(TEXT_OF_TWO_PORTS, two_bytes, 1, 3, 0, 1, 0, 0), MARRUBIGAI_PASSED, 0, &TWO_PORT_NET) && lists_hold(0, 0, 0, 0));
+  check("as one with one port it gives 12, place 0",
+        answers_sheet(import_kind(TEXT_OF_TWO_PORTS, two_bytes, 1, 3, 0, 0, 0, 0), MARRUBIGAI_INTERFACE, 0, &nothing));
+  check("as one with 4294967296 ports too",
+        answers_sheet(import_kind(TEXT_OF_TWO_PORTS, two_bytes, 1, 3, 0, 4294967295, 0, 0), MARRUBIGAI_INTERFACE, 0, &nothing));
+  check("two ports and an unknown start give 4 at line 2 of a sheet",
+        answers_sheet(import_kind(TEXT_OF_TWO_PORTS, two_bytes, 1, 3, 1, 1, 0, 0), MARRUBIGAI_SIZE, 2, &nothing));
   check("a read bit as the first address bit gives 6 at line 6 of a sheet",
         answers_sheet(import_damaged("\n2\n", 1, '4'), MARRUBIGAI_MEMORY_LOOP, 6, &nothing) && lists_hold(0, 0, 0, 0));
   check("an input and its inverse as address bits give 17 at line 4 of a sheet",

@@ -29,7 +29,7 @@ static size_t answer_bytes;
 
 static int none(void) { return 1; }
 static int read_sheet(void) { return marrubigai_read(sheet, sheet_bytes, latches, 600, gates, 600).number == 0; }
-static int import(void) { return marrubigai_import(aag, sizeof aag - 1, 1, 1, 0, 0, latches, 600, gates, 600).number == 0; }
+static int import(void) { return marrubigai_import(aag, sizeof aag - 1, 1, 1, 0, 0, 0, latches, 600, gates, 600).number == 0; }
 static int next_line(void) { return marrubigai_next_line(sheet, sheet_bytes, 0).number == 0; }
 static int heading(void) { return marrubigai_heading(net, latches, 0, gates, GATES, 255).number == 0; }
 static int write_group(void) {

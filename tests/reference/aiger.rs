@@ -1,4 +1,4 @@
-//! Netlists from ASCII AIGER texts (K1), with the unknown start of K7 and 17 of K8.
+//! Netlists from ASCII AIGER texts (K1), with the unknown start of K7, 17 of K8 and the two ports of K10.
 
 use std::collections::{HashMap, HashSet};
 
@@ -147,11 +147,13 @@ impl Text {
         lines.concat().into_bytes()
     }
 
-    /// Refusal 12: fewer than n inputs, or not exactly m + n + 3 outputs.
-    fn check_counts(&self, m: u32, n: u32) -> Result<(), Refusal> {
-        let outputs_due = u64::from(m) + u64::from(n) + 3;
-        let inputs_suffice = self.inputs.len() as u64 >= u64::from(n);
-        let holds = inputs_suffice && self.outputs.len() as u64 == outputs_due;
+    /// Refusal 12: fewer than n inputs for each port, or not exactly m + n + 3 outputs and m + 1 more for
+    /// each port behind the first.
+    fn check_counts(&self, m: u32, n: u32, second_port: u32) -> Result<(), Refusal> {
+        let [m, n, second_port] = [m, n, second_port].map(u128::from);
+        let outputs_due = m + n + 3 + second_port * (m + 1);
+        let inputs_suffice = self.inputs.len() as u128 >= n + second_port * n;
+        let holds = inputs_suffice && self.outputs.len() as u128 == outputs_due;
         require(holds, WRONG_COUNTS, 0)
     }
 
@@ -182,16 +184,18 @@ impl Text {
         Ok(())
     }
 
-    /// The record's sizes and start alone. There are at least n inputs.
-    fn sizes(&self, m: u32, n: u32, word: u32, unknown_start: u32) -> Netlist {
+    /// The record's sizes and start alone. There are at least as many inputs as read bits.
+    fn sizes(&self, m: u32, n: u32, word: u32, unknown_start: u32, second_port: u32) -> Netlist {
+        let read_bits = u64::from(n) * (1 + u64::from(second_port));
         Netlist {
-            inputs: self.inputs.len() as u32 - n,
+            inputs: (self.inputs.len() as u64 - read_bits) as u32,
             latch_count: self.latches.len() as u32,
             gate_count: self.gates.len() as u32,
             address_width: m,
             data_width: n,
             start_word: word,
             unknown_start,
+            two_ports: second_port,
             ..Netlist::default()
         }
     }
@@ -226,12 +230,18 @@ impl Text {
             });
         }
         let mut codes = self.outputs.iter().map(|output| code(*output));
-        let mut next_code = || codes.next().expect("m + n + 3 outputs");
+        let mut next_code = || codes.next().expect("an output for each code");
         for bit in 0..netlist.address_width as usize {
             netlist.address[bit] = next_code();
         }
         for bit in 0..netlist.data_width as usize {
             netlist.write_data[bit] = next_code();
+        }
+        if netlist.has_two_ports() {
+            for bit in 0..netlist.address_width as usize {
+                netlist.second_address[bit] = next_code();
+            }
+            netlist.second_read_enable = next_code();
         }
         netlist.write_enable = next_code();
         netlist.read_enable = next_code();
@@ -240,7 +250,7 @@ impl Text {
 }
 
 /// Imports a text for a caller that gives m, n and the start word, or says that the start is unknown,
-/// and lends a latch list and a gate list of these lengths. Tests in this order: 11, 12, 13, 4, 17, 6,
+/// or that there is a second port, and lends a latch list and a gate list of these lengths. Tests in this order: 11, 12, 13, 4, 17, 6,
 /// 9; a text that passes the first three has no code outside its limit, so 5 cannot occur. On success
 /// the netlist's lists are the records that the lent lists would begin with, and its start word is 0
 /// where the start is unknown.
@@ -250,13 +260,14 @@ pub fn import(
     n: u32,
     word: u32,
     unknown_start: u32,
+    second_port: u32,
     latch_room: usize,
     gate_room: usize,
 ) -> Result<Netlist, Refusal> {
     let text = read_text(text)?;
-    text.check_counts(m, n)?;
+    text.check_counts(m, n, second_port)?;
     text.check_definitions()?;
-    let mut netlist = text.sizes(m, n, word, unknown_start);
+    let mut netlist = text.sizes(m, n, word, unknown_start, second_port);
     netlist.check_line(1)?;
     netlist.check_line(2)?;
     if netlist.has_unknown_start() {

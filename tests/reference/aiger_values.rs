@@ -4,8 +4,8 @@
 use std::collections::HashMap;
 
 use super::aiger::Text;
-use super::circuit::{evaluate, value};
-use super::netlist::Netlist;
+use super::circuit::{evaluate_words, value};
+use super::netlist::{Netlist, SECOND_PORT};
 use super::random::Random;
 
 /// The value of each variable; variable 0 is the constant false.
@@ -61,8 +61,9 @@ fn sizes_fit(text: &Text, netlist: &Netlist) -> bool {
     if netlist.check().is_err() {
         return false;
     }
-    let inputs = netlist.inputs + netlist.data_width;
-    let outputs = netlist.address_width + netlist.data_width + 3;
+    let ports = netlist.ports().count() as u32;
+    let inputs = netlist.inputs + ports * netlist.data_width;
+    let outputs = netlist.data_width + 3 + ports * (netlist.address_width + 1) - 1;
     let sizes = [inputs, netlist.latch_count, outputs, netlist.gate_count];
     let lengths = [
         text.inputs.len(),
@@ -71,6 +72,18 @@ fn sizes_fit(text: &Text, netlist: &Netlist) -> bool {
         text.gates.len(),
     ];
     sizes.map(|size| size as usize) == lengths
+}
+
+/// The codes that a text has as outputs: address, write data, of a second port address and RE, then WE,
+/// RE and P.
+pub fn output_codes(netlist: &Netlist) -> Vec<u32> {
+    let mut codes = [netlist.address_codes(), netlist.write_data_codes()].concat();
+    if netlist.has_two_ports() {
+        codes.extend(netlist.address_codes_of(SECOND_PORT));
+        codes.push(netlist.read_enable_of(SECOND_PORT));
+    }
+    codes.extend([netlist.write_enable, netlist.read_enable, netlist.property]);
+    codes
 }
 
 /// Where an accepted text and a netlist part for given values of inputs and latches: each input,
@@ -85,9 +98,13 @@ pub fn differences(text: &Text, netlist: &Netlist, given: &VariableValues) -> Ve
     let (inputs, read_bits) = text.inputs.split_at(netlist.inputs as usize);
     let input_bits: Vec<bool> = inputs.iter().map(bit).collect();
     let latch_bits: Vec<bool> = text.latches.iter().map(|latch| bit(&latch[0])).collect();
-    let weighted = read_bits.iter().map(bit).zip(0..);
-    let read_word = weighted.map(|(bit, place)| u32::from(bit) << place).sum();
-    let of_wires = evaluate(netlist, &input_bits, &latch_bits, read_word);
+    let word_of = |bits: &[u32]| -> u32 {
+        let weighted = bits.iter().map(bit).zip(0..);
+        weighted.map(|(bit, place)| u32::from(bit) << place).sum()
+    };
+    let words = read_bits.chunks(netlist.data_width as usize);
+    let read_words: Vec<u32> = words.map(word_of).collect();
+    let of_wires = evaluate_words(netlist, &input_bits, &latch_bits, &read_words);
 
     let mut found = Vec::new();
     let mut compare = |name: &str, index: usize, literal: u32, code: u32| {
@@ -114,13 +131,7 @@ pub fn differences(text: &Text, netlist: &Netlist, given: &VariableValues) -> Ve
         compare("left operand", index, *left, netlist.gates[index].left);
         compare("right operand", index, *right, netlist.gates[index].right);
     }
-    let controls = [netlist.write_enable, netlist.read_enable, netlist.property];
-    let codes = [
-        netlist.address_codes(),
-        netlist.write_data_codes(),
-        &controls,
-    ];
-    for (index, (literal, code)) in text.outputs.iter().zip(codes.concat()).enumerate() {
+    for (index, (literal, code)) in text.outputs.iter().zip(output_codes(netlist)).enumerate() {
         compare("output", index, *literal, code);
     }
     found

@@ -8,7 +8,7 @@ use super::check_refusals::{verdict, Verdict, ACCEPTED};
 use super::netlist::Netlist;
 use super::random::{Random, SHAPES};
 use super::random_aiger::{
-    add_tail, damaged_call, draft_of, every_byte, every_line, random_draft, text_netlist, Call,
+    add_tail, any_text_netlist, damaged_call, draft_of, every_byte, every_line, random_draft, Call,
     BYTE_FAULTS, DRAFT_FAULTS, NUMBERINGS, TEXT_SHAPES,
 };
 use super::refusal::*;
@@ -26,6 +26,7 @@ fn row(short: &str, memory: [u32; 3], rooms: [usize; 2], expected: Expected) -> 
         text: bytes_of(short),
         memory,
         unknown_start: 0,
+        second_port: 0,
         rooms,
     };
     let name = format!("{} {memory:?} {rooms:?}", short.escape_debug());
@@ -495,6 +496,7 @@ fn size_rows() -> Vec<TextRow> {
             text: bytes_of(&plain_text(counts, m + n + 3)),
             memory,
             unknown_start: 0,
+            second_port: 0,
             rooms: ROOMY,
         };
         let expected = match expected {
@@ -594,6 +596,7 @@ fn line_rows() -> Vec<TextRow> {
             text: bytes_of(&replaced(RICH_TEXT, line, by)),
             memory: RICH_MEMORY,
             unknown_start: 0,
+            second_port: 0,
             rooms: ROOMY,
         };
         let expected = expected.map(|(line, by)| accepted(&replaced(RICH_SHEET, line, by)));
@@ -605,6 +608,56 @@ fn line_rows() -> Vec<TextRow> {
     }
     rows
 }
+
+/// The full run's chip with a second port, which reads too: an input, two read bits, seven outputs.
+const TWO_PORTS: &str = "aag 3 3 0 7 0/2/4/6/0/2/2/1/1/1/5/";
+
+/// Its sheet: the first port's read bit is wire 2, the second's wire 3.
+const TWO_PORT_SHEET: &str = "N 1 0 0/T 1 1 0/A 0/D 2/B 2/R 1/C 1 1 5";
+
+/// Texts for two ports: m, n and start word, the flag of the start, the ports beside the first.
+#[rustfmt::skip]
+const PORTS: [(&str, [u32; 3], [u32; 2], Expected); 29] = [
+    (TWO_PORTS, [1, 1, 0], [0, 1], Ok(TWO_PORT_SHEET)),
+    (TWO_PORTS, [1, 1, 1], [0, 1], Ok("N 1 0 0/T 1 1 1/A 0/D 2/B 2/R 1/C 1 1 5")),
+    // The last 2n inputs are the read bits, the first port's first; latches are before them among the wires.
+    ("aag 7 5 1 10 1/2/4/6/8/10/12 14/2/4/6/8/10/0/3/5/7/9/14 4 11/", [1, 2, 3], [0, 1], Err((12, 0))),
+    ("aag 7 5 1 8 1/2/4/6/8/10/12 14/12/6/10/3/13/4/2/15/14 4 11/", [1, 2, 3], [0, 1],
+        Ok("N 1 1 1/T 1 2 3/L 14 0/G 6 13/A 4/D 8/D 12/B 3/R 5/C 6 2 15")),
+    ("aag 7 5 1 8 1/10/8/6/4/2/14 12/14/6/2/11/15/8/10/13/12 8 3/", [1, 2, 3], [0, 1],
+        Ok("N 1 1 1/T 1 2 3/L 14 0/G 6 13/A 4/D 8/D 12/B 3/R 5/C 6 2 15")),
+    // Of m = 2: A, A, D, B, B, R, WE, RE, P.
+    ("aag 4 4 0 9 0/2/4/6/8/2/4/7/5/3/0/6/1/9/", [2, 1, 0], [0, 1],
+        Ok("N 2 0 0/T 2 1 0/A 2/A 4/D 7/B 5/B 3/R 0/C 6 1 9")),
+    // No input but the read bits.
+    ("aag 2 2 0 7 0/2/4/0/1/1/0/2/0/4/", [1, 1, 0], [0, 1], Ok("N 0 0 0/T 1 1 0/A 0/D 1/B 1/R 0/C 2 0 4")),
+    // 12: at least 2n inputs, exactly 2m + n + 4 outputs.
+    (TWO_PORTS, [1, 1, 0], [0, 0], Err((12, 0))),
+    (TWO_PORTS, [1, 1, 0], [0, 2], Err((12, 0))),
+    (TWO_PORTS, [1, 1, 0], [0, u32::MAX], Err((12, 0))),
+    (BARE, [1, 1, 0], [0, 1], Err((12, 0))),
+    (TWO_PORTS, [0, 3, 0], [0, 1], Err((12, 0))),
+    (TWO_PORTS, [1, 2, 0], [0, 1], Err((12, 0))),
+    ("aag 1 1 0 7 0/2/0/0/0/0/0/0/0/", [1, 1, 0], [0, 1], Err((12, 0))),
+    ("aag 3 3 0 8 0/2/4/6/0/2/2/1/1/1/5/0/", [1, 1, 0], [0, 1], Err((12, 0))),
+    ("aag 3 3 0 6 0/2/4/6/0/2/2/1/1/1/", [1, 1, 0], [0, 1], Err((12, 0))),
+    // A number of ports above 2 is a size, where the counts fit it; so is a second port beside an unknown start.
+    ("aag 3 3 0 9 0/2/4/6/0/0/0/0/0/0/0/0/0/", [1, 1, 0], [0, 2], Err((4, 2))),
+    ("aag 0 0 0 3 0/0/0/0/", [u32::MAX, 0, 0], [0, 0], Err((12, 0))),
+    ("aag 0 0 0 5 0/0/0/0/0/0/", [0, 0, 0], [0, 2], Err((4, 2))),
+    (TWO_PORTS, [1, 1, 0], [1, 1], Err((4, 2))),
+    (TWO_PORTS, [1, 1, 0], [u32::MAX, 1], Err((4, 2))),
+    (TWO_PORTS, [1, 1, 2], [0, 1], Err((4, 2))),
+    ("aag 0 0 0 4 0/0/0/0/0/", [0, 0, 0], [0, 1], Err((4, 2))),
+    // 13 of the codes of the second port.
+    ("aag 4 3 0 7 0/2/4/6/0/2/8/1/1/1/5/", [1, 1, 0], [0, 1], Err((13, 7))),
+    ("aag 4 3 0 7 0/2/4/6/0/2/2/9/1/1/5/", [1, 1, 0], [0, 1], Err((13, 8))),
+    // 17 and 6 with the places of a T sheet: A 3 and 4, D 5, B 6 and 7, R 8, C 9.
+    ("aag 4 4 0 9 0/2/4/6/8/2/4/7/5/4/0/6/1/9/", [2, 1, 0], [0, 1], Err((17, 7))),
+    ("aag 4 4 0 9 0/2/4/6/8/2/4/7/6/3/0/6/1/9/", [2, 1, 0], [0, 1], Err((6, 6))),
+    ("aag 4 4 0 9 0/2/4/6/8/2/4/7/5/3/8/6/1/9/", [2, 1, 0], [0, 1], Err((6, 8))),
+    ("aag 4 4 0 9 0/2/4/6/8/2/4/7/5/3/0/6/8/9/", [2, 1, 0], [0, 1], Err((6, 9))),
+];
 
 /// All tables above.
 pub fn text_rows() -> Vec<TextRow> {
@@ -626,6 +679,16 @@ pub fn text_rows() -> Vec<TextRow> {
             ..call
         };
         rows.push((format!("{name}, flag {unknown_start}"), call, expected));
+    }
+    for (short, memory, [unknown_start, second_port], expected) in PORTS {
+        let (name, call, expected) = row(short, memory, ROOMY, expected);
+        let call = Call {
+            unknown_start,
+            second_port,
+            ..call
+        };
+        let flags = format!("flags {unknown_start} {second_port}");
+        rows.push((format!("{name}, {flags}"), call, expected));
     }
     for (short, memory, rooms, expected) in ROOMS {
         rows.push(row(short, memory, rooms, expected));
@@ -701,6 +764,7 @@ pub fn fault_set_rows() -> Vec<(String, Call, Verdict)> {
             text: bytes_of(&faulty.lines.join("/")),
             memory: faulty.memory,
             unknown_start: 0,
+            second_port: 0,
             rooms: faulty.rooms,
         };
         let expected = chosen.first().map_or(ACCEPTED, |(_, fault)| fault.2);
@@ -718,8 +782,14 @@ pub fn several_faults(tally: &mut Tally) {
 
 /// The sheet that one would retype from a text, in short form: the lines N and M, and the rest. A
 /// literal's code is found by looking for the line that defines its variable.
-fn retyped(text: &Text, [m, n, word]: [u32; 3], unknown_start: bool) -> (String, String) {
-    let inputs = text.inputs.len() - n as usize;
+fn retyped(
+    text: &Text,
+    [m, n, word]: [u32; 3],
+    unknown_start: bool,
+    second_port: u32,
+) -> (String, String) {
+    let two_ports = second_port > 0;
+    let inputs = text.inputs.len() - n as usize * (1 + second_port as usize);
     let (latches, gates) = (text.latches.len(), text.gates.len());
     let wire = |variable: u32| {
         let is_defined_by = |literal: u32| literal == 2 * variable;
@@ -740,7 +810,8 @@ fn retyped(text: &Text, [m, n, word]: [u32; 3], unknown_start: bool) -> (String,
     } else {
         format!(" {word}")
     };
-    let head = format!("N {inputs} {latches} {gates}/M {m} {n}{start}");
+    let letter = if two_ports { 'T' } else { 'M' };
+    let head = format!("N {inputs} {latches} {gates}/{letter} {m} {n}{start}");
     let mut body = String::new();
     for [_, next] in &text.latches {
         body += &format!("/L {} 0", code(*next));
@@ -750,7 +821,11 @@ fn retyped(text: &Text, [m, n, word]: [u32; 3], unknown_start: bool) -> (String,
     }
     let address = vec!["/A "; m as usize];
     let write_data = vec!["/D "; n as usize];
-    let starts = [address, write_data, vec!["/C ", " ", " "]].concat();
+    let second = match two_ports {
+        true => [vec!["/B "; m as usize], vec!["/R "]].concat(),
+        false => vec![],
+    };
+    let starts = [address, write_data, second, vec!["/C ", " ", " "]].concat();
     for (start, output) in starts.iter().zip(&text.outputs) {
         body += &format!("{start}{}", code(*output));
     }
@@ -815,16 +890,23 @@ fn wrong_answer(random: &mut Random, call: &Call) -> Option<&'static str> {
     if !call.text.starts_with(&written) || read_words(&call.text) != text {
         return Some("the numbers of a well-formed text");
     }
-    let [m, n, _] = call.memory.map(u64::from);
-    if (text.inputs.len() as u64) < n || text.outputs.len() as u64 != m + n + 3 {
+    let [m, n, _] = call.memory.map(u128::from);
+    let second = u128::from(call.second_port);
+    let due = [n + second * n, m + n + second * (m + 1) + 3];
+    if (text.inputs.len() as u128) < due[0] || text.outputs.len() as u128 != due[1] {
         return (found != refused(WRONG_COUNTS, 0)).then_some("12");
     }
     if let Some(line) = first_undefined_line(&text) {
         return (found != refused(UNDEFINED, line)).then_some("13");
     }
-    let (head, body) = retyped(&text, call.memory, call.unknown_start == 1);
+    let (head, body) = retyped(
+        &text,
+        call.memory,
+        call.unknown_start == 1,
+        call.second_port,
+    );
     let sizes = read_sheet(&expand(&head), 0, 0);
-    if call.unknown_start > 1 {
+    if call.unknown_start > 1 || call.second_port > 1 {
         // No sheet says this: line 1 comes before it, and it is a fault of line 2.
         let line = match sizes {
             Err(Refusal {
@@ -833,7 +915,7 @@ fn wrong_answer(random: &mut Random, call: &Call) -> Option<&'static str> {
             }) => 1,
             _ => 2,
         };
-        return (found != refused(SIZE, line)).then_some("flag of the start");
+        return (found != refused(SIZE, line)).then_some("flag of the start or the ports");
     }
     let sheet = match sizes {
         Err(Refusal { number: SIZE, .. }) => sizes,
@@ -857,7 +939,7 @@ pub fn random_texts(tally: &mut Tally) {
     let mut shapes = [0; SHAPES.len()];
     let mut text_shapes = [0; TEXT_SHAPES.len()];
     for round in 0..250 {
-        let netlist = text_netlist(&mut random);
+        let netlist = any_text_netlist(&mut random);
         for numbering in NUMBERINGS {
             let draft = draft_of(&mut random, &netlist, numbering);
             let mut call = draft.call();
@@ -895,12 +977,14 @@ pub fn values_part(tally: &mut Tally) {
     while rounds < 200 {
         let (netlist, draft) = random_draft(&mut random);
         let mut wrong = netlist.clone();
-        match random.below(5) {
+        match random.below(7) {
             0 => wrong.write_enable ^= 1,
             1 => wrong.property ^= 1,
             2 if netlist.latch_count > 1 => wrong.latches.swap(0, 1),
             3 if netlist.gate_count > 1 => wrong.gates.swap(0, 1),
             4 if netlist.data_width > 1 => wrong.write_data.swap(0, 1),
+            5 if netlist.has_two_ports() => wrong.second_read_enable ^= 1,
+            6 if netlist.has_two_ports() => wrong.second_address.swap(0, 1),
             _ => continue,
         }
         if wrong == netlist || wrong.check().is_err() {
@@ -965,16 +1049,18 @@ pub fn predicted_faults(tally: &mut Tally) {
 /// Accepted calls with small texts that have every kind of line between them.
 pub fn small_calls() -> Vec<Call> {
     let texts = [
-        (BARE, SMALL),
-        (RICH_TEXT, RICH_MEMORY),
-        (FAULTY, FAULTY_MEMORY),
-        ("aag 5 2 2 5 1/2/4/6 8/8 11/6/10/11/9/10/10 5 0/", SMALL),
-        ("aag 4 2 0 5 2/2/4/2/6/8/1/9/8 4 2/6 2 9/c", SMALL),
+        (BARE, SMALL, 0),
+        (RICH_TEXT, RICH_MEMORY, 0),
+        (FAULTY, FAULTY_MEMORY, 0),
+        ("aag 5 2 2 5 1/2/4/6 8/8 11/6/10/11/9/10/10 5 0/", SMALL, 0),
+        ("aag 4 2 0 5 2/2/4/2/6/8/1/9/8 4 2/6 2 9/c", SMALL, 0),
+        (TWO_PORTS, SMALL, 1),
     ];
-    let call = |(short, memory)| Call {
+    let call = |(short, memory, second_port)| Call {
         text: bytes_of(short),
         memory,
         unknown_start: 0,
+        second_port,
         rooms: ROOMY,
     };
     texts.map(call).to_vec()

@@ -3,8 +3,9 @@
 use std::collections::HashSet;
 
 use super::aiger::{import, Text};
+use super::aiger_values::output_codes;
 use super::netlist::{Netlist, MAX_ADDRESS_WIDTH, MAX_DATA_WIDTH, MAX_WIRES};
-use super::random::{tiny_netlist, wide_netlist, Random};
+use super::random::{tiny_netlist, tiny_two_ports, wide_netlist, wide_two_ports, Random};
 use super::refusal::{
     Refusal, MEMORY_LOOP, NOT_WELL_FORMED, NO_ROOM, SIZE, TIED_ADDRESS, UNDEFINED, WRONG_COUNTS,
 };
@@ -16,6 +17,7 @@ pub struct Call {
     /// m, n and the start word.
     pub memory: [u32; 3],
     pub unknown_start: u32,
+    pub second_port: u32,
     /// Lengths of the lent latch and gate lists.
     pub rooms: [usize; 2],
 }
@@ -24,8 +26,8 @@ impl Call {
     pub fn import(&self) -> Result<Netlist, Refusal> {
         let [m, n, word] = self.memory;
         let [latch_room, gate_room] = self.rooms;
-        let flag = self.unknown_start;
-        import(&self.text, m, n, word, flag, latch_room, gate_room)
+        let (flag, second) = (self.unknown_start, self.second_port);
+        import(&self.text, m, n, word, flag, second, latch_room, gate_room)
     }
 }
 
@@ -35,6 +37,7 @@ pub struct Draft {
     pub text: Text,
     pub memory: [u32; 3],
     pub unknown_start: u32,
+    pub second_port: u32,
     pub rooms: [usize; 2],
 }
 
@@ -44,6 +47,7 @@ impl Draft {
             text: self.text.write(),
             memory: self.memory,
             unknown_start: self.unknown_start,
+            second_port: self.second_port,
             rooms: self.rooms,
         }
     }
@@ -92,13 +96,36 @@ fn distinct(random: &mut Random, count: u32, highest: u32) -> Vec<u32> {
     numbers
 }
 
-/// A netlist of any shape within the limits that a text can say: every reset is 0.
+/// A netlist with one port of any shape within the limits that a text can say: every reset is 0.
 pub fn text_netlist(random: &mut Random) -> Netlist {
-    let mut netlist = if random.percent(30) {
+    let netlist = if random.percent(30) {
         tiny_netlist(random)
     } else {
         wide_netlist(random)
     };
+    without_resets(netlist)
+}
+
+/// The same with two ports.
+pub fn two_port_text_netlist(random: &mut Random) -> Netlist {
+    let netlist = if random.percent(30) {
+        tiny_two_ports(random)
+    } else {
+        wide_two_ports(random)
+    };
+    without_resets(netlist)
+}
+
+/// With one port or two.
+pub fn any_text_netlist(random: &mut Random) -> Netlist {
+    if random.percent(40) {
+        two_port_text_netlist(random)
+    } else {
+        text_netlist(random)
+    }
+}
+
+fn without_resets(mut netlist: Netlist) -> Netlist {
     for latch in &mut netlist.latches {
         latch.reset = 0;
     }
@@ -121,12 +148,6 @@ pub fn draft_of(random: &mut Random, netlist: &Netlist, numbering: Numbering) ->
 
     let literal = |code: u32| 2 * variable_of[code as usize / 2] + code % 2;
     let defined = |wire: u32| literal(2 * wire);
-    let controls = [netlist.write_enable, netlist.read_enable, netlist.property];
-    let outputs = [
-        netlist.address_codes(),
-        netlist.write_data_codes(),
-        &controls,
-    ];
     let text = Text {
         largest_variable,
         inputs: (1..netlist.first_latch())
@@ -137,7 +158,7 @@ pub fn draft_of(random: &mut Random, netlist: &Netlist, numbering: Numbering) ->
             .zip(&netlist.latches)
             .map(|(wire, latch)| [defined(wire), literal(latch.next)])
             .collect(),
-        outputs: outputs.concat().into_iter().map(literal).collect(),
+        outputs: output_codes(netlist).into_iter().map(literal).collect(),
         gates: (netlist.first_gate()..)
             .zip(&netlist.gates)
             .map(|(wire, gate)| [defined(wire), literal(gate.left), literal(gate.right)])
@@ -151,13 +172,14 @@ pub fn draft_of(random: &mut Random, netlist: &Netlist, numbering: Numbering) ->
             netlist.start_word,
         ],
         unknown_start: netlist.unknown_start,
+        second_port: netlist.two_ports,
         rooms: [netlist.latches.len(), netlist.gates.len()],
     }
 }
 
 /// An accepted draft of any shape and numbering, and the netlist that it says.
 pub fn random_draft(random: &mut Random) -> (Netlist, Draft) {
-    let netlist = text_netlist(random);
+    let netlist = any_text_netlist(random);
     let numbering = random.pick(&NUMBERINGS);
     let draft = draft_of(random, &netlist, numbering);
     (netlist, draft)
@@ -241,7 +263,7 @@ fn fresh_variables(text: &mut Text, count: usize) -> Vec<u32> {
 /// no place for it, which then is as it was.
 pub type DraftFault = (&'static str, fn(&mut Random, &mut Draft) -> Option<Refusal>);
 
-pub const DRAFT_FAULTS: [DraftFault; 24] = [
+pub const DRAFT_FAULTS: [DraftFault; 26] = [
     ("odd definition", odd_definition),
     ("definition of a constant", constant_definition),
     ("definition repeated", repeated_definition),
@@ -260,6 +282,8 @@ pub const DRAFT_FAULTS: [DraftFault; 24] = [
     ("data width 33", data_width_33),
     ("start word beyond its limit", start_word_beyond),
     ("flag of the start beyond 1", start_flag_beyond),
+    ("other number of ports", other_port_number),
+    ("two ports and an unknown start", unknown_start_of_two_ports),
     ("601 of a kind", too_many_of_a_kind),
     ("V = 601", too_many_wires),
     ("address bits tied", address_bits_tied),
@@ -374,9 +398,9 @@ fn own_operand(random: &mut Random, draft: &mut Draft) -> Option<Refusal> {
     refused(UNDEFINED, first_line + at as u32)
 }
 
-/// n above the number of inputs; the number of outputs fits, or n is too large for that.
+/// n for which the read bits are more than the inputs; the number of outputs fits, or n is too large for that.
 fn too_few_inputs(random: &mut Random, draft: &mut Draft) -> Option<Refusal> {
-    let least = draft.text.inputs.len() as u32 + 1;
+    let least = draft.text.inputs.len() as u32 / (1 + draft.second_port) + 1;
     let added = least - draft.memory[1];
     if random.percent(70) {
         draft.memory[1] = least;
@@ -399,10 +423,10 @@ fn output_added(random: &mut Random, draft: &mut Draft) -> Option<Refusal> {
     refused(WRONG_COUNTS, 0)
 }
 
-/// m without a change of the outputs. The last choice makes m + n + 3 wrap to their number.
+/// m without a change of the outputs. The last choice makes m + n + 3 of one port wrap to their number.
 fn other_address_width(random: &mut Random, draft: &mut Draft) -> Option<Refusal> {
     let [m, n, _] = draft.memory;
-    if random.percent(70) {
+    if draft.second_port > 0 || random.percent(70) {
         draft.memory[0] = random.pick(&[m - 1, m + 1, u32::MAX]);
     } else {
         draft.memory[0] = u32::MAX - n - 2;
@@ -415,7 +439,12 @@ fn address_width_beyond(random: &mut Random, draft: &mut Draft) -> Option<Refusa
     let beyond = [0, MAX_ADDRESS_WIDTH + 1, MAX_ADDRESS_WIDTH + 30];
     let m = random.pick(&beyond);
     let codes = vec![0; m as usize];
-    draft.text.outputs.splice(..draft.memory[0] as usize, codes);
+    let [old, n, _] = draft.memory.map(|number| number as usize);
+    if draft.second_port > 0 {
+        let second = old + n..old + n + old;
+        draft.text.outputs.splice(second, codes.clone());
+    }
+    draft.text.outputs.splice(..old, codes);
     draft.memory[0] = m;
     refused(SIZE, 2)
 }
@@ -430,7 +459,7 @@ fn data_width_0(_: &mut Random, draft: &mut Draft) -> Option<Refusal> {
 
 fn data_width_33(_: &mut Random, draft: &mut Draft) -> Option<Refusal> {
     let wide = MAX_DATA_WIDTH + 1;
-    if draft.text.inputs.len() < wide as usize {
+    if draft.text.inputs.len() < (wide * (1 + draft.second_port)) as usize {
         return None;
     }
     let added = wide - draft.memory[1];
@@ -451,6 +480,21 @@ fn start_flag_beyond(random: &mut Random, draft: &mut Draft) -> Option<Refusal> 
     refused(SIZE, 2)
 }
 
+/// Another number of ports without a change of the text, small, or so large that products wrap.
+fn other_port_number(random: &mut Random, draft: &mut Draft) -> Option<Refusal> {
+    let others = [1 - draft.second_port, 2, 3, 1 << 31, u32::MAX - 1, u32::MAX];
+    draft.second_port = random.pick(&others);
+    refused(WRONG_COUNTS, 0)
+}
+
+fn unknown_start_of_two_ports(random: &mut Random, draft: &mut Draft) -> Option<Refusal> {
+    if draft.second_port == 0 {
+        return None;
+    }
+    draft.unknown_start = random.pick(&[1, 1, 2, u32::MAX]);
+    refused(SIZE, 2)
+}
+
 /// Inputs before all others, or latches or gates behind all others, none of them used.
 fn add_wires(text: &mut Text, kind: usize, count: usize) {
     let literals = fresh_variables(text, count)
@@ -464,7 +508,7 @@ fn add_wires(text: &mut Text, kind: usize, count: usize) {
 }
 
 fn too_many_of_a_kind(random: &mut Random, draft: &mut Draft) -> Option<Refusal> {
-    let own_inputs = draft.text.inputs.len() - draft.memory[1] as usize;
+    let own_inputs = draft.text.inputs.len() - read_bit_count(draft);
     let counts = [own_inputs, draft.text.latches.len(), draft.text.gates.len()];
     let kind = random.index(3);
     let limit = MAX_WIRES as usize;
@@ -482,8 +526,13 @@ fn too_many_wires(random: &mut Random, draft: &mut Draft) -> Option<Refusal> {
     refused(SIZE, 2)
 }
 
+/// The read bits of all ports.
+fn read_bit_count(draft: &Draft) -> usize {
+    ((1 + draft.second_port) * draft.memory[1]) as usize
+}
+
 fn read_bit(random: &mut Random, draft: &Draft) -> u32 {
-    let from_last = random.index(draft.memory[1] as usize);
+    let from_last = random.index(read_bit_count(draft));
     let literal = draft.text.inputs[draft.text.inputs.len() - 1 - from_last];
     literal | random.below(2)
 }
@@ -494,25 +543,32 @@ fn first_address_line(draft: &Draft) -> u32 {
 }
 
 fn address_bits_tied(random: &mut Random, draft: &mut Draft) -> Option<Refusal> {
-    let later = random.below(draft.memory[0]);
+    let [m, n, _] = draft.memory;
+    let first = random.below(1 + draft.second_port) * (m + n);
+    let later = random.below(m);
     let earlier = random.below(later.max(1));
-    let literal = draft.text.outputs[earlier as usize];
+    let literal = draft.text.outputs[(first + earlier) as usize];
     if later == 0 || literal < 2 {
         return None;
     }
-    draft.text.outputs[later as usize] = literal ^ random.below(2);
-    refused(TIED_ADDRESS, first_address_line(draft) + later)
+    draft.text.outputs[(first + later) as usize] = literal ^ random.below(2);
+    refused(TIED_ADDRESS, first_address_line(draft) + first + later)
 }
 
 fn read_bit_as_address(random: &mut Random, draft: &mut Draft) -> Option<Refusal> {
     let [m, n, _] = draft.memory;
     let literal = read_bit(random, draft);
     let first_line = first_address_line(draft);
+    // The first port's RE is on line C, behind all codes of a second.
+    let control = m + n + draft.second_port * (m + 1);
     let (bit, line) = if random.percent(70) {
         let bit = random.below(m);
         (bit, first_line + bit)
+    } else if draft.second_port > 0 && random.percent(70) {
+        let bit = m + n + random.below(m + 1);
+        (bit, first_line + bit)
     } else {
-        (m + n + 1, first_line + m + n)
+        (control + 1, first_line + control)
     };
     draft.text.outputs[bit as usize] = literal;
     refused(MEMORY_LOOP, line)

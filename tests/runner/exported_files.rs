@@ -136,7 +136,7 @@ pub fn texts(library: &Library, tally: &mut Tally) {
         let due = export(&netlist, usize::MAX);
         for numbering in NUMBERINGS {
             let call = draft_of(&mut random, &netlist, numbering).call();
-            let imported = import(&call.text, call.memory, call.unknown_start, call.rooms);
+            let imported = import(&call.text, call.memory, call.unknown_start, 0, call.rooms);
             let found = imported.map(|it| it.map(|record| library.file_of(&record, MOST_BYTES)));
             tally.check((round, numbering), found == Ok(Ok(Ok(due.clone()))));
         }

@@ -263,6 +263,7 @@ extern "C" {
         n: u32,
         word: u32,
         unknown_start: u32,
+        second_port: u32,
         latches: *mut LatchRecord,
         latch_room: usize,
         gates: *mut GateRecord,
@@ -709,11 +710,12 @@ pub fn one_port(file: &[u8], room: usize) -> Answer<Vec<u8>> {
     })
 }
 
-/// Imports a text for m, n and start word, or with an unknown start, into lists of these lengths.
+/// Imports a text for m, n and start word, or with an unknown start or a second port, into lists of these lengths.
 pub fn import(
     text: &[u8],
     [m, n, word]: [u32; 3],
     unknown_start: u32,
+    second_port: u32,
     rooms: [usize; 2],
 ) -> Answer<Netlist> {
     // SAFETY: each pointer and length are those of a live slice, and only the two lists are written to.
@@ -725,6 +727,7 @@ pub fn import(
             n,
             word,
             unknown_start,
+            second_port,
             latches.as_mut_ptr(),
             latches.len(),
             gates.as_mut_ptr(),

@@ -4,7 +4,9 @@ use super::exports::Numbers;
 use super::mutate::{change_bytes, draft, netlist, sheet, unused, LIMITS};
 use super::reference::answer_calls::{marks, Call as ReplayCall};
 use super::reference::netlist::{Gate, Latch, Netlist};
-use super::reference::random::{damaged_record, tie, tiny_netlist, tiny_two_ports, wide_netlist, Random};
+use super::reference::random::{
+    damaged_record, tie, tiny_netlist, tiny_two_ports, wide_netlist, wide_two_ports, Random,
+};
 use super::reference::random_aiger::{damaged_call, draft_of, Call as ImportCall, Numbering};
 use super::reference::random_answers::{written, written_unsatisfiable, CALL_FAULTS};
 use super::reference::sheet::write_sheet;
@@ -123,11 +125,11 @@ fn import_call(random: &mut Random) -> ImportCall {
     let mut call = if random.percent(20) {
         damaged_call(random)
     } else {
-        // A text stands for a netlist with one port.
-        let mut netlist = if random.percent(90) {
-            tiny_netlist(random)
-        } else {
-            wide_netlist(random)
+        let mut netlist = match random.below(20) {
+            0 => wide_netlist(random),
+            1 => wide_two_ports(random),
+            2..=8 => tiny_two_ports(random),
+            _ => tiny_netlist(random),
         };
         for latch in &mut netlist.latches {
             latch.reset = 0;
@@ -135,7 +137,8 @@ fn import_call(random: &mut Random) -> ImportCall {
         let numbering = random.pick(&[Numbering::InOrder, Numbering::Shuffled]);
         draft_of(random, &netlist, numbering).call()
     };
-    match random.below(9) {
+    match random.below(10) {
+        9 => call.second_port = random.pick(&[0, 1, 1, 2, u32::MAX]),
         0 => call.memory[random.index(3)] = random.pick(&LIMITS),
         1 => call.memory[random.index(3)] = random.below(4),
         2 => call.rooms[random.index(2)] = room(random),

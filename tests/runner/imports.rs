@@ -12,7 +12,7 @@ use super::reference::formula::heading;
 use super::reference::netlist::Netlist;
 use super::reference::random::Random;
 use super::reference::random_aiger::{
-    add_tail, damaged_call, draft_of, random_draft, text_netlist, Call, BYTE_FAULTS, DRAFT_FAULTS,
+    add_tail, any_text_netlist, damaged_call, draft_of, random_draft, Call, BYTE_FAULTS, DRAFT_FAULTS,
     NUMBERINGS,
 };
 use super::reference::refusal::{Refusal, NOT_WELL_FORMED, NO_ROOM, SIZE, WRONG_COUNTS};
@@ -26,7 +26,7 @@ impl Library {
     /// What the call answers; counted. A room beyond what can be lent is cut down to what is always enough.
     fn imported(&self, call: &Call) -> Answer<Netlist> {
         let rooms = call.rooms.map(|room| room.min(MOST_ROOM));
-        let found = import(&call.text, call.memory, call.unknown_start, rooms);
+        let found = import(&call.text, call.memory, call.unknown_start, call.second_port, rooms);
         Counts::add(&self.imports, &found);
         found
     }
@@ -36,7 +36,7 @@ impl Library {
         let (found, expected) = (self.imported(call), Ok(call.import()));
         tally.check_with(name, found == expected, || {
             let text = call.text.escape_ascii().to_string();
-            let start = (call.memory, call.unknown_start);
+            let start = (call.memory, call.unknown_start, call.second_port);
             differ((text, start, call.rooms), &found, &expected)
         });
     }
@@ -106,7 +106,7 @@ pub fn predicted_faults(library: &Library, tally: &mut Tally) {
 pub fn rooms(library: &Library, tally: &mut Tally) {
     let mut random = Random::new(612);
     for round in 0..60 {
-        let netlist = text_netlist(&mut random);
+        let netlist = any_text_netlist(&mut random);
         for numbering in NUMBERINGS {
             let mut call = draft_of(&mut random, &netlist, numbering).call();
             add_tail(&mut random, &mut call);
@@ -179,12 +179,19 @@ const WIDTHS: [u32; 16] = [
 ];
 
 /// The verdict by rule on a text with all codes 0 and no latch or gate.
-fn of_widths(inputs: u32, outputs: u32, [m, n, word]: [u32; 3], unknown_start: u32) -> Verdict {
-    let due = u64::from(m) + u64::from(n) + 3;
-    if u64::from(outputs) != due || inputs < n {
+fn of_widths(
+    inputs: u32,
+    outputs: u32,
+    [m, n, word]: [u32; 3],
+    [unknown_start, second_port]: [u32; 2],
+) -> Verdict {
+    let [wide, high, ports] = [n, m, second_port].map(u128::from);
+    let reads = wide + ports * wide;
+    let due = high + wide + ports * (high + 1) + 3;
+    if u128::from(outputs) != due || u128::from(inputs) < reads {
         return (WRONG_COUNTS, 0);
     }
-    if inputs - n > 600 {
+    if u128::from(inputs) - reads > 600 {
         return (SIZE, 1);
     }
     let widths_fit = (1..=12).contains(&m) && (1..=32).contains(&n);
@@ -192,55 +199,72 @@ fn of_widths(inputs: u32, outputs: u32, [m, n, word]: [u32; 3], unknown_start: u
         0 => u64::from(word) < 1 << n,
         flag => flag == 1,
     };
-    if !widths_fit || inputs > 600 || !start_fits() {
+    let ports_fit = second_port == 0 || (second_port == 1 && unknown_start == 0);
+    if !widths_fit || inputs > 600 || !start_fits() || !ports_fit {
         return (SIZE, 2);
     }
     ACCEPTED
 }
 
-/// Every kind of m, n, start word and flag on texts whose outputs are as many as they ask for, in 32 bits, one fewer or one more.
+/// Every kind of m, n, start word and flags on texts whose outputs are as many as they ask for, in 32 bits, one fewer or one more.
 pub fn memories(library: &Library, tally: &mut Tally) {
     for (m, n) in pairs(&WIDTHS) {
-        let due = m.wrapping_add(n).wrapping_add(3);
-        // Where the sum is too large for a text, any number of outputs will do.
-        let due = if due > 700 { 5 } else { due };
-        for outputs in [due.saturating_sub(1), due, due + 1] {
-            for inputs in [
-                0,
-                1,
-                n.min(700).saturating_sub(1),
-                n.min(700),
-                35,
-                600,
-                601,
-                640,
-            ] {
-                let text = bytes_of(&plain_text([inputs, 0, 0], outputs));
-                let top = 1u32.checked_shl(n).unwrap_or(0);
-                for (word, unknown_start) in [
-                    (0, 0),
-                    (1, 0),
-                    (top.wrapping_sub(1), 0),
-                    (top, 0),
-                    (u32::MAX, 0),
-                    (0, 1),
-                    (u32::MAX, 1),
-                    (0, 2),
-                    (0, u32::MAX),
-                ] {
-                    let memory = [m, n, word];
-                    let call = Call {
-                        text: text.clone(),
-                        memory,
-                        unknown_start,
-                        rooms: [0, 0],
-                    };
-                    let expected = of_widths(inputs, outputs, memory, unknown_start);
-                    let name = (inputs, outputs, memory, unknown_start);
-                    library.import_verdict(tally, name, &call, expected);
+        for ports in PORTS {
+            let second = ports.wrapping_mul(m.wrapping_add(1));
+            let due = m.wrapping_add(n).wrapping_add(second).wrapping_add(3);
+            // Where the sum is too large for a text, any number of outputs will do.
+            let due = if due > 700 { 5 } else { due };
+            let reads = n.min(700) * (1 + ports.min(3));
+            for outputs in [due.saturating_sub(1), due, due + 1] {
+                for inputs in [0, 1, reads.saturating_sub(1), reads, 35, 600, 601, 640] {
+                    let text = bytes_of(&plain_text([inputs, 0, 0], outputs));
+                    memories_of(library, tally, &text, [inputs, outputs], [m, n, ports]);
                 }
             }
         }
+    }
+}
+
+/// No port beside the first, one, more, and numbers whose products wrap.
+const PORTS: [u32; 5] = [0, 1, 2, 1 << 31, u32::MAX];
+
+fn memories_of(
+    library: &Library,
+    tally: &mut Tally,
+    text: &[u8],
+    [inputs, outputs]: [u32; 2],
+    [m, n, second_port]: [u32; 3],
+) {
+    let top = 1u32.checked_shl(n).unwrap_or(0);
+    let starts = [
+        (0, 0),
+        (1, 0),
+        (top.wrapping_sub(1), 0),
+        (top, 0),
+        (u32::MAX, 0),
+        (0, 1),
+        (u32::MAX, 1),
+        (0, 2),
+        (0, u32::MAX),
+    ];
+    // One port has them all; the others a given start, one too large and an unknown one.
+    let starts = match second_port {
+        0 => starts.to_vec(),
+        _ => vec![starts[0], starts[3], starts[5]],
+    };
+    for (word, unknown_start) in starts {
+        let memory = [m, n, word];
+        let flags = [unknown_start, second_port];
+        let call = Call {
+            text: text.to_vec(),
+            memory,
+            unknown_start,
+            second_port,
+            rooms: [0, 0],
+        };
+        let expected = of_widths(inputs, outputs, memory, flags);
+        let name = (inputs, outputs, memory, flags);
+        library.import_verdict(tally, name, &call, expected);
     }
 }
 
@@ -276,6 +300,7 @@ pub fn counts(library: &Library, tally: &mut Tally) {
                     text: bytes_of(&(header.clone() + lines)),
                     memory: [1, 1, 0],
                     unknown_start: 0,
+                    second_port: 0,
                     rooms: [0, 0],
                 };
                 library.import_agrees(tally, header, &call);
@@ -290,6 +315,7 @@ pub fn counts(library: &Library, tally: &mut Tally) {
                 text: bytes_of(&format!("aag {} {count}{number}{zeros}/", u32::MAX)),
                 memory: [1, 1, 0],
                 unknown_start: 0,
+                second_port: 0,
                 rooms: [0, 0],
             };
             library.import_verdict(tally, (place, number), &call, (NOT_WELL_FORMED, 2));
@@ -323,6 +349,7 @@ pub fn ends(library: &Library, tally: &mut Tally) {
                 &call.text[..end],
                 call.memory,
                 call.unknown_start,
+                call.second_port,
                 call.rooms,
             );
             Counts::add(&library.imports, &found);
@@ -338,6 +365,7 @@ pub fn ends(library: &Library, tally: &mut Tally) {
                 &call.text[..end],
                 call.memory,
                 call.unknown_start,
+                call.second_port,
                 call.rooms,
             );
             tally.equal((lines, end), found, Ok(call.import()));

@@ -16,18 +16,23 @@ pub const OF_IMPORT: [usize; 7] = [0, 4, 6, 11, 12, 13, 17];
 /// The longest text that is read.
 const MOST_BYTES: usize = 4_194_304;
 
-/// The call as the program makes it: its lists have room for every netlist, and it knows no flag but 0 and 1.
+/// The call as the program makes it: its lists have room for every netlist, it knows no flag but 0 and 1, and two ports only with a start word.
 fn as_made(mut call: Call) -> Call {
     call.rooms = [600, 600];
     call.unknown_start = call.unknown_start.min(1);
+    call.second_port = call.second_port.min(1 - call.unknown_start);
     call
 }
 
-/// m, n and, where it is given, the start word.
+/// m, n and, where it is given, the start word; and behind it how many ports there are, where they are two.
 fn arguments(call: &Call) -> Vec<String> {
     let given = if call.unknown_start == 0 { 3 } else { 2 };
-    let numbers = call.memory[..given].iter();
-    numbers.map(u32::to_string).collect()
+    let ports = match call.second_port {
+        0 => None,
+        second => Some(second + 1),
+    };
+    let numbers = call.memory[..given].iter().copied().chain(ports);
+    numbers.map(|number| number.to_string()).collect()
 }
 
 fn agrees(program: &Program, tally: &mut Tally, name: &str, call: Call) {

@@ -80,7 +80,7 @@ fn main() {
         [what, path, m, n, word] => {
             let text = std::fs::read(path).expect("a text");
             let memory = [number(m), number(n), number(word)];
-            let answer = exports::import(&text, memory, 0, [ROOM, ROOM]).expect("a promise is broken");
+            let answer = exports::import(&text, memory, 0, 0, [ROOM, ROOM]).expect("a promise is broken");
             match (what, answer) {
                 ("verdict", Ok(_)) => b"0 0\n".to_vec(),
                 (_, Err(it)) => format!("{} {}\n", it.number, it.place).into_bytes(),

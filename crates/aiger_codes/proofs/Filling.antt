@@ -75,17 +75,17 @@ five-long xs e = ap (λ (n : Numbers). length (n .values)) e ∙ five-holds xs .
 
 -- the table before any line, and with the first number of one line more
 module _ (s : List ℕ) (line first : ℕ) (old table : List ℕ) where
-  pub firsts-none : length table ≡ 648 → old ≡ table → TableFilled 648 (putFrom first 0 (firstsBehind s line) (entryOf old)) table
+  pub firsts-none : length table ≡ 661 → old ≡ table → TableFilled 661 (putFrom first 0 (firstsBehind s line) (entryOf old)) table
   unfolding entryOf
-  firsts-none full same = filled-none first (firstsBehind s line) (entryOf old) 648 table full (λ w b. rw same)
+  firsts-none full same = filled-none first (firstsBehind s line) (entryOf old) 661 table full (λ w b. rw same)
 
   pub firsts-next : (x : ℕ) (numbers : Numbers) → numbers ≡ firstFive (numbersOnLine s (line + x + 1)) → length (numbersOnLine s (line + x + 1)) ≤ 5
-      → first + x < 648
-      → TableFilled 648 (putFrom first x (firstsBehind s line) (entryOf old)) table
-      → TableFilled 648 (putFrom first (x + 1) (firstsBehind s line) (entryOf old)) (set table (first + x) (getD (numbers .values) 0 0))
+      → first + x < 661
+      → TableFilled 661 (putFrom first x (firstsBehind s line) (entryOf old)) table
+      → TableFilled 661 (putFrom first (x + 1) (firstsBehind s line) (entryOf old)) (set table (first + x) (getD (numbers .values) 0 0))
   unfolding firstsBehind
   firsts-next x numbers e few b filled =
-      filled-next first (firstsBehind s line) (entryOf old) 648 table x (getD (numbers .values) 0 0) b
+      filled-next first (firstsBehind s line) (entryOf old) 661 table x (getD (numbers .values) 0 0) b
       (ap (λ (xs : Numbers). getD (xs .values) 0 0) e ∙ five-value (numbersOnLine s (line + x + 1)) 0 few) filled
 
 -- one number more of those below a size

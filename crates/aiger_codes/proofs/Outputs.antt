@@ -10,7 +10,7 @@ use Rattle.literals.specs.declared.Code.{Code}
 use Rattle.sheet_steps.proofs.Steps.{code-set}
 use Rattle.netlist.specs.declared.Netlist.{Netlist}
 use Rattle.aiger_codes.specs.WireTable.{wireFound}
-use Rattle.aiger_codes.specs.Outputs.{outputCode, Coded, withAddress, withData, withControl, AddressPut, DataPut, OutputsPut}
+use Rattle.aiger_codes.specs.Outputs.{outputCode, Coded, withAddress, withData, withSecond, controlPut, AddressPut, DataPut, SecondPut, OutputsPut}
 use Rattle.aiger_codes.proofs.Filling.{upTo-next}
 
 module _ (size : ℕ) (f : ℕ → ℕ) (codes : List Code) where
@@ -34,38 +34,66 @@ pub output-at : (table : List ℕ) (o x : ℕ) → x ≡ 601 + o → renamed (wi
 unfolding outputCode
 output-at table o x e = ap (λ (y : ℕ). renamed (wireFound table) (getD table y 0)) e
 
--- the outputs put into a record one kind after the other
-pub address-sizes : (net : Netlist) (table : List ℕ) {a : Netlist} → AddressPut net table a
-    → (a .m ≡ net .m) × (a .n ≡ net .n) × (a .«write_data» ≡ net .«write_data»)
-address-sizes net table addressed =
-    let e = addressed .others in
-    (ap (λ (r : Netlist). r .m) e, ap (λ (r : Netlist). r .n) e, ap (λ (r : Netlist). r .«write_data») e)
+-- the outputs put into a record one kind after the other: each leaves the sizes, and what no code was put into yet
+pub record SameSizes (net a : Netlist) : Type 0 where
+  pub m-same : a .m ≡ net .m
+  pub n-same : a .n ≡ net .n
+  pub second-same : a .«second_port» ≡ net .«second_port»
+  pub address2-same : a .address2 ≡ net .address2
+
+module _ (net : Netlist) (table : List ℕ) {a : Netlist} (addressed : AddressPut net table a) where
+  pub address-sizes : SameSizes net a
+  address-sizes =
+      let e = addressed .others in
+      record {
+        m-same = ap (λ (r : Netlist). r .m) e;
+        n-same = ap (λ (r : Netlist). r .n) e;
+        second-same = ap (λ (r : Netlist). r .«second_port») e;
+        address2-same = ap (λ (r : Netlist). r .address2) e;
+      }
+
+  pub no-data : a .«write_data» ≡ net .«write_data»
+  no-data = ap (λ (r : Netlist). r .«write_data») (addressed .others)
 
 module _ (net : Netlist) (table : List ℕ) {a d : Netlist} (addressed : AddressPut net table a) (filled : DataPut a table d) where
-  same : (a .m ≡ net .m) × (a .n ≡ net .n) × (a .«write_data» ≡ net .«write_data»)
-  same = address-sizes net table addressed
-
-  pub data-sizes : (d .m ≡ net .m) × (d .n ≡ net .n)
+  pub data-sizes : SameSizes net d
   data-sizes =
       let e = filled .others in
-      (ap (λ (r : Netlist). r .m) e ∙ same .0, ap (λ (r : Netlist). r .n) e ∙ same .1)
-
-  both : d ≡ withData (withAddress net (a .address)) (d .«write_data»)
-  both = filled .others ∙ ap (λ (r : Netlist). withData r (d .«write_data»)) (addressed .others)
-
-  pub outputs-put : (r : Netlist) → r ≡ withControl d (outputCode table (d .m + d .n)) (outputCode table (d .m + d .n + 1)) (outputCode table (d .m + d .n + 2))
-      → OutputsPut net table r
-  outputs-put r e =
-      let control : r ≡ withControl d (outputCode table (net .m + net .n)) (outputCode table (net .m + net .n + 1)) (outputCode table (net .m + net .n + 2)) =
-      e ∙ rw (data-sizes .0, data-sizes .1) in
-      let address : r .address ≡ a .address = ap (λ (x : Netlist). x .address) control ∙ ap (λ (x : Netlist). x .address) both in
-      let words : r .«write_data» ≡ d .«write_data» = ap (λ (x : Netlist). x .«write_data») control in
-      let whole : d ≡ withData (withAddress net (r .address)) (r .«write_data») = rw (address, words) both in
+      let same = address-sizes net table addressed in
       record {
-        others =
-            control
-            ∙ ap (λ (x : Netlist). withControl x (outputCode table (net .m + net .n)) (outputCode table (net .m + net .n + 1)) (outputCode table (net .m + net .n + 2)))
-            whole;
-        address-codes = rw address (addressed .codes);
-        data-codes = rw (words, ← same .0, ← same .1) (filled .codes);
+        m-same = ap (λ (r : Netlist). r .m) e ∙ same .m-same;
+        n-same = ap (λ (r : Netlist). r .n) e ∙ same .n-same;
+        second-same = ap (λ (r : Netlist). r .«second_port») e ∙ same .second-same;
+        address2-same = ap (λ (r : Netlist). r .address2) e ∙ same .address2-same;
       }
+
+  module _ {b : Netlist} (second : SecondPut d table b) where
+    pub control-sizes : (b .m ≡ net .m) × (b .n ≡ net .n) × (b .«second_port» ≡ net .«second_port»)
+    control-sizes =
+        let e = second .others in (
+          ap (λ (r : Netlist). r .m) e ∙ data-sizes .m-same,
+          ap (λ (r : Netlist). r .n) e ∙ data-sizes .n-same,
+          ap (λ (r : Netlist). r .«second_port») e ∙ data-sizes .second-same,
+        )
+
+    all : b ≡ withSecond (withData (withAddress net (a .address)) (d .«write_data»)) (b .address2)
+    all =
+        second .others
+        ∙ ap (λ (r : Netlist). withSecond r (b .address2))
+        (filled .others ∙ ap (λ (r : Netlist). withData r (d .«write_data»)) (addressed .others))
+
+    pub outputs-put : (r : Netlist) → r ≡ controlPut b table b → OutputsPut net table r
+    outputs-put r e =
+        let control : r ≡ controlPut net table b = e ∙ rw (control-sizes .0, control-sizes .1, control-sizes .2) in
+        let address : r .address ≡ a .address = ap (λ (x : Netlist). x .address) control ∙ ap (λ (x : Netlist). x .address) all in
+        let words : r .«write_data» ≡ d .«write_data» = ap (λ (x : Netlist). x .«write_data») control ∙ ap (λ (x : Netlist). x .«write_data») all in
+        let others : r .address2 ≡ b .address2 = ap (λ (x : Netlist). x .address2) control in
+        let whole : b ≡ withSecond (withData (withAddress net (r .address)) (r .«write_data»)) (r .address2) = rw (address, words, others) all in
+        let one = address-sizes net table addressed in
+        let two = data-sizes in
+        record {
+          others = control ∙ ap (controlPut net table) whole;
+          address-codes = rw address (addressed .codes);
+          data-codes = rw (words, ← one .m-same, ← one .n-same) (filled .codes);
+          second-codes = rw (others, ← two .m-same, ← two .n-same, ← two .second-same) (second .codes);
+        }

@@ -1,5 +1,5 @@
 -- A variable that is known has its wire in a table of variables by wire (specs/WireTable.antt). Cited by the function that looks it up.
-use Prim.Native.Nat.{ℕ, zero, suc, _+_, _-_, _≤_, _<_}
+use Prim.Native.Nat.{ℕ, zero, suc, _+_, _-_, _*_, _≤_, _<_}
 use mathlib.Core.Path.{_≡_, refl, sym, _∙_, ap}
 use mathlib.Core.Bool.{false}
 use mathlib.Core.List.{List}
@@ -8,7 +8,7 @@ use native.Mathlib.Decide.{decLt}
 use native.Mathlib.Omega.{arith}
 use lib.Dec.{eqb}
 use borrow.Author.Tests.{lt-ltb, le-ltb, eq-eqb, ne-eqb}
-use Rattle.model.specs.Netlist.{Netlist, inputWire, latchWire, readWire, gateWire, lastWire}
+use Rattle.model.specs.Netlist.{Netlist, readBits, inputWire, latchWire, readWire, gateWire, lastWire}
 use Rattle.model.proofs.Search.{firstWhere-is, first-unique}
 use Rattle.aiger_lines.specs.Parts.{countsIn, linesDue, textInputLine, textLatchLine, textGateLine}
 use Rattle.aiger_lines.specs.declared.Counts.{Counts}
@@ -51,7 +51,7 @@ module _ (h : Counts) (c : Netlist) where
       let e : latchWire c l - latchWire c 0 ≡ l = omega arith in
       rw (le-ltb (latchWire c l) (latchWire c 0) (omega arith), lt-ltb (latchWire c l) (readWire c 0) (omega arith), e)
 
-  line-read : (t : ℕ) → t < c .n → lineOfWire h c (readWire c t) ≡ textInputLine h (c .inputs + t)
+  line-read : (t : ℕ) → t < readBits c → lineOfWire h c (readWire c t) ≡ textInputLine h (c .inputs + t)
   unfolding lineOfWire
   line-read t b =
       let e : readWire c t - readWire c 0 ≡ t = omega arith in
@@ -81,11 +81,11 @@ pub record LineAndWire (h : Counts) (c : Netlist) (p w : ℕ) : Type 0 where
   pub wire-some : 1 ≤ w
   pub wire-most : w ≤ lastWire c
 
-module _ (h : Counts) (m n word unknown : ℕ) (enough : n ≤ h .inputs) where
+module _ (h : Counts) (m n word unknown second : ℕ) (enough : suc second * n ≤ h .inputs) where
   abbrev c : Netlist
-  c = textSizes h m n word unknown
+  c = textSizes h m n word unknown second
 
-  both-input : (x : ℕ) → x < h .inputs - n → LineAndWire h c (textInputLine h x) (inputWire c x)
+  both-input : (x : ℕ) → x < c .inputs → LineAndWire h c (textInputLine h x) (inputWire c x)
   both-input x b =
       record {
         defines = by-input x (omega arith) refl;
@@ -95,12 +95,12 @@ module _ (h : Counts) (m n word unknown : ℕ) (enough : n ≤ h .inputs) where
         wire-most = omega arith;
       }
 
-  both-read : (t : ℕ) → t < n → LineAndWire h c (textInputLine h (h .inputs - n + t)) (readWire c t)
+  both-read : (t : ℕ) → t < readBits c → LineAndWire h c (textInputLine h (c .inputs + t)) (readWire c t)
   both-read t b =
-      let e : h .inputs - n + t - (h .inputs - n) ≡ t = omega arith in
+      let e : c .inputs + t - c .inputs ≡ t = omega arith in
       record {
-        defines = by-input (h .inputs - n + t) (omega arith) refl;
-        wire-is = wire-read h c (omega arith) (h .inputs - n + t) (omega arith) (omega arith) ∙ ap (readWire c) e;
+        defines = by-input (c .inputs + t) (omega arith) refl;
+        wire-is = wire-read h c (omega arith) (c .inputs + t) (omega arith) (omega arith) ∙ ap (readWire c) e;
         line-is = line-read h c t b;
         wire-some = omega arith;
         wire-most = omega arith;
@@ -129,9 +129,9 @@ module _ (h : Counts) (m n word unknown : ℕ) (enough : n ≤ h .inputs) where
   -- of a line
   line-both : {p : ℕ} → Defining h p → (w : ℕ) × LineAndWire h c p w
   line-both (by-input x b e) =
-      by-cases (decLt x (h .inputs - n)) (λ l. rw e (inputWire c x, both-input x l)) λ l.
-      let back : h .inputs - n + (x - (h .inputs - n)) ≡ x = omega arith in
-      rw (e, ← back) (readWire c (x - (h .inputs - n)), both-read (x - (h .inputs - n)) (omega arith))
+      by-cases (decLt x (c .inputs)) (λ l. rw e (inputWire c x, both-input x l)) λ l.
+      let back : c .inputs + (x - c .inputs) ≡ x = omega arith in
+      rw (e, ← back) (readWire c (x - c .inputs), both-read (x - c .inputs) (omega arith))
   line-both (by-latch l b e) = rw e (latchWire c l, both-latch l b)
   line-both (by-gate g b e) = rw e (gateWire c g, both-gate g b)
 
@@ -145,20 +145,20 @@ module _ (h : Counts) (m n word unknown : ℕ) (enough : n ≤ h .inputs) where
       rw e (textLatchLine h (w - latchWire c 0), both-latch (w - latchWire c 0) (omega arith))) λ l.
       by-cases (decLt w (gateWire c 0))
       (λ r. let e : w ≡ readWire c (w - readWire c 0) = omega arith in
-      rw e (textInputLine h (h .inputs - n + (w - readWire c 0)), both-read (w - readWire c 0) (omega arith))) λ r.
+      rw e (textInputLine h (c .inputs + (w - readWire c 0)), both-read (w - readWire c 0) (omega arith))) λ r.
       let e : w ≡ gateWire c (w - gateWire c 0) = omega arith in
       rw e (textGateLine h (w - gateWire c 0), both-gate (w - gateWire c 0) (omega arith))
 
-module _ (s : List ℕ) (ok : WellDefined s) (m n word unknown : ℕ) (fits : FitsInterface (countsIn s) m n) (table : List ℕ)
-    (has : WireTable s (textSizes (countsIn s) m n word unknown) table) (small : lastWire (textSizes (countsIn s) m n word unknown) ≤ 600) where
+module _ (s : List ℕ) (ok : WellDefined s) (m n word unknown second : ℕ) (fits : FitsInterface (countsIn s) m n second) (table : List ℕ)
+    (has : WireTable s (textSizes (countsIn s) m n word unknown second) table) (small : lastWire (textSizes (countsIn s) m n word unknown second) ≤ 600) where
   abbrev net : Netlist
-  net = textSizes (countsIn s) m n word unknown
+  net = textSizes (countsIn s) m n word unknown second
 
   -- a wire is that of the variable which the table has at it
   wire-at : (w v : ℕ) → w ≤ lastWire net → variableAt table w ≡ v → wireOfVariable s net v ≡ w
   wire-at zero v b e = ap (wireOfVariable s net) (sym e ∙ has .at-zero) ∙ wire-zero s net
   wire-at (suc w) v b e =
-      let found = wire-both (countsIn s) m n word unknown (fits .inputs-enough) (suc w) (omega arith) b in
+      let found = wire-both (countsIn s) m n word unknown second (fits .inputs-enough) (suc w) (omega arith) b in
       let there = found .1 in
       let variable : v ≡ definedAt s (found .0) = sym e ∙ has .at-wire (suc w) (omega arith) b ∙ ap (definedAt s) (there .line-is) in
       ap (wireOfVariable s net) variable ∙ wire-defined s ok net (there .defines) ∙ there .wire-is
@@ -167,7 +167,7 @@ module _ (s : List ℕ) (ok : WellDefined s) (m n word unknown : ℕ) (fits : Fi
   variable-at : (v : ℕ) → Known s (linesDue (countsIn s) + 1) v → (wireOfVariable s net v ≤ lastWire net) × (variableAt table (wireOfVariable s net v) ≡ v)
   variable-at v (constant e) = rw (e, wire-zero s net) (omega arith, has .at-zero)
   variable-at v (line q l d e) =
-      let found = line-both (countsIn s) m n word unknown (fits .inputs-enough) d in
+      let found = line-both (countsIn s) m n word unknown second (fits .inputs-enough) d in
       let there = found .1 in
       let wire : wireOfVariable s net v ≡ found .0 = ap (wireOfVariable s net) e ∙ wire-defined s ok net d ∙ there .wire-is in
       rw wire (

@@ -1,8 +1,10 @@
--- How the outputs of a text are put into a record (RULES I6: address codes, write-data codes, WE, RE and P), as codes by a table that has
--- them behind the last wire that there may be. Cited by the functions that do so, and by no public contract.
-use Prim.Native.Nat.{ℕ, _+_}
+-- How the outputs of a text are put into a record (RULES I6 and I12: address codes, write-data codes, of a second port address codes and RE, then
+-- WE, RE and P), as codes by a table that has them behind the last wire that there may be. Cited by the functions that do so, and by no public contract.
+use Prim.Native.Nat.{ℕ, _+_, _*_}
 use mathlib.Core.Path.{_≡_}
+use mathlib.Core.Bool.{cond}
 use mathlib.Core.List.{List}
+use lib.Dec.{ltb}
 use lib.ListN.{length, getD}
 use Rattle.model.specs.Limits.{mostWires, mostAddressBits, mostDataBits}
 use Rattle.model.specs.Network.{renamed}
@@ -10,6 +12,7 @@ use Rattle.literals.specs.declared.Code.{Code}
 use Rattle.netlist.specs.NetOf.{codeOf}
 use Rattle.netlist.specs.RecordOf.{upTo}
 use Rattle.netlist.specs.declared.Netlist.{Netlist}
+use Rattle.aiger_graph.specs.RecordAig.{controlOutput}
 use Rattle.aiger_codes.specs.WireTable.{wireFound}
 
 -- output o as a code by a table
@@ -21,7 +24,8 @@ pub record Coded (size count : ℕ) (f : ℕ → ℕ) (codes : List Code) : Type
   pub full : length codes ≡ size
   pub has : codeOf codes ≡ upTo count f
 
--- a record with other address codes, with other write-data codes, and with other codes WE, RE and P
+-- a record with other address codes, with other write-data codes, with other address codes of a second port, and with other codes WE, RE, P and RE of
+-- a second port
 abbrev pub withAddress : Netlist → List Code → Netlist
 withAddress net codes =
     record {
@@ -62,8 +66,28 @@ withData net codes =
       re2 = net .re2;
     }
 
-abbrev pub withControl : Netlist → ℕ → ℕ → ℕ → Netlist
-withControl net we re p =
+abbrev pub withSecond : Netlist → List Code → Netlist
+withSecond net codes =
+    record {
+      inputs = net .inputs;
+      latches = net .latches;
+      gates = net .gates;
+      m = net .m;
+      n = net .n;
+      «initial_word» = net .«initial_word»;
+      «unknown_start» = net .«unknown_start»;
+      «second_port» = net .«second_port»;
+      address = net .address;
+      «write_data» = net .«write_data»;
+      we = net .we;
+      re = net .re;
+      p = net .p;
+      address2 = codes;
+      re2 = net .re2;
+    }
+
+abbrev pub withControl : Netlist → ℕ → ℕ → ℕ → ℕ → Netlist
+withControl net we re p re2 =
     record {
       inputs = net .inputs;
       latches = net .latches;
@@ -79,7 +103,7 @@ withControl net we re p =
       re = record { 0 = re };
       p = record { 0 = p };
       address2 = net .address2;
-      re2 = net .re2;
+      re2 = record { 0 = re2 };
     }
 
 -- the first m outputs are the record's address codes; the n behind them its write-data codes
@@ -91,9 +115,22 @@ pub record DataPut (net : Netlist) (table : List ℕ) (r : Netlist) : Type 0 whe
   pub others : r ≡ withData net (r .«write_data»)
   pub codes : Coded mostDataBits (net .n) (λ t. outputCode table (net .m + t)) (r .«write_data»)
 
--- and the three behind these are its WE, RE and P
+-- the m behind these the address codes of a second port, where there is one, and the next its RE
+pub record SecondPut (net : Netlist) (table : List ℕ) (r : Netlist) : Type 0 where
+  pub others : r ≡ withSecond net (r .address2)
+  pub codes : Coded mostAddressBits (net .«second_port» * net .m) (λ t. outputCode table (net .m + net .n + t)) (r .address2)
+
+abbrev pub enableCode : Netlist → List ℕ → ℕ
+enableCode net table = cond (ltb 0 (net .«second_port»)) (outputCode table (net .m + net .n + net .m)) 0
+
+-- and the last three are WE, RE and P: the record r with them, by the sizes of net
+abbrev pub controlPut : Netlist → List ℕ → Netlist → Netlist
+controlPut net table r =
+    let control = controlOutput (net .m) (net .n) (net .«second_port») in
+    withControl r (outputCode table control) (outputCode table (control + 1)) (outputCode table (control + 2)) (enableCode net table)
+
 pub record OutputsPut (net : Netlist) (table : List ℕ) (r : Netlist) : Type 0 where
-  pub others : r ≡ withControl (withData (withAddress net (r .address)) (r .«write_data»)) (outputCode table (net .m + net .n))
-      (outputCode table (net .m + net .n + 1)) (outputCode table (net .m + net .n + 2))
+  pub others : r ≡ controlPut net table (withSecond (withData (withAddress net (r .address)) (r .«write_data»)) (r .address2))
   pub address-codes : Coded mostAddressBits (net .m) (outputCode table) (r .address)
   pub data-codes : Coded mostDataBits (net .n) (λ t. outputCode table (net .m + t)) (r .«write_data»)
+  pub second-codes : Coded mostAddressBits (net .«second_port» * net .m) (λ t. outputCode table (net .m + net .n + t)) (r .address2)

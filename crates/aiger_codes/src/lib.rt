@@ -5,18 +5,19 @@ use literals::Wire;
 use netlist::Netlist;
 use netlist::UnpackedList;
 ghost use mathlib.Core.Path.{_≡_};
-ghost use Prim.Native.Nat.{_+_, _≤_};
+ghost use Prim.Native.Nat.{suc, _+_, _*_, _≤_};
 ghost use lib.ListN.{length};
 ghost use Rattle.model.specs.Network.{renamed};
 ghost use Rattle.netlist.specs.RecordOf.{recordOf};
+ghost use Rattle.aiger_graph.specs.RecordAig.{controlOutput};
 ghost use Rattle.aiger_netlist.specs.TextNetlist.{textSizes};
 ghost use Rattle.aiger_lines.specs.Steps.{Behind};
 ghost use Rattle.aiger_codes.specs.WireTable.{wireFound};
 ghost use Rattle.aiger_codes.specs.Filling.{LinesAhead, firstsBehind, entryOf, putFrom, TableFilled, codesBehind, NoCodes, ListFilled};
-ghost use Rattle.aiger_codes.specs.Outputs.{outputCode, Coded, withControl, AddressPut, DataPut, OutputsPut};
+ghost use Rattle.aiger_codes.specs.Outputs.{Coded, enableCode, controlPut, AddressPut, DataPut, SecondPut, OutputsPut};
 
-// The first numbers of a text's lines: the constant's, then by wire, of which there are at most 600, and behind these at most 47 outputs.
-pub type FirstNumbers = [u32; 648];
+// The first numbers of a text's lines: the constant's, then by wire, of which there are at most 600, and behind these at most 60 outputs.
+pub type FirstNumbers = [u32; 661];
 
 // The first wire at which a table has a variable; 601 where it has it at none.
 fn wire_of(table: &FirstNumbers, variable: u32) -> Wire
@@ -41,21 +42,30 @@ fn code_of(table: &FirstNumbers, literal: u32) -> Code
     Code(2 * wire.0 + literal % 2)
 }
 
-// The record of a text's sizes, with no codes. The last n inputs are the read bits.
-pub fn text_sizes(counts: Counts, m: u32, n: u32, word: u32, unknown: u32) -> Netlist
-    requires { ⌜ n ≤ counts .inputs ⌝ }
-    ensures { λ r. ⌜ r ≡ recordOf (textSizes counts m n word unknown) ⌝ }
+// The record of a text's sizes, with no codes. The last inputs are the read bits of all ports.
+pub fn text_sizes(
+    counts: Counts,
+    m: u32,
+    n: u32,
+    word: u32,
+    unknown: u32,
+    second_port: u32,
+) -> Netlist
+    requires { ⌜ suc «second_port» * n ≤ counts .inputs ⌝ }
+    ensures { λ r. ⌜ r ≡ recordOf (textSizes counts m n word unknown «second_port») ⌝ }
 {
+    let reads = (second_port as u64 + 1) * n as u64;
+    let inputs = counts.inputs as u64 - reads;
     let none = Code(0);
     Netlist {
-        inputs: counts.inputs - n,
+        inputs: inputs as u32,
         latches: counts.latches,
         gates: counts.gates,
         m,
         n,
         initial_word: word,
         unknown_start: unknown,
-        second_port: 0,
+        second_port,
         address: [none; 12],
         write_data: [none; 32],
         we: none,
@@ -76,9 +86,9 @@ pub fn put_firsts(
     first: usize,
     table: &mut FirstNumbers,
 ) -> usize
-    requires { ⌜ LinesAhead (now text) line at count × (first + count ≤ 648) × (length (now table) ≡ 648) ⌝ }
+    requires { ⌜ LinesAhead (now text) line at count × (first + count ≤ 661) × (length (now table) ≡ 661) ⌝ }
     ensures next { λ r. ⌜ Behind (now (text .entry)) (line + count) r ⌝ }
-    ensures table { λ _. ⌜ TableFilled 648 (putFrom first count (firstsBehind (now (text .entry)) line) (entryOf (now (table .entry)))) (now (table .exit)) ⌝ }
+    ensures table { λ _. ⌜ TableFilled 661 (putFrom first count (firstsBehind (now (text .entry)) line) (entryOf (now (table .entry)))) (now (table .exit)) ⌝ }
 {
     let mut next = at;
     let mut x: u32 = 0;
@@ -150,13 +160,52 @@ fn put_data(net: Netlist, table: &FirstNumbers) -> Netlist
     next
 }
 
-// Puts the last three outputs into a record: WE, RE and P.
-fn put_control(net: Netlist, table: &FirstNumbers) -> Netlist
-    requires { ⌜ (net .m ≤ 12) × (net .n ≤ 32) ⌝ }
-    ensures { λ r. ⌜ r ≡ withControl net (outputCode (now (table .entry)) (net .m + net .n)) (outputCode (now (table .entry)) (net .m + net .n + 1)) (outputCode (now (table .entry)) (net .m + net .n + 2)) ⌝ }
+// Puts the m outputs behind these into a record that has no address codes of a second port yet, where it has a second port.
+fn put_second_address(net: Netlist, table: &FirstNumbers) -> Netlist
+    requires { ⌜ (net .m ≤ 12) × (net .n ≤ 32) × (net .«second_port» ≤ 1) × Coded 12 0 (λ o. 0) (net .address2) ⌝ }
+    ensures { λ r. ⌜ SecondPut net (now (table .entry)) r ⌝ }
 {
     let first = 601 + net.m as usize + net.n as usize;
+    let count = net.second_port * net.m;
     let mut next = net;
+    let mut t: u32 = 0;
+    while t < count {
+        let at = t as usize;
+        next.address2[at] = code_of(table, table[first + at]);
+        t += 1;
+    }
+    next
+}
+
+// RE of a second port, the output behind its address codes; code 0 where there is no second port.
+fn second_enable(net: Netlist, table: &FirstNumbers) -> Code
+    requires { ⌜ (net .m ≤ 12) × (net .n ≤ 32) ⌝ }
+    ensures { λ r. ⌜ r .0 ≡ enableCode net (now (table .entry)) ⌝ }
+{
+    if 0 < net.second_port {
+        let at = 601 + net.m as usize + net.n as usize + net.m as usize;
+        return code_of(table, table[at]);
+    }
+    Code(0)
+}
+
+// Where a table has the output WE; RE and P follow it.
+fn control_entry(net: Netlist) -> usize
+    requires { ⌜ (net .m ≤ 12) × (net .n ≤ 32) × (net .«second_port» ≤ 1) ⌝ }
+    ensures { λ r. ⌜ (r ≡ 601 + controlOutput (net .m) (net .n) (net .«second_port»)) × (r ≤ 658) ⌝ }
+{
+    let second = net.second_port * (net.m + 1);
+    601 + net.m as usize + net.n as usize + second as usize
+}
+
+// Puts RE of a second port into a record, and the last three outputs: WE, RE and P.
+fn put_control(net: Netlist, table: &FirstNumbers) -> Netlist
+    requires { ⌜ (net .m ≤ 12) × (net .n ≤ 32) × (net .«second_port» ≤ 1) ⌝ }
+    ensures { λ r. ⌜ r ≡ controlPut net (now (table .entry)) net ⌝ }
+{
+    let first = control_entry(net);
+    let mut next = net;
+    next.re2 = second_enable(net, table);
     next.we = code_of(table, table[first]);
     next.re = code_of(table, table[first + 1]);
     next.p = code_of(table, table[first + 2]);
@@ -165,10 +214,11 @@ fn put_control(net: Netlist, table: &FirstNumbers) -> Netlist
 
 // Puts all outputs of a table into a record that has no codes yet.
 pub fn put_outputs(net: Netlist, table: &FirstNumbers) -> Netlist
-    requires { ⌜ (net .m ≤ 12) × (net .n ≤ 32) × Coded 12 0 (λ o. 0) (net .address) × Coded 32 0 (λ o. 0) (net .«write_data») ⌝ }
+    requires { ⌜ (net .m ≤ 12) × (net .n ≤ 32) × (net .«second_port» ≤ 1) × Coded 12 0 (λ o. 0) (net .address) × Coded 32 0 (λ o. 0) (net .«write_data») × Coded 12 0 (λ o. 0) (net .address2) ⌝ }
     ensures { λ r. ⌜ OutputsPut net (now (table .entry)) r ⌝ }
 {
     let addressed = put_address(net, table);
     let with_data = put_data(addressed, table);
-    put_control(with_data, table)
+    let with_second = put_second_address(with_data, table);
+    put_control(with_second, table)
 }

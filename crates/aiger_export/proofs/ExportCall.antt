@@ -12,10 +12,10 @@ use Rattle.model.specs.Netlist.{Netlist}
 use Rattle.model.specs.Acceptance.{Accepted}
 use Rattle.model.specs.Search.{firstWhere}
 use Rattle.model.proofs.Search.{firstWhere-is}
-use Rattle.refusals.specs.declared.Refusal.the-variants.{Reset}
+use Rattle.refusals.specs.declared.Refusal.the-variants.{OutOfOrder, Reset}
 use Rattle.refusals.specs.declared.Verdict.the-variants.{Passed}
 use Rattle.refusals.proofs.Tests.{first-passes, rest-passes, refuseIf-passes}
-use Rattle.netlist.specs.Places.{latchLine}
+use Rattle.netlist.specs.Places.{memoryLine, latchLine}
 use Rattle.netlist_tests.specs.Record.{recordVerdict}
 use Rattle.netlist_tests.proofs.Acceptance.{passes-accepted}
 use Rattle.aiger_export.specs.ExportCall.{testSinglePort, testResets, testExport}
@@ -25,6 +25,13 @@ pub accepted : (c : Netlist) (latchCount gateCount : ℕ) → testExport c latch
 unfolding testExport
 accepted c latchCount gateCount e =
     passes-accepted c latchCount gateCount .0 (first-passes (recordVerdict c latchCount gateCount) _ e) .0
+
+-- it has one port
+pub single-port : (c : Netlist) (latchCount gateCount : ℕ) → testExport c latchCount gateCount ≡ Passed → c .secondPort ≡ 0
+unfolding testExport
+single-port c latchCount gateCount e =
+    let port = first-passes (testSinglePort c) _ (rest-passes (recordVerdict c latchCount gateCount) _ e) in
+    omega (arith, ltb-false 0 (c .secondPort) (refuseIf-passes (ltb 0 (c .secondPort)) OutOfOrder memoryLine .0 port))
 
 -- no latch has reset 1
 no-reset : (c : Netlist) → testResets c ≡ Passed → (l : ℕ) → l < c .latches → eqb (c .reset l) 1 ≡ false

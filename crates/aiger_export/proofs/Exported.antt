@@ -42,6 +42,6 @@ module _ (c : Netlist) (latchCount gateCount : ℕ) (passed : testExport c latch
           renumbered-values (renumbers-back (variable-back (orderOf c)) file-renumbers) (record-values c (limits .codes) input latch),
         );
         same-values = same-values;
-        same-as-text = λ s m n word unknown latches gates taken agree input latch u v text file.
-            same-then (imported s m n word unknown c latches gates taken agree .same-values input latch u text) (same-values input latch v file);
+        same-as-text = λ s m n word unknown second latches gates taken agree input latch u v text file.
+            same-then (imported s m n word unknown second c latches gates taken agree .same-values input latch u text) (same-values input latch v file);
       }

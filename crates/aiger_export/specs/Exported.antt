@@ -31,8 +31,8 @@ pub record Exported (c : Netlist) (bytes : List ℕ) : Type 0 where
   pub same-values : (input latch : ℕ → Bool) (v : Values) → AigValues (aigIn bytes) input latch v
       → SameInOrder (recordAig c) (aigIn bytes) (valuesOf c input latch) v
   -- where it is the record of a text that an import takes (the text has values: has-values of `Imported`), they are the text's
-  pub same-as-text : (s : List ℕ) (m n word unknown latchCount gateCount : ℕ)
-      → importVerdict s m n word unknown latchCount gateCount ≡ Passed → Agree (aagNet s m n word unknown) c
+  pub same-as-text : (s : List ℕ) (m n word unknown second latchCount gateCount : ℕ)
+      → importVerdict s m n word unknown second latchCount gateCount ≡ Passed → Agree (aagNet s m n word unknown second) c
       → (input latch : ℕ → Bool) (u v : Values) → AigValues (textAig s) input latch u → AigValues (aigIn bytes) input latch v
       → SameInOrder (textAig s) (aigIn bytes) u v
 

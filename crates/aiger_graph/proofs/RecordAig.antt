@@ -1,36 +1,51 @@
 -- A record's graph (specs/RecordAig.antt): its codes are defined where they fit, its own values are values of it, and records that agree
 -- have one. No contract cites this file.
-use Prim.Native.Nat.{ℕ, _+_, _-_, _/_, _≤_, _<_}
+use Prim.Native.Nat.{ℕ, zero, suc, _+_, _-_, _*_, _/_, _≤_, _<_}
 use mathlib.Core.Path.{_≡_, sym, _∙_, ap}
-use mathlib.Core.Bool.{Bool}
+use mathlib.Core.Bool.{Bool, cond}
 use mathlib.Core.Logic.{by-cases}
 use native.Mathlib.Decide.{decLt, ℕ-discrete}
 use native.Mathlib.Omega.{arith}
+use lib.Dec.{ltb}
 use borrow.Author.Tests.{lt-ltb, le-ltb, eq-eqb, ne-eqb}
 use Rattle.model.specs.Netlist.{Netlist, readBits, lastWire}
 use Rattle.model.specs.Agree.{Agree}
 use Rattle.model.specs.Acceptance.{CodesFit}
 use Rattle.model.proofs.Agree.{inputs-same, latches-same, gates-same, m-same, n-same, second-same}
-use Rattle.model.proofs.Ports.{first-port}
+use Rattle.model.proofs.Ports.{first-port, second-port}
 use Rattle.model.proofs.Circuit.{Solves, evaluate-solves}
 use Rattle.model.proofs.Renumbering.{networkOf, DefinedBefore, constant, source, gate, SourceWire, netlist-defined, wire-defined, solves-obeys}
 use Rattle.aiger_graph.specs.Aig.{AigValues, SameAig}
-use Rattle.aiger_graph.specs.RecordAig.{inputOrRead, outputOf, recordAig, valuesOf}
+use Rattle.aiger_graph.specs.RecordAig.{inputOrRead, controlOutput, outputOf, recordAig, valuesOf}
 use Rattle.aiger_graph.proofs.Values.{AigSource, an-input, a-latch, AigDefined}
 
+-- the outputs between write data and WE are a second port's
+pub some-second : (second m x : ℕ) → x < second * (m + 1) → 0 < second
+some-second zero m x b = absurd (omega arith)
+some-second (suc second) m x b = omega arith
+
 -- an output's code is within its limit, where all codes are
+second-fits : {c : Netlist} → CodesFit c → 0 < c .secondPort → (t : ℕ) → cond (ltb t (c .m)) (c .address2 t) (c .RE2) / 2 ≤ lastWire c
+second-fits {c} fits some t =
+    by-cases (decLt t (c .m)) (λ b. rw (lt-ltb t (c .m) b) (omega (arith, fits .address-fits 2 (second-port c some) t b)))
+    (λ b. rw (le-ltb t (c .m) (omega arith)) (omega (arith, fits .RE-fits 2 (second-port c some))))
+
 pub output-fits : {c : Netlist} → CodesFit c → (o : ℕ) → outputOf c o / 2 ≤ lastWire c
 unfolding outputOf
 output-fits {c} fits o =
-    by-cases (decLt o (c .m)) (λ b. rw (lt-ltb o (c .m) b) (omega (arith, fits .address-fits 1 (omega arith, omega arith) o b)))
+    let control = controlOutput (c .m) (c .n) (c .secondPort) in
+    by-cases (decLt o (c .m)) (λ b. rw (lt-ltb o (c .m) b) (omega (arith, fits .address-fits 1 (first-port c) o b)))
     (λ b. rw (le-ltb o (c .m) (omega arith))
     (by-cases (decLt o (c .m + c .n)) (λ d. rw (lt-ltb o (c .m + c .n) d) (omega (arith, fits .data-fits (o - c .m) (omega arith))))
     (λ d. rw (le-ltb o (c .m + c .n) (omega arith))
-    (by-cases (ℕ-discrete o (c .m + c .n)) (λ e. rw (eq-eqb o (c .m + c .n) e) (omega (arith, fits .WE-fits)))
-    (λ e. rw (ne-eqb o (c .m + c .n) e)
-    (by-cases (ℕ-discrete o (c .m + c .n + 1))
-    (λ f. rw (eq-eqb o (c .m + c .n + 1) f) (omega (arith, fits .RE-fits 1 (omega arith, omega arith))))
-    (λ f. rw (ne-eqb o (c .m + c .n + 1) f) (omega (arith, fits .P-fits)))))))))
+    (by-cases (decLt o control)
+    (λ s. rw (lt-ltb o control s)
+    (second-fits fits (some-second (c .secondPort) (c .m) (o - (c .m + c .n)) (omega arith)) (o - (c .m + c .n))))
+    (λ s. rw (le-ltb o control (omega arith))
+    (by-cases (ℕ-discrete o control) (λ e. rw (eq-eqb o control e) (omega (arith, fits .WE-fits)))
+    (λ e. rw (ne-eqb o control e)
+    (by-cases (ℕ-discrete o (control + 1)) (λ f. rw (eq-eqb o (control + 1) f) (omega (arith, fits .RE-fits 1 (first-port c))))
+    (λ f. rw (ne-eqb o (control + 1) f) (omega (arith, fits .P-fits)))))))))))
 
 -- a wire before the gates is the constant's, an input's, a latch's or a read bit's
 wire-source : (c : Netlist) (g w : ℕ) → SourceWire c w → DefinedBefore (networkOf c) (AigSource (recordAig c)) g w
@@ -82,15 +97,26 @@ module _ (c : Netlist) (fits : CodesFit c) (input latch : ℕ → Bool) where
 
 -- records that agree have one graph
 module _ (c d : Netlist) (q : Agree c d) where
+  second-agrees : 0 < c .secondPort → (t : ℕ) → cond (ltb t (c .m)) (c .address2 t) (c .RE2) ≡ cond (ltb t (c .m)) (d .address2 t) (d .RE2)
+  second-agrees some t =
+      by-cases (decLt t (c .m)) (λ b. rw (lt-ltb t (c .m) b) (q .address-same 2 (second-port c some) t b))
+      (λ b. rw (le-ltb t (c .m) (omega arith)) (q .RE-same 2 (second-port c some)))
+
   output-agrees : (o : ℕ) → outputOf c o ≡ outputOf d o
   unfolding outputOf
   output-agrees o =
       let m = m-same c d q in
       let n = n-same c d q in
+      let second = second-same c d q in
+      let control = controlOutput (c .m) (c .n) (c .secondPort) in
       by-cases (decLt o (c .m)) (λ b. rw (← m, lt-ltb o (c .m) b) (q .address-same 1 (first-port c) o b))
-      (λ b. rw (← m, ← n, le-ltb o (c .m) (omega arith))
+      (λ b. rw (← m, ← n, ← second, le-ltb o (c .m) (omega arith))
       (by-cases (decLt o (c .m + c .n)) (λ e. rw (lt-ltb o (c .m + c .n) e) (q .data-same (o - c .m) (omega arith)))
-      (λ e. rw (le-ltb o (c .m + c .n) (omega arith), q .WE-same, q .RE-same 1 (first-port c), q .P-same))))
+      (λ e. rw (le-ltb o (c .m + c .n) (omega arith))
+      (by-cases (decLt o control)
+      (λ s. rw (lt-ltb o control s)
+      (second-agrees (some-second (c .secondPort) (c .m) (o - (c .m + c .n)) (omega arith)) (o - (c .m + c .n))))
+      (λ s. rw (le-ltb o control (omega arith), q .WE-same, q .RE-same 1 (first-port c), q .P-same))))))
 
   pub agree-aig : SameAig (recordAig d) (recordAig c)
   unfolding inputOrRead
@@ -106,7 +132,7 @@ module _ (c d : Netlist) (q : Agree c d) where
             record {
               inputs-same = rw (← inputs, ← n, ← second);
               latches-same = sym latches;
-              outputs-same = rw (← m, ← n);
+              outputs-same = rw (← m, ← n, ← second);
               gates-same = sym gates;
             };
         input-same = λ x b. rw (← inputs, ← latches);

@@ -1,11 +1,14 @@
 -- The record and the lists that are filled by a table stand for the netlist of the text (specs/Tables.antt, and TextNetlist in
 -- aiger_netlist). Cited by `fill`.
-use Prim.Native.Nat.{ℕ, _+_, _/_, _<_}
+use Prim.Native.Nat.{ℕ, _+_, _*_, _/_, _≤_, _<_}
 use mathlib.Core.Path.{_≡_, refl, _∙_, ap, fun-ext}
+use mathlib.Core.Bool.{cond}
 use mathlib.Core.List.{List}
 use mathlib.Core.Logic.{by-cases}
 use native.Mathlib.Decide.{decLt}
+use native.Mathlib.Nat.{mul-le-mul-right}
 use native.Mathlib.Omega.{arith}
+use lib.Dec.{ltb}
 use lib.ListN.{length, length-replicate, List·getD-eq-default}
 use borrow.Author.Tests.{lt-ltb, le-ltb}
 use Rattle.model.specs.Gather.{gather}
@@ -17,6 +20,7 @@ use Rattle.netlist.specs.declared.Netlist.{Netlist}
 use Rattle.sheet_steps.specs.Lists.{Holds}
 use Rattle.sheet_parse.specs.Progress.{noCodes}
 use Rattle.sheet_parse.proofs.InProgress.{no-code, no-code-of}
+use Rattle.aiger_graph.specs.RecordAig.{controlOutput}
 use Rattle.aiger_lines.specs.Parts.{countsIn, linesDue, textLatchLine, textGateLine, numbersOnLine, malformedAt}
 use Rattle.aiger_lines.specs.declared.Counts.{Counts}
 use Rattle.aiger_lines.specs.declared.Part.the-variants.{Latch}
@@ -29,7 +33,7 @@ use Rattle.aiger_netlist.proofs.Defined.{Known, constant, line, next-known, out
 use Rattle.aiger_netlist.proofs.Codes.{wire-zero}
 use Rattle.aiger_codes.specs.WireTable.{wireFound}
 use Rattle.aiger_codes.specs.Filling.{codesBehind, NoCodes, ListFilled}
-use Rattle.aiger_codes.specs.Outputs.{outputCode, Coded, withAddress, withData, withControl, OutputsPut}
+use Rattle.aiger_codes.specs.Outputs.{outputCode, Coded, withAddress, withData, withSecond, enableCode, controlPut, OutputsPut}
 use Rattle.aiger_codes.proofs.WireTable.{wire-found}
 use Rattle.aiger_import.specs.Tables.{sizesOfText, TextReady, TableFor}
 use Rattle.aiger_import.proofs.Sized.{text-defined, text-fits, sized}
@@ -57,12 +61,13 @@ module _ (s : List ℕ) (r : Netlist) (ready : TextReady s r) where
   abbrev c : M.Netlist
   c = sizesOfText s r
 
-  pub no-outputs : Coded 12 0 (λ o. 0) (r .address) × Coded 32 0 (λ o. 0) (r .«write_data»)
+  pub no-outputs : Coded 12 0 (λ o. 0) (r .address) × Coded 32 0 (λ o. 0) (r .«write_data») × Coded 12 0 (λ o. 0) (r .address2)
   unfolding recordOf gather
   no-outputs =
       rw (ready .sizes-are) (
         record { full = refl; has = fun-ext (λ t. no-code-of 12 t refl ∙ rw (le-ltb t 0 (omega arith))) },
         record { full = refl; has = fun-ext (λ t. no-code-of 32 t refl ∙ rw (le-ltb t 0 (omega arith))) },
+        record { full = refl; has = fun-ext (λ t. no-code-of 12 t refl ∙ rw (le-ltb t 0 (omega arith))) },
       )
 
   module _ (table : List ℕ) (latchesAt gatesAt : ℕ) (has : TableFor s r table latchesAt gatesAt) where
@@ -70,7 +75,7 @@ module _ (s : List ℕ) (r : Netlist) (ready : TextReady s r) where
     found : (x : ℕ) → Known s (linesDue h + 1) (x / 2) → renamed (wireFound table) x ≡ codeFrom s c x
     unfolding renamed
     found x k =
-        rw (wire-found s (text-defined s r ready) (r .m) (r .n) (r .«initial_word») (r .«unknown_start») (text-fits s r ready) table (has .wires)
+        rw (wire-found s (text-defined s r ready) (r .m) (r .n) (r .«initial_word») (r .«unknown_start») (r .«second_port») (text-fits s r ready) table (has .wires)
         (ready .sizes-fit .wires-fit) (x / 2) k)
 
     output : (o : ℕ) → o < h .outputs → outputCode table o ≡ codeFrom s c (outputAt s o)
@@ -134,14 +139,16 @@ module _ (s : List ℕ) (r : Netlist) (ready : TextReady s r) where
 
       module _ (net : Netlist) (put : OutputsPut r table net) where
         -- the record, by the sizes
-        whole : net ≡ withControl (withData (withAddress (recordOf c) (net .address)) (net .«write_data»)) (outputCode table (r .m + r .n))
-            (outputCode table (r .m + r .n + 1)) (outputCode table (r .m + r .n + 2))
+        whole : net ≡ controlPut r table (withSecond (withData (withAddress (recordOf c) (net .address)) (net .«write_data»)) (net .address2))
         whole =
             put .others
-            ∙ ap (λ (x : Netlist). withControl (withData (withAddress x (net .address)) (net .«write_data»)) (outputCode table (r .m + r .n))
-            (outputCode table (r .m + r .n + 1)) (outputCode table (r .m + r .n + 2))) (ready .sizes-are)
+            ∙ ap (λ (x : Netlist). controlPut r table (withSecond (withData (withAddress x (net .address)) (net .«write_data»)) (net .address2)))
+            (ready .sizes-are)
 
-        due : (o : ℕ) → o < r .m + r .n + 3 → outputCode table o ≡ codeFrom s c (outputAt s o)
+        abbrev control : ℕ
+        control = controlOutput (r .m) (r .n) (r .«second_port»)
+
+        due : (o : ℕ) → o < control + 3 → outputCode table o ≡ codeFrom s c (outputAt s o)
         due o b = output o (omega (arith, sized s r ready h refl))
 
         address-is : codeOf (net .address) ≡ upTo (r .m) (λ t. codeFrom s c (outputAt s t))
@@ -154,11 +161,21 @@ module _ (s : List ℕ) (r : Netlist) (ready : TextReady s r) where
             put .data-codes .has
             ∙ upTo-same (r .n) (λ t. outputCode table (r .m + t)) (λ t. codeFrom s c (outputAt s (r .m + t))) (λ t b. due (r .m + t) (omega arith))
 
-        second-is : codeOf (net .address2) ≡ (λ t. 0)
-        unfolding recordOf gather
-        second-is = fun-ext (λ t. no-code-of 12 t (ap (λ (x : Netlist). x .address2) whole))
+        second-is : codeOf (net .address2) ≡ upTo (r .«second_port» * r .m) (λ t. codeFrom s c (outputAt s (r .m + r .n + t)))
+        second-is =
+            put .second-codes .has
+            ∙ upTo-same (r .«second_port» * r .m) (λ t. outputCode table (r .m + r .n + t)) (λ t. codeFrom s c (outputAt s (r .m + r .n + t)))
+            (λ t b. due (r .m + r .n + t) (omega arith))
 
-        net-is : netOf net latches gates ≡ aagNet s (r .m) (r .n) (r .«initial_word») (r .«unknown_start»)
+        enable-is : enableCode r table ≡ cond (ltb 0 (r .«second_port»)) (codeFrom s c (outputAt s (r .m + r .n + r .m))) 0
+        enable-is =
+            by-cases (decLt 0 (r .«second_port»))
+            (λ some.
+            let long : 1 * r .m ≤ r .«second_port» * r .m = mul-le-mul-right (r .m) some in
+            rw (lt-ltb 0 (r .«second_port») some) (due (r .m + r .n + r .m) (omega arith)))
+            (λ none. rw (le-ltb 0 (r .«second_port») (omega arith)))
+
+        net-is : netOf net latches gates ≡ aagNet s (r .m) (r .n) (r .«initial_word») (r .«unknown_start») (r .«second_port»)
         unfolding netOf netOfCodes recordOf
         net-is =
             λ i. record {
@@ -176,25 +193,21 @@ module _ (s : List ℕ) (r : Netlist) (ready : TextReady s r) where
               right = right-is i;
               address = address-is i;
               writeData = data-is i;
-              WE = (ap (λ (x : Netlist). x .we .0) whole ∙ due (r .m + r .n) (omega arith)) i;
-              RE = (ap (λ (x : Netlist). x .re .0) whole ∙ due (r .m + r .n + 1) (omega arith)) i;
-              P = (ap (λ (x : Netlist). x .p .0) whole ∙ due (r .m + r .n + 2) (omega arith)) i;
+              WE = (ap (λ (x : Netlist). x .we .0) whole ∙ due control (omega arith)) i;
+              RE = (ap (λ (x : Netlist). x .re .0) whole ∙ due (control + 1) (omega arith)) i;
+              P = (ap (λ (x : Netlist). x .p .0) whole ∙ due (control + 2) (omega arith)) i;
               address2 = second-is i;
-              RE2 = whole i .re2 .0;
+              RE2 = (ap (λ (x : Netlist). x .re2 .0) whole ∙ enable-is) i;
             }
 
-        second-full : length (net .address2) ≡ 12
-        unfolding recordOf gather
-        second-full = rw (ap (λ (x : Netlist). x .address2) whole)
-
-        of-text : Holds net latches gates (aagNet s (r .m) (r .n) (r .«initial_word») (r .«unknown_start»))
+        of-text : Holds net latches gates (aagNet s (r .m) (r .n) (r .«initial_word») (r .«unknown_start») (r .«second_port»))
         of-text =
             record {
               full =
                   record {
                     address-codes = put .address-codes .full;
                     data-codes = put .data-codes .full;
-                    second-codes = second-full;
+                    second-codes = put .second-codes .full;
                     latch-codes = latchList .full;
                     gate-codes = gateList .full;
                   };
@@ -206,5 +219,5 @@ module _ (s : List ℕ) (r : Netlist) (ready : TextReady s r) where
         → ListFilled (r .latches) (codesBehind s (1 + k .inputs) table 1) (codesBehind s (1 + k .inputs) table 2) latches
         → ListFilled (r .gates) (codesBehind s (1 + k .inputs + k .latches + k .outputs) table 1)
         (codesBehind s (1 + k .inputs + k .latches + k .outputs) table 2) gates
-        → (net : Netlist) → OutputsPut r table net → Holds net latches gates (aagNet s (r .m) (r .n) (r .«initial_word») (r .«unknown_start»))
+        → (net : Netlist) → OutputsPut r table net → Holds net latches gates (aagNet s (r .m) (r .n) (r .«initial_word») (r .«unknown_start») (r .«second_port»))
     filled k e = rw e of-text

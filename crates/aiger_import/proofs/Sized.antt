@@ -1,10 +1,12 @@
 -- The numbers of a text that is ready to be read (specs/Tables.antt), and lines of it that are ahead. Cited by the functions of this crate.
-use Prim.Native.Nat.{ℕ, _+_, _≤_}
+use Prim.Native.Nat.{ℕ, _+_, _*_, _≤_}
 use mathlib.Core.Path.{_≡_, refl, sym, ap, subst}
 use mathlib.Core.List.{List}
 use native.Mathlib.Omega.{arith}
+use Rattle.model.proofs.Ports.{second-most}
 use Rattle.netlist.specs.RecordOf.{recordOf}
 use Rattle.netlist.specs.declared.Netlist.{Netlist}
+use Rattle.aiger_graph.specs.RecordAig.{controlOutput}
 use Rattle.aiger_lines.specs.Parts.{countsIn, linesDue, partAt, numbersOnLine, malformedAt}
 use Rattle.aiger_lines.specs.Steps.{Behind}
 use Rattle.aiger_lines.specs.declared.Counts.{Counts}
@@ -17,20 +19,22 @@ use Rattle.aiger_import.specs.Tables.{sizesOfText, TextReady}
 
 -- the header's counts by the record's numbers, and the limits of these
 pub record Sized (h : Counts) (r : Netlist) : Type 0 where
-  pub inputs-are : h .inputs ≡ r .inputs + r .n
+  pub inputs-are : h .inputs ≡ r .inputs + (r .«second_port» + 1) * r .n
   pub latches-are : h .latches ≡ r .latches
-  pub outputs-are : h .outputs ≡ r .m + r .n + 3
+  pub outputs-are : h .outputs ≡ controlOutput (r .m) (r .n) (r .«second_port») + 3
   pub gates-are : h .gates ≡ r .gates
   pub m-most : r .m ≤ 12
   pub n-most : r .n ≤ 32
-  pub wires-fit : r .inputs + r .latches + r .n + r .gates ≤ 600
+  pub second-most : r .«second_port» ≤ 1
+  pub addresses-most : r .«second_port» * r .m ≤ r .m
+  pub wires-fit : r .inputs + r .latches + (r .«second_port» + 1) * r .n + r .gates ≤ 600
 
 module _ (s : List ℕ) (r : Netlist) (ready : TextReady s r) where
   pub text-defined : WellDefined s
-  text-defined = well-defined s (r .m) (r .n) (ready .text-passes)
+  text-defined = well-defined s (r .m) (r .n) (r .«second_port») (ready .text-passes)
 
-  pub text-fits : FitsInterface (countsIn s) (r .m) (r .n)
-  text-fits = fits-interface s (r .m) (r .n) (ready .text-passes)
+  pub text-fits : FitsInterface (countsIn s) (r .m) (r .n) (r .«second_port»)
+  text-fits = fits-interface s (r .m) (r .n) (r .«second_port») (ready .text-passes)
 
   pub sized : (h : Counts) → h ≡ countsIn s → Sized h r
   unfolding recordOf
@@ -46,6 +50,8 @@ module _ (s : List ℕ) (r : Netlist) (ready : TextReady s r) where
         gates-are = sym gates;
         m-most = ready .sizes-fit .m-most;
         n-most = ready .sizes-fit .n-most;
+        second-most = omega (arith, ready .sizes-fit .kind-fits);
+        addresses-most = second-most (ready .sizes-fit) (r .m);
         wires-fit = omega (arith, inputs, latches, gates, ready .sizes-fit .wires-fit);
       })
 

@@ -34,13 +34,13 @@ use Rattle.aiger_netlist.proofs.Codes.{text-codes-fit, no-code-fault}
 use Rattle.aiger_netlist.proofs.Verdict.{well-defined, fits-interface}
 use Rattle.aiger_import.specs.Tables.{TextReady}
 
-module _ (s : List ℕ) (m n word unknown : ℕ) where
+module _ (s : List ℕ) (m n word unknown second : ℕ) where
   -- sizes are tested alike, whatever the codes
-  sizes-alone : testLines (alone (recordOf (textSizes (countsIn s) m n word unknown))) Size sizeFault ≡ testLines (aagNet s m n word unknown) Size sizeFault
+  sizes-alone : testLines (alone (recordOf (textSizes (countsIn s) m n word unknown second))) Size sizeFault ≡ testLines (aagNet s m n word unknown second) Size sizeFault
   unfolding netOf recordOf netOfCodes lineAt sizeFault
-  sizes-alone = testLines-same (alone (recordOf (textSizes (countsIn s) m n word unknown))) (aagNet s m n word unknown) Size sizeFault same (λ p. refl) refl
+  sizes-alone = testLines-same (alone (recordOf (textSizes (countsIn s) m n word unknown second))) (aagNet s m n word unknown second) Size sizeFault same (λ p. refl) refl
     where
-      same : (x : Line) → sizeFault (alone (recordOf (textSizes (countsIn s) m n word unknown))) x ≡ sizeFault (aagNet s m n word unknown) x
+      same : (x : Line) → sizeFault (alone (recordOf (textSizes (countsIn s) m n word unknown second))) x ≡ sizeFault (aagNet s m n word unknown second) x
       same Sizes = refl
       same Memory = refl
       same (Latch l) = refl
@@ -51,16 +51,16 @@ module _ (s : List ℕ) (m n word unknown : ℕ) where
       same SecondEnable = refl
       same Control = refl
 
-  module _ (h : Counts) (counts-are : h ≡ countsIn s) (r : Netlist) (sizes-are : r ≡ recordOf (textSizes h m n word unknown)) where
-    of-text : r ≡ recordOf (textSizes (countsIn s) m n word unknown)
-    of-text = sizes-are ∙ ap (λ (k : Counts). recordOf (textSizes k m n word unknown)) counts-are
+  module _ (h : Counts) (counts-are : h ≡ countsIn s) (r : Netlist) (sizes-are : r ≡ recordOf (textSizes h m n word unknown second)) where
+    of-text : r ≡ recordOf (textSizes (countsIn s) m n word unknown second)
+    of-text = sizes-are ∙ ap (λ (k : Counts). recordOf (textSizes k m n word unknown second)) counts-are
 
-    pub sizes-tested : {v : Verdict} → v ≡ testLines (alone r) Size sizeFault → testLines (aagNet s m n word unknown) Size sizeFault ≡ v
+    pub sizes-tested : {v : Verdict} → v ≡ testLines (alone r) Size sizeFault → testLines (aagNet s m n word unknown second) Size sizeFault ≡ v
     sizes-tested e = sym sizes-alone ∙ ap (λ (x : Netlist). testLines (alone x) Size sizeFault) (sym of-text) ∙ sym e
 
-    module _ (passed : textVerdict s m n ≡ Passed) (sized : testLines (aagNet s m n word unknown) Size sizeFault ≡ Passed) where
-      fit : SizesFit (aagNet s m n word unknown)
-      fit = sizes-fit (aagNet s m n word unknown) .0 (testLines-passes (aagNet s m n word unknown) Size sizeFault .0 sized)
+    module _ (passed : textVerdict s m n second ≡ Passed) (sized : testLines (aagNet s m n word unknown second) Size sizeFault ≡ Passed) where
+      fit : SizesFit (aagNet s m n word unknown second)
+      fit = sizes-fit (aagNet s m n word unknown second) .0 (testLines-passes (aagNet s m n word unknown second) Size sizeFault .0 sized)
 
       pub ready : TextReady s r
       unfolding recordOf netOfCodes
@@ -68,57 +68,57 @@ module _ (s : List ℕ) (m n word unknown : ℕ) where
           rw of-text (record {
             text-passes = passed;
             sizes-are = refl;
-            sizes-fit = sizesFit-same (aagNet s m n word unknown) (textSizes (countsIn s) m n word unknown) refl fit;
+            sizes-fit = sizesFit-same (aagNet s m n word unknown second) (textSizes (countsIn s) m n word unknown second) refl fit;
           })
 
-      module _ (net : Netlist) (latches gates : List ℕ) (filled : Holds net latches gates (aagNet s (r .m) (r .n) (r .«initial_word») (r .«unknown_start»))) where
-        pub held : Holds net latches gates (aagNet s m n word unknown)
+      module _ (net : Netlist) (latches gates : List ℕ) (filled : Holds net latches gates (aagNet s (r .m) (r .n) (r .«initial_word») (r .«unknown_start») (r .«second_port»))) where
+        pub held : Holds net latches gates (aagNet s m n word unknown second)
         unfolding recordOf
-        held = subst (λ (x : Netlist). Holds net latches gates (aagNet s (x .m) (x .n) (x .«initial_word») (x .«unknown_start»))) of-text filled
+        held = subst (λ (x : Netlist). Holds net latches gates (aagNet s (x .m) (x .n) (x .«initial_word») (x .«unknown_start») (x .«second_port»))) of-text filled
 
         pub limits : WithinLimits (netOf net [] gates)
         limits =
             limits-without-latches net latches gates
             (rw (held .net-is) (record {
               sizes = fit;
-              codes = text-codes-fit s (well-defined s m n passed) m n word unknown (fits-interface s m n passed);
+              codes = text-codes-fit s (well-defined s m n second passed) m n word unknown second (fits-interface s m n second passed);
             }))
 
-        pub port-tested : {v : Verdict} → v ≡ testPorts (netOf net [] gates) → testPorts (aagNet s m n word unknown) ≡ v
+        pub port-tested : {v : Verdict} → v ≡ testPorts (netOf net [] gates) → testPorts (aagNet s m n word unknown second) ≡ v
         port-tested e = sym (e ∙ test-ports-latches net latches gates ∙ ap testPorts (held .net-is))
 
         pub short-held : (latchRoom gateRoom : ℕ)
-            → (ltb latchRoom (net .latches) || ltb gateRoom (net .gates)) ≡ listsShort (aagNet s m n word unknown) latchRoom gateRoom
+            → (ltb latchRoom (net .latches) || ltb gateRoom (net .gates)) ≡ listsShort (aagNet s m n word unknown second) latchRoom gateRoom
         short-held latchRoom gateRoom = let same = sizes-held net latches gates held in rw (same .0, same .1)
 
   -- 5 is met by no text that has passed its own tests
-  no-five : textVerdict s m n ≡ Passed → testLines (aagNet s m n word unknown) CodeOutside codeFault ≡ Passed
-  no-five e = no-code-fault s (well-defined s m n e) m n word unknown (fits-interface s m n e)
+  no-five : textVerdict s m n second ≡ Passed → testLines (aagNet s m n word unknown second) CodeOutside codeFault ≡ Passed
+  no-five e = no-code-fault s (well-defined s m n second e) m n word unknown second (fits-interface s m n second e)
 
   -- the verdict, by the first test that refuses
   module _ (latchRoom gateRoom : ℕ) where
     module _ {r : Refusal} {p : ℕ} where
-      pub text-refused : textVerdict s m n ≡ Refused r p → importVerdict s m n word unknown latchRoom gateRoom ≡ Refused r p
+      pub text-refused : textVerdict s m n second ≡ Refused r p → importVerdict s m n word unknown second latchRoom gateRoom ≡ Refused r p
       unfolding importVerdict _then_
       text-refused e = rw e
 
-      pub sizes-refused : textVerdict s m n ≡ Passed → testLines (aagNet s m n word unknown) Size sizeFault ≡ Refused r p
-          → importVerdict s m n word unknown latchRoom gateRoom ≡ Refused r p
+      pub sizes-refused : textVerdict s m n second ≡ Passed → testLines (aagNet s m n word unknown second) Size sizeFault ≡ Refused r p
+          → importVerdict s m n word unknown second latchRoom gateRoom ≡ Refused r p
       unfolding importVerdict _then_
       sizes-refused e f = rw (e, f)
 
-      pub port-refused : textVerdict s m n ≡ Passed → testLines (aagNet s m n word unknown) Size sizeFault ≡ Passed
-          → testPorts (aagNet s m n word unknown) ≡ Refused r p → importVerdict s m n word unknown latchRoom gateRoom ≡ Refused r p
+      pub port-refused : textVerdict s m n second ≡ Passed → testLines (aagNet s m n word unknown second) Size sizeFault ≡ Passed
+          → testPorts (aagNet s m n word unknown second) ≡ Refused r p → importVerdict s m n word unknown second latchRoom gateRoom ≡ Refused r p
       unfolding importVerdict _then_
       port-refused e f g = rw (e, f, no-five e, g)
 
-    module _ (e : textVerdict s m n ≡ Passed) (f : testLines (aagNet s m n word unknown) Size sizeFault ≡ Passed)
-        (g : testPorts (aagNet s m n word unknown) ≡ Passed) where
-      pub room-refused : listsShort (aagNet s m n word unknown) latchRoom gateRoom ≡ true
-          → importVerdict s m n word unknown latchRoom gateRoom ≡ Refused NoRoom 0
+    module _ (e : textVerdict s m n second ≡ Passed) (f : testLines (aagNet s m n word unknown second) Size sizeFault ≡ Passed)
+        (g : testPorts (aagNet s m n word unknown second) ≡ Passed) where
+      pub room-refused : listsShort (aagNet s m n word unknown second) latchRoom gateRoom ≡ true
+          → importVerdict s m n word unknown second latchRoom gateRoom ≡ Refused NoRoom 0
       unfolding importVerdict _then_
       room-refused k = rw (e, f, no-five e, g, k)
 
-      pub all-passed : listsShort (aagNet s m n word unknown) latchRoom gateRoom ≡ false → importVerdict s m n word unknown latchRoom gateRoom ≡ Passed
+      pub all-passed : listsShort (aagNet s m n word unknown second) latchRoom gateRoom ≡ false → importVerdict s m n word unknown second latchRoom gateRoom ≡ Passed
       unfolding importVerdict _then_
       all-passed k = rw (e, f, no-five e, g, k)

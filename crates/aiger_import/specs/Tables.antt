@@ -19,18 +19,18 @@ use Rattle.aiger_codes.specs.WireTable.{WireTable}
 
 -- the sizes of a text, with the caller's numbers in a record
 abbrev pub sizesOfText : List ℕ → Netlist → M.Netlist
-sizesOfText s r = textSizes (countsIn s) (r .m) (r .n) (r .«initial_word») (r .«unknown_start»)
+sizesOfText s r = textSizes (countsIn s) (r .m) (r .n) (r .«initial_word») (r .«unknown_start») (r .«second_port»)
 
 -- a text that passes 11 to 13, and the record of its sizes, which are within their limits
 pub record TextReady (s : List ℕ) (r : Netlist) : Type 0 where
-  pub text-passes : textVerdict s (r .m) (r .n) ≡ Passed
+  pub text-passes : textVerdict s (r .m) (r .n) (r .«second_port») ≡ Passed
   pub sizes-are : r ≡ recordOf (sizesOfText s r)
   pub sizes-fit : SizesFit (sizesOfText s r)
 
 -- a table of a text's first numbers by wire, with its outputs behind the last wire that there may be; its latches' lines begin at byte
 -- `latches`, and its gates' at byte `gates`
 pub record TableFor (s : List ℕ) (r : Netlist) (table : List ℕ) (latches gates : ℕ) : Type 0 where
-  pub full : length table ≡ 648
+  pub full : length table ≡ 661
   pub wires : WireTable s (sizesOfText s r) table
   pub outputs : (o : ℕ) → o < countsIn s .outputs → getD table (mostWires + 1 + o) 0 ≡ outputAt s o
   pub latches-behind : Behind s (1 + countsIn s .inputs) latches

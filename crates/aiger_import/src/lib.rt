@@ -1,4 +1,4 @@
-// An ASCII AIGER text as a record and unpacked lists, or the refusal that it gets (RULES I1 to I8, I10 and I11, T55).
+// An ASCII AIGER text as a record and unpacked lists, or the refusal that it gets (RULES I1 to I8 and I10 to I12, T55).
 use aiger_codes::FirstNumbers;
 use aiger_lines::HeaderLine;
 use netlist::Netlist;
@@ -29,16 +29,24 @@ fn text_table(text: &[u8], header: HeaderLine, sizes: Netlist) -> TextTable
     ensures { λ r. ⌜ TableFor (now (text .entry)) sizes (r .entries) (r .latches) (r .gates) ⌝ }
 {
     let counts = header.counts;
+    let read_bits = (sizes.second_port + 1) * sizes.n;
     let latch_wire = 1 + sizes.inputs as usize;
     let read_wire = latch_wire + sizes.latches as usize;
-    let gate_wire = read_wire + sizes.n as usize;
+    let gate_wire = read_wire + read_bits as usize;
     let read_line = 1 + sizes.inputs as u64;
     let latch_line = 1 + counts.inputs as u64;
     let output_line = latch_line + counts.latches as u64;
     let gate_line = output_line + counts.outputs as u64;
-    let mut entries: FirstNumbers = [0; 648];
+    let mut entries: FirstNumbers = [0; 661];
     let reads = aiger_codes::put_firsts(text, 1, header.next, sizes.inputs, 1, &mut entries);
-    let latches = aiger_codes::put_firsts(text, read_line, reads, sizes.n, read_wire, &mut entries);
+    let latches = aiger_codes::put_firsts(
+        text,
+        read_line,
+        reads,
+        read_bits,
+        read_wire,
+        &mut entries,
+    );
     let outputs = aiger_codes::put_firsts(
         text,
         latch_line,
@@ -72,7 +80,7 @@ fn fill(
     gates: &mut UnpackedList,
 ) -> Netlist
     requires { ⌜ HeaderRead (now text) (header .counts) (header .next) × TextReady (now text) sizes × (now latches ≡ noCodes) × (now gates ≡ noCodes) ⌝ }
-    ensures { λ r. ⌜ Holds r (now (latches .exit)) (now (gates .exit)) (aagNet (now (text .entry)) (sizes .m) (sizes .n) (sizes .«initial_word») (sizes .«unknown_start»)) ⌝ }
+    ensures { λ r. ⌜ Holds r (now (latches .exit)) (now (gates .exit)) (aagNet (now (text .entry)) (sizes .m) (sizes .n) (sizes .«initial_word») (sizes .«unknown_start») (sizes .«second_port»)) ⌝ }
 {
     let counts = header.counts;
     let table = text_table(text, header, sizes);
@@ -100,21 +108,22 @@ pub fn import_text(
     n: u32,
     word: u32,
     unknown: u32,
+    second_port: u32,
     latch_room: usize,
     gate_room: usize,
     latches: &mut UnpackedList,
     gates: &mut UnpackedList,
 ) -> SheetAnswer
     requires { ⌜ (now latches ≡ noCodes) × (now gates ≡ noCodes) ⌝ }
-    ensures { λ r. ⌜ Outcome r (now (latches .exit)) (now (gates .exit)) (importVerdict (now (text .entry)) m n (importedWord word unknown) unknown «latch_room» «gate_room») (aagNet (now (text .entry)) m n (importedWord word unknown) unknown) ⌝ }
+    ensures { λ r. ⌜ Outcome r (now (latches .exit)) (now (gates .exit)) (importVerdict (now (text .entry)) m n (importedWord word unknown) unknown «second_port» «latch_room» «gate_room») (aagNet (now (text .entry)) m n (importedWord word unknown) unknown «second_port») ⌝ }
 {
     let given = netlist::given_word(word, unknown);
     let header = aiger_lines::read_header(text);
-    let tested = aiger_tests::test_text(text, header, m, n);
+    let tested = aiger_tests::test_text(text, header, m, n, second_port);
     if let Verdict::Refused(refusal, line) = tested {
         return sheet_steps::refused(refusal, line);
     }
-    let sizes = aiger_codes::text_sizes(header.counts, m, n, given, unknown);
+    let sizes = aiger_codes::text_sizes(header.counts, m, n, given, unknown, second_port);
     let sized = netlist_tests::test_sizes(sizes);
     if let Verdict::Refused(refusal, place) = sized {
         return sheet_steps::refused(refusal, place);

@@ -17,9 +17,9 @@ use Rattle.aiger_graph.specs.RecordAig.{recordAig, valuesOf}
 use Rattle.aiger_netlist.specs.TextNetlist.{aagNet}
 use Rattle.aiger_netlist.specs.TextAig.{textAig}
 
-pub record Imported (s : List ℕ) (m n word unknown : ℕ) (d : Netlist) (latchCount gateCount : ℕ) : Type 0 where
+pub record Imported (s : List ℕ) (m n word unknown second : ℕ) (d : Netlist) (latchCount gateCount : ℕ) : Type 0 where
   pub not-refused : recordVerdict d latchCount gateCount ≡ Passed
-  pub agrees : Agree (aagNet s m n word unknown) d
+  pub agrees : Agree (aagNet s m n word unknown second) d
   pub has-values : (input latch : ℕ → Bool) → (v : Values) × AigValues (textAig s) input latch v
   pub same-values : (input latch : ℕ → Bool) (v : Values) → AigValues (textAig s) input latch v
       → SameInOrder (textAig s) (recordAig d) v (valuesOf d input latch)

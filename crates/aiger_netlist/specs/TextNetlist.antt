@@ -1,7 +1,8 @@
--- The netlist that an ASCII AIGER text describes (RULES I6 to I8). The caller gives m, n, the start word and whether it is unknown; the text's last n inputs are
--- the read bits, its outputs are address, write data, WE, RE and P, and each latch starts at 0; there is no second port. Variables become wires
--- in the order of their lines. Cited by `import_text`, aiger_import/specs/ImportCall, specs/ImportVerdict and specs/Imported.
-use Prim.Native.Nat.{ℕ, _+_, _-_}
+-- The netlist that an ASCII AIGER text describes (RULES I6 to I8 and I12). The caller gives m, n, the start word, whether it is unknown, and how many
+-- ports there are beside the first; the text's last inputs are the read bits of all ports, its outputs the codes behind the gates in the order of the
+-- sheet: address, write data, of a second port address and RE, then WE, RE and P; each latch starts at 0. Variables become wires in the order
+-- of their lines. Cited by `import_text`, aiger_import/specs/ImportCall, specs/ImportVerdict and specs/Imported.
+use Prim.Native.Nat.{ℕ, suc, _+_, _-_, _*_}
 use mathlib.Core.Bool.{cond}
 use mathlib.Core.List.{List}
 use lib.Dec.{eqb, ltb}
@@ -9,15 +10,25 @@ use Rattle.model.specs.Search.{firstWhere}
 use Rattle.model.specs.Netlist.{Netlist, inputWire, latchWire, readWire, gateWire}
 use Rattle.model.specs.Network.{renamed}
 use Rattle.netlist.specs.RecordOf.{withoutCodes, upTo}
+use Rattle.aiger_graph.specs.RecordAig.{controlOutput}
 use Rattle.aiger_lines.specs.Parts.{countsIn, linesDue, textInputLine, textLatchLine, textOutputLine, textGateLine}
 use Rattle.aiger_lines.specs.declared.Counts.{Counts}
 use Rattle.aiger_definitions.specs.Definitions.{numberAt, definedAt}
 
 -- the sizes: the inputs that are not read bits, the latches and the gates of the header; with no codes
-abbrev pub textSizes : Counts → ℕ → ℕ → ℕ → ℕ → Netlist
-textSizes h m n word unknown =
+abbrev pub textSizes : Counts → ℕ → ℕ → ℕ → ℕ → ℕ → Netlist
+textSizes h m n word unknown second =
     withoutCodes
-    (record { inputs = h .inputs - n; latches = h .latches; gates = h .gates; m = m; n = n; initialWord = word; unknownStart = unknown; secondPort = 0 })
+    (record {
+      inputs = h .inputs - suc second * n;
+      latches = h .latches;
+      gates = h .gates;
+      m = m;
+      n = n;
+      initialWord = word;
+      unknownStart = unknown;
+      secondPort = second;
+    })
 
 -- the wire of what line p defines, in a netlist of the sizes c: an input, a read bit, a latch or a gate
 unfoldable pub wireOf : Counts → Netlist → ℕ → ℕ
@@ -38,9 +49,11 @@ wireOfVariable s c v = cond (eqb v 0) 0 (wireOf (countsIn s) c (definingLine s v
 abbrev pub codeFrom : List ℕ → Netlist → ℕ → ℕ
 codeFrom s c x = renamed (wireOfVariable s c) x
 
--- the netlist of the sizes c, where `code p i` is the code for number i of line p. Outputs: m address codes, n write-data codes, WE, RE, P
+-- the netlist of the sizes c, where `code p i` is the code for number i of line p. Outputs: m address codes, n write-data codes, of a second port m
+-- address codes and RE, then WE, RE, P
 unfoldable pub netOfCodes : Counts → Netlist → (ℕ → ℕ → ℕ) → Netlist
 netOfCodes h c code =
+    let control = controlOutput (c .m) (c .n) (c .secondPort) in
     record {
       inputs = c .inputs;
       latches = c .latches;
@@ -56,14 +69,14 @@ netOfCodes h c code =
       right = upTo (c .gates) (λ g. code (textGateLine h g) 2);
       address = upTo (c .m) (λ t. code (textOutputLine h t) 0);
       writeData = upTo (c .n) (λ t. code (textOutputLine h (c .m + t)) 0);
-      WE = code (textOutputLine h (c .m + c .n)) 0;
-      RE = code (textOutputLine h (c .m + c .n + 1)) 0;
-      P = code (textOutputLine h (c .m + c .n + 2)) 0;
-      address2 = λ t. 0;
-      RE2 = 0;
+      WE = code (textOutputLine h control) 0;
+      RE = code (textOutputLine h (control + 1)) 0;
+      P = code (textOutputLine h (control + 2)) 0;
+      address2 = upTo (c .secondPort * c .m) (λ t. code (textOutputLine h (c .m + c .n + t)) 0);
+      RE2 = cond (ltb 0 (c .secondPort)) (code (textOutputLine h (c .m + c .n + c .m)) 0) 0;
     }
 
-abbrev pub aagNet : List ℕ → ℕ → ℕ → ℕ → ℕ → Netlist
-aagNet s m n word unknown =
-    let c = textSizes (countsIn s) m n word unknown in
+abbrev pub aagNet : List ℕ → ℕ → ℕ → ℕ → ℕ → ℕ → Netlist
+aagNet s m n word unknown second =
+    let c = textSizes (countsIn s) m n word unknown second in
     netOfCodes (countsIn s) c (λ p i. codeFrom s c (numberAt s p i))

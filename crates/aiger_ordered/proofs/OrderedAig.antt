@@ -9,6 +9,7 @@ use Rattle.model.specs.Netlist.{Netlist, readBits, latchWire, gateWire, lastWir
 use Rattle.model.specs.Network.{renamed}
 use Rattle.model.specs.Acceptance.{WithinLimits}
 use Rattle.model.proofs.Renumbering.{SameOperands, straight, crossed}
+use Rattle.model.proofs.Ports.{second-most}
 use Rattle.aiger_graph.specs.RecordAig.{inputOrRead, outputOf, recordAig}
 use Rattle.aiger_graph.proofs.Values.{RenumbersAig}
 use Rattle.aiger_graph.proofs.RecordAig.{output-fits}
@@ -122,5 +123,5 @@ writable {c} fits =
       next-below = λ l h. limit (c .next l) (omega (arith, fits .codes .next-fits l h));
       output-below = λ o h. limit (outputOf c o) (output-fits (fits .codes) o);
       codes-fit = omega (arith, fits .sizes .wires-fit);
-      outputs-fit = omega (arith, fits .sizes .m-most, fits .sizes .n-most);
+      outputs-fit = omega (arith, fits .sizes .m-most, fits .sizes .n-most, second-most (fits .sizes) (c .m + 1));
     }

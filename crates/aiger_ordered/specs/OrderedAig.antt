@@ -7,7 +7,7 @@ use lib.Dec.{ltb}
 use Rattle.model.specs.Netlist.{Netlist, readBits, gateWire}
 use Rattle.model.specs.Network.{renamed}
 use Rattle.aiger_graph.specs.Aig.{Aig}
-use Rattle.aiger_graph.specs.RecordAig.{outputOf}
+use Rattle.aiger_graph.specs.RecordAig.{controlOutput, outputOf}
 use Rattle.aiger_ordered.specs.declared.FileOrder.{FileOrder}
 
 -- how many inputs, latches and read bits a record has
@@ -30,7 +30,7 @@ aigOf c =
     record {
       inputs = c .inputs + readBits c;
       latches = c .latches;
-      outputs = c .m + c .n + 3;
+      outputs = controlOutput (c .m) (c .n) (c .secondPort) + 3;
       inputVariable = λ x. 1 + x;
       latchVariable = λ l. 1 + (c .inputs + readBits c) + l;
       next = λ l. fileCode c (c .next l);

@@ -57,9 +57,9 @@ pub fn file_code(order: FileOrder, code: Code) -> Code
     Code(2 * file_variable(order, Wire(x / 2)).0 + x % 2)
 }
 
-// The code of an output: address, write data, WE, RE, P.
+// The code of an output of a record with one port: address, write data, WE, RE, P.
 pub fn output_code(net: Netlist, output: u32) -> Code
-    requires { ⌜ SizesFit (alone net) × (output < net .m + net .n + 3) ⌝ }
+    requires { ⌜ SizesFit (alone net) × (output < net .m + net .n + 3) × (net .«second_port» ≡ 0) ⌝ }
     ensures { λ r. ⌜ r .0 ≡ outputOf (alone net) output ⌝ }
 {
     let data = net.m;

@@ -55,9 +55,9 @@ module _ (s : List ℕ) (fault : List ℕ → ℕ → Bool) (r : Refusal) {q : �
       placed-inOrder placeOf (fault s) r (linesDue (countsIn s))
       ∙ ap (placed placeOf) (inOrder-first (fault s) r (linesDue (countsIn s)) first) ∙ rw (le-ltb q (linesDue (countsIn s)) b)
 
-module _ (s : List ℕ) (m n : ℕ) {sound q : ℕ} (to : SoundTo s sound) (first : IsFirst (λ x. definesAgain s (suc x)) sound q) where
+module _ (s : List ℕ) (m n second : ℕ) {sound q : ℕ} (to : SoundTo s sound) (first : IsFirst (λ x. definesAgain s (suc x)) sound q) where
   -- 11
-  pub not-aiger : q < linesDue (countsIn s) → textVerdict s m n ≡ Refused NotAiger (placeOf (q + 1))
+  pub not-aiger : q < linesDue (countsIn s) → textVerdict s m n second ≡ Refused NotAiger (placeOf (q + 1))
   unfolding textVerdict _then_
   not-aiger b = rw (line-refused s notAiger NotAiger (first-not-aiger s to first) b)
 
@@ -70,17 +70,17 @@ module _ (s : List ℕ) (m n : ℕ) {sound q : ℕ} (to : SoundTo s sound) (firs
         whole = omega (arith, to .within, first .within)
 
     -- 12
-    pub interface : wrongInterface (countsIn s) m n ≡ true → textVerdict s m n ≡ Refused Interface 0
+    pub interface : wrongInterface (countsIn s) m n second ≡ true → textVerdict s m n second ≡ Refused Interface 0
     unfolding textVerdict _then_
     interface e = rw (line-passed s notAiger NotAiger (first-not-aiger s to first) aiger, e)
 
     -- 13, or nothing is refused
-    module _ (fits : wrongInterface (countsIn s) m n ≡ false) {u : ℕ} (next : IsFirst (λ x. undefinedAt s (suc x)) (linesDue (countsIn s)) u) where
-      pub undefined : u < linesDue (countsIn s) → textVerdict s m n ≡ Refused Undefined (placeOf (u + 1))
+    module _ (fits : wrongInterface (countsIn s) m n second ≡ false) {u : ℕ} (next : IsFirst (λ x. undefinedAt s (suc x)) (linesDue (countsIn s)) u) where
+      pub undefined : u < linesDue (countsIn s) → textVerdict s m n second ≡ Refused Undefined (placeOf (u + 1))
       unfolding textVerdict _then_
       undefined b =
           rw (line-passed s notAiger NotAiger (first-not-aiger s to first) aiger, fits) (line-refused s undefinedAt Undefined next b)
 
-      pub passed : linesDue (countsIn s) ≤ u → textVerdict s m n ≡ Passed
+      pub passed : linesDue (countsIn s) ≤ u → textVerdict s m n second ≡ Passed
       unfolding textVerdict _then_
       passed b = rw (line-passed s notAiger NotAiger (first-not-aiger s to first) aiger, fits) (line-passed s undefinedAt Undefined next b)

@@ -8,6 +8,7 @@ use literals::Code;
 use literals::Wire;
 use netlist::Netlist;
 use netlist::UnpackedList;
+ghost use mathlib.Core.Path.{_≡_};
 ghost use Prim.Native.Nat.{ℕ, _+_, _*_, _≤_, _<_};
 ghost use lib.ListN.{length};
 ghost use Rattle.model.specs.Wrote.{Wrote};
@@ -43,9 +44,9 @@ fn put_nexts(out: &mut [u8], order: FileOrder, latches: &UnpackedList, count: u3
     at
 }
 
-// Writes the line of output o.
+// Writes the line of output o of a record with one port.
 fn put_output(out: &mut [u8], order: FileOrder, net: Netlist, o: u32) -> usize
-    requires { ⌜ OrderFits order × SizesFit (alone net) × (o < net .m + net .n + 3) × (outputOf (alone net) o ≤ 1201) × (5 ≤ length (now out)) ⌝ }
+    requires { ⌜ OrderFits order × SizesFit (alone net) × (o < net .m + net .n + 3) × (outputOf (alone net) o ≤ 1201) × (5 ≤ length (now out)) × (net .«second_port» ≡ 0) ⌝ }
     ensures { λ r. ⌜ Wrote (outputText order (alone net) o) (now (out .entry)) (now (out .exit)) r × (r ≤ 5) ⌝ }
 {
     let code = aiger_ordered::output_code(net, o);
@@ -54,7 +55,7 @@ fn put_output(out: &mut [u8], order: FileOrder, net: Netlist, o: u32) -> usize
 
 // Writes those of all outputs.
 fn put_outputs(out: &mut [u8], order: FileOrder, net: Netlist) -> usize
-    requires { ⌜ OrderFits order × SizesFit (alone net) × ((o : ℕ) → outputOf (alone net) o ≤ 1201) × ((net .m + net .n + 3) * 5 ≤ length (now out)) ⌝ }
+    requires { ⌜ OrderFits order × SizesFit (alone net) × ((o : ℕ) → outputOf (alone net) o ≤ 1201) × ((net .m + net .n + 3) * 5 ≤ length (now out)) × (net .«second_port» ≡ 0) ⌝ }
     ensures { λ r. ⌜ Wrote (gather (net .m + net .n + 3) (outputText order (alone net))) (now (out .entry)) (now (out .exit)) r × (r ≤ (net .m + net .n + 3) * 5) ⌝ }
 {
     let count = net.m + net.n + 3;
@@ -98,9 +99,9 @@ fn put_gates(out: &mut [u8], order: FileOrder, gates: &UnpackedList, count: u32)
     at
 }
 
-// Writes the file of a record.
+// Writes the file of a record with one port.
 pub fn put_file(out: &mut [u8], net: Netlist, latches: &UnpackedList, gates: &UnpackedList) -> usize
-    requires { ⌜ WithinLimits (netOf net (now latches) (now gates)) × (4096 ≤ length (now out)) ⌝ }
+    requires { ⌜ WithinLimits (netOf net (now latches) (now gates)) × (4096 ≤ length (now out)) × (net .«second_port» ≡ 0) ⌝ }
     ensures { λ r. ⌜ Wrote (aigText (aigOf (netOf net (now (latches .entry)) (now (gates .entry))))) (now (out .entry)) (now (out .exit)) r × (r ≤ 4096) ⌝ }
 {
     let order = aiger_ordered::order_of(net);

@@ -1,5 +1,5 @@
-// The program `import_aag` (RULES P18 to P20, P22 and P23): m, n and the start word, which may be left out, as arguments and an ASCII AIGER text on
-// standard input; on standard output the sheet of its netlist, or one refusal. What is printed is in the crates below; here are only arguments, input
+// The program `import_aag` (RULES P18 to P20, P22 and P23): m, n, the start word, which may be left out, and behind it the number of ports, as arguments
+// and an ASCII AIGER text on standard input; on standard output the sheet of its netlist, or one refusal. What is printed is in the crates below; here are only arguments, input
 // and output.
 use decimal::Number;
 ghost use mathlib.Core.Path.{_≡_};
@@ -15,7 +15,7 @@ fn write_text(text: &[u8]) {
 fn print_usage() {
     io::write_all(
         2,
-        b"usage: import_aag m n [start] < text.aag > sheet\n  m, n: how many address and data bits; start: what every word starts as; left out: anything\n",
+        b"usage: import_aag m n [start [ports]] < text.aag > sheet\n  m, n: how many address and data bits; start: what every word starts as; left out: anything\n  ports: 1 or 2 read ports; left out: 1\n",
     );
 }
 
@@ -41,9 +41,9 @@ fn no_sheet() -> [u8; 20064]
 }
 
 // Prints what is made of the text read. Where that is nothing, says so on standard error.
-fn print_import(text: &[u8], m: u32, n: u32, word: u32, unknown: u32) {
+fn print_import(text: &[u8], m: u32, n: u32, word: u32, unknown: u32, second_port: u32) {
     let mut sheet = no_sheet();
-    let bytes = program_import::write_output(&mut sheet, text, m, n, word, unknown);
+    let bytes = program_import::write_output(&mut sheet, text, m, n, word, unknown, second_port);
     if bytes == 0 {
         io::write_all(
             2,
@@ -55,28 +55,49 @@ fn print_import(text: &[u8], m: u32, n: u32, word: u32, unknown: u32) {
 }
 
 // Imports the text on standard input.
-fn import(m: u32, n: u32, word: u32, unknown: u32) {
+fn import(m: u32, n: u32, word: u32, unknown: u32, second_port: u32) {
     let mut text = no_text();
     let count = io::read_full(0, &mut text);
-    print_import(&text[..count], m, n, word, unknown);
+    print_import(&text[..count], m, n, word, unknown, second_port);
 }
 
-// Imports for a start that is given as the third argument, or unknown where there is none.
+// Imports for a start word and so many ports.
+fn import_ports(m: u32, n: u32, word: u32, ports: u32) {
+    if ports == 1 {
+        import(m, n, word, 0, 0);
+        return;
+    }
+    if ports == 2 {
+        import(m, n, word, 0, 1);
+        return;
+    }
+    print_usage();
+}
+
+// Imports for a start that is given as the third argument, or unknown where there is none; for as many ports as the fourth says, or one.
 fn import_for(m: u32, n: u32, count: usize) {
     if count == 3 {
-        import(m, n, 0, 1);
+        import(m, n, 0, 1, 0);
         return;
     }
     let Number::Value(word) = number_at(3) else {
         print_usage();
         return;
     };
-    import(m, n, word, 0);
+    if count == 4 {
+        import_ports(m, n, word, 1);
+        return;
+    }
+    let Number::Value(ports) = number_at(4) else {
+        print_usage();
+        return;
+    };
+    import_ports(m, n, word, ports);
 }
 
 fn main() {
     let count = os::arg_count();
-    if (count < 3) | (4 < count) {
+    if (count < 3) | (5 < count) {
         print_usage();
         return;
     }

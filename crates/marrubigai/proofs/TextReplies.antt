@@ -22,31 +22,31 @@ use Rattle.aiger_netlist.proofs.Verdict.{import-passed}
 use Rattle.aiger_netlist.proofs.Imported.{imported}
 use Rattle.aiger_import.specs.ImportCall.{importedWord, importVerdictFor, importRecord, importLatches, importGates, TextDelivered}
 
-module _ (s : List ℕ) (m n word unknown : ℕ) (latches : List LatchEntry) (gates : List GateEntry) where
-  pub text-fits : Fits (importVerdict s m n (importedWord word unknown) unknown (length latches) (length gates)) (aagNet s m n (importedWord word unknown) unknown) latches gates
+module _ (s : List ℕ) (m n word unknown second : ℕ) (latches : List LatchEntry) (gates : List GateEntry) where
+  pub text-fits : Fits (importVerdict s m n (importedWord word unknown) unknown second (length latches) (length gates)) (aagNet s m n (importedWord word unknown) unknown second) latches gates
   text-fits =
       record {
-        accepted = λ e. import-passed s m n (importedWord word unknown) unknown (length latches) (length gates) e .accepted;
-        latches-long = λ e. import-passed s m n (importedWord word unknown) unknown (length latches) (length gates) e .latches-long;
-        gates-long = λ e. import-passed s m n (importedWord word unknown) unknown (length latches) (length gates) e .gates-long;
+        accepted = λ e. import-passed s m n (importedWord word unknown) unknown second (length latches) (length gates) e .accepted;
+        latches-long = λ e. import-passed s m n (importedWord word unknown) unknown second (length latches) (length gates) e .latches-long;
+        gates-long = λ e. import-passed s m n (importedWord word unknown) unknown second (length latches) (length gates) e .gates-long;
       }
 
   -- what the exported function promises, together
   abbrev pub Answers : SheetReply → List LatchEntry → List GateEntry → Type 0
   Answers reply newLatches newGates =
-      (reply ≡ sheetNumbers (importVerdictFor s m n word unknown latches gates) (importRecord s m n word unknown latches gates))
-      × ((newLatches ≡ importLatches s m n word unknown latches gates)
-      × ((newGates ≡ importGates s m n word unknown latches gates)
-      × ((reply .number ≡ 0 → TextDelivered s m n word unknown (reply .net) newLatches newGates)
+      (reply ≡ sheetNumbers (importVerdictFor s m n word unknown second latches gates) (importRecord s m n word unknown second latches gates))
+      × ((newLatches ≡ importLatches s m n word unknown second latches gates)
+      × ((newGates ≡ importGates s m n word unknown second latches gates)
+      × ((reply .number ≡ 0 → TextDelivered s m n word unknown second (reply .net) newLatches newGates)
       × TextAsWritten)))
 
   module _ (sheet : SheetAnswer) (latchList gateList : List ℕ)
-      (outcome : Outcome sheet latchList gateList (importVerdict s m n (importedWord word unknown) unknown (length latches) (length gates)) (aagNet s m n (importedWord word unknown) unknown)) where
-    delivered : importVerdict s m n (importedWord word unknown) unknown (length latches) (length gates) ≡ Passed
-        → TextDelivered s m n word unknown (sheet .net) (newLatches latches gates text-fits sheet latchList gateList outcome)
+      (outcome : Outcome sheet latchList gateList (importVerdict s m n (importedWord word unknown) unknown second (length latches) (length gates)) (aagNet s m n (importedWord word unknown) unknown second)) where
+    delivered : importVerdict s m n (importedWord word unknown) unknown second (length latches) (length gates) ≡ Passed
+        → TextDelivered s m n word unknown second (sheet .net) (newLatches latches gates text-fits sheet latchList gateList outcome)
         (newGates latches gates text-fits sheet latchList gateList outcome)
     delivered e =
-        imported s m n (importedWord word unknown) unknown _ _ _
+        imported s m n (importedWord word unknown) unknown second _ _ _
         (rw (latches-length latches gates text-fits sheet latchList gateList outcome, gates-length latches gates text-fits sheet latchList gateList outcome) e)
         (agrees latches gates text-fits sheet latchList gateList outcome e)
 

@@ -152,9 +152,9 @@ pub extern "C" fn marrubigai_read(
     call_replies::sheet_numbers(sheet_reader::read(file, latches, gates))
 }
 
-// Imports an ASCII AIGER text for a memory of m address bits, n data bits and this start word, or an unknown start where `unknown` is 1:
-// its record, and its latches and gates into the lent lists. Nothing lent is written before the last test has passed: a refusal's record is all zeros, so nothing of it is
-// delivered.
+// Imports an ASCII AIGER text for a memory of m address bits, n data bits and this start word, or an unknown start where `unknown` is 1, and with a
+// second port where `second_port` is 1: its record, and its latches and gates into the lent lists. Nothing lent is written before the last test has
+// passed: a refusal's record is all zeros, so nothing of it is delivered.
 #[no_mangle]
 pub extern "C" fn marrubigai_import(
     text: &[u8],
@@ -162,13 +162,14 @@ pub extern "C" fn marrubigai_import(
     n: u32,
     word: u32,
     unknown: u32,
+    second_port: u32,
     latches: &mut [LatchEntry],
     gates: &mut [GateEntry],
 ) -> SheetReply
-    ensures reply { λ r. ⌜ r ≡ sheetNumbers (importVerdictFor (now (text .entry)) m n word unknown (now (latches .entry)) (now (gates .entry))) (importRecord (now (text .entry)) m n word unknown (now (latches .entry)) (now (gates .entry))) ⌝ }
-    ensures latches { λ _. ⌜ now (latches .exit) ≡ importLatches (now (text .entry)) m n word unknown (now (latches .entry)) (now (gates .entry)) ⌝ }
-    ensures gates { λ _. ⌜ now (gates .exit) ≡ importGates (now (text .entry)) m n word unknown (now (latches .entry)) (now (gates .entry)) ⌝ }
-    ensures accepted { λ r. ⌜ (r .number ≡ 0 → TextDelivered (now (text .entry)) m n word unknown (r .net) (now (latches .exit)) (now (gates .exit))) ⌝ }
+    ensures reply { λ r. ⌜ r ≡ sheetNumbers (importVerdictFor (now (text .entry)) m n word unknown «second_port» (now (latches .entry)) (now (gates .entry))) (importRecord (now (text .entry)) m n word unknown «second_port» (now (latches .entry)) (now (gates .entry))) ⌝ }
+    ensures latches { λ _. ⌜ now (latches .exit) ≡ importLatches (now (text .entry)) m n word unknown «second_port» (now (latches .entry)) (now (gates .entry)) ⌝ }
+    ensures gates { λ _. ⌜ now (gates .exit) ≡ importGates (now (text .entry)) m n word unknown «second_port» (now (latches .entry)) (now (gates .entry)) ⌝ }
+    ensures accepted { λ r. ⌜ (r .number ≡ 0 → TextDelivered (now (text .entry)) m n word unknown «second_port» (r .net) (now (latches .exit)) (now (gates .exit))) ⌝ }
     ensures written { λ _. ⌜ TextAsWritten ⌝ }
 {
     let mut latch_codes = sheet_tests::no_codes();
@@ -179,6 +180,7 @@ pub extern "C" fn marrubigai_import(
         n,
         word,
         unknown,
+        second_port,
         latches.len(),
         gates.len(),
         &mut latch_codes,

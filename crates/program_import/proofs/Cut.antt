@@ -24,25 +24,25 @@ uncut : (more : Bool) (xs : List ℕ) → cond (more && false) [] xs ≡ xs
 uncut true xs = refl
 uncut false xs = refl
 
-module _ (more : Bool) (s : List ℕ) (m n word unknown : ℕ) where
-  pub printed-passed : importVerdict s m n (importedWord word unknown) unknown 600 600 ≡ Passed
-      → importTextCut more s m n word unknown ≡ sheetText (aagNet s m n (importedWord word unknown) unknown)
+module _ (more : Bool) (s : List ℕ) (m n word unknown second : ℕ) where
+  pub printed-passed : importVerdict s m n (importedWord word unknown) unknown second 600 600 ≡ Passed
+      → importTextCut more s m n word unknown second ≡ sheetText (aagNet s m n (importedWord word unknown) unknown second)
   unfolding importTextCut stopsAtEnd importText textOrRefusal
-  printed-passed e = rw e (uncut more (sheetText (aagNet s m n (importedWord word unknown) unknown)))
+  printed-passed e = rw e (uncut more (sheetText (aagNet s m n (importedWord word unknown) unknown second)))
 
-  pub printed-refused : (r : Refusal) (p : ℕ) → importVerdict s m n (importedWord word unknown) unknown 600 600 ≡ Refused r p
-      → importTextCut more s m n word unknown
+  pub printed-refused : (r : Refusal) (p : ℕ) → importVerdict s m n (importedWord word unknown) unknown second 600 600 ≡ Refused r p
+      → importTextCut more s m n word unknown second
       ≡ cond (more && (eqb (refusalNumber r) 11 && ltb (length (linesOf s)) p)) [] (refusalText (refusalNumber r) p)
   unfolding importTextCut stopsAtEnd importText textOrRefusal
   printed-refused r p e = rw e
 
-module _ (s : List ℕ) (m n word unknown : ℕ) where
+module _ (s : List ℕ) (m n word unknown second : ℕ) where
   -- what is read whole, and what is not
-  pub output-whole : length s ≤ mostText → importOutput s m n word unknown ≡ importTextCut false s m n word unknown
+  pub output-whole : length s ≤ mostText → importOutput s m n word unknown second ≡ importTextCut false s m n word unknown second
   unfolding importOutput
   output-whole h =
-      ap₂ (λ (b : Bool) (t : List ℕ). importTextCut b t m n word unknown) (le-ltb mostText (length s) h) (take-all mostText s h)
+      ap₂ (λ (b : Bool) (t : List ℕ). importTextCut b t m n word unknown second) (le-ltb mostText (length s) h) (take-all mostText s h)
 
-  pub output-cut : mostText < length s → importOutput s m n word unknown ≡ importTextCut true (take mostText s) m n word unknown
+  pub output-cut : mostText < length s → importOutput s m n word unknown second ≡ importTextCut true (take mostText s) m n word unknown second
   unfolding importOutput
-  output-cut h = ap₂ (λ (b : Bool) (t : List ℕ). importTextCut b t m n word unknown) (lt-ltb mostText (length s) h) refl
+  output-cut h = ap₂ (λ (b : Bool) (t : List ℕ). importTextCut b t m n word unknown second) (lt-ltb mostText (length s) h) refl

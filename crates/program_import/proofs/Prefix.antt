@@ -1,15 +1,16 @@
 -- What stands behind the last line that is due changes nothing of what is made of a text, and a fault of a whole line is the longer text's too. No
 -- contract cites this file.
-use Prim.Native.Nat.{ℕ, zero, suc, _+_, _-_, _/_, _≤_, _<_}
+use Prim.Native.Nat.{ℕ, zero, suc, _+_, _-_, _*_, _/_, _≤_, _<_}
 use mathlib.Core.Path.{_≡_, refl, sym, _∙_, ap, ap₂}
 use mathlib.Core.Bool.{Bool, true, false, cond, not, true≢false}
 use mathlib.Core.Logic.{by-cases}
 use mathlib.Core.List.{List, [], _∷_, _++_}
 use native.Mathlib.Decide.{decLt}
+use native.Mathlib.Nat.{mul-le-mul-right}
 use native.Mathlib.Omega.{arith}
 use lib.Dec.{eqb, ltb}
 use lib.ListN.{length, getD, List·getD-append, List·getD-eq-default}
-use borrow.Author.Tests.{eqb-true, ltb-false, not-false}
+use borrow.Author.Tests.{lt-ltb, le-ltb, eqb-true, ltb-false, not-false}
 use Rattle.model.specs.Search.{anyBelow, firstFrom, firstWhere, seen}
 use Rattle.model.specs.Netlist.{Netlist}
 use Rattle.model.specs.Network.{renamed}
@@ -31,6 +32,7 @@ use Rattle.aiger_lines.specs.declared.Counts.{Counts}
 use Rattle.aiger_lines.specs.declared.Part.{Part}
 use Rattle.aiger_lines.specs.declared.Part.the-variants.{Header, Input, Latch, Output, Gate}
 use Rattle.aiger_definitions.specs.Definitions.{numberAt, definedAt, definesAgain, isUndefined, undefinedIn, undefinedAt}
+use Rattle.aiger_graph.specs.RecordAig.{controlOutput}
 use Rattle.aiger_netlist.specs.TextNetlist.{textSizes, definingLine, wireOfVariable, codeFrom, netOfCodes, aagNet}
 use Rattle.aiger_netlist.specs.ImportVerdict.{placeOf, notAiger, firstLine, wrongInterface, textVerdict, importVerdict}
 use Rattle.aiger_import.specs.ImportCall.{importedWord}
@@ -66,9 +68,10 @@ numbers-same s rest p l = rw (line-same s rest (p - 1) l)
 
 -- a netlist is made of the codes on the lines due
 codes-same : (h : Counts) (c : Netlist) (f g : ℕ → ℕ → ℕ) (q : ℕ) → linesDue h ≤ q → c .latches ≡ h .latches → c .gates ≡ h .gates
-    → h .outputs ≡ c .m + c .n + 3 → ((p i : ℕ) → p ≤ q → f p i ≡ g p i) → netOfCodes h c f ≡ netOfCodes h c g
+    → h .outputs ≡ controlOutput (c .m) (c .n) (c .secondPort) + 3 → ((p i : ℕ) → p ≤ q → f p i ≡ g p i) → netOfCodes h c f ≡ netOfCodes h c g
 unfolding netOfCodes
 codes-same h c f g q due latches gates outputs same =
+    let control = controlOutput (c .m) (c .n) (c .secondPort) in
     rw (
       upTo-same (c .latches) (λ l. f (textLatchLine h l) 1) (λ l. g (textLatchLine h l) 1) (λ l b. same (textLatchLine h l) 1 (omega arith)),
       upTo-same (c .gates) (λ x. f (textGateLine h x) 1) (λ x. g (textGateLine h x) 1) (λ x b. same (textGateLine h x) 1 (omega arith)),
@@ -76,10 +79,23 @@ codes-same h c f g q due latches gates outputs same =
       upTo-same (c .m) (λ x. f (textOutputLine h x) 0) (λ x. g (textOutputLine h x) 0) (λ x b. same (textOutputLine h x) 0 (omega arith)),
       upTo-same (c .n) (λ x. f (textOutputLine h (c .m + x)) 0) (λ x. g (textOutputLine h (c .m + x)) 0)
           (λ x b. same (textOutputLine h (c .m + x)) 0 (omega arith)),
-      same (textOutputLine h (c .m + c .n)) 0 (omega arith),
-      same (textOutputLine h (c .m + c .n + 1)) 0 (omega arith),
-      same (textOutputLine h (c .m + c .n + 2)) 0 (omega arith),
+      same (textOutputLine h control) 0 (omega arith),
+      same (textOutputLine h (control + 1)) 0 (omega arith),
+      same (textOutputLine h (control + 2)) 0 (omega arith),
+      upTo-same (c .secondPort * c .m) (λ x. f (textOutputLine h (c .m + c .n + x)) 0) (λ x. g (textOutputLine h (c .m + c .n + x)) 0)
+          (λ x b. same (textOutputLine h (c .m + c .n + x)) 0 (omega arith)),
+      enable-same,
     )
+  where
+    -- RE of a second port stands behind its address codes
+    enable-same : cond (ltb 0 (c .secondPort)) (f (textOutputLine h (c .m + c .n + c .m)) 0) 0
+        ≡ cond (ltb 0 (c .secondPort)) (g (textOutputLine h (c .m + c .n + c .m)) 0) 0
+    enable-same =
+        by-cases (decLt 0 (c .secondPort))
+        (λ some.
+        let long : 1 * c .m ≤ c .secondPort * c .m = mul-le-mul-right (c .m) some in
+        rw (lt-ltb 0 (c .secondPort) some) (same (textOutputLine h (c .m + c .n + c .m)) 0 (omega arith)))
+        (λ none. rw (le-ltb 0 (c .secondPort) (omega arith)))
 
 -- ---- two texts with the same numbers on lines 1 to q
 module _ (s t : List ℕ) (q : ℕ) (some-line : 1 ≤ q) (same : (p : ℕ) → p ≤ q → numbersOnLine t p ≡ numbersOnLine s p) where
@@ -131,12 +147,12 @@ module _ (s t : List ℕ) (q : ℕ) (some-line : 1 ≤ q) (same : (p : ℕ) → 
         ap (λ (c : Counts). inOrder (λ p. refuseIf (fault t p) r (placeOf p)) (linesDue c)) counts-same
         ∙ tests-same (linesDue (countsIn s)) (λ p l. ap (λ (b : Bool). refuseIf b r (placeOf p)) (h p (omega arith)))
 
-    text-same : (m n : ℕ) → textVerdict t m n ≡ textVerdict s m n
+    text-same : (m n second : ℕ) → textVerdict t m n second ≡ textVerdict s m n second
     unfolding textVerdict
-    text-same m n =
-        ap₂ (λ (v w : Verdict). v then refuseIf (wrongInterface (countsIn t) m n) Interface 0 then w)
+    text-same m n second =
+        ap₂ (λ (v w : Verdict). v then refuseIf (wrongInterface (countsIn t) m n second) Interface 0 then w)
         (lines-same notAiger NotAiger notAiger-same) (lines-same undefinedAt Undefined undefinedAt-same)
-        ∙ ap (λ (c : Counts). firstLine s notAiger NotAiger then refuseIf (wrongInterface c m n) Interface 0 then firstLine s undefinedAt Undefined)
+        ∙ ap (λ (c : Counts). firstLine s notAiger NotAiger then refuseIf (wrongInterface c m n second) Interface 0 then firstLine s undefinedAt Undefined)
         counts-same
 
     -- the netlist: a variable's line, a code, the codes of each line
@@ -153,27 +169,28 @@ module _ (s t : List ℕ) (q : ℕ) (some-line : 1 ≤ q) (same : (p : ℕ) → 
     unfolding renamed
     code-same c p i h = rw (same p h, wire-same c (getD (numbersOnLine s p) i 0 / 2))
 
-    net-same : (m n word unknown : ℕ) → wrongInterface (countsIn s) m n ≡ false → aagNet t m n word unknown ≡ aagNet s m n word unknown
-    net-same m n word unknown fits =
-        let c = textSizes (countsIn s) m n word unknown in
-        let outputs = neither-true (ltb (countsIn s .inputs) n) (not (eqb (countsIn s .outputs) (m + n + 3))) .0 fits .1 in
+    net-same : (m n word unknown second : ℕ) → wrongInterface (countsIn s) m n second ≡ false → aagNet t m n word unknown second ≡ aagNet s m n word unknown second
+    net-same m n word unknown second fits =
+        let c = textSizes (countsIn s) m n word unknown second in
+        let due = controlOutput m n second + 3 in
+        let outputs = neither-true (ltb (countsIn s .inputs) (suc second * n)) (not (eqb (countsIn s .outputs) due)) .0 fits .1 in
         rw counts-same
         (codes-same (countsIn s) c (λ p i. codeFrom t c (numberAt t p i)) (λ p i. codeFrom s c (numberAt s p i)) q all refl refl
-        (eqb-true (countsIn s .outputs) (m + n + 3) (not-false (eqb (countsIn s .outputs) (m + n + 3)) outputs)) (code-same c))
+        (eqb-true (countsIn s .outputs) due (not-false (eqb (countsIn s .outputs) due) outputs)) (code-same c))
 
-    fits : (m n : ℕ) → textVerdict s m n ≡ Passed → wrongInterface (countsIn s) m n ≡ false
+    fits : (m n second : ℕ) → textVerdict s m n second ≡ Passed → wrongInterface (countsIn s) m n second ≡ false
     unfolding textVerdict
-    fits m n e =
-        refuseIf-passes (wrongInterface (countsIn s) m n) Interface 0 .0
+    fits m n second e =
+        refuseIf-passes (wrongInterface (countsIn s) m n second) Interface 0 .0
         (first-passes _ (firstLine s undefinedAt Undefined) (rest-passes (firstLine s notAiger NotAiger) _ e))
 
-    printed-same : (m n word unknown : ℕ) → importText t m n word unknown ≡ importText s m n word unknown
+    printed-same : (m n word unknown second : ℕ) → importText t m n word unknown second ≡ importText s m n word unknown second
     unfolding importText textOrRefusal importVerdict _then_
-    printed-same m n word unknown = by-verdict (textVerdict s m n) refl
+    printed-same m n word unknown second = by-verdict (textVerdict s m n second) refl
       where
-        by-verdict : (v : Verdict) → textVerdict s m n ≡ v → importText t m n word unknown ≡ importText s m n word unknown
-        by-verdict Passed e = rw (text-same m n, net-same m n (importedWord word unknown) unknown (fits m n e))
-        by-verdict (Refused r p) e = rw (text-same m n, e)
+        by-verdict : (v : Verdict) → textVerdict s m n second ≡ v → importText t m n word unknown second ≡ importText s m n word unknown second
+        by-verdict Passed e = rw (text-same m n second, net-same m n (importedWord word unknown) unknown second (fits m n second e))
+        by-verdict (Refused r p) e = rw (text-same m n second, e)
 
 -- ---- a line that is missing is malformed
 no-numbers : (p : ℕ) → cond (eqb p 1) (headerNumbers (wordsOf [])) (wordNumbers (wordsOf [])) ≡ []
@@ -221,13 +238,13 @@ refused-at test (suc n) {r} {p} e = by-rest (inOrder test n) refl (λ h. refused
         let found = earlier (h ∙ sym (inOrder-kept test n (suc n) (omega arith) h) ∙ e) in
         (found .0, found .1, omega (arith, found .2), found .3, found .4)
 
-module _ (s rest : List ℕ) (m n word unknown : ℕ) where
+module _ (s rest : List ℕ) (m n word unknown second : ℕ) where
   -- the tests of lines, and what is printed
   abbrev tests : List ℕ → ℕ → Verdict
   tests t p = refuseIf (notAiger t p) NotAiger (placeOf p)
 
   abbrev printed : List ℕ → List ℕ
-  printed t = importText t m n word unknown
+  printed t = importText t m n word unknown second
 
   same-to : (q : ℕ) → 1 ≤ q → q ≤ length (linesOf s) → (p : ℕ) → p ≤ q → numbersOnLine (s ++ rest) p ≡ numbersOnLine s p
   same-to q some l p h = numbers-same s rest p (omega arith)
@@ -236,7 +253,7 @@ module _ (s rest : List ℕ) (m n word unknown : ℕ) where
   whole : linesDue (countsIn s) ≤ length (linesOf s) → printed (s ++ rest) ≡ printed s
   whole all =
       let some : 1 ≤ length (linesOf s) = omega (arith, all) in
-      printed-same s (s ++ rest) (length (linesOf s)) some (same-to (length (linesOf s)) some (omega arith)) all m n word unknown
+      printed-same s (s ++ rest) (length (linesOf s)) some (same-to (length (linesOf s)) some (omega arith)) all m n word unknown second
 
   -- a whole line is refused
   refused-same : (k x : ℕ) → 1 ≤ k → k ≤ length (linesOf s) → k ≤ linesDue (countsIn s) → inOrder (tests s) k ≡ Refused NotAiger x
@@ -249,11 +266,11 @@ module _ (s rest : List ℕ) (m n word unknown : ℕ) where
       rw (longer, inOrder-kept (tests s) k (linesDue (countsIn s)) due e)
 
   verdict-at : (k x : ℕ) → k ≤ linesDue (countsIn s) → inOrder (tests s) k ≡ Refused NotAiger x
-      → importVerdict s m n (importedWord word unknown) unknown 600 600 ≡ Refused NotAiger x
+      → importVerdict s m n (importedWord word unknown) unknown second 600 600 ≡ Refused NotAiger x
   unfolding importVerdict textVerdict _then_
   verdict-at k x due e = rw (inOrder-kept (tests s) k (linesDue (countsIn s)) due e)
 
-  module _ (short : length s ≤ 4194304) (uncut : stopsAtEnd s (importVerdict s m n (importedWord word unknown) unknown 600 600) ≡ false) where
+  module _ (short : length s ≤ 4194304) (uncut : stopsAtEnd s (importVerdict s m n (importedWord word unknown) unknown second 600 600) ≡ false) where
     place-within : (k : ℕ) → placeOf k ≤ length (linesOf s) → k ≤ length (linesOf s)
     place-within k l = omega (arith, lines-most lineFeed [] s)
 
@@ -280,5 +297,5 @@ module _ (s rest : List ℕ) (m n word unknown : ℕ) where
         at-fault (at .0) (at .1) (at .2) (at .3) (at .4) (notAiger s (at .0)) refl
 
 pub prefix-suffices : PrefixSuffices
-prefix-suffices s rest m n word unknown short uncut =
-    by-first s rest m n word unknown short uncut (firstLine s notAiger NotAiger) refl
+prefix-suffices s rest m n word unknown second short uncut =
+    by-first s rest m n word unknown second short uncut (firstLine s notAiger NotAiger) refl

@@ -28,13 +28,13 @@ long-enough c latchRoom gateRoom l g e =
 
 pub room-suffices : ImportRoomSuffices
 unfolding importVerdict _then_
-room-suffices s m n word unknown latchRoom gateRoom l g = by-sizes (testLines (aagNet s m n word unknown) Size sizeFault) refl
+room-suffices s m n word unknown second latchRoom gateRoom l g = by-sizes (testLines (aagNet s m n word unknown second) Size sizeFault) refl
   where
-    by-sizes : (v : Verdict) → testLines (aagNet s m n word unknown) Size sizeFault ≡ v → importVerdict s m n word unknown 600 600 ≡ importVerdict s m n word unknown latchRoom gateRoom
+    by-sizes : (v : Verdict) → testLines (aagNet s m n word unknown second) Size sizeFault ≡ v → importVerdict s m n word unknown second 600 600 ≡ importVerdict s m n word unknown second latchRoom gateRoom
     by-sizes Passed e =
-        rw (long-enough (aagNet s m n word unknown) 600 600 (omega arith) (omega arith) e, long-enough (aagNet s m n word unknown) latchRoom gateRoom l g e)
+        rw (long-enough (aagNet s m n word unknown second) 600 600 (omega arith) (omega arith) e, long-enough (aagNet s m n word unknown second) latchRoom gateRoom l g e)
     by-sizes (Refused r p) e = rw e
 
 -- and a text that passes its own tests has no code outside
 pub no-code-outside : NoCodeOutside
-no-code-outside s m n word unknown e = no-code-fault s (well-defined s m n e) m n word unknown (fits-interface s m n e)
+no-code-outside s m n word unknown second e = no-code-fault s (well-defined s m n second e) m n word unknown second (fits-interface s m n second e)

@@ -21,9 +21,9 @@ use Rattle.sheet_text.specs.SheetText.{sheetText}
 use Rattle.program_input.specs.Input.{textOrRefusal}
 
 -- the netlist's sheet, or the refusal; lists of 600 records each are the program's own
-unfoldable pub importText : List ℕ → ℕ → ℕ → ℕ → ℕ → List ℕ
-importText s m n word unknown =
-    textOrRefusal (importVerdict s m n (importedWord word unknown) unknown mostWires mostWires) (sheetText (aagNet s m n (importedWord word unknown) unknown))
+unfoldable pub importText : List ℕ → ℕ → ℕ → ℕ → ℕ → ℕ → List ℕ
+importText s m n word unknown second =
+    textOrRefusal (importVerdict s m n (importedWord word unknown) unknown second mostWires mostWires) (sheetText (aagNet s m n (importedWord word unknown) unknown second))
 
 -- whether an import stops at a line that the text does not have whole: 11 at a place behind its last line
 unfoldable pub stopsAtEnd : List ℕ → Verdict → Bool
@@ -31,28 +31,28 @@ stopsAtEnd s Passed = false
 stopsAtEnd s (Refused r p) = eqb (refusalNumber r) 11 && ltb (length (linesOf s)) p
 
 -- what is printed of the text s, which is cut from a longer one where there is `more`: nothing, where what stands behind s could change it
-unfoldable pub importTextCut : Bool → List ℕ → ℕ → ℕ → ℕ → ℕ → List ℕ
-importTextCut more s m n word unknown =
-    cond (more && stopsAtEnd s (importVerdict s m n (importedWord word unknown) unknown mostWires mostWires)) [] (importText s m n word unknown)
+unfoldable pub importTextCut : Bool → List ℕ → ℕ → ℕ → ℕ → ℕ → ℕ → List ℕ
+importTextCut more s m n word unknown second =
+    cond (more && stopsAtEnd s (importVerdict s m n (importedWord word unknown) unknown second mostWires mostWires)) [] (importText s m n word unknown second)
 
 -- RULES P23: the first 4 MiB of what is read are judged
 abbrev pub mostText : ℕ
 mostText = 4194304
 
-unfoldable pub importOutput : List ℕ → ℕ → ℕ → ℕ → ℕ → List ℕ
-importOutput s m n word unknown = importTextCut (ltb mostText (length s)) (take mostText s) m n word unknown
+unfoldable pub importOutput : List ℕ → ℕ → ℕ → ℕ → ℕ → ℕ → List ℕ
+importOutput s m n word unknown second = importTextCut (ltb mostText (length s)) (take mostText s) m n word unknown second
 
 -- so it is what would be printed of the whole text, however it goes on: what stands behind them changes nothing, but where nothing is printed
 abbrev pub PrefixSuffices : Type 0
-PrefixSuffices = (s rest : List ℕ) (m n word unknown : ℕ) → length s ≤ mostText
-    → stopsAtEnd s (importVerdict s m n (importedWord word unknown) unknown mostWires mostWires) ≡ false
-    → importText (s ++ rest) m n word unknown ≡ importText s m n word unknown
+PrefixSuffices = (s rest : List ℕ) (m n word unknown second : ℕ) → length s ≤ mostText
+    → stopsAtEnd s (importVerdict s m n (importedWord word unknown) unknown second mostWires mostWires) ≡ false
+    → importText (s ++ rest) m n word unknown second ≡ importText s m n word unknown second
 
 -- the lists of 600 records are long enough: the verdict is that of an import into lists of any greater length, so that 9 does not occur
 abbrev pub ImportRoomSuffices : Type 0
-ImportRoomSuffices = (s : List ℕ) (m n word unknown latchRoom gateRoom : ℕ) → mostWires ≤ latchRoom → mostWires ≤ gateRoom
-    → importVerdict s m n word unknown mostWires mostWires ≡ importVerdict s m n word unknown latchRoom gateRoom
+ImportRoomSuffices = (s : List ℕ) (m n word unknown second latchRoom gateRoom : ℕ) → mostWires ≤ latchRoom → mostWires ≤ gateRoom
+    → importVerdict s m n word unknown second mostWires mostWires ≡ importVerdict s m n word unknown second latchRoom gateRoom
 
 -- RULES T55: "No text that passes 13 meets 5"
 abbrev pub NoCodeOutside : Type 0
-NoCodeOutside = (s : List ℕ) (m n word unknown : ℕ) → textVerdict s m n ≡ Passed → testLines (aagNet s m n word unknown) CodeOutside codeFault ≡ Passed
+NoCodeOutside = (s : List ℕ) (m n word unknown second : ℕ) → textVerdict s m n second ≡ Passed → testLines (aagNet s m n word unknown second) CodeOutside codeFault ≡ Passed

@@ -59,8 +59,9 @@ fn write_refused(out: &mut [u8], text: &[u8], more: bool, number: u32, place: u3
     dimacs::write_refusal(out, number, place)
 }
 
-// Imports a text for a start word, or for an unknown start where `unknown` is 1, and writes its sheet or the refusal into a slice that has room
-// for the longest. Where the text is the beginning of a longer one (`more`) and the import stops at its end, nothing is written.
+// Imports a text for a start word, or for an unknown start where `unknown` is 1, and for two ports where `second` is 1, and writes its sheet or the
+// refusal into a slice that has room for the longest. Where the text is the beginning of a longer one (`more`) and the import stops at its end,
+// nothing is written.
 fn write_import(
     out: &mut [u8],
     text: &[u8],
@@ -69,9 +70,10 @@ fn write_import(
     n: u32,
     word: u32,
     unknown: u32,
+    second: u32,
 ) -> usize
     requires { ⌜ 20064 ≤ length (now out) ⌝ }
-    ensures text { λ r. ⌜ Wrote (importTextCut more (now (text .entry)) m n word unknown) (now (out .entry)) (now (out .exit)) r ⌝ }
+    ensures text { λ r. ⌜ Wrote (importTextCut more (now (text .entry)) m n word unknown second) (now (out .entry)) (now (out .exit)) r ⌝ }
     ensures most { λ r. ⌜ r ≤ 20064 ⌝ }
 {
     let mut latches = sheet_tests::no_codes();
@@ -82,6 +84,7 @@ fn write_import(
         n,
         word,
         unknown,
+        second,
         600,
         600,
         &mut latches,
@@ -95,16 +98,24 @@ fn write_import(
 }
 
 // The same of what was read of a text: of more than 4 MiB only the first 4 MiB are looked at.
-pub fn write_output(out: &mut [u8], read: &[u8], m: u32, n: u32, word: u32, unknown: u32) -> usize
+pub fn write_output(
+    out: &mut [u8],
+    read: &[u8],
+    m: u32,
+    n: u32,
+    word: u32,
+    unknown: u32,
+    second: u32,
+) -> usize
     requires { ⌜ 20064 ≤ length (now out) ⌝ }
-    ensures text { λ r. ⌜ Wrote (importOutput (now (read .entry)) m n word unknown) (now (out .entry)) (now (out .exit)) r ⌝ }
+    ensures text { λ r. ⌜ Wrote (importOutput (now (read .entry)) m n word unknown second) (now (out .entry)) (now (out .exit)) r ⌝ }
     ensures most { λ r. ⌜ r ≤ 20064 ⌝ }
     ensures room { λ _. ⌜ ImportRoomSuffices ⌝ }
     ensures codes { λ _. ⌜ NoCodeOutside ⌝ }
     ensures prefix { λ _. ⌜ PrefixSuffices ⌝ }
 {
     if read.len() <= 4194304 {
-        return write_import(out, read, false, m, n, word, unknown);
+        return write_import(out, read, false, m, n, word, unknown, second);
     }
-    write_import(out, &read[..4194304], true, m, n, word, unknown)
+    write_import(out, &read[..4194304], true, m, n, word, unknown, second)
 }

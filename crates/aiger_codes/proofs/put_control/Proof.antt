@@ -1,23 +1,18 @@
--- `aiger_codes::put_control` meets its contract: three outputs are looked up.
+-- `aiger_codes::put_control` meets its contract: four outputs are looked up.
 use Prim.Native.Nat.{_+_}
 use mathlib.Core.Path.{_∙_}
 use native.Mathlib.Omega.{arith}
 use borrow.Author.Needs.{needs}
+use Rattle.aiger_graph.specs.RecordAig.{controlOutput}
 use Rattle.aiger_codes.proofs.Outputs.{output-at}
 use Rattle.aiger_codes.proofs.put_control.Statement.{statement}
 use Rattle.aiger_codes.proofs.put_control.Tie as tie
 
-cast-first : tie.Need-cast-first
-cast-first c = search needs
+control-entry-requires : tie.Need-control-entry-requires
+control-entry-requires c κs = search needs
 
-add-first : tie.Need-add-first
-add-first c = search needs
-
-cast-first-2 : tie.Need-cast-first-2
-cast-first-2 c = search needs
-
-add-first-2 : tie.Need-add-first-2
-add-first-2 c = search needs
+second-enable-requires : tie.Need-second-enable-requires
+second-enable-requires c κs = search needs
 
 mul-code-of : tie.Need-mul-code-of
 mul-code-of c = search needs
@@ -54,22 +49,22 @@ code-of-requires-3 c κs = search needs
 
 returns : tie.Need-returns
 returns c =
-    let net = c .before .before .before .before .before .before .before .before .args .net in
-    let table = c .before .before .before .before .before .before .before .before .args .table .now in
+    let a = c .before .before .before .before .before .before .before .before .args in
+    let control = controlOutput (a .net .m) (a .net .n) (a .net .«second_port») in
+    let entry = c .before .before .before .before .before .before .before .control-entry .ensures .0 in
     rw (
-      c .before .before .before .before .code-of .ensures ∙ output-at table (net .m + net .n) _ (omega arith),
-      c .before .before .code-of2 .ensures ∙ output-at table (net .m + net .n + 1) _ (omega arith),
-      c .code-of3 .ensures ∙ output-at table (net .m + net .n + 2) _ (omega arith),
+      c .before .before .before .before .before .before .second-enable .ensures,
+      c .before .before .before .before .code-of .ensures ∙ output-at (a .table .now) control _ (omega (arith, entry)),
+      c .before .before .code-of2 .ensures ∙ output-at (a .table .now) (control + 1) _ (omega (arith, entry)),
+      c .code-of3 .ensures ∙ output-at (a .table .now) (control + 2) _ (omega (arith, entry)),
     )
 
 pub put-control-spec : {M : Type 1} → statement M
 put-control-spec =
     tie.close
     (tie.spec
-    cast-first
-    add-first
-    cast-first-2
-    add-first-2
+    control-entry-requires
+    second-enable-requires
     mul-code-of
     element-copy-out-code-of
     code-of-requires

@@ -11,7 +11,7 @@ use Rattle.aiger_codes.proofs.put_firsts.Tie as tie
 abbrev Inv-loop : tie.InvT-loop
 Inv-loop text line at count first table₀ next₀ x₀ table next x =
     (x ≤ count) × (Behind text (line + x) next ×
-    TableFilled 648 (putFrom first x (firstsBehind text line) (entryOf table₀)) table)
+    TableFilled 661 (putFrom first x (firstsBehind text line) (entryOf table₀)) table)
 
 abbrev μ-loop : tie.MeasureT-loop
 μ-loop text line at count first table₀ next₀ x₀ table next x = count - x

@@ -13,7 +13,7 @@ use Rattle.netlist.specs.NetOf.{netOf}
 use Rattle.group_counts.proofs.Counted.{wrote-front}
 use Rattle.dimacs.specs.PrintCalls.{printReply}
 use Rattle.aiger_export.specs.ExportCall.{exportText, testExport, exportVerdict, exportSent, exportLeaves}
-use Rattle.aiger_export.proofs.ExportCall.{accepted}
+use Rattle.aiger_export.proofs.ExportCall.{accepted, single-port}
 use Rattle.aiger_export.proofs.Exported.{exported}
 use Rattle.aiger_export.proofs.export_binary.Statement.{statement}
 use Rattle.aiger_export.proofs.export_binary.Tie as tie
@@ -37,11 +37,15 @@ enum-told c = search needs
 passed : (c : tie.After-enum-told) → let a = c .before .before .before .before .args in testExport (netOf (a .net) (a .latches .now) (a .gates .now)) (a .latch-count) (a .gate-count) ≡ Passed
 passed c = sym (c .before .before .test-export .ensures) ∙ c .enum-told .given .1
 
+single : (c : tie.After-enum-told) → c .before .before .before .before .args .net .«second_port» ≡ 0
+unfolding netOf
+single c = single-port _ _ _ (passed c)
+
 slice-aggregate-put-file : tie.Need-slice-aggregate-put-file
 slice-aggregate-put-file c = search needs
 
 put-file-requires : tie.Need-put-file-requires
-put-file-requires c κs = (accepted _ _ _ (passed (c .before)) .limits, search needs)
+put-file-requires c κs = (accepted _ _ _ (passed (c .before)) .limits, search needs, single (c .before))
 
 returns-2 : tie.Need-returns-2
 unfolding printReply exportVerdict exportSent exportLeaves withCount contentsAfter _then_

@@ -57,7 +57,7 @@ put-outputs-requires c κs =
     let pre = c .before .before .before .before .before .before .before .before .before .before .before .before .before .before .pre in
     let is = sized (a .text .now) (a .sizes) (pre .1) (a .header .counts) (pre .0 .counts-are) in
     let none = no-outputs (a .text .now) (a .sizes) (pre .1) in
-    (is .m-most, is .n-most, none .0, none .1)
+    (is .m-most, is .n-most, is .second-most, none .0, none .1, none .2)
 
 returns : tie.Need-returns
 returns c =

@@ -16,10 +16,10 @@ due : (c : tie.After-lines-due) → c .lines-due .result ≡ linesDue (countsIn 
 due c = c .lines-due .ensures ∙ ap linesDue (c .before .before .before .pre .counts-are)
 
 faced : (c : tie.After-has-wrong-interface)
-    → c .has-wrong-interface .result ≡ wrongInterface (countsIn (c .before .before .before .before .before .before .before .args .text .now)) (c .before .before .before .before .before .before .before .args .m) (c .before .before .before .before .before .before .before .args .n)
+    → c .has-wrong-interface .result ≡ wrongInterface (countsIn (c .before .before .before .before .before .before .before .args .text .now)) (c .before .before .before .before .before .before .before .args .m) (c .before .before .before .before .before .before .before .args .n) (c .before .before .before .before .before .before .before .args .second-port)
 faced c =
     c .has-wrong-interface .ensures
-    ∙ ap (λ (h : Counts). wrongInterface h (c .before .before .before .before .before .before .before .args .m) (c .before .before .before .before .before .before .before .args .n)) (c .before .before .before .before .before .before .before .pre .counts-are)
+    ∙ ap (λ (h : Counts). wrongInterface h (c .before .before .before .before .before .before .before .args .m) (c .before .before .before .before .before .before .before .args .n) (c .before .before .before .before .before .before .before .args .second-port)) (c .before .before .before .before .before .before .before .pre .counts-are)
 
 -- where no line is not AIGER
 aiger : (c : tie.Else1) → linesDue (countsIn (c .before .before .before .before .before .before .args .text .now)) ≤ c .before .first-repeat .result
@@ -44,7 +44,7 @@ returns : tie.Need-returns
 returns c =
     let a = c .before .before .before .before .before .before .before .args in
     rw (c .place-of .ensures)
-    (sym (not-aiger (a .text .now) (a .m) (a .n) (c .before .before .before .sound-lines .ensures) (c .before .before .first-repeat .ensures) (omega (arith, due (c .before .before .before .before)))))
+    (sym (not-aiger (a .text .now) (a .m) (a .n) (a .second-port) (c .before .before .before .sound-lines .ensures) (c .before .before .first-repeat .ensures) (omega (arith, due (c .before .before .before .before)))))
 
 has-wrong-interface-requires : tie.Need-has-wrong-interface-requires
 has-wrong-interface-requires c κs = search needs
@@ -52,14 +52,14 @@ has-wrong-interface-requires c κs = search needs
 returns-2 : tie.Need-returns-2
 returns-2 c =
     let a = c .before .before .before .before .before .before .before .before .args in
-    sym (interface (a .text .now) (a .m) (a .n) (c .before .before .before .before .sound-lines .ensures) (c .before .before .before .first-repeat .ensures) (aiger (c .before .before))
+    sym (interface (a .text .now) (a .m) (a .n) (a .second-port) (c .before .before .before .before .sound-lines .ensures) (c .before .before .before .first-repeat .ensures) (aiger (c .before .before))
     (sym (faced (c .before)) ∙ c .if2 .taken))
 
 -- all lines due are well-formed
 whole : (c : tie.Else1) → SoundTo (c .before .before .before .before .before .before .args .text .now) (linesDue (countsIn (c .before .before .before .before .before .before .args .text .now)))
 whole c =
     let a = c .before .before .before .before .before .before .args in
-    all-sound (a .text .now) (a .m) (a .n) (c .before .before .sound-lines .ensures) (c .before .first-repeat .ensures) (aiger c)
+    all-sound (a .text .now) (a .m) (a .n) (a .second-port) (c .before .before .sound-lines .ensures) (c .before .first-repeat .ensures) (aiger c)
 
 first-undefined-requires : tie.Need-first-undefined-requires
 first-undefined-requires c κs =
@@ -76,13 +76,13 @@ returns-3 : tie.Need-returns-3
 returns-3 c =
     let a = c .before .before .before .before .before .before .before .before .before .before .before .args in
     rw (c .place-of2 .ensures)
-    (sym (undefined (a .text .now) (a .m) (a .n) (c .before .before .before .before .before .before .before .sound-lines .ensures) (c .before .before .before .before .before .before .first-repeat .ensures) (aiger (c .before .before .before .before .before))
+    (sym (undefined (a .text .now) (a .m) (a .n) (a .second-port) (c .before .before .before .before .before .before .before .sound-lines .ensures) (c .before .before .before .before .before .before .first-repeat .ensures) (aiger (c .before .before .before .before .before))
     (sym (faced (c .before .before .before .before)) ∙ c .before .before .before .if2 .left) (c .before .before .first-undefined .ensures) (omega (arith, due (c .before .before .before .before .before .before .before .before)))))
 
 returns-4 : tie.Need-returns-4
 returns-4 c =
     let a = c .before .before .before .before .before .before .before .before .before .before .args in
-    sym (passed (a .text .now) (a .m) (a .n) (c .before .before .before .before .before .before .sound-lines .ensures) (c .before .before .before .before .before .first-repeat .ensures) (aiger (c .before .before .before .before))
+    sym (passed (a .text .now) (a .m) (a .n) (a .second-port) (c .before .before .before .before .before .before .sound-lines .ensures) (c .before .before .before .before .before .first-repeat .ensures) (aiger (c .before .before .before .before))
     (sym (faced (c .before .before .before)) ∙ c .before .before .if2 .left) (c .before .first-undefined .ensures) (omega (arith, due (c .before .before .before .before .before .before .before))))
 
 pub test-text-spec : {M : Type 1} → statement M

@@ -1,6 +1,7 @@
 -- `aiger_writer::put_file` meets its contract: header, next codes, outputs and gates, one behind the other.
 use Prim.Native.Nat.{ℕ, suc, _+_, _*_, _≤_, _<_}
 use mathlib.Core.Path.{_≡_}
+use native.Mathlib.Nat.{zero-mul}
 use mathlib.Core.List.{[]}
 use native.Mathlib.Omega.{arith}
 use borrow.Author.Needs.{needs}
@@ -9,7 +10,7 @@ use Rattle.model.proofs.Wrote.{wrote-then, rest-within, rest-room}
 use Rattle.netlist.specs.NetOf.{firstAt, netOf, alone}
 use Rattle.netlist.specs.declared.Netlist.{Netlist}
 use Rattle.netlist.proofs.NetOf.{limits-without-latches, limits-without-gates}
-use Rattle.aiger_graph.specs.RecordAig.{outputOf}
+use Rattle.aiger_graph.specs.RecordAig.{controlOutput, outputOf}
 use Rattle.aiger_graph.proofs.RecordAig.{output-fits}
 use Rattle.aiger_binary.specs.BinaryText.{aigText}
 use Rattle.aiger_writer.specs.Parts.{OrderFits, GatesFit}
@@ -34,6 +35,13 @@ alone-fits : (c : tie.Start) → WithinLimits (alone (c .args .net))
 alone-fits c =
     let a = c .args in
     limits-without-gates (a .net) [] (a .gates .now) (limits-without-latches (a .net) (a .latches .now) (a .gates .now) (c .pre .0))
+
+-- WE follows the write data, as there is one port
+control-is : (c : tie.Start) → let net = c .args .net in controlOutput (net .m) (net .n) (net .«second_port») ≡ net .m + net .n
+control-is c =
+    let net = c .args .net in
+    let none : net .«second_port» * (net .m + 1) ≡ 0 = rw (c .pre .2) (zero-mul (net .m + 1)) in
+    omega (arith, none)
 
 -- its order
 order-fits : (c : tie.After-order-of) → OrderFits (c .order-of .result)
@@ -127,6 +135,7 @@ put-outputs-requires c κs =
       output-most start,
       rest-room (wrote-then _ _ _ _ _ _ _ (header .0) (nexts .0))
           (omega (arith, header .1, nexts .1, fits .wires, fits .m-most, fits .n-most, start .pre .1)),
+      start .pre .2,
     )
 
 add-outputs : tie.Need-add-outputs
@@ -172,9 +181,11 @@ returns c =
     let header = c .before .before .before .before .before .before .before .before .before .before .before .before .before .before .put-header .ensures in
     let nexts = c .before .before .before .before .before .before .before .before .before .before .put-nexts .ensures in
     let outputs = c .before .before .before .before .before .before .put-outputs .ensures in
-    let gates = c .before .before .put-gates .ensures in (
+    let gates = c .before .before .put-gates .ensures in
+    let counted = rw (← control-is start) at (header .0) in
+    let listed = rw (← control-is start) at (outputs .0) in (
       rw (c .before .before .before .before .before .before .before .before .before .before .before .before .before .before .before .before .before .before .before .order-of .ensures)
-          at (wrote-then _ _ _ _ _ _ _ (wrote-then _ _ _ _ _ _ _ (wrote-then _ _ _ _ _ _ _ (header .0) (nexts .0)) (outputs .0)) (gates .0)),
+          at (wrote-then _ _ _ _ _ _ _ (wrote-then _ _ _ _ _ _ _ (wrote-then _ _ _ _ _ _ _ counted (nexts .0)) listed) (gates .0)),
       omega (arith, header .1, nexts .1, outputs .1, gates .1, fits .wires, fits .m-most, fits .n-most),
     )
 

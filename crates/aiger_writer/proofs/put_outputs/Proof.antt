@@ -52,7 +52,7 @@ put-output-requires c κs =
     let at = c .before .before .loop in
     let start = c .before .before .before .before .before in
     let out : List ℕ = at .out in
-    (start .pre .0, start .pre .1, omega arith, start .pre .2 (at .o), rw (mid-len (at .at) (length out) out (omega (arith, room (c .before)))) (omega (arith, room (c .before))))
+    (start .pre .0, start .pre .1, omega arith, start .pre .2 (at .o), rw (mid-len (at .at) (length out) out (omega (arith, room (c .before)))) (omega (arith, room (c .before))), start .pre .4)
 
 add-at : tie.Need-add-at Inv-loop μ-loop
 add-at c = omega (arith, room (c .before .before .before .before), c .before .before .put-output .ensures .1)

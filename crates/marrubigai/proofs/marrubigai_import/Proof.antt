@@ -105,7 +105,10 @@ stayed = (
         stay-dropped _ yes,
         (
           stay-dropped _ yes,
-          (gave-slice (1 ∷ []) tt (plain (λ _. La.the-row)), (gave-slice (2 ∷ []) tt (plain (λ _. Ga.the-row)), tt)),
+          (
+            stay-dropped _ yes,
+            (gave-slice (1 ∷ []) tt (plain (λ _. La.the-row)), (gave-slice (2 ∷ []) tt (plain (λ _. Ga.the-row)), tt)),
+          ),
         ),
       ),
     ),
@@ -129,7 +132,7 @@ module _ {M : Type 1} (𝓤 : URA M) (H : Heap 𝓤) (A : Atoms 𝓤) (mem : Mem
 
 module _ {M : Type 1} (𝓤 : URA M) (H : Heap 𝓤) (A : Atoms 𝓤) (W : Given 𝓤 H A) (mem : Memory → SProp 𝓤)
     (run : Routine → Fun 𝓤) where
-  module _ (κs : Lfts 3) (qs : Shares 3) (text : RefT (List ℕ)) (m n word unknown : ℕ) (x : RefT (List LatchEntry)) (y : RefT (List GateEntry)) where
+  module _ (κs : Lfts 3) (qs : Shares 3) (text : RefT (List ℕ)) (m n word unknown second : ℕ) (x : RefT (List LatchEntry)) (y : RefT (List GateEntry)) where
     abbrev κ : Lft
     κ = κs .0
 
@@ -137,10 +140,10 @@ module _ {M : Type 1} (𝓤 : URA M) (H : Heap 𝓤) (A : Atoms 𝓤) (W : Given
     q = qs .0
 
     abbrev a : Args export.signature κs
-    a = (text, (m, (n, (word, (unknown, (x, (y, tt)))))))
+    a = (text, (m, (n, (word, (unknown, (second, (x, (y, tt))))))))
 
     abbrev at : Vals export.signature κs
-    at = (slice-vals text, (vint w32 m ∷ [], (vint w32 n ∷ [], (vint w32 word ∷ [], (vint w32 unknown ∷ [], (slice-vals x, (slice-vals y, tt)))))))
+    at = (slice-vals text, (vint w32 m ∷ [], (vint w32 n ∷ [], (vint w32 word ∷ [], (vint w32 unknown ∷ [], (vint w32 second ∷ [], (slice-vals x, (slice-vals y, tt))))))))
 
     abbrev bound : walkOf 𝓤 H A export.ended stayed (export.clauses 𝓤 H A mem run) .Ghost
     bound = ((κs, qs, tt, a, at), tt)
@@ -163,7 +166,7 @@ module _ {M : Type 1} (𝓤 : URA M) (H : Heap 𝓤) (A : Atoms 𝓤) (W : Given
 
     -- what the covered function promises of them
     abbrev Read : SheetAnswer → List ℕ → List ℕ → Type 0
-    Read sheet xs ys = Outcome sheet xs ys (importVerdict (now text) m n (importedWord word unknown) unknown latchRoom gateRoom) (aagNet (now text) m n (importedWord word unknown) unknown)
+    Read sheet xs ys = Outcome sheet xs ys (importVerdict (now text) m n (importedWord word unknown) unknown second latchRoom gateRoom) (aagNet (now text) m n (importedWord word unknown) unknown second)
 
     -- what is left in the lent lists, from the unpacked ones
     abbrev newLatches : SheetAnswer → List ℕ → List LatchEntry
@@ -184,7 +187,7 @@ module _ {M : Type 1} (𝓤 : URA M) (H : Heap 𝓤) (A : Atoms 𝓤) (W : Given
       κs′ = (κ, (α ∷ [], (β ∷ [], tt)))
 
       abbrev b : Args codes.signature κs′
-      b = (text, (m, (n, (word, (unknown, (latchRoom, (gateRoom, (cx, (cy, tt)))))))))
+      b = (text, (m, (n, (word, (unknown, (second, (latchRoom, (gateRoom, (cx, (cy, tt))))))))))
 
       abbrev to-codes : ImportCodes 𝓤 H A mem run .Ghost
       to-codes = (
@@ -201,7 +204,10 @@ module _ {M : Type 1} (𝓤 : URA M) (H : Heap 𝓤) (A : Atoms 𝓤) (W : Given
                 vint w32 n ∷ [],
                 (
                   vint w32 word ∷ [],
-                  (vint w32 unknown ∷ [], (vint w64 latchRoom ∷ [], (vint w64 gateRoom ∷ [], (ptr-vals cx, (ptr-vals cy, tt))))),
+                  (
+                    vint w32 unknown ∷ [],
+                    (vint w32 second ∷ [], (vint w64 latchRoom ∷ [], (vint w64 gateRoom ∷ [], (ptr-vals cx, (ptr-vals cy, tt))))),
+                  ),
                 ),
               ),
             ),
@@ -215,13 +221,14 @@ module _ {M : Type 1} (𝓤 : URA M) (H : Heap 𝓤) (A : Atoms 𝓤) (W : Given
           ∷ ‵ (MutRef (named 2) (β ∷ []) Codes .own cy (ptr-vals cy)) ∷ ‵ (flft κ q) ∷ ‵ (flft (α ∷ []) fullShare)
           ∷ ‵ (flft (β ∷ []) fullShare) ∷ []
 
-      codes-goes : m < 2 ^ 32 → n < 2 ^ 32 → word < 2 ^ 32 → unknown < 2 ^ 32 → latchRoom < 2 ^ 64 → gateRoom < 2 ^ 64 → ent 𝓤 (⋆ 𝓤 H A Asks) (ImportCodes 𝓤 H A mem run .pre to-codes)
-      codes-goes m-fits n-fits word-fits unknown-fits latches-fit gates-fit =
+      codes-goes : m < 2 ^ 32 → n < 2 ^ 32 → word < 2 ^ 32 → unknown < 2 ^ 32 → second < 2 ^ 32 → latchRoom < 2 ^ 64 → gateRoom < 2 ^ 64 → ent 𝓤 (⋆ 𝓤 H A Asks) (ImportCodes 𝓤 H A mem run .pre to-codes)
+      codes-goes m-fits n-fits word-fits unknown-fits second-fits latches-fit gates-fit =
           qed W Asks ∵ says ! (refl, refl) $
           nothing ! $ move ! (6 ∷ 0 ∷ []) $ join ! $ move ! (5 ∷ 0 ∷ []) $ join ! $ move ! (4 ∷ 0 ∷ []) $ join ! $ frame ! $
           nothing ! $ move ! (3 ∷ 0 ∷ []) $ fjoin ! $ move ! (2 ∷ 0 ∷ []) $ fjoin ! $
           owned ! usize (Is usize) (uint-makes 𝓤 H A W w64) gateRoom _ (refl, gates-fit) $ fjoin ! $
           owned ! usize (Is usize) (uint-makes 𝓤 H A W w64) latchRoom _ (refl, latches-fit) $ fjoin ! $
+          owned ! u32 (Is u32) (uint-makes 𝓤 H A W w32) second _ (refl, second-fits) $ fjoin ! $
           owned ! u32 (Is u32) (uint-makes 𝓤 H A W w32) unknown _ (refl, unknown-fits) $ fjoin ! $
           owned ! u32 (Is u32) (uint-makes 𝓤 H A W w32) word _ (refl, word-fits) $ fjoin ! $
           owned ! u32 (Is u32) (uint-makes 𝓤 H A W w32) n _ (refl, n-fits) $ fjoin ! $
@@ -243,16 +250,16 @@ module _ {M : Type 1} (𝓤 : URA M) (H : Heap 𝓤) (A : Atoms 𝓤) (W : Given
           use1 W (later (some (λ (sheet : SheetAnswer). ((‵ (flft κ q) ⊛ ‵ (flft (α ∷ []) fullShare) ⊛ ‵ (flft (β ∷ []) fullShare)
           ⊛ ‵ ftrue) ⊛ ‵ (S.the-row .own sheet (u ∷ [])))
           ⊛ some (λ (zs : Lasts codes.ended κs′ b). ‵ (lasts codes.ended κs′ b zs)
-          ⊛ raw (fact 𝓤 (Read sheet (zs .1 .1 .1 .1 .1 .1 .1 .0) (zs .1 .1 .1 .1 .1 .1 .1 .1 .0))))))) (id⊢ 𝓤 _) $ await ! tt $ pick ! (λ sheet.
+          ⊛ raw (fact 𝓤 (Read sheet (zs .1 .1 .1 .1 .1 .1 .1 .1 .0) (zs .1 .1 .1 .1 .1 .1 .1 .1 .1 .0))))))) (id⊢ 𝓤 _) $ await ! tt $ pick ! (λ sheet.
           split ! $ move ! (1 ∷ []) $ pick ! (λ zs. split ! $ move ! (1 ∷ []) $
-          heard ! (Read sheet (zs .1 .1 .1 .1 .1 .1 .1 .0) (zs .1 .1 .1 .1 .1 .1 .1 .1 .0)) (λ e.
+          heard ! (Read sheet (zs .1 .1 .1 .1 .1 .1 .1 .1 .0) (zs .1 .1 .1 .1 .1 .1 .1 .1 .1 .0)) (λ e.
           -- [what is last in the lists; the tokens and the result]
           fsplit ! $ drop ! $ fsplit ! $ drop ! $ fsplit ! $ drop ! $ fsplit ! $ drop ! $ fsplit ! $ drop ! $ fsplit ! $ drop ! $
-          fsplit ! $ drop ! $ fsplit ! $ move ! (1 ∷ []) $ fsplit ! $ move ! (3 ∷ []) $
+          fsplit ! $ drop ! $ fsplit ! $ drop ! $ fsplit ! $ move ! (1 ∷ []) $ fsplit ! $ move ! (3 ∷ []) $
           split ! $ split ! $ move ! (1 ∷ []) $ split ! $ move ! (1 ∷ []) $ split ! $
           -- [β's token; true; α's token; the text's; the result; gates; true; latches]
           at-once ! $ show ! (λ (o : Answer). guard 𝓤 (Read (o .0) (o .1 .0) (o .1 .1)) (⋆ 𝓤 H A (Gets u o ∷ [])))
-          (sheet, (zs .1 .1 .1 .1 .1 .1 .1 .0, zs .1 .1 .1 .1 .1 .1 .1 .1 .0)) $ check ! e $ keep ! (4 ∷ 3 ∷ 2 ∷ 0 ∷ 7 ∷ 5 ∷ []) $ done !)))
+          (sheet, (zs .1 .1 .1 .1 .1 .1 .1 .1 .0, zs .1 .1 .1 .1 .1 .1 .1 .1 .1 .0)) $ check ! e $ keep ! (4 ∷ 3 ∷ 2 ∷ 0 ∷ 7 ∷ 5 ∷ []) $ done !)))
 
     -- ---- the end: what is had, and what the contract says of it
     exits : (sheet : SheetAnswer) (xs ys : List ℕ) (v : Val) → Read sheet xs ys
@@ -261,55 +268,56 @@ module _ {M : Type 1} (𝓤 : URA M) (H : Heap 𝓤) (A : Atoms 𝓤) (W : Given
         ∷ ‵ (finally La.the-row (x .name) (newLatches sheet xs)) ∷ ‵ (finally Ga.the-row (y .name) (newGates sheet ys)) ∷ [])) (Post v)
     exits sheet xs ys v e =
         let sent = sheetNumbers (sheet .verdict) (sheet .net) in
-        let fits = text-fits (now text) m n word unknown (now x) (now y) in
+        let fits = text-fits (now text) m n word unknown second (now x) (now y) in
         let latches-long : length (newLatches sheet xs) ≡ latchRoom = latches-length (now x) (now y) fits sheet xs ys e in
         let gates-long : length (newGates sheet ys) ≡ gateRoom = gates-length (now x) (now y) fits sheet xs ys e in
         qed W (‵ (R.the-row .own (sheetNumbers (sheet .verdict) (sheet .net)) (v ∷ [])) ∷ ‵ (flft κ q)
         ∷ ‵ (flft (κs .1 .0) (qs .1 .0)) ∷ ‵ (flft (κs .1 .1 .0) (qs .1 .1 .0)) ∷ ‵ Text
         ∷ ‵ (finally La.the-row (x .name) (newLatches sheet xs)) ∷ ‵ (finally Ga.the-row (y .name) (newGates sheet ys)) ∷ []) ∵
         suffices ! _ (ends-at 𝓤 H A export.ended stayed (export.clauses 𝓤 H A mem run) W bound v sent
-        (tt, (tt, (tt, (tt, (tt, (newLatches sheet xs, (newGates sheet ys, tt))))))) (tt, (tt, (tt, (tt, (tt, (latches-long, (gates-long, tt)))))))) $
+        (tt, (tt, (tt, (tt, (tt, (tt, (newLatches sheet xs, (newGates sheet ys, tt)))))))) (tt, (tt, (tt, (tt, (tt, (tt, (latches-long, (gates-long, tt))))))))) $
         suffices ! _ (spread 𝓤 H A W (onExit 𝓤 H A export.ended stayed κs qs at v sent a
-        (tt, (tt, (tt, (tt, (tt, (newLatches sheet xs, (newGates sheet ys, tt))))))))
-        (sent ≡ sheetNumbers (importVerdictFor (now text) m n word unknown (now x) (now y)) (importRecord (now text) m n word unknown (now x) (now y)))
-        ((newLatches sheet xs ≡ importLatches (now text) m n word unknown (now x) (now y))
-        ∷ (newGates sheet ys ≡ importGates (now text) m n word unknown (now x) (now y))
-        ∷ (sent .number ≡ 0 → TextDelivered (now text) m n word unknown (sent .net) (newLatches sheet xs) (newGates sheet ys)) ∷ TextAsWritten
+        (tt, (tt, (tt, (tt, (tt, (tt, (newLatches sheet xs, (newGates sheet ys, tt)))))))))
+        (sent ≡ sheetNumbers (importVerdictFor (now text) m n word unknown second (now x) (now y)) (importRecord (now text) m n word unknown second (now x) (now y)))
+        ((newLatches sheet xs ≡ importLatches (now text) m n word unknown second (now x) (now y))
+        ∷ (newGates sheet ys ≡ importGates (now text) m n word unknown second (now x) (now y))
+        ∷ (sent .number ≡ 0 → TextDelivered (now text) m n word unknown second (sent .net) (newLatches sheet xs) (newGates sheet ys)) ∷ TextAsWritten
         ∷ [])) $
-        says ! (answers (now text) m n word unknown (now x) (now y) sheet xs ys e) $
+        says ! (answers (now text) m n word unknown second (now x) (now y) sheet xs ys e) $
         nothing ! $ move ! (4 ∷ 0 ∷ []) $ join ! $ move ! (3 ∷ 0 ∷ []) $ join ! $ move ! (2 ∷ 0 ∷ []) $ join ! $ frame ! $
         nothing ! $ move ! (4 ∷ 0 ∷ []) $ fjoin ! $ move ! (3 ∷ 0 ∷ []) $ fjoin ! $
-        nothing ! $ fjoin ! $ nothing ! $ fjoin ! $ nothing ! $ fjoin ! $ nothing ! $ fjoin ! $ move ! (2 ∷ 0 ∷ []) $ fjoin ! $ frame ! $ done !
+        nothing ! $ fjoin ! $ nothing ! $ fjoin ! $ nothing ! $ fjoin ! $ nothing ! $ fjoin ! $ nothing ! $ fjoin ! $ move ! (2 ∷ 0 ∷ []) $ fjoin ! $ frame ! $ done !
 
     module _ (C : Calls 𝓤 H) (Λ : Loops 𝓤 H) (fm : FmC 𝓤 H (W .laws) C) (known-none : Triple 𝓤 (C #no-codes) (none.None 𝓤 H A mem run))
         (known-codes : Triple 𝓤 (C #import-text) (ImportCodes 𝓤 H A mem run))
         (known-numbers : Triple 𝓤 (C #sheet-numbers) (numbers.Numbers 𝓤 H A mem run))
         (known-latches : Triple 𝓤 (C #deliver-latches) (DeliverLatches 𝓤 H A mem run))
         (known-gates : Triple 𝓤 (C #deliver-gates) (DeliverGates 𝓤 H A mem run)) where
-      walk : Is (ShrSlice (named 0) κ u8) text (slice-vals text) → m < 2 ^ 32 → n < 2 ^ 32 → word < 2 ^ 32 → unknown < 2 ^ 32 → Room La.the-row latchRoom
+      walk : Is (ShrSlice (named 0) κ u8) text (slice-vals text) → m < 2 ^ 32 → n < 2 ^ 32 → word < 2 ^ 32 → unknown < 2 ^ 32 → second < 2 ^ 32 → Room La.the-row latchRoom
           → Room Ga.the-row gateRoom
           → ent 𝓤 (onEntry 𝓤 H A export.signature κs qs a at) (WpFn 𝓤 H C Λ code.function (sliceVal (text .ptr) (length (now text)) ∷ vint w32 m ∷ vint w32 n ∷ vint w32 word
-          ∷ vint w32 unknown ∷ sliceVal (x .ptr) latchRoom ∷ sliceVal (y .ptr) gateRoom ∷ []) Post)
-      walk text-is m-fits n-fits word-fits unknown-fits latch-room gate-room =
-          qed W (Tokens ∷ ‵ (owns (ShrSlice (named 0) κ u8 ∷ u32 ∷ u32 ∷ u32 ∷ u32 ∷ MutSlice (named 1) (κs .1 .0) La.the-row
+          ∷ vint w32 unknown ∷ vint w32 second ∷ sliceVal (x .ptr) latchRoom ∷ sliceVal (y .ptr) gateRoom ∷ []) Post)
+      walk text-is m-fits n-fits word-fits unknown-fits second-fits latch-room gate-room =
+          qed W (Tokens ∷ ‵ (owns (ShrSlice (named 0) κ u8 ∷ u32 ∷ u32 ∷ u32 ∷ u32 ∷ u32 ∷ MutSlice (named 1) (κs .1 .0) La.the-row
           ∷ MutSlice (named 2) (κs .1 .1 .0) Ga.the-row ∷ []) a at) ∷ []) ∵
           enter ! C Λ code.function (sliceVal (text .ptr) (length (now text)) ∷ vint w32 m ∷ vint w32 n ∷ vint w32 word
-          ∷ vint w32 unknown ∷ sliceVal (x .ptr) latchRoom ∷ sliceVal (y .ptr) gateRoom ∷ []) _ $
+          ∷ vint w32 unknown ∷ vint w32 second ∷ sliceVal (x .ptr) latchRoom ∷ sliceVal (y .ptr) gateRoom ∷ []) _ $
           alloc1 ! (λ l₀. alloc1 ! (λ l₁. alloc1 ! (λ l₂. alloc1 ! (λ l₃. alloc1 ! (λ l₄. alloc1 ! (λ l₅. alloc1 ! (λ l₆.
           alloc1 ! (λ l₇. alloc1 ! (λ l₈. alloc1 ! (λ l₉. alloc1 ! (λ l₁₀. alloc1 ! (λ l₁₁. alloc1 ! (λ l₁₂. alloc1 ! (λ l₁₃.
           alloc1 ! (λ l₁₄. alloc1 ! (λ l₁₅. alloc1 ! (λ l₁₆. alloc1 ! (λ l₁₇. alloc1 ! (λ l₁₈. alloc1 ! (λ l₁₉. alloc1 ! (λ l₂₀.
-          alloc1 ! (λ l₂₁. alloc1 ! (λ l₂₂. alloc0 ! $ params1 ! $
-          pass1 ! (init ! 42 refl (shr-slice-lawful 𝓤 H A W (named 0) κ u8 .typed text (slice-vals text) text-is .0)) $
-          pass1 ! (init ! 40 refl (tt, record { fits = m-fits })) $
-          pass1 ! (init ! 38 refl (tt, record { fits = n-fits })) $
-          pass1 ! (init ! 36 refl (tt, record { fits = word-fits })) $
-          pass1 ! (init ! 34 refl (tt, record { fits = unknown-fits })) $
+          alloc1 ! (λ l₂₁. alloc1 ! (λ l₂₂. alloc1 ! (λ l₂₃. alloc0 ! $ params1 ! $
+          pass1 ! (init ! 44 refl (shr-slice-lawful 𝓤 H A W (named 0) κ u8 .typed text (slice-vals text) text-is .0)) $
+          pass1 ! (init ! 42 refl (tt, record { fits = m-fits })) $
+          pass1 ! (init ! 40 refl (tt, record { fits = n-fits })) $
+          pass1 ! (init ! 38 refl (tt, record { fits = word-fits })) $
+          pass1 ! (init ! 36 refl (tt, record { fits = unknown-fits })) $
+          pass1 ! (init ! 34 refl (tt, record { fits = second-fits })) $
           pass1 ! (init ! 32 refl (tt, (tt, (record { fits = latch-room .0 }, tt)))) $
           pass1 ! (init ! 30 refl (tt, (tt, (record { fits = gate-room .0 }, tt)))) $ pass0 ! $
-          -- from here on the locals but _8 and _9 stand at the end: _22, _21, .. at every second place, that _9 and _8 die behind
-          -- _10
-          move ! (47 ∷ 46 ∷ 28 ∷ 26 ∷ []) $ fsplit ! $ move ! (1 ∷ []) $ fsplit ! $ drop ! $ fsplit ! $ drop ! $ fsplit ! $ drop ! $
-          fsplit ! $ drop ! $ fsplit ! $ move ! (1 ∷ []) $ fsplit ! $ move ! (1 ∷ []) $ drop ! $
+          -- from here on the locals but _9 and _10 stand at the end: _23, _22, .. at every second place, that _10 and _9 die behind
+          -- _11
+          move ! (49 ∷ 48 ∷ 28 ∷ 26 ∷ []) $ fsplit ! $ move ! (1 ∷ []) $ fsplit ! $ drop ! $ fsplit ! $ drop ! $ fsplit ! $ drop ! $
+          fsplit ! $ drop ! $ fsplit ! $ drop ! $ fsplit ! $ move ! (1 ∷ []) $ fsplit ! $ move ! (1 ∷ []) $ drop ! $
           move ! (3 ∷ []) $ split ! $ move ! (1 ∷ []) $ split ! $ move ! (1 ∷ []) $ split ! $ move ! (1 ∷ []) $ drop ! $
           move ! (2 ∷ 1 ∷ 0 ∷ 5 ∷ 4 ∷ 3 ∷ []) $
           -- [the text's token; the latches'; the gates'; text; latches; gates; _4; _5; _19; …]
@@ -317,18 +325,18 @@ module _ {M : Type 1} (𝓤 : URA M) (H : Heap 𝓤) (A : Atoms 𝓤) (W : Given
           calls-at ! fm (none.None 𝓤 H A mem run) known-none (none.to 𝓤 H A mem run) (no-more !)
           (λ u₄. use1 W (later (‵ (Codes .own noCodes (u₄ ∷ [])))) (none.gives 𝓤 H A mem run W u₄) $ await ! tt $
           peeks ! Codes (Is Codes) (shows 𝓤 H A Codes) noCodes (u₄ ∷ []) (λ is₄.
-          land ! (from ! (stop !)) (init ! 31 refl (typed-codes 𝓤 H A W noCodes l₈ u₄ is₄ .0)) $
+          land ! (from ! (stop !)) (init ! 31 refl (typed-codes 𝓤 H A W noCodes l₉ u₄ is₄ .0)) $
           assigns ! (of-opd ! (load ! (from ! (stop !)) (look ! 31 refl))) (from ! (stop !))
-          (init ! 7 refl (typed-codes 𝓤 H A W noCodes l₈ u₄ is₄ .0)) $ forget ! 31 refl $
-          move ! (7 ∷ 0 ∷ []) $ use2 W (‵ (partAt Codes fullShare noCodes l₈ 0)) (stored 𝓤 H A W noCodes l₈ u₄) $
+          (init ! 7 refl (typed-codes 𝓤 H A W noCodes l₉ u₄ is₄ .0)) $ forget ! 31 refl $
+          move ! (7 ∷ 0 ∷ []) $ use2 W (‵ (partAt Codes fullShare noCodes l₉ 0)) (stored 𝓤 H A W noCodes l₉ u₄) $
           use0 W (raw (none.None 𝓤 H A mem run .pre (none.to 𝓤 H A mem run))) (none.goes 𝓤 H A mem run W) $
           calls-at ! fm (none.None 𝓤 H A mem run) known-none (none.to 𝓤 H A mem run) (no-more !)
           (λ u₅. use1 W (later (‵ (Codes .own noCodes (u₅ ∷ [])))) (none.gives 𝓤 H A mem run W u₅) $ await ! tt $
           peeks ! Codes (Is Codes) (shows 𝓤 H A Codes) noCodes (u₅ ∷ []) (λ is₅.
-          land ! (from ! (stop !)) (init ! 31 refl (typed-codes 𝓤 H A W noCodes l₉ u₅ is₅ .0)) $
+          land ! (from ! (stop !)) (init ! 31 refl (typed-codes 𝓤 H A W noCodes l₁₀ u₅ is₅ .0)) $
           assigns ! (of-opd ! (load ! (from ! (stop !)) (look ! 31 refl))) (from ! (stop !))
-          (init ! 8 refl (typed-codes 𝓤 H A W noCodes l₉ u₅ is₅ .0)) $ forget ! 31 refl $
-          move ! (8 ∷ 0 ∷ []) $ use2 W (‵ (partAt Codes fullShare noCodes l₉ 0)) (stored 𝓤 H A W noCodes l₉ u₅) $
+          (init ! 8 refl (typed-codes 𝓤 H A W noCodes l₁₀ u₅ is₅ .0)) $ forget ! 31 refl $
+          move ! (8 ∷ 0 ∷ []) $ use2 W (‵ (partAt Codes fullShare noCodes l₁₀ 0)) (stored 𝓤 H A W noCodes l₁₀ u₅) $
           -- [_5; _4; the text's token; the latches'; the gates'; text; latches; gates; _19; …]
           assigns ! (of-opd ! (load ! (from ! (fld ! refl (stop !))) (look-in ! 38 (sub ! 1 refl (whole !))))) (from ! (stop !))
           (init ! 28 refl (tt, record { fits = latch-room .0 })) $
@@ -340,18 +348,19 @@ module _ {M : Type 1} (𝓤 : URA M) (H : Heap 𝓤) (A : Atoms 𝓤) (W : Given
           -- both lists are lent
           lft-new ! tt (λ α. move ! (4 ∷ []) $
           use1 W (later (some (λ (γ : GName). ‵ (MutRef (named 1) (α ∷ []) Codes .own
-          (record { ptr = (l₈, 0); name = γ; now = noCodes }) (vptr l₈ 0 ∷ []))
-          ⊛ ‵ (flent (α ∷ []) (Body (memory Codes) l₈ 0 γ))))) (lends-ref 𝓤 H A W Codes (named 1) (α ∷ []) noCodes l₈ 0) $
+          (record { ptr = (l₉, 0); name = γ; now = noCodes }) (vptr l₉ 0 ∷ []))
+          ⊛ ‵ (flent (α ∷ []) (Body (memory Codes) l₉ 0 γ))))) (lends-ref 𝓤 H A W Codes (named 1) (α ∷ []) noCodes l₉ 0) $
           await ! tt $ pick ! (λ γ. split ! $
           lft-new ! tt (λ β. move ! (6 ∷ []) $
           use1 W (later (some (λ (δ : GName). ‵ (MutRef (named 2) (β ∷ []) Codes .own
-          (record { ptr = (l₉, 0); name = δ; now = noCodes }) (vptr l₉ 0 ∷ []))
-          ⊛ ‵ (flent (β ∷ []) (Body (memory Codes) l₉ 0 δ))))) (lends-ref 𝓤 H A W Codes (named 2) (β ∷ []) noCodes l₉ 0) $
+          (record { ptr = (l₁₀, 0); name = δ; now = noCodes }) (vptr l₁₀ 0 ∷ []))
+          ⊛ ‵ (flent (β ∷ []) (Body (memory Codes) l₁₀ 0 δ))))) (lends-ref 𝓤 H A W Codes (named 2) (β ∷ []) noCodes l₁₀ 0) $
           await ! tt $ pick ! (λ δ. split ! $
           move ! (6 ∷ 3 ∷ 0 ∷ 8 ∷ 5 ∷ 2 ∷ []) $ group ! 6 $
-          use1 W (raw (ImportCodes 𝓤 H A mem run .pre (to-codes l₈ l₉ α β γ δ)))
-          (codes-goes l₈ l₉ α β γ δ m-fits n-fits word-fits unknown-fits (latch-room .0) (gate-room .0)) $
-          calls-at ! fm (ImportCodes 𝓤 H A mem run) known-codes (to-codes l₈ l₉ α β γ δ)
+          use1 W (raw (ImportCodes 𝓤 H A mem run .pre (to-codes l₉ l₁₀ α β γ δ)))
+          (codes-goes l₉ l₁₀ α β γ δ m-fits n-fits word-fits unknown-fits second-fits (latch-room .0) (gate-room .0)) $
+          calls-at ! fm (ImportCodes 𝓤 H A mem run) known-codes (to-codes l₉ l₁₀ α β γ δ)
+          (and-then ! (load ! (from ! (stop !)) (look ! 50 refl))
           (and-then ! (load ! (from ! (stop !)) (look ! 48 refl))
           (and-then ! (load ! (from ! (stop !)) (look ! 46 refl))
           (and-then ! (load ! (from ! (stop !)) (look ! 44 refl))
@@ -360,25 +369,25 @@ module _ {M : Type 1} (𝓤 : URA M) (H : Heap 𝓤) (A : Atoms 𝓤) (W : Given
           (and-then ! (load ! (from ! (stop !)) (look ! 28 refl))
           (and-then ! (load ! (from ! (stop !)) (look ! 26 refl))
           (and-then ! (load ! (from ! (stop !)) (look ! 24 refl))
-          (and-then ! (load ! (from ! (stop !)) (look ! 22 refl)) (no-more !)))))))))) (λ u.
+          (and-then ! (load ! (from ! (stop !)) (look ! 22 refl)) (no-more !))))))))))) (λ u.
           use1 W (later (some (λ (o : SheetAnswer × (List ℕ × List ℕ)). given (Read (o .0) (o .1 .0) (o .1 .1))
-          (Gets l₈ l₉ α β γ δ u o)))) (codes-gives l₈ l₉ α β γ δ u) $ await ! tt $ pick ! (λ o. learn ! (λ e.
+          (Gets l₉ l₁₀ α β γ δ u o)))) (codes-gives l₉ l₁₀ α β γ δ u) $ await ! tt $ pick ! (λ o. learn ! (λ e.
           split ! $ move ! (1 ∷ []) $ split ! $ move ! (1 ∷ []) $ split ! $ move ! (1 ∷ []) $ split ! $ move ! (1 ∷ []) $
           split ! $ move ! (5 ∷ []) $
           peeks ! S.the-row (Is S.the-row) (shows 𝓤 H A S.the-row) (o .0) (u ∷ []) (λ sheet-is.
           let typed = LL.lawful S.the-type S′.the-laws 𝓤 H A W .typed (o .0) (u ∷ []) sheet-is .0 in
           let low : u ≡ S′.lowered (o .0) = ap only (S′.lowers .val-is (o .0) (u ∷ []) sheet-is) in
-          let ok = deliverable (now x) (now y) (text-fits (now text) m n word unknown (now x) (now y)) (o .0) (o .1 .0) (o .1 .1) e in
+          let ok = deliverable (now x) (now y) (text-fits (now text) m n word unknown second (now x) (now y)) (o .0) (o .1 .0) (o .1 .1) e in
           -- [the sheet; latches' last; gates' last; β's token; α's; the text's; β's loan; α's loan; file; the latches' token; the
           -- gates'; latches; gates; _19; …]
           land ! (from ! (stop !)) (init ! 37 refl typed) $
-          rewrite ! 37 (λ (v : Val). ‵ (fat fullShare sheetTy l₁₀ 0 v)) low refl $
+          rewrite ! 37 (λ (v : Val). ‵ (fat fullShare sheetTy l₁₁ 0 v)) low refl $
           rewrite ! 0 (λ (v : Val). ‵ (S.the-row .own (o .0) (v ∷ []))) low refl $
           move ! (4 ∷ []) $ lft-end ! tt $ move ! (0 ∷ 7 ∷ 2 ∷ []) $
-          use3 W (later (‵ (partAt Codes fullShare (o .1 .0) l₈ 0))) (ref-back 𝓤 H A W Codes (α ∷ []) γ (o .1 .0) l₈ 0) $
+          use3 W (later (‵ (partAt Codes fullShare (o .1 .0) l₉ 0))) (ref-back 𝓤 H A W Codes (α ∷ []) γ (o .1 .0) l₉ 0) $
           await ! tt $
           move ! (3 ∷ []) $ lft-end ! tt $ move ! (0 ∷ 5 ∷ 3 ∷ []) $
-          use3 W (later (‵ (partAt Codes fullShare (o .1 .1) l₉ 0))) (ref-back 𝓤 H A W Codes (β ∷ []) δ (o .1 .1) l₉ 0) $
+          use3 W (later (‵ (partAt Codes fullShare (o .1 .1) l₁₀ 0))) (ref-back 𝓤 H A W Codes (β ∷ []) δ (o .1 .1) l₁₀ 0) $
           await ! tt $
           -- [_5; _4; the sheet; the text's token; file; the latches' token; the gates'; latches; gates; _19; …]: the latches are
           -- delivered
@@ -390,25 +399,25 @@ module _ {M : Type 1} (𝓤 : URA M) (H : Heap 𝓤) (A : Atoms 𝓤) (W : Given
           (from ! (stop !)) (init ! 15 refl (tt, (tt, (record { fits = latch-room .0 }, tt)))) $
           lft-new ! tt (λ α′. move ! (2 ∷ []) $
           use1 W (later (some (λ (γ′ : GName). ‵ (ShrRef (named 0) (α′ ∷ []) Codes .own
-          (record { ptr = (l₈, 0); name = γ′; now = o .1 .0 }) (vptr l₈ 0 ∷ []))
-          ⊛ ‵ (flent (α′ ∷ []) (partAt Codes fullShare (o .1 .0) l₈ 0)))))
-          (lends-shr 𝓤 H A W Codes (named 0) (α′ ∷ []) fullShare (o .1 .0) l₈ 0) $ await ! tt $ pick ! (λ γ′. split ! $
+          (record { ptr = (l₉, 0); name = γ′; now = o .1 .0 }) (vptr l₉ 0 ∷ []))
+          ⊛ ‵ (flent (α′ ∷ []) (partAt Codes fullShare (o .1 .0) l₉ 0)))))
+          (lends-shr 𝓤 H A W Codes (named 0) (α′ ∷ []) fullShare (o .1 .0) l₉ 0) $ await ! tt $ pick ! (λ γ′. split ! $
           move ! (0 ∷ 9 ∷ 2 ∷ 7 ∷ []) $ group ! 4 $
           use1 W (raw (DeliverLatches 𝓤 H A mem run .pre
           (call.to La.the-type tt latchAt 𝓤 H A W α′ (κs .1 .0) (qs .1 .0)
-          (record { ptr = (l₈, 0); name = γ′; now = o .1 .0 }) (o .0 .net .latches) x)))
-          (call.goes La.the-type tt latchAt 𝓤 H A W α′ (κs .1 .0) (qs .1 .0) (record { ptr = (l₈, 0); name = γ′; now = o .1 .0 })
+          (record { ptr = (l₉, 0); name = γ′; now = o .1 .0 }) (o .0 .net .latches) x)))
+          (call.goes La.the-type tt latchAt 𝓤 H A W α′ (κs .1 .0) (qs .1 .0) (record { ptr = (l₉, 0); name = γ′; now = o .1 .0 })
           (o .0 .net .latches) x (ok .0) (lt-of-le-of-lt (ok .0 .0) (lit< tt))) $
           calls-at ! fm (DeliverLatches 𝓤 H A mem run) known-latches
           (call.to La.the-type tt latchAt 𝓤 H A W α′ (κs .1 .0) (qs .1 .0)
-          (record { ptr = (l₈, 0); name = γ′; now = o .1 .0 }) (o .0 .net .latches) x)
+          (record { ptr = (l₉, 0); name = γ′; now = o .1 .0 }) (o .0 .net .latches) x)
           (and-then ! (load ! (from ! (stop !)) (look ! 18 refl))
           (and-then ! (load ! (from ! (fld ! refl (fld ! refl (stop !))))
           (look-in ! 32 (sub ! 1 refl (sub ! 1 refl (whole !)))))
           (and-then ! (load ! (from ! (stop !)) (look ! 14 refl)) (no-more !)))) (λ v.
           use1 W (later (given (v ≡ vunit) (‵ (flft (α′ ∷ []) fullShare) ⊛ ‵ (flft (κs .1 .0) (qs .1 .0))
           ⊛ ‵ (finally La.the-row (x .name) (newLatches (o .0) (o .1 .0))))))
-          (call.gives La.the-type tt latchAt 𝓤 H A W α′ (κs .1 .0) (qs .1 .0) (record { ptr = (l₈, 0); name = γ′; now = o .1 .0 })
+          (call.gives La.the-type tt latchAt 𝓤 H A W α′ (κs .1 .0) (qs .1 .0) (record { ptr = (l₉, 0); name = γ′; now = o .1 .0 })
           (o .0 .net .latches) x v) $ await ! tt $ learn ! (λ v-is. split ! $ move ! (1 ∷ []) $ split ! $
           land ! (from ! (stop !)) (init ! 22 refl (subst (λ (z : Val). Holds (hasTy tyUnit z) × WT z) (sym v-is) (tt, tt))) $
           forget ! 22 refl $
@@ -423,19 +432,19 @@ module _ {M : Type 1} (𝓤 : URA M) (H : Heap 𝓤) (A : Atoms 𝓤) (W : Given
           (from ! (stop !)) (init ! 9 refl (tt, (tt, (record { fits = gate-room .0 }, tt)))) $
           lft-new ! tt (λ β′. move ! (4 ∷ []) $
           use1 W (later (some (λ (δ′ : GName). ‵ (ShrRef (named 0) (β′ ∷ []) Codes .own
-          (record { ptr = (l₉, 0); name = δ′; now = o .1 .1 }) (vptr l₉ 0 ∷ []))
-          ⊛ ‵ (flent (β′ ∷ []) (partAt Codes fullShare (o .1 .1) l₉ 0)))))
-          (lends-shr 𝓤 H A W Codes (named 0) (β′ ∷ []) fullShare (o .1 .1) l₉ 0) $ await ! tt $ pick ! (λ δ′. split ! $
+          (record { ptr = (l₁₀, 0); name = δ′; now = o .1 .1 }) (vptr l₁₀ 0 ∷ []))
+          ⊛ ‵ (flent (β′ ∷ []) (partAt Codes fullShare (o .1 .1) l₁₀ 0)))))
+          (lends-shr 𝓤 H A W Codes (named 0) (β′ ∷ []) fullShare (o .1 .1) l₁₀ 0) $ await ! tt $ pick ! (λ δ′. split ! $
           move ! (0 ∷ 10 ∷ 2 ∷ 9 ∷ []) $ group ! 4 $
           use1 W (raw (DeliverGates 𝓤 H A mem run .pre
           (call.to Ga.the-type tt gateAt 𝓤 H A W β′ (κs .1 .1 .0) (qs .1 .1 .0)
-          (record { ptr = (l₉, 0); name = δ′; now = o .1 .1 }) (o .0 .net .gates) y)))
+          (record { ptr = (l₁₀, 0); name = δ′; now = o .1 .1 }) (o .0 .net .gates) y)))
           (call.goes Ga.the-type tt gateAt 𝓤 H A W β′ (κs .1 .1 .0) (qs .1 .1 .0)
-          (record { ptr = (l₉, 0); name = δ′; now = o .1 .1 }) (o .0 .net .gates) y (ok .1)
+          (record { ptr = (l₁₀, 0); name = δ′; now = o .1 .1 }) (o .0 .net .gates) y (ok .1)
           (lt-of-le-of-lt (ok .1 .0) (lit< tt))) $
           calls-at ! fm (DeliverGates 𝓤 H A mem run) known-gates
           (call.to Ga.the-type tt gateAt 𝓤 H A W β′ (κs .1 .1 .0) (qs .1 .1 .0)
-          (record { ptr = (l₉, 0); name = δ′; now = o .1 .1 }) (o .0 .net .gates) y)
+          (record { ptr = (l₁₀, 0); name = δ′; now = o .1 .1 }) (o .0 .net .gates) y)
           (and-then ! (load ! (from ! (stop !)) (look ! 12 refl))
           (and-then ! (load ! (from ! (fld ! refl (fld ! refl (stop !))))
           (look-in ! 32 (sub ! 2 refl (sub ! 1 refl (whole !)))))
@@ -443,12 +452,11 @@ module _ {M : Type 1} (𝓤 : URA M) (H : Heap 𝓤) (A : Atoms 𝓤) (W : Given
           use1 W (later (given (v′ ≡ vunit) (‵ (flft (β′ ∷ []) fullShare) ⊛ ‵ (flft (κs .1 .1 .0) (qs .1 .1 .0))
           ⊛ ‵ (finally Ga.the-row (y .name) (newGates (o .0) (o .1 .1))))))
           (call.gives Ga.the-type tt gateAt 𝓤 H A W β′ (κs .1 .1 .0) (qs .1 .1 .0)
-          (record { ptr = (l₉, 0); name = δ′; now = o .1 .1 }) (o .0 .net .gates) y v′) $ await ! tt $
+          (record { ptr = (l₁₀, 0); name = δ′; now = o .1 .1 }) (o .0 .net .gates) y v′) $ await ! tt $
           learn ! (λ v′-is. split ! $ move ! (1 ∷ []) $ split ! $
           land ! (from ! (stop !)) (init ! 22 refl (subst (λ (z : Val). Holds (hasTy tyUnit z) × WT z) (sym v′-is) (tt, tt))) $
           move ! (2 ∷ []) $ lft-end ! tt $ move ! (0 ∷ 3 ∷ []) $ lent-back ! tt $
-          -- [_5; the gates' token; gates' last; _4; the latches' token; latches' last; the sheet; the text's token; file; _19; …]
-          -- [the sheet; _9; the gates' token; gates' last; _8; the latches' token; latches' last; the text's token; text; _22; …]
+          -- [the sheet; _10; the gates' token; gates' last; _9; the latches' token; latches' last; the text's token; text; _23; …]
           move ! (6 ∷ []) $
           use1 W (raw (numbers.Numbers 𝓤 H A mem run .pre (numbers.to 𝓤 H A mem run (o .0) (S′.lowered (o .0))))) (numbers.goes 𝓤 H A mem run (o .0) (S′.lowered (o .0)) W) $
           calls-at ! fm (numbers.Numbers 𝓤 H A mem run) known-numbers (numbers.to 𝓤 H A mem run (o .0) (S′.lowered (o .0)))
@@ -456,18 +464,18 @@ module _ {M : Type 1} (𝓤 : URA M) (H : Heap 𝓤) (A : Atoms 𝓤) (W : Given
           use1 W (later (‵ (R.the-row .own (sheetNumbers (o .0 .verdict) (o .0 .net)) (w ∷ [])))) (numbers.gives 𝓤 H A mem run (o .0) (S′.lowered (o .0)) W w) $
           await ! tt $
           peeks ! R.the-row (Is R.the-row) (shows 𝓤 H A R.the-row) (sheetNumbers (o .0 .verdict) (o .0 .net)) (w ∷ []) (λ reply-is.
-          land ! (from ! (stop !)) (init ! 51 refl (LL.lawful R.the-type R′.the-laws 𝓤 H A W .typed
+          land ! (from ! (stop !)) (init ! 53 refl (LL.lawful R.the-type R′.the-laws 𝓤 H A W .typed
           (sheetNumbers (o .0 .verdict) (o .0 .net)) (w ∷ []) reply-is .0)) $
-          returns ! (look ! 51 refl) $ move ! (1 ∷ []) $
-          use1 W (some (λ (z : Val). ‵ (fat fullShare codesTy l₉ 0 z))) (freed 𝓤 H A W (o .1 .1) l₉) $
+          returns ! (look ! 53 refl) $ move ! (1 ∷ []) $
+          use1 W (some (λ (z : Val). ‵ (fat fullShare codesTy l₁₀ 0 z))) (freed 𝓤 H A W (o .1 .1) l₁₀) $
           pick ! (λ z₈. forget ! 0 refl $ move ! (4 ∷ []) $
-          use1 W (some (λ (z : Val). ‵ (fat fullShare codesTy l₈ 0 z))) (freed 𝓤 H A W (o .1 .0) l₈) $
+          use1 W (some (λ (z : Val). ‵ (fat fullShare codesTy l₉ 0 z))) (freed 𝓤 H A W (o .1 .0) l₉) $
           pick ! (λ z₇. forget ! 0 refl $
-          -- [_8; _9; the reply; the gates' token; gates' last; the latches' token; latches' last; the text's token; text; _22; …]
-          move ! (51 ∷ 52 ∷ 49 ∷ 50 ∷ 47 ∷ 48 ∷ 45 ∷ 46 ∷ 43 ∷ 44 ∷ 41 ∷ 42 ∷ 39 ∷ 40 ∷ 37 ∷ 38 ∷ 0 ∷ 36 ∷ 1 ∷ 35 ∷ 33 ∷ 34 ∷ 31 ∷ 32 ∷ 29 ∷ 30 ∷ 27 ∷ 28 ∷ 25 ∷ 26 ∷ 23 ∷ 24 ∷ 21 ∷ 22 ∷ 19 ∷ 20 ∷ 17 ∷ 18 ∷ 15 ∷ 16 ∷ 13 ∷ 14 ∷ 11 ∷ 12 ∷ 9 ∷ 10 ∷ []) $
-          frees-all ! (cell W & cell W & cell W & cell W & cell W & cell W & cell W & cell W & bare W & bare W & cell W & bare W & cell W & cell W & cell W & cell W & cell W & cell W & cell W & cell W & cell W & cell W & cell W & tt) $
+          -- [_9; _10; the reply; the gates' token; gates' last; the latches' token; latches' last; the text's token; text; _23; …]
+          move ! (53 ∷ 54 ∷ 51 ∷ 52 ∷ 49 ∷ 50 ∷ 47 ∷ 48 ∷ 45 ∷ 46 ∷ 43 ∷ 44 ∷ 41 ∷ 42 ∷ 39 ∷ 40 ∷ 37 ∷ 38 ∷ 0 ∷ 36 ∷ 1 ∷ 35 ∷ 33 ∷ 34 ∷ 31 ∷ 32 ∷ 29 ∷ 30 ∷ 27 ∷ 28 ∷ 25 ∷ 26 ∷ 23 ∷ 24 ∷ 21 ∷ 22 ∷ 19 ∷ 20 ∷ 17 ∷ 18 ∷ 15 ∷ 16 ∷ 13 ∷ 14 ∷ 11 ∷ 12 ∷ 9 ∷ 10 ∷ []) $
+          frees-all ! (cell W & cell W & cell W & cell W & cell W & cell W & cell W & cell W & cell W & bare W & bare W & cell W & bare W & cell W & cell W & cell W & cell W & cell W & cell W & cell W & cell W & cell W & cell W & cell W & tt) $
           move ! (0 ∷ 5 ∷ 3 ∷ 1 ∷ 6 ∷ 4 ∷ 2 ∷ []) $
-          by ! (exits (o .0) (o .1 .0) (o .1 .1) w e))))))))))))))))))))))))))))))))))))))))))))))))
+          by ! (exits (o .0) (o .1 .0) (o .1 .1) w e)))))))))))))))))))))))))))))))))))))))))))))))))
 
 module _ {M : Type 1} (𝓤 : URA M) (H : Heap 𝓤) (A : Atoms 𝓤) (W : Given 𝓤 H A) (mem : Memory → SProp 𝓤) (run : Routine → Fun 𝓤)
     (𝓣 : Tables 𝓤 H)
@@ -489,8 +497,11 @@ module _ {M : Type 1} (𝓤 : URA M) (H : Heap 𝓤) (A : Atoms 𝓤) (W : Given
               (
                 goes-dropped 𝓤 H A W 3 (plain (λ _. u32)) yes (λ κs z e. refl),
                 (
-                  goes-gave-slice 𝓤 H A W 3 1 tt (plain (λ _. La.the-row)),
-                  (goes-gave-slice 𝓤 H A W 3 2 tt (plain (λ _. Ga.the-row)), tt),
+                  goes-dropped 𝓤 H A W 3 (plain (λ _. u32)) yes (λ κs z e. refl),
+                  (
+                    goes-gave-slice 𝓤 H A W 3 1 tt (plain (λ _. La.the-row)),
+                    (goes-gave-slice 𝓤 H A W 3 2 tt (plain (λ _. Ga.the-row)), tt),
+                  ),
                 ),
               ),
             ),
@@ -498,7 +509,7 @@ module _ {M : Type 1} (𝓤 : URA M) (H : Heap 𝓤) (A : Atoms 𝓤) (W : Given
         ),
       )
       (export.clauses 𝓤 H A mem run) 𝓣 code.function
-      (λ κs. (slice-vals, (uint-vals w32, (uint-vals w32, (uint-vals w32, (uint-vals w32, (slice-vals, (slice-vals, tt))))))))
+      (λ κs. (slice-vals, (uint-vals w32, (uint-vals w32, (uint-vals w32, (uint-vals w32, (uint-vals w32, (slice-vals, (slice-vals, tt)))))))))
       (λ κs. (
         shr-slice-tells (named 0) (κs .0) u8,
         (
@@ -509,16 +520,19 @@ module _ {M : Type 1} (𝓤 : URA M) (H : Heap 𝓤) (A : Atoms 𝓤) (W : Given
               uint-tells w32,
               (
                 uint-tells w32,
-                (mut-slice-tells (named 1) (κs .1 .0) La.the-row, (mut-slice-tells (named 2) (κs .1 .1 .0) Ga.the-row, tt)),
+                (
+                  uint-tells w32,
+                  (mut-slice-tells (named 1) (κs .1 .0) La.the-row, (mut-slice-tells (named 2) (κs .1 .1 .0) Ga.the-row, tt)),
+                ),
               ),
             ),
           ),
         ),
       ))
       (λ κs qs bounds a g are. via 𝓤 _ (fst∗ 𝓤 _ (emp 𝓤))
-      (walk 𝓤 H A W mem run κs qs (a .0) (a .1 .0) (a .1 .1 .0) (a .1 .1 .1 .0) (a .1 .1 .1 .1 .0) (a .1 .1 .1 .1 .1 .0) (a .1 .1 .1 .1 .1 .1 .0) (𝓣 .C) (𝓣 .Λ)
+      (walk 𝓤 H A W mem run κs qs (a .0) (a .1 .0) (a .1 .1 .0) (a .1 .1 .1 .0) (a .1 .1 .1 .1 .0) (a .1 .1 .1 .1 .1 .0) (a .1 .1 .1 .1 .1 .1 .0) (a .1 .1 .1 .1 .1 .1 .1 .0) (𝓣 .C) (𝓣 .Λ)
       (fmOf 𝓤 H (W .laws) 𝓣) known-none known-codes known-numbers known-latches known-gates (are .0) (are .1 .0 .1) (are .1 .1 .0 .1)
-      (are .1 .1 .1 .0 .1) (are .1 .1 .1 .1 .0 .1) (are .1 .1 .1 .1 .1 .0 .0 .1) (are .1 .1 .1 .1 .1 .1 .0 .0 .1)))
+      (are .1 .1 .1 .0 .1) (are .1 .1 .1 .1 .0 .1) (are .1 .1 .1 .1 .1 .0 .1) (are .1 .1 .1 .1 .1 .1 .0 .0 .1) (are .1 .1 .1 .1 .1 .1 .1 .0 .0 .1)))
 
 pub marrubigai-import-spec : {M : Type 1} → stated.statement M
 unfolding code.routine tablesOf

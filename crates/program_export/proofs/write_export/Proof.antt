@@ -2,7 +2,8 @@
 use mathlib.Core.Path.{sym, _∙_}
 use native.Mathlib.Omega.{arith}
 use borrow.Author.Needs.{needs}
-use Rattle.aiger_export.proofs.ExportCall.{accepted}
+use Rattle.aiger_export.proofs.ExportCall.{accepted, single-port}
+use Rattle.netlist.specs.NetOf.{netOf}
 use Rattle.program_input.specs.Input.{textOrRefusal}
 use Rattle.program_export.proofs.write_export.Statement.{statement}
 use Rattle.program_export.proofs.write_export.Tie as tie
@@ -30,8 +31,10 @@ enum-told : tie.Need-enum-told
 enum-told c = search needs
 
 put-file-requires : tie.Need-put-file-requires
+unfolding netOf
 put-file-requires c κs =
-    (accepted _ _ _ (sym (c .before .before .before .test-export .ensures) ∙ c .before .enum-told .given .1) .limits, c .before .before .before .before .before .pre)
+    let passed = sym (c .before .before .before .test-export .ensures) ∙ c .before .enum-told .given .1 in
+    (accepted _ _ _ passed .limits, c .before .before .before .before .before .pre, single-port _ _ _ passed)
 
 same-length-2 : tie.Need-same-length-2
 same-length-2 c = search needs

@@ -45,18 +45,18 @@ returns c =
     let a = c .before .before .before .before .before .before .before .before .before .before .before .before .before .before .before .args in
     let v = sym (verdict-is (c .before .before .before .before .before .before .before .before .import-text .ensures)) ∙ told .1 in
     let w = rw (c .before .before .before .number .ensures) at (c .before .before .write-refused .ensures) in
-    (rw (printed-refused (a .more) (a .text .now) (a .m) (a .n) (a .word) (a .unknown) _ _ v) (w .0), omega (arith, w .1))
+    (rw (printed-refused (a .more) (a .text .now) (a .m) (a .n) (a .word) (a .unknown) (a .second) _ _ v) (w .0), omega (arith, w .1))
 
 enum-told : tie.Need-enum-told
 enum-told c = search needs
 
 -- what is imported is held by the record and the lists, and its sizes fit
 module _ (c : tie.After-enum-told) where
-  passed : let a = c .before .before .before .before .before .before .before .before .before .args in importVerdict (a .text .now) (a .m) (a .n) (importedWord (a .word) (a .unknown)) (a .unknown) 600 600 ≡ Passed
+  passed : let a = c .before .before .before .before .before .before .before .before .before .args in importVerdict (a .text .now) (a .m) (a .n) (importedWord (a .word) (a .unknown)) (a .unknown) (a .second) 600 600 ≡ Passed
   passed = sym (verdict-is (c .before .before .import-text .ensures)) ∙ c .enum-told .given .1
 
-  limits : let a = c .before .before .before .before .before .before .before .before .before .args in WithinLimits (aagNet (a .text .now) (a .m) (a .n) (importedWord (a .word) (a .unknown)) (a .unknown))
-  limits = import-passed _ _ _ _ _ 600 600 passed .accepted .limits
+  limits : let a = c .before .before .before .before .before .before .before .before .before .args in WithinLimits (aagNet (a .text .now) (a .m) (a .n) (importedWord (a .word) (a .unknown)) (a .unknown) (a .second))
+  limits = import-passed _ _ _ _ _ _ 600 600 passed .accepted .limits
 
   sizes : SizesFit (alone (c .before .before .import-text .result .net))
   sizes = sizes-lists _ _ _ [] [] (subst SizesFit (sym (holds (c .before .before .import-text .ensures) passed .net-is)) (limits .sizes))
@@ -75,7 +75,7 @@ returns-2 c =
     let told = c .before .before .before .before .before .before in
     let a = c .before .before .before .before .before .before .before .before .before .before .before .before .before .before .before .args in
     let w = rw (holds (told .before .before .import-text .ensures) (passed told) .net-is) at (c .before .before .put-sheet .ensures) in (
-      rw (printed-passed (a .more) (a .text .now) (a .m) (a .n) (a .word) (a .unknown) (passed told)) w,
+      rw (printed-passed (a .more) (a .text .now) (a .m) (a .n) (a .word) (a .unknown) (a .second) (passed told)) w,
       omega (arith, w .counted, length-sheetText _ (limits told), lines-most _ (limits told .sizes)),
     )
 

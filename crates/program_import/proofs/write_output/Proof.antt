@@ -19,7 +19,7 @@ returns : tie.Need-returns
 returns c =
     let a = c .before .before .before .before .before .before .before .args in
     let w = c .before .before .write-import .ensures in
-    (rw (output-whole (a .read .now) (a .m) (a .n) (a .word) (a .unknown) (c .before .before .before .before .if1 .taken)) (w .0), (w .1, (room-suffices, (no-code-outside, prefix-suffices))))
+    (rw (output-whole (a .read .now) (a .m) (a .n) (a .word) (a .unknown) (a .second) (c .before .before .before .before .if1 .taken)) (w .0), (w .1, (room-suffices, (no-code-outside, prefix-suffices))))
 
 slice-aggregate-write-import : tie.Need-slice-aggregate-write-import
 slice-aggregate-write-import c =
@@ -36,7 +36,7 @@ returns-2 : tie.Need-returns-2
 returns-2 c =
     let a = c .before .before .before .before .before .before .before .before .args in
     let w = c .before .before .write-import2 .ensures in
-    (rw (output-cut (a .read .now) (a .m) (a .n) (a .word) (a .unknown) (c .before .before .before .before .before .if1 .left)) (w .0), (w .1, (room-suffices, (no-code-outside, prefix-suffices))))
+    (rw (output-cut (a .read .now) (a .m) (a .n) (a .word) (a .unknown) (a .second) (c .before .before .before .before .before .if1 .left)) (w .0), (w .1, (room-suffices, (no-code-outside, prefix-suffices))))
 
 pub write-output-spec : {M : Type 1} → statement M
 write-output-spec =
