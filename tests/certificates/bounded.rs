@@ -1,5 +1,5 @@
-//! Certificates to a depth, from a solver's refutations: of chips that are right, with the certificates of others, damaged at every byte, and from solvers
-//! that lie.
+//! Certificates to a depth, from a solver's refutations: of chips that are right, with the certificates of others, damaged at every byte, and from
+//! solvers that lie.
 
 use std::path::Path;
 
@@ -180,9 +180,10 @@ pub fn liars(tally: &mut Tally, all: &[Twins], folder: &Path) {
         };
         // the property's clause is the last: that P holds in each frame, said without a reason
         let start = formula[..formula.len() - 1].iter().rposition(|number| *number == 0).map_or(0, |end| end + 1);
-        let units = formula[start..formula.len() - 1].iter().map(|number| vec![-number]).chain([vec![]]).collect();
-        let lies: [Vec<Vec<i32>>; 5] = [vec![vec![]], vec![vec![2], vec![-2], vec![]], units, honest.clone(), [&honest[..honest.len() / 2], &[vec![]]].concat()];
+        let units = formula[start..formula.len() - 1].iter().map(|number| vec![-number]).collect();
+        let lies = [vec![], vec![vec![2], vec![-2]], units, honest[..honest.len() / 2].to_vec(), honest.clone()];
         for (lie, lemmas) in lies.iter().enumerate() {
+            // each ends with the empty lemma
             let within = |lemma: &&Vec<i32>| lemma.iter().all(|number| number.unsigned_abs() as usize <= variables);
             let lemmas: Vec<Vec<i32>> = lemmas.iter().filter(within).take(60).chain([&vec![]]).cloned().collect();
             tally.check((&twins.name, lie, "elaborated"), elaborate(&formula, &lemmas, variables).is_err());

@@ -1,8 +1,8 @@
-//! Certificates end to end, each answer of the library compared with second checkers. To a depth: a formula, a solver's refutation of it, elaborated to
-//! lemmas and hints. For every depth: the clauses of a set of states, with a refutation of the steps that leave it. Of both also damaged ones, other
-//! chips' and lies.
-//! Arguments: the folder of the examples, and one for files; a number behind them makes the random tests so many times as long. Needs CaDiCaL. The last
-//! line is `N passed, M failed`.
+//! Certificates end to end, each answer of the library compared with second checkers. To a depth: a formula, a solver's refutation of it, elaborated
+//! to lemmas and hints. For every depth: the clauses of a set of states, with a refutation of the steps that leave it. Of both also damaged ones,
+//! other chips' and lies.
+//! Arguments: the folder of the examples, and one for files; a number behind them makes the random tests so many times as long. Needs CaDiCaL. The
+//! last line is `N passed, M failed`.
 //! Build: rustc -O --edition 2021 -L FOLDER -l static=marrubigai main.rs
 
 mod bounded;
@@ -14,10 +14,12 @@ mod certificates;
 mod chip;
 mod chips;
 mod elaborate;
+mod every_state;
 mod forever;
 mod honest;
 #[path = "../runner/invariant.rs"]
 mod invariant;
+#[allow(dead_code)]
 #[path = "../runner/reachable.rs"]
 mod reachable;
 #[path = "../runner/reference.rs"]
@@ -63,9 +65,9 @@ fn main() {
     report.family("certificates damaged at every byte", |tally| bounded::damaged(tally, &of_chips, 300));
     report.family("solvers that lie", |tally| bounded::liars(tally, &small, folder));
     report.family("for ever, by hand", forever::by_hand);
-    report.family("for ever, laws in every step", |tally| forever::laws(tally, 200 * times));
-    report.family("for ever, chips and their twins", |tally| forever::kinds(tally, &small, folder));
+    report.family("for ever, chips and their twins", |tally| forever::chips(tally, &small, folder));
     report.family("for ever, damaged at every byte", |tally| forever::every_byte(tally, &small, 600, folder));
-    report.family("for ever, random chips and invariants", |tally| forever::random_chips(tally, 2_000 * times));
+    report.family("for ever, laws in every step", |tally| every_state::laws(tally, 400 * times));
+    report.family("for ever, random chips and invariants", |tally| every_state::random_chips(tally, 5_000 * times));
     report.finish()
 }

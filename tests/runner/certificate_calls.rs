@@ -1,13 +1,15 @@
 //! Calls that check certificates, good ones, damaged ones and noise, with any lengths and contents of what is lent, each compared with the second
 //! checkers in the whole answer and in what is left.
 
+use std::collections::HashMap;
+
 use super::certificates::{Call, Claim};
 use super::honest::{chip, clauses_of, forever, small_chip, split, to_depth};
-use super::invariant::Forever;
+use super::invariant::{Forever, Step};
 use super::mutate;
 use super::reachable::States;
 use super::reference::random::Random;
-use super::reference::sheet::{write_depth, write_sheet, DEPTH_LINE_BYTES};
+use super::reference::sheet::{read_depth, read_sheet, write_depth, write_sheet, DEPTH_LINE_BYTES};
 use super::reference::Tally;
 use super::refutation::{Certificate, Outcome};
 use super::{Counts, Library};
@@ -15,12 +17,20 @@ use super::{Counts, Library};
 /// No refutation that is damaged has more lemmas: small ones are damaged where it matters more often.
 const MOST_LEMMAS: usize = 60;
 /// Of a table of all steps of a chip.
-const MOST_BITS: usize = 12;
+const MOST_BITS: usize = 14;
+
+/// What is certified, and whether the chip's states bear it out.
+type Certified = HashMap<Vec<u8>, bool>;
 
 impl Library {
-    /// One check: the answer, and what store and marks hold then; counted.
-    pub fn certificate_agrees(&self, tally: &mut Tally, name: &str, call: &Call) {
+    /// The answer, and what store and marks hold then; counted. What is certified is held to all states of its chip, where these are few.
+    fn certificate_agrees(&self, tally: &mut Tally, name: &str, call: &Call, certified: &mut Certified) {
         if let Some(outcome) = call.agrees(tally, name) {
+            if outcome.is_certified() {
+                let (Claim::ToDepth(input, _) | Claim::Forever(input, _)) = &call.claim;
+                let safe = *certified.entry(input.clone()).or_insert_with(|| is_safe(&call.claim));
+                tally.check_with("certified", safe, || format!(": {:?}", call.claim));
+            }
             let counts = match (&call.claim, outcome.is_certified()) {
                 (Claim::ToDepth(..), false) => &self.certificates,
                 (Claim::ToDepth(..), true) => &self.certified,
@@ -30,6 +40,20 @@ impl Library {
             Counts::count(counts, outcome.number);
         }
     }
+}
+
+/// Whether what a claim says is so, by all states of its chip; taken as so where these are many.
+fn is_safe(claim: &Claim) -> bool {
+    let (depth, sheet) = match claim {
+        Claim::ToDepth(input, _) => read_depth(input).map(|(depth, sheet)| (Some(depth), sheet)).expect("a depth"),
+        Claim::Forever(sheet, _) => (None, sheet.as_slice()),
+    };
+    let netlist = read_sheet(sheet, usize::MAX, usize::MAX).expect("an accepted sheet");
+    if States::size_of(&netlist) > MOST_BITS {
+        return true;
+    }
+    let states = States::new(&netlist);
+    depth.map_or_else(|| states.is_safe(), |depth| states.is_safe_to(depth))
 }
 
 /// A certificate that certifies a random chip to some depth.
@@ -45,7 +69,7 @@ fn good_to_depth(random: &mut Random) -> (Vec<u8>, Certificate) {
 /// A certificate that certifies a random chip for ever.
 fn good_forever(random: &mut Random) -> (Vec<u8>, Forever) {
     loop {
-        let netlist = small_chip(random, MOST_BITS);
+        let netlist = small_chip(random, 12);
         let states = States::new(&netlist);
         if !states.is_safe() {
             continue;
@@ -149,11 +173,11 @@ fn change_sheet(random: &mut Random, sheet: &mut Vec<u8>) {
 /// A length around a need.
 fn room(random: &mut Random, need: usize) -> usize {
     let some = random.index(40);
-    match random.below(10) {
+    match random.below(20) {
         0 => need.saturating_sub(1),
         1 => need.saturating_sub(some),
         2 => random.pick(&[0, 1, 2, 3]),
-        3 => need + 1 + some,
+        3..=5 => need + 1 + some,
         _ => need,
     }
 }
@@ -201,11 +225,31 @@ fn lend(random: &mut Random, claim: Claim) -> Call {
     claim.with_room(random, store, marks)
 }
 
+/// Requests of a chip of any size, with lists that have nothing to do with it.
+fn noise(random: &mut Random) -> Call {
+    let netlist = mutate::wide(random);
+    let sheet = write_sheet(&netlist);
+    let refutation = Certificate { lemmas: (0..random.below(9)).map(|_| literal(random, &[])).collect(), hints: vec![1, 0, 2, 5, 10] };
+    if random.percent(30) {
+        let input = [write_depth(random.below(3)), sheet].concat();
+        return lend(random, Claim::ToDepth(input, refutation));
+    }
+    let bits = Step { netlist: &netlist, invariant: &[] }.bits() as i32;
+    let invariant = (0..random.below(9)).map(|_| random.pick(&[0, 1, 2, bits - 1, bits, bits + 1]) * random.pick(&[1, -1])).collect();
+    let (words, wires) = (1 << netlist.address_width, netlist.wire_count());
+    let request = |_| {
+        let (some, word) = (random.below(wires + 2), random.below(words + 2));
+        [random.below(50), random.pick(&[some, some % 64, 0, 1]), random.pick(&[word, 0, words - 1, words, 4_095])]
+    };
+    let requests = (0..60).flat_map(request).collect();
+    lend(random, Claim::Forever(sheet, Forever { invariant, requests, refutation }))
+}
+
 fn any(random: &mut Random, pool: &Pool) -> Call {
-    if random.percent(50) {
-        hostile_to_depth(random, pool)
-    } else {
-        hostile_forever(random, pool)
+    match random.below(20) {
+        0 => noise(random),
+        1..=9 => hostile_to_depth(random, pool),
+        _ => hostile_forever(random, pool),
     }
 }
 
@@ -213,10 +257,12 @@ fn any(random: &mut Random, pool: &Pool) -> Call {
 pub fn hostile(library: &Library, tally: &mut Tally, seed: u64, count: usize) {
     let mut random = Random::new(seed);
     let pool = Pool::new(&mut random, (count / 50).clamp(10, 200));
+    let mut certified = Certified::new();
     for _ in 0..count {
         let call = any(&mut random, &pool);
-        library.certificate_agrees(tally, "hostile certificate", &call);
+        library.certificate_agrees(tally, "hostile certificate", &call, &mut certified);
     }
+    tally.remark = format!(" ({} inputs and sheets certified)", certified.len());
 }
 
 /// The same with bare store and marks, for valgrind.

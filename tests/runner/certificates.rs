@@ -208,8 +208,8 @@ impl Call {
         format!("{text}\n  {} marks, {sheet}\n  {}", self.marks.len(), certificate.chars().take(1_500).collect::<String>())
     }
 
-    /// What the library answers, and leaves in a store that begins with so many numbers if it is not refused; or which promise it breaks whatever it is
-    /// lent: at a refusal store and marks stay as they were, and behind what is written the store does (RULES T44, U8, H6).
+    /// What the library answers, and leaves in a store that begins with so many numbers if it is not refused; or which promise it breaks whatever it
+    /// is lent: at a refusal store and marks stay as they were, and behind what is written the store does (RULES T44, U8, H6).
     pub fn found(&self, written: usize) -> Result<Outcome, &'static str> {
         let (store_room, mark_room) = (self.store.len(), self.marks.len());
         let mut store = guarded(&self.store, GUARD as i32);

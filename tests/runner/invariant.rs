@@ -295,12 +295,11 @@ impl Step<'_> {
         begins == Some(number > 0)
     }
 
-    /// Whether each clause of the invariant has a number that is true in every state at the start, and no number is past the last bit.
+    /// Whether no number of the invariant is past the last bit, and each clause, ended by 0, has one that is true in every state at the start.
     pub fn holds_at_start(&self) -> bool {
         let within = |number: &i32| number.unsigned_abs() as usize <= self.bits();
-        let clauses = self.invariant.split_inclusive(|number| *number == 0);
-        let passes = |clause: &[i32]| clause.iter().any(|number| self.begins_true(*number));
-        self.invariant.iter().all(within) && clauses.into_iter().all(passes)
+        let mut clauses = self.invariant.split_inclusive(|number| *number == 0).filter(|clause| clause.ends_with(&[0]));
+        self.invariant.iter().all(within) && clauses.all(|clause| clause.iter().any(|number| self.begins_true(*number)))
     }
 }
 

@@ -5,6 +5,7 @@
 
 mod calls;
 mod certificate_calls;
+#[allow(dead_code)]
 mod certificates;
 #[allow(dead_code)]
 #[path = "../certificates/elaborate.rs"]
@@ -143,7 +144,7 @@ const FAMILIES: [Family; 56] = [
     ("rooms and lists of replays", replay_calls::rooms, false),
     ("the largest replay", replay_calls::largest, false),
     ("hostile calls", |library, tally| fuzz_exports::calls(library, tally, 701, 200_000), false),
-    ("hostile certificates", |library, tally| certificate_calls::hostile(library, tally, 704, 40_000), false),
+    ("hostile certificates", |library, tally| certificate_calls::hostile(library, tally, 704, 60_000), false),
 ];
 
 /// Each function, and the numbers that the tests must have made it answer: all that it has.
@@ -229,7 +230,7 @@ fn main() {
                 fuzz_exports::calls(&library, tally, 703, 1_000)
             });
             report.family("hostile certificates, in memory that holds nothing", |tally| {
-                certificate_calls::bare(tally, 705, 600)
+                certificate_calls::bare(tally, 705, 1_200)
             });
         }
         _ => panic!("usage: nothing, or fuzz COUNT [SEED], or sample"),

@@ -121,6 +121,22 @@ impl<'a> States<'a> {
         self.holds_in(&self.closed(self.starts()))
     }
 
+    /// Whether it holds in the frames 0 to a depth of every run.
+    pub fn is_safe_to(&self, depth: u32) -> bool {
+        let mut set = self.starts();
+        for frame in 0..=depth {
+            if !self.holds_in(&set) {
+                return false;
+            }
+            if frame < depth {
+                let mut next = vec![false; set.len()];
+                members(&set).into_iter().flat_map(|state| self.steps(state)).for_each(|(_, state)| next[state as usize] = true);
+                set = next;
+            }
+        }
+        true
+    }
+
     /// All states from which no run breaks the property.
     pub fn harmless(&self) -> Set {
         let mut set: Set = (0..1 << self.bits).map(|state| self.steps(state).iter().all(|(holds, _)| *holds)).collect();
