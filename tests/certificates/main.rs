@@ -67,7 +67,7 @@ fn main() {
     report.family("for ever, by hand", forever::by_hand);
     report.family("for ever, chips and their twins", |tally| forever::chips(tally, &small, folder));
     report.family("for ever, damaged at every byte", |tally| forever::every_byte(tally, &small, 600, folder));
-    report.family("for ever, laws in every step", |tally| every_state::laws(tally, 400 * times));
-    report.family("for ever, random chips and invariants", |tally| every_state::random_chips(tally, 5_000 * times));
+    report.family("for ever, laws in every step", |tally| every_state::laws(tally, 600 * times));
+    report.family("for ever, random chips and invariants", |tally| every_state::random_chips(tally, 10_000 * times));
     report.finish()
 }
