@@ -9,7 +9,7 @@ use super::honest::to_depth;
 use super::reference::random::Random;
 use super::reference::sheet::{read_sheet, write_depth};
 use super::reference::Tally;
-use super::refutation::{formula_of, Certificate, Outcome};
+use super::refutation::{formula_of, Certificate};
 use super::solver::{refutation, solve, Answer};
 
 /// A chip that is right and its twin with a fault, which shows by frame `BROKEN`: their sheets.
@@ -83,6 +83,7 @@ pub fn of_others(tally: &mut Tally, made: &[Made]) {
             tally.check((&twins.name, other, "with a fault"), !(certified && other >= BROKEN));
         }
     }
+    tally.check("hardly any certifies another chip or depth", 20 * still < 5 * made.len());
     tally.remark = format!(" ({still} of {} certify another chip or depth too)", 5 * made.len());
 }
 
@@ -121,8 +122,8 @@ pub fn damaged(tally: &mut Tally, made: &[Made], most: usize) {
         let lemmas = every_bit_signed(&certificate.lemmas).into_iter().map(|lemmas| Certificate { lemmas, ..certificate.clone() });
         let hints = every_bit(&certificate.hints).map(|hints| Certificate { hints, ..certificate.clone() });
         for other in lemmas.chain(hints) {
-            let due = Outcome::checked(other.unjustified(&formula, variables + 1), [&formula[..], &other.lemmas].concat());
-            let call = Claim::ToDepth(input.clone(), other).with_room(&mut random, due.written.len(), 2 * (variables + 1));
+            let due = other.outcome_over(&formula, variables);
+            let call = Claim::ToDepth(input.clone(), other).with_room(&mut random, due.written.len(), due.scratch);
             let found = call.answers(tally, &twins.name, &due);
             count += 1;
             still += usize::from(found.is_some_and(|outcome| outcome.is_certified()));

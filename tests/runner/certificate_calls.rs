@@ -272,7 +272,7 @@ pub fn bare(tally: &mut Tally, seed: u64, count: usize) {
     for _ in 0..count {
         let call = any(&mut random, &pool);
         let due = call.due();
-        let found = Outcome::of(call.claim.bare_reply(call.store.len(), call.marks.len()), due.written.clone());
+        let found = Outcome::of(call.claim.bare_reply(call.store.len(), call.marks.len()), due.written.clone(), due.scratch);
         tally.equal("bare", found, due);
     }
 }

@@ -185,7 +185,7 @@ impl Call {
 
     /// The same with what is due, for a caller that knows it.
     pub fn answers(&self, tally: &mut Tally, name: &str, due: &Outcome) -> Option<Outcome> {
-        let found = self.found(due.written.len());
+        let found = self.found(due);
         tally.check_with(name, found.as_ref() == Ok(due), || self.difference(&found, due));
         found.ok()
     }
@@ -208,22 +208,24 @@ impl Call {
         format!("{text}\n  {} marks, {sheet}\n  {}", self.marks.len(), certificate.chars().take(1_500).collect::<String>())
     }
 
-    /// What the library answers, and leaves in a store that begins with so many numbers if it is not refused; or which promise it breaks whatever it
-    /// is lent: at a refusal store and marks stay as they were, and behind what is written the store does (RULES T44, U8, H6).
-    pub fn found(&self, written: usize) -> Result<Outcome, &'static str> {
-        let (store_room, mark_room) = (self.store.len(), self.marks.len());
+    /// What the library answers, and leaves; or which promise it breaks: at a refusal store and marks stay as they were, and behind what is due to be
+    /// written, or to be scratch, they stay too (RULES T44, U8, H6).
+    fn found(&self, due: &Outcome) -> Result<Outcome, &'static str> {
         let mut store = guarded(&self.store, GUARD as i32);
         let mut marks = guarded(&self.marks, GUARD);
         // SAFETY: each pointer is into a slice that goes on for the length beside it.
-        let reply = unsafe { self.claim.check(store[GUARDS..].as_mut_ptr(), store_room, marks[GUARDS..].as_mut_ptr(), mark_room) };
+        let reply = unsafe { self.claim.check(store[GUARDS..].as_mut_ptr(), self.store.len(), marks[GUARDS..].as_mut_ptr(), self.marks.len()) };
         let (store, marks) = (within(&store, GUARD as i32)?, within(&marks, GUARD)?);
-        if reply.number != 0 && *marks != self.marks {
-            return Err("marks are changed at a refusal");
-        }
-        let written = if reply.number == 0 { written.min(store_room) } else { 0 };
+        let (written, scratch) = match reply.number {
+            0 => (due.written.len().min(store.len()), due.scratch.min(marks.len())),
+            _ => (0, 0),
+        };
         if store[written..] != self.store[written..] {
             return Err("the store is changed at a refusal, or behind what is written");
         }
-        Ok(Outcome::of(reply, store[..written].to_vec()))
+        if marks[scratch..] != self.marks[scratch..] {
+            return Err("marks are changed at a refusal, or behind those that are needed");
+        }
+        Ok(Outcome::of(reply, store[..written].to_vec(), scratch))
     }
 }

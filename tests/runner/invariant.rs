@@ -319,7 +319,11 @@ impl Forever {
         };
         let step = Step { netlist: &netlist, invariant: &self.invariant };
         let known = [step.clauses(&self.requests), self.invariant.clone()].concat();
-        let unjustified = if step.holds_at_start() { refutation.unjustified(&known, marks / 2) } else { Some(0) };
-        Outcome::checked(unjustified, [known, refutation.lemmas.clone()].concat())
+        let written = [&known[..], &refutation.lemmas].concat();
+        if step.holds_at_start() {
+            Outcome::checked(refutation.unjustified(&known, marks / 2), written, marks)
+        } else {
+            Outcome::checked(Some(0), written, 0)
+        }
     }
 }

@@ -14,7 +14,7 @@ pub struct Certificate {
     pub hints: Vec<u32>,
 }
 
-/// What a call answers (RULES U7), and the numbers that the store begins with where it is not refused.
+/// What a call answers (RULES U7), the numbers that the store begins with where it is not refused, and how many marks are then scratch.
 #[derive(Clone, Debug, PartialEq, Eq)]
 pub struct Outcome {
     pub number: u32,
@@ -22,20 +22,22 @@ pub struct Outcome {
     pub certified: u32,
     pub lemma: usize,
     pub written: Vec<i32>,
+    pub scratch: usize,
 }
 
 impl Outcome {
-    pub fn of(reply: CertificateReply, written: Vec<i32>) -> Outcome {
-        Outcome { number: reply.number, place: reply.place, certified: reply.certified, lemma: reply.lemma, written }
+    pub fn of(reply: CertificateReply, written: Vec<i32>, scratch: usize) -> Outcome {
+        Outcome { number: reply.number, place: reply.place, certified: reply.certified, lemma: reply.lemma, written, scratch }
     }
 
     pub fn refused(refusal: Refusal) -> Outcome {
-        Outcome { number: refusal.number, place: refusal.place, certified: 0, lemma: 0, written: Vec::new() }
+        Outcome { number: refusal.number, place: refusal.place, certified: 0, lemma: 0, written: Vec::new(), scratch: 0 }
     }
 
     /// Of a call that is not refused: the first lemma that does not follow, if there is one.
-    pub fn checked(unjustified: Option<usize>, written: Vec<i32>) -> Outcome {
-        Outcome { number: 0, place: 0, certified: u32::from(unjustified.is_none()), lemma: unjustified.unwrap_or(0), written }
+    pub fn checked(unjustified: Option<usize>, written: Vec<i32>, scratch: usize) -> Outcome {
+        let (certified, lemma) = (u32::from(unjustified.is_none()), unjustified.unwrap_or(0));
+        Outcome { number: 0, place: 0, certified, lemma, written, scratch }
     }
 
     pub fn is_certified(&self) -> bool {
@@ -99,6 +101,11 @@ impl Certificate {
         unreachable!("a list of lemmas ends")
     }
 
+    /// What a call that is not refused answers, and leaves, of these clauses with so many variables.
+    pub fn outcome_over(&self, formula: &[i32], variables: usize) -> Outcome {
+        Outcome::checked(self.unjustified(formula, variables + 1), [formula, &self.lemmas].concat(), 2 * (variables + 1))
+    }
+
     /// What a call answers of an input with this certificate, and leaves (RULES U5 to U8).
     pub fn outcome(&self, input: &[u8], store: usize, marks: usize) -> Outcome {
         match formula_of(input).and_then(|(formula, variables)| {
@@ -106,7 +113,7 @@ impl Certificate {
             require(marks >= 2 * (variables + 1), NO_ROOM, 0)?;
             Ok((formula, variables))
         }) {
-            Ok((formula, variables)) => Outcome::checked(self.unjustified(&formula, variables + 1), [formula, self.lemmas.clone()].concat()),
+            Ok((formula, variables)) => self.outcome_over(&formula, variables),
             Err(refusal) => Outcome::refused(refusal),
         }
     }
