@@ -194,7 +194,7 @@ fn hostile_to_depth(random: &mut Random, pool: &Pool) -> Call {
     }
     match random.below(20) {
         0 => mutate::change_bytes(random, &mut input),
-        1 => drop(input.splice(..DEPTH_LINE_BYTES, write_depth(random.pick(&[0, 1, 2, 4, 255, 256, u32::MAX])))),
+        1 => drop(input.splice(..DEPTH_LINE_BYTES, write_depth(random.pick(&[0, 1, 2, 4, 9, 256, u32::MAX])))),
         2 => input.truncate(random.index(DEPTH_LINE_BYTES + 1)),
         _ => {
             let mut sheet = input.split_off(DEPTH_LINE_BYTES);
@@ -245,11 +245,14 @@ fn noise(random: &mut Random) -> Call {
     lend(random, Claim::Forever(sheet, Forever { invariant, requests, refutation }))
 }
 
-fn any(random: &mut Random, pool: &Pool) -> Call {
-    match random.below(20) {
-        0 => noise(random),
-        1..=9 => hostile_to_depth(random, pool),
-        _ => hostile_forever(random, pool),
+/// A hostile call; so many of a hundred are of a chip of any size.
+fn any(random: &mut Random, pool: &Pool, large: u32) -> Call {
+    if random.percent(large) {
+        noise(random)
+    } else if random.percent(50) {
+        hostile_to_depth(random, pool)
+    } else {
+        hostile_forever(random, pool)
     }
 }
 
@@ -259,18 +262,18 @@ pub fn hostile(library: &Library, tally: &mut Tally, seed: u64, count: usize) {
     let pool = Pool::new(&mut random, (count / 50).clamp(10, 200));
     let mut certified = Certified::new();
     for _ in 0..count {
-        let call = any(&mut random, &pool);
+        let call = any(&mut random, &pool, 5);
         library.certificate_agrees(tally, "hostile certificate", &call, &mut certified);
     }
     tally.remark = format!(" ({} inputs and sheets certified)", certified.len());
 }
 
-/// The same with bare store and marks, for valgrind.
+/// The same with bare store and marks, for valgrind: fewer of them large, which take long there.
 pub fn bare(tally: &mut Tally, seed: u64, count: usize) {
     let mut random = Random::new(seed);
-    let pool = Pool::new(&mut random, (count / 50).clamp(10, 200));
+    let pool = Pool::new(&mut random, 10);
     for _ in 0..count {
-        let call = any(&mut random, &pool);
+        let call = any(&mut random, &pool, 1);
         let due = call.due();
         let found = Outcome::of(call.claim.bare_reply(call.store.len(), call.marks.len()), due.written.clone(), due.scratch);
         tally.equal("bare", found, due);

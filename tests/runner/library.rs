@@ -230,7 +230,7 @@ fn main() {
                 fuzz_exports::calls(&library, tally, 703, 1_000)
             });
             report.family("hostile certificates, in memory that holds nothing", |tally| {
-                certificate_calls::bare(tally, 705, 1_200)
+                certificate_calls::bare(tally, 705, 800)
             });
         }
         _ => panic!("usage: nothing, or fuzz COUNT [SEED], or sample"),
