@@ -48,7 +48,7 @@ pub fn certified<'a>(tally: &mut Tally, all: &'a [Twins], depths: &[u32], folder
         };
         let claim = Claim::ToDepth(input_of(&twins.right, depth), certificate.clone());
         let found = claim.with_need(&mut random).agrees(tally, &twins.name);
-        tally.check((&twins.name, depth), found.is_some_and(|outcome| outcome.is_certified()));
+        tally.check((&twins.name, depth), found.map_or(false, |outcome| outcome.is_certified()));
         let (store, marks) = claim.needs().expect("an accepted sheet");
         for (store, marks) in [(store - 1, marks), (store, marks - 1), (0, marks), (store, 0), (0, 0)] {
             claim.with_room(&mut random, store, marks).agrees(tally, &twins.name);
@@ -74,12 +74,12 @@ pub fn of_others(tally: &mut Tally, made: &[Made]) {
         for (sheet, other, same) in sheets.into_iter().chain(own) {
             let claim = Claim::ToDepth(input_of(sheet, other), certificate.clone());
             let found = claim.with_need(&mut random).agrees(tally, &twins.name);
-            still += usize::from(!same && found.is_some_and(|outcome| outcome.is_certified()));
+            still += usize::from(!same && found.map_or(false, |outcome| outcome.is_certified()));
         }
         for other in [*depth, depth + 1, BROKEN] {
             let claim = Claim::ToDepth(input_of(&twins.faulty, other), certificate.clone());
             let found = claim.with_need(&mut random).agrees(tally, &twins.name);
-            let certified = found.is_some_and(|outcome| outcome.is_certified());
+            let certified = found.map_or(false, |outcome| outcome.is_certified());
             tally.check((&twins.name, other, "with a fault"), !(certified && other >= BROKEN));
         }
     }
@@ -126,7 +126,7 @@ pub fn damaged(tally: &mut Tally, made: &[Made], most: usize) {
             let call = Claim::ToDepth(input.clone(), other).with_room(&mut random, due.written.len(), due.scratch);
             let found = call.answers(tally, &twins.name, &due);
             count += 1;
-            still += usize::from(found.is_some_and(|outcome| outcome.is_certified()));
+            still += usize::from(found.map_or(false, |outcome| outcome.is_certified()));
         }
     }
     tally.check("some are damaged, and most of them do not certify", count > 0 && 2 * still < count);
@@ -189,20 +189,20 @@ pub fn liars(tally: &mut Tally, all: &[Twins], folder: &Path) {
             let lemmas: Vec<Vec<i32>> = lemmas.iter().filter(within).take(60).chain([&vec![]]).cloned().collect();
             tally.check((&twins.name, lie, "elaborated"), elaborate(&formula, &lemmas, variables).is_err());
             let found = Claim::ToDepth(faulty.clone(), believed(&formula, &lemmas)).with_need(&mut random).agrees(tally, &twins.name);
-            tally.check((&twins.name, lie, "not certified"), found.is_some_and(|outcome| !outcome.is_certified()));
+            tally.check((&twins.name, lie, "not certified"), found.map_or(false, |outcome| !outcome.is_certified()));
         }
         // cut short: what the solver wrote, and the certificate itself
         for cut in (0..honest.len()).step_by(1 + honest.len() / 16) {
             if let Ok(certificate) = elaborate(&rights, &honest[..cut], right_variables) {
                 let found = Claim::ToDepth(right.clone(), certificate).with_need(&mut random).agrees(tally, &twins.name);
-                tally.check((&twins.name, cut, "enough is left"), found.is_some_and(|outcome| outcome.is_certified()));
+                tally.check((&twins.name, cut, "enough is left"), found.map_or(false, |outcome| outcome.is_certified()));
             }
         }
         if let Ok(whole) = elaborate(&rights, &honest, right_variables) {
             let mut cut_short = |lemmas: usize, hints: usize| {
                 let certificate = Certificate { lemmas: whole.lemmas[..lemmas].to_vec(), hints: whole.hints[..hints].to_vec() };
                 let found = Claim::ToDepth(right.clone(), certificate).with_need(&mut random).agrees(tally, &twins.name);
-                tally.check((&twins.name, "cut short"), found.is_some_and(|outcome| !outcome.is_certified()));
+                tally.check((&twins.name, "cut short"), found.map_or(false, |outcome| !outcome.is_certified()));
             };
             let (lemmas, hints) = (whole.lemmas.len(), whole.hints.len());
             (0..lemmas).step_by(1 + lemmas / 16).for_each(|cut| cut_short(cut, hints));

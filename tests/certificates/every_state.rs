@@ -128,7 +128,7 @@ fn some_invariant(random: &mut Random, states: &States) -> Vec<i32> {
             _ => invariant.extend(random_invariant(random, states.bits)),
         }
         // clauses stay ended
-        while invariant.last().is_some_and(|number| *number != 0) {
+        while invariant.last().map_or(false, |number| *number != 0) {
             invariant.pop();
         }
     }

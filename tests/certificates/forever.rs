@@ -17,7 +17,7 @@ use super::solver::refutation;
 /// One check: the second checker agrees. Whether the sheet is certified, with the room that is needed.
 pub fn is_certified(tally: &mut Tally, random: &mut Random, name: &str, sheet: &[u8], certificate: &Forever) -> bool {
     let call = Claim::Forever(sheet.to_vec(), certificate.clone()).with_need(random);
-    call.agrees(tally, name).is_some_and(|outcome| outcome.is_certified())
+    call.agrees(tally, name).map_or(false, |outcome| outcome.is_certified())
 }
 
 /// Two words of one bit, read at address 0 in every frame; the property is that the bit read is 0. Nothing is written.
@@ -212,7 +212,7 @@ impl Case<'_> {
         match forever(self.wrong, &invariant, &refutation(self.folder)) {
             Ok(other) => {
                 let found = Claim::Forever(self.twins.faulty.clone(), other).with_need(random).agrees(tally, name);
-                tally.check((name, "false at the start"), found.is_some_and(|outcome| !outcome.is_certified() && outcome.lemma == 0));
+                tally.check((name, "false at the start"), found.map_or(false, |outcome| !outcome.is_certified() && outcome.lemma == 0));
                 met.false_at_start += 1;
             }
             Err(why) => tally.check((name, why), false),

@@ -1,6 +1,7 @@
 //! Tests of the exported functions of the static library against the second implementation, with fixed
-//! seeds. `library` runs all of them, `library fuzz COUNT [SEED]` as many hostile calls as asked for, and
-//! `library sample` few of each kind, to be run under valgrind. The last line is `N passed, M failed`.
+//! seeds. `library` runs all of them, `library fuzz COUNT [SEED]` as many hostile calls as asked for, and a
+//! tenth as many hostile certificates; `library sample` few of each kind, to be run under valgrind. The last
+//! line is `N passed, M failed`.
 //! Build: rustc -O --edition 2021 -L FOLDER -l static=marrubigai library.rs
 
 mod calls;
