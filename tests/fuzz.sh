@@ -1,6 +1,6 @@
 #!/usr/bin/env bash
-# N hostile inputs through each program, and ten times as many calls of the library, which need no process each; every outcome is
-# compared with the second implementation. The seed is printed, so that a failure can be had again: make fuzz N=100000 SEED=7
+# N hostile inputs through each program, as many hostile certificates, and ten times as many calls of the library, which need no process each; every
+# outcome is compared with the second implementation. The seed is printed, so that a failure can be had again: make fuzz N=100000 SEED=7
 set -eu
 cd "$(dirname "$0")/.."
 count=${1:?how many inputs}

@@ -129,9 +129,8 @@ if [ "$(cat "$logs/staticlib.status")" = 0 ]; then
   start "from Verilog to an imported netlist, an exported file and a shown run, with yosys and abc" verilog \
     bash tests/verilog.sh "$frames" "$replay" "$import" "$exporter" "$logs/verilog"
   start "a sample of the library's calls under valgrind" library-valgrind valgrind --quiet --error-exitcode=99 "$logs/library" sample
-  start "certificates from a solver's refutations, and damaged ones" certificates "$logs/certificates" examples "$logs/certificates-scratch"
-  start "a sample of certificates under valgrind" certificates-valgrind \
-    valgrind --quiet --error-exitcode=99 "$logs/certificates" examples "$logs/certificates-sample" sample
+  start "certificates to a depth and for ever, from refutations, damaged, and lies" certificates \
+    "$logs/certificates" examples "$logs/certificates-scratch"
   start "the header for C against the library" header bash tests/header.sh
   start "a search depth by depth with the library and CaDiCaL's" search bash tests/search.sh "$frames" "$replay"
 else

@@ -4,7 +4,7 @@
 //! that one behind it needs is derived by propagation from its negation through the clauses before it, those that are needed already first, and the
 //! clauses that propagated on the way to the conflict are its hints. Deletions are passed over: what was deleted may be cited.
 
-use crate::certificates::Certificate;
+use super::refutation::Certificate;
 
 type Id = usize;
 

@@ -5,7 +5,7 @@ use std::collections::HashSet;
 use super::agreement::{
     breaking_runs, compare, compare_with, first_reads, propagation_follows_run,
 };
-use super::circuit::{Feed, Run};
+use super::circuit::{Circuit, Feed, Run, Values};
 use super::formula::{
     clause_bound, clause_count, frame_base, frames, group_call, heading, number_bound,
     number_count, pair_base, pair_size, Fault, Formula, Group, Heading,
@@ -19,7 +19,7 @@ use super::sheet::{expand, read_sheet, write_depth, write_sheet, LINE_BYTES};
 use super::solver::{satisfies, Solver};
 use super::Tally;
 
-/// The search finds exactly the assignments that brute force finds.
+/// The search finds exactly the assignments that brute force finds, and fails with a refutation exactly where there are none.
 pub fn solver(tally: &mut Tally) {
     let mut random = Random::new(1);
     for round in 0..300 {
@@ -49,6 +49,8 @@ pub fn solver(tally: &mut Tally) {
             .map(|values| values[1..].to_vec())
             .collect();
         tally.check(round, found == expected && visits == expected.len());
+        let refuted = Solver::new(variables as usize, &numbers).refutation(&[1], usize::MAX);
+        tally.check((round, "refuted"), refuted.is_some() == expected.is_empty());
     }
 }
 
@@ -430,6 +432,7 @@ pub fn single_feeds(tally: &mut Tally) {
         let run = Run::new(&netlist, &feeds);
         let again = Run::new(&netlist, &run.feeds(&netlist));
         tally.check((round, "fed again"), again.frames == run.frames);
+        tally.check((round, "from state to state"), goes_on(&netlist, &feeds));
         if netlist.has_unknown_start() {
             unknown += 1;
             tally.check((round, "whole memory"), starts_somewhere(&netlist, &feeds));
@@ -437,6 +440,19 @@ pub fn single_feeds(tally: &mut Tally) {
     }
     tally.remark = format!(" ({unknown} with an unknown start)");
     tally.check(("unknown starts", unknown), unknown >= 50);
+}
+
+/// Whether a run is the same where each frame is stepped from the state that the frame before leaves.
+fn goes_on(netlist: &Netlist, feeds: &[Feed]) -> bool {
+    let memory = vec![netlist.start_word; 1 << netlist.address_width];
+    let mut circuit = Circuit::from_memory(netlist, &memory);
+    let step = |feed: &Feed| {
+        let values = circuit.step(feed);
+        circuit = Circuit::in_state(netlist, &circuit.state());
+        values
+    };
+    let frames: Vec<Values> = feeds.iter().map(step).collect();
+    frames == Run::from_memory(netlist, &memory, feeds).frames
 }
 
 /// Whether a run that settles an unknown start by its feeds is a run from a whole memory, whatever the

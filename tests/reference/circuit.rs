@@ -71,6 +71,13 @@ pub struct Circuit<'a> {
     held_words: Vec<Option<u32>>,
 }
 
+/// The latches, the words of the memory, and the word held at each port.
+pub struct State {
+    pub latches: Vec<bool>,
+    pub words: Vec<u32>,
+    pub held_words: Vec<u32>,
+}
+
 impl<'a> Circuit<'a> {
     /// The state before frame 0 of an accepted netlist. An unknown start is left open: the feeds
     /// settle each word when it is first read.
@@ -91,6 +98,27 @@ impl<'a> Circuit<'a> {
             latches: latches.iter().map(|latch| latch.reset == 1).collect(),
             words,
             held_words: vec![None; netlist.port_count() as usize],
+        }
+    }
+
+    /// A state between two frames, whether a run reaches it or not.
+    pub fn in_state(netlist: &'a Netlist, state: &State) -> Circuit<'a> {
+        let known = |words: &[u32]| words.iter().copied().map(Some).collect();
+        Circuit {
+            netlist,
+            latches: state.latches.clone(),
+            words: known(&state.words),
+            held_words: known(&state.held_words),
+        }
+    }
+
+    /// The state behind the last frame, where every word is known.
+    pub fn state(&self) -> State {
+        let known = |words: &[Option<u32>]| words.iter().map(|it| it.expect("a known word")).collect();
+        State {
+            latches: self.latches.clone(),
+            words: known(&self.words),
+            held_words: known(&self.held_words),
         }
     }
 

@@ -98,6 +98,46 @@ impl Solver {
         true
     }
 
+    /// How a search fails that decides these variables first: for each set of decisions that fails, the clause that denies
+    /// it, the last of them empty, each of which follows by unit propagation from those before it. None where there is
+    /// an assignment that makes all clauses true, or where there are more than `most` such clauses.
+    pub fn refutation(&mut self, first: &[usize], most: usize) -> Option<Vec<Vec<i32>>> {
+        let used = |variable: &usize| !self.occurrences[*variable].is_empty();
+        let others = (1..self.values.len()).filter(used);
+        let order: Vec<usize> = first.iter().copied().chain(others).collect();
+        let mut denied = Vec::new();
+        let refuted = self.deny(&order, &mut Vec::new(), &mut denied, most);
+        refuted.then_some(denied)
+    }
+
+    fn deny(&mut self, order: &[usize], decided: &mut Vec<i32>, denied: &mut Vec<Vec<i32>>, most: usize) -> bool {
+        if !self.contradiction {
+            let free = match order.iter().position(|variable| self.values[*variable].is_none()) {
+                Some(free) if denied.len() < most => free,
+                _ => return false,
+            };
+            for literal in [order[free] as i32, -(order[free] as i32)] {
+                let mark = self.trail.len();
+                decided.push(literal);
+                let fails = if self.assume(literal) {
+                    self.deny(&order[free + 1..], decided, denied, most)
+                } else {
+                    denied.push(decided.iter().map(|literal| -literal).collect());
+                    true
+                };
+                decided.pop();
+                for index in self.trail.drain(mark..) {
+                    self.values[index] = None;
+                }
+                if !fails {
+                    return false;
+                }
+            }
+        }
+        denied.push(decided.iter().map(|literal| -literal).collect());
+        true
+    }
+
     fn literal_value(&self, literal: i32) -> Option<bool> {
         self.values[variable(literal)].map(|value| value == (literal > 0))
     }

@@ -1,11 +1,14 @@
-//! The exported call that checks a certificate, with guards around what is lent, and a second checker of lemmas and hints, written from RULES U3
-//! to U5.
+//! The exported calls that check a certificate, under their C names, and safe calls of them. What is lent for writing stands between guards that must
+//! stay; or it stands by itself and holds nothing yet, so that valgrind sees whatever is read before it is written, or beside it.
 
-use std::collections::HashSet;
+use std::mem::MaybeUninit;
 
-/// What stands where nothing may be written, and what is in store and marks before a call.
-const UNTOUCHED: i32 = i32::MIN;
-const GUARDS: usize = 2;
+use super::invariant::{Forever, Step};
+use super::reference::random::Random;
+use super::reference::refusal::Refusal;
+use super::reference::sheet::read_sheet;
+use super::reference::Tally;
+use super::refutation::{formula_of, Certificate, Outcome};
 
 #[repr(C)]
 #[derive(Clone, Copy, Debug, PartialEq, Eq)]
@@ -48,154 +51,181 @@ extern "C" {
     ) -> CertificateReply;
 }
 
-/// A certificate for every depth: besides lemmas and hints an invariant, and which clauses of a step are asked for.
+/// What is checked: an input of `frames` with its certificate, or a sheet with one for every depth.
 #[derive(Clone, Debug)]
-pub struct Forever {
-    pub invariant: Vec<i32>,
-    pub requests: Vec<u32>,
-    pub refutation: Certificate,
+pub enum Claim {
+    ToDepth(Vec<u8>, Certificate),
+    Forever(Vec<u8>, Forever),
 }
 
-/// The reply; or what is wrong with what the call has left.
-pub fn certify_forever(sheet: &[u8], certificate: &Forever, store_room: usize, mark_room: usize) -> Result<CertificateReply, String> {
-    let mut store = vec![UNTOUCHED; store_room + 2 * GUARDS];
-    let mut marks = vec![UNTOUCHED as u32; mark_room + 2 * GUARDS];
-    let lent = &certificate.refutation;
-    // SAFETY: each pointer and length are those of a live slice, and only store and marks are written to.
-    let reply = unsafe {
-        marrubigai_certify_forever(
-            sheet.as_ptr(),
-            sheet.len(),
-            certificate.invariant.as_ptr(),
-            certificate.invariant.len(),
-            certificate.requests.as_ptr(),
-            certificate.requests.len(),
-            lent.lemmas.as_ptr(),
-            lent.lemmas.len(),
-            lent.hints.as_ptr(),
-            lent.hints.len(),
-            store[GUARDS..].as_mut_ptr(),
-            store_room,
-            marks[GUARDS..].as_mut_ptr(),
-            mark_room,
-        )
-    };
-    let written = match reply.number {
-        0 => certificate.requests.len() / 3 * 5 + certificate.invariant.len() + lent.lemmas.len(),
-        _ => 0,
-    };
-    let outside = |at: usize| at < GUARDS || at >= GUARDS + written;
-    if (0..store.len()).any(|at| outside(at) && store[at] != UNTOUCHED) {
-        return Err("the store is written to outside its part".to_string());
-    }
-    let guarded = |at: usize| reply.number != 0 || at < GUARDS || at >= GUARDS + mark_room;
-    if (0..marks.len()).any(|at| guarded(at) && marks[at] != UNTOUCHED as u32) {
-        return Err("marks are written to that are not lent, or at a refusal".to_string());
-    }
-    Ok(reply)
+/// A call: what is checked, and what store and marks hold before it.
+#[derive(Clone, Debug)]
+pub struct Call {
+    pub claim: Claim,
+    pub store: Vec<i32>,
+    pub marks: Vec<u32>,
 }
 
-/// A certificate: lemmas, each ended by 0, and for each how many hints there are and then the hints.
-#[derive(Clone, Debug, Default, PartialEq, Eq)]
-pub struct Certificate {
-    pub lemmas: Vec<i32>,
-    pub hints: Vec<u32>,
-}
-
-/// The reply, and what the store then holds; or what is wrong with what the call has left.
-pub fn certify(input: &[u8], certificate: &Certificate, store_room: usize, mark_room: usize) -> Result<(CertificateReply, Vec<i32>), String> {
-    let mut store = vec![UNTOUCHED; store_room + 2 * GUARDS];
-    let mut marks = vec![UNTOUCHED as u32; mark_room + 2 * GUARDS];
-    // SAFETY: each pointer and length are those of a live slice, and only store and marks are written to.
-    let reply = unsafe {
-        marrubigai_certify(
-            input.as_ptr(),
-            input.len(),
-            certificate.lemmas.as_ptr(),
-            certificate.lemmas.len(),
-            certificate.hints.as_ptr(),
-            certificate.hints.len(),
-            store[GUARDS..].as_mut_ptr(),
-            store_room,
-            marks[GUARDS..].as_mut_ptr(),
-            mark_room,
-        )
-    };
-    let store_is_new = |at: usize| store[at] == UNTOUCHED;
-    let mark_is_new = |at: usize| marks[at] == UNTOUCHED as u32;
-    let ends = |length: usize| (0..GUARDS).chain(length - GUARDS..length);
-    if !ends(store.len()).all(store_is_new) || !ends(marks.len()).all(mark_is_new) {
-        return Err("something is written outside the store or the marks".to_string());
-    }
-    if reply.number != 0 && !((0..store.len()).all(store_is_new) && (0..marks.len()).all(mark_is_new)) {
-        return Err(format!("store or marks are changed at refusal {}", reply.number));
-    }
-    Ok((reply, store[GUARDS..GUARDS + store_room].to_vec()))
-}
-
-/// The formula of an input that is not refused: what the store begins with where there are no lemmas. No clause number is the least of all.
-pub fn formula_of(input: &[u8], store_room: usize, mark_room: usize) -> Result<Vec<i32>, String> {
-    let (reply, mut store) = certify(input, &Certificate::default(), store_room, mark_room)?;
-    if reply.number != 0 {
-        return Err(format!("refused {} at {}", reply.number, reply.place));
-    }
-    let length = store.iter().position(|number| *number == UNTOUCHED).unwrap_or(store.len());
-    store.truncate(length);
-    Ok(store)
-}
-
-/// The clause that starts at a place of some numbers and is ended there, if one does.
-fn clause_at(numbers: &[i32], place: usize) -> Option<&[i32]> {
-    if place > numbers.len() || (place > 0 && numbers[place - 1] != 0) {
-        return None;
-    }
-    let rest = &numbers[place..];
-    rest.iter().position(|number| *number == 0).map(|end| &rest[..end])
-}
-
-/// Whether a lemma follows by its hints from the numbers before it, with variables up to `variables` (RULES U4).
-fn follows(known: &[i32], lemma: &[i32], hints: &[u32], variables: u32) -> bool {
-    let within = |clause: &[i32]| clause.iter().all(|number| number.unsigned_abs() <= variables);
-    let mut wrong: HashSet<i32> = lemma.iter().copied().collect();
-    if !within(lemma) {
-        return false;
-    }
-    for hint in hints {
-        let clause = match clause_at(known, *hint as usize) {
-            Some(clause) => clause,
-            None => return false,
-        };
-        let free: HashSet<i32> = clause.iter().copied().filter(|number| !wrong.contains(number)).collect();
-        if !within(clause) || free.len() > 1 {
-            return false;
+impl Claim {
+    /// A call with so much room, in which anything stands.
+    pub fn with_room(&self, random: &mut Random, store: usize, marks: usize) -> Call {
+        let small = random.percent(50);
+        let mut any = || if small { random.below(4) } else { random.next() as u32 };
+        Call {
+            claim: self.clone(),
+            store: (0..store).map(|_| any() as i32).collect(),
+            marks: (0..marks).map(|_| any()).collect(),
         }
-        match free.into_iter().next() {
-            Some(unit) => wrong.insert(-unit),
-            None => return true,
-        };
     }
-    false
+
+    /// How many numbers and marks the call needs, where its sheet is accepted: for ever, as many marks as the variables of all laws have.
+    pub fn needs(&self) -> Result<(usize, usize), Refusal> {
+        match self {
+            Claim::ToDepth(input, certificate) => {
+                formula_of(input).map(|(formula, variables)| (formula.len() + certificate.lemmas.len(), 2 * (variables + 1)))
+            }
+            Claim::Forever(sheet, certificate) => read_sheet(sheet, usize::MAX, usize::MAX).map(|netlist| {
+                let step = Step { netlist: &netlist, invariant: &certificate.invariant };
+                (certificate.need(), 2 * step.end())
+            }),
+        }
+    }
+
+    /// A call with the room that it needs.
+    pub fn with_need(&self, random: &mut Random) -> Call {
+        let (store, marks) = self.needs().expect("an accepted sheet");
+        self.with_room(random, store, marks)
+    }
+
+    /// What the second checker answers, and leaves at the store's start.
+    pub fn outcome(&self, store: usize, marks: usize) -> Outcome {
+        match self {
+            Claim::ToDepth(input, certificate) => certificate.outcome(input, store, marks),
+            Claim::Forever(sheet, certificate) => certificate.outcome(sheet, store, marks),
+        }
+    }
+
+    /// SAFETY: store and marks are live memory of these lengths, which nobody else uses.
+    unsafe fn check(&self, store: *mut i32, store_room: usize, marks: *mut u32, mark_room: usize) -> CertificateReply {
+        // copies that end where their memory does
+        match self {
+            Claim::ToDepth(input, certificate) => {
+                let (input, lemmas, hints) = (input.to_vec(), certificate.lemmas.to_vec(), certificate.hints.to_vec());
+                marrubigai_certify(
+                    input.as_ptr(),
+                    input.len(),
+                    lemmas.as_ptr(),
+                    lemmas.len(),
+                    hints.as_ptr(),
+                    hints.len(),
+                    store,
+                    store_room,
+                    marks,
+                    mark_room,
+                )
+            }
+            Claim::Forever(sheet, certificate) => {
+                let (invariant, requests) = (certificate.invariant.to_vec(), certificate.requests.to_vec());
+                let lent = &certificate.refutation;
+                let (sheet, lemmas, hints) = (sheet.to_vec(), lent.lemmas.to_vec(), lent.hints.to_vec());
+                marrubigai_certify_forever(
+                    sheet.as_ptr(),
+                    sheet.len(),
+                    invariant.as_ptr(),
+                    invariant.len(),
+                    requests.as_ptr(),
+                    requests.len(),
+                    lemmas.as_ptr(),
+                    lemmas.len(),
+                    hints.as_ptr(),
+                    hints.len(),
+                    store,
+                    store_room,
+                    marks,
+                    mark_room,
+                )
+            }
+        }
+    }
+
+    /// The reply, with store and marks of these lengths that hold nothing and have nothing beside them.
+    pub fn bare_reply(&self, store: usize, marks: usize) -> CertificateReply {
+        let mut lent_store: Vec<MaybeUninit<i32>> = Vec::with_capacity(store);
+        let mut lent_marks: Vec<MaybeUninit<u32>> = Vec::with_capacity(marks);
+        // SAFETY: both have room for these lengths.
+        unsafe { self.check(lent_store.as_mut_ptr().cast(), store, lent_marks.as_mut_ptr().cast(), marks) }
+    }
 }
 
-/// The first lemma that does not follow, or none where an empty one does and all before it do (RULES U5).
-pub fn unjustified(formula: &[i32], certificate: &Certificate, variables: u32) -> Option<usize> {
-    let mut numbers = formula.to_vec();
-    numbers.extend(&certificate.lemmas);
-    let mut at = formula.len();
-    let mut hints = certificate.hints.as_slice();
-    for index in 0.. {
-        let (length, count, rest) = match (numbers[at..].iter().position(|number| *number == 0), hints.split_first()) {
-            (Some(length), Some((count, rest))) => (length, *count as usize, rest),
-            _ => return Some(index),
-        };
-        if rest.len() < count || !follows(&numbers[..at], &numbers[at..at + length], &rest[..count], variables) {
-            return Some(index);
-        }
-        if length == 0 {
-            return None;
-        }
-        at += length + 1;
-        hints = &rest[count..];
+const GUARDS: usize = 4;
+const GUARD: u32 = 0x5AFE_C0DE;
+
+fn guarded<T: Copy>(contents: &[T], guard: T) -> Vec<T> {
+    let guards = [guard; GUARDS];
+    [&guards, contents, &guards].concat()
+}
+
+fn within<T: Copy + PartialEq>(lent: &[T], guard: T) -> Result<&[T], &'static str> {
+    let (before, rest) = lent.split_at(GUARDS);
+    let (contents, behind) = rest.split_at(rest.len() - GUARDS);
+    let kept = before.iter().chain(behind).all(|it| *it == guard);
+    kept.then_some(contents).ok_or("something outside the store or the marks is written to")
+}
+
+impl Call {
+    /// What it is to answer and to leave.
+    pub fn due(&self) -> Outcome {
+        self.claim.outcome(self.store.len(), self.marks.len())
     }
-    unreachable!("a list of lemmas ends")
+
+    /// One check: the library answers and leaves what the second checker does. What it answers, if it keeps its other promises.
+    pub fn agrees(&self, tally: &mut Tally, name: &str) -> Option<Outcome> {
+        self.answers(tally, name, &self.due())
+    }
+
+    /// The same with what is due, for a caller that knows it.
+    pub fn answers(&self, tally: &mut Tally, name: &str, due: &Outcome) -> Option<Outcome> {
+        let found = self.found(due);
+        tally.check_with(name, found.as_ref() == Ok(due), || self.difference(&found, due));
+        found.ok()
+    }
+
+    /// What is shown of a check that fails: where the stores differ stand three numbers of each.
+    fn difference(&self, found: &Result<Outcome, &'static str>, due: &Outcome) -> String {
+        let brief = |outcome: &Outcome| (outcome.number, outcome.place, outcome.certified, outcome.lemma);
+        let found = match found {
+            Ok(found) => found,
+            Err(why) => return format!(": {why}, about {:?}", self.claim),
+        };
+        let at = (0..due.written.len()).find(|at| found.written.get(*at) != due.written.get(*at));
+        let near = |outcome: &Outcome| at.map(|at| outcome.written.iter().skip(at).take(3).copied().collect::<Vec<i32>>());
+        let text = format!(": {:?} and not {:?}; at {at:?} {:?} and not {:?}", brief(found), brief(due), near(found), near(due));
+        let (sheet, certificate) = match &self.claim {
+            Claim::ToDepth(input, certificate) => (input, format!("{certificate:?}")),
+            Claim::Forever(sheet, certificate) => (sheet, format!("{certificate:?}")),
+        };
+        let sheet = String::from_utf8_lossy(sheet).split_whitespace().collect::<Vec<&str>>().join(" ");
+        format!("{text}\n  {} marks, {sheet}\n  {}", self.marks.len(), certificate.chars().take(1_500).collect::<String>())
+    }
+
+    /// What the library answers, and leaves; or which promise it breaks: at a refusal store and marks stay as they were, and behind what is due to be
+    /// written, or to be scratch, they stay too (RULES T44, U8, H6).
+    fn found(&self, due: &Outcome) -> Result<Outcome, &'static str> {
+        let mut store = guarded(&self.store, GUARD as i32);
+        let mut marks = guarded(&self.marks, GUARD);
+        // SAFETY: each pointer is into a slice that goes on for the length beside it.
+        let reply = unsafe { self.claim.check(store[GUARDS..].as_mut_ptr(), self.store.len(), marks[GUARDS..].as_mut_ptr(), self.marks.len()) };
+        let (store, marks) = (within(&store, GUARD as i32)?, within(&marks, GUARD)?);
+        let (written, scratch) = match reply.number {
+            0 => (due.written.len().min(store.len()), due.scratch.min(marks.len())),
+            _ => (0, 0),
+        };
+        if store[written..] != self.store[written..] {
+            return Err("the store is changed at a refusal, or behind what is written");
+        }
+        if marks[scratch..] != self.marks[scratch..] {
+            return Err("marks are changed at a refusal, or behind those that are needed");
+        }
+        Ok(Outcome::of(reply, store[..written].to_vec(), scratch))
+    }
 }

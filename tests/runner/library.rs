@@ -1,21 +1,34 @@
 //! Tests of the exported functions of the static library against the second implementation, with fixed
-//! seeds. `library` runs all of them, `library fuzz COUNT [SEED]` as many hostile calls as asked for, and
-//! `library sample` few of each kind, to be run under valgrind. The last line is `N passed, M failed`.
+//! seeds. `library` runs all of them, `library fuzz COUNT [SEED]` as many hostile calls as asked for, and a
+//! tenth as many hostile certificates; `library sample` few of each kind, to be run under valgrind. The last
+//! line is `N passed, M failed`.
 //! Build: rustc -O --edition 2021 -L FOLDER -l static=marrubigai library.rs
 
 mod calls;
+mod certificate_calls;
+#[allow(dead_code)]
+mod certificates;
+#[allow(dead_code)]
+#[path = "../certificates/elaborate.rs"]
+mod elaborate;
 mod exported_files;
 mod exports;
 mod fuzz_exports;
+#[path = "../certificates/honest.rs"]
+mod honest;
 mod imports;
+mod invariant;
 mod largest;
 mod literals;
 mod mutate;
 mod one_ports;
 mod positions;
 mod prints;
+#[allow(dead_code)]
+mod reachable;
 mod reads;
 mod reference;
+mod refutation;
 mod replay_calls;
 mod sources;
 mod written_sheets;
@@ -66,12 +79,17 @@ pub struct Library {
     replays: RefCell<Counts>,
     /// Of the replays, those that say what the solver claimed.
     claims: RefCell<Counts>,
+    certificates: RefCell<Counts>,
+    forevers: RefCell<Counts>,
+    /// Of the certificates, and of those for every depth, the good ones.
+    certified: RefCell<Counts>,
+    forever_certified: RefCell<Counts>,
 }
 
 /// A name, its checks, and whether they are part of a sample.
 type Family = (&'static str, fn(&Library, &mut Tally), bool);
 
-const FAMILIES: [Family; 55] = [
+const FAMILIES: [Family; 56] = [
     ("facts of the full run", calls::stated, true),
     ("table of group calls", calls::table_of_calls, true),
     ("table of records", calls::table_of_records, true),
@@ -127,11 +145,12 @@ const FAMILIES: [Family; 55] = [
     ("rooms and lists of replays", replay_calls::rooms, false),
     ("the largest replay", replay_calls::largest, false),
     ("hostile calls", |library, tally| fuzz_exports::calls(library, tally, 701, 200_000), false),
+    ("hostile certificates", |library, tally| certificate_calls::hostile(library, tally, 704, 60_000), false),
 ];
 
 /// Each function, and the numbers that the tests must have made it answer: all that it has.
 fn every_number(library: &Library, tally: &mut Tally) {
-    let rows: [(&str, &RefCell<Counts>, &[usize]); 18] = [
+    let rows: [(&str, &RefCell<Counts>, &[usize]); 22] = [
         ("read", &library.reads, &[1, 2, 3, 4, 5, 6, 9, 17]),
         ("write_sheet", &library.sheets, &[3, 4, 5, 6, 9, 17]),
         ("one_port", &library.one_ports, &[1, 2, 3, 4, 5, 6, 9, 17, 18]),
@@ -154,6 +173,10 @@ fn every_number(library: &Library, tally: &mut Tally) {
         ("put_number", &library.numbers, &[9]),
         ("replay", &library.replays, &[3, 4, 5, 6, 7, 9, 14, 15, 17]),
         ("replay, claimed unsatisfiable", &library.claims, &[]),
+        ("certify", &library.certificates, &[1, 2, 3, 4, 5, 6, 7, 9, 17]),
+        ("certify, certified", &library.certified, &[]),
+        ("certify_forever", &library.forevers, &[1, 2, 3, 4, 5, 6, 9, 17]),
+        ("certify_forever, certified", &library.forever_certified, &[]),
     ];
     let mut remarks = Vec::new();
     for (name, counts, numbers) in rows {
@@ -198,11 +221,17 @@ fn main() {
             report.family("hostile calls", |tally| {
                 fuzz_exports::calls(&library, tally, seed, count)
             });
+            report.family("hostile certificates", |tally| {
+                certificate_calls::hostile(&library, tally, seed, count / 10)
+            });
         }
         ["sample"] => {
             families(&mut report, |sampled| sampled);
             report.family("hostile calls", |tally| {
                 fuzz_exports::calls(&library, tally, 703, 1_000)
+            });
+            report.family("hostile certificates, in memory that holds nothing", |tally| {
+                certificate_calls::bare(tally, 705, 800)
             });
         }
         _ => panic!("usage: nothing, or fuzz COUNT [SEED], or sample"),
