@@ -54,7 +54,6 @@ module _ (s : List ℕ) (m n word unknown second : ℕ) (d : Netlist) (latchCoun
 
   pub imported : Imported s m n word unknown second d latchCount gateCount
   imported =
-      let c = aagNet s m n word unknown second in
       let fits = accepted .limits .codes in
       record {
         not-refused = not-refused;
