@@ -45,7 +45,7 @@ usage="usage: marrubigai [OPTIONS] FILE.v .. | CHIP.sheet | CHIP.aag   (marrubig
 wrong() { ends "$1" 2 "" "$2
 $usage" "${@:3}"; }
 wrong "no file" "a file is wanted"
-wrong "an option that is none" "'--prove' is no option" --prove chip.sheet
+wrong "an option that is none" "'--none' is no option" --none chip.sheet
 wrong "an option without its argument" "-k wants an argument" -k
 for depth in x '' -1 256 1.0 99999999999; do wrong "depth '$depth'" "'$depth' is no depth for -k: a number from 0 to 255" -k "$depth" chip.sheet; done
 wrong "from above the depth" "--from is above the depth" -k 3 --from 4 chip.sheet
@@ -512,8 +512,8 @@ check "no refutation is left behind" rmdir "$work/tmp"
 no() { # what, file, why
   ends "$1" 1 "" "$2: this is no certificate: $3" -k 0 --check "$2" chip.sheet
 }
-first="it does not begin with a line 'marrubigai certificate 1' and two numbers"
-counts="its first line is not 'marrubigai certificate 1' and two numbers up to 536870912"
+first="it does not begin with a line 'marrubigai certificate 1' and two numbers, or 'marrubigai certificate for ever 1' and four"
+counts="its first line is neither 'marrubigai certificate 1' and two numbers nor 'marrubigai certificate for ever 1' and four, each up to 536870912"
 no "an empty certificate" empty "$first"
 no "a sheet as a certificate" chip.sheet "$counts"
 no "a file without an end" /dev/zero "$first"
