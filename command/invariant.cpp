@@ -88,7 +88,7 @@ private:
 
   void drop_violated(std::vector<bool> &kept) {
     std::vector<int32_t> dropped;
-    auto is_false = [&](int32_t literal) { return solver.val(literal) != literal; };
+    auto is_false = [&](int32_t literal) { return solver.val(literal) < 0; };
     for (size_t f = 0; f < facts.size(); f++) {
       if (!kept[f]) continue;
       for (const Clause &clause : facts[f].clauses) {
