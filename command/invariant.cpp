@@ -20,106 +20,147 @@ void set_up(CaDiCaL::Solver &solver) {
   solver.set("quiet", 1);
 }
 
-// The facts in one solver: `asserted` switches a fact on before the step, `violated` says that it fails behind it.
-class Houdini {
+// A solver that is told the variables of a step in the opposite order: it decides those with the highest numbers first, and the first that are made are
+// those of wires, on which most else depends.
+class StepSolver {
 public:
-  Houdini(const Chip &chip, const Property &property, const std::vector<Fact> &candidates, Limit &limit) : facts(candidates), step(chip, property) {
+  CaDiCaL::Solver solver;
+
+  StepSolver(Transition &asked, CaDiCaL::Terminator &limit) : step(asked), last(static_cast<int32_t>(asked.variables())) {
     set_up(solver);
     solver.connect_terminator(&limit);
-    holds = step.property();
-    for (const Fact &fact : facts)
-      for (const Clause &clause : fact.clauses)
-        for (int32_t number : clause) step.now_of(number), step.next_of(number);
-    variables = static_cast<int32_t>(step.variables());
-    add_numbers(solver, step.clauses());
-    some_violated = ++variables;
-    std::vector<int32_t> some{-some_violated};
+  }
+  ~StepSolver() { solver.disconnect_terminator(); }
+  StepSolver(const StepSolver &) = delete;
+  StepSolver &operator=(const StepSolver &) = delete;
+
+  // and back
+  int32_t turned(int32_t literal) const { return literal > 0 ? last + 1 - literal : -(last + 1 + literal); }
+  int32_t now(int32_t number) { return turned(step.now_of(number)); }
+  int32_t next(int32_t number) { return turned(step.next_of(number)); }
+  int32_t holds() { return turned(step.property()); }
+  void add_step() {
+    for (int32_t literal : step.clauses()) solver.add(literal == 0 ? 0 : turned(literal));
+  }
+
+private:
+  Transition &step;
+  int32_t last;
+};
+
+void ask_for(Transition &step, const Clause &clause) {
+  for (int32_t number : clause) step.now_of(number), step.next_of(number);
+}
+
+// The facts in a solver, in which each is switched on by a variable of its own.
+class Houdini {
+public:
+  Houdini(const Chip &chip, const Property &property, const std::vector<Fact> &candidates, Limit &limit)
+      : facts(candidates), step(chip, property), solver(with_all_asked_for(), limit) {
+    solver.add_step();
+    int32_t variables = static_cast<int32_t>(step.variables());
     for (const Fact &fact : facts) {
       asserted.push_back(++variables);
-      violated.push_back(++variables);
-      some.push_back(violated.back());
-      add_fact(fact);
+      for (const Clause &clause : fact.clauses) {
+        solver.solver.add(-asserted.back());
+        for (int32_t number : clause) solver.solver.add(solver.now(number));
+        solver.solver.add(0);
+      }
     }
-    some.push_back(0);
-    add_numbers(solver, some);
   }
-  ~Houdini() { solver.disconnect_terminator(); }
-  Houdini(const Houdini &) = delete;
-  Houdini &operator=(const Houdini &) = delete;
 
-  Induction run() {
-    Induction made;
+  Induction run(bool all) {
     made.kept.assign(facts.size(), true);
-    int answer;
-    while ((answer = ask(made.kept, {holds, some_violated})) == SATISFIABLE) drop_violated(made.kept);
-    if (answer == UNSATISFIABLE) answer = ask(made.kept, {-holds});
+    int answer = UNSATISFIABLE;
+    if (all) answer = drop_one_by_one();
+    if (answer != UNSATISFIABLE) return made;
+    do answer = find_needed();
+    while (answer == DROPPED);
     if (answer == SATISFIABLE) made.answer = Induction::Answer::broken_step;
-    if (answer == UNSATISFIABLE && find_needed(made)) made.answer = Induction::Answer::proved;
+    if (answer == UNSATISFIABLE) made.answer = Induction::Answer::proved;
     return made;
   }
 
 private:
   const std::vector<Fact> &facts;
   Transition step;
-  CaDiCaL::Solver solver;
-  int32_t holds = 0, some_violated = 0, variables = 0;
-  std::vector<int32_t> asserted, violated;
+  StepSolver solver;
+  std::vector<int32_t> asserted;
+  Induction made;
+  enum { DROPPED = -1 }; // in place of an answer: a fact was, so that what is kept has to be asked about anew
 
-  void add_fact(const Fact &fact) {
-    std::vector<int32_t> one_fails{-violated.back()};
-    for (const Clause &clause : fact.clauses) {
-      int32_t fails = ++variables;
-      one_fails.push_back(fails);
-      solver.add(-asserted.back());
-      for (int32_t number : clause) solver.add(step.now_of(number));
-      solver.add(0);
-      for (int32_t number : clause) add_numbers(solver, {-fails, -step.next_of(number), 0});
-    }
-    one_fails.push_back(0);
-    add_numbers(solver, one_fails);
+  Transition &with_all_asked_for() {
+    step.property();
+    for (const Fact &fact : facts)
+      for (const Clause &clause : fact.clauses) ask_for(step, clause);
+    return step;
   }
 
-  int ask(const std::vector<bool> &kept, const std::vector<int32_t> &assumed) {
+  int ask(const std::vector<int32_t> &assumed) {
     for (size_t f = 0; f < facts.size(); f++)
-      if (kept[f]) solver.assume(asserted[f]);
-    for (int32_t literal : assumed) solver.assume(literal);
-    return solver.solve();
+      if (made.kept[f]) solver.solver.assume(asserted[f]);
+    for (int32_t literal : assumed) solver.solver.assume(literal);
+    return solver.solver.solve();
   }
 
-  void drop_violated(std::vector<bool> &kept) {
-    std::vector<int32_t> dropped;
-    auto is_false = [&](int32_t literal) { return solver.val(literal) < 0; };
-    for (size_t f = 0; f < facts.size(); f++) {
-      if (!kept[f]) continue;
-      for (const Clause &clause : facts[f].clauses) {
-        if (!std::all_of(clause.begin(), clause.end(), [&](int32_t number) { return is_false(step.next_of(number)); })) continue;
-        kept[f] = false;
-        dropped.insert(dropped.end(), {-violated[f], 0, -asserted[f], 0});
-        break;
-      }
+  // a step that leaves a clause
+  int ask_about(const Clause &clause) {
+    std::vector<int32_t> assumed{solver.holds()};
+    for (int32_t number : clause) assumed.push_back(-solver.next(number));
+    return ask(assumed);
+  }
+
+  int drop_one_by_one() {
+    for (bool dropped = true; dropped;) {
+      dropped = false;
+      for (size_t f = 0; f < facts.size(); f++)
+        for (size_t c = 0; made.kept[f] && c < facts[f].clauses.size(); c++) {
+          int answer = ask_about(facts[f].clauses[c]);
+          if (answer == SATISFIABLE) drop_violated(), dropped = true;
+          else if (answer != UNSATISFIABLE) return answer;
+        }
     }
-    add_numbers(solver, dropped);
+    return UNSATISFIABLE;
   }
 
-  // what the property follows from, and what each of these is kept by; false where it was time to stop
-  bool find_needed(Induction &made) {
+  // all that the step which was found leaves
+  void drop_violated() {
+    std::vector<int32_t> dropped;
+    for (size_t f = 0; f < facts.size(); f++) {
+      if (!made.kept[f]) continue;
+      auto is_false = [&](int32_t number) { return solver.solver.val(solver.next(number)) < 0; };
+      made.kept[f] = std::none_of(facts[f].clauses.begin(), facts[f].clauses.end(),
+                                  [&](const Clause &clause) { return std::all_of(clause.begin(), clause.end(), is_false); });
+      if (!made.kept[f]) dropped.insert(dropped.end(), {-asserted[f], 0});
+    }
+    add_numbers(solver.solver, dropped);
+  }
+
+  // what the property follows from, and what each of these is kept by
+  int find_needed() {
     made.needed.assign(facts.size(), false);
     std::vector<size_t> open;
     auto take = [&] {
       for (size_t f = 0; f < facts.size(); f++) {
-        if (!made.kept[f] || made.needed[f] || !solver.failed(asserted[f])) continue;
+        if (!made.kept[f] || made.needed[f] || !solver.solver.failed(asserted[f])) continue;
         made.needed[f] = true;
         open.push_back(f);
       }
     };
-    take(); // of the last question
+    int answer = ask({-solver.holds()});
+    if (answer != UNSATISFIABLE) return answer;
+    take();
     while (!open.empty()) {
       size_t f = open.back();
       open.pop_back();
-      if (ask(made.kept, {holds, violated[f]}) != UNSATISFIABLE) return false;
-      take();
+      for (const Clause &clause : facts[f].clauses) {
+        answer = ask_about(clause);
+        if (answer == SATISFIABLE) return drop_violated(), DROPPED;
+        if (answer != UNSATISFIABLE) return answer;
+        take();
+      }
     }
-    return true;
+    return UNSATISFIABLE;
   }
 };
 
@@ -144,57 +185,51 @@ bool Limit::terminate() { return stop.terminate() || Stop::Clock::now() >= deadl
 
 double Limit::seconds_left() const { return std::chrono::duration<double>(deadline - Stop::Clock::now()).count(); }
 
-Induction induct(const Chip &chip, const Property &property, const std::vector<Fact> &facts, Limit &limit) {
-  return Houdini(chip, property, facts, limit).run();
+Induction induct(const Chip &chip, const Property &property, const std::vector<Fact> &facts, bool all, Limit &limit) {
+  return Houdini(chip, property, facts, limit).run(all);
 }
 
 std::optional<ForeverCertificate> certificate_of(const Chip &chip, const Property &property, const std::vector<Clause> &invariant, Stop &stop) {
   Transition step(chip, property);
+  step.property();
   ForeverCertificate made;
-  std::vector<int32_t> before;
-  int32_t holds = step.property();
   for (const Clause &clause : invariant) {
-    for (int32_t number : clause) {
-      made.invariant.push_back(number);
-      before.push_back(step.now_of(number));
-      step.next_of(number);
-    }
+    ask_for(step, clause);
+    made.invariant.insert(made.invariant.end(), clause.begin(), clause.end());
     made.invariant.push_back(0);
-    before.push_back(0);
   }
   Refutation refutation;
-  CaDiCaL::Solver solver;
-  set_up(solver);
-  refutation.trace(solver);
-  solver.connect_terminator(&stop);
-  add_numbers(solver, step.clauses());
-  add_numbers(solver, before);
+  StepSolver solver(step, stop);
+  refutation.trace(solver.solver);
+  solver.add_step();
+  for (int32_t number : made.invariant) solver.solver.add(number == 0 ? 0 : solver.now(number));
   // What fails together, negated, is the last clause that the solver then writes: the property, and each clause of the invariant behind the step.
   auto follows = [&](const std::vector<int32_t> &clause) {
-    for (int32_t literal : clause) solver.assume(-literal);
-    int answer = solver.solve();
+    for (int32_t literal : clause) solver.solver.assume(-literal);
+    int answer = solver.solver.solve();
     if (answer != SATISFIABLE && answer != UNSATISFIABLE) throw Stopped();
     return answer == UNSATISFIABLE;
   };
-  bool inductive = follows({holds});
+  bool inductive = follows({solver.holds()});
   if (inductive) {
-    refutation.add_unit(solver, holds);
-    add_numbers(solver, {holds, 0});
+    refutation.add_unit(solver.solver, solver.holds());
+    add_numbers(solver.solver, {solver.holds(), 0});
   }
   for (size_t c = 0; inductive && c < invariant.size(); c++) {
     std::vector<int32_t> behind;
-    for (int32_t number : invariant[c]) behind.push_back(step.next_of(number));
+    for (int32_t number : invariant[c]) behind.push_back(solver.next(number));
     inductive = follows(behind);
   }
-  refutation.finish(solver);
-  solver.disconnect_terminator();
+  refutation.finish(solver.solver);
   if (!inductive) return std::nullopt;
 
-  Learnt learnt = refutation.learnt(stop);
+  Learnt learnt{refutation.learnt(stop).numbers, {}}; // what was deleted is among what is wanted at the end
+  for (int32_t &literal : learnt.numbers)
+    if (literal != 0) literal = solver.turned(literal);
   std::vector<int32_t> failing = step.ask_for_failure(made.invariant);
   for (size_t c = failing.size(); c-- > 0;) learnt.numbers.insert(learnt.numbers.end(), {-failing[c], 0});
   std::vector<int32_t> formula = step.clauses();
-  formula.insert(formula.end(), before.begin(), before.end());
+  for (int32_t number : made.invariant) formula.push_back(number == 0 ? 0 : step.now_of(number));
   made.refutation = elaborate(formula, learnt, step.variables(), stop);
   for (int32_t &literal : made.refutation.lemmas)
     if (literal != 0) literal = step.original(literal);

@@ -35,12 +35,13 @@ private:
 // What comes of facts that hold at the start.
 struct Induction {
   enum class Answer { proved, broken_step, stopped } answer = Answer::stopped;
-  std::vector<bool> kept; // by every step from a state in which all that are kept hold, and the property
+  std::vector<bool> kept; // by every step from a state in which all that are kept hold, and the property; as far as that was asked about
   std::vector<bool> needed; // where it is proved, for the proof
 };
 
-// Drops facts that a step may break until none is dropped (Flanagan and Leino's Houdini), and asks whether the property follows from those kept.
-Induction induct(const Chip &chip, const Property &property, const std::vector<Fact> &facts, Limit &limit);
+// Drops facts that a step may break until none is dropped (Flanagan and Leino's Houdini), and asks whether the property follows from those kept; where
+// not all have to be judged, only what it follows from.
+Induction induct(const Chip &chip, const Property &property, const std::vector<Fact> &facts, bool all, Limit &limit);
 
 // The certificate of an inductive invariant; none where it is not inductive or the property does not follow. It throws NoCertificate and Stopped.
 std::optional<ForeverCertificate> certificate_of(const Chip &chip, const Property &property, const std::vector<Clause> &invariant, Stop &stop);

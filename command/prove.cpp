@@ -81,18 +81,17 @@ private:
   // Facts that all hold at the start. The answer is what the induction found.
   Induction try_facts(const std::string &way, const std::vector<Fact> &facts) {
     Limit limit(stop, std::min(FACTS_SECONDS, half_of_time(FACTS_SECONDS)));
-    return try_facts(way, facts, stop.seconds(), limit);
+    return try_facts(way, facts, true, stop.seconds(), limit);
   }
 
-  Induction try_facts(const std::string &way, const std::vector<Fact> &facts, double began, Limit &limit) {
-    Induction found = induct(chip, property, facts, limit);
+  Induction try_facts(const std::string &way, const std::vector<Fact> &facts, bool all, double began, Limit &limit) {
+    Induction found = induct(chip, property, facts, all, limit);
     if (found.answer == Induction::Answer::proved) {
       certify(way, facts, found.needed, began);
     } else if (found.answer == Induction::Answer::stopped) {
       tell(way, "no answer", began);
     } else {
-      size_t kept = static_cast<size_t>(std::count(found.kept.begin(), found.kept.end(), true));
-      tell(way, facts.empty() ? "some state breaks the property" : counted(facts.size(), "fact") + ", of which every step keeps " + std::to_string(kept) + ": a state in which they hold breaks the property", began);
+      tell(way, facts.empty() ? "some state breaks the property" : "a state in which all that every step keeps hold, of " + counted(facts.size(), "fact") + ", breaks the property", began);
     }
     return found;
   }
@@ -121,7 +120,7 @@ private:
     for (const auto *others : {&known.stated, &known.proved})
       for (const Fact &fact : *others)
         if (holds_at_start(chip, fact)) facts.push_back(fact);
-    try_facts("facts of registers and words that random runs suggest", facts, began, limit);
+    try_facts("facts of registers and words that random runs suggest", facts, false, began, limit);
   }
 
   void try_pdr() {
