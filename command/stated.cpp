@@ -13,6 +13,7 @@ namespace {
 
 constexpr size_t MOST_CLAUSES = 400000;
 constexpr int32_t YES = INT32_MAX; // a constant in place of a number; -YES is false
+constexpr int32_t MISSING = 0; // a bit on which the property does not depend
 
 using Bit = int32_t;
 using Bits32 = std::vector<Bit>; // lowest first
@@ -22,7 +23,7 @@ using Cnf = std::vector<Clause>;
 void add_clause(Cnf &cnf, const Clause &literals) {
   Clause clause;
   for (int32_t literal : literals) {
-    if (literal == YES || std::find(clause.begin(), clause.end(), -literal) != clause.end()) return;
+    if (literal == YES || (literal != MISSING && std::find(clause.begin(), clause.end(), -literal) != clause.end())) return;
     if (literal != -YES && std::find(clause.begin(), clause.end(), literal) == clause.end()) clause.push_back(literal);
   }
   cnf.push_back(clause);
@@ -94,6 +95,9 @@ private:
     } while (take("|"));
     skip();
     if (at < text.size()) fail("'" + text.substr(at) + "' is not understood: comparisons parted by | are wanted");
+    for (const Clause &clause : made)
+      if (std::find(clause.begin(), clause.end(), MISSING) != clause.end())
+        fail("the property does not depend on all bits that are compared: a part of a word is written as name[7:4]");
     return made;
   }
 
@@ -220,8 +224,7 @@ private:
       fail("some bits of the address of " + name + " are constants, so that its words are not told apart by it");
     Bits32 made;
     for (uint32_t code : port.read_data) {
-      if (code == NO_CODE) fail("the property does not depend on all bits of " + name + ": only on those may a fact be");
-      made.push_back(static_cast<Bit>(bits.word(word, code / 2 - chip.first_read())) + 1);
+      made.push_back(code == NO_CODE ? MISSING : static_cast<Bit>(bits.word(word, code / 2 - chip.first_read())) + 1);
     }
     return made;
   }
@@ -232,8 +235,7 @@ private:
       if (word.name != name && word.name.substr(0, word.name.rfind('[')) != name) continue;
       Bits32 made;
       for (uint32_t code : word.codes) {
-        if (code == NO_CODE) fail("the property does not depend on all bits of " + name);
-        auto found = code < 2 ? (code ? YES : -YES) : state_number(chip, code);
+        auto found = code == NO_CODE ? MISSING : code < 2 ? (code ? YES : -YES) : state_number(chip, code);
         if (!found) fail(name + " is no register: only registers and words of the memory have a next state");
         made.push_back(*found);
       }
