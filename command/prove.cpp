@@ -10,8 +10,7 @@
 
 namespace {
 
-// Facts are cheap or of no use. Where a time is given, pdr has half of what is left.
-constexpr double FACTS_SECONDS = 20, PDR_SECONDS = 60;
+constexpr double SECONDS = 60; // for each way, where no time is given
 
 class Prover {
 public:
@@ -39,10 +38,10 @@ private:
 
   bool is_over() const { return made.certified || stop.is_due(); }
 
-  // half of the time that is left, where one is given
-  double half_of_time(double otherwise) const {
+  // for a way: half of the time that is left, where one is given
+  double seconds() const {
     int left = stop.milliseconds_left();
-    return left < 0 ? otherwise : left / 2000.0;
+    return left < 0 ? SECONDS : left / 2000.0;
   }
 
   void tell(const std::string &way, const std::string &result, double began) { made.tried.push_back({way, result, stop.seconds() - began}); }
@@ -80,7 +79,7 @@ private:
 
   // Facts that all hold at the start. The answer is what the induction found.
   Induction try_facts(const std::string &way, const std::vector<Fact> &facts) {
-    Limit limit(stop, std::min(FACTS_SECONDS, half_of_time(FACTS_SECONDS)));
+    Limit limit(stop, seconds());
     return try_facts(way, facts, true, stop.seconds(), limit);
   }
 
@@ -115,7 +114,7 @@ private:
 
   void try_likely() {
     double began = stop.seconds();
-    Limit limit(stop, std::min(FACTS_SECONDS, half_of_time(FACTS_SECONDS)));
+    Limit limit(stop, seconds());
     std::vector<Fact> facts = likely_facts(chip, property, limit);
     for (const auto *others : {&known.stated, &known.proved})
       for (const Fact &fact : *others)
@@ -126,7 +125,7 @@ private:
   void try_pdr() {
     const std::string way = "abc's pdr";
     double began = stop.seconds();
-    Limit limit(stop, half_of_time(PDR_SECONDS));
+    Limit limit(stop, seconds());
     PdrAnswer answer = ask_pdr(chip, property, limit, stop);
     switch (answer.kind) {
     case PdrAnswer::Kind::none: return tell(way, answer.why, began);
