@@ -1,6 +1,6 @@
 #!/usr/bin/env bash
-# Proofs for every frame, beside abc's pdr and yosys-smtbmc's k-induction (with z3), which get the same designs with their memories as yosys makes them:
-# the repaired designs of examples/verilog, by sizes of the memory. Processor time in seconds, and `-` where there was no answer within the limit.
+# Proofs for every frame, beside abc's pdr and yosys-smtbmc's k-induction (with z3), which get the same designs with their memories as yosys makes
+# them: the repaired designs of examples/verilog, by sizes of the memory. Processor time in seconds; `-` where nothing was proved within the limit.
 # Arguments: the limit in seconds of processor time (60), and the sizes in address bits (3 5 7 9). After `make command`.
 set -u
 cd "$(dirname "$0")/.." || exit 2
@@ -22,19 +22,19 @@ timed() { # words, command ..
 }
 
 prepare() { # file, what yosys does with the memory, top and parameters
-  yosys -Q -T -q -p "read_verilog -formal -sv -I$PWD/examples/verilog $1; hierarchy -check $3; proc; flatten; delete -port o:*; chformal -early; chformal -cover -remove
-    opt -keepdc; $2" > "$work/yosys" 2>&1 || cat "$work/yosys"
+  yosys -Q -T -q -p "read_verilog -formal -sv -I$PWD/examples/verilog $1; hierarchy -check $3; proc; flatten; delete -port o:*
+    chformal -early; chformal -cover -remove; opt -keepdc; $2" > "$work/yosys" 2>&1 || cat "$work/yosys"
 }
-row() { # design, address bits, top and parameters for yosys, file for yosys, options of the command ..
+row() { # design, address bits, top and parameters for yosys, file for yosys, options of the command ..; facts: what is stated
   local design=$1 words=$((1 << $2)) top=$3 file=$4 pdr smtbmc prove check size by
   shift 4
   prepare "$file" "memory -nordff; opt -keepdc; setundef -undriven -anyseq; async2sync; dffunmap; techmap; setundef -anyseq; aigmap; opt_clean
     write_aiger -zinit $work/registers.aig" "$top"
   pdr=$(timed 'Property proved' berkeley-abc -q "read_aiger $work/registers.aig; fold; pdr")
-  prepare "$file" "memory_dff; memory_collect; opt; async2sync; dffunmap; write_smt2 -wires $work/design.smt2" "$top"
-  smtbmc=$(timed 'Status: passed' yosys-smtbmc -s z3 -i -t 20 "$work/design.smt2")
+  prepare "$file" "memory -nordff -nomap; opt; async2sync; dffunmap; write_smt2 -wires $work/design.smt2" "$top"
+  smtbmc=$(timed 'Temporal induction successful' yosys-smtbmc -s z3 -i -t 20 "$work/design.smt2")
   rm -f "$work/made"
-  prove=$(timed 'holds in every frame, certified' "$command" -k 3 --timeout $((4 * limit)) --prove --certificate "$work/made" "$@")
+  prove=$(timed 'holds in every frame, certified' "$command" -k 3 --timeout $((4 * limit)) --prove ${facts-} --certificate "$work/made" "$@")
   by=$(sed -n 's/.* clauses, by \(.*\), with .*/\1/p' "$work/out")
   size=- check=-
   if [ -e "$work/made" ]; then
@@ -57,6 +57,7 @@ for bits in $sizes; do
   done
   around "stack #(.DEPTH($bits), .WIDTH(8))" "input push, input pop, input [7:0] data, output [7:0] out" > "$work/stack.sv"
   row stack "$bits" "-top around" "$work/stack.sv" --reset reset -P DEPTH="$bits" $designs/stack.v
-  row lookup "$bits" "-top lookup -chparam BITS $bits -chparam WIDTH 4" $designs/lookup.v --invariant $designs/lookup.facts -P BITS="$bits" -P WIDTH=4 $designs/lookup.v
+  facts="--invariant $designs/lookup.facts" row lookup "$bits" "-top lookup -chparam BITS $bits -chparam WIDTH 4" $designs/lookup.v \
+    -P BITS="$bits" -P WIDTH=4 $designs/lookup.v
   row queue "$bits" "-top queue -chparam BITS $bits -chparam WIDTH 2" $designs/queue.v -P BITS="$bits" -P WIDTH=2 $designs/queue.v
 done

@@ -11,12 +11,6 @@ namespace {
 constexpr size_t MOST_POINTERS = 96, MOST_FACTS = 6000, MOST_CLAUSES = 400000;
 constexpr unsigned MUCH = 64; // runs and states in which a guard was true, so that what holds there says something
 
-// A number of a state bit with its samples, or a constant's.
-struct Signal {
-  int32_t number; // 0: the constant false
-  const std::vector<Lanes> *samples;
-};
-
 class Guesser {
 public:
   Guesser(const Chip &guessed, const Property &of, Limit &when) : chip(guessed), property(of), limit(when), bits(guessed.net) {}
@@ -41,7 +35,6 @@ private:
   StateBits bits;
   uint32_t excused = UINT32_MAX;
   std::vector<Pointer> pointers;
-  std::vector<std::string> pointer_names;
   Samples samples;
   std::vector<Lanes> zeros;
   std::vector<uint32_t> varying; // latches and bits held that are no constants
@@ -70,14 +63,13 @@ private:
     return found;
   }
 
-  void add_pointer(const std::string &name, const std::vector<uint32_t> &of) {
+  void add_pointer(const std::vector<uint32_t> &of) {
     for (const Pointer &known : pointers)
       if (known.bits == of) return;
     uint32_t last = (uint32_t{1} << chip.net.m) - 1;
     for (uint32_t offset : {0u, 1u, last}) {
       if (pointers.size() >= MOST_POINTERS) return;
       pointers.push_back({of, offset});
-      pointer_names.push_back(name + (offset == 0 ? "" : offset == 1 ? " + 1" : " - 1"));
     }
   }
 
@@ -91,20 +83,14 @@ private:
         if (!number || *number < 0 || of.size() == m) break;
         of.push_back(static_cast<uint32_t>(*number) - 1);
       }
-      if (of.size() == m && std::set<uint32_t>(of.begin(), of.end()).size() == m) add_pointer(word.name, of);
+      if (of.size() == m && std::set<uint32_t>(of.begin(), of.end()).size() == m) add_pointer(of);
     }
     if (!pointers.empty() || !chip.named.empty()) return;
     for (uint32_t first = 0; first + m <= chip.net.latches; first++) {
       std::vector<uint32_t> of;
       for (uint32_t t = 0; t < m; t++) of.push_back(first + t);
-      add_pointer("the registers from " + std::to_string(first), of);
+      add_pointer(of);
     }
-  }
-
-  std::string name_of(int32_t number) const {
-    if (number == 0) return "0";
-    uint32_t bit = static_cast<uint32_t>(std::abs(number)) - 1;
-    return (number < 0 ? "!" : "") + std::string(bit < bits.latches ? "register " : "bit held ") + std::to_string(bit < bits.latches ? bit : bit - bits.latches);
   }
 
   // whether a clause of these is false in a run that counts
@@ -116,7 +102,8 @@ private:
     return false;
   }
 
-  void add(Fact fact) {
+  void add(std::vector<Clause> made) {
+    Fact fact{"", std::move(made)};
     if (facts.size() >= MOST_FACTS || clauses + fact.clauses.size() > MOST_CLAUSES) return;
     if (excused < bits.latches)
       for (Clause &clause : fact.clauses)
@@ -132,7 +119,7 @@ private:
       bool may_be_0 = is_broken(samples.bits[bit], false, zeros, false), may_be_1 = is_broken(samples.bits[bit], true, zeros, false);
       int32_t number = static_cast<int32_t>(bit) + 1;
       if (may_be_0 && may_be_1) varying.push_back(bit);
-      else add({name_of(number) + " is constant", {{may_be_1 ? number : -number}}});
+      else add({{may_be_1 ? number : -number}});
     }
   }
 
@@ -142,8 +129,7 @@ private:
         for (int signs = 0; signs < 4; signs++) {
           if (is_broken(samples.bits[varying[left]], signs & 1, samples.bits[varying[right]], signs & 2)) continue;
           int32_t a = static_cast<int32_t>(varying[left]) + 1, b = static_cast<int32_t>(varying[right]) + 1;
-          Clause clause{signs & 1 ? -a : a, signs & 2 ? -b : b};
-          add({name_of(clause[0]) + " or " + name_of(clause[1]), {clause}});
+          add({{signs & 1 ? -a : a, signs & 2 ? -b : b}});
         }
   }
 
@@ -190,12 +176,12 @@ private:
         for (uint32_t target : varying) {
           std::vector<Guard> guards = guards_of(samples.pointed[p][t], samples.bits[target]);
           for (size_t g = 0; g < guards.size() && g < (guards[0].number == 0 ? 1 : MOST_GUARDS); g++)
-            add(pointed_fact(p, t, static_cast<int32_t>(target) + 1, guards[g].number));
+            add(pointed(p, t, static_cast<int32_t>(target) + 1, guards[g].number));
         }
   }
 
-  Fact pointed_fact(size_t p, uint32_t t, int32_t target, int32_t guard) const {
-    Fact fact{(guard ? "where " + name_of(guard) + ", " : "") + "bit " + std::to_string(t) + " of the word at " + pointer_names[p] + " is " + name_of(target), {}};
+  std::vector<Clause> pointed(size_t p, uint32_t t, int32_t target, int32_t guard) const {
+    std::vector<Clause> clauses_of;
     for (uint32_t word = 0; word >> chip.net.m == 0; word++) {
       Clause clause;
       if (guard) clause.push_back(-guard);
@@ -207,14 +193,16 @@ private:
       int32_t own = static_cast<int32_t>(bits.word(word, t)) + 1;
       for (int sign : {1, -1}) {
         Clause one = clause;
-        one.push_back(sign * own), one.push_back(-sign * target);
-        std::sort(one.begin(), one.end(), [](int32_t a, int32_t b) { return std::make_pair(std::abs(a), a) < std::make_pair(std::abs(b), b); });
-        one.erase(std::unique(one.begin(), one.end()), one.end());
-        bool both = std::adjacent_find(one.begin(), one.end(), [](int32_t a, int32_t b) { return a == -b; }) != one.end();
-        if (!both) fact.clauses.push_back(one);
+        one.push_back(sign * own);
+        // the guard or the register that it is the same as may be a bit of the pointer
+        bool is_true = std::find(one.begin(), one.end(), sign * target) != one.end() ||
+                       (guard && std::find(clause.begin(), clause.end(), guard) != clause.end());
+        if (std::find(one.begin(), one.end(), -sign * target) == one.end()) one.push_back(-sign * target);
+        if (guard && std::count(one.begin(), one.end(), -guard) > 1) one.erase(one.begin());
+        if (!is_true) clauses_of.push_back(one);
       }
     }
-    return fact;
+    return clauses_of;
   }
 
   // Where a register is true, or false, a word is not 0.
@@ -226,7 +214,7 @@ private:
           if (is_broken(samples.bits[latch], sign > 0, samples.nonzero[word], false)) continue;
           Clause clause{-sign * (static_cast<int32_t>(latch) + 1)};
           for (uint32_t t = 0; t < bits.n; t++) clause.push_back(static_cast<int32_t>(bits.word(static_cast<uint32_t>(word), t)) + 1);
-          add({"where " + name_of(-clause[0]) + ", word " + std::to_string(word) + " is not 0", {clause}});
+          add({clause});
         }
       }
   }
@@ -239,7 +227,7 @@ private:
         for (const Guard &guard : guards_of(samples.bits[varying[left]], samples.bits[varying[right]])) {
           if (guard.number == 0) break; // then it is a pair of clauses already
           if (std::abs(guard.number) == a || std::abs(guard.number) == b) continue;
-          add({"where " + name_of(guard.number) + ", " + name_of(a) + " is " + name_of(b), {{-guard.number, -a, b}, {-guard.number, a, -b}}});
+          add({{-guard.number, -a, b}, {-guard.number, a, -b}});
         }
       }
   }

@@ -20,8 +20,8 @@ void set_up(CaDiCaL::Solver &solver) {
   solver.set("quiet", 1);
 }
 
-// A solver that is told the variables of a step in the opposite order: it decides those with the highest numbers first, and the first that are made are
-// those of wires, on which most else depends.
+// A solver that is told the variables of a step in the opposite order: it decides those with the highest numbers first, and the first that are made
+// are those of wires, on which most else depends.
 class StepSolver {
 public:
   CaDiCaL::Solver solver;

@@ -1,5 +1,5 @@
-// Facts about the states of a chip, as clauses over a state's bits, and the induction over its steps. Nothing of it is believed: what comes of it is a
-// certificate that the library checks.
+// Facts about the states of a chip, as clauses over a state's bits, and the induction over its steps. Nothing of it is believed: what comes of it is
+// a certificate that the library checks.
 #pragma once
 
 #include <optional>
@@ -11,9 +11,9 @@
 
 using Clause = std::vector<int32_t>; // numbers of state bits, from 1; negative where the bit is to be false
 
-// What is true or not as a whole. Its words are for the user.
+// What is true or not as a whole.
 struct Fact {
-  std::string words;
+  std::string words; // where it was stated
   std::vector<Clause> clauses;
 };
 
@@ -39,9 +39,10 @@ struct Induction {
   std::vector<bool> needed; // where it is proved, for the proof
 };
 
-// Drops facts that a step may break until none is dropped (Flanagan and Leino's Houdini), and asks whether the property follows from those kept; where
-// not all have to be judged, only what it follows from.
+// Drops facts that a step may break until none is dropped (Flanagan and Leino's Houdini), and asks whether the property follows from those kept;
+// where not all have to be judged, only what it follows from.
 Induction induct(const Chip &chip, const Property &property, const std::vector<Fact> &facts, bool all, Limit &limit);
 
-// The certificate of an inductive invariant; none where it is not inductive or the property does not follow. It throws NoCertificate and Stopped.
-std::optional<ForeverCertificate> certificate_of(const Chip &chip, const Property &property, const std::vector<Clause> &invariant, Stop &stop);
+// The certificate of an invariant; none where it is not inductive or the property does not follow. It throws NoCertificate, and Stopped.
+std::optional<ForeverCertificate> certificate_of(const Chip &chip, const Property &property, const std::vector<Clause> &invariant,
+                                                 Stop &stop);

@@ -18,8 +18,8 @@ namespace {
 
 constexpr const char *PROGRAM = "berkeley-abc";
 
-// The chip with its memory as registers. Every register begins as 0: one with reset 1 is kept inverted. What begins unknown is an input in a frame of its
-// own before the first, which the register `begun` tells apart, as abc takes no register that begins unknown for one that may be either.
+// The chip with its memory as registers. Every register begins as 0: one with reset 1 is kept inverted. What begins unknown is an input in a frame of
+// its own before the first, which the register `begun` tells apart: what abc writes of an invariant is right only where all begin as 0.
 class Model {
 public:
   Model(const Chip &modelled, const Property &property) : chip(modelled), net(modelled.of(property)), bits(net) {
@@ -79,7 +79,8 @@ public:
         continue;
       }
       uint32_t bit = UINT32_MAX;
-      if (std::sscanf(names[at].c_str(), "s%u", &bit) != 1 || bit >= bits.count || !kept[bit]) throw "its invariant names a register that there is not: " + names[at];
+      if (std::sscanf(names[at].c_str(), "s%u", &bit) != 1 || bit >= bits.count || !kept[bit])
+        throw "its invariant names a register that there is not: " + names[at];
       int32_t number = static_cast<int32_t>(bit) + 1;
       clause.push_back(is_1 != starts_as_1(bit) ? -number : number);
     }
@@ -175,7 +176,8 @@ private:
       matches = {value(net.we)};
       for (uint32_t b = net.m; b-- > 0;) { // by the highest address bit first, so that word w is at place w
         std::vector<Lit> finer;
-        for (Lit part : matches) finer.push_back(graph.land(part, value(net.address[b]) ^ 1)), finer.push_back(graph.land(part, value(net.address[b])));
+        for (Lit part : matches)
+          for (Lit last : {FALSE, TRUE}) finer.push_back(graph.land(part, value(net.address[b]) ^ last ^ 1));
         matches = finer;
       }
     }

@@ -15,6 +15,6 @@ struct Finished {
   std::string written; // to file descriptor 3, so that no file is needed
 };
 
-// The program ends with this one, however this one ends, and is killed where it is time to stop: then a Failure with status STOPPED; or, where it has a
-// time of its own, that or the whole time: then it is told.
+// The program ends with this one, however this one ends, and is killed where it is time to stop: then a Failure with status STOPPED. Where it has a
+// time of its own, it is killed behind that too, and `killed` tells either.
 Finished run_program(const std::vector<std::string> &arguments, Stop &stop, std::optional<double> seconds = std::nullopt);

@@ -53,9 +53,10 @@ private:
       if (needed[f]) invariant.insert(invariant.end(), facts[f].clauses.begin(), facts[f].clauses.end());
     try {
       auto certificate = certificate_of(chip, property, invariant, stop);
-      if (!certificate) return tell(way, "its invariant of " + counted(invariant.size(), "clause") + " is left by a step, or does not keep the property from breaking", began);
+      std::string its = "its invariant of " + counted(invariant.size(), "clause");
+      if (!certificate) return tell(way, its + " is left by a step, or does not keep the property from breaking", began);
       Checked checked = check(chip, property, *certificate);
-      if (!checked.certified) return tell(way, "its invariant of " + counted(invariant.size(), "clause") + " is not certified: " + why(facts, needed, checked), began);
+      if (!checked.certified) return tell(way, its + " is not certified: " + why(facts, needed, checked), began);
       if (!options.certificate_file.empty()) write_certificate(options.certificate_file, *certificate);
       made.take(*certificate, options.certificate_file);
       made.way = way;
@@ -90,7 +91,8 @@ private:
     } else if (found.answer == Induction::Answer::stopped) {
       tell(way, "no answer", began);
     } else {
-      tell(way, facts.empty() ? "some state breaks the property" : "a state in which all that every step keeps hold, of " + counted(facts.size(), "fact") + ", breaks the property", began);
+      std::string state = facts.empty() ? "some state" : "a state in which all hold that every step keeps, of " + counted(facts.size(), "fact") + ",";
+      tell(way, state + " breaks the property", began);
     }
     return found;
   }

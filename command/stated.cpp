@@ -136,7 +136,8 @@ private:
     };
     fit(left, right.size()), fit(right, left.size());
     if (left.size() != right.size())
-      fail("words of " + std::to_string(left.size()) + " and " + std::to_string(right.size()) + " bits are compared; a part of one is written as name[2:0]");
+      fail("words of " + std::to_string(left.size()) + " and " + std::to_string(right.size()) +
+           " bits are compared; a part of one is written as name[2:0]");
   }
 
   static Cnf equal(const Bits32 &left, const Bits32 &right) {
@@ -183,7 +184,8 @@ private:
     skip();
     size_t begin = at;
     uint64_t value = 0;
-    for (; at < text.size() && std::isdigit(static_cast<unsigned char>(text[at])) && at - begin < 10; at++) value = 10 * value + static_cast<uint64_t>(text[at] - '0');
+    for (; at < text.size() && std::isdigit(static_cast<unsigned char>(text[at])) && at - begin < 10; at++)
+      value = 10 * value + static_cast<uint64_t>(text[at] - '0');
     if (at == begin || value > UINT32_MAX) fail(std::string(what) + " is wanted at '" + text.substr(begin) + "'");
     return static_cast<uint32_t>(value);
   }

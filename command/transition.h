@@ -28,8 +28,8 @@ public:
   int32_t now_of(int32_t number) { return number > 0 ? now(bit_of(number)) : -now(bit_of(number)); }
   int32_t next_of(int32_t number) { return number > 0 ? next(bit_of(number)) : -next(bit_of(number)); }
 
-  // Asks for what says that the property is false or the invariant fails behind the step. The answer is, for each clause of the invariant, the literal
-  // that says that it or one behind it fails.
+  // Asks for what says that the property is false or the invariant fails behind the step. The answer is, for each clause of the invariant, the
+  // literal that says that it or one behind it fails.
   std::vector<int32_t> ask_for_failure(const std::vector<int32_t> &invariant);
 
   const std::vector<uint32_t> &requests() const { return asked; }
