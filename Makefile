@@ -1,5 +1,5 @@
 # For a newcomer: `make demo` and `make test`. They need the Rattle kit (the command `rt`).
-.PHONY: demo command install test bench fuzz promises trust reading figure
+.PHONY: demo command install test bench bench-prove fuzz promises trust reading figure
 PREFIX ?= /usr/local
 VERSION = $(shell sed -n 's/^\#define MARRUBIGAI_VERSION "\(.*\)"/\1/p' include/marrubigai.h)
 
@@ -27,6 +27,10 @@ test:
 # after `make demo` or `make test`, which build the program
 bench:
 	@bash bench/run.sh
+
+# proofs for every frame, beside other tools; after `make command`
+bench-prove:
+	@bash bench/prove.sh $(LIMIT)
 
 # as many hostile inputs as asked for: make fuzz N=100000
 N ?= 100000

@@ -9,11 +9,12 @@
 #include "failure.h"
 #include "files.h"
 #include "refusals.h"
+#include "transition.h"
 
 namespace {
 
-const std::string HEADING = "marrubigai certificate 1";
-constexpr size_t LONGEST_HEADING = 64;
+const std::string HEADING = "marrubigai certificate 1", FOREVER_HEADING = "marrubigai certificate for ever 1";
+constexpr size_t LONGEST_HEADING = 96;
 
 void test(uint32_t number, const char *what) {
   if (number != MARRUBIGAI_PASSED) throw Failure(std::string(what) + ": " + refusal_word(number) + "\n" + refusal_hint(number));
@@ -33,7 +34,8 @@ public:
   std::string line() {
     std::string text;
     for (int byte; (byte = std::fgetc(file.get())) != '\n'; text += static_cast<char>(byte))
-      if (byte == EOF || text.size() == LONGEST_HEADING) refuse("it does not begin with a line '" + HEADING + "' and two numbers");
+      if (byte == EOF || text.size() == LONGEST_HEADING)
+        refuse("it does not begin with a line '" + HEADING + "' and two numbers, or '" + FOREVER_HEADING + "' and four");
     return text;
   }
 
@@ -41,6 +43,12 @@ public:
     unsigned char bytes[4];
     if (std::fread(bytes, 1, 4, file.get()) != 4) refuse("it is shorter than its first line says");
     return bytes[0] | uint32_t{bytes[1]} << 8 | uint32_t{bytes[2]} << 16 | uint32_t{bytes[3]} << 24;
+  }
+
+  template <typename Number> std::vector<Number> numbers(size_t count) {
+    std::vector<Number> read;
+    while (read.size() < count) read.push_back(static_cast<Number>(number()));
+    return read;
   }
 
   void end() {
@@ -67,36 +75,75 @@ size_t count_at(const std::string &line, size_t &at) {
   return good ? value : MOST_NUMBERS + 1;
 }
 
-void append(std::string &text, uint32_t number) {
-  for (int shift = 0; shift < 32; shift += 8) text += static_cast<char>(number >> shift & 255);
+// the counts behind a heading; none where they are not these
+std::vector<size_t> counts_of(const std::string &line, const std::string &heading, size_t count) {
+  std::vector<size_t> counts;
+  size_t at = heading.size();
+  bool good = line.compare(0, at, heading) == 0;
+  while (good && counts.size() < count) {
+    good = at < line.size() && line[at++] == ' ';
+    if (good) counts.push_back(count_at(line, at));
+    good = good && counts.back() <= MOST_NUMBERS;
+  }
+  return good && at == line.size() ? counts : std::vector<size_t>();
+}
+
+template <typename Number> void append(std::string &text, const std::vector<Number> &numbers) {
+  text.reserve(text.size() + 4 * numbers.size());
+  for (Number number : numbers)
+    for (int shift = 0; shift < 32; shift += 8) text += static_cast<char>(static_cast<uint32_t>(number) >> shift & 255);
+}
+
+size_t clauses_in(const std::vector<int32_t> &numbers) { return static_cast<size_t>(std::count(numbers.begin(), numbers.end(), 0)); }
+
+// lists as they are lent: an element's address also where there is none, as the header asks
+template <typename Number> const Number *lent(const std::vector<Number> &numbers) {
+  static const Number none = 0;
+  return numbers.empty() ? &none : numbers.data();
 }
 
 } // namespace
 
-size_t Certificate::lemma_count() const { return static_cast<size_t>(std::count(lemmas.begin(), lemmas.end(), 0)); }
+size_t Certificate::lemma_count() const { return clauses_in(lemmas); }
+size_t ForeverCertificate::clause_count() const { return clauses_in(invariant); }
 
-Certificate read_certificate(const std::string &path) {
+std::variant<Certificate, ForeverCertificate> read_certificate(const std::string &path) {
   Reader reader(path);
   std::string line = reader.line();
-  size_t at = HEADING.size() + 1, lemmas = 0, hints = 0;
-  bool good = line.compare(0, at, HEADING + " ") == 0;
-  if (good) lemmas = count_at(line, at);
-  good = good && at < line.size() && line[at++] == ' ';
-  if (good) hints = count_at(line, at);
-  if (!good || at != line.size() || lemmas > MOST_NUMBERS || hints > MOST_NUMBERS)
-    reader.refuse("its first line is not '" + HEADING + "' and two numbers up to " + std::to_string(MOST_NUMBERS));
-  Certificate certificate;
-  while (certificate.lemmas.size() < lemmas) certificate.lemmas.push_back(static_cast<int32_t>(reader.number()));
-  while (certificate.hints.size() < hints) certificate.hints.push_back(reader.number());
+  std::vector<size_t> counts = counts_of(line, HEADING, 2), forever = counts_of(line, FOREVER_HEADING, 4);
+  if (counts.empty() && forever.empty())
+    reader.refuse("its first line is neither '" + HEADING + "' and two numbers nor '" + FOREVER_HEADING + "' and four, each up to " +
+                  std::to_string(MOST_NUMBERS));
+  ForeverCertificate read;
+  if (!forever.empty()) {
+    read.invariant = reader.numbers<int32_t>(forever[0]);
+    read.requests = reader.numbers<uint32_t>(forever[1]);
+    counts.assign(forever.begin() + 2, forever.end());
+  }
+  read.refutation.lemmas = reader.numbers<int32_t>(counts[0]);
+  read.refutation.hints = reader.numbers<uint32_t>(counts[1]);
   reader.end();
-  return certificate;
+  if (forever.empty()) return read.refutation;
+  return read;
 }
 
 void write_certificate(const std::string &path, const Certificate &certificate) {
   std::string text = HEADING + " " + std::to_string(certificate.lemmas.size()) + " " + std::to_string(certificate.hints.size()) + "\n";
-  text.reserve(text.size() + 4 * (certificate.lemmas.size() + certificate.hints.size()));
-  for (int32_t number : certificate.lemmas) append(text, static_cast<uint32_t>(number));
-  for (uint32_t hint : certificate.hints) append(text, hint);
+  append(text, certificate.lemmas);
+  append(text, certificate.hints);
+  write_file(path, text);
+}
+
+void write_certificate(const std::string &path, const ForeverCertificate &certificate) {
+  const Certificate &refutation = certificate.refutation;
+  std::string text = FOREVER_HEADING;
+  for (size_t count : {certificate.invariant.size(), certificate.requests.size(), refutation.lemmas.size(), refutation.hints.size()})
+    text += " " + std::to_string(count);
+  text += "\n";
+  append(text, certificate.invariant);
+  append(text, certificate.requests);
+  append(text, refutation.lemmas);
+  append(text, refutation.hints);
   write_file(path, text);
 }
 
@@ -133,12 +180,24 @@ Checked check(const Chip &chip, const Property &property, uint32_t depth, const 
   std::string input = depth_line + sheet_of(chip, property);
   std::vector<int32_t> store(formula.numbers.size() + certificate.lemmas.size() + 1); // one more, so that there is an address to lend
   std::vector<uint32_t> marks(2 * (size_t{formula.variables} + 1));
-  static const int32_t no_lemma = 0;
-  static const uint32_t no_hint = 0;
-  auto reply = marrubigai_certify(reinterpret_cast<const uint8_t *>(input.data()), input.size(),
-                                  certificate.lemmas.empty() ? &no_lemma : certificate.lemmas.data(), certificate.lemmas.size(),
-                                  certificate.hints.empty() ? &no_hint : certificate.hints.data(), certificate.hints.size(), store.data(), store.size(),
-                                  marks.data(), marks.size());
+  auto reply = marrubigai_certify(reinterpret_cast<const uint8_t *>(input.data()), input.size(), lent(certificate.lemmas), certificate.lemmas.size(),
+                                  lent(certificate.hints), certificate.hints.size(), store.data(), store.size(), marks.data(), marks.size());
+  test(reply.number, "the certificate could not be checked");
+  return {reply.certified == 1, reply.lemma};
+}
+
+Checked check(const Chip &chip, const Property &property, const ForeverCertificate &certificate) {
+  const Certificate &refutation = certificate.refutation;
+  std::string sheet = sheet_of(chip, property);
+  std::vector<int32_t> store(certificate.requests.size() / 3 * 5 + certificate.invariant.size() + refutation.lemmas.size() + 1);
+  // Behind the bits of the state, five variables take turns: the bits behind the step, the wires, 32 matches a word, and the invariant's places.
+  size_t bits = StateBits(chip.net).count;
+  size_t most = std::max({bits, size_t{chip.wires()}, size_t{32} << chip.net.m, certificate.invariant.size()}) + 1;
+  std::vector<uint32_t> marks(2 * (bits + 5 * (most + 1)));
+  auto reply = marrubigai_certify_forever(reinterpret_cast<const uint8_t *>(sheet.data()), sheet.size(), lent(certificate.invariant),
+                                          certificate.invariant.size(), lent(certificate.requests), certificate.requests.size(),
+                                          lent(refutation.lemmas), refutation.lemmas.size(), lent(refutation.hints), refutation.hints.size(),
+                                          store.data(), store.size(), marks.data(), marks.size());
   test(reply.number, "the certificate could not be checked");
   return {reply.certified == 1, reply.lemma};
 }

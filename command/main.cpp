@@ -1,5 +1,6 @@
 // marrubigai: from a chip with a memory to an answer. docs/COMMAND.md is the user's page.
 
+#include <algorithm>
 #include <csignal>
 #include <cstdio>
 #include <optional>
@@ -10,9 +11,11 @@
 #include "failure.h"
 #include "files.h"
 #include "outputs.h"
+#include "prove.h"
 #include "report.h"
 #include "search.h"
 #include "sheet.h"
+#include "stated.h"
 #include "verilog.h"
 
 namespace {
@@ -61,12 +64,48 @@ std::vector<Chip> load(const Options &options, Stop &stop) {
   return {chip};
 }
 
-Searched search_chip(const Chip &chip, const Options &options, Stop &stop) {
-  if (!options.check_file.empty()) return {chip, {check_certificate(chip, options, stop)}};
+// to the depth, certified where that is wanted
+std::vector<Verdict> search_to_depth(const Chip &chip, const Options &options, Stop &stop) {
   std::optional<Refutation> refutation;
   if (!options.certificate_file.empty()) refutation.emplace();
   std::vector<Verdict> verdicts = search(chip, Plan{options.depth, options.from, options.any, refutation ? &*refutation : nullptr}, stop);
   if (refutation && verdicts[0].kind == Verdict::Kind::holds) certify(chip, options, *refutation, verdicts[0], stop);
+  return verdicts;
+}
+
+// First to a low depth, where a fault is mostly found; then for ever; and what is neither broken nor proved then, to the depth.
+std::vector<Verdict> search_and_prove(const Chip &chip, const Options &options, Stop &stop) {
+  constexpr uint32_t LOW = 10;
+  std::vector<Verdict> verdicts = search(chip, Plan{std::min(options.depth, LOW), 0, options.any, nullptr}, stop);
+  Known known;
+  if (!options.invariant_file.empty()) known.stated = stated_facts(options.invariant_file, chip);
+  Chip rest = chip;
+  rest.properties.clear();
+  std::vector<size_t> open;
+  Options further = options;
+  for (size_t p = 0; p < verdicts.size(); p++) {
+    if (verdicts[p].kind == Verdict::Kind::broken) continue;
+    if (verdicts[p].kind == Verdict::Kind::holds) verdicts[p].forever = prove(chip, chip.properties[p], options, known, stop);
+    verdicts[p].seconds = stop.seconds();
+    if (!verdicts[p].forever || verdicts[p].forever->certified) continue;
+    if (verdicts[p].forever->claimed) further.depth = std::max(further.depth, std::min<uint32_t>(*verdicts[p].forever->claimed, MOST_DEPTH));
+    rest.properties.push_back(chip.properties[p]);
+    open.push_back(p);
+  }
+  if (open.empty()) return verdicts;
+  std::vector<Verdict> found = search_to_depth(rest, further, stop);
+  for (size_t at = 0; at < open.size(); at++) {
+    Verdict &verdict = verdicts[open[at]];
+    if (found[at].kind == Verdict::Kind::stopped && found[at].safe < verdict.safe) found[at].safe = verdict.safe; // it is known already
+    found[at].forever = verdict.forever;
+    verdict = found[at];
+  }
+  return verdicts;
+}
+
+Searched search_chip(const Chip &chip, const Options &options, Stop &stop) {
+  if (!options.check_file.empty()) return {chip, {check_certificate(chip, options, stop)}};
+  std::vector<Verdict> verdicts = options.prove ? search_and_prove(chip, options, stop) : search_to_depth(chip, options, stop);
   for (size_t p = 0; options.confirm && p < verdicts.size(); p++)
     if (verdicts[p].run) verdicts[p].confirmed = confirm(options, chip, chip.properties[p], *verdicts[p].run, stop);
   return {chip, verdicts};

@@ -22,8 +22,10 @@ const char *const help_text =
     "      --cover NAME        this cover statement alone; may be given again\n"
     "      --start WORD        every word of the memory begins as WORD; or `unknown`, or `verilog`: as the file says\n"
     "      --timeout SECONDS   stop then\n"
+    "      --prove             try to prove it for every frame, beyond the depth: by an invariant, which the proved library has checked\n"
+    "      --invariant FILE    facts to prove it with, over registers and words of the memory\n"
     "      --certificate FILE  of one property: where it holds, write a certificate of that, which the proved library has checked\n"
-    "      --check FILE        no search: check such a certificate for this chip and depth\n"
+    "      --check FILE        no search: check such a certificate for this chip, and depth where it is about one\n"
     "Verilog, as yosys takes it\n"
     "      --top NAME          the top module\n"
     "  -D X[=V]                define a macro;  -I DIR  look for included files there;  -P NAME=VALUE  set a parameter of the top module\n"
@@ -42,7 +44,7 @@ const char *const help_text =
     "  -q, --quiet             the verdicts alone\n"
     "      --help, --version\n"
     "\n"
-    "Exit status: 10 broken (or a cover reached, where only covers are looked for), 20 holds to the depth, 30 stopped,\n"
+    "Exit status: 10 broken (or a cover reached, where only covers are looked for), 20 holds to the depth or for ever, 30 stopped,\n"
     "1 refused or failed, 2 the command line is wrong.\n";
 
 namespace {
@@ -62,7 +64,7 @@ std::optional<uint64_t> number(const std::string &text, uint64_t most) {
 }
 
 uint32_t depth(const std::string &text, const char *option) {
-  auto value = number(text, 255);
+  auto value = number(text, MOST_DEPTH);
   if (!value) wrong("'" + text + "' is no depth for " + option + ": a number from 0 to 255");
   return static_cast<uint32_t>(*value);
 }
@@ -135,12 +137,15 @@ std::string written(int count, char **arguments) {
 }
 
 void test_certificate_options(const Options &options) {
+  if (options.prove && options.from > 0) wrong("--prove is about all frames: it goes without --from");
+  if (!options.prove && !options.invariant_file.empty()) wrong("--invariant is for --prove");
   if (!options.certificate_file.empty() && options.from > 0) wrong("a certificate is about all frames from 0 on: --certificate goes without --from");
   if (options.check_file.empty()) return;
   auto without = [](bool given, const char *option) {
     if (given) wrong(std::string("--check looks for no run: it goes without ") + option);
   };
   without(!options.certificate_file.empty(), "--certificate");
+  without(options.prove, "--prove");
   without(options.any, "--any");
   without(options.from > 0, "--from");
   without(!options.vcd_file.empty(), "--vcd");
@@ -151,7 +156,7 @@ void test_certificate_options(const Options &options) {
 
 Options parse_options(int count, char **arguments) {
   enum { FROM = 256, ANY, PROPERTY, COVER, START, TIMEOUT, TOP, RESET, MEMORY, WIDTHS, NAMES, RADIX, WATCH, VCD, JSON, KEEP, CONFIRM,
-         CERTIFICATE, CHECK, HELP, VERSION };
+         CERTIFICATE, CHECK, PROVE, INVARIANT, HELP, VERSION };
   static const option known[] = {
       {"depth", required_argument, nullptr, 'k'},     {"from", required_argument, nullptr, FROM},
       {"any", no_argument, nullptr, ANY},             {"property", required_argument, nullptr, PROPERTY},
@@ -163,7 +168,8 @@ Options parse_options(int count, char **arguments) {
       {"vcd", required_argument, nullptr, VCD},       {"json", no_argument, nullptr, JSON},
       {"keep", required_argument, nullptr, KEEP},     {"quiet", no_argument, nullptr, 'q'},
       {"confirm", no_argument, nullptr, CONFIRM},     {"certificate", required_argument, nullptr, CERTIFICATE},
-      {"check", required_argument, nullptr, CHECK},
+      {"check", required_argument, nullptr, CHECK},   {"prove", no_argument, nullptr, PROVE},
+      {"invariant", required_argument, nullptr, INVARIANT},
       {"help", no_argument, nullptr, HELP},           {"version", no_argument, nullptr, VERSION},
       {nullptr, 0, nullptr, 0}};
   Options options;
@@ -199,6 +205,8 @@ Options parse_options(int count, char **arguments) {
     case CONFIRM: options.confirm = true; break;
     case CERTIFICATE: options.certificate_file = file("--certificate"); break;
     case CHECK: options.check_file = file("--check"); break;
+    case PROVE: options.prove = true; break;
+    case INVARIANT: options.invariant_file = file("--invariant"); break;
     case 'q': options.quiet = true; break;
     case HELP: options.show_help = true; break;
     case VERSION: options.show_version = true; break;

@@ -21,6 +21,8 @@ struct Reset {
   uint32_t frames = 1;
 };
 
+constexpr uint32_t MOST_DEPTH = 255;
+
 struct Widths {
   uint32_t address = 0, data = 0, ports = 1;
 };
@@ -40,6 +42,8 @@ struct Options {
   Start start;
   uint32_t depth = 50, from = 0;
   bool any = false;
+  bool prove = false; // for every frame
+  std::string invariant_file; // facts that are stated for that
   double timeout = 0; // seconds; 0 is none
   // what is shown
   std::string vcd_file, keep_folder;

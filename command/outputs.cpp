@@ -10,7 +10,8 @@
 
 void test_outputs(const Options &options) {
   std::vector<std::string> read = options.files;
-  if (!options.names_file.empty()) read.push_back(options.names_file);
+  for (const std::string &file : {options.names_file, options.invariant_file})
+    if (!file.empty()) read.push_back(file);
   auto test = [&](const std::string &path, const std::string &what) {
     if (path.empty()) return;
     for (const std::string &file : read)

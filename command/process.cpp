@@ -6,6 +6,7 @@
 #include <sys/wait.h>
 #include <unistd.h>
 
+#include <algorithm>
 #include <cerrno>
 #include <csignal>
 #include <cstring>
@@ -63,7 +64,8 @@ bool take(Pipe &from, std::string &text) {
 
 } // namespace
 
-Finished run_program(const std::vector<std::string> &arguments, Stop &stop) {
+Finished run_program(const std::vector<std::string> &arguments, Stop &stop, std::optional<double> seconds) {
+  double until = stop.seconds() + seconds.value_or(0);
   std::vector<char *> pointers;
   for (const std::string &argument : arguments) pointers.push_back(const_cast<char *>(argument.c_str()));
   pointers.push_back(nullptr);
@@ -74,13 +76,17 @@ Finished run_program(const std::vector<std::string> &arguments, Stop &stop) {
   said.shut(1), written.shut(1);
   Finished finished;
   while (said.ends[0] >= 0 || written.ends[0] >= 0) {
-    if (stop.is_due()) {
+    double left = until - stop.seconds();
+    if (stop.is_due() || (seconds && left <= 0)) {
       kill(child, SIGKILL);
       while (waitpid(child, nullptr, 0) < 0 && errno == EINTR) {}
+      finished.killed = true;
+      if (seconds) return finished;
       throw Failure(std::string(stop.why()) + " while " + arguments[0] + " was at work; nothing is known of any property", STOPPED);
     }
     pollfd waited[2] = {{said.ends[0], POLLIN, 0}, {written.ends[0], POLLIN, 0}}; // a descriptor of -1 is passed over
-    int ready = poll(waited, 2, stop.milliseconds_left());
+    int wait = stop.milliseconds_left(), own = static_cast<int>(std::min(left, 1e6) * 1000) + 1;
+    int ready = poll(waited, 2, seconds && (wait < 0 || own < wait) ? own : wait);
     if (ready <= 0) continue;
     if (waited[0].revents) take(said, finished.said);
     if (waited[1].revents) take(written, finished.written);

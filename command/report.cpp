@@ -24,22 +24,26 @@ std::string frames_text(uint32_t from, uint32_t count) {
   return count == 1 ? "frame " + std::to_string(from) : "frames " + std::to_string(from) + " to " + std::to_string(last);
 }
 
+bool is_for_ever(const Verdict &verdict) { return verdict.forever && verdict.forever->certified; }
+
 // The verdict as a sentence. That no earlier frame breaks it is the solver's word, and that this one does is not: the run was stepped.
 std::string verdict_text(const Property &property, const Verdict &verdict, const Options &options, const std::string &stopped) {
   bool cover = property.kind == Property::Kind::cover;
   bool earliest = !options.any && options.from == 0;
   std::string holds = cover ? " is not reached in " : " holds in ";
+  if (is_for_ever(verdict)) return subject(property) + (cover ? " is never reached" : " holds in every frame") + ", certified";
   std::string word = verdict.certified ? ", certified" : ", by the solver's word";
+  std::string not_proved = verdict.forever ? "; not proved for ever" : "";
   std::string safe = verdict.safe == 0 ? "" : frames_text(verdict.from, verdict.safe) + word;
   switch (verdict.kind) {
   case Verdict::Kind::broken:
     return subject(property) + (cover ? " is reached" : " is broken") + (earliest ? "" : " first") + " in frame " +
            std::to_string(verdict.run->first) + (earliest ? " at the earliest" : "");
-  case Verdict::Kind::holds: return subject(property) + holds + safe;
+  case Verdict::Kind::holds: return subject(property) + holds + safe + not_proved;
   case Verdict::Kind::stopped: break;
   }
   std::string when = verdict.certifying ? " while its certificate was made; " : "; ";
-  return subject(property) + ": " + stopped + when + (safe.empty() ? "nothing is known of it" : "it" + holds + safe);
+  return subject(property) + ": " + stopped + when + (safe.empty() ? "nothing is known of it" : "it" + holds + safe) + not_proved;
 }
 
 // what a certified verdict rests on
@@ -47,6 +51,30 @@ std::string certified_text(const Chip &chip, const Verdict::Certified &certified
   std::string sheet = chip.bench.top.empty() ? "" : "; that the sheet which it is about is the design's has to be (--keep writes it)";
   return certified.file + ", " + std::to_string(certified.lemmas) + " lemmas with " + std::to_string(certified.hints) +
          " hints, was checked by marrubigai_certify, which is proved: no solver has to be believed" + sheet;
+}
+
+std::string forever_text(const Chip &chip, const Forever &forever) {
+  std::string sheet = chip.bench.top.empty() ? "" : "; that the sheet which it is about is the design's has to be (--keep writes it)";
+  return (forever.file.empty() ? "" : forever.file + ", ") + "an invariant of " + std::to_string(forever.clauses) + " clauses" +
+         (forever.way.empty() ? "" : ", by " + forever.way) + ", with " + std::to_string(forever.requests) + " requests, " +
+         std::to_string(forever.lemmas) + " lemmas and " + std::to_string(forever.hints) +
+         " hints, was checked by marrubigai_certify_forever, which is proved: nothing that found it has to be believed" + sheet;
+}
+
+std::string seconds_text(double seconds, int digits) {
+  char text[32];
+  std::snprintf(text, sizeof text, "%.*f", digits, seconds);
+  return text;
+}
+
+// what was tried for ever: in a note each, what was stated and what was not enough; and what it rests on
+std::string forever_notes(const std::string &front, const Chip &chip, const Forever &forever) {
+  std::string text;
+  for (const std::string &stated : forever.stated) text += front + stated + "\n";
+  for (const Attempt &attempt : forever.tried)
+    if (!forever.certified) text += front + "for ever, by " + attempt.way + ": " + attempt.result + " (" + seconds_text(attempt.seconds, 1) + " s)\n";
+  if (forever.certified) text += front + forever_text(chip, forever) + "\n";
+  return text;
 }
 
 std::string quoted(const std::string &text) {
@@ -113,6 +141,24 @@ std::string verdict_word(const Property &property, const Verdict &verdict) {
   return "stopped";
 }
 
+std::string forever_json(const Forever &forever) {
+  std::string text = std::string("{\"certified\": ") + (forever.certified ? "true" : "false");
+  if (!forever.way.empty()) text += ", \"by\": " + quoted(forever.way);
+  if (forever.certified)
+    text += ", \"clauses\": " + std::to_string(forever.clauses) + ", \"requests\": " + std::to_string(forever.requests) +
+            ", \"lemmas\": " + std::to_string(forever.lemmas) + ", \"hints\": " + std::to_string(forever.hints);
+  if (!forever.file.empty()) text += ", \"file\": " + quoted(forever.file);
+  text += ", \"tried\": [";
+  for (size_t at = 0; at < forever.tried.size(); at++) {
+    const Attempt &attempt = forever.tried[at];
+    text += (at ? ", " : "") + ("{\"by\": " + quoted(attempt.way)) + ", \"result\": " + quoted(attempt.result) + ", \"seconds\": " +
+            seconds_text(attempt.seconds, 3) + "}";
+  }
+  text += "], \"stated\": [";
+  for (size_t at = 0; at < forever.stated.size(); at++) text += (at ? ", " : "") + quoted(forever.stated[at]);
+  return text + "]}";
+}
+
 std::string property_json(const Searched &searched, size_t p, Radix radix) {
   const Chip &chip = searched.chip;
   const Property &property = chip.properties[p];
@@ -123,16 +169,17 @@ std::string property_json(const Searched &searched, size_t p, Radix radix) {
   text += ", \"verdict\": \"" + verdict_word(property, verdict) + "\"";
   if (verdict.run) text += ", \"frame\": " + std::to_string(verdict.run->first) + ", \"by\": \"run\"";
   if (!verdict.confirmed.empty()) text += ", \"simulator\": " + quoted(verdict.confirmed);
-  if (verdict.safe > 0) {
+  if (is_for_ever(verdict)) {
+    text += ", \"safe\": {\"from\": 0, \"to\": null, \"by\": \"certificate\"}";
+  } else if (verdict.safe > 0) {
     text += ", \"safe\": {\"from\": " + std::to_string(verdict.from) + ", \"to\": " + std::to_string(verdict.from + verdict.safe - 1) +
             ", \"by\": \"" + (verdict.certified ? "certificate" : "solver") + "\"}";
   }
   if (verdict.certified)
     text += ", \"certificate\": {\"file\": " + quoted(verdict.certified->file) + ", \"lemmas\": " + std::to_string(verdict.certified->lemmas) +
             ", \"hints\": " + std::to_string(verdict.certified->hints) + "}";
-  char seconds[32];
-  std::snprintf(seconds, sizeof seconds, "%.3f", verdict.seconds);
-  text += std::string(", \"seconds\": ") + seconds;
+  if (verdict.forever) text += ",\n     \"forever\": " + forever_json(*verdict.forever);
+  text += ", \"seconds\": " + seconds_text(verdict.seconds, 3);
   if (verdict.run) text += ",\n     \"run\": " + run_json(chip, property, *verdict.run, radix);
   return text + "}";
 }
@@ -171,6 +218,7 @@ std::string report_text(const Report &report) {
       bool shown = verdict.run && !options.quiet;
       if (shown && options.radix != Radix::dec) text += std::string(" (words in ") + radix_words[static_cast<int>(options.radix)] + ")";
       text += shown ? ":\n" + table(searched.chip, property, *verdict.run, options.radix) : "\n";
+      if (verdict.forever && !options.quiet) text += forever_notes(report.file() + ": note: ", searched.chip, *verdict.forever);
       if (verdict.certified && !options.quiet) text += report.file() + ": note: " + certified_text(searched.chip, *verdict.certified) + "\n";
       if (!verdict.confirmed.empty()) text += report.file() + ": " + subject(property) + ": " + verdict.confirmed + "\n";
     }
@@ -181,11 +229,9 @@ std::string report_text(const Report &report) {
 std::string report_json(const Report &report) {
   static const char *const radix_words[] = {"hex", "dec", "bin"};
   const Options &options = report.options;
-  char seconds[32];
-  std::snprintf(seconds, sizeof seconds, "%.3f", report.seconds);
   std::string text = "{\"marrubigai\": " + quoted(MARRUBIGAI_VERSION) + ", \"file\": " + quoted(report.file()) +
                      ", \"depth\": " + std::to_string(options.depth) + ", \"radix\": \"" + radix_words[static_cast<int>(options.radix)] + "\",\n";
-  text += " \"status\": " + std::to_string(exit_status(report)) + ", \"seconds\": " + seconds;
+  text += " \"status\": " + std::to_string(exit_status(report)) + ", \"seconds\": " + seconds_text(report.seconds, 3);
   if (!report.stopped.empty()) text += ", \"stopped\": " + quoted(report.stopped);
   text += ",\n \"chips\": [";
   for (size_t at = 0; at < report.searched.size(); at++) text += (at ? ",\n  " : "\n  ") + chip_json(report.searched[at], options.radix);

@@ -5,6 +5,7 @@
 #include <string>
 #include <vector>
 
+#include "attempts.h"
 #include "chip.h"
 #include "refutation.h"
 #include "run.h"
@@ -20,6 +21,7 @@ struct Verdict {
   };
   std::optional<Certified> certified;
   bool certifying = false; // it was stopped while its certificate was made
+  std::optional<Forever> forever; // where it was to be proved for every frame
   std::optional<Run> run; // of a broken property
   std::string confirmed; // what a simulator says of the run, where it was asked
   double seconds = 0;

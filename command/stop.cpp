@@ -74,18 +74,19 @@ double Stop::seconds() const { return std::chrono::duration<double>(Clock::now()
 void Stop::at_frame(uint32_t now, uint32_t last) {
   frame = now;
   depth = last;
+  work = nullptr;
   if (show_progress) show_line();
 }
 
-void Stop::at_certificate() {
-  certifying = true;
+void Stop::at_work(const char *what) {
+  work = what;
   if (show_progress) show_line();
 }
 
 void Stop::show_line() {
   shown_at = Clock::now();
   line_is_shown = true;
-  if (certifying) std::fprintf(stderr, "\r\033[Kcertificate, %.1f s", seconds());
+  if (work) std::fprintf(stderr, "\r\033[K%s, %.1f s", work, seconds());
   else std::fprintf(stderr, "\r\033[Kframe %u of %u, %.1f s", frame, depth, seconds());
   std::fflush(stderr);
 }

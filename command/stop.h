@@ -25,7 +25,7 @@ public:
 
   // The progress line, on a terminal alone and rewritten in place.
   void at_frame(uint32_t frame, uint32_t depth);
-  void at_certificate();
+  void at_work(const char *what); // in place of frames
   void clear_line();
 
   // From here on a signal or the end of the time ends the command where it is, for a call that asks nobody: with these words on standard error and
@@ -37,6 +37,6 @@ private:
   bool has_deadline, show_progress, line_is_shown = false;
   Clock::time_point shown_at{};
   uint32_t frame = 0, depth = 0;
-  bool certifying = false;
+  const char *work = nullptr;
   void show_line();
 };

@@ -45,7 +45,7 @@ usage="usage: marrubigai [OPTIONS] FILE.v .. | CHIP.sheet | CHIP.aag   (marrubig
 wrong() { ends "$1" 2 "" "$2
 $usage" "${@:3}"; }
 wrong "no file" "a file is wanted"
-wrong "an option that is none" "'--prove' is no option" --prove chip.sheet
+wrong "an option that is none" "'--none' is no option" --none chip.sheet
 wrong "an option without its argument" "-k wants an argument" -k
 for depth in x '' -1 256 1.0 99999999999; do wrong "depth '$depth'" "'$depth' is no depth for -k: a number from 0 to 255" -k "$depth" chip.sheet; done
 wrong "from above the depth" "--from is above the depth" -k 3 --from 4 chip.sheet
@@ -505,7 +505,7 @@ check "what is broken has no certificate" [ ! -e "$work/none" ]
 # the command line, and files that are no certificates
 from="a certificate is about all frames from 0 on: --certificate goes without --from"
 wrong "a certificate from frame 1" "$from" --from 1 --certificate x chip.sheet
-for option in "--certificate y" --any "--from 1" "--vcd y" --confirm; do
+for option in "--certificate y" --prove --any "--from 1" "--vcd y" --confirm; do
   wrong "--check and $option" "--check looks for no run: it goes without ${option% *}" --check x $option chip.sheet
 done
 ends "the sheet as the certificate" 2 "" "the certificate would be written over chip.sheet" --certificate chip.sheet chip.sheet
@@ -525,8 +525,8 @@ check "no refutation is left behind" rmdir "$work/tmp"
 no() { # what, file, why
   ends "$1" 1 "" "$2: this is no certificate: $3" -k 0 --check "$2" chip.sheet
 }
-first="it does not begin with a line 'marrubigai certificate 1' and two numbers"
-counts="its first line is not 'marrubigai certificate 1' and two numbers up to 536870912"
+first="it does not begin with a line 'marrubigai certificate 1' and two numbers, or 'marrubigai certificate for ever 1' and four"
+counts="its first line is neither 'marrubigai certificate 1' and two numbers nor 'marrubigai certificate for ever 1' and four, each up to 536870912"
 no "an empty certificate" empty "$first"
 no "a sheet as a certificate" chip.sheet "$counts"
 no "a file without an end" /dev/zero "$first"
@@ -578,6 +578,176 @@ kill -INT $!
 wait $!
 check "interrupted while a certificate is checked: status" same 30 $?
 check "interrupted while a certificate is checked" same "interrupted while the certificate was checked; nothing is known of the property" "$(cat "$work/out" "$work/err")"
+
+### for ever: what is proved is certified, and again by the file alone, whatever the depth
+proved() { # what, what is said, options and file ..
+  local what=$1 said=$2
+  shift 2
+  rm -f "$work/made"
+  run -q -k 3 --prove --certificate "$work/made" "$@"
+  check "$what, for ever: status" same 20 $?
+  check "$what, for ever" same "$said, certified" "$(cat "$work/out")"
+  run -q -k 200 --check "$work/made" "$@"
+  check "$what, for ever, checked: status" same 20 $?
+  check "$what, for ever, checked" same "$said, certified" "$(cat "$work/out")"
+}
+not_for_ever() { # what, options and file ..
+  local what=$1
+  shift
+  run -q --check "$work/made" "$@"
+  check "$what is not certified for ever: status" same 1 $?
+  check "$what is not certified for ever: said" grep -qE "^$work/made: this does not certify that .* in every frame: of its [0-9]+ lemmas, the one numbered [0-9]+ from 0 is" "$work/err"
+  check "$what is not certified for ever: nothing else" [ ! -s "$work/out" ]
+}
+told() { grep -qF ": note: $1" "$work/out" || { cat "$work/out"; return 1; } }
+folder=$designs
+proved "a design" "carton_counter.v: assert carton_counter.v:44 holds in every frame" carton_counter.v
+not_for_ever "a design with a fault" -D FAULTY carton_counter.v
+proved "a design that begins unknown" "registers.v: assert registers.v:33 holds in every frame" registers.v
+not_for_ever "a design that begins unknown, with a fault" -D FAULTY registers.v
+proved "a design with a clocked read" "stack.v: assert stack.v:49 holds in every frame" --reset reset -P DEPTH=3 -P WIDTH=4 stack.v
+proved "a design with two ports, by abc" "queue.v: assert queue.v:42 holds in every frame" -P BITS=2 -P WIDTH=2 queue.v
+not_for_ever "a design with two ports and a fault" -P BITS=2 -P WIDTH=2 -D FAULTY queue.v
+proved "a design with a reset, by abc" "cache.v: assert cache.v:43 holds in every frame" --property cache.v:43 --reset reset -P INDEX=2 -P TAG=3 cache.v
+proved "one of several" "histogram.v: assert histogram.v:24 holds in every frame" --property histogram.v:24 histogram.v
+proved "a larger memory" "registers.v: assert registers.v:33 holds in every frame" -P BITS=5 registers.v
+for design in "carton_counter 1" "queue 2 -P BITS=2 -P WIDTH=2" "registers 1" "histogram 8"; do
+  set -- $design
+  run -q -k 8 --prove -D FAULTY "${@:3}" "$1.v"
+  check "$1 with a fault is not proved: status" same 10 $?
+  check "$1 with a fault is not proved" grep -qE "^$1.v: assert $1.v:[0-9]+ is broken in frame $2 at the earliest$" "$work/out"
+done
+folder=$here
+for revision in fourth fifth sixth seventh; do
+  sheet=examples/$revision-revision/repaired.sheet
+  proved "$sheet" "$sheet: the property holds in every frame" $sheet
+  cp "$work/made" "$work/made.$revision"
+  for fault in examples/$revision-revision/{faulty,unknown}.sheet; do [ -e "$fault" ] && not_for_ever "$fault" "$fault"; done
+done
+unset folder
+proved "a text" "cut.aag: the property holds in every frame" --start 0 cut.aag
+proved "a property that is a constant" "true.sheet: the property holds in every frame" true.sheet
+chip 's/^endmodule/always @* cover (we \& !we); endmodule/' > "$work/files/chip.v"
+proved "a cover" "chip.v: cover chip.v:12 is never reached" --cover chip.v:12 chip.v
+# a chip that is right where its memory begins as 0, and breaks where it begins unknown
+unknown=$here/examples/sixth-revision/unknown.sheet
+proved "from 0" "$unknown: the property holds in every frame" --start 0 "$unknown"
+not_for_ever "from an unknown start" "$unknown"
+ends "an unknown start, by abc's word beyond the depth" 10 "$unknown: the property is broken in frame 1 at the earliest" "" -q -k 0 --prove "$unknown"
+sheet=$here/examples/sixth-revision/repaired.sheet
+run -k 3 --prove --certificate "$work/made" "$sheet"
+check "what it rests on is told, for ever" grep -qE "repaired.sheet: note: $work/made, an invariant of [0-9]+ clauses, by abc's pdr, with [0-9]+ requests, [0-9]+ lemmas and [0-9]+ hints, was checked by marrubigai_certify_forever, which is proved: nothing that found it has to be believed$" "$work/out"
+for way in "--prove --certificate" --check; do
+  run --json $way "$work/made" "$sheet"
+  check "JSON for ever, $way" same "20 holds 0 null of 0 certificate 1 $work/made" "$(echo $(value status; value chips 0 properties 0 verdict; for at in from to by; do value chips 0 properties 0 safe $at; done
+    for at in certified file; do value chips 0 properties 0 forever $at; done))"
+done
+
+# without abc, with one that does not end, and with one that lies
+abc() { printf '#!/bin/sh\n%s\n' "$1" > "$work/abc/berkeley-abc"; chmod +x "$work/abc/berkeley-abc"; }
+mkdir "$work/abc"
+bounded() { # what, path, what is told, options ..
+  path=$2 run -k 3 --prove "${@:4}" "$sheet"
+  check "$1: status" same 20 $?
+  check "$1: a bounded answer" grep -qxF "$sheet: the property holds in frames 0 to ${last:-3}, by the solver's word; not proved for ever" "$work/out"
+  check "$1: told" told "for ever, by abc's pdr: $3"
+}
+bounded "no abc" "$work/without" "berkeley-abc is missing (Debian's package of this name)"
+abc 'exec sleep 60'
+bounded "an abc that takes long" "$work/abc:$PATH" "no answer in " --timeout 3
+abc 'exit 3'
+bounded "an abc that fails" "$work/abc:$PATH" "it ended with status 3"
+abc 'kill -9 $$'
+bounded "an abc that is killed" "$work/abc:$PATH" "it ended with status 137"
+abc 'echo hello'
+bounded "an abc that says nothing" "$work/abc:$PATH" "it gave no answer: hello"
+abc 'echo Output 0 of miter x was asserted in frame 13.'
+last=12 bounded "an abc that claims a run" "$work/abc:$PATH" "it says that a run breaks it in frame 12"
+lies() { # what, the invariant that it writes, what is told
+  abc "cat > /dev/fd/3 << end
+$2
+end
+echo Property proved."
+  bounded "$1" "$work/abc:$PATH" "$3"
+}
+lies "an empty invariant" ".ilb
+.e" "its invariant of 0 clauses is left by a step, or does not keep the property from breaking"
+lies "an invariant that is not inductive" ".ilb s0
+1 1
+.e" "its invariant of 1 clause is left by a step, or does not keep the property from breaking"
+lies "an invariant that is false at the start" ".ilb s0
+0 1
+1 1
+.e" "its invariant of 2 clauses is not certified: it does not hold at the start of every run"
+lies "an invariant past the memory" ".ilb s99999
+1 1
+.e" "its invariant names a register that there is not: s99999"
+lies "an invariant of words" ".ilb s0
+x 1
+.e" "a line of its invariant has a letter"
+lies "an invariant of another length" ".ilb s0
+11 1
+.e" "a line of its invariant has another length"
+lies "an invariant that is cut short" ".ilb s0
+1 1" "its invariant is cut short"
+abc "echo \$\$ > $work/pid; exec sleep 60"
+PATH=$work/abc:$PATH "$plain" -q -k 3 --prove "$sheet" > "$work/out" 2> "$work/err" &
+for _ in $(seq 100); do [ -s "$work/pid" ] && break; sleep 0.1; done
+kill -INT $!
+wait $!
+check "interrupted while it is proved: status" same 30 $?
+check "interrupted while it is proved" same "$sheet: the property: interrupted; it holds in frames 0 to 3, by the solver's word; not proved for ever" "$(cat "$work/out" "$work/err")"
+check "interrupted while it is proved: abc is gone" [ -s "$work/pid" -a ! -e "/proc/$(cat "$work/pid")" ]
+
+# facts that are stated
+facts() { printf '%s\n' "$@" > "$work/files/facts"; }
+state() { folder=$designs run -k 3 --prove --invariant "$work/files/facts" registers.v; }
+facts '# the upper byte of one register' '!known | started' '!known | watched != @ | file[@][15:8] == upper # of every one' '' known '!known | upper[0]' 'started | !known'
+state
+check "stated facts: status" same 20 $?
+check "stated facts" grep -qxF "registers.v: assert registers.v:33 holds in every frame, certified" "$work/out"
+check "stated facts: needed" told "$work/files/facts:3: holds at the start, kept by every step, needed"
+check "stated facts: false at the start" told "$work/files/facts:5: does not hold at the start of every run"
+check "stated facts: left by a step" told "$work/files/facts:6: holds at the start, not kept: a step from a state in which the others and it hold breaks it"
+check "stated facts: not needed" told "$work/files/facts:7: holds at the start, kept by every step, not needed"
+for design in "lookup.v:51 lookup" "cache.v:43 cache --reset reset --property cache.v:43"; do
+  set -- $design
+  folder=$designs run -q -k 3 --prove --invariant "$2.facts" "${@:3}" "$2.v"
+  check "$2 by the facts beside it" same "$2.v: assert $1 holds in every frame, certified" "$(cat "$work/out")"
+done
+misstated() { # a fact, what is said
+  facts "$1"
+  state
+  check "the fact '$1': status" same 1 $?
+  check "the fact '$1': said" same "$work/files/facts:1: $2" "$(head -c $((${#work} + 16 + ${#2})) "$work/err" | head -n 1)"
+}
+misstated 'none == 1' "there is no register none"
+misstated 'known |' "a name, a number or @ is wanted at ''"
+misstated 'watched == 99' "words of 3 and 7 bits are compared"
+misstated 'file[8][15]' "the last word of file is 7"
+misstated 'file[@][0]' "the property does not depend on all bits that are compared"
+misstated 'file[@] == 3' "the property does not depend on all bits that are compared"
+misstated 'file == 3' "of the memory file a word is wanted"
+misstated 'number == 3' "number is no register"
+misstated 'upper == watched == 3' "words of 8 and 3 bits are compared"
+misstated 'known == started known' "'known' is not understood"
+misstated 'upper' "a word of 8 bits stands where one bit is wanted"
+misstated 'watched[3]' "watched has the bits 0 to 2"
+misstated 'watched == @ | watched != @4' "@ is a number of 1 to 16 bits, the same in the whole line"
+misstated 'upper != 1 | @16 < @16 | upper[7:0] != watched' "words of 8 and 3 bits are compared"
+facts 'watched < 7 | watched >= 7' 'watched <= 7' 'watched > watched | upper == upper'
+state
+check "comparisons that are always true: status" same 20 $?
+check "comparisons that are always true" told "$work/files/facts:2: holds at the start, kept by every step"
+misstated 'watched < 8' "words of 3 and 4 bits are compared"
+ends "facts that are missing" 1 "" "none: it cannot be opened: No such file" --prove --invariant none chip.sheet
+wrong "facts without a proof" "--invariant is for --prove" --invariant x chip.sheet
+wrong "a proof from frame 1" "--prove is about all frames: it goes without --from" --prove --from 1 chip.sheet
+ends "the facts as the certificate" 2 "" "the certificate would be written over facts" --prove --invariant facts --certificate facts chip.sheet
+check "the damager of certificates for ever is built" tool forever
+"$work/forever" "${STEP:-199}" examples/fifth-revision/repaired.sheet examples/fifth-revision/faulty.sheet "$work/made.fifth" "$work/scratch" > "$work/hostile.out" 2>&1
+check "damaged certificates for ever: status" same 0 $?
+check "damaged certificates for ever" grep -qE '^[0-9]+ passed, 0 failed$' "$work/hostile.out"
 
 ### installed into a folder, and a use of what was installed
 check "it is installed" make --no-print-directory install DESTDIR="$work/root" PREFIX=/opt/m > "$work/make" 2>&1

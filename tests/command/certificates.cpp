@@ -79,7 +79,7 @@ int main(int count, char **arguments) {
   Chip good = chip_of_sheet(arguments[3], read_file(arguments[3]), options), faulty = chip_of_sheet(arguments[4], read_file(arguments[4]), options);
   std::string file = read_file(arguments[6]);
 
-  Certificate whole = read_certificate(arguments[6]);
+  Certificate whole = std::get<Certificate>(read_certificate(arguments[6]));
   check_that("the certificate certifies", check(good, good.properties[0], options.depth, whole).certified);
   write_certificate(arguments[7], whole);
   check_that("it is written as it was read", read_file(arguments[7]) == file);
@@ -87,7 +87,7 @@ int main(int count, char **arguments) {
   for (unsigned long time = 0; time < times; time++) {
     write_file(arguments[7], damaged(file));
     try {
-      Certificate read = read_certificate(arguments[7]);
+      Certificate read = std::get<Certificate>(read_certificate(arguments[7]));
       if (!check(good, good.properties[0], options.depth, read).certified) rejected++;
       if (check(faulty, faulty.properties[0], options.depth, read).certified) check_that("a chip with a fault is certified", false);
     } catch (const Failure &failure) {
