@@ -1,7 +1,7 @@
 // Forward, the clauses are added one by one until unit propagation alone gives a conflict: the empty lemma follows there. Then backward, each lemma
-// that one behind it needs is derived by propagation from its negation through the clauses before it, and the clauses that propagated on the way to the
-// conflict are its hints: those that are needed already are tried first, and those that the solver had deleted by then only where it does not follow
-// without them. What was fixed before becomes a lemma of its own, a unit, once: no lemma repeats how it came about.
+// that one behind it needs is derived by propagation from its negation through the clauses before it, and the clauses that propagated on the way to
+// the conflict are its hints: those that are needed already are tried first, and those that the solver had deleted by then only where it does not
+// follow without them. What was fixed before becomes a lemma of its own, a unit, once: no lemma repeats how it came about.
 
 #include "elaborate.h"
 
@@ -30,8 +30,8 @@ int32_t number_of(Literal literal) { return literal & 1 ? -static_cast<int32_t>(
 // In which turn a clause is looked at: those that are needed, the others, those that the solver had deleted.
 enum Rank : uint32_t { NEEDED, ACTIVE, RESTING, RANKS };
 
-// All clauses, one behind the other: four times the length and the rank, the place in the certificate's store, and the literals. The first two are the
-// watched ones.
+// All clauses, one behind the other: four times the length and the rank, the place in the certificate's store, and the literals. The first two are
+// the watched ones.
 class Clauses {
 public:
   explicit Clauses(size_t room) { numbers.reserve(room); }
@@ -72,8 +72,8 @@ struct Watch {
 class Propagation {
 public:
   Propagation(uint32_t variables, size_t room, Stop &when)
-      : clauses(room), values(2 * size_t{variables} + 2), reason(variables + 1), place(variables + 1), unit_needed(variables + 1), seen(variables + 1),
-        stop(when) {
+      : clauses(room), values(2 * size_t{variables} + 2), reason(variables + 1), place(variables + 1), unit_needed(variables + 1),
+        seen(variables + 1), stop(when) {
     trail.reserve(variables);
     for (Rank rank : {NEEDED, ACTIVE}) watches[rank].resize(values.size());
   }

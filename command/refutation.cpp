@@ -81,7 +81,8 @@ void Refutation::trace(CaDiCaL::Solver &solver) {
 uint64_t Refutation::place(CaDiCaL::Solver &solver) {
   solver.flush_proof_trace();
   off_t length = std::fflush(file) == 0 && !std::ferror(file) ? ftello(file) : -1;
-  if (length < 0) throw Failure("the solver's refutation could not be written: the disk is full, or a limit reached (TMPDIR names another folder for it)");
+  if (length < 0)
+    throw Failure("the solver's refutation could not be written: the disk is full, or a limit reached (TMPDIR names another folder for it)");
   return static_cast<uint64_t>(length);
 }
 

@@ -27,7 +27,8 @@ const int32_t *end_of(const int32_t *clause) {
 } // namespace
 
 Unrolling::Unrolling(const Chip &unrolled, uint32_t last, CaDiCaL::Solver &used_solver, Refutation *told)
-    : chip(unrolled), depth(last), ports(1 + unrolled.net.second_port), solver(used_solver), refutation(told), same{0, TRUE}, given(2), room(MARRUBIGAI_GROUP_ROOM) {}
+    : chip(unrolled), depth(last), ports(1 + unrolled.net.second_port), solver(used_solver), refutation(told), same{0, TRUE}, given(2),
+      room(MARRUBIGAI_GROUP_ROOM) {}
 
 void Unrolling::add_frame() {
   marrubigai_position position{};
@@ -176,18 +177,25 @@ void Unrolling::add_lemma(std::initializer_list<int32_t> literals) {
   lemmas.push_back(0);
 }
 
-// What is left of a clause, with the solver's literals; whether it is not true anyway.
+// What is left of a clause: the literals that its own are the same as. Whether it is not true anyway.
 bool Unrolling::map(const int32_t *begin, const int32_t *end) {
   clause.clear();
+  merged = false;
   for (; begin != end; begin++) {
     int32_t literal = find(*begin);
     if (literal == TRUE || std::find(clause.begin(), clause.end(), -literal) != clause.end()) return false;
-    if (literal != -TRUE && std::find(clause.begin(), clause.end(), literal) == clause.end()) clause.push_back(literal);
+    if (literal == -TRUE) continue;
+    if (std::find(clause.begin(), clause.end(), literal) == clause.end()) clause.push_back(literal);
+    else merged = true;
   }
   return true;
 }
 
 void Unrolling::give_mapped() {
+  if (merged) { // by the clause as it was, nothing propagates while two literals are open
+    lemmas.insert(lemmas.end(), clause.begin(), clause.end());
+    lemmas.push_back(0);
+  }
   if (clause.size() == 1) same[variable_of(clause[0])] = clause[0] > 0 ? TRUE : -TRUE;
   for (int32_t literal : clause) note(literal);
   held.insert(held.end(), clause.begin(), clause.end());
@@ -201,8 +209,8 @@ void Unrolling::note(int32_t literal) {
   noted.push_back(variable_of(literal));
 }
 
-// The solver decides about its last variables first, and that they are true: so they are in the formula's order, with the variables of pairs behind those
-// of their frame, and s and S, which say that a frame wrote a word that is read, are negated. docs/COMMAND.md has what that gives.
+// The solver decides about its last variables first, and that they are true: so they are in the formula's order, with the variables of pairs behind
+// those of their frame, and s and S, which say that a frame wrote the word that is read, are negated. docs/COMMAND.md has what that gives.
 void Unrolling::flush() {
   std::sort(noted.begin(), noted.end());
   for (uint32_t variable : noted) {
@@ -221,11 +229,11 @@ void Unrolling::give_clause(std::initializer_list<int32_t> literals) {
   if (map(literals.begin(), literals.end())) give_mapped();
 }
 
-// It is the same as this literal, which is the same as no other. Without lemmas that say so a refutation would go from one to the other through all
-// frames between.
+// It is the same as this literal, which is the same as no other. The lemmas say so where propagation alone does not, and spare a refutation the way
+// from one to the other through all frames between.
 void Unrolling::make_same(int32_t variable, int32_t literal) {
   same[static_cast<size_t>(variable)] = literal;
-  if (variable_of(literal) == TRUE) return;
+  if (variable_of(literal) == TRUE) return add_lemma({literal < 0 ? -variable : variable});
   add_lemma({-variable, literal});
   add_lemma({variable, -literal});
 }
@@ -235,7 +243,6 @@ void Unrolling::give_gate(int32_t gate, int32_t a, int32_t b) {
   int32_t x = find(a), y = find(b);
   if (x > y) std::swap(x, y);
   if (x == -TRUE || y == -TRUE || x == -y) {
-    add_lemma({-gate});
     make_same(gate, -TRUE);
   } else if (x == TRUE || x == y) {
     make_same(gate, y);
@@ -254,13 +261,14 @@ void Unrolling::give_gate(int32_t gate, int32_t a, int32_t b) {
   }
 }
 
-// The clauses of e of an address bit, which nothing but E's clause has: it is true where the bits are equal, and may be where they are not. The answer
-// is what is behind them.
+// The clauses of e of an address bit, which nothing but E's clause has: it is true where the bits are equal, and may be where they are not. The
+// answer is what is behind them.
 const int32_t *Unrolling::give_bit(const int32_t *at, const int32_t *end) {
   int32_t e = *at;
   std::vector<std::vector<int32_t>> left;
   for (; at != end && *at == e; at = end_of(at) + 1)
     if (map(at, end_of(at))) left.push_back(clause);
+  merged = false;
   if (left.empty()) {
     same[e] = -TRUE; // E's clause says nothing
   } else if (left.size() == 1 && left[0].size() == 2) {
@@ -303,15 +311,18 @@ void Unrolling::give(const int32_t *at, const int32_t *end) {
     }
     if (map(at, first)) {
       std::vector<int32_t> former = clause;
+      bool former_merged = merged;
       // (x y) (x -y): x
       if (former.size() == 2 && second != end && map(first + 1, second) && clause.size() == 2 && clause[0] == former[0] && clause[1] == -former[1]) {
         add_lemma({former[0]});
         clause = {former[0]};
+        merged = false;
         give_mapped();
         at = second + 1;
         continue;
       }
       clause = former;
+      merged = former_merged;
       give_mapped();
     }
     at = first + 1;

@@ -1,6 +1,6 @@
-// The clauses of the frames as a solver is given them: only those that what is asked about depends on (cone of influence), and with literals that are
-// the same put for each other, also gates with the same operands in different frames (structural hashing). Each of them follows by unit propagation from
-// the clauses of the formula and from the lemmas that are told here, so that what refutes them refutes the formula.
+// The clauses of the frames as a solver is given them: only those that what is asked about depends on (cone of influence), and with literals that
+// are the same put for each other, also gates with the same operands in different frames (structural hashing). What propagates by them propagates by
+// the clauses of the formula and the lemmas that are told here, so that what refutes them refutes the formula.
 #pragma once
 
 #include <cadical.hpp>
@@ -60,7 +60,8 @@ private:
   std::vector<uint32_t> noted; // variables that the solver gets next
   std::vector<int32_t> held; // clauses that the solver gets next, each ended by 0
   std::vector<int32_t> lemmas; // that the refutation gets next
-  std::vector<int32_t> room, clause; // of a group; what is left of a clause
+  std::vector<int32_t> room, clause; // of a group; what is left of a clause, and whether it had one literal twice
+  bool merged = false;
 
   Origin origin(uint32_t variable) const;
   uint32_t part_of_pair(uint32_t variable) const; // by RULES V5, from 1 on
