@@ -1,267 +1,358 @@
 // Forward, the clauses are added one by one until unit propagation alone gives a conflict: the empty lemma follows there. Then backward, each lemma
-// that one behind it needs is derived by propagation from its negation through the clauses before it, and the clauses that propagated on the way to the
-// conflict are its hints: those that are needed already first, and those that the solver had deleted last. What was fixed before becomes a lemma of its
-// own, a unit, once: no lemma repeats how it came about.
+// that one behind it needs is derived by propagation from its negation through the clauses before it, and the clauses that propagated on the way to
+// the conflict are its hints: those that are needed already are tried first, and those that the solver had deleted by then only where it does not
+// follow without them. What was fixed before becomes a lemma of its own, a unit, once: no lemma repeats how it came about.
 
 #include "elaborate.h"
 
 #include <algorithm>
 #include <array>
 #include <cstdlib>
-#include <unordered_map>
-#include <utility>
 
 namespace {
 
-using Id = uint32_t;
+using Literal = uint32_t; // twice the variable, and one more where it is negated
+using Place = uint32_t; // of a clause among the numbers of all
 
-constexpr Id NONE = UINT32_MAX;
+constexpr Place NONE = UINT32_MAX;
 
 // what a lemma cites: a clause, or the unit at a place of the trail
 using Cited = uint32_t;
-constexpr Cited UNIT = uint32_t{1} << 31; // no clause has such a number
+constexpr Cited UNIT = uint32_t{1} << 31; // no clause has such a place
 bool is_unit(Cited cited) { return cited & UNIT; }
 
 constexpr unsigned STEPS_BETWEEN = 1 << 10; // a look at the clock costs more than a step
 
-// A clause that watches a literal, and another literal of it: where that one is true, the clause need not be looked at.
-struct Watch {
-  Id id;
-  int32_t other;
+uint32_t variable_of(int32_t number) { return static_cast<uint32_t>(std::abs(number)); }
+Literal literal_of(int32_t number) { return 2 * variable_of(number) + (number < 0); }
+int32_t number_of(Literal literal) { return literal & 1 ? -static_cast<int32_t>(literal / 2) : static_cast<int32_t>(literal / 2); }
+
+// In which turn a clause is looked at: those that are needed, the others, those that the solver had deleted.
+enum Rank : uint32_t { NEEDED, ACTIVE, RESTING, RANKS };
+
+// All clauses, one behind the other: four times the length and the rank, the place in the certificate's store, and the literals. The first two are
+// the watched ones.
+class Clauses {
+public:
+  explicit Clauses(size_t room) { numbers.reserve(room); }
+
+  Place end() const { return static_cast<Place>(numbers.size()); }
+  uint32_t length(Place clause) const { return numbers[clause] >> 2; }
+  Rank rank(Place clause) const { return static_cast<Rank>(numbers[clause] & 3); }
+  void set_rank(Place clause, Rank rank) { numbers[clause] = (numbers[clause] & ~3u) | rank; }
+  uint32_t &stored(Place clause) { return numbers[clause + 1]; }
+  Literal *begin(Place clause) { return numbers.data() + clause + HEAD; }
+  Literal *end(Place clause) { return begin(clause) + length(clause); }
+  Place next(Place clause) const { return clause + HEAD + length(clause); }
+
+  // without repeats
+  Place add(const int32_t *from, const int32_t *to, size_t stored) {
+    Place clause = end();
+    numbers.insert(numbers.end(), {0, static_cast<uint32_t>(stored)});
+    auto begin = [&] { return numbers.begin() + static_cast<std::ptrdiff_t>(clause + HEAD); };
+    for (; from != to; from++)
+      if (std::find(begin(), numbers.end(), literal_of(*from)) == numbers.end()) numbers.push_back(literal_of(*from));
+    numbers[clause] = (end() - clause - HEAD) << 2 | ACTIVE;
+    return clause;
+  }
+
+  static constexpr uint32_t HEAD = 2;
+
+private:
+  std::vector<uint32_t> numbers;
 };
 
-uint32_t variable_of(int32_t literal) { return static_cast<uint32_t>(std::abs(literal)); }
-size_t slot(int32_t literal) { return 2 * size_t{variable_of(literal)} + (literal < 0); }
+// A clause that watches a literal, and another literal of it: where that one is true, the clause need not be looked at.
+struct Watch {
+  uint32_t entry; // twice the clause, and one more where it has two literals: those are not looked at
+  Literal other;
+};
 
-// Clauses with two watched literals, and what is assigned.
+// What is assigned, and what follows from it.
 class Propagation {
 public:
-  Propagation(uint32_t variables, Stop &when)
-      : holds(2 * size_t{variables} + 2), reason(variables + 1, NONE), place(variables + 1), unit_needed(variables + 1), seen(variables + 1), stop(when) {
-    for (auto &lists : watches) lists.resize(holds.size());
+  Propagation(uint32_t variables, size_t room, Stop &when)
+      : clauses(room), values(2 * size_t{variables} + 2), reason(variables + 1), place(variables + 1), unit_needed(variables + 1),
+        seen(variables + 1), stop(when) {
+    trail.reserve(variables);
+    for (Rank rank : {NEEDED, ACTIVE}) watches[rank].resize(values.size());
   }
 
-  size_t count() const { return needed.size(); }
+  Clauses clauses;
+  Place limit = NONE; // clauses from here on are gone; it only goes down
+  Literal bound = NONE; // and so are those with a literal from here on that is open; it only goes down
+
   size_t length() const { return trail.size(); }
-  bool is_needed(Id id) const { return needed[id]; }
-  std::vector<int32_t> clause(Id id) const {
-    return {literals.begin() + static_cast<std::ptrdiff_t>(starts[id]), literals.begin() + static_cast<std::ptrdiff_t>(starts[id + 1])};
-  }
+  Literal literal(size_t at) const { return trail[at]; }
+  bool is_cited(size_t at) const { return unit_needed[at]; }
 
   void undo(size_t kept) {
-    for (; trail.size() > kept; trail.pop_back()) holds[slot(trail.back())] = false;
+    for (; trail.size() > kept; trail.pop_back()) values[trail.back()] = values[trail.back() ^ 1] = 0;
     for (size_t &turn : through) turn = std::min(turn, kept);
   }
 
-  // from here on it is looked at last
-  void rest(Id id) { resting[id] = static_cast<Id>(count()); }
-
-  // Adds a clause, without repeats: a literal that is not false is watched if there is one. The answer is the clause where all are false.
-  Id add(const int32_t *begin, const int32_t *end) {
-    Id id = static_cast<Id>(count());
-    size_t start = literals.size();
-    for (; begin != end; begin++)
-      if (std::find(literals.begin() + static_cast<std::ptrdiff_t>(start), literals.end(), *begin) == literals.end()) literals.push_back(*begin);
-    starts.push_back(literals.size());
-    needed.push_back(false);
-    resting.push_back(NONE);
-    size_t open = start;
-    for (size_t at = start; at < literals.size() && open < start + 2; at++)
-      if (!is_false(literals[at])) std::swap(literals[open++], literals[at]);
-    if (literals.size() >= start + 2)
-      for (size_t at : {start, start + 1}) watches[ACTIVE][slot(literals[at])].push_back({id, literals[2 * start + 1 - at]});
-    if (open == start) return id;
-    if (open == start + 1 && !holds[slot(literals[start])]) assign(literals[start], id);
+  // A clause that was added is watched by two literals that are not false, as far as there are such. The answer is the clause where all are false.
+  Place settle(Place clause) {
+    Literal *begin = clauses.begin(clause), *open = begin;
+    for (Literal *at = begin; at != clauses.end(clause) && open != begin + 2; at++)
+      if (values[*at] >= 0) std::swap(*open++, *at);
+    watch(clause);
+    if (open == begin) return clause;
+    if (open == begin + 1 && !values[*begin]) assign(*begin, clause);
     return NONE;
   }
 
-  // Propagates through the clauses before `limit`, which never goes up. The answer is a clause that became false, or none.
-  Id propagate(Id limit) {
-    for (size_t rank = 0; rank < RANKS;) {
+  // Propagates through the clauses of the ranks before this one. The answer is a clause that became false, or none.
+  Place propagate(Rank ranks = RESTING) {
+    for (uint32_t rank = 0; rank < ranks;) {
       if (through[rank] == trail.size()) {
         rank++;
         continue;
       }
-      Id conflict = visit(slot(-trail[through[rank]++]), limit, rank);
+      if (++steps % STEPS_BETWEEN == 0 && stop.terminate()) throw Stopped();
+      Place conflict = visit(trail[through[rank]++] ^ 1, static_cast<Rank>(rank));
       if (conflict != NONE) return conflict;
       rank = 0;
     }
     return NONE;
   }
 
-  // What a lemma follows from, by propagation from its negation through the clauses before `limit`; nothing where it does not follow.
-  std::vector<Cited> derive(const std::vector<int32_t> &lemma, Id limit) {
-    size_t base = trail.size();
-    std::vector<Cited> cited;
-    Id conflict = NONE;
-    for (int32_t literal : lemma) {
-      if (is_false(literal)) continue;
-      if (holds[slot(literal)]) {
-        if (place[variable_of(literal)] < base) cited = {cite(place[variable_of(literal)])}; // else it has a literal and its opposite
+  // Behind the last clause: from here on nothing is added, and what rests is watched only when it is asked for.
+  void turn_back() {
+    for (Rank rank : {NEEDED, ACTIVE}) watches[rank] = Lists(values.size());
+    for (Place clause = 0; clause < clauses.end(); clause = clauses.next(clause))
+      if (clauses.rank(clause) != RESTING) watch(clause);
+    through[RESTING] = trail.size();
+  }
+
+  // the solver had not deleted it yet
+  void wake(Place clause) {
+    if (clause >= limit || clauses.rank(clause) != RESTING) return;
+    clauses.set_rank(clause, ACTIVE);
+    watch(clause);
+  }
+
+  // What a lemma follows from, by propagation from its negation, is put behind `cited`, as `explain` does; nothing where it does not follow.
+  void derive(Place lemma, std::vector<Cited> &cited) {
+    size_t base = trail.size(), before = cited.size();
+    for (Literal *at = clauses.begin(lemma); at != clauses.end(lemma); at++) {
+      uint32_t variable = *at / 2;
+      if (values[*at] < 0) {
+        seen[variable] = true; // it is no unit that has to be cited
+      } else if (values[*at] == 0) {
+        assign(*at ^ 1, NONE);
+      } else {
+        if (place[variable] < base) cited.push_back(cite(place[variable])); // else it has a literal and its opposite
         break;
       }
-      assign(-literal, NONE);
     }
-    if (cited.empty()) conflict = propagate(limit);
-    if (conflict != NONE) cited = explain(conflict, lemma, base);
-    undo(base);
-    return cited;
-  }
-
-  // What led to a clause becoming false, in its order, and that clause; all of it is needed. What was assigned before place `base` is cited as units,
-  // which have reasons of their own; the lemma's own literals need none.
-  std::vector<Cited> explain(Id conflict, const std::vector<int32_t> &lemma, size_t base) {
-    std::vector<Id> open{conflict};
-    std::vector<Cited> cited;
-    std::vector<uint32_t> met, places; // variables; of those that are no units
-    for (int32_t literal : lemma) seen[variable_of(literal)] = true;
-    while (!open.empty()) {
-      Id id = open.back();
-      open.pop_back();
-      for (size_t at = starts[id]; at < starts[id + 1]; at++) {
-        uint32_t variable = variable_of(literals[at]);
-        if (seen[variable]) continue;
-        seen[variable] = true;
-        met.push_back(variable);
-        if (place[variable] < base) {
-          cited.push_back(cite(place[variable]));
-        } else {
-          places.push_back(place[variable]);
-          open.push_back(reason[variable]);
-        }
+    if (cited.size() == before) {
+      Place conflict = propagate();
+      if (conflict == NONE) {
+        watch_resting();
+        conflict = propagate(RANKS);
       }
+      if (conflict != NONE) explain(conflict, base, cited);
     }
-    for (uint32_t variable : met) seen[variable] = false;
-    for (int32_t literal : lemma) seen[variable_of(literal)] = false;
-    std::sort(places.begin(), places.end());
-    for (uint32_t at : places) cited.push_back(reason[variable_of(trail[at])]);
-    cited.push_back(conflict);
-    for (Cited one : cited)
-      if (!is_unit(one)) needed[one] = true;
-    return cited;
+    for (Literal *at = clauses.begin(lemma); at != clauses.end(lemma); at++) seen[*at / 2] = false;
+    undo(base);
   }
 
-  bool is_cited(size_t at) const { return unit_needed[at]; }
-  int32_t literal(size_t at) const { return trail[at]; }
+  // What led to a clause becoming false is put behind `cited`: that clause first, then backwards. All of it is needed. What was assigned before place
+  // `base` is cited as units, which have reasons of their own; what has no reason is the lemma's.
+  void explain(Place conflict, size_t base, std::vector<Cited> &cited) {
+    units.clear();
+    take(conflict, base, cited);
+    for (size_t at = trail.size(); at-- > base;) {
+      uint32_t variable = trail[at] / 2;
+      if (!seen[variable]) continue;
+      if (reason[variable] != NONE) take(reason[variable], base, cited);
+      seen[variable] = false;
+    }
+    for (uint32_t at : units) {
+      seen[trail[at] / 2] = false;
+      cited.push_back(cite(at));
+    }
+  }
 
-  // what a unit of the trail follows from: the units of the other literals of the clause that assigned it, and the clause
-  std::vector<Cited> explain_unit(size_t at) {
-    std::vector<Cited> cited;
-    Id id = reason[variable_of(trail[at])];
-    for (size_t each = starts[id]; each < starts[id + 1]; each++)
-      if (literals[each] != trail[at]) cited.push_back(cite(place[variable_of(literals[each])]));
-    cited.push_back(id);
-    needed[id] = true;
-    return cited;
+  // the same for a unit of the trail: the clause that assigned it, and the units of its other literals
+  void explain_unit(size_t at, std::vector<Cited> &cited) {
+    Place clause = reason[trail[at] / 2];
+    need(clause);
+    cited.push_back(clause);
+    for (Literal *each = clauses.begin(clause); each != clauses.end(clause); each++)
+      if (*each != trail[at]) cited.push_back(cite(place[*each / 2]));
   }
 
 private:
-  std::vector<int32_t> literals; // of all clauses, and where each begins
-  std::vector<size_t> starts{0};
-  // In which turn a clause is looked at: those that are needed, the others, those that the solver had deleted.
-  enum { NEEDED, ACTIVE, RESTING, RANKS };
-  std::array<std::vector<std::vector<Watch>>, RANKS> watches; // by literal
-  std::vector<bool> needed;
-  std::vector<Id> resting; // by clause: how many there were when it was deleted
-  std::vector<char> holds; // by literal
-  std::vector<Id> reason; // by variable: the clause that assigned it, and its place in the trail
+  using Lists = std::vector<std::vector<Watch>>; // by literal
+  std::array<Lists, RANKS> watches;
+  std::vector<signed char> values; // by literal: 1 true, -1 false, 0 open
+  std::vector<Place> reason; // by variable: the clause that assigned it, and its place in the trail
   std::vector<uint32_t> place;
-  std::vector<bool> unit_needed, seen; // by place in the trail; by variable
-  std::vector<int32_t> trail;
+  std::vector<char> unit_needed, seen; // by place in the trail; by variable
+  std::vector<Literal> trail;
+  std::vector<uint32_t> units; // places in the trail, of what is being explained
   std::array<size_t, RANKS> through{}; // how much of the trail is propagated
   Stop &stop;
   unsigned steps = 0;
-
-  bool is_false(int32_t literal) const { return holds[slot(-literal)]; }
 
   Cited cite(uint32_t at) {
     unit_needed[at] = true;
     return UNIT | at;
   }
 
-  void assign(int32_t literal, Id id) {
-    holds[slot(literal)] = true;
-    reason[variable_of(literal)] = id;
-    place[variable_of(literal)] = static_cast<uint32_t>(trail.size());
+  // What watched with another rank is dropped when it is met.
+  void watch(Place clause) {
+    uint32_t length = clauses.length(clause), entry = 2 * clause + (length == 2);
+    if (length < 2) return;
+    const Literal *watched = clauses.begin(clause);
+    for (uint32_t at : {0, 1}) watches[clauses.rank(clause)][watched[at]].push_back({entry, watched[1 - at]});
+  }
+
+  void watch_resting() {
+    if (!watches[RESTING].empty()) return;
+    watches[RESTING].resize(values.size());
+    for (Place clause = 0; clause < limit; clause = clauses.next(clause))
+      if (clauses.rank(clause) == RESTING) watch(clause);
+  }
+
+  void need(Place clause) {
+    if (clauses.rank(clause) == NEEDED) return;
+    clauses.set_rank(clause, NEEDED);
+    watch(clause);
+  }
+
+  void take(Place clause, size_t base, std::vector<Cited> &cited) {
+    need(clause);
+    cited.push_back(clause);
+    for (Literal *at = clauses.begin(clause); at != clauses.end(clause); at++) {
+      uint32_t variable = *at / 2;
+      if (seen[variable]) continue;
+      seen[variable] = true;
+      if (place[variable] < base) units.push_back(place[variable]);
+    }
+  }
+
+  void assign(Literal literal, Place clause) {
+    values[literal] = 1;
+    values[literal ^ 1] = -1;
+    reason[literal / 2] = clause;
+    place[literal / 2] = static_cast<uint32_t>(trail.size());
     trail.push_back(literal);
   }
 
-  size_t rank_of(Id id, Id limit) const { return needed[id] ? NEEDED : resting[id] < limit ? RESTING : ACTIVE; }
-
-  // another literal to watch in place of the second; whether there is one
-  bool watch_other(Id id, Id limit) {
-    size_t second = starts[id] + 1;
-    for (size_t next = second + 1; next < starts[id + 1]; next++) {
-      if (is_false(literals[next])) continue;
-      std::swap(literals[second], literals[next]);
-      watches[rank_of(id, limit)][slot(literals[second])].push_back({id, literals[second - 1]});
-      return true;
-    }
-    return false;
-  }
-
-  // Goes through the clauses that watch a literal which became false.
-  Id visit(size_t watched, Id limit, size_t rank) {
-    if (++steps % STEPS_BETWEEN == 0 && stop.terminate()) throw Stopped();
-    std::vector<Watch> &list = watches[rank][watched];
-    size_t kept = 0, at = 0;
-    Id conflict = NONE;
-    while (at < list.size() && conflict == NONE) {
-      Watch watch = list[at++];
-      Id id = watch.id;
-      if (id >= limit) continue; // gone for good
-      if (holds[slot(watch.other)]) {
-        list[kept++] = watch;
+  // Goes through the clauses of a rank that watch a literal which became false.
+  Place visit(Literal falsified, Rank rank) {
+    std::vector<Watch> &list = watches[rank][falsified];
+    Watch *at = list.data(), *end = at + list.size(), *kept = at;
+    Place conflict = NONE;
+    while (at != end && conflict == NONE) {
+      Watch met = *kept++ = *at++;
+      signed char value = values[met.other];
+      if (value > 0) continue;
+      Place clause = met.entry / 2;
+      if (clause >= limit || clauses.rank(clause) != rank) {
+        kept--;
         continue;
       }
-      size_t start = starts[id];
-      if (slot(literals[start]) == watched) std::swap(literals[start], literals[start + 1]);
-      int32_t other = literals[start];
-      bool settled = holds[slot(other)];
-      if (!settled && watch_other(id, limit)) continue;
-      size_t due = rank_of(id, limit);
-      if (due == rank) list[kept++] = {id, other};
-      else watches[due][watched].push_back({id, other});
-      if (settled) continue;
-      if (is_false(other)) conflict = id;
-      else assign(other, id);
+      Literal other = met.other;
+      if (!(met.entry & 1)) {
+        Literal *begin = clauses.begin(clause), *last = clauses.end(clause), *next = begin + 2;
+        other = begin[0] ^ begin[1] ^ falsified;
+        value = values[other];
+        if (value <= 0)
+          while (next != last && values[*next] < 0) next++;
+        if (value > 0 || (next != last && values[*next] > 0)) {
+          kept[-1].other = value > 0 ? other : *next;
+          continue;
+        }
+        if (next != last) {
+          begin[0] = other;
+          begin[1] = *next;
+          *next = falsified;
+          watches[rank][begin[1]].push_back({met.entry, other});
+          kept--;
+          continue;
+        }
+      }
+      if (value < 0) conflict = clause;
+      else if (other < bound) assign(other, clause);
+      else kept--;
     }
-    list.erase(list.begin() + static_cast<std::ptrdiff_t>(kept), list.begin() + static_cast<std::ptrdiff_t>(at));
+    list.erase(list.begin() + (kept - list.data()), list.begin() + (at - list.data()));
     return conflict;
   }
 };
 
-// Adds clauses until there is a conflict.
-class Forward {
+// Clauses by a part of their keys: of several with the same, the last one.
+class Keys {
 public:
-  Forward(Propagation &propagation, uint32_t most) : state(propagation), variables(most) {}
-  std::vector<size_t> lengths; // of the trail, before each clause
-  std::vector<size_t> places; // of the clauses in the list that was added last
-  Id conflict = NONE;
+  explicit Keys(size_t most) {
+    size_t room = 16;
+    while (room < 2 * most) room *= 2;
+    entries.resize(room, {0, NONE});
+  }
 
-  void add(const std::vector<int32_t> &numbers, const std::vector<Learnt::Deletion> &deletions = {}) {
-    places.clear();
-    auto deletion = deletions.begin();
-    for (size_t begin = 0, end = 0; begin < numbers.size() && conflict == NONE; begin = end + 1) {
-      for (end = begin; numbers[end] != 0; end++)
-        if (numbers[end] == INT32_MIN || variable_of(numbers[end]) > variables)
-          throw NoCertificate("clause " + std::to_string(lengths.size()) + " has a variable above " + std::to_string(variables));
-      for (; deletion != deletions.end() && deletion->behind <= places.size(); deletion++) {
-        auto found = by_key.find(deletion->key);
-        if (found != by_key.end()) state.rest(found->second);
-      }
-      by_key[clause_key(&numbers[begin], &numbers[end])] = static_cast<Id>(state.count());
-      places.push_back(begin);
-      lengths.push_back(state.length());
-      conflict = state.add(&numbers[begin], &numbers[end]);
-      if (conflict == NONE) conflict = state.propagate(NONE);
-    }
+  Place &operator[](uint64_t key) {
+    uint32_t part = static_cast<uint32_t>(key >> 32);
+    size_t mask = entries.size() - 1, at = key & mask;
+    while (entries[at].clause != NONE && entries[at].part != part) at = (at + 1) & mask;
+    entries[at].part = part;
+    return entries[at].clause;
   }
 
 private:
-  Propagation &state;
-  uint32_t variables;
-  std::unordered_map<uint64_t, Id> by_key;
+  struct Entry {
+    uint32_t part;
+    Place clause;
+  };
+  std::vector<Entry> entries;
+};
+
+// The way through all clauses until there is a conflict, and what is needed to go back.
+struct Forward {
+  struct Lemma {
+    Place clause;
+    uint32_t length; // of the trail before it
+  };
+  struct Deleted {
+    Place clause;
+    size_t behind; // so many lemmas
+  };
+  std::vector<Lemma> lemmas;
+  std::vector<Deleted> deleted;
+  Place conflict = NONE;
+
+  Forward(Propagation &state, const std::vector<int32_t> &formula, const Learnt &learnt, uint32_t variables) {
+    auto zeros = [](const std::vector<int32_t> &numbers) { return static_cast<size_t>(std::count(numbers.begin(), numbers.end(), 0)); };
+    Keys keys(zeros(formula) + zeros(learnt.numbers));
+    size_t count = 0;
+    auto add = [&](const std::vector<int32_t> &numbers, size_t &begin) {
+      size_t end = begin;
+      for (; numbers[end] != 0; end++)
+        if (numbers[end] == INT32_MIN || variable_of(numbers[end]) > variables)
+          throw NoCertificate("clause " + std::to_string(count) + " has a variable above " + std::to_string(variables));
+      Place clause = state.clauses.add(&numbers[begin], &numbers[end], begin);
+      keys[clause_key(&numbers[begin], &numbers[end])] = clause;
+      begin = end + 1;
+      count++;
+      return clause;
+    };
+    for (size_t begin = 0; begin < formula.size() && conflict == NONE;) conflict = state.settle(add(formula, begin));
+    if (conflict == NONE) conflict = state.propagate();
+    auto deletion = learnt.deletions.begin();
+    for (size_t begin = 0; begin < learnt.numbers.size() && conflict == NONE;) {
+      for (; deletion != learnt.deletions.end() && deletion->behind <= lemmas.size(); deletion++) {
+        Place clause = keys[deletion->key];
+        if (clause != NONE) deleted.push_back({clause, deletion->behind});
+      }
+      uint32_t length = static_cast<uint32_t>(state.length());
+      lemmas.push_back({add(learnt.numbers, begin), length});
+      conflict = state.settle(lemmas.back().clause);
+      if (conflict == NONE) conflict = state.propagate();
+    }
+  }
 };
 
 } // namespace
@@ -279,58 +370,76 @@ Certificate elaborate(const std::vector<int32_t> &formula, const Learnt &learnt,
   size_t numbers = formula.size() + learnt.numbers.size();
   if (numbers > MOST_NUMBERS) throw NoCertificate("formula and refutation have " + std::to_string(numbers) + " numbers, too many to be kept");
   if (stop.terminate()) throw Stopped();
-  Propagation state(variables, stop);
-  Forward forward(state, variables);
-  forward.add(formula);
-  std::vector<size_t> places = forward.places; // in the store, of each clause
-  forward.add(learnt.numbers, learnt.deletions);
+  Propagation state(variables, 2 * numbers, stop);
+  Forward forward(state, formula, learnt, variables);
   if (forward.conflict == NONE) throw NoCertificate("it does not lead to a conflict");
 
-  struct Derived {
-    std::vector<int32_t> lemma;
-    std::vector<Cited> cited;
-    Cited self;
+  // of each lemma what it cites, how many these are, and itself: a clause, a unit, or nothing where it is empty
+  std::vector<Cited> cited;
+  size_t before = 0;
+  auto keep = [&](Cited self) {
+    cited.insert(cited.end(), {static_cast<Cited>(cited.size() - before), self});
+    before = cited.size();
+    if (before > MOST_NUMBERS) throw NoCertificate("it needs more than " + std::to_string(MOST_NUMBERS) + " hints, too many to be kept");
   };
-  std::vector<Derived> derived; // the last one first
-  size_t hints = 0;
-  auto keep = [&](std::vector<int32_t> lemma, std::vector<Cited> cited, Cited self) {
-    hints += cited.size() + 1;
-    derived.push_back({std::move(lemma), std::move(cited), self});
-    if (hints > MOST_NUMBERS) throw NoCertificate("it needs more than " + std::to_string(MOST_NUMBERS) + " hints, too many to be kept");
-  };
+  std::vector<int32_t> fixed(state.length()); // by place in the trail
+  for (size_t at = 0; at < fixed.size(); at++) fixed[at] = number_of(state.literal(at));
   auto keep_units = [&](size_t from) {
     for (size_t at = state.length(); at-- > from;)
-      if (state.is_cited(at)) keep({state.literal(at)}, state.explain_unit(at), UNIT | static_cast<Cited>(at));
+      if (state.is_cited(at)) {
+        state.explain_unit(at, cited);
+        keep(UNIT | static_cast<Cited>(at));
+      }
     state.undo(from);
   };
-  Id first = static_cast<Id>(places.size());
-  keep({}, state.explain(forward.conflict, {}, forward.lengths.back()), NONE);
-  for (Id id = static_cast<Id>(state.count()); id-- > first;) {
-    keep_units(forward.lengths[id]);
-    if (!state.is_needed(id)) continue;
-    std::vector<int32_t> lemma = state.clause(id);
-    std::vector<Cited> cited = state.derive(lemma, id);
-    if (cited.empty()) throw NoCertificate("its lemma " + std::to_string(id - first) + " does not follow by unit propagation");
-    keep(std::move(lemma), std::move(cited), id);
+  for (const Forward::Deleted &deletion : forward.deleted) state.clauses.set_rank(deletion.clause, RESTING);
+  state.turn_back();
+  state.explain(forward.conflict, forward.lemmas.empty() ? 0 : forward.lemmas.back().length, cited);
+  keep(NONE);
+  auto deletion = forward.deleted.rbegin();
+  auto reach = learnt.reaches.rbegin();
+  for (size_t lemma = forward.lemmas.size(); lemma-- > 0;) {
+    Place clause = forward.lemmas[lemma].clause;
+    keep_units(forward.lemmas[lemma].length);
+    state.limit = clause;
+    for (; deletion != forward.deleted.rend() && deletion->behind > lemma; deletion++) state.wake(deletion->clause);
+    for (; reach != learnt.reaches.rend() && reach->behind > lemma; reach++) {}
+    if (reach != learnt.reaches.rend()) state.bound = 2 * reach->variable + 2;
+    if (state.clauses.rank(clause) != NEEDED) continue;
+    state.derive(clause, cited);
+    if (cited.size() == before) throw NoCertificate("its lemma " + std::to_string(lemma) + " does not follow by unit propagation");
+    keep(clause);
   }
   keep_units(0);
 
   Certificate made;
-  places.resize(state.count());
-  std::vector<size_t> unit_places(size_t{variables} + 1);
-  for (auto one = derived.rbegin(); one != derived.rend(); one++) {
+  std::vector<size_t> unit_places(fixed.size());
+  while (!cited.empty()) {
+    auto take = [&] {
+      Cited last = cited.back();
+      cited.pop_back();
+      return last;
+    };
     size_t here = formula.size() + made.lemmas.size();
-    if (one->self != NONE && is_unit(one->self)) {
-      bool known = one->cited.size() == 1; // it is a clause already
-      unit_places[one->self & ~UNIT] = known ? places[one->cited[0]] : here;
-      if (known) continue;
-    } else if (one->self != NONE) {
-      places[one->self] = here;
+    Cited self = take(), count = take();
+    if (self == NONE) {
+    } else if (is_unit(self)) {
+      if (count == 1) { // it is a clause already
+        unit_places[self & ~UNIT] = state.clauses.stored(take());
+        continue;
+      }
+      unit_places[self & ~UNIT] = here;
+      made.lemmas.push_back(fixed[self & ~UNIT]);
+    } else {
+      state.clauses.stored(self) = static_cast<uint32_t>(here);
+      for (Literal *at = state.clauses.begin(self); at != state.clauses.end(self); at++) made.lemmas.push_back(number_of(*at));
     }
-    made.lemmas.insert(made.lemmas.end(), one->lemma.begin(), one->lemma.end());
     made.lemmas.push_back(0);
-    made.hints.push_back(static_cast<uint32_t>(one->cited.size()));
-    for (Cited cited : one->cited) made.hints.push_back(static_cast<uint32_t>(is_unit(cited) ? unit_places[cited & ~UNIT] : places[cited]));
+    made.hints.push_back(count);
+    for (; count > 0; count--) {
+      Cited one = take();
+      made.hints.push_back(static_cast<uint32_t>(is_unit(one) ? unit_places[one & ~UNIT] : state.clauses.stored(one)));
+    }
   }
   return made;
 }

@@ -18,14 +18,20 @@ struct NoCertificate : std::runtime_error {
 struct Stopped {};
 
 // What a solver wrote: the clauses that it added, each ended by 0, and those that it deleted, by their keys. A deletion only says that a clause is
-// probably of no use from then on.
+// probably of no use from then on. Where a solver was given the formula piece by piece, the reaches say how far it was: for the clauses behind so many
+// of those that were added, it had no variable above this one.
 struct Learnt {
   struct Deletion {
     uint64_t key;
     size_t behind; // so many of the clauses that were added
   };
+  struct Reach {
+    uint32_t variable;
+    size_t behind;
+  };
   std::vector<int32_t> numbers;
-  std::vector<Deletion> deletions;
+  std::vector<Deletion> deletions{};
+  std::vector<Reach> reaches{};
 };
 
 // the same for the same literals in any order

@@ -39,7 +39,7 @@ private:
   uint64_t at = 0;
 
   int byte() {
-    int read = std::getc(file);
+    int read = getc_unlocked(file);
     if (read != EOF) at++;
     return read;
   }
@@ -78,37 +78,59 @@ void Refutation::trace(CaDiCaL::Solver &solver) {
   if (!solver.trace_proof(file, "refutation")) throw Failure("the solver does not write its refutation");
 }
 
-uint64_t Refutation::written(CaDiCaL::Solver &solver) {
+uint64_t Refutation::place(CaDiCaL::Solver &solver) {
   solver.flush_proof_trace();
   off_t length = std::fflush(file) == 0 && !std::ferror(file) ? ftello(file) : -1;
-  if (length < 0) throw Failure("the solver's refutation could not be written: the disk is full, or a limit reached (TMPDIR names another folder for it)");
+  if (length < 0)
+    throw Failure("the solver's refutation could not be written: the disk is full, or a limit reached (TMPDIR names another folder for it)");
   return static_cast<uint64_t>(length);
 }
 
-void Refutation::add_unit(CaDiCaL::Solver &solver, int32_t literal) { units.push_back({written(solver), literal}); }
+void Refutation::reach(uint64_t place, uint32_t variable) { notes.push_back({place, lemmas.size(), variable}); }
 
-void Refutation::finish(CaDiCaL::Solver &solver) { written(solver); }
+void Refutation::add(uint64_t place, const std::vector<int32_t> &clauses) {
+  lemmas.insert(lemmas.end(), clauses.begin(), clauses.end());
+  notes.push_back({place, lemmas.size(), 0});
+}
+
+void Refutation::finish(CaDiCaL::Solver &solver) { place(solver); }
+
+void Refutation::rename(std::vector<int32_t> &clause) const {
+  for (int32_t &literal : clause) {
+    size_t variable = static_cast<size_t>(std::abs(literal));
+    int32_t name = variable <= names.size() ? names[variable - 1] : 0;
+    if (!name) throw NoCertificate("it speaks of a variable that the formula has not");
+    literal = literal < 0 ? -name : name;
+  }
+}
 
 Learnt Refutation::learnt(Stop &stop) {
   std::rewind(file);
   DratReader reader(file);
   Learnt made;
-  size_t unit = 0, added = 0, lines = 0;
-  auto add = [&](const std::vector<int32_t> &clause) {
-    made.numbers.insert(made.numbers.end(), clause.begin(), clause.end());
-    made.numbers.push_back(0);
-    added++;
-  };
+  size_t note = 0, put = 0, added = 0, lines = 0;
   std::vector<int32_t> clause;
   for (;;) {
-    for (; unit < units.size() && units[unit].place <= reader.place(); unit++) add({units[unit].literal});
+    for (; note < notes.size() && notes[note].place <= reader.place(); note++) {
+      for (; put < notes[note].lemmas; put++) {
+        made.numbers.push_back(lemmas[put]);
+        added += lemmas[put] == 0;
+      }
+      if (notes[note].reach) made.reaches.push_back({notes[note].reach, added});
+    }
     DratReader::Line line = reader.next(clause);
     if (line == DratReader::Line::end) break;
-    if (line == DratReader::Line::addition) add(clause);
-    else made.deletions.push_back({clause_key(clause.data(), clause.data() + clause.size()), added});
+    if (!names.empty()) rename(clause);
+    if (line == DratReader::Line::addition) {
+      made.numbers.insert(made.numbers.end(), clause.begin(), clause.end());
+      made.numbers.push_back(0);
+      added++;
+    } else {
+      made.deletions.push_back({clause_key(clause.data(), clause.data() + clause.size()), added});
+    }
     if (++lines % 4096 == 0 && stop.terminate()) throw Stopped();
     if (made.numbers.size() > MOST_NUMBERS) throw NoCertificate("it has more than " + std::to_string(MOST_NUMBERS) + " numbers, too many to be kept");
   }
-  if (unit < units.size()) throw NoCertificate("it is shorter than it was");
+  if (note < notes.size()) throw NoCertificate("it is shorter than it was");
   return made;
 }

@@ -20,21 +20,31 @@ public:
 
   // before the solver gets its first clause
   void trace(CaDiCaL::Solver &solver);
-  // A unit that follows by propagation where the solver is, because its negation was a failed assumption; the solver itself is then told it as a
-  // clause, of which it writes nothing.
-  void add_unit(CaDiCaL::Solver &solver, int32_t literal);
+  // The formula's literal for the solver's next variable; 0 where it is none of the formula's. Without names they are the same.
+  void name(int32_t literal) { names.push_back(literal); }
+  // of what the solver writes next
+  uint64_t place(CaDiCaL::Solver &solver);
+  // From this place on the solver has clauses with variables of the formula up to this one.
+  void reach(uint64_t place, uint32_t variable);
+  // Clauses of the formula's variables, each ended by 0, that follow by propagation from what is before this place and from each other in turn. The
+  // solver itself is told them, or what follows from them, as clauses of its own, of which it writes nothing.
+  void add(uint64_t place, const std::vector<int32_t> &clauses);
   // behind the last answer, while there is the solver
   void finish(CaDiCaL::Solver &solver);
 
-  // What the solver wrote, with the units in their places. It throws NoCertificate, and Stopped.
+  // What the solver wrote, with what was added in its places. It throws NoCertificate, and Stopped.
   Learnt learnt(Stop &stop);
 
 private:
-  struct Unit {
-    uint64_t place; // in the file, that it stands before
-    int32_t literal;
+  // what stands before a place in the file: so many numbers of the lemmas, and then a reach, where it is not 0
+  struct Note {
+    uint64_t place;
+    size_t lemmas;
+    uint32_t reach;
   };
   std::FILE *file;
-  std::vector<Unit> units;
-  uint64_t written(CaDiCaL::Solver &solver);
+  std::vector<int32_t> lemmas; // each ended by 0
+  std::vector<Note> notes;
+  std::vector<int32_t> names; // from the solver's variable 1 on
+  void rename(std::vector<int32_t> &clause) const;
 };

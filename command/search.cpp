@@ -3,21 +3,16 @@
 #include <algorithm>
 
 #include "failure.h"
-#include "refusals.h"
+#include "unrolling.h"
 
 namespace {
 
 enum Answer { SATISFIABLE = 10, UNSATISFIABLE = 20 }; // CaDiCaL's
 
-void test(uint32_t number, uint32_t place) {
-  if (number == MARRUBIGAI_PASSED) return;
-  std::string at = place ? " at line " + std::to_string(place) + " of its sheet" : "";
-  throw Failure("the chip is " + refusal_word(number) + at + "\n" + refusal_hint(number));
-}
-
 class Search {
 public:
-  Search(const Chip &searched, const Plan &wanted, Stop &when) : chip(searched), plan(wanted), stop(when), verdicts(searched.properties.size()) {
+  Search(const Chip &searched, const Plan &wanted, Stop &when)
+      : chip(searched), plan(wanted), stop(when), unrolling(searched, wanted.depth, solver, wanted.refutation), verdicts(searched.properties.size()) {
     solver.set("quiet", 1); // standard output is ours
     // Many short calls gain from neither stable phases nor local search; docs/COMMAND.md has what was measured.
     solver.set("stabilize", 0);
@@ -42,46 +37,16 @@ private:
   const Plan &plan;
   Stop &stop;
   CaDiCaL::Solver solver;
+  Unrolling unrolling;
   std::vector<Verdict> verdicts;
-  std::vector<marrubigai_position> frames; // the running record of each frame that was added
-  std::vector<int32_t> numbers = std::vector<int32_t>(MARRUBIGAI_GROUP_ROOM);
 
-  void move() {
-    marrubigai_position position{};
-    uint32_t way = MARRUBIGAI_START;
-    if (frames.empty()) position.depth = plan.depth;
-    else position = frames.back(), way = MARRUBIGAI_ON;
-    auto reply = marrubigai_move(chip.net, chip.latch_list(), chip.net.latches, chip.gate_list(), chip.net.gates, position, way);
-    test(reply.number, reply.place);
-    frames.push_back(reply.position);
-  }
-
-  void add_group(uint32_t kind, uint32_t j, uint32_t port) {
-    auto reply = marrubigai_write_group_at(chip.net, chip.latch_list(), chip.net.latches, chip.gate_list(), chip.net.gates, frames.back(), kind, j,
-                                           port, numbers.data(), numbers.size());
-    test(reply.number, reply.place);
-    for (size_t t = 0; t < reply.count; t++) solver.add(numbers[t]);
-  }
-
-  void add_frame() {
-    move();
-    uint32_t ports = 1 + chip.net.second_port;
-    add_group(MARRUBIGAI_WIRES, 0, 0);
-    for (uint32_t j = frames.back().frame; j > 0; j--)
-      for (uint32_t port = 1; port <= ports; port++) add_group(MARRUBIGAI_PAIR, j - 1, port);
-    for (uint32_t port = 1; port <= ports; port++) add_group(MARRUBIGAI_CLOSING, 0, port);
-  }
-
-  // not P of a frame
-  int32_t violation(const Property &property, const marrubigai_position &position) {
-    auto reply = marrubigai_literal_at(chip.net, position, property.code ^ 1);
-    test(reply.number, reply.place);
-    return reply.literal;
-  }
+  // not P of a frame, a literal of the formula
+  int32_t violation(const Property &property, const marrubigai_position &position) { return unrolling.literal(property.code ^ 1, position); }
 
   // Nothing is believed of the model: only what the chip, stepped with it, does.
   void take_model(Verdict &verdict, const Property &property) {
-    verdict.run = replay(chip, property, frames, frames.back().frame, [&](int32_t literal) { return solver.val(literal) > 0; });
+    const std::vector<marrubigai_position> &frames = unrolling.positions();
+    verdict.run = replay(chip, property, frames, frames.back().frame, [&](int32_t literal) { return unrolling.value(literal); });
     verdict.kind = Verdict::Kind::broken;
     verdict.seconds = stop.seconds();
     if (verdict.run->first < verdict.from + verdict.safe && verdict.run->first >= verdict.from)
@@ -95,13 +60,13 @@ private:
     for (uint32_t frame = 0; frame <= plan.depth && !open.empty(); frame++) {
       if (stop.is_due()) return;
       stop.at_frame(frame, plan.depth);
-      add_frame();
+      unrolling.add_frame();
       if (frame < plan.from) continue;
       for (size_t at = 0; at < open.size();) {
         const Property &property = chip.properties[open[at]];
         Verdict &verdict = verdicts[open[at]];
-        int32_t broken = violation(property, frames.back());
-        solver.assume(broken);
+        int32_t broken = violation(property, unrolling.positions().back()), asked = unrolling.ask(broken);
+        solver.assume(asked);
         int answer = solver.solve();
         if (answer == SATISFIABLE) {
           take_model(verdict, property);
@@ -109,8 +74,8 @@ private:
           continue;
         }
         if (answer != UNSATISFIABLE) return;
-        if (plan.refutation) plan.refutation->add_unit(solver, -broken);
-        solver.add(-broken); // it follows from the clauses that are there
+        if (plan.refutation) plan.refutation->add(plan.refutation->place(solver), {-broken, 0});
+        solver.add(-asked); // it follows from the clauses that are there
         solver.add(0);
         verdict.safe++;
         verdict.seconds = stop.seconds();
@@ -124,16 +89,15 @@ private:
     for (uint32_t frame = 0; frame <= plan.depth; frame++) {
       if (stop.is_due()) return;
       stop.at_frame(frame, plan.depth);
-      add_frame();
+      unrolling.add_frame();
     }
-    auto heading = marrubigai_heading(chip.net, chip.latch_list(), chip.net.latches, chip.gate_list(), chip.net.gates, plan.depth);
-    test(heading.number, heading.place);
     for (size_t p = 0; p < verdicts.size(); p++) {
-      // A variable of our own, behind those of the formula, that switches the property's clause on; a single property's is on. So a refutation is one
-      // of the formula.
-      int32_t asked = verdicts.size() == 1 ? 0 : static_cast<int32_t>(heading.variables + 1 + p);
+      // A variable of our own that switches the property's clause on; a single property's is on. So a refutation is one of the formula.
+      int32_t asked = verdicts.size() == 1 ? 0 : unrolling.new_variable();
+      std::vector<int32_t> clause;
+      for (const marrubigai_position &frame : unrolling.positions()) clause.push_back(unrolling.ask(violation(chip.properties[p], frame)));
       if (asked) solver.add(-asked);
-      for (const marrubigai_position &frame : frames) solver.add(violation(chip.properties[p], frame));
+      for (int32_t literal : clause) solver.add(literal);
       solver.add(0);
       if (asked) solver.assume(asked);
       int answer = solver.solve();

@@ -118,7 +118,7 @@ int main(int count, char **arguments) {
   check_that("no refutation", said(faulty, options, stop, nothing) == only + "it does not lead to a conflict." + fault);
   auto claims = [&](Refutation &refutation, CaDiCaL::Solver &solver) {
     std::vector<int32_t> numbers = formula_of(faulty, faulty.properties[0], options.depth).numbers;
-    for (size_t at = numbers.size() - 1; at > 0 && numbers[at - 1] != 0; at--) refutation.add_unit(solver, -numbers[at - 1]);
+    for (size_t at = numbers.size() - 1; at > 0 && numbers[at - 1] != 0; at--) refutation.add(refutation.place(solver), {-numbers[at - 1], 0});
   };
   std::string answer = said(faulty, options, stop, claims);
   check_that("units that do not follow", answer.compare(0, only.size() + 10, only + "its lemma ") == 0);
