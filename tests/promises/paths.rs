@@ -26,31 +26,19 @@ const FED_ANYTHING: [&str; 4] = [
 ];
 
 /// Demand 3 takes the numbers that the calls leave and the formula that they are together as they come, what passes the tests by the theorem that
-/// says which netlists those are, and the depth as any; what else is promised beside it has paths of its own (K4 and K13).
-const UNOPENED: [&str; 9] = [
+/// says which netlists those are, and the depth as any.
+const UNOPENED: [&str; 7] = [
     "model/Numbers/formula",
     "model/Numbers/numbersOf",
     "model/Groups/groupOrder",
     "model/Groups/inDepth",
-    "model/Claim/Stated",
-    "model/Trace/Traced",
     "netlist_tests/Record/recordVerdict",
     "call_unpacked/Calls/groupSent",
     "call_unpacked/Calls/groupLeaves",
 ];
 
 /// The bound on numbers says of whatever is written how large it is.
-const NUMBERS_ALONE: [&str; 9] = [
-    "model/Numbers/formula",
-    "model/Numbers/numbersOf",
-    "model/Groups/groupOrder",
-    "model/Claim/Encodes",
-    "model/Claim/Stated",
-    "model/Trace/Traced",
-    "netlist_tests/Record/recordVerdict",
-    "call_unpacked/Calls/groupSent",
-    "call_unpacked/Calls/groupLeaves",
-];
+const NUMBERS_ALONE: [&str; 1] = ["model/Numbers/numbersOf"];
 
 /// Groups through a running record are said to be those by frame number, which are demand 2's; the record's tests are demand 1's.
 const BY_FRAME: [&str; 4] = [
@@ -228,7 +216,7 @@ pub const PATHS: [ReadersPath; 22] = [
     ReadersPath {
         label: "K12",
         promise: "the largest variable and number",
-        from: &[("marrubigai_heading", "claim", "HeadingClaim")],
+        from: &[("marrubigai_heading", "theorems", "BoundTheorem")],
         shut: &NUMBERS_ALONE,
     },
     ReadersPath {
