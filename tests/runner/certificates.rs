@@ -52,7 +52,7 @@ extern "C" {
 }
 
 /// What is checked: an input of `frames` with its certificate, or a sheet with one for every depth.
-#[derive(Clone, Debug)]
+#[derive(Clone, Debug, PartialEq, Eq)]
 pub enum Claim {
     ToDepth(Vec<u8>, Certificate),
     Forever(Vec<u8>, Forever),
@@ -107,45 +107,39 @@ impl Claim {
 
     /// SAFETY: store and marks are live memory of these lengths, which nobody else uses.
     unsafe fn check(&self, store: *mut i32, store_room: usize, marks: *mut u32, mark_room: usize) -> CertificateReply {
-        // copies that end where their memory does
-        match self {
-            Claim::ToDepth(input, certificate) => {
-                let (input, lemmas, hints) = (input.to_vec(), certificate.lemmas.to_vec(), certificate.hints.to_vec());
-                marrubigai_certify(
-                    input.as_ptr(),
-                    input.len(),
-                    lemmas.as_ptr(),
-                    lemmas.len(),
-                    hints.as_ptr(),
-                    hints.len(),
-                    store,
-                    store_room,
-                    marks,
-                    mark_room,
-                )
-            }
-            Claim::Forever(sheet, certificate) => {
-                let (invariant, requests) = (certificate.invariant.to_vec(), certificate.requests.to_vec());
-                let lent = &certificate.refutation;
-                let (sheet, lemmas, hints) = (sheet.to_vec(), lent.lemmas.to_vec(), lent.hints.to_vec());
-                marrubigai_certify_forever(
-                    sheet.as_ptr(),
-                    sheet.len(),
-                    invariant.as_ptr(),
-                    invariant.len(),
-                    requests.as_ptr(),
-                    requests.len(),
-                    lemmas.as_ptr(),
-                    lemmas.len(),
-                    hints.as_ptr(),
-                    hints.len(),
-                    store,
-                    store_room,
-                    marks,
-                    mark_room,
-                )
-            }
-        }
+        let lent = self.clone(); // each list ends where its memory does
+        let reply = match &lent {
+            Claim::ToDepth(input, Certificate { lemmas, hints }) => marrubigai_certify(
+                input.as_ptr(),
+                input.len(),
+                lemmas.as_ptr(),
+                lemmas.len(),
+                hints.as_ptr(),
+                hints.len(),
+                store,
+                store_room,
+                marks,
+                mark_room,
+            ),
+            Claim::Forever(sheet, Forever { invariant, requests, refutation: Certificate { lemmas, hints } }) => marrubigai_certify_forever(
+                sheet.as_ptr(),
+                sheet.len(),
+                invariant.as_ptr(),
+                invariant.len(),
+                requests.as_ptr(),
+                requests.len(),
+                lemmas.as_ptr(),
+                lemmas.len(),
+                hints.as_ptr(),
+                hints.len(),
+                store,
+                store_room,
+                marks,
+                mark_room,
+            ),
+        };
+        assert!(lent == *self, "what is lent for reading is changed");
+        reply
     }
 
     /// The reply, with store and marks of these lengths that hold nothing and have nothing beside them.
