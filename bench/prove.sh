@@ -37,7 +37,7 @@ row() { # design, address bits, top and parameters for yosys, file for yosys, op
   prove=$(timed 'holds in every frame, certified' "$command" -k 3 --timeout $((4 * limit)) --prove ${facts-} --certificate "$work/made" "$@")
   by=$(sed -n 's/.* clauses, by \(.*\), with .*/\1/p' "$work/out")
   size=- check=-
-  if [ -e "$work/made" ]; then
+  if [ "$prove" != - ]; then
     size=$(($(stat -c %s "$work/made") / 1024))
     check=$(timed 'holds in every frame, certified' "$command" -q --check "$work/made" "$@")
   fi
@@ -59,5 +59,7 @@ for bits in $sizes; do
   row stack "$bits" "-top around" "$work/stack.sv" --reset reset -P DEPTH="$bits" $designs/stack.v
   facts="--invariant $designs/lookup.facts" row lookup "$bits" "-top lookup -chparam BITS $bits -chparam WIDTH 4" $designs/lookup.v \
     -P BITS="$bits" -P WIDTH=4 $designs/lookup.v
-  row queue "$bits" "-top queue -chparam BITS $bits -chparam WIDTH 2" $designs/queue.v -P BITS="$bits" -P WIDTH=2 $designs/queue.v
+  sed "s/\[4\]/[$bits]/g; s/\[3:0\]/[$((bits - 1)):0]/g" $designs/queue.facts > "$work/queue.facts"
+  facts="--invariant $work/queue.facts" row queue "$bits" "-top queue -chparam BITS $bits -chparam WIDTH 2" $designs/queue.v \
+    -P BITS="$bits" -P WIDTH=2 $designs/queue.v
 done

@@ -710,7 +710,7 @@ check "stated facts: needed" told "$work/files/facts:3: holds at the start, kept
 check "stated facts: false at the start" told "$work/files/facts:5: does not hold at the start of every run"
 check "stated facts: left by a step" told "$work/files/facts:6: holds at the start, not kept: a step from a state in which the others and it hold breaks it"
 check "stated facts: not needed" told "$work/files/facts:7: holds at the start, kept by every step, not needed"
-for design in "lookup.v:51 lookup" "cache.v:43 cache --reset reset --property cache.v:43"; do
+for design in "lookup.v:51 lookup" "cache.v:43 cache --reset reset --property cache.v:43" "queue.v:42 queue -P WIDTH=1"; do
   set -- $design
   folder=$designs run -q -k 3 --prove --invariant "$2.facts" "${@:3}" "$2.v"
   check "$2 by the facts beside it" same "$2.v: assert $1 holds in every frame, certified" "$(cat "$work/out")"
