@@ -1,5 +1,5 @@
 # For a newcomer: `make demo` and `make test`. They need the Rattle kit (the command `rt`).
-.PHONY: demo command install test bench fuzz promises
+.PHONY: demo command install test bench bench-search fuzz promises
 PREFIX ?= /usr/local
 VERSION = $(shell sed -n 's/^\#define MARRUBIGAI_VERSION "\(.*\)"/\1/p' include/marrubigai.h)
 
@@ -27,6 +27,11 @@ test:
 # after `make demo` or `make test`, which build the program
 bench:
 	@bash bench/run.sh
+
+# the search of the command beside that of abc's bmc3; it takes some minutes
+bench-search: command
+	@bash -c '. scripts/install.sh && install_missing berkeley-abc berkeley-abc'
+	@bash bench/search.sh
 
 # as many hostile inputs as asked for: make fuzz N=100000
 N ?= 100000
