@@ -1,5 +1,5 @@
 # For a newcomer: `make demo` and `make test`. They need the Rattle kit (the command `rt`).
-.PHONY: demo command install test bench bench-prove fuzz promises trust reading figure
+.PHONY: demo command install test bench bench-search bench-prove fuzz promises trust reading figure
 PREFIX ?= /usr/local
 VERSION = $(shell sed -n 's/^\#define MARRUBIGAI_VERSION "\(.*\)"/\1/p' include/marrubigai.h)
 
@@ -31,6 +31,11 @@ bench:
 # proofs for every frame, beside other tools; after `make command`
 bench-prove:
 	@bash bench/prove.sh $(LIMIT)
+
+# the search of the command beside that of abc's bmc3; it takes some minutes
+bench-search: command
+	@bash -c '. scripts/install.sh && install_missing berkeley-abc berkeley-abc'
+	@bash bench/search.sh
 
 # as many hostile inputs as asked for: make fuzz N=100000
 N ?= 100000

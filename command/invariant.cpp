@@ -212,7 +212,7 @@ std::optional<ForeverCertificate> certificate_of(const Chip &chip, const Propert
   };
   bool inductive = follows({solver.holds()});
   if (inductive) {
-    refutation.add_unit(solver.solver, solver.holds());
+    refutation.add(refutation.place(solver.solver), {solver.holds(), 0});
     add_numbers(solver.solver, {solver.holds(), 0});
   }
   for (size_t c = 0; inductive && c < invariant.size(); c++) {
