@@ -96,12 +96,12 @@ Reset reset(const std::string &text) {
 
 Widths widths(const std::string &text) {
   size_t comma = text.find(','), second = comma == std::string::npos ? comma : text.find(',', comma + 1);
-  auto address = number(text.substr(0, comma), 12);
-  auto data = comma == std::string::npos ? std::nullopt : number(text.substr(comma + 1, second - comma - 1), 32);
-  auto ports = second == std::string::npos ? std::optional<uint64_t>(1) : number(text.substr(second + 1), 2);
-  if (!address || !data || !ports || *address == 0 || *data == 0 || *ports == 0)
+  uint64_t address = number(text.substr(0, comma), 12).value_or(0);
+  uint64_t data = comma == std::string::npos ? 0 : number(text.substr(comma + 1, second - comma - 1), 32).value_or(0);
+  uint64_t ports = second == std::string::npos ? 1 : number(text.substr(second + 1), 2).value_or(0);
+  if (address == 0 || data == 0 || ports == 0)
     wrong("'" + text + "': --widths wants address bits (1 to 12), a comma, data bits (1 to 32), and for two read ports ,2");
-  return {static_cast<uint32_t>(*address), static_cast<uint32_t>(*data), static_cast<uint32_t>(*ports)};
+  return {static_cast<uint32_t>(address), static_cast<uint32_t>(data), static_cast<uint32_t>(ports)};
 }
 
 double seconds(const std::string &text) {
