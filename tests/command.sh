@@ -170,7 +170,7 @@ ends "ports exchanged" 1 "" "exchanged.aag: output 2 is read_enable, and write_e
 { cat "$work/files/bare2.aag"; printf 'i0 input\ni1 read_data\ni2 read_data2\no0 address\no1 write_data\no2 address2\no3 read_enable2\n'
   printf 'o4 write_enable\no5 read_enable\no6 property_holds\n'; } > "$work/files/two.aag"
 ends "a text with two ports" 10 "two.aag: the property is broken in frame 1 at the earliest" "" -q --start 0 two.aag
-run --start 0 --radix dec two.aag; check "its read words" grep -q '^frame  input  read_data  read_data2  memory$' "$work/out"
+run --start 0 --radix dec two.aag; check "its read word" grep -q '^frame  input  read_data2  memory$' "$work/out"
 ends "its start" 1 "" "two.aag: this memory has two ports, and with two ports what it begins as must be given (--start WORD)" two.aag
 ends "a text with two ports and widths" 10 "bare2.aag: the property is broken in frame 1 at the earliest" "" -q --start 0 --widths 1,1,2 bare2.aag
 ends "too few ports" 1 "" "bare2.aag: it has 3 inputs and 7 outputs; 1 address bits and 1 data bits need at least 1 inputs and 5" --widths 1,1 bare2.aag
