@@ -263,6 +263,7 @@ PdrAnswer ask_pdr(const Chip &chip, const Property &property, Limit &limit, Stop
   char seconds[32];
   std::snprintf(seconds, sizeof seconds, "%.1f s", stop.seconds() - began);
   if (finished.missing) return none(std::string(PROGRAM) + " is missing (Debian's package of this name)");
+  answer.late = finished.killed;
   if (finished.killed) return none(std::string("no answer in ") + seconds);
   size_t asserted = finished.said.find("asserted in frame ");
   if (finished.said.find("Property proved") != std::string::npos) {

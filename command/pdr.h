@@ -11,6 +11,7 @@ struct PdrAnswer {
   std::vector<Clause> invariant;
   uint32_t frame = 0; // in which it says that a run breaks the property
   std::string why; // of none, as `no answer in 60.0 s`
+  bool late = false; // of none, that its time was out
 };
 
 PdrAnswer ask_pdr(const Chip &chip, const Property &property, Limit &limit, Stop &stop);

@@ -11,6 +11,7 @@
 namespace {
 
 constexpr double SECONDS = 60; // for each way, where no time is given
+constexpr double FEW_SECONDS = 2; // for abc at first: where pdr is quick, nothing is quicker
 
 class Prover {
 public:
@@ -22,8 +23,9 @@ public:
     if (!known.stated.empty()) try_stated();
     if (!is_over()) try_facts("no invariant", {});
     if (!is_over() && !known.proved.empty()) try_facts("what proved the properties before", known.proved);
+    bool again = !is_over() && try_pdr(std::min(FEW_SECONDS, seconds())) == Tried::late;
     if (!is_over()) try_likely();
-    if (!is_over()) try_pdr();
+    if (!is_over() && again) try_pdr(seconds());
     stop.clear_line();
     return std::move(made);
   }
@@ -36,7 +38,8 @@ private:
   Stop &stop;
   Forever made;
 
-  bool is_over() const { return made.certified || stop.is_due(); }
+  // where abc says that a run breaks it, the search is what shows that
+  bool is_over() const { return made.certified || made.claimed || stop.is_due(); }
 
   // for a way: half of the time that is left, where one is given
   double seconds() const {
@@ -124,20 +127,21 @@ private:
     try_facts("facts of registers and words that random runs suggest", facts, false, began, limit);
   }
 
-  void try_pdr() {
+  enum class Tried { answered, late };
+  Tried try_pdr(double most) {
     const std::string way = "abc's pdr";
     double began = stop.seconds();
-    Limit limit(stop, seconds());
+    Limit limit(stop, most);
     PdrAnswer answer = ask_pdr(chip, property, limit, stop);
     switch (answer.kind) {
-    case PdrAnswer::Kind::none: return tell(way, answer.why, began);
+    case PdrAnswer::Kind::none: tell(way, answer.why, began); break;
     case PdrAnswer::Kind::broken:
       made.claimed = answer.frame;
-      return tell(way, "it says that a run breaks it in frame " + std::to_string(answer.frame), began);
-    case PdrAnswer::Kind::invariant: break;
+      tell(way, "it says that a run breaks it in frame " + std::to_string(answer.frame), began);
+      break;
+    case PdrAnswer::Kind::invariant: certify(way, {{"", answer.invariant}}, {true}, began); break;
     }
-    std::vector<Fact> facts{{way, answer.invariant}};
-    certify(way, facts, {true}, began);
+    return answer.late ? Tried::late : Tried::answered;
   }
 };
 
