@@ -72,15 +72,17 @@ struct Watch {
 class Propagation {
 public:
   Propagation(uint32_t variables, size_t room, Stop &when)
-      : clauses(room), values(2 * size_t{variables} + 2), reason(variables + 1), place(variables + 1), unit_needed(variables + 1),
-        seen(variables + 1), stop(when) {
+      : clauses(room), left_out(variables + 1), values(2 * size_t{variables} + 2), reason(variables + 1), place(variables + 1),
+        unit_needed(variables + 1), seen(variables + 1), stop(when) {
     trail.reserve(variables);
     for (Rank rank : {NEEDED, ACTIVE}) watches[rank].resize(values.size());
   }
 
   Clauses clauses;
   Place limit = NONE; // clauses from here on are gone; it only goes down
-  Literal bound = NONE; // and so are those with a literal from here on that is open; it only goes down
+  // and so are those with an open literal from here on, which only goes down, or of a variable that is left out
+  Literal bound = NONE;
+  std::vector<bool> left_out;
 
   size_t length() const { return trail.size(); }
   Literal literal(size_t at) const { return trail[at]; }
@@ -277,7 +279,7 @@ private:
         }
       }
       if (value < 0) conflict = clause;
-      else if (other < bound) assign(other, clause);
+      else if (other < bound && !left_out[other / 2]) assign(other, clause);
       else kept--;
     }
     list.erase(list.begin() + (kept - list.data()), list.begin() + (at - list.data()));
@@ -393,6 +395,8 @@ Certificate elaborate(const std::vector<int32_t> &formula, const Learnt &learnt,
     state.undo(from);
   };
   for (const Forward::Deleted &deletion : forward.deleted) state.clauses.set_rank(deletion.clause, RESTING);
+  for (size_t variable = 0; variable < std::min(learnt.left_out.size(), state.left_out.size()); variable++)
+    state.left_out[variable] = learnt.left_out[variable];
   state.turn_back();
   state.explain(forward.conflict, forward.lemmas.empty() ? 0 : forward.lemmas.back().length, cited);
   keep(NONE);

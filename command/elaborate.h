@@ -32,6 +32,7 @@ struct Learnt {
   std::vector<int32_t> numbers;
   std::vector<Deletion> deletions{};
   std::vector<Reach> reaches{};
+  std::vector<bool> left_out{}; // by variable: it was never given; where this is empty, all were
 };
 
 // the same for the same literals in any order

@@ -132,5 +132,6 @@ Learnt Refutation::learnt(Stop &stop) {
     if (made.numbers.size() > MOST_NUMBERS) throw NoCertificate("it has more than " + std::to_string(MOST_NUMBERS) + " numbers, too many to be kept");
   }
   if (note < notes.size()) throw NoCertificate("it is shorter than it was");
+  made.left_out = left_out;
   return made;
 }

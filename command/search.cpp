@@ -28,7 +28,10 @@ public:
   std::vector<Verdict> run() {
     if (plan.any) ask_once();
     else ask_by_frame();
-    if (plan.refutation && verdicts[0].kind == Verdict::Kind::holds) plan.refutation->finish(solver);
+    if (plan.refutation && verdicts[0].kind == Verdict::Kind::holds) {
+      plan.refutation->leave_out(unrolling.left_out());
+      plan.refutation->finish(solver);
+    }
     return std::move(verdicts);
   }
 

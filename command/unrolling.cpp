@@ -340,6 +340,12 @@ int32_t Unrolling::ask(int32_t literal) {
   return solvers(literal);
 }
 
+std::vector<bool> Unrolling::left_out() const {
+  std::vector<bool> made(same.size());
+  for (size_t variable = 0; variable < made.size(); variable++) made[variable] = !same[variable];
+  return made;
+}
+
 bool Unrolling::value(int32_t literal) const {
   if (!same[variable_of(literal)]) return false;
   literal = find(literal);

@@ -28,6 +28,8 @@ public:
   int32_t ask(int32_t literal);
   // a variable that the solver has not yet, for a purpose outside the formula
   int32_t new_variable();
+  // by variable of the formula: nothing that was asked depends on it
+  std::vector<bool> left_out() const;
   // a literal of the formula in the solver's model
   bool value(int32_t literal) const;
 
