@@ -19,24 +19,6 @@ loop-holds : tie.Need-loop-holds Inv-loop μ-loop
 unfolding anyAbove
 loop-holds c = (omega arith, any-none false _)
 
-cast-at : tie.Need-cast-at Inv-loop μ-loop
-cast-at c = omega arith
-
-mul-is-above : tie.Need-mul-is-above Inv-loop μ-loop
-mul-is-above c = omega arith
-
-array-copy-out-is-above : tie.Need-array-copy-out-is-above Inv-loop μ-loop
-array-copy-out-is-above c = omega arith
-
-is-above-requires : tie.Need-is-above-requires Inv-loop μ-loop
-is-above-requires c κs = tt
-
-add-t : tie.Need-add-t Inv-loop μ-loop
-add-t c = omega arith
-
-loop-less : tie.Need-loop-less Inv-loop μ-loop
-loop-less c = omega arith
-
 loop-again : tie.Need-loop-again Inv-loop μ-loop
 unfolding codeOf anyAbove
 loop-again c = (
@@ -53,15 +35,5 @@ returns c =
 pub any-address-spec : {M : Type 1} → statement M
 any-address-spec =
     tie.close
-    (tie.spec
-    Inv-loop
-    μ-loop
-    loop-holds
-    cast-at
-    mul-is-above
-    array-copy-out-is-above
-    is-above-requires
-    add-t
-    loop-less
-    loop-again
-    returns)
+    (tie.spec Inv-loop μ-loop loop-holds (λ c. omega arith) (λ c. omega arith) (λ c. omega arith) (λ c κs. tt)
+    (λ c. omega arith) (λ c. omega arith) loop-again returns)

@@ -19,39 +19,6 @@ loop-holds : tie.Need-loop-holds Inv-loop μ-loop
 unfolding anyGate
 loop-holds c = (omega arith, omega arith, any-none false _)
 
-cast-at : tie.Need-cast-at Inv-loop μ-loop
-cast-at c = omega arith
-
-mul-at : tie.Need-mul-at Inv-loop μ-loop
-mul-at c = omega arith
-
-mul-t9 : tie.Need-mul-t9 Inv-loop μ-loop
-mul-t9 c = omega arith
-
-element-copy-out-t12 : tie.Need-element-copy-out-t12 Inv-loop μ-loop
-element-copy-out-t12 c = omega arith
-
-add-t14 : tie.Need-add-t14 Inv-loop μ-loop
-add-t14 c = omega arith
-
-mul-t15 : tie.Need-mul-t15 Inv-loop μ-loop
-mul-t15 c = omega arith
-
-element-copy-out-t18 : tie.Need-element-copy-out-t18 Inv-loop μ-loop
-element-copy-out-t18 c = omega arith
-
-gate-fault-requires : tie.Need-gate-fault-requires Inv-loop μ-loop
-gate-fault-requires c κs = tt
-
-offset-requires : tie.Need-offset-requires Inv-loop μ-loop
-offset-requires c κs = omega arith
-
-add-g : tie.Need-add-g Inv-loop μ-loop
-add-g c = omega arith
-
-loop-less : tie.Need-loop-less Inv-loop μ-loop
-loop-less c = omega arith
-
 loop-again : tie.Need-loop-again Inv-loop μ-loop
 unfolding anyGate
 loop-again c = let turn = c .before .before .before .before .before .loop in (
@@ -69,20 +36,6 @@ returns c =
 pub any-gate-spec : {M : Type 1} → statement M
 any-gate-spec =
     tie.close
-    (tie.spec
-    Inv-loop
-    μ-loop
-    loop-holds
-    cast-at
-    mul-at
-    mul-t9
-    element-copy-out-t12
-    add-t14
-    mul-t15
-    element-copy-out-t18
-    gate-fault-requires
-    offset-requires
-    add-g
-    loop-less
-    loop-again
-    returns)
+    (tie.spec Inv-loop μ-loop loop-holds (λ c. omega arith) (λ c. omega arith) (λ c. omega arith) (λ c. omega arith)
+    (λ c. omega arith) (λ c. omega arith) (λ c. omega arith) (λ c κs. tt) (λ c κs. omega arith) (λ c. omega arith)
+    (λ c. omega arith) loop-again returns)

@@ -16,15 +16,6 @@ any-data-requires c κs = omega (arith, c .before .before .before .pre)
 any-in-second-requires : tie.Need-any-in-second-requires
 any-in-second-requires c κs = c .before .before .before .before .pre
 
-is-above-requires : tie.Need-is-above-requires
-is-above-requires c κs = tt
-
-is-above-requires-2 : tie.Need-is-above-requires-2
-is-above-requires-2 c κs = tt
-
-is-above-requires-3 : tie.Need-is-above-requires-3
-is-above-requires-3 c κs = tt
-
 returns : tie.Need-returns
 unfolding netOf anyInRecord
 returns c =
@@ -40,11 +31,4 @@ returns c =
 pub any-in-record-spec : {M : Type 1} → statement M
 any-in-record-spec =
     tie.close
-    (tie.spec
-    any-address-requires
-    any-data-requires
-    any-in-second-requires
-    is-above-requires
-    is-above-requires-2
-    is-above-requires-3
-    returns)
+    (tie.spec any-address-requires any-data-requires any-in-second-requires (λ c κs. tt) (λ c κs. tt) (λ c κs. tt) returns)

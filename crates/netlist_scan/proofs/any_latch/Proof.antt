@@ -18,36 +18,6 @@ loop-holds : tie.Need-loop-holds Inv-loop μ-loop
 unfolding anyLatch
 loop-holds c = (omega arith, any-none false _)
 
-cast-at : tie.Need-cast-at Inv-loop μ-loop
-cast-at c = omega arith
-
-mul-at : tie.Need-mul-at Inv-loop μ-loop
-mul-at c = omega arith
-
-mul-t8 : tie.Need-mul-t8 Inv-loop μ-loop
-mul-t8 c = omega arith
-
-element-copy-out-t11 : tie.Need-element-copy-out-t11 Inv-loop μ-loop
-element-copy-out-t11 c = omega arith
-
-add-latch-fault : tie.Need-add-latch-fault Inv-loop μ-loop
-add-latch-fault c = omega arith
-
-mul-latch-fault : tie.Need-mul-latch-fault Inv-loop μ-loop
-mul-latch-fault c = omega arith
-
-element-copy-out-latch-fault : tie.Need-element-copy-out-latch-fault Inv-loop μ-loop
-element-copy-out-latch-fault c = omega arith
-
-latch-fault-requires : tie.Need-latch-fault-requires Inv-loop μ-loop
-latch-fault-requires c κs = tt
-
-add-l : tie.Need-add-l Inv-loop μ-loop
-add-l c = omega arith
-
-loop-less : tie.Need-loop-less Inv-loop μ-loop
-loop-less c = omega arith
-
 loop-again : tie.Need-loop-again Inv-loop μ-loop
 unfolding anyLatch
 loop-again c = (
@@ -64,19 +34,6 @@ returns c =
 pub any-latch-spec : {M : Type 1} → statement M
 any-latch-spec =
     tie.close
-    (tie.spec
-    Inv-loop
-    μ-loop
-    loop-holds
-    cast-at
-    mul-at
-    mul-t8
-    element-copy-out-t11
-    add-latch-fault
-    mul-latch-fault
-    element-copy-out-latch-fault
-    latch-fault-requires
-    add-l
-    loop-less
-    loop-again
+    (tie.spec Inv-loop μ-loop loop-holds (λ c. omega arith) (λ c. omega arith) (λ c. omega arith) (λ c. omega arith)
+    (λ c. omega arith) (λ c. omega arith) (λ c. omega arith) (λ c κs. tt) (λ c. omega arith) (λ c. omega arith) loop-again
     returns)
