@@ -16,7 +16,7 @@ use Rattle.model.specs.Netlist.{Netlist, port, readBits, latchWire, readWire, g
 use Rattle.model.specs.Circuit.{Values, State, codeValue, addressOf, writeAddress, wordWritten, step}
 use Rattle.model.specs.Acceptance.{Accepted, SizesFit}
 use Rattle.model.specs.Numbers.{Assignment, numberTrue}
-use Rattle.model.proofs.Booleans.{and-true}
+use Rattle.model.proofs.Booleans.{and-true, is-beq-true, not-beq-false}
 use Rattle.model.proofs.Bits.{bit-fromBits}
 use Rattle.model.proofs.Circuit.{IsFrame, readData-port}
 use Rattle.text_writer.specs.Signed.{partsOf}
@@ -272,16 +272,8 @@ module _ {c : Netlist} {zs : List ℤ} {s : State} {f : ℕ → Bool} {v : Value
 
   -- matches
   agree-is : (p : Bool) (x : ℕ) → codeValue g (cond p x (opposite x)) ≡ Bool·beq (codeValue g x) p
-  agree-is true x = plain-beq (codeValue g x)
-    where
-      plain-beq : (y : Bool) → y ≡ Bool·beq y true
-      plain-beq true = refl
-      plain-beq false = refl
-  agree-is false x = opposite-value g x ∙ not-beq (codeValue g x)
-    where
-      not-beq : (y : Bool) → not y ≡ Bool·beq y false
-      not-beq true = refl
-      not-beq false = refl
+  agree-is true x = is-beq-true (codeValue g x)
+  agree-is false x = opposite-value g x ∙ not-beq-false (codeValue g x)
 
   abbrev agree : ℕ → ℕ → ℕ
   agree i y = cond (bit y (i / 2)) (codeTerm b (port c (suc (i % 2)) .address (i / 2))) (opposite (codeTerm b (port c (suc (i % 2)) .address (i / 2))))

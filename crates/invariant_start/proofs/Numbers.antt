@@ -1,7 +1,7 @@
 -- Laws of the test of one number: by its parts, and by whether a start word is given. No contract cites this file.
 use Prim.Native.Nat.{ℕ, zero, suc, _-_, _≤_, _<_}
 use mathlib.Core.Path.{_≡_, refl}
-use mathlib.Core.Bool.{Bool, true, false, Bool·beq, not}
+use mathlib.Core.Bool.{Bool, true, false, Bool·beq}
 use native.Mathlib.Omega.{arith}
 use lib.Dec.{eqb}
 use lib.IntN.{ℤ, pos, negsuc}
@@ -11,14 +11,6 @@ use Rattle.model.specs.Netlist.{Netlist, startOf}
 use Rattle.text_writer.specs.Signed.{partsOf}
 use Rattle.refutation_hints.specs.Propagation.{within}
 use Rattle.invariant_formula.specs.AtStart.{wordStarts, bitStarts, numberStarts}
-
-pub beq-yes : (a : Bool) → a ≡ Bool·beq a true
-beq-yes true = refl
-beq-yes false = refl
-
-pub beq-no : (a : Bool) → not a ≡ Bool·beq a false
-beq-no true = refl
-beq-no false = refl
 
 pub word-given : (word u t : ℕ) (value : Bool) → u ≡ 0 → Bool·beq (bit word t) value ≡ wordStarts (startOf word u) t value
 unfolding startOf wordStarts

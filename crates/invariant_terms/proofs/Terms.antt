@@ -5,15 +5,15 @@ use mathlib.Core.Bool.{Bool, true, false, cond, not, _&&_, Bool·beq}
 use mathlib.Core.List.{List}
 use mathlib.Core.Logic.{_⊎_, inl, inr, ⊎-elim, by-cases}
 use native.Mathlib.Omega.{arith}
-use native.Mathlib.Nat.{add-zero, le-of-suc-le-suc, eq-or-lt-of-le, pow-suc, div-one, div-eq-of-lt, div-div-eq-div-mul}
+use native.Mathlib.Nat.{add-zero, le-of-suc-le-suc, eq-or-lt-of-le}
 use native.Mathlib.Decide.{ℕ-discrete}
 use lib.IntN.{ℤ, pos, negsuc}
 use borrow.Author.Tests.{eq-eqb, ne-eqb, lt-ltb, le-ltb}
-use Rattle.model.specs.Bits.{odd, bit, fromBits}
+use Rattle.model.specs.Bits.{odd, bit}
 use Rattle.model.specs.Netlist.{Netlist, port}
 use Rattle.model.specs.Circuit.{Values, State, codeValue, addressOf, step}
 use Rattle.model.specs.Numbers.{Assignment, numberTrue}
-use Rattle.model.proofs.Bits.{bit-fromBits, fromBits-same}
+use Rattle.model.proofs.Bits.{bit-fromBits, fromBits-same, fromBits-bit}
 use Rattle.model.proofs.Booleans.{and-true, beq-true}
 use Rattle.invariant_terms.specs.StateBits.{stateCount}
 use Rattle.invariant_terms.specs.Terms.{variable, stateTerm, term, codeTerm, opposite, numberOf}
@@ -153,28 +153,6 @@ bits-agreeing f y zero e = refl
 bits-agreeing f y (suc m) e =
     and-true (agreeing f y m) (Bool·beq (f m) (bit y m)) .1
     (bits-agreeing f y m (λ t l. e t (omega arith)), beq-true (f m) (bit y m) .1 (e m (omega arith)))
-
--- a number is that of its bits
-with-bit : (p q h : ℕ) → (b : Bool) → q ≡ 2 * h + cond b 1 0 → cond b p 0 + p * 2 * h ≡ p * q
-with-bit p q h true e = rw e (omega arith)
-with-bit p q h false e = rw e (omega arith)
-
-halved : (q : ℕ) → q ≡ 2 * (q / 2) + cond (odd q) 1 0
-unfolding odd
-halved q =
-    by-cases (ℕ-discrete (q % 2) 1)
-    (λ e. rw (eq-eqb (q % 2) 1 e) (omega arith))
-    (λ e. rw (ne-eqb (q % 2) 1 e) (omega arith))
-
-bits-and-rest : (m x : ℕ) → fromBits m (bit x) + 2 ^ m * (x / 2 ^ m) ≡ x
-unfolding fromBits bit
-bits-and-rest zero x = rw div-one (omega arith)
-bits-and-rest (suc m) x =
-    rw (pow-suc, ← div-div-eq-div-mul x (2 ^ m) 2)
-    (omega (arith, with-bit (2 ^ m) (x / 2 ^ m) (x / 2 ^ m / 2) (odd (x / 2 ^ m)) (halved (x / 2 ^ m)), bits-and-rest m x))
-
-fromBits-bit : (m x : ℕ) → x < 2 ^ m → fromBits m (bit x) ≡ x
-fromBits-bit m x h = sym (rw (div-eq-of-lt h) (omega arith)) ∙ bits-and-rest m x
 
 module _ (c : Netlist) (v : Values) (q y : ℕ) (port-number : q < 2) where
   -- match 32 y + 2 t + q

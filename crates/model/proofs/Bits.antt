@@ -1,11 +1,13 @@
 -- Laws of specs/Bits.antt: a number and its bits. No contract cites this file.
-use Prim.Native.Nat.{ℕ, zero, suc, _+_, _-_, _*_, _/_, _^_, _<_}
-use mathlib.Core.Path.{_≡_, refl, ap, ap₂, _∙_}
+use Prim.Native.Nat.{ℕ, zero, suc, _+_, _-_, _*_, _/_, _%_, _^_, _<_}
+use mathlib.Core.Path.{_≡_, refl, sym, ap, ap₂, _∙_}
 use mathlib.Core.Bool.{Bool, true, false, cond}
-use mathlib.Core.Logic.{⊎-elim}
-use native.Mathlib.Nat.{add-zero, le-of-suc-le-suc, eq-or-lt-of-le, pow-suc, pow-succ', div-eq-of-lt, add-mul-div-right, add-div-right, add-mul-mod-self-left}
+use mathlib.Core.Logic.{⊎-elim, by-cases}
+use native.Mathlib.Nat.{add-zero, le-of-suc-le-suc, eq-or-lt-of-le, pow-suc, pow-succ', div-one, div-eq-of-lt, div-div-eq-div-mul, add-mul-div-right, add-div-right, add-mul-mod-self-left}
+use native.Mathlib.Decide.{ℕ-discrete}
 use native.Mathlib.Omega.{arith}
 use lib.Dec.{eqb}
+use borrow.Author.Tests.{eq-eqb, ne-eqb}
 use lib.Pow.{pow-pos, pow-add}
 use Rattle.model.specs.Bits.{odd, bit, fromBits}
 
@@ -56,3 +58,25 @@ unfolding fromBits
 fromBits-same zero f g h = refl
 fromBits-same (suc m) f g h =
     ap₂ (λ (x : ℕ) (b : Bool). x + cond b (2 ^ m) 0) (fromBits-same m f g (λ t l. h t (omega arith))) (h m (omega arith))
+
+-- a number is that of its bits
+times-halved : (p q h : ℕ) → (b : Bool) → q ≡ 2 * h + cond b 1 0 → cond b p 0 + p * 2 * h ≡ p * q
+times-halved p q h true e = rw e (omega arith)
+times-halved p q h false e = rw e (omega arith)
+
+halved : (q : ℕ) → q ≡ 2 * (q / 2) + cond (odd q) 1 0
+unfolding odd
+halved q =
+    by-cases (ℕ-discrete (q % 2) 1)
+    (λ e. rw (eq-eqb (q % 2) 1 e) (omega arith))
+    (λ e. rw (ne-eqb (q % 2) 1 e) (omega arith))
+
+bits-and-rest : (m x : ℕ) → fromBits m (bit x) + 2 ^ m * (x / 2 ^ m) ≡ x
+unfolding fromBits bit
+bits-and-rest zero x = rw div-one (omega arith)
+bits-and-rest (suc m) x =
+    rw (pow-suc, ← div-div-eq-div-mul x (2 ^ m) 2)
+    (omega (arith, times-halved (2 ^ m) (x / 2 ^ m) (x / 2 ^ m / 2) (odd (x / 2 ^ m)) (halved (x / 2 ^ m)), bits-and-rest m x))
+
+pub fromBits-bit : (m x : ℕ) → x < 2 ^ m → fromBits m (bit x) ≡ x
+fromBits-bit m x h = sym (rw (div-eq-of-lt h) (omega arith)) ∙ bits-and-rest m x

@@ -50,6 +50,15 @@ beq-true true false = (λ h. absurd (false≢true h), λ h. sym h)
 beq-true false true = (λ h. absurd (false≢true h), λ h. h)
 beq-true false false = (λ h. refl, λ h. refl)
 
+-- and with a constant
+pub is-beq-true : (x : Bool) → x ≡ Bool·beq x true
+is-beq-true true = refl
+is-beq-true false = refl
+
+pub not-beq-false : (x : Bool) → not x ≡ Bool·beq x false
+not-beq-false true = refl
+not-beq-false false = refl
+
 -- equal Booleans are true in the same cases
 pub eq-iff : {x y : Bool} → x ≡ y → (x ≡ true) ↔ (y ≡ true)
 eq-iff e = (λ h. sym e ∙ h, λ h. e ∙ h)

@@ -1,15 +1,13 @@
 -- A replay bears out what is said where that makes all clauses true: by demand 3 there is a state from which the run agrees with it, and what the
 -- replay fills is what its memory has. No contract cites this file.
-use Prim.Native.Nat.{ℕ, zero, suc, _+_, _*_, _/_, _%_, _^_, _≤_, _<_}
+use Prim.Native.Nat.{ℕ, zero, suc, _+_, _^_, _≤_, _<_}
 use mathlib.Core.Path.{_≡_, refl, sym, _∙_, ap, fun-ext}
 use mathlib.Core.Bool.{Bool, true, false, cond, _&&_, _||_, true≢false}
-use mathlib.Core.Logic.{_⊎_, inl, inr, by-cases}
-use native.Mathlib.Nat.{div-one, div-eq-of-lt, div-div-eq-div-mul, pow-suc}
-use native.Mathlib.Decide.{ℕ-discrete}
+use mathlib.Core.Logic.{_⊎_, inl, inr}
 use native.Mathlib.Omega.{arith}
 use lib.Dec.{eqb}
 use borrow.Author.Tests.{eq-eqb, ne-eqb, eqb-true}
-use Rattle.model.specs.Bits.{odd, bit, fromBits}
+use Rattle.model.specs.Bits.{bit}
 use Rattle.model.specs.Search.{anyBelow}
 use Rattle.model.specs.Netlist.{Netlist, Start, given, unknown, isUnknown, start, port, readWire}
 use Rattle.model.specs.Circuit.{codeValue, State, addressOf, wordWritten, step, stateAt, run, Begins}
@@ -17,7 +15,7 @@ use Rattle.model.specs.Variables.{base}
 use Rattle.model.specs.Acceptance.{Accepted}
 use Rattle.model.specs.Claim.{Satisfies, feedOf, Agrees, Breaks}
 use Rattle.model.proofs.Booleans.{and-true, or-true, neither-true, cond-same}
-use Rattle.model.proofs.Bits.{fromBits-same}
+use Rattle.model.proofs.Bits.{fromBits-same, fromBits-bit}
 use Rattle.model.proofs.Search.{firstWhere-is, first-least}
 use Rattle.model.proofs.Ports.{first-port, unknown-each, unknown-bits}
 use Rattle.model.proofs.Circuit.{frame-is}
@@ -30,28 +28,6 @@ use Rattle.circuit_step.proofs.Touched.{step-leaves, frame-reads}
 use Rattle.replay_frame.specs.Replay.{Said, begunFrom, runFrom, stateFrom, touchedFrom, addressFrom, fillsFrom, wordSaid, startWords, fills, replayed, replayedState, violates, firstViolation, BearsOut}
 use Rattle.replay_frame.proofs.Filling.{readData-first, fills-untouched, touched-on, state-filled, state-on}
 use Rattle.replay_frame.proofs.OneRun.{begins-at, one-run}
-
--- a number is that of its bits
-with-bit : (p q h : ℕ) → (b : Bool) → q ≡ 2 * h + cond b 1 0 → cond b p 0 + p * 2 * h ≡ p * q
-with-bit p q h true e = rw e (omega arith)
-with-bit p q h false e = rw e (omega arith)
-
-halved : (q : ℕ) → q ≡ 2 * (q / 2) + cond (odd q) 1 0
-unfolding odd
-halved q =
-    by-cases (ℕ-discrete (q % 2) 1)
-    (λ e. rw (eq-eqb (q % 2) 1 e) (omega arith))
-    (λ e. rw (ne-eqb (q % 2) 1 e) (omega arith))
-
-bits-and-rest : (m x : ℕ) → fromBits m (bit x) + 2 ^ m * (x / 2 ^ m) ≡ x
-unfolding fromBits bit
-bits-and-rest zero x = rw div-one (omega arith)
-bits-and-rest (suc m) x =
-    rw (pow-suc, ← div-div-eq-div-mul x (2 ^ m) 2)
-    (omega (arith, with-bit (2 ^ m) (x / 2 ^ m) (x / 2 ^ m / 2) (odd (x / 2 ^ m)) (halved (x / 2 ^ m)), bits-and-rest m x))
-
-fromBits-bit : (m x : ℕ) → x < 2 ^ m → fromBits m (bit x) ≡ x
-fromBits-bit m x h = sym (rw (div-eq-of-lt h) (omega arith)) ∙ bits-and-rest m x
 
 -- Up to frame i the replay goes as the run from a memory does: they have the same latches, the same word held and the same words where a frame
 -- has touched them; the other words are in that run as it began with
