@@ -200,7 +200,8 @@ Chip chip_of_aiger(const std::string &path, const std::string &content, const Op
   chip.latches.resize(MARRUBIGAI_LIST_ROOM);
   chip.gates.resize(MARRUBIGAI_LIST_ROOM);
   bool unknown = options.start.kind != Start::Kind::word;
-  if (unknown && widths.ports == 2) throw Failure(path + ": this memory has two ports, and with two ports what it begins as must be given (--start WORD)");
+  if (unknown && widths.ports == 2)
+    throw Failure(path + ": this memory has two ports, and with two ports what it begins as must be given (--start WORD)");
   auto reply = marrubigai_import(reinterpret_cast<const uint8_t *>(content.data()), content.size(), widths.address, widths.data,
                                  unknown ? 0 : options.start.word, unknown, widths.ports - 1, chip.latches.data(), chip.latches.size(),
                                  chip.gates.data(), chip.gates.size());

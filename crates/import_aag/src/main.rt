@@ -1,6 +1,6 @@
-// The program `import_aag` (RULES P18 to P20, P22 and P23): m, n, the start word, which may be left out, and behind it the number of ports, as arguments
-// and an ASCII AIGER text on standard input; on standard output the sheet of its netlist, or one refusal. What is printed is in the crates below; here are only arguments, input
-// and output.
+// The program `import_aag` (RULES P18 to P20, P22, P23 and P29): m, n, the start word, which may be left out, and behind it the number of ports, as
+// arguments and an ASCII AIGER text on standard input; on standard output the sheet of its netlist, or one refusal. What is printed is in the crates
+// below; here are only arguments, input and output.
 use decimal::Number;
 ghost use mathlib.Core.Path.{_≡_};
 ghost use lib.ListN.{length};
