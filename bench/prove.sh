@@ -1,12 +1,13 @@
 #!/usr/bin/env bash
 # Proofs for every frame, beside abc's pdr and yosys-smtbmc's k-induction (with z3), which get the same designs with their memories as yosys makes
-# them: the repaired designs of examples/verilog, by sizes of the memory. Processor time in seconds; `-` where nothing was proved within the limit.
+# them: the repaired sheets of the examples, and the repaired designs of examples/verilog by sizes of the memory. Processor time in seconds; `-` where nothing was proved within the limit.
 # Arguments: the limit in seconds of processor time (60), and the sizes in address bits (3 5 7 9). After `make command`.
 set -u
 cd "$(dirname "$0")/.." || exit 2
 . scripts/install.sh
 install_missing berkeley-abc berkeley-abc yosys yosys z3 z3 || exit 1
 limit=${1:-60}
+designs=examples/verilog
 sizes=${2:-3 5 7 9}
 command=$PWD/target/command/marrubigai
 work=$(mktemp -d)
@@ -48,9 +49,18 @@ around() { # design with its parameters, its other inputs: a reset in frame 0
   printf 'reg reset = 1; always @(posedge clock) reset <= 0;\n%s dut (.*);\nendmodule\n' "$1"
 }
 
+assertion() { echo "$designs/$1.v:$(grep -n 'assert (' "$designs/$1.v" | cut -d : -f 1)"; } # the name of a design's one assertion
+
 echo "| design | words | pdr | smtbmc | --prove | by | KB | check |"
 echo "|---|---|---|---|---|---|---|---|"
-designs=examples/verilog
+case " $sizes " in
+  *" 3 "*)
+    for example in fourth-revision fifth-revision sixth-revision seventh-revision; do
+      awk -f bench/sheet_to_verilog.awk "examples/$example/repaired.sheet" > "$work/sheet.sv"
+      row $example 3 "-top around" "$work/sheet.sv" "examples/$example/repaired.sheet"
+    done
+    ;;
+esac
 for bits in $sizes; do
   for design in carton_counter registers; do
     row $design "$bits" "-top $design -chparam BITS $bits" $designs/$design.v -P BITS="$bits" $designs/$design.v
@@ -62,4 +72,9 @@ for bits in $sizes; do
   sed "s/\[4\]/[$bits]/g; s/\[3:0\]/[$((bits - 1)):0]/g" $designs/queue.facts > "$work/queue.facts"
   facts="--invariant $work/queue.facts" row queue "$bits" "-top queue -chparam BITS $bits -chparam WIDTH 2" $designs/queue.v \
     -P BITS="$bits" -P WIDTH=2 $designs/queue.v
+  row histogram "$bits" "-top histogram -chparam BINS $bits" $designs/histogram.v --property "$(assertion histogram)" -P BINS="$bits" $designs/histogram.v
+  around "cache #(.INDEX($bits), .TAG(5))" "input request, input [4:0] tag, input [$((bits - 1)):0] index, output hit" > "$work/cache.sv"
+  sed "s/\[3:0\]/[$((bits - 1)):0]/; s/\[8:4\]/[$((bits + 4)):$bits]/" $designs/cache.facts > "$work/cache.facts"
+  facts="--invariant $work/cache.facts" row cache "$bits" "-top around" "$work/cache.sv" --reset reset --property "$(assertion cache)" -P INDEX="$bits" \
+    $designs/cache.v
 done
