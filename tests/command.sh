@@ -750,11 +750,11 @@ check "damaged certificates for ever: status" same 0 $?
 check "damaged certificates for ever" grep -qE '^[0-9]+ passed, 0 failed$' "$work/hostile.out"
 
 ### installed into a folder, and a use of what was installed
-check "it is installed" make --no-print-directory install DESTDIR="$work/root" PREFIX=/opt/m > "$work/make" 2>&1
-installed=$work/root/opt/m
+check "it is installed" make --no-print-directory install DESTDIR="$work/root" PREFIX=/prefix > "$work/make" 2>&1
+installed=$work/root/prefix
 check "the installed command" same "examples/echo/chip.sheet: the property is broken in frame 1 at the earliest" "$("$installed/bin/marrubigai" -q examples/echo/chip.sheet)"
 check "the installed library" cc -std=c11 -I"$installed/include" -o "$work/search" examples/search/search.c -L"$installed/lib" -lmarrubigai -lcadical -lstdc++ -lm
-check "the pkg-config file" same "prefix=/opt/m Version: $(sed -n 's/^#define MARRUBIGAI_VERSION "\(.*\)"/\1/p' include/marrubigai.h)" \
+check "the pkg-config file" same "prefix=/prefix Version: $(sed -n 's/^#define MARRUBIGAI_VERSION "\(.*\)"/\1/p' include/marrubigai.h)" \
   "$(echo $(grep -E '^prefix|^Version' "$installed/lib/pkgconfig/marrubigai.pc"))"
 check "the man page has every option of the help" same "$("$plain" --help | grep -oE -- '--[a-z]+' | sort -u)" \
   "$(sed 's/\\-/-/g' "$installed/share/man/man1/marrubigai.1" | grep -oE -- '--[a-z]+' | sort -u)"

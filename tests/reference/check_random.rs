@@ -356,7 +356,10 @@ fn tiny_cases(count: usize) -> Vec<(Netlist, u32)> {
 /// Both halves of demand 3 on all assignments and all runs of tiny netlists. At least a fifth of
 /// them is satisfiable and a fifth unsatisfiable, not counting those with a constant P.
 pub fn demand_3(tally: &mut Tally) {
-    let cases = tiny_cases(1200);
+    demand_3_of(tally, &tiny_cases(1200));
+}
+
+pub fn demand_3_of(tally: &mut Tally, cases: &[(Netlist, u32)]) {
     let (mut satisfiable, mut unsatisfiable, mut models) = (0, 0, 0);
     for (index, (netlist, depth)) in cases.iter().enumerate() {
         let found = compare(netlist, *depth, Fault::None);

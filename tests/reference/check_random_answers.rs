@@ -364,10 +364,21 @@ pub fn damaged_answers(tally: &mut Tally) {
 /// where there is such an assignment.
 pub fn assignments(tally: &mut Tally) {
     let mut random = Random::new(24);
+    let cases = (0..400)
+        .map(|_| (tiny_netlist(&mut random), random.below(3)))
+        .collect();
+    assignments_of(tally, &mut random, cases, 80);
+}
+
+/// Assignments that make all clauses true, written as answers; at least so many of the cases have some, and as many none.
+pub fn assignments_of(
+    tally: &mut Tally,
+    random: &mut Random,
+    cases: Vec<(Netlist, u32)>,
+    least: usize,
+) {
     let [mut satisfiable, mut unsatisfiable, mut models] = [0; 3];
-    for round in 0..400 {
-        let netlist = tiny_netlist(&mut random);
-        let depth = random.below(3);
+    for (round, (netlist, depth)) in cases.into_iter().enumerate() {
         let formula = Formula::new(&netlist, depth, Fault::None);
         let variables = formula.variable_count() as usize;
         let mut solver = Solver::new(variables, &formula.numbers());
@@ -382,7 +393,7 @@ pub fn assignments(tally: &mut Tally) {
             let numbers: Vec<i32> = (1..=variables as i32)
                 .map(|it| if model[it as usize] { it } else { -it })
                 .collect();
-            let answer = written(&mut random, &numbers);
+            let answer = written(random, &numbers);
             let call = Call::new(&netlist, depth, answer, [0, 0]);
             let run = Run::new(&netlist, &feeds_of_model(&netlist, depth, model));
             let outcome = call.outcome();
@@ -390,6 +401,11 @@ pub fn assignments(tally: &mut Tally) {
             tally.check((round, "an assignment's run"), fits);
             let printed = assigned_text(&netlist, depth, model);
             tally.check((round, "an assignment"), outcome.printed() == printed);
+            let needed = feed_literals(&netlist, &run);
+            tally.check(
+                (round, "what it needs"),
+                needed.iter().all(|it| numbers.contains(it)),
+            );
         }
         let breaks = Runs::new(netlist.clone(), depth)
             .runs
@@ -402,7 +418,7 @@ pub fn assignments(tally: &mut Tally) {
         }
     }
     for count in [satisfiable, unsatisfiable] {
-        tally.check(("occurrences", count), count >= 80);
+        tally.check(("occurrences", count), count >= least);
     }
     tally.remark = format!(
         " ({satisfiable} satisfiable, {unsatisfiable} unsatisfiable, {models} assignments)"
@@ -410,7 +426,7 @@ pub fn assignments(tally: &mut Tally) {
 }
 
 /// What is to be printed for an assignment that makes all clauses true, by its variables alone.
-pub fn assigned_text(netlist: &Netlist, depth: u32, model: &[bool]) -> Vec<u8> {
+fn assigned_text(netlist: &Netlist, depth: u32, model: &[bool]) -> Vec<u8> {
     let code_value = |frame: usize, code: u32| match code {
         0 | 1 => code == 1,
         _ => model[variable(netlist, frame, code as usize / 2)] == (code % 2 == 0),

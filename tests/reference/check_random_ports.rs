@@ -3,7 +3,7 @@
 use std::collections::HashSet;
 
 use super::agreement::{
-    agrees, breaking_runs, compare, compare_with, feed_literals, feeds_of_model,
+    breaking_runs, compare, compare_with,
     propagation_follows_run,
 };
 use super::answer::{replay, Claim};
@@ -12,8 +12,8 @@ use super::check_answers::satisfiable;
 use super::check_examples::accepted;
 use super::check_ports::{two_of_sizes, CONSTANT_READS, TWO_READS, TWO_RICH};
 use super::check_position::change_unused;
-use super::check_random::{counted, dimacs, heading_holds, lengths_hold, without_constants};
-use super::check_random_answers::{answer_breaks, assigned_text, Runs};
+use super::check_random::{counted, demand_3_of, dimacs, heading_holds, lengths_hold, without_constants};
+use super::check_random_answers::{assignments_of, Runs};
 use super::check_refusals::verdict;
 use super::circuit::{value, word, Run, Values};
 use super::formula::{
@@ -33,7 +33,6 @@ use super::refusal::{
     Refusal, CODE, MEMORY_LOOP, MISPRINT, NO_ROOM, OUT_OF_ORDER, RAGGED, SIZE, TIED_ADDRESS,
 };
 use super::sheet::{expand, read_sheet, write_back, write_depth, write_sheet, LINE_BYTES};
-use super::solver::Solver;
 use super::Tally;
 
 fn read(sheet: &[u8]) -> Result<Netlist, Refusal> {
@@ -554,25 +553,7 @@ fn tiny_cases(count: usize) -> Vec<(Netlist, u32)> {
 
 /// Both halves of demand 3 on all assignments and all runs of tiny T netlists.
 pub fn demand_3(tally: &mut Tally) {
-    let cases = tiny_cases(3000);
-    let [mut satisfiable, mut unsatisfiable, mut models] = [0; 3];
-    for (index, (netlist, depth)) in cases.iter().enumerate() {
-        let found = compare(netlist, *depth, Fault::None);
-        tally.check((index, depth, netlist), found.holds());
-        models += found.models;
-        match found.models {
-            _ if netlist.property < 2 => {}
-            0 => unsatisfiable += 1,
-            _ => satisfiable += 1,
-        }
-    }
-    tally.check("enough satisfiable", 5 * satisfiable >= cases.len());
-    tally.check("enough unsatisfiable", 5 * unsatisfiable >= cases.len());
-    let constant = cases.len() - satisfiable - unsatisfiable;
-    tally.remark = format!(
-        " ({satisfiable} satisfiable, {unsatisfiable} unsatisfiable, {constant} with constant P, \
-         {models} assignments)"
-    );
+    demand_3_of(tally, &tiny_cases(3000));
 }
 
 /// Start word, first address, second address, write data, WE, RE, second RE and P of a sheet with wires
@@ -901,53 +882,7 @@ pub fn assignments(tally: &mut Tally) {
     for count in counts {
         tally.check(("occurrences", count), count >= 20);
     }
-    let mut random = Random::new(51);
-    let [mut satisfiable_cases, mut unsatisfiable, mut models] = [0; 3];
-    for (round, (netlist, depth)) in tiny_cases(300).into_iter().enumerate() {
-        let formula = Formula::new(&netlist, depth, Fault::None);
-        let variables = formula.variable_count() as usize;
-        let mut solver = Solver::new(variables, &formula.numbers());
-        let mut found: Vec<Vec<bool>> = Vec::new();
-        solver.models(&mut |model| {
-            if found.len() < 40 {
-                found.push(model.to_vec());
-            }
-        });
-        for model in found.iter().step_by(5) {
-            models += 1;
-            let numbers: Vec<i32> = (1..=variables as i32)
-                .map(|it| if model[it as usize] { it } else { -it })
-                .collect();
-            let answer = written(&mut random, &numbers);
-            let call = Call::new(&netlist, depth, answer, [0, 0]);
-            let run = Run::new(&netlist, &feeds_of_model(&netlist, depth, model));
-            let outcome = call.outcome();
-            let fits = outcome == call.of_run(&run) && agrees(&netlist, model, &run);
-            tally.check((round, "an assignment's run"), fits);
-            let printed = assigned_text(&netlist, depth, model);
-            tally.check((round, "an assignment"), outcome.printed() == printed);
-            let needed = feed_literals(&netlist, &run);
-            tally.check(
-                (round, "what it needs"),
-                needed.iter().all(|it| numbers.contains(it)),
-            );
-        }
-        let breaks = Runs::new(netlist.clone(), depth)
-            .runs
-            .iter()
-            .any(|(literals, _)| answer_breaks(&netlist, depth, literals));
-        tally.equal((round, "breaks"), breaks, !found.is_empty());
-        match found.len() {
-            0 => unsatisfiable += 1,
-            _ => satisfiable_cases += 1,
-        }
-    }
-    for count in [satisfiable_cases, unsatisfiable] {
-        tally.check(("occurrences", count), count >= 60);
-    }
-    tally.remark = format!(
-        " ({satisfiable_cases} satisfiable, {unsatisfiable} unsatisfiable, {models} assignments)"
-    );
+    assignments_of(tally, &mut Random::new(51), tiny_cases(300), 60);
 }
 
 /// Every byte of small T sheets replaced by others: the refusal is one that the byte's place can cause.

@@ -6,7 +6,8 @@ use lib.IntN.{ℤ, pos, negsuc}
 use Rattle.model.specs.Bits.{odd}
 
 -- Variables are counted from 0 here. Behind the bits of the state, which are variables 0 to b - 1, five families take turns: the bits of the next state, the
--- wires, the address matches, and for each place of an invariant whether its clauses from there on fail behind the step, with none of the first clause's numbers found yet, or one
+-- wires, the address matches, and for each place of an invariant whether its clauses from there on fail behind the step, with none of the first clause's
+-- numbers found yet, or one
 unfoldable pub variable : ℕ → ℕ → ℕ → ℕ
 variable b k j = b + 5 * j + k
 
