@@ -1,5 +1,7 @@
 #include "certificate.h"
 
+#include <sys/stat.h>
+
 #include <algorithm>
 #include <cerrno>
 #include <cstdio>
@@ -24,11 +26,13 @@ struct Closing {
   void operator()(std::FILE *file) const { std::fclose(file); }
 };
 
-// Read piece by piece: how long a list is said to be does not make room for it, only what is there does.
+// Read piece by piece: how long a list is said to be does not make room for it, only what is there does, and the file's own length, where it has one.
 class Reader {
 public:
   explicit Reader(const std::string &name) : path(name), file(std::fopen(name.c_str(), "rbe")) {
     if (!file) throw Failure(path + ": it cannot be opened: " + std::strerror(errno));
+    struct stat status {};
+    if (fstat(fileno(file.get()), &status) == 0 && S_ISREG(status.st_mode)) length = static_cast<size_t>(status.st_size);
   }
 
   std::string line() {
@@ -39,15 +43,16 @@ public:
     return text;
   }
 
-  uint32_t number() {
-    unsigned char bytes[4];
-    if (std::fread(bytes, 1, 4, file.get()) != 4) refuse("it is shorter than its first line says");
-    return bytes[0] | uint32_t{bytes[1]} << 8 | uint32_t{bytes[2]} << 16 | uint32_t{bytes[3]} << 24;
-  }
-
   template <typename Number> std::vector<Number> numbers(size_t count) {
     std::vector<Number> read;
-    while (read.size() < count) read.push_back(static_cast<Number>(number()));
+    read.reserve(std::min(count, length / 4));
+    std::vector<unsigned char> piece(std::min(count, PIECE) * 4);
+    while (read.size() < count) {
+      size_t wanted = std::min(count - read.size(), PIECE);
+      if (std::fread(piece.data(), 4, wanted, file.get()) != wanted) refuse("it is shorter than its first line says");
+      for (const unsigned char *at = piece.data(), *end = at + 4 * wanted; at != end; at += 4)
+        read.push_back(static_cast<Number>(at[0] | uint32_t{at[1]} << 8 | uint32_t{at[2]} << 16 | uint32_t{at[3]} << 24));
+    }
     return read;
   }
 
@@ -62,8 +67,10 @@ public:
   }
 
 private:
+  static constexpr size_t PIECE = 1 << 14;
   std::string path;
   std::unique_ptr<std::FILE, Closing> file;
+  size_t length = 0;
 };
 
 // a count without a leading zero, and what is behind it is left; above the most that is taken where it is none
@@ -100,6 +107,23 @@ size_t clauses_in(const std::vector<int32_t> &numbers) { return static_cast<size
 template <typename Number> const Number *lent(const std::vector<Number> &numbers) {
   static const Number none = 0;
   return numbers.empty() ? &none : numbers.data();
+}
+
+// The variables of the formula of a depth; its numbers are told group by group.
+template <typename Told> uint32_t tell_formula(const Chip &chip, const Property &property, uint32_t depth, Told told) {
+  marrubigai_netlist net = chip.of(property);
+  auto heading = marrubigai_heading(net, chip.latch_list(), net.latches, chip.gate_list(), net.gates, depth);
+  test(heading.number, "the formula");
+  std::vector<int32_t> room(MARRUBIGAI_GROUP_ROOM);
+  marrubigai_group_reply group{};
+  group.kind = MARRUBIGAI_WIRES;
+  for (; !group.end; group = marrubigai_next_group(depth, 1 + net.second_port, group.kind, group.j, group.i, group.port)) {
+    auto reply = marrubigai_write_group(net, chip.latch_list(), net.latches, chip.gate_list(), net.gates, depth, group.kind, group.j, group.i,
+                                        group.port, room.data(), room.size());
+    test(reply.number, "the formula");
+    told(room.data(), reply.count);
+  }
+  return heading.variables;
 }
 
 } // namespace
@@ -148,19 +172,9 @@ void write_certificate(const std::string &path, const ForeverCertificate &certif
 }
 
 Formula formula_of(const Chip &chip, const Property &property, uint32_t depth) {
-  marrubigai_netlist net = chip.of(property);
-  auto heading = marrubigai_heading(net, chip.latch_list(), net.latches, chip.gate_list(), net.gates, depth);
-  test(heading.number, "the formula");
-  Formula made{{}, heading.variables};
-  std::vector<int32_t> room(MARRUBIGAI_GROUP_ROOM);
-  marrubigai_group_reply group{};
-  group.kind = MARRUBIGAI_WIRES;
-  for (; !group.end; group = marrubigai_next_group(depth, 1 + net.second_port, group.kind, group.j, group.i, group.port)) {
-    auto reply = marrubigai_write_group(net, chip.latch_list(), net.latches, chip.gate_list(), net.gates, depth, group.kind, group.j, group.i,
-                                        group.port, room.data(), room.size());
-    test(reply.number, "the formula");
-    made.numbers.insert(made.numbers.end(), room.begin(), room.begin() + static_cast<std::ptrdiff_t>(reply.count));
-  }
+  Formula made;
+  made.variables =
+      tell_formula(chip, property, depth, [&](const int32_t *group, size_t count) { made.numbers.insert(made.numbers.end(), group, group + count); });
   return made;
 }
 
@@ -174,12 +188,13 @@ std::string sheet_of(const Chip &chip, const Property &property) {
 }
 
 Checked check(const Chip &chip, const Property &property, uint32_t depth, const Certificate &certificate) {
-  Formula formula = formula_of(chip, property, depth);
+  size_t numbers = 0; // of the formula, which is not kept here beside the one in the store
+  uint32_t variables = tell_formula(chip, property, depth, [&](const int32_t *, size_t count) { numbers += count; });
   char depth_line[16];
   std::snprintf(depth_line, sizeof depth_line, "%10u\n", static_cast<unsigned>(depth));
   std::string input = depth_line + sheet_of(chip, property);
-  std::vector<int32_t> store(formula.numbers.size() + certificate.lemmas.size() + 1); // one more, so that there is an address to lend
-  std::vector<uint32_t> marks(2 * (size_t{formula.variables} + 1));
+  std::vector<int32_t> store(numbers + certificate.lemmas.size() + 1); // one more, so that there is an address to lend
+  std::vector<uint32_t> marks(2 * (size_t{variables} + 1));
   auto reply = marrubigai_certify(reinterpret_cast<const uint8_t *>(input.data()), input.size(), lent(certificate.lemmas), certificate.lemmas.size(),
                                   lent(certificate.hints), certificate.hints.size(), store.data(), store.size(), marks.data(), marks.size());
   test(reply.number, "the certificate could not be checked");
