@@ -37,9 +37,9 @@ void certify(const Chip &chip, const Options &options, Refutation &refutation, V
   const Property &property = chip.properties[0];
   stop.at_work("certificate");
   try {
-    Formula formula = formula_of(chip, property, options.depth);
+    Formula formula = formula_of(chip, property, chip.sheet_frame(options.depth));
     Certificate made = elaborate(formula.numbers, refutation.learnt(stop), formula.variables, stop);
-    Checked checked = check(chip, property, options.depth, made);
+    Checked checked = check(chip, property, chip.sheet_frame(options.depth), made);
     if (!checked.certified)
       fail(property, options.depth, "the lemma " + std::to_string(checked.lemma) + " that was made of it does not follow by its hints");
     write_certificate(options.certificate_file, made);
@@ -60,7 +60,7 @@ Verdict check_certificate(const Chip &chip, const Options &options, Stop &stop) 
   auto read = read_certificate(options.check_file);
   const ForeverCertificate *forever = std::get_if<ForeverCertificate>(&read);
   const Certificate &refutation = forever ? forever->refutation : std::get<Certificate>(read);
-  Checked checked = forever ? check(chip, property, *forever) : check(chip, property, options.depth, refutation);
+  Checked checked = forever ? check(chip, property, *forever) : check(chip, property, chip.sheet_frame(options.depth), refutation);
   if (!checked.certified)
     throw Failure(options.check_file + ": this does not certify that " + (forever ? claim(property) : claim(property, options.depth)) + ": of its " +
                   std::to_string(refutation.lemma_count()) + " lemmas, the one numbered " + std::to_string(checked.lemma) +

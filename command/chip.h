@@ -41,11 +41,19 @@ struct Chip {
 
   std::vector<Word> shown; // the table's columns
   std::vector<Word> named; // every word that has a name
+  // Words that are the command's own and no design's, for facts: `started`, false in frame 0 alone, and `assumed`, true as long as all assumptions held.
+  std::vector<Word> own;
   std::string memory_name;
-  std::vector<ShownPort> ports; // one or two; the first one's address is the one that is written at
+  std::vector<ShownPort> ports; // of the design, as many as the sheet has or more; the first one's address is the one that is written at
   std::vector<uint32_t> write_data;
   Bench bench;
   std::vector<std::string> notes; // what the user should know of how the chip was made
+
+  // A frame of the design is so many frames of the sheet, and its words are what they are in the last of these (phases.h).
+  uint32_t phases = 1;
+  uint32_t sheet_frame(uint32_t frame) const { return (frame + 1) * phases - 1; }
+  uint32_t design_frame(uint32_t sheet_frame) const { return sheet_frame / phases; }
+  uint32_t most_depth() const { return (MOST_DEPTH + 1) / phases - 1; }
 
   // the record with the property in its place
   marrubigai_netlist of(const Property &property) const {

@@ -5,6 +5,13 @@
 #include <set>
 
 #include "failure.h"
+#include "phases.h"
+
+std::vector<uint32_t> Emission::codes_of(const std::vector<Lit> &literals) const {
+  std::vector<uint32_t> made;
+  for (Lit literal : literals) made.push_back(code(literal));
+  return made;
+}
 
 namespace {
 
@@ -73,11 +80,22 @@ std::vector<std::vector<Lit>> own_bits(Aig &aig, const std::vector<ReadPort> &po
   return own;
 }
 
-void set_start(marrubigai_netlist &net, const Memory &memory, const std::vector<size_t> &data_bits, const Start &start) {
+std::string counts(size_t inputs, size_t latches, size_t read_bits, size_t gates) {
+  return std::to_string(inputs) + " inputs, " + std::to_string(latches) + " registers, " + std::to_string(read_bits) + " read bits, " +
+         std::to_string(gates) + " gates";
+}
+
+struct Begins {
+  bool unknown = false;
+  uint32_t word = 0;
+};
+
+Begins begins_as(const Memory &memory, const std::vector<size_t> &data_bits, const Start &start) {
   std::string words = "memory " + memory.name + " (" + memory.source + ")";
   size_t width = memory.write_data.size();
   if (start.kind == Start::Kind::word && width < 32 && start.word >> width != 0)
     throw Failure("--start " + std::to_string(start.word) + ": a word of " + words + " has " + std::to_string(width) + " bits");
+  Begins begins;
   size_t unknown = 0;
   for (size_t t = 0; t < data_bits.size(); t++) {
     size_t bit = data_bits[t];
@@ -88,38 +106,53 @@ void set_start(marrubigai_netlist &net, const Memory &memory, const std::vector<
       throw Failure(words + " begins with contents that differ from word to word, which is not built: all words begin alike, or unknown.\n"
                             "Let a reset write it, or ask from a start of your own (--start unknown, --start 0).");
     unknown += value == 'x';
-    if (value == '1') net.initial_word |= uint32_t{1} << t;
+    if (value == '1') begins.word |= uint32_t{1} << t;
   }
-  if (unknown == 0) return;
-  if (net.second_port)
-    throw Failure(words + " begins unknown and has two addresses in one frame: with two ports what it begins as must be given.\n"
-                          "Fill it in an initial block, or ask from a word of your own (--start 0): then this is what is read before it is written.");
+  if (unknown == 0) return begins;
   if (unknown != data_bits.size())
     throw Failure(words + " begins with words of which some bits are given and others are unknown, which is not built.\n"
                           "Fill whole words, or ask from a start of your own (--start unknown, --start 0).");
-  net.unknown_start = 1;
-  net.initial_word = 0;
+  return {true, 0};
 }
 
-} // namespace
+void show_ports(Emission &made, const Memory &memory) {
+  made.chip.ports.clear();
+  for (const ReadPort &port : memory.ports) made.chip.ports.push_back({made.codes_of(port.address), made.codes_of(port.read), made.code(port.re)});
+  made.chip.write_data = made.codes_of(memory.write_data);
+}
 
-std::vector<uint32_t> Emission::codes_of(const std::vector<Lit> &literals) const {
-  std::vector<uint32_t> made;
-  for (Lit literal : literals) made.push_back(code(literal));
+Emission emit_cone(Aig &aig, Memory memory, const std::vector<Lit> &seen, const std::vector<Lit> &watched, const Start &start);
+
+// The sheet can have a second port, where its memory begins with a given word. Else the ports have one of its in turn.
+Emission emit_in_phases(const Aig &aig, const Memory &memory, const std::vector<Lit> &seen, const std::vector<Lit> &watched, const Start &start) {
+  Phased phased = in_phases(aig, memory);
+  std::vector<Lit> counted;
+  for (Lit each : seen) counted.push_back(phased.aig.land(phased.literal(each), phased.last));
+  Emission made = emit_cone(phased.aig, phased.memory, counted, phased.literals_of(watched), start);
+  std::vector<uint32_t> codes;
+  for (Lit literal : phased.literals) codes.push_back(made.code(literal));
+  made.codes = codes;
+  made.chip.phases = static_cast<uint32_t>(memory.ports.size());
+  show_ports(made, memory);
   return made;
 }
 
-Emission emit(Aig &aig, const Memory &memory, const std::vector<Lit> &roots, const Start &start) {
+Emission emit_cone(Aig &aig, Memory memory, const std::vector<Lit> &seen, const std::vector<Lit> &watched, const Start &start) {
+  std::vector<Lit> roots = seen;
+  roots.insert(roots.end(), watched.begin(), watched.end());
   Cone cone = cone_of(aig, memory, roots);
-  std::vector<ReadPort> ports; // those of the record: the second only where something depends on it
+  std::vector<ReadPort> ports; // those of the record: others than the first only where something depends on them
   for (size_t port = 0; port < memory.ports.size(); port++)
     if (port == 0 || cone.ports[port]) ports.push_back(memory.ports[port]);
   if (!cone.ports[0]) ports[0].re = FALSE; // it only writes
+  memory.ports = ports;
   for (const ReadPort &port : ports)
     for (Lit bit : port.address)
       if (!cone.data_bits.empty() && aig.depends_on(bit, Aig::Kind::read))
         throw NoFit(memory.source + ": the address of memory " + memory.name + " depends on a word that it reads in the same frame.\n" +
                     "Put a register on the path, so that the address comes from a word that an earlier step read.");
+  Begins begins = begins_as(memory, cone.data_bits, start);
+  if (ports.size() > 2 || (ports.size() == 2 && begins.unknown)) return emit_in_phases(aig, memory, seen, watched, start);
   std::vector<std::vector<Lit>> address(ports.size());
   if (!cone.data_bits.empty()) address = own_bits(aig, ports);
   cone.has.resize(aig.size(), 1); // copies of address bits
@@ -133,8 +166,6 @@ Emission emit(Aig &aig, const Memory &memory, const std::vector<Lit> &roots, con
   }
   size_t data_bits = std::max<size_t>(cone.data_bits.size(), 1), read_bits = ports.size() * data_bits;
   size_t wires = inputs.size() + latches.size() + read_bits + gates.size();
-  std::string counts = std::to_string(inputs.size()) + " inputs, " + std::to_string(latches.size()) + " registers, " + std::to_string(read_bits) +
-                       " read bits, " + std::to_string(gates.size()) + " gates";
   if (address[0].size() > MOST_ADDRESS_BITS)
     throw Failure(memory.source + ": memory " + memory.name + " has " + std::to_string(address[0].size()) + " address bits, and 12 is the most.\n" +
                   "Make it smaller by a parameter (-P).");
@@ -142,7 +173,8 @@ Emission emit(Aig &aig, const Memory &memory, const std::vector<Lit> &roots, con
     throw TooLarge(memory.source + ": what is asked about depends on " + std::to_string(data_bits) + " data bits of memory " + memory.name +
                   ", and 32 is the most.\nMake the words narrower by a parameter (-P).");
   if (wires > MOST_WIRES)
-    throw TooLarge("what is asked about depends on " + std::to_string(wires) + " wires (" + counts + "), and 600 is the most.\n" +
+    throw TooLarge("what is asked about depends on " + std::to_string(wires) + " wires (" + counts(inputs.size(), latches.size(), read_bits, gates.size()) +
+                  "), and 600 is the most.\n" +
                   "Make the design smaller by a parameter (-P): narrower words, fewer of them.");
   Emission made;
   made.codes.assign(aig.size(), NO_CODE);
@@ -176,14 +208,24 @@ Emission emit(Aig &aig, const Memory &memory, const std::vector<Lit> &roots, con
     net.we = made.code(memory.we);
     net.re = made.code(ports[0].re);
     if (net.second_port) net.re2 = made.code(ports[1].re);
-    set_start(net, memory, cone.data_bits, start);
+    net.unknown_start = begins.unknown;
+    net.initial_word = begins.word;
   }
-  for (const ReadPort &port : ports)
-    chip.ports.push_back({made.codes_of(port.address), made.codes_of(port.read), cone.data_bits.empty() ? 0 : made.code(port.re)});
-  chip.write_data = made.codes_of(memory.write_data);
-  std::string begins = net.unknown_start ? "unknown" : std::to_string(net.initial_word);
+  show_ports(made, memory);
+  for (Lit each : seen) made.seen.push_back(made.code(each));
+  return made;
+}
+
+} // namespace
+
+Emission emit(Aig &aig, const Memory &memory, const std::vector<Lit> &seen, const std::vector<Lit> &watched, const Start &start) {
+  Emission made = emit_cone(aig, memory, seen, watched, start);
+  Chip &chip = made.chip;
+  const marrubigai_netlist &net = chip.net;
+  std::string ports = chip.phases > 1 ? std::to_string(chip.phases) + " ports in turn (a frame is " + std::to_string(chip.phases) + " of the sheet), "
+                                      : net.second_port ? "two ports, " : "";
   chip.notes.push_back("memory " + memory.name + " (" + memory.source + "): " + std::to_string(net.m) + " address bits, " + std::to_string(net.n) +
-                       " data bits, " + (net.second_port ? "two ports, " : "") + "start " + begins + "; " + std::to_string(wires) +
-                       " wires of at most 600 (" + counts + ")");
+                       " data bits, " + ports + "start " + (net.unknown_start ? "unknown" : std::to_string(net.initial_word)) + "; " +
+                       std::to_string(chip.wires()) + " wires of at most 600 (" + counts(net.inputs, net.latches, chip.read_bits(), net.gates) + ")");
   return made;
 }

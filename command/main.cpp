@@ -64,6 +64,14 @@ std::vector<Chip> load(const Options &options, Stop &stop) {
   return {chip};
 }
 
+void test_depth(const std::vector<Chip> &chips, uint32_t depth) {
+  for (const Chip &chip : chips)
+    if (depth > chip.most_depth())
+      throw Failure("-k " + std::to_string(depth) + ": a frame of this design is " + std::to_string(chip.phases) + " of its sheet, which can have 256: " +
+                        std::to_string(chip.most_depth()) + " is the most",
+                    USAGE);
+}
+
 // to the depth, certified where that is wanted
 std::vector<Verdict> search_to_depth(const Chip &chip, const Options &options, Stop &stop) {
   std::optional<Refutation> refutation;
@@ -88,7 +96,7 @@ std::vector<Verdict> search_and_prove(const Chip &chip, const Options &options, 
     if (verdicts[p].kind == Verdict::Kind::holds) verdicts[p].forever = prove(chip, chip.properties[p], options, known, stop);
     verdicts[p].seconds = stop.seconds();
     if (!verdicts[p].forever || verdicts[p].forever->certified) continue;
-    if (verdicts[p].forever->claimed) further.depth = std::max(further.depth, std::min<uint32_t>(*verdicts[p].forever->claimed, MOST_DEPTH));
+    if (verdicts[p].forever->claimed) further.depth = std::max(further.depth, std::min(*verdicts[p].forever->claimed, chip.most_depth()));
     rest.properties.push_back(chip.properties[p]);
     open.push_back(p);
   }
@@ -115,6 +123,7 @@ int run(const Options &options) {
   Stop stop(options.timeout, !options.quiet);
   test_outputs(options);
   std::vector<Chip> chips = load(options, stop);
+  test_depth(chips, options.depth);
   if (!options.certificate_file.empty()) test_one_property(chips, "--certificate");
   if (!options.check_file.empty()) test_one_property(chips, "--check");
   if (!options.keep_folder.empty()) keep_sheets(chips, options.keep_folder);

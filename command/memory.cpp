@@ -35,29 +35,21 @@ struct Parting {
   std::vector<char> from_writes;
 };
 
-// Whether the counted reads from `next` on can go through two ports, so that in no frame a port has two addresses. The first port has the address
-// that is written at; where there is a choice it only writes, which makes fewer clauses.
-bool place(const Parting &parting, size_t next, std::vector<size_t> &port) {
+// Whether the counted reads from `next` on can go through so many ports, so that in no frame a port has two addresses. The first port has the
+// address that is written at; where there is a choice it only writes, which makes fewer clauses.
+bool place(const Parting &parting, size_t ports, size_t next, std::vector<size_t> &port) {
   if (next == parting.counted.size()) return true;
   size_t at = parting.counted[next];
-  for (size_t chosen : {1, 0}) {
-    bool fits = chosen == 1 || !parting.from_writes[at];
+  for (size_t turn = 1; turn <= ports; turn++) {
+    size_t chosen = turn % ports;
+    bool fits = chosen != 0 || !parting.from_writes[at];
     for (size_t before = 0; before < next; before++) {
       size_t other = parting.counted[before];
       fits = fits && !(port[other] == chosen && parting.reads[at][other]);
     }
     port[at] = chosen;
-    if (fits && place(parting, next + 1, port)) return true;
+    if (fits && place(parting, ports, next + 1, port)) return true;
   }
-  return false;
-}
-
-// whether any two of some three reads can be at different addresses
-bool has_three(const Parting &parting) {
-  for (size_t one : parting.counted)
-    for (size_t two : parting.counted)
-      for (size_t three : parting.counted)
-        if (parting.reads[one][two] && parting.reads[two][three] && parting.reads[one][three]) return true;
   return false;
 }
 
@@ -205,7 +197,7 @@ std::vector<char> MemoryCut::reads_below(std::vector<Lit> stack) const {
   return found;
 }
 
-PortPlan MemoryCut::two_ports(const std::vector<Lit> &roots) {
+PortPlan MemoryCut::plan_ports(const std::vector<Lit> &roots, size_t most) {
   gather();
   finish_registers();
   PortPlan found{std::vector<size_t>(readers, 0), reads_below(roots)};
@@ -217,17 +209,15 @@ PortPlan MemoryCut::two_ports(const std::vector<Lit> &roots) {
     for (size_t other = 0; other < at; other++)
       if (can_part(writes[at], writes[other]))
         refuse("is written at two addresses in one frame, and a second write port is not built.\nWrite one word in a step of the clock.");
-  bool parts = false;
   for (size_t at : parting.counted) {
     for (const Access &write : writes) parting.from_writes[at] = parting.from_writes[at] || can_part(reads[at], write);
     for (size_t other : parting.counted)
       if (other < at) parting.reads[at][other] = parting.reads[other][at] = can_part(reads[at], reads[other]);
-    parts = parts || parting.from_writes[at] || std::count(parting.reads[at].begin(), parting.reads[at].end(), 1) > 0;
   }
-  if (!parts || place(parting, 0, found.port)) return found;
-  if (has_three(parting)) refuse("is read at three addresses in one frame, and it can have two ports.\nRead two words in a step of the clock.");
-  refuse("is read at two addresses in one frame and written at a third: it can have two ports, of which the first writes.\n"
-         "Read one word in a step of the clock, or give one of the reads the address that is written at.");
+  for (size_t ports = 1; ports <= most; ports++)
+    if (place(parting, ports, 0, found.port)) return found;
+  refuse("is read and written at more than " + std::to_string(most) + " addresses in one frame, and a frame can have so many.\n" +
+         "Read fewer words in a step of the clock; --property asks about one assertion alone, and only what that reads counts.");
 }
 
 // The address of whichever is active in a frame. Two that are active in one frame must have the same.

@@ -10,13 +10,15 @@ struct ReadPort {
 
 struct Memory {
   std::string name, source;
-  std::vector<ReadPort> ports; // one or two; the address of the first is the one that is written at
+  std::vector<ReadPort> ports; // the address of the first is the one that is written at
   std::vector<Lit> write_data; // bit 0 first
   Lit we = FALSE;
   // What every word begins as, bit 0 first: 0, 1, x where it is unknown, * where it differs from word to word.
   std::string start;
   std::vector<std::string> notes;
 };
+
+constexpr size_t MOST_PORTS = 5; // so that a sheet has room for the 51 frames that are asked about where nothing is said
 
 // Finds the memory, which the user may have chosen by its name. A Failure where there is none, or several.
 const Cell &only_memory(const Design &design, const std::string &chosen);
@@ -35,9 +37,9 @@ class MemoryCut {
 public:
   MemoryCut(Logic &logic, const Cell &cell, const PortPlan &plan);
   Memory finish();
-  // In place of finish, of a cut with a port for each read: which of two ports each can go through. Reads that the roots do not depend on do not
-  // count. What does not fit into two ports is a NoFit.
-  PortPlan two_ports(const std::vector<Lit> &roots);
+  // In place of finish, of a cut with a port for each read: through which port each can go, of as few as will do. Reads that the roots do not depend
+  // on do not count. What does not fit into so many ports is a NoFit.
+  PortPlan plan_ports(const std::vector<Lit> &roots, size_t most);
 
 private:
   // a port of yosys' memory

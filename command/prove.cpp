@@ -136,8 +136,8 @@ private:
     switch (answer.kind) {
     case PdrAnswer::Kind::none: tell(way, answer.why, began); break;
     case PdrAnswer::Kind::broken:
-      made.claimed = answer.frame;
-      tell(way, "it says that a run breaks it in frame " + std::to_string(answer.frame), began);
+      made.claimed = chip.design_frame(answer.frame);
+      tell(way, "it says that a run breaks it in frame " + std::to_string(*made.claimed), began);
       break;
     case PdrAnswer::Kind::invariant: certify(way, {{"", answer.invariant}}, {true}, began); break;
     }

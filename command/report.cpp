@@ -97,7 +97,7 @@ std::string read_json(const Access::Read &read, Radix radix) {
   return "\"read\": " + quoted(written(read.word, radix)) + ", \"written_in\": " + (read.writer ? std::to_string(*read.writer) : "null");
 }
 
-// the first port's address, read and write; the second port's read as an object of its own
+// the first port's address, read and write; the read of each other port as an object of its own
 std::string access_json(const Access &access, Radix radix) {
   std::vector<std::string> members;
   auto address = [&](const Bits &bits) { return "\"address\": " + quoted(written(bits, radix)); };
@@ -107,8 +107,9 @@ std::string access_json(const Access &access, Radix radix) {
     if (members.empty()) members.push_back(address(access.write->address));
     members.push_back("\"write\": " + quoted(written(access.write->word, radix)));
   }
+  static const char *const others[] = {"second", "third", "fourth", "fifth"};
   for (const Access::Read &read : access.reads)
-    if (read.port == 1) members.push_back("\"second\": {" + address(read.address) + ", " + read_json(read, radix) + "}");
+    if (read.port > 0) members.push_back(quoted(others[read.port - 1]) + ": {" + address(read.address) + ", " + read_json(read, radix) + "}");
   std::string text;
   for (const std::string &member : members) text += (text.empty() ? "" : ", ") + member;
   return "{" + text + "}";
@@ -190,7 +191,7 @@ std::string chip_json(const Searched &searched, Radix radix) {
                      ", \"gates\": " + std::to_string(chip.net.gates) + ", \"wires\": " + std::to_string(chip.wires()) + ",\n   \"memory\": {";
   if (!chip.memory_name.empty()) text += "\"name\": " + quoted(chip.memory_name) + ", ";
   text += "\"address_bits\": " + std::to_string(chip.net.m) + ", \"data_bits\": " + std::to_string(chip.net.n) + ", \"ports\": " +
-          std::to_string(chip.ports.size()) + ", \"start\": " + (chip.net.unknown_start ? "null" : std::to_string(chip.net.initial_word)) +
+          std::to_string(chip.ports.size()) + ", \"phases\": " + std::to_string(chip.phases) + ", \"start\": " + (chip.net.unknown_start ? "null" : std::to_string(chip.net.initial_word)) +
           "},\n   \"notes\": [";
   for (size_t at = 0; at < chip.notes.size(); at++) text += (at ? ", " : "") + quoted(chip.notes[at]);
   text += "],\n   \"properties\": [";

@@ -1,6 +1,8 @@
 #include "run.h"
 
+#include <algorithm>
 #include <map>
+#include <set>
 
 #include "failure.h"
 #include "refusals.h"
@@ -46,12 +48,13 @@ Run replay(const Chip &chip, const Property &property, const std::vector<marrubi
                                  trace.size());
   if (reply.number == MARRUBIGAI_NO_VIOLATION)
     throw Failure("The solver claims a run that breaks " + property.name + ", but the chip, stepped with its memory as the solver says, breaks it " +
-                  "in no frame 0 to " + std::to_string(depth) + ". The solver is wrong: nothing is known of this property.");
+                  "in no frame 0 to " + std::to_string(chip.design_frame(depth)) + ". The solver is wrong: nothing is known of this property.");
   if (reply.number != MARRUBIGAI_PASSED || reply.claimed)
     throw Failure("the solver's answer cannot be stepped: " + refusal_word(reply.number) + "\n" + refusal_hint(reply.number));
   Run run;
-  run.first = reply.first;
-  for (uint32_t i = 0; i <= reply.first; i++) run.wires.emplace_back(reinterpret_cast<const char *>(trace.data()) + i * line, line - 1);
+  run.first = chip.design_frame(reply.first);
+  for (uint32_t i = 0; i <= run.first; i++)
+    run.wires.emplace_back(reinterpret_cast<const char *>(trace.data()) + chip.sheet_frame(i) * line, line - 1);
   return run;
 }
 
@@ -79,10 +82,8 @@ std::vector<Access> accesses(const Chip &chip, const Run &run) {
 
 bool is_idle(const Chip &chip, const Run &run, const std::vector<uint32_t> &codes, uint32_t frame) {
   if (frame > 0) return false;
-  for (size_t port = 0; port < chip.ports.size(); port++) {
-    if (run.value(chip.ports[port].re, frame)) continue;
-    for (uint32_t code : codes)
-      if (code != NO_CODE && code / 2 >= chip.first_read(port) && code / 2 < chip.first_read(port) + chip.net.n) return true;
-  }
-  return false;
+  std::set<uint32_t> idle, read; // ports that have one of the sheet's in turn may have their bits from the same wires
+  for (const ShownPort &port : chip.ports)
+    for (uint32_t code : port.read_data) (run.value(port.re, frame) ? read : idle).insert(code / 2);
+  return std::any_of(codes.begin(), codes.end(), [&](uint32_t code) { return code != NO_CODE && idle.count(code / 2) && !read.count(code / 2); });
 }

@@ -9,8 +9,8 @@
 #include "chip.h"
 
 struct Run {
-  uint32_t first = 0; // the frame that breaks the property, and the last one
-  std::vector<std::string> wires; // of each frame, wire 1 first
+  uint32_t first = 0; // the frame of the design that breaks the property, and the last one
+  std::vector<std::string> wires; // of each frame of the design, wire 1 first
 
   bool value(uint32_t code, uint32_t frame) const;
   Bits bits(const std::vector<uint32_t> &codes, uint32_t frame) const;
@@ -20,7 +20,7 @@ struct Run {
 // What the memory does in a frame.
 struct Access {
   struct Read {
-    size_t port; // 0 or 1
+    size_t port; // from 0 on
     Bits address, word;
     std::optional<uint32_t> writer; // the frame that wrote the word; none: it is of the start
   };
@@ -31,7 +31,7 @@ struct Access {
   std::optional<Write> write;
 };
 
-// Steps the chip with its whole memory through the frames 0 to `depth`, fed what `value` says of the literals (true or false for a variable), and
+// Steps the chip with its whole memory through the sheet's frames 0 to `depth`, fed what `value` says of the literals (true or false for a variable), and
 // cuts the run behind the frame that first breaks the property. A Failure where no frame does: then the solver's answer was wrong.
 Run replay(const Chip &chip, const Property &property, const std::vector<marrubigai_position> &frames, uint32_t depth,
            const std::function<bool(int32_t)> &value);

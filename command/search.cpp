@@ -12,7 +12,7 @@ enum Answer { SATISFIABLE = 10, UNSATISFIABLE = 20 }; // CaDiCaL's
 class Search {
 public:
   Search(const Chip &searched, const Plan &wanted, Stop &when)
-      : chip(searched), plan(wanted), stop(when), unrolling(searched, wanted.depth, solver, wanted.refutation), verdicts(searched.properties.size()) {
+      : chip(searched), plan(wanted), stop(when), unrolling(searched, searched.sheet_frame(wanted.depth), solver, wanted.refutation), verdicts(searched.properties.size()) {
     solver.set("quiet", 1); // standard output is ours
     // Many short calls gain from neither stable phases nor local search; docs/COMMAND.md has what was measured.
     solver.set("stabilize", 0);
@@ -57,13 +57,20 @@ private:
                     ", but here is one. The solver is wrong: nothing that it says of this chip can be relied on.");
   }
 
+  // one of the sheet, in this frame of the design; not where it is time to stop
+  bool add_frame(uint32_t frame) {
+    if (stop.is_due()) return false;
+    stop.at_frame(frame, plan.depth);
+    unrolling.add_frame();
+    return true;
+  }
+
   void ask_by_frame() {
     std::vector<size_t> open(chip.properties.size());
     for (size_t p = 0; p < open.size(); p++) open[p] = p;
-    for (uint32_t frame = 0; frame <= plan.depth && !open.empty(); frame++) {
-      if (stop.is_due()) return;
-      stop.at_frame(frame, plan.depth);
-      unrolling.add_frame();
+    for (uint32_t of_sheet = 0; of_sheet <= chip.sheet_frame(plan.depth) && !open.empty(); of_sheet++) {
+      uint32_t frame = chip.design_frame(of_sheet);
+      if (!add_frame(frame)) return;
       if (frame < plan.from) continue;
       for (size_t at = 0; at < open.size();) {
         const Property &property = chip.properties[open[at]];
@@ -80,7 +87,7 @@ private:
         if (plan.refutation) plan.refutation->add(plan.refutation->place(solver), {-broken, 0});
         solver.add(-asked); // it follows from the clauses that are there
         solver.add(0);
-        verdict.safe++;
+        verdict.safe = chip.design_frame(of_sheet + 1) - plan.from;
         verdict.seconds = stop.seconds();
         at++;
       }
@@ -89,11 +96,8 @@ private:
   }
 
   void ask_once() {
-    for (uint32_t frame = 0; frame <= plan.depth; frame++) {
-      if (stop.is_due()) return;
-      stop.at_frame(frame, plan.depth);
-      unrolling.add_frame();
-    }
+    for (uint32_t of_sheet = 0; of_sheet <= chip.sheet_frame(plan.depth); of_sheet++)
+      if (!add_frame(chip.design_frame(of_sheet))) return;
     for (size_t p = 0; p < verdicts.size(); p++) {
       // A variable of our own that switches the property's clause on; a single property's is on. So a refutation is one of the formula.
       int32_t asked = verdicts.size() == 1 ? 0 : unrolling.new_variable();

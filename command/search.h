@@ -28,7 +28,7 @@ struct Verdict {
 };
 
 struct Plan {
-  uint32_t depth = 50, from = 0;
+  uint32_t depth = 50, from = 0; // frames of the design
   bool any = false; // ask once about all frames
   Refutation *refutation = nullptr; // where the solver writes its reasons, of a chip with one property
 };

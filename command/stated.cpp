@@ -222,7 +222,7 @@ private:
     if (!take("]")) fail("] is wanted at '" + text.substr(at) + "'");
     if (word > last) fail("the last word of " + name + " is " + std::to_string(last));
     const ShownPort &port = chip.ports[0];
-    if (!std::equal(port.address.begin(), port.address.end(), chip.net.address, chip.net.address + chip.net.m))
+    if (port.address.size() != chip.net.m)
       fail("some bits of the address of " + name + " are constants, so that its words are not told apart by it");
     Bits32 made;
     for (uint32_t code : port.read_data) {
@@ -232,7 +232,8 @@ private:
   }
 
   Bits32 register_word(const std::string &name) {
-    const std::vector<Word> &words = chip.named.empty() ? chip.shown : chip.named;
+    std::vector<Word> words = chip.named.empty() ? chip.shown : chip.named;
+    words.insert(words.end(), chip.own.begin(), chip.own.end());
     for (const Word &word : words) {
       if (word.name != name && word.name.substr(0, word.name.rfind('[')) != name) continue;
       Bits32 made;
@@ -243,10 +244,6 @@ private:
       }
       return made;
     }
-    for (uint32_t latch = 0; latch < bits.latches; latch++) {
-      if (name == "started" && is_started(latch)) return {static_cast<Bit>(latch) + 1};
-      if (name == "assumed" && is_assumed(latch)) return {static_cast<Bit>(latch) + 1};
-    }
     for (uint32_t port = 0; port <= chip.net.second_port; port++) {
       if (name != (port ? "held2" : "held")) continue;
       Bits32 made;
@@ -254,15 +251,6 @@ private:
       return made;
     }
     fail("there is no register " + name);
-  }
-
-  // The command's own registers of a design: false in frame 0 alone; and true as long as every assumption held.
-  bool is_started(uint32_t latch) const { return chip.latches[latch].reset == 0 && chip.latches[latch].next == 1; }
-  bool is_assumed(uint32_t latch) const {
-    uint32_t next = chip.latches[latch].next, first_gate = chip.first_read() + chip.read_bits(), own = 2 * (chip.net.inputs + 1 + latch);
-    if (chip.latches[latch].reset != 1 || next % 2 || next / 2 < first_gate) return false;
-    const marrubigai_gate &gate = chip.gates[next / 2 - first_gate];
-    return gate.left == own || gate.right == own;
   }
 };
 

@@ -6,12 +6,12 @@ namespace {
 
 std::string right(const std::string &text, size_t width) { return std::string(width > text.size() ? width - text.size() : 0, ' ') + text; }
 
-// Where two ports can read, it says which does.
+// Where several ports can read, it says which does.
 std::string memory_text(const Chip &chip, const Access &access, Radix radix) {
   std::string text;
-  bool both = chip.ports.size() == 2 && chip.ports[0].re != 0 && chip.ports[1].re != 0;
+  bool several = std::count_if(chip.ports.begin(), chip.ports.end(), [](const ShownPort &port) { return port.re != 0; }) > 1;
   for (const Access::Read &read : access.reads) {
-    text += (text.empty() ? "" : ", ") + (both ? "port " + std::to_string(read.port + 1) + " " : "");
+    text += (text.empty() ? "" : ", ") + (several ? "port " + std::to_string(read.port + 1) + " " : "");
     text += "reads " + written(read.word, radix) + " at " + written(read.address, radix) + " (";
     text += read.writer ? "written in frame " + std::to_string(*read.writer) : chip.net.unknown_start ? "unknown start" : "start word";
     text += ")";

@@ -2,6 +2,7 @@
 
 #include <algorithm>
 #include <cstdio>
+#include <optional>
 #include <set>
 
 #include "emission.h"
@@ -14,7 +15,7 @@ namespace {
 // an assert or a cover, with the literal of the frames that break it or reach it
 struct Statement {
   Property property;
-  Lit seen = FALSE;
+  Lit seen = FALSE; // whatever is assumed
   std::vector<Lit> reads; // for the table: the words that it reads are looked for from here
 };
 
@@ -48,16 +49,21 @@ public:
     return made;
   }
 
-  PortPlan two_ports() { return cut.two_ports(find_roots()); }
+  PortPlan plan(size_t most_ports) {
+    find_roots();
+    seen.insert(seen.end(), watched.begin(), watched.end());
+    return cut.plan_ports(seen, most_ports);
+  }
 
   Chip make() {
-    std::vector<Lit> roots = find_roots();
+    find_roots();
     Memory memory = cut.finish();
-    Emission emission = emit(logic.aig, memory, roots, options.start);
+    Lit started = logic.started();
+    Emission emission = emit(logic.aig, memory, seen, watched, options.start);
     Chip &chip = emission.chip;
-    for (Statement &statement : statements) {
-      statement.property.code = emission.code(statement.seen) ^ 1;
-      chip.properties.push_back(statement.property);
+    for (size_t at = 0; at < statements.size(); at++) {
+      statements[at].property.code = emission.seen[at] ^ 1;
+      chip.properties.push_back(statements[at].property);
     }
     chip.net.p = chip.properties[0].code;
     chip.notes.insert(chip.notes.end(), memory.notes.begin(), memory.notes.end());
@@ -65,6 +71,7 @@ public:
     note_inputs(emission);
     name_words(emission);
     set_bench(emission);
+    chip.own = {{"started", {emission.code(started)}}, {"assumed", {emission.code(assumed)}}};
     return chip;
   }
 
@@ -74,21 +81,17 @@ private:
   Logic logic;
   MemoryCut cut;
   std::vector<Statement> statements;
+  std::vector<Lit> seen, watched; // What is kept of the design is what these depend on. `seen`: of each statement, under the assumptions.
+  Lit assumed = TRUE; // a register, true as long as all assumptions held
 
-  // what is kept of the design is what these depend on
-  std::vector<Lit> find_roots() {
+  void find_roots() {
     find_statements();
     Lit allowed = assumptions();
-    std::vector<Lit> roots;
-    for (Statement &statement : statements) {
-      statement.seen = logic.aig.land(statement.seen, allowed);
-      roots.push_back(statement.seen);
-    }
+    for (const Statement &statement : statements) seen.push_back(logic.aig.land(statement.seen, allowed));
     for (const std::string &name : options.watched) {
       std::vector<Lit> bits = logic.lits(watched_net(name).bits);
-      roots.insert(roots.end(), bits.begin(), bits.end());
+      watched.insert(watched.end(), bits.begin(), bits.end());
     }
-    return roots;
   }
 
   bool is_wanted(const Property &property) const {
@@ -144,9 +147,9 @@ private:
       now = logic.aig.land(now, logic.aig.land(enable, logic.where(logic.lit(cell.port("A")[0]), enable) ^ 1) ^ 1);
     }
     if (now == TRUE) return TRUE;
-    Lit kept = logic.aig.add_latch(true);
-    Lit allowed = logic.aig.land(kept, now);
-    logic.aig.set_next(kept, allowed);
+    assumed = logic.aig.add_latch(true);
+    Lit allowed = logic.aig.land(assumed, now);
+    logic.aig.set_next(assumed, allowed);
     return allowed;
   }
 
@@ -249,11 +252,11 @@ private:
   // Back from the statement to the first names on each path.
   std::vector<Word> words_read(const Emission &emission, const std::map<uint32_t, Word> &by_wire, std::vector<Lit> stack) const {
     std::vector<Word> words;
-    std::set<uint32_t> seen;
+    std::set<uint32_t> met;
     while (!stack.empty()) {
       Lit literal = stack.back();
       stack.pop_back();
-      if (!seen.insert(literal / 2).second) continue;
+      if (!met.insert(literal / 2).second) continue;
       uint32_t code = emission.code(literal);
       auto named = code == NO_CODE ? by_wire.end() : by_wire.find(code / 2);
       if (named != by_wire.end()) {
@@ -270,19 +273,17 @@ private:
   }
 };
 
-enum class Ports { one, at_most_two };
-
-Chip chip_of_design(const Design &design, const Options &options, Ports ports) {
+Chip chip_of_design(const Design &design, const Options &options, size_t most_ports) {
   const Cell &memory = only_memory(design, options.memory);
-  if (ports == Ports::one) return Chipmaker(design, options, one_port(memory)).make();
-  PortPlan plan = Chipmaker(design, options, port_for_each(memory)).two_ports();
+  if (most_ports == 1) return Chipmaker(design, options, one_port(memory)).make();
+  PortPlan plan = Chipmaker(design, options, port_for_each(memory)).plan(most_ports);
   return Chipmaker(design, options, plan).make();
 }
 
-std::vector<Chip> chips_of_design(const Design &design, const Options &options, Ports ports) {
+std::vector<Chip> chips_of_design(const Design &design, const Options &options, size_t most_ports) {
   test_statements(design);
   try {
-    return {chip_of_design(design, options, ports)};
+    return {chip_of_design(design, options, most_ports)};
   } catch (const TooLarge &together) {
     std::vector<Property> statements = Chipmaker(design, options, one_port(only_memory(design, options.memory))).asked_about();
     if (statements.size() < 2) throw;
@@ -292,7 +293,7 @@ std::vector<Chip> chips_of_design(const Design &design, const Options &options, 
       one.properties.clear(), one.covers.clear();
       (statement.kind == Property::Kind::cover ? one.covers : one.properties).push_back(statement.name);
       try {
-        chips.push_back(chip_of_design(design, one, ports));
+        chips.push_back(chip_of_design(design, one, most_ports));
       } catch (const TooLarge &alone) {
         throw Failure(statement.name + ", asked about by itself: " + alone.message);
       }
@@ -308,24 +309,21 @@ bool is_verilog(const std::string &path) { return ends_with(path, ".v") || ends_
 std::vector<Chip> chips_of_verilog(const Options &options, Stop &stop) {
   for (const std::string &file : options.files)
     if (!is_verilog(file)) throw Failure(file + ": only Verilog (.v, .sv) can be given in several files", USAGE);
-  // One port makes fewer clauses than two, and reads that have their registers fit where others do not.
+  // Fewer ports make fewer clauses, and reads that have their registers fit where others do not.
   Design as_written = read_verilog(options, Reads::as_written, stop);
-  try {
-    return chips_of_design(as_written, options, Ports::one);
-  } catch (const NoFit &) {
-  }
-  Design clocked = read_verilog(options, Reads::clocked, stop);
-  try {
-    return chips_of_design(clocked, options, Ports::one);
-  } catch (const NoFit &) {
-  }
-  try {
-    return chips_of_design(as_written, options, Ports::at_most_two);
-  } catch (const NoFit &no_fit) {
+  std::optional<Design> clocked;
+  std::optional<NoFit> no_fit;
+  for (size_t most_ports : {size_t{1}, size_t{2}, MOST_PORTS}) {
     try {
-      return chips_of_design(clocked, options, Ports::at_most_two);
+      return chips_of_design(as_written, options, most_ports);
+    } catch (const NoFit &why) {
+      no_fit = why;
+    }
+    if (!clocked) clocked = read_verilog(options, Reads::clocked, stop);
+    try {
+      return chips_of_design(*clocked, options, most_ports);
     } catch (const NoFit &) {
-      throw no_fit;
     }
   }
+  throw *no_fit;
 }

@@ -83,15 +83,13 @@ std::string waveform(const Chip &chip, const Property &property, const Run &run)
   Waveform made;
   Scope top, memory, words;
   made.declare(top, "property", {property.code});
-  made.declare(memory, "address", chip.ports[0].address);
-  made.declare(memory, "read_data", chip.ports[0].read_data);
-  made.declare(memory, "write_data", chip.write_data);
-  made.declare(memory, "RE", {chip.net.re});
-  made.declare(memory, "WE", {chip.net.we});
-  if (chip.net.second_port) {
-    made.declare(memory, "address2", chip.ports[1].address);
-    made.declare(memory, "read_data2", chip.ports[1].read_data);
-    made.declare(memory, "RE2", {chip.net.re2});
+  for (size_t port = 0; port < chip.ports.size(); port++) {
+    std::string number = port ? std::to_string(port + 1) : "";
+    made.declare(memory, "address" + number, chip.ports[port].address);
+    made.declare(memory, "read_data" + number, chip.ports[port].read_data);
+    if (port == 0) made.declare(memory, "write_data", chip.write_data);
+    made.declare(memory, "RE" + number, {chip.ports[port].re});
+    if (port == 0) made.declare(memory, "WE", {chip.net.we});
   }
   for (const Word &word : chip.named) {
     std::string name = word.name;

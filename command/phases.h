@@ -1,0 +1,22 @@
+// A memory with several ports as one with a single port, which they have in turn. What a cycle of the design does is then spread over its phases, a
+// frame of the sheet for each port.
+#pragma once
+
+#include "memory.h"
+
+struct Phased {
+  Aig aig;
+  Memory memory; // with one port
+  Lit last = FALSE; // true in the last phase: what is asked about counts there alone
+  std::vector<Lit> literals; // by node of the graph that it was made of: what it is in the last phase
+
+  Lit literal(Lit of) const { return literals[of / 2] ^ (of & 1); }
+  std::vector<Lit> literals_of(std::vector<Lit> of) const {
+    for (Lit &each : of) each = literal(each);
+    return of;
+  }
+};
+
+// Ports that only read come first, and the first port, which writes, comes last: so all of them read words from before the cycle's write. Registers, and
+// inputs that an earlier phase depends on, are the same in all phases of a cycle. The first port reads unless its enable is FALSE.
+Phased in_phases(const Aig &aig, const Memory &memory);
