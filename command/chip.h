@@ -3,6 +3,7 @@
 
 #include <marrubigai.h>
 
+#include <optional>
 #include <string>
 #include <vector>
 
@@ -38,6 +39,7 @@ struct Chip {
   std::vector<marrubigai_latch> latches;
   std::vector<marrubigai_gate> gates;
   std::vector<Property> properties;
+  std::optional<marrubigai_code> assumptions; // that they hold and held in all frames before, where there are some
 
   std::vector<Word> shown; // the table's columns
   std::vector<Word> named; // every word that has a name

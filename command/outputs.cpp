@@ -49,7 +49,7 @@ void keep_sheets(const std::vector<Chip> &chips, const std::string &folder) {
 }
 
 void write_waveform(const std::string &path, const std::vector<Searched> &searched) {
-  for (const auto &[chip, verdicts] : searched)
-    for (size_t p = 0; p < verdicts.size(); p++)
-      if (verdicts[p].run) return write_file(path, waveform(chip, chip.properties[p], *verdicts[p].run));
+  for (const Searched &each : searched)
+    for (size_t p = 0; p < each.verdicts.size(); p++)
+      if (each.verdicts[p].run) return write_file(path, waveform(each.chip, each.chip.properties[p], *each.verdicts[p].run));
 }

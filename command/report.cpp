@@ -194,7 +194,9 @@ std::string chip_json(const Searched &searched, Radix radix) {
           std::to_string(chip.ports.size()) + ", \"phases\": " + std::to_string(chip.phases) + ", \"start\": " + (chip.net.unknown_start ? "null" : std::to_string(chip.net.initial_word)) +
           "},\n   \"notes\": [";
   for (size_t at = 0; at < chip.notes.size(); at++) text += (at ? ", " : "") + quoted(chip.notes[at]);
-  text += "],\n   \"properties\": [";
+  text += "],";
+  if (searched.assumptions_end) text += " \"assumptions_end\": " + std::to_string(*searched.assumptions_end) + ",";
+  text += "\n   \"properties\": [";
   for (size_t p = 0; p < searched.verdicts.size(); p++) text += (p ? ",\n    " : "\n    ") + property_json(searched, p, radix);
   return text + "\n   ]}";
 }
@@ -223,6 +225,9 @@ std::string report_text(const Report &report) {
       if (verdict.certified && !options.quiet) text += report.file() + ": note: " + certified_text(searched.chip, *verdict.certified) + "\n";
       if (!verdict.confirmed.empty()) text += report.file() + ": " + subject(property) + ": " + verdict.confirmed + "\n";
     }
+    if (searched.assumptions_end)
+      text += report.file() + ": warning: no run meets the assumptions up to frame " + std::to_string(*searched.assumptions_end) +
+              ": of that frame and later ones nothing is said\n";
   }
   return text;
 }

@@ -12,6 +12,7 @@
 struct Searched {
   Chip chip;
   std::vector<Verdict> verdicts;
+  std::optional<uint32_t> assumptions_end{}; // the first frame that no run reaches with every assumption met
 };
 
 struct Report {

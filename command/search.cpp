@@ -128,3 +128,22 @@ std::vector<Verdict> search(const Chip &chip, const Plan &plan, Stop &stop) {
   stop.clear_line();
   return verdicts;
 }
+
+std::optional<uint32_t> assumptions_end(const Chip &chip, uint32_t depth, Stop &stop) {
+  if (!chip.assumptions) return std::nullopt;
+  Chip asked = chip;
+  Property met;
+  met.kind = Property::Kind::cover;
+  met.name = "of the assumptions";
+  met.code = *chip.assumptions ^ 1;
+  asked.properties = {met};
+  auto is_without_run = [&](uint32_t frame) { return search(asked, Plan{frame, frame, false, nullptr}, stop)[0].kind == Verdict::Kind::holds; };
+  if (!is_without_run(depth)) return std::nullopt;
+  uint32_t first = 0, last = depth; // it is one of these: where a frame is without, all later ones are
+  while (first < last) {
+    uint32_t middle = (first + last) / 2;
+    if (is_without_run(middle)) last = middle;
+    else first = middle + 1;
+  }
+  return first;
+}

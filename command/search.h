@@ -33,5 +33,9 @@ struct Plan {
   Refutation *refutation = nullptr; // where the solver writes its reasons, of a chip with one property
 };
 
+// The first frame up to the depth that no run reaches with every assumption met, by the solver's word; none where one reaches them all, by a run that
+// was stepped, or where it was time to stop.
+std::optional<uint32_t> assumptions_end(const Chip &chip, uint32_t depth, Stop &stop);
+
 // A verdict for each property of the chip, in its order.
 std::vector<Verdict> search(const Chip &chip, const Plan &plan, Stop &stop);

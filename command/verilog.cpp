@@ -65,6 +65,7 @@ public:
       statements[at].property.code = emission.seen[at] ^ 1;
       chip.properties.push_back(statements[at].property);
     }
+    if (assumed != TRUE) chip.assumptions = emission.seen.back();
     chip.net.p = chip.properties[0].code;
     chip.notes.insert(chip.notes.end(), memory.notes.begin(), memory.notes.end());
     chip.notes.insert(chip.notes.end(), design.warnings.begin(), design.warnings.end());
@@ -81,13 +82,15 @@ private:
   Logic logic;
   MemoryCut cut;
   std::vector<Statement> statements;
-  std::vector<Lit> seen, watched; // What is kept of the design is what these depend on. `seen`: of each statement, under the assumptions.
+  // What is kept of the design is what these depend on. `seen`: of each statement, under the assumptions; and these, where there are some.
+  std::vector<Lit> seen, watched;
   Lit assumed = TRUE; // a register, true as long as all assumptions held
 
   void find_roots() {
     find_statements();
     Lit allowed = assumptions();
     for (const Statement &statement : statements) seen.push_back(logic.aig.land(statement.seen, allowed));
+    if (assumed != TRUE) seen.push_back(allowed);
     for (const std::string &name : options.watched) {
       std::vector<Lit> bits = logic.lits(watched_net(name).bits);
       watched.insert(watched.end(), bits.begin(), bits.end());

@@ -296,6 +296,20 @@ says "no assertion" 1 "chip: the design has no assert and no cover: there is not
 says "an assumption" 20 "chip.v: assert chip.v:11 holds in frames 0 to 4, by the solver's word" 's/^endmodule/always @* assume (d != 9); endmodule/'
 says "an assumption broken before" 20 "chip.v: assert chip.v:11 holds in frames 0 to 4, by the solver's word" 's/^endmodule/reg was = 0; always @(posedge clock) was <= we \& d == 9; always @* assume (!was); endmodule/'
 says "an assumption broken behind" 10 "chip.v: assert chip.v:11 is broken in frame 2 at the earliest" 's/^endmodule/reg was = 0; always @(posedge clock) was <= last == 9; always @* assume (!was); endmodule/'
+# assumptions that no run meets, from some frame on or at all, are told, so that nothing holds unseen for want of runs
+steps='s/^endmodule/reg [2:0] step = 0; always @(posedge clock) step <= step + 1; always @* assume (step < 3); always @* assert (last < 16); endmodule/'
+says "assumptions to frame 2" 20 "chip.v: assert chip.v:12 holds in frames 0 to 4, by the solver's word
+chip.v: warning: no run meets the assumptions up to frame 3: of that frame and later ones nothing is said" "$steps" --property chip.v:12
+says "as far as they can be met" 20 "chip.v: assert chip.v:12 holds in frames 0 to 2, by the solver's word" "$steps" --property chip.v:12 -k 2
+check "as far as they can be met: no warning" same 1 "$(wc -l < "$work/out")"
+says "for ever" 20 "chip.v: assert chip.v:12 holds in every frame, certified
+chip.v: warning: no run meets the assumptions up to frame 3: of that frame and later ones nothing is said" "$steps" --property chip.v:12 --prove
+says "as JSON" 20 '{"marrubigai"' "$steps" --property chip.v:12 --json
+check "as JSON: the frame" same 3 "$("$work/json_value" "$work/out" chips 0 assumptions_end)"
+says "a run that breaks needs no others" 10 "chip.v: assert chip.v:11 is broken in frame 2 at the earliest" 's/^endmodule/reg [2:0] step = 0; always @(posedge clock) step <= step + 1; always @* assume (step < 3); endmodule/'
+check "a run that breaks needs no others: no warning" same 1 "$(wc -l < "$work/out")"
+says "assumptions that are contrary" 1 "chip.v: no run meets the assumptions in frame 0: nothing can be said of the design." 's/^endmodule/always @* assume (we); always @* assume (!we); endmodule/'
+says "a reset the wrong way round" 1 "chip.v: no run meets the assumptions in frame 0: nothing can be said of the design." 's/^endmodule/reg first = 1; always @(posedge clock) first <= 0; always @* assume (reset == !first); endmodule/' --reset reset
 # memories that fit, and those that do not
 says "the other address, clocked and at other times" 10 "chip.v: assert chip.v:11 is broken in frame 2 at the earliest" 's/wire .*//; s/last <= q/else last <= mem[b]/; s/<= d;/<= d; /'
 ports() { "$work/json_value" <(cd "$work/files" && "$sanitized" --json -q -k 2 chip.v) chips 0 memory ports; }
