@@ -5,6 +5,7 @@
 #include "failure.h"
 #include "files.h"
 #include "process.h"
+#include "source.h"
 
 namespace {
 
@@ -91,7 +92,9 @@ std::string found_top(const Options &options, Stop &stop) {
 } // namespace
 
 Design read_verilog(const Options &options, Reads reads, Stop &stop) {
-  for (const std::string &file : options.files) read_file(file); // what cannot be read is told as of any other file
+  std::vector<std::pair<std::string, std::string>> files; // what cannot be read is told as of any other file
+  for (const std::string &file : options.files) files.emplace_back(file, read_file(file));
+  test_struct_arrays(files);
   std::string top = options.top;
   if (top.empty() && !options.parameters.empty()) top = found_top(options, stop);
   Finished finished = run_yosys(options, reading(options) + hierarchy(options, top) + synthesis(options, reads), stop);

@@ -310,6 +310,29 @@ says "a run that breaks needs no others" 10 "chip.v: assert chip.v:11 is broken 
 check "a run that breaks needs no others: no warning" same 1 "$(wc -l < "$work/out")"
 says "assumptions that are contrary" 1 "chip.v: no run meets the assumptions in frame 0: nothing can be said of the design." 's/^endmodule/always @* assume (we); always @* assume (!we); endmodule/'
 says "a reset the wrong way round" 1 "chip.v: no run meets the assumptions in frame 0: nothing can be said of the design." 's/^endmodule/reg first = 1; always @(posedge clock) first <= 0; always @* assume (reset == !first); endmodule/' --reset reset
+# arrays of a struct type, which yosys reads as one word; and what only looks like one
+typed() { # what, the start of the message, lines of SystemVerilog
+  printf '%s\n' "$3" > "$work/files/typed.sv"
+  run -q -k 1 typed.sv
+  check "$1: status" same 1 "$?"
+  check "$1: said" same "$2" "$(head -c ${#2} "$work/err")"
+}
+pair='typedef struct packed { logic v; logic [2:0] x; } pair;'
+typed "an array of a struct type" "typed.sv:2: an array of pair, which is a struct or a union: yosys reads it as one word." "$pair
+module chip; pair words [4]; endmodule"
+typed "a packed array of one" "typed.sv:3: an array of pair, which is a struct or a union" "/* $pair
+*/ $pair // pair
+module chip; pair [3:0] words; endmodule"
+typed "one of several" "typed.sv:1: an array of pair, which is a struct or a union" "$pair module chip (input pair one); pair other, words [0:3]; endmodule"
+typed "one of a package" "typed.sv:1: an array of pair, which is a struct or a union" "package p; $pair endpackage module chip; p::pair words [4]; endmodule"
+typed "one within another" "typed.sv:1: an array of pair, which is a struct or a union" "$pair typedef struct packed { pair [1:0] two; } pairs;"
+typed "an array of vectors of that name elsewhere" "chip: the design has no assert and no cover" "$pair
+// pair words [4];
+module chip; pair one, other; logic [2:0] words [4]; initial \$display(\"pair words [4]\"); endmodule"
+for text in '/* pair' '"pair' '\\'; do typed "a text that ends too early ($text)" "yosys made no module of it" "$text"; done
+for text in 'typedef struct' 'typedef struct {' "$pair pair" "$pair pair words" "$pair pair words," 'typedef struct { } ;' '\'; do
+  typed "a text that ends too early ($text)" "typed.sv: yosys makes no netlist of it" "$text"
+done
 # memories that fit, and those that do not
 says "the other address, clocked and at other times" 10 "chip.v: assert chip.v:11 is broken in frame 2 at the earliest" 's/wire .*//; s/last <= q/else last <= mem[b]/; s/<= d;/<= d; /'
 ports() { "$work/json_value" <(cd "$work/files" && "$sanitized" --json -q -k 2 chip.v) chips 0 memory ports; }
