@@ -329,8 +329,8 @@ typed "one within another" "typed.sv:1: an array of pair, which is a struct or a
 typed "an array of vectors of that name elsewhere" "chip: the design has no assert and no cover" "$pair
 // pair words [4];
 module chip; pair one, other; logic [2:0] words [4]; initial \$display(\"pair words [4]\"); endmodule"
-for text in '/* pair' '"pair' '\\'; do typed "a text that ends too early ($text)" "yosys made no module of it" "$text"; done
-for text in 'typedef struct' 'typedef struct {' "$pair pair" "$pair pair words" "$pair pair words," 'typedef struct { } ;' '\'; do
+for text in '/* pair' '"pair' '\'; do typed "a text that ends too early ($text)" "yosys made no module of it" "$text"; done
+for text in 'typedef struct' 'typedef struct {' "$pair pair" "$pair pair words" "$pair pair words," 'typedef struct { } ;'; do
   typed "a text that ends too early ($text)" "typed.sv: yosys makes no netlist of it" "$text"
 done
 # memories that fit, and those that do not
