@@ -33,5 +33,8 @@ struct Plan {
   Refutation *refutation = nullptr; // where the solver writes its reasons, of a chip with one property
 };
 
+// A Failure where the sheet has not so many frames.
+void test_depth(const Chip &chip, uint32_t depth);
+
 // A verdict for each property of the chip, in its order.
 std::vector<Verdict> search(const Chip &chip, const Plan &plan, Stop &stop);
