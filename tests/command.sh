@@ -1,6 +1,6 @@
 #!/usr/bin/env bash
 # The command `marrubigai`: it is built without a warning, and with sanitizers; its verdicts on sheets, texts and Verilog are those of
-# scripts/find.sh and of the designs' stories; each exit status, each refusal by name; interrupts and time; what it writes.
+# other tools and of the designs' stories; each exit status, each refusal by name; interrupts and time; what it writes.
 # Arguments: the programs `frames` and `replay`. After `rt staticlib marrubigai`; needs libcadical-dev, yosys,
 # iverilog, berkeley-abc and cadical.
 set -u
@@ -11,6 +11,7 @@ export ASAN_OPTIONS=exitcode=99
 cd "$(dirname "$0")/.." || exit 2
 here=$PWD
 . tests/check.sh
+. tests/aag.sh
 
 build() { make --no-print-directory -C command "$@" > "$work/make" 2>&1 || { cat "$work/make"; return 1; }; }
 check "it is built" build
@@ -120,17 +121,16 @@ frame  last  memory
   ...  3 frames like this one
     4     1  idle  <- property broken" "" --names chain.names chain.sheet
 
-# the examples, frame by frame, asked once and by the script
-by_script() { bash scripts/find.sh --least "$1" "$2" | sed -n '1{s/:$//;p}'; }
+# the examples, frame by frame, asked once and by the programs with a solver
 agree() { # sheet, depth
   local said
   folder=$here run -q -k "$2" "$1"
   said=$(sed 's/the property holds in frames* \(.*\), by the solver.s word/no run breaks the property in frames \1/; s/frames 0$/frames 0 to 0/' "$work/out")
-  same "$(by_script "$1" "$2")" "$said"
+  same "$(earliest "$1" "$2")" "$said"
 }
 for sheet in examples/*/*.sheet; do
-  for depth in 0 1 3 5; do check "$sheet to depth $depth, by the script and by the command" agree "$sheet" "$depth"; done
-  status=$(bash scripts/find.sh "$sheet" 5 > /dev/null 2>&1; echo $?)
+  for depth in 0 1 3 5; do check "$sheet to depth $depth, by the programs and by the command" agree "$sheet" "$depth"; done
+  status=$(run_of "$sheet" 5 > /dev/null 2>&1; echo $?)
   check "$sheet asked once" same "$status" "$(folder=$here run --any -k 5 "$sheet"; echo $?)"
 done
 
@@ -145,7 +145,10 @@ kind() { # file, what it is
 }
 printf 'aig 1 1 0 1 0\n' > "$work/files/binary.aig"; kind binary.aig "a netlist in binary AIGER"
 printf 'p cnf 1 1\n1 0\n' > "$work/files/formula.cnf"; kind formula.cnf "a formula in DIMACS CNF"
-printf 'refused         1         0\n' > "$work/files/refused.sheet"; kind refused.sheet "no sheet but the refusal of an import"
+printf 'refused         6         3\n' > "$work/files/refused.sheet"; kind refused.sheet "no sheet but the refusal of an import or a conversion: refused 6 (memory loop) at line 3
+An address"
+page_words() { sed -n '/^## Refusals$/,/^## /p' docs/FORMAT.md | sed -n 's/^| \([0-9]*\) | \([a-z ]*\) | .*/\1 \2/p'; }
+check "the words of refusals are those of docs/FORMAT.md" same "$(page_words)" "$(cut -f 1,2 --output-delimiter=' ' command/refusals.txt)"
 printf 'hello\n' > "$work/files/hello"; kind hello "neither Verilog (.v, .sv) nor a sheet nor ASCII AIGER"
 : > "$work/files/empty"; kind empty "neither"
 ends "a missing file" 1 "" "none.sheet: it cannot be opened: No such file" none.sheet
@@ -180,7 +183,7 @@ ends "read words exchanged" 1 "" "swapped.aag: input 1 is read_data2, and read_d
 sed '1s/aag/agg/' "$work/files/chip.aag" > "$work/files/broken.aag"
 ends "a damaged text" 1 "" "broken.aag: refused 11 (not aiger) at line 1" broken.aag
 for macro in "" FAULTY; do
-  bash scripts/verilog_to_aag.sh ${macro:+-D $macro} carton_counter 3 8 examples/fifth-revision/carton_counter.v > "$work/files/cut$macro.aag"
+  to_aag "files/cut$macro" carton_counter ${macro:+-D$macro} examples/fifth-revision/carton_counter.v
 done
 ends "the carton counter cut by hand" 20 "cut.aag: the property holds in frames 0 to 4, by the solver's word" "" -q -k 4 --start 0 cut.aag
 ends "its fault" 10 "cutFAULTY.aag: the property is broken in frame 1 at the earliest" "" -q -k 4 --start 0 cutFAULTY.aag
@@ -434,13 +437,7 @@ path=$work/bin:$PATH ends "out of time while yosys reads" 30 "" "out of time whi
 check "it stops at once" [ $((SECONDS - began)) -le 10 ]
 
 ### what it writes
-run --vcd run.vcd --names chip.names chip.sheet
-bash scripts/find.sh --vcd "$work/script.vcd" "$work/files/chip.sheet" 1 > /dev/null
-check "the waveform is the script's" same "$(grep -v '^\$comment' "$work/script.vcd")" "$(grep -v '^\$comment' "$work/files/run.vcd")"
 run --vcd run.vcd --names two.names both.sheet
-cp "$work/files/two.names" "$work/files/both.names"
-bash scripts/find.sh --vcd "$work/script.vcd" "$work/files/both.sheet" 1 > /dev/null
-check "the waveform of two ports is the script's" same "$(grep -v '^\$comment' "$work/script.vcd")" "$(grep -v '^\$comment' "$work/files/run.vcd")"
 check "the waveform of two ports has both" same 3 "$(grep -cE '^\$var wire 1 . (address2|read_data2|RE2) \$end$' "$work/files/run.vcd")"
 ends "the sheet as the waveform" 2 "" "the waveform would be written over chip.sheet" --vcd chip.sheet chip.sheet
 ends "a waveform that cannot be written" 1 "" "none/run.vcd: it cannot be written" --vcd none/run.vcd chip.sheet
@@ -457,8 +454,7 @@ check "the sheet of ports in turn, in its own frames" same "$work/turns/1.sheet:
 run --keep kept -q chip.sheet
 check "the sheet that is kept" cmp "$work/files/chip.sheet" "$work/files/kept/1.sheet"
 (cd "$designs" && "$sanitized" -D FAULTY -q -k 2 --keep "$work/kept" carton_counter.v) > /dev/null
-check "the sheet of a design, by the script" same "$work/kept/1.sheet: the property is broken in frame 1 at the earliest:" \
-  "$(bash scripts/find.sh --least "$work/kept/1.sheet" 3 | head -n 1)"
+check "the sheet of a design, by the programs" same "$work/kept/1.sheet: the property is broken in frame 1 at the earliest" "$(earliest "$work/kept/1.sheet" 3)"
 (cd "$work/files" && "$sanitized" chip.sheet) > /dev/full 2> "$work/err"
 check "a full disk: status" same 1 $?
 check "a full disk: said" grep -q "^standard output cannot be written" "$work/err"
@@ -822,7 +818,7 @@ check "the man page has every option of the help" same "$("$plain" --help | grep
 ### the pages' commands; another version of the solver or of yosys may choose other runs and gates, and then only verdicts are compared
 hidden='^$'
 "$plain" --version | grep -q 'CaDiCaL sc2021$' && yosys -V | grep -q '^Yosys 0\.23 ' || hidden="$hidden\\|^frame\\|^ \\|: note: "
-for page in README.md docs/COMMAND.md; do
+for page in README.md docs/COMMAND.md examples/*-revision/README.md; do
   rm -f "$work/commands" "$work/shown"
   awk -v commands="$work/commands" -v shown="$work/shown" '
     /^```/ || /^\$ / { inside = 0 }
