@@ -60,6 +60,7 @@ Verdict check_certificate(const Chip &chip, const Options &options, Stop &stop) 
   auto read = read_certificate(options.check_file);
   const ForeverCertificate *forever = std::get_if<ForeverCertificate>(&read);
   const Certificate &refutation = forever ? forever->refutation : std::get<Certificate>(read);
+  if (!forever) test_depth(chip, options.depth);
   Checked checked = forever ? check(chip, property, *forever) : check(chip, property, chip.sheet_frame(options.depth), refutation);
   if (!checked.certified)
     throw Failure(options.check_file + ": this does not certify that " + (forever ? claim(property) : claim(property, options.depth)) + ": of its " +

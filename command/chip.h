@@ -43,7 +43,7 @@ struct Chip {
 
   std::vector<Word> shown; // the table's columns
   std::vector<Word> named; // every word that has a name
-  // Words that are the command's own and no design's, for facts: `started`, false in frame 0 alone, and `assumed`, true as long as all assumptions held.
+  // Registers of the command's own, for facts: `started`, false in frame 0 alone; `assumed`, true as long as all assumptions held; `phase`.
   std::vector<Word> own;
   std::string memory_name;
   std::vector<ShownPort> ports; // of the design, as many as the sheet has or more; the first one's address is the one that is written at

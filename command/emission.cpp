@@ -129,9 +129,8 @@ Emission emit_in_phases(const Aig &aig, const Memory &memory, const std::vector<
   std::vector<Lit> counted;
   for (Lit each : seen) counted.push_back(phased.aig.land(phased.literal(each), phased.last));
   Emission made = emit_cone(phased.aig, phased.memory, counted, phased.literals_of(watched), start);
-  std::vector<uint32_t> codes;
-  for (Lit literal : phased.literals) codes.push_back(made.code(literal));
-  made.codes = codes;
+  made.chip.own.push_back({"phase", made.codes_of(phased.phase)});
+  made.codes = made.codes_of(phased.literals);
   made.chip.phases = static_cast<uint32_t>(memory.ports.size());
   show_ports(made, memory);
   return made;

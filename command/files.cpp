@@ -5,9 +5,11 @@
 #include <unistd.h>
 
 #include <cerrno>
+#include <cstdio>
 #include <cstring>
 
 #include "failure.h"
+#include "refusals.h"
 
 namespace {
 
@@ -93,7 +95,6 @@ std::string other_kind(const std::string &content) {
   static const struct { const char *begin, *kind; } kinds[] = {
       {"aig ", "a netlist in binary AIGER; write it in ASCII (aigtoaig, or yosys' write_aiger -ascii)"},
       {"p cnf ", "a formula in DIMACS CNF; the sheet or the Verilog that it was made of is wanted"},
-      {"refused", "the refusal of an import, no sheet"},
       {"$date", "a waveform (VCD)"},
       {"$comment", "a waveform (VCD)"},
       {".model", "a netlist in BLIF; write it as ASCII AIGER, or give the Verilog"},
@@ -103,6 +104,10 @@ std::string other_kind(const std::string &content) {
       {"\037\213", "compressed; unpack it first"},
       {"PK\003\004", "an archive; unpack it first"},
   };
+  unsigned number = 0, place = 0;
+  if (std::sscanf(content.c_str(), "refused%10u%10u", &number, &place) == 2) // what a program prints in place of a sheet
+    return "the refusal of an import or a conversion: " + refusal_word(number) + (place ? " at line " + std::to_string(place) : "") + "\n" +
+           refusal_hint(number);
   for (auto &known : kinds)
     if (content.compare(0, std::strlen(known.begin), known.begin) == 0) return known.kind;
   if (content.find('\0') != std::string::npos) return "binary data";

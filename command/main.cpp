@@ -64,14 +64,6 @@ std::vector<Chip> load(const Options &options, Stop &stop) {
   return {chip};
 }
 
-void test_depth(const std::vector<Chip> &chips, uint32_t depth) {
-  for (const Chip &chip : chips)
-    if (depth > chip.most_depth())
-      throw Failure("-k " + std::to_string(depth) + ": a frame of this design is " + std::to_string(chip.phases) + " of its sheet, which can have 256: " +
-                        std::to_string(chip.most_depth()) + " is the most",
-                    USAGE);
-}
-
 // to the depth, certified where that is wanted
 std::vector<Verdict> search_to_depth(const Chip &chip, const Options &options, Stop &stop) {
   std::optional<Refutation> refutation;
@@ -129,7 +121,8 @@ int run(const Options &options) {
   Stop stop(options.timeout, !options.quiet);
   test_outputs(options);
   std::vector<Chip> chips = load(options, stop);
-  test_depth(chips, options.depth);
+  for (const Chip &chip : chips)
+    if (options.check_file.empty()) test_depth(chip, options.depth);
   if (!options.certificate_file.empty()) test_one_property(chips, "--certificate");
   if (!options.check_file.empty()) test_one_property(chips, "--check");
   if (!options.keep_folder.empty()) keep_sheets(chips, options.keep_folder);

@@ -216,7 +216,7 @@ PortPlan MemoryCut::plan_ports(const std::vector<Lit> &roots, size_t most) {
   }
   for (size_t ports = 1; ports <= most; ports++)
     if (place(parting, ports, 0, found.port)) return found;
-  refuse("is read and written at more than " + std::to_string(most) + " addresses in one frame, and a frame can have so many.\n" +
+  refuse("is read and written at more than " + std::to_string(most) + " addresses in one frame, which is the most.\n" +
          "Read fewer words in a step of the clock; --property asks about one assertion alone, and only what that reads counts.");
 }
 

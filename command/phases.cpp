@@ -35,12 +35,13 @@ private:
   const size_t phases;
   Phased made;
   Aig &aig = made.aig;
-  std::vector<Lit> since; // true from this phase on
+  std::vector<Lit> since; // by phase: true from it on
   std::vector<Lit> word; // the one port's
 
   void count_phases() {
     since.push_back(TRUE);
     while (since.size() < phases) since.push_back(aig.add_latch(false));
+    made.phase.assign(since.begin() + 1, since.end());
     made.last = since.back();
     for (size_t phase = 1; phase < phases; phase++) aig.set_next(since[phase], aig.land(since[phase - 1], made.last ^ 1));
   }

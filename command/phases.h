@@ -7,7 +7,8 @@
 struct Phased {
   Aig aig;
   Memory memory; // with one port
-  Lit last = FALSE; // true in the last phase: what is asked about counts there alone
+  std::vector<Lit> phase; // registers, of which the first so many are true in a phase
+  Lit last = FALSE; // the last of them: what is asked about counts in the last phase alone
   std::vector<Lit> literals; // by node of the graph that it was made of: what it is in the last phase
 
   Lit literal(Lit of) const { return literals[of / 2] ^ (of & 1); }

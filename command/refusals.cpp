@@ -7,7 +7,7 @@ struct Entry {
   const char *word, *hint;
 };
 
-// made of scripts/refusals.txt, which has them for the scripts too
+// made of refusals.txt
 const Entry entries[] = {
 #include "refusals.inc"
 };

@@ -123,6 +123,13 @@ private:
 
 } // namespace
 
+void test_depth(const Chip &chip, uint32_t depth) {
+  if (depth > chip.most_depth())
+    throw Failure("-k " + std::to_string(depth) + ": a frame of this design is " + std::to_string(chip.phases) + " of its sheet, which can have 256: " +
+                      std::to_string(chip.most_depth()) + " is the most",
+                  USAGE);
+}
+
 std::vector<Verdict> search(const Chip &chip, const Plan &plan, Stop &stop) {
   std::vector<Verdict> verdicts = Search(chip, plan, stop).run();
   stop.clear_line();

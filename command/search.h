@@ -37,5 +37,8 @@ struct Plan {
 // was stepped, or where it was time to stop.
 std::optional<uint32_t> assumptions_end(const Chip &chip, uint32_t depth, Stop &stop);
 
+// A Failure where the sheet has not so many frames.
+void test_depth(const Chip &chip, uint32_t depth);
+
 // A verdict for each property of the chip, in its order.
 std::vector<Verdict> search(const Chip &chip, const Plan &plan, Stop &stop);

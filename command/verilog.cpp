@@ -72,7 +72,8 @@ public:
     note_inputs(emission);
     name_words(emission);
     set_bench(emission);
-    chip.own = {{"started", {emission.code(started)}}, {"assumed", {emission.code(assumed)}}};
+    chip.own.push_back({"started", {emission.code(started)}});
+    chip.own.push_back({"assumed", {emission.code(assumed)}});
     return chip;
   }
 

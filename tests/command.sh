@@ -1,6 +1,6 @@
 #!/usr/bin/env bash
 # The command `marrubigai`: it is built without a warning, and with sanitizers; its verdicts on sheets, texts and Verilog are those of
-# scripts/find.sh and of the designs' stories; each exit status, each refusal by name; interrupts and time; what it writes.
+# other tools and of the designs' stories; each exit status, each refusal by name; interrupts and time; what it writes.
 # Arguments: the programs `frames` and `replay`. After `rt staticlib marrubigai`; needs libcadical-dev, yosys,
 # iverilog, berkeley-abc and cadical.
 set -u
@@ -11,6 +11,7 @@ export ASAN_OPTIONS=exitcode=99
 cd "$(dirname "$0")/.." || exit 2
 here=$PWD
 . tests/check.sh
+. tests/aag.sh
 
 build() { make --no-print-directory -C command "$@" > "$work/make" 2>&1 || { cat "$work/make"; return 1; }; }
 check "it is built" build
@@ -120,17 +121,16 @@ frame  last  memory
   ...  3 frames like this one
     4     1  idle  <- property broken" "" --names chain.names chain.sheet
 
-# the examples, frame by frame, asked once and by the script
-by_script() { bash scripts/find.sh --least "$1" "$2" | sed -n '1{s/:$//;p}'; }
+# the examples, frame by frame, asked once and by the programs with a solver
 agree() { # sheet, depth
   local said
   folder=$here run -q -k "$2" "$1"
   said=$(sed 's/the property holds in frames* \(.*\), by the solver.s word/no run breaks the property in frames \1/; s/frames 0$/frames 0 to 0/' "$work/out")
-  same "$(by_script "$1" "$2")" "$said"
+  same "$(earliest "$1" "$2")" "$said"
 }
 for sheet in examples/*/*.sheet; do
-  for depth in 0 1 3 5; do check "$sheet to depth $depth, by the script and by the command" agree "$sheet" "$depth"; done
-  status=$(bash scripts/find.sh "$sheet" 5 > /dev/null 2>&1; echo $?)
+  for depth in 0 1 3 5; do check "$sheet to depth $depth, by the programs and by the command" agree "$sheet" "$depth"; done
+  status=$(run_of "$sheet" 5 > /dev/null 2>&1; echo $?)
   check "$sheet asked once" same "$status" "$(folder=$here run --any -k 5 "$sheet"; echo $?)"
 done
 
@@ -145,7 +145,10 @@ kind() { # file, what it is
 }
 printf 'aig 1 1 0 1 0\n' > "$work/files/binary.aig"; kind binary.aig "a netlist in binary AIGER"
 printf 'p cnf 1 1\n1 0\n' > "$work/files/formula.cnf"; kind formula.cnf "a formula in DIMACS CNF"
-printf 'refused         1         0\n' > "$work/files/refused.sheet"; kind refused.sheet "no sheet but the refusal of an import"
+printf 'refused         6         3\n' > "$work/files/refused.sheet"; kind refused.sheet "no sheet but the refusal of an import or a conversion: refused 6 (memory loop) at line 3
+An address"
+page_words() { sed -n '/^## Refusals$/,/^## /p' docs/FORMAT.md | sed -n 's/^| \([0-9]*\) | \([a-z ]*\) | .*/\1 \2/p'; }
+check "the words of refusals are those of docs/FORMAT.md" same "$(page_words)" "$(cut -f 1,2 --output-delimiter=' ' command/refusals.txt)"
 printf 'hello\n' > "$work/files/hello"; kind hello "neither Verilog (.v, .sv) nor a sheet nor ASCII AIGER"
 : > "$work/files/empty"; kind empty "neither"
 ends "a missing file" 1 "" "none.sheet: it cannot be opened: No such file" none.sheet
@@ -180,7 +183,7 @@ ends "read words exchanged" 1 "" "swapped.aag: input 1 is read_data2, and read_d
 sed '1s/aag/agg/' "$work/files/chip.aag" > "$work/files/broken.aag"
 ends "a damaged text" 1 "" "broken.aag: refused 11 (not aiger) at line 1" broken.aag
 for macro in "" FAULTY; do
-  bash scripts/verilog_to_aag.sh ${macro:+-D $macro} carton_counter 3 8 examples/fifth-revision/carton_counter.v > "$work/files/cut$macro.aag"
+  to_aag "files/cut$macro" carton_counter ${macro:+-D$macro} examples/fifth-revision/carton_counter.v
 done
 ends "the carton counter cut by hand" 20 "cut.aag: the property holds in frames 0 to 4, by the solver's word" "" -q -k 4 --start 0 cut.aag
 ends "its fault" 10 "cutFAULTY.aag: the property is broken in frame 1 at the earliest" "" -q -k 4 --start 0 cutFAULTY.aag
@@ -236,6 +239,9 @@ around "stack #(.DEPTH(3), .WIDTH(4))" "input push, input pop, input [3:0] data,
 second_opinion stack 49 6 "$work/stack.sv" "-top around" --reset reset -P DEPTH=3 -P WIDTH=4
 around "cache #(.INDEX(2), .TAG(3))" "input request, input [2:0] tag, input [1:0] index, output hit" > "$work/cache.sv"
 second_opinion cache 43 8 "$work/cache.sv" "-top around" --reset reset -P INDEX=2 -P TAG=3
+second_opinion register_file 33 5 "$designs/register_file.v" "-top register_file -chparam WIDTH 4" -P WIDTH=4
+sed '/initial for/s/.*//' "$designs/queue.v" > "$work/unfilled.v"
+second_opinion queue 42 7 "$work/unfilled.v" "-top queue -chparam BITS 2 -chparam WIDTH 4" --start unknown -P BITS=2 -P WIDTH=4
 design carton_counter 44 1 4
 design histogram 24 8 9
 design lookup 51 9 9
@@ -243,6 +249,13 @@ design registers 33 1 5
 design stack 49 3 6 --reset reset -P DEPTH=3 -P WIDTH=4
 design cache 43 1 7 --reset reset -P INDEX=2 -P TAG=3
 design queue 42 2 8 -P BITS=2 -P WIDTH=4
+design queue 42 2 8 --start unknown -P BITS=2 -P WIDTH=4
+design register_file 33 1 6
+# two frames of a sheet whose ports take turns are one frame of the sheet with two ports, by a solver
+check "the comparison of both is built" tool phases
+for arguments in "queue.v" "-D FAULTY queue.v" "-P BITS=2 -P WIDTH=4 queue.v"; do
+  check "two ports, and one in turn: $arguments" same 0 "$(cd "$designs" && "$work/phases" $arguments > "$work/compared"; echo $?)"
+done
 run -q -k 9 --cover cache.v:44 --reset reset -P INDEX=2 -P TAG=3 cache.v
 check "a cover alone: status" same 10 "$?"
 check "a cover alone" same "cache.v: cover cache.v:44 is reached in frame 6 at the earliest" "$(cat "$work/out")"
@@ -339,9 +352,6 @@ ports() { "$work/json_value" <(cd "$work/files" && "$sanitized" --json -q -k 2 c
 check "the other address, clocked and at other times: one port" same 1 "$(ports)"
 says "two addresses" 10 "chip.v: assert chip.v:11 is broken in frame 2 at the earliest" 's/mem\[a\];/mem[b];/'
 check "two addresses: two ports" same 2 "$(ports)"
-says "two addresses, from an unknown start" 1 "memory mem (chip.v:2) begins unknown and has two addresses in one frame: with two ports what it begins as must be given.
-Fill it in an initial block, or ask from a word of your own (--start 0)" 's/mem\[a\];/mem[b];/; 4s/.*//'
-says "two addresses, --start unknown" 1 "memory mem (chip.v:2) begins unknown and has two addresses in one frame" 's/mem\[a\];/mem[b];/' --start unknown
 says "two addresses, from a start of one's own" 10 "chip.v: assert chip.v:11 is broken in frame 1 at the earliest" 's/mem\[a\];/mem[b];/; 4s/.*//' --start 9
 says "two reads, one at the address that is written at" 10 "chip.v: assert chip.v:11 is broken in frame 1 at the earliest" 's/last <= q/last <= q + mem[b]/; s/last != 9/last + q != 15/; s/if (we)/if (we \& d < 6)/'
 check "two reads, one at the address that is written at: two ports" same 2 "$(ports)"
@@ -355,8 +365,6 @@ says "addresses that never meet" 20 "chip.v: assert chip.v:11 holds in frames 0 
 says "a register before the address" 10 "chip.v: assert chip.v:11 is broken in frame 1 at the earliest" 's/wire .*/reg [1:0] at; wire [3:0] q = mem[at]; always @(posedge clock) at <= a;/; s/last != 9/q != 9/'
 says "a read that counts for another assertion alone" 10 "chip.v: assert chip.v:11 is broken in frame 2 at the earliest" 's/^endmodule/always @* assert (mem[b] + mem[d[1:0]] < 31); endmodule/' --property chip.v:11
 says "a memory that counts for another assertion alone" 10 "chip.v: assert chip.v:11 is broken in frame 1 at the earliest" 's/last <= q/mem[b] <= 1; last <= d/; s/^endmodule/always @* assert (q != 3); endmodule/' --property chip.v:11
-says "two reads and a write at three addresses" 1 "chip.v:2: memory mem (4 words of 4 bits) is read at two addresses in one frame and written at a third: it can have two ports, of which the first writes." 's/if (we) mem\[a\]/if (we) mem[d[1:0]]/; s/last <= q/last <= q + mem[b]/'
-says "three reads" 1 "chip.v:2: memory mem (4 words of 4 bits) is read at three addresses in one frame, and it can have two ports." 's/last <= q/last <= q + mem[b] + mem[d[1:0]]/'
 alone=yes says "an index beyond the array, at another address" 20 "chip.v: assert chip.v:11 holds in frames 0 to 4, by the solver's word" 's/0:3/0:2/; s/mem\[a\];/mem[b];/; s/if (we)/if (we \& a == 3)/; s/i < 4/i < 3/'
 says "two writes" 1 "chip.v:2: memory mem (4 words of 4 bits) is written at two addresses in one frame" 's/last <= q/mem[b] <= 1; last <= q/'
 says "two writes of which one is made" 10 "chip.v: assert chip.v:11 is broken in frame 2 at the earliest" 's/if (we) mem\[a\] <= d/if (we) mem[a] <= d; else if (reset) mem[a] <= 9/'
@@ -367,6 +375,42 @@ alone=yes says "an array that begins at 1" 10 "chip.v: assert chip.v:11 is broke
 says "contents that differ" 1 "memory mem (chip.v:2) begins with contents that differ from word to word" 's/= 5/= i/'
 says "no memory" 1 "chip: the design has no memory that is written and read" 's/mem\[a\]/mem[0]/; s/if (we) mem\[a\]/last/'
 says "an address from the word read" 1 "chip.v:2: the address of memory mem depends on a word that it reads in the same frame." 's/mem\[a\]/mem[at]/; s/wire \[3:0\] q/wire [3:0] q; wire [1:0] at = d[0] ? q[1:0] : a; assign q/'
+# addresses that have one port of the sheet in turn
+in_turn() { # how many, what, status, the verdict, what sed changes, options ..
+  local many=$1
+  shift
+  says "$@"
+  check "$1: ports in turn" same "$many $many" "$(ports) $("$work/json_value" <(cd "$work/files" && "$sanitized" --json -q -k 2 "${@:5}" chip.v) chips 0 memory phases)"
+  [ "$2" -eq 20 ] && return
+  run -q -k 4 --confirm "${@:5}" chip.v
+  check "$1: the simulator sees it" grep -qxF "chip.v: assert chip.v:11: confirmed by iverilog on the original files" "$work/out"
+}
+broken_in() { echo "chip.v: assert chip.v:11 is broken in frame $1 at the earliest"; }
+holding="chip.v: assert chip.v:11 holds in frames 0 to 4, by the solver's word"
+apart='s/mem\[a\];/mem[b];/' unfilled='4s/.*//'
+in_turn 2 "two addresses, from an unknown start" 10 "$(broken_in 1)" "$apart; $unfilled"
+says "two addresses, --start unknown" 10 "$(broken_in 1)" "$apart" --start unknown
+in_turn 2 "a word that was written, from an unknown start" 10 "$(broken_in 2)" "$apart; $unfilled; s/last <= q/last <= seen[b] ? q : 0; if (we) seen[a] <= 1/; s/reg \[3:0\] last/reg [3:0] seen = 0; reg [3:0] last/; s/last != 9/last != 14 | d != 7/; s/if (we) mem/if (we \& d[0]) mem/; s/mem\[a\] <= d/mem[a] <= d + {3'b0, was}/; s/integer i;/reg was = 0; always @(posedge clock) was <= reset;/"
+in_turn 2 "a word of two frames before, from an unknown start" 20 "$holding" "$apart; $unfilled; s/last <= q;/last <= wa == b \& ww \& q != wd ? 9 : 0; ww <= we; wa <= a; wd <= d;/; s/reg \[3:0\] last/reg ww = 0; reg [1:0] wa = 0; reg [3:0] wd = 0; reg [3:0] last/"
+in_turn 2 "an address that begins unknown" 10 "$(broken_in 1)" "s/mem\[a\];/mem[at];/; $unfilled; s/reg \[3:0\] last/reg [1:0] at; always @(posedge clock) at <= at + 1; reg [3:0] last/; s/last != 9/last != 9 | at != 2/"
+in_turn 2 "a read at the address that is written at, from an unknown start" 10 "$(broken_in 0)" "$unfilled; s/last <= q/last <= q + mem[b]/; s/last != 9/last + q != 15/; s/if (we)/if (we \& d < 6)/"
+in_turn 2 "bits written by themselves, from an unknown start" 10 "$(broken_in 1)" "$apart; $unfilled; s/mem\[a\] <= d/begin mem[a][1:0] <= d[1:0]; if (reset) mem[a][3:2] <= d[3:2]; end/; s/last != 9/last != 14/"
+in_turn 2 "an assumption about what is read" 20 "$holding" "$apart; $unfilled; s/^endmodule/always @* assume (q != 9); endmodule/"
+in_turn 2 "an assumption broken before, in turn" 20 "$holding" "$apart; $unfilled; s/^endmodule/reg was = 0; always @(posedge clock) was <= q == 9; always @* assume (!was); endmodule/"
+in_turn 2 "an assumption broken behind, in turn" 10 "$(broken_in 1)" "$apart; $unfilled; s/^endmodule/reg was = 0; always @(posedge clock) was <= last == 9; always @* assume (!was); endmodule/"
+in_turn 3 "two reads and a write at three addresses" 10 "$(broken_in 2)" 's/if (we) mem\[a\]/if (we) mem[d[1:0]]/; s/last <= q/last <= q + mem[b]/'
+in_turn 3 "three addresses, from an unknown start" 10 "$(broken_in 3)" "$unfilled; s/if (we) mem\\[a\\]/if (we \& d[3:2] != 3) mem[d[1:0]]/; s/last <= q/n <= n + 1; last <= n == 2 ? q ^ mem[b] : 0/; s/last != 9/last != 15/; s/reg \[3:0\] last/reg [1:0] n = 0; reg [3:0] last/"
+in_turn 3 "three reads" 10 "$(broken_in 2)" 's/last <= q/last <= q + mem[b] + mem[d[1:0]]/'
+in_turn 5 "five addresses" 10 "$(broken_in 2)" 's/if (we) mem\[a\]/if (we) mem[{reset, we}]/; s/last <= q/last <= q ^ mem[b] ^ mem[d[1:0]] ^ mem[d[3:2]]/'
+says "six addresses" 1 "chip.v:2: memory mem (4 words of 4 bits) is read and written at more than 5 addresses in one frame, which is the most." 's/if (we) mem\[a\]/if (we) mem[{reset, we}]/; s/last <= q/last <= q ^ mem[b] ^ mem[d[1:0]] ^ mem[d[3:2]] ^ mem[d[2:1]]/'
+says "a reset, in turn" 10 "$(broken_in 4)" "$apart; $unfilled; s/last <= q/last <= reset ? 0 : q/" --reset reset=3
+says "from a later frame, in turn" 10 "chip.v: assert chip.v:11 is broken first in frame 3" "$apart; $unfilled; s/last <= q/n <= n + 1; last <= n == 2 ? q : 0/; s/reg \[3:0\] last/reg [1:0] n = 0; reg [3:0] last/" --from 2
+says "to an earlier frame, in turn" 20 "chip.v: assert chip.v:11 holds in frames 1 to 2, by the solver's word" "$apart; $unfilled; s/last <= q/n <= n + 1; last <= n == 2 ? q : 0/; s/reg \[3:0\] last/reg [1:0] n = 0; reg [3:0] last/" --from 1 -k 2
+says "asked once, in turn" 10 "chip.v: assert chip.v:11 is broken first in frame" "$apart; $unfilled" --any
+chip "$apart; $unfilled; s/^endmodule/always @* cover (last == 9); endmodule/" > "$work/files/chip.v"
+ends "a cover, in turn" 10 "chip.v: cover chip.v:12 is reached in frame 1 at the earliest" "" -q --cover chip.v:12 chip.v
+ends "as deep as can be, in turn" 10 "$(broken_in 1)" "" -q --property chip.v:11 -k 127 chip.v
+ends "deeper than that" 2 "" "-k 128: a frame of this design is 2 of its sheet, which can have 256: 127 is the most" -k 128 chip.v
 second='s/^endmodule/reg [1:0] small [0:1]; always @(posedge clock) if (we) small[b[0]] <= a; always @* assert (small[b[0]] != 2 | last != 9); endmodule/'
 says "two memories" 1 "chip: the design has 2 memories, and one can stay a memory. Say which; the others become registers, which fits where they are small:
   --memory mem   chip.v:2, 4 words of 4 bits
@@ -430,13 +474,7 @@ path=$work/bin:$PATH ends "out of time while yosys reads" 30 "" "out of time whi
 check "it stops at once" [ $((SECONDS - began)) -le 10 ]
 
 ### what it writes
-run --vcd run.vcd --names chip.names chip.sheet
-bash scripts/find.sh --vcd "$work/script.vcd" "$work/files/chip.sheet" 1 > /dev/null
-check "the waveform is the script's" same "$(grep -v '^\$comment' "$work/script.vcd")" "$(grep -v '^\$comment' "$work/files/run.vcd")"
 run --vcd run.vcd --names two.names both.sheet
-cp "$work/files/two.names" "$work/files/both.names"
-bash scripts/find.sh --vcd "$work/script.vcd" "$work/files/both.sheet" 1 > /dev/null
-check "the waveform of two ports is the script's" same "$(grep -v '^\$comment' "$work/script.vcd")" "$(grep -v '^\$comment' "$work/files/run.vcd")"
 check "the waveform of two ports has both" same 3 "$(grep -cE '^\$var wire 1 . (address2|read_data2|RE2) \$end$' "$work/files/run.vcd")"
 ends "the sheet as the waveform" 2 "" "the waveform would be written over chip.sheet" --vcd chip.sheet chip.sheet
 ends "a waveform that cannot be written" 1 "" "none/run.vcd: it cannot be written" --vcd none/run.vcd chip.sheet
@@ -446,11 +484,14 @@ check "no run, no waveform" [ ! -e "$work/files/run.vcd" ]
 folder=$designs run -D FAULTY --vcd "$work/stack.vcd" --reset reset -k 4 stack.v
 check "the waveform has the hierarchy" same 1 "$(grep -c '^\$scope module memory \$end$' <(sed -n '/module words/,$p' "$work/stack.vcd"))"
 if command -v vcd2fst > /dev/null; then check "GTKWave's converter reads it" vcd2fst "$work/stack.vcd" "$work/stack.fst" > /dev/null; fi
+folder=$designs run -D FAULTY --start unknown -P BITS=2 -P WIDTH=2 -k 3 --vcd "$work/queue.vcd" --keep "$work/turns" queue.v
+check "the waveform of ports in turn has both" same 3 "$(grep -cE '^\$var wire [12] [^ ]+ (address2 \[1:0\]|read_data2 \[1:0\]|RE2) \$end$' "$work/queue.vcd")"
+check "the waveform of ports in turn has the design's frames" same "#0 #1 #2 #3" "$(echo $(grep '^#' "$work/queue.vcd"))"
+check "the sheet of ports in turn, in its own frames" same "$work/turns/1.sheet: the property is broken in frame 5 at the earliest" "$("$plain" -q -k 7 "$work/turns/1.sheet")"
 run --keep kept -q chip.sheet
 check "the sheet that is kept" cmp "$work/files/chip.sheet" "$work/files/kept/1.sheet"
 (cd "$designs" && "$sanitized" -D FAULTY -q -k 2 --keep "$work/kept" carton_counter.v) > /dev/null
-check "the sheet of a design, by the script" same "$work/kept/1.sheet: the property is broken in frame 1 at the earliest:" \
-  "$(bash scripts/find.sh --least "$work/kept/1.sheet" 3 | head -n 1)"
+check "the sheet of a design, by the programs" same "$work/kept/1.sheet: the property is broken in frame 1 at the earliest" "$(earliest "$work/kept/1.sheet" 3)"
 (cd "$work/files" && "$sanitized" chip.sheet) > /dev/full 2> "$work/err"
 check "a full disk: status" same 1 $?
 check "a full disk: said" grep -q "^standard output cannot be written" "$work/err"
@@ -501,6 +542,13 @@ run -q -k 0 --keep "$work/held" carton_counter.v
 check "the sheet that it is about" same "$work/held/1.sheet: the property holds in frames 0 to 4, certified" "$("$plain" -q -k 4 --check "$work/made" "$work/held/1.sheet")"
 certified "a design with two ports" "queue.v: assert queue.v:42 holds in frames 0 to 5" -k 5 -P BITS=2 -P WIDTH=4 queue.v
 not_certified "a design with two ports and a fault" -k 5 -P BITS=2 -P WIDTH=4 -D FAULTY queue.v
+certified "a design with ports in turn" "queue.v: assert queue.v:42 holds in frames 0 to 5" -k 5 --start unknown -P BITS=2 -P WIDTH=4 queue.v
+not_certified "a design with ports in turn and a fault" -k 5 --start unknown -P BITS=2 -P WIDTH=4 -D FAULTY queue.v
+ends "ports in turn, deeper than a sheet" 2 "" "-k 128: a frame of this design is 2 of its sheet" -k 128 --check "$work/made" --start unknown -P BITS=2 -P WIDTH=4 queue.v
+not_certified "ports in turn, another depth" -k 4 --start unknown -P BITS=2 -P WIDTH=4 queue.v
+run -q -k 0 --start unknown -P BITS=2 -P WIDTH=4 --keep "$work/turns" queue.v
+check "the sheet of ports in turn that it is about" same "$work/turns/1.sheet: the property holds in frames 0 to 11, certified" "$("$plain" -q -k 11 --check "$work/made" "$work/turns/1.sheet")"
+once=--any certified "a register file, asked once" "register_file.v: assert register_file.v:33 holds in frames 0 to 4" -k 4 register_file.v
 certified "a design that begins unknown" "registers.v: assert registers.v:33 holds in frames 0 to 4" -k 4 registers.v
 not_certified "a design that begins unknown, with a fault" -k 4 -D FAULTY registers.v
 once=--any certified "a design with a reset, asked once" "cache.v: assert cache.v:43 holds in frames 0 to 6" -k 6 --property cache.v:43 --reset reset -P INDEX=2 -P TAG=3 cache.v
@@ -645,10 +693,13 @@ not_for_ever "a design that begins unknown, with a fault" -D FAULTY registers.v
 proved "a design with a clocked read" "stack.v: assert stack.v:49 holds in every frame" --reset reset -P DEPTH=3 -P WIDTH=4 stack.v
 proved "a design with two ports, by abc" "queue.v: assert queue.v:42 holds in every frame" -P BITS=2 -P WIDTH=2 queue.v
 not_for_ever "a design with two ports and a fault" -P BITS=2 -P WIDTH=2 -D FAULTY queue.v
+proved "a design with ports in turn, by abc" "queue.v: assert queue.v:42 holds in every frame" --start unknown -P BITS=2 -P WIDTH=2 queue.v
+not_for_ever "a design with ports in turn and a fault" --start unknown -P BITS=2 -P WIDTH=2 -D FAULTY queue.v
+proved "a register file" "register_file.v: assert register_file.v:33 holds in every frame" -P WIDTH=4 register_file.v
 proved "a design with a reset, by abc" "cache.v: assert cache.v:43 holds in every frame" --property cache.v:43 --reset reset -P INDEX=2 -P TAG=3 cache.v
 proved "one of several" "histogram.v: assert histogram.v:24 holds in every frame" --property histogram.v:24 histogram.v
 proved "a larger memory" "registers.v: assert registers.v:33 holds in every frame" -P BITS=5 registers.v
-for design in "carton_counter 1" "queue 2 -P BITS=2 -P WIDTH=2" "registers 1" "histogram 8"; do
+for design in "carton_counter 1" "queue 2 -P BITS=2 -P WIDTH=2" "queue 2 --start unknown -P BITS=2 -P WIDTH=2" "registers 1" "register_file 1" "histogram 8"; do
   set -- $design
   run -q -k 8 --prove -D FAULTY "${@:3}" "$1.v"
   check "$1 with a fault is not proved: status" same 10 $?
@@ -752,6 +803,11 @@ for design in "lookup.v:51 lookup" "cache.v:43 cache --reset reset --property ca
   folder=$designs run -q -k 3 --prove --invariant "$2.facts" "${@:3}" "$2.v"
   check "$2 by the facts beside it" same "$2.v: assert $1 holds in every frame, certified" "$(cat "$work/out")"
 done
+# where ports take turns, what the memory holds between them is a fact too
+{ cat "$designs/queue.facts"; echo '!phase | first[3:0] != @ | held == words[@]'; } > "$work/files/facts"
+folder=$designs run -k 3 --prove --start unknown --invariant "$work/files/facts" -P WIDTH=1 queue.v
+check "queue with ports in turn, by facts" grep -qxF "queue.v: assert queue.v:42 holds in every frame, certified" "$work/out"
+check "queue with ports in turn, by facts: the phase" told "$work/files/facts:12: holds at the start, kept by every step, needed"
 misstated() { # a fact, what is said
   facts "$1"
   state
@@ -799,7 +855,7 @@ check "the man page has every option of the help" same "$("$plain" --help | grep
 ### the pages' commands; another version of the solver or of yosys may choose other runs and gates, and then only verdicts are compared
 hidden='^$'
 "$plain" --version | grep -q 'CaDiCaL sc2021$' && yosys -V | grep -q '^Yosys 0\.23 ' || hidden="$hidden\\|^frame\\|^ \\|: note: "
-for page in README.md docs/COMMAND.md; do
+for page in README.md docs/COMMAND.md examples/*-revision/README.md; do
   rm -f "$work/commands" "$work/shown"
   awk -v commands="$work/commands" -v shown="$work/shown" '
     /^```/ || /^\$ / { inside = 0 }

@@ -1,6 +1,6 @@
 #!/usr/bin/env bash
-# The examples: each committed sheet, and the names of its wires, is what the builder writes; the script that looks for a run
-# finds one or none as it should; the README's formula is the program's, and what the pages show of the script is what it prints.
+# The examples: each committed sheet, and the names of its wires, is what the builder writes; a solver finds a run or none as it should, which `replay`
+# steps; the README's formula is the program's. tests/command.sh has the transcripts of their pages.
 # Arguments: the programs `frames` and `replay`.
 set -u
 FRAMES=$(readlink -f "$1")
@@ -15,13 +15,13 @@ check "the builder writes" "$work/build" "$work/built"
 check "the same files" [ "$(files examples)" = "$(files "$work/built")" ]
 for file in $(files "$work/built"); do check "$file is as built" cmp "examples/$file" "$work/built/$file"; done
 
-verdict() { # sheet, depth, status, words that the first line must end in
+verdict() { # sheet, depth, status, the first frame that is broken
   local said
-  said=$(bash scripts/find.sh "examples/$1.sheet" "$2"; echo $?)
-  [ "${said##*$'\n'}" = "$3" ] && [ "${said%%$'\n'*}" = "examples/$1.sheet: $4" ] || { echo "$said"; return 1; }
+  said=$(run_of "examples/$1.sheet" "$2"; echo $?)
+  same "$4$3" "$(echo $said | tr -d ' ')"
 }
-found() { check "$1 at depth $2" verdict "$1" "$2" 10 "a run breaks the property, first in frame $2:"; }
-nothing() { check "$1 at depth $2" verdict "$1" "$2" 20 "no run breaks the property in frames 0 to $2"; }
+found() { check "$1 at depth $2" verdict "$1" "$2" 10 "$2"; }
+nothing() { check "$1 at depth $2" verdict "$1" "$2" 20 ""; }
 nothing echo/chip 0
 found echo/chip 1
 nothing fourth-revision/faulty 2
@@ -37,21 +37,6 @@ nothing sixth-revision/repaired 16
 nothing seventh-revision/faulty 1
 found seventh-revision/faulty 2
 nothing seventh-revision/repaired 16
-
-# Each transcript of scripts/find.sh on the pages is what it prints: whole with Debian's CaDiCaL, and its first line with another
-# version, which may choose another run.
-if [ "$(cadical --version)" = sc2021 ]; then shown=cat; else shown="head -n 1"; fi
-awk -v work="$work" '
-  /^```/ || /^\$ / { file = "" }
-  file != "" { print > file }
-  /^\$ scripts\/find\.sh / { file = work "/page." ++asked; $1 = FILENAME; $2 = ""; print }' README.md examples/*/README.md > "$work/asked"
-asked=0
-while read -r page arguments; do
-  asked=$((asked + 1))
-  bash scripts/find.sh $arguments | $shown > "$work/found"
-  check "$page: scripts/find.sh $arguments" diff <($shown "$work/page.$asked") "$work/found"
-done < "$work/asked"
-check "the pages have transcripts" [ "$asked" -ge 15 ]
 
 # The README's formula is what the program prints.
 sed -n '/^\$ .*target\/bin\/frames$/,/^```$/p' README.md | sed '1d;$d' > "$work/formula"

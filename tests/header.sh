@@ -40,8 +40,8 @@ runs "$work/header"
 check "the header's words are those of docs/LIBRARY.md" same "0 passed
 $(sed -n '/^## Refusals$/,$p' docs/LIBRARY.md | sed -n 's/^| \([0-9][0-9]* [a-z ]*[a-z]\) |.*/\1/p')" \
   "$("$work/header" words | grep -v ' unknown$')"
-check "those of the scripts are among them" same "$(cut -f 1,2 --output-delimiter=' ' scripts/refusals.txt)" \
-  "$("$work/header" words | grep -xF "$(cut -f 1,2 --output-delimiter=' ' scripts/refusals.txt)")"
+check "those of the command are among them" same "$(cut -f 1,2 --output-delimiter=' ' command/refusals.txt)" \
+  "$("$work/header" words | grep -xF "$(cut -f 1,2 --output-delimiter=' ' command/refusals.txt)")"
 
 check "tests/header/stack.c compiles with the header" \
   cc -std=gnu11 -Wall -Wextra -Werror -O -pthread -o "$work/stack" tests/header/stack.c -L target/staticlib -lmarrubigai

@@ -112,7 +112,7 @@ linked=(-L target/staticlib -l static=marrubigai)
   {
     rt staticlib marrubigai && compile "$logs" library tests/runner/library.rs "${linked[@]}" &&
       compile "$logs" certificates tests/certificates/main.rs "${linked[@]}" &&
-      compile "$logs" verilog tests/verilog/main.rs "${linked[@]}"
+      compile "$logs" verilog tests/verilog/main.rs "${linked[@]}" && make --no-print-directory -C command
   } > "$logs/staticlib.out" 2>&1
   echo $? > "$logs/staticlib.status"
 } &
@@ -121,13 +121,14 @@ start "replay against the second implementation" replay "$logs/runner" "${progra
 start "the formula of frames, with public solvers" solvers "$logs/solvers" "$frames" "$logs/solvers-scratch" examples
 start "the second implementation's own tests" reference "$logs/reference"
 while [ ! -f "$logs/staticlib.status" ] && wait -n; do :; done
-echo "== the static library: rt staticlib marrubigai"
+echo "== the static library and the command: rt staticlib marrubigai, make -C command"
 if [ "$(cat "$logs/staticlib.status")" = 0 ]; then
   pass
   start "the command marrubigai, with yosys and sanitizers" command bash tests/command.sh "$frames" "$replay"
   start "the library against the second implementation" library "$logs/library"
   start "from Verilog to an imported netlist, an exported file and a shown run, with yosys and abc" verilog \
     bash tests/verilog.sh "$frames" "$replay" "$import" "$exporter" "$logs/verilog"
+  start "the waveform of a run, by GTKWave's converters" waveform "$logs/waveform" target/command/marrubigai "$replay" "$logs/waveform-scratch"
   start "a sample of the library's calls under valgrind" library-valgrind valgrind --quiet --error-exitcode=99 "$logs/library" sample
   start "certificates to a depth and for ever, from refutations, damaged, and lies" certificates \
     "$logs/certificates" examples "$logs/certificates-scratch"
@@ -141,8 +142,6 @@ start "import_aag against the second implementation" import_aag "$logs/runner" "
 start "one_port against the second implementation" one_port "$logs/runner" "${programs[@]}" one_port
 start "export_aig against the second implementation" export_aig "$logs/runner" "${programs[@]}" export_aig
 start "import_aag as a program" import bash tests/import.sh "$import"
-start "the script that looks for a run and shows it" find bash tests/find.sh "$frames" "$replay"
-start "the waveform of a run, by GTKWave's converters" waveform "$logs/waveform" "$frames" "$replay" "$logs/waveform-scratch"
 start "the examples' sheets, and what the pages show of them" examples bash tests/examples.sh "$frames" "$replay"
 start "each must-fail edit is refused at a fact" edits bash tests/edits.sh
 start "wires, codes and clause numbers are kept apart" types bash tests/types.sh

@@ -1,6 +1,6 @@
 #!/usr/bin/env bash
 # The C program of docs/LIBRARY.md: the page shows the file, the page's line compiles it, its transcripts are what it prints, and it
-# finds the same earliest frame as the script, which asks the program `frames` and a solver anew at each depth. And the page's function that says
+# finds the same earliest frame as the program `frames` with a solver that is asked anew at each depth. And the page's function that says
 # where a word that is read comes from, by tests/search/written_in.c.
 # Arguments: the programs `frames` and `replay`. After `rt staticlib marrubigai`; needs libcadical-dev.
 set -u
@@ -32,12 +32,11 @@ while read -r command; do
 done < "$work/asked"
 check "the page has a transcript" [ "$asked" -ge 2 ]
 
-# the script's first line, without the colon that the run stands behind, and its status
-by_script() { (bash scripts/find.sh --least "$1" "$2"; echo $?) | sed -n '1{s/:$//;p}; $p'; }
+by_depth() { earliest "$1" "$2"; echo $?; }
 by_program() { target/search "$1" "$2"; echo $?; }
-agree() { [ "$(by_script "$1" "$2")" = "$(by_program "$1" "$2")" ] || diff <(by_script "$1" "$2") <(by_program "$1" "$2"); }
+agree() { [ "$(by_depth "$1" "$2")" = "$(by_program "$1" "$2")" ] || diff <(by_depth "$1" "$2") <(by_program "$1" "$2"); }
 for sheet in examples/*/*.sheet; do
-  for depth in 0 1 2 3 4; do check "$sheet to depth $depth, by the script and by the program" agree "$sheet" "$depth"; done
+  for depth in 0 1 2 3 4; do check "$sheet to depth $depth, by the programs and by the C program" agree "$sheet" "$depth"; done
 done
 
 # a property that is broken in a frame only when it is due: a latch chain of four, so that frame 4 is the first; and constants

@@ -18,6 +18,29 @@ pub struct Case {
 }
 
 impl Case {
+    /// How many frames a waveform with all wires has.
+    pub fn frames(&self, wires: &Signals) -> usize {
+        values(wires, 1).len()
+    }
+
+    /// The run of a waveform with all wires as a solver's answer: wire w of frame i is variable B(i) + w (RULES V1, V2).
+    pub fn answer(&self, wires: &Signals) -> String {
+        let netlist = read_sheet(&self.sheet, 600, 600).expect("a sheet that is accepted");
+        let ports = if netlist.has_two_ports() { 2 } else { 1 };
+        let pair = ports * (netlist.address_codes().len() + 4);
+        let count = netlist.wire_count() as usize;
+        let mut answer = String::from("s SATISFIABLE\n");
+        let mut base = 1;
+        for frame in 0..self.frames(wires) {
+            for wire in 1..=count {
+                let sign = if values(wires, wire)[frame] == "1" { "" } else { "-" };
+                answer += &format!("v {sign}{}\n", base + wire);
+            }
+            base += count + pair * frame;
+        }
+        answer + "v 0\n"
+    }
+
     /// The signals of the run that `replay` printed.
     pub fn signals(&self, printed: &[u8]) -> Signals {
         let netlist = read_sheet(&self.sheet, 600, 600).expect("a sheet that is accepted");
@@ -30,7 +53,6 @@ impl Case {
                 .collect()
         });
         let frames: Vec<Vec<bool>> = frames.collect();
-        assert_eq!(frames.len(), self.depth as usize + 1, "{}", self.name);
         let mut signals = Signals::new();
         let mut signal = |name: &str, codes: &[u32]| {
             let bits = |frame: &Vec<bool>| {
@@ -62,10 +84,13 @@ impl Case {
             let mut words = line.split_whitespace();
             let name = words.next().expect("a name");
             let codes: Vec<u32> = words.map(|word| word.parse().expect("a code")).collect();
+            // a name with dots stands in the scopes that it names, unless it is an escaped one
             let shown = if name.starts_with(&['$', '['][..]) {
                 format!("_{name}")
-            } else {
+            } else if name.contains(&['$', '\\'][..]) {
                 name.to_string()
+            } else {
+                name.replace('.', " ")
             };
             signal(&format!("words {shown}"), &codes);
         }
@@ -76,6 +101,10 @@ impl Case {
         }
         signals
     }
+}
+
+fn values(wires: &Signals, wire: usize) -> &[String] {
+    &wires[&(format!("circuit wires wire{wire}"), 1, 0)]
 }
 
 fn example(name: &str, depth: u32) -> Case {

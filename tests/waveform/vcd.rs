@@ -1,4 +1,4 @@
-//! Reads a waveform (VCD), by the standard's words and not by the script that writes it.
+//! Reads a waveform (VCD), by the standard's words and not by what writes it.
 
 use std::collections::{BTreeMap, HashMap};
 
