@@ -259,7 +259,8 @@ MARRUBIGAI_LENT marrubigai_certificate_reply marrubigai_certify(const uint8_t *i
  * property or leaves the invariant (docs/LIBRARY.md has the numbering and the requests). Where it is not certified, `lemma` is the first lemma that does
  * not follow, 0 where the invariant does not hold at the start. The refusals are those of a sheet; then 9 where the store has not room for five numbers
  * for each three of the requests, the invariant and the lemmas. After a refusal store and marks are as they were. Else the store begins with these
- * numbers, and all the marks are scratch, but as they were where the invariant does not hold at the start; two are needed for each variable. */
+ * numbers, and all the marks are scratch, but as they were where the invariant does not hold at the start. Variables are those below half
+ * the number of marks. */
 MARRUBIGAI_LENT marrubigai_certificate_reply marrubigai_certify_forever(const uint8_t *sheet, size_t bytes, const int32_t *invariant,
     size_t invariant_numbers, const uint32_t *requests, size_t request_numbers, const int32_t *lemmas, size_t lemma_numbers, const uint32_t *hints,
     size_t hint_count, int32_t *store, size_t store_room, uint32_t *marks, size_t mark_room);
