@@ -2,62 +2,16 @@
 
 #include <algorithm>
 
-#include "elaborate.h"
-#include "refutation.h"
-#include "transition.h"
+#include "step_solver.h"
 
 namespace {
-
-enum Answer { SATISFIABLE = 10, UNSATISFIABLE = 20 }; // CaDiCaL's
-
-void add_numbers(CaDiCaL::Solver &solver, const std::vector<int32_t> &numbers) {
-  for (int32_t number : numbers) solver.add(number);
-}
-
-// Many short calls: what a solver does between them to simplify its clauses costs more than it gives.
-void set_up(CaDiCaL::Solver &solver) {
-  solver.configure("plain");
-  solver.set("quiet", 1);
-}
-
-// A solver that is told the variables of a step in the opposite order: it decides those with the highest numbers first, and the first that are made
-// are those of wires, on which most else depends.
-class StepSolver {
-public:
-  CaDiCaL::Solver solver;
-
-  StepSolver(Transition &asked, CaDiCaL::Terminator &limit) : step(asked), last(static_cast<int32_t>(asked.variables())) {
-    set_up(solver);
-    solver.connect_terminator(&limit);
-  }
-  ~StepSolver() { solver.disconnect_terminator(); }
-  StepSolver(const StepSolver &) = delete;
-  StepSolver &operator=(const StepSolver &) = delete;
-
-  // and back
-  int32_t turned(int32_t literal) const { return literal > 0 ? last + 1 - literal : -(last + 1 + literal); }
-  int32_t now(int32_t number) { return turned(step.now_of(number)); }
-  int32_t next(int32_t number) { return turned(step.next_of(number)); }
-  int32_t holds() { return turned(step.property()); }
-  void add_step() {
-    for (int32_t literal : step.clauses()) solver.add(literal == 0 ? 0 : turned(literal));
-  }
-
-private:
-  Transition &step;
-  int32_t last;
-};
-
-void ask_for(Transition &step, const Clause &clause) {
-  for (int32_t number : clause) step.now_of(number), step.next_of(number);
-}
 
 // The facts in a solver, in which each is switched on by a variable of its own.
 class Houdini {
 public:
   Houdini(const Chip &chip, const Property &property, const std::vector<Fact> &candidates, Limit &limit)
       : facts(candidates), step(chip, property), solver(with_all_asked_for(), limit) {
-    solver.add_step();
+    solver.add(step.clauses());
     int32_t variables = static_cast<int32_t>(step.variables());
     for (const Fact &fact : facts) {
       asserted.push_back(++variables);
@@ -92,7 +46,7 @@ private:
   Transition &with_all_asked_for() {
     step.property();
     for (const Fact &fact : facts)
-      for (const Clause &clause : fact.clauses) ask_for(step, clause);
+      for (const Clause &clause : fact.clauses) step.ask_for(clause);
     return step;
   }
 
@@ -133,7 +87,7 @@ private:
                                   [&](const Clause &clause) { return std::all_of(clause.begin(), clause.end(), is_false); });
       if (!made.kept[f]) dropped.insert(dropped.end(), {-asserted[f], 0});
     }
-    add_numbers(solver.solver, dropped);
+    for (int32_t number : dropped) solver.solver.add(number);
   }
 
   // what the property follows from, and what each of these is kept by
@@ -187,52 +141,4 @@ double Limit::seconds_left() const { return std::chrono::duration<double>(deadli
 
 Induction induct(const Chip &chip, const Property &property, const std::vector<Fact> &facts, bool all, Limit &limit) {
   return Houdini(chip, property, facts, limit).run(all);
-}
-
-std::optional<ForeverCertificate> certificate_of(const Chip &chip, const Property &property, const std::vector<Clause> &invariant, Stop &stop) {
-  Transition step(chip, property);
-  step.property();
-  ForeverCertificate made;
-  for (const Clause &clause : invariant) {
-    ask_for(step, clause);
-    made.invariant.insert(made.invariant.end(), clause.begin(), clause.end());
-    made.invariant.push_back(0);
-  }
-  Refutation refutation;
-  StepSolver solver(step, stop);
-  refutation.trace(solver.solver);
-  solver.add_step();
-  for (int32_t number : made.invariant) solver.solver.add(number == 0 ? 0 : solver.now(number));
-  // What fails together, negated, is the last clause that the solver then writes: the property, and each clause of the invariant behind the step.
-  auto follows = [&](const std::vector<int32_t> &clause) {
-    for (int32_t literal : clause) solver.solver.assume(-literal);
-    int answer = solver.solver.solve();
-    if (answer != SATISFIABLE && answer != UNSATISFIABLE) throw Stopped();
-    return answer == UNSATISFIABLE;
-  };
-  bool inductive = follows({solver.holds()});
-  if (inductive) {
-    refutation.add(refutation.place(solver.solver), {solver.holds(), 0});
-    add_numbers(solver.solver, {solver.holds(), 0});
-  }
-  for (size_t c = 0; inductive && c < invariant.size(); c++) {
-    std::vector<int32_t> behind;
-    for (int32_t number : invariant[c]) behind.push_back(solver.next(number));
-    inductive = follows(behind);
-  }
-  refutation.finish(solver.solver);
-  if (!inductive) return std::nullopt;
-
-  Learnt learnt{refutation.learnt(stop).numbers, {}}; // what was deleted is among what is wanted at the end
-  for (int32_t &literal : learnt.numbers)
-    if (literal != 0) literal = solver.turned(literal);
-  std::vector<int32_t> failing = step.ask_for_failure(made.invariant);
-  for (size_t c = failing.size(); c-- > 0;) learnt.numbers.insert(learnt.numbers.end(), {-failing[c], 0});
-  std::vector<int32_t> formula = step.clauses();
-  for (int32_t number : made.invariant) formula.push_back(number == 0 ? 0 : step.now_of(number));
-  made.refutation = elaborate(formula, learnt, step.variables(), stop);
-  for (int32_t &literal : made.refutation.lemmas)
-    if (literal != 0) literal = step.original(literal);
-  made.requests = step.requests();
-  return made;
 }

@@ -6,6 +6,7 @@
 #include "elaborate.h"
 #include "facts.h"
 #include "failure.h"
+#include "obligations.h"
 #include "pdr.h"
 
 namespace {
