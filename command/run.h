@@ -10,7 +10,7 @@
 
 struct Run {
   uint32_t first = 0; // the frame that breaks the property, and the last one
-  std::vector<std::string> wires; // of each frame, wire 1 first
+  std::vector<std::string> wires; // of each frame, wire 1 first; behind those of the record, which were stepped, the gates that are only shown
 
   bool value(uint32_t code, uint32_t frame) const;
   Bits bits(const std::vector<uint32_t> &codes, uint32_t frame) const;

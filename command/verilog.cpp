@@ -38,8 +38,8 @@ void test_statements(const Design &design) {
 
 class Chipmaker {
 public:
-  Chipmaker(const Design &read, const Options &wanted, const PortPlan &plan)
-      : design(read), options(wanted), logic(read, wanted.resets), cut(logic, only_memory(read, wanted.memory), plan) {}
+  Chipmaker(const Design &read, const Options &wanted, const PortPlan &plan, Stop &when)
+      : design(read), options(wanted), stop(when), logic(read, wanted.resets), cut(logic, only_memory(read, wanted.memory), plan) {}
 
   std::vector<Property> asked_about() {
     find_statements();
@@ -53,11 +53,11 @@ public:
   Chip make() {
     std::vector<Lit> roots = find_roots();
     Memory memory = cut.finish();
-    Emission emission = emit(logic.aig, memory, roots, options.start);
+    Emission emission = emit(logic.aig, memory, roots, options.start, stop);
     Chip &chip = emission.chip;
-    for (Statement &statement : statements) {
-      statement.property.code = emission.code(statement.seen) ^ 1;
-      chip.properties.push_back(statement.property);
+    for (size_t s = 0; s < statements.size(); s++) { // the first of the roots are theirs
+      statements[s].property.code = emission.code(emission.roots[s]) ^ 1;
+      chip.properties.push_back(statements[s].property);
     }
     chip.net.p = chip.properties[0].code;
     chip.notes.insert(chip.notes.end(), memory.notes.begin(), memory.notes.end());
@@ -71,6 +71,7 @@ public:
 private:
   const Design &design;
   const Options &options;
+  Stop &stop;
   Logic logic;
   MemoryCut cut;
   std::vector<Statement> statements;
@@ -272,19 +273,19 @@ private:
 
 enum class Ports { one, at_most_two };
 
-Chip chip_of_design(const Design &design, const Options &options, Ports ports) {
+Chip chip_of_design(const Design &design, const Options &options, Ports ports, Stop &stop) {
   const Cell &memory = only_memory(design, options.memory);
-  if (ports == Ports::one) return Chipmaker(design, options, one_port(memory)).make();
-  PortPlan plan = Chipmaker(design, options, port_for_each(memory)).two_ports();
-  return Chipmaker(design, options, plan).make();
+  if (ports == Ports::one) return Chipmaker(design, options, one_port(memory), stop).make();
+  PortPlan plan = Chipmaker(design, options, port_for_each(memory), stop).two_ports();
+  return Chipmaker(design, options, plan, stop).make();
 }
 
-std::vector<Chip> chips_of_design(const Design &design, const Options &options, Ports ports) {
+std::vector<Chip> chips_of_design(const Design &design, const Options &options, Ports ports, Stop &stop) {
   test_statements(design);
   try {
-    return {chip_of_design(design, options, ports)};
+    return {chip_of_design(design, options, ports, stop)};
   } catch (const TooLarge &together) {
-    std::vector<Property> statements = Chipmaker(design, options, one_port(only_memory(design, options.memory))).asked_about();
+    std::vector<Property> statements = Chipmaker(design, options, one_port(only_memory(design, options.memory)), stop).asked_about();
     if (statements.size() < 2) throw;
     std::vector<Chip> chips;
     for (const Property &statement : statements) {
@@ -292,7 +293,7 @@ std::vector<Chip> chips_of_design(const Design &design, const Options &options, 
       one.properties.clear(), one.covers.clear();
       (statement.kind == Property::Kind::cover ? one.covers : one.properties).push_back(statement.name);
       try {
-        chips.push_back(chip_of_design(design, one, ports));
+        chips.push_back(chip_of_design(design, one, ports, stop));
       } catch (const TooLarge &alone) {
         throw Failure(statement.name + ", asked about by itself: " + alone.message);
       }
@@ -311,19 +312,19 @@ std::vector<Chip> chips_of_verilog(const Options &options, Stop &stop) {
   // One port makes fewer clauses than two, and reads that have their registers fit where others do not.
   Design as_written = read_verilog(options, Reads::as_written, stop);
   try {
-    return chips_of_design(as_written, options, Ports::one);
+    return chips_of_design(as_written, options, Ports::one, stop);
   } catch (const NoFit &) {
   }
   Design clocked = read_verilog(options, Reads::clocked, stop);
   try {
-    return chips_of_design(clocked, options, Ports::one);
+    return chips_of_design(clocked, options, Ports::one, stop);
   } catch (const NoFit &) {
   }
   try {
-    return chips_of_design(as_written, options, Ports::at_most_two);
+    return chips_of_design(as_written, options, Ports::at_most_two, stop);
   } catch (const NoFit &no_fit) {
     try {
-      return chips_of_design(clocked, options, Ports::at_most_two);
+      return chips_of_design(clocked, options, Ports::at_most_two, stop);
     } catch (const NoFit &) {
       throw no_fit;
     }
