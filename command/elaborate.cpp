@@ -1,7 +1,7 @@
-// Forward, the clauses are added one by one until unit propagation alone gives a conflict: the empty lemma follows there, or what is wanted. Then backward, each lemma
-// that one behind it needs is derived by propagation from its negation through the clauses before it, and the clauses that propagated on the way to
-// the conflict are its hints: those that are needed already are tried first, and those that the solver had deleted by then only where it does not
-// follow without them. What was fixed before becomes a lemma of its own, a unit, once: no lemma repeats how it came about.
+// Forward, the clauses are added one by one until unit propagation alone gives a conflict: the empty lemma follows there. Then backward, each lemma
+// that one behind it needs, or that is wanted, is derived by propagation from its negation through the clauses before it, and the clauses that
+// propagated on the way to the conflict are its hints: those that are needed already are tried first, and those that the solver had deleted by then
+// only where it does not follow without them. What was fixed before becomes a lemma of its own, a unit, once: no lemma repeats how it came about.
 
 #include "elaborate.h"
 
@@ -374,8 +374,8 @@ Elaborated elaborate(const std::vector<int32_t> &formula, const Learnt &learnt, 
   if (stop.terminate()) throw Stopped();
   Propagation state(variables, 2 * numbers, stop);
   Forward forward(state, formula, learnt, variables);
-  if (wanted == 0 && forward.conflict == NONE) throw NoCertificate("it does not lead to a conflict");
-  if (wanted > 0 && forward.conflict != NONE) throw NoCertificate("it leads to a conflict");
+  if (forward.conflict != NONE) wanted = 0;
+  else if (wanted == 0) throw NoCertificate("it does not lead to a conflict");
 
   // of each lemma what it cites, how many these are, and itself: a clause, a unit, or nothing where it is empty
   std::vector<Cited> cited;

@@ -148,23 +148,26 @@ Parts parts_of(Aig &aig, const Memory &memory, const std::vector<Lit> &roots) {
   return made;
 }
 
-// Rewrites all that the chip computes in a frame: the roots, what its registers take and what goes into the memory. What abc says where it makes
-// nothing of it, or nothing.
+// Rewrites all that the chip computes in a frame: what goes into the memory, the roots, and what its registers take. The answer is why abc makes
+// nothing of it, where it does not. The order is that of an exported record (RULES X3).
 std::string shrink(Aig &aig, const Parts &parts, Memory &memory, std::vector<Lit> &roots, Stop &stop) {
   std::vector<Lit *> places;
-  std::vector<Lit> nexts;
   auto add = [&](std::vector<Lit> &literals) {
     for (Lit &literal : literals) places.push_back(&literal);
   };
+  if (!parts.cone.data_bits.empty()) {
+    std::vector<ReadPort *> ports;
+    for (size_t port = 0; port < memory.ports.size(); port++)
+      if (port == 0 || parts.cone.ports[port]) ports.push_back(&memory.ports[port]);
+    for (ReadPort *port : ports) add(port->address);
+    for (size_t bit : parts.cone.data_bits) places.push_back(&memory.write_data[bit]);
+    places.push_back(&memory.we);
+    for (size_t port = 0; port < ports.size(); port++)
+      if (parts.cone.ports[port]) places.push_back(&ports[port]->re);
+  }
+  std::vector<Lit> nexts;
   for (uint32_t latch : parts.latches) nexts.push_back(aig.node(latch).left);
   add(roots), add(nexts);
-  for (size_t bit : parts.cone.data_bits) places.push_back(&memory.write_data[bit]);
-  for (size_t port = 0; port < memory.ports.size() && !parts.cone.data_bits.empty(); port++) {
-    if (port > 0 && !parts.cone.ports[port]) continue;
-    add(memory.ports[port].address);
-    if (parts.cone.ports[port]) places.push_back(&memory.ports[port].re);
-  }
-  if (!parts.cone.data_bits.empty()) places.push_back(&memory.we);
   std::vector<Lit> before;
   for (Lit *place : places) before.push_back(*place);
   Rewritten rewritten = rewrite(aig, before, stop);

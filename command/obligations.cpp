@@ -33,20 +33,16 @@ public:
   }
 
   std::optional<ForeverCertificate> run() {
-    std::vector<size_t> left = show_part({PROPERTY()});
+    std::vector<size_t> left, all(invariant.size());
+    for (size_t c = 0; c < all.size(); c++) all[c] = c;
+    if (!show_part({PROPERTY()}).empty() && !show(whole, all, {PROPERTY()}).empty()) return std::nullopt;
     for (const auto &[word, clauses] : about) {
+      if (refuted) break;
       std::vector<size_t> open = show_part(clauses);
       left.insert(left.end(), open.begin(), open.end());
     }
-    if (!left.empty()) {
-      std::vector<size_t> all(invariant.size());
-      for (size_t c = 0; c < all.size(); c++) all[c] = c;
-      // what the property follows from keeps it from breaking before the step, too
-      if (left[0] == PROPERTY() && !show(whole, all, {PROPERTY()}).empty()) return std::nullopt;
-      if (left[0] == PROPERTY()) left.erase(left.begin());
-      if (!show(whole, all, left).empty()) return std::nullopt;
-    }
-    conclude();
+    if (!refuted && !left.empty() && !show(whole, all, left).empty()) return std::nullopt;
+    if (!refuted) conclude();
     return std::move(made);
   }
 
@@ -64,6 +60,7 @@ private:
   std::vector<size_t> clause_at;
   std::map<uint32_t, std::vector<size_t>> about; // clauses of the invariant, by word
   std::vector<size_t> shown_at; // by target, the place of its lemma; 0 where there is none yet
+  bool refuted = false; // the last lemma is empty: no state has this invariant
 
   // A target is a clause of the invariant, behind the step, or the property before it.
   size_t PROPERTY() const { return invariant.size(); }
@@ -126,7 +123,7 @@ private:
       for (int32_t number : invariant[c]) clause.push_back(step.now_of(number));
       add(clause, invariant_place() + clause_at[c]);
     }
-    if (&step == &whole && shown_at[PROPERTY()]) add({whole.property()}, shown_at[PROPERTY()]);
+    if (&step == &whole && shown_at[PROPERTY()]) add({whole.property()}, shown_at[PROPERTY()]); // it holds before the step
     Refutation refutation;
     StepSolver solver(step, stop);
     refutation.trace(solver.solver);
@@ -154,7 +151,8 @@ private:
       if (literal != 0) literal = solver.turned(literal);
     learnt.numbers.insert(learnt.numbers.end(), wanted.begin(), wanted.end());
     Elaborated lemmas = elaborate(formula, learnt, shown.size(), step.variables(), stop);
-    for (size_t s = 0; s < shown.size(); s++) shown_at[shown[s]] = lemma_place() + lemmas.places[s] - formula.size();
+    refuted = lemmas.places.empty();
+    for (size_t s = 0; s < shown.size() && !refuted; s++) shown_at[shown[s]] = lemma_place() + lemmas.places[s] - formula.size();
     take(step, lemmas.certificate, places);
     return left;
   }

@@ -1,9 +1,9 @@
 #include "rewriting.h"
 
+#include <map>
 #include <set>
 
 #include "abc.h"
-#include "failure.h"
 
 namespace {
 
@@ -13,10 +13,11 @@ constexpr const char *COMMANDS = "strash; dc2; dc2; dc2; resub -K 12; resub -K 1
 } // namespace
 
 Rewritten rewrite(Aig &aig, const std::vector<Lit> &roots, Stop &stop) {
-  std::set<uint32_t> leaves;
+  std::map<Aig::Kind, std::set<uint32_t>> leaves;
   for (Lit root : roots)
-    for (uint32_t node : aig.support(root)) leaves.insert(node);
-  std::vector<uint32_t> inputs(leaves.begin(), leaves.end());
+    for (uint32_t node : aig.support(root)) leaves[aig.node(node).kind].insert(node);
+  std::vector<uint32_t> inputs;
+  for (Aig::Kind kind : {Aig::Kind::input, Aig::Kind::read, Aig::Kind::latch}) inputs.insert(inputs.end(), leaves[kind].begin(), leaves[kind].end());
   Finished finished = run_abc(binary_aiger(aig, inputs, {}, roots), COMMANDS, stop, MOST_SECONDS);
   if (finished.missing) return {{}, std::string(ABC) + " is missing (Debian's package of this name)"};
   if (finished.killed || finished.status != 0) return {{}, std::string(ABC) + " does not rewrite it"};

@@ -56,7 +56,7 @@ public:
     Emission emission = emit(logic.aig, memory, roots, options.start, stop);
     Chip &chip = emission.chip;
     for (size_t s = 0; s < statements.size(); s++) { // the first of the roots are theirs
-      statements[s].property.code = emission.code(emission.roots[s]) ^ 1;
+      statements[s].property.code = emission.code(emission.roots[s]);
       chip.properties.push_back(statements[s].property);
     }
     chip.net.p = chip.properties[0].code;
@@ -83,7 +83,7 @@ private:
     std::vector<Lit> roots;
     for (Statement &statement : statements) {
       statement.seen = logic.aig.land(statement.seen, allowed);
-      roots.push_back(statement.seen);
+      roots.push_back(statement.seen ^ 1);
     }
     for (const std::string &name : options.watched) {
       std::vector<Lit> bits = logic.lits(watched_net(name).bits);
