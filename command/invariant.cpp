@@ -25,6 +25,7 @@ public:
 
   Induction run(bool all) {
     made.kept.assign(facts.size(), true);
+    keepers.resize(facts.size());
     int answer = UNSATISFIABLE;
     if (all) answer = drop_one_by_one();
     if (answer != UNSATISFIABLE) return made;
@@ -41,6 +42,7 @@ private:
   StepSolver solver;
   std::vector<int32_t> asserted;
   Induction made;
+  std::vector<std::vector<bool>> keepers; // by fact, those that keep it, if every step does; none where that is not known
   enum { DROPPED = -1 }; // in place of an answer: a fact was, so that what is kept has to be asked about anew
 
   Transition &with_all_asked_for() {
@@ -50,29 +52,53 @@ private:
     return step;
   }
 
-  int ask(const std::vector<int32_t> &assumed) {
+  // with these facts
+  int ask(const std::vector<bool> &used, const std::vector<int32_t> &assumed) {
     for (size_t f = 0; f < facts.size(); f++)
-      if (made.kept[f]) solver.solver.assume(asserted[f]);
+      if (used[f]) solver.solver.assume(asserted[f]);
     for (int32_t literal : assumed) solver.solver.assume(literal);
     return solver.solver.solve();
   }
 
-  // a step that leaves a clause
-  int ask_about(const Clause &clause) {
-    std::vector<int32_t> assumed{solver.holds()};
-    for (int32_t number : clause) assumed.push_back(-solver.next(number));
-    return ask(assumed);
+  // of those that are kept, what the last answer needed
+  void take_needed(std::vector<bool> &needed) {
+    for (size_t f = 0; f < facts.size(); f++)
+      if (made.kept[f] && solver.solver.failed(asserted[f])) needed[f] = true;
+  }
+
+  // Whether every step keeps the clauses of a fact, and by which facts: mostly by those that kept the clauses before, of which there are few.
+  int keep(size_t f) {
+    std::vector<bool> &used = keepers[f];
+    bool known = !used.empty();
+    for (size_t other = 0; known && other < facts.size(); other++) known = !used[other] || made.kept[other];
+    if (known) return UNSATISFIABLE;
+    used.assign(facts.size(), false);
+    used[f] = true;
+    for (const Clause &clause : facts[f].clauses) {
+      std::vector<int32_t> left_by{solver.holds()};
+      for (int32_t number : clause) left_by.push_back(-solver.next(number));
+      int answer = ask(used, left_by);
+      if (answer == SATISFIABLE) {
+        answer = ask(made.kept, left_by);
+        if (answer == UNSATISFIABLE) take_needed(used);
+      }
+      if (answer == UNSATISFIABLE) continue;
+      used.clear();
+      if (answer != SATISFIABLE) return answer;
+      drop_violated();
+      return DROPPED;
+    }
+    return UNSATISFIABLE;
   }
 
   int drop_one_by_one() {
     for (bool dropped = true; dropped;) {
       dropped = false;
-      for (size_t f = 0; f < facts.size(); f++)
-        for (size_t c = 0; made.kept[f] && c < facts[f].clauses.size(); c++) {
-          int answer = ask_about(facts[f].clauses[c]);
-          if (answer == SATISFIABLE) drop_violated(), dropped = true;
-          else if (answer != UNSATISFIABLE) return answer;
-        }
+      for (size_t f = 0; f < facts.size(); f++) {
+        int answer = UNSATISFIABLE;
+        while (made.kept[f] && (answer = keep(f)) == DROPPED) dropped = true;
+        if (made.kept[f] && answer != UNSATISFIABLE) return answer;
+      }
     }
     return UNSATISFIABLE;
   }
@@ -93,26 +119,17 @@ private:
   // what the property follows from, and what each of these is kept by
   int find_needed() {
     made.needed.assign(facts.size(), false);
-    std::vector<size_t> open;
-    auto take = [&] {
-      for (size_t f = 0; f < facts.size(); f++) {
-        if (!made.kept[f] || made.needed[f] || !solver.solver.failed(asserted[f])) continue;
-        made.needed[f] = true;
-        open.push_back(f);
-      }
-    };
-    int answer = ask({-solver.holds()});
+    int answer = ask(made.kept, {-solver.holds()});
     if (answer != UNSATISFIABLE) return answer;
-    take();
-    while (!open.empty()) {
-      size_t f = open.back();
-      open.pop_back();
-      for (const Clause &clause : facts[f].clauses) {
-        answer = ask_about(clause);
-        if (answer == SATISFIABLE) return drop_violated(), DROPPED;
-        if (answer != UNSATISFIABLE) return answer;
-        take();
-      }
+    take_needed(made.needed);
+    std::vector<bool> asked(facts.size());
+    for (size_t f = 0; f < facts.size(); f++) {
+      if (!made.needed[f] || asked[f]) continue;
+      asked[f] = true;
+      answer = keep(f);
+      if (answer != UNSATISFIABLE) return answer;
+      for (size_t other = 0; other < facts.size(); other++) made.needed[other] = made.needed[other] || keepers[f][other];
+      f = SIZE_MAX; // from the first on
     }
     return UNSATISFIABLE;
   }
