@@ -23,30 +23,26 @@ namespace {
 
 enum { MOST_CONFLICTS = 20000 };
 
-// gates below the literals, each behind its operands
-std::vector<uint32_t> gates_below(const Aig &aig, const std::vector<Lit> &roots) {
-  std::vector<uint32_t> order, stack;
-  std::set<uint32_t> seen;
-  for (Lit root : roots) stack.push_back(root / 2);
-  while (!stack.empty()) {
-    uint32_t index = stack.back();
-    const Aig::Node &node = aig.node(index);
-    if (node.kind != Aig::Kind::gate || seen.count(index)) {
-      stack.pop_back();
-      continue;
-    }
-    size_t before = stack.size();
-    for (Lit operand : {node.left, node.right})
-      if (aig.node(operand / 2).kind == Aig::Kind::gate && !seen.count(operand / 2)) stack.push_back(operand / 2);
-    if (stack.size() > before) continue;
-    seen.insert(index);
-    order.push_back(index);
-    stack.pop_back();
-  }
-  return order;
-}
-
 } // namespace
+
+std::vector<uint32_t> Aig::gates_below(const std::vector<Lit> &roots) const {
+  std::vector<char> seen(nodes.size());
+  std::vector<uint32_t> found, stack;
+  auto push = [&](Lit of) {
+    uint32_t index = of / 2;
+    if (nodes[index].kind != Kind::gate || seen[index]) return;
+    seen[index] = 1;
+    stack.push_back(index);
+  };
+  for (Lit root : roots) push(root);
+  while (!stack.empty()) {
+    found.push_back(stack.back());
+    stack.pop_back();
+    push(nodes[found.back()].left), push(nodes[found.back()].right);
+  }
+  std::sort(found.begin(), found.end()); // a gate is made when its operands are there
+  return found;
+}
 
 Lit Aig::where(Lit literal, Lit given) {
   // a conjunction that is true has true conjuncts
@@ -65,7 +61,7 @@ Lit Aig::where(Lit literal, Lit given) {
     auto found = now.find(of / 2);
     return found == now.end() ? of : found->second ^ (of & 1);
   };
-  for (uint32_t index : gates_below(*this, {literal})) {
+  for (uint32_t index : gates_below({literal})) {
     if (now.count(index)) continue;
     Lit left = value(nodes[index].left), right = value(nodes[index].right);
     now[index] = land(left, right);
@@ -79,7 +75,7 @@ std::vector<uint32_t> Aig::support(Lit literal) const {
     if (of > TRUE && nodes[of / 2].kind != Kind::gate) found.insert(of / 2);
   };
   add(literal);
-  for (uint32_t index : gates_below(*this, {literal})) add(nodes[index].left), add(nodes[index].right);
+  for (uint32_t index : gates_below({literal})) add(nodes[index].left), add(nodes[index].right);
   return {found.begin(), found.end()};
 }
 
@@ -98,7 +94,7 @@ bool can_differ(const Aig &aig, Lit active, const std::vector<Lit> &word, Lit ot
   roots.insert(roots.end(), word.begin(), word.end());
   roots.insert(roots.end(), other_word.begin(), other_word.end());
   solver.add(-1), solver.add(0); // node 0 is false
-  for (uint32_t index : gates_below(aig, roots)) {
+  for (uint32_t index : aig.gates_below(roots)) {
     int gate = literal(2 * index), left = literal(aig.node(index).left), right = literal(aig.node(index).right);
     solver.add(-gate), solver.add(left), solver.add(0);
     solver.add(-gate), solver.add(right), solver.add(0);

@@ -39,6 +39,8 @@ public:
 
   // The literal where `given` is known to be true: what it is then, and else as it likes.
   Lit where(Lit literal, Lit given);
+  // gates below the literals, each behind its operands
+  std::vector<uint32_t> gates_below(const std::vector<Lit> &roots) const;
   // inputs, latches and read bits that are reached through gates
   std::vector<uint32_t> support(Lit literal) const;
   bool depends_on(Lit literal, Kind kind) const;

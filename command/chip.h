@@ -38,6 +38,7 @@ struct Chip {
   marrubigai_netlist net{}; // its property is put in by `of`
   std::vector<marrubigai_latch> latches;
   std::vector<marrubigai_gate> gates;
+  std::vector<marrubigai_gate> shown_gates; // of the design, and not of the record, which has others in their place: numbered behind its wires
   std::vector<Property> properties;
   std::optional<marrubigai_code> assumptions; // that they hold and held in all frames before, where there are some
 
@@ -74,6 +75,11 @@ struct Chip {
   }
   uint32_t read_bits() const { return (1 + net.second_port) * net.n; }
   uint32_t wires() const { return net.inputs + net.latches + read_bits() + net.gates; }
+  // of a wire from the first gate's on
+  const marrubigai_gate &gate(uint32_t wire) const {
+    uint32_t at = wire - first_read() - read_bits();
+    return at < gates.size() ? gates[at] : shown_gates[at - gates.size()];
+  }
   // of a port, 0 or 1
   uint32_t first_read(size_t port = 0) const { return net.inputs + net.latches + 1 + static_cast<uint32_t>(port) * net.n; }
 };

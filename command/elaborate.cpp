@@ -1,7 +1,7 @@
 // Forward, the clauses are added one by one until unit propagation alone gives a conflict: the empty lemma follows there. Then backward, each lemma
-// that one behind it needs is derived by propagation from its negation through the clauses before it, and the clauses that propagated on the way to
-// the conflict are its hints: those that are needed already are tried first, and those that the solver had deleted by then only where it does not
-// follow without them. What was fixed before becomes a lemma of its own, a unit, once: no lemma repeats how it came about.
+// that one behind it needs, or that is wanted, is derived by propagation from its negation through the clauses before it, and the clauses that
+// propagated on the way to the conflict are its hints: those that are needed already are tried first, and those that the solver had deleted by then
+// only where it does not follow without them. What was fixed before becomes a lemma of its own, a unit, once: no lemma repeats how it came about.
 
 #include "elaborate.h"
 
@@ -368,13 +368,14 @@ uint64_t clause_key(const int32_t *begin, const int32_t *end) {
   return key;
 }
 
-Certificate elaborate(const std::vector<int32_t> &formula, const Learnt &learnt, uint32_t variables, Stop &stop) {
+Elaborated elaborate(const std::vector<int32_t> &formula, const Learnt &learnt, size_t wanted, uint32_t variables, Stop &stop) {
   size_t numbers = formula.size() + learnt.numbers.size();
   if (numbers > MOST_NUMBERS) throw NoCertificate("formula and refutation have " + std::to_string(numbers) + " numbers, too many to be kept");
   if (stop.terminate()) throw Stopped();
   Propagation state(variables, 2 * numbers, stop);
   Forward forward(state, formula, learnt, variables);
-  if (forward.conflict == NONE) throw NoCertificate("it does not lead to a conflict");
+  if (forward.conflict != NONE) wanted = 0;
+  else if (wanted == 0) throw NoCertificate("it does not lead to a conflict");
 
   // of each lemma what it cites, how many these are, and itself: a clause, a unit, or nothing where it is empty
   std::vector<Cited> cited;
@@ -397,9 +398,13 @@ Certificate elaborate(const std::vector<int32_t> &formula, const Learnt &learnt,
   for (const Forward::Deleted &deletion : forward.deleted) state.clauses.set_rank(deletion.clause, RESTING);
   for (size_t variable = 0; variable < std::min(learnt.left_out.size(), state.left_out.size()); variable++)
     state.left_out[variable] = learnt.left_out[variable];
+  for (size_t lemma = forward.lemmas.size() - wanted; lemma < forward.lemmas.size(); lemma++)
+    state.clauses.set_rank(forward.lemmas[lemma].clause, NEEDED);
   state.turn_back();
-  state.explain(forward.conflict, forward.lemmas.empty() ? 0 : forward.lemmas.back().length, cited);
-  keep(NONE);
+  if (wanted == 0) {
+    state.explain(forward.conflict, forward.lemmas.empty() ? 0 : forward.lemmas.back().length, cited);
+    keep(NONE);
+  }
   auto deletion = forward.deleted.rbegin();
   auto reach = learnt.reaches.rbegin();
   for (size_t lemma = forward.lemmas.size(); lemma-- > 0;) {
@@ -416,7 +421,8 @@ Certificate elaborate(const std::vector<int32_t> &formula, const Learnt &learnt,
   }
   keep_units(0);
 
-  Certificate made;
+  Elaborated elaborated;
+  Certificate &made = elaborated.certificate;
   std::vector<size_t> unit_places(fixed.size());
   while (!cited.empty()) {
     auto take = [&] {
@@ -445,5 +451,11 @@ Certificate elaborate(const std::vector<int32_t> &formula, const Learnt &learnt,
       made.hints.push_back(static_cast<uint32_t>(is_unit(one) ? unit_places[one & ~UNIT] : state.clauses.stored(one)));
     }
   }
-  return made;
+  for (size_t lemma = forward.lemmas.size() - wanted; lemma < forward.lemmas.size(); lemma++)
+    elaborated.places.push_back(state.clauses.stored(forward.lemmas[lemma].clause));
+  return elaborated;
+}
+
+Certificate elaborate(const std::vector<int32_t> &formula, const Learnt &learnt, uint32_t variables, Stop &stop) {
+  return elaborate(formula, learnt, 0, variables, stop).certificate;
 }

@@ -6,6 +6,7 @@
 
 #include "failure.h"
 #include "phases.h"
+#include "rewriting.h"
 
 std::vector<uint32_t> Emission::codes_of(const std::vector<Lit> &literals) const {
   std::vector<uint32_t> made;
@@ -80,7 +81,7 @@ std::vector<std::vector<Lit>> own_bits(Aig &aig, const std::vector<ReadPort> &po
   return own;
 }
 
-std::string counts(size_t inputs, size_t latches, size_t read_bits, size_t gates) {
+std::string wires_text(size_t inputs, size_t latches, size_t read_bits, size_t gates) {
   return std::to_string(inputs) + " inputs, " + std::to_string(latches) + " registers, " + std::to_string(read_bits) + " read bits, " +
          std::to_string(gates) + " gates";
 }
@@ -121,14 +122,94 @@ void show_ports(Emission &made, const Memory &memory) {
   made.chip.write_data = made.codes_of(memory.write_data);
 }
 
-Emission emit_cone(Aig &aig, Memory memory, const std::vector<Lit> &seen, const std::vector<Lit> &watched, const Start &start);
+// What the chip is made of: nodes of the graph.
+struct Parts {
+  Cone cone;
+  Memory memory; // with the ports of the record: others than the first only where something depends on them
+  std::vector<std::vector<Lit>> address; // of each port
+  std::vector<uint32_t> inputs, latches, gates;
+
+  size_t data_bits() const { return std::max<size_t>(cone.data_bits.size(), 1); }
+  size_t read_bits() const { return memory.ports.size() * data_bits(); }
+  size_t wires() const { return inputs.size() + latches.size() + read_bits() + gates.size(); }
+  std::string text() const { return wires_text(inputs.size(), latches.size(), read_bits(), gates.size()); }
+};
+
+// the cone and the ports
+Parts parts_of(const Aig &aig, const Memory &memory, const std::vector<Lit> &roots) {
+  Parts made;
+  made.cone = cone_of(aig, memory, roots);
+  made.memory = memory;
+  std::vector<ReadPort> &ports = made.memory.ports;
+  ports.clear();
+  for (size_t port = 0; port < memory.ports.size(); port++)
+    if (port == 0 || made.cone.ports[port]) ports.push_back(memory.ports[port]);
+  if (!made.cone.ports[0]) ports[0].re = FALSE; // it only writes
+  for (const ReadPort &port : ports)
+    for (Lit bit : port.address)
+      if (!made.cone.data_bits.empty() && aig.depends_on(bit, Aig::Kind::read))
+        throw NoFit(memory.source + ": the address of memory " + memory.name + " depends on a word that it reads in the same frame.\n" +
+                    "Put a register on the path, so that the address comes from a word that an earlier step read.");
+  return made;
+}
+
+// and what is behind them
+void take_nodes(Aig &aig, Parts &parts) {
+  const Memory &memory = parts.memory;
+  parts.address.resize(memory.ports.size());
+  if (!parts.cone.data_bits.empty()) parts.address = own_bits(aig, memory.ports);
+  parts.cone.has.resize(aig.size(), 1); // copies of address bits
+  for (uint32_t index = 1; index < aig.size(); index++) {
+    if (!parts.cone.has[index]) continue;
+    Aig::Kind kind = aig.node(index).kind;
+    if (kind == Aig::Kind::input) parts.inputs.push_back(index);
+    if (kind == Aig::Kind::latch) parts.latches.push_back(index);
+    if (kind == Aig::Kind::gate) parts.gates.push_back(index);
+  }
+  if (parts.address[0].size() > MOST_ADDRESS_BITS)
+    throw Failure(memory.source + ": memory " + memory.name + " has " + std::to_string(parts.address[0].size()) +
+                  " address bits, and 12 is the most.\nMake it smaller by a parameter (-P).");
+  if (parts.data_bits() > MOST_DATA_BITS)
+    throw TooLarge(memory.source + ": what is asked about depends on " + std::to_string(parts.data_bits()) + " data bits of memory " + memory.name +
+                   ", and 32 is the most.\nMake the words narrower by a parameter (-P).");
+}
+
+// Rewrites all that the chip computes in a frame: what goes into the memory, the roots, and what its registers take. The answer is why abc makes
+// nothing of it, where it does not. The order is that of an exported record (RULES X3).
+std::string shrink(Aig &aig, Parts &parts, std::vector<Lit> &roots, Stop &stop) {
+  std::vector<Lit *> places;
+  auto add = [&](std::vector<Lit> &literals) {
+    for (Lit &literal : literals) places.push_back(&literal);
+  };
+  Memory &memory = parts.memory;
+  if (!parts.cone.data_bits.empty()) {
+    for (ReadPort &port : memory.ports) add(port.address);
+    for (size_t bit : parts.cone.data_bits) places.push_back(&memory.write_data[bit]);
+    places.push_back(&memory.we);
+    for (ReadPort &port : memory.ports)
+      if (port.re != FALSE) places.push_back(&port.re);
+  }
+  std::vector<Lit> nexts;
+  for (uint32_t latch : parts.latches) nexts.push_back(aig.node(latch).left);
+  add(roots), add(nexts);
+  std::vector<Lit> before;
+  for (Lit *place : places) before.push_back(*place);
+  Rewritten rewritten = rewrite(aig, before, stop);
+  if (rewritten.roots.empty()) return rewritten.problem;
+  for (size_t at = 0; at < places.size(); at++) *places[at] = rewritten.roots[at];
+  for (size_t l = 0; l < nexts.size(); l++) aig.set_next(2 * parts.latches[l], nexts[l]);
+  return "";
+}
+
+Emission emit_cone(Aig &aig, const Memory &memory, const std::vector<Lit> &seen, const std::vector<Lit> &watched, const Start &start, Stop &stop);
 
 // The sheet can have a second port, where its memory begins with a given word. Else the ports have one of its in turn.
-Emission emit_in_phases(const Aig &aig, const Memory &memory, const std::vector<Lit> &seen, const std::vector<Lit> &watched, const Start &start) {
+Emission emit_in_phases(const Aig &aig, const Memory &memory, const std::vector<Lit> &seen, const std::vector<Lit> &watched, const Start &start,
+                        Stop &stop) {
   Phased phased = in_phases(aig, memory);
   std::vector<Lit> counted;
   for (Lit each : seen) counted.push_back(phased.aig.land(phased.literal(each), phased.last));
-  Emission made = emit_cone(phased.aig, phased.memory, counted, phased.literals_of(watched), start);
+  Emission made = emit_cone(phased.aig, phased.memory, counted, phased.literals_of(watched), start, stop);
   made.chip.own.push_back({"phase", made.codes_of(phased.phase)});
   made.codes = made.codes_of(phased.literals);
   made.chip.phases = static_cast<uint32_t>(memory.ports.size());
@@ -136,95 +217,89 @@ Emission emit_in_phases(const Aig &aig, const Memory &memory, const std::vector<
   return made;
 }
 
-Emission emit_cone(Aig &aig, Memory memory, const std::vector<Lit> &seen, const std::vector<Lit> &watched, const Start &start) {
+Emission emit_cone(Aig &aig, const Memory &memory, const std::vector<Lit> &seen, const std::vector<Lit> &watched, const Start &start, Stop &stop) {
   std::vector<Lit> roots = seen;
   roots.insert(roots.end(), watched.begin(), watched.end());
-  Cone cone = cone_of(aig, memory, roots);
-  std::vector<ReadPort> ports; // those of the record: others than the first only where something depends on them
-  for (size_t port = 0; port < memory.ports.size(); port++)
-    if (port == 0 || cone.ports[port]) ports.push_back(memory.ports[port]);
-  if (!cone.ports[0]) ports[0].re = FALSE; // it only writes
-  memory.ports = ports;
-  for (const ReadPort &port : ports)
-    for (Lit bit : port.address)
-      if (!cone.data_bits.empty() && aig.depends_on(bit, Aig::Kind::read))
-        throw NoFit(memory.source + ": the address of memory " + memory.name + " depends on a word that it reads in the same frame.\n" +
-                    "Put a register on the path, so that the address comes from a word that an earlier step read.");
-  Begins begins = begins_as(memory, cone.data_bits, start);
-  if (ports.size() > 2 || (ports.size() == 2 && begins.unknown)) return emit_in_phases(aig, memory, seen, watched, start);
-  std::vector<std::vector<Lit>> address(ports.size());
-  if (!cone.data_bits.empty()) address = own_bits(aig, ports);
-  cone.has.resize(aig.size(), 1); // copies of address bits
-  std::vector<uint32_t> inputs, latches, gates;
-  for (uint32_t index = 1; index < aig.size(); index++) {
-    if (!cone.has[index]) continue;
-    Aig::Kind kind = aig.node(index).kind;
-    if (kind == Aig::Kind::input) inputs.push_back(index);
-    if (kind == Aig::Kind::latch) latches.push_back(index);
-    if (kind == Aig::Kind::gate) gates.push_back(index);
-  }
-  size_t data_bits = std::max<size_t>(cone.data_bits.size(), 1), read_bits = ports.size() * data_bits;
-  size_t wires = inputs.size() + latches.size() + read_bits + gates.size();
-  if (address[0].size() > MOST_ADDRESS_BITS)
-    throw Failure(memory.source + ": memory " + memory.name + " has " + std::to_string(address[0].size()) + " address bits, and 12 is the most.\n" +
-                  "Make it smaller by a parameter (-P).");
-  if (data_bits > MOST_DATA_BITS)
-    throw TooLarge(memory.source + ": what is asked about depends on " + std::to_string(data_bits) + " data bits of memory " + memory.name +
-                  ", and 32 is the most.\nMake the words narrower by a parameter (-P).");
-  if (wires > MOST_WIRES)
-    throw TooLarge("what is asked about depends on " + std::to_string(wires) + " wires (" + counts(inputs.size(), latches.size(), read_bits, gates.size()) +
-                  "), and 600 is the most.\n" +
-                  "Make the design smaller by a parameter (-P): narrower words, fewer of them.");
+  Parts parts = parts_of(aig, memory, roots);
+  Begins begins = begins_as(memory, parts.cone.data_bits, start);
+  size_t port_count = parts.memory.ports.size();
+  if (port_count > 2 || (port_count == 2 && begins.unknown)) return emit_in_phases(aig, parts.memory, seen, watched, start, stop);
+  take_nodes(aig, parts);
   Emission made;
+  std::vector<uint32_t> gone; // gates that the chip has others for, and that are shown
+  if (parts.wires() > MOST_WIRES) {
+    made.rewritten_from = std::to_string(parts.wires()) + " wires (" + parts.text() + ")";
+    const std::vector<char> has = parts.cone.has;
+    std::string problem = shrink(aig, parts, roots, stop);
+    if (problem.empty()) {
+      parts = parts_of(aig, parts.memory, roots);
+      take_nodes(aig, parts);
+    }
+    if (parts.wires() > MOST_WIRES)
+      throw TooLarge("what is asked about depends on " + made.rewritten_from + ", and 600 is the most" +
+                     (problem.empty() ? "; abc's rewriting leaves " + std::to_string(parts.wires()) : "; not rewritten: " + problem) + ".\n" +
+                     "Make the design smaller by a parameter (-P): narrower words, fewer of them.");
+    for (uint32_t index = 1; index < has.size(); index++)
+      if (has[index] && !parts.cone.has[index] && aig.node(index).kind == Aig::Kind::gate) gone.push_back(index);
+  }
   made.codes.assign(aig.size(), NO_CODE);
   made.codes[0] = 0;
   uint32_t wire = 0;
   auto number = [&](uint32_t index) { made.codes[index] = 2 * ++wire; };
-  for (uint32_t index : inputs) number(index);
-  for (uint32_t index : latches) number(index);
+  const std::vector<ReadPort> &ports = parts.memory.ports;
+  for (uint32_t index : parts.inputs) number(index);
+  for (uint32_t index : parts.latches) number(index);
   for (const ReadPort &port : ports)
-    for (size_t bit : cone.data_bits) number(port.read[bit] / 2);
-  if (cone.data_bits.empty()) wire++; // a memory that nothing depends on, of one bit
-  for (uint32_t index : gates) number(index);
+    for (size_t bit : parts.cone.data_bits) number(port.read[bit] / 2);
+  if (parts.cone.data_bits.empty()) wire++; // a memory that nothing depends on, of one bit
+  for (uint32_t index : parts.gates) number(index);
 
   Chip &chip = made.chip;
+  for (uint32_t index : gone) {
+    marrubigai_gate gate{made.code(aig.node(index).left), made.code(aig.node(index).right)};
+    if (gate.left == NO_CODE || gate.right == NO_CODE) continue;
+    number(index);
+    chip.shown_gates.push_back(gate);
+  }
+  const std::vector<std::vector<Lit>> &address = parts.address;
   marrubigai_netlist &net = chip.net;
-  net.inputs = static_cast<uint32_t>(inputs.size());
-  net.latches = static_cast<uint32_t>(latches.size());
-  net.gates = static_cast<uint32_t>(gates.size());
+  net.inputs = static_cast<uint32_t>(parts.inputs.size());
+  net.latches = static_cast<uint32_t>(parts.latches.size());
+  net.gates = static_cast<uint32_t>(parts.gates.size());
   net.m = static_cast<uint32_t>(std::max<size_t>(address[0].size(), 1));
-  net.n = static_cast<uint32_t>(data_bits);
+  net.n = static_cast<uint32_t>(parts.data_bits());
   net.second_port = ports.size() == 2;
   for (size_t t = 0; t < address[0].size(); t++) net.address[t] = made.code(address[0][t]);
   for (size_t t = 0; net.second_port && t < address[1].size(); t++) net.address2[t] = made.code(address[1][t]);
-  for (size_t t = 0; t < cone.data_bits.size(); t++) net.write_data[t] = made.code(memory.write_data[cone.data_bits[t]]);
-  for (uint32_t index : latches) chip.latches.push_back({made.code(aig.node(index).left), aig.node(index).reset});
-  for (uint32_t index : gates) chip.gates.push_back({made.code(aig.node(index).left), made.code(aig.node(index).right)});
+  for (size_t t = 0; t < parts.cone.data_bits.size(); t++) net.write_data[t] = made.code(parts.memory.write_data[parts.cone.data_bits[t]]);
+  for (uint32_t index : parts.latches) chip.latches.push_back({made.code(aig.node(index).left), aig.node(index).reset});
+  for (uint32_t index : parts.gates) chip.gates.push_back({made.code(aig.node(index).left), made.code(aig.node(index).right)});
   chip.memory_name = memory.name;
-  if (cone.data_bits.empty()) {
+  if (parts.cone.data_bits.empty()) {
     chip.notes.push_back("what is asked about does not depend on the memory " + memory.name);
   } else {
-    net.we = made.code(memory.we);
+    net.we = made.code(parts.memory.we);
     net.re = made.code(ports[0].re);
     if (net.second_port) net.re2 = made.code(ports[1].re);
     net.unknown_start = begins.unknown;
     net.initial_word = begins.word;
   }
-  show_ports(made, memory);
-  for (Lit each : seen) made.seen.push_back(made.code(each));
+  show_ports(made, parts.memory);
+  for (size_t at = 0; at < seen.size(); at++) made.seen.push_back(made.code(roots[at]));
   return made;
 }
 
 } // namespace
 
-Emission emit(Aig &aig, const Memory &memory, const std::vector<Lit> &seen, const std::vector<Lit> &watched, const Start &start) {
-  Emission made = emit_cone(aig, memory, seen, watched, start);
+Emission emit(Aig &aig, const Memory &memory, const std::vector<Lit> &seen, const std::vector<Lit> &watched, const Start &start, Stop &stop) {
+  Emission made = emit_cone(aig, memory, seen, watched, start, stop);
   Chip &chip = made.chip;
   const marrubigai_netlist &net = chip.net;
   std::string ports = chip.phases > 1 ? std::to_string(chip.phases) + " ports in turn (a frame is " + std::to_string(chip.phases) + " of the sheet), "
                                       : net.second_port ? "two ports, " : "";
   chip.notes.push_back("memory " + memory.name + " (" + memory.source + "): " + std::to_string(net.m) + " address bits, " + std::to_string(net.n) +
                        " data bits, " + ports + "start " + (net.unknown_start ? "unknown" : std::to_string(net.initial_word)) + "; " +
-                       std::to_string(chip.wires()) + " wires of at most 600 (" + counts(net.inputs, net.latches, chip.read_bits(), net.gates) + ")");
+                       std::to_string(chip.wires()) + " wires of at most 600 (" + wires_text(net.inputs, net.latches, chip.read_bits(), net.gates) + ")" +
+                       (made.rewritten_from.empty() ? "" : ", rewritten by abc from " + made.rewritten_from));
   return made;
 }

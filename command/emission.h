@@ -3,16 +3,18 @@
 
 #include "chip.h"
 #include "memory.h"
+#include "stop.h"
 
 struct Emission {
   Chip chip; // without names and properties
   std::vector<uint32_t> codes; // of each node of the graph; NO_CODE where the cone has it not
   std::vector<uint32_t> seen; // codes of what is asked about, in the frames of the sheet in which it counts
+  std::string rewritten_from; // its wires before they were rewritten, where they were
 
   uint32_t code(Lit literal) const { return codes[literal / 2] == NO_CODE ? NO_CODE : codes[literal / 2] ^ (literal & 1); }
   std::vector<uint32_t> codes_of(const std::vector<Lit> &literals) const;
 };
 
-// Only that is kept on which what is asked about, or watched, depends: of the memory too, bit by bit, as no data bit depends on another. A Failure
-// where it does not fit.
-Emission emit(Aig &aig, const Memory &memory, const std::vector<Lit> &seen, const std::vector<Lit> &watched, const Start &start);
+// Only that is kept on which what is asked about, or watched, depends: of the memory too, bit by bit, as no data bit depends on another. Where that does
+// not fit, its gates are rewritten, and those that are gone are only shown. A Failure where it does not fit then.
+Emission emit(Aig &aig, const Memory &memory, const std::vector<Lit> &seen, const std::vector<Lit> &watched, const Start &start, Stop &stop);

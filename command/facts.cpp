@@ -247,10 +247,10 @@ std::optional<int32_t> state_number(const Chip &chip, marrubigai_code code) {
   uint32_t first_gate = chip.first_read() + chip.read_bits();
   if (code / 2 < first_gate || code % 2 == 0) return std::nullopt;
   // one that begins unknown is its latch or, in frame 0, an input: not (not the latch, and not the input in frame 0)
-  const marrubigai_gate &gate = chip.gates[code / 2 - first_gate];
+  const marrubigai_gate &gate = chip.gate(code / 2);
   for (auto [one, other] : {std::pair{gate.left, gate.right}, std::pair{gate.right, gate.left}}) {
     if (other / 2 < first_gate || other % 2 == 0 || one % 2 == 0) continue;
-    const marrubigai_gate &begun = chip.gates[other / 2 - first_gate];
+    const marrubigai_gate &begun = chip.gate(other / 2);
     bool left_input = begun.left % 2 == 0 && begun.left / 2 >= 1 && begun.left / 2 <= net.inputs;
     bool right_input = begun.right % 2 == 0 && begun.right / 2 >= 1 && begun.right / 2 <= net.inputs;
     auto own = latch(one ^ 1);

@@ -2,62 +2,16 @@
 
 #include <algorithm>
 
-#include "elaborate.h"
-#include "refutation.h"
-#include "transition.h"
+#include "step_solver.h"
 
 namespace {
-
-enum Answer { SATISFIABLE = 10, UNSATISFIABLE = 20 }; // CaDiCaL's
-
-void add_numbers(CaDiCaL::Solver &solver, const std::vector<int32_t> &numbers) {
-  for (int32_t number : numbers) solver.add(number);
-}
-
-// Many short calls: what a solver does between them to simplify its clauses costs more than it gives.
-void set_up(CaDiCaL::Solver &solver) {
-  solver.configure("plain");
-  solver.set("quiet", 1);
-}
-
-// A solver that is told the variables of a step in the opposite order: it decides those with the highest numbers first, and the first that are made
-// are those of wires, on which most else depends.
-class StepSolver {
-public:
-  CaDiCaL::Solver solver;
-
-  StepSolver(Transition &asked, CaDiCaL::Terminator &limit) : step(asked), last(static_cast<int32_t>(asked.variables())) {
-    set_up(solver);
-    solver.connect_terminator(&limit);
-  }
-  ~StepSolver() { solver.disconnect_terminator(); }
-  StepSolver(const StepSolver &) = delete;
-  StepSolver &operator=(const StepSolver &) = delete;
-
-  // and back
-  int32_t turned(int32_t literal) const { return literal > 0 ? last + 1 - literal : -(last + 1 + literal); }
-  int32_t now(int32_t number) { return turned(step.now_of(number)); }
-  int32_t next(int32_t number) { return turned(step.next_of(number)); }
-  int32_t holds() { return turned(step.property()); }
-  void add_step() {
-    for (int32_t literal : step.clauses()) solver.add(literal == 0 ? 0 : turned(literal));
-  }
-
-private:
-  Transition &step;
-  int32_t last;
-};
-
-void ask_for(Transition &step, const Clause &clause) {
-  for (int32_t number : clause) step.now_of(number), step.next_of(number);
-}
 
 // The facts in a solver, in which each is switched on by a variable of its own.
 class Houdini {
 public:
   Houdini(const Chip &chip, const Property &property, const std::vector<Fact> &candidates, Limit &limit)
       : facts(candidates), step(chip, property), solver(with_all_asked_for(), limit) {
-    solver.add_step();
+    solver.add(step.clauses());
     int32_t variables = static_cast<int32_t>(step.variables());
     for (const Fact &fact : facts) {
       asserted.push_back(++variables);
@@ -71,6 +25,7 @@ public:
 
   Induction run(bool all) {
     made.kept.assign(facts.size(), true);
+    keepers.resize(facts.size());
     int answer = UNSATISFIABLE;
     if (all) answer = drop_one_by_one();
     if (answer != UNSATISFIABLE) return made;
@@ -87,38 +42,63 @@ private:
   StepSolver solver;
   std::vector<int32_t> asserted;
   Induction made;
+  std::vector<std::vector<bool>> keepers; // by fact, those that keep it, if every step does; none where that is not known
   enum { DROPPED = -1 }; // in place of an answer: a fact was, so that what is kept has to be asked about anew
 
   Transition &with_all_asked_for() {
     step.property();
     for (const Fact &fact : facts)
-      for (const Clause &clause : fact.clauses) ask_for(step, clause);
+      for (const Clause &clause : fact.clauses) step.ask_for(clause);
     return step;
   }
 
-  int ask(const std::vector<int32_t> &assumed) {
+  // with these facts
+  int ask(const std::vector<bool> &used, const std::vector<int32_t> &assumed) {
     for (size_t f = 0; f < facts.size(); f++)
-      if (made.kept[f]) solver.solver.assume(asserted[f]);
+      if (used[f]) solver.solver.assume(asserted[f]);
     for (int32_t literal : assumed) solver.solver.assume(literal);
     return solver.solver.solve();
   }
 
-  // a step that leaves a clause
-  int ask_about(const Clause &clause) {
-    std::vector<int32_t> assumed{solver.holds()};
-    for (int32_t number : clause) assumed.push_back(-solver.next(number));
-    return ask(assumed);
+  // of those that are kept, what the last answer needed
+  void take_needed(std::vector<bool> &needed) {
+    for (size_t f = 0; f < facts.size(); f++)
+      if (made.kept[f] && solver.solver.failed(asserted[f])) needed[f] = true;
+  }
+
+  // Whether every step keeps the clauses of a fact, and by which facts: mostly by those that kept the clauses before, of which there are few.
+  int keep(size_t f) {
+    std::vector<bool> &used = keepers[f];
+    bool known = !used.empty();
+    for (size_t other = 0; known && other < facts.size(); other++) known = !used[other] || made.kept[other];
+    if (known) return UNSATISFIABLE;
+    used.assign(facts.size(), false);
+    used[f] = true;
+    for (const Clause &clause : facts[f].clauses) {
+      std::vector<int32_t> left_by{solver.holds()};
+      for (int32_t number : clause) left_by.push_back(-solver.next(number));
+      int answer = ask(used, left_by);
+      if (answer == SATISFIABLE) {
+        answer = ask(made.kept, left_by);
+        if (answer == UNSATISFIABLE) take_needed(used);
+      }
+      if (answer == UNSATISFIABLE) continue;
+      used.clear();
+      if (answer != SATISFIABLE) return answer;
+      drop_violated();
+      return DROPPED;
+    }
+    return UNSATISFIABLE;
   }
 
   int drop_one_by_one() {
     for (bool dropped = true; dropped;) {
       dropped = false;
-      for (size_t f = 0; f < facts.size(); f++)
-        for (size_t c = 0; made.kept[f] && c < facts[f].clauses.size(); c++) {
-          int answer = ask_about(facts[f].clauses[c]);
-          if (answer == SATISFIABLE) drop_violated(), dropped = true;
-          else if (answer != UNSATISFIABLE) return answer;
-        }
+      for (size_t f = 0; f < facts.size(); f++) {
+        int answer = UNSATISFIABLE;
+        while (made.kept[f] && (answer = keep(f)) == DROPPED) dropped = true;
+        if (made.kept[f] && answer != UNSATISFIABLE) return answer;
+      }
     }
     return UNSATISFIABLE;
   }
@@ -133,32 +113,23 @@ private:
                                   [&](const Clause &clause) { return std::all_of(clause.begin(), clause.end(), is_false); });
       if (!made.kept[f]) dropped.insert(dropped.end(), {-asserted[f], 0});
     }
-    add_numbers(solver.solver, dropped);
+    for (int32_t number : dropped) solver.solver.add(number);
   }
 
   // what the property follows from, and what each of these is kept by
   int find_needed() {
     made.needed.assign(facts.size(), false);
-    std::vector<size_t> open;
-    auto take = [&] {
-      for (size_t f = 0; f < facts.size(); f++) {
-        if (!made.kept[f] || made.needed[f] || !solver.solver.failed(asserted[f])) continue;
-        made.needed[f] = true;
-        open.push_back(f);
-      }
-    };
-    int answer = ask({-solver.holds()});
+    int answer = ask(made.kept, {-solver.holds()});
     if (answer != UNSATISFIABLE) return answer;
-    take();
-    while (!open.empty()) {
-      size_t f = open.back();
-      open.pop_back();
-      for (const Clause &clause : facts[f].clauses) {
-        answer = ask_about(clause);
-        if (answer == SATISFIABLE) return drop_violated(), DROPPED;
-        if (answer != UNSATISFIABLE) return answer;
-        take();
-      }
+    take_needed(made.needed);
+    std::vector<bool> asked(facts.size());
+    for (size_t f = 0; f < facts.size(); f++) {
+      if (!made.needed[f] || asked[f]) continue;
+      asked[f] = true;
+      answer = keep(f);
+      if (answer != UNSATISFIABLE) return answer;
+      for (size_t other = 0; other < facts.size(); other++) made.needed[other] = made.needed[other] || keepers[f][other];
+      f = SIZE_MAX; // from the first on
     }
     return UNSATISFIABLE;
   }
@@ -187,52 +158,4 @@ double Limit::seconds_left() const { return std::chrono::duration<double>(deadli
 
 Induction induct(const Chip &chip, const Property &property, const std::vector<Fact> &facts, bool all, Limit &limit) {
   return Houdini(chip, property, facts, limit).run(all);
-}
-
-std::optional<ForeverCertificate> certificate_of(const Chip &chip, const Property &property, const std::vector<Clause> &invariant, Stop &stop) {
-  Transition step(chip, property);
-  step.property();
-  ForeverCertificate made;
-  for (const Clause &clause : invariant) {
-    ask_for(step, clause);
-    made.invariant.insert(made.invariant.end(), clause.begin(), clause.end());
-    made.invariant.push_back(0);
-  }
-  Refutation refutation;
-  StepSolver solver(step, stop);
-  refutation.trace(solver.solver);
-  solver.add_step();
-  for (int32_t number : made.invariant) solver.solver.add(number == 0 ? 0 : solver.now(number));
-  // What fails together, negated, is the last clause that the solver then writes: the property, and each clause of the invariant behind the step.
-  auto follows = [&](const std::vector<int32_t> &clause) {
-    for (int32_t literal : clause) solver.solver.assume(-literal);
-    int answer = solver.solver.solve();
-    if (answer != SATISFIABLE && answer != UNSATISFIABLE) throw Stopped();
-    return answer == UNSATISFIABLE;
-  };
-  bool inductive = follows({solver.holds()});
-  if (inductive) {
-    refutation.add(refutation.place(solver.solver), {solver.holds(), 0});
-    add_numbers(solver.solver, {solver.holds(), 0});
-  }
-  for (size_t c = 0; inductive && c < invariant.size(); c++) {
-    std::vector<int32_t> behind;
-    for (int32_t number : invariant[c]) behind.push_back(solver.next(number));
-    inductive = follows(behind);
-  }
-  refutation.finish(solver.solver);
-  if (!inductive) return std::nullopt;
-
-  Learnt learnt{refutation.learnt(stop).numbers, {}}; // what was deleted is among what is wanted at the end
-  for (int32_t &literal : learnt.numbers)
-    if (literal != 0) literal = solver.turned(literal);
-  std::vector<int32_t> failing = step.ask_for_failure(made.invariant);
-  for (size_t c = failing.size(); c-- > 0;) learnt.numbers.insert(learnt.numbers.end(), {-failing[c], 0});
-  std::vector<int32_t> formula = step.clauses();
-  for (int32_t number : made.invariant) formula.push_back(number == 0 ? 0 : step.now_of(number));
-  made.refutation = elaborate(formula, learnt, step.variables(), stop);
-  for (int32_t &literal : made.refutation.lemmas)
-    if (literal != 0) literal = step.original(literal);
-  made.requests = step.requests();
-  return made;
 }

@@ -1,5 +1,5 @@
-// Facts about the states of a chip, as clauses over a state's bits, and the induction over its steps. Nothing of it is believed: what comes of it is
-// a certificate that the library checks.
+// Facts about the states of a chip, as clauses over a state's bits, and the induction over its steps. Nothing of it is believed: obligations.h makes
+// a certificate of it that the library checks.
 #pragma once
 
 #include <optional>
@@ -42,7 +42,3 @@ struct Induction {
 // Drops facts that a step may break until none is dropped (Flanagan and Leino's Houdini), and asks whether the property follows from those kept;
 // where not all have to be judged, only what it follows from.
 Induction induct(const Chip &chip, const Property &property, const std::vector<Fact> &facts, bool all, Limit &limit);
-
-// The certificate of an invariant; none where it is not inductive or the property does not follow. It throws NoCertificate, and Stopped.
-std::optional<ForeverCertificate> certificate_of(const Chip &chip, const Property &property, const std::vector<Clause> &invariant,
-                                                 Stop &stop);

@@ -31,7 +31,7 @@ namespace {
 void keep_sheet(const Chip &chip, const Property &property, const std::string &stem) {
   std::string names;
   for (const Word &word : columns(chip, property)) {
-    if (std::find(word.codes.begin(), word.codes.end(), NO_CODE) != word.codes.end()) continue; // it has a bit that the sheet has not
+    if (std::any_of(word.codes.begin(), word.codes.end(), [&](uint32_t code) { return code / 2 > chip.wires(); })) continue; // or NO_CODE
     names += word.name;
     for (uint32_t code : word.codes) names += " " + std::to_string(code);
     names += "\n";

@@ -1,22 +1,12 @@
 #include "pdr.h"
 
-#include <fcntl.h>
-#include <sys/mman.h>
-#include <unistd.h>
-
-#include <cerrno>
 #include <cstdio>
-#include <cstring>
 #include <sstream>
 
-#include "aig.h"
-#include "failure.h"
-#include "process.h"
+#include "abc.h"
 #include "transition.h"
 
 namespace {
-
-constexpr const char *PROGRAM = "berkeley-abc";
 
 // The chip with its memory as registers. Every register begins as 0: one with reset 1 is kept inverted. What begins unknown is an input in a frame of
 // its own before the first, which the register `begun` tells apart: what abc writes of an invariant is right only where all begin as 0.
@@ -34,32 +24,16 @@ public:
 
   // In binary AIGER, with a name for each latch: s and the state's bit, or b for `begun`.
   std::string file() const {
-    std::vector<uint32_t> inputs, latches, gates, number(graph.size());
+    std::vector<uint32_t> inputs, latches;
     for (uint32_t node = 1; node < graph.size(); node++) {
-      Aig::Kind kind = graph.node(node).kind;
-      (kind == Aig::Kind::input ? inputs : kind == Aig::Kind::latch ? latches : gates).push_back(node);
-    }
-    uint32_t next = 0;
-    for (const auto *list : {&inputs, &latches, &gates})
-      for (uint32_t node : *list) number[node] = ++next;
-    auto code = [&](Lit literal) { return 2 * number[literal / 2] + (literal & 1); };
-    std::string text = "aig " + std::to_string(next) + " " + std::to_string(inputs.size()) + " " + std::to_string(latches.size()) + " 1 " +
-                       std::to_string(gates.size()) + "\n";
-    for (uint32_t node : latches) text += std::to_string(code(graph.node(node).left)) + "\n";
-    text += std::to_string(code(bad)) + "\n";
-    auto put = [&](uint32_t difference) {
-      for (; difference >= 128; difference >>= 7) text += static_cast<char>((difference & 127) | 128);
-      text += static_cast<char>(difference);
-    };
-    for (uint32_t node : gates) {
-      uint32_t left = code(graph.node(node).left), right = code(graph.node(node).right);
-      if (left < right) std::swap(left, right);
-      put(2 * number[node] - left), put(left - right);
+      if (graph.node(node).kind == Aig::Kind::input) inputs.push_back(node);
+      if (graph.node(node).kind == Aig::Kind::latch) latches.push_back(node);
     }
     std::vector<std::string> names(graph.size());
     if (has_unknown) names[begun / 2] = "b";
     for (uint32_t bit = 0; bit < bits.count; bit++)
       if (kept[bit]) names[state[bit] / 2] = "s" + std::to_string(bit);
+    std::string text = binary_aiger(graph, inputs, latches, {bad});
     for (size_t l = 0; l < latches.size(); l++) text += "l" + std::to_string(l) + " " + names[latches[l]] + "\n";
     return text;
   }
@@ -201,25 +175,6 @@ private:
   }
 };
 
-// A file without a name that a program which is started finds by its descriptor's number.
-class Handed {
-public:
-  explicit Handed(const std::string &content) {
-    int opened = memfd_create("chip", MFD_CLOEXEC);
-    number = opened < 0 ? -1 : fcntl(opened, F_DUPFD, 20); // above those that a program is started with, and left open for it
-    if (opened >= 0) close(opened);
-    if (number < 0 || write(number, content.data(), content.size()) != static_cast<ssize_t>(content.size()))
-      throw Failure("the chip cannot be handed to " + std::string(PROGRAM) + ": " + std::strerror(errno));
-  }
-  ~Handed() { close(number); }
-  Handed(const Handed &) = delete;
-  Handed &operator=(const Handed &) = delete;
-  std::string path() const { return "/dev/fd/" + std::to_string(number); }
-
-private:
-  int number;
-};
-
 // the last line that it said
 std::string last_line(const std::string &said) {
   size_t end = said.find_last_not_of("\n \t");
@@ -255,14 +210,13 @@ PdrAnswer invariant_of(const Model &model, const std::string &pla) {
 
 PdrAnswer ask_pdr(const Chip &chip, const Property &property, Limit &limit, Stop &stop) {
   Model model(chip, property);
-  Handed file(model.file());
   PdrAnswer answer;
   auto none = [&](const std::string &why) { return answer.why = why, answer; };
   double began = stop.seconds();
-  Finished finished = run_program({PROGRAM, "-q", "read_aiger " + file.path() + "; pdr -d -I /dev/fd/3"}, stop, limit.seconds_left());
+  Finished finished = run_abc(model.file(), "pdr -d -I /dev/fd/3", stop, limit.seconds_left());
   char seconds[32];
   std::snprintf(seconds, sizeof seconds, "%.1f s", stop.seconds() - began);
-  if (finished.missing) return none(std::string(PROGRAM) + " is missing (Debian's package of this name)");
+  if (finished.missing) return none(std::string(ABC) + " is missing (Debian's package of this name)");
   answer.late = finished.killed;
   if (finished.killed) return none(std::string("no answer in ") + seconds);
   size_t asserted = finished.said.find("asserted in frame ");

@@ -6,12 +6,17 @@
 #include "elaborate.h"
 #include "facts.h"
 #include "failure.h"
+#include "obligations.h"
 #include "pdr.h"
 
 namespace {
 
 constexpr double SECONDS = 60; // for each way, where no time is given
-constexpr double FEW_SECONDS = 2; // for abc at first: where pdr is quick, nothing is quicker
+// at most, for two ways in turn: each is quick for some chips, and of no use for others
+constexpr double LONG = 1e6;
+constexpr struct Turn {
+  double pdr, likely;
+} TURNS[] = {{0.3, 2}, {2, LONG}, {LONG, 0}};
 
 class Prover {
 public:
@@ -23,9 +28,10 @@ public:
     if (!known.stated.empty()) try_stated();
     if (!is_over()) try_facts("no invariant", {});
     if (!is_over() && !known.proved.empty()) try_facts("what proved the properties before", known.proved);
-    bool again = !is_over() && try_pdr(std::min(FEW_SECONDS, seconds())) == Tried::late;
-    if (!is_over()) try_likely();
-    if (!is_over() && again) try_pdr(seconds());
+    for (const Turn &turn : TURNS) {
+      if (!is_over() && pdr_is_open) try_pdr(std::min(turn.pdr, seconds()));
+      if (!is_over() && likely_is_open && turn.likely > 0) try_likely(std::min(turn.likely, seconds()));
+    }
     stop.clear_line();
     return std::move(made);
   }
@@ -37,6 +43,7 @@ private:
   Known &known;
   Stop &stop;
   Forever made;
+  bool pdr_is_open = true, likely_is_open = true; // their time was out, if they had a turn
 
   // where abc says that a run breaks it, the search is what shows that
   bool is_over() const { return made.certified || made.claimed || stop.is_due(); }
@@ -117,18 +124,18 @@ private:
     for (size_t f = 0; f < told.size(); f++) made.stated.push_back(known.stated[f].words + ": " + told[f]);
   }
 
-  void try_likely() {
+  void try_likely(double most) {
     double began = stop.seconds();
-    Limit limit(stop, seconds());
+    Limit limit(stop, most);
     std::vector<Fact> facts = likely_facts(chip, property, limit);
     for (const auto *others : {&known.stated, &known.proved})
       for (const Fact &fact : *others)
         if (holds_at_start(chip, fact)) facts.push_back(fact);
-    try_facts("facts of registers and words that random runs suggest", facts, false, began, limit);
+    Induction found = try_facts("facts of registers and words that random runs suggest", facts, false, began, limit);
+    likely_is_open = found.answer == Induction::Answer::stopped;
   }
 
-  enum class Tried { answered, late };
-  Tried try_pdr(double most) {
+  void try_pdr(double most) {
     const std::string way = "abc's pdr";
     double began = stop.seconds();
     Limit limit(stop, most);
@@ -141,7 +148,7 @@ private:
       break;
     case PdrAnswer::Kind::invariant: certify(way, {{"", answer.invariant}}, {true}, began); break;
     }
-    return answer.late ? Tried::late : Tried::answered;
+    pdr_is_open = answer.late;
   }
 };
 

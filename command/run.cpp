@@ -55,6 +55,8 @@ Run replay(const Chip &chip, const Property &property, const std::vector<marrubi
   run.first = chip.design_frame(reply.first);
   for (uint32_t i = 0; i <= run.first; i++)
     run.wires.emplace_back(reinterpret_cast<const char *>(trace.data()) + chip.sheet_frame(i) * line, line - 1);
+  for (uint32_t i = 0; i < run.frames(); i++)
+    for (const marrubigai_gate &gate : chip.shown_gates) run.wires[i] += run.value(gate.left, i) && run.value(gate.right, i) ? '1' : '0';
   return run;
 }
 

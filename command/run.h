@@ -10,7 +10,8 @@
 
 struct Run {
   uint32_t first = 0; // the frame of the design that breaks the property, and the last one
-  std::vector<std::string> wires; // of each frame of the design, wire 1 first
+  // of each frame of the design, wire 1 first; behind those of the record, which were stepped, the gates that are only shown
+  std::vector<std::string> wires;
 
   bool value(uint32_t code, uint32_t frame) const;
   Bits bits(const std::vector<uint32_t> &codes, uint32_t frame) const;

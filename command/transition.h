@@ -27,6 +27,12 @@ public:
   // A number of an invariant, before and behind the step.
   int32_t now_of(int32_t number) { return number > 0 ? now(bit_of(number)) : -now(bit_of(number)); }
   int32_t next_of(int32_t number) { return number > 0 ? next(bit_of(number)) : -next(bit_of(number)); }
+  // both, of each number of a clause
+  void ask_for(const std::vector<int32_t> &clause) {
+    for (int32_t number : clause) now_of(number), next_of(number);
+  }
+  // whether a bit of the state before the step was asked for
+  bool has(int32_t number) const { return literals.count(bit_of(number) + 1) > 0; }
 
   // Asks for what says that the property is false or the invariant fails behind the step. The answer is, for each clause of the invariant, the
   // literal that says that it or one behind it fails.

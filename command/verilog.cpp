@@ -39,8 +39,8 @@ void test_statements(const Design &design) {
 
 class Chipmaker {
 public:
-  Chipmaker(const Design &read, const Options &wanted, const PortPlan &plan)
-      : design(read), options(wanted), logic(read, wanted.resets), cut(logic, only_memory(read, wanted.memory), plan) {}
+  Chipmaker(const Design &read, const Options &wanted, const PortPlan &plan, Stop &when)
+      : design(read), options(wanted), stop(when), logic(read, wanted.resets), cut(logic, only_memory(read, wanted.memory), plan) {}
 
   std::vector<Property> asked_about() {
     find_statements();
@@ -59,7 +59,7 @@ public:
     find_roots();
     Memory memory = cut.finish();
     Lit started = logic.started();
-    Emission emission = emit(logic.aig, memory, seen, watched, options.start);
+    Emission emission = emit(logic.aig, memory, seen, watched, options.start, stop);
     Chip &chip = emission.chip;
     for (size_t at = 0; at < statements.size(); at++) {
       statements[at].property.code = emission.seen[at] ^ 1;
@@ -80,6 +80,7 @@ public:
 private:
   const Design &design;
   const Options &options;
+  Stop &stop;
   Logic logic;
   MemoryCut cut;
   std::vector<Statement> statements;
@@ -277,19 +278,19 @@ private:
   }
 };
 
-Chip chip_of_design(const Design &design, const Options &options, size_t most_ports) {
+Chip chip_of_design(const Design &design, const Options &options, size_t most_ports, Stop &stop) {
   const Cell &memory = only_memory(design, options.memory);
-  if (most_ports == 1) return Chipmaker(design, options, one_port(memory)).make();
-  PortPlan plan = Chipmaker(design, options, port_for_each(memory)).plan(most_ports);
-  return Chipmaker(design, options, plan).make();
+  if (most_ports == 1) return Chipmaker(design, options, one_port(memory), stop).make();
+  PortPlan plan = Chipmaker(design, options, port_for_each(memory), stop).plan(most_ports);
+  return Chipmaker(design, options, plan, stop).make();
 }
 
-std::vector<Chip> chips_of_design(const Design &design, const Options &options, size_t most_ports) {
+std::vector<Chip> chips_of_design(const Design &design, const Options &options, size_t most_ports, Stop &stop) {
   test_statements(design);
   try {
-    return {chip_of_design(design, options, most_ports)};
+    return {chip_of_design(design, options, most_ports, stop)};
   } catch (const TooLarge &together) {
-    std::vector<Property> statements = Chipmaker(design, options, one_port(only_memory(design, options.memory))).asked_about();
+    std::vector<Property> statements = Chipmaker(design, options, one_port(only_memory(design, options.memory)), stop).asked_about();
     if (statements.size() < 2) throw;
     std::vector<Chip> chips;
     for (const Property &statement : statements) {
@@ -297,7 +298,7 @@ std::vector<Chip> chips_of_design(const Design &design, const Options &options, 
       one.properties.clear(), one.covers.clear();
       (statement.kind == Property::Kind::cover ? one.covers : one.properties).push_back(statement.name);
       try {
-        chips.push_back(chip_of_design(design, one, most_ports));
+        chips.push_back(chip_of_design(design, one, most_ports, stop));
       } catch (const TooLarge &alone) {
         throw Failure(statement.name + ", asked about by itself: " + alone.message);
       }
@@ -319,13 +320,13 @@ std::vector<Chip> chips_of_verilog(const Options &options, Stop &stop) {
   std::optional<NoFit> no_fit;
   for (size_t most_ports : {size_t{1}, size_t{2}, MOST_PORTS}) {
     try {
-      return chips_of_design(as_written, options, most_ports);
+      return chips_of_design(as_written, options, most_ports, stop);
     } catch (const NoFit &why) {
       no_fit = why;
     }
     if (!clocked) clocked = read_verilog(options, Reads::clocked, stop);
     try {
-      return chips_of_design(*clocked, options, most_ports);
+      return chips_of_design(*clocked, options, most_ports, stop);
     } catch (const NoFit &) {
     }
   }

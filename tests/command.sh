@@ -1,11 +1,12 @@
 #!/usr/bin/env bash
 # The command `marrubigai`: it is built without a warning, and with sanitizers; its verdicts on sheets, texts and Verilog are those of
 # other tools and of the designs' stories; each exit status, each refusal by name; interrupts and time; what it writes.
-# Arguments: the programs `frames` and `replay`. After `rt staticlib marrubigai`; needs libcadical-dev, yosys,
+# Arguments: the programs `frames`, `replay` and `export_aig`. After `rt staticlib marrubigai`; needs libcadical-dev, yosys,
 # iverilog, berkeley-abc and cadical.
 set -u
 FRAMES=$(readlink -f "$1")
 REPLAY=$(readlink -f "$2")
+export_aig=$(readlink -f "$3")
 export FRAMES REPLAY
 export ASAN_OPTIONS=exitcode=99
 cd "$(dirname "$0")/.." || exit 2
@@ -26,6 +27,7 @@ tool() { # name: a program of tests/command, linked with all of the command but 
 }
 
 check "the reader of JSON is built" tool json_value
+value() { "$work/json_value" "$work/out" "$@"; }
 
 # The command, with sanitizers, in the folder of the files.
 mkdir "$work/files"
@@ -426,13 +428,46 @@ twice "two drivers" "we \\& d[0]"
 check "two drivers: which" grep -qE "^chip.v:[0-9]+: the wire twice has a second driver" "$work/err"
 twice "two drivers, one an input" we
 says "a wire without a driver" 10 "chip.v: assert chip.v:11 is broken in frame 0 at the earliest" 's/last != 9/last != 9 \& open/; s/wire \[3:0\] q/wire open; wire [3:0] q/'
-square() { echo "reg [9:0] $1 = 0; always @(posedge clock) $1 <= $1 * $1 + q + $2; always @* assert ($1 != 1023);"; }
+square() { echo "reg [11:0] $1 = 0; always @(posedge clock) $1 <= $1 * $1 + q + $2; always @* assert ($1 != 1023);"; }
 says "too much together" 20 "chip.v: assert chip.v:11 holds in frames 0 to 1, by the solver's word
 chip.v: assert chip.v:12 holds in frames 0 to 1, by the solver's word
 chip.v: assert chip.v:13 holds in frames 0 to 1, by the solver's word" "s/^endmodule/$(square p 3)\\n$(square r 5)\\nendmodule/" -k 1
 run --json -k 1 chip.v
 check "too much together: each is a chip of its own" same "list of 3" "$("$work/json_value" "$work/out" chips)"
 says "too much" 1 "what is asked about depends on " 's/last <= q/last <= q; p <= p * p + q/; s/reg \[3:0\] last/reg [31:0] p = 0; reg [3:0] last/; s/last != 9/p != 55/'
+# What does not fit as yosys makes it and fits when abc has rewritten it: faulty and repaired, by other tools too.
+folder=$designs
+design queue 42 2 6 -P BITS=6 -P WIDTH=30
+second_opinion queue 42 3 "$designs/queue.v" "-top queue -chparam BITS 6 -chparam WIDTH 30" -P BITS=6 -P WIDTH=30
+rm -rf "$work/kept"
+run --json -k 3 --keep "$work/kept" -D FAULTY -P BITS=6 -P WIDTH=30 queue.v
+unset folder
+check "rewritten: that is told" grep -qE '[0-9]+ wires of at most 600 \([^)]*\), rewritten by abc from 6[0-9]+ wires' "$work/out"
+in_frame() { value chips 0 properties 0 run "$1" words "$2"; }
+check "rewritten: a signal that is gone" same 0 "$(grep -c '^getting ' "$work/kept/1.names")"
+for frame in 0 1 2; do
+  check "rewritten: the signal that is gone is shown, frame $frame" same "$(in_frame $frame getting)" \
+    "$([ "$(in_frame $frame get)" = 1 ] && [ "$(in_frame $frame first)" != "$(in_frame $frame behind)" ] && echo 1 || echo 0)"
+done
+# The sheet is the circuit that abc was given (latches cut; in the order of an exported file), and not another one's.
+abc() { printf '#!/bin/sh\n%s\n' "$1" > "$work/abc/berkeley-abc"; chmod +x "$work/abc/berkeley-abc"; }
+mkdir "$work/abc"
+abc "cp \$(expr \"\$2\" : 'read_aiger \([^;]*\);') $work/given.aig; exec $(command -v berkeley-abc) \"\$@\""
+rewritten='s/last <= q/last <= q; p <= p * p + q/; s/reg \[3:0\] last/reg [12:0] p = 0; reg [3:0] last/; s/last != 9/p != 30/'
+compared() { # what sed changes besides: what abc says of the rewritten sheet and the circuit that it was given before
+  chip "$rewritten; $1" > "$work/files/chip.v"
+  path=$work/abc:$PATH run -q -k 0 --keep "$work/kept" chip.v
+  [ -f "$work/first.aig" ] || cp "$work/given.aig" "$work/first.aig"
+  "$export_aig" < "$work/kept/1.sheet" > "$work/sheet.aig"
+  (cd "$work" && berkeley-abc -q "read_aiger sheet.aig; comb; write_aiger sheet.aig; cec -n first.aig sheet.aig" 2>&1) | grep -oE 'are (equivalent|NOT EQUIVALENT)'
+}
+check "rewritten: the same circuit" same "are equivalent" "$(compared '')"
+check "rewritten: not another one" same "are NOT EQUIVALENT" "$(compared 's/p \* p + q/p * p - q/')"
+says "rewritten, with a fault" 10 "chip.v: assert chip.v:11 is broken in frame 2 at the earliest" "$rewritten"
+abc 'exit 3'
+path=$work/abc:$PATH says "not rewritten" 1 "what is asked about depends on 643 wires (7 inputs, 13 registers, 4 read bits, 619 gates), and 600 is the most; not rewritten: berkeley-abc does not rewrite it." "$rewritten"
+abc 'echo aig 24 24 0 1 0 > /dev/fd/3'
+path=$work/abc:$PATH says "rewritten to something else" 1 "what is asked about depends on 643 wires (7 inputs, 13 registers, 4 read bits, 619 gates), and 600 is the most; not rewritten: berkeley-abc: what it wrote is no netlist" "$rewritten"
 says "no Verilog" 1 "chip.v: yosys makes no netlist of it:
   yosys: chip.v:" 's/endmodule//'
 says "another module" 1 "chip.v: yosys makes no netlist of it:" '' --top chop
@@ -496,7 +531,6 @@ check "the sheet of a design, by the programs" same "$work/kept/1.sheet: the pro
 check "a full disk: status" same 1 $?
 check "a full disk: said" grep -q "^standard output cannot be written" "$work/err"
 
-value() { "$work/json_value" "$work/out" "$@"; }
 run --json --radix dec --names chip.names chip.sheet
 check "JSON: status" same "10 broken 1 run 0 0 solver" "$(echo $(value status; for at in verdict frame by; do value chips 0 properties 0 $at; done; for at in from to by; do value chips 0 properties 0 safe $at; done))"
 check "JSON: the run" same "list of 2 1 0 1 0 0 1" "$(echo $(value chips 0 properties 0 run; value chips 0 properties 0 run 0 words input; value chips 0 properties 0 run 0 words read
@@ -732,8 +766,6 @@ for way in "--prove --certificate" --check; do
 done
 
 # without abc, with one that does not end, and with one that lies
-abc() { printf '#!/bin/sh\n%s\n' "$1" > "$work/abc/berkeley-abc"; chmod +x "$work/abc/berkeley-abc"; }
-mkdir "$work/abc"
 bounded() { # what, path, what is told, options ..
   path=$2 run -k 3 --prove "${@:4}" "$sheet"
   check "$1: status" same 20 $?

@@ -124,7 +124,7 @@ while [ ! -f "$logs/staticlib.status" ] && wait -n; do :; done
 echo "== the static library and the command: rt staticlib marrubigai, make -C command"
 if [ "$(cat "$logs/staticlib.status")" = 0 ]; then
   pass
-  start "the command marrubigai, with yosys and sanitizers" command bash tests/command.sh "$frames" "$replay"
+  start "the command marrubigai, with yosys and sanitizers" command bash tests/command.sh "$frames" "$replay" "$exporter"
   start "the library against the second implementation" library "$logs/library"
   start "from Verilog to an imported netlist, an exported file and a shown run, with yosys and abc" verilog \
     bash tests/verilog.sh "$frames" "$replay" "$import" "$exporter" "$logs/verilog"
