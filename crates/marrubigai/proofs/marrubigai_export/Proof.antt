@@ -9,12 +9,6 @@ use denote.Triple.Table.{entered, cited}
 use Rattle.netlist.proofs.Netlist as N
 use Rattle.dimacs.proofs.PrintAnswer as Answer
 use Rattle.refusals.proofs.CountReply as Reply
-use Rattle.call_lists.proofs.unpack.unpack_latches.Symbol as latches-def
-use Rattle.call_lists.proofs.unpack.unpack_latches.Symbol.{name as #latches}
-use Rattle.call_lists.proofs.unpack.unpack_latches.Met as latches-thm
-use Rattle.call_lists.proofs.unpack.unpack_gates.Symbol as gates-def
-use Rattle.call_lists.proofs.unpack.unpack_gates.Symbol.{name as #gates}
-use Rattle.call_lists.proofs.unpack.unpack_gates.Met as gates-thm
 use Rattle.aiger_export.specs.ExportCall.{exportSent, exportLeaves}
 use Rattle.aiger_export.specs.Exported.{ExportTheorem}
 use Rattle.aiger_export.proofs.export_binary.Symbol as inner-def
@@ -23,6 +17,7 @@ use Rattle.aiger_export.proofs.export_binary.Met as inner-thm
 use Rattle.call_replies.proofs.print_numbers.Symbol as numbers-def
 use Rattle.call_replies.proofs.print_numbers.Symbol.{name as #numbers}
 use Rattle.call_replies.proofs.print_numbers.Met as numbers-thm
+use Rattle.calls.proofs.LentLists.{latches-cited, gates-cited}
 use Rattle.marrubigai.proofs.TextCall as text
 use Rattle.marrubigai.proofs.marrubigai_export.Key.{name as #marrubigai-export}
 use Rattle.marrubigai.proofs.marrubigai_export as f
@@ -47,7 +42,7 @@ marrubigai-export-spec 𝓤 H 𝓜 𝓖 𝓡 =
     (tables 𝓤 H 𝓜 𝓡 code.env .C) (tables 𝓤 H 𝓜 𝓡 code.env .Λ) #marrubigai-export code.function (code.unfolded 𝓤 H 𝓜 𝓡)
     (text.meets exportSent exportLeaves ExportTheorem #inner replyTy netTy answerTy refl refl refl 𝓤 H (𝓖 .A) (givenOf 𝓤 H 𝓜 𝓖) (𝓜 .mem) (𝓡 .run)
     (tablesOf 𝓤 H 𝓜 (tables 𝓤 H 𝓜 𝓡 code.env))
-    (cited 𝓤 H _ 𝓜 𝓡 code.env #latches latches-def.routine code.calls-call-lists·unpack·unpack-latches (latches-thm.met 𝓤 H 𝓜 𝓖 𝓡))
-    (cited 𝓤 H _ 𝓜 𝓡 code.env #gates gates-def.routine code.calls-call-lists·unpack·unpack-gates (gates-thm.met 𝓤 H 𝓜 𝓖 𝓡))
+    (latches-cited 𝓤 H 𝓜 𝓖 𝓡 code.env code.calls-call-lists·unpack·unpack-latches)
+    (gates-cited 𝓤 H 𝓜 𝓖 𝓡 code.env code.calls-call-lists·unpack·unpack-gates)
     (cited 𝓤 H _ 𝓜 𝓡 code.env #inner inner-def.routine code.calls-aiger-export·export-binary (inner-thm.met 𝓤 H 𝓜 𝓖 𝓡))
     (cited 𝓤 H _ 𝓜 𝓡 code.env #numbers numbers-def.routine code.calls-call-replies·print-numbers (numbers-thm.met 𝓤 H 𝓜 𝓖 𝓡)))

@@ -9,12 +9,6 @@ use denote.Triple.Table.{entered, cited}
 use Rattle.netlist.proofs.Netlist as N
 use Rattle.dimacs.proofs.PrintAnswer as Answer
 use Rattle.refusals.proofs.CountReply as Reply
-use Rattle.call_lists.proofs.unpack.unpack_latches.Symbol as latches-def
-use Rattle.call_lists.proofs.unpack.unpack_latches.Symbol.{name as #latches}
-use Rattle.call_lists.proofs.unpack.unpack_latches.Met as latches-thm
-use Rattle.call_lists.proofs.unpack.unpack_gates.Symbol as gates-def
-use Rattle.call_lists.proofs.unpack.unpack_gates.Symbol.{name as #gates}
-use Rattle.call_lists.proofs.unpack.unpack_gates.Met as gates-thm
 use Rattle.sheet_writer.specs.WriteCall.{writeSent, writeLeaves, SheetWritten}
 use Rattle.sheet_writer.proofs.write_sheet.Symbol as inner-def
 use Rattle.sheet_writer.proofs.write_sheet.Symbol.{name as #inner}
@@ -22,6 +16,7 @@ use Rattle.sheet_writer.proofs.write_sheet.Met as inner-thm
 use Rattle.call_replies.proofs.print_numbers.Symbol as numbers-def
 use Rattle.call_replies.proofs.print_numbers.Symbol.{name as #numbers}
 use Rattle.call_replies.proofs.print_numbers.Met as numbers-thm
+use Rattle.calls.proofs.LentLists.{latches-cited, gates-cited}
 use Rattle.marrubigai.proofs.TextCall as text
 use Rattle.marrubigai.proofs.marrubigai_write_sheet.Key.{name as #marrubigai-write-sheet}
 use Rattle.marrubigai.proofs.marrubigai_write_sheet as f
@@ -46,7 +41,7 @@ marrubigai-write-sheet-spec 𝓤 H 𝓜 𝓖 𝓡 =
     (tables 𝓤 H 𝓜 𝓡 code.env .C) (tables 𝓤 H 𝓜 𝓡 code.env .Λ) #marrubigai-write-sheet code.function (code.unfolded 𝓤 H 𝓜 𝓡)
     (text.meets writeSent writeLeaves SheetWritten #inner replyTy netTy answerTy refl refl refl 𝓤 H (𝓖 .A) (givenOf 𝓤 H 𝓜 𝓖) (𝓜 .mem) (𝓡 .run)
     (tablesOf 𝓤 H 𝓜 (tables 𝓤 H 𝓜 𝓡 code.env))
-    (cited 𝓤 H _ 𝓜 𝓡 code.env #latches latches-def.routine code.calls-call-lists·unpack·unpack-latches (latches-thm.met 𝓤 H 𝓜 𝓖 𝓡))
-    (cited 𝓤 H _ 𝓜 𝓡 code.env #gates gates-def.routine code.calls-call-lists·unpack·unpack-gates (gates-thm.met 𝓤 H 𝓜 𝓖 𝓡))
+    (latches-cited 𝓤 H 𝓜 𝓖 𝓡 code.env code.calls-call-lists·unpack·unpack-latches)
+    (gates-cited 𝓤 H 𝓜 𝓖 𝓡 code.env code.calls-call-lists·unpack·unpack-gates)
     (cited 𝓤 H _ 𝓜 𝓡 code.env #inner inner-def.routine code.calls-sheet-writer·write-sheet (inner-thm.met 𝓤 H 𝓜 𝓖 𝓡))
     (cited 𝓤 H _ 𝓜 𝓡 code.env #numbers numbers-def.routine code.calls-call-replies·print-numbers (numbers-thm.met 𝓤 H 𝓜 𝓖 𝓡)))
