@@ -60,7 +60,7 @@ use Rattle.call_replies.proofs.print_numbers as numbers
 use Rattle.call_replies.proofs.print_numbers.Symbol.{name as #numbers}
 use Rattle.calls.proofs.Lent.{netOf-unpacked}
 use Rattle.calls.proofs.LentLists.{Latches, Gates, recordVal, listVal, unpackedLatches, unpackedGates, unpacks-both, owns-both, has-both, takes-back-both, stay-lent, goes-lent, lent-vals, lent-tells}
-use Rattle.hand_proofs.proofs.Walk.{both, calls-told, _&_, cell, frees-all, meets-of}
+use Rattle.hand_proofs.proofs.Walk.{both, calls-told, copies, _&_, cell, frees-all, meets-of}
 use Rattle.sheet_writer.proofs.write_sheet as inner
 use Rattle.marrubigai.proofs.marrubigai_write_sheet as f
 
@@ -188,7 +188,7 @@ module _ (sent : M.Netlist → ℕ → ℕ → ℕ → CountReply) (leaves : M.N
             unpacks-both ! fm mem run known-latches known-gates κ₀ κ₁ q₀ q₁ ls gs room₀ room₁ refl (λ α β δ₀ δ₁.
             assigns ! (addr ! (from ! (fld ! refl (hop ! (look-in ! 38 (sub ! 0 refl (whole !))) (stop !))))) (from ! (stop !))
             (init ! 25 refl (tt, tt)) $
-            assigns ! (agg ! (and-then ! (load ! (from ! (stop !)) (look ! 25 refl))
+            assigns ! (agg ! (copies ! 25 refl
             (and-then ! (load ! (from ! (fld ! refl (stop !))) (look-in ! 38 (sub ! 1 refl (whole !)))) (no-more !))))
             (from ! (stop !)) (init ! 23 refl (tt, (tt, (record { fits = room₂ .0 }, tt)))) $
             -- the call over unpacked lists
@@ -213,11 +213,8 @@ module _ (sent : M.Netlist → ℕ → ℕ → ℕ → CountReply) (leaves : M.N
                 ),
               ),
             ) tt (id⊢ 𝓤 (emp 𝓤))
-            (and-then ! (load ! (from ! (stop !)) (look ! 37 refl))
-            (and-then ! (load ! (from ! (stop !)) (look ! 8 refl))
-            (and-then ! (load ! (from ! (stop !)) (look ! 9 refl)) (and-then ! (load ! (from ! (stop !)) (look ! 14 refl))
-            (and-then ! (load ! (from ! (stop !)) (look ! 15 refl))
-            (and-then ! (load ! (from ! (stop !)) (look ! 18 refl)) (no-more !))))))) (λ w r ws.
+            (copies ! 37 refl (copies ! 8 refl (copies ! 9 refl (copies ! 14 refl (copies ! 15 refl
+            (copies ! 18 refl (no-more !))))))) (λ w r ws.
             let zs = ws .1 .1 .1 .1 .1 .0 in
             use1 W (raw (fact 𝓤 (Answered r)) ⊛ (raw (fact 𝓤 (Leaves zs)) ⊛ raw (fact 𝓤 Theorem))) (id⊢ 𝓤 _) $ split ! $
             heard ! (Answered r) (λ answered. split ! $ heard ! (Leaves zs) (λ left. heard ! Theorem (λ written.
@@ -229,7 +226,7 @@ module _ (sent : M.Netlist → ℕ → ℕ → ℕ → CountReply) (leaves : M.N
             -- its answer in numbers
             nothing ! $ move ! (1 ∷ 0 ∷ []) $ fjoin ! $ nothing ! $ join ! $
             calls-told ! fm numbers.ended (numbers.clauses 𝓤 H A mem run) known-numbers (tt, tt, tt, (r, tt), (w ∷ [], tt)) tt
-            (id⊢ 𝓤 (emp 𝓤)) (and-then ! (load ! (from ! (stop !)) (look ! 29 refl)) (no-more !)) (λ w₂ r₂ ws₂.
+            (id⊢ 𝓤 (emp 𝓤)) (copies ! 29 refl (no-more !)) (λ w₂ r₂ ws₂.
             heard ! (r₂ ≡ printReply r) (λ is. move ! (1 ∷ []) $
             peeks ! Reply.the-row (Is Reply.the-row) (shows 𝓤 H A Reply.the-row) r₂ (w₂ ∷ []) (λ is-reply.
             land ! (from ! (stop !)) (init ! 44 refl (typed-reply r₂ w₂ is-reply .0)) $

@@ -17,7 +17,7 @@ use ghost.Atoms.{Atoms}
 use contract.Monad.{Fun, factI}
 use contract.Running.{givenOf, tables, tablesOf}
 use types.Kit.{Given, ‵, _⊛_, _$_, _∵_, !, qed, by, move, keep, split, fsplit, fjoin, suffices, frame}
-use types.Run.{look, init, stop, from, load, and-then, no-more, land, returns, enter, alloc1, alloc0, params1, pass1, pass0}
+use types.Run.{look, init, stop, from, no-more, land, returns, enter, alloc1, alloc0, params1, pass1, pass0}
 use sound.WpLaws.{FmC, fmOf}
 use denote.RattleType.{owns}
 use denote.Laws.{Is, shows}
@@ -49,7 +49,7 @@ use Rattle.call_lists.specs.declared.LatchEntry.{LatchEntry}
 use Rattle.call_lists.specs.declared.GateEntry.{GateEntry}
 use Rattle.call_lists.proofs.LatchEntry as L
 use Rattle.call_lists.proofs.GateEntry as G
-use Rattle.hand_proofs.proofs.Walk.{both, calls-told, _&_, cell, frees-all, meets-of}
+use Rattle.hand_proofs.proofs.Walk.{both, calls-told, copies, _&_, cell, frees-all, meets-of}
 use Rattle.call_lists.proofs.unpack.unpack_latches.Symbol.{name as #latches}
 use Rattle.call_lists.proofs.unpack.unpack_gates.Symbol.{name as #gates}
 use Rattle.call_unpacked.specs.Calls.{headingReply, headingSent}
@@ -137,11 +137,8 @@ module _ {M : Type 1} (𝓤 : URA M) (H : Heap 𝓤) (A : Atoms 𝓤) (W : Given
               ),
             ),
           ) tt (id⊢ 𝓤 (emp 𝓤))
-          (and-then ! (load ! (from ! (stop !)) (look ! 32 refl))
-          (and-then ! (load ! (from ! (stop !)) (look ! 8 refl)) (and-then ! (load ! (from ! (stop !)) (look ! 9 refl))
-          (and-then ! (load ! (from ! (stop !)) (look ! 14 refl))
-          (and-then ! (load ! (from ! (stop !)) (look ! 15 refl))
-          (and-then ! (load ! (from ! (stop !)) (look ! 28 refl)) (no-more !))))))) (λ w r ws.
+          (copies ! 32 refl (copies ! 8 refl (copies ! 9 refl (copies ! 14 refl (copies ! 15 refl
+          (copies ! 28 refl (no-more !))))))) (λ w r ws.
           heard ! (headingReply r ≡ headingSent (netOf net (unpackedLatches ls) (unpackedGates gs)) (length (ls .now)) (length (gs .now)) k)
           (λ is. move ! (1 ∷ []) $ peeks ! Answer.the-row (Is Answer.the-row) (shows 𝓤 H A Answer.the-row) r (w ∷ [])
           (λ is-answer.

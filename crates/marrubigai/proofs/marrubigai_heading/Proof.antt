@@ -16,7 +16,7 @@ use ghost.Atoms.{Atoms}
 use contract.Monad.{Fun, fact}
 use contract.Running.{givenOf, tables, tablesOf}
 use types.Kit.{Given, ‵, raw, _⊛_, _$_, _∵_, !, qed, move, keep, use1, join, fjoin, suffices, frame, done}
-use types.Run.{look, init, stop, from, load, and-then, no-more, land, returns, enter, alloc1, alloc0, params1, pass1, pass0}
+use types.Run.{look, init, stop, from, no-more, land, returns, enter, alloc1, alloc0, params1, pass1, pass0}
 use sound.WpLaws.{FmC, fmOf}
 use denote.RattleType.{owns}
 use denote.Laws.{Is, shows}
@@ -42,7 +42,7 @@ use Rattle.call_lists.specs.declared.GateEntry.{GateEntry}
 use Rattle.call_lists.proofs.LatchEntry as L
 use Rattle.call_lists.proofs.GateEntry as G
 use Rattle.sheet_reader.proofs.Facts.{All, gathered, spread}
-use Rattle.hand_proofs.proofs.Walk.{calls-told, _&_, cell, frees-all, meets-of}
+use Rattle.hand_proofs.proofs.Walk.{calls-told, copies, _&_, cell, frees-all, meets-of}
 use Rattle.call_unpacked.specs.Calls.{headingReply, BoundTheorem}
 use Rattle.model.specs.Acceptance.{PathTheorem}
 use Rattle.model.specs.Claim.{EncodingTheorem, StatedTheorem}
@@ -119,10 +119,7 @@ module _ {M : Type 1} (𝓤 : URA M) (H : Heap 𝓤) (A : Atoms 𝓤) (W : Given
           move ! (12 ∷ 13 ∷ []) $ join ! $
           calls-told ! fm inner.ended (inner.clauses 𝓤 H A mem run) known-inner ((κ₀, (κ₁, tt)), (q₀, (q₁, tt)), tt, a, vals) tt
           (id⊢ 𝓤 (emp 𝓤))
-          (and-then ! (load ! (from ! (stop !)) (look ! 9 refl))
-          (and-then ! (load ! (from ! (stop !)) (look ! 7 refl))
-          (and-then ! (load ! (from ! (stop !)) (look ! 5 refl))
-          (and-then ! (load ! (from ! (stop !)) (look ! 3 refl)) (no-more !))))) (λ w r ws.
+          (copies ! 9 refl (copies ! 7 refl (copies ! 5 refl (copies ! 3 refl (no-more !))))) (λ w r ws.
           use1 W (raw (fact 𝓤 (All (Answered r) Claimed))) (gathered 𝓤 (Answered r) Claimed) $ heard ! (All (Answered r) Claimed) (λ said.
           move ! (1 ∷ []) $ peeks ! Answer.the-row (Is Answer.the-row) (shows 𝓤 H A Answer.the-row) r (w ∷ []) (λ is-answer.
           land ! (from ! (stop !)) (init ! 3 refl (EL.lawful Answer.the-type Answer′.the-laws 𝓤 H A W tt .typed r
@@ -130,7 +127,7 @@ module _ {M : Type 1} (𝓤 : URA M) (H : Heap 𝓤) (A : Atoms 𝓤) (W : Given
           nothing ! $ move ! (1 ∷ 0 ∷ []) $ fjoin ! $ nothing ! $ join ! $
           calls-told ! fm numbers.ended (numbers.clauses 𝓤 H A mem run) known-numbers (tt, tt, tt, (r, tt), (w ∷ [], tt)) tt
           (id⊢ 𝓤 (emp 𝓤))
-          (and-then ! (load ! (from ! (stop !)) (look ! 3 refl)) (no-more !)) (λ w′ r′ ws′.
+          (copies ! 3 refl (no-more !)) (λ w′ r′ ws′.
           heard ! (r′ ≡ headingReply r) (λ is. move ! (1 ∷ []) $
           peeks ! Reply.the-row (Is Reply.the-row) (shows 𝓤 H A Reply.the-row) r′ (w′ ∷ []) (λ is-reply.
           land ! (from ! (stop !)) (init ! 15 refl (LL.lawful Reply.the-type Reply′.the-laws 𝓤 H A W .typed r′

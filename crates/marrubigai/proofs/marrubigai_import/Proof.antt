@@ -45,7 +45,7 @@ use denote.Triple.Table.{entered, cited}
 use denote.Triple.Walked.{says, Stays, stay-none-slice, stay-dropped, gave-slice, onExit, walkOf, goes-none-slice, goes-dropped, goes-gave-slice, ends-at}
 use denote.Exit.{yes}
 use denote.Triple.Clauses.{Lasts, lasts}
-use Rattle.hand_proofs.proofs.Walk.{bare, _&_, cell, frees-all, meets-of}
+use Rattle.hand_proofs.proofs.Walk.{bare, copies, _&_, cell, frees-all, meets-of}
 use Rattle.sheet_steps.specs.declared.SheetAnswer.{SheetAnswer}
 use Rattle.sheet_steps.proofs.SheetAnswer as S
 use Rattle.sheet_steps.proofs.SheetAnswer.Laws as S′
@@ -360,16 +360,8 @@ module _ {M : Type 1} (𝓤 : URA M) (H : Heap 𝓤) (A : Atoms 𝓤) (W : Given
           use1 W (raw (ImportCodes 𝓤 H A mem run .pre (to-codes l₉ l₁₀ α β γ δ)))
           (codes-goes l₉ l₁₀ α β γ δ m-fits n-fits word-fits unknown-fits second-fits (latch-room .0) (gate-room .0)) $
           calls-at ! fm (ImportCodes 𝓤 H A mem run) known-codes (to-codes l₉ l₁₀ α β γ δ)
-          (and-then ! (load ! (from ! (stop !)) (look ! 50 refl))
-          (and-then ! (load ! (from ! (stop !)) (look ! 48 refl))
-          (and-then ! (load ! (from ! (stop !)) (look ! 46 refl))
-          (and-then ! (load ! (from ! (stop !)) (look ! 44 refl))
-          (and-then ! (load ! (from ! (stop !)) (look ! 42 refl))
-          (and-then ! (load ! (from ! (stop !)) (look ! 40 refl))
-          (and-then ! (load ! (from ! (stop !)) (look ! 28 refl))
-          (and-then ! (load ! (from ! (stop !)) (look ! 26 refl))
-          (and-then ! (load ! (from ! (stop !)) (look ! 24 refl))
-          (and-then ! (load ! (from ! (stop !)) (look ! 22 refl)) (no-more !))))))))))) (λ u.
+          (copies ! 50 refl (copies ! 48 refl (copies ! 46 refl (copies ! 44 refl (copies ! 42 refl (copies ! 40 refl
+          (copies ! 28 refl (copies ! 26 refl (copies ! 24 refl (copies ! 22 refl (no-more !))))))))))) (λ u.
           use1 W (later (some (λ (o : SheetAnswer × (List ℕ × List ℕ)). given (Read (o .0) (o .1 .0) (o .1 .1))
           (Gets l₉ l₁₀ α β γ δ u o)))) (codes-gives l₉ l₁₀ α β γ δ u) $ await ! tt $ pick ! (λ o. learn ! (λ e.
           split ! $ move ! (1 ∷ []) $ split ! $ move ! (1 ∷ []) $ split ! $ move ! (1 ∷ []) $ split ! $ move ! (1 ∷ []) $
@@ -394,7 +386,7 @@ module _ {M : Type 1} (𝓤 : URA M) (H : Heap 𝓤) (A : Atoms 𝓤) (W : Given
           assigns ! (addr ! (from ! (stop !))) (from ! (stop !)) (init ! 19 refl (tt, tt)) $
           assigns ! (addr ! (from ! (fld ! refl (hop ! (look-in ! 39 (sub ! 0 refl (whole !))) (stop !))))) (from ! (stop !))
           (init ! 17 refl (tt, tt)) $
-          assigns ! (agg ! (and-then ! (load ! (from ! (stop !)) (look ! 17 refl))
+          assigns ! (agg ! (copies ! 17 refl
           (and-then ! (load ! (from ! (fld ! refl (stop !))) (look-in ! 39 (sub ! 1 refl (whole !)))) (no-more !))))
           (from ! (stop !)) (init ! 15 refl (tt, (tt, (record { fits = latch-room .0 }, tt)))) $
           lft-new ! tt (λ α′. move ! (2 ∷ []) $
@@ -411,10 +403,10 @@ module _ {M : Type 1} (𝓤 : URA M) (H : Heap 𝓤) (A : Atoms 𝓤) (W : Given
           calls-at ! fm (DeliverLatches 𝓤 H A mem run) known-latches
           (call.to La.the-type tt latchAt 𝓤 H A W α′ (κs .1 .0) (qs .1 .0)
           (record { ptr = (l₉, 0); name = γ′; now = o .1 .0 }) (o .0 .net .latches) x)
-          (and-then ! (load ! (from ! (stop !)) (look ! 18 refl))
+          (copies ! 18 refl
           (and-then ! (load ! (from ! (fld ! refl (fld ! refl (stop !))))
           (look-in ! 32 (sub ! 1 refl (sub ! 1 refl (whole !)))))
-          (and-then ! (load ! (from ! (stop !)) (look ! 14 refl)) (no-more !)))) (λ v.
+          (copies ! 14 refl (no-more !)))) (λ v.
           use1 W (later (given (v ≡ vunit) (‵ (flft (α′ ∷ []) fullShare) ⊛ ‵ (flft (κs .1 .0) (qs .1 .0))
           ⊛ ‵ (finally La.the-row (x .name) (newLatches (o .0) (o .1 .0))))))
           (call.gives La.the-type tt latchAt 𝓤 H A W α′ (κs .1 .0) (qs .1 .0) (record { ptr = (l₉, 0); name = γ′; now = o .1 .0 })
@@ -427,7 +419,7 @@ module _ {M : Type 1} (𝓤 : URA M) (H : Heap 𝓤) (A : Atoms 𝓤) (W : Given
           assigns ! (addr ! (from ! (stop !))) (from ! (stop !)) (init ! 13 refl (tt, tt)) $
           assigns ! (addr ! (from ! (fld ! refl (hop ! (look-in ! 37 (sub ! 0 refl (whole !))) (stop !))))) (from ! (stop !))
           (init ! 11 refl (tt, tt)) $
-          assigns ! (agg ! (and-then ! (load ! (from ! (stop !)) (look ! 11 refl))
+          assigns ! (agg ! (copies ! 11 refl
           (and-then ! (load ! (from ! (fld ! refl (stop !))) (look-in ! 37 (sub ! 1 refl (whole !)))) (no-more !))))
           (from ! (stop !)) (init ! 9 refl (tt, (tt, (record { fits = gate-room .0 }, tt)))) $
           lft-new ! tt (λ β′. move ! (4 ∷ []) $
@@ -445,10 +437,10 @@ module _ {M : Type 1} (𝓤 : URA M) (H : Heap 𝓤) (A : Atoms 𝓤) (W : Given
           calls-at ! fm (DeliverGates 𝓤 H A mem run) known-gates
           (call.to Ga.the-type tt gateAt 𝓤 H A W β′ (κs .1 .1 .0) (qs .1 .1 .0)
           (record { ptr = (l₁₀, 0); name = δ′; now = o .1 .1 }) (o .0 .net .gates) y)
-          (and-then ! (load ! (from ! (stop !)) (look ! 12 refl))
+          (copies ! 12 refl
           (and-then ! (load ! (from ! (fld ! refl (fld ! refl (stop !))))
           (look-in ! 32 (sub ! 2 refl (sub ! 1 refl (whole !)))))
-          (and-then ! (load ! (from ! (stop !)) (look ! 8 refl)) (no-more !)))) (λ v′.
+          (copies ! 8 refl (no-more !)))) (λ v′.
           use1 W (later (given (v′ ≡ vunit) (‵ (flft (β′ ∷ []) fullShare) ⊛ ‵ (flft (κs .1 .1 .0) (qs .1 .1 .0))
           ⊛ ‵ (finally Ga.the-row (y .name) (newGates (o .0) (o .1 .1))))))
           (call.gives Ga.the-type tt gateAt 𝓤 H A W β′ (κs .1 .1 .0) (qs .1 .1 .0)
@@ -460,7 +452,7 @@ module _ {M : Type 1} (𝓤 : URA M) (H : Heap 𝓤) (A : Atoms 𝓤) (W : Given
           move ! (6 ∷ []) $
           use1 W (raw (numbers.Numbers 𝓤 H A mem run .pre (numbers.to 𝓤 H A mem run (o .0) (S′.lowered (o .0))))) (numbers.goes 𝓤 H A mem run (o .0) (S′.lowered (o .0)) W) $
           calls-at ! fm (numbers.Numbers 𝓤 H A mem run) known-numbers (numbers.to 𝓤 H A mem run (o .0) (S′.lowered (o .0)))
-          (and-then ! (load ! (from ! (stop !)) (look ! 33 refl)) (no-more !)) (λ w.
+          (copies ! 33 refl (no-more !)) (λ w.
           use1 W (later (‵ (R.the-row .own (sheetNumbers (o .0 .verdict) (o .0 .net)) (w ∷ [])))) (numbers.gives 𝓤 H A mem run (o .0) (S′.lowered (o .0)) W w) $
           await ! tt $
           peeks ! R.the-row (Is R.the-row) (shows 𝓤 H A R.the-row) (sheetNumbers (o .0 .verdict) (o .0 .net)) (w ∷ []) (λ reply-is.

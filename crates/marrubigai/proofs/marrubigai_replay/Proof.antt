@@ -45,7 +45,7 @@ use Rattle.call_lists.specs.declared.LatchEntry.{LatchEntry}
 use Rattle.call_lists.specs.declared.GateEntry.{GateEntry}
 use Rattle.call_lists.proofs.LatchEntry as L
 use Rattle.call_lists.proofs.GateEntry as G
-use Rattle.hand_proofs.proofs.Walk.{both, calls-told, _&_, cell, frees-all, meets-of}
+use Rattle.hand_proofs.proofs.Walk.{both, calls-told, copies, _&_, cell, frees-all, meets-of}
 use Rattle.call_lists.proofs.unpack.unpack_latches.Symbol.{name as #latches}
 use Rattle.call_lists.proofs.unpack.unpack_gates.Symbol.{name as #gates}
 use Rattle.replay_answer.specs.ReplayAnswer.{replayFor, memoryFor, traceFor}
@@ -143,12 +143,12 @@ module _ {M : Type 1} (𝓤 : URA M) (H : Heap 𝓤) (A : Atoms 𝓤) (W : Given
           unpacks-both ! fm mem run known-latches known-gates κ₀ κ₁ q₀ q₁ ls gs room₀ room₁ refl (λ α β δ₀ δ₁.
           assigns ! (addr ! (from ! (fld ! refl (hop ! (look-in ! 45 (sub ! 0 refl (whole !))) (stop !))))) (from ! (stop !))
           (init ! 32 refl (tt, tt)) $
-          assigns ! (agg ! (and-then ! (load ! (from ! (stop !)) (look ! 32 refl))
+          assigns ! (agg ! (copies ! 32 refl
           (and-then ! (load ! (from ! (fld ! refl (stop !))) (look-in ! 45 (sub ! 1 refl (whole !)))) (no-more !))))
           (from ! (stop !)) (init ! 30 refl (tt, (tt, (record { fits = room₃ .0 }, tt)))) $
           assigns ! (addr ! (from ! (fld ! refl (hop ! (look-in ! 43 (sub ! 0 refl (whole !))) (stop !))))) (from ! (stop !))
           (init ! 28 refl (tt, tt)) $
-          assigns ! (agg ! (and-then ! (load ! (from ! (stop !)) (look ! 28 refl))
+          assigns ! (agg ! (copies ! 28 refl
           (and-then ! (load ! (from ! (fld ! refl (stop !))) (look-in ! 43 (sub ! 1 refl (whole !)))) (no-more !))))
           (from ! (stop !)) (init ! 26 refl (tt, (tt, (record { fits = room₄ .0 }, tt)))) $
           -- the call over unpacked lists
@@ -186,14 +186,8 @@ module _ {M : Type 1} (𝓤 : URA M) (H : Heap 𝓤) (A : Atoms 𝓤) (W : Given
               ),
             ),
           ) tt (id⊢ 𝓤 (emp 𝓤))
-          (and-then ! (load ! (from ! (stop !)) (look ! 46 refl))
-          (and-then ! (load ! (from ! (stop !)) (look ! 8 refl))
-          (and-then ! (load ! (from ! (stop !)) (look ! 9 refl)) (and-then ! (load ! (from ! (stop !)) (look ! 14 refl))
-          (and-then ! (load ! (from ! (stop !)) (look ! 15 refl))
-          (and-then ! (load ! (from ! (stop !)) (look ! 42 refl))
-          (and-then ! (load ! (from ! (stop !)) (look ! 40 refl))
-          (and-then ! (load ! (from ! (stop !)) (look ! 23 refl))
-          (and-then ! (load ! (from ! (stop !)) (look ! 19 refl)) (no-more !)))))))))) (λ w r ws.
+          (copies ! 46 refl (copies ! 8 refl (copies ! 9 refl (copies ! 14 refl (copies ! 15 refl (copies ! 42 refl
+          (copies ! 40 refl (copies ! 23 refl (copies ! 19 refl (no-more !)))))))))) (λ w r ws.
           let ms = ws .1 .1 .1 .1 .1 .1 .1 .0 in
           let ts = ws .1 .1 .1 .1 .1 .1 .1 .1 .0 in
           use1 W (raw (fact 𝓤 (Answered r)) ⊛ (raw (fact 𝓤 (Remembers ms)) ⊛ raw (fact 𝓤 (Traces ts)))) (id⊢ 𝓤 _) $ split ! $

@@ -46,7 +46,7 @@ use Rattle.call_lists.specs.declared.LatchEntry.{LatchEntry}
 use Rattle.call_lists.specs.declared.GateEntry.{GateEntry}
 use Rattle.call_lists.proofs.LatchEntry as L
 use Rattle.call_lists.proofs.GateEntry as G
-use Rattle.hand_proofs.proofs.Walk.{both, calls-told, _&_, cell, frees-all, meets-of}
+use Rattle.hand_proofs.proofs.Walk.{both, calls-told, copies, _&_, cell, frees-all, meets-of}
 use Rattle.call_unpacked.specs.Calls.{groupReply}
 use Rattle.call_unpacked.specs.declared.GroupAnswer.{GroupAnswer}
 use Rattle.call_unpacked.proofs.GroupAnswer as Answer
@@ -183,16 +183,13 @@ module _ {M : Type 1} (𝓤 : URA M) (H : Heap 𝓤) (A : Atoms 𝓤) (W : Given
           owned ! u32 (Is u32) (uint-makes 𝓤 H A W w32) kind _ (refl, kind-fits) $ fjoin ! $ nothing ! $ join ! $
           calls-told ! fm group.ended (group.clauses 𝓤 H A mem run) known-group
           (tt, tt, tt, (kind, (j, (i, (p, tt)))), (vint w32 kind ∷ [], (vint w32 j ∷ [], (vint w32 i ∷ [], (vint w32 p ∷ [], tt))))) tt (id⊢ 𝓤 (emp 𝓤))
-          (and-then ! (load ! (from ! (stop !)) (look ! 17 refl))
-          (and-then ! (load ! (from ! (stop !)) (look ! 15 refl))
-          (and-then ! (load ! (from ! (stop !)) (look ! 13 refl))
-          (and-then ! (load ! (from ! (stop !)) (look ! 11 refl)) (no-more !))))) (λ w r ws.
+          (copies ! 17 refl (copies ! 15 refl (copies ! 13 refl (copies ! 11 refl (no-more !))))) (λ w r ws.
           heard ! (r ≡ g) (λ is-g. rewrite ! 1 (λ (h : Group). ‵ (K.the-row .own h (w ∷ []))) is-g refl $ move ! (1 ∷ []) $
           peeks ! K.the-row (Is K.the-row) (shows 𝓤 H A K.the-row) g (w ∷ []) (λ is-group.
           land ! (from ! (stop !)) (init ! 7 refl (EL.lawful K.the-type K′.the-laws 𝓤 H A W tt .typed g (w ∷ []) is-group .0)) $
           assigns ! (addr ! (from ! (fld ! refl (hop ! (look-in ! 11 (sub ! 0 refl (whole !))) (stop !))))) (from ! (stop !))
           (init ! 5 refl (tt, tt)) $
-          assigns ! (agg ! (and-then ! (load ! (from ! (stop !)) (look ! 5 refl))
+          assigns ! (agg ! (copies ! 5 refl
           (and-then ! (load ! (from ! (fld ! refl (stop !))) (look-in ! 11 (sub ! 1 refl (whole !)))) (no-more !))))
           (from ! (stop !)) (init ! 3 refl (tt, (tt, (record { fits = room₂ .0 }, tt)))) $
           -- the group stands for the four numbers in what is passed on
@@ -207,11 +204,8 @@ module _ {M : Type 1} (𝓤 : URA M) (H : Heap 𝓤) (A : Atoms 𝓤) (W : Given
             (net, (ls, (gs, (k, (g, (out, tt)))))),
             (recordVal net ∷ [], (listVal ls ∷ [], (listVal gs ∷ [], (vint w32 k ∷ [], (w ∷ [], (vo ∷ [], tt)))))),
           ) tt (id⊢ 𝓤 (emp 𝓤))
-          (and-then ! (load ! (from ! (stop !)) (look ! 27 refl))
-          (and-then ! (load ! (from ! (stop !)) (look ! 25 refl)) (and-then ! (load ! (from ! (stop !)) (look ! 23 refl))
-          (and-then ! (load ! (from ! (stop !)) (look ! 21 refl))
-          (and-then ! (load ! (from ! (stop !)) (look ! 7 refl))
-          (and-then ! (load ! (from ! (stop !)) (look ! 3 refl)) (no-more !))))))) (λ w₁ r₁ ws₁.
+          (copies ! 27 refl (copies ! 25 refl (copies ! 23 refl (copies ! 21 refl (copies ! 7 refl
+          (copies ! 3 refl (no-more !))))))) (λ w₁ r₁ ws₁.
           let zs = ws₁ .1 .1 .1 .1 .1 .0 in
           use1 W (raw (fact 𝓤 (Answered r₁)) ⊛ raw (fact 𝓤 (Leaves zs))) (id⊢ 𝓤 _) $ split ! $
           heard ! (Answered r₁) (λ answered. heard ! (Leaves zs) (λ leaves.
@@ -223,7 +217,7 @@ module _ {M : Type 1} (𝓤 : URA M) (H : Heap 𝓤) (A : Atoms 𝓤) (W : Given
           (w₁ ∷ []) is-answer .0)) $
           nothing ! $ move ! (1 ∷ 0 ∷ []) $ fjoin ! $ nothing ! $ join ! $
           calls-told ! fm numbers.ended (numbers.clauses 𝓤 H A mem run) known-numbers (tt, tt, tt, (r₁, tt), (w₁ ∷ [], tt)) tt
-          (id⊢ 𝓤 (emp 𝓤)) (and-then ! (load ! (from ! (stop !)) (look ! 12 refl)) (no-more !)) (λ w₂ r₂ ws₂.
+          (id⊢ 𝓤 (emp 𝓤)) (copies ! 12 refl (no-more !)) (λ w₂ r₂ ws₂.
           heard ! (r₂ ≡ groupReply r₁) (λ is. move ! (1 ∷ []) $
           peeks ! Reply.the-row (Is Reply.the-row) (shows 𝓤 H A Reply.the-row) r₂ (w₂ ∷ []) (λ is-reply.
           land ! (from ! (stop !)) (init ! 34 refl (LL.lawful Reply.the-type Reply′.the-laws 𝓤 H A W .typed r₂

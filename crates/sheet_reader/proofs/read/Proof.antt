@@ -45,7 +45,7 @@ use denote.Triple.Table.{entered, cited}
 use denote.Triple.Walked.{says, Stays, stay-none-slice, gave-slice, onExit, walkOf, goes-none-slice, goes-gave-slice, Walks, ends-at, walked, walk-meets}
 use denote.Exit.{yes}
 use denote.Triple.Clauses.{Lasts, lasts}
-use Rattle.hand_proofs.proofs.Walk.{bare, _&_, cell, frees-all}
+use Rattle.hand_proofs.proofs.Walk.{bare, copies, _&_, cell, frees-all}
 use Rattle.model.specs.Acceptance.{PathTheorem}
 use Rattle.refusals.specs.Refusal.{replyOf}
 use Rattle.sheet_steps.specs.declared.SheetAnswer.{SheetAnswer}
@@ -308,11 +308,7 @@ module _ {M : Type 1} (𝓤 : URA M) (H : Heap 𝓤) (A : Atoms 𝓤) (W : Given
           use1 W (raw (ReadCodes 𝓤 H A mem run .pre (to-codes l₄ l₅ α β γ δ)))
           (codes-goes l₄ l₅ α β γ δ (latch-room .0) (gate-room .0)) $
           calls-at ! fm (ReadCodes 𝓤 H A mem run) known-codes (to-codes l₄ l₅ α β γ δ)
-          (and-then ! (load ! (from ! (stop !)) (look ! 40 refl))
-          (and-then ! (load ! (from ! (stop !)) (look ! 28 refl))
-          (and-then ! (load ! (from ! (stop !)) (look ! 26 refl))
-          (and-then ! (load ! (from ! (stop !)) (look ! 24 refl))
-          (and-then ! (load ! (from ! (stop !)) (look ! 22 refl)) (no-more !)))))) (λ u.
+          (copies ! 40 refl (copies ! 28 refl (copies ! 26 refl (copies ! 24 refl (copies ! 22 refl (no-more !)))))) (λ u.
           use1 W (later (some (λ (o : SheetAnswer × (List ℕ × List ℕ)). given (CodesRead (now file) m n (o .0) (o .1 .0) (o .1 .1))
           (Gets l₄ l₅ α β γ δ u o)))) (codes-gives l₄ l₅ α β γ δ u) $ await ! tt $ pick ! (λ o. learn ! (λ e.
           split ! $ move ! (1 ∷ []) $ split ! $ move ! (1 ∷ []) $ split ! $ move ! (1 ∷ []) $ split ! $ move ! (1 ∷ []) $
@@ -337,7 +333,7 @@ module _ {M : Type 1} (𝓤 : URA M) (H : Heap 𝓤) (A : Atoms 𝓤) (W : Given
           assigns ! (addr ! (from ! (stop !))) (from ! (stop !)) (init ! 19 refl (tt, tt)) $
           assigns ! (addr ! (from ! (fld ! refl (hop ! (look-in ! 39 (sub ! 0 refl (whole !))) (stop !))))) (from ! (stop !))
           (init ! 17 refl (tt, tt)) $
-          assigns ! (agg ! (and-then ! (load ! (from ! (stop !)) (look ! 17 refl))
+          assigns ! (agg ! (copies ! 17 refl
           (and-then ! (load ! (from ! (fld ! refl (stop !))) (look-in ! 39 (sub ! 1 refl (whole !)))) (no-more !))))
           (from ! (stop !)) (init ! 15 refl (tt, (tt, (record { fits = latch-room .0 }, tt)))) $
           lft-new ! tt (λ α′. move ! (2 ∷ []) $
@@ -354,10 +350,10 @@ module _ {M : Type 1} (𝓤 : URA M) (H : Heap 𝓤) (A : Atoms 𝓤) (W : Given
           calls-at ! fm (DeliverLatches 𝓤 H A mem run) known-latches
           (call.to La.the-type tt latchAt 𝓤 H A W α′ (κs .1 .0) (qs .1 .0)
           (record { ptr = (l₄, 0); name = γ′; now = o .1 .0 }) (o .0 .net .latches) x)
-          (and-then ! (load ! (from ! (stop !)) (look ! 18 refl))
+          (copies ! 18 refl
           (and-then ! (load ! (from ! (fld ! refl (fld ! refl (stop !))))
           (look-in ! 32 (sub ! 1 refl (sub ! 1 refl (whole !)))))
-          (and-then ! (load ! (from ! (stop !)) (look ! 14 refl)) (no-more !)))) (λ v.
+          (copies ! 14 refl (no-more !)))) (λ v.
           use1 W (later (given (v ≡ vunit) (‵ (flft (α′ ∷ []) fullShare) ⊛ ‵ (flft (κs .1 .0) (qs .1 .0))
           ⊛ ‵ (finally La.the-row (x .name) (newLatches (o .0) (o .1 .0))))))
           (call.gives La.the-type tt latchAt 𝓤 H A W α′ (κs .1 .0) (qs .1 .0) (record { ptr = (l₄, 0); name = γ′; now = o .1 .0 })
@@ -370,7 +366,7 @@ module _ {M : Type 1} (𝓤 : URA M) (H : Heap 𝓤) (A : Atoms 𝓤) (W : Given
           assigns ! (addr ! (from ! (stop !))) (from ! (stop !)) (init ! 13 refl (tt, tt)) $
           assigns ! (addr ! (from ! (fld ! refl (hop ! (look-in ! 37 (sub ! 0 refl (whole !))) (stop !))))) (from ! (stop !))
           (init ! 11 refl (tt, tt)) $
-          assigns ! (agg ! (and-then ! (load ! (from ! (stop !)) (look ! 11 refl))
+          assigns ! (agg ! (copies ! 11 refl
           (and-then ! (load ! (from ! (fld ! refl (stop !))) (look-in ! 37 (sub ! 1 refl (whole !)))) (no-more !))))
           (from ! (stop !)) (init ! 9 refl (tt, (tt, (record { fits = gate-room .0 }, tt)))) $
           lft-new ! tt (λ β′. move ! (4 ∷ []) $
@@ -388,10 +384,10 @@ module _ {M : Type 1} (𝓤 : URA M) (H : Heap 𝓤) (A : Atoms 𝓤) (W : Given
           calls-at ! fm (DeliverGates 𝓤 H A mem run) known-gates
           (call.to Ga.the-type tt gateAt 𝓤 H A W β′ (κs .1 .1 .0) (qs .1 .1 .0)
           (record { ptr = (l₅, 0); name = δ′; now = o .1 .1 }) (o .0 .net .gates) y)
-          (and-then ! (load ! (from ! (stop !)) (look ! 12 refl))
+          (copies ! 12 refl
           (and-then ! (load ! (from ! (fld ! refl (fld ! refl (stop !))))
           (look-in ! 32 (sub ! 2 refl (sub ! 1 refl (whole !)))))
-          (and-then ! (load ! (from ! (stop !)) (look ! 8 refl)) (no-more !)))) (λ v′.
+          (copies ! 8 refl (no-more !)))) (λ v′.
           use1 W (later (given (v′ ≡ vunit) (‵ (flft (β′ ∷ []) fullShare) ⊛ ‵ (flft (κs .1 .1 .0) (qs .1 .1 .0))
           ⊛ ‵ (finally Ga.the-row (y .name) (newGates (o .0) (o .1 .1))))))
           (call.gives Ga.the-type tt gateAt 𝓤 H A W β′ (κs .1 .1 .0) (qs .1 .1 .0)
