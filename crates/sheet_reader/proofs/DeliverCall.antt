@@ -81,11 +81,11 @@ module _ (D : Declared) (one : One (row D .mir)) (recordAt : List ℕ → ℕ �
 
   -- `deliver(&codes, count, list)`. The places: c of the codes, r of the reference to them, x of the list, p of the pointer to its records, s of the
   -- slice that is passed on, o of the callee's result
-  module _ {M : Type 1} {𝓤 : URA M} {H : Heap 𝓤} {A : Atoms 𝓤} {K : Type 0} {W : Given 𝓤 H A} {Γ : List (Item 𝓤)} {E : Env 𝓤 H}
+  module _ {M : Type 1} (𝓤 : URA M) (H : Heap 𝓤) (A : Atoms 𝓤) (W : Given 𝓤 H A) {K : Type 0} {Γ : List (Item 𝓤)} {E : Env 𝓤 H}
       {C : Calls 𝓤 H} {Λ : Loops 𝓤 H} {post : Post 𝓤 H} {rest : Body} where
     pub delivers : K → FmC 𝓤 H (W .laws) C → (#deliver : Name) → Triple 𝓤 (C #deliver) (deliver.Delivers D one recordAt 𝓤 H A)
         → (κ : Lft) (q : Share) (zs : List ℕ) (n : ℕ) (list : RefT (List (D .D))) → Room (row D) (length (now list))
-        → (n ≤ 600) × (n ≤ length (now list)) → {c r x p s o lc lr lx lp ls lo : ℕ} {ℓ : Lifetime} {τ : Ty} {count : Operand}
+        → (n ≤ 600) × (n ≤ length (now list)) → {c r x p s o lc lr lx lp ls lo : ℕ} {ℓ : Lifetime} {τ σ : Ty} {count : Operand}
         → _≡_ {A = List (Spot 𝓤 H)} (map (spotOf 𝓤 H E) (c ∷ r ∷ x ∷ p ∷ s ∷ o ∷ []))
         ((codesTy, lc, 0) ∷ (tyRef erased imm codesTy, lr, 0) ∷ (sliceTy (tyRef ℓ mut τ), lx, 0) ∷ (tyRef erased mut τ, lp, 0)
         ∷ (sliceTy (tyRef erased mut τ), ls, 0) ∷ (tyUnit, lo, 0) ∷ [])
@@ -106,10 +106,10 @@ module _ (D : Declared) (one : One (row D .mir)) (recordAt : List ℕ → ℕ �
         ∷ ‵ (froom (sliceTy (tyRef erased mut τ)) ls 0) ∷ ‵ (froom tyUnit lo 0) ∷ Γ)
         (runs C Λ E
         (seq (assign (place r []) (addrOf (place c [])))
-        (seq (assign (place p []) (addrOf (place x (field 0 ∷ deref τ ∷ []))))
+        (seq (assign (place p []) (addrOf (place x (field 0 ∷ deref σ ∷ []))))
         (seq (assign (place s []) (aggregate (copy (place p []) ∷ copy (place x (field 1 ∷ [])) ∷ [])))
         (seq (call #deliver (copy (place r []) ∷ count ∷ copy (place s []) ∷ []) (place o [])) rest)))) post)
-    delivers t fm #deliver known κ q zs n list room ok {c} {r} {x} {p} {s} {o} {lc} {lr} {lx} {lp} {ls} {lo} {ℓ} {τ} {count} places counts = step (λ k.
+    delivers t fm #deliver known κ q zs n list room ok {c} {r} {x} {p} {s} {o} {lc} {lr} {lx} {lp} {ls} {lo} {ℓ} {τ} {σ} {count} places counts = step (λ k.
         assigns t (addr t (within t (spot-of places 0) (stop t))) (within t (spot-of places 1) (stop t)) (init t 3 refl (tt, tt)) $
         assigns t (addr t (within t (spot-of places 2) (fld t refl (hop t (look-in t 4 (sub t 0 refl (whole t))) (stop t)))))
         (within t (spot-of places 3) (stop t)) (init t 5 refl (tt, tt)) $
