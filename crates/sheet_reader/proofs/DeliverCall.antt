@@ -32,9 +32,15 @@ use denote.Steps.{only, nothing, owned, heard}
 use denote.Struct.Declared.{Declared, row}
 use denote.Triple.Clauses.{Lasts, lasts}
 use denote.Triple.Call.{calls-at}
-use denote.Triple.Statement.{Triple}
+use denote.Triple.Statement.{Contract, Triple}
 use denote.Triple.Walked.{says}
 use Rattle.call_lists.specs.Delivered.{delivered}
+use Rattle.call_lists.proofs.LatchEntry as La
+use Rattle.call_lists.proofs.GateEntry as Ga
+use Rattle.call_lists.specs.declared.LatchEntry.{LatchEntry}
+use Rattle.call_lists.specs.declared.GateEntry.{GateEntry}
+use Rattle.call_lists.specs.RecordAt.{latchAt, gateAt}
+use Rattle.sheet_steps.specs.declared.SheetAnswer.{SheetAnswer}
 use Rattle.call_lists.proofs.DeliverContract as deliver
 use Rattle.call_lists.proofs.Zeroed.{lends}
 use Rattle.hand_proofs.proofs.Walk.{spot-of, within}
@@ -131,3 +137,17 @@ module _ (D : Declared) (one : One (row D .mir)) (recordAt : List ℕ → ℕ �
       where
         codes : GName → RefT (List ℕ)
         codes δ = record { ptr = (lc, 0); name = δ; now = zs }
+
+-- the contracts of both functions, and what they leave in the lent lists
+module _ {M : Type 1} (𝓤 : URA M) (H : Heap 𝓤) (A : Atoms 𝓤) where
+  abbrev pub DeliverLatches : Contract 𝓤
+  DeliverLatches = deliver.Delivers La.the-type tt latchAt 𝓤 H A
+
+  abbrev pub DeliverGates : Contract 𝓤
+  DeliverGates = deliver.Delivers Ga.the-type tt gateAt 𝓤 H A
+
+abbrev pub newLatches : RefT (List LatchEntry) → SheetAnswer → List ℕ → List LatchEntry
+newLatches x sheet xs = delivered (sheet .net .latches) (latchAt xs) (now x)
+
+abbrev pub newGates : RefT (List GateEntry) → SheetAnswer → List ℕ → List GateEntry
+newGates y sheet ys = delivered (sheet .net .gates) (gateAt ys) (now y)

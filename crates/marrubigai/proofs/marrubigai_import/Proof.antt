@@ -56,7 +56,6 @@ use Rattle.call_lists.specs.declared.LatchEntry.{LatchEntry}
 use Rattle.call_lists.specs.declared.GateEntry.{GateEntry}
 use Rattle.call_lists.specs.RecordAt.{latchAt, gateAt}
 use Rattle.call_lists.specs.Delivered.{delivered}
-use Rattle.call_lists.proofs.DeliverContract as promise
 use Rattle.call_lists.proofs.LatchEntry as La
 use Rattle.call_lists.proofs.GateEntry as Ga
 use Rattle.call_lists.proofs.deliver.deliver_latches.Symbol as latches-def
@@ -75,6 +74,7 @@ use Rattle.marrubigai.proofs.TextReplies.{text-fits, answers}
 use Rattle.sheet_reader.proofs.LocalCodes.{Codes, codesTy, typed-codes, stored, freed}
 use Rattle.sheet_reader.proofs.NoneCall as none
 use Rattle.sheet_reader.proofs.DeliverCall as call
+use Rattle.sheet_reader.proofs.DeliverCall.{DeliverLatches, DeliverGates, newLatches, newGates}
 use Rattle.aiger_import.proofs.import_text as codes
 use Rattle.aiger_import.proofs.import_text.Symbol as codes-def
 use Rattle.aiger_import.proofs.import_text.Symbol.{name as #import-text}
@@ -122,12 +122,6 @@ module _ {M : Type 1} (𝓤 : URA M) (H : Heap 𝓤) (A : Atoms 𝓤) (mem : Mem
   abbrev ImportCodes : Contract 𝓤
   ImportCodes = tripleOf 𝓤 H A codes.signature (codes.spec 𝓤 H A mem run)
 
-  abbrev DeliverLatches : Contract 𝓤
-  DeliverLatches = promise.Delivers La.the-type tt latchAt 𝓤 H A
-
-  abbrev DeliverGates : Contract 𝓤
-  DeliverGates = promise.Delivers Ga.the-type tt gateAt 𝓤 H A
-
 module _ {M : Type 1} (𝓤 : URA M) (H : Heap 𝓤) (A : Atoms 𝓤) (W : Given 𝓤 H A) (mem : Memory → SProp 𝓤)
     (run : Routine → Fun 𝓤) where
   module _ (κs : Lfts 3) (qs : Shares 3) (text : RefT (List ℕ)) (m n word unknown second : ℕ) (x : RefT (List LatchEntry)) (y : RefT (List GateEntry)) where
@@ -165,13 +159,6 @@ module _ {M : Type 1} (𝓤 : URA M) (H : Heap 𝓤) (A : Atoms 𝓤) (W : Given
     -- what the covered function promises of them
     abbrev Read : SheetAnswer → List ℕ → List ℕ → Type 0
     Read sheet xs ys = Outcome sheet xs ys (importVerdict (now text) m n (importedWord word unknown) unknown second latchRoom gateRoom) (aagNet (now text) m n (importedWord word unknown) unknown second)
-
-    -- what is left in the lent lists, from the unpacked ones
-    abbrev newLatches : SheetAnswer → List ℕ → List LatchEntry
-    newLatches sheet xs = delivered (sheet .net .latches) (latchAt xs) (now x)
-
-    abbrev newGates : SheetAnswer → List ℕ → List GateEntry
-    newGates sheet ys = delivered (sheet .net .gates) (gateAt ys) (now y)
 
     -- ---- `read_codes`, with the unpacked lists lent for α and β under the names γ and δ
     module _ (l₄ l₅ α β : ℕ) (γ δ : GName) where
@@ -263,23 +250,23 @@ module _ {M : Type 1} (𝓤 : URA M) (H : Heap 𝓤) (A : Atoms 𝓤) (W : Given
     exits : (sheet : SheetAnswer) (xs ys : List ℕ) (v : Val) → Read sheet xs ys
         → ent 𝓤 (⋆ 𝓤 H A (‵ (R.the-row .own (sheetNumbers (sheet .verdict) (sheet .net)) (v ∷ [])) ∷ ‵ (flft κ q)
         ∷ ‵ (flft (κs .1 .0) (qs .1 .0)) ∷ ‵ (flft (κs .1 .1 .0) (qs .1 .1 .0)) ∷ ‵ Text
-        ∷ ‵ (finally La.the-row (x .name) (newLatches sheet xs)) ∷ ‵ (finally Ga.the-row (y .name) (newGates sheet ys)) ∷ [])) (Post v)
+        ∷ ‵ (finally La.the-row (x .name) (newLatches x sheet xs)) ∷ ‵ (finally Ga.the-row (y .name) (newGates y sheet ys)) ∷ [])) (Post v)
     exits sheet xs ys v e =
         let sent = sheetNumbers (sheet .verdict) (sheet .net) in
         let fits = text-fits (now text) m n word unknown second (now x) (now y) in
-        let latches-long : length (newLatches sheet xs) ≡ latchRoom = latches-length (now x) (now y) fits sheet xs ys e in
-        let gates-long : length (newGates sheet ys) ≡ gateRoom = gates-length (now x) (now y) fits sheet xs ys e in
+        let latches-long : length (newLatches x sheet xs) ≡ latchRoom = latches-length (now x) (now y) fits sheet xs ys e in
+        let gates-long : length (newGates y sheet ys) ≡ gateRoom = gates-length (now x) (now y) fits sheet xs ys e in
         qed W (‵ (R.the-row .own (sheetNumbers (sheet .verdict) (sheet .net)) (v ∷ [])) ∷ ‵ (flft κ q)
         ∷ ‵ (flft (κs .1 .0) (qs .1 .0)) ∷ ‵ (flft (κs .1 .1 .0) (qs .1 .1 .0)) ∷ ‵ Text
-        ∷ ‵ (finally La.the-row (x .name) (newLatches sheet xs)) ∷ ‵ (finally Ga.the-row (y .name) (newGates sheet ys)) ∷ []) ∵
+        ∷ ‵ (finally La.the-row (x .name) (newLatches x sheet xs)) ∷ ‵ (finally Ga.the-row (y .name) (newGates y sheet ys)) ∷ []) ∵
         suffices ! _ (ends-at 𝓤 H A export.ended stayed (export.clauses 𝓤 H A mem run) W bound v sent
-        (tt, (tt, (tt, (tt, (tt, (tt, (newLatches sheet xs, (newGates sheet ys, tt)))))))) (tt, (tt, (tt, (tt, (tt, (tt, (latches-long, (gates-long, tt))))))))) $
+        (tt, (tt, (tt, (tt, (tt, (tt, (newLatches x sheet xs, (newGates y sheet ys, tt)))))))) (tt, (tt, (tt, (tt, (tt, (tt, (latches-long, (gates-long, tt))))))))) $
         suffices ! _ (spread 𝓤 H A W (onExit 𝓤 H A export.ended stayed κs qs at v sent a
-        (tt, (tt, (tt, (tt, (tt, (tt, (newLatches sheet xs, (newGates sheet ys, tt)))))))))
+        (tt, (tt, (tt, (tt, (tt, (tt, (newLatches x sheet xs, (newGates y sheet ys, tt)))))))))
         (sent ≡ sheetNumbers (importVerdictFor (now text) m n word unknown second (now x) (now y)) (importRecord (now text) m n word unknown second (now x) (now y)))
-        ((newLatches sheet xs ≡ importLatches (now text) m n word unknown second (now x) (now y))
-        ∷ (newGates sheet ys ≡ importGates (now text) m n word unknown second (now x) (now y))
-        ∷ (sent .number ≡ 0 → TextDelivered (now text) m n word unknown second (sent .net) (newLatches sheet xs) (newGates sheet ys)) ∷ TextAsWritten
+        ((newLatches x sheet xs ≡ importLatches (now text) m n word unknown second (now x) (now y))
+        ∷ (newGates y sheet ys ≡ importGates (now text) m n word unknown second (now x) (now y))
+        ∷ (sent .number ≡ 0 → TextDelivered (now text) m n word unknown second (sent .net) (newLatches x sheet xs) (newGates y sheet ys)) ∷ TextAsWritten
         ∷ [])) $
         says ! (answers (now text) m n word unknown second (now x) (now y) sheet xs ys e) $
         nothing ! $ move ! (4 ∷ 0 ∷ []) $ join ! $ move ! (3 ∷ 0 ∷ []) $ join ! $ move ! (2 ∷ 0 ∷ []) $ join ! $ frame ! $
@@ -289,8 +276,8 @@ module _ {M : Type 1} (𝓤 : URA M) (H : Heap 𝓤) (A : Atoms 𝓤) (W : Given
     module _ (C : Calls 𝓤 H) (Λ : Loops 𝓤 H) (fm : FmC 𝓤 H (W .laws) C) (known-none : Triple 𝓤 (C #no-codes) (none.None 𝓤 H A mem run))
         (known-codes : Triple 𝓤 (C #import-text) (ImportCodes 𝓤 H A mem run))
         (known-numbers : Triple 𝓤 (C #sheet-numbers) (numbers.Numbers 𝓤 H A mem run))
-        (known-latches : Triple 𝓤 (C #deliver-latches) (DeliverLatches 𝓤 H A mem run))
-        (known-gates : Triple 𝓤 (C #deliver-gates) (DeliverGates 𝓤 H A mem run)) where
+        (known-latches : Triple 𝓤 (C #deliver-latches) (DeliverLatches 𝓤 H A))
+        (known-gates : Triple 𝓤 (C #deliver-gates) (DeliverGates 𝓤 H A)) where
       walk : Is (ShrSlice (named 0) κ u8) text (slice-vals text) → m < 2 ^ 32 → n < 2 ^ 32 → word < 2 ^ 32 → unknown < 2 ^ 32 → second < 2 ^ 32 → Room La.the-row latchRoom
           → Room Ga.the-row gateRoom
           → ent 𝓤 (onEntry 𝓤 H A export.signature κs qs a at) (WpFn 𝓤 H C Λ code.function (sliceVal (text .ptr) (length (now text)) ∷ vint w32 m ∷ vint w32 n ∷ vint w32 word
@@ -414,8 +401,8 @@ module _ {M : Type 1} (𝓤 : URA M) (H : Heap 𝓤) (A : Atoms 𝓤) (W : Given
     (known-none : Triple 𝓤 (𝓣 .C #no-codes) (none.None 𝓤 H A mem run))
     (known-codes : Triple 𝓤 (𝓣 .C #import-text) (ImportCodes 𝓤 H A mem run))
     (known-numbers : Triple 𝓤 (𝓣 .C #sheet-numbers) (numbers.Numbers 𝓤 H A mem run))
-    (known-latches : Triple 𝓤 (𝓣 .C #deliver-latches) (DeliverLatches 𝓤 H A mem run))
-    (known-gates : Triple 𝓤 (𝓣 .C #deliver-gates) (DeliverGates 𝓤 H A mem run)) where
+    (known-latches : Triple 𝓤 (𝓣 .C #deliver-latches) (DeliverLatches 𝓤 H A))
+    (known-gates : Triple 𝓤 (𝓣 .C #deliver-gates) (DeliverGates 𝓤 H A)) where
   imports-meets : Meets 𝓤 H A export.signature (WpFn 𝓤 H (𝓣 .C) (𝓣 .Λ) code.function) (export.spec 𝓤 H A mem run)
   imports-meets =
       meets-of 𝓤 H A W export.ended stayed (
@@ -478,7 +465,7 @@ marrubigai-import-spec 𝓤 H 𝓜 𝓖 𝓡 =
     code.calls-aiger-import·import-text (codes-thm.met 𝓤 H 𝓜 𝓖 𝓡))
     (cited 𝓤 H (numbers.Numbers 𝓤 H (𝓖 .A) (𝓜 .mem) (𝓡 .run)) 𝓜 𝓡 code.env #sheet-numbers numbers-def.routine
     code.calls-call-replies·sheet-numbers (numbers-thm.met 𝓤 H 𝓜 𝓖 𝓡))
-    (cited 𝓤 H (DeliverLatches 𝓤 H (𝓖 .A) (𝓜 .mem) (𝓡 .run)) 𝓜 𝓡 code.env #deliver-latches latches-def.routine
+    (cited 𝓤 H (DeliverLatches 𝓤 H (𝓖 .A)) 𝓜 𝓡 code.env #deliver-latches latches-def.routine
     code.calls-call-lists·deliver·deliver-latches (latches-thm.met 𝓤 H 𝓜 𝓖 𝓡))
-    (cited 𝓤 H (DeliverGates 𝓤 H (𝓖 .A) (𝓜 .mem) (𝓡 .run)) 𝓜 𝓡 code.env #deliver-gates gates-def.routine
+    (cited 𝓤 H (DeliverGates 𝓤 H (𝓖 .A)) 𝓜 𝓡 code.env #deliver-gates gates-def.routine
     code.calls-call-lists·deliver·deliver-gates (gates-thm.met 𝓤 H 𝓜 𝓖 𝓡)))

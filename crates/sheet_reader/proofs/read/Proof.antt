@@ -59,7 +59,6 @@ use Rattle.call_lists.specs.declared.LatchEntry.{LatchEntry}
 use Rattle.call_lists.specs.declared.GateEntry.{GateEntry}
 use Rattle.call_lists.specs.RecordAt.{latchAt, gateAt}
 use Rattle.call_lists.specs.Delivered.{delivered}
-use Rattle.call_lists.proofs.DeliverContract as promise
 use Rattle.call_lists.proofs.LatchEntry as La
 use Rattle.call_lists.proofs.GateEntry as Ga
 use Rattle.call_lists.proofs.deliver.deliver_latches.Symbol as latches-def
@@ -75,6 +74,7 @@ use Rattle.sheet_reader.proofs.ReadCall.{sheet-fits, reads}
 use Rattle.sheet_reader.proofs.LocalCodes.{Codes, codesTy, typed-codes, stored, freed}
 use Rattle.sheet_reader.proofs.NoneCall as none
 use Rattle.sheet_reader.proofs.DeliverCall as call
+use Rattle.sheet_reader.proofs.DeliverCall.{DeliverLatches, DeliverGates, newLatches, newGates}
 use Rattle.sheet_tests.proofs.read_codes as codes
 use Rattle.sheet_tests.proofs.read_codes.Symbol as codes-def
 use Rattle.sheet_tests.proofs.read_codes.Symbol.{name as #read-codes}
@@ -99,12 +99,6 @@ sheetTy = spell pieces.table (pointee (S.the-row .written))
 module _ {M : Type 1} (𝓤 : URA M) (H : Heap 𝓤) (A : Atoms 𝓤) (mem : Memory → SProp 𝓤) (run : Routine → Fun 𝓤) where
   abbrev ReadCodes : Contract 𝓤
   ReadCodes = tripleOf 𝓤 H A codes.signature (codes.spec 𝓤 H A mem run)
-
-  abbrev DeliverLatches : Contract 𝓤
-  DeliverLatches = promise.Delivers La.the-type tt latchAt 𝓤 H A
-
-  abbrev DeliverGates : Contract 𝓤
-  DeliverGates = promise.Delivers Ga.the-type tt gateAt 𝓤 H A
 
 module _ {M : Type 1} (𝓤 : URA M) (H : Heap 𝓤) (A : Atoms 𝓤) (W : Given 𝓤 H A) (mem : Memory → SProp 𝓤)
     (run : Routine → Fun 𝓤) where
@@ -139,13 +133,6 @@ module _ {M : Type 1} (𝓤 : URA M) (H : Heap 𝓤) (A : Atoms 𝓤) (W : Given
 
     abbrev n : ℕ
     n = length (now y)
-
-    -- what is left in the lent lists, from the unpacked ones
-    abbrev newLatches : SheetAnswer → List ℕ → List LatchEntry
-    newLatches sheet xs = delivered (sheet .net .latches) (latchAt xs) (now x)
-
-    abbrev newGates : SheetAnswer → List ℕ → List GateEntry
-    newGates sheet ys = delivered (sheet .net .gates) (gateAt ys) (now y)
 
     -- ---- `read_codes`, with the unpacked lists lent for α and β under the names γ and δ
     module _ (l₄ l₅ α β : ℕ) (γ δ : GName) where
@@ -218,22 +205,22 @@ module _ {M : Type 1} (𝓤 : URA M) (H : Heap 𝓤) (A : Atoms 𝓤) (W : Given
     -- ---- the end: what is had, and what the contract says of it
     exits : (sheet : SheetAnswer) (xs ys : List ℕ) → CodesRead (now file) m n sheet xs ys
         → ent 𝓤 (⋆ 𝓤 H A (‵ (S.the-row .own sheet (S′.lowered sheet ∷ [])) ∷ ‵ (flft κ q) ∷ ‵ (flft (κs .1 .0) (qs .1 .0))
-        ∷ ‵ (flft (κs .1 .1 .0) (qs .1 .1 .0)) ∷ ‵ File ∷ ‵ (finally La.the-row (x .name) (newLatches sheet xs))
-        ∷ ‵ (finally Ga.the-row (y .name) (newGates sheet ys)) ∷ [])) (Post (S′.lowered sheet))
+        ∷ ‵ (flft (κs .1 .1 .0) (qs .1 .1 .0)) ∷ ‵ File ∷ ‵ (finally La.the-row (x .name) (newLatches x sheet xs))
+        ∷ ‵ (finally Ga.the-row (y .name) (newGates y sheet ys)) ∷ [])) (Post (S′.lowered sheet))
     exits sheet xs ys e =
         let fits = sheet-fits (now file) (now x) (now y) in
-        let latches-long : length (newLatches sheet xs) ≡ m = latches-length (now x) (now y) fits sheet xs ys e in
-        let gates-long : length (newGates sheet ys) ≡ n = gates-length (now x) (now y) fits sheet xs ys e in
+        let latches-long : length (newLatches x sheet xs) ≡ m = latches-length (now x) (now y) fits sheet xs ys e in
+        let gates-long : length (newGates y sheet ys) ≡ n = gates-length (now x) (now y) fits sheet xs ys e in
         qed W (‵ (S.the-row .own sheet (S′.lowered sheet ∷ [])) ∷ ‵ (flft κ q) ∷ ‵ (flft (κs .1 .0) (qs .1 .0))
-        ∷ ‵ (flft (κs .1 .1 .0) (qs .1 .1 .0)) ∷ ‵ File ∷ ‵ (finally La.the-row (x .name) (newLatches sheet xs))
-        ∷ ‵ (finally Ga.the-row (y .name) (newGates sheet ys)) ∷ []) ∵
+        ∷ ‵ (flft (κs .1 .1 .0) (qs .1 .1 .0)) ∷ ‵ File ∷ ‵ (finally La.the-row (x .name) (newLatches x sheet xs))
+        ∷ ‵ (finally Ga.the-row (y .name) (newGates y sheet ys)) ∷ []) ∵
         suffices ! _ (ends-at 𝓤 H A read.ended stayed (read.clauses 𝓤 H A mem run) W bound (S′.lowered sheet) sheet
-        (tt, (newLatches sheet xs, (newGates sheet ys, tt))) (tt, (latches-long, (gates-long, tt)))) $
+        (tt, (newLatches x sheet xs, (newGates y sheet ys, tt))) (tt, (latches-long, (gates-long, tt)))) $
         suffices ! _ (spread 𝓤 H A W (onExit 𝓤 H A read.ended stayed κs qs at (S′.lowered sheet) sheet a
-        (tt, (newLatches sheet xs, (newGates sheet ys, tt)))) (replyOf (sheet .verdict) ≡ replyOf (readVerdict (now file) (now x) (now y)))
-        ((sheet .net ≡ readRecord (now file) (now x) (now y)) ∷ (newLatches sheet xs ≡ latchesAfter (now file) (now x) (now y))
-        ∷ (newGates sheet ys ≡ gatesAfter (now file) (now x) (now y))
-        ∷ (replyOf (sheet .verdict) .number ≡ 0 → SheetDelivered (now file) (sheet .net) (newLatches sheet xs) (newGates sheet ys))
+        (tt, (newLatches x sheet xs, (newGates y sheet ys, tt)))) (replyOf (sheet .verdict) ≡ replyOf (readVerdict (now file) (now x) (now y)))
+        ((sheet .net ≡ readRecord (now file) (now x) (now y)) ∷ (newLatches x sheet xs ≡ latchesAfter (now file) (now x) (now y))
+        ∷ (newGates y sheet ys ≡ gatesAfter (now file) (now x) (now y))
+        ∷ (replyOf (sheet .verdict) .number ≡ 0 → SheetDelivered (now file) (sheet .net) (newLatches x sheet xs) (newGates y sheet ys))
         ∷ PathTheorem ∷ [])) $
         says ! (reads (now file) (now x) (now y) sheet xs ys e) $
         nothing ! $ move ! (4 ∷ 0 ∷ []) $ join ! $ move ! (3 ∷ 0 ∷ []) $ join ! $ move ! (2 ∷ 0 ∷ []) $ join ! $ frame ! $
@@ -242,8 +229,8 @@ module _ {M : Type 1} (𝓤 : URA M) (H : Heap 𝓤) (A : Atoms 𝓤) (W : Given
 
     module _ (C : Calls 𝓤 H) (Λ : Loops 𝓤 H) (fm : FmC 𝓤 H (W .laws) C) (known-none : Triple 𝓤 (C #no-codes) (none.None 𝓤 H A mem run))
         (known-codes : Triple 𝓤 (C #read-codes) (ReadCodes 𝓤 H A mem run))
-        (known-latches : Triple 𝓤 (C #deliver-latches) (DeliverLatches 𝓤 H A mem run))
-        (known-gates : Triple 𝓤 (C #deliver-gates) (DeliverGates 𝓤 H A mem run)) where
+        (known-latches : Triple 𝓤 (C #deliver-latches) (DeliverLatches 𝓤 H A))
+        (known-gates : Triple 𝓤 (C #deliver-gates) (DeliverGates 𝓤 H A)) where
       walk : Is (ShrSlice (named 0) κ u8) file (slice-vals file) → Room La.the-row m → Room Ga.the-row n
           → ent 𝓤 (onEntry 𝓤 H A read.signature κs qs a at)
           (WpFn 𝓤 H C Λ code.function (sliceVal (file .ptr) (length (now file)) ∷ sliceVal (x .ptr) m ∷ sliceVal (y .ptr) n
@@ -354,8 +341,8 @@ module _ {M : Type 1} (𝓤 : URA M) (H : Heap 𝓤) (A : Atoms 𝓤) (W : Given
     (𝓣 : Tables 𝓤 H)
     (known-none : Triple 𝓤 (𝓣 .C #no-codes) (none.None 𝓤 H A mem run))
     (known-codes : Triple 𝓤 (𝓣 .C #read-codes) (ReadCodes 𝓤 H A mem run))
-    (known-latches : Triple 𝓤 (𝓣 .C #deliver-latches) (DeliverLatches 𝓤 H A mem run))
-    (known-gates : Triple 𝓤 (𝓣 .C #deliver-gates) (DeliverGates 𝓤 H A mem run)) where
+    (known-latches : Triple 𝓤 (𝓣 .C #deliver-latches) (DeliverLatches 𝓤 H A))
+    (known-gates : Triple 𝓤 (𝓣 .C #deliver-gates) (DeliverGates 𝓤 H A)) where
   reads-walk : Walks 𝓤 H A read.ended stayed (WpFn 𝓤 H (𝓣 .C) (𝓣 .Λ) code.function) (read.clauses 𝓤 H A mem run)
   reads-walk =
       walked 𝓤 H A read.ended stayed (read.clauses 𝓤 H A mem run) (WpFn 𝓤 H (𝓣 .C) (𝓣 .Λ) code.function)
@@ -390,7 +377,7 @@ read-spec 𝓤 H 𝓜 𝓖 𝓡 =
     (none-thm.met 𝓤 H 𝓜 𝓖 𝓡))
     (cited 𝓤 H (ReadCodes 𝓤 H (𝓖 .A) (𝓜 .mem) (𝓡 .run)) 𝓜 𝓡 code.env #read-codes codes-def.routine
     code.calls-sheet-tests·read-codes (codes-thm.met 𝓤 H 𝓜 𝓖 𝓡))
-    (cited 𝓤 H (DeliverLatches 𝓤 H (𝓖 .A) (𝓜 .mem) (𝓡 .run)) 𝓜 𝓡 code.env #deliver-latches latches-def.routine
+    (cited 𝓤 H (DeliverLatches 𝓤 H (𝓖 .A)) 𝓜 𝓡 code.env #deliver-latches latches-def.routine
     code.calls-call-lists·deliver·deliver-latches (latches-thm.met 𝓤 H 𝓜 𝓖 𝓡))
-    (cited 𝓤 H (DeliverGates 𝓤 H (𝓖 .A) (𝓜 .mem) (𝓡 .run)) 𝓜 𝓡 code.env #deliver-gates gates-def.routine
+    (cited 𝓤 H (DeliverGates 𝓤 H (𝓖 .A)) 𝓜 𝓡 code.env #deliver-gates gates-def.routine
     code.calls-call-lists·deliver·deliver-gates (gates-thm.met 𝓤 H 𝓜 𝓖 𝓡)))
