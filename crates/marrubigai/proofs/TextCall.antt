@@ -248,7 +248,7 @@ module _ (sent : M.Netlist → ℕ → ℕ → ℕ → CountReply) (leaves : M.N
             30 ∷ 14 ∷ 29 ∷ 19 ∷ 28 ∷ 20 ∷ 27 ∷ 25 ∷ 26 ∷ 23 ∷ 24 ∷ []) $
             frees-all ! (cell W & cell W & cell W & cell W & cell W & cell W & cell W & cell W & cell W & cell W & cell W & cell W
             & cell W & cell W & cell W & cell W & cell W & tt) $
-            -- [κ₂'s token; the reply; …; …; what out is left; true; what gates own; κ₁'s token; what latches own; κ₀'s token; true; net]
+            -- [κ₂'s token; the reply; …; …; what out is left; true; what latches own; κ₀'s token; what gates own; κ₁'s token; true; net]
             suffices ! _ (ends-at 𝓤 H A f.ended stayed (clauses 𝓤) W
             (((κ₀, (κ₁, (κ₂, tt))), (q₀, (q₁, (q₂, tt))), tt, a, vals), tt) w₂ r₂ (tt, (tt, (tt, (zs, tt))))
             (tt, (tt, (tt, (same-length, tt))))) $

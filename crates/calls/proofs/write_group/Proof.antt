@@ -181,7 +181,7 @@ module _ {M : Type 1} (𝓤 : URA M) (H : Heap 𝓤) (A : Atoms 𝓤) (W : Given
           11 ∷ 30 ∷ 12 ∷ 29 ∷ 17 ∷ 28 ∷ 18 ∷ 27 ∷ 25 ∷ 26 ∷ 23 ∷ 24 ∷ []) $
           frees-all ! (cell W & cell W & cell W & cell W & cell W & cell W & cell W & cell W & cell W & cell W & cell W & cell W
           & cell W & cell W & cell W & cell W & cell W & cell W & tt) $
-          -- [κ₂'s token; the answer; what out is left; true; what gates own; κ₁'s token; what latches own; κ₀'s token; true;
+          -- [κ₂'s token; the answer; what out is left; true; what latches own; κ₀'s token; what gates own; κ₁'s token; true;
           -- group; depth; net]
           suffices ! _ (ends-at 𝓤 H A f.ended stayed (f.clauses 𝓤 H A mem run) W
           (((κ₀, (κ₁, (κ₂, tt))), (q₀, (q₁, (q₂, tt))), tt, a, vals), tt) w r (tt, (tt, (tt, (tt, (tt, (zs, tt))))))

@@ -205,8 +205,8 @@ module _ {M : Type 1} (𝓤 : URA M) (H : Heap 𝓤) (A : Atoms 𝓤) (W : Given
           move ! (52 ∷ 53 ∷ 50 ∷ 51 ∷ 9 ∷ 49 ∷ 15 ∷ 48 ∷ 46 ∷ 47 ∷ 44 ∷ 45 ∷ 42 ∷ 43 ∷ 40 ∷ 41 ∷ 0 ∷ 39 ∷ 1 ∷ 38 ∷ 8 ∷ 37 ∷ 7 ∷ 36 ∷ 14 ∷
           35 ∷ 12 ∷ 34 ∷ 13 ∷ 33 ∷ 18 ∷ 32 ∷ 19 ∷ 31 ∷ 29 ∷ 30 ∷ 27 ∷ 28 ∷ 25 ∷ 26 ∷ 23 ∷ 24 ∷ []) $
           frees-all ! (cell W & cell W & cell W & cell W & cell W & cell W & cell W & cell W & cell W & cell W & cell W & cell W & cell W & cell W & cell W & cell W & cell W & cell W & cell W & cell W & cell W & tt) $
-          -- [the tokens of κ₂ to κ₄; the answer; what trace is left; true; what memory is left; what gates own; κ₁'s token; what
-          -- latches own; κ₀'s token; true; depth; net]
+          -- [the tokens of κ₂ to κ₄; the answer; what trace is left; true; what memory is left; what latches own; κ₀'s token; what
+          -- gates own; κ₁'s token; true; depth; net]
           suffices ! _ (ends-at 𝓤 H A f.ended stayed (f.clauses 𝓤 H A mem run) W
           (((κ₀, (κ₁, (κ₂, (κ₃, (κ₄, tt))))), (q₀, (q₁, (q₂, (q₃, (q₄, tt))))), tt, a, vals), tt) w r
           (tt, (tt, (tt, (tt, (tt, (ms, (ts, tt))))))) (tt, (tt, (tt, (tt, (tt, (same-words, (same-bytes, tt)))))))) $

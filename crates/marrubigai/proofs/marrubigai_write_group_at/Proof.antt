@@ -192,7 +192,7 @@ module _ {M : Type 1} (𝓤 : URA M) (H : Heap 𝓤) (A : Atoms 𝓤) (W : Given
           6 ∷ 34 ∷ 13 ∷ 33 ∷ 11 ∷ 32 ∷ 12 ∷ 31 ∷ 17 ∷ 30 ∷ 18 ∷ 29 ∷ 27 ∷ 28 ∷ 25 ∷ 26 ∷ []) $
           frees-all ! (cell W & cell W & cell W & cell W & cell W & cell W & cell W & cell W & cell W & cell W & cell W & cell W
           & cell W & cell W & cell W & cell W & cell W & cell W & cell W & cell W & tt) $
-          -- [κ₂'s token; the answer; what out is left; true; what gates own; κ₁'s token; what latches own; κ₀'s token; true;
+          -- [κ₂'s token; the answer; what out is left; true; what latches own; κ₀'s token; what gates own; κ₁'s token; true;
           -- port; j; kind; record; net]
           suffices ! _ (ends-at 𝓤 H A f.ended stayed (f.clauses 𝓤 H A mem run) W
           (((κ₀, (κ₁, (κ₂, tt))), (q₀, (q₁, (q₂, tt))), tt, a, vals), tt) w r (tt, (tt, (tt, (tt, (tt, (tt, (tt, (zs, tt))))))))
