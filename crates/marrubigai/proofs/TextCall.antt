@@ -37,7 +37,6 @@ use denote.Triple.Spec.{Meets, tripleOf}
 use denote.Triple.Statement.{Contract, Triple}
 use denote.Triple.Walked.{Stays, gave-slice, walkOf, goes-gave-slice, ends-at}
 use Rattle.model.specs.Netlist as M
-use Rattle.model.specs.Wrote.{over}
 use Rattle.netlist.specs.declared.Netlist.{Netlist}
 use Rattle.netlist.specs.NetOf.{netOf}
 use Rattle.netlist.proofs.Netlist as N
