@@ -476,6 +476,30 @@ pub fn two_port_length_rows() -> Vec<Row> {
         .to_vec()
 }
 
+/// The record of `TWO_RICH`, field by field: entries past the widths are 0.
+pub fn two_rich() -> Netlist {
+    let mut netlist = Netlist {
+        inputs: 1,
+        latch_count: 1,
+        gate_count: 1,
+        address_width: 2,
+        data_width: 2,
+        start_word: 2,
+        two_ports: 1,
+        write_enable: 15,
+        read_enable: 5,
+        property: 11,
+        second_read_enable: 4,
+        latches: vec![Latch { next: 14, reset: 1 }],
+        gates: vec![Gate { left: 2, right: 13 }],
+        ..Netlist::default()
+    };
+    netlist.address[..2].copy_from_slice(&[4, 3]);
+    netlist.write_data[..2].copy_from_slice(&[14, 8]);
+    netlist.second_address[..2].copy_from_slice(&[3, 1]);
+    netlist
+}
+
 pub fn sheets(tally: &mut Tally) {
     let judge = |sheet: &[u8]| verdict(read_sheet(sheet, 600, 600));
     for (name, sheet, expected) in two_port_sheet_rows() {
@@ -519,27 +543,7 @@ fn rooms_and_rows(tally: &mut Tally) {
         let result = read_sheet(&expand(short), latch_room, gate_room);
         tally.equal((short, latch_room, gate_room), verdict(result), expected);
     }
-    // What is read: entries past the sizes are 0.
-    let mut expected = Netlist {
-        inputs: 1,
-        latch_count: 1,
-        gate_count: 1,
-        address_width: 2,
-        data_width: 2,
-        start_word: 2,
-        two_ports: 1,
-        write_enable: 15,
-        read_enable: 5,
-        property: 11,
-        second_read_enable: 4,
-        latches: vec![Latch { next: 14, reset: 1 }],
-        gates: vec![Gate { left: 2, right: 13 }],
-        ..Netlist::default()
-    };
-    expected.address[..2].copy_from_slice(&[4, 3]);
-    expected.write_data[..2].copy_from_slice(&[14, 8]);
-    expected.second_address[..2].copy_from_slice(&[3, 1]);
-    tally.equal("record", accepted(TWO_RICH), expected);
+    tally.equal("record", accepted(TWO_RICH), two_rich());
     let record = read_sheet(&expand(RICH), 600, 600);
     tally.equal("record of an M sheet", record, Ok(accepted(RICH)));
     tally.equal("kind of an M sheet", accepted(RICH).two_ports, 0);

@@ -3,7 +3,7 @@
 use std::collections::HashSet;
 
 use super::agreement::{
-    breaking_runs, compare, compare_with, first_reads, propagation_follows_run,
+    breaking_runs, compare, compare_with, first_reads, propagation_follows_run, Frames,
 };
 use super::circuit::{Circuit, Feed, Run, Values};
 use super::formula::{
@@ -135,7 +135,7 @@ pub fn damaged_sheets(tally: &mut Tally) {
 
 /// Whether a refusal at a line is that of the sheet up to this line, and the line before it ends
 /// a sheet that is only too short (or complete, where the line was one too many).
-fn refusal_is_local(sheet: &[u8], refusal: Refusal) -> bool {
+pub fn refusal_is_local(sheet: &[u8], refusal: Refusal) -> bool {
     let lines = sheet.len() / LINE_BYTES;
     let place = refusal.place as usize;
     let of_all_lines = |number: u32| [MEMORY_LOOP, TIED_ADDRESS].contains(&number);
@@ -306,9 +306,13 @@ pub fn lengths(tally: &mut Tally) {
 /// The heading counts what is written, no variable is above B(k + 1), and the text of `frames` is
 /// the heading and these numbers.
 pub fn headings(tally: &mut Tally) {
-    let mut random = Random::new(7);
+    headings_of(tally, 7, wide_netlist);
+}
+
+pub fn headings_of(tally: &mut Tally, seed: u64, wide: fn(&mut Random) -> Netlist) {
+    let mut random = Random::new(seed);
     for round in 0..150 {
-        let netlist = wide_netlist(&mut random);
+        let netlist = wide(&mut random);
         let depth = random.pick(&[0, 1, 3, 8, 20]);
         let numbers = Formula::new(&netlist, depth, Fault::None).numbers();
         let largest = numbers.iter().map(|number| number.abs()).max();
@@ -351,6 +355,12 @@ fn tiny_cases(count: usize) -> Vec<(Netlist, u32)> {
         cases.push((netlist, depth));
     }
     cases
+}
+
+/// Of each case all runs that break the property.
+pub fn runs_of(cases: &[(Netlist, u32)]) -> Vec<HashSet<Frames>> {
+    let of_case = |(netlist, depth): &(Netlist, u32)| breaking_runs(netlist, *depth);
+    cases.iter().map(of_case).collect()
 }
 
 /// Both halves of demand 3 on all assignments and all runs of tiny netlists. At least a fifth of
@@ -500,10 +510,7 @@ const FAULTS: [(Fault, [bool; 4]); 22] = [
 
 pub fn faults(tally: &mut Tally) {
     let cases = tiny_cases(500);
-    let runs: Vec<_> = cases
-        .iter()
-        .map(|(netlist, depth)| breaking_runs(netlist, *depth))
-        .collect();
+    let runs = runs_of(&cases);
     let mut remarks = Vec::new();
     for (fault, expected) in FAULTS {
         let mut caught = [0; 4];

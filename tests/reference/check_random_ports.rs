@@ -2,23 +2,23 @@
 
 use std::collections::HashSet;
 
-use super::agreement::{
-    breaking_runs, compare, compare_with,
-    propagation_follows_run,
-};
+use super::agreement::{compare, compare_with, propagation_follows_run};
 use super::answer::{replay, Claim};
 use super::answer_calls::Call;
 use super::check_answers::satisfiable;
 use super::check_examples::accepted;
 use super::check_ports::{two_of_sizes, CONSTANT_READS, TWO_READS, TWO_RICH};
 use super::check_position::change_unused;
-use super::check_random::{counted, demand_3_of, dimacs, heading_holds, lengths_hold, without_constants};
+use super::check_random::{
+    counted, demand_3_of, heading_holds, headings_of, lengths_hold, refusal_is_local, runs_of,
+    without_constants,
+};
 use super::check_random_answers::{assignments_of, Runs};
 use super::check_refusals::verdict;
 use super::circuit::{value, word, Run, Values};
 use super::formula::{
-    clause_bound, counts, frame_base, frames, heading, number_bound, pair_base_of, pair_size,
-    port_group_call, Fault, Formula, Group, Heading, PortGroup,
+    clause_bound, counts, frame_base, number_bound, pair_base_of, pair_size, port_group_call,
+    Fault, Formula, Group, PortGroup,
 };
 use super::netlist::{Gate, Netlist, FIRST_PORT, MAX_DEPTH, SECOND_PORT};
 use super::position::{start, FrameGroup, Position};
@@ -32,7 +32,7 @@ use super::random_answers::{
 use super::refusal::{
     Refusal, CODE, MEMORY_LOOP, MISPRINT, NO_ROOM, OUT_OF_ORDER, RAGGED, SIZE, TIED_ADDRESS,
 };
-use super::sheet::{expand, read_sheet, write_back, write_depth, write_sheet, LINE_BYTES};
+use super::sheet::{expand, read_sheet, write_back, write_sheet, LINE_BYTES};
 use super::Tally;
 
 fn read(sheet: &[u8]) -> Result<Netlist, Refusal> {
@@ -216,27 +216,6 @@ pub fn damaged_sheets(tally: &mut Tally) {
     );
 }
 
-/// Whether a refusal at a line is that of the sheet up to this line, and the lines before it are only
-/// too few, or complete.
-fn refusal_is_local(sheet: &[u8], refusal: Refusal) -> bool {
-    let lines = sheet.len() / LINE_BYTES;
-    let place = refusal.place as usize;
-    let of_all_lines = |number: u32| [MEMORY_LOOP, TIED_ADDRESS].contains(&number);
-    if place == 0 || place > lines || of_all_lines(refusal.number) {
-        return place <= lines + 1;
-    }
-    let first = |count: usize| read(&sheet[..count * LINE_BYTES]);
-    let missing = Refusal {
-        number: OUT_OF_ORDER,
-        place: refusal.place,
-    };
-    let prefix_passes = match first(place - 1) {
-        Ok(_) => true,
-        Err(other) => place == 1 || other == missing || of_all_lines(other.number),
-    };
-    first(place) == Err(refusal) && prefix_passes
-}
-
 /// Variable 1, wires and pairs of both ports take every number from 1 to B(k + 1) once, in order.
 pub fn numbering(tally: &mut Tally) {
     let mut random = Random::new(43);
@@ -371,28 +350,9 @@ pub fn groups(tally: &mut Tally) {
     );
 }
 
-/// The heading counts what is written, no variable is above B(k + 1), and the text of `frames` is the
-/// heading and these numbers.
+/// As `check_random::headings`, of netlists with two ports.
 pub fn headings(tally: &mut Tally) {
-    let mut random = Random::new(45);
-    for round in 0..150 {
-        let netlist = wide_two_ports(&mut random);
-        let depth = random.pick(&[0, 1, 3, 8, 20]);
-        let numbers = Formula::new(&netlist, depth, Fault::None).numbers();
-        let largest = numbers.iter().map(|number| number.abs()).max();
-        let variables = frame_base(&netlist, depth + 1);
-        let expected = Heading {
-            variables,
-            clauses: counted(&numbers)[0],
-        };
-        tally.equal((round, "heading"), heading(&netlist, depth), Ok(expected));
-        let fits = largest.map_or(false, |largest| i64::from(largest) <= variables);
-        tally.check((round, "largest variable"), fits);
-        let input = [write_depth(depth), write_sheet(&netlist)].concat();
-        let text = frames(&input);
-        let whole = dimacs(expected, &numbers).into_bytes();
-        tally.check((round, "text"), text == whole);
-    }
+    headings_of(tally, 45, wide_two_ports);
 }
 
 /// The M netlist in which the second port's read bits are inputs behind the others, with the variable
@@ -669,10 +629,7 @@ const FAULTS: [(Fault, [bool; 5]); 20] = [
 
 pub fn faults(tally: &mut Tally) {
     let cases = tiny_cases(500);
-    let runs: Vec<_> = cases
-        .iter()
-        .map(|(netlist, depth)| breaking_runs(netlist, *depth))
-        .collect();
+    let runs = runs_of(&cases);
     let mut remarks = Vec::new();
     for (fault, expected) in FAULTS {
         let mut caught = [0; 5];

@@ -2,9 +2,9 @@
 //! from texts that are imported too. What a file means, the second implementation decodes.
 
 use super::calls::{differ, record_rows};
+use super::damaged::sheet_rows;
 use super::exports::{import, Answer, Lists};
 use super::mutate::{netlist, wide, LIMITS};
-use super::reads::sheet_rows;
 use super::reference::aiger_binary::decode;
 use super::reference::check_examples::accepted;
 use super::reference::check_position::change_unused;

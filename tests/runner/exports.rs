@@ -134,6 +134,17 @@ struct VersionReply {
     minor: u32,
 }
 
+/// A call that writes a text of a record.
+type WritesRecord = unsafe extern "C" fn(
+    Record,
+    *const LatchRecord,
+    usize,
+    *const GateRecord,
+    usize,
+    *mut u8,
+    usize,
+) -> CountReply;
+
 extern "C" {
     fn marrubigai_version() -> VersionReply;
 
@@ -496,25 +507,18 @@ impl Lists {
 
     /// A call that writes the record's sheet into a buffer of `room` bytes: the bytes written.
     pub fn write_sheet(&self, room: usize) -> Answer<Vec<u8>> {
-        // SAFETY: each pointer and length are those of a live slice, and only `out` is written to.
-        written_into(room, unprinted, |out, room| unsafe {
-            marrubigai_write_sheet(
-                self.record,
-                self.latches.as_ptr(),
-                self.latches.len(),
-                self.gates.as_ptr(),
-                self.gates.len(),
-                out,
-                room,
-            )
-        })
+        self.written_by(marrubigai_write_sheet, room)
     }
 
     /// A call that writes the record's binary AIGER file into a buffer of `room` bytes: the bytes written.
     pub fn export(&self, room: usize) -> Answer<Vec<u8>> {
+        self.written_by(marrubigai_export, room)
+    }
+
+    fn written_by(&self, write: WritesRecord, room: usize) -> Answer<Vec<u8>> {
         // SAFETY: each pointer and length are those of a live slice, and only `out` is written to.
         written_into(room, unprinted, |out, room| unsafe {
-            marrubigai_export(
+            write(
                 self.record,
                 self.latches.as_ptr(),
                 self.latches.len(),

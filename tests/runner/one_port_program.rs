@@ -1,11 +1,11 @@
 //! The program `one_port`: it prints the sheet or the refusal that the second implementation makes of a file.
 
+use super::damaged::sheet_rows;
 use super::faults;
 use super::memory::VALGRIND;
 use super::mutate::{sheet, unused};
 use super::process::Program;
-use super::reference::check_ports::{largest_two_port_sheet, two_port_length_rows, two_port_sheet_rows};
-use super::reference::check_refusals::{field_and_letter_rows, length_rows, short_sheet_rows};
+use super::reference::check_ports::largest_two_port_sheet;
 use super::reference::formula::refusal_text;
 use super::reference::one_port::one_port;
 use super::reference::random::{tiny_netlist, tiny_two_ports, wide_two_ports, Random};
@@ -22,14 +22,7 @@ pub fn printed(file: &[u8]) -> Vec<u8> {
 
 /// The second implementation's tables, and files that are longer than any sheet.
 pub fn tables(program: &Program, tally: &mut Tally) {
-    let rows = [
-        field_and_letter_rows(),
-        short_sheet_rows(),
-        length_rows(),
-        two_port_sheet_rows(),
-        two_port_length_rows(),
-    ];
-    for (name, file, _) in rows.concat() {
+    for (name, file, _) in sheet_rows() {
         program.agrees(tally, &name, &file);
     }
     for bytes in [MAX_SHEET_BYTES - 1, MAX_SHEET_BYTES, MAX_SHEET_BYTES + 1, MAX_SHEET_BYTES + 32, 1_000_000] {

@@ -2,9 +2,9 @@
 //! tests; the runs of both sheets stepped side by side, and the clauses of both solved.
 
 use super::calls::{differ, order_of};
+use super::damaged::sheet_rows;
 use super::exports::{one_port as call, parameters, read, Answer, Lists};
 use super::mutate::{netlist, sheet, unused, wide};
-use super::reads::sheet_rows;
 use super::reference::check_refusals::{verdict, Verdict};
 use super::reference::circuit::{value, Circuit, Feed};
 use super::reference::netlist::{Gate, Netlist, SECOND_PORT};

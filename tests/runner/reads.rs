@@ -4,14 +4,13 @@
 use std::collections::BTreeMap;
 
 use super::calls::differ;
+use super::damaged::sheet_rows;
 use super::exports::{next_line, read, Answer, Line};
 use super::mutate;
 use super::reference::check_examples::accepted;
-use super::reference::check_ports::{
-    two_port_length_rows, two_port_sheet_rows, CONSTANT_READS, TWO_RICH,
-};
+use super::reference::check_ports::{two_port_sheet_rows, two_rich, CONSTANT_READS, TWO_RICH};
 use super::reference::check_refusals::{
-    field_and_letter_rows, length_rows, short_sheet_rows, verdict, Row, Verdict, ACCEPTED, ROOMS,
+    field_and_letter_rows, short_sheet_rows, verdict, Verdict, ACCEPTED, ROOMS,
 };
 use super::reference::netlist::{Gate, Kind, Latch, Netlist};
 use super::reference::random::{damaged_record, damaged_sheet, tiny_two_ports, Random};
@@ -138,18 +137,6 @@ pub fn lines(library: &Library, tally: &mut Tally) {
     }
 }
 
-/// The second implementation's rows of sheets of both kinds.
-pub fn sheet_rows() -> Vec<Row> {
-    [
-        field_and_letter_rows(),
-        short_sheet_rows(),
-        length_rows(),
-        two_port_sheet_rows(),
-        two_port_length_rows(),
-    ]
-    .concat()
-}
-
 /// Lengths of the lent lists, for sheets with a second port: `TWO_RICH` needs one record in each, and 9 comes last.
 #[rustfmt::skip]
 const TWO_PORT_ROOMS: [(&str, usize, usize, Verdict); 8] = [
@@ -237,30 +224,6 @@ pub fn tables(library: &Library, tally: &mut Tally) {
     }
     let sheet = vec![b'\n'; 1 << 20];
     library.read_agrees(tally, &sheet, 0, 0);
-}
-
-/// The record of `TWO_RICH`, field by field: entries past the widths are 0.
-fn two_rich() -> Netlist {
-    let mut netlist = Netlist {
-        inputs: 1,
-        latch_count: 1,
-        gate_count: 1,
-        address_width: 2,
-        data_width: 2,
-        start_word: 2,
-        two_ports: 1,
-        write_enable: 15,
-        read_enable: 5,
-        property: 11,
-        second_read_enable: 4,
-        latches: vec![Latch { next: 14, reset: 1 }],
-        gates: vec![Gate { left: 2, right: 13 }],
-        ..Netlist::default()
-    };
-    netlist.address[..2].copy_from_slice(&[4, 3]);
-    netlist.write_data[..2].copy_from_slice(&[14, 8]);
-    netlist.second_address[..2].copy_from_slice(&[3, 1]);
-    netlist
 }
 
 /// Random sheets with lists of exact, short and long length.

@@ -2,9 +2,9 @@
 //! which is read is written as it was, and one that is written is read as the record.
 
 use super::calls::{differ, record_rows};
+use super::damaged::sheet_rows;
 use super::exports::{read, Answer, Lists};
 use super::mutate::{netlist, wide, LIMITS};
-use super::reads::sheet_rows;
 use super::reference::check_examples::{accepted, FULL_RUN, RICH};
 use super::reference::check_ports::TWO_RICH;
 use super::reference::check_position::change_unused;

@@ -18,7 +18,7 @@ use prog.Wp.{Heap, Env, Spot, spotOf, Calls, Loops}
 use ghost.Atoms.{Atoms, sem}
 use types.Kit.{Given, Item, Post, Goal, Soaks, Seq, Step, step, runs, ‵, _⊛_, some, later, _$_, move, drop, use0, use1, use3, split, join, pick, await, rewrite, fsplit, fjoin, fpick, fpack, feqL}
 use types.Part.{rep}
-use types.Run.{Walks, Finds, look, init, stop, from, load, lit, addr, and-then, no-more, assigns, land}
+use types.Run.{look, init, stop, load, lit, addr, and-then, no-more, assigns, land}
 use types.SemTy.{Body as Holding}
 use types.Tokens.{lft-new, lft-end, lent-back}
 use sound.WpLaws.{FmC}
@@ -42,7 +42,7 @@ use Rattle.model.specs.Wrote.{over}
 use Rattle.call_lists.proofs.OneRecord as one
 use Rattle.call_lists.proofs.OneRecord.{Codes, codes-ty}
 use Rattle.call_lists.proofs.AllRecords as all
-use Rattle.hand_proofs.proofs.Walk.{calls-told}
+use Rattle.hand_proofs.proofs.Walk.{calls-told, within}
 
 unfoldable pub zeros : List ℕ
 zeros = replicate 1200 0
@@ -58,12 +58,6 @@ module _ {M : Type 1} (𝓤 : URA M) (H : Heap 𝓤) (A : Atoms 𝓤) (W : Given
   unfolding zeros
   zeros-own = via 𝓤 _ (uint-makes 𝓤 H A W w32 0 (vint w32 0 ∷ []) (refl, lit< tt))
       (array-repeat 𝓤 H A W u32 (uint-copy 𝓤 H A W w32) 1200 0 (vint w32 0))
-
-module _ {M : Type 1} {𝓤 : URA M} {H : Heap 𝓤} {A : Atoms 𝓤} {K : Type 0} {W : Given 𝓤 H A} {Γ : List (Item 𝓤)}
-    {E : Env 𝓤 H} where
-  -- a local's place, where its type and its block are known
-  local-at : K → {p l : ℕ} {τ : Ty} → _≡_ {A = Spot 𝓤 H} (spotOf 𝓤 H E p) (τ, l, 0) → Finds K W Γ E (place p []) (τ, l, 0)
-  local-at t {p} {l} {τ} e = from t (subst (λ (sp : Spot 𝓤 H). Walks K W Γ E sp [] (τ, l, 0)) (sym e) (stop t))
 
 module _ {M : Type 1} {𝓤 : URA M} {H : Heap 𝓤} {A : Atoms 𝓤} {K : Type 0} {W : Given 𝓤 H A} {Γ : List (Item 𝓤)} {E : Env 𝓤 H}
     {C : Calls 𝓤 H} {Λ : Loops 𝓤 H} {q : Post 𝓤 H} {rest : Body} where
@@ -90,9 +84,9 @@ module _ {M : Type 1} {𝓤 : URA M} {H : Heap 𝓤} {A : Atoms 𝓤} {K : Type 
   unpacks t fm T L P #unpack known κ s₁ s {pa} {pr} {pu} {ps} {la} {lr} {lu} {ls} τ at-a at-r at-u at-s = step (λ k.
       use0 W (‵ (Codes .own zeros (zeros-val ∷ []))) (zeros-own 𝓤 H A W) $
       peeks t Codes (Is Codes) (shows 𝓤 H A Codes) zeros (zeros-val ∷ []) (λ is-zeros.
-      assigns t (rep t 1200 (lit t tt)) (local-at t at-a) (init t 1 refl
+      assigns t (rep t 1200 (lit t tt)) (within t at-a (stop t)) (init t 1 refl
       (array-lawful 𝓤 H A W u32 (uint-lawful 𝓤 H A W w32) 1200 .typed zeros (zeros-val ∷ []) is-zeros .0)) $
-      assigns t (addr t (local-at t at-a)) (local-at t at-r) (init t 2 refl (tt, tt)) $
+      assigns t (addr t (within t at-a (stop t))) (within t at-r (stop t)) (init t 2 refl (tt, tt)) $
       move t (1 ∷ 0 ∷ []) $ fjoin t $ fpack t (List Val) (λ vs. fsep (cellAt fullShare (Codes .mir) vs la 0)
       (Codes .own zeros vs)) (zeros-val ∷ []) $
       lft-new t tt (λ α. move t (1 ∷ []) $
@@ -110,11 +104,11 @@ module _ {M : Type 1} {𝓤 : URA M} {H : Heap 𝓤} {A : Atoms 𝓤} {K : Type 
         (record { ptr = (la, 0); name = δ; now = zeros }, (s, tt)),
         (vptr la 0 ∷ [], (v ∷ [], tt)),
       ) tt (id⊢ 𝓤 (emp 𝓤))
-      (and-then t (load t (local-at t at-r) (look t 3 refl)) (and-then t (load t (local-at t at-s) (look t 5 refl)) (no-more t)))
+      (and-then t (load t (within t at-r (stop t)) (look t 3 refl)) (and-then t (load t (within t at-s (stop t)) (look t 5 refl)) (no-more t)))
       (λ w r ws.
       heard t (ws .0 ≡ over (pairsOf (P .first) (P .second) (take 600 (s .now))) zeros) (λ is. fsplit t $ move t (2 ∷ []) $
       feqL t (λ unit-is.
-      land t (local-at t at-u) (init t 6 refl (subst (λ (y : Val). Holds (hasTy tyUnit y) × WT y) (sym (ap only unit-is))
+      land t (within t at-u (stop t)) (init t 6 refl (subst (λ (y : Val). Holds (hasTy tyUnit y) × WT y) (sym (ap only unit-is))
       (tt, tt))) $ rewrite t 6 (λ (y : Val). ‵ (fat fullShare tyUnit lu 0 y)) (ap only unit-is) refl $
       move t (2 ∷ []) $ split t $ lft-end t tt $ move t (0 ∷ 5 ∷ 2 ∷ []) $
       use3 W (later (‵ (Lies (ws .0) la))) (ref-back 𝓤 H A W Codes (α ∷ []) δ (ws .0) la 0) $ await t tt $

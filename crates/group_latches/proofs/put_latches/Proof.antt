@@ -22,10 +22,6 @@ unfolding netOf
 frame-base-requires c κs =
     (sizes-lists (c .args .net) (c .args .latches .now) [] [] [] (c .pre .0 .limits .sizes), omega arith)
 
-add-frame-base : tie.Need-add-frame-base Inv-loop μ-loop
-unfolding netOf
-add-frame-base c = search needs
-
 frame-base-requires-2 : tie.Need-frame-base-requires-2 Inv-loop μ-loop
 unfolding netOf
 frame-base-requires-2 c κs =
@@ -37,26 +33,6 @@ first-latch-wire-requires c κs =
 
 loop-holds : tie.Need-loop-holds Inv-loop μ-loop
 loop-holds c = turns-start _ _ _ _ (c .before .before .before .pre .1)
-
-mul-t14 : tie.Need-mul-t14 Inv-loop μ-loop
-unfolding netOf
-mul-t14 c = search needs
-
-cast-t15 : tie.Need-cast-t15 Inv-loop μ-loop
-unfolding netOf
-cast-t15 c = search needs
-
-mul-t16 : tie.Need-mul-t16 Inv-loop μ-loop
-unfolding netOf
-mul-t16 c = search needs
-
-element-copy-out-t19 : tie.Need-element-copy-out-t19 Inv-loop μ-loop
-unfolding netOf
-element-copy-out-t19 c = search needs
-
-offset-requires : tie.Need-offset-requires Inv-loop μ-loop
-unfolding netOf
-offset-requires c κs = search needs
 
 put-latch-requires : tie.Need-put-latch-requires Inv-loop μ-loop
 unfolding netOf
@@ -83,9 +59,10 @@ returns c =
     rw (later-latches (c .before .before .before .before .before .args .net) (c .before .before .before .before .before .args .latches .now) (c .before .before .before .before .before .args .i) _ (c .before .before .before .before .frame-base .ensures) (c .before .before .before .frame-base2 .ensures) (c .before .before .first-latch-wire .ensures)) (turns-end (c .before .loop .inv) (omega arith))
 
 pub put-latches-spec : {M : Type 1} → statement M
+unfolding netOf
 put-latches-spec =
     tie.close
-    (tie.spec Inv-loop μ-loop frame-base-requires add-frame-base frame-base-requires-2 first-latch-wire-requires loop-holds
-    mul-t14 cast-t15 mul-t16 element-copy-out-t19 (λ c. search needs) (λ c. search needs) (λ c. search needs)
-    (λ c. search needs) offset-requires put-latch-requires add-at (λ c. search needs) (λ c. search needs) loop-again
-    (λ c. search needs) returns)
+    (tie.spec Inv-loop μ-loop frame-base-requires (λ c. search needs) frame-base-requires-2 first-latch-wire-requires
+    loop-holds (λ c. search needs) (λ c. search needs) (λ c. search needs) (λ c. search needs) (λ c. search needs)
+    (λ c. search needs) (λ c. search needs) (λ c. search needs) (λ c κs. search needs) put-latch-requires add-at
+    (λ c. search needs) (λ c. search needs) loop-again (λ c. search needs) returns)

@@ -29,30 +29,6 @@ first-latch-wire-requires c κs =
 loop-holds : tie.Need-loop-holds Inv-loop μ-loop
 loop-holds c = turns-start _ _ _ _ (c .before .before .pre .1)
 
-mul-reset : tie.Need-mul-reset Inv-loop μ-loop
-unfolding netOf
-mul-reset c = search needs
-
-add-reset : tie.Need-add-reset Inv-loop μ-loop
-unfolding netOf
-add-reset c = search needs
-
-cast-reset : tie.Need-cast-reset Inv-loop μ-loop
-unfolding netOf
-cast-reset c = search needs
-
-mul-reset-2 : tie.Need-mul-reset-2 Inv-loop μ-loop
-unfolding netOf
-mul-reset-2 c = search needs
-
-element-copy-out-reset : tie.Need-element-copy-out-reset Inv-loop μ-loop
-unfolding netOf
-element-copy-out-reset c = search needs
-
-offset-requires : tie.Need-offset-requires Inv-loop μ-loop
-unfolding netOf
-offset-requires c κs = search needs
-
 put-reset-requires : tie.Need-put-reset-requires Inv-loop μ-loop
 unfolding netOf
 put-reset-requires c κs =
@@ -76,8 +52,10 @@ returns c =
     rw (resets (c .before .before .before .before .args .net) (c .before .before .before .before .args .latches .now) _ (c .before .before .before .frame-base .ensures) (c .before .before .first-latch-wire .ensures)) (turns-end (c .before .loop .inv) (omega arith))
 
 pub put-resets-spec : {M : Type 1} → statement M
+unfolding netOf
 put-resets-spec =
     tie.close
-    (tie.spec Inv-loop μ-loop frame-base-requires first-latch-wire-requires loop-holds mul-reset add-reset cast-reset
-    mul-reset-2 element-copy-out-reset (λ c. search needs) (λ c. search needs) (λ c. search needs) (λ c. search needs)
-    offset-requires put-reset-requires add-at (λ c. search needs) (λ c. search needs) loop-again (λ c. search needs) returns)
+    (tie.spec Inv-loop μ-loop frame-base-requires first-latch-wire-requires loop-holds (λ c. search needs)
+    (λ c. search needs) (λ c. search needs) (λ c. search needs) (λ c. search needs) (λ c. search needs) (λ c. search needs)
+    (λ c. search needs) (λ c. search needs) (λ c κs. search needs) put-reset-requires add-at (λ c. search needs)
+    (λ c. search needs) loop-again (λ c. search needs) returns)

@@ -27,46 +27,6 @@ first-gate-wire-requires c κs = sizes-lists (c .before .args .net) [] (c .befor
 loop-holds : tie.Need-loop-holds Inv-loop μ-loop
 loop-holds c = turns-start _ _ _ _ (c .before .before .pre .1)
 
-mul-t13 : tie.Need-mul-t13 Inv-loop μ-loop
-unfolding netOf
-mul-t13 c = search needs
-
-cast-t14 : tie.Need-cast-t14 Inv-loop μ-loop
-unfolding netOf
-cast-t14 c = search needs
-
-mul-t15 : tie.Need-mul-t15 Inv-loop μ-loop
-unfolding netOf
-mul-t15 c = search needs
-
-element-copy-out-t18 : tie.Need-element-copy-out-t18 Inv-loop μ-loop
-unfolding netOf
-element-copy-out-t18 c = search needs
-
-mul-t13-2 : tie.Need-mul-t13-2 Inv-loop μ-loop
-unfolding netOf
-mul-t13-2 c = search needs
-
-add-t18 : tie.Need-add-t18 Inv-loop μ-loop
-unfolding netOf
-add-t18 c = search needs
-
-cast-t15 : tie.Need-cast-t15 Inv-loop μ-loop
-unfolding netOf
-cast-t15 c = search needs
-
-mul-t14 : tie.Need-mul-t14 Inv-loop μ-loop
-unfolding netOf
-mul-t14 c = search needs
-
-element-copy-out-t21 : tie.Need-element-copy-out-t21 Inv-loop μ-loop
-unfolding netOf
-element-copy-out-t21 c = search needs
-
-offset-requires : tie.Need-offset-requires Inv-loop μ-loop
-unfolding netOf
-offset-requires c κs = search needs
-
 put-gate-requires : tie.Need-put-gate-requires Inv-loop μ-loop
 unfolding netOf
 put-gate-requires c κs =
@@ -93,9 +53,11 @@ returns c =
     rw (all-gates (c .before .before .before .before .args .net) (c .before .before .before .before .args .gates .now) (c .before .before .before .before .args .i) _ (c .before .before .before .frame-base .ensures) (c .before .before .first-gate-wire .ensures)) (turns-end (c .before .loop .inv) (omega arith))
 
 pub put-gates-spec : {M : Type 1} → statement M
+unfolding netOf
 put-gates-spec =
     tie.close
-    (tie.spec Inv-loop μ-loop frame-base-requires first-gate-wire-requires loop-holds mul-t13 cast-t14 mul-t15
-    element-copy-out-t18 mul-t13-2 add-t18 cast-t15 mul-t14 element-copy-out-t21 (λ c. search needs) (λ c. search needs)
-    (λ c. search needs) (λ c. search needs) offset-requires put-gate-requires add-at (λ c. search needs) (λ c. search needs)
-    loop-again (λ c. search needs) returns)
+    (tie.spec Inv-loop μ-loop frame-base-requires first-gate-wire-requires loop-holds (λ c. search needs)
+    (λ c. search needs) (λ c. search needs) (λ c. search needs) (λ c. search needs) (λ c. search needs) (λ c. search needs)
+    (λ c. search needs) (λ c. search needs) (λ c. search needs) (λ c. search needs) (λ c. search needs) (λ c. search needs)
+    (λ c κs. search needs) put-gate-requires add-at (λ c. search needs) (λ c. search needs) loop-again (λ c. search needs)
+    returns)

@@ -7,45 +7,6 @@ use borrow.Author.Needs.{needs}
 use Rattle.invariant_memory.proofs.pick_match.Statement.{statement}
 use Rattle.invariant_memory.proofs.pick_match.Tie as tie
 
-code-term-requires : tie.Need-code-term-requires
-code-term-requires c κs = search needs
-
-agreeing-requires : tie.Need-agreeing-requires
-agreeing-requires c κs = search needs
-
-match-term-requires : tie.Need-match-term-requires
-match-term-requires c κs = search needs
-
-add-match-term : tie.Need-add-match-term
-add-match-term c = search needs
-
-match-term-requires-2 : tie.Need-match-term-requires-2
-match-term-requires-2 c κs = search needs
-
-match-term-requires-3 : tie.Need-match-term-requires-3
-match-term-requires-3 c κs = search needs
-
-true-term-requires : tie.Need-true-term-requires
-true-term-requires c κs = search needs
-
-same-requires : tie.Need-same-requires
-same-requires c κs = search needs
-
-where-true-requires : tie.Need-where-true-requires
-where-true-requires c κs = search needs
-
-false-term-requires : tie.Need-false-term-requires
-false-term-requires c κs = search needs
-
-where-false-requires : tie.Need-where-false-requires
-where-false-requires c κs = search needs
-
-no-law-requires : tie.Need-no-law-requires
-no-law-requires c κs = search needs
-
-pick-requires : tie.Need-pick-requires
-pick-requires c κs = search needs
-
 returns : tie.Need-returns
 unfolding matchPick
 returns c =
@@ -70,18 +31,6 @@ returns c =
 pub pick-match-spec : {M : Type 1} → statement M
 pick-match-spec =
     tie.close
-    (tie.spec
-    code-term-requires
-    agreeing-requires
-    match-term-requires
-    add-match-term
-    match-term-requires-2
-    match-term-requires-3
-    true-term-requires
-    same-requires
-    where-true-requires
-    false-term-requires
-    where-false-requires
-    no-law-requires
-    pick-requires
-    returns)
+    (tie.spec (λ c κs. search needs) (λ c κs. search needs) (λ c κs. search needs) (λ c. search needs)
+    (λ c κs. search needs) (λ c κs. search needs) (λ c κs. search needs) (λ c κs. search needs) (λ c κs. search needs)
+    (λ c κs. search needs) (λ c κs. search needs) (λ c κs. search needs) (λ c κs. search needs) returns)

@@ -16,14 +16,14 @@ use ghost.Atoms.{Atoms}
 use contract.Monad.{Fun, fact}
 use contract.Running.{givenOf, tables, tablesOf}
 use types.Kit.{Given, ‵, raw, _⊛_, _$_, _∵_, !, qed, move, keep, use1, join, fjoin, suffices, frame, done}
-use types.Run.{look, init, stop, from, load, and-then, no-more, land, returns, enter, alloc1, alloc0, params1, pass1, pass0}
+use types.Run.{look, init, stop, from, no-more, land, returns, enter, alloc1, alloc0, params1, pass1, pass0}
 use sound.WpLaws.{FmC, fmOf}
 use denote.RattleType.{owns}
 use denote.Laws.{Is, shows}
 use denote.Plain.{uint-vals, uint-tells}
 use denote.Builtin.{u32}
 use denote.Ref.{RefT}
-use denote.Slice.{sliceVal, ShrSlice, Room, slice-vals, shr-slice-tells}
+use denote.Slice.{ShrSlice, Room}
 use denote.Signature.{plain, shrSlice}
 use denote.Steps.{heard, nothing, peeks}
 use denote.Enum.Laws as EL
@@ -42,7 +42,7 @@ use Rattle.call_lists.specs.declared.GateEntry.{GateEntry}
 use Rattle.call_lists.proofs.LatchEntry as L
 use Rattle.call_lists.proofs.GateEntry as G
 use Rattle.sheet_reader.proofs.Facts.{All, gathered, spread}
-use Rattle.hand_proofs.proofs.Walk.{calls-told, _&_, cell, frees-all, meets-of}
+use Rattle.hand_proofs.proofs.Walk.{calls-told, copies, _&_, cell, frees-all, meets-of}
 use Rattle.call_unpacked.specs.Calls.{headingReply, BoundTheorem}
 use Rattle.model.specs.Acceptance.{PathTheorem}
 use Rattle.model.specs.Claim.{EncodingTheorem, StatedTheorem}
@@ -52,6 +52,7 @@ use Rattle.call_unpacked.specs.declared.HeadingAnswer.{HeadingAnswer}
 use Rattle.call_unpacked.proofs.HeadingAnswer as Answer
 use Rattle.call_unpacked.proofs.HeadingAnswer.Laws as Answer′
 use Rattle.calls.specs.LentCalls.{headingFor, HeadingClaim, AcceptedTheorem}
+use Rattle.calls.proofs.LentLists.{recordVal, listVal, lent-vals, lent-tells}
 use Rattle.calls.proofs.heading as inner
 use Rattle.calls.proofs.heading.Symbol as inner-def
 use Rattle.calls.proofs.heading.Symbol.{name as #inner}
@@ -81,15 +82,6 @@ module _ {M : Type 1} (𝓤 : URA M) (H : Heap 𝓤) (A : Atoms 𝓤) (W : Given
   Numbers = tripleOf 𝓤 H A numbers.signature (numbers.spec 𝓤 H A mem run)
 
   module _ (κ₀ κ₁ : Lft) (q₀ q₁ : Share) (net : Netlist) (ls : RefT (List LatchEntry)) (gs : RefT (List GateEntry)) (k : ℕ) where
-    abbrev v : Val
-    v = LL.val N.the-type N′.the-laws net
-
-    abbrev vl : Val
-    vl = sliceVal (ls .ptr) (length (ls .now))
-
-    abbrev vg : Val
-    vg = sliceVal (gs .ptr) (length (gs .now))
-
     abbrev Arg : Type 0
     Arg = Netlist × (RefT (List LatchEntry) × (RefT (List GateEntry) × (ℕ × Unit {0})))
 
@@ -97,7 +89,7 @@ module _ {M : Type 1} (𝓤 : URA M) (H : Heap 𝓤) (A : Atoms 𝓤) (W : Given
     a = (net, (ls, (gs, (k, tt))))
 
     abbrev vals : List Val × (List Val × (List Val × (List Val × Unit {0})))
-    vals = (v ∷ [], (vl ∷ [], (vg ∷ [], (vint w32 k ∷ [], tt))))
+    vals = (recordVal net ∷ [], (listVal ls ∷ [], (listVal gs ∷ [], (vint w32 k ∷ [], tt))))
 
     abbrev Answered : HeadingAnswer → Type 0
     Answered r = headingReply r ≡ headingFor net (ls .now) (gs .now) k
@@ -111,15 +103,15 @@ module _ {M : Type 1} (𝓤 : URA M) (H : Heap 𝓤) (A : Atoms 𝓤) (W : Given
 
     module _ (C : Calls 𝓤 H) (Λ : Loops 𝓤 H) (fm : FmC 𝓤 H (W .laws) C) (known-inner : Triple 𝓤 (C #inner) Inner)
         (known-numbers : Triple 𝓤 (C #numbers) Numbers) where
-      walk : Is N.the-row net (v ∷ []) → Room L.the-row (length (ls .now)) → Room G.the-row (length (gs .now)) → k < 2 ^ 32
+      walk : Is N.the-row net (recordVal net ∷ []) → Room L.the-row (length (ls .now)) → Room G.the-row (length (gs .now)) → k < 2 ^ 32
           → ent 𝓤 (onEntry 𝓤 H A f.signature (κ₀, (κ₁, tt)) (q₀, (q₁, tt)) a vals)
-          (WpFn 𝓤 H C Λ code.function (v ∷ vl ∷ vg ∷ vint w32 k ∷ []) Post)
+          (WpFn 𝓤 H C Λ code.function (recordVal net ∷ listVal ls ∷ listVal gs ∷ vint w32 k ∷ []) Post)
       walk is-net room₀ room₁ k-fits =
           qed W ((‵ (flft κ₀ q₀) ⊛ (‵ (flft κ₁ q₁) ⊛ ‵ ftrue)) ∷
           ‵ (owns (N.the-row ∷ ShrSlice (named 0) κ₀ L.the-row ∷ ShrSlice (named 1) κ₁ G.the-row ∷ u32 ∷ []) a vals) ∷ []) ∵ enter
-          ! C Λ code.function (v ∷ vl ∷ vg ∷ vint w32 k ∷ []) _ $
+          ! C Λ code.function (recordVal net ∷ listVal ls ∷ listVal gs ∷ vint w32 k ∷ []) _ $
           alloc1 ! (λ l₀. alloc1 ! (λ l₁. alloc1 ! (λ l₂. alloc1 ! (λ l₃. alloc1 ! (λ l₄. alloc1 ! (λ l₅. alloc0 ! $ params1 ! $
-          pass1 ! (init ! 8 refl (LL.lawful N.the-type N′.the-laws 𝓤 H A W .typed net (v ∷ []) is-net .0)) $
+          pass1 ! (init ! 8 refl (LL.lawful N.the-type N′.the-laws 𝓤 H A W .typed net (recordVal net ∷ []) is-net .0)) $
           pass1 ! (init ! 6 refl (tt, (tt, (record { fits = room₀ .0 }, tt)))) $
           pass1 ! (init ! 4 refl (tt, (tt, (record { fits = room₁ .0 }, tt)))) $
           pass1 ! (init ! 2 refl (tt, record { fits = k-fits })) $ pass0 ! $
@@ -127,10 +119,7 @@ module _ {M : Type 1} (𝓤 : URA M) (H : Heap 𝓤) (A : Atoms 𝓤) (W : Given
           move ! (12 ∷ 13 ∷ []) $ join ! $
           calls-told ! fm inner.ended (inner.clauses 𝓤 H A mem run) known-inner ((κ₀, (κ₁, tt)), (q₀, (q₁, tt)), tt, a, vals) tt
           (id⊢ 𝓤 (emp 𝓤))
-          (and-then ! (load ! (from ! (stop !)) (look ! 9 refl))
-          (and-then ! (load ! (from ! (stop !)) (look ! 7 refl))
-          (and-then ! (load ! (from ! (stop !)) (look ! 5 refl))
-          (and-then ! (load ! (from ! (stop !)) (look ! 3 refl)) (no-more !))))) (λ w r ws.
+          (copies ! 9 refl (copies ! 7 refl (copies ! 5 refl (copies ! 3 refl (no-more !))))) (λ w r ws.
           use1 W (raw (fact 𝓤 (All (Answered r) Claimed))) (gathered 𝓤 (Answered r) Claimed) $ heard ! (All (Answered r) Claimed) (λ said.
           move ! (1 ∷ []) $ peeks ! Answer.the-row (Is Answer.the-row) (shows 𝓤 H A Answer.the-row) r (w ∷ []) (λ is-answer.
           land ! (from ! (stop !)) (init ! 3 refl (EL.lawful Answer.the-type Answer′.the-laws 𝓤 H A W tt .typed r
@@ -138,7 +127,7 @@ module _ {M : Type 1} (𝓤 : URA M) (H : Heap 𝓤) (A : Atoms 𝓤) (W : Given
           nothing ! $ move ! (1 ∷ 0 ∷ []) $ fjoin ! $ nothing ! $ join ! $
           calls-told ! fm numbers.ended (numbers.clauses 𝓤 H A mem run) known-numbers (tt, tt, tt, (r, tt), (w ∷ [], tt)) tt
           (id⊢ 𝓤 (emp 𝓤))
-          (and-then ! (load ! (from ! (stop !)) (look ! 3 refl)) (no-more !)) (λ w′ r′ ws′.
+          (copies ! 3 refl (no-more !)) (λ w′ r′ ws′.
           heard ! (r′ ≡ headingReply r) (λ is. move ! (1 ∷ []) $
           peeks ! Reply.the-row (Is Reply.the-row) (shows 𝓤 H A Reply.the-row) r′ (w′ ∷ []) (λ is-reply.
           land ! (from ! (stop !)) (init ! 15 refl (LL.lawful Reply.the-type Reply′.the-laws 𝓤 H A W .typed r′
@@ -170,14 +159,7 @@ marrubigai-heading-meets 𝓤 H A W mem run 𝓣 known-inner known-numbers =
       ),
     )
     (f.clauses 𝓤 H A mem run) 𝓣 code.function
-    (λ κs. (LL.vals N.the-type N′.the-laws, (slice-vals, (slice-vals, (uint-vals w32, tt)))))
-    (λ κs. (
-      LL.tells N.the-type N′.the-laws,
-      (
-        shr-slice-tells (named 0) (κs .0) L.the-row,
-        (shr-slice-tells (named 1) (κs .1 .0) G.the-row, (uint-tells w32, tt)),
-      ),
-    ))
+    (λ κs. lent-vals (uint-vals w32, tt)) (λ κs. lent-tells (κs .0) (κs .1 .0) (uint-tells w32, tt))
     (λ κs qs bounds a g are. via 𝓤 _ (fst∗ 𝓤 _ (emp 𝓤))
     (walk 𝓤 H A W mem run (κs .0) (κs .1 .0) (qs .0) (qs .1 .0) (a .0) (a .1 .0) (a .1 .1 .0) (a .1 .1 .1 .0) (𝓣 .C) (𝓣 .Λ)
     (fmOf 𝓤 H (W .laws) 𝓣) known-inner known-numbers

@@ -18,7 +18,7 @@ use contract.Monad.{Fun}
 use contract.Running.{givenOf, tables, tablesOf}
 use types.Kit.{Given, ‵, _⊛_, given, _$_, _∵_, !, qed, move, keep, drop, use1, join, learn, rewrite, fsplit, fjoin, suffices, frame, done}
 use types.Part.{whole, sub, look-in, agg}
-use types.Run.{look, init, stop, fld, from, load, of-opd, and-then, no-more, assigns, land, returns, enter, alloc1, alloc0, params1, pass1, pass0}
+use types.Run.{look, init, stop, fld, from, load, of-opd, no-more, assigns, land, returns, enter, alloc1, alloc0, params1, pass1, pass0}
 use sound.WpLaws.{FmC, fmOf}
 use denote.RattleType.{owns}
 use denote.Laws.{Is, shows}
@@ -39,7 +39,7 @@ use denote.Triple.Statement.{Contract, Triple}
 use denote.Triple.Table.{entered, cited}
 use denote.Triple.Walked.{says, Stays, stay-dropped, walkOf, goes-dropped, ends-at}
 use denote.Exit.{yes}
-use Rattle.hand_proofs.proofs.Walk.{calls-told, _&_, cell, frees-all, meets-of}
+use Rattle.hand_proofs.proofs.Walk.{calls-told, copies, _&_, cell, frees-all, meets-of}
 use Rattle.sheet_parse.specs.LineAnswers.{lineAnswer, lineSent, linesRead}
 use Rattle.sheet_parse.specs.declared.LineAnswer.{LineAnswer}
 use Rattle.sheet_parse.proofs.LineAnswer as K
@@ -135,15 +135,14 @@ module _ {M : Type 1} (𝓤 : URA M) (H : Heap 𝓤) (A : Atoms 𝓤) (W : Given
           ! C Λ code.function (sliceVal (file .ptr) (length (file .now)) ∷ vint w32 n ∷ []) _ $
           alloc1 ! (λ l₀. alloc1 ! (λ l₁. alloc1 ! (λ l₂. alloc1 ! (λ l₃. alloc1 ! (λ l₄. alloc1 ! (λ l₅. alloc1 ! (λ l₆. alloc0 ! $
           params1 ! $ pass1 ! (init ! 10 refl wt) $ pass1 ! (init ! 8 refl (tt, record { fits = n-fits })) $ pass0 ! $
-          assigns ! (agg ! (and-then ! (load ! (from ! (stop !)) (look ! 10 refl))
-          (and-then ! (load ! (from ! (stop !)) (look ! 8 refl)) (no-more !))))
+          assigns ! (agg ! (copies ! 10 refl (copies ! 8 refl (no-more !))))
           (from ! (stop !)) (init ! 4 refl (tt, (wt .1, (record { fits = n-fits }, tt)))) $
           -- [_6; …; _5; …; _4; …; _3; …; _2; …; _1; …; _0; …; the token; what the parameters own]
           move ! (15 ∷ []) $
           use1 W (‵ (T.the-row α .own r (mach ∷ []))) (own-shut 𝓤 H A W (T.the-type α) (T′.the-laws α) (file, (n, tt))) $
           nothing ! $ move ! (1 ∷ 0 ∷ []) $ fjoin ! $ move ! (15 ∷ 0 ∷ []) $ join ! $
           calls-told ! fm next.ended (next.clauses 𝓤 H A mem run) known-next ((κ, tt), (q, tt), tt, (r, tt), (mach ∷ [], tt)) tt
-          (id⊢ 𝓤 (emp 𝓤)) (and-then ! (load ! (from ! (stop !)) (look ! 5 refl)) (no-more !)) (λ w x ws.
+          (id⊢ 𝓤 (emp 𝓤)) (copies ! 5 refl (no-more !)) (λ w x ws.
           heard ! ((x ≡ nextLine r) × (lineSent (x .line) (x .reader .line) ≡ lineSent (lineAnswer (now (r .file)) (r .line)) (linesRead (now (r .file)) (r .line)))) (λ e. move ! (1 ∷ []) $
           rewrite ! 0 (λ (y : NextLine). ‵ (N.the-row α .own y (w ∷ []))) (e .0) refl $
           -- [what the answer owns; …; the token; _6; …]
@@ -168,8 +167,7 @@ module _ {M : Type 1} (𝓤 : URA M) (H : Heap 𝓤) (A : Atoms 𝓤) (W : Given
           move ! (1 ∷ 0 ∷ []) $ fjoin ! $ nothing ! $ join ! $
           calls-told ! fm numbers.ended (numbers.clauses 𝓤 H A mem run) known-numbers
           (tt, tt, tt, (line, (number, tt)), (lineVal ∷ [], (vint w32 number ∷ [], tt))) tt (id⊢ 𝓤 (emp 𝓤))
-          (and-then ! (load ! (from ! (stop !)) (look ! 5 refl))
-          (and-then ! (load ! (from ! (stop !)) (look ! 3 refl)) (no-more !))) (λ w′ y ws′.
+          (copies ! 5 refl (copies ! 3 refl (no-more !))) (λ w′ y ws′.
           heard ! (y ≡ lineSent line number) (λ is. move ! (1 ∷ []) $
           peeks ! Reply.the-row (Is Reply.the-row) (shows 𝓤 H A Reply.the-row) y (w′ ∷ []) (λ is-reply.
           land ! (from ! (stop !)) (init ! 17 refl (LL.lawful Reply.the-type Reply′.the-laws 𝓤 H A W .typed y

@@ -35,7 +35,7 @@ use denote.Triple.Table.{entered, cited}
 use denote.Triple.Walked.{says, Stays, stay-none-slice, gave-slice, onExit, walkOf, goes-none-slice, goes-gave-slice, Walks, ends-at, walked, walk-meets}
 use denote.Exit.{yes}
 use denote.Triple.Clauses.{Lasts, lasts}
-use Rattle.hand_proofs.proofs.Walk.{_&_, cell, frees-all}
+use Rattle.hand_proofs.proofs.Walk.{copies, _&_, cell, frees-all}
 use Rattle.model.specs.Acceptance.{PathTheorem}
 use Rattle.refusals.specs.Refusal.{replyOf}
 use Rattle.sheet_steps.specs.declared.SheetAnswer.{SheetAnswer}
@@ -191,20 +191,18 @@ module _ {M : Type 1} (𝓤 : URA M) (H : Heap 𝓤) (A : Atoms 𝓤) (W : Given
           pass1 ! (init ! 10 refl (tt, (tt, (record { fits = gate-room .0 }, tt)))) $ pass0 ! $
           assigns ! (addr ! (from ! (fld ! refl (hop ! (look-in ! 12 (sub ! 0 refl (whole !))) (stop !))))) (from ! (stop !))
           (init ! 6 refl (tt, tt)) $
-          assigns ! (agg ! (and-then ! (load ! (from ! (stop !)) (look ! 6 refl))
+          assigns ! (agg ! (copies ! 6 refl
           (and-then ! (load ! (from ! (fld ! refl (stop !))) (look-in ! 12 (sub ! 1 refl (whole !)))) (no-more !))))
           (from ! (stop !)) (init ! 4 refl (tt, (tt, (record { fits = latch-room .0 }, tt)))) $
           assigns ! (addr ! (from ! (fld ! refl (hop ! (look-in ! 10 (sub ! 0 refl (whole !))) (stop !))))) (from ! (stop !))
           (init ! 2 refl (tt, tt)) $
-          assigns ! (agg ! (and-then ! (load ! (from ! (stop !)) (look ! 2 refl))
+          assigns ! (agg ! (copies ! 2 refl
           (and-then ! (load ! (from ! (fld ! refl (stop !))) (look-in ! 10 (sub ! 1 refl (whole !)))) (no-more !))))
           (from ! (stop !)) (init ! 0 refl (tt, (tt, (record { fits = gate-room .0 }, tt)))) $
           move ! (18 ∷ []) $ use1 W (raw (Read 𝓤 H A mem run .pre to-read) ⊛ ‵ File) read-goes $ split ! $
           -- [what the callee asks; file; _8; …; _7; …; _6; …; _5; …; _4; …; _3; …; _2; …; _1; …; _0; …]
           calls-at ! fm (Read 𝓤 H A mem run) known-read to-read
-          (and-then ! (load ! (from ! (stop !)) (look ! 16 refl))
-          (and-then ! (load ! (from ! (stop !)) (look ! 6 refl))
-          (and-then ! (load ! (from ! (stop !)) (look ! 2 refl)) (no-more !)))) (λ u.
+          (copies ! 16 refl (copies ! 6 refl (copies ! 2 refl (no-more !)))) (λ u.
           use1 W (later (some (λ (o : Answer). given
           (Says o × ((length (o .1 .0) ≡ length (now x)) × (length (o .1 .1) ≡ length (now y)))) (Gets u o))))
           (read-gives u) $ await ! tt $ pick ! (λ o. learn ! (λ e.
@@ -215,7 +213,7 @@ module _ {M : Type 1} (𝓤 : URA M) (H : Heap 𝓤) (A : Atoms 𝓤) (W : Given
           $
           use1 W (raw (numbers.Numbers 𝓤 H A mem run .pre (numbers.to 𝓤 H A mem run (o .0) u))) (numbers.goes 𝓤 H A mem run (o .0) u W) $
           calls-at ! fm (numbers.Numbers 𝓤 H A mem run) known-numbers (numbers.to 𝓤 H A mem run (o .0) u)
-          (and-then ! (load ! (from ! (stop !)) (look ! 13 refl)) (no-more !)) (λ v.
+          (copies ! 13 refl (no-more !)) (λ v.
           use1 W (later (‵ (R.the-row .own (sheetNumbers (o .0 .verdict) (o .0 .net)) (v ∷ [])))) (numbers.gives 𝓤 H A mem run (o .0) u W v) $
           await ! tt $
           peeks ! R.the-row (Is R.the-row) (shows 𝓤 H A R.the-row) (sheetNumbers (o .0 .verdict) (o .0 .net)) (v ∷ [])

@@ -25,7 +25,7 @@ use denote.Laws.{Is, shows}
 use denote.Plain.{uint-vals, uint-tells, uint-makes}
 use denote.Builtin.{u32, i32}
 use denote.Ref.{RefT}
-use denote.Slice.{sliceVal, ShrSlice, MutSlice, Room, slice-vals, shr-slice-tells, mut-slice-tells}
+use denote.Slice.{sliceVal, ShrSlice, MutSlice, Room, slice-vals, mut-slice-tells}
 use denote.Signature.{plain, shrSlice}
 use denote.Steps.{heard, nothing, owned, peeks}
 use denote.Enum.Laws as EL
@@ -46,12 +46,13 @@ use Rattle.call_lists.specs.declared.LatchEntry.{LatchEntry}
 use Rattle.call_lists.specs.declared.GateEntry.{GateEntry}
 use Rattle.call_lists.proofs.LatchEntry as L
 use Rattle.call_lists.proofs.GateEntry as G
-use Rattle.hand_proofs.proofs.Walk.{both, calls-told, _&_, cell, frees-all, meets-of}
+use Rattle.hand_proofs.proofs.Walk.{both, calls-told, copies, _&_, cell, frees-all, meets-of}
 use Rattle.call_unpacked.specs.Calls.{groupReply}
 use Rattle.call_unpacked.specs.declared.GroupAnswer.{GroupAnswer}
 use Rattle.call_unpacked.proofs.GroupAnswer as Answer
 use Rattle.call_unpacked.proofs.GroupAnswer.Laws as Answer′
 use Rattle.calls.specs.LentCalls.{groupFor, numbersAfter}
+use Rattle.calls.proofs.LentLists.{recordVal, listVal, lent-vals, lent-tells}
 use Rattle.calls.proofs.write_group as inner
 use Rattle.calls.proofs.write_group.Symbol as inner-def
 use Rattle.calls.proofs.write_group.Symbol.{name as #inner}
@@ -111,15 +112,6 @@ module _ {M : Type 1} (𝓤 : URA M) (H : Heap 𝓤) (A : Atoms 𝓤) (W : Given
 
   module _ (κ₀ κ₁ κ₂ : Lft) (q₀ q₁ q₂ : Share) (net : Netlist) (ls : RefT (List LatchEntry)) (gs : RefT (List GateEntry)) (k kind j i p : ℕ)
       (out : RefT (List ℤ)) where
-    abbrev v : Val
-    v = LL.val N.the-type N′.the-laws net
-
-    abbrev vl : Val
-    vl = sliceVal (ls .ptr) (length (ls .now))
-
-    abbrev vg : Val
-    vg = sliceVal (gs .ptr) (length (gs .now))
-
     abbrev vo : Val
     vo = sliceVal (out .ptr) (length (out .now))
 
@@ -131,11 +123,11 @@ module _ {M : Type 1} (𝓤 : URA M) (H : Heap 𝓤) (A : Atoms 𝓤) (W : Given
 
     abbrev vals : List Val × (List Val × (List Val × (List Val × (List Val × (List Val × (List Val × (List Val × (List Val × Unit {0}))))))))
     vals = (
-      v ∷ [],
+      recordVal net ∷ [],
       (
-        vl ∷ [],
+        listVal ls ∷ [],
         (
-          vg ∷ [],
+          listVal gs ∷ [],
           (
             vint w32 k ∷ [],
             (
@@ -163,19 +155,19 @@ module _ {M : Type 1} (𝓤 : URA M) (H : Heap 𝓤) (A : Atoms 𝓤) (W : Given
 
     module _ (C : Calls 𝓤 H) (Λ : Loops 𝓤 H) (fm : FmC 𝓤 H (W .laws) C) (known-group : Triple 𝓤 (C #group) GroupOf)
         (known-inner : Triple 𝓤 (C #inner) Inner) (known-numbers : Triple 𝓤 (C #numbers) Numbers) where
-      walk : Is N.the-row net (v ∷ []) → Room L.the-row (length (ls .now)) → Room G.the-row (length (gs .now)) → k < 2 ^ 32
+      walk : Is N.the-row net (recordVal net ∷ []) → Room L.the-row (length (ls .now)) → Room G.the-row (length (gs .now)) → k < 2 ^ 32
           → kind < 2 ^ 32 → j < 2 ^ 32 → i < 2 ^ 32 → p < 2 ^ 32 → Room i32 (length (out .now))
           → ent 𝓤 (onEntry 𝓤 H A f.signature (κ₀, (κ₁, (κ₂, tt))) (q₀, (q₁, (q₂, tt))) a vals)
-          (WpFn 𝓤 H C Λ code.function (v ∷ vl ∷ vg ∷ vint w32 k ∷ vint w32 kind ∷ vint w32 j ∷ vint w32 i ∷ vint w32 p ∷ vo ∷ []) Post)
+          (WpFn 𝓤 H C Λ code.function (recordVal net ∷ listVal ls ∷ listVal gs ∷ vint w32 k ∷ vint w32 kind ∷ vint w32 j ∷ vint w32 i ∷ vint w32 p ∷ vo ∷ []) Post)
       walk is-net room₀ room₁ k-fits kind-fits j-fits i-fits p-fits room₂ =
           qed W ((‵ (flft κ₀ q₀) ⊛ (‵ (flft κ₁ q₁) ⊛ (‵ (flft κ₂ q₂) ⊛ ‵ ftrue))) ∷
           ‵ (owns (N.the-row ∷ ShrSlice (named 0) κ₀ L.the-row ∷ ShrSlice
           (named 1) κ₁ G.the-row ∷ u32 ∷ u32 ∷ u32 ∷ u32 ∷ u32 ∷ MutSlice (named 2) κ₂ i32 ∷ []) a vals) ∷ []) ∵
-          enter ! C Λ code.function (v ∷ vl ∷ vg ∷ vint w32 k ∷ vint w32 kind ∷ vint w32 j ∷ vint w32 i ∷ vint w32 p ∷ vo ∷ []) _ $
+          enter ! C Λ code.function (recordVal net ∷ listVal ls ∷ listVal gs ∷ vint w32 k ∷ vint w32 kind ∷ vint w32 j ∷ vint w32 i ∷ vint w32 p ∷ vo ∷ []) _ $
           alloc1 ! (λ l₀. alloc1 ! (λ l₁. alloc1 ! (λ l₂.
           alloc1 ! (λ l₃. alloc1 ! (λ l₄. alloc1 ! (λ l₅. alloc1 ! (λ l₆.
           alloc1 ! (λ l₇. alloc1 ! (λ l₈. alloc1 ! (λ l₉. alloc1 ! (λ l₁₀. alloc1 ! (λ l₁₁. alloc1 ! (λ l₁₂. alloc1 ! (λ l₁₃. alloc0 ! $ params1 ! $
-          pass1 ! (init ! 24 refl (LL.lawful N.the-type N′.the-laws 𝓤 H A W .typed net (v ∷ []) is-net .0)) $
+          pass1 ! (init ! 24 refl (LL.lawful N.the-type N′.the-laws 𝓤 H A W .typed net (recordVal net ∷ []) is-net .0)) $
           pass1 ! (init ! 22 refl (tt, (tt, (record { fits = room₀ .0 }, tt)))) $
           pass1 ! (init ! 20 refl (tt, (tt, (record { fits = room₁ .0 }, tt)))) $
           pass1 ! (init ! 18 refl (tt, record { fits = k-fits })) $
@@ -191,16 +183,13 @@ module _ {M : Type 1} (𝓤 : URA M) (H : Heap 𝓤) (A : Atoms 𝓤) (W : Given
           owned ! u32 (Is u32) (uint-makes 𝓤 H A W w32) kind _ (refl, kind-fits) $ fjoin ! $ nothing ! $ join ! $
           calls-told ! fm group.ended (group.clauses 𝓤 H A mem run) known-group
           (tt, tt, tt, (kind, (j, (i, (p, tt)))), (vint w32 kind ∷ [], (vint w32 j ∷ [], (vint w32 i ∷ [], (vint w32 p ∷ [], tt))))) tt (id⊢ 𝓤 (emp 𝓤))
-          (and-then ! (load ! (from ! (stop !)) (look ! 17 refl))
-          (and-then ! (load ! (from ! (stop !)) (look ! 15 refl))
-          (and-then ! (load ! (from ! (stop !)) (look ! 13 refl))
-          (and-then ! (load ! (from ! (stop !)) (look ! 11 refl)) (no-more !))))) (λ w r ws.
+          (copies ! 17 refl (copies ! 15 refl (copies ! 13 refl (copies ! 11 refl (no-more !))))) (λ w r ws.
           heard ! (r ≡ g) (λ is-g. rewrite ! 1 (λ (h : Group). ‵ (K.the-row .own h (w ∷ []))) is-g refl $ move ! (1 ∷ []) $
           peeks ! K.the-row (Is K.the-row) (shows 𝓤 H A K.the-row) g (w ∷ []) (λ is-group.
           land ! (from ! (stop !)) (init ! 7 refl (EL.lawful K.the-type K′.the-laws 𝓤 H A W tt .typed g (w ∷ []) is-group .0)) $
           assigns ! (addr ! (from ! (fld ! refl (hop ! (look-in ! 11 (sub ! 0 refl (whole !))) (stop !))))) (from ! (stop !))
           (init ! 5 refl (tt, tt)) $
-          assigns ! (agg ! (and-then ! (load ! (from ! (stop !)) (look ! 5 refl))
+          assigns ! (agg ! (copies ! 5 refl
           (and-then ! (load ! (from ! (fld ! refl (stop !))) (look-in ! 11 (sub ! 1 refl (whole !)))) (no-more !))))
           (from ! (stop !)) (init ! 3 refl (tt, (tt, (record { fits = room₂ .0 }, tt)))) $
           -- the group stands for the four numbers in what is passed on
@@ -213,13 +202,10 @@ module _ {M : Type 1} (𝓤 : URA M) (H : Heap 𝓤) (A : Atoms 𝓤) (W : Given
             (q₀, (q₁, (q₂, tt))),
             tt,
             (net, (ls, (gs, (k, (g, (out, tt)))))),
-            (v ∷ [], (vl ∷ [], (vg ∷ [], (vint w32 k ∷ [], (w ∷ [], (vo ∷ [], tt)))))),
+            (recordVal net ∷ [], (listVal ls ∷ [], (listVal gs ∷ [], (vint w32 k ∷ [], (w ∷ [], (vo ∷ [], tt)))))),
           ) tt (id⊢ 𝓤 (emp 𝓤))
-          (and-then ! (load ! (from ! (stop !)) (look ! 27 refl))
-          (and-then ! (load ! (from ! (stop !)) (look ! 25 refl)) (and-then ! (load ! (from ! (stop !)) (look ! 23 refl))
-          (and-then ! (load ! (from ! (stop !)) (look ! 21 refl))
-          (and-then ! (load ! (from ! (stop !)) (look ! 7 refl))
-          (and-then ! (load ! (from ! (stop !)) (look ! 3 refl)) (no-more !))))))) (λ w₁ r₁ ws₁.
+          (copies ! 27 refl (copies ! 25 refl (copies ! 23 refl (copies ! 21 refl (copies ! 7 refl
+          (copies ! 3 refl (no-more !))))))) (λ w₁ r₁ ws₁.
           let zs = ws₁ .1 .1 .1 .1 .1 .0 in
           use1 W (raw (fact 𝓤 (Answered r₁)) ⊛ raw (fact 𝓤 (Leaves zs))) (id⊢ 𝓤 _) $ split ! $
           heard ! (Answered r₁) (λ answered. heard ! (Leaves zs) (λ leaves.
@@ -231,7 +217,7 @@ module _ {M : Type 1} (𝓤 : URA M) (H : Heap 𝓤) (A : Atoms 𝓤) (W : Given
           (w₁ ∷ []) is-answer .0)) $
           nothing ! $ move ! (1 ∷ 0 ∷ []) $ fjoin ! $ nothing ! $ join ! $
           calls-told ! fm numbers.ended (numbers.clauses 𝓤 H A mem run) known-numbers (tt, tt, tt, (r₁, tt), (w₁ ∷ [], tt)) tt
-          (id⊢ 𝓤 (emp 𝓤)) (and-then ! (load ! (from ! (stop !)) (look ! 12 refl)) (no-more !)) (λ w₂ r₂ ws₂.
+          (id⊢ 𝓤 (emp 𝓤)) (copies ! 12 refl (no-more !)) (λ w₂ r₂ ws₂.
           heard ! (r₂ ≡ groupReply r₁) (λ is. move ! (1 ∷ []) $
           peeks ! Reply.the-row (Is Reply.the-row) (shows 𝓤 H A Reply.the-row) r₂ (w₂ ∷ []) (λ is-reply.
           land ! (from ! (stop !)) (init ! 34 refl (LL.lawful Reply.the-type Reply′.the-laws 𝓤 H A W .typed r₂
@@ -281,28 +267,10 @@ marrubigai-write-group-meets 𝓤 H A W mem run 𝓣 known-group known-inner kno
       ),
     )
     (f.clauses 𝓤 H A mem run) 𝓣 code.function
-    (λ κs. (
-      LL.vals N.the-type N′.the-laws,
-      (
-        slice-vals,
-        (
-          slice-vals,
-          (uint-vals w32, (uint-vals w32, (uint-vals w32, (uint-vals w32, (uint-vals w32, (slice-vals, tt)))))),
-        ),
-      ),
-    ))
-    (λ κs. (
-      LL.tells N.the-type N′.the-laws,
-      (
-        shr-slice-tells (named 0) (κs .0) L.the-row,
-        (
-          shr-slice-tells (named 1) (κs .1 .0) G.the-row,
-          (
-            uint-tells w32,
-            (uint-tells w32, (uint-tells w32, (uint-tells w32, (uint-tells w32, (mut-slice-tells (named 2) (κs .1 .1 .0) i32, tt))))),
-          ),
-        ),
-      ),
+    (λ κs. lent-vals (uint-vals w32, (uint-vals w32, (uint-vals w32, (uint-vals w32, (uint-vals w32, (slice-vals, tt)))))))
+    (λ κs. lent-tells (κs .0) (κs .1 .0) (
+      uint-tells w32,
+      (uint-tells w32, (uint-tells w32, (uint-tells w32, (uint-tells w32, (mut-slice-tells (named 2) (κs .1 .1 .0) i32, tt))))),
     ))
     (λ κs qs bounds a g are. via 𝓤 _ (fst∗ 𝓤 _ (emp 𝓤))
     (walk 𝓤 H A W mem run (κs .0) (κs .1 .0) (κs .1 .1 .0) (qs .0) (qs .1 .0) (qs .1 .1 .0) (a .0) (a .1 .0) (a .1 .1 .0)

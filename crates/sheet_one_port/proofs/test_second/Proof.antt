@@ -20,9 +20,6 @@ Inv-loop net latches gates last place₀ place =
 abbrev μ-loop : tie.MeasureT-loop
 μ-loop net latches gates last place₀ place = last - place
 
-control-line-requires : tie.Need-control-line-requires Inv-loop μ-loop
-control-line-requires c κs = c .pre
-
 loop-holds : tie.Need-loop-holds Inv-loop μ-loop
 unfolding inOrder
 loop-holds c = (omega arith, refl)
@@ -30,9 +27,6 @@ loop-holds c = (omega arith, refl)
 add-place : tie.Need-add-place Inv-loop μ-loop
 unfolding netOf
 add-place c = omega (arith, c .before .before .control-line .ensures, c .before .before .before .pre)
-
-line-at-requires : tie.Need-line-at-requires Inv-loop μ-loop
-line-at-requires c κs = c .before .before .before .pre
 
 second-use-requires : tie.Need-second-use-requires Inv-loop μ-loop
 second-use-requires c κs = (
@@ -58,9 +52,6 @@ returns c =
     (tested (c .before) ∙ c .if1 .taken)
     (omega arith))
 
-loop-less : tie.Need-loop-less Inv-loop μ-loop
-loop-less c = omega arith
-
 loop-again : tie.Need-loop-again Inv-loop μ-loop
 loop-again c =
     let a = c .before .before .before .before .before .before .args in (
@@ -83,15 +74,5 @@ returns-2 c =
 pub test-second-spec : {M : Type 1} → statement M
 test-second-spec =
     tie.close
-    (tie.spec
-    Inv-loop
-    μ-loop
-    control-line-requires
-    loop-holds
-    add-place
-    line-at-requires
-    second-use-requires
-    returns
-    loop-less
-    loop-again
-    returns-2)
+    (tie.spec Inv-loop μ-loop (λ c κs. c .pre) loop-holds add-place (λ c κs. c .before .before .before .pre)
+    second-use-requires returns (λ c. omega arith) loop-again returns-2)

@@ -6,52 +6,31 @@ use Rattle.text_writer.proofs.Table.{length-table, wrote-four-by}
 use Rattle.text_writer.proofs.write_four.Statement.{statement}
 use Rattle.text_writer.proofs.write_four.Tie as tie
 
-mul-i : tie.Need-mul-i
-mul-i c = search needs
-
 shared-slice-read-thousands : tie.Need-shared-slice-read-thousands
 shared-slice-read-thousands c =
     let start = c .before in
     omega (arith, length-table (start .args .table .now) (start .pre .0))
-
-add-hundreds : tie.Need-add-hundreds
-add-hundreds c = search needs
 
 shared-slice-read-hundreds : tie.Need-shared-slice-read-hundreds
 shared-slice-read-hundreds c =
     let start = c .before .before in
     omega (arith, length-table (start .args .table .now) (start .pre .0))
 
-add-tens : tie.Need-add-tens
-add-tens c = search needs
-
 shared-slice-read-tens : tie.Need-shared-slice-read-tens
 shared-slice-read-tens c =
     let start = c .before .before .before in
     omega (arith, length-table (start .args .table .now) (start .pre .0))
-
-add-ones : tie.Need-add-ones
-add-ones c = search needs
 
 shared-slice-read-ones : tie.Need-shared-slice-read-ones
 shared-slice-read-ones c =
     let start = c .before .before .before .before in
     omega (arith, length-table (start .args .table .now) (start .pre .0))
 
-slice-write-out : tie.Need-slice-write-out
-slice-write-out c = search needs
-
 slice-write-out-2 : tie.Need-slice-write-out-2
 slice-write-out-2 c = simp length-set (omega arith)
 
 slice-write-out-3 : tie.Need-slice-write-out-3
 slice-write-out-3 c = simp length-set (omega arith)
-
-slice-write-out-4 : tie.Need-slice-write-out-4
-slice-write-out-4 c = search needs
-
-same-length : tie.Need-same-length
-same-length c = search needs
 
 returns : tie.Need-returns
 returns c =
@@ -61,18 +40,6 @@ returns c =
 pub write-four-spec : {M : Type 1} → statement M
 write-four-spec =
     tie.close
-    (tie.spec
-    mul-i
-    shared-slice-read-thousands
-    add-hundreds
-    shared-slice-read-hundreds
-    add-tens
-    shared-slice-read-tens
-    add-ones
-    shared-slice-read-ones
-    slice-write-out
-    slice-write-out-2
-    slice-write-out-3
-    slice-write-out-4
-    same-length
-    returns)
+    (tie.spec (λ c. search needs) shared-slice-read-thousands (λ c. search needs) shared-slice-read-hundreds
+    (λ c. search needs) shared-slice-read-tens (λ c. search needs) shared-slice-read-ones (λ c. search needs)
+    slice-write-out-2 slice-write-out-3 (λ c. search needs) (λ c. search needs) returns)
