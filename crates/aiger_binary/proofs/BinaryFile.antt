@@ -10,7 +10,7 @@ use Rattle.aiger_lines.specs.Numbers.{wordsAt}
 use Rattle.aiger_lines.specs.Parts.{numbersBehind, numbersOnLine, countsOf}
 use Rattle.aiger_lines.specs.declared.Counts.{Counts}
 use Rattle.aiger_graph.specs.Aig.{Aig}
-use Rattle.aiger_difference.proofs.Decoding.{behindDifferences, differenceAt}
+use Rattle.aiger_difference.proofs.Decoding.{differenceAt}
 use Rattle.aiger_binary.specs.BinaryText.{aig}
 
 -- the numbers of line 1 behind `aig`: the header's counts, M I L O A

@@ -17,18 +17,7 @@ use Rattle.aiger_definitions.specs.Definitions.{numberAt, definedAt}
 
 -- the sizes: the inputs that are not read bits, the latches and the gates of the header; with no codes
 abbrev pub textSizes : Counts → ℕ → ℕ → ℕ → ℕ → ℕ → Netlist
-textSizes h m n word unknown second =
-    withoutCodes
-    (record {
-      inputs = h .inputs - suc second * n;
-      latches = h .latches;
-      gates = h .gates;
-      m = m;
-      n = n;
-      initialWord = word;
-      unknownStart = unknown;
-      secondPort = second;
-    })
+textSizes h m n word unknown second = withoutCodes (h .inputs - suc second * n) (h .latches) (h .gates) m n word unknown second
 
 -- the wire of what line p defines, in a netlist of the sizes c: an input, a read bit, a latch or a gate
 unfoldable pub wireOf : Counts → Netlist → ℕ → ℕ

@@ -23,7 +23,7 @@ use Rattle.sheet_lines.specs.Lines.{fieldIn, allAsWanted, lineWith, lineOf}
 use Rattle.sheet_lines.specs.Depth.{depthField, fieldVerdict, depthVerdict}
 use Rattle.sheet_steps.specs.LineFaults.{faultsAt}
 use Rattle.sheet_parse.specs.Files.{lineIn, sizesIn, netOfLines, netIn}
-use Rattle.sheet_parse.specs.FileTests.{ragged, notDue, testLineIn}
+use Rattle.sheet_parse.specs.FileTests.{ragged, testRead, testLineIn}
 use Rattle.sheet_tests.specs.Sheet.{endVerdict, fileVerdict, sheetVerdict}
 use Rattle.calls.specs.Starred.{sheet, net, rows, Starred}
 
@@ -34,6 +34,6 @@ unfolding odd bit sweep isRead eitherWire dependsOnRead neg gather gatherDown an
     kept isTrue hasTrue endOf writtenClause written numbersOf joined formula splitAfter clausesIn _then_ inOrder lineAt startOf startFault sizeFault codeFault seen anyBelow isTied tieFault loopFaultBy testLines
     recordVerdict testDepth testGroup testRoom groupVerdict headingVerdict digitsWithin digits field sameText
     valueAfter numberIn dropSpaces filledWith behindSpaces fieldOf kindOf contentOf fieldIn allAsWanted lineWith lineOf
-    depthField fieldVerdict depthVerdict faultsAt lineIn sizesIn netOfLines netIn ragged notDue testLineIn endVerdict
+    depthField fieldVerdict depthVerdict faultsAt lineIn sizesIn netOfLines netIn ragged testRead testLineIn endVerdict
     fileVerdict sheetVerdict sheet net rows
 starred = refl

@@ -12,7 +12,8 @@ use Rattle.model.specs.Clauses.{Literal, known, plus, minus, PairLiteral
 abbrev pub stride : Netlist → ℕ
 stride c = ports c * (c .m + 4)
 
--- B(i): frame i's variables start after it (RULES V2). From V and a pair's number of variables, as code computes it; and of a netlist
+-- B(i): frame i's variables start after it (RULES V2). From V and a pair's number of variables, as code computes it: the whole product is halved; and of
+-- a netlist
 unfoldable pub baseOf : ℕ → ℕ → ℕ → ℕ
 baseOf wires stride i = 1 + i * wires + stride * i * (i - 1) / 2
 

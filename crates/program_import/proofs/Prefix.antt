@@ -27,7 +27,7 @@ use Rattle.decimal.proofs.TextValue.{numberIn-empty}
 use Rattle.text_words.specs.Words.{linesOf, wordsOf, partsAfter, restAfter}
 use Rattle.text_words.proofs.Words.{parts-append}
 use Rattle.aiger_lines.specs.Numbers.{allUnsigned, wordNumbers, wordsAt}
-use Rattle.aiger_lines.specs.Parts.{headerNumbers, numbersOnLine, countsOf, countsIn, linesDue, partAt, malformedLine, malformedAt, textLatchLine, textOutputLine, textGateLine}
+use Rattle.aiger_lines.specs.Parts.{aag, numbersBehind, numbersOnLine, countsOf, countsIn, linesDue, partAt, malformedLine, malformedAt, textLatchLine, textOutputLine, textGateLine}
 use Rattle.aiger_lines.specs.declared.Counts.{Counts}
 use Rattle.aiger_lines.specs.declared.Part.{Part}
 use Rattle.aiger_lines.specs.declared.Part.the-variants.{Header, Input, Latch, Output, Gate}
@@ -193,7 +193,7 @@ module _ (s t : List ℕ) (q : ℕ) (some-line : 1 ≤ q) (same : (p : ℕ) → 
         by-verdict (Refused r p) e = rw (text-same m n second, e)
 
 -- ---- a line that is missing is malformed
-no-numbers : (p : ℕ) → cond (eqb p 1) (headerNumbers (wordsOf [])) (wordNumbers (wordsOf [])) ≡ []
+no-numbers : (p : ℕ) → cond (eqb p 1) (numbersBehind aag (wordsOf [])) (wordNumbers (wordsOf [])) ≡ []
 unfolding wordNumbers wordsOf allUnsigned partsAfter restAfter sameText
 no-numbers p = rw (numberIn-empty [] refl) (either-way (eqb p 1))
   where
