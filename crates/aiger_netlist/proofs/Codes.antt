@@ -22,7 +22,7 @@ use Rattle.aiger_graph.specs.RecordAig.{controlOutput}
 use Rattle.aiger_lines.specs.Parts.{countsIn, linesDue, textGateLine}
 use Rattle.aiger_lines.specs.declared.Counts.{Counts}
 use Rattle.aiger_definitions.specs.Definitions.{numberAt}
-use Rattle.aiger_netlist.specs.TextNetlist.{textSizes, wireOf, wireOfVariable, codeFrom, netOfCodes, aagNet}
+use Rattle.aiger_netlist.specs.TextNetlist.{textSizes, wireOf, wireOfVariable, netOfCodes, aagNet}
 use Rattle.aiger_netlist.specs.TextAig.{textAig}
 use Rattle.aiger_netlist.proofs.Lines.{Defining, by-input, by-latch, by-gate, wire-input, wire-read, wire-latch, wire-gate}
 use Rattle.aiger_netlist.proofs.Defined.{WellDefined, Known, constant, line, wire-defined, next-known, output-known, left-known, right-known}
@@ -54,7 +54,7 @@ module _ (s : List ℕ) (ok : WellDefined s) (m n word unknown second : ℕ) (fi
   wire-below g before (by-gate e b k) = rw (k, wire-gate (countsIn s) sizes (omega arith) e) (omega arith)
 
   -- so a code whose variable is known before gate g has a code below twice its wire
-  code-below : (p g x : ℕ) → p ≤ textGateLine (countsIn s) g → Known s p (x / 2) → codeFrom s sizes x < 2 * gateWire sizes g
+  code-below : (p g x : ℕ) → p ≤ textGateLine (countsIn s) g → Known s p (x / 2) → renamed (wireOfVariable s sizes) x < 2 * gateWire sizes g
   unfolding renamed
   code-below p g x b k = let w = below k in omega (arith, w)
     where
@@ -63,7 +63,7 @@ module _ (s : List ℕ) (ok : WellDefined s) (m n word unknown second : ℕ) (fi
       below (line q l d e) = rw (e, wire-defined s ok sizes d) (wire-below g (omega arith) d)
 
   -- and every code is one of the netlist's
-  code-fits : (x : ℕ) → Known s (linesDue (countsIn s) + 1) (x / 2) → codeFrom s sizes x ≤ 2 * lastWire sizes + 1
+  code-fits : (x : ℕ) → Known s (linesDue (countsIn s) + 1) (x / 2) → renamed (wireOfVariable s sizes) x ≤ 2 * lastWire sizes + 1
   code-fits x k = let w = code-below (linesDue (countsIn s) + 1) (countsIn s .gates) x (omega arith) k in omega (arith, w)
 
   -- a second port has m address codes

@@ -34,10 +34,6 @@ definingLine s v = firstWhere (λ p. eqb (definedAt s p) v) (linesDue (countsIn 
 unfoldable pub wireOfVariable : List ℕ → Netlist → ℕ → ℕ
 wireOfVariable s c v = cond (eqb v 0) 0 (wireOf (countsIn s) c (definingLine s v))
 
--- a code of the text as a code of the netlist
-abbrev pub codeFrom : List ℕ → Netlist → ℕ → ℕ
-codeFrom s c x = renamed (wireOfVariable s c) x
-
 -- the netlist of the sizes c, where `code p i` is the code for number i of line p. Outputs: m address codes, n write-data codes, of a second port m
 -- address codes and RE, then WE, RE, P
 unfoldable pub netOfCodes : Counts → Netlist → (ℕ → ℕ → ℕ) → Netlist
@@ -68,4 +64,4 @@ netOfCodes h c code =
 abbrev pub aagNet : List ℕ → ℕ → ℕ → ℕ → ℕ → ℕ → Netlist
 aagNet s m n word unknown second =
     let c = textSizes (countsIn s) m n word unknown second in
-    netOfCodes (countsIn s) c (λ p i. codeFrom s c (numberAt s p i))
+    netOfCodes (countsIn s) c (λ p i. renamed (wireOfVariable s c) (numberAt s p i))
