@@ -49,7 +49,7 @@ const BY_FRAME: [&str; 4] = [
 ];
 
 const DEMAND_2: [(&str, &str, &str); 2] =
-    [("marrubigai_write_group", "borrowed", "numbersAfter"), ("marrubigai_heading", "answer", "headingFor")];
+    [("marrubigai_write_group", "borrowed", "groupLeaves"), ("marrubigai_heading", "answer", "headingSent")];
 
 /// The paths, in the order in which the last column takes off what was read before.
 pub const PATHS: [ReadersPath; 22] = [
@@ -96,7 +96,7 @@ pub const PATHS: [ReadersPath; 22] = [
     ReadersPath {
         label: "1-record",
         promise: "demand 1 of the calls over a record",
-        from: &[("marrubigai_write_group", "answer", "groupFor"), ("marrubigai_heading", "answer", "headingFor")],
+        from: &[("marrubigai_write_group", "answer", "groupSent"), ("marrubigai_heading", "answer", "headingSent")],
         shut: &["model/Numbers/numbersOf", "model/Numbers/formula"],
     },
     ReadersPath {
@@ -200,7 +200,7 @@ pub const PATHS: [ReadersPath; 22] = [
     ReadersPath {
         label: "K10",
         promise: "a second read port, in runs, clauses and calls",
-        from: &[("marrubigai_heading", "theorems", "EncodingTheorem"), ("marrubigai_write_group", "answer", "groupFor")],
+        from: &[("marrubigai_heading", "theorems", "EncodingTheorem"), ("marrubigai_write_group", "answer", "groupSent")],
         shut: &["netlist_tests/Record/recordVerdict"],
     },
     ReadersPath {

@@ -5,8 +5,7 @@ use mathlib.Core.List.{List, [], _∷_, _++_, append-assoc}
 use Rattle.decimal.specs.Digits.{digits, space, lineFeed}
 use Rattle.text_words.specs.Words.{spaced}
 use Rattle.aiger_lines.specs.Written.{numbersText}
-use Rattle.aiger_binary.specs.BinaryFile.{aig}
-use Rattle.aiger_binary.specs.BinaryText.{headerLine}
+use Rattle.aiger_binary.specs.BinaryText.{aig, headerLine}
 
 -- a number with what stands behind it
 abbrev ended : ℕ → ℕ → List ℕ

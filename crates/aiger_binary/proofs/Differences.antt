@@ -1,11 +1,12 @@
--- Differences at the start of bytes (aiger_difference/specs/Difference.antt): what stands behind them. No contract cites this file.
+-- Differences at the start of bytes (aiger_difference/proofs/Decoding.antt): what stands behind them. No contract cites this file.
 use Prim.Native.Nat.{ℕ, zero, suc, _+_, _*_}
 use mathlib.Core.Path.{_≡_, refl, _∙_, ap}
 use mathlib.Core.List.{List, _++_, append-assoc}
 use native.Mathlib.Nat.{add-zero, add-suc}
 use native.Mathlib.Omega.{arith}
 use Rattle.model.specs.Gather.{gather}
-use Rattle.aiger_difference.specs.Difference.{behindDifference, behindDifferences, differenceBytes}
+use Rattle.aiger_difference.specs.Difference.{differenceBytes}
+use Rattle.aiger_difference.proofs.Decoding.{behindDifference, behindDifferences}
 use Rattle.aiger_difference.proofs.Difference.{difference-behind}
 
 -- behind so many more

@@ -1,4 +1,4 @@
--- Lines at the start of a file (specs/BinaryFile.antt): which there are, and what stands behind them. No contract cites this file.
+-- Lines at the start of a file (proofs/BinaryFile.antt): which there are, and what stands behind them. No contract cites this file.
 use Prim.Native.Nat.{ℕ, zero, suc, _+_}
 use mathlib.Core.Path.{_≡_, refl, sym, _∙_, ap}
 use mathlib.Core.List.{List, [], _∷_, _++_, append-assoc}
@@ -12,7 +12,7 @@ use Rattle.model.specs.Gather.{gather}
 use Rattle.decimal.specs.Digits.{lineFeed}
 use Rattle.text_words.specs.Words.{linesOf, Without}
 use Rattle.text_words.proofs.Words.{parts-first}
-use Rattle.aiger_binary.specs.BinaryFile.{behindLine, behindLines}
+use Rattle.aiger_binary.proofs.BinaryFile.{behindLine, behindLines}
 
 -- what stands behind a line
 behind-line : (x s : List ℕ) → Without lineFeed x → behindLine (x ++ lineFeed ∷ s) ≡ s

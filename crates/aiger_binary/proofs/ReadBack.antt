@@ -1,8 +1,7 @@
--- The file that a graph is written as says this graph (specs/BinaryFile.antt, specs/BinaryText.antt). No contract cites this file.
+-- The file that a graph is written as (specs/BinaryText.antt) says this graph (proofs/BinaryFile.antt), and no other. No contract cites this file.
 use Prim.Native.Nat.{ℕ, zero, suc, _+_, _-_, _*_, _^_, _<_}
 use mathlib.Core.Path.{_≡_, refl, sym, _∙_, ap}
 use mathlib.Core.Logic.{by-cases}
-use mathlib.Core.Bool.{true}
 use mathlib.Core.List.{List, [], _∷_, _++_, append-assoc, append-nil}
 use native.Mathlib.Decide.{decLt}
 use native.Mathlib.Nat.{not-suc-le-zero}
@@ -20,10 +19,11 @@ use Rattle.aiger_lines.specs.declared.Counts.{Counts}
 use Rattle.aiger_lines.specs.Written.{numbersText, lineWithNumbers}
 use Rattle.aiger_lines.proofs.Written.{line-behind, read-as-written}
 use Rattle.aiger_graph.specs.Aig.{Aig, SameAig}
-use Rattle.aiger_difference.specs.Difference.{behindDifferences, isWhole, differenceAt, differenceBytes}
-use Rattle.aiger_difference.proofs.Difference.{difference-read, difference-behind, difference-whole}
-use Rattle.aiger_binary.specs.BinaryFile.{aig, binaryHeader, binaryCounts, nextLine, outputLine, gateBytes, aigWith, aigIn, IsBinary}
-use Rattle.aiger_binary.specs.BinaryText.{headerCounts, headerLine, codeLine, gateText, aigText, Writable}
+use Rattle.aiger_difference.specs.Difference.{differenceBytes}
+use Rattle.aiger_difference.proofs.Decoding.{behindDifferences, differenceAt}
+use Rattle.aiger_difference.proofs.Difference.{difference-read, difference-behind}
+use Rattle.aiger_binary.proofs.BinaryFile.{binaryHeader, binaryCounts, nextLine, outputLine, gateBytes, aigWith, aigIn}
+use Rattle.aiger_binary.specs.BinaryText.{aig, headerCounts, headerLine, codeLine, gateText, aigText, Writable}
 use Rattle.aiger_binary.proofs.Lines.{Lines, one-line, lines-append, no-line, lines-gather, line-at}
 use Rattle.aiger_binary.proofs.Differences.{Differences, one-difference, differences-append, differences-gather}
 
@@ -204,16 +204,8 @@ module _ (a : Aig) (ok : Writable a) where
   unfolding second
   second-read g b = rw (second-at g b) (difference-read (gate-behind g b .0) (a .network .left g - a .network .right g))
 
-  both-whole : (g : ℕ) → g < a .network .gates
-      → (isWhole (behindDifferences (2 * g) (gateBytes h (aigText a))) ≡ true) × (isWhole (behindDifferences (2 * g + 1) (gateBytes h (aigText a))) ≡ true)
-  unfolding first second
-  both-whole g b = (
-    rw (first-at g b) (difference-whole (second g ++ gate-behind g b .0) (2 * a .network .own g - a .network .left g)),
-    rw (second-at g b) (difference-whole (gate-behind g b .0) (a .network .left g - a .network .right g)),
-  )
-
   -- so the file says the graph
-  pub read-as : SameAig (aigIn (aigText a)) a
+  read-as : SameAig (aigIn (aigText a)) a
   unfolding aigWith
   read-as =
       rw counts-read
@@ -228,24 +220,32 @@ module _ (a : Aig) (ok : Writable a) where
         right-same = λ g b. rw (first-read g b, second-read g b) (omega (arith, ok .gate-in-order g b, ok .left-below g b, ok .right-below g b));
       })
 
-  -- and is well-formed
-  pub is-binary : IsBinary (aigText a)
-  is-binary =
-      record {
-        has-counts = rw header-read;
-        well-formed =
-            rw counts-read
-            (record {
-              largest-is = refl;
-              next-lines = λ l b. rw (next-read l b) (refl, ok .next-below l b);
-              output-lines = λ o b. rw (output-read o b) (refl, ok .output-below o b);
-              differences-whole = λ g b. both-whole g b;
-              first-difference = λ g b. rw (first-read g b) (omega (arith, ok .gate-in-order g b, ok .left-below g b), omega (arith, ok .gate-in-order g b));
-              second-difference = λ g b.
-                  rw (first-read g b, second-read g b) (omega (arith, ok .gate-in-order g b, ok .left-below g b, ok .right-below g b));
-              nothing-behind =
-                  rw gates-behind
-                  (ap (behindDifferences (2 * a .network .gates)) (sym (append-nil gates))
-                  ∙ differences-gather (a .network .gates) gate (λ g. gate-differences (a .network .own g) (a .network .left g) (a .network .right g)) []);
-            });
-      }
+-- two graphs that one graph is are the same
+both-same : {a b d : Aig} → SameAig d a → SameAig d b → SameAig a b
+both-same {a} {b} {d} x y =
+    let l = x .counts-same in
+    let r = y .counts-same in
+    let input-there : (i : ℕ) → i < a .inputs → i < d .inputs = λ i h. rw (l .inputs-same) h in
+    let latch-there : (i : ℕ) → i < a .latches → i < d .latches = λ i h. rw (l .latches-same) h in
+    let output-there : (i : ℕ) → i < a .outputs → i < d .outputs = λ i h. rw (l .outputs-same) h in
+    let gate-there : (i : ℕ) → i < a .network .gates → i < d .network .gates = λ i h. rw (l .gates-same) h in
+    record {
+      counts-same =
+          record {
+            inputs-same = sym (l .inputs-same) ∙ r .inputs-same;
+            latches-same = sym (l .latches-same) ∙ r .latches-same;
+            outputs-same = sym (l .outputs-same) ∙ r .outputs-same;
+            gates-same = sym (l .gates-same) ∙ r .gates-same;
+          };
+      input-same = λ i h. sym (x .input-same i (input-there i h)) ∙ y .input-same i (input-there i h);
+      latch-same = λ i h. sym (x .latch-same i (latch-there i h)) ∙ y .latch-same i (latch-there i h);
+      next-same = λ i h. sym (x .next-same i (latch-there i h)) ∙ y .next-same i (latch-there i h);
+      output-same = λ i h. sym (x .output-same i (output-there i h)) ∙ y .output-same i (output-there i h);
+      own-same = λ i h. sym (x .own-same i (gate-there i h)) ∙ y .own-same i (gate-there i h);
+      left-same = λ i h. sym (x .left-same i (gate-there i h)) ∙ y .left-same i (gate-there i h);
+      right-same = λ i h. sym (x .right-same i (gate-there i h)) ∙ y .right-same i (gate-there i h);
+    }
+
+-- so two graphs that are written alike are the same
+pub written-once : (a b : Aig) → Writable a → Writable b → aigText a ≡ aigText b → SameAig a b
+written-once a b a-fits b-fits e = both-same (rw e at (read-as a a-fits)) (read-as b b-fits)

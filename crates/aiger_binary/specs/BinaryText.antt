@@ -1,5 +1,5 @@
 -- How a graph is written as a binary AIGER file (RULES X3, X4 and X6): without symbols or comment, each difference in as few bytes as there are. That the file says
--- the graph is the law `file-read` in proofs/ReadBack.antt. Cited by the functions that write a part of a file, and by what is said of
+-- the graph is the law `read-as` in proofs/ReadBack.antt. Cited by the functions that write a part of a file, and by what is said of
 -- a file that is exported.
 use Prim.Native.Nat.{ℕ, _+_, _-_, _*_, _^_, _≤_, _<_}
 use mathlib.Core.Path.{_≡_}
@@ -9,7 +9,10 @@ use Rattle.decimal.specs.Digits.{digits, space, lineFeed}
 use Rattle.aiger_lines.specs.Written.{numbersText}
 use Rattle.aiger_graph.specs.Aig.{Aig}
 use Rattle.aiger_difference.specs.Difference.{differenceBytes}
-use Rattle.aiger_binary.specs.BinaryFile.{aig}
+
+-- the bytes of `aig`
+abbrev pub aig : List ℕ
+aig = 97 ∷ 105 ∷ 103 ∷ []
 
 -- the header: `aig M I L O A`
 abbrev pub headerCounts : Aig → List ℕ

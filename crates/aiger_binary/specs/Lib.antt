@@ -1,3 +1,2 @@
--- Binary AIGER files, in reading order. Nothing here imports a law or a proof.
-pub mod BinaryFile
+-- Binary AIGER files. Nothing here imports a law or a proof.
 pub mod BinaryText

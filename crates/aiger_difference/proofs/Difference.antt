@@ -1,7 +1,6 @@
 -- Laws of specs/Difference.antt: the bytes of a number are read back, and are as many as its bits need. No contract cites this file.
 use Prim.Native.Nat.{ℕ, zero, suc, _+_, _-_, _*_, _/_, _%_, _^_, _≤_, _<_}
 use mathlib.Core.Path.{_≡_, sym, _∙_, ap}
-use mathlib.Core.Bool.{true}
 use mathlib.Core.Logic.{by-cases}
 use mathlib.Core.List.{List, [], _∷_, _++_}
 use native.Mathlib.Decide.{decLt}
@@ -10,7 +9,8 @@ use lib.Count.{leadingZeros, leading-length}
 use lib.ListN.{length}
 use lib.Pow.{pow-add, pow-mono}
 use borrow.Author.Tests.{lt-ltb, le-ltb}
-use Rattle.aiger_difference.specs.Difference.{differenceIn, behindDifference, isWhole, bytesWithin, differenceBytes}
+use Rattle.aiger_difference.specs.Difference.{bytesWithin, differenceBytes}
+use Rattle.aiger_difference.proofs.Decoding.{differenceIn, behindDifference}
 
 -- any two counts of divisions above x give the same bytes
 bytesWithin-enough : (n m x : ℕ) → x < n → x < m → bytesWithin n x ≡ bytesWithin m x
@@ -53,12 +53,6 @@ pub difference-behind : (s : List ℕ) (x : ℕ) → behindDifference (differenc
 unfolding behindDifference
 difference-behind s =
     by-bytes (λ x. behindDifference (differenceBytes x ++ s) ≡ s) (λ x h. rw (bytes-single x h, lt-ltb x 128 h))
-    (λ x h back. rw (bytes-more x h, le-ltb (128 + x % 128) 128 (omega arith)) back)
-
-pub difference-whole : (s : List ℕ) (x : ℕ) → isWhole (differenceBytes x ++ s) ≡ true
-unfolding isWhole
-difference-whole s =
-    by-bytes (λ x. isWhole (differenceBytes x ++ s) ≡ true) (λ x h. rw (bytes-single x h, lt-ltb x 128 h))
     (λ x h back. rw (bytes-more x h, le-ltb (128 + x % 128) 128 (omega arith)) back)
 
 -- a number of m bits has as many bytes as sevens are begun in m

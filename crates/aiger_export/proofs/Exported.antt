@@ -7,39 +7,33 @@ use Rattle.model.specs.Circuit.{Values}
 use Rattle.refusals.specs.declared.Verdict.the-variants.{Passed}
 use Rattle.aiger_graph.specs.Aig.{AigValues, SameInOrder}
 use Rattle.aiger_graph.specs.RecordAig.{recordAig, valuesOf}
-use Rattle.aiger_graph.proofs.Values.{RenumbersAig, renumbers-back, renumbers-same, renumbered-values, renumbered-same, same-then}
+use Rattle.aiger_graph.proofs.Values.{renumbers-back, renumbered-values, renumbered-same, same-then}
 use Rattle.aiger_graph.proofs.RecordAig.{record-defined, record-values}
-use Rattle.aiger_binary.specs.BinaryFile.{aigIn}
-use Rattle.aiger_binary.proofs.ReadBack.{read-as, is-binary}
+use Rattle.aiger_binary.proofs.ReadBack.{written-once}
 use Rattle.aiger_ordered.specs.OrderedAig.{orderOf, fileVariable, aigOf}
 use Rattle.aiger_ordered.proofs.OrderedAig.{swapped, variable-back, renumbers, writable}
 use Rattle.aiger_netlist.proofs.Imported.{imported}
-use Rattle.aiger_export.specs.ExportCall.{exportText, testExport}
+use Rattle.aiger_export.specs.ExportCall.{testExport}
 use Rattle.aiger_export.specs.Exported.{Exported}
 use Rattle.aiger_export.proofs.ExportCall.{accepted, resets-zero}
 
 module _ (c : Netlist) (latchCount gateCount : ℕ) (passed : testExport c latchCount gateCount ≡ Passed) where
-  -- the file's graph is the record's, under other numbers
-  file-renumbers : RenumbersAig (fileVariable (orderOf c)) (recordAig c) (aigIn (exportText c))
-  file-renumbers = renumbers-same (renumbers c) (read-as (aigOf c) (writable (accepted c latchCount gateCount passed .limits)))
-
-  same-values : (input latch : ℕ → Bool) (v : Values) → AigValues (aigIn (exportText c)) input latch v
-      → SameInOrder (recordAig c) (aigIn (exportText c)) (valuesOf c input latch) v
+  same-values : (input latch : ℕ → Bool) (v : Values) → AigValues (aigOf c) input latch v
+      → SameInOrder (recordAig c) (aigOf c) (valuesOf c input latch) v
   same-values input latch v w =
       let fits = accepted c latchCount gateCount passed .limits .codes in
-      renumbered-same file-renumbers (record-defined fits) (record-values c fits input latch) w
+      renumbered-same (renumbers c) (record-defined fits) (record-values c fits input latch) w
 
-  pub exported : Exported c (exportText c)
+  pub exported : Exported c
   exported =
       let limits = accepted c latchCount gateCount passed .limits in
       record {
-        is-file = is-binary (aigOf c) (writable limits);
-        says = read-as (aigOf c) (writable limits);
-        readable = λ a ok e. rw e at (read-as a ok);
+        fits = writable limits;
+        unique = λ a ok e. written-once a (aigOf c) ok (writable limits) e;
         resets = resets-zero c latchCount gateCount passed;
         has-values = λ input latch. (
           λ x. valuesOf c input latch (fileVariable (swapped (orderOf c)) x),
-          renumbered-values (renumbers-back (variable-back (orderOf c)) file-renumbers) (record-values c (limits .codes) input latch),
+          renumbered-values (renumbers-back (variable-back (orderOf c)) (renumbers c)) (record-values c (limits .codes) input latch),
         );
         same-values = same-values;
         same-as-text = λ s m n word unknown second latches gates taken agree input latch u v text file.

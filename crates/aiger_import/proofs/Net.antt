@@ -26,8 +26,8 @@ use Rattle.aiger_lines.specs.declared.Counts.{Counts}
 use Rattle.aiger_lines.specs.declared.Part.the-variants.{Latch}
 use Rattle.aiger_lines.proofs.Parts.{well-count}
 use Rattle.aiger_definitions.specs.Definitions.{numberAt}
-use Rattle.aiger_netlist.specs.TextNetlist.{codeFrom, netOfCodes, aagNet}
-use Rattle.aiger_netlist.specs.TextAig.{nextAt, outputAt}
+use Rattle.aiger_netlist.specs.TextNetlist.{wireOfVariable, netOfCodes, aagNet}
+use Rattle.aiger_netlist.specs.TextAig.{textAig}
 use Rattle.aiger_netlist.proofs.Lines.{part-latch}
 use Rattle.aiger_netlist.proofs.Defined.{Known, constant, line, next-known, output-known, left-known, right-known}
 use Rattle.aiger_netlist.proofs.Codes.{wire-zero}
@@ -72,15 +72,15 @@ module _ (s : List ℕ) (r : Netlist) (ready : TextReady s r) where
 
   module _ (table : List ℕ) (latchesAt gatesAt : ℕ) (has : TableFor s r table latchesAt gatesAt) where
     -- the codes by the table are the text's
-    found : (x : ℕ) → Known s (linesDue h + 1) (x / 2) → renamed (wireFound table) x ≡ codeFrom s c x
+    found : (x : ℕ) → Known s (linesDue h + 1) (x / 2) → renamed (wireFound table) x ≡ renamed (wireOfVariable s c) x
     unfolding renamed
     found x k =
         rw (wire-found s (text-defined s r ready) (r .m) (r .n) (r .«initial_word») (r .«unknown_start») (r .«second_port») (text-fits s r ready) table (has .wires)
         (ready .sizes-fit .wires-fit) (x / 2) k)
 
-    output : (o : ℕ) → o < h .outputs → outputCode table o ≡ codeFrom s c (outputAt s o)
+    output : (o : ℕ) → o < h .outputs → outputCode table o ≡ renamed (wireOfVariable s c) (textAig s .output o)
     unfolding outputCode
-    output o b = ap (renamed (wireFound table)) (has .outputs o b) ∙ found (outputAt s o) (output-known s (text-defined s r ready) o b)
+    output o b = ap (renamed (wireFound table)) (has .outputs o b) ∙ found (textAig s .output o) (output-known s (text-defined s r ready) o b)
 
     -- a latch's line has no third number
     no-third : (l : ℕ) → l < h .latches → numberAt s (textLatchLine h l) 2 ≡ 0
@@ -100,13 +100,13 @@ module _ (s : List ℕ) (r : Netlist) (ready : TextReady s r) where
         (latchList : ListFilled (r .latches) (codesBehind s (1 + h .inputs) table 1) (codesBehind s (1 + h .inputs) table 2) latches)
         (gateList : ListFilled (r .gates) (codesBehind s (1 + h .inputs + h .latches + h .outputs) table 1)
         (codesBehind s (1 + h .inputs + h .latches + h .outputs) table 2) gates) where
-      next-is : firstAt latches ≡ upTo (h .latches) (λ l. codeFrom s c (nextAt s l))
+      next-is : firstAt latches ≡ upTo (h .latches) (λ l. renamed (wireOfVariable s c) (textAig s .next l))
       unfolding codesBehind
       next-is =
           fun-ext (latchList .firsts) ∙ rw (← sized s r ready h refl .latches-are)
-          (upTo-same (h .latches) (codesBehind s (1 + h .inputs) table 1) (λ l. codeFrom s c (nextAt s l)) (λ l b.
+          (upTo-same (h .latches) (codesBehind s (1 + h .inputs) table 1) (λ l. renamed (wireOfVariable s c) (textAig s .next l)) (λ l b.
           let p : 1 + h .inputs + l + 1 ≡ textLatchLine h l = omega arith in
-          rw p (found (nextAt s l) (next-known s (text-defined s r ready) l b))))
+          rw p (found (textAig s .next l) (next-known s (text-defined s r ready) l b))))
 
       reset-is : secondAt latches ≡ (λ l. 0)
       unfolding codesBehind
@@ -119,20 +119,20 @@ module _ (s : List ℕ) (r : Netlist) (ready : TextReady s r) where
           rw (lt-ltb l (r .latches) b, p, no-third l (omega (arith, sized s r ready h refl))) zero-code)
           (λ b. rw (le-ltb l (r .latches) (omega arith))))
 
-      left-is : firstAt gates ≡ upTo (h .gates) (λ g. codeFrom s c (numberAt s (textGateLine h g) 1))
+      left-is : firstAt gates ≡ upTo (h .gates) (λ g. renamed (wireOfVariable s c) (numberAt s (textGateLine h g) 1))
       unfolding codesBehind
       left-is =
           fun-ext (gateList .firsts) ∙ rw (← sized s r ready h refl .gates-are)
-          (upTo-same (h .gates) (codesBehind s (1 + h .inputs + h .latches + h .outputs) table 1) (λ g. codeFrom s c (numberAt s (textGateLine h g) 1))
+          (upTo-same (h .gates) (codesBehind s (1 + h .inputs + h .latches + h .outputs) table 1) (λ g. renamed (wireOfVariable s c) (numberAt s (textGateLine h g) 1))
           (λ g b.
           let p : 1 + h .inputs + h .latches + h .outputs + g + 1 ≡ textGateLine h g = omega arith in
           rw p (found (numberAt s (textGateLine h g) 1) (later s (textGateLine h g) (linesDue h + 1) _ (left-known s (text-defined s r ready) g b) (omega arith)))))
 
-      right-is : secondAt gates ≡ upTo (h .gates) (λ g. codeFrom s c (numberAt s (textGateLine h g) 2))
+      right-is : secondAt gates ≡ upTo (h .gates) (λ g. renamed (wireOfVariable s c) (numberAt s (textGateLine h g) 2))
       unfolding codesBehind
       right-is =
           fun-ext (gateList .seconds) ∙ rw (← sized s r ready h refl .gates-are)
-          (upTo-same (h .gates) (codesBehind s (1 + h .inputs + h .latches + h .outputs) table 2) (λ g. codeFrom s c (numberAt s (textGateLine h g) 2))
+          (upTo-same (h .gates) (codesBehind s (1 + h .inputs + h .latches + h .outputs) table 2) (λ g. renamed (wireOfVariable s c) (numberAt s (textGateLine h g) 2))
           (λ g b.
           let p : 1 + h .inputs + h .latches + h .outputs + g + 1 ≡ textGateLine h g = omega arith in
           rw p (found (numberAt s (textGateLine h g) 2) (later s (textGateLine h g) (linesDue h + 1) _ (right-known s (text-defined s r ready) g b) (omega arith)))))
@@ -148,26 +148,26 @@ module _ (s : List ℕ) (r : Netlist) (ready : TextReady s r) where
         abbrev control : ℕ
         control = controlOutput (r .m) (r .n) (r .«second_port»)
 
-        due : (o : ℕ) → o < control + 3 → outputCode table o ≡ codeFrom s c (outputAt s o)
+        due : (o : ℕ) → o < control + 3 → outputCode table o ≡ renamed (wireOfVariable s c) (textAig s .output o)
         due o b = output o (omega (arith, sized s r ready h refl))
 
-        address-is : codeOf (net .address) ≡ upTo (r .m) (λ t. codeFrom s c (outputAt s t))
+        address-is : codeOf (net .address) ≡ upTo (r .m) (λ t. renamed (wireOfVariable s c) (textAig s .output t))
         address-is =
             put .address-codes .has
-            ∙ upTo-same (r .m) (outputCode table) (λ t. codeFrom s c (outputAt s t)) (λ t b. due t (omega arith))
+            ∙ upTo-same (r .m) (outputCode table) (λ t. renamed (wireOfVariable s c) (textAig s .output t)) (λ t b. due t (omega arith))
 
-        data-is : codeOf (net .«write_data») ≡ upTo (r .n) (λ t. codeFrom s c (outputAt s (r .m + t)))
+        data-is : codeOf (net .«write_data») ≡ upTo (r .n) (λ t. renamed (wireOfVariable s c) (textAig s .output (r .m + t)))
         data-is =
             put .data-codes .has
-            ∙ upTo-same (r .n) (λ t. outputCode table (r .m + t)) (λ t. codeFrom s c (outputAt s (r .m + t))) (λ t b. due (r .m + t) (omega arith))
+            ∙ upTo-same (r .n) (λ t. outputCode table (r .m + t)) (λ t. renamed (wireOfVariable s c) (textAig s .output (r .m + t))) (λ t b. due (r .m + t) (omega arith))
 
-        second-is : codeOf (net .address2) ≡ upTo (r .«second_port» * r .m) (λ t. codeFrom s c (outputAt s (r .m + r .n + t)))
+        second-is : codeOf (net .address2) ≡ upTo (r .«second_port» * r .m) (λ t. renamed (wireOfVariable s c) (textAig s .output (r .m + r .n + t)))
         second-is =
             put .second-codes .has
-            ∙ upTo-same (r .«second_port» * r .m) (λ t. outputCode table (r .m + r .n + t)) (λ t. codeFrom s c (outputAt s (r .m + r .n + t)))
+            ∙ upTo-same (r .«second_port» * r .m) (λ t. outputCode table (r .m + r .n + t)) (λ t. renamed (wireOfVariable s c) (textAig s .output (r .m + r .n + t)))
             (λ t b. due (r .m + r .n + t) (omega arith))
 
-        enable-is : enableCode r table ≡ cond (ltb 0 (r .«second_port»)) (codeFrom s c (outputAt s (r .m + r .n + r .m))) 0
+        enable-is : enableCode r table ≡ cond (ltb 0 (r .«second_port»)) (renamed (wireOfVariable s c) (textAig s .output (r .m + r .n + r .m))) 0
         enable-is =
             by-cases (decLt 0 (r .«second_port»))
             (λ some.

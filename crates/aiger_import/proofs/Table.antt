@@ -13,7 +13,7 @@ use Rattle.aiger_lines.specs.Steps.{Behind}
 use Rattle.aiger_lines.specs.declared.Counts.{Counts}
 use Rattle.aiger_definitions.specs.Definitions.{numberAt, definedAt}
 use Rattle.aiger_netlist.specs.TextNetlist.{wireOf}
-use Rattle.aiger_netlist.specs.TextAig.{outputAt}
+use Rattle.aiger_netlist.specs.TextAig.{textAig}
 use Rattle.aiger_netlist.proofs.Lines.{Defining, by-input, by-latch, by-gate, defining-defines, wire-input, wire-read, wire-latch, wire-gate}
 use Rattle.aiger_codes.specs.WireTable.{WireTable}
 use Rattle.aiger_codes.specs.Filling.{firstsBehind, entryOf, putFrom, TableFilled}
@@ -105,7 +105,7 @@ module _ (s : List ℕ) (r : Netlist) (ready : TextReady s r) (t₀ t₁ t₂ t�
         there s (1 + h .inputs + h .latches + h .outputs) (1 + r .inputs + r .latches + readCount) (r .gates) t₄ (parts .gates) g
         (1 + r .inputs + r .latches + readCount + g) (textGateLine h g) b refl (omega (arith, is)) (omega arith)
 
-    at-output : (o : ℕ) → o < h .outputs → getD t₅ (601 + o) 0 ≡ outputAt s o
+    at-output : (o : ℕ) → o < h .outputs → getD t₅ (601 + o) 0 ≡ textAig s .output o
     at-output o b =
         behind s (1 + h .inputs + h .latches + h .outputs) (1 + r .inputs + r .latches + readCount) (r .gates) t₄ (parts .gates) (601 + o)
         (omega (arith, is)) (omega (arith, is))

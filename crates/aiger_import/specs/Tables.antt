@@ -14,7 +14,7 @@ use Rattle.aiger_lines.specs.Parts.{countsIn}
 use Rattle.aiger_lines.specs.Steps.{Behind}
 use Rattle.aiger_netlist.specs.TextNetlist.{textSizes}
 use Rattle.aiger_netlist.specs.ImportVerdict.{textVerdict}
-use Rattle.aiger_netlist.specs.TextAig.{outputAt}
+use Rattle.aiger_netlist.specs.TextAig.{textAig}
 use Rattle.aiger_codes.specs.WireTable.{WireTable}
 
 -- the sizes of a text, with the caller's numbers in a record
@@ -32,6 +32,6 @@ pub record TextReady (s : List ℕ) (r : Netlist) : Type 0 where
 pub record TableFor (s : List ℕ) (r : Netlist) (table : List ℕ) (latches gates : ℕ) : Type 0 where
   pub full : length table ≡ 661
   pub wires : WireTable s (sizesOfText s r) table
-  pub outputs : (o : ℕ) → o < countsIn s .outputs → getD table (mostWires + 1 + o) 0 ≡ outputAt s o
+  pub outputs : (o : ℕ) → o < countsIn s .outputs → getD table (mostWires + 1 + o) 0 ≡ textAig s .output o
   pub latches-behind : Behind s (1 + countsIn s .inputs) latches
   pub gates-behind : Behind s (1 + countsIn s .inputs + countsIn s .latches + countsIn s .outputs) gates

@@ -15,7 +15,7 @@ use Rattle.decimal.specs.TextValue.{sameText}
 use Rattle.decimal.proofs.TextValue.{numberIn-empty}
 use Rattle.text_words.specs.Words.{linesOf, wordsOf, restAfter, partsAfter}
 use Rattle.aiger_lines.specs.Numbers.{wordNumbers, allUnsigned, unsignedValues, wordsAt}
-use Rattle.aiger_lines.specs.Parts.{aag, headerNumbers, numbersOnLine, countsIn, countsOf, partAt, linesDue, malformedLine, malformedAt}
+use Rattle.aiger_lines.specs.Parts.{aag, numbersBehind, numbersOnLine, countsIn, countsOf, partAt, linesDue, malformedLine, malformedAt}
 use Rattle.aiger_lines.specs.Steps.{spanTo, firstFive, numbersHeld, HoldsNumbers, Behind, NumbersRead, SoundTo}
 use Rattle.aiger_lines.specs.declared.Counts.{Counts}
 use Rattle.aiger_lines.specs.declared.Numbers.{Numbers}
@@ -30,7 +30,7 @@ numbers-empty : wordNumbers (wordsOf []) ≡ []
 unfolding wordNumbers wordsOf allUnsigned partsAfter restAfter
 numbers-empty = rw (numberIn-empty [] refl)
 
-header-empty : headerNumbers (wordsOf []) ≡ []
+header-empty : numbersBehind aag (wordsOf []) ≡ []
 unfolding wordsOf partsAfter restAfter sameText
 header-empty = refl
 
@@ -87,7 +87,7 @@ numbers-line s p l line e =
 numbers-missing : (s : List ℕ) (p : ℕ) → 1 ≤ p → getD (linesOf s) p [] ≡ [] → numbersOnLine s (p + 1) ≡ []
 numbers-missing s p l e = numbers-line s p l [] e ∙ numbers-empty
 
-header-numbers : (s : List ℕ) (line : List ℕ) → getD (linesOf s) 0 [] ≡ line → numbersOnLine s 1 ≡ headerNumbers (wordsOf line)
+header-numbers : (s : List ℕ) (line : List ℕ) → getD (linesOf s) 0 [] ≡ line → numbersOnLine s 1 ≡ numbersBehind aag (wordsOf line)
 unfolding numbersOnLine wordsAt
 header-numbers s line e = rw e
 
@@ -102,15 +102,15 @@ module _ (line : List ℕ) (end : ℕ) (found : end ≡ 0 + spanTo space (drop 0
       rw whole at (words-next line 0 end (omega arith) found l)
 
   pub header-read : end < length line → sameText (take end line) aag ≡ true
-      → headerNumbers (wordsOf line) ≡ wordNumbers (wordsOf (drop (end + 1) line))
-  header-read l e = ap headerNumbers (header-word l) ∙ rw e
+      → numbersBehind aag (wordsOf line) ≡ wordNumbers (wordsOf (drop (end + 1) line))
+  header-read l e = ap (numbersBehind aag) (header-word l) ∙ rw e
 
-  pub header-other : end < length line → sameText (take end line) aag ≡ false → headerNumbers (wordsOf line) ≡ []
-  header-other l e = ap headerNumbers (header-word l) ∙ rw e
+  pub header-other : end < length line → sameText (take end line) aag ≡ false → numbersBehind aag (wordsOf line) ≡ []
+  header-other l e = ap (numbersBehind aag) (header-word l) ∙ rw e
 
-  pub header-alone : length line ≤ end → headerNumbers (wordsOf line) ≡ []
+  pub header-alone : length line ≤ end → numbersBehind aag (wordsOf line) ≡ []
   unfolding wordNumbers allUnsigned unsignedValues
-  header-alone l = ap headerNumbers (words-over line 0 end (omega arith) found l) ∙ cond-none (sameText (take (end - 0) line) aag)
+  header-alone l = ap (numbersBehind aag) (words-over line 0 end (omega arith) found l) ∙ cond-none (sameText (take (end - 0) line) aag)
     where
       cond-none : (b : Bool) → _≡_ {A = List ℕ} (cond b [] []) []
       cond-none true = refl
@@ -131,7 +131,7 @@ module _ (s : List ℕ) (p at end : ℕ) (behind : Behind s p at) (found : end �
 
 -- So was line 1.
 module _ (s : List ℕ) (end : ℕ) (found : end ≡ 0 + spanTo lineFeed (drop 0 s)) (numbers : Numbers) where
-  pub first-found : end < length s → numbers ≡ firstFive (headerNumbers (wordsOf (take end s))) → NumbersRead s 0 numbers (end + 1)
+  pub first-found : end < length s → numbers ≡ firstFive (numbersBehind aag (wordsOf (take end s))) → NumbersRead s 0 numbers (end + 1)
   first-found b e =
       let line = line-found s 0 0 end (behind-none s) found b in
       let whole : end - 0 ≡ end = omega arith in

@@ -1,5 +1,5 @@
 -- Laws of specs/Parts.antt: the header's word and counts, and what a well-formed line has. No contract cites this file.
-use Prim.Native.Nat.{ℕ, _+_, _%_, _≤_, _<_}
+use Prim.Native.Nat.{ℕ, _+_, _*_, _%_, _≤_, _<_}
 use mathlib.Core.Path.{_≡_, refl, sym, ap, _∙_}
 use mathlib.Core.Bool.{Bool, true, false, not, _&&_, _||_}
 use mathlib.Core.List.{List, [], _∷_}
@@ -14,7 +14,7 @@ use lib.Seq.{drop-cons, take-all}
 use Rattle.model.proofs.Booleans.{neither-true, not-true-false}
 use Rattle.decimal.specs.TextValue.{sameText}
 use Rattle.decimal.proofs.TextValue.{sameText-true}
-use Rattle.aiger_lines.specs.Parts.{aag, countsFrom, countsOf, width, hasLiterals, defines, literalLimit, anyAbove, notDefinable, malformedLine}
+use Rattle.aiger_lines.specs.Parts.{aag, countsFrom, countsOf, width, defines, anyAbove, notDefinable, malformedLine}
 use Rattle.aiger_lines.specs.Steps.{firstFive, numbersHeld, HoldsNumbers}
 use Rattle.aiger_lines.specs.declared.Counts.{Counts}
 use Rattle.aiger_lines.specs.declared.Numbers.{Numbers}
@@ -90,11 +90,11 @@ malformedLine-count h part xs n = rw (ne-eqb (length xs) (width part) n)
 
 -- with the count that is due, the literals decide
 module _ (h : Counts) (part : Part) (xs : List ℕ) (count : length xs ≡ width part) where
-  pub malformedLine-high : (hasLiterals part && anyAbove (literalLimit h) xs) ≡ true → malformedLine h part xs ≡ true
+  pub malformedLine-high : (ltb (width part) 5 && anyAbove (2 * h .largest + 1) xs) ≡ true → malformedLine h part xs ≡ true
   unfolding malformedLine
   malformedLine-high e = rw (eq-eqb (length xs) (width part) count, e)
 
-  pub malformedLine-defined : (hasLiterals part && anyAbove (literalLimit h) xs) ≡ false → malformedLine h part xs ≡ (defines part && notDefinable (getD xs 0 0))
+  pub malformedLine-defined : (ltb (width part) 5 && anyAbove (2 * h .largest + 1) xs) ≡ false → malformedLine h part xs ≡ (defines part && notDefinable (getD xs 0 0))
   unfolding malformedLine
   malformedLine-defined e = rw (eq-eqb (length xs) (width part) count, e)
 
@@ -118,9 +118,9 @@ module _ (h : Counts) (part : Part) (xs : List ℕ) (well : malformedLine h part
   unfolding malformedLine
   tests =
       let a =
-      neither-true (not (eqb (length xs) (width part)) || (hasLiterals part && anyAbove (literalLimit h) xs))
+      neither-true (not (eqb (length xs) (width part)) || (ltb (width part) 5 && anyAbove (2 * h .largest + 1) xs))
       (defines part && notDefinable (getD xs 0 0)) .0 well in
-      (neither-true (not (eqb (length xs) (width part))) (hasLiterals part && anyAbove (literalLimit h) xs) .0 (a .0) .0, a .1)
+      (neither-true (not (eqb (length xs) (width part))) (ltb (width part) 5 && anyAbove (2 * h .largest + 1) xs) .0 (a .0) .0, a .1)
 
   pub well-count : length xs ≡ width part
   well-count = eqb-true (length xs) (width part) (not-false _ (tests .0))

@@ -16,7 +16,7 @@ use Rattle.decimal.proofs.TextValue.{sameText-refl, sameText-true, numberIn-dig
 use Rattle.text_words.specs.Words.{linesOf, wordsOf, spaced, Without}
 use Rattle.text_words.proofs.Words.{parts-first, parts-none, words-first, EachWithout, nothing, also, spaced-words, words-spaced, digits-without}
 use Rattle.aiger_lines.specs.Numbers.{isUnsigned, unsignedValue, allUnsigned, unsignedValues, wordNumbers, wordsAt}
-use Rattle.aiger_lines.specs.Parts.{aag, numbersBehind, headerNumbers, numbersOnLine}
+use Rattle.aiger_lines.specs.Parts.{aag, numbersBehind, numbersOnLine}
 use Rattle.aiger_lines.specs.Written.{numbersText, lineWithNumbers, TextAsWritten}
 
 -- no number has a space among its digits
@@ -73,7 +73,7 @@ aag-without (suc zero) l h = omega arith
 aag-without (suc (suc zero)) l h = omega arith
 aag-without (suc (suc (suc i))) l h = omega arith
 
-of-words : (ws : List (List ℕ)) → 0 < length (headerNumbers ws) → spaced ws ≡ aag ++ space ∷ numbersText (headerNumbers ws)
+of-words : (ws : List (List ℕ)) → 0 < length (numbersBehind aag ws) → spaced ws ≡ aag ++ space ∷ numbersText (numbersBehind aag ws)
 unfolding spaced numbersText wordNumbers allUnsigned unsignedValues
 of-words [] l = absurd (omega arith)
 of-words (w ∷ ws) l = by-word ws (sameText w aag) refl l
@@ -86,7 +86,7 @@ of-words (w ∷ ws) l = by-word ws (sameText w aag) refl l
         ap₂ (λ (a b : List ℕ). a ++ space ∷ b) (sameText-true w aag q) (ap spaced (sym (number-words (x ∷ ws) l)))
     by-word (x ∷ ws) false q l = absurd (omega arith)
 
-header-line : (s : List ℕ) → 0 < length (headerNumbers (wordsOf s)) → s ≡ aag ++ space ∷ numbersText (headerNumbers (wordsOf s))
+header-line : (s : List ℕ) → 0 < length (numbersBehind aag (wordsOf s)) → s ≡ aag ++ space ∷ numbersText (numbersBehind aag (wordsOf s))
 header-line s l = sym (spaced-words s) ∙ of-words (wordsOf s) l
 
 -- whatever word it begins with
@@ -113,7 +113,7 @@ wordNumbers-fit : (ws : List (List ℕ)) (i : ℕ) → getD (wordNumbers ws) i 0
 unfolding wordNumbers
 wordNumbers-fit ws i = chosen-fit (allUnsigned ws) (unsignedValues ws) i (unsignedValues-fit ws i)
 
-headerNumbers-fit : (ws : List (List ℕ)) (i : ℕ) → getD (headerNumbers ws) i 0 < 2 ^ 32
+headerNumbers-fit : (ws : List (List ℕ)) (i : ℕ) → getD (numbersBehind aag ws) i 0 < 2 ^ 32
 headerNumbers-fit [] i = omega arith
 headerNumbers-fit (w ∷ ws) i = chosen-fit (sameText w aag) (wordNumbers ws) i (wordNumbers-fit ws i)
 
@@ -121,7 +121,7 @@ pub numbersOnLine-fit : (s : List ℕ) (p i : ℕ) → getD (numbersOnLine s p) 
 unfolding numbersOnLine
 numbersOnLine-fit s p i = by-place (eqb p 1)
   where
-    by-place : (b : Bool) → getD (cond b (headerNumbers (wordsAt s p)) (wordNumbers (wordsAt s p))) i 0 < 2 ^ 32
+    by-place : (b : Bool) → getD (cond b (numbersBehind aag (wordsAt s p)) (wordNumbers (wordsAt s p))) i 0 < 2 ^ 32
     by-place true = headerNumbers-fit (wordsAt s p) i
     by-place false = wordNumbers-fit (wordsAt s p) i
 
@@ -135,14 +135,14 @@ read-as-written = record {
   text→numbers = λ s p xs l h e. rw e (back (eqb p 1) xs l h);
 }
   where
-    by-place : (b : Bool) (line : List ℕ) → 0 < length (cond b (headerNumbers (wordsOf line)) (wordNumbers (wordsOf line)))
-        → line ≡ cond b (aag ++ space ∷ numbersText (cond b (headerNumbers (wordsOf line)) (wordNumbers (wordsOf line))))
-        (numbersText (cond b (headerNumbers (wordsOf line)) (wordNumbers (wordsOf line))))
+    by-place : (b : Bool) (line : List ℕ) → 0 < length (cond b (numbersBehind aag (wordsOf line)) (wordNumbers (wordsOf line)))
+        → line ≡ cond b (aag ++ space ∷ numbersText (cond b (numbersBehind aag (wordsOf line)) (wordNumbers (wordsOf line))))
+        (numbersText (cond b (numbersBehind aag (wordsOf line)) (wordNumbers (wordsOf line))))
     by-place true line l = header-line line l
     by-place false line l = numbers-line line l
 
     back : (b : Bool) (xs : List ℕ) → 0 < length xs → ((i : ℕ) → getD xs i 0 < 2 ^ 32)
-        → cond b (headerNumbers (wordsOf (cond b (aag ++ space ∷ numbersText xs) (numbersText xs))))
+        → cond b (numbersBehind aag (wordsOf (cond b (aag ++ space ∷ numbersText xs) (numbersText xs))))
         (wordNumbers (wordsOf (cond b (aag ++ space ∷ numbersText xs) (numbersText xs)))) ≡ xs
     back true xs l h = line-behind aag aag-without xs l h
     back false xs l h = line-numbers xs l h

@@ -1,7 +1,7 @@
 -- The numbers that the words of a line are (RULES I2). Cited by the lines of an ASCII AIGER text.
 use Prim.Native.Nat.{ℕ, _-_}
 use mathlib.Core.Bool.{Bool, true, false, cond, _&&_}
-use mathlib.Core.List.{List, [], _∷_}
+use mathlib.Core.List.{List, [], _∷_, map}
 use lib.ListN.{getD}
 use Rattle.decimal.specs.TextValue.{numberIn}
 use Rattle.decimal.specs.declared.Number.{Number}
@@ -22,8 +22,7 @@ allUnsigned [] = true
 allUnsigned (w ∷ ws) = isUnsigned (numberIn w) && allUnsigned ws
 
 unfoldable pub unsignedValues : List (List ℕ) → List ℕ
-unsignedValues [] = []
-unsignedValues (w ∷ ws) = unsignedValue (numberIn w) ∷ unsignedValues ws
+unsignedValues ws = map (λ w. unsignedValue (numberIn w)) ws
 
 -- the numbers that words are; none where one of them is no number
 unfoldable pub wordNumbers : List (List ℕ) → List ℕ

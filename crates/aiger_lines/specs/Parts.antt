@@ -20,13 +20,9 @@ abbrev pub numbersBehind : List ℕ → List (List ℕ) → List ℕ
 numbersBehind word [] = []
 numbersBehind word (w ∷ ws) = cond (sameText w word) (wordNumbers ws) []
 
--- those behind `aag`
-abbrev pub headerNumbers : List (List ℕ) → List ℕ
-headerNumbers ws = numbersBehind aag ws
-
--- the numbers on line p: none where the text has no such line, or where a word is no number
+-- the numbers on line p, of line 1 those behind `aag`: none where the text has no such line, or where a word is no number
 unfoldable pub numbersOnLine : List ℕ → ℕ → List ℕ
-numbersOnLine s p = cond (eqb p 1) (headerNumbers (wordsAt s p)) (wordNumbers (wordsAt s p))
+numbersOnLine s p = cond (eqb p 1) (numbersBehind aag (wordsAt s p)) (wordNumbers (wordsAt s p))
 
 -- RULES I3: the header's counts, M I L O A; all 0 where line 1 is no header
 abbrev pub countsFrom : List ℕ → Counts
@@ -72,24 +68,13 @@ width Latch = 2
 width Output = 1
 width Gate = 3
 
--- whether its numbers are literals, and the first of them is one that it defines
-abbrev pub hasLiterals : Part → Bool
-hasLiterals Header = false
-hasLiterals Input = true
-hasLiterals Latch = true
-hasLiterals Output = true
-hasLiterals Gate = true
-
+-- whether the first of them is a literal that it defines
 abbrev pub defines : Part → Bool
 defines Header = false
 defines Input = true
 defines Latch = true
 defines Output = false
 defines Gate = true
-
--- the largest literal
-abbrev pub literalLimit : Counts → ℕ
-literalLimit h = 2 * h .largest + 1
 
 unfoldable pub anyAbove : ℕ → List ℕ → Bool
 anyAbove limit [] = false
@@ -99,12 +84,12 @@ anyAbove limit (x ∷ xs) = ltb limit x || anyAbove limit xs
 abbrev pub notDefinable : ℕ → Bool
 notDefinable x = ltb x 2 || eqb (x % 2) 1
 
--- RULES I4: a line of a part with these numbers is not well-formed: too few or too many of them, a literal above 2M + 1, or a defined
--- one that is odd or below 2
+-- RULES I4: a line of a part with these numbers is not well-formed: too few or too many of them, a literal above 2M + 1 (the header's five numbers are
+-- none), or a defined one that is odd or below 2
 unfoldable pub malformedLine : Counts → Part → List ℕ → Bool
 malformedLine h part xs =
     not (eqb (length xs) (width part))
-    || (hasLiterals part && anyAbove (literalLimit h) xs)
+    || (ltb (width part) 5 && anyAbove (2 * h .largest + 1) xs)
     || (defines part && notDefinable (getD xs 0 0))
 
 unfoldable pub malformedAt : List ℕ → ℕ → Bool

@@ -3,12 +3,13 @@ use decimal::Number;
 ghost use mathlib.Core.Path.{_≡_};
 ghost use mathlib.Core.Bool.{_&&_};
 ghost use mathlib.Core.List.{[]};
-ghost use Prim.Native.Nat.{_+_, _≤_};
+ghost use Prim.Native.Nat.{_+_, _*_, _≤_};
+ghost use lib.Dec.{ltb};
 ghost use lib.ListN.{length, drop};
 ghost use Rattle.decimal.specs.TextValue.{sameText};
 ghost use Rattle.text_words.specs.Words.{wordsOf};
 ghost use Rattle.aiger_lines.specs.Numbers.{wordNumbers};
-ghost use Rattle.aiger_lines.specs.Parts.{aag, headerNumbers, countsOf, partAt, linesDue, width, hasLiterals, defines, literalLimit, anyAbove, notDefinable, malformedLine};
+ghost use Rattle.aiger_lines.specs.Parts.{aag, numbersBehind, countsOf, partAt, linesDue, width, defines, anyAbove, notDefinable, malformedLine};
 ghost use Rattle.aiger_lines.specs.Written.{TextAsWritten};
 ghost use Rattle.aiger_lines.specs.Steps.{spanTo, firstFive, numbersHeld, HoldsNumbers, Behind, NumbersRead, HeaderRead, SoundTo};
 
@@ -116,7 +117,7 @@ fn is_aag(word: &[u8]) -> bool
 
 // The numbers behind the word `aag`.
 fn header_numbers(line: &[u8]) -> Numbers
-    ensures { λ r. ⌜ r ≡ firstFive (headerNumbers (wordsOf (now (line .entry)))) ⌝ }
+    ensures { λ r. ⌜ r ≡ firstFive (numbersBehind aag (wordsOf (now (line .entry)))) ⌝ }
 {
     let end = find(line, 0, b' ');
     if end < line.len() {
@@ -241,20 +242,7 @@ fn width(part: Part) -> usize
     }
 }
 
-// Whether its numbers are literals.
-fn has_literals(part: Part) -> bool
-    ensures { λ r. ⌜ r ≡ hasLiterals part ⌝ }
-{
-    match part {
-        Part::Header => false,
-        Part::Input => true,
-        Part::Latch => true,
-        Part::Output => true,
-        Part::Gate => true,
-    }
-}
-
-// Whether the first of them is one that it defines.
+// Whether the first of its numbers is a literal that it defines.
 fn defines(part: Part) -> bool
     ensures { λ r. ⌜ r ≡ defines part ⌝ }
 {
@@ -282,12 +270,12 @@ fn any_above(limit: u64, numbers: Numbers) -> bool
     false
 }
 
-// Whether a line of a part has a literal above 2M + 1.
+// Whether a line of a part has a literal above 2M + 1. The header's five numbers are none.
 fn has_high_literal(counts: Counts, part: Part, numbers: Numbers) -> bool
     requires { ⌜ HoldsNumbers numbers ⌝ }
-    ensures { λ r. ⌜ r ≡ (hasLiterals part && anyAbove (literalLimit counts) (numbersHeld numbers)) ⌝ }
+    ensures { λ r. ⌜ r ≡ (ltb (width part) 5 && anyAbove (2 * counts .largest + 1) (numbersHeld numbers)) ⌝ }
 {
-    if has_literals(part) {
+    if width(part) < 5 {
         return any_above(2 * (counts.largest as u64) + 1, numbers);
     }
     false

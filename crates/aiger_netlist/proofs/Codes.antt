@@ -22,8 +22,8 @@ use Rattle.aiger_graph.specs.RecordAig.{controlOutput}
 use Rattle.aiger_lines.specs.Parts.{countsIn, linesDue, textGateLine}
 use Rattle.aiger_lines.specs.declared.Counts.{Counts}
 use Rattle.aiger_definitions.specs.Definitions.{numberAt}
-use Rattle.aiger_netlist.specs.TextNetlist.{textSizes, wireOf, wireOfVariable, codeFrom, netOfCodes, aagNet}
-use Rattle.aiger_netlist.specs.TextAig.{nextAt, outputAt}
+use Rattle.aiger_netlist.specs.TextNetlist.{textSizes, wireOf, wireOfVariable, netOfCodes, aagNet}
+use Rattle.aiger_netlist.specs.TextAig.{textAig}
 use Rattle.aiger_netlist.proofs.Lines.{Defining, by-input, by-latch, by-gate, wire-input, wire-read, wire-latch, wire-gate}
 use Rattle.aiger_netlist.proofs.Defined.{WellDefined, Known, constant, line, wire-defined, next-known, output-known, left-known, right-known}
 
@@ -54,7 +54,7 @@ module _ (s : List ℕ) (ok : WellDefined s) (m n word unknown second : ℕ) (fi
   wire-below g before (by-gate e b k) = rw (k, wire-gate (countsIn s) sizes (omega arith) e) (omega arith)
 
   -- so a code whose variable is known before gate g has a code below twice its wire
-  code-below : (p g x : ℕ) → p ≤ textGateLine (countsIn s) g → Known s p (x / 2) → codeFrom s sizes x < 2 * gateWire sizes g
+  code-below : (p g x : ℕ) → p ≤ textGateLine (countsIn s) g → Known s p (x / 2) → renamed (wireOfVariable s sizes) x < 2 * gateWire sizes g
   unfolding renamed
   code-below p g x b k = let w = below k in omega (arith, w)
     where
@@ -63,7 +63,7 @@ module _ (s : List ℕ) (ok : WellDefined s) (m n word unknown second : ℕ) (fi
       below (line q l d e) = rw (e, wire-defined s ok sizes d) (wire-below g (omega arith) d)
 
   -- and every code is one of the netlist's
-  code-fits : (x : ℕ) → Known s (linesDue (countsIn s) + 1) (x / 2) → codeFrom s sizes x ≤ 2 * lastWire sizes + 1
+  code-fits : (x : ℕ) → Known s (linesDue (countsIn s) + 1) (x / 2) → renamed (wireOfVariable s sizes) x ≤ 2 * lastWire sizes + 1
   code-fits x k = let w = code-below (linesDue (countsIn s) + 1) (countsIn s .gates) x (omega arith) k in omega (arith, w)
 
   -- a second port has m address codes
@@ -76,7 +76,7 @@ module _ (s : List ℕ) (ok : WellDefined s) (m n word unknown second : ℕ) (fi
       let due = fits .outputs-due in
       let control = controlOutput m n second in
       record {
-        next-fits = λ l b. rw (lt-ltb l (countsIn s .latches) b) (code-fits (nextAt s l) (next-known s ok l b));
+        next-fits = λ l b. rw (lt-ltb l (countsIn s .latches) b) (code-fits (textAig s .next l) (next-known s ok l b));
         reset-fits = λ l b. omega arith;
         left-fits = λ g b.
             rw (lt-ltb g (countsIn s .gates) b)
@@ -86,19 +86,19 @@ module _ (s : List ℕ) (ok : WellDefined s) (m n word unknown second : ℕ) (fi
             (code-below (textGateLine (countsIn s) g) g (numberAt s (textGateLine (countsIn s) g) 2) (omega arith) (right-known s ok g b));
         address-fits =
             each-port (aagNet s m n word unknown second) (λ a e. (t : ℕ) → t < m → a t ≤ 2 * lastWire (aagNet s m n word unknown second) + 1)
-            (λ t b. rw (lt-ltb t m b) (code-fits (outputAt s t) (output-known s ok t (omega arith))))
+            (λ t b. rw (lt-ltb t m b) (code-fits (textAig s .output t) (output-known s ok t (omega arith))))
             (λ some t b.
             let long = second-long some in
-            rw (lt-ltb t (second * m) (omega arith)) (code-fits (outputAt s (m + n + t)) (output-known s ok (m + n + t) (omega arith))));
-        data-fits = λ t b. rw (lt-ltb t n b) (code-fits (outputAt s (m + t)) (output-known s ok (m + t) (omega arith)));
-        WE-fits = code-fits (outputAt s control) (output-known s ok control (omega arith));
+            rw (lt-ltb t (second * m) (omega arith)) (code-fits (textAig s .output (m + n + t)) (output-known s ok (m + n + t) (omega arith))));
+        data-fits = λ t b. rw (lt-ltb t n b) (code-fits (textAig s .output (m + t)) (output-known s ok (m + t) (omega arith)));
+        WE-fits = code-fits (textAig s .output control) (output-known s ok control (omega arith));
         RE-fits =
             each-port (aagNet s m n word unknown second) (λ a e. e ≤ 2 * lastWire (aagNet s m n word unknown second) + 1)
-            (code-fits (outputAt s (control + 1)) (output-known s ok (control + 1) (omega arith)))
+            (code-fits (textAig s .output (control + 1)) (output-known s ok (control + 1) (omega arith)))
             (λ some.
             let long = second-long some in
-            rw (lt-ltb 0 second some) (code-fits (outputAt s (m + n + m)) (output-known s ok (m + n + m) (omega arith))));
-        P-fits = omega (arith, code-fits (outputAt s (control + 2)) (output-known s ok (control + 2) (omega arith)));
+            rw (lt-ltb 0 second some) (code-fits (textAig s .output (m + n + m)) (output-known s ok (m + n + m) (omega arith))));
+        P-fits = omega (arith, code-fits (textAig s .output (control + 2)) (output-known s ok (control + 2) (omega arith)));
       }
 
   -- 5 is never met

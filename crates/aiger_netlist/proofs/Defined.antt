@@ -17,7 +17,7 @@ use Rattle.aiger_lines.proofs.Parts.{well-defined}
 use Rattle.aiger_definitions.specs.Definitions.{numberAt, definedAt, definesAgain, isUndefined, undefinedAt}
 use Rattle.aiger_definitions.proofs.Places.{defined-first, defined-before, latch-defined, output-defined, gate-defined}
 use Rattle.aiger_netlist.specs.TextNetlist.{wireOf, definingLine, wireOfVariable}
-use Rattle.aiger_netlist.specs.TextAig.{nextAt, outputAt}
+use Rattle.aiger_netlist.specs.TextAig.{textAig}
 use Rattle.aiger_netlist.proofs.Lines.{Defining, part-latch, part-output, part-gate, defining, defining-due, defining-defines}
 
 -- no line due has one of the faults
@@ -75,16 +75,16 @@ module _ (s : List ℕ) (ok : WellDefined s) where
 
   -- the codes of the text
   pub next-known : (l : ℕ) → l < countsIn s .latches
-      → Known s (linesDue (countsIn s) + 1) (nextAt s l / 2)
+      → Known s (linesDue (countsIn s) + 1) (textAig s .next l / 2)
   next-known l b =
       let p = textLatchLine (countsIn s) l in
-      known s (linesDue (countsIn s) + 1) (nextAt s l) (omega arith)
+      known s (linesDue (countsIn s) + 1) (textAig s .next l) (omega arith)
       (latch-defined s p (ok .none-undefined p (omega arith) (omega arith)) (part-latch (countsIn s) l b))
 
-  pub output-known : (o : ℕ) → o < countsIn s .outputs → Known s (linesDue (countsIn s) + 1) (outputAt s o / 2)
+  pub output-known : (o : ℕ) → o < countsIn s .outputs → Known s (linesDue (countsIn s) + 1) (textAig s .output o / 2)
   output-known o b =
       let p = textOutputLine (countsIn s) o in
-      known s (linesDue (countsIn s) + 1) (outputAt s o) (omega arith)
+      known s (linesDue (countsIn s) + 1) (textAig s .output o) (omega arith)
       (output-defined s p (ok .none-undefined p (omega arith) (omega arith)) (part-output (countsIn s) o b))
 
   module _ (g : ℕ) (b : g < countsIn s .gates) where

@@ -11,6 +11,7 @@ use native.Mathlib.Omega.{arith}
 use lib.Dec.{ltb}
 use borrow.Author.Tests.{lt-ltb, le-ltb, eq-eqb, ne-eqb}
 use Rattle.model.specs.Netlist.{Netlist, inputWire, latchWire, readWire, gateWire}
+use Rattle.model.specs.Network.{renamed}
 use Rattle.model.proofs.Renumbering as Renumbering
 use Rattle.model.proofs.Renumbering.{DefinedBefore, source, gate, Defined, straight}
 use Rattle.aiger_graph.specs.RecordAig.{inputOrRead, controlOutput, outputOf, recordAig}
@@ -18,8 +19,8 @@ use Rattle.aiger_graph.proofs.RecordAig.{some-second}
 use Rattle.aiger_graph.proofs.Values.{AigSource, an-input, a-latch, AigDefined, RenumbersAig}
 use Rattle.aiger_lines.specs.Parts.{countsIn, linesDue, textInputLine, textLatchLine, textGateLine}
 use Rattle.aiger_definitions.specs.Definitions.{definedAt}
-use Rattle.aiger_netlist.specs.TextNetlist.{textSizes, wireOfVariable, codeFrom, netOfCodes, aagNet}
-use Rattle.aiger_netlist.specs.TextAig.{outputAt, textAig}
+use Rattle.aiger_netlist.specs.TextNetlist.{textSizes, wireOfVariable, netOfCodes, aagNet}
+use Rattle.aiger_netlist.specs.TextAig.{textAig}
 use Rattle.aiger_netlist.proofs.Lines.{by-input, by-latch, by-gate, wire-input, wire-read, wire-latch, wire-gate}
 use Rattle.aiger_netlist.proofs.Defined.{WellDefined, Known, constant, line, wire-defined, next-known, output-known, left-known, right-known}
 use Rattle.aiger_netlist.proofs.Codes.{FitsInterface, wire-zero}
@@ -78,7 +79,7 @@ module _ (s : List ℕ) (ok : WellDefined s) where
 
     -- of a second port
     second-renumbered : second ≤ 1 → (t : ℕ) → t < second * (m + 1)
-        → cond (ltb t m) (net .address2 t) (net .RE2) ≡ codeFrom s sizes (outputAt s (m + n + t))
+        → cond (ltb t m) (net .address2 t) (net .RE2) ≡ renamed (wireOfVariable s sizes) (textAig s .output (m + n + t))
     unfolding netOfCodes
     second-renumbered most t b =
         let some = some-second second m t b in
@@ -87,7 +88,7 @@ module _ (s : List ℕ) (ok : WellDefined s) where
         by-cases (decLt t m) (λ l. rw (lt-ltb t m l, lt-ltb t (second * m) (omega (arith, times m))))
         (λ l. let last : t ≡ m = omega (arith, times (m + 1)) in rw (le-ltb t m (omega arith), lt-ltb 0 second some, last))
 
-    output-renumbered : second ≤ 1 → (o : ℕ) → o < countsIn s .outputs → outputOf net o ≡ codeFrom s sizes (outputAt s o)
+    output-renumbered : second ≤ 1 → (o : ℕ) → o < countsIn s .outputs → outputOf net o ≡ renamed (wireOfVariable s sizes) (textAig s .output o)
     unfolding netOfCodes outputOf
     output-renumbered most o b =
         let control = controlOutput m n second in
@@ -100,7 +101,7 @@ module _ (s : List ℕ) (ok : WellDefined s) where
         (λ f.
         let back : m + n + (o - (m + n)) ≡ o = omega arith in
         rw (le-ltb o m (omega arith), le-ltb o (m + n) (omega arith), lt-ltb o control f)
-        (second-renumbered most (o - (m + n)) (omega arith) ∙ ap (λ (x : ℕ). codeFrom s sizes (outputAt s x)) back)) λ f.
+        (second-renumbered most (o - (m + n)) (omega arith) ∙ ap (λ (x : ℕ). renamed (wireOfVariable s sizes) (textAig s .output x)) back)) λ f.
         rw (le-ltb o m (omega arith), le-ltb o (m + n) (omega arith), le-ltb o control (omega arith))
         (by-cases (ℕ-discrete o control) (λ e. rw (eq-eqb o control e, e)) λ e.
         by-cases (ℕ-discrete o (control + 1)) (λ k. rw (ne-eqb o control e, eq-eqb o (control + 1) k, k)) λ k.

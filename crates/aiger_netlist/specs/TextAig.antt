@@ -6,13 +6,6 @@ use Rattle.aiger_graph.specs.Aig.{Aig}
 use Rattle.aiger_lines.specs.Parts.{countsIn, textInputLine, textLatchLine, textOutputLine, textGateLine}
 use Rattle.aiger_definitions.specs.Definitions.{numberAt, definedAt}
 
--- the next code of a latch, and an output
-abbrev pub nextAt : List ℕ → ℕ → ℕ
-nextAt s l = numberAt s (textLatchLine (countsIn s) l) 1
-
-abbrev pub outputAt : List ℕ → ℕ → ℕ
-outputAt s o = numberAt s (textOutputLine (countsIn s) o) 0
-
 abbrev pub textAig : List ℕ → Aig
 textAig s =
     record {
@@ -21,8 +14,8 @@ textAig s =
       outputs = countsIn s .outputs;
       inputVariable = λ x. definedAt s (textInputLine (countsIn s) x);
       latchVariable = λ l. definedAt s (textLatchLine (countsIn s) l);
-      next = nextAt s;
-      output = outputAt s;
+      next = λ l. numberAt s (textLatchLine (countsIn s) l) 1;
+      output = λ o. numberAt s (textOutputLine (countsIn s) o) 0;
       network =
           record {
             gates = countsIn s .gates;

@@ -17,18 +17,7 @@ use Rattle.aiger_definitions.specs.Definitions.{numberAt, definedAt}
 
 -- the sizes: the inputs that are not read bits, the latches and the gates of the header; with no codes
 abbrev pub textSizes : Counts → ℕ → ℕ → ℕ → ℕ → ℕ → Netlist
-textSizes h m n word unknown second =
-    withoutCodes
-    (record {
-      inputs = h .inputs - suc second * n;
-      latches = h .latches;
-      gates = h .gates;
-      m = m;
-      n = n;
-      initialWord = word;
-      unknownStart = unknown;
-      secondPort = second;
-    })
+textSizes h m n word unknown second = withoutCodes (h .inputs - suc second * n) (h .latches) (h .gates) m n word unknown second
 
 -- the wire of what line p defines, in a netlist of the sizes c: an input, a read bit, a latch or a gate
 unfoldable pub wireOf : Counts → Netlist → ℕ → ℕ
@@ -44,10 +33,6 @@ definingLine s v = firstWhere (λ p. eqb (definedAt s p) v) (linesDue (countsIn 
 -- the wire of the variable v; the constant stays 0
 unfoldable pub wireOfVariable : List ℕ → Netlist → ℕ → ℕ
 wireOfVariable s c v = cond (eqb v 0) 0 (wireOf (countsIn s) c (definingLine s v))
-
--- a code of the text as a code of the netlist
-abbrev pub codeFrom : List ℕ → Netlist → ℕ → ℕ
-codeFrom s c x = renamed (wireOfVariable s c) x
 
 -- the netlist of the sizes c, where `code p i` is the code for number i of line p. Outputs: m address codes, n write-data codes, of a second port m
 -- address codes and RE, then WE, RE, P
@@ -79,4 +64,4 @@ netOfCodes h c code =
 abbrev pub aagNet : List ℕ → ℕ → ℕ → ℕ → ℕ → ℕ → Netlist
 aagNet s m n word unknown second =
     let c = textSizes (countsIn s) m n word unknown second in
-    netOfCodes (countsIn s) c (λ p i. codeFrom s c (numberAt s p i))
+    netOfCodes (countsIn s) c (λ p i. renamed (wireOfVariable s c) (numberAt s p i))

@@ -2,7 +2,7 @@
 -- said of what a solver claims.
 use Prim.Native.Nat.{ℕ}
 use mathlib.Core.Bool.{Bool, true, false, cond, _&&_}
-use mathlib.Core.List.{List, [], _∷_, _++_}
+use mathlib.Core.List.{List, [], _∷_, _++_, map}
 use lib.Dec.{eqb}
 use lib.IntN.{ℤ, pos, natAbs}
 use lib.ListN.{take, drop}
@@ -61,8 +61,7 @@ allClauseNumbers [] = true
 allClauseNumbers (w ∷ ws) = isClauseNumber (clauseNumberIn w) && allClauseNumbers ws
 
 unfoldable pub clauseNumbers : List (List ℕ) → List ℤ
-clauseNumbers [] = []
-clauseNumbers (w ∷ ws) = numberValue (clauseNumberIn w) ∷ clauseNumbers ws
+clauseNumbers ws = map (λ w. numberValue (clauseNumberIn w)) ws
 
 -- RULES Q4: "the letter `v` and one or more numbers, a single space before each"; an empty word is no number
 abbrev pub isMarked : List ℕ → Bool

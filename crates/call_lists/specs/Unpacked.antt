@@ -12,7 +12,7 @@ unfoldable pub pairsOf : {X : Type 0} → (X → ℕ) → (X → ℕ) → List X
 pairsOf first second [] = []
 pairsOf first second (x ∷ xs) = first x ∷ second x ∷ pairsOf first second xs
 
--- A list's first 600 records. No size is above 600, so no later record counts.
+-- A list's first 600 records. No size is above 600, so no later record counts (RULES T39: "past the sizes are ignored").
 unfoldable pub gateCodes : List GateEntry → List ℕ
 gateCodes gates = pairsOf (λ (g : GateEntry). g .left .0) (λ (g : GateEntry). g .right .0) (take mostWires gates)
 

@@ -9,11 +9,10 @@ use Rattle.model.specs.Bits.{odd}
 use Rattle.model.specs.Clauses.{neg}
 use Rattle.model.specs.Variables.{codeIn}
 use Rattle.model.specs.Numbers.{literalNumber}
-use Rattle.refusals.specs.Refusal.{refusalNumber}
-use Rattle.refusals.specs.Tests.{refuseIf, _then_}
+use Rattle.refusals.specs.Refusal.{replyOf}
+use Rattle.refusals.specs.Tests.{refuseIf, _then_, ifPassed}
 use Rattle.refusals.specs.declared.Refusal.the-variants.{Size, CodeOutside}
 use Rattle.refusals.specs.declared.Verdict.{Verdict}
-use Rattle.refusals.specs.declared.Verdict.the-variants.{Passed, Refused}
 use Rattle.netlist.specs.Faults.{sizeFault}
 use Rattle.netlist_tests.specs.Record.{testLines}
 use Rattle.call_unpacked.specs.Calls.{testDepth}
@@ -32,8 +31,7 @@ literalVerdict c p x =
     then refuseIf (ltb (2 * lastWire c + 1) x) CodeOutside 0
 
 unfoldable pub withLiteral : Verdict → ℤ → LiteralReply
-withLiteral Passed z = record { number = 0; place = 0; literal = z }
-withLiteral (Refused r place) z = record { number = refusalNumber r; place = place; literal = pos 0 }
+withLiteral v z = record { number = replyOf v .number; place = replyOf v .place; literal = ifPassed v z (pos 0) }
 
 unfoldable pub literalSent : Netlist → Position → ℕ → LiteralReply
 literalSent c p x = withLiteral (literalVerdict c p x) (literalNumber (codeIn c (p .frame) x))

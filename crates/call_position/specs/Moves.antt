@@ -4,8 +4,8 @@ use mathlib.Core.Path.{_≡_}
 use mathlib.Core.Bool.{cond}
 use lib.Dec.{eqb}
 use Rattle.model.specs.Netlist.{Netlist}
-use Rattle.refusals.specs.Refusal.{refusalNumber}
-use Rattle.refusals.specs.Tests.{_then_}
+use Rattle.refusals.specs.Refusal.{replyOf}
+use Rattle.refusals.specs.Tests.{_then_, ifPassed}
 use Rattle.refusals.specs.declared.Refusal.the-variants.{NoSuchGroup}
 use Rattle.refusals.specs.declared.Verdict.{Verdict}
 use Rattle.refusals.specs.declared.Verdict.the-variants.{Passed, Refused}
@@ -47,8 +47,7 @@ keptAt p Back = p
 keptAt p NoMove = p
 
 unfoldable pub withPosition : Verdict → Position → Position → PositionReply
-withPosition Passed new old = record { number = 0; place = 0; position = new }
-withPosition (Refused r place) new old = record { number = refusalNumber r; place = place; position = old }
+withPosition v new old = record { number = replyOf v .number; place = replyOf v .place; position = ifPassed v new old }
 
 -- what a move answers
 unfoldable pub moveSent : Netlist → ℕ → ℕ → Position → Move → PositionReply

@@ -16,8 +16,8 @@ use Rattle.model.specs.Numbers.{numbersOf, joined, formula, clausesIn}
 use Rattle.model.specs.Acceptance.{Accepted}
 use Rattle.model.specs.Claim.{Encodes}
 use Rattle.model.specs.declared.Group.{Group}
-use Rattle.refusals.specs.Refusal.{refusalNumber}
-use Rattle.refusals.specs.Tests.{refuseIf, _then_}
+use Rattle.refusals.specs.Refusal.{replyOf}
+use Rattle.refusals.specs.Tests.{refuseIf, _then_, ifPassed}
 use Rattle.refusals.specs.Slices.{testRoom, withCount, contentsAfter}
 use Rattle.refusals.specs.declared.CountReply.{CountReply}
 use Rattle.refusals.specs.declared.Refusal.the-variants.{Depth, NoSuchGroup}
@@ -54,8 +54,7 @@ headingVerdict c latchCount gateCount k = recordVerdict c latchCount gateCount t
 
 -- a verdict, with the heading beside it. RULES T43: "A count, a heading .. is all zeros"
 unfoldable pub withHeading : Verdict → ℕ → ℕ → HeadingReply
-withHeading Passed v n = record { number = 0; place = 0; variables = v; clauses = n }
-withHeading (Refused r p) v n = record { number = refusalNumber r; place = p; variables = 0; clauses = 0 }
+withHeading w v n = record { number = replyOf w .number; place = replyOf w .place; variables = ifPassed w v 0; clauses = ifPassed w n 0 }
 
 -- the answers of both calls in numbers (RULES N9)
 unfoldable pub groupReply : GroupAnswer → CountReply

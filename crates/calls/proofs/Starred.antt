@@ -5,7 +5,7 @@ use Rattle.model.specs.Netlist.{startOf}
 use Rattle.model.specs.Circuit.{sweep, isRead, eitherWire, dependsOnRead}
 use Rattle.model.specs.Gather.{gather, gatherDown}
 use Rattle.model.specs.Clauses.{neg, andClauses, sameIfClauses, bitClauses, addressBitClauses, unequalOf, allBits, forwardedClauses, agreedReads, pairClauses, initialReadClauses, initialReads, heldClauses, heldReads, selectedOf, someSource, closingClauses}
-use Rattle.model.specs.Variables.{baseOf, base, pairBaseOf, pairBase, wireAt, codeAt, noneSince, selected, readBit, pairLiterals, closingLiterals}
+use Rattle.model.specs.Variables.{base, pairBase, wireAt, codeAt, noneSince, selected, readBit, pairLiterals, closingLiterals}
 use Rattle.model.specs.Groups.{violationOf, clausesOf, atPorts, frameGroups, groupOrder, inDepth}
 use Rattle.model.specs.Numbers.{keptOf, kept, isTrue, hasTrue, endOf, writtenClause, written, numbersOf, joined, formula, splitAfter, clausesIn}
 use Rattle.model.specs.Search.{anyBelow, seen}
@@ -23,17 +23,17 @@ use Rattle.sheet_lines.specs.Lines.{fieldIn, allAsWanted, lineWith, lineOf}
 use Rattle.sheet_lines.specs.Depth.{depthField, fieldVerdict, depthVerdict}
 use Rattle.sheet_steps.specs.LineFaults.{faultsAt}
 use Rattle.sheet_parse.specs.Files.{lineIn, sizesIn, netOfLines, netIn}
-use Rattle.sheet_parse.specs.FileTests.{ragged, notDue, testLineIn}
+use Rattle.sheet_parse.specs.FileTests.{ragged, testRead, testLineIn}
 use Rattle.sheet_tests.specs.Sheet.{endVerdict, fileVerdict, sheetVerdict}
 use Rattle.calls.specs.Starred.{sheet, net, rows, Starred}
 
 pub starred : Starred
 unfolding odd bit sweep isRead eitherWire dependsOnRead neg gather gatherDown andClauses sameIfClauses bitClauses addressBitClauses unequalOf allBits
-    forwardedClauses agreedReads pairClauses initialReadClauses initialReads heldClauses heldReads selectedOf someSource closingClauses baseOf base pairBaseOf pairBase wireAt codeAt noneSince
+    forwardedClauses agreedReads pairClauses initialReadClauses initialReads heldClauses heldReads selectedOf someSource closingClauses base pairBase wireAt codeAt noneSince
     selected readBit pairLiterals closingLiterals violationOf clausesOf atPorts frameGroups groupOrder inDepth keptOf
     kept isTrue hasTrue endOf writtenClause written numbersOf joined formula splitAfter clausesIn _then_ inOrder lineAt startOf startFault sizeFault codeFault seen anyBelow isTied tieFault loopFaultBy testLines
     recordVerdict testDepth testGroup testRoom groupVerdict headingVerdict digitsWithin digits field sameText
     valueAfter numberIn dropSpaces filledWith behindSpaces fieldOf kindOf contentOf fieldIn allAsWanted lineWith lineOf
-    depthField fieldVerdict depthVerdict faultsAt lineIn sizesIn netOfLines netIn ragged notDue testLineIn endVerdict
+    depthField fieldVerdict depthVerdict faultsAt lineIn sizesIn netOfLines netIn ragged testRead testLineIn endVerdict
     fileVerdict sheetVerdict sheet net rows
 starred = refl

@@ -1,34 +1,20 @@
--- What the public calls over a record and its lent lists answer, leave and claim (RULES T40, T41, A13 and A14): the calls over a
--- netlist (call_unpacked/specs/Calls), for the netlist that record and lists stand for. Cited by `heading` and `write_group`, here and in `marrubigai`.
+-- What is claimed of the calls over a record and its lent lists (RULES A1, A13 and A14): demand 3 of the calls over a netlist (call_unpacked/specs/Calls),
+-- for the netlist that record and lists stand for. Cited by `heading`, here and in `marrubigai`.
 use Prim.Native.Nat.{ℕ, _≤_}
 use mathlib.Core.Path.{_≡_}
 use mathlib.Core.Logic.{_↔_}
 use mathlib.Core.List.{List}
-use lib.IntN.{ℤ}
 use lib.ListN.{length}
 use Rattle.model.specs.Limits.{mostDepth}
 use Rattle.model.specs.Netlist as model
 use Rattle.model.specs.Acceptance.{Accepted}
-use Rattle.model.specs.declared.Group.{Group}
-use Rattle.refusals.specs.declared.CountReply.{CountReply}
 use Rattle.refusals.specs.declared.Verdict.the-variants.{Passed}
 use Rattle.netlist.specs.declared.Netlist.{Netlist}
 use Rattle.netlist_tests.specs.Record.{recordVerdict}
 use Rattle.call_lists.specs.Lent.{netLent}
 use Rattle.call_lists.specs.declared.LatchEntry.{LatchEntry}
 use Rattle.call_lists.specs.declared.GateEntry.{GateEntry}
-use Rattle.call_unpacked.specs.declared.HeadingReply.{HeadingReply}
-use Rattle.call_unpacked.specs.Calls.{groupSent, groupLeaves, headingSent, CallsEncode}
-
-abbrev pub headingFor : Netlist → List LatchEntry → List GateEntry → ℕ → HeadingReply
-headingFor net latches gates k = headingSent (netLent net latches gates) (length latches) (length gates) k
-
--- for a slice of `room` numbers, and the contents after of a slice that held `old`
-abbrev pub groupFor : Netlist → List LatchEntry → List GateEntry → ℕ → Group → ℕ → CountReply
-groupFor net latches gates k g room = groupSent (netLent net latches gates) (length latches) (length gates) k g room
-
-abbrev pub numbersAfter : Netlist → List LatchEntry → List GateEntry → ℕ → Group → List ℤ → List ℤ
-numbersAfter net latches gates k g old = groupLeaves (netLent net latches gates) (length latches) (length gates) k g old
+use Rattle.call_unpacked.specs.Calls.{CallsEncode}
 
 -- demand 3, for every accepted record and every depth from 0 to 255
 abbrev pub HeadingClaim : Netlist → List LatchEntry → List GateEntry → ℕ → Type 0

@@ -12,8 +12,9 @@ ghost use Rattle.model.specs.Acceptance.{PathTheorem};
 ghost use Rattle.model.specs.Claim.{EncodingTheorem, StatedTheorem};
 ghost use Rattle.model.specs.Trace.{TraceTheorem};
 ghost use Rattle.calls.specs.Starred.{Starred};
-ghost use Rattle.call_unpacked.specs.Calls.{groupReply, headingReply, BoundTheorem};
-ghost use Rattle.calls.specs.LentCalls.{headingFor, groupFor, numbersAfter, HeadingClaim, AcceptedTheorem};
+ghost use Rattle.call_unpacked.specs.Calls.{groupReply, headingReply, groupSent, groupLeaves, headingSent, BoundTheorem};
+ghost use Rattle.call_lists.specs.Lent.{netLent};
+ghost use Rattle.calls.specs.LentCalls.{HeadingClaim, AcceptedTheorem};
 
 // The heading of a depth, RULES G23: "the variables that are numbered .. and the clauses that are really written".
 pub fn heading(
@@ -22,7 +23,7 @@ pub fn heading(
     gates: &[GateEntry],
     depth: u32,
 ) -> HeadingAnswer
-    ensures answer { λ r. ⌜ headingReply r ≡ headingFor net (now (latches .entry)) (now (gates .entry)) depth ⌝ }
+    ensures answer { λ r. ⌜ headingReply r ≡ headingSent (netLent net (now (latches .entry)) (now (gates .entry))) (length (now (latches .entry))) (length (now (gates .entry))) depth ⌝ }
     ensures claim { λ r. ⌜ HeadingClaim net (now (latches .entry)) (now (gates .entry)) depth ⌝ }
     ensures paths { λ r. ⌜ PathTheorem ⌝ }
     ensures accepted { λ r. ⌜ AcceptedTheorem ⌝ }
@@ -53,8 +54,8 @@ pub fn write_group(
     group: Group,
     out: &mut [i32],
 ) -> GroupAnswer
-    ensures answer { λ r. ⌜ groupReply r ≡ groupFor net (now (latches .entry)) (now (gates .entry)) depth group (length (now (out .entry))) ⌝ }
-    ensures borrowed { λ r. ⌜ now (out .exit) ≡ numbersAfter net (now (latches .entry)) (now (gates .entry)) depth group (now (out .entry)) ⌝ }
+    ensures answer { λ r. ⌜ groupReply r ≡ groupSent (netLent net (now (latches .entry)) (now (gates .entry))) (length (now (latches .entry))) (length (now (gates .entry))) depth group (length (now (out .entry))) ⌝ }
+    ensures borrowed { λ r. ⌜ now (out .exit) ≡ groupLeaves (netLent net (now (latches .entry)) (now (gates .entry))) (length (now (latches .entry))) (length (now (gates .entry))) depth group (now (out .entry)) ⌝ }
 {
     let mut latch_codes = [0; 1200];
     call_lists::unpack::unpack_latches(&mut latch_codes, latches);

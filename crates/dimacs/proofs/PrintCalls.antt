@@ -9,7 +9,7 @@ use Rattle.refusals.specs.declared.Refusal.the-variants.{NoRoom}
 use Rattle.refusals.proofs.Slices.{room-enough, room-short}
 use Rattle.model.specs.Wrote.{Wrote}
 use Rattle.decimal.specs.WroteAtEnd.{WroteAtEnd}
-use Rattle.dimacs.specs.PrintCalls.{printReply, printSent, printLeaves, filledAfter, fillLeaves}
+use Rattle.dimacs.specs.PrintCalls.{printReply, printSent, printLeaves, fillLeaves}
 use Rattle.dimacs.specs.declared.PrintAnswer.the-variants.{Written, Refused}
 
 -- a text that was written in a slice that kept its length: the answer is its count, and it stands before what was there
@@ -26,7 +26,7 @@ written text old new count kept w =
 pub filled :
     (text old new : List ℕ) (count : ℕ) → length text ≤ length old → WroteAtEnd text old new count →
     (printReply (Written count) ≡ printSent text (length old)) × (new ≡ fillLeaves text old)
-unfolding printReply printSent fillLeaves withCount filledAfter
+unfolding printReply printSent fillLeaves withCount
 filled text old new count room f =
     let passes = room-enough (length text) (length old) room in
     (rw (passes, f .counted), rw passes (f .leaves))
@@ -43,7 +43,7 @@ not-written text old short =
 pub not-filled :
     (text old : List ℕ) → length old < length text →
     (printReply (Refused NoRoom 0) ≡ printSent text (length old)) × (old ≡ fillLeaves text old)
-unfolding printReply printSent fillLeaves withCount filledAfter
+unfolding printReply printSent fillLeaves withCount
 not-filled text old short =
     let refuses = room-short (length text) (length old) short in
     (rw refuses, rw refuses)

@@ -3,10 +3,10 @@
 use Prim.Native.Nat.{ℕ}
 use mathlib.Core.List.{List}
 use lib.ListN.{length}
+use Rattle.refusals.specs.Tests.{ifPassed}
 use Rattle.refusals.specs.Slices.{testRoom, withCount, contentsAfter}
 use Rattle.refusals.specs.declared.CountReply.{CountReply}
 use Rattle.decimal.specs.WroteAtEnd.{atEnd}
-use Rattle.refusals.specs.declared.Verdict.{Verdict}
 use Rattle.refusals.specs.declared.Verdict.the-variants.{Passed, Refused}
 use Rattle.dimacs.specs.declared.PrintAnswer.{PrintAnswer}
 use Rattle.dimacs.specs.declared.PrintAnswer.the-variants.{Written}
@@ -25,9 +25,5 @@ unfoldable pub printLeaves : List ℕ → List ℕ → List ℕ
 printLeaves text old = contentsAfter (testRoom (length text) (length old)) text old
 
 -- the same where the text is filled from the right into the slice's end (RULES L9)
-unfoldable pub filledAfter : Verdict → List ℕ → List ℕ → List ℕ
-filledAfter Passed text old = atEnd text old
-filledAfter (Refused r p) text old = old
-
 unfoldable pub fillLeaves : List ℕ → List ℕ → List ℕ
-fillLeaves text old = filledAfter (testRoom (length text) (length old)) text old
+fillLeaves text old = ifPassed (testRoom (length text) (length old)) (atEnd text old) old

@@ -11,9 +11,10 @@ use Rattle.model.specs.Bits.{odd}
 use Rattle.model.specs.Netlist.{lastWire}
 use Rattle.model.specs.Gather.{gather}
 use Rattle.model.specs.Clauses.{known, plus, minus, neg}
-use Rattle.model.specs.Variables.{stride, baseOf, base, codeAt, codeIn}
+use Rattle.model.specs.Variables.{stride, base, codeAt, codeIn}
 use Rattle.model.specs.Groups.{violationOf}
 use Rattle.model.specs.Numbers.{keptOf, kept, isTrue, hasTrue}
+use Rattle.literals.specs.Numbering.{baseOf}
 use Rattle.literals.specs.declared.Code.{Code}
 use Rattle.literals.specs.declared.Numbering.{Numbering}
 use Rattle.netlist.specs.NetOf.{netOf, alone}
@@ -28,7 +29,7 @@ violation x p i = keptOf (neg (codeAt (baseOf (x .wires) (x .stride) i) (p .0)))
 pub violations : (net : Netlist) (n : ℕ) (x : Numbering)
     → (x .wires ≡ lastWire (alone net)) × (x .stride ≡ stride (alone net))
     → kept (gather n (violationOf (alone net))) ≡ gather n (violation x (net .p))
-unfolding violationOf base netOf
+unfolding violationOf base baseOf netOf
 violations net n x e = rw (kept-gather n (violationOf (alone net)), e .0, e .1) (simp kept-one)
 
 -- whether a code is a constant, and which, is not of the frame

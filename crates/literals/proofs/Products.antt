@@ -2,8 +2,7 @@
 use Prim.Native.Nat.{ℕ, _-_, _*_, _≤_}
 use native.Mathlib.Nat.{mul-le-mul}
 use native.Mathlib.Omega.{arith}
-use Rattle.model.specs.Variables.{baseOf}
-use Rattle.literals.specs.Numbering.{NumberingFits}
+use Rattle.literals.specs.Numbering.{NumberingFits, baseOf}
 use Rattle.literals.specs.declared.Numbering.{Numbering}
 
 -- the products in B(i)

@@ -6,10 +6,10 @@ ghost use Prim.Native.Nat.{_+_, _*_, _/_, _^_, _≤_, _<_};
 ghost use lib.Dec.{ltb};
 ghost use Rattle.model.specs.Bits.{odd, bit};
 ghost use Rattle.model.specs.Clauses.{known, plus, neg};
-ghost use Rattle.model.specs.Variables.{baseOf, pairBaseOf, wireAt, codeAt};
+ghost use Rattle.model.specs.Variables.{wireAt, codeAt};
 ghost use Rattle.model.specs.Numbers.{isTrue};
 ghost use Rattle.literals.specs.Lit.{literalAt, literalOf, isNumber, IsLit, IsTerm, HasNumber};
-ghost use Rattle.literals.specs.Numbering.{NumberingFits};
+ghost use Rattle.literals.specs.Numbering.{NumberingFits, baseOf, pairBaseOf};
 
 // An AIG variable, numbered from 1.
 pub struct Wire(pub u32);

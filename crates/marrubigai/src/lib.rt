@@ -26,8 +26,8 @@ ghost use Rattle.model.specs.Trace.{TraceTheorem};
 ghost use Rattle.model.specs.Groups.{groupOrder};
 ghost use Rattle.group_order.specs.Next.{firstGroup};
 ghost use Rattle.call_lists.specs.Lent.{netLent};
-ghost use Rattle.call_unpacked.specs.Calls.{BoundTheorem};
-ghost use Rattle.calls.specs.LentCalls.{headingFor, groupFor, numbersAfter, HeadingClaim, AcceptedTheorem};
+ghost use Rattle.call_unpacked.specs.Calls.{groupSent, groupLeaves, headingSent, BoundTheorem};
+ghost use Rattle.calls.specs.LentCalls.{HeadingClaim, AcceptedTheorem};
 ghost use Rattle.calls.specs.Starred.{Starred};
 ghost use Rattle.decimal.specs.Digits.{signedDigits};
 ghost use Rattle.dimacs.specs.Text.{headerText, clauseText, OtherNumbers, NumberPrinted, refusalText};
@@ -78,8 +78,8 @@ pub extern "C" fn marrubigai_write_group(
     port: u32,
     out: &mut [i32],
 ) -> CountReply
-    ensures answer { λ r. ⌜ r ≡ groupFor net (now (latches .entry)) (now (gates .entry)) depth (groupOf kind j i port) (length (now (out .entry))) ⌝ }
-    ensures borrowed { λ r. ⌜ now (out .exit) ≡ numbersAfter net (now (latches .entry)) (now (gates .entry)) depth (groupOf kind j i port) (now (out .entry)) ⌝ }
+    ensures answer { λ r. ⌜ r ≡ groupSent (netLent net (now (latches .entry)) (now (gates .entry))) (length (now (latches .entry))) (length (now (gates .entry))) depth (groupOf kind j i port) (length (now (out .entry))) ⌝ }
+    ensures borrowed { λ r. ⌜ now (out .exit) ≡ groupLeaves (netLent net (now (latches .entry)) (now (gates .entry))) (length (now (latches .entry))) (length (now (gates .entry))) depth (groupOf kind j i port) (now (out .entry)) ⌝ }
 {
     call_replies::group_numbers(calls::write_group(
         net,
@@ -127,7 +127,7 @@ pub extern "C" fn marrubigai_heading(
     gates: &[GateEntry],
     depth: u32,
 ) -> HeadingReply
-    ensures answer { λ r. ⌜ r ≡ headingFor net (now (latches .entry)) (now (gates .entry)) depth ⌝ }
+    ensures answer { λ r. ⌜ r ≡ headingSent (netLent net (now (latches .entry)) (now (gates .entry))) (length (now (latches .entry))) (length (now (gates .entry))) depth ⌝ }
     ensures claim { λ r. ⌜ HeadingClaim net (now (latches .entry)) (now (gates .entry)) depth ⌝ }
     ensures paths { λ r. ⌜ PathTheorem ⌝ }
     ensures accepted { λ r. ⌜ AcceptedTheorem ⌝ }

@@ -44,7 +44,7 @@ module _ (c d : Netlist) (q : Agree c d) where
   module _ (p : ℕ) (here : IsPort c p) where
     pairBase-same : (j i : ℕ) → pairBase c (port c p) j i ≡ pairBase d (port d p) j i
     unfolding pairBase
-    pairBase-same j i = rw (lastWire-same c d q, second-same c d q, m-same c d q)
+    pairBase-same j i = rw (base-same i, lastWire-same c d q, second-same c d q, m-same c d q)
 
     none-same : (j i : ℕ) → noneSince c (port c p) j i ≡ noneSince d (port d p) j i
     unfolding noneSince

@@ -7,7 +7,7 @@ use native.Mathlib.Omega.{arith}
 use borrow.Author.Tests.{eq-eqb, ne-eqb}
 use Rattle.model.specs.Netlist.{Netlist, Port, ports, lastWire}
 use Rattle.model.specs.Clauses.{plus}
-use Rattle.model.specs.Variables.{stride, baseOf, base, pairBaseOf, pairBase, codeIn, noneSince}
+use Rattle.model.specs.Variables.{stride, base, pairBase, codeIn, noneSince}
 use Rattle.model.specs.Acceptance.{SizesFit}
 
 -- s times i (i - 1) / 2, the number of pairs below i, grows by i times s
@@ -17,17 +17,16 @@ product-half-suc s (suc n) = simp (sub-one, mul-suc, suc-mul, mul-comm n s) (ome
 
 -- frame 0 starts after variable 1
 pub base-zero : (c : Netlist) → base c 0 ≡ 1
-unfolding base baseOf
+unfolding base
 base-zero c = simp (zero-mul, mul-zero)
 
 -- a frame has its wires, and its pairs with the frames before it
-baseOf-suc : (wires s i : ℕ) → baseOf wires s (suc i) ≡ baseOf wires s i + wires + i * s
-unfolding baseOf
-baseOf-suc wires s i = simp (product-half-suc s i, suc-mul) (omega arith)
+frames-suc : (wires s i : ℕ) → 1 + suc i * wires + s * suc i * (suc i - 1) / 2 ≡ 1 + i * wires + s * i * (i - 1) / 2 + wires + i * s
+frames-suc wires s i = simp (product-half-suc s i, suc-mul) (omega arith)
 
 pub base-suc : (c : Netlist) (i : ℕ) → base c (suc i) ≡ base c i + lastWire c + i * stride c
 unfolding base
-base-suc c i = baseOf-suc (lastWire c) (stride c) i
+base-suc c i = frames-suc (lastWire c) (stride c) i
 
 -- d frames on, a frame starts no earlier
 base-add : (c : Netlist) (i d : ℕ) → base c i ≤ base c (i + d)
@@ -45,7 +44,7 @@ base-least c i = omega (arith, base-zero c, base-monotone c {i = 0} {j = i} (ome
 -- a frame's pairs start after its wires, one after the other
 pub pairBase-base : (c : Netlist) (p : Port) (j i : ℕ)
     → pairBase c p j i ≡ base c i + lastWire c + j * stride c + p .firstVariable
-unfolding pairBase pairBaseOf base
+unfolding pairBase
 pairBase-base c p j i = refl
 
 -- the variables of a pair at a port are variables of its reading frame
@@ -57,7 +56,7 @@ port-within c p j i v h r =
 
 -- the most (RULES V6): depth 255, 600 wires and addresses of 12 bits
 base-by-ports : (c : Netlist) → SizesFit c → (i : ℕ) → i ≤ 256 → base c i ≤ 153601 + ports c * 522240
-unfolding base baseOf
+unfolding base
 base-by-ports c h i l =
     let most : ports c * (c .m + 4) ≤ ports c * 16 = mul-le-mul-left (ports c) (omega (arith, h .m-most)) in
     omega (arith, base-monotone c l)
@@ -80,5 +79,5 @@ noneSince-earlier c p j i h = rw (ne-eqb j i (λ e. omega arith))
 
 -- the variables of a pair come behind variable 1
 pub pairBase-least : (c : Netlist) (p : Port) (j i : ℕ) → 1 ≤ pairBase c p j i
-unfolding pairBase pairBaseOf base
+unfolding pairBase
 pairBase-least c p j i = omega (arith, base-least c i)

@@ -107,7 +107,7 @@ unfoldable pub run : Netlist → State → Feeds → ℕ → Values
 run c s f i = frame c (stateAt c s f i) (f i)
 
 -- a memory that a run may begin with: each word the initial word; or, where that is unknown, any word of n bits, each by itself (RULES C23
--- and C24)
+-- and C24). It is said of every number x: the circuit asks for none from 2^m on
 unfoldable pub Begins : ℕ → Start → (ℕ → ℕ) → Type 0
 Begins n (given word) memory = (x : ℕ) → memory x ≡ word
 Begins n unknown memory = (x : ℕ) → memory x < 2 ^ n

@@ -12,19 +12,13 @@ use Rattle.model.specs.Clauses.{Literal, known, plus, minus, PairLiteral
 abbrev pub stride : Netlist → ℕ
 stride c = ports c * (c .m + 4)
 
--- B(i): frame i's variables start after it (RULES V2). From V and a pair's number of variables, as code computes it; and of a netlist
-unfoldable pub baseOf : ℕ → ℕ → ℕ → ℕ
-baseOf wires stride i = 1 + i * wires + stride * i * (i - 1) / 2
-
+-- B(i): frame i's variables start after it (RULES V2); the whole product is halved
 unfoldable pub base : Netlist → ℕ → ℕ
-base c i = baseOf (lastWire c) (stride c) i
+base c i = 1 + i * lastWire c + stride c * i * (i - 1) / 2
 
--- Q: the variables of pair (j, i) at a port start after it (RULES V4 and V8). Again from plain numbers, and of a netlist
-unfoldable pub pairBaseOf : ℕ → ℕ → ℕ → ℕ → ℕ → ℕ
-pairBaseOf wires stride first j i = baseOf wires stride i + wires + j * stride + first
-
+-- Q: the variables of pair (j, i) at a port start after it (RULES V4 and V8)
 unfoldable pub pairBase : Netlist → Port → ℕ → ℕ → ℕ
-pairBase c p j i = pairBaseOf (lastWire c) (stride c) (p .firstVariable) j i
+pairBase c p j i = base c i + lastWire c + j * stride c + p .firstVariable
 
 -- a wire, and a code, in a frame whose variables start after b. Codes 0 and 1 are constants (RULES V7 and V3)
 unfoldable pub wireAt : ℕ → ℕ → Literal

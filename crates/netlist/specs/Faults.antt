@@ -61,29 +61,25 @@ codeFault c Control = aboveLimit (lastWire c) (c .WE) || aboveLimit (lastWire c)
 unfoldable pub isTied : (ℕ → ℕ) → ℕ → Bool
 isTied address t = not (eqb (address t / 2) 0) && seen (λ s. address s / 2) t (address t / 2)
 
+-- a fault of a line that has an address code of a port, or its RE: by the port's address and the code's number, or by RE; no other line has one
+abbrev pub portFault : ((ℕ → ℕ) → ℕ → Bool) → (ℕ → Bool) → Netlist → Line → Bool
+portFault address RE c Sizes = false
+portFault address RE c Memory = false
+portFault address RE c (Latch l) = false
+portFault address RE c (Gate g) = false
+portFault address RE c (Address t) = address (port c 1 .address) t
+portFault address RE c (WriteData t) = false
+portFault address RE c (SecondAddress t) = address (port c 2 .address) t
+portFault address RE c SecondEnable = RE (port c 2 .RE)
+portFault address RE c Control = RE (port c 1 .RE)
+
 -- RULES T17: "an A line whose wire an earlier A line has, or a B line whose wire an earlier B line has"
 unfoldable pub tieFault : Netlist → Line → Bool
-tieFault c Sizes = false
-tieFault c Memory = false
-tieFault c (Latch l) = false
-tieFault c (Gate g) = false
-tieFault c (Address t) = isTied (port c 1 .address) t
-tieFault c (WriteData t) = false
-tieFault c (SecondAddress t) = isTied (port c 2 .address) t
-tieFault c SecondEnable = false
-tieFault c Control = false
+tieFault = portFault isTied (λ x. false)
 
 -- RULES T6: "an address code or RE of a port depends on a read bit", d saying which wires do
 unfoldable pub loopFaultBy : (ℕ → Bool) → Netlist → Line → Bool
-loopFaultBy d c Sizes = false
-loopFaultBy d c Memory = false
-loopFaultBy d c (Latch l) = false
-loopFaultBy d c (Gate g) = false
-loopFaultBy d c (Address t) = d (port c 1 .address t / 2)
-loopFaultBy d c (WriteData t) = false
-loopFaultBy d c (SecondAddress t) = d (port c 2 .address t / 2)
-loopFaultBy d c SecondEnable = d (port c 2 .RE / 2)
-loopFaultBy d c Control = d (port c 1 .RE / 2)
+loopFaultBy d = portFault (λ address t. d (address t / 2)) (λ x. d (x / 2))
 
 abbrev pub loopFault : Netlist → Line → Bool
 loopFault c = loopFaultBy (dependsOnRead c) c

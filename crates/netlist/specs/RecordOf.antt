@@ -39,28 +39,18 @@ recordOf c =
 abbrev pub upTo : ℕ → (ℕ → ℕ) → ℕ → ℕ
 upTo size f x = cond (ltb x size) (f x) 0
 
--- the sizes of a netlist, with its start and its kind; and these with no codes
-pub record NetSizes : Type 0 where
-  pub inputs : ℕ
-  pub latches : ℕ
-  pub gates : ℕ
-  pub m : ℕ
-  pub n : ℕ
-  pub initialWord : ℕ
-  pub unknownStart : ℕ
-  pub secondPort : ℕ
-
-abbrev pub withoutCodes : NetSizes → M.Netlist
-withoutCodes s =
+-- a netlist of these sizes, with its start and its kind, and with no codes
+abbrev pub withoutCodes : ℕ → ℕ → ℕ → ℕ → ℕ → ℕ → ℕ → ℕ → M.Netlist
+withoutCodes inputs latches gates m n initialWord unknownStart secondPort =
     record {
-      inputs = s .inputs;
-      latches = s .latches;
-      gates = s .gates;
-      m = s .m;
-      n = s .n;
-      initialWord = s .initialWord;
-      unknownStart = s .unknownStart;
-      secondPort = s .secondPort;
+      inputs = inputs;
+      latches = latches;
+      gates = gates;
+      m = m;
+      n = n;
+      initialWord = initialWord;
+      unknownStart = unknownStart;
+      secondPort = secondPort;
       next = λ l. 0;
       reset = λ l. 0;
       left = λ g. 0;
@@ -76,4 +66,4 @@ withoutCodes s =
 
 -- the record that is all zeros
 abbrev pub noNetlist : M.Netlist
-noNetlist = withoutCodes (record { inputs = 0; latches = 0; gates = 0; m = 0; n = 0; initialWord = 0; unknownStart = 0; secondPort = 0 })
+noNetlist = withoutCodes 0 0 0 0 0 0 0 0

@@ -17,6 +17,8 @@ ghost use Rattle.netlist.specs.Faults.{outside, startFault, sizeFault, l
 // 600 latches or gates, unpacked: two numbers each.
 pub type UnpackedList = [u32; 1200];
 
+// All of a netlist but its two lists (RULES W17). `unknown_start` is 1 where the start is unknown (W19), `second_port` where there is a second read port
+// (W22), whose address codes and read enable are the last two.
 #[repr(C)]
 pub struct Netlist {
     pub inputs: u32,

@@ -12,7 +12,7 @@ use Rattle.refusals.proofs.Tests.{refuseIf-passes, then-passes, passed-then, fi
 use Rattle.model.specs.Netlist.{Netlist, IsPort, port}
 use Rattle.model.specs.Acceptance.{NoTie, NoLoop, Accepted}
 use Rattle.netlist.specs.Faults.{sizeFault, codeFault, tieFault, loopFault}
-use Rattle.netlist_tests.specs.Record.{testLines, listsShort, testTies, testLoops, testPorts, recordVerdict}
+use Rattle.netlist_tests.specs.Record.{testLines, listsShort, testPorts, recordVerdict}
 use Rattle.netlist.proofs.Places.{EveryLine}
 use Rattle.netlist.proofs.Faults.{Without, neither, sizes-fit, codes-fit, no-tie, no-loop}
 use Rattle.netlist_tests.proofs.Record.{testLines-passes}
@@ -36,15 +36,15 @@ pub ports-pass : (c : Netlist)
     → (testPorts c ≡ Passed) ↔ (((p : ℕ) → IsPort c p → NoTie c (port c p)) × ((p : ℕ) → IsPort c p → NoLoop c (port c p)))
 ports-pass c = (
   λ e.
-      let passed = then-passes (testTies c) (testLoops c) .0 e in
+      let passed = then-passes (testLines c TiedAddress tieFault) (testLines c MemoryLoop loopFault) .0 e in
       (no-tie c .0 (ties .0 (passed .0)), no-loop c .0 (loops .0 (passed .1))),
-  λ h. then-passes (testTies c) (testLoops c) .1 (ties .1 (no-tie c .1 (h .0)), loops .1 (no-loop c .1 (h .1))),
+  λ h. then-passes (testLines c TiedAddress tieFault) (testLines c MemoryLoop loopFault) .1 (ties .1 (no-tie c .1 (h .0)), loops .1 (no-loop c .1 (h .1))),
 )
   where
-    ties : (testTies c ≡ Passed) ↔ EveryLine c (Without tieFault c)
+    ties : (testLines c TiedAddress tieFault ≡ Passed) ↔ EveryLine c (Without tieFault c)
     ties = testLines-passes c TiedAddress tieFault
 
-    loops : (testLoops c ≡ Passed) ↔ EveryLine c (Without loopFault c)
+    loops : (testLines c MemoryLoop loopFault ≡ Passed) ↔ EveryLine c (Without loopFault c)
     loops = testLines-passes c MemoryLoop loopFault
 
 -- no test of a record refuses exactly where the model accepts the netlist and both lists have as many records as their sizes say

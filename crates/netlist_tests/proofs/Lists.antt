@@ -13,7 +13,7 @@ use Rattle.netlist.specs.declared.Line.the-variants.{Sizes, Memory, Latch, Gate
 use Rattle.netlist.specs.declared.Netlist.{Netlist}
 use Rattle.netlist.proofs.NetOf.{lineAt-lists, sizeFault-lists, depends-latches}
 use Rattle.netlist_scan.specs.AnyLine.{anyLine}
-use Rattle.netlist_tests.specs.Record.{testLines, testTies, testLoops, testPorts}
+use Rattle.netlist_tests.specs.Record.{testLines, testPorts}
 use Rattle.netlist_tests.proofs.Record.{testLines-same}
 
 module _ (r : Netlist) (latches gates : List ℕ) where
@@ -24,7 +24,7 @@ module _ (r : Netlist) (latches gates : List ℕ) where
       testLines-same (alone r) (netOf r latches gates) Size sizeFault (sizeFault-lists r latches gates) (lineAt-lists r latches gates) refl
 
   -- the tests of ties
-  pub test-ties-lists : testTies (alone r) ≡ testTies (netOf r latches gates)
+  pub test-ties-lists : testLines (alone r) TiedAddress tieFault ≡ testLines (netOf r latches gates) TiedAddress tieFault
   unfolding netOf lineAt tieFault
   test-ties-lists = testLines-same (alone r) (netOf r latches gates) TiedAddress tieFault same (λ p. refl) refl
     where
@@ -40,7 +40,7 @@ module _ (r : Netlist) (latches gates : List ℕ) where
       same Control = refl
 
   -- the tests of memory loops
-  test-loops-latches : testLoops (netOf r [] gates) ≡ testLoops (netOf r latches gates)
+  test-loops-latches : testLines (netOf r [] gates) MemoryLoop loopFault ≡ testLines (netOf r latches gates) MemoryLoop loopFault
   unfolding netOf lineAt loopFaultBy
   test-loops-latches = testLines-same (netOf r [] gates) (netOf r latches gates) MemoryLoop loopFault same (λ p. refl) refl
     where

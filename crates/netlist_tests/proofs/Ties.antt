@@ -18,7 +18,7 @@ use Rattle.netlist.specs.Places.{addressLine, dataLine, secondAddressLine, cont
 use Rattle.netlist.specs.Faults.{isTied, tieFault}
 use Rattle.netlist.proofs.Places.{second-lines, at-address, at-data, at-second-address, before-address}
 use Rattle.netlist.proofs.Faults.{Without}
-use Rattle.netlist_tests.specs.Record.{testLines, testTies}
+use Rattle.netlist_tests.specs.Record.{testLines}
 use Rattle.netlist_tests.specs.OnePort.{testAddress}
 use Rattle.netlist_tests.proofs.Record.{testLines-passes}
 
@@ -35,7 +35,7 @@ module _ {c : Netlist} {address : ℕ → ℕ} {line : ℕ} (stands : StandsAt c
 
   -- the first that is tied is the first line of all that is, where no line before theirs is
   tie-found : ((p : ℕ) → p < line → tieFault c (lineAt c p) ≡ false)
-      → {t : ℕ} → IsFirst (isTied address) (c .m) t → t < c .m → testTies c ≡ Refused TiedAddress (line + t)
+      → {t : ℕ} → IsFirst (isTied address) (c .m) t → t < c .m → testLines c TiedAddress tieFault ≡ Refused TiedAddress (line + t)
   unfolding testLines
   tie-found before {t} first b =
       let place : suc (line - 1 + t) ≡ line + t = omega (arith, stands .behind) in
@@ -86,7 +86,7 @@ module _ (c : Netlist) where
 
   -- no line is tied where no port has a tie
   ties-none : ((x : ℕ) → x < c .m → isTied (port c 1 .address) x ≡ false)
-      → (0 < c .secondPort → (x : ℕ) → x < c .m → isTied (port c 2 .address) x ≡ false) → testTies c ≡ Passed
+      → (0 < c .secondPort → (x : ℕ) → x < c .m → isTied (port c 2 .address) x ≡ false) → testLines c TiedAddress tieFault ≡ Passed
   unfolding tieFault
   ties-none first second =
       testLines-passes c TiedAddress tieFault .1
@@ -103,7 +103,7 @@ module _ (c : Netlist) where
       })
 
   -- the test port by port
-  pub ties-by-ports : testTies c
+  pub ties-by-ports : testLines c TiedAddress tieFault
       ≡ (testAddress (port c 1 .address) (c .m) (addressLine c 0) then cond (ltb 0 (c .secondPort)) (testAddress (port c 2 .address) (c .m) (secondAddressLine c 0)) Passed)
   unfolding testAddress _then_
   ties-by-ports =
@@ -129,7 +129,7 @@ module _ (c : Netlist) where
       none h x l = first .none-before x (omega arith)
 
       rest : 0 < c .secondPort → ((x : ℕ) → x < c .m → isTied (port c 1 .address) x ≡ false)
-          → testTies c ≡ testAddress (port c 2 .address) (c .m) (secondAddressLine c 0)
+          → testLines c TiedAddress tieFault ≡ testAddress (port c 2 .address) (c .m) (secondAddressLine c 0)
       rest some untied =
           by-cases (decLt u (c .m))
           (λ b. rw (lt-ltb u (c .m) b) (tie-found (second-stands some) (before-second untied) second b))

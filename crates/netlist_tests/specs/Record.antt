@@ -26,17 +26,10 @@ testLines c r fault = inOrder (testLine c r fault) (controlLine c)
 abbrev pub listsShort : Netlist → ℕ → ℕ → Bool
 listsShort c latchCount gateCount = ltb latchCount (c .latches) || ltb gateCount (c .gates)
 
--- RULES T17: "The place is the first such line"
-abbrev pub testTies : Netlist → Verdict
-testTies c = testLines c TiedAddress tieFault
-
--- RULES T6: "the first A or B line concerned, else the R line, else the C line"
-abbrev pub testLoops : Netlist → Verdict
-testLoops c = testLines c MemoryLoop loopFault
-
--- RULES T54: "then 17, then 6"; of a sheet (RULES T53) and a text (RULES T55) too
+-- RULES T54: "then 17, then 6"; of a sheet (RULES T53) and a text (RULES T55) too. RULES T17: "The place is the first such line"; RULES T6: "the first A or B
+-- line concerned, else the R line, else the C line"
 abbrev pub testPorts : Netlist → Verdict
-testPorts c = testTies c then testLoops c
+testPorts c = testLines c TiedAddress tieFault then testLines c MemoryLoop loopFault
 
 -- RULES T54: "4, then 3, then 5 in line order, then 17, then 6, each with the place that it would have in a sheet"
 unfoldable pub recordVerdict : Netlist → ℕ → ℕ → Verdict

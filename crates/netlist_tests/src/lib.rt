@@ -14,9 +14,9 @@ ghost use Rattle.model.specs.Acceptance.{SizesFit, WithinLimits};
 ghost use Rattle.netlist.specs.NetOf.{codeOf, netOf, alone};
 ghost use Rattle.netlist.specs.WireTable.{entry, HasAll};
 ghost use Rattle.netlist.specs.Places.{HasLine};
-ghost use Rattle.netlist.specs.Faults.{sizeFault, codeFault, isTied, loopFaultBy};
+ghost use Rattle.netlist.specs.Faults.{sizeFault, codeFault, isTied, tieFault, loopFaultBy, loopFault};
 ghost use Rattle.netlist_scan.specs.AnyLine.{anyLine};
-ghost use Rattle.netlist_tests.specs.Record.{testLines, testTies, testLoops, testPorts, recordVerdict};
+ghost use Rattle.netlist_tests.specs.Record.{testLines, testPorts, recordVerdict};
 ghost use Rattle.netlist_tests.specs.OnePort.{testAddress, anyDependent};
 
 // Tests the numbers of lines N and M or T (refusal 4).
@@ -107,7 +107,7 @@ fn test_address(address: [Code; 12], m: u32, line: u32) -> Verdict
 // Tests each port's address codes for ties, in line order (refusal 17).
 fn test_ties(net: Netlist) -> Verdict
     requires { ⌜ SizesFit (alone net) ⌝ }
-    ensures { λ r. ⌜ r ≡ testTies (alone net) ⌝ }
+    ensures { λ r. ⌜ r ≡ testLines (alone net) Refusal.TiedAddress tieFault ⌝ }
 {
     let line = 3 + net.latches + net.gates;
     let address = net.address;
@@ -223,7 +223,7 @@ fn any_loop(net: Netlist, flags: &[bool; 601]) -> bool
 // address codes make no memory loop.
 fn test_loops(net: Netlist, gates: &UnpackedList) -> Verdict
     requires { ⌜ WithinLimits (netOf net [] (now gates)) ⌝ }
-    ensures { λ r. ⌜ r ≡ testLoops (netOf net [] (now (gates .entry))) ⌝ }
+    ensures { λ r. ⌜ r ≡ testLines (netOf net [] (now (gates .entry))) Refusal.MemoryLoop loopFault ⌝ }
 {
     let flags = depends_on_read(net, gates);
     if !any_loop(net, &flags) {

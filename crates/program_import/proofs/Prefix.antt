@@ -27,13 +27,13 @@ use Rattle.decimal.proofs.TextValue.{numberIn-empty}
 use Rattle.text_words.specs.Words.{linesOf, wordsOf, partsAfter, restAfter}
 use Rattle.text_words.proofs.Words.{parts-append}
 use Rattle.aiger_lines.specs.Numbers.{allUnsigned, wordNumbers, wordsAt}
-use Rattle.aiger_lines.specs.Parts.{headerNumbers, numbersOnLine, countsOf, countsIn, linesDue, partAt, malformedLine, malformedAt, textLatchLine, textOutputLine, textGateLine}
+use Rattle.aiger_lines.specs.Parts.{aag, numbersBehind, numbersOnLine, countsOf, countsIn, linesDue, partAt, malformedLine, malformedAt, textLatchLine, textOutputLine, textGateLine}
 use Rattle.aiger_lines.specs.declared.Counts.{Counts}
 use Rattle.aiger_lines.specs.declared.Part.{Part}
 use Rattle.aiger_lines.specs.declared.Part.the-variants.{Header, Input, Latch, Output, Gate}
 use Rattle.aiger_definitions.specs.Definitions.{numberAt, definedAt, definesAgain, isUndefined, undefinedIn, undefinedAt}
 use Rattle.aiger_graph.specs.RecordAig.{controlOutput}
-use Rattle.aiger_netlist.specs.TextNetlist.{textSizes, definingLine, wireOfVariable, codeFrom, netOfCodes, aagNet}
+use Rattle.aiger_netlist.specs.TextNetlist.{textSizes, definingLine, wireOfVariable, netOfCodes, aagNet}
 use Rattle.aiger_netlist.specs.ImportVerdict.{placeOf, notAiger, firstLine, wrongInterface, textVerdict, importVerdict}
 use Rattle.aiger_import.specs.ImportCall.{importedWord}
 use Rattle.aiger_import.proofs.Net.{upTo-same}
@@ -165,7 +165,7 @@ module _ (s t : List ℕ) (q : ℕ) (some-line : 1 ≤ q) (same : (p : ℕ) → 
     unfolding wireOfVariable
     wire-same c v = rw (counts-same, defining-same v)
 
-    code-same : (c : Netlist) (p i : ℕ) → p ≤ q → codeFrom t c (numberAt t p i) ≡ codeFrom s c (numberAt s p i)
+    code-same : (c : Netlist) (p i : ℕ) → p ≤ q → renamed (wireOfVariable t c) (numberAt t p i) ≡ renamed (wireOfVariable s c) (numberAt s p i)
     unfolding renamed
     code-same c p i h = rw (same p h, wire-same c (getD (numbersOnLine s p) i 0 / 2))
 
@@ -175,7 +175,7 @@ module _ (s t : List ℕ) (q : ℕ) (some-line : 1 ≤ q) (same : (p : ℕ) → 
         let due = controlOutput m n second + 3 in
         let outputs = neither-true (ltb (countsIn s .inputs) (suc second * n)) (not (eqb (countsIn s .outputs) due)) .0 fits .1 in
         rw counts-same
-        (codes-same (countsIn s) c (λ p i. codeFrom t c (numberAt t p i)) (λ p i. codeFrom s c (numberAt s p i)) q all refl refl
+        (codes-same (countsIn s) c (λ p i. renamed (wireOfVariable t c) (numberAt t p i)) (λ p i. renamed (wireOfVariable s c) (numberAt s p i)) q all refl refl
         (eqb-true (countsIn s .outputs) due (not-false (eqb (countsIn s .outputs) due) outputs)) (code-same c))
 
     fits : (m n second : ℕ) → textVerdict s m n second ≡ Passed → wrongInterface (countsIn s) m n second ≡ false
@@ -193,7 +193,7 @@ module _ (s t : List ℕ) (q : ℕ) (some-line : 1 ≤ q) (same : (p : ℕ) → 
         by-verdict (Refused r p) e = rw (text-same m n second, e)
 
 -- ---- a line that is missing is malformed
-no-numbers : (p : ℕ) → cond (eqb p 1) (headerNumbers (wordsOf [])) (wordNumbers (wordsOf [])) ≡ []
+no-numbers : (p : ℕ) → cond (eqb p 1) (numbersBehind aag (wordsOf [])) (wordNumbers (wordsOf [])) ≡ []
 unfolding wordNumbers wordsOf allUnsigned partsAfter restAfter sameText
 no-numbers p = rw (numberIn-empty [] refl) (either-way (eqb p 1))
   where

@@ -2,7 +2,7 @@
 -- passes the others. Cited by `read_input`, and by what prints of a sheet alone.
 use Prim.Native.Nat.{ℕ, zero, suc, _+_, _≤_}
 use mathlib.Core.Path.{_≡_, refl, sym, _∙_, subst}
-use mathlib.Core.Bool.{Bool, true, false, not}
+use mathlib.Core.Bool.{Bool, true, false, not, _||_}
 use mathlib.Core.List.{List}
 use mathlib.Core.Logic.{_⊎_, inl, inr}
 use lib.Dec.{ltb}
@@ -21,12 +21,14 @@ use Rattle.netlist.specs.Places.{lineAt, controlLine}
 use Rattle.netlist.specs.declared.Line.{Line}
 use Rattle.netlist_tests.specs.Record.{testLine, testLines, listsShort, testPorts}
 use Rattle.netlist_tests.proofs.Acceptance.{lists-long}
-use Rattle.sheet_lines.specs.Letters.{mustBeFilled}
 use Rattle.sheet_lines.specs.Lines.{asWanted, valueOf}
 use Rattle.sheet_lines.specs.Depth.{depthField, fieldVerdict, depthVerdict}
+use Rattle.sheet_lines.specs.declared.ParsedLine.{ParsedLine}
+use Rattle.sheet_lines.specs.declared.ParsedLine.the-variants as ParsedLine
+use Rattle.sheet_steps.specs.Due.{isDue}
 use Rattle.sheet_steps.specs.LineFaults.{faultsAt}
 use Rattle.sheet_parse.specs.Files.{lineIn, lineCount, netIn}
-use Rattle.sheet_parse.specs.FileTests.{ragged, misprinted, notDue, testLineIn}
+use Rattle.sheet_parse.specs.FileTests.{ragged, testRead, testLineIn}
 use Rattle.sheet_tests.specs.Sheet.{endVerdict, fileVerdict, sheetVerdict}
 use Rattle.sheet_tests.proofs.Codes.{accepted-in}
 use Rattle.program_input.specs.Input.{sheetIn, OnlyInputRefusals}
@@ -58,8 +60,8 @@ only-depth : (s : List ℕ) → Only 7 (depthVerdict s)
 unfolding depthVerdict fieldVerdict
 only-depth s =
     let f = depthField s in
-    only-then 7 (refuseIf (not (asWanted mustBeFilled f)) Misprint 0) (refuseIf (ltb mostDepth (valueOf f)) Depth 0)
-    (only-if 7 (not (asWanted mustBeFilled f)) Misprint 0 (inl (omega arith)))
+    only-then 7 (refuseIf (not (asWanted 1 f)) Misprint 0) (refuseIf (ltb mostDepth (valueOf f)) Depth 0)
+    (only-if 7 (not (asWanted 1 f)) Misprint 0 (inl (omega arith)))
     (λ e. only-if 7 (ltb mostDepth (valueOf f)) Depth 0 (inl (omega arith)))
 
 -- of a sheet, 1 to 6 and 17
@@ -73,15 +75,17 @@ only-port c =
     (only-lines c TiedAddress tieFault (inr refl)) (λ e. only-lines c MemoryLoop loopFault (inl (omega arith)))
 
 only-line : (c : Netlist) (file : List ℕ) (p : ℕ) → Only 6 (testLineIn c file p)
-unfolding testLineIn faultsAt
-only-line c file p =
-    only-then 6 (refuseIf (misprinted (lineIn file p)) Misprint p) (refuseIf (notDue c file p) OutOfOrder p then faultsAt c (lineAt c p) p)
-    (only-if 6 (misprinted (lineIn file p)) Misprint p (inl (omega arith)))
-    (λ e. only-then 6 (refuseIf (notDue c file p) OutOfOrder p) (faultsAt c (lineAt c p) p)
-    (only-if 6 (notDue c file p) OutOfOrder p (inl (omega arith)))
-    (λ e. only-then 6 (refuseIf (sizeFault c (lineAt c p)) Size p) (refuseIf (codeFault c (lineAt c p)) CodeOutside p)
-    (only-if 6 (sizeFault c (lineAt c p)) Size p (inl (omega arith)))
-    (λ e. only-if 6 (codeFault c (lineAt c p)) CodeOutside p (inl (omega arith)))))
+unfolding testLineIn testRead faultsAt
+only-line c file p = by-line (lineIn file p)
+  where
+    by-line : (line : ParsedLine) → Only 6 (testRead c p line)
+    by-line ParsedLine.Misprint = only-if 6 true Misprint p (inl (omega arith))
+    by-line (ParsedLine.Read kind x y z e) =
+        let wrong = ltb (controlLine c) p || not (isDue (lineAt c p) kind) in
+        only-then 6 (refuseIf wrong OutOfOrder p) (faultsAt c (lineAt c p) p) (only-if 6 wrong OutOfOrder p (inl (omega arith)))
+        (λ e. only-then 6 (refuseIf (sizeFault c (lineAt c p)) Size p) (refuseIf (codeFault c (lineAt c p)) CodeOutside p)
+        (only-if 6 (sizeFault c (lineAt c p)) Size p (inl (omega arith)))
+        (λ e. only-if 6 (codeFault c (lineAt c p)) CodeOutside p (inl (omega arith))))
 
 module _ (file : List ℕ) where
   lines : Verdict

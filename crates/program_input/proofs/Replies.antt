@@ -25,7 +25,7 @@ use Rattle.sheet_text.specs.SheetText.{inputText}
 use Rattle.sheet_text.proofs.WriteBack.{written-back}
 use Rattle.sheet_text.proofs.DepthText.{depth-text}
 use Rattle.program_input.specs.declared.Input.{Input}
-use Rattle.program_input.specs.Input.{sheetIn, inputVerdict, depthBeside, inputAnswer, InputTaken, InputEncoded, textOrRefusal, textFor}
+use Rattle.program_input.specs.Input.{sheetIn, inputVerdict, inputAnswer, InputTaken, InputEncoded, textOrRefusal, textFor}
 
 -- the depth is refused
 pub depth-decides : (s : List ℕ) {r : Refusal} {p : ℕ} → depthVerdict s ≡ Refused r p → inputVerdict s ≡ Refused r p
@@ -44,7 +44,7 @@ behind-depth s = take-all (length s - 11) (drop 11 s) (rw length-drop (omega ari
 -- an input that is not refused: its depth and its sheet have passed their tests
 pub input-taken : (s : List ℕ) (r : Input) (latches gates : List ℕ) → r ≡ inputAnswer s
     → ListsBeside (inputVerdict s) (r .net) latches gates (netIn (drop 11 s)) → r .number ≡ 0 → InputTaken s r latches gates
-unfolding inputAnswer depthBeside inputVerdict
+unfolding inputAnswer inputVerdict
 input-taken s r latches gates e lists none =
     let passed : inputVerdict s ≡ Passed = reply-passed _ (sym (ap (λ (i : Input). i .number) e) ∙ none) in
     let parts = then-passes (depthVerdict s) (sheetIn (drop 11 s)) .0 passed in

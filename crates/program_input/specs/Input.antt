@@ -10,7 +10,7 @@ use Rattle.model.specs.Acceptance.{Accepted}
 use Rattle.model.specs.Netlist as M
 use Rattle.model.specs.Claim.{Encodes}
 use Rattle.refusals.specs.Refusal.{refusalNumber, replyOf}
-use Rattle.refusals.specs.Tests.{_then_}
+use Rattle.refusals.specs.Tests.{_then_, ifPassed}
 use Rattle.refusals.specs.declared.Refusal.{Refusal}
 use Rattle.refusals.specs.declared.Verdict.{Verdict}
 use Rattle.refusals.specs.declared.Verdict.the-variants.{Passed, Refused}
@@ -32,15 +32,10 @@ sheetIn file = sheetVerdict file mostWires mostWires
 unfoldable pub inputVerdict : List ℕ → Verdict
 inputVerdict s = depthVerdict s then sheetIn (drop 11 s)
 
--- the depth, 0 at a refusal
-abbrev pub depthBeside : Verdict → ℕ → ℕ
-depthBeside Passed k = k
-depthBeside (Refused r p) k = 0
-
--- a verdict's number and place, with the depth and a record beside them
+-- a verdict's number and place, with the depth, 0 at a refusal, and a record beside them
 abbrev pub withDepthAndRecord : Verdict → ℕ → Netlist → Input
 withDepthAndRecord v k net =
-    record { number = replyOf v .number; place = replyOf v .place; depth = depthBeside v k; net = net }
+    record { number = replyOf v .number; place = replyOf v .place; depth = ifPassed v k 0; net = net }
 
 -- what is answered with verdict v, depth k and netlist c: the depth and the record are all zeros at a refusal
 abbrev pub inputBeside : Verdict → ℕ → M.Netlist → Input

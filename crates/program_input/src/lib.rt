@@ -3,10 +3,11 @@ use netlist::Netlist;
 use netlist::UnpackedList;
 use refusals::Verdict;
 ghost use mathlib.Core.Path.{_≡_};
+ghost use Rattle.refusals.specs.Tests.{ifPassed};
 ghost use Rattle.sheet_steps.specs.Lists.{ListsBeside};
 ghost use Rattle.sheet_parse.specs.Files.{netIn};
 ghost use Rattle.sheet_parse.specs.Progress.{noCodes};
-ghost use Rattle.program_input.specs.Input.{sheetIn, depthBeside, withDepthAndRecord, inputBeside, inputAnswer, InputTaken, InputEncoded, OnlyInputRefusals};
+ghost use Rattle.program_input.specs.Input.{sheetIn, withDepthAndRecord, inputBeside, inputAnswer, InputTaken, InputEncoded, OnlyInputRefusals};
 
 // What an input is read as: a refusal's number and place (both 0 where it is taken), the depth, and the sheet's record. The depth and
 // the record are all zeros at a refusal.
@@ -19,7 +20,7 @@ pub struct Input {
 
 // The depth beside a verdict: 0 at a refusal.
 fn depth_beside(verdict: Verdict, depth: u32) -> u32
-    ensures { λ r. ⌜ r ≡ depthBeside verdict depth ⌝ }
+    ensures { λ r. ⌜ r ≡ ifPassed verdict depth 0 ⌝ }
 {
     match verdict {
         Verdict::Passed => depth,

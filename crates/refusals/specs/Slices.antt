@@ -5,12 +5,11 @@ use Prim.Native.Nat.{ℕ}
 use mathlib.Core.List.{List}
 use lib.Dec.{ltb}
 use Rattle.model.specs.Wrote.{over}
-use Rattle.refusals.specs.Refusal.{refusalNumber}
-use Rattle.refusals.specs.Tests.{refuseIf}
+use Rattle.refusals.specs.Refusal.{replyOf}
+use Rattle.refusals.specs.Tests.{refuseIf, ifPassed}
 use Rattle.refusals.specs.declared.Refusal.the-variants.{NoRoom}
 use Rattle.refusals.specs.declared.CountReply.{CountReply}
 use Rattle.refusals.specs.declared.Verdict.{Verdict}
-use Rattle.refusals.specs.declared.Verdict.the-variants.{Passed, Refused}
 
 -- RULES T9: "a lent slice or list that is to be written is shorter than the exact need. Place 0"
 unfoldable pub testRoom : ℕ → ℕ → Verdict
@@ -18,10 +17,8 @@ testRoom need room = refuseIf (ltb room need) NoRoom 0
 
 -- a verdict, with the count beside it. RULES T43: "A count .. that is returned beside them is all zeros"
 unfoldable pub withCount : Verdict → ℕ → CountReply
-withCount Passed n = record { number = 0; place = 0; count = n }
-withCount (Refused r p) n = record { number = refusalNumber r; place = p; count = 0 }
+withCount v n = record { number = replyOf v .number; place = replyOf v .place; count = ifPassed v n 0 }
 
 -- what is in the slice then: what was to be written, and everything behind untouched (RULES G21); at a refusal what was there (RULES T44)
 unfoldable pub contentsAfter : {A : Type 0} → Verdict → List A → List A → List A
-contentsAfter Passed xs old = over xs old
-contentsAfter (Refused r p) xs old = old
+contentsAfter v xs old = ifPassed v (over xs old) old

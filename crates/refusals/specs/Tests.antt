@@ -20,3 +20,8 @@ Refused r p then w = Refused r p
 unfoldable pub inOrder : (ℕ → Verdict) → ℕ → Verdict
 inOrder test zero = Passed
 inOrder test (suc n) = inOrder test n then test (suc n)
+
+-- by a verdict: the first where nothing is refused, the second at a refusal
+abbrev pub ifPassed : {A : Type 0} → Verdict → A → A → A
+ifPassed Passed new old = new
+ifPassed (Refused r p) new old = old

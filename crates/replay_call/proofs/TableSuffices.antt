@@ -19,6 +19,7 @@ use Rattle.model.proofs.Search.{firstWhere-is, first-unique}
 use Rattle.model.proofs.Gather.{gather-same}
 use Rattle.model.proofs.Variables.{base-suc, base-monotone, base-most}
 use Rattle.model.proofs.Circuit.{code-same}
+use Rattle.refusals.specs.Tests.{ifPassed}
 use Rattle.refusals.specs.declared.Verdict.{Verdict}
 use Rattle.refusals.specs.declared.Verdict.the-variants.{Passed, Refused}
 use Rattle.refusals.proofs.Tests.{first-passes, rest-passes}
@@ -36,7 +37,7 @@ use Rattle.circuit_step.proofs.Touched.{any-same}
 use Rattle.replay_frame.specs.Replay.{Said, saidIn, wordSaid, startWords, replayed, replayedState, fedUnclear, feedFault, violates, firstViolation, frameLine, traceText}
 use Rattle.replay_frame.proofs.Replay.{line-same}
 use Rattle.replay_frame.proofs.SaidAlike.{IdlesAlike, SaidAlike, begun-alike, fills-said, words-alike, runs-alike}
-use Rattle.replay_call.specs.ReplayCall.{replayTests, fedFault, runVerdict, outcome, wordsLeft, unlessRefused, replayAnswer, replayReply, replaySent, afterTests, replayMemory, traceAfter, replayTrace}
+use Rattle.replay_call.specs.ReplayCall.{replayTests, fedFault, runVerdict, outcome, wordsLeft, unlessRefused, replayAnswer, replayReply, replaySent, replayMemory, traceAfter, replayTrace}
 use Rattle.replay_call.specs.Settled.{saidBy}
 use Rattle.replay_call.specs.Table.{TableSuffices}
 
@@ -157,10 +158,10 @@ module _ (c : Netlist) (latchCount gateCount k : ℕ) (kind : AnswerKind) {y z :
       by (Refused r p) e = refl
 
   memory-alike : (old : List ℕ) (room : ℕ) → replayMemory c latchCount gateCount k kind y old room ≡ replayMemory c latchCount gateCount k kind z old room
-  unfolding replayMemory afterTests
+  unfolding replayMemory
   memory-alike old room = by (replayTests c latchCount gateCount k (length old) room) refl
     where
-      by : (v : Verdict) → replayTests c latchCount gateCount k (length old) room ≡ v → afterTests v (wordsLeft c k kind y old) old ≡ afterTests v (wordsLeft c k kind z old) old
+      by : (v : Verdict) → replayTests c latchCount gateCount k (length old) room ≡ v → ifPassed v (wordsLeft c k kind y old) old ≡ ifPassed v (wordsLeft c k kind z old) old
       by Passed e = let ok = accepted-at c latchCount gateCount k (length old) room e in left-alike (ok .0) k (say ok) kind old
       by (Refused r p) e = refl
 

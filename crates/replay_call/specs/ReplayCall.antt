@@ -9,7 +9,7 @@ use Rattle.model.specs.Search.{anyBelow}
 use Rattle.model.specs.Wrote.{over}
 use Rattle.model.specs.Netlist.{Netlist}
 use Rattle.refusals.specs.Refusal.{refusalNumber}
-use Rattle.refusals.specs.Tests.{refuseIf, _then_}
+use Rattle.refusals.specs.Tests.{refuseIf, _then_, ifPassed}
 use Rattle.refusals.specs.Slices.{testRoom}
 use Rattle.refusals.specs.declared.Refusal.the-variants.{NoAnswer, NoViolation}
 use Rattle.refusals.specs.declared.Verdict.{Verdict}
@@ -72,13 +72,9 @@ wordsLeft c k Satisfiable y old =
     cond (fedFault c y k) (delivered (2 ^ c .m) (λ _. 0) old) (delivered (2 ^ c .m) (replayedState c y (k + 1) .memory) old)
 
 -- after a refusal that is tested before, the memory as it was
-unfoldable pub afterTests : Verdict → List ℕ → List ℕ → List ℕ
-afterTests Passed new old = new
-afterTests (verdicts.Refused r p) new old = old
-
 unfoldable pub replayMemory : Netlist → ℕ → ℕ → ℕ → AnswerKind → Said → List ℕ → ℕ → List ℕ
 replayMemory c latchCount gateCount k kind y old room =
-    afterTests (replayTests c latchCount gateCount k (length old) room) (wordsLeft c k kind y old) old
+    ifPassed (replayTests c latchCount gateCount k (length old) room) (wordsLeft c k kind y old) old
 
 -- RULES Y6: the lines where the property breaks, what was behind them untouched; else the trace as it was
 unfoldable pub traceAfter : ReplayAnswer → List ℕ → List ℕ → List ℕ

@@ -3,6 +3,7 @@ ghost use mathlib.Core.Path.{_≡_};
 ghost use Rattle.sheet_fields.specs.Fields.{dropSpaces, fieldOf};
 use decimal::Number;
 
+// What ten columns are read as (RULES S2 and S3): nothing, a number, or neither.
 pub enum Field {
     Empty,
     Filled(u32),

@@ -2,53 +2,33 @@
 -- written reads back (`lineOf-lineText`). No contract cites this file.
 use Prim.Native.Nat.{ℕ, _+_, _^_, _<_}
 use mathlib.Core.Path.{_≡_, refl, sym, ap, ap₂, _∙_}
-use mathlib.Core.Bool.{Bool, true, false, not, cond, _&&_, false≢true}
+use mathlib.Core.Bool.{Bool, true, false, cond, _&&_, _||_, false≢true}
+use mathlib.Core.Logic.{_⊎_, inl, inr, ⊎-elim}
 use mathlib.Core.List.{List, [], _∷_, _++_, append-assoc}
 use native.Mathlib.Omega.{arith}
 use borrow.Author.Tests.{eq-eqb, ne-eqb, eqb-true}
-use lib.Dec.{eqb}
+use lib.Dec.{eqb, ltb}
 use lib.ListN.{length, getD, take, drop, take-append-drop, drop-of-length-le, length-append, length-take, length-drop}
 use lib.Seq.{drop-cons, drop-drop, take-at, drop-at, getD-at}
 use Rattle.decimal.specs.Digits.{lineFeed}
 use Rattle.decimal.proofs.Digits.{length-field}
-use Rattle.model.proofs.Booleans.{and-true}
+use Rattle.model.proofs.Booleans.{and-true, or-true}
 use Rattle.sheet_fields.specs.Fields.{fieldOf}
 use Rattle.sheet_fields.specs.declared.Field.{Field}
 use Rattle.sheet_fields.specs.declared.Field.the-variants.{Empty, Filled, Misprinted}
 use Rattle.sheet_fields.proofs.Fields.{fieldOf-field, fieldOf-empty, field-fieldOf, empty-fieldOf}
-use Rattle.sheet_lines.specs.Letters.{Content, mustBeEmpty, mustBeFilled, mayBeEmpty, contentNumber, letterOf, kindOf, isKnown, contentOf}
+use Rattle.sheet_lines.specs.Letters.{letterOf, kindOf, isKnown, isMemory, numbersIn, contentOf}
 use Rattle.sheet_lines.specs.Lines.{fieldIn, asWanted, allAsWanted, valueOf, leftEmpty, lineWith, lineOf, printedField, fieldText, lineText, LinesAsWritten}
 use Rattle.sheet_lines.specs.declared.Kind.{Kind}
 use Rattle.sheet_lines.specs.declared.Kind.the-variants.{Sizes, Memory, TwoPorts, Latch, Gate, Address, WriteData, SecondAddress, SecondEnable, Control, Unknown}
 use Rattle.sheet_lines.specs.declared.ParsedLine.the-variants.{Misprint, Read}
 use Rattle.sheet_lines.proofs.Letters.{letterOf-kindOf, kindOf-letterOf}
 
--- what the number of a content says of a field: 1 that it is not empty, 0 that it is
-pub wanted-empty : (w : Content) → not (eqb (contentNumber w) 1) ≡ asWanted w Empty
-wanted-empty mustBeEmpty = refl
-wanted-empty mustBeFilled = refl
-wanted-empty mayBeEmpty = refl
-
-pub wanted-number : (w : Content) (x : ℕ) → not (eqb (contentNumber w) 0) ≡ asWanted w (Filled x)
-wanted-number mustBeEmpty x = refl
-wanted-number mustBeFilled x = refl
-wanted-number mayBeEmpty x = refl
-
-pub wanted-misprint : (w : Content) → asWanted w Misprinted ≡ false
-wanted-misprint mustBeEmpty = refl
-wanted-misprint mustBeFilled = refl
-wanted-misprint mayBeEmpty = refl
-
--- 2 that it may be either, and no other
-pub left-either : (w : Content) (f : Field) → contentNumber w ≡ 2 → leftEmpty w f ≡ leftEmpty mayBeEmpty f
-left-either mustBeEmpty f h = absurd (omega arith)
-left-either mustBeFilled f h = absurd (omega arith)
-left-either mayBeEmpty f h = refl
-
-pub left-firm : (w : Content) (f : Field) → (contentNumber w ≡ 2 → ⊥) → leftEmpty w f ≡ 0
-left-firm mustBeEmpty f n = refl
-left-firm mustBeFilled f n = refl
-left-firm mayBeEmpty f n = absurd (n refl)
+-- a field that is not to be either is not left empty
+pub left-firm : (w : ℕ) (f : Field) → (w ≡ 2 → ⊥) → leftEmpty w f ≡ 0
+left-firm w Empty n = rw (ne-eqb w 2 n)
+left-firm w (Filled x) n = refl
+left-firm w Misprinted n = refl
 
 -- a line by the outcomes of its four tests: the letter, and each field
 pub lineWith-tests :
@@ -75,22 +55,22 @@ pub lineOf-no-feed : (s : List ℕ) → length s ≡ 32 → (getD s 31 0 ≡ lin
 unfolding lineOf
 lineOf-no-feed s l n = rw (eq-eqb (length s) 32 l, ne-eqb (getD s 31 0) lineFeed n)
 
+-- one of two numbers
+one-of : (w i j : ℕ) → (eqb w i || eqb w j) ≡ true → (w ≡ i) ⊎ (w ≡ j)
+one-of w i j h =
+    ⊎-elim (λ (e : eqb w i ≡ true). inl (eqb-true w i e)) (λ (e : eqb w j ≡ true). inr (eqb-true w j e)) (or-true (eqb w i) (eqb w j) .0 h)
+
 -- ten columns that are as wanted are the text of what is read there
 column-text :
-    (w : Content) (f : List ℕ) → length f ≡ 10 → asWanted w (fieldOf f) ≡ true →
+    (w : ℕ) (f : List ℕ) → length f ≡ 10 → asWanted w (fieldOf f) ≡ true →
     f ≡ fieldText (printedField w (leftEmpty w (fieldOf f)) (valueOf (fieldOf f)))
-column-text w f l h = by-field w (fieldOf f) refl h
+column-text w f l h = by-field (fieldOf f) refl h
   where
-    by-field : (w : Content) (r : Field) → fieldOf f ≡ r → asWanted w r ≡ true → f ≡ fieldText (printedField w (leftEmpty w r) (valueOf r))
-    by-field mustBeEmpty Empty e h = empty-fieldOf f l e
-    by-field mustBeFilled Empty e h = absurd (false≢true h)
-    by-field mayBeEmpty Empty e h = empty-fieldOf f l e
-    by-field mustBeEmpty (Filled x) e h = absurd (false≢true h)
-    by-field mustBeFilled (Filled x) e h = field-fieldOf f x l e .0
-    by-field mayBeEmpty (Filled x) e h = field-fieldOf f x l e .0
-    by-field mustBeEmpty Misprinted e h = absurd (false≢true h)
-    by-field mustBeFilled Misprinted e h = absurd (false≢true h)
-    by-field mayBeEmpty Misprinted e h = absurd (false≢true h)
+    by-field : (r : Field) → fieldOf f ≡ r → asWanted w r ≡ true → f ≡ fieldText (printedField w (leftEmpty w r) (valueOf r))
+    by-field Empty e h = ⊎-elim (λ (p : w ≡ 0). rw p (empty-fieldOf f l e)) (λ (p : w ≡ 2). rw p (empty-fieldOf f l e)) (one-of w 0 2 h)
+    by-field (Filled x) e h =
+        ⊎-elim (λ (p : w ≡ 1). rw p (field-fieldOf f x l e .0)) (λ (p : w ≡ 2). rw p (field-fieldOf f x l e .0)) (one-of w 1 2 h)
+    by-field Misprinted e h = absurd (false≢true h)
 
 -- the first two fields are of one content for each letter: whether the third is left empty is nothing to them
 firm : (k : Kind) (d e x : ℕ) → (printedField (contentOf k 0) d x ≡ printedField (contentOf k 0) e x) × (printedField (contentOf k 1) d x ≡ printedField (contentOf k 1) e x)
@@ -228,32 +208,30 @@ module _ (letter last : ℕ) (a b c : List ℕ) (x : length a ≡ 10) (y : lengt
       (take-at c (last ∷ []) 10 z)
 
 -- a column as it is written is read as what was written, and is as wanted
-fieldOf-written : (w : Content) (e x : ℕ) → x < 2 ^ 32 → fieldOf (fieldText (printedField w e x)) ≡ printedField w e x
-fieldOf-written mustBeEmpty e x h = fieldOf-empty
-fieldOf-written mustBeFilled e x h = fieldOf-field x h
-fieldOf-written mayBeEmpty e x h = by-flag (eqb e 0)
+fieldOf-written : (w e x : ℕ) → x < 2 ^ 32 → fieldOf (fieldText (printedField w e x)) ≡ printedField w e x
+fieldOf-written w e x h = by-flag (eqb w 1 || (eqb w 2 && eqb e 0))
   where
     by-flag : (b : Bool) → fieldOf (fieldText (cond b (Filled x) Empty)) ≡ cond b (Filled x) Empty
     by-flag true = fieldOf-field x h
     by-flag false = fieldOf-empty
 
-length-written : (w : Content) (e x : ℕ) → x < 2 ^ 32 → length (fieldText (printedField w e x)) ≡ 10
-length-written mustBeEmpty e x h = refl
-length-written mustBeFilled e x h = length-field x h
-length-written mayBeEmpty e x h = by-flag (eqb e 0)
+length-written : (w e x : ℕ) → x < 2 ^ 32 → length (fieldText (printedField w e x)) ≡ 10
+length-written w e x h = by-flag (eqb w 1 || (eqb w 2 && eqb e 0))
   where
     by-flag : (b : Bool) → length (fieldText (cond b (Filled x) Empty)) ≡ 10
     by-flag true = length-field x h
     by-flag false = refl
 
-wanted-written : (w : Content) (e x : ℕ) → asWanted w (printedField w e x) ≡ true
-wanted-written mustBeEmpty e x = refl
-wanted-written mustBeFilled e x = refl
-wanted-written mayBeEmpty e x = by-flag (eqb e 0)
+wanted-written : (k : Kind) (column e x : ℕ) → asWanted (contentOf k column) (printedField (contentOf k column) e x) ≡ true
+unfolding contentOf
+wanted-written k column e x = by-content (isMemory k && eqb column 2) (ltb column (numbersIn k)) (eqb e 0)
   where
-    by-flag : (b : Bool) → asWanted mayBeEmpty (cond b (Filled x) Empty) ≡ true
-    by-flag true = refl
-    by-flag false = refl
+    by-content : (either filled zero : Bool) → let w : ℕ = cond either 2 (cond filled 1 0) in
+        asWanted w (cond (eqb w 1 || (eqb w 2 && zero)) (Filled x) Empty) ≡ true
+    by-content true filled true = refl
+    by-content true filled false = refl
+    by-content false true zero = refl
+    by-content false false zero = refl
 
 -- a line as it is written is read back, with 0 where a field is empty
 lineOf-lineText :
@@ -278,8 +256,8 @@ lineOf-lineText k a b c e h x y z =
     ap fieldOf (third-column (letterOf k) lineFeed f g o lf lg lo) ∙ fieldOf-written (contentOf k 2) e c z in
     lineOf-fields s (length-bytes (letterOf k) lineFeed f g o lf lg lo) (last-byte (letterOf k) lineFeed f g o lf lg lo)
     ∙ rw (kindOf-letterOf k h, first, second, third)
-    (lineWith-tests k _ _ _ true true true true h (wanted-written (contentOf k 0) e a) (wanted-written (contentOf k 1) e b)
-    (wanted-written (contentOf k 2) e c))
+    (lineWith-tests k _ _ _ true true true true h (wanted-written k 0 e a) (wanted-written k 1 e b)
+    (wanted-written k 2 e c))
 
 -- both
 pub lines-as-written : LinesAsWritten

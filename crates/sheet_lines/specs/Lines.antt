@@ -2,7 +2,7 @@
 -- sheet_lines/specs/Depth and sheet_parse/specs/Files.
 use Prim.Native.Nat.{ℕ, _+_, _*_, _^_, _<_}
 use mathlib.Core.Path.{_≡_}
-use mathlib.Core.Bool.{Bool, true, false, cond, _&&_}
+use mathlib.Core.Bool.{Bool, true, false, cond, _&&_, _||_}
 use mathlib.Core.List.{List, [], _∷_, _++_}
 use lib.Dec.{eqb}
 use lib.ListN.{length, getD, take, drop}
@@ -11,7 +11,7 @@ use Rattle.decimal.specs.Digits.{lineFeed, field, emptyField}
 use Rattle.sheet_fields.specs.Fields.{fieldOf}
 use Rattle.sheet_fields.specs.declared.Field.{Field}
 use Rattle.sheet_fields.specs.declared.Field.the-variants.{Empty, Filled, Misprinted}
-use Rattle.sheet_lines.specs.Letters.{Content, mustBeEmpty, mustBeFilled, mayBeEmpty, letterOf, kindOf, isKnown, contentOf}
+use Rattle.sheet_lines.specs.Letters.{letterOf, kindOf, isKnown, contentOf}
 use Rattle.sheet_lines.specs.declared.Kind.{Kind}
 use Rattle.sheet_lines.specs.declared.ParsedLine.{ParsedLine}
 use Rattle.sheet_lines.specs.declared.ParsedLine.the-variants.{Misprint, Read}
@@ -21,16 +21,10 @@ unfoldable pub fieldIn : List ℕ → ℕ → Field
 fieldIn s column = fieldOf (take 10 (drop (1 + 10 * column) s))
 
 -- a field as its letter wants it: empty, or a number
-abbrev pub asWanted : Content → Field → Bool
-asWanted mustBeEmpty Empty = true
-asWanted mustBeEmpty (Filled x) = false
-asWanted mustBeEmpty Misprinted = false
-asWanted mustBeFilled Empty = false
-asWanted mustBeFilled (Filled x) = true
-asWanted mustBeFilled Misprinted = false
-asWanted mayBeEmpty Empty = true
-asWanted mayBeEmpty (Filled x) = true
-asWanted mayBeEmpty Misprinted = false
+abbrev pub asWanted : ℕ → Field → Bool
+asWanted w Empty = eqb w 0 || eqb w 2
+asWanted w (Filled x) = eqb w 1 || eqb w 2
+asWanted w Misprinted = false
 
 unfoldable pub allAsWanted : Kind → Field → Field → Field → Bool
 allAsWanted k a b c = asWanted (contentOf k 0) a && asWanted (contentOf k 1) b && asWanted (contentOf k 2) c
@@ -42,12 +36,10 @@ valueOf (Filled x) = x
 valueOf Misprinted = 0
 
 -- 1 where a field that may be empty or filled is empty: its 0 is then no number
-abbrev pub leftEmpty : Content → Field → ℕ
-leftEmpty mustBeEmpty f = 0
-leftEmpty mustBeFilled f = 0
-leftEmpty mayBeEmpty Empty = 1
-leftEmpty mayBeEmpty (Filled x) = 0
-leftEmpty mayBeEmpty Misprinted = 0
+abbrev pub leftEmpty : ℕ → Field → ℕ
+leftEmpty w Empty = cond (eqb w 2) 1 0
+leftEmpty w (Filled x) = 0
+leftEmpty w Misprinted = 0
 
 -- a line of this kind with these fields. RULES T2: "an unknown letter, a field not as its letter wants" is a misprint
 unfoldable pub lineWith : Kind → Field → Field → Field → ParsedLine
@@ -62,10 +54,8 @@ lineOf s =
     Misprint
 
 -- a line as it is written: a field that may be empty or filled is empty where `e` is not 0
-abbrev pub printedField : Content → ℕ → ℕ → Field
-printedField mustBeEmpty e x = Empty
-printedField mustBeFilled e x = Filled x
-printedField mayBeEmpty e x = cond (eqb e 0) (Filled x) Empty
+abbrev pub printedField : ℕ → ℕ → ℕ → Field
+printedField w e x = cond (eqb w 1 || (eqb w 2 && eqb e 0)) (Filled x) Empty
 
 abbrev pub fieldText : Field → List ℕ
 fieldText Empty = emptyField

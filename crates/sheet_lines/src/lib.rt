@@ -2,7 +2,7 @@
 ghost use mathlib.Core.Path.{_≡_};
 ghost use Prim.Native.Nat.{_<_};
 ghost use Rattle.refusals.specs.Refusal.{replyOf};
-ghost use Rattle.sheet_lines.specs.Letters.{letterOf, kindOf, rowOf, secondPortOf, contentNumber, contentOf, ContentsAsPrinted};
+ghost use Rattle.sheet_lines.specs.Letters.{letterOf, kindOf, rowOf, secondPortOf, contentOf, ContentsAsPrinted};
 ghost use Rattle.sheet_lines.specs.Lines.{asWanted, valueOf, leftEmpty, lineWith, lineOf, LinesAsWritten};
 ghost use Rattle.sheet_lines.specs.Depth.{depthField, fieldVerdict, depthVerdict, withDepth, depthLine};
 use refusals::Refusal;
@@ -140,7 +140,7 @@ fn contents() -> [[u8; 3]; 10]
 // What the table says of a column, 0 to 2.
 pub fn content_of(kind: Kind, column: usize) -> u8
     requires { ⌜ (rowOf kind < 10) × (column < 3) ⌝ }
-    ensures { λ r. ⌜ r ≡ contentNumber (contentOf kind column) ⌝ }
+    ensures { λ r. ⌜ r ≡ contentOf kind column ⌝ }
 {
     let row = row_of(kind);
     let table = contents();
@@ -154,8 +154,8 @@ fn is_wanted(kind: Kind, column: usize, field: Field) -> bool
 {
     let content = content_of(kind, column);
     match field {
-        Field::Empty => content != MUST_BE_FILLED,
-        Field::Filled(_) => content != MUST_BE_EMPTY,
+        Field::Empty => (content == MUST_BE_EMPTY) | (content == MAY_BE_EMPTY),
+        Field::Filled(_) => (content == MUST_BE_FILLED) | (content == MAY_BE_EMPTY),
         Field::Misprinted => false,
     }
 }

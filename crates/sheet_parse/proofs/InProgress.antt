@@ -23,7 +23,7 @@ use Rattle.sheet_lines.specs.declared.ParsedLine.the-variants.{Misprint, Read}
 use Rattle.sheet_steps.specs.Records.{recordBeside}
 use Rattle.sheet_steps.specs.Steps.{Outcome, SizesKnown}
 use Rattle.sheet_steps.proofs.Records.{verdict-is, holds, outcome-kept, outcome-same}
-use Rattle.sheet_parse.specs.Files.{lineCount, lineIn, firstNumber, secondNumber, thirdNumber, sizesIn, netOfLines, netIn}
+use Rattle.sheet_parse.specs.Files.{lineCount, lineIn, columnOf, sizesIn, netOfLines, netIn}
 use Rattle.sheet_parse.specs.FileTests.{testLineIn}
 use Rattle.sheet_parse.specs.LineAnswers.{hasLine, linesRead}
 use Rattle.sheet_parse.specs.Progress.{noCodes, noProgress, passes, answerVerdict, answerNet, moreAfter, lineAfter}
@@ -74,17 +74,17 @@ module _ (file : List ℕ) where
         initialWord = 0;
         unknownStart = 0;
         secondPort = 0;
-        next = λ l. (no-code (2 * l) ∙ sym (unread (s .latches) firstNumber (latchLine s) refl (λ x. omega arith) l)) i;
-        reset = λ l. (no-code (2 * l + 1) ∙ sym (unread (s .latches) secondNumber (latchLine s) refl (λ x. omega arith) l)) i;
-        left = λ g. (no-code (2 * g) ∙ sym (unread (s .gates) firstNumber (gateLine s) refl (λ x. omega arith) g)) i;
-        right = λ g. (no-code (2 * g + 1) ∙ sym (unread (s .gates) secondNumber (gateLine s) refl (λ x. omega arith) g)) i;
-        address = λ t. (no-code-of 12 t refl ∙ sym (unread (s .m) firstNumber (addressLine s) refl (λ x. omega arith) t)) i;
-        writeData = λ t. (no-code-of 32 t refl ∙ sym (unread (s .n) firstNumber (dataLine s) refl (λ x. omega arith) t)) i;
-        WE = sym (unread-last firstNumber refl) i;
-        RE = sym (unread-last secondNumber refl) i;
-        P = sym (unread-last thirdNumber refl) i;
-        address2 = λ t. (no-code-of 12 t refl ∙ sym (unread (s .secondPort * s .m) firstNumber (secondAddressLine s) refl (λ x. omega arith) t)) i;
-        RE2 = sym (unread (s .secondPort) firstNumber (λ x. secondEnableLine s) refl (λ x. omega arith) 0) i;
+        next = λ l. (no-code (2 * l) ∙ sym (unread (s .latches) (columnOf 0) (latchLine s) refl (λ x. omega arith) l)) i;
+        reset = λ l. (no-code (2 * l + 1) ∙ sym (unread (s .latches) (columnOf 1) (latchLine s) refl (λ x. omega arith) l)) i;
+        left = λ g. (no-code (2 * g) ∙ sym (unread (s .gates) (columnOf 0) (gateLine s) refl (λ x. omega arith) g)) i;
+        right = λ g. (no-code (2 * g + 1) ∙ sym (unread (s .gates) (columnOf 1) (gateLine s) refl (λ x. omega arith) g)) i;
+        address = λ t. (no-code-of 12 t refl ∙ sym (unread (s .m) (columnOf 0) (addressLine s) refl (λ x. omega arith) t)) i;
+        writeData = λ t. (no-code-of 32 t refl ∙ sym (unread (s .n) (columnOf 0) (dataLine s) refl (λ x. omega arith) t)) i;
+        WE = sym (unread-last (columnOf 0) refl) i;
+        RE = sym (unread-last (columnOf 1) refl) i;
+        P = sym (unread-last (columnOf 2) refl) i;
+        address2 = λ t. (no-code-of 12 t refl ∙ sym (unread (s .secondPort * s .m) (columnOf 0) (secondAddressLine s) refl (λ x. omega arith) t)) i;
+        RE2 = sym (unread (s .secondPort) (columnOf 0) (λ x. secondEnableLine s) refl (λ x. omega arith) 0) i;
       }
 
   read-none : ReadTo file 0 (recordOf noNetlist) noCodes noCodes

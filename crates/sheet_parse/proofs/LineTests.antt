@@ -2,21 +2,21 @@
 -- No contract cites this file.
 use Prim.Native.Nat.{ℕ, _+_, _≤_}
 use mathlib.Core.Path.{_≡_, refl, sym, _∙_, subst}
-use mathlib.Core.Bool.{Bool, false, not, _&&_, _||_}
+use mathlib.Core.Bool.{Bool, true, false, not, _||_, false≢true}
 use mathlib.Core.Logic.{by-cases}
 use mathlib.Core.List.{List, []}
-use native.Mathlib.Decide.{decLt, decLe}
+use native.Mathlib.Decide.{decLt}
 use native.Mathlib.Numerals.{add-one}
 use native.Mathlib.Omega.{arith}
-use lib.Dec.{leb, ltb}
-use borrow.Author.Tests.{lt-ltb, le-ltb, le-leb, lt-leb, ltb-false}
+use lib.Dec.{ltb}
+use borrow.Author.Tests.{lt-ltb, le-ltb, ltb-false, not-false}
 use Rattle.refusals.specs.Tests.{refuseIf, _then_, inOrder}
 use Rattle.refusals.specs.declared.Refusal.{Refusal}
 use Rattle.refusals.specs.declared.Refusal.the-variants.{OutOfOrder, Size, CodeOutside}
 use Rattle.refusals.specs.declared.Refusal.the-variants as Word
 use Rattle.refusals.specs.declared.Verdict.{Verdict}
 use Rattle.refusals.specs.declared.Verdict.the-variants.{Passed, Refused}
-use Rattle.refusals.proofs.Tests.{refuseIf-passes, then-passes, inOrder-suc, inOrder-kept, inOrder-passes}
+use Rattle.refusals.proofs.Tests.{refused-not-passed, refuseIf-passes, then-passes, inOrder-suc, inOrder-kept, inOrder-passes}
 use Rattle.model.specs.Netlist as M
 use Rattle.model.specs.Acceptance.{SizesFit}
 use Rattle.model.proofs.Agree.{sizesFit-same}
@@ -24,16 +24,18 @@ use Rattle.model.proofs.Booleans.{neither-true}
 use Rattle.netlist.specs.NetOf.{netOf, alone}
 use Rattle.netlist.specs.Places.{controlLine, lineAt}
 use Rattle.netlist.specs.Faults.{sizeFault, codeFault}
+use Rattle.netlist.specs.declared.Line.{Line}
 use Rattle.netlist.specs.declared.Netlist.{Netlist}
 use Rattle.netlist.proofs.NetOf.{sizes-lists}
 use Rattle.netlist.proofs.Places.{at-sizes, at-memory}
 use Rattle.netlist.proofs.Faults.{sizes-fit}
 use Rattle.sheet_lines.specs.declared.Kind.{Kind}
+use Rattle.sheet_lines.specs.declared.ParsedLine.{ParsedLine}
 use Rattle.sheet_lines.specs.declared.ParsedLine.the-variants as ParsedLine
 use Rattle.sheet_steps.specs.declared.SheetAnswer.{SheetAnswer}
 use Rattle.sheet_parse.specs.Files.{lineIn, sizesIn, netIn}
 use Rattle.sheet_steps.specs.Due.{isDue}
-use Rattle.sheet_parse.specs.FileTests.{misprinted, isLine, notDue, testLineIn}
+use Rattle.sheet_parse.specs.FileTests.{testRead, testLineIn}
 use Rattle.sheet_steps.specs.LineFaults.{faultsAt}
 use Rattle.sheet_steps.specs.Steps.{stepNet, stepVerdict, SizesKnown, Outcome}
 use Rattle.sheet_steps.specs.Lists.{Holds}
@@ -41,23 +43,28 @@ use Rattle.sheet_steps.proofs.Places.{placeOf, place-lineAt}
 use Rattle.sheet_steps.proofs.Records.{outcome-same}
 use Rattle.sheet_parse.proofs.Files.{netTo, ports-in, stored-next, lineAt-in, controlLine-in, sizes-to, due-to, past-to, sizeFault-to, codeFault-to}
 
--- within the last line and of the kind due, or else past it or unlike
-not-within : (q k : ℕ) (b : Bool) → not (leb q k && b) ≡ (ltb k q || not b)
-not-within q k b =
-    by-cases (decLe q k)
-    (λ h. rw (le-leb q k h, le-ltb k q h))
-    (λ h. rw (lt-leb q k (omega arith), lt-ltb k q (omega arith)))
+-- whether a line that is read is the line due
+abbrev pub isLine : Line → ParsedLine → Bool
+isLine due ParsedLine.Misprint = false
+isLine due (ParsedLine.Read kind x y z e) = isDue due kind
+
+-- one that is, and not behind the last, is tested for faults
+pub test-due : (c : M.Netlist) (q : ℕ) (line : ParsedLine) → q ≤ controlLine c → isLine (lineAt c q) line ≡ true
+    → testRead c q line ≡ faultsAt c (lineAt c q) q
+unfolding testRead _then_
+test-due c q ParsedLine.Misprint b h = absurd (false≢true h)
+test-due c q (ParsedLine.Read kind x y z u) b h = rw (le-ltb (controlLine c) q b, h)
 
 -- a misprinted line
 pub test-misprint : (c : M.Netlist) (file : List ℕ) (q : ℕ) → lineIn file q ≡ ParsedLine.Misprint → testLineIn c file q ≡ Refused Word.Misprint q
-unfolding testLineIn _then_
+unfolding testLineIn testRead
 test-misprint c file q e = rw e
 
 -- a printed line
 test-printed : (c : M.Netlist) (file : List ℕ) (q : ℕ) (kind : Kind) (x y z u : ℕ) → lineIn file q ≡ ParsedLine.Read kind x y z u
     → testLineIn c file q ≡ (refuseIf (ltb (controlLine c) q || not (isDue (lineAt c q) kind)) OutOfOrder q then faultsAt c (lineAt c q) q)
-unfolding testLineIn notDue _then_
-test-printed c file q kind x y z u e = rw (e, not-within q (controlLine c) (isDue (lineAt c q) kind))
+unfolding testLineIn testRead
+test-printed c file q kind x y z u e = rw e
 
 module _ (file : List ℕ) (p : ℕ) (kind : Kind) (x y z u : ℕ) (e : lineIn file (p + 1) ≡ ParsedLine.Read kind x y z u) where
   -- a line not behind the last puts its numbers into the netlist
@@ -82,32 +89,44 @@ module _ (file : List ℕ) (p : ℕ) (kind : Kind) (x y z u : ℕ) (e : lineIn f
       (λ h. rw (lt-ltb (controlLine (netIn file)) (p + 1) h))
       (λ h. rw (stepNet-next (omega arith), faults-next (omega arith))))
 
--- a line that passes has none of the faults
+-- a line that passes is the line due, and has none of the faults
 pub record NoFault (c : M.Netlist) (file : List ℕ) (q : ℕ) : Type 0 where
-  pub due : notDue c file q ≡ false
+  pub kind : Kind
+  pub x : ℕ
+  pub y : ℕ
+  pub z : ℕ
+  pub empty : ℕ
+  pub read : lineIn file q ≡ ParsedLine.Read kind x y z empty
+  pub within : q ≤ controlLine c
+  pub due : isDue (lineAt c q) kind ≡ true
   pub size : sizeFault c (lineAt c q) ≡ false
   pub code : codeFault c (lineAt c q) ≡ false
 
 no-fault : (c : M.Netlist) (file : List ℕ) (q : ℕ) → testLineIn c file q ≡ Passed → NoFault c file q
-unfolding testLineIn faultsAt _then_
-no-fault c file q e =
-    let a = then-passes (refuseIf (misprinted (lineIn file q)) Word.Misprint q) (order then size then code) .0 e in
-    let b = then-passes order (size then code) .0 (a .1) in
-    let d = then-passes size code .0 (b .1) in
-    record {
-      due = refuseIf-passes (notDue c file q) OutOfOrder q .0 (b .0);
-      size = refuseIf-passes (sizeFault c (lineAt c q)) Size q .0 (d .0);
-      code = refuseIf-passes (codeFault c (lineAt c q)) CodeOutside q .0 (d .1);
-    }
+unfolding faultsAt
+no-fault c file q e = by-line (lineIn file q) refl
   where
-    order : Verdict
-    order = refuseIf (notDue c file q) OutOfOrder q
-
-    size : Verdict
-    size = refuseIf (sizeFault c (lineAt c q)) Size q
-
-    code : Verdict
-    code = refuseIf (codeFault c (lineAt c q)) CodeOutside q
+    by-line : (line : ParsedLine) → lineIn file q ≡ line → NoFault c file q
+    by-line ParsedLine.Misprint is = absurd (refused-not-passed (sym (test-misprint c file q is) ∙ e))
+    by-line (ParsedLine.Read kind x y z u) is =
+        let wrong = ltb (controlLine c) q || not (isDue (lineAt c q) kind) in
+        let size = refuseIf (sizeFault c (lineAt c q)) Size q in
+        let code = refuseIf (codeFault c (lineAt c q)) CodeOutside q in
+        let b = then-passes (refuseIf wrong OutOfOrder q) (size then code) .0 (sym (test-printed c file q kind x y z u is) ∙ e) in
+        let order = neither-true (ltb (controlLine c) q) (not (isDue (lineAt c q) kind)) .0 (refuseIf-passes wrong OutOfOrder q .0 (b .0)) in
+        let d = then-passes size code .0 (b .1) in
+        record {
+          kind = kind;
+          x = x;
+          y = y;
+          z = z;
+          empty = u;
+          read = is;
+          within = ltb-false (controlLine c) q (order .0);
+          due = not-false _ (order .1);
+          size = refuseIf-passes (sizeFault c (lineAt c q)) Size q .0 (d .0);
+          code = refuseIf-passes (codeFault c (lineAt c q)) CodeOutside q .0 (d .1);
+        }
 
 -- what has passed up to a place
 module _ (file : List ℕ) (p : ℕ) (passed : inOrder (testLineIn (netIn file) file) p ≡ Passed) where
@@ -145,10 +164,7 @@ sizesKnown-to file p r latches gates read h =
 
 -- a line that passes is not behind the last
 pub within-last : (c : M.Netlist) (file : List ℕ) (q : ℕ) → testLineIn c file q ≡ Passed → q ≤ controlLine c
-unfolding notDue
-within-last c file q e =
-    let b = isLine (lineAt c q) (lineIn file q) in
-    ltb-false (controlLine c) q (neither-true (ltb (controlLine c) q) (not b) .0 (sym (not-within q (controlLine c) b) ∙ no-fault c file q e .due) .0)
+within-last c file q e = no-fault c file q e .within
 
 -- what a line does to the record and the lists as far as they are read is what it does in the whole file
 pub outcome-next : (file : List ℕ) (p : ℕ) (r : Netlist) (latches gates : List ℕ) → ReadTo file p r latches gates

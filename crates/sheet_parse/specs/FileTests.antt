@@ -1,17 +1,17 @@
 -- The tests of a file and of its lines, in their order (RULES T53): the line due at a place from the sizes alone, and
 -- the faults of a line in their order. Cited by `is_ragged`, sheet_loop and sheet_tests/specs/Sheet.
 use Prim.Native.Nat.{ℕ, _%_}
-use mathlib.Core.Bool.{Bool, true, false, not, _&&_, _||_}
+use mathlib.Core.Bool.{Bool, not, _||_}
 use mathlib.Core.List.{List}
-use lib.Dec.{eqb, ltb, leb}
+use lib.Dec.{eqb, ltb}
 use lib.ListN.{length}
 use Rattle.model.specs.Limits.{lineBytes, mostBytes}
 use Rattle.model.specs.Netlist.{Netlist}
 use Rattle.refusals.specs.Tests.{refuseIf, _then_}
 use Rattle.refusals.specs.declared.Refusal.the-variants.{Misprint, OutOfOrder}
 use Rattle.refusals.specs.declared.Verdict.{Verdict}
+use Rattle.refusals.specs.declared.Verdict.the-variants.{Refused}
 use Rattle.netlist.specs.Places.{lineAt, controlLine}
-use Rattle.netlist.specs.declared.Line.{Line}
 use Rattle.sheet_lines.specs.declared.ParsedLine.{ParsedLine}
 use Rattle.sheet_lines.specs.declared.ParsedLine.the-variants as ParsedLine
 use Rattle.sheet_steps.specs.Due.{isDue}
@@ -22,23 +22,12 @@ use Rattle.sheet_parse.specs.Files.{lineIn}
 unfoldable pub ragged : List ℕ → Bool
 ragged file = eqb (length file) 0 || not (eqb (length file % lineBytes) 0) || ltb mostBytes (length file)
 
--- RULES T2: a line that is misprinted
-abbrev pub misprinted : ParsedLine → Bool
-misprinted ParsedLine.Misprint = true
-misprinted (ParsedLine.Read k x y z e) = false
+-- RULES T53: "line by line, at each line 2, then 3, then 4 or 5"; the place is the line, the first being 1 (RULES S7). What is read there may be misprinted
+-- (RULES T2). RULES T3: "not the line due, .. or a line too many"
+unfoldable pub testRead : Netlist → ℕ → ParsedLine → Verdict
+testRead c p ParsedLine.Misprint = Refused Misprint p
+testRead c p (ParsedLine.Read kind x y z e) =
+    refuseIf (ltb (controlLine c) p || not (isDue (lineAt c p) kind)) OutOfOrder p then faultsAt c (lineAt c p) p
 
--- whether a line that is read is the line due
-abbrev pub isLine : Line → ParsedLine → Bool
-isLine due ParsedLine.Misprint = false
-isLine due (ParsedLine.Read kind x y z e) = isDue due kind
-
--- RULES T3: "not the line due, .. or a line too many"
-unfoldable pub notDue : Netlist → List ℕ → ℕ → Bool
-notDue c file p = not (leb p (controlLine c) && isLine (lineAt c p) (lineIn file p))
-
--- RULES T53: "line by line, at each line 2, then 3, then 4 or 5"; the place is the line, the first being 1 (RULES S7)
 unfoldable pub testLineIn : Netlist → List ℕ → ℕ → Verdict
-testLineIn c file p =
-    refuseIf (misprinted (lineIn file p)) Misprint p
-    then refuseIf (notDue c file p) OutOfOrder p
-    then faultsAt c (lineAt c p) p
+testLineIn c file p = testRead c p (lineIn file p)

@@ -2,17 +2,17 @@
 -- sheet_steps/specs/Steps, sheet_reader/specs/ReadCall and aiger_import/specs/ImportCall.
 use Prim.Native.Nat.{ℕ}
 use Rattle.model.specs.Netlist as M
+use Rattle.refusals.specs.Tests.{ifPassed}
 use Rattle.refusals.specs.declared.Refusal.{Refusal}
 use Rattle.refusals.specs.declared.Verdict.{Verdict}
-use Rattle.refusals.specs.declared.Verdict.the-variants.{Passed, Refused}
+use Rattle.refusals.specs.declared.Verdict.the-variants.{Refused}
 use Rattle.netlist.specs.RecordOf.{recordOf, noNetlist}
 use Rattle.netlist.specs.declared.Netlist.{Netlist}
 use Rattle.sheet_steps.specs.declared.SheetAnswer.{SheetAnswer}
 
 -- the netlist's record where nothing is refused, all zeros where something is
 unfoldable pub recordBeside : Verdict → M.Netlist → Netlist
-recordBeside Passed c = recordOf c
-recordBeside (Refused r p) c = recordOf noNetlist
+recordBeside v c = recordOf (ifPassed v c noNetlist)
 
 -- a verdict with its record
 abbrev pub sheetAnswer : Verdict → M.Netlist → SheetAnswer

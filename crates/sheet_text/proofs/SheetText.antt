@@ -3,7 +3,7 @@
 use Prim.Native.Nat.{ℕ, zero, suc, _+_, _-_, _*_, _^_, _≤_, _<_}
 use mathlib.Core.Path.{_≡_, refl, sym, _∙_, ap, subst}
 use mathlib.Core.List.{List, _++_}
-use mathlib.Core.Bool.{Bool, true, false, cond, true≢false}
+use mathlib.Core.Bool.{Bool, true, false, cond, false≢true}
 use mathlib.Core.Logic.{by-cases}
 use native.Mathlib.Nat.{one-mul}
 use native.Mathlib.Decide.{ℕ-discrete}
@@ -31,7 +31,7 @@ use Rattle.sheet_lines.specs.declared.ParsedLine.the-variants.{Read}
 use Rattle.sheet_lines.specs.declared.Kind.the-variants.{Sizes, Memory, TwoPorts, Latch, Gate, Address, WriteData, SecondAddress, SecondEnable, Control}
 use Rattle.sheet_lines.proofs.Lines.{lines-as-written, lineOf-length}
 use Rattle.sheet_steps.specs.Due.{isDue}
-use Rattle.sheet_parse.specs.FileTests.{misprinted, isLine}
+use Rattle.sheet_parse.proofs.LineTests.{isLine}
 use Rattle.sheet_parse.specs.Files.{lineIn, sizesIn, netOfLines, netIn}
 use Rattle.sheet_text.specs.SheetText.{line, wordField, sheetText}
 use Rattle.sheet_text.specs.PrintedAt.{memoryKind, printedAt}
@@ -50,18 +50,7 @@ readAs c (Due.SecondAddress t) = Read SecondAddress (c .address2 t) 0 0 0
 readAs c Due.SecondEnable = Read SecondEnable (c .RE2) 0 0 0
 readAs c Due.Control = Read Control (c .WE) (c .RE) (c .P) 0
 
--- it is no misprint, and the line due
-pub not-misprinted : (c : Netlist) (x : Line) → misprinted (readAs c x) ≡ false
-not-misprinted c Due.Sizes = refl
-not-misprinted c Due.Memory = refl
-not-misprinted c (Due.Latch l) = refl
-not-misprinted c (Due.Gate g) = refl
-not-misprinted c (Due.Address t) = refl
-not-misprinted c (Due.WriteData t) = refl
-not-misprinted c (Due.SecondAddress t) = refl
-not-misprinted c Due.SecondEnable = refl
-not-misprinted c Due.Control = refl
-
+-- it is the line due
 pub is-due : (c : Netlist) (x : Line) → isLine x (readAs c x) ≡ true
 is-due c Due.Sizes = refl
 is-due c Due.Memory = by-ports (eqb (c .secondPort) 0)
@@ -154,7 +143,7 @@ module _ (c : Netlist) (fits : WithinLimits c) where
   length-printed : (x : Line) → HasLine c x → length (printedAt c x) ≡ 32
   length-printed x h =
       by-cases (ℕ-discrete (length (printedAt c x)) 32) (λ e. e)
-      (λ n. absurd (true≢false (ap misprinted (sym (lineOf-length (printedAt c x) n) ∙ printed-read x h) ∙ not-misprinted c x)))
+      (λ n. absurd (false≢true (ap (isLine x) (sym (lineOf-length (printedAt c x) n) ∙ printed-read x h) ∙ is-due c x)))
 
   line-length : (p : ℕ) → p < controlLine c → length (lineBehind c p) ≡ 32
   line-length p b = length-printed (lineAt c (p + 1)) (has-lineAt c (p + 1))

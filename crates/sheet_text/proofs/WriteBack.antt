@@ -5,10 +5,9 @@ use mathlib.Core.Bool.{Bool, true, false, _&&_, _||_, false≢true}
 use mathlib.Core.List.{List}
 use native.Mathlib.Nat.{add-zero}
 use native.Mathlib.Omega.{arith}
-use lib.Dec.{eqb, leb}
+use lib.Dec.{eqb}
 use lib.ListN.{getD, length, take, drop}
-use borrow.Author.Tests.{eqb-true, ne-eqb, lt-ltb, not-false}
-use Rattle.model.proofs.Booleans.{and-true}
+use borrow.Author.Tests.{eqb-true, ne-eqb, lt-ltb}
 use Rattle.model.proofs.Gather.{gathers-same}
 use Rattle.refusals.specs.declared.Refusal.the-variants.{Ragged}
 use Rattle.refusals.specs.declared.Verdict.the-variants.{Passed}
@@ -17,18 +16,17 @@ use Rattle.netlist.specs.Places.{controlLine, lineAt, HasLine}
 use Rattle.netlist.specs.declared.Line.{Line}
 use Rattle.netlist.specs.declared.Line.the-variants as Due
 use Rattle.netlist.proofs.Places.{has-lineAt}
-use Rattle.sheet_lines.specs.Letters.{rowOf, secondPortOf, contentOf}
+use Rattle.sheet_lines.specs.Letters.{kinds, rowOf, secondPortOf, contentOf}
 use Rattle.sheet_lines.specs.Lines.{lineText}
 use Rattle.sheet_lines.specs.declared.Kind.{Kind}
 use Rattle.sheet_lines.specs.declared.Kind.the-variants.{Sizes, Memory, TwoPorts, Latch, Gate, Address, WriteData, SecondAddress, SecondEnable, Control, Unknown}
-use Rattle.sheet_lines.specs.declared.ParsedLine.{ParsedLine}
-use Rattle.sheet_lines.specs.declared.ParsedLine.the-variants.{Misprint, Read}
-use Rattle.sheet_lines.proofs.Letters.{kinds}
+use Rattle.sheet_lines.specs.declared.ParsedLine.the-variants.{Read}
+use Rattle.sheet_lines.proofs.Letters.{kind-at-row}
 use Rattle.sheet_lines.proofs.Lines.{lines-as-written}
 use Rattle.sheet_steps.specs.Due.{kindDue, isDue}
 use Rattle.sheet_steps.proofs.Places.{placeOf, second-address, place-lineAt}
 use Rattle.sheet_parse.specs.Files.{lineCount, lineIn, sizesIn, netOfLines, netIn}
-use Rattle.sheet_parse.specs.FileTests.{ragged, isLine, notDue, testLineIn}
+use Rattle.sheet_parse.specs.FileTests.{ragged, testLineIn}
 use Rattle.sheet_parse.proofs.Files.{ports-in, whole-lines}
 use Rattle.sheet_parse.proofs.LineTests.{line-passed, within-last}
 use Rattle.sheet_tests.specs.Sheet.{fileVerdict}
@@ -39,37 +37,10 @@ use Rattle.sheet_text.proofs.Parts.{parts-gather}
 use Rattle.sheet_text.proofs.Placed.{lineBehind, placed}
 
 -- a kind is known by its row
-kind-in-row : (k : Kind) → getD kinds (rowOf k) Unknown ≡ k
-kind-in-row Sizes = refl
-kind-in-row Memory = refl
-kind-in-row TwoPorts = refl
-kind-in-row Latch = refl
-kind-in-row Gate = refl
-kind-in-row Address = refl
-kind-in-row WriteData = refl
-kind-in-row SecondAddress = refl
-kind-in-row SecondEnable = refl
-kind-in-row Control = refl
-kind-in-row Unknown = refl
-
 row-one-kind : (k l : Kind) → rowOf k ≡ rowOf l → k ≡ l
-row-one-kind k l e = sym (kind-in-row k) ∙ ap (λ row. getD kinds row Unknown) e ∙ kind-in-row l
+row-one-kind k l e = sym (kind-at-row k) ∙ ap (λ row. getD kinds row Unknown) e ∙ kind-at-row l
 
--- a line that is due, and its numbers
-record DueLine (due : Line) (line : ParsedLine) : Type 0 where
-  kind : Kind
-  x : ℕ
-  y : ℕ
-  z : ℕ
-  empty : ℕ
-  is-due : isDue due kind ≡ true
-  is : line ≡ Read kind x y z empty
-
-due-line : (due : Line) (line : ParsedLine) → isLine due line ≡ true → DueLine due line
-due-line due Misprint h = absurd (false≢true h)
-due-line due (Read kind x y z e) h = record { kind = kind; x = x; y = y; z = z; empty = e; is-due = h; is = refl }
-
--- its kind, and that of the second line
+-- the kind of a line that is due, and that of the second line
 kind-due : (due : Line) (k : Kind) → (rowOf (kindDue due) ≡ 1 → ⊥) → isDue due k ≡ true → k ≡ kindDue due
 kind-due due k other h =
     row-one-kind k (kindDue due)
@@ -132,17 +103,14 @@ module _ (file : List ℕ) where
 
     -- the line at a place, as it is printed
     line-text : (p : ℕ) → p < controlLine (netIn file) → printedAt (netIn file) (lineAt (netIn file) (p + 1)) ≡ take 32 (drop (32 * p) file)
-    unfolding notDue lineIn
+    unfolding lineIn
     line-text p b =
         let c = netIn file in
-        let due = lineAt c (p + 1) in
         let back : p + 1 - 1 ≡ p = omega arith in
-        let sound = line-passed file (lineCount file) (lines-pass file passed) (p + 1) (omega arith) (omega (arith, ends)) in
-        let kind = and-true (leb (p + 1) (controlLine c)) (isLine due (lineIn file (p + 1))) .0 (not-false _ (sound .due)) .1 in
-        let line = due-line due (lineIn file (p + 1)) kind in
-        let place : placeOf c due ≡ p + 1 = place-lineAt c one-port-more (p + 1) (omega arith) (omega arith) in
-        text-of-line due (has-lineAt c (p + 1)) (line .kind) (line .is-due) (line .x) (line .y) (line .z) (line .empty) (ap (lineIn file) place ∙ line .is)
-        ∙ sym (lines-as-written .read→text (take 32 (drop (32 * (p + 1 - 1)) file)) (line .kind) (line .x) (line .y) (line .z) (line .empty) (line .is))
+        let line = line-passed file (lineCount file) (lines-pass file passed) (p + 1) (omega arith) (omega (arith, ends)) in
+        let place : placeOf c (lineAt c (p + 1)) ≡ p + 1 = place-lineAt c one-port-more (p + 1) (omega arith) (omega arith) in
+        text-of-line (lineAt c (p + 1)) (has-lineAt c (p + 1)) (line .kind) (line .due) (line .x) (line .y) (line .z) (line .empty) (ap (lineIn file) place ∙ line .read)
+        ∙ sym (lines-as-written .read→text (take 32 (drop (32 * (p + 1 - 1)) file)) (line .kind) (line .x) (line .y) (line .z) (line .empty) (line .read))
         ∙ ap (λ q. take 32 (drop (32 * q) file)) back
 
     pub written-back : sheetText (netIn file) ≡ file

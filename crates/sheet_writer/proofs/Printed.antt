@@ -1,25 +1,16 @@
 -- Laws of specs/Printed.antt: its letter is one of the table's, and its text is that of the line due. No contract cites this file.
-use Prim.Native.Nat.{ℕ, _<_}
+use Prim.Native.Nat.{_<_}
 use mathlib.Core.Path.{_≡_, refl}
-use mathlib.Core.Bool.{Bool, true, false, cond, _&&_, _||_}
+use mathlib.Core.Bool.{Bool, true, false, cond}
 use native.Mathlib.Omega.{arith}
 use lib.Dec.{eqb}
 use Rattle.model.specs.Netlist.{Netlist}
 use Rattle.netlist.specs.declared.Line.{Line}
 use Rattle.netlist.specs.declared.Line.the-variants as Due
-use Rattle.sheet_fields.specs.declared.Field.the-variants.{Empty, Filled}
-use Rattle.sheet_lines.specs.Letters.{rowOf, Content, mustBeEmpty, mustBeFilled, mayBeEmpty, contentNumber}
-use Rattle.sheet_lines.specs.Lines.{printedField}
+use Rattle.sheet_lines.specs.Letters.{rowOf}
 use Rattle.sheet_lines.specs.declared.Kind.the-variants.{Memory, TwoPorts}
 use Rattle.sheet_text.specs.PrintedAt.{printedAt}
 use Rattle.sheet_writer.specs.Printed.{printedLine, printedText}
-
--- what a column holds, by the table's number for it
-pub printed-by : (w : Content) (number empty x : ℕ) → number ≡ contentNumber w
-    → printedField w empty x ≡ cond (eqb number 1 || (eqb number 2 && eqb empty 0)) (Filled x) Empty
-printed-by mustBeEmpty number empty x e = rw e
-printed-by mustBeFilled number empty x e = rw e
-printed-by mayBeEmpty number empty x e = rw e
 
 -- a line's letter is one of the table's
 pub known-row : (c : Netlist) (x : Line) → rowOf (printedLine c x .kind) < 10

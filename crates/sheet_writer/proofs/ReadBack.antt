@@ -6,7 +6,7 @@ use mathlib.Core.Bool.{false}
 use mathlib.Core.List.{List}
 use native.Mathlib.Omega.{arith}
 use lib.ListN.{length}
-use borrow.Author.Tests.{eq-eqb, ne-eqb, le-ltb, le-leb}
+use borrow.Author.Tests.{eq-eqb, ne-eqb, le-ltb}
 use Rattle.model.specs.Netlist.{Netlist}
 use Rattle.model.specs.Acceptance.{Accepted}
 use Rattle.model.specs.Agree.{Agree}
@@ -23,12 +23,13 @@ use Rattle.call_unpacked.proofs.Calls.{lines-most}
 use Rattle.sheet_steps.specs.LineFaults.{faultsAt}
 use Rattle.sheet_steps.proofs.Places.{lineAt-known}
 use Rattle.sheet_parse.specs.Files.{lineCount, netIn}
-use Rattle.sheet_parse.specs.FileTests.{ragged, notDue, testLineIn}
+use Rattle.sheet_parse.specs.FileTests.{ragged, testLineIn}
+use Rattle.sheet_parse.proofs.LineTests.{test-due}
 use Rattle.sheet_tests.specs.Sheet.{endVerdict, fileVerdict, sheetVerdict}
 use Rattle.sheet_tests.proofs.Verdicts.{file-lines, end-whole}
 use Rattle.sheet_tests.proofs.Codes.{sheet-passed}
 use Rattle.sheet_text.specs.SheetText.{sheetText}
-use Rattle.sheet_text.proofs.SheetText.{not-misprinted, is-due, length-sheetText, line-in, agrees-read, ends-same}
+use Rattle.sheet_text.proofs.SheetText.{readAs, is-due, length-sheetText, line-in, agrees-read, ends-same}
 
 module _ (c : Netlist) (accepted : Accepted c) where
   abbrev file : List ℕ
@@ -65,25 +66,13 @@ module _ (c : Netlist) (accepted : Accepted c) where
       )
 
   -- no line is refused
-  in-place : (p : ℕ) → 1 ≤ p → p ≤ controlLine c → notDue read file p ≡ false
-  unfolding notDue
-  in-place p l b =
-      rw (
-        ← ends,
-        ← due p,
-        le-leb p (controlLine c) b,
-        line-in c (accepted .limits) p l b,
-        is-due c (lineAt c p),
-      )
-
   line-passes : (p : ℕ) → 1 ≤ p → p ≤ controlLine c → testLineIn read file p ≡ Passed
   unfolding testLineIn faultsAt
   line-passes p l b =
       let within : p ≤ controlLine read = rw (← ends) b in
       rw (
         line-in c (accepted .limits) p l b,
-        not-misprinted c (lineAt c p),
-        in-place p l b,
+        test-due read p (readAs c (lineAt c p)) within (rw (← due p) (is-due c (lineAt c p))),
         every-place read (Without sizeFault read) .0 (sizes-fit read .1 (read-accepted .limits .sizes)) p l within,
         every-place read (Without codeFault read) .0 (codes-fit read .1 (read-accepted .limits .codes)) p l within,
       )

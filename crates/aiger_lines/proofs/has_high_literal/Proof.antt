@@ -1,13 +1,13 @@
 -- `aiger_lines::has_high_literal` meets its contract.
-use mathlib.Core.Path.{_≡_, sym, _∙_}
-use mathlib.Core.Bool.{true}
+use native.Mathlib.Omega.{arith}
 use borrow.Author.Needs.{needs}
-use Rattle.aiger_lines.specs.Parts.{hasLiterals}
+use borrow.Author.Tests.{lt-ltb, le-ltb}
+use Rattle.aiger_lines.specs.Parts.{width}
 use Rattle.aiger_lines.proofs.has_high_literal.Statement.{statement}
 use Rattle.aiger_lines.proofs.has_high_literal.Tie as tie
 
-has-literals-requires : tie.Need-has-literals-requires
-has-literals-requires c κs = search needs
+width-requires : tie.Need-width-requires
+width-requires c κs = search needs
 
 cast-any-above : tie.Need-cast-any-above
 cast-any-above c = search needs
@@ -23,17 +23,16 @@ any-above-requires c κs = search needs
 
 returns : tie.Need-returns
 returns c =
-    let literals : hasLiterals (c .before .before .before .before .args .part) ≡ true = sym (c .before .before .before .has-literals .ensures) ∙ c .before .before .if1 .taken in
-    rw literals (c .any-above .ensures)
+    rw (lt-ltb (width (c .before .before .before .before .args .part)) 5 (omega (arith, c .before .before .before .width .ensures))) (c .any-above .ensures)
 
 returns-2 : tie.Need-returns-2
-returns-2 c = search needs
+returns-2 c = rw (le-ltb (width (c .before .before .args .part)) 5 (omega (arith, c .before .width .ensures)))
 
 pub has-high-literal-spec : {M : Type 1} → statement M
 has-high-literal-spec =
     tie.close
     (tie.spec
-    has-literals-requires
+    width-requires
     cast-any-above
     mul-any-above
     add-any-above

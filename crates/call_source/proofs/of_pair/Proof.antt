@@ -1,7 +1,8 @@
 -- `call_source::of_pair` meets its contract.
 use mathlib.Core.Path.{_≡_, _∙_}
 use native.Mathlib.Omega.{arith}
-use Rattle.model.specs.Variables.{pairBase}
+use Rattle.model.specs.Variables.{base, pairBase}
+use Rattle.literals.specs.Numbering.{baseOf, pairBaseOf}
 use Rattle.netlist.specs.NetOf.{netOf, alone}
 use Rattle.clause_variables.specs.PortOf.{portOf}
 use Rattle.clause_variables.proofs.Room.{numbering-fits, behind-bits}
@@ -26,7 +27,7 @@ pair-base-requires c κs =
 is-base : (c : tie.After-pair-base) →
     let a = c .before .before .args in
     c .pair-base .result ≡ pairBase (alone (a .net)) (portOf (a .port)) (a .j) (a .i)
-unfolding pairBase portOf
+unfolding base pairBase baseOf pairBaseOf portOf
 is-base c = rw (c .before .numbering .ensures .0, c .before .numbering .ensures .1) at (c .pair-base .ensures)
 
 add-in-pair : tie.Need-add-in-pair

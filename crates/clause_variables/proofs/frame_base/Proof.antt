@@ -1,5 +1,6 @@
 -- `clause_variables::frame_base` meets its contract.
 use Rattle.model.specs.Variables.{base}
+use Rattle.literals.specs.Numbering.{baseOf}
 use Rattle.clause_variables.proofs.Room.{numbering-fits}
 use Rattle.clause_variables.proofs.frame_base.Statement.{statement}
 use Rattle.clause_variables.proofs.frame_base.Tie as tie
@@ -13,7 +14,7 @@ base-requires c κs =
     numbering-fits (p .0) (c .numbering .ensures .0) (c .numbering .ensures .1) (p .1)
 
 returns : tie.Need-returns
-unfolding base
+unfolding base baseOf
 returns c = rw (c .before .numbering .ensures .0, c .before .numbering .ensures .1) at (c .base .ensures)
 
 pub frame-base-spec : {M : Type 1} → statement M

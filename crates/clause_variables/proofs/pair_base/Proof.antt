@@ -1,6 +1,7 @@
 -- `clause_variables::pair_base` meets its contract.
 use native.Mathlib.Omega.{arith}
-use Rattle.model.specs.Variables.{pairBase}
+use Rattle.model.specs.Variables.{base, pairBase}
+use Rattle.literals.specs.Numbering.{baseOf, pairBaseOf}
 use Rattle.clause_variables.specs.PortOf.{portOf}
 use Rattle.clause_variables.proofs.Room.{numbering-fits}
 use Rattle.clause_variables.proofs.pair_base.Statement.{statement}
@@ -19,7 +20,7 @@ pair-base-requires c κs =
     )
 
 returns : tie.Need-returns
-unfolding pairBase portOf
+unfolding base pairBase baseOf pairBaseOf portOf
 returns c = rw (c .before .numbering .ensures .0, c .before .numbering .ensures .1) at (c .pair-base .ensures)
 
 pub pair-base-spec : {M : Type 1} → statement M

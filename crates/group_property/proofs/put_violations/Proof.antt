@@ -3,6 +3,7 @@ use Prim.Native.Nat.{_+_, _-_}
 use native.Mathlib.Omega.{arith}
 use borrow.Author.Needs.{needs}
 use Rattle.model.specs.Variables.{base}
+use Rattle.literals.specs.Numbering.{baseOf}
 use Rattle.netlist.specs.NetOf.{netOf}
 use Rattle.clause_variables.proofs.Room.{numbering-fits, code-has-number}
 use Rattle.clause_writer.proofs.Turns.{Turns, turns-start, turns-room, turns-count, turns-next, turns-end}
@@ -32,7 +33,7 @@ base-requires c κs =
     numbering-fits (is .limits .sizes) (e .0) (e .1) (omega arith)
 
 in-frame-requires : tie.Need-in-frame-requires Inv-loop μ-loop
-unfolding base netOf
+unfolding base baseOf netOf
 in-frame-requires c κs =
     let is = c .before .before .before .before .before .pre .0 in
     rw (c .base .ensures, c .before .before .before .before .numbering .ensures .0, c .before .before .before .before .numbering .ensures .1)

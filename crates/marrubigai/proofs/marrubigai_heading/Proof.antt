@@ -37,13 +37,14 @@ use denote.Exit.{yes}
 use Rattle.netlist.specs.declared.Netlist.{Netlist}
 use Rattle.netlist.proofs.Netlist as N
 use Rattle.netlist.proofs.Netlist.Laws as N′
+use Rattle.call_lists.specs.Lent.{netLent}
 use Rattle.call_lists.specs.declared.LatchEntry.{LatchEntry}
 use Rattle.call_lists.specs.declared.GateEntry.{GateEntry}
 use Rattle.call_lists.proofs.LatchEntry as L
 use Rattle.call_lists.proofs.GateEntry as G
 use Rattle.sheet_reader.proofs.Facts.{All, gathered, spread}
 use Rattle.hand_proofs.proofs.Walk.{calls-told, copies, _&_, cell, frees-all, meets-of}
-use Rattle.call_unpacked.specs.Calls.{headingReply, BoundTheorem}
+use Rattle.call_unpacked.specs.Calls.{headingReply, headingSent, BoundTheorem}
 use Rattle.model.specs.Acceptance.{PathTheorem}
 use Rattle.model.specs.Claim.{EncodingTheorem, StatedTheorem}
 use Rattle.model.specs.Trace.{TraceTheorem}
@@ -51,7 +52,7 @@ use Rattle.calls.specs.Starred.{Starred}
 use Rattle.call_unpacked.specs.declared.HeadingAnswer.{HeadingAnswer}
 use Rattle.call_unpacked.proofs.HeadingAnswer as Answer
 use Rattle.call_unpacked.proofs.HeadingAnswer.Laws as Answer′
-use Rattle.calls.specs.LentCalls.{headingFor, HeadingClaim, AcceptedTheorem}
+use Rattle.calls.specs.LentCalls.{HeadingClaim, AcceptedTheorem}
 use Rattle.calls.proofs.LentLists.{recordVal, listVal, lent-vals, lent-tells}
 use Rattle.calls.proofs.heading as inner
 use Rattle.calls.proofs.heading.Symbol as inner-def
@@ -92,7 +93,7 @@ module _ {M : Type 1} (𝓤 : URA M) (H : Heap 𝓤) (A : Atoms 𝓤) (W : Given
     vals = (recordVal net ∷ [], (listVal ls ∷ [], (listVal gs ∷ [], (vint w32 k ∷ [], tt))))
 
     abbrev Answered : HeadingAnswer → Type 0
-    Answered r = headingReply r ≡ headingFor net (ls .now) (gs .now) k
+    Answered r = headingReply r ≡ headingSent (netLent net (ls .now) (gs .now)) (length (ls .now)) (length (gs .now)) k
 
     -- what else `calls::heading` says, which is of no answer
     abbrev Claimed : List {1} (Type 0)
@@ -138,7 +139,7 @@ module _ {M : Type 1} (𝓤 : URA M) (H : Heap 𝓤) (A : Atoms 𝓤) (W : Given
           suffices ! _ (ends-at 𝓤 H A f.ended stayed (f.clauses 𝓤 H A mem run) W
           (((κ₀, (κ₁, tt)), (q₀, (q₁, tt)), tt, a, vals), tt) w′ r′ (tt, (tt, (tt, (tt, tt)))) (tt, (tt, (tt, (tt, tt))))) $
           suffices ! _ (spread 𝓤 H A W (onExit 𝓤 H A f.ended stayed (κ₀, (κ₁, tt)) (q₀, (q₁, tt)) vals w′ r′ a (tt, (tt, (tt, (tt, tt)))))
-          (r′ ≡ headingFor net (ls .now) (gs .now) k) Claimed) $
+          (r′ ≡ headingSent (netLent net (ls .now) (gs .now)) (length (ls .now)) (length (gs .now)) k) Claimed) $
           says ! (is ∙ said .0, said .1) $
           nothing ! $ nothing ! $ fjoin ! $ nothing ! $ fjoin ! $ nothing ! $ fjoin ! $ nothing ! $ fjoin ! $
           move ! (5 ∷ 0 ∷ 1 ∷ []) $ frame ! $ frame ! $ keep ! (0 ∷ []) $ done !))))))))))))

@@ -42,16 +42,16 @@ use Rattle.model.proofs.Group.Laws as K′
 use Rattle.netlist.specs.declared.Netlist.{Netlist}
 use Rattle.netlist.proofs.Netlist as N
 use Rattle.netlist.proofs.Netlist.Laws as N′
+use Rattle.call_lists.specs.Lent.{netLent}
 use Rattle.call_lists.specs.declared.LatchEntry.{LatchEntry}
 use Rattle.call_lists.specs.declared.GateEntry.{GateEntry}
 use Rattle.call_lists.proofs.LatchEntry as L
 use Rattle.call_lists.proofs.GateEntry as G
 use Rattle.hand_proofs.proofs.Walk.{both, calls-told, copies, _&_, cell, frees-all, meets-of}
-use Rattle.call_unpacked.specs.Calls.{groupReply}
+use Rattle.call_unpacked.specs.Calls.{groupReply, groupSent, groupLeaves}
 use Rattle.call_unpacked.specs.declared.GroupAnswer.{GroupAnswer}
 use Rattle.call_unpacked.proofs.GroupAnswer as Answer
 use Rattle.call_unpacked.proofs.GroupAnswer.Laws as Answer′
-use Rattle.calls.specs.LentCalls.{groupFor, numbersAfter}
 use Rattle.calls.proofs.LentLists.{recordVal, listVal, lent-vals, lent-tells}
 use Rattle.calls.proofs.write_group as inner
 use Rattle.calls.proofs.write_group.Symbol as inner-def
@@ -143,11 +143,11 @@ module _ {M : Type 1} (𝓤 : URA M) (H : Heap 𝓤) (A : Atoms 𝓤) (W : Given
     g = groupOf kind j i p
 
     abbrev Answered : GroupAnswer → Type 0
-    Answered r = groupReply r ≡ groupFor net (ls .now) (gs .now) k g
+    Answered r = groupReply r ≡ groupSent (netLent net (ls .now) (gs .now)) (length (ls .now)) (length (gs .now)) k g
         (length (out .now))
 
     abbrev Leaves : List ℤ → Type 0
-    Leaves zs = zs ≡ numbersAfter net (ls .now) (gs .now) k g (out .now)
+    Leaves zs = zs ≡ groupLeaves (netLent net (ls .now) (gs .now)) (length (ls .now)) (length (gs .now)) k g (out .now)
 
     abbrev Post : Val → SProp 𝓤
     Post = walkOf 𝓤 H A f.ended stayed (f.clauses 𝓤 H A mem run) .post

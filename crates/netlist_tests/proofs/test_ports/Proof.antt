@@ -5,7 +5,9 @@ use borrow.Author.Needs.{needs}
 use Rattle.refusals.specs.Tests.{_then_}
 use Rattle.netlist.specs.NetOf.{netOf}
 use Rattle.netlist.proofs.NetOf.{sizes-lists}
-use Rattle.netlist_tests.specs.Record.{testTies}
+use Rattle.refusals.specs.declared.Refusal.the-variants.{TiedAddress}
+use Rattle.netlist.specs.Faults.{tieFault}
+use Rattle.netlist_tests.specs.Record.{testLines}
 use Rattle.netlist_tests.proofs.Lists.{test-ties-lists}
 use Rattle.netlist_tests.proofs.test_ports.Statement.{statement}
 use Rattle.netlist_tests.proofs.test_ports.Tie as tie
@@ -14,7 +16,7 @@ test-ties-requires : tie.Need-test-ties-requires
 test-ties-requires c κs = sizes-lists (c .args .net) [] (c .args .gates .now) [] [] (c .pre .sizes)
 
 -- what the test for ties says of the record with its gates
-tested : (c : tie.After-test-ties) → testTies (netOf (c .before .args .net) [] (c .before .args .gates .now)) ≡ c .test-ties .result
+tested : (c : tie.After-test-ties) → testLines (netOf (c .before .args .net) [] (c .before .args .gates .now)) TiedAddress tieFault ≡ c .test-ties .result
 tested c = sym (test-ties-lists (c .before .args .net) [] (c .before .args .gates .now)) ∙ sym (c .test-ties .ensures)
 
 enum-told : tie.Need-enum-told

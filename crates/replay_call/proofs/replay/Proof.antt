@@ -5,7 +5,7 @@ use native.Mathlib.Omega.{arith}
 use Rattle.netlist.specs.NetOf.{netOf}
 use Rattle.netlist.proofs.NetOf.{sizes-lists}
 use Rattle.replay_frame.proofs.OneRun.{one-run, room-enough}
-use Rattle.replay_call.specs.ReplayCall.{replayReply, replaySent, replayAnswer, replayMemory, replayTrace, unlessRefused, afterTests, traceAfter, outcome, wordsLeft}
+use Rattle.replay_call.specs.ReplayCall.{replayReply, replaySent, replayAnswer, replayMemory, replayTrace, unlessRefused, traceAfter, outcome, wordsLeft}
 use Rattle.replay_call.proofs.ReplayCall.{tests-shown}
 use Rattle.replay_call.proofs.Settled.{faults-settled}
 use Rattle.replay_call.proofs.TableSuffices.{table-suffices}
@@ -21,7 +21,7 @@ enum-known-refusal : tie.Need-enum-known-refusal
 enum-known-refusal c = search needs
 
 returns : tie.Need-returns
-unfolding replayReply replaySent replayAnswer replayMemory replayTrace unlessRefused afterTests traceAfter outcome wordsLeft
+unfolding replayReply replaySent replayAnswer replayMemory replayTrace unlessRefused traceAfter outcome wordsLeft
 returns c =
     let v = sym (c .before .before .before .test-replay .ensures) ∙ c .before .refusal .given .1 in (rw v, (rw v, (rw v, (faults-settled, table-suffices, one-run, room-enough, right-answer))))
 
@@ -50,7 +50,7 @@ same-length : tie.Need-same-length
 same-length c = search needs
 
 returns-2 : tie.Need-returns-2
-unfolding netOf replayReply replaySent replayAnswer replayMemory replayTrace unlessRefused afterTests traceAfter outcome wordsLeft
+unfolding netOf replayReply replaySent replayAnswer replayMemory replayTrace unlessRefused traceAfter outcome wordsLeft
 returns-2 c =
     let v = sym (c .before .before .before .before .before .before .before .before .before .test-replay .ensures) ∙ c .before .before .before .before .before .before .before .enum-told .given .1 in
     let kind = c .before .before .before .before .before .enum-told2 .given .1 in (rw (v, kind), (rw (v, kind, c .before .before .fill-words .ensures, c .before .before .before .word-count .ensures), (rw (v, kind), (faults-settled, table-suffices, one-run, room-enough, right-answer))))
@@ -59,7 +59,7 @@ enum-told-3 : tie.Need-enum-told-3
 enum-told-3 c = search needs
 
 returns-3 : tie.Need-returns-3
-unfolding replayReply replaySent replayAnswer replayMemory replayTrace unlessRefused afterTests traceAfter outcome wordsLeft
+unfolding replayReply replaySent replayAnswer replayMemory replayTrace unlessRefused traceAfter outcome wordsLeft
 returns-3 c =
     let v = sym (c .before .before .before .before .test-replay .ensures) ∙ c .before .before .enum-told .given .1 in
     let kind = c .enum-told3 .given .1 in (rw (v, kind), (rw (v, kind), (rw (v, kind), (faults-settled, table-suffices, one-run, room-enough, right-answer))))
@@ -81,7 +81,7 @@ same-length-3 : tie.Need-same-length-3
 same-length-3 c = search needs
 
 returns-4 : tie.Need-returns-4
-unfolding replayReply replaySent replayAnswer replayMemory replayTrace unlessRefused afterTests traceAfter outcome wordsLeft
+unfolding replayReply replaySent replayAnswer replayMemory replayTrace unlessRefused traceAfter outcome wordsLeft
 returns-4 c =
     let v = sym (c .before .before .before .before .before .before .before .before .before .before .before .test-replay .ensures) ∙ c .before .before .before .before .before .before .before .before .before .enum-told .given .1 in
     let kind = c .before .before .before .before .before .before .before .enum-told4 .given .1 in

@@ -1,8 +1,5 @@
 -- `sheet_lines::is_wanted` meets its contract.
-use mathlib.Core.Path.{sym}
 use borrow.Author.Needs.{needs}
-use Rattle.sheet_lines.specs.Letters.{contentOf}
-use Rattle.sheet_lines.proofs.Lines.{wanted-empty, wanted-number, wanted-misprint}
 use Rattle.sheet_lines.proofs.is_wanted.Statement.{statement}
 use Rattle.sheet_lines.proofs.is_wanted.Tie as tie
 
@@ -19,19 +16,13 @@ enum-told-3 : tie.Need-enum-told-3
 enum-told-3 c = search needs
 
 returns : tie.Need-returns
-returns c =
-    let x = c .before .before .before .args in
-    rw (c .enum-told .given .1, c .before .before .content-of .ensures) (wanted-empty (contentOf (x .kind) (x .column)))
+returns c = rw (c .enum-told .given .1, c .before .before .content-of .ensures)
 
 returns-2 : tie.Need-returns-2
-returns-2 c =
-    let x = c .before .before .before .args in
-    rw (c .enum-told2 .given .1, c .before .before .content-of .ensures) (wanted-number (contentOf (x .kind) (x .column)) _)
+returns-2 c = rw (c .enum-told2 .given .1, c .before .before .content-of .ensures)
 
 returns-3 : tie.Need-returns-3
-returns-3 c =
-    let x = c .before .before .before .args in
-    rw (c .enum-told3 .given .1) (sym (wanted-misprint (contentOf (x .kind) (x .column))))
+returns-3 c = rw (c .enum-told3 .given .1)
 
 pub is-wanted-spec : {M : Type 1} → statement M
 is-wanted-spec =

@@ -1,17 +1,11 @@
 -- `sheet_lines::left_empty` meets its contract: the table's 2, then the field.
-use mathlib.Core.Path.{_≡_, sym, _∙_}
+use mathlib.Core.Path.{sym, _∙_}
 use borrow.Author.Needs.{needs}
-use Rattle.sheet_fields.specs.declared.Field.{Field}
-use Rattle.sheet_lines.specs.Letters.{mayBeEmpty, contentOf}
-use Rattle.sheet_lines.specs.Lines.{leftEmpty}
-use Rattle.sheet_lines.proofs.Lines.{left-either, left-firm}
+use borrow.Author.Tests.{eq-eqb}
+use Rattle.sheet_lines.specs.Letters.{contentOf}
+use Rattle.sheet_lines.proofs.Lines.{left-firm}
 use Rattle.sheet_lines.proofs.left_empty.Statement.{statement}
 use Rattle.sheet_lines.proofs.left_empty.Tie as tie
-
--- where the table says 2
-either :
-    (c : tie.Then1) (f : Field) → leftEmpty (contentOf (c .before .before .args .kind) 2) f ≡ leftEmpty mayBeEmpty f
-either c f = left-either (contentOf (c .before .before .args .kind) 2) f (sym (c .before .content-of .ensures) ∙ c .if1 .taken)
 
 content-of-requires : tie.Need-content-of-requires
 content-of-requires c κs = search needs
@@ -26,13 +20,16 @@ enum-told-3 : tie.Need-enum-told-3
 enum-told-3 c = search needs
 
 returns : tie.Need-returns
-returns c = rw (either (c .before .before) (c .before .before .before .before .args .third), c .enum-told .given .1)
+returns c =
+    let either = c .before .before in
+    let x = either .before .before .args in
+    rw (c .enum-told .given .1, eq-eqb (contentOf (x .kind) 2) 2 (sym (either .before .content-of .ensures) ∙ either .if1 .taken))
 
 returns-2 : tie.Need-returns-2
-returns-2 c = rw (either (c .before .before) (c .before .before .before .before .args .third), c .enum-told2 .given .1)
+returns-2 c = rw (c .enum-told2 .given .1)
 
 returns-3 : tie.Need-returns-3
-returns-3 c = rw (either (c .before .before) (c .before .before .before .before .args .third), c .enum-told3 .given .1)
+returns-3 c = rw (c .enum-told3 .given .1)
 
 returns-4 : tie.Need-returns-4
 returns-4 c =

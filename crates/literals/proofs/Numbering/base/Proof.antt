@@ -2,7 +2,7 @@
 use native.Mathlib.Nat.{zero-mul, mul-zero}
 use native.Mathlib.Omega.{arith}
 use borrow.Author.Needs.{needs}
-use Rattle.model.specs.Variables.{baseOf}
+use Rattle.literals.specs.Numbering.{baseOf}
 use Rattle.literals.proofs.Products.{products}
 use Rattle.literals.proofs.Numbering.base.Statement.{statement}
 use Rattle.literals.proofs.Numbering.base.Tie as tie

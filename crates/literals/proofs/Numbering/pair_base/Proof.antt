@@ -1,7 +1,7 @@
 -- `literals::Numbering::pair_base` meets its contract: within the limits no sum wraps.
 use native.Mathlib.Omega.{arith}
 use borrow.Author.Needs.{needs}
-use Rattle.model.specs.Variables.{pairBaseOf}
+use Rattle.literals.specs.Numbering.{pairBaseOf}
 use Rattle.literals.proofs.Products.{baseOf-most, pairs-most}
 use Rattle.literals.proofs.Numbering.pair_base.Statement.{statement}
 use Rattle.literals.proofs.Numbering.pair_base.Tie as tie

@@ -1,22 +1,17 @@
--- What a binary AIGER file says (the format report of 2007; RULES X3 and X4), by reading it: a header, a line with the next code of each latch, a line with
--- each output, and behind them each gate as two differences. Variables are numbered in order: inputs, latches, gates. Cited by
--- aiger_binary/specs/BinaryText and by what is said of a file that is exported.
-use Prim.Native.Nat.{ℕ, zero, suc, _+_, _-_, _*_, _≤_, _<_}
-use mathlib.Core.Path.{_≡_}
-use mathlib.Core.Bool.{true, cond}
+-- What a binary AIGER file (specs/BinaryText.antt) is read as: a header, a line with the next code of each latch, a line with each output, and behind
+-- them each gate as two differences. Variables are numbered in order: inputs, latches, gates. No contract cites this file.
+use Prim.Native.Nat.{ℕ, zero, suc, _+_, _-_, _*_}
+use mathlib.Core.Bool.{cond}
 use mathlib.Core.List.{List, [], _∷_}
 use lib.Dec.{eqb}
-use lib.ListN.{length, getD}
+use lib.ListN.{getD}
 use Rattle.decimal.specs.Digits.{lineFeed}
 use Rattle.aiger_lines.specs.Numbers.{wordsAt}
-use Rattle.aiger_lines.specs.Parts.{numbersBehind, numbersOnLine, countsOf, literalLimit}
+use Rattle.aiger_lines.specs.Parts.{numbersBehind, numbersOnLine, countsOf}
 use Rattle.aiger_lines.specs.declared.Counts.{Counts}
 use Rattle.aiger_graph.specs.Aig.{Aig}
-use Rattle.aiger_difference.specs.Difference.{behindDifferences, isWhole, differenceAt}
-
--- the bytes of `aig`
-abbrev pub aig : List ℕ
-aig = 97 ∷ 105 ∷ 103 ∷ []
+use Rattle.aiger_difference.proofs.Decoding.{differenceAt}
+use Rattle.aiger_binary.specs.BinaryText.{aig}
 
 -- the numbers of line 1 behind `aig`: the header's counts, M I L O A
 abbrev pub binaryHeader : List ℕ → List ℕ
@@ -71,24 +66,3 @@ aigWith h s =
 
 abbrev pub aigIn : List ℕ → Aig
 aigIn s = aigWith (binaryCounts s) s
-
--- a line of one code
-abbrev pub IsCodeLine : Counts → List ℕ → ℕ → Type 0
-IsCodeLine h s p = (length (numbersOnLine s p) ≡ 1) × (getD (numbersOnLine s p) 0 0 ≤ literalLimit h)
-
--- what a file with these counts is: M variables in all, one code a line, two whole differences a gate, no gate's code above the one before it
--- or its own variable, and nothing behind the gates
-pub record WellFormed (h : Counts) (s : List ℕ) : Type 0 where
-  pub largest-is : h .largest ≡ h .inputs + h .latches + h .gates
-  pub next-lines : (l : ℕ) → l < h .latches → IsCodeLine h s (nextLine h l)
-  pub output-lines : (o : ℕ) → o < h .outputs → IsCodeLine h s (outputLine h o)
-  pub differences-whole : (g : ℕ) → g < h .gates
-      → (isWhole (behindDifferences (2 * g) (gateBytes h s)) ≡ true) × (isWhole (behindDifferences (2 * g + 1) (gateBytes h s)) ≡ true)
-  pub first-difference : (g : ℕ) → g < h .gates
-      → (1 ≤ differenceAt (gateBytes h s) (2 * g)) × (differenceAt (gateBytes h s) (2 * g) ≤ 2 * gateVariable h g)
-  pub second-difference : (g : ℕ) → g < h .gates → differenceAt (gateBytes h s) (2 * g + 1) ≤ largerIn h s g
-  pub nothing-behind : behindDifferences (2 * h .gates) (gateBytes h s) ≡ []
-
-pub record IsBinary (s : List ℕ) : Type 0 where
-  pub has-counts : length (binaryHeader s) ≡ 5
-  pub well-formed : WellFormed (binaryCounts s) s
