@@ -7,12 +7,14 @@ use std::collections::{BTreeMap, BTreeSet};
 /// reader was timed.
 const LINES_A_MINUTE: usize = 2;
 
+/// Where a path begins: a public function, its promise, and one definition that this cites; without one, all of them.
+type Begin = (&'static str, &'static str, Option<&'static str>);
+
 /// A reader's path to one promise.
 pub struct ReadersPath {
     pub label: &'static str,
     promise: &'static str,
-    /// where it begins: a public function, its promise and a definition that this cites
-    from: &'static [(&'static str, &'static str, &'static str)],
+    from: &'static [Begin],
     /// what it speaks of without saying what it is, so that a reader need not open it
     shut: &'static [&'static str],
 }
@@ -48,43 +50,42 @@ const BY_FRAME: [&str; 4] = [
     "call_unpacked/Calls/groupLeaves",
 ];
 
-const DEMAND_2: [(&str, &str, &str); 2] =
-    [("marrubigai_write_group", "borrowed", "groupLeaves"), ("marrubigai_heading", "answer", "headingSent")];
+const DEMAND_2: [Begin; 2] = [("marrubigai_write_group", "borrowed", None), ("marrubigai_heading", "answer", None)];
 
 /// The paths, in the order in which the last column takes off what was read before.
 pub const PATHS: [ReadersPath; 22] = [
     ReadersPath {
         label: "certify",
         promise: "no run to depth k, certified",
-        from: &[("marrubigai_certify", "certified", "CertifiedInput")],
+        from: &[("marrubigai_certify", "certified", None)],
         shut: &[],
     },
     ReadersPath {
         label: "forever",
         promise: "no run at any depth, certified",
-        from: &[("marrubigai_certify_forever", "certified", "CertifiedForever")],
+        from: &[("marrubigai_certify_forever", "certified", None)],
         shut: &[],
     },
     ReadersPath {
         label: "replay",
         promise: "a run that is shown is one",
         from: &[
-            ("marrubigai_replay", "answer", "replayFor"),
-            ("marrubigai_replay", "trace", "traceFor"),
-            ("marrubigai_replay", "settled", "OneRunTheorem"),
+            ("marrubigai_replay", "answer", None),
+            ("marrubigai_replay", "trace", None),
+            ("marrubigai_replay", "settled", Some("OneRunTheorem")),
         ],
         shut: &FED_ANYTHING,
     },
     ReadersPath {
         label: "3-record",
         promise: "demand 3 of a record",
-        from: &[("marrubigai_heading", "claim", "HeadingClaim"), ("marrubigai_heading", "accepted", "AcceptedTheorem")],
+        from: &[("marrubigai_heading", "claim", None), ("marrubigai_heading", "accepted", None)],
         shut: &UNOPENED,
     },
     ReadersPath {
         label: "3-sheet",
         promise: "demand 3 of a sheet",
-        from: &[("marrubigai_read", "accepted", "SheetDelivered"), ("read_input", "encoded", "InputEncoded")],
+        from: &[("marrubigai_read", "accepted", None), ("read_input", "encoded", None)],
         shut: &UNOPENED,
     },
     ReadersPath {
@@ -96,17 +97,16 @@ pub const PATHS: [ReadersPath; 22] = [
     ReadersPath {
         label: "1-record",
         promise: "demand 1 of the calls over a record",
-        from: &[("marrubigai_write_group", "answer", "groupSent"), ("marrubigai_heading", "answer", "headingSent")],
+        from: &[("marrubigai_write_group", "answer", None), ("marrubigai_heading", "answer", None)],
         shut: &["model/Numbers/numbersOf", "model/Numbers/formula"],
     },
     ReadersPath {
         label: "1-sheet",
         promise: "demand 1 of a sheet",
         from: &[
-            ("marrubigai_read", "reply", "readVerdict"),
-            ("marrubigai_read", "reply", "readRecord"),
-            ("marrubigai_read", "latches", "latchesAfter"),
-            ("marrubigai_read", "gates", "gatesAfter"),
+            ("marrubigai_read", "reply", None),
+            ("marrubigai_read", "latches", None),
+            ("marrubigai_read", "gates", None),
         ],
         shut: &[],
     },
@@ -114,12 +114,11 @@ pub const PATHS: [ReadersPath; 22] = [
         label: "K1",
         promise: "an ASCII AIGER text imported",
         from: &[
-            ("marrubigai_import", "reply", "importVerdictFor"),
-            ("marrubigai_import", "reply", "importRecord"),
-            ("marrubigai_import", "latches", "importLatches"),
-            ("marrubigai_import", "gates", "importGates"),
-            ("marrubigai_import", "accepted", "TextDelivered"),
-            ("marrubigai_import", "written", "TextAsWritten"),
+            ("marrubigai_import", "reply", None),
+            ("marrubigai_import", "latches", None),
+            ("marrubigai_import", "gates", None),
+            ("marrubigai_import", "accepted", None),
+            ("marrubigai_import", "written", None),
         ],
         shut: &UNOPENED,
     },
@@ -127,40 +126,40 @@ pub const PATHS: [ReadersPath; 22] = [
         label: "K2",
         promise: "a solver's answer run",
         from: &[
-            ("marrubigai_replay", "answer", "replayFor"),
-            ("marrubigai_replay", "memory", "memoryFor"),
-            ("marrubigai_replay", "trace", "traceFor"),
-            ("marrubigai_replay", "settled", "FaultsSettled"),
-            ("marrubigai_replay", "settled", "OneRunTheorem"),
-            ("marrubigai_replay", "settled", "RoomTheorem"),
-            ("marrubigai_replay", "settled", "RightAnswerTheorem"),
-            ("marrubigai_replay", "written", "AnswerAsWritten"),
+            ("marrubigai_replay", "answer", None),
+            ("marrubigai_replay", "memory", None),
+            ("marrubigai_replay", "trace", None),
+            ("marrubigai_replay", "settled", Some("FaultsSettled")),
+            ("marrubigai_replay", "settled", Some("OneRunTheorem")),
+            ("marrubigai_replay", "settled", Some("RoomTheorem")),
+            ("marrubigai_replay", "settled", Some("RightAnswerTheorem")),
+            ("marrubigai_replay", "written", None),
         ],
         shut: &["model/Numbers/formula", "netlist_tests/Record/recordVerdict"],
     },
     ReadersPath {
         label: "K3",
         promise: "idle read data holds its word, in runs and in clauses",
-        from: &[("marrubigai_heading", "theorems", "EncodingTheorem")],
+        from: &[("marrubigai_heading", "theorems", Some("EncodingTheorem"))],
         shut: &[],
     },
     ReadersPath {
         label: "K4",
         promise: "no constants in clauses",
-        from: &[("marrubigai_heading", "theorems", "StatedTheorem")],
+        from: &[("marrubigai_heading", "theorems", Some("StatedTheorem"))],
         shut: &[],
     },
     ReadersPath {
         label: "K5",
         promise: "a running record",
         from: &[
-            ("marrubigai_move", "answer", "moveSent"),
-            ("marrubigai_move", "stands", "MoveStands"),
-            ("marrubigai_write_group_at", "answer", "groupAtSent"),
-            ("marrubigai_write_group_at", "borrowed", "groupAtLeaves"),
-            ("marrubigai_write_group_at", "by_frame", "ByFrame"),
-            ("marrubigai_literal_at", "answer", "literalSent"),
-            ("marrubigai_literal_at", "inverse", "InverseNegated"),
+            ("marrubigai_move", "answer", None),
+            ("marrubigai_move", "stands", None),
+            ("marrubigai_write_group_at", "answer", None),
+            ("marrubigai_write_group_at", "borrowed", None),
+            ("marrubigai_write_group_at", "by_frame", None),
+            ("marrubigai_literal_at", "answer", None),
+            ("marrubigai_literal_at", "inverse", None),
         ],
         shut: &BY_FRAME,
     },
@@ -168,70 +167,69 @@ pub const PATHS: [ReadersPath; 22] = [
         label: "K6",
         promise: "a number printed",
         from: &[
-            ("marrubigai_put_number", "answer", "printSent"),
-            ("marrubigai_put_number", "borrowed", "fillLeaves"),
-            ("marrubigai_put_number", "borrowed", "signedDigits"),
-            ("marrubigai_put_number", "printed", "NumberPrinted"),
+            ("marrubigai_put_number", "answer", None),
+            ("marrubigai_put_number", "borrowed", None),
+            ("marrubigai_put_number", "printed", None),
         ],
         shut: &[],
     },
     ReadersPath {
         label: "K7",
         promise: "a memory that begins unknown, in runs, clauses and replays",
-        from: &[("marrubigai_heading", "theorems", "EncodingTheorem"), ("marrubigai_replay", "settled", "OneRunTheorem")],
+        from: &[("marrubigai_heading", "theorems", Some("EncodingTheorem")), ("marrubigai_replay", "settled", Some("OneRunTheorem"))],
         shut: &[],
     },
     ReadersPath {
         label: "K8",
         promise: "address bits tied together are refused",
-        from: &[("marrubigai_heading", "accepted", "AcceptedTheorem")],
+        from: &[("marrubigai_heading", "accepted", None)],
         shut: &[],
     },
     ReadersPath {
         label: "K9",
         promise: "the sheet of a record",
         from: &[
-            ("marrubigai_write_sheet", "answer", "writeSent"),
-            ("marrubigai_write_sheet", "borrowed", "writeLeaves"),
-            ("marrubigai_write_sheet", "written", "SheetWritten"),
+            ("marrubigai_write_sheet", "answer", None),
+            ("marrubigai_write_sheet", "borrowed", None),
+            ("marrubigai_write_sheet", "written", None),
         ],
         shut: &["netlist_tests/Record/recordVerdict"],
     },
     ReadersPath {
         label: "K10",
         promise: "a second read port, in runs, clauses and calls",
-        from: &[("marrubigai_heading", "theorems", "EncodingTheorem"), ("marrubigai_write_group", "answer", "groupSent")],
+        from: &[("marrubigai_heading", "theorems", Some("EncodingTheorem")), ("marrubigai_write_group", "answer", None)],
         shut: &["netlist_tests/Record/recordVerdict"],
     },
     ReadersPath {
         label: "K11",
         promise: "a sheet for one port",
         from: &[
-            ("marrubigai_one_port", "answer", "onePortSent"),
-            ("marrubigai_one_port", "borrowed", "onePortLeaves"),
-            ("marrubigai_one_port", "converted", "OnePortTheorem"),
+            ("marrubigai_one_port", "answer", None),
+            ("marrubigai_one_port", "borrowed", None),
+            ("marrubigai_one_port", "converted", None),
         ],
         shut: &[],
     },
     ReadersPath {
         label: "K12",
         promise: "the largest variable and number",
-        from: &[("marrubigai_heading", "theorems", "BoundTheorem")],
+        from: &[("marrubigai_heading", "theorems", Some("BoundTheorem"))],
         shut: &NUMBERS_ALONE,
     },
     ReadersPath {
         label: "K13",
         promise: "one source of each read, and what follows from what is fed",
-        from: &[("marrubigai_heading", "theorems", "TraceTheorem"), ("marrubigai_source_literal", "", "sourceSent")],
+        from: &[("marrubigai_heading", "theorems", Some("TraceTheorem")), ("marrubigai_source_literal", "", None)],
         shut: &["model/Numbers/formula", "netlist_tests/Record/recordVerdict"],
     },
     ReadersPath {
         label: "K14",
         promise: "a record exported as binary AIGER, also from a text",
         from: &[
-            ("marrubigai_export", "answer", "exportSent"),
-            ("marrubigai_export", "borrowed", "exportLeaves"),
-            ("marrubigai_export", "exported", "ExportTheorem"),
+            ("marrubigai_export", "answer", None),
+            ("marrubigai_export", "borrowed", None),
+            ("marrubigai_export", "exported", None),
         ],
         shut: &["netlist_tests/Record/recordVerdict"],
     },
@@ -315,14 +313,35 @@ impl<'a> Paths<'a> {
         promises.find(|promise| promise.called == called).unwrap_or_else(|| panic!("{function} has no promise {called:?}"))
     }
 
-    /// Where a path begins, as the contracts have it.
+    /// What a path begins with, as the contracts have it.
+    fn cited(&self, (function, called, only): &Begin) -> Vec<Definition> {
+        let cited = self.promise(function, called).cited.iter().filter(|(name, _)| only.map_or(true, |only| name == only));
+        let found: Vec<Definition> = cited.map(|(name, module)| (module.clone(), name.clone())).collect();
+        assert!(!found.is_empty(), "{function}'s promise {called:?} does not cite {only:?}");
+        found
+    }
+
     fn begins(&self, path: &ReadersPath) -> Vec<Definition> {
-        let begin = |(function, called, name): &(&str, &str, &str)| {
-            let found = self.promise(function, called).cited.iter().find(|(cited, _)| cited == name);
-            let (_, module) = found.unwrap_or_else(|| panic!("{function}'s promise {called:?} does not cite {name}"));
-            (module.clone(), name.to_string())
-        };
-        path.from.iter().map(begin).collect()
+        path.from.iter().flat_map(|begin| self.cited(begin)).collect()
+    }
+
+    /// The same for the table, by function.
+    fn begins_text(&self, path: &ReadersPath) -> String {
+        let mut by_function: Vec<(&str, Vec<String>)> = Vec::new();
+        for begin in path.from {
+            if by_function.last().map_or(true, |(last, _)| *last != begin.0) {
+                by_function.push((begin.0, Vec::new()));
+            }
+            let names = &mut by_function.last_mut().expect("a function").1;
+            for (_, name) in self.cited(begin) {
+                let text = format!("`{name}`");
+                if !names.contains(&text) {
+                    names.push(text);
+                }
+            }
+        }
+        let text: Vec<String> = by_function.iter().map(|(function, names)| format!("{} of `{function}`", names.join(" "))).collect();
+        text.join("; ")
     }
 
     pub fn reading(&self, path: &ReadersPath) -> Reading {
@@ -417,7 +436,7 @@ impl<'a> Paths<'a> {
                 "| `{}` | {} | {} | {lines} | {type_lines} | {} | {} |\n",
                 path.label,
                 path.promise,
-                begins_text(path.from),
+                self.begins_text(path),
                 (lines + type_lines + LINES_A_MINUTE - 1) / LINES_A_MINUTE,
                 self.lines(&besides) + self.type_lines(&types_besides),
             );
@@ -481,19 +500,6 @@ impl<'a> Paths<'a> {
         }
         text
     }
-}
-
-/// Where a path begins: the definitions of each function in turn.
-fn begins_text(from: &[(&str, &str, &str)]) -> String {
-    let mut by_function: Vec<(&str, Vec<String>)> = Vec::new();
-    for (function, _, name) in from {
-        match by_function.last_mut() {
-            Some((last, names)) if last == function => names.push(format!("`{name}`")),
-            _ => by_function.push((function, vec![format!("`{name}`")])),
-        }
-    }
-    let text: Vec<String> = by_function.iter().map(|(function, names)| format!("{} of `{function}`", names.join(" "))).collect();
-    text.join("; ")
 }
 
 /// A file of specs/: its head comment, and each definition with the comment above it.
