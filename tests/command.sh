@@ -104,7 +104,10 @@ frame  input  read  memory
     0      1     0  port 1 reads 0 at 0 (start word), port 2 reads 0 at 0 (start word), writes 1 at 0
     1      0     1  port 1 reads 0 at 1 (start word), port 2 reads 1 at 0 (written in frame 0), writes 0 at 1  <- property broken" "" --names two.names both.sheet
 ends "two ports, from another start" 10 "two.sheet: the property is broken in frame 0 at the earliest" "" -q --start 1 two.sheet
-ends "two ports, from an unknown start" 1 "" "--start unknown: this memory has two ports, and with two ports what it begins as must be given" --start unknown two.sheet
+ends "two ports, from an unknown start" 10 "two.sheet: note: the memory begins unknown, with 2 ports in turn (a frame is 2 of the sheet); 9 wires of at most 600 (1 inputs, 2 registers, 1 read bits, 5 gates)
+two.sheet: the property is broken in frame 0 at the earliest (words in hex):
+frame  input  read  memory
+    0      0     1  reads 1 at 0 (unknown start), writes 0 at 0  <- property broken" "" --start unknown --names two.names two.sheet
 # In each frame one of the ports reads: the input says which. The second port's bit is not 0 only where it is free.
 { line N 1 0 0; line T 1 1 0; line A 0; line D 0; line B 1; line R 2; line C 0 3 7; } > "$work/files/turns.sheet"
 printf 'first 4\nsecond 6\n' > "$work/files/turns.names"
@@ -174,7 +177,7 @@ ends "ports exchanged" 1 "" "exchanged.aag: output 2 is read_enable, and write_e
   printf 'o4 write_enable\no5 read_enable\no6 property_holds\n'; } > "$work/files/two.aag"
 ends "a text with two ports" 10 "two.aag: the property is broken in frame 1 at the earliest" "" -q --start 0 two.aag
 run --start 0 --radix dec two.aag; check "its read word" grep -q '^frame  input  read_data2  memory$' "$work/out"
-ends "its start" 1 "" "two.aag: this memory has two ports, and with two ports what it begins as must be given (--start WORD)" two.aag
+ends "its start" 10 "two.aag: the property is broken in frame 0 at the earliest" "" -q two.aag
 ends "a text with two ports and widths" 10 "bare2.aag: the property is broken in frame 1 at the earliest" "" -q --start 0 --widths 1,1,2 bare2.aag
 ends "too few ports" 1 "" "bare2.aag: it has 3 inputs and 7 outputs; 1 address bits and 1 data bits need at least 1 inputs and 5" --widths 1,1 bare2.aag
 ends "too many ports" 1 "" "bare.aag: it has 2 inputs and 5 outputs; 1 address bits and 1 data bits with two ports need at least 2" --widths 1,1,2 bare.aag
