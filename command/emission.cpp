@@ -263,6 +263,12 @@ Chip from_unknown(const Chip &chip) {
   for (const std::vector<Word> *words : {&chip.shown, &chip.named})
     for (const Word &word : *words)
       for (Lit each : literals(word.codes)) watched.push_back(each);
+  std::vector<Lit> roots = seen;
+  roots.insert(roots.end(), watched.begin(), watched.end());
+  Cone cone = cone_of(aig, memory, roots);
+  if (cone.ports[0] && cone.ports[1] && (net.re != TRUE || net.re2 != TRUE)) // a port that does not read has its own word of the frame before
+    throw Failure("the memory begins unknown, and both of its ports read, but not in every frame: that is not built.\n"
+                  "Ask from a word of your own (--start 0): then this is what is read before it is written.");
   Emission emission = emit_cone(aig, memory, seen, watched, Start{});
   Chip made = emission.chip;
   made.properties = chip.properties;

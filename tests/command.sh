@@ -42,6 +42,17 @@ ends() { # what, status, printed, said, arguments ..
 }
 usage="usage: marrubigai [OPTIONS] FILE.v .. | CHIP.sheet | CHIP.aag   (marrubigai --help lists the options)"
 
+# A second opinion on a design, by other tools: yosys makes registers of the array, and abc looks for the first frame in which the assertion
+# breaks. It prints the verdict as the command does.
+by_bmc3() { # depth, file, options of read_verilog, options of hierarchy
+  local said
+  yosys -Q -T -q -p "read_verilog -formal $3 $2; hierarchy -check $4; proc; flatten; delete -port o:*; chformal -early; chformal -cover -remove
+    opt -keepdc -nodffe -nosdff; memory -nordff; opt -keepdc -nodffe -nosdff; setundef -undriven -anyseq; async2sync; dffunmap; techmap
+    setundef -anyseq; opt -keepdc -nodffe -nosdff; aigmap; opt_clean; write_aiger -zinit $work/registers.aig" > "$work/oracle" 2>&1 || cat "$work/oracle"
+  said=$(berkeley-abc -q "read_aiger $work/registers.aig; fold; bmc3 -F $(($1 + 1))" 2>&1)
+  sed -nE "s/.* was asserted in frame ([0-9]+)\..*/is broken in frame \1 at the earliest/p; s/^No output asserted in .*/holds in frames 0 to $1, by the solver's word/p" <<< "$said"
+}
+
 ### the command line
 wrong() { ends "$1" 2 "" "$2
 $usage" "${@:3}"; }
@@ -115,6 +126,9 @@ ends "the idle bits of one port" 10 "turns.sheet: the property is broken in fram
 frame  first  second  memory
     0      0       -  port 1 reads 0 at 0 (start word)  <- property broken" "" --names turns.names turns.sheet
 
+ends "the idle bits of one port, in turn" 10 "turns.sheet: the property is broken in frame 0 at the earliest" "" -q --start unknown turns.sheet
+ends "ports in turn that both have idle bits" 1 "" "the memory begins unknown, and both of its ports read, but not in every frame: that is not built." --start unknown --names turns.names turns.sheet
+
 # quiet frames are folded: a chain of latches, so that frame 4 is the first; nothing changes that is shown
 { line N 0 4 0; line M 1 1 0; line L 1 0; line L 2 0; line L 4 0; line L 6 0; line A 0; line D 0; line C 0 0 9; } > "$work/files/chain.sheet"
 printf 'last 8\n' > "$work/files/chain.names"
@@ -135,6 +149,15 @@ for sheet in examples/*/*.sheet; do
   for depth in 0 1 3 5; do check "$sheet to depth $depth, by the programs and by the command" agree "$sheet" "$depth"; done
   status=$(run_of "$sheet" 5 > /dev/null 2>&1; echo $?)
   check "$sheet asked once" same "$status" "$(folder=$here run --any -k 5 "$sheet"; echo $?)"
+done
+
+# two ports in turn, by abc on the sheet as Verilog with its array
+for revision in faulty repaired; do
+  sed '2s/.\{10\}$/          /' examples/seventh-revision/$revision.sheet > "$work/unknown.sheet"
+  awk -f bench/sheet_to_verilog.awk "$work/unknown.sheet" > "$work/unknown.sv"
+  folder=$here run -q -k 6 --start unknown examples/seventh-revision/$revision.sheet
+  check "the seventh revision, $revision, from an unknown start, by other tools" same \
+    "examples/seventh-revision/$revision.sheet: the property $(by_bmc3 6 "$work/unknown.sv" -sv "-top around")" "$(cat "$work/out")"
 done
 
 ### refusals by their words, and files of other kinds
@@ -190,17 +213,6 @@ for macro in "" FAULTY; do
 done
 ends "the carton counter cut by hand" 20 "cut.aag: the property holds in frames 0 to 4, by the solver's word" "" -q -k 4 --start 0 cut.aag
 ends "its fault" 10 "cutFAULTY.aag: the property is broken in frame 1 at the earliest" "" -q -k 4 --start 0 cutFAULTY.aag
-
-# A second opinion on a design, by other tools: yosys makes registers of the array, and abc looks for the first frame in which the assertion
-# breaks. It prints the verdict as the command does.
-by_bmc3() { # depth, file, options of read_verilog, options of hierarchy
-  local said
-  yosys -Q -T -q -p "read_verilog -formal $3 $2; hierarchy -check $4; proc; flatten; delete -port o:*; chformal -early; chformal -cover -remove
-    opt -keepdc -nodffe -nosdff; memory -nordff; opt -keepdc -nodffe -nosdff; setundef -undriven -anyseq; async2sync; dffunmap; techmap
-    setundef -anyseq; opt -keepdc -nodffe -nosdff; aigmap; opt_clean; write_aiger -zinit $work/registers.aig" > "$work/oracle" 2>&1 || cat "$work/oracle"
-  said=$(berkeley-abc -q "read_aiger $work/registers.aig; fold; bmc3 -F $(($1 + 1))" 2>&1)
-  sed -nE "s/.* was asserted in frame ([0-9]+)\..*/is broken in frame \1 at the earliest/p; s/^No output asserted in .*/holds in frames 0 to $1, by the solver's word/p" <<< "$said"
-}
 
 ### Verilog as it is written: each design faulty and repaired
 designs=$here/examples/verilog
