@@ -4,6 +4,7 @@
 #include <set>
 #include <sstream>
 
+#include "emission.h"
 #include "failure.h"
 #include "files.h"
 #include "refusals.h"
@@ -189,7 +190,7 @@ void name_words(Chip &chip, const Symbols &symbols, const std::string &content) 
 
 bool is_aiger(const std::string &path, const std::string &content) { return ends_with(path, ".aag") || content.compare(0, 4, "aag ") == 0; }
 
-Chip chip_of_aiger(const std::string &path, const std::string &content, const Options &options) {
+Chip chip_of_aiger(const std::string &path, const std::string &content, const Options &options, Stop &stop) {
   std::string kind = content.compare(0, 4, "aag ") == 0 ? "" : other_kind(content);
   if (!kind.empty()) throw Failure(path + ": this is no ASCII AIGER but " + kind);
   Symbols symbols = symbols_of(content);
@@ -199,11 +200,9 @@ Chip chip_of_aiger(const std::string &path, const std::string &content, const Op
   Chip chip;
   chip.latches.resize(MARRUBIGAI_LIST_ROOM);
   chip.gates.resize(MARRUBIGAI_LIST_ROOM);
-  bool unknown = options.start.kind != Start::Kind::word;
-  if (unknown && widths.ports == 2)
-    throw Failure(path + ": this memory has two ports, and with two ports what it begins as must be given (--start WORD)");
+  bool unknown = options.start.kind != Start::Kind::word, two_ports = widths.ports == 2;
   auto reply = marrubigai_import(reinterpret_cast<const uint8_t *>(content.data()), content.size(), widths.address, widths.data,
-                                 unknown ? 0 : options.start.word, unknown, widths.ports - 1, chip.latches.data(), chip.latches.size(),
+                                 unknown ? 0 : options.start.word, unknown && !two_ports, two_ports, chip.latches.data(), chip.latches.size(),
                                  chip.gates.data(), chip.gates.size());
   if (reply.number != MARRUBIGAI_PASSED) {
     bool of_text = reply.number == MARRUBIGAI_NOT_AIGER || reply.number == MARRUBIGAI_UNDEFINED;
@@ -219,5 +218,5 @@ Chip chip_of_aiger(const std::string &path, const std::string &content, const Op
   name_words(chip, symbols, content);
   if (options.start.kind == Start::Kind::as_given)
     chip.notes.push_back("a text does not say what the memory begins as: each word may be anything (--start WORD for a memory that is filled)");
-  return chip;
+  return unknown && two_ports ? from_unknown(chip, stop) : chip;
 }

@@ -3,6 +3,7 @@
 
 #include "chip.h"
 #include "options.h"
+#include "stop.h"
 
 bool is_aiger(const std::string &path, const std::string &content);
-Chip chip_of_aiger(const std::string &path, const std::string &content, const Options &options);
+Chip chip_of_aiger(const std::string &path, const std::string &content, const Options &options, Stop &stop);

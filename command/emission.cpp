@@ -86,6 +86,16 @@ std::string wires_text(size_t inputs, size_t latches, size_t read_bits, size_t g
          std::to_string(gates) + " gates";
 }
 
+std::string turns(const Chip &chip) {
+  std::string count = std::to_string(chip.phases);
+  return count + " ports in turn (a frame is " + count + " of the sheet)";
+}
+
+std::string size(const Chip &chip) {
+  const marrubigai_netlist &net = chip.net;
+  return std::to_string(chip.wires()) + " wires of at most 600 (" + wires_text(net.inputs, net.latches, chip.read_bits(), net.gates) + ")";
+}
+
 struct Begins {
   bool unknown = false;
   uint32_t word = 0;
@@ -295,11 +305,52 @@ Emission emit(Aig &aig, const Memory &memory, const std::vector<Lit> &seen, cons
   Emission made = emit_cone(aig, memory, seen, watched, start, stop);
   Chip &chip = made.chip;
   const marrubigai_netlist &net = chip.net;
-  std::string ports = chip.phases > 1 ? std::to_string(chip.phases) + " ports in turn (a frame is " + std::to_string(chip.phases) + " of the sheet), "
-                                      : net.second_port ? "two ports, " : "";
+  std::string ports = chip.phases > 1 ? turns(chip) + ", " : net.second_port ? "two ports, " : "";
   chip.notes.push_back("memory " + memory.name + " (" + memory.source + "): " + std::to_string(net.m) + " address bits, " + std::to_string(net.n) +
-                       " data bits, " + ports + "start " + (net.unknown_start ? "unknown" : std::to_string(net.initial_word)) + "; " +
-                       std::to_string(chip.wires()) + " wires of at most 600 (" + wires_text(net.inputs, net.latches, chip.read_bits(), net.gates) + ")" +
+                       " data bits, " + ports + "start " + (net.unknown_start ? "unknown" : std::to_string(net.initial_word)) + "; " + size(chip) +
                        (made.rewritten_from.empty() ? "" : ", rewritten by abc from " + made.rewritten_from));
+  return made;
+}
+
+Chip from_unknown(const Chip &chip, Stop &stop) {
+  const marrubigai_netlist &net = chip.net;
+  Aig aig;
+  std::vector<Lit> wires{FALSE};
+  auto literal = [&](marrubigai_code code) { return wires[code / 2] ^ (code & 1); };
+  auto literals = [&](const std::vector<uint32_t> &codes) {
+    std::vector<Lit> made;
+    for (uint32_t code : codes) made.push_back(literal(code));
+    return made;
+  };
+  while (wires.size() <= net.inputs) wires.push_back(aig.add_input());
+  for (uint32_t l = 0; l < net.latches; l++) wires.push_back(aig.add_latch(chip.latches[l].reset));
+  while (wires.size() < chip.first_read() + chip.read_bits()) wires.push_back(aig.add_read());
+  for (uint32_t g = 0; g < net.gates; g++) wires.push_back(aig.land(literal(chip.gates[g].left), literal(chip.gates[g].right)));
+  for (uint32_t l = 0; l < net.latches; l++) aig.set_next(wires[net.inputs + 1 + l], literal(chip.latches[l].next));
+  Memory memory;
+  for (const ShownPort &port : chip.ports) memory.ports.push_back({literals(port.address), literals(port.read_data), literal(port.re)});
+  memory.write_data = literals(chip.write_data);
+  memory.we = literal(net.we);
+  memory.start.assign(net.n, 'x');
+  std::vector<Lit> seen, watched;
+  for (const Property &property : chip.properties) seen.push_back(literal(property.code ^ 1));
+  for (const std::vector<Word> *words : {&chip.shown, &chip.named})
+    for (const Word &word : *words)
+      for (Lit each : literals(word.codes)) watched.push_back(each);
+  std::vector<Lit> roots = seen;
+  roots.insert(roots.end(), watched.begin(), watched.end());
+  Cone cone = cone_of(aig, memory, roots);
+  if (cone.ports[0] && cone.ports[1] && (net.re != TRUE || net.re2 != TRUE)) // a port that does not read has its own word of the frame before
+    throw Failure("the memory begins unknown, and both of its ports read, but not in every frame: that is not built.\n"
+                  "Ask from a word of your own (--start 0): then this is what is read before it is written.");
+  Emission emission = emit_cone(aig, memory, seen, watched, Start{}, stop);
+  Chip made = emission.chip;
+  made.properties = chip.properties;
+  made.shown = chip.shown, made.named = chip.named, made.notes = chip.notes;
+  for (size_t p = 0; p < seen.size(); p++) made.properties[p].code = emission.seen[p] ^ 1;
+  for (std::vector<Word> *words : {&made.shown, &made.named})
+    for (Word &word : *words) word.codes = emission.codes_of(literals(word.codes));
+  if (made.phases > 1) made.notes.push_back("the memory begins unknown, with " + turns(made) + "; " + size(made) +
+                         (emission.rewritten_from.empty() ? "" : ", rewritten by abc from " + emission.rewritten_from));
   return made;
 }

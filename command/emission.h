@@ -18,3 +18,6 @@ struct Emission {
 // Only that is kept on which what is asked about, or watched, depends: of the memory too, bit by bit, as no data bit depends on another. Where that does
 // not fit, its gates are rewritten, and those that are gone are only shown. A Failure where it does not fit then.
 Emission emit(Aig &aig, const Memory &memory, const std::vector<Lit> &seen, const std::vector<Lit> &watched, const Start &start, Stop &stop);
+
+// A chip with two ports whose memory begins unknown, as no record can say it: its ports have one in turn.
+Chip from_unknown(const Chip &chip, Stop &stop);

@@ -58,8 +58,8 @@ std::vector<Chip> load(const Options &options, Stop &stop) {
   }
   test_options(options, false);
   if (text && !options.names_file.empty()) throw Failure("--names is for sheets: a text has its names in its symbols", USAGE);
-  Chip chip = sheet ? chip_of_sheet(path, content, options) : chip_of_aiger(path, content, options);
-  apply_start(chip, options.start);
+  Chip chip = sheet ? chip_of_sheet(path, content, options) : chip_of_aiger(path, content, options, stop);
+  apply_start(chip, options.start, stop);
   show_watched(chip, options.watched);
   return {chip};
 }

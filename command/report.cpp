@@ -46,19 +46,24 @@ std::string verdict_text(const Property &property, const Verdict &verdict, const
   return subject(property) + ": " + stopped + when + (safe.empty() ? "nothing is known of it" : "it" + holds + safe) + not_proved;
 }
 
+// what has to be believed where the command made the sheet
+std::string believed(const Chip &chip) {
+  if (chip.bench.top.empty() && chip.phases == 1) return "";
+  return std::string("; that the sheet which it is about is ") + (chip.bench.top.empty() ? "this chip's" : "the design's") +
+         " has to be (--keep writes it)";
+}
+
 // what a certified verdict rests on
 std::string certified_text(const Chip &chip, const Verdict::Certified &certified) {
-  std::string sheet = chip.bench.top.empty() ? "" : "; that the sheet which it is about is the design's has to be (--keep writes it)";
   return certified.file + ", " + std::to_string(certified.lemmas) + " lemmas with " + std::to_string(certified.hints) +
-         " hints, was checked by marrubigai_certify, which is proved: no solver has to be believed" + sheet;
+         " hints, was checked by marrubigai_certify, which is proved: no solver has to be believed" + believed(chip);
 }
 
 std::string forever_text(const Chip &chip, const Forever &forever) {
-  std::string sheet = chip.bench.top.empty() ? "" : "; that the sheet which it is about is the design's has to be (--keep writes it)";
   return (forever.file.empty() ? "" : forever.file + ", ") + "an invariant of " + std::to_string(forever.clauses) + " clauses" +
          (forever.way.empty() ? "" : ", by " + forever.way) + ", with " + std::to_string(forever.requests) + " requests, " +
          std::to_string(forever.lemmas) + " lemmas and " + std::to_string(forever.hints) +
-         " hints, was checked by marrubigai_certify_forever, which is proved: nothing that found it has to be believed" + sheet;
+         " hints, was checked by marrubigai_certify_forever, which is proved: nothing that found it has to be believed" + believed(chip);
 }
 
 std::string seconds_text(double seconds, int digits) {

@@ -3,6 +3,7 @@
 #include <algorithm>
 #include <sstream>
 
+#include "emission.h"
 #include "failure.h"
 #include "files.h"
 #include "refusals.h"
@@ -80,10 +81,12 @@ Chip chip_of_sheet(const std::string &path, const std::string &content, const Op
   return chip;
 }
 
-void apply_start(Chip &chip, const Start &start) {
+void apply_start(Chip &chip, const Start &start, Stop &stop) {
   if (start.kind == Start::Kind::as_given) return;
-  if (start.kind == Start::Kind::unknown && chip.net.second_port)
-    throw Failure("--start unknown: this memory has two ports, and with two ports what it begins as must be given");
+  if (start.kind == Start::Kind::unknown && chip.net.second_port) {
+    chip = from_unknown(chip, stop);
+    return;
+  }
   chip.net.unknown_start = start.kind == Start::Kind::unknown;
   chip.net.initial_word = start.word;
   if (chip.net.n < 32 && start.word >> chip.net.n != 0)

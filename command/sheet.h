@@ -3,12 +3,13 @@
 
 #include "chip.h"
 #include "options.h"
+#include "stop.h"
 
 bool is_sheet(const std::string &path, const std::string &content);
 Chip chip_of_sheet(const std::string &path, const std::string &content, const Options &options);
 
 // lets the user's --start have its way over what the file says
-void apply_start(Chip &chip, const Start &start);
+void apply_start(Chip &chip, const Start &start, Stop &stop);
 
 // The columns of a chip without names: all inputs as one word, and all registers.
 void show_unnamed(Chip &chip);

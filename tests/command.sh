@@ -44,6 +44,17 @@ ends() { # what, status, printed, said, arguments ..
 }
 usage="usage: marrubigai [OPTIONS] FILE.v .. | CHIP.sheet | CHIP.aag   (marrubigai --help lists the options)"
 
+# A second opinion on a design, by other tools: yosys makes registers of the array, and abc looks for the first frame in which the assertion
+# breaks. It prints the verdict as the command does.
+by_bmc3() { # depth, file, options of read_verilog, options of hierarchy
+  local said
+  yosys -Q -T -q -p "read_verilog -formal $3 $2; hierarchy -check $4; proc; flatten; delete -port o:*; chformal -early; chformal -cover -remove
+    opt -keepdc -nodffe -nosdff; memory -nordff; opt -keepdc -nodffe -nosdff; setundef -undriven -anyseq; async2sync; dffunmap; techmap
+    setundef -anyseq; opt -keepdc -nodffe -nosdff; aigmap; opt_clean; write_aiger -zinit $work/registers.aig" > "$work/oracle" 2>&1 || cat "$work/oracle"
+  said=$(berkeley-abc -q "read_aiger $work/registers.aig; fold; bmc3 -F $(($1 + 1))" 2>&1)
+  sed -nE "s/.* was asserted in frame ([0-9]+)\..*/is broken in frame \1 at the earliest/p; s/^No output asserted in .*/holds in frames 0 to $1, by the solver's word/p" <<< "$said"
+}
+
 ### the command line
 wrong() { ends "$1" 2 "" "$2
 $usage" "${@:3}"; }
@@ -106,13 +117,19 @@ frame  input  read  memory
     0      1     0  port 1 reads 0 at 0 (start word), port 2 reads 0 at 0 (start word), writes 1 at 0
     1      0     1  port 1 reads 0 at 1 (start word), port 2 reads 1 at 0 (written in frame 0), writes 0 at 1  <- property broken" "" --names two.names both.sheet
 ends "two ports, from another start" 10 "two.sheet: the property is broken in frame 0 at the earliest" "" -q --start 1 two.sheet
-ends "two ports, from an unknown start" 1 "" "--start unknown: this memory has two ports, and with two ports what it begins as must be given" --start unknown two.sheet
+ends "two ports, from an unknown start" 10 "two.sheet: note: the memory begins unknown, with 2 ports in turn (a frame is 2 of the sheet); 9 wires of at most 600 (1 inputs, 2 registers, 1 read bits, 5 gates)
+two.sheet: the property is broken in frame 0 at the earliest (words in hex):
+frame  input  read  memory
+    0      0     1  reads 1 at 0 (unknown start), writes 0 at 0  <- property broken" "" --start unknown --names two.names two.sheet
 # In each frame one of the ports reads: the input says which. The second port's bit is not 0 only where it is free.
 { line N 1 0 0; line T 1 1 0; line A 0; line D 0; line B 1; line R 2; line C 0 3 7; } > "$work/files/turns.sheet"
 printf 'first 4\nsecond 6\n' > "$work/files/turns.names"
 ends "the idle bits of one port" 10 "turns.sheet: the property is broken in frame 0 at the earliest (words in hex):
 frame  first  second  memory
     0      0       -  port 1 reads 0 at 0 (start word)  <- property broken" "" --names turns.names turns.sheet
+
+ends "the idle bits of one port, in turn" 10 "turns.sheet: the property is broken in frame 0 at the earliest" "" -q --start unknown turns.sheet
+ends "ports in turn that both have idle bits" 1 "" "the memory begins unknown, and both of its ports read, but not in every frame: that is not built." --start unknown --names turns.names turns.sheet
 
 # quiet frames are folded: a chain of latches, so that frame 4 is the first; nothing changes that is shown
 { line N 0 4 0; line M 1 1 0; line L 1 0; line L 2 0; line L 4 0; line L 6 0; line A 0; line D 0; line C 0 0 9; } > "$work/files/chain.sheet"
@@ -134,6 +151,15 @@ for sheet in examples/*/*.sheet; do
   for depth in 0 1 3 5; do check "$sheet to depth $depth, by the programs and by the command" agree "$sheet" "$depth"; done
   status=$(run_of "$sheet" 5 > /dev/null 2>&1; echo $?)
   check "$sheet asked once" same "$status" "$(folder=$here run --any -k 5 "$sheet"; echo $?)"
+done
+
+# two ports in turn, by abc on the sheet as Verilog with its array
+for revision in faulty repaired; do
+  sed '2s/.\{10\}$/          /' examples/seventh-revision/$revision.sheet > "$work/unknown.sheet"
+  awk -f bench/sheet_to_verilog.awk "$work/unknown.sheet" > "$work/unknown.sv"
+  folder=$here run -q -k 6 --start unknown examples/seventh-revision/$revision.sheet
+  check "the seventh revision, $revision, from an unknown start, by other tools" same \
+    "examples/seventh-revision/$revision.sheet: the property $(by_bmc3 6 "$work/unknown.sv" -sv "-top around")" "$(cat "$work/out")"
 done
 
 ### refusals by their words, and files of other kinds
@@ -176,7 +202,7 @@ ends "ports exchanged" 1 "" "exchanged.aag: output 2 is read_enable, and write_e
   printf 'o4 write_enable\no5 read_enable\no6 property_holds\n'; } > "$work/files/two.aag"
 ends "a text with two ports" 10 "two.aag: the property is broken in frame 1 at the earliest" "" -q --start 0 two.aag
 run --start 0 --radix dec two.aag; check "its read word" grep -q '^frame  input  read_data2  memory$' "$work/out"
-ends "its start" 1 "" "two.aag: this memory has two ports, and with two ports what it begins as must be given (--start WORD)" two.aag
+ends "its start" 10 "two.aag: the property is broken in frame 0 at the earliest" "" -q two.aag
 ends "a text with two ports and widths" 10 "bare2.aag: the property is broken in frame 1 at the earliest" "" -q --start 0 --widths 1,1,2 bare2.aag
 ends "too few ports" 1 "" "bare2.aag: it has 3 inputs and 7 outputs; 1 address bits and 1 data bits need at least 1 inputs and 5" --widths 1,1 bare2.aag
 ends "too many ports" 1 "" "bare.aag: it has 2 inputs and 5 outputs; 1 address bits and 1 data bits with two ports need at least 2" --widths 1,1,2 bare.aag
@@ -189,17 +215,6 @@ for macro in "" FAULTY; do
 done
 ends "the carton counter cut by hand" 20 "cut.aag: the property holds in frames 0 to 4, by the solver's word" "" -q -k 4 --start 0 cut.aag
 ends "its fault" 10 "cutFAULTY.aag: the property is broken in frame 1 at the earliest" "" -q -k 4 --start 0 cutFAULTY.aag
-
-# A second opinion on a design, by other tools: yosys makes registers of the array, and abc looks for the first frame in which the assertion
-# breaks. It prints the verdict as the command does.
-by_bmc3() { # depth, file, options of read_verilog, options of hierarchy
-  local said
-  yosys -Q -T -q -p "read_verilog -formal $3 $2; hierarchy -check $4; proc; flatten; delete -port o:*; chformal -early; chformal -cover -remove
-    opt -keepdc -nodffe -nosdff; memory -nordff; opt -keepdc -nodffe -nosdff; setundef -undriven -anyseq; async2sync; dffunmap; techmap
-    setundef -anyseq; opt -keepdc -nodffe -nosdff; aigmap; opt_clean; write_aiger -zinit $work/registers.aig" > "$work/oracle" 2>&1 || cat "$work/oracle"
-  said=$(berkeley-abc -q "read_aiger $work/registers.aig; fold; bmc3 -F $(($1 + 1))" 2>&1)
-  sed -nE "s/.* was asserted in frame ([0-9]+)\..*/is broken in frame \1 at the earliest/p; s/^No output asserted in .*/holds in frames 0 to $1, by the solver's word/p" <<< "$said"
-}
 
 ### Verilog as it is written: each design faulty and repaired
 designs=$here/examples/verilog

@@ -58,12 +58,13 @@ int main(int count, char **arguments) {
   for (int at = 3; at < count; at++) files.push_back(read_file(arguments[at]));
   Options options, with_widths;
   with_widths.widths = Widths{3, 8};
+  Stop stop(options.timeout, false);
   for (size_t at = 0; at < files.size(); at++) {
     std::string name = arguments[3 + at];
     for (unsigned long time = 0; time < times; time++) {
       std::string text = damaged(files[at], files[below(files.size())]);
       if (ends_with(name, ".sheet")) try_one("a sheet", [&] { chip_of_sheet("chip.sheet", text, options); });
-      else if (ends_with(name, ".aag")) try_one("a text", [&] { chip_of_aiger("chip.aag", text, time % 2 ? options : with_widths); });
+      else if (ends_with(name, ".aag")) try_one("a text", [&] { chip_of_aiger("chip.aag", text, time % 2 ? options : with_widths, stop); });
       else try_one("a netlist", [&] { read_design(text); });
     }
   }
