@@ -1,6 +1,6 @@
-// Clauses about one word of the memory are shown by a small solver of their own, which has what their next values depend on and those clauses of the
-// invariant that speak of nothing else: a step of the whole memory is large, and what is known of one word seldom needs the others. What does not
-// follow so is asked of the whole step.
+// Clauses about one word of the memory are shown by a small solver of their own, which has what their next values depend on, without what is read of
+// other words, and those clauses of the invariant that speak of nothing else: a step of the whole memory is large, and what is known of one word seldom
+// needs the others. What does not follow so is asked with all that is read, and then of the whole step.
 
 #include "obligations.h"
 
@@ -35,10 +35,12 @@ public:
   std::optional<ForeverCertificate> run() {
     std::vector<size_t> left, all(invariant.size());
     for (size_t c = 0; c < all.size(); c++) all[c] = c;
-    if (!show_part({PROPERTY()}).empty() && !show(whole, all, {PROPERTY()}).empty()) return std::nullopt;
+    if (!show_part({PROPERTY()}, std::nullopt).empty() && !show(whole, all, {PROPERTY()}).empty()) return std::nullopt;
     for (const auto &[word, clauses] : about) {
       if (refuted) break;
-      std::vector<size_t> open = show_part(clauses);
+      std::vector<size_t> open = clauses;
+      if (word != NO_WORD) open = show_part(open, word);
+      if (!open.empty() && !refuted) open = show_part(open, std::nullopt);
       left.insert(left.end(), open.begin(), open.end());
     }
     if (!refuted && !left.empty() && !show(whole, all, left).empty()) return std::nullopt;
@@ -65,6 +67,7 @@ private:
   // A target is a clause of the invariant, behind the step, or the property before it.
   size_t PROPERTY() const { return invariant.size(); }
   static constexpr size_t NUMBERS = 5; // of a request's clause
+  static constexpr uint32_t NO_WORD = UINT32_MAX;
 
   static uint64_t key(const uint32_t *request) { return uint64_t{request[0]} << 58 | uint64_t{request[1]} << 29 | request[2]; }
   size_t invariant_place() const { return made.requests.size() / 3 * NUMBERS; }
@@ -72,7 +75,7 @@ private:
 
   // the first word that a clause speaks of; none, which counts as the last: of registers alone
   uint32_t word_of(const Clause &clause) const {
-    uint32_t first = UINT32_MAX;
+    uint32_t first = NO_WORD;
     for (int32_t number : clause) {
       uint32_t bit = static_cast<uint32_t>(std::abs(number)) - 1;
       if (bit >= bits.held) first = std::min(first, (bit - bits.held) / bits.n);
@@ -87,14 +90,14 @@ private:
     return clause;
   }
 
-  std::vector<size_t> show_part(const std::vector<size_t> &targets) {
-    Transition step(chip, property);
+  std::vector<size_t> show_part(const std::vector<size_t> &targets, std::optional<uint32_t> word_read) {
+    Transition step(chip, property, word_read);
     for (size_t target : targets)
       if (target == PROPERTY()) step.property();
       else step.ask_for(invariant[target]);
     std::vector<size_t> used;
     for (const auto &[word, clauses] : about) {
-      if (word != UINT32_MAX && !has_word(step, word)) continue;
+      if (word != NO_WORD && !has_word(step, word)) continue;
       for (size_t c : clauses)
         if (std::all_of(invariant[c].begin(), invariant[c].end(), [&](int32_t number) { return step.has(number); })) used.push_back(c);
     }

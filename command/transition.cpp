@@ -15,8 +15,8 @@ constexpr uint32_t BACKWARD = 1;
 
 } // namespace
 
-Transition::Transition(const Chip &stepped, const Property &property)
-    : chip(stepped), net(stepped.of(property)), bits(net), defined(stepped.wires() + 1) {}
+Transition::Transition(const Chip &stepped, const Property &property, std::optional<uint32_t> only)
+    : chip(stepped), net(stepped.of(property)), bits(net), word_read(only), defined(stepped.wires() + 1) {}
 
 int32_t Transition::literal(uint32_t variable) {
   auto [found, is_new] = literals.emplace(variable, static_cast<int32_t>(originals.size()) + 1);
@@ -71,7 +71,8 @@ void Transition::define_read(uint32_t wire) {
   marrubigai_code enable = port ? net.re2 : net.re;
   int32_t re = value(enable);
   if (enable != 1) ask_both(READ_HELD, i, 0, re, re, own, now(net.latches + read));
-  for (uint32_t word = 0; enable != 0 && word >> net.m == 0; word++)
+  uint32_t first = word_read.value_or(0), behind = word_read ? first + 1 : uint32_t{1} << net.m;
+  for (uint32_t word = first; enable != 0 && word < behind; word++)
     ask_both(READ_WORD, i, word, -re, -match(word, port), own, now(bits.word(word, bit)));
 }
 

@@ -2,6 +2,7 @@
 #pragma once
 
 #include <cstdint>
+#include <optional>
 #include <unordered_map>
 #include <vector>
 
@@ -18,7 +19,8 @@ struct StateBits {
 // Literals are of variables counted from 1 without gaps. What a literal depends on is asked for with it, and nothing else.
 class Transition {
 public:
-  Transition(const Chip &chip, const Property &property);
+  // Of reads, only what says that they read this word, where one is given.
+  Transition(const Chip &chip, const Property &property, std::optional<uint32_t> word_read = std::nullopt);
 
   int32_t now(uint32_t bit); // of the state, counted from 0
   int32_t next(uint32_t bit); // of the state behind the step
@@ -49,6 +51,7 @@ private:
   const Chip &chip;
   marrubigai_netlist net;
   StateBits bits;
+  std::optional<uint32_t> word_read;
   std::vector<uint32_t> asked;
   std::vector<int32_t> written;
   std::unordered_map<uint32_t, int32_t> literals; // by the library's variable
