@@ -23,8 +23,10 @@ struct Cone {
   std::vector<size_t> data_bits; // the same, bit by bit
 };
 
-Cone cone_of(const Aig &aig, const Memory &memory, std::vector<Lit> stack) {
+Cone cone_of(const Aig &aig, const Memory &memory, const std::vector<Lit> &seen, const std::vector<Lit> &watched) {
   Cone cone;
+  std::vector<Lit> stack = seen;
+  stack.insert(stack.end(), watched.begin(), watched.end());
   cone.has.assign(aig.size(), 0);
   cone.ports.assign(memory.ports.size(), 0);
   std::map<uint32_t, std::pair<size_t, size_t>> reads; // a node's port and bit
@@ -133,7 +135,7 @@ void show_ports(Emission &made, const Memory &memory) {
 
 Emission emit_cone(Aig &aig, Memory memory, const std::vector<Lit> &seen, const std::vector<Lit> &watched, const Start &start);
 
-// The sheet can have a second port, where its memory begins with a given word. Else the ports have one of its in turn.
+// where the sheet cannot have so many ports: it can have two, from a given start
 Emission emit_in_phases(const Aig &aig, const Memory &memory, const std::vector<Lit> &seen, const std::vector<Lit> &watched, const Start &start) {
   Phased phased = in_phases(aig, memory);
   std::vector<Lit> counted;
@@ -147,9 +149,7 @@ Emission emit_in_phases(const Aig &aig, const Memory &memory, const std::vector<
 }
 
 Emission emit_cone(Aig &aig, Memory memory, const std::vector<Lit> &seen, const std::vector<Lit> &watched, const Start &start) {
-  std::vector<Lit> roots = seen;
-  roots.insert(roots.end(), watched.begin(), watched.end());
-  Cone cone = cone_of(aig, memory, roots);
+  Cone cone = cone_of(aig, memory, seen, watched);
   std::vector<ReadPort> ports; // those of the record: others than the first only where something depends on them
   for (size_t port = 0; port < memory.ports.size(); port++)
     if (port == 0 || cone.ports[port]) ports.push_back(memory.ports[port]);
@@ -182,8 +182,8 @@ Emission emit_cone(Aig &aig, Memory memory, const std::vector<Lit> &seen, const 
     throw TooLarge(memory.source + ": what is asked about depends on " + std::to_string(data_bits) + " data bits of memory " + memory.name +
                   ", and 32 is the most.\nMake the words narrower by a parameter (-P).");
   if (wires > MOST_WIRES)
-    throw TooLarge("what is asked about depends on " + std::to_string(wires) + " wires (" + counts(inputs.size(), latches.size(), read_bits, gates.size()) +
-                  "), and 600 is the most.\n" +
+    throw TooLarge("what is asked about depends on " + std::to_string(wires) + " wires (" +
+                  counts(inputs.size(), latches.size(), read_bits, gates.size()) + "), and 600 is the most.\n" +
                   "Make the design smaller by a parameter (-P): narrower words, fewer of them.");
   Emission made;
   made.codes.assign(aig.size(), NO_CODE);
@@ -249,7 +249,7 @@ Chip from_unknown(const Chip &chip) {
     return made;
   };
   while (wires.size() <= net.inputs) wires.push_back(aig.add_input());
-  for (const marrubigai_latch &latch : std::vector<marrubigai_latch>(chip.latch_list(), chip.latch_list() + net.latches)) wires.push_back(aig.add_latch(latch.reset));
+  for (uint32_t l = 0; l < net.latches; l++) wires.push_back(aig.add_latch(chip.latches[l].reset));
   while (wires.size() < chip.first_read() + chip.read_bits()) wires.push_back(aig.add_read());
   for (uint32_t g = 0; g < net.gates; g++) wires.push_back(aig.land(literal(chip.gates[g].left), literal(chip.gates[g].right)));
   for (uint32_t l = 0; l < net.latches; l++) aig.set_next(wires[net.inputs + 1 + l], literal(chip.latches[l].next));
@@ -263,10 +263,8 @@ Chip from_unknown(const Chip &chip) {
   for (const std::vector<Word> *words : {&chip.shown, &chip.named})
     for (const Word &word : *words)
       for (Lit each : literals(word.codes)) watched.push_back(each);
-  std::vector<Lit> roots = seen;
-  roots.insert(roots.end(), watched.begin(), watched.end());
-  Cone cone = cone_of(aig, memory, roots);
-  if (cone.ports[0] && cone.ports[1] && (net.re != TRUE || net.re2 != TRUE)) // a port that does not read has its own word of the frame before
+  Cone cone = cone_of(aig, memory, seen, watched);
+  if (cone.ports[0] && cone.ports[1] && (net.re != 1 || net.re2 != 1)) // a port that does not read has its own word of the frame before
     throw Failure("the memory begins unknown, and both of its ports read, but not in every frame: that is not built.\n"
                   "Ask from a word of your own (--start 0): then this is what is read before it is written.");
   Emission emission = emit_cone(aig, memory, seen, watched, Start{});
