@@ -213,7 +213,7 @@ std::string shrink(Aig &aig, Parts &parts, std::vector<Lit> &roots, Stop &stop) 
 
 Emission emit_cone(Aig &aig, const Memory &memory, const std::vector<Lit> &seen, const std::vector<Lit> &watched, const Start &start, Stop &stop);
 
-// The sheet can have a second port, where its memory begins with a given word. Else the ports have one of its in turn.
+// where the sheet cannot have so many ports: it can have two, from a given start
 Emission emit_in_phases(const Aig &aig, const Memory &memory, const std::vector<Lit> &seen, const std::vector<Lit> &watched, const Start &start,
                         Stop &stop) {
   Phased phased = in_phases(aig, memory);
@@ -340,7 +340,7 @@ Chip from_unknown(const Chip &chip, Stop &stop) {
   std::vector<Lit> roots = seen;
   roots.insert(roots.end(), watched.begin(), watched.end());
   Cone cone = cone_of(aig, memory, roots);
-  if (cone.ports[0] && cone.ports[1] && (net.re != TRUE || net.re2 != TRUE)) // a port that does not read has its own word of the frame before
+  if (cone.ports[0] && cone.ports[1] && (net.re != 1 || net.re2 != 1)) // a port that does not read has its own word of the frame before
     throw Failure("the memory begins unknown, and both of its ports read, but not in every frame: that is not built.\n"
                   "Ask from a word of your own (--start 0): then this is what is read before it is written.");
   Emission emission = emit_cone(aig, memory, seen, watched, Start{}, stop);

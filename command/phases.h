@@ -1,5 +1,5 @@
-// A memory with several ports as one with a single port, which they have in turn. What a cycle of the design does is then spread over its phases, a
-// frame of the sheet for each port.
+// A memory with several ports as one with a single port, which they have in turn. A cycle, which is a frame of the design, then has a phase for each
+// port, which is a frame of the sheet.
 #pragma once
 
 #include "memory.h"
@@ -18,6 +18,7 @@ struct Phased {
   }
 };
 
-// Ports that only read come first, and the first port, which writes, comes last: so all of them read words from before the cycle's write. Registers, and
-// inputs that an earlier phase depends on, are the same in all phases of a cycle. The first port reads unless its enable is FALSE.
+// Ports that only read come first, and the first port, which writes, comes last: so all of them read words from before the cycle's write. Registers,
+// and inputs that an earlier phase depends on, are the same in all phases of a cycle. The first port reads unless its enable is FALSE.
+// What a port has in a frame in which it does not read may differ where several read: nothing may depend on that.
 Phased in_phases(const Aig &aig, const Memory &memory);

@@ -196,8 +196,8 @@ std::string chip_json(const Searched &searched, Radix radix) {
                      ", \"gates\": " + std::to_string(chip.net.gates) + ", \"wires\": " + std::to_string(chip.wires()) + ",\n   \"memory\": {";
   if (!chip.memory_name.empty()) text += "\"name\": " + quoted(chip.memory_name) + ", ";
   text += "\"address_bits\": " + std::to_string(chip.net.m) + ", \"data_bits\": " + std::to_string(chip.net.n) + ", \"ports\": " +
-          std::to_string(chip.ports.size()) + ", \"phases\": " + std::to_string(chip.phases) + ", \"start\": " + (chip.net.unknown_start ? "null" : std::to_string(chip.net.initial_word)) +
-          "},\n   \"notes\": [";
+          std::to_string(chip.ports.size()) + ", \"phases\": " + std::to_string(chip.phases) + ", \"start\": " +
+          (chip.net.unknown_start ? "null" : std::to_string(chip.net.initial_word)) + "},\n   \"notes\": [";
   for (size_t at = 0; at < chip.notes.size(); at++) text += (at ? ", " : "") + quoted(chip.notes[at]);
   text += "],";
   if (searched.assumptions_end) text += " \"assumptions_end\": " + std::to_string(*searched.assumptions_end) + ",";

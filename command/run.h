@@ -32,8 +32,8 @@ struct Access {
   std::optional<Write> write;
 };
 
-// Steps the chip with its whole memory through the sheet's frames 0 to `depth`, fed what `value` says of the literals (true or false for a variable), and
-// cuts the run behind the frame that first breaks the property. A Failure where no frame does: then the solver's answer was wrong.
+// Steps the chip with its whole memory through the sheet's frames 0 to `depth`, fed what `value` says of the literals (true or false for a variable),
+// and cuts the run behind the frame that first breaks the property. A Failure where no frame does: then the solver's answer was wrong.
 Run replay(const Chip &chip, const Property &property, const std::vector<marrubigai_position> &frames, uint32_t depth,
            const std::function<bool(int32_t)> &value);
 

@@ -12,7 +12,8 @@ enum Answer { SATISFIABLE = 10, UNSATISFIABLE = 20 }; // CaDiCaL's
 class Search {
 public:
   Search(const Chip &searched, const Plan &wanted, Stop &when)
-      : chip(searched), plan(wanted), stop(when), unrolling(searched, searched.sheet_frame(wanted.depth), solver, wanted.refutation), verdicts(searched.properties.size()) {
+      : chip(searched), plan(wanted), stop(when), unrolling(searched, searched.sheet_frame(wanted.depth), solver, wanted.refutation),
+        verdicts(searched.properties.size()) {
     solver.set("quiet", 1); // standard output is ours
     // Many short calls gain from neither stable phases nor local search; docs/COMMAND.md has what was measured.
     solver.set("stabilize", 0);

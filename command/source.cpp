@@ -86,8 +86,8 @@ private:
       name += 2;
     }
     if (array)
-      throw Failure(file + ":" + std::to_string(type.line) + ": an array of " + type.text + ", which is a struct or a union: yosys reads it as one word.\n" +
-                    "Declare the words as vectors (logic [7:0] words [0:15]), and take their fields apart where they are used.");
+      throw Failure(file + ":" + std::to_string(type.line) + ": an array of " + type.text +
+                    ", which is a struct or a union: yosys reads it as one word.\nDeclare the words as vectors (logic [7:0] words [0:15]), and take their fields apart where they are used.");
   }
 };
 

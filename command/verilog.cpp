@@ -51,8 +51,9 @@ public:
 
   PortPlan plan(size_t most_ports) {
     find_roots();
-    seen.insert(seen.end(), watched.begin(), watched.end());
-    return cut.plan_ports(seen, most_ports);
+    std::vector<Lit> roots = seen;
+    roots.insert(roots.end(), watched.begin(), watched.end());
+    return cut.plan_ports(roots, most_ports);
   }
 
   Chip make() {

@@ -23,7 +23,7 @@ impl Case {
         values(wires, 1).len()
     }
 
-    /// The run of a waveform with all wires as a solver's answer: wire w of frame i is variable B(i) + w (RULES V1, V2).
+    /// The run of a waveform with all wires as a solver's answer: wire w of frame i is variable B(i) + w (RULES V2, V3, V8).
     pub fn answer(&self, wires: &Signals) -> String {
         let netlist = read_sheet(&self.sheet, 600, 600).expect("a sheet that is accepted");
         let ports = if netlist.has_two_ports() { 2 } else { 1 };
