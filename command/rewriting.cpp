@@ -8,7 +8,8 @@
 namespace {
 
 constexpr double MOST_SECONDS = 20;
-constexpr const char *COMMANDS = "strash; dc2; dc2; dc2; resub -K 12; resub -K 16; dc2; dc2; rewrite -z; refactor -z; dc2; dc2; write_aiger /dev/fd/3";
+constexpr const char *COMMANDS = "strash; dc2; dc2; dc2; resub -K 12; resub -K 16; dc2; dc2; rewrite -z; refactor -z; dc2; dc2; "
+                                 "write_aiger /dev/fd/3";
 
 } // namespace
 
