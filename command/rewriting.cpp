@@ -4,6 +4,7 @@
 #include <set>
 
 #include "abc.h"
+#include "failure.h"
 
 namespace {
 
@@ -20,6 +21,8 @@ Rewritten rewrite(Aig &aig, const std::vector<Lit> &roots, Stop &stop) {
   std::vector<uint32_t> inputs;
   for (Aig::Kind kind : {Aig::Kind::input, Aig::Kind::read, Aig::Kind::latch}) inputs.insert(inputs.end(), leaves[kind].begin(), leaves[kind].end());
   Finished finished = run_abc(binary_aiger(aig, inputs, {}, roots), COMMANDS, stop, MOST_SECONDS);
+  if (finished.killed && stop.is_due())
+    throw Failure(std::string(stop.why()) + " while " + ABC + " was at work; nothing is known of any property", STOPPED);
   if (finished.missing) return {{}, std::string(ABC) + " is missing (Debian's package of this name)"};
   if (finished.killed || finished.status != 0) return {{}, std::string(ABC) + " does not rewrite it"};
   Rewritten made;
