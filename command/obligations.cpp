@@ -1,6 +1,6 @@
-// Clauses about one word of the memory are shown by a small solver of their own, which has what their next values depend on, without what is read of
-// other words, and those clauses of the invariant that speak of nothing else: a step of the whole memory is large, and what is known of one word seldom
-// needs the others. What does not follow so is asked with all that is read, and then of the whole step.
+// Clauses about one word of the memory are shown by a small solver of their own, which has what their next values depend on, without what is read
+// of other words, and those clauses of the invariant that speak of nothing else: a step of the whole memory is large, and what is known of one word
+// seldom needs the others. What does not follow so is asked with all that is read, and then of the whole step.
 
 #include "obligations.h"
 
@@ -17,7 +17,8 @@ namespace {
 class Obligations {
 public:
   Obligations(const Chip &of, const Property &its_property, const std::vector<Clause> &its_invariant, Stop &when)
-      : chip(of), property(its_property), invariant(its_invariant), stop(when), bits(of.net), whole(of, its_property), shown_at(invariant.size() + 1) {
+      : chip(of), property(its_property), invariant(its_invariant), stop(when), bits(of.net), whole(of, its_property),
+        shown_at(invariant.size() + 1) {
     whole.property();
     for (const Clause &clause : invariant) {
       clause_at.push_back(made.invariant.size());
@@ -184,11 +185,11 @@ private:
   // From the targets that no clause fails behind the step, the last one first: their hints are known (RULES H4).
   void conclude() {
     constexpr size_t CONSTANT = 0; // the first request's clause: what the laws name as false is
-    size_t end = whole.clauses().size() - NUMBERS; // of the last place
+    size_t end = whole.clauses().size() - NUMBERS; // behind the last clause there is none that fails
     std::vector<size_t> none_behind{CONSTANT, end};
     for (size_t c = invariant.size(); c-- > 0;) {
       size_t count = invariant[c].size();
-      end -= NUMBERS; // where a true number was found, the clauses behind it fail; before it, of each number that it is true, false, or behind one that is
+      end -= NUMBERS; // a true number was found. Before it, of each number: it is true; it is false; and but for the first, one before it is true
       auto found = [&](size_t number) { return end - NUMBERS * (3 * (count - number) - 2); };
       auto is_true = [&](size_t number) { return number == 0 ? end - NUMBERS * (3 * count - 1) : found(number) - 2 * NUMBERS; };
       std::vector<size_t> hints = none_behind;

@@ -4,11 +4,13 @@
 #include <set>
 
 #include "abc.h"
+#include "failure.h"
 
 namespace {
 
 constexpr double MOST_SECONDS = 20;
-constexpr const char *COMMANDS = "strash; dc2; dc2; dc2; resub -K 12; resub -K 16; dc2; dc2; rewrite -z; refactor -z; dc2; dc2; write_aiger /dev/fd/3";
+constexpr const char *COMMANDS = "strash; dc2; dc2; dc2; resub -K 12; resub -K 16; dc2; dc2; rewrite -z; refactor -z; dc2; dc2; "
+                                 "write_aiger /dev/fd/3";
 
 } // namespace
 
@@ -19,6 +21,8 @@ Rewritten rewrite(Aig &aig, const std::vector<Lit> &roots, Stop &stop) {
   std::vector<uint32_t> inputs;
   for (Aig::Kind kind : {Aig::Kind::input, Aig::Kind::read, Aig::Kind::latch}) inputs.insert(inputs.end(), leaves[kind].begin(), leaves[kind].end());
   Finished finished = run_abc(binary_aiger(aig, inputs, {}, roots), COMMANDS, stop, MOST_SECONDS);
+  if (finished.killed && stop.is_due())
+    throw Failure(std::string(stop.why()) + " while " + ABC + " was at work; nothing is known of any property", STOPPED);
   if (finished.missing) return {{}, std::string(ABC) + " is missing (Debian's package of this name)"};
   if (finished.killed || finished.status != 0) return {{}, std::string(ABC) + " does not rewrite it"};
   Rewritten made;

@@ -483,6 +483,8 @@ abc 'exit 3'
 path=$work/abc:$PATH says "not rewritten" 1 "what is asked about depends on 643 wires (7 inputs, 13 registers, 4 read bits, 619 gates), and 600 is the most; not rewritten: berkeley-abc does not rewrite it." "$rewritten"
 abc 'echo aig 24 24 0 1 0 > /dev/fd/3'
 path=$work/abc:$PATH says "rewritten to something else" 1 "what is asked about depends on 643 wires (7 inputs, 13 registers, 4 read bits, 619 gates), and 600 is the most; not rewritten: berkeley-abc: what it wrote is no netlist" "$rewritten"
+abc 'exec sleep 60'
+path=$work/abc:$PATH ends "out of time while abc rewrites" 30 "" "out of time while berkeley-abc was at work; nothing is known of any property" --timeout 5 chip.v
 says "no Verilog" 1 "chip.v: yosys makes no netlist of it:
   yosys: chip.v:" 's/endmodule//'
 says "another module" 1 "chip.v: yosys makes no netlist of it:" '' --top chop
