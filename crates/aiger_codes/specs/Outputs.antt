@@ -24,10 +24,9 @@ pub record Coded (size count : ℕ) (f : ℕ → ℕ) (codes : List Code) : Type
   pub full : length codes ≡ size
   pub has : codeOf codes ≡ upTo count f
 
--- a record with other address codes, with other write-data codes, with other address codes of a second port, and with other codes WE, RE, P and RE of
--- a second port
-abbrev pub withAddress : Netlist → List Code → Netlist
-withAddress net codes =
+-- a record with other codes: of address, write data and a second port's address, and WE, RE, P and a second port's RE
+abbrev pub withCodes : Netlist → List Code → List Code → List Code → Code → Code → Code → Code → Netlist
+withCodes net address writeData second we re p re2 =
     record {
       inputs = net .inputs;
       latches = net .latches;
@@ -37,74 +36,28 @@ withAddress net codes =
       «initial_word» = net .«initial_word»;
       «unknown_start» = net .«unknown_start»;
       «second_port» = net .«second_port»;
-      address = codes;
-      «write_data» = net .«write_data»;
-      we = net .we;
-      re = net .re;
-      p = net .p;
-      address2 = net .address2;
-      re2 = net .re2;
+      address = address;
+      «write_data» = writeData;
+      we = we;
+      re = re;
+      p = p;
+      address2 = second;
+      re2 = re2;
     }
+
+-- with some of these
+abbrev pub withAddress : Netlist → List Code → Netlist
+withAddress net codes = withCodes net codes (net .«write_data») (net .address2) (net .we) (net .re) (net .p) (net .re2)
 
 abbrev pub withData : Netlist → List Code → Netlist
-withData net codes =
-    record {
-      inputs = net .inputs;
-      latches = net .latches;
-      gates = net .gates;
-      m = net .m;
-      n = net .n;
-      «initial_word» = net .«initial_word»;
-      «unknown_start» = net .«unknown_start»;
-      «second_port» = net .«second_port»;
-      address = net .address;
-      «write_data» = codes;
-      we = net .we;
-      re = net .re;
-      p = net .p;
-      address2 = net .address2;
-      re2 = net .re2;
-    }
+withData net codes = withCodes net (net .address) codes (net .address2) (net .we) (net .re) (net .p) (net .re2)
 
 abbrev pub withSecond : Netlist → List Code → Netlist
-withSecond net codes =
-    record {
-      inputs = net .inputs;
-      latches = net .latches;
-      gates = net .gates;
-      m = net .m;
-      n = net .n;
-      «initial_word» = net .«initial_word»;
-      «unknown_start» = net .«unknown_start»;
-      «second_port» = net .«second_port»;
-      address = net .address;
-      «write_data» = net .«write_data»;
-      we = net .we;
-      re = net .re;
-      p = net .p;
-      address2 = codes;
-      re2 = net .re2;
-    }
+withSecond net codes = withCodes net (net .address) (net .«write_data») codes (net .we) (net .re) (net .p) (net .re2)
 
 abbrev pub withControl : Netlist → ℕ → ℕ → ℕ → ℕ → Netlist
 withControl net we re p re2 =
-    record {
-      inputs = net .inputs;
-      latches = net .latches;
-      gates = net .gates;
-      m = net .m;
-      n = net .n;
-      «initial_word» = net .«initial_word»;
-      «unknown_start» = net .«unknown_start»;
-      «second_port» = net .«second_port»;
-      address = net .address;
-      «write_data» = net .«write_data»;
-      we = record { 0 = we };
-      re = record { 0 = re };
-      p = record { 0 = p };
-      address2 = net .address2;
-      re2 = record { 0 = re2 };
-    }
+    withCodes net (net .address) (net .«write_data») (net .address2) (record { 0 = we }) (record { 0 = re }) (record { 0 = p }) (record { 0 = re2 })
 
 -- the first m outputs are the record's address codes; the n behind them its write-data codes
 pub record AddressPut (net : Netlist) (table : List ℕ) (r : Netlist) : Type 0 where
