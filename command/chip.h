@@ -46,7 +46,8 @@ struct Chip {
   std::vector<Word> named; // every word that has a name
   // Registers of the command's own, for facts: `started`, false in frame 0 alone; `assumed`, true as long as all assumptions held; `phase`.
   std::vector<Word> own;
-  std::string memory_name;
+  std::string memory_name; // of Verilog
+  std::vector<Array> arrays; // of Verilog, that the memory is made of
   std::vector<ShownPort> ports; // of the design, as many as the sheet has or more; the first one's address is the one that is written at
   std::vector<uint32_t> write_data;
   Bench bench;

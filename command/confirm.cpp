@@ -64,7 +64,11 @@ std::string bench_text(const Options &options, const Chip &chip, const Run &run)
   for (const Access &access : accesses(chip, run))
     for (const Access::Read &read : access.reads)
       if (!read.writer && filled.insert(read.address).second)
-        text << "    dut." << chip.memory_name << "[" << literal(read.address) << "] = " << literal(read.word) << ";\n";
+        for (const Array &array : chip.arrays) {
+          auto low = read.word.begin() + static_cast<std::ptrdiff_t>(array.low);
+          Bits word(low, low + static_cast<std::ptrdiff_t>(array.width));
+          text << "    dut." << array.name << "[" << literal(read.address) << "] = " << literal(word) << ";\n";
+        }
   for (uint32_t i = 0; i < run.frames(); i++) {
     if (i > 0) set_inputs(i);
     text << "    #1 \\" << bench.clock << "  = " << bench.rising << "; #1 \\" << bench.clock << "  = " << !bench.rising << ";\n";

@@ -76,6 +76,7 @@ Design read_design(const std::string &json_text) {
     set_source(text_of(json.at("attributes").find("src")), is_formal(cell.type), cell.source, cell.column_source, cell.first_line);
     for (const auto &[port, bits] : json.at("connections").members) cell.ports[port] = bits_of(bits);
     for (const auto &[parameter, value] : json.at("parameters").members) cell.parameters[parameter] = value.text;
+    if (cell.type == "$mem_v2") cell.arrays.push_back({cell.name, 0, cell.number("WIDTH")});
     design.cells.push_back(std::move(cell));
   }
   for (const auto &[name, json] : module->at("netnames").members) {

@@ -7,6 +7,7 @@
 #include <vector>
 
 #include "json.h"
+#include "words.h"
 
 // a bit of a net, by yosys' number; or a constant
 using Bit = int;
@@ -20,6 +21,7 @@ struct Cell {
   unsigned first_line = 0; // where yosys has it begin
   std::map<std::string, std::vector<Bit>> ports;
   std::map<std::string, std::string> parameters; // numbers as bits, highest first
+  std::vector<Array> arrays; // of a memory
 
   const std::vector<Bit> &port(const std::string &port_name) const;
   uint32_t number(const std::string &parameter) const;

@@ -285,6 +285,7 @@ Emission emit_cone(Aig &aig, const Memory &memory, const std::vector<Lit> &seen,
   for (uint32_t index : parts.latches) chip.latches.push_back({made.code(aig.node(index).left), aig.node(index).reset});
   for (uint32_t index : parts.gates) chip.gates.push_back({made.code(aig.node(index).left), made.code(aig.node(index).right)});
   chip.memory_name = memory.name;
+  chip.arrays = memory.arrays;
   if (parts.cone.data_bits.empty()) {
     chip.notes.push_back("what is asked about does not depend on the memory " + memory.name);
   } else {

@@ -90,6 +90,7 @@ MemoryCut::MemoryCut(Logic &of, const Cell &its_cell, const PortPlan &its_plan)
       readers(cell.number("RD_PORTS")), writers(cell.number("WR_PORTS")), output(readers) {
   memory.name = cell.name;
   memory.source = cell.source;
+  memory.arrays = cell.arrays;
   memory.start = start_of(cell);
   if (writers == 0) refuse("is never written");
   if (readers == 0) refuse("is never read");

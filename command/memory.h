@@ -10,6 +10,7 @@ struct ReadPort {
 
 struct Memory {
   std::string name, source;
+  std::vector<Array> arrays;
   std::vector<ReadPort> ports; // the address of the first is the one that is written at
   std::vector<Lit> write_data; // bit 0 first
   Lit we = FALSE;

@@ -204,8 +204,9 @@ private:
     while (at < text.size() && (std::isalnum(static_cast<unsigned char>(text[at])) || text[at] == '_' || text[at] == '.' || text[at] == '$')) at++;
     std::string name = text.substr(begin, at - begin);
     if (name.empty()) fail("a name, a number or @ is wanted at '" + text.substr(begin) + "'");
-    Bits32 word = name == (chip.memory_name.empty() ? "memory" : chip.memory_name) ? memory_word(name) : register_word(name);
-    return take("[") ? part(word, name) : word;
+    std::optional<Bits32> word = memory_word(name);
+    if (!word) word = register_word(name);
+    return take("[") ? part(*word, name) : *word;
   }
 
   Bits32 part(const Bits32 &word, const std::string &name) {
@@ -216,7 +217,10 @@ private:
     return {word.begin() + low, word.begin() + high + 1};
   }
 
-  Bits32 memory_word(const std::string &name) {
+  // none where it is no name of the memory, or of an array of it
+  std::optional<Bits32> memory_word(const std::string &name) {
+    auto array = std::find_if(chip.arrays.begin(), chip.arrays.end(), [&](const Array &each) { return each.name == name; });
+    if (array == chip.arrays.end() && (!chip.arrays.empty() || name != "memory")) return std::nullopt;
     if (!take("[")) fail("of the memory " + name + " a word is wanted: " + name + "[@] is any of them");
     uint32_t last = (1u << chip.net.m) - 1, word = take_every() ? every_value & last : decimal("an address");
     if (!take("]")) fail("] is wanted at '" + text.substr(at) + "'");
@@ -228,7 +232,9 @@ private:
     for (uint32_t code : port.read_data) {
       made.push_back(code == NO_CODE ? MISSING : static_cast<Bit>(bits.word(word, code / 2 - chip.first_read())) + 1);
     }
-    return made;
+    if (array == chip.arrays.end()) return made;
+    auto low = made.begin() + static_cast<std::ptrdiff_t>(array->low);
+    return Bits32(low, low + static_cast<std::ptrdiff_t>(array->width));
   }
 
   Bits32 register_word(const std::string &name) {

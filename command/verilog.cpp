@@ -6,6 +6,7 @@
 #include <set>
 
 #include "emission.h"
+#include "arrays.h"
 #include "failure.h"
 #include "files.h"
 #include "yosys.h"
@@ -308,15 +309,8 @@ std::vector<Chip> chips_of_design(const Design &design, const Options &options, 
   }
 }
 
-} // namespace
-
-bool is_verilog(const std::string &path) { return ends_with(path, ".v") || ends_with(path, ".sv"); }
-
-std::vector<Chip> chips_of_verilog(const Options &options, Stop &stop) {
-  for (const std::string &file : options.files)
-    if (!is_verilog(file)) throw Failure(file + ": only Verilog (.v, .sv) can be given in several files", USAGE);
-  // Fewer ports make fewer clauses, and reads that have their registers fit where others do not.
-  Design as_written = read_verilog(options, Reads::as_written, stop);
+// Fewer ports make fewer clauses, and reads that have their registers fit where others do not.
+std::vector<Chip> chips_by_ports(const Design &as_written, const Options &options, Stop &stop) {
   std::optional<Design> clocked;
   std::optional<NoFit> no_fit;
   for (size_t most_ports : {size_t{1}, size_t{2}, MOST_PORTS}) {
@@ -325,11 +319,28 @@ std::vector<Chip> chips_of_verilog(const Options &options, Stop &stop) {
     } catch (const NoFit &why) {
       no_fit = why;
     }
-    if (!clocked) clocked = read_verilog(options, Reads::clocked, stop);
+    if (!clocked) clocked = join_arrays(read_verilog(options, Reads::clocked, stop));
     try {
       return chips_of_design(*clocked, options, most_ports, stop);
     } catch (const NoFit &) {
     }
   }
   throw *no_fit;
+}
+
+} // namespace
+
+bool is_verilog(const std::string &path) { return ends_with(path, ".v") || ends_with(path, ".sv"); }
+
+std::vector<Chip> chips_of_verilog(const Options &options, Stop &stop) {
+  for (const std::string &file : options.files)
+    if (!is_verilog(file)) throw Failure(file + ": only Verilog (.v, .sv) can be given in several files", USAGE);
+  Design as_written = join_arrays(read_verilog(options, Reads::as_written, stop));
+  try {
+    return chips_by_ports(as_written, options, stop);
+  } catch (Failure &failure) {
+    std::string choices = choices_of(as_written);
+    if (!choices.empty()) failure.message += "\nOr let one array stay a memory; the others become registers, which fits where they are small:" + choices;
+    throw;
+  }
 }

@@ -15,6 +15,12 @@ struct Word {
   std::vector<uint32_t> codes; // lowest bit first
 };
 
+// An array of the source: these bits of the memory's words.
+struct Array {
+  std::string name;
+  size_t low = 0, width = 0;
+};
+
 // a value, lowest bit first; x where there is none
 using Bits = std::vector<char>;
 

@@ -432,6 +432,23 @@ second='s/^endmodule/reg [1:0] small [0:1]; always @(posedge clock) if (we) smal
 says "two memories" 1 "chip: the design has 2 memories, and one can stay a memory. Say which; the others become registers, which fits where they are small:
   --memory mem   chip.v:2, 4 words of 4 bits
   --memory small   chip.v:12, 2 words of 2 bits" "$second"
+# arrays with as many words each are one memory, whose words are theirs side by side
+flags() { echo "11d; s/^endmodule/reg flag [0:3]; initial for (i = 0; i < 4; i = i + 1) flag[i] = 0; always @(posedge clock) if (we) flag[$1] <= d[0]; always @* assert ($2); endmodule/"; }
+says "two arrays at one index" 10 "chip.v: assert chip.v:11 is broken in frame 1 at the earliest" "$(flags a '!flag[a] || q != 9')"
+says "two arrays, repaired" 20 "chip.v: assert chip.v:11 holds in frames 0 to 4, by the solver's word" "$(flags a '!flag[a] || q[0]')"
+says "one of them read elsewhere" 20 "chip.v: assert chip.v:11 holds in frames 0 to 4, by the solver's word" "$(flags a '!flag[b] || a != b || q[0]')"
+says "one of them read elsewhere, with a fault" 10 "chip.v: assert chip.v:11 is broken in frame 2 at the earliest" "$(flags a '!flag[b] || q[0]')"
+says "one of them written elsewhere" 1 "chip.v:2: memory mem and flag (4 words of 5 bits) is written at two addresses in one frame, and a second write port is not built.
+Write one word in a step of the clock.
+Or let one array stay a memory; the others become registers, which fits where they are small:
+  --memory mem   4 words of 4 bits
+  --memory flag   4 words of 1 bits" "$(flags b '!flag[a] || q[0]')"
+says "one of them, as it says" 10 "chip.v: assert chip.v:11 is broken in frame 2 at the earliest" "$(flags b '!flag[a] || q[0]')" --memory mem
+says "both begin unknown" 10 "chip.v: assert chip.v:11 is broken in frame 0 at the earliest
+chip.v: assert chip.v:11: confirmed by iverilog on the original files" "$(flags a '!flag[a] || q != 9')" --start unknown --confirm
+says "one of them begins unknown" 1 "memory mem and flag (chip.v:2) begins with words of which some bits are given and others are unknown" "4s/.*//; $(flags a '!flag[a] || q[0]')"
+printf '!flag[@] | mem[@][0]\n' > "$work/files/arrays.facts"
+says "a fact about two arrays" 20 "chip.v: assert chip.v:11 holds in every frame, certified" "$(flags a '!flag[a] || q[0]')" --prove --invariant arrays.facts
 says "one of them registers" 10 "chip.v: assert chip.v:11 is broken in frame 2 at the earliest
 chip.v: assert chip.v:12 is broken in frame 2 at the earliest" "$second" --memory mem
 says "a memory that is none" 1 "--memory none: the design has no memory of this name" "$second" --memory none
@@ -559,7 +576,7 @@ run --json --names two.names two.sheet
 check "JSON of a port that only writes" same "1 0 object of 3" "$(echo $(for at in address write second; do value chips 0 properties 0 run 1 memory $at; done))"
 check "JSON of a port that only writes: it reads nothing" [ -z "$(value chips 0 properties 0 run 1 memory read)" ]
 folder=$designs run --json -k 3 histogram.v
-check "JSON of a design" same "20 counts 3 3 0 assert holds histogram.v:24 cover reached" \
+check "JSON of a design" same "20 counts and seen 3 4 0 assert holds histogram.v:24 cover reached" \
   "$(echo $(value status; value chips 0 memory name; value chips 0 memory address_bits; value chips 0 memory data_bits; value chips 0 memory start
     for at in kind verdict source; do value chips 0 properties 0 $at; done; for at in kind verdict; do value chips 0 properties 1 $at; done))"
 
