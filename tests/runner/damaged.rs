@@ -3,12 +3,9 @@
 use super::process::Program;
 use super::reference::check_examples::{accepted, input, of_sizes, FULL_RUN, RICH};
 use super::reference::check_ports::{
-    largest_two_port_sheet, two_of_sizes, two_port_length_rows, two_port_sheet_rows,
-    CONSTANT_READS, TWO_RICH,
+    largest_two_port_sheet, two_of_sizes, CONSTANT_READS, TWO_RICH,
 };
-use super::reference::check_refusals::{
-    field_and_letter_rows, input_rows, largest_sheet, length_rows, short_sheet_rows, text_fits, Row,
-};
+use super::reference::check_refusals::{input_rows, largest_sheet, text_fits};
 use super::reference::netlist::{Kind, Netlist};
 use super::reference::random::{
     tiny_netlist, tiny_two_ports, wide_netlist, wide_two_ports, Random,
@@ -17,18 +14,7 @@ use super::reference::sheet::{
     expand, write_depth, write_sheet, DEPTH_LINE_BYTES, FIELD_BYTES, LINE_BYTES, MAX_SHEET_BYTES,
 };
 use super::reference::Tally;
-
-/// The second implementation's rows of sheets of both kinds.
-pub fn sheet_rows() -> Vec<Row> {
-    [
-        field_and_letter_rows(),
-        short_sheet_rows(),
-        length_rows(),
-        two_port_sheet_rows(),
-        two_port_length_rows(),
-    ]
-    .concat()
-}
+use super::rows::sheet_rows;
 
 /// The second implementation's tables: the verdict that was written down, and its whole text.
 pub fn tables(program: &Program, tally: &mut Tally) {

@@ -2,7 +2,7 @@
 //! from texts that are imported too. What a file means, the second implementation decodes.
 
 use super::calls::{differ, record_rows};
-use super::damaged::sheet_rows;
+use super::rows::sheet_rows;
 use super::exports::{import, Answer, Lists};
 use super::mutate::{netlist, wide, LIMITS};
 use super::reference::aiger_binary::decode;

@@ -2,7 +2,7 @@
 
 use std::process::Stdio;
 
-use super::damaged::sheet_rows;
+use super::rows::sheet_rows;
 use super::mutate::sheet;
 use super::process::{collect, shown, start, Program};
 use super::reference::check_examples::{FULL_RUN, RICH};

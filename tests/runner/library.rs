@@ -30,6 +30,7 @@ mod reads;
 mod reference;
 mod refutation;
 mod replay_calls;
+mod rows;
 mod sources;
 mod written_sheets;
 

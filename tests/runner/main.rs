@@ -19,6 +19,7 @@ mod page;
 mod process;
 mod reference;
 mod replays;
+mod rows;
 mod texts;
 mod two_faults;
 

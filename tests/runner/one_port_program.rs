@@ -1,6 +1,6 @@
 //! The program `one_port`: it prints the sheet or the refusal that the second implementation makes of a file.
 
-use super::damaged::sheet_rows;
+use super::rows::sheet_rows;
 use super::faults;
 use super::memory::VALGRIND;
 use super::mutate::{sheet, unused};

@@ -2,7 +2,7 @@
 //! tests; the runs of both sheets stepped side by side, and the clauses of both solved.
 
 use super::calls::{differ, order_of};
-use super::damaged::sheet_rows;
+use super::rows::sheet_rows;
 use super::exports::{one_port as call, parameters, read, Answer, Lists};
 use super::mutate::{netlist, sheet, unused, wide};
 use super::reference::check_refusals::{verdict, Verdict};

@@ -4,7 +4,7 @@
 use std::collections::BTreeMap;
 
 use super::calls::differ;
-use super::damaged::sheet_rows;
+use super::rows::sheet_rows;
 use super::exports::{next_line, read, Answer, Line};
 use super::mutate;
 use super::reference::check_examples::accepted;
@@ -12,7 +12,7 @@ use super::reference::check_ports::{two_port_sheet_rows, two_rich, CONSTANT_READ
 use super::reference::check_refusals::{
     field_and_letter_rows, short_sheet_rows, verdict, Verdict, ACCEPTED, ROOMS,
 };
-use super::reference::netlist::{Gate, Kind, Latch, Netlist};
+use super::reference::netlist::{Kind, Latch, Netlist};
 use super::reference::random::{damaged_record, damaged_sheet, tiny_two_ports, Random};
 use super::reference::refusal::{Refusal, MEMORY_LOOP, MISPRINT, NO_ROOM, OUT_OF_ORDER, RAGGED, SIZE, TIED_ADDRESS};
 use super::reference::sheet::{expand, read_line, read_sheet, write_sheet, LINE_BYTES};

@@ -5,7 +5,7 @@ use std::fs;
 use std::path::{Path, PathBuf};
 use std::process::Command;
 
-use super::damaged::sheet_rows;
+use super::rows::sheet_rows;
 use super::mutate::draft;
 use super::process::{shown, Program};
 use super::reference::agreement::{agrees, feeds_of_model};

@@ -2,7 +2,7 @@
 //! which is read is written as it was, and one that is written is read as the record.
 
 use super::calls::{differ, record_rows};
-use super::damaged::sheet_rows;
+use super::rows::sheet_rows;
 use super::exports::{read, Answer, Lists};
 use super::mutate::{netlist, wide, LIMITS};
 use super::reference::check_examples::{accepted, FULL_RUN, RICH};
