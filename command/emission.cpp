@@ -228,7 +228,8 @@ Emission emit_in_phases(const Aig &aig, const Memory &memory, const std::vector<
 }
 
 Emission emit_cone(Aig &aig, const Memory &memory, const std::vector<Lit> &seen, const std::vector<Lit> &watched, const Start &start, Stop &stop) {
-  std::vector<Lit> roots = seen;
+  std::vector<Lit> roots; // what is asked about as a record has it: true where it is not seen
+  for (Lit each : seen) roots.push_back(each ^ 1);
   roots.insert(roots.end(), watched.begin(), watched.end());
   Parts parts = parts_of(aig, memory, roots);
   Begins begins = begins_as(memory, parts.cone.data_bits, start);
@@ -296,7 +297,7 @@ Emission emit_cone(Aig &aig, const Memory &memory, const std::vector<Lit> &seen,
     net.initial_word = begins.word;
   }
   show_ports(made, parts.memory);
-  for (size_t at = 0; at < seen.size(); at++) made.seen.push_back(made.code(roots[at]));
+  for (size_t at = 0; at < seen.size(); at++) made.seen.push_back(made.code(roots[at]) ^ 1);
   return made;
 }
 
