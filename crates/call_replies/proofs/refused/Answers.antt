@@ -1,0 +1,9 @@
+-- `call_replies::refused` meets its contract: it is the definition.
+
+use borrow.Author.Rules.{rules}
+use Rattle.refusals.specs.Slices.{with_count}
+use Rattle.call_replies.proofs.refused.Goals as goal
+
+pub returns : goal.returns
+unfolding with_count
+returns c = rw c.number.ensures

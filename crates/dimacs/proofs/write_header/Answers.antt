@@ -1,0 +1,79 @@
+-- `dimacs::write_header` meets its contract: the words, the variables and the clauses, one behind the other.
+
+use Prim.Native.Nat.{ℕ, ◌+◌, ◌-◌, ◌≤◌}
+use mathlib.Core.List.{List, [], ◌∷◌, ◌++◌}
+use native.Mathlib.Omega.{arith}
+use borrow.Author.Rules.{rules}
+use borrow.Rule.Slice.PartMut.{put_mid}
+use lib.ListN.{length}
+use Rattle.decimal.specs.Digits.{digits, space, line_feed}
+use Rattle.model.specs.Wrote.{Wrote}
+use Rattle.model.proofs.Wrote.{wrote_then}
+use Rattle.dimacs.specs.Text.{problem, header_text}
+use Rattle.text_writer.proofs.Writing.{front-room, behind-within, behind-room}
+use Rattle.dimacs.proofs.write_header.Goals as goal
+use Rattle.dimacs.proofs.write_header.Goals.{After-write_ended, Start}
+
+-- the second and the third part of the header
+abbrev variables : tie.Start → List ℕ
+variables c = digits c.args.variables ++ space ∷ []
+
+abbrev clauses : tie.Start → List ℕ
+clauses c = digits c.args.clauses ++ line_feed ∷ []
+
+abbrev old : tie.Start → List ℕ
+old c = c.args.out.now
+
+-- there is room for all, and for the first two
+room : (c : Start) → length (problem ++ variables c ++ clauses c) ≤ length (old c)
+unfolding header_text
+room c = c.requires
+
+room-first : (c : Start) → length (problem ++ variables c) ≤ length (old c)
+room-first c = front-room (problem ++ variables c) (clauses c) (length (old c)) (room c)
+
+-- the first two are written
+both :
+    (c : After-write_ended) →
+    Wrote (problem ++ variables c⟨After-slice_known⟩) (old c⟨After-slice_known⟩)
+    (put_mid c.write_word-before.result (length c.write_word-before.new.out - c.write_word-before.result) c.write_word-before.new.out c.write_ended.new.out) (c.write_word-before.result + c.write_ended.result)
+both c =
+    let c.write_word-before = c.write_word-before in
+    wrote_then problem (variables c⟨After-slice_known⟩) (old c⟨After-slice_known⟩) c.write_word-before.new.out c.write_ended.new.out c.write_word-before.result c.write_ended.result c.write_word-before.ensures c.write_ended.ensures
+
+pub write_word-before-requires : goal.write_word-before-requires
+write_word-before-requires c =
+    front-room problem (variables (goal.at.write_word-before-requires c).After-slice_known-1) (length (old (goal.at.write_word-before-requires c).After-slice_known-1)) (room-first (goal.at.write_word-before-requires c).After-slice_known-1)
+
+pub slice_bounds-write_ended-count : goal.slice_bounds-write_ended-count
+slice_bounds-write_ended-count c =
+    behind-within problem (variables (goal.at.slice_bounds-write_ended-count c).After-slice_known-1) (old (goal.at.slice_bounds-write_ended-count c).After-slice_known-1) c.write_word-before.new.out c.write_word-before.result c.write_word-before.ensures (room-first (goal.at.slice_bounds-write_ended-count c).After-slice_known-1)
+
+pub slice_bounds-write_ended-start : goal.slice_bounds-write_ended-start
+slice_bounds-write_ended-start c = omega (arith, sub-write-ended (goal.at.slice_bounds-write_ended-start c).After-slice_known-2-1)
+
+pub write_ended-requires : goal.write_ended-requires
+write_ended-requires c =
+    behind-room problem (variables (goal.at.write_ended-requires c).After-slice_known-1) (old (goal.at.write_ended-requires c).After-slice_known-1) c.write_word-before.new.out c.write_word-before.result c.write_word-before.ensures (room-first (goal.at.write_ended-requires c).After-slice_known-1)
+
+pub overflow_add-middle : goal.overflow_add-middle
+overflow_add-middle c = omega (arith, (both (goal.at.overflow_add-middle c).After-write_ended).counted, room-first (goal.at.overflow_add-middle c).After-slice_known-1)
+
+pub slice_bounds-write_ended-count-2 : goal.slice_bounds-write_ended-count-2
+slice_bounds-write_ended-count-2 c =
+    behind-within (problem ++ variables (goal.at.slice_bounds-write_ended-count-2 c).After-slice_known-1) (clauses (goal.at.slice_bounds-write_ended-count-2 c).After-slice_known-1) (old (goal.at.slice_bounds-write_ended-count-2 c).After-slice_known-1) _ _ (both (goal.at.slice_bounds-write_ended-count-2 c).After-write_ended) (room (goal.at.slice_bounds-write_ended-count-2 c).After-slice_known-1)
+
+pub slice_bounds-write_ended-start-2 : goal.slice_bounds-write_ended-start-2
+slice_bounds-write_ended-start-2 c = omega (arith, sub-write-ended-2 (goal.at.slice_bounds-write_ended-start-2 c).After-slice_known-3-1)
+
+pub write_ended-requires-2 : goal.write_ended-requires-2
+write_ended-requires-2 c =
+    behind-room (problem ++ variables (goal.at.write_ended-requires-2 c).After-slice_known-1) (clauses (goal.at.write_ended-requires-2 c).After-slice_known-1) (old (goal.at.write_ended-requires-2 c).After-slice_known-1) _ _ (both (goal.at.write_ended-requires-2 c).After-write_ended) (room (goal.at.write_ended-requires-2 c).After-slice_known-1)
+
+pub returns : goal.returns
+unfolding header_text
+returns c =
+    wrote_then (problem ++ variables (goal.at.returns c).After-slice_known-1) (clauses (goal.at.returns c).After-slice_known-1) (old (goal.at.returns c).After-slice_known-1) _ c.write_ended-2.new.out _ c.write_ended-2.result (both (goal.at.returns c).After-write_ended) c.write_ended-2.ensures
+
+pub overflow_add-result : goal.overflow_add-result
+overflow_add-result c = omega (arith, (returns (goal.at.overflow_add-result c).After-slice_known-4-1).counted, c.requires)

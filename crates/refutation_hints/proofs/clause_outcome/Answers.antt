@@ -1,0 +1,106 @@
+-- `refutation_hints::clause_outcome` meets its contract. The outcome of what was passed, joined with that of what is left, is that of the clause.
+
+use Prim.Native.Nat.{ℕ, ◌+◌, ◌-◌, ◌*◌, ◌/◌}
+use mathlib.Core.Path.{◌≡◌, sym, ap, ◌∙◌}
+use mathlib.Core.Bool.{cond}
+use mathlib.Core.List.{List}
+use native.Mathlib.Omega.{arith}
+use borrow.Author.Rules.{rules}
+use borrow.Author.Tests.{lt-ltb, le-ltb}
+use lib.IntN.{ℤ, pos}
+use lib.ListN.{length, get_or, drop}
+use Rattle.model.specs.Numbers.{clauses_in}
+use Rattle.refutation_hints.specs.Propagation.{first_outcome}
+use Rattle.refutation_hints.specs.Marks.{slot_of, false_in, code_of, joined_code}
+use Rattle.refutation_hints.proofs.Marks.{slot_read, slot-least, zero-joined_code, joined_code-zero, one-joined_code, joined_code-one, joined_code-joined_code}
+use Rattle.refutation_hints.proofs.Outcomes.{outcome-end, outcome-none, outcome-here}
+use Rattle.refutation_hints.proofs.clause_outcome.Invariants.{code_in}
+use Rattle.refutation_hints.proofs.clause_outcome.Goals as goal
+
+-- what is read at the loop's place
+read : (c : tie.After-slot invariant-loop decreases-loop) →
+    c.slot.result ≡ slot_of (get_or c.before.before.before.before.before.args.known.now c.before.before.before.loop.i (pos 0))
+read c =
+    c.slot.ensures
+    ∙ slot_read c.before.before.before.before.before.args.known.now c.before.before.before.loop.i c.before.slot-arg.given
+
+-- what is left of the clause, where its number has a mark
+left : (c : tie.Else2 invariant-loop decreases-loop) →
+    let a = c.before.before.before.before.before.before.before.args in
+    let i = c.before.before.before.before.before.loop.i in
+    let s = c.before.before.slot.result in
+    code_in a.marks.now a.turn (drop i a.known.now)
+    ≡ joined_code (cond (false_in a.marks.now a.turn (get_or a.known.now i (pos 0))) 0 s) (code_in a.marks.now a.turn (drop (i + 1) a.known.now))
+left c =
+    let a = c.before.before.before.before.before.before.before.args in
+    let i = c.before.before.before.before.before.loop.i in
+    let is = read c.before.before in
+    let here = outcome-here (length a.marks.now / 2) (false_in a.marks.now a.turn) a.known.now i
+    c.before.before.before.before.loop-test.true (rw is at c.before.if1.false) in
+    rw (is, here, lt-ltb (slot_of (get_or a.known.now i (pos 0))) (length a.marks.now / 2 * 2) (rw is at c.if2.false))
+
+-- and so with one number more
+next : (c : tie.After-join invariant-loop decreases-loop) →
+    let a = c.before.before.before.before.before.before.before.before.before.args in
+    let i = c.before.before.before.before.before.before.before.loop.i in
+    joined_code c.join.result (code_in a.marks.now a.turn (drop (i + 1) a.known.now))
+    ≡ code_in a.marks.now a.turn (drop a.place a.known.now)
+next c =
+    let a = c.before.before.before.before.before.before.before.before.before.args in
+    let at = c.before.before.before.before.before.before.before.loop in
+    let rest = code_in a.marks.now a.turn (drop (at.i + 1) a.known.now) in
+    let one = rw (read c.before.before.before.before) at c.join.ensures in
+    let more = rw (read c.before.before.before.before) at (left c.before.before) in
+    ap (λ (x : ℕ). joined_code x rest) one
+    ∙ sym (joined_code-joined_code at.outcome _ rest)
+    ∙ ap (joined_code at.outcome) (sym more)
+    ∙ at.invariant
+
+pub loop-i-init : goal.loop-i-init
+loop-i-init c = zero-joined_code (code_in c.args.marks.now c.args.turn (drop c.args.place c.args.known.now))
+
+pub bounds-known-i : goal.bounds-known-i
+bounds-known-i c = omega arith
+
+pub returns-then-s-eq0 : goal.returns-then-s-eq0
+returns-then-s-eq0 c =
+    let ends = outcome-end (length c.args.marks.now / 2) (false_in c.args.marks.now c.args.turn) c.args.known.now c.loop-i.i
+    c.loop-i-test.true (rw (read (goal.at.returns-then-s-eq0 c).After-slot-s) c.loop-i c.if-s-eq0.true) in
+    sym (joined_code-zero c.loop-i.outcome) ∙ ap (joined_code c.loop-i.outcome) (sym ends) ∙ c.loop-i.invariant
+
+pub returns-then-limit-s : goal.returns-then-limit-s
+returns-then-limit-s c =
+    let is = read (goal.at.returns-then-limit-s c).After-slot-s in
+    let here = outcome-here (length c.args.marks.now / 2) (false_in c.args.marks.now c.args.turn) c.args.known.now c.loop-i.i
+    c.loop-i-test.true (rw is c.loop-i c.if-s-eq0.false) in
+    let past = rw (le-ltb (slot_of (get_or c.args.known.now c.loop-i.i (pos 0))) (length c.args.marks.now / 2 * 2) (rw is c.loop-i c.if-limit-s.true)) c.loop-i here in
+    sym (joined_code-one c.loop-i.outcome) ∙ ap (joined_code c.loop-i.outcome) (sym past) ∙ c.loop-i.invariant
+
+pub bounds-marks-s : goal.bounds-marks-s
+bounds-marks-s c = omega arith
+
+pub join-outcome-requires : goal.join-outcome-requires
+join-outcome-requires c =
+    let is = read (goal.at.join-outcome-requires c).After-slot-s in
+    let z = get_or c.args.known.now c.loop-i.i (pos 0) in
+    rw is (slot-least z (rw is at c.if-s-eq0.false))
+
+pub returns-then-outcome-eq1 : goal.returns-then-outcome-eq1
+returns-then-outcome-eq1 c =
+    let i = c.loop-i.i in
+    sym (one-joined_code (code_in c.args.marks.now c.args.turn (drop (i + 1) c.args.known.now))) ∙ rw c.if-outcome-eq1.true at (next (goal.at.returns-then-outcome-eq1 c).After-join-outcome)
+
+pub overflow_add-i : goal.overflow_add-i
+overflow_add-i c = omega arith
+
+pub loop-i-smaller : goal.loop-i-smaller
+loop-i-smaller c = omega arith
+
+pub loop-i-preserved : goal.loop-i-preserved
+loop-i-preserved c = next (goal.at.loop-i-preserved c).After-join-outcome
+
+pub returns : goal.returns
+returns c =
+    sym (joined_code-one c.loop-i.outcome)
+    ∙ ap (joined_code c.loop-i.outcome) (sym (outcome-none (length c.args.marks.now / 2) (false_in c.args.marks.now c.args.turn) c.args.known.now c.loop-i.i c.loop-i-test.false))
+    ∙ c.loop-i.invariant

@@ -1,0 +1,15 @@
+-- `refutation_hints::clear` meets its contract. The loop has made every mark passed 0.
+
+use Prim.Native.Nat.{ℕ, ◌-◌, ◌≤◌, ◌<◌}
+use mathlib.Core.Path.{◌≡◌}
+use native.Mathlib.Omega.{arith}
+use borrow.Author.Rules.{rules}
+use lib.ListN.{length, get_or, length-set}
+use Rattle.refutation_hints.proofs.Marks.{cleared_more, cleared-all}
+use Rattle.refutation_hints.proofs.clear.Given as goal
+
+abbrev pub invariant-loop-i : goal.invariant-loop-i
+invariant-loop-i l = (l.i ≤ length l.marks) × (length l.marks ≡ length l.initial.marks) × ((s : ℕ) → s < l.i → get_or l.marks s 0 ≡ 0)
+
+abbrev pub decreases-loop-i : goal.decreases-loop-i
+decreases-loop-i l = length l.marks - l.i
