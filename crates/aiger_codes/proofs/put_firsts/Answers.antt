@@ -64,4 +64,4 @@ loop-x-preserved c =
 pub returns : goal.returns
 returns c =
     let all : c.loop-x.x ≡ c.args.count = omega arith in
-    rw (← all) (c.loop-x.invariant.1.0, c.loop-x.invariant.1.1)
+    rw (← all) (record { next = c.loop-x.invariant.1.0; table = c.loop-x.invariant.1.1 })

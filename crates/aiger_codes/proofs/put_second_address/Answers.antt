@@ -9,9 +9,10 @@ use Rattle.netlist.specs.declared.Netlist.{Netlist}
 use Rattle.aiger_codes.specs.Outputs.{output_code, Coded, with_second}
 use Rattle.aiger_codes.proofs.Outputs.{coded_none, coded-next, output-at}
 use Rattle.aiger_codes.proofs.put_second_address.Goals as goal
+use Rattle.aiger_codes.proofs.put_second_address.Goals.{Start}
 
 -- there are at most twelve
-few : (c : tie.Start invariant-loop decreases-loop) → c.args.net.second_port * c.args.net.m ≤ 12
+few : (c : Start) → c.args.net.second_port * c.args.net.m ≤ 12
 few c =
     let net = c.args.net in
     let most : net.second_port * net.m ≤ 1 * net.m = mul-le-mul_right net.m c.requires.2 in

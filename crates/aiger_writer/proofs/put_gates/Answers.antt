@@ -13,17 +13,16 @@ use Rattle.model.specs.Wrote.{Wrote}
 use Rattle.model.proofs.Wrote.{wrote_then}
 use Rattle.aiger_writer.specs.Parts.{gate_text_at}
 use Rattle.aiger_writer.proofs.put_gates.Goals as goal
+use Rattle.aiger_writer.proofs.put_gates.Goals.{In-loop-g}
 
 pub loop-g-init : goal.loop-g-init
 unfolding gather
 loop-g-init c = (omega arith, refl, omega arith, record { counted = refl; leaves = refl })
 
 -- there is room for one more
-room : (c : tie.In-loop invariant-loop decreases-loop) → c.before.loop.at + 4 ≤ length c.before.loop.out
+room : (c : In-loop-g) → c.loop-g.at + 4 ≤ length c.loop-g.out
 room c =
-    let at = c.before.loop in
-    let start = c.before.before.before in
-    omega (arith, at.invariant.1, at.invariant.2, start.requires.1)
+    omega (arith, c.loop-g.invariant.1, c.loop-g.invariant.2, c.requires.1)
 
 pub slice_bounds-put_gate_at-count : goal.slice_bounds-put_gate_at-count
 slice_bounds-put_gate_at-count c = omega (arith, room (goal.at.slice_bounds-put_gate_at-count c).In-loop-g)

@@ -13,17 +13,16 @@ use Rattle.model.specs.Wrote.{Wrote}
 use Rattle.model.proofs.Wrote.{wrote_then}
 use Rattle.aiger_writer.specs.Parts.{next_text}
 use Rattle.aiger_writer.proofs.put_nexts.Goals as goal
+use Rattle.aiger_writer.proofs.put_nexts.Goals.{In-loop-l}
 
 pub loop-l-init : goal.loop-l-init
 unfolding gather
 loop-l-init c = (omega arith, refl, omega arith, record { counted = refl; leaves = refl })
 
 -- there is room for one more
-room : (c : tie.In-loop invariant-loop decreases-loop) → c.before.loop.at + 5 ≤ length c.before.loop.out
+room : (c : In-loop-l) → c.loop-l.at + 5 ≤ length c.loop-l.out
 room c =
-    let at = c.before.loop in
-    let start = c.before.before.before in
-    omega (arith, at.invariant.1, at.invariant.2, start.requires.3)
+    omega (arith, c.loop-l.invariant.1, c.loop-l.invariant.2, c.requires.3)
 
 pub slice_bounds-put_next-count : goal.slice_bounds-put_next-count
 slice_bounds-put_next-count c = omega (arith, room (goal.at.slice_bounds-put_next-count c).In-loop-l)

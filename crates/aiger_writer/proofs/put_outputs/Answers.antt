@@ -14,6 +14,7 @@ use Rattle.model.proofs.Wrote.{wrote_then}
 use Rattle.netlist.specs.NetOf.{net_of, alone}
 use Rattle.aiger_writer.specs.Parts.{output_text}
 use Rattle.aiger_writer.proofs.put_outputs.Goals as goal
+use Rattle.aiger_writer.proofs.put_outputs.Goals.{In-loop-o}
 
 pub overflow_add-count : goal.overflow_add-count
 unfolding net_of
@@ -28,11 +29,9 @@ unfolding gather
 loop-o-init c = (omega arith, refl, omega arith, record { counted = refl; leaves = refl })
 
 -- there is room for one more
-room : (c : tie.In-loop invariant-loop decreases-loop) → c.before.loop.at + 5 ≤ length c.before.loop.out
+room : (c : In-loop-o) → c.loop-o.at + 5 ≤ length c.loop-o.out
 room c =
-    let at = c.before.loop in
-    let start = c.before.before.before.before in
-    omega (arith, at.invariant.1, at.invariant.2, start.requires.3)
+    omega (arith, c.loop-o.invariant.1, c.loop-o.invariant.2, c.requires.3)
 
 pub slice_bounds-put_output-count : goal.slice_bounds-put_output-count
 slice_bounds-put_output-count c = omega (arith, room (goal.at.slice_bounds-put_output-count c).In-loop-o)

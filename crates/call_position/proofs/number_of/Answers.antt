@@ -22,4 +22,4 @@ unfolding literal_of
 returns-in-Number c =
     let z = c.in-Number.l.0 in
     let is = rw c.in-Number.is at c.requires in
-    rw (to_z-of_z w32 z (fits z is.bounded), c.in-Number.is) (sym (literal_number-at z), is.bounded)
+    rw (to_z-of_z w32 z (fits z is.bounded), c.in-Number.is) (record { number = sym (literal_number-at z); bounded = is.bounded })

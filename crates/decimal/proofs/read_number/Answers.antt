@@ -5,7 +5,6 @@ use Prim.Native.Nat.{ℕ, ◌-◌, ◌^◌, ◌≤◌, ◌<◌}
 use mathlib.Core.Path.{◌≡◌, refl, sym, ap, ◌∙◌}
 use mathlib.Core.Bool.{true, false}
 use mathlib.Core.List.{List}
-use mathlib.Core.Logic.{⊎_elim}
 use native.Mathlib.Nat.{pow-suc}
 use native.Mathlib.Numerals.{add-one}
 use native.Mathlib.Omega.{arith}
@@ -14,6 +13,7 @@ use Rattle.decimal.specs.TextValue.{value_after}
 use Rattle.decimal.specs.declared.Number.TheVariants.{Value}
 use Rattle.decimal.proofs.TextValue.{all_digits, is_digit, number_in-long, number_in-empty, number_in-zero, number_in-no-digit, number_in-above, number_in-value, value_after-next, value_after-end, all_digits-next, all_digits-end, is_digit-below, is_digit-above, is_digit-inside, ten-digits}
 use Rattle.decimal.proofs.read_number.Goals as goal
+use Rattle.decimal.proofs.read_number.Goals.{then-text-eq48+else-text-gt1, else-text-eq48}
 
 -- a byte at i that is no digit
 stopped :
@@ -96,5 +96,5 @@ returns c =
     ∙ sym
     (number_in-value text (omega arith)
     (sym c.loop-i.invariant.3 ∙ all_digits-end text c.loop-i.i (omega arith))
-    (λ (l : 1 < length text) (z : get_or text 0 0 ≡ 48). ⊎_elim (λ w. omega arith) (λ w. w.left z) c.if-text-eq48.branch-raw)
+    (λ (l : 1 < length text) (z : get_or text 0 0 ≡ 48). elim c.if-text-eq48.branch [ then-text-eq48+else-text-gt1 w ↦ omega arith | else-text-eq48 w ↦ w.if-text-eq48.false z ])
     (omega arith))

@@ -16,18 +16,18 @@ use Rattle.decimal.proofs.Signed.{read_back}
 use Rattle.dimacs.specs.Text.{behind, number_text, clause_text}
 use Rattle.dimacs.proofs.Text.{clause_text-next, clause_text-room}
 use Rattle.dimacs.proofs.clauses_fit.Goals as goal
+use Rattle.dimacs.proofs.clauses_fit.Goals.{After-number_length-need}
 
 -- what the number at i needs
 need :
-    (c : tie.After-number-length invariant-loop decreases-loop) →
-    let at = c.before.before.before.loop in
-    c.number-length.result + 1 ≡ length (number_text (get_or c.before.before.before.before.args.numbers.now at.i (pos 0)))
+    (c : After-number_length-need) →
+    c.number_length-need.result + 1 ≡ length (number_text (get_or c.args.numbers.now c.loop-i.i (pos 0)))
 need c =
-    let at = c.before.before.before.loop in
-    let numbers : List ℤ = c.before.before.before.before.args.numbers.now in
-    let z : ℤ = get_or numbers at.i (pos 0) in
-    let counted : c.number-length.result ≡ length (signed_digits z) =
-    c.number-length.ensures.0 ∙ ap (λ (z : ℤ). length (signed_digits z)) (read_back (get_or numbers at.i (pos 0)) (record { sfits = c.before.number-length-arg.given })) in
+    let c.loop-i = c.loop-i in
+    let numbers : List ℤ = c.args.numbers.now in
+    let z : ℤ = get_or numbers c.loop-i.i (pos 0) in
+    let counted : c.number_length-need.result ≡ length (signed_digits z) =
+    c.number_length-need.ensures.0 ∙ ap (λ (z : ℤ). length (signed_digits z)) (read_back (get_or numbers c.loop-i.i (pos 0)) (record { sfits = c.number_length-arg-1.given })) in
     omega (arith, counted, length-append (signed_digits z) (behind z ∷ []))
 
 pub loop-i-init : goal.loop-i-init

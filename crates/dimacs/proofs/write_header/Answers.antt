@@ -15,13 +15,13 @@ use Rattle.dimacs.proofs.write_header.Goals as goal
 use Rattle.dimacs.proofs.write_header.Goals.{After-write_ended, Start}
 
 -- the second and the third part of the header
-abbrev variables : tie.Start → List ℕ
+abbrev variables : (c : Start) → List ℕ
 variables c = digits c.args.variables ++ space ∷ []
 
-abbrev clauses : tie.Start → List ℕ
+abbrev clauses : (c : Start) → List ℕ
 clauses c = digits c.args.clauses ++ line_feed ∷ []
 
-abbrev old : tie.Start → List ℕ
+abbrev old : (c : Start) → List ℕ
 old c = c.args.out.now
 
 -- there is room for all, and for the first two

@@ -15,6 +15,7 @@ use Rattle.decimal.proofs.Signed.{read_back}
 use Rattle.dimacs.specs.Text.{number_text, clause_text}
 use Rattle.dimacs.proofs.Text.{clause_text-next, clause_text-room}
 use Rattle.dimacs.proofs.write_numbers.Goals as goal
+use Rattle.dimacs.proofs.write_numbers.Goals.{After-write_number-at, In-loop-i}
 
 pub loop-i-init : goal.loop-i-init
 unfolding clause_text
@@ -22,29 +23,22 @@ loop-i-init c = (omega arith, refl, record { counted = refl; leaves = refl })
 
 -- there is room for the number at i
 room :
-    (c : tie.In-loop invariant-loop decreases-loop) →
-    c.before.loop.at + length (number_text (get_or c.before.before.before.before.args.numbers.now c.before.loop.i (pos 0))) ≤ length c.before.loop.out
+    (c : In-loop-i) →
+    c.loop-i.at + length (number_text (get_or c.args.numbers.now c.loop-i.i (pos 0))) ≤ length c.loop-i.out
 room c =
-    let start = c.before.before.before.before in
-    let numbers : List ℤ = start.args.numbers.now in
-    let at = c.before.loop in
-    omega (arith, start.requires.1, at.invariant.1, at.invariant.2.counted, clause_text-room numbers at.i (omega arith))
+    let numbers : List ℤ = c.args.numbers.now in
+    omega (arith, c.requires.1, c.loop-i.invariant.1, c.loop-i.invariant.2.counted, clause_text-room numbers c.loop-i.i (omega arith))
 
 -- it is written behind the others
 next :
-    (c : tie.After-write-number invariant-loop decreases-loop) →
-    let turn = c.before.before.before in
-    let at = turn.before.loop in
-    let start = turn.before.before.before.before in
-    Wrote (clause_text (take at.i start.args.numbers.now) ++ number_text (get_or start.args.numbers.now at.i (pos 0))) start.args.out.now c.write-number.new.0 c.write-number.result
+    (c : After-write_number-at) →
+    Wrote (clause_text (take c.loop-i.i c.args.numbers.now) ++ number_text (get_or c.args.numbers.now c.loop-i.i (pos 0))) c.args.out.now c.write_number-at.new.out c.write_number-at.result
 next c =
-    let turn = c.before.before.before in
-    let at = turn.before.loop in
-    let start = turn.before.before.before.before in
-    let numbers : List ℤ = start.args.numbers.now in
-    let told : Extends (number_text (get_or numbers at.i (pos 0))) at.at at.out c.write-number.new.0 c.write-number.result =
-    rw (read_back (get_or numbers at.i (pos 0)) (record { sfits = c.before.write-number-arg2.given })) at c.write-number.ensures in
-    told (clause_text (take at.i numbers)) start.args.out.now at.invariant.2
+    let c.loop-i = c.loop-i in
+    let numbers : List ℤ = c.args.numbers.now in
+    let told : Extends (number_text (get_or numbers c.loop-i.i (pos 0))) c.loop-i.at c.loop-i.out c.write_number-at.new.out c.write_number-at.result =
+    rw (read_back (get_or numbers c.loop-i.i (pos 0)) (record { sfits = c.write_number-arg-in-loop-i-1.given })) c.loop-i c.write_number-at.ensures in
+    told (clause_text (take c.loop-i.i numbers)) c.args.out.now c.loop-i.invariant.2
 
 pub bounds-numbers-i : goal.bounds-numbers-i
 bounds-numbers-i c = omega arith

@@ -16,13 +16,13 @@ use Rattle.dimacs.proofs.write_refusal.Goals as goal
 use Rattle.dimacs.proofs.write_refusal.Goals.{After-put_field, After-put_field-2, Start}
 
 -- the two fields, and what was there
-abbrev number : tie.Start → List ℕ
+abbrev number : (c : Start) → List ℕ
 number c = field c.args.number
 
-abbrev place : tie.Start → List ℕ
+abbrev place : (c : Start) → List ℕ
 place c = field c.args.place
 
-abbrev old : tie.Start → List ℕ
+abbrev old : (c : Start) → List ℕ
 old c = c.args.out.now
 
 -- there is room for all, for all but the line feed, and for the word and the number

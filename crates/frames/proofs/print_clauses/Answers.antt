@@ -21,6 +21,7 @@ use Rattle.program_output.specs.Pieces.{Continues}
 use Rattle.program_output.proofs.Pieces.{due-order_has}
 use Rattle.program_output.proofs.Printed.{taken-frames, PrintedSo, header-printed, piece-stands, piece-printed, all-printed}
 use Rattle.frames.proofs.print_clauses.Goals as goal
+use Rattle.frames.proofs.print_clauses.Goals.{After-print_groups-piece, In-Then}
 
 pub loop-next-init : goal.loop-next-init
 loop-next-init c =
@@ -35,10 +36,9 @@ loop-next-init c =
     )
 
 -- the group that comes next is due
-so_far : (c : tie.After-known-told invariant-loop decreases-loop) →
-    let a = c.before.before.before.before.before.before.before.before.before.before.args in let at = c.before.before.before.loop in
-    PrintedSo (frames_text a.input.now) (net_of a.taken.net a.latches.now a.gates.now) a.taken.depth at.sent (Then c.before.next.given.0.0)
-so_far c = rw c.before.next.given.1 at c.before.before.before.loop.invariant.3
+so_far : (c : In-Then) →
+    PrintedSo (frames_text c.args.input.now) (net_of c.args.taken.net c.args.latches.now c.args.gates.now) c.args.taken.depth c.loop-next.sent (Then c.in-Then.group)
+so_far c = rw c.in-Then.is c.loop-next c.loop-next.invariant.3
 
 pub print_groups-piece-requires : goal.print_groups-piece-requires
 print_groups-piece-requires c =
@@ -46,20 +46,19 @@ print_groups-piece-requires c =
     (rw taken.net-is taken.accepted, taken.depth-most, due-order_has (so_far (goal.at.print_groups-piece-requires c).In-Then).text-due, λ long. c.loop-next.invariant.2, omega (arith, c.loop-next.invariant.1), omega (arith, c.loop-next.invariant.0))
 
 -- the text is within its buffer
-module _ (c : tie.After-print-groups invariant-loop decreases-loop) where
-  within : c.print-groups.result.bytes ≤ length c.print-groups.new.0
-  within = omega (arith, c.print-groups.ensures.1.1.0, c.print-groups.auto.0)
+module _ (c : After-print_groups-piece) where
+  within : c.print_groups-piece.result.bytes ≤ length c.print_groups-piece.new.text
+  within = omega (arith, c.print_groups-piece.ensures.ends.1.0, c.print_groups-piece.auto.0)
 
   -- which is as long as it was
-  most : length (take c.print-groups.result.bytes c.print-groups.new.0) ≤ 131072
+  most : length (take c.print_groups-piece.result.bytes c.print_groups-piece.new.text) ≤ 131072
   most =
-      let counted : length (take c.print-groups.result.bytes c.print-groups.new.0) ≡ c.print-groups.result.bytes = length-take-le _ _ within in
-      omega (arith, counted, c.print-groups.ensures.1.1.0, c.before.before.before.before.before.before.before.loop.invariant.0)
+      let counted : length (take c.print_groups-piece.result.bytes c.print_groups-piece.new.text) ≡ c.print_groups-piece.result.bytes = length-take-le _ _ within in
+      omega (arith, counted, c.print_groups-piece.ensures.ends.1.0, c.loop-next.invariant.0)
 
   -- and the piece is the text that is next
-  continues : let a = c.before.before.before.before.before.before.before.before.before.before.before.before.before.before.args in
-      Continues (net_of a.taken.net a.latches.now a.gates.now) a.taken.depth (so_far c.before.before.before.before).due c.print-groups.new.0 c.print-groups.result
-  continues = c.print-groups.ensures.0 _ (so_far c.before.before.before.before).text-due
+  continues : Continues (net_of c.args.taken.net c.args.latches.now c.args.gates.now) c.args.taken.depth (so_far c⟨After-known_told⟩).due c.print_groups-piece.new.text c.print_groups-piece.result
+  continues = c.print_groups-piece.ensures.text _ (so_far c⟨After-known_told⟩).text-due
 
 pub slice_bounds-text-end : goal.slice_bounds-text-end
 slice_bounds-text-end c = within (goal.at.slice_bounds-text-end c).After-print_groups-piece

@@ -12,16 +12,16 @@ use lib.Seq.{take_all}
 use Rattle.model.specs.Numbers.{split_after, clauses_in}
 use Rattle.group_counts.proofs.Counted.{element-is, ends_next}
 use Rattle.group_counts.proofs.count_ends.Goals as goal
+use Rattle.group_counts.proofs.count_ends.Goals.{After-count_end-ends}
 
 -- what the number at i ends
 more :
-    (c : tie.After-count-end invariant-loop decreases-loop) →
-    let at = c.before.before.before.loop in
-    c.count-end.result ≡ length (clauses_in (get_or c.before.before.before.before.args.numbers.now at.i (pos 0) ∷ []))
+    (c : After-count_end-ends) →
+    c.count_end-ends.result ≡ length (clauses_in (get_or c.args.numbers.now c.loop-i.i (pos 0) ∷ []))
 more c =
-    let at = c.before.before.before.loop in
-    let numbers : List ℤ = c.before.before.before.before.args.numbers.now in
-    c.count-end.ensures.0 ∙ ap (λ (z : ℤ). length (clauses_in (z ∷ []))) (element-is numbers at.i c.before.count-end-arg.given)
+    let c.loop-i = c.loop-i in
+    let numbers : List ℤ = c.args.numbers.now in
+    c.count_end-ends.ensures.0 ∙ ap (λ (z : ℤ). length (clauses_in (z ∷ []))) (element-is numbers c.loop-i.i c.count_end-arg-1.given)
 
 pub loop-i-init : goal.loop-i-init
 unfolding clauses_in split_after

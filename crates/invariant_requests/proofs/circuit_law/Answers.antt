@@ -19,5 +19,5 @@ returns c =
       c.code_term-p.ensures,
       c.true_term-yes.ensures,
       c.false_term-no.ensures,
-      c.pre.1,
+      c.requires.1,
     )

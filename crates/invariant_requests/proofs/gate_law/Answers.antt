@@ -23,7 +23,7 @@ bounds-gates-at-then-g-net c =
 pub offset-wire-requires : goal.offset-wire-requires
 unfolding net_of
 offset-wire-requires c =
-    omega (arith, c.first_gate_wire.ensures, c.pre.0.wires-fit)
+    omega (arith, c.first_gate_wire.ensures, c.requires.0.wires-fit)
 
 pub returns-then-g-net : goal.returns-then-g-net
 unfolding gate_law net_of state_count
@@ -40,7 +40,7 @@ returns-then-g-net c =
       is,
       c.code_term-right.ensures,
       c.code_term-left.ensures,
-      c.pre.1,
+      c.requires.1,
       lt-ltb c.args.g c.args.net.gates c.if-g-net.taken,
     )
 

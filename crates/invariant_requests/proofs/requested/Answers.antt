@@ -60,7 +60,7 @@ unfolding requested
 returns-then-family-eq5 c =
     c.invariant_law.ensures
     ∙ rw (
-      c.pre.1 ∙ count-lists c.args.net c.args.latches.now c.args.gates.now,
+      c.requires.1 ∙ count-lists c.args.net c.args.latches.now c.args.gates.now,
       ne_eqb (c.args.request / 8) 0 c.if-family-eq0.left,
       ne_eqb (c.args.request / 8) 1 c.if-family-eq1.left,
       ne_eqb (c.args.request / 8) 2 c.if-family-eq2.left,

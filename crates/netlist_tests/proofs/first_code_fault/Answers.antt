@@ -12,6 +12,7 @@ use Rattle.netlist.proofs.NetOf.{line_at-lists}
 use Rattle.netlist.proofs.Places.{has-line_at}
 use Rattle.netlist_tests.proofs.Record.{PassedTo, passed-next, refused-next, passed-all}
 use Rattle.netlist_tests.proofs.first_code_fault.Goals as goal
+use Rattle.netlist_tests.proofs.first_code_fault.Goals.{After-code_fault}
 
 pub control_line-last-requires : goal.control_line-last-requires
 control_line-last-requires c = c.requires
@@ -34,12 +35,11 @@ code_fault-requires c = (
 )
 
 -- what the turn's call says of the line at the next place
-tested : (c : tie.After-code-fault invariant-loop decreases-loop) → code_fault (net_of c.before.before.before.before.before.args.net c.before.before.before.before.before.args.latches.now c.before.before.before.before.before.args.gates.now) (line_at (net_of c.before.before.before.before.before.args.net c.before.before.before.before.before.args.latches.now c.before.before.before.before.before.args.gates.now) (c.before.before.before.loop.place + 1)) ≡ c.code-fault.result
+tested : (c : After-code_fault) → code_fault (net_of c.args.net c.args.latches.now c.args.gates.now) (line_at (net_of c.args.net c.args.latches.now c.args.gates.now) (c.loop-place.place + 1)) ≡ c.code_fault.result
 tested c =
-    let a = c.before.before.before.before.before.args in
-    let d = net_of a.net a.latches.now a.gates.now in
-    ap (code_fault d) (sym (line_at-lists a.net a.latches.now a.gates.now (c.before.before.before.loop.place + 1)) ∙ sym c.before.line-at.ensures)
-    ∙ sym c.code-fault.ensures
+    let d = net_of c.args.net c.args.latches.now c.args.gates.now in
+    ap (code_fault d) (sym (line_at-lists c.args.net c.args.latches.now c.args.gates.now (c.loop-place.place + 1)) ∙ sym c.line_at-line.ensures)
+    ∙ sym c.code_fault.ensures
 
 pub returns-then-code_fault : goal.returns-then-code_fault
 unfolding net_of

@@ -17,6 +17,7 @@ use Rattle.netlist_tests.proofs.Lists.{any-loop-lists}
 use Rattle.netlist_tests.proofs.Record.{PassedTo, passed-next, refused-next, passed-all}
 use Rattle.netlist_tests.proofs.Dependence.{loop_fault-table, loops-none, loops-before}
 use Rattle.netlist_tests.proofs.test_loops.Goals as goal
+use Rattle.netlist_tests.proofs.test_loops.Goals.{After-loop_fault}
 
 pub depends_on_read-flags-requires : goal.depends_on_read-flags-requires
 depends_on_read-flags-requires c = c.requires
@@ -63,18 +64,17 @@ loop_fault-requires c =
     )
 
 -- what the turn's call says of the line at the next place
-tested : (c : tie.After-loop-fault invariant-loop decreases-loop)
-    → loop_fault (net_of c.before.before.before.before.before.before.before.before.before.before.before.before.args.net [] c.before.before.before.before.before.before.before.before.before.before.before.before.args.gates.now) (line_at (net_of c.before.before.before.before.before.before.before.before.before.before.before.before.args.net [] c.before.before.before.before.before.before.before.before.before.before.before.before.args.gates.now) (c.before.before.before.before.loop.place + 1)) ≡ c.loop-fault.result
+tested : (c : After-loop_fault)
+    → loop_fault (net_of c.args.net [] c.args.gates.now) (line_at (net_of c.args.net [] c.args.gates.now) (c.loop-place.place + 1)) ≡ c.loop_fault.result
 tested c =
-    let a = c.before.before.before.before.before.before.before.before.before.before.before.before.args in
-    let d = net_of a.net [] a.gates.now in
-    let p = c.before.before.before.before.loop.place + 1 in
-    let flags = c.before.before.before.before.before.before.before.before.before.before.before.depends-on-read.result in
-    loop_fault-table c.before.before.before.before.before.before.before.before.before.before.before.depends-on-read.ensures c.before.before.before.before.before.before.before.before.before.before.before.before.requires (line_at d p) (has-line_at d p)
-    ∙ sym (loop_fault_by-lists a.net [] a.gates.now (entry flags) (line_at d p))
-    ∙ ap (loop_fault_by (entry flags) (alone a.net))
-    (sym (line_at-lists a.net [] a.gates.now p) ∙ sym c.before.before.line-at.ensures)
-    ∙ sym c.loop-fault.ensures
+    let d = net_of c.args.net [] c.args.gates.now in
+    let p = c.loop-place.place + 1 in
+    let flags = c.depends_on_read-flags.result in
+    loop_fault-table c.depends_on_read-flags.ensures c.requires (line_at d p) (has-line_at d p)
+    ∙ sym (loop_fault_by-lists c.args.net [] c.args.gates.now (entry flags) (line_at d p))
+    ∙ ap (loop_fault_by (entry flags) (alone c.args.net))
+    (sym (line_at-lists c.args.net [] c.args.gates.now p) ∙ sym c.line_at-line.ensures)
+    ∙ sym c.loop_fault.ensures
 
 pub returns-then-loop_fault : goal.returns-then-loop_fault
 unfolding net_of

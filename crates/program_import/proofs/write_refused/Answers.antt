@@ -8,7 +8,7 @@ use Rattle.dimacs.proofs.Text.{length-refusal_text}
 use Rattle.program_import.proofs.write_refused.Goals as goal
 
 pub returns-then-is_cut : goal.returns-then-is_cut
-returns-then-is_cut c = rw (sym c.is_cut.ensures ∙ c.if-is_cut.true) (wrote_nothing _, omega arith)
+returns-then-is_cut c = rw (sym c.is_cut.ensures ∙ c.if-is_cut.true) (record { text = wrote_nothing _; most = omega arith })
 
 pub write_refusal-requires : goal.write_refusal-requires
 write_refusal-requires c =
@@ -18,4 +18,4 @@ pub returns : goal.returns
 returns c =
     let w = c.write_refusal.ensures in
     rw (sym c.is_cut.ensures ∙ c.if-is_cut.false)
-    (w, omega (arith, w.counted, length-refusal_text c.args.number c.args.place c.ranges.number.fits c.ranges.place.fits))
+    (record { text = w; most = omega (arith, w.counted, length-refusal_text c.args.number c.args.place c.ranges.number.fits c.ranges.place.fits) })

@@ -20,6 +20,7 @@ use Rattle.group_order.specs.declared.Next.TheVariants.{Then}
 use Rattle.program_output.proofs.Pieces.{SoFar, nothing_yet, order_has-due, one_more, piece-continues}
 use Rattle.program_output.proofs.print_groups.Invariants.{Begun}
 use Rattle.program_output.proofs.print_groups.Goals as goal
+use Rattle.program_output.proofs.print_groups.Goals.{After-next_group-next, In-Then}
 
 module _ (ports k bytes : ℕ) (next next₀ : Next) where
   not_more : Begun ports k bytes next next₀ → remaining_from ports k next ≤ remaining_from ports k next₀
@@ -38,23 +39,20 @@ pub loop-bytes-init : goal.loop-bytes-init
 loop-bytes-init c = (omega arith, refl, refl, λ before from o h. nothing_yet _ _ _ _ from h, inl (refl, refl))
 
 -- what is printed so far, of the groups from the first on
-so_far : (c : tie.After-known-told invariant-loop decreases-loop) →
-    let start = c.before.before.before.before.before.before.before.before in
-    let at = c.before.before.before.before.loop in
-    SoFar (net_of start.args.net start.args.latches.now start.args.gates.now) start.args.depth
-    start.args.text.now at.text at.bytes (Then c.before.next.given.0.0) (start.args.group ∷ start.requires.2.behind)
+so_far : (c : In-Then) →
+    SoFar (net_of c.args.net c.args.latches.now c.args.gates.now) c.args.depth
+    c.args.text.now c.loop-bytes.text c.loop-bytes.bytes (Then c.in-Then.due) (c.args.group ∷ c.requires.2.behind)
 so_far c =
-    let start = c.before.before.before.before.before.before.before.before in
-    let has = start.requires.2 in
-    rw c.before.next.given.1 at
-    (c.before.before.before.before.loop.invariant.3 has.before (start.args.group ∷ has.behind) has.order refl)
+    let has = c.requires.2 in
+    rw c.in-Then.is c.loop-bytes
+    (c.loop-bytes.invariant.3 has.before (c.args.group ∷ has.behind) has.order refl)
 
 -- the room that remains
-room : (c : tie.After-known-told invariant-loop decreases-loop) →
-    let at = c.before.before.before.before.loop in at.bytes + 71904 ≤ length at.text
+room : (c : In-Then) →
+    c.loop-bytes.bytes + 71904 ≤ length c.loop-bytes.text
 room c =
-    let at = c.before.before.before.before.loop in
-    omega (arith, c.before.before.before.loop-test.true, at.invariant.1, c.before.before.before.before.before.before.before.before.requires.5)
+    let c.loop-bytes = c.loop-bytes in
+    omega (arith, c.loop-bytes-test.true, c.loop-bytes.invariant.1, c.requires.5)
 
 pub slice_bounds-print_group-count : goal.slice_bounds-print_group-count
 slice_bounds-print_group-count c = omega (arith, room (goal.at.slice_bounds-print_group-count c).In-Then)
@@ -82,15 +80,13 @@ pub next_group-next-requires : goal.next_group-next-requires
 next_group-next-requires c = omega (arith, c.port_count-ports.ensures)
 
 -- what follows, with the netlist's ports
-followed : (c : tie.After-next-group invariant-loop decreases-loop) →
-    let start = c.before.before.before.before.before.before.before.before.before.before.before.before.before.before.before in
-    let due = c.before.before.before.before.before.before.before.before.next.given.0.0 in
-    ((xs ys : List Group) → group_order (ports (alone start.args.net)) start.args.depth ≡ xs ++ due ∷ ys → c.next-group.result ≡ first_group ys)
-    × (remaining_from (ports (alone start.args.net)) start.args.depth c.next-group.result
-    ≤ remaining_after (ports (alone start.args.net)) start.args.depth due)
+followed : (c : After-next_group-next) →
+    let due = c.in-Then.due in
+    ((xs ys : List Group) → group_order (ports (alone c.args.net)) c.args.depth ≡ xs ++ due ∷ ys → c.next_group-next.result ≡ first_group ys)
+    × (remaining_from (ports (alone c.args.net)) c.args.depth c.next_group-next.result
+    ≤ remaining_after (ports (alone c.args.net)) c.args.depth due)
 followed c =
-    let count = c.before.before.before.before.before.before.before.before.before.before.before.before.port-count in
-    let e = rw count.ensures at c.next-group.ensures in
+    let e = rw c.port_count-ports.ensures at c.next_group-next.ensures in
     (e.0, e.1.1)
 
 pub loop-bytes-smaller : goal.loop-bytes-smaller

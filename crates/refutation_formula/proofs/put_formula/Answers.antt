@@ -17,6 +17,7 @@ use Rattle.group_order.specs.declared.Next.TheVariants.{Then}
 use Rattle.group_order.proofs.Remaining.{first-remaining}
 use Rattle.refutation_formula.proofs.SoFar.{SoFar, nothing_yet, next-in_depth, one_more, all-put}
 use Rattle.refutation_formula.proofs.put_formula.Goals as goal
+use Rattle.refutation_formula.proofs.put_formula.Goals.{After-next_group-next, In-Then}
 
 pub port_count-ports-requires : goal.port_count-ports-requires
 port_count-ports-requires c = sizes-lists c.args.net c.args.latches.now c.args.gates.now [] [] c.requires.0.limits.sizes
@@ -31,11 +32,10 @@ loop-next-init c =
     )
 
 -- what is put so far, and the group that is next
-so_far : (c : tie.After-known-told invariant-loop decreases-loop) →
-    let start = c.before.before.before.before.before.before in let at = c.before.before.before.loop in
-    SoFar (net_of start.args.net start.args.latches.now start.args.gates.now) start.args.depth start.args.out.now at.out at.at
-    (Then c.before.next.given.0.0)
-so_far c = rw c.before.next.given.1 at c.before.before.before.loop.invariant.1
+so_far : (c : In-Then) →
+    SoFar (net_of c.args.net c.args.latches.now c.args.gates.now) c.args.depth c.args.out.now c.loop-next.out c.loop-next.at
+    (Then c.in-Then.group)
+so_far c = rw c.in-Then.is c.loop-next c.loop-next.invariant.1
 
 pub slice_bounds-put_where_room-count : goal.slice_bounds-put_where_room-count
 slice_bounds-put_where_room-count c = omega (arith, c.smaller-from.ensures.0)
@@ -55,14 +55,13 @@ pub next_group-next-requires : goal.next_group-next-requires
 next_group-next-requires c = omega (arith, c.port_count-ports.ensures)
 
 -- what follows, with the netlist's ports
-followed : (c : tie.After-next-group invariant-loop decreases-loop) →
-    let start = c.before.before.before.before.before.before.before.before.before.before.before.before.before in
-    let due = c.before.before.before.before.before.before.before.before.next.given.0.0 in
-    ((xs ys : List Group) → group_order (ports (alone start.args.net)) start.args.depth ≡ xs ++ due ∷ ys → c.next-group.result ≡ first_group ys)
-    × (remaining_from (ports (alone start.args.net)) start.args.depth c.next-group.result
-    ≤ remaining_after (ports (alone start.args.net)) start.args.depth due)
+followed : (c : After-next_group-next) →
+    let due = c.in-Then.group in
+    ((xs ys : List Group) → group_order (ports (alone c.args.net)) c.args.depth ≡ xs ++ due ∷ ys → c.next_group-next.result ≡ first_group ys)
+    × (remaining_from (ports (alone c.args.net)) c.args.depth c.next_group-next.result
+    ≤ remaining_after (ports (alone c.args.net)) c.args.depth due)
 followed c =
-    let e = rw c.before.before.before.before.before.before.before.before.before.before.before.before.port-count.ensures at c.next-group.ensures in
+    let e = rw c.port_count-ports.ensures at c.next_group-next.ensures in
     (e.0, e.1.1)
 
 pub loop-next-smaller : goal.loop-next-smaller

@@ -16,45 +16,43 @@ use Rattle.refutation_hints.proofs.Marks.{slot_read, slot-least, zero-joined_cod
 use Rattle.refutation_hints.proofs.Outcomes.{outcome-end, outcome-none, outcome-here}
 use Rattle.refutation_hints.proofs.clause_outcome.Invariants.{code_in}
 use Rattle.refutation_hints.proofs.clause_outcome.Goals as goal
+use Rattle.refutation_hints.proofs.clause_outcome.Goals.{After-join-outcome, After-slot-s, Else-limit-s}
 
 -- what is read at the loop's place
-read : (c : tie.After-slot invariant-loop decreases-loop) →
-    c.slot.result ≡ slot_of (get_or c.before.before.before.before.before.args.known.now c.before.before.before.loop.i (pos 0))
+read : (c : After-slot-s) →
+    c.slot-s.result ≡ slot_of (get_or c.args.known.now c.loop-i.i (pos 0))
 read c =
-    c.slot.ensures
-    ∙ slot_read c.before.before.before.before.before.args.known.now c.before.before.before.loop.i c.before.slot-arg.given
+    c.slot-s.ensures
+    ∙ slot_read c.args.known.now c.loop-i.i c.slot-arg-1.given
 
 -- what is left of the clause, where its number has a mark
-left : (c : tie.Else2 invariant-loop decreases-loop) →
-    let a = c.before.before.before.before.before.before.before.args in
-    let i = c.before.before.before.before.before.loop.i in
-    let s = c.before.before.slot.result in
-    code_in a.marks.now a.turn (drop i a.known.now)
-    ≡ joined_code (cond (false_in a.marks.now a.turn (get_or a.known.now i (pos 0))) 0 s) (code_in a.marks.now a.turn (drop (i + 1) a.known.now))
+left : (c : Else-limit-s) →
+    let i = c.loop-i.i in
+    let s = c.slot-s.result in
+    code_in c.args.marks.now c.args.turn (drop i c.args.known.now)
+    ≡ joined_code (cond (false_in c.args.marks.now c.args.turn (get_or c.args.known.now i (pos 0))) 0 s) (code_in c.args.marks.now c.args.turn (drop (i + 1) c.args.known.now))
 left c =
-    let a = c.before.before.before.before.before.before.before.args in
-    let i = c.before.before.before.before.before.loop.i in
-    let is = read c.before.before in
-    let here = outcome-here (length a.marks.now / 2) (false_in a.marks.now a.turn) a.known.now i
-    c.before.before.before.before.loop-test.true (rw is at c.before.if1.false) in
-    rw (is, here, lt-ltb (slot_of (get_or a.known.now i (pos 0))) (length a.marks.now / 2 * 2) (rw is at c.if2.false))
+    let c.args = c.args in
+    let i = c.loop-i.i in
+    let is = read c⟨After-slot⟩ in
+    let here = outcome-here (length c.args.marks.now / 2) (false_in c.args.marks.now c.args.turn) c.args.known.now i
+    c.loop-i-test.true (rw is at c.if-s-eq0.false) in
+    rw (is, here, lt-ltb (slot_of (get_or c.args.known.now i (pos 0))) (length c.args.marks.now / 2 * 2) (rw is at c.if-limit-s.false))
 
 -- and so with one number more
-next : (c : tie.After-join invariant-loop decreases-loop) →
-    let a = c.before.before.before.before.before.before.before.before.before.args in
-    let i = c.before.before.before.before.before.before.before.loop.i in
-    joined_code c.join.result (code_in a.marks.now a.turn (drop (i + 1) a.known.now))
-    ≡ code_in a.marks.now a.turn (drop a.place a.known.now)
+next : (c : After-join-outcome) →
+    let i = c.loop-i.i in
+    joined_code c.join-outcome.result (code_in c.args.marks.now c.args.turn (drop (i + 1) c.args.known.now))
+    ≡ code_in c.args.marks.now c.args.turn (drop c.args.place c.args.known.now)
 next c =
-    let a = c.before.before.before.before.before.before.before.before.before.args in
-    let at = c.before.before.before.before.before.before.before.loop in
-    let rest = code_in a.marks.now a.turn (drop (at.i + 1) a.known.now) in
-    let one = rw (read c.before.before.before.before) at c.join.ensures in
-    let more = rw (read c.before.before.before.before) at (left c.before.before) in
+    let c.args = c.args in
+    let rest = code_in c.args.marks.now c.args.turn (drop (c.loop-i.i + 1) c.args.known.now) in
+    let one = rw (read c⟨After-slot⟩) c.loop-i c.join-outcome.ensures in
+    let more = rw (read c⟨After-slot⟩) c.loop-i (left c⟨Else2⟩) in
     ap (λ (x : ℕ). joined_code x rest) one
-    ∙ sym (joined_code-joined_code at.outcome _ rest)
-    ∙ ap (joined_code at.outcome) (sym more)
-    ∙ at.invariant
+    ∙ sym (joined_code-joined_code c.loop-i.outcome _ rest)
+    ∙ ap (joined_code c.loop-i.outcome) (sym more)
+    ∙ c.loop-i.invariant
 
 pub loop-i-init : goal.loop-i-init
 loop-i-init c = zero-joined_code (code_in c.args.marks.now c.args.turn (drop c.args.place c.args.known.now))

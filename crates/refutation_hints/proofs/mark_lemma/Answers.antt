@@ -14,13 +14,14 @@ use Rattle.refutation_hints.specs.Marks.{slot_of, false_in, UpTo}
 use Rattle.refutation_hints.proofs.Marks.{slot_read, slot-within, none-false, marked_more, up_to-more}
 use Rattle.refutation_hints.proofs.Clauses.{every_here, among-here}
 use Rattle.refutation_hints.proofs.mark_lemma.Goals as goal
+use Rattle.refutation_hints.proofs.mark_lemma.Goals.{After-slot-s}
 
 -- what is read at the loop's place
-read : (c : tie.After-slot invariant-loop decreases-loop) →
-    c.slot.result ≡ slot_of (get_or c.before.before.before.before.before.args.lemma.now c.before.before.before.loop.i (pos 0))
+read : (c : After-slot-s) →
+    c.slot-s.result ≡ slot_of (get_or c.args.lemma.now c.loop-i.i (pos 0))
 read c =
-    c.slot.ensures
-    ∙ slot_read c.before.before.before.before.before.args.lemma.now c.before.before.before.loop.i c.before.slot-arg.given
+    c.slot-s.ensures
+    ∙ slot_read c.args.lemma.now c.loop-i.i c.slot-arg-1.given
 
 pub loop-i-init : goal.loop-i-init
 loop-i-init c =

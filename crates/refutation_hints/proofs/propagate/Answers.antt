@@ -16,6 +16,7 @@ use Rattle.refutation_hints.specs.Marks.{slot_of, false_in, UpTo}
 use Rattle.refutation_hints.proofs.Marks.{false-more, up_to-more}
 use Rattle.refutation_hints.proofs.Outcomes.{hint-sane, code-conflict, code-undecided, IsUnit, code-unit}
 use Rattle.refutation_hints.proofs.propagate.Goals as goal
+use Rattle.refutation_hints.proofs.propagate.Goals.{After-opposite-other, Else-outcome-eq1}
 
 -- one hint more
 module _ (n : ℕ) (known : List ℤ) (f : ℤ → Bool) (hints : List ℕ) (i : ℕ) (l : i < length hints) where
@@ -68,30 +69,28 @@ returns-then-outcome-eq1 c =
     record { answer = sym (propagates-undecided n c.args.known.now f c.args.hints.now c.loop-i.i c.loop-i-test.true is) ∙ c.loop-i.invariant.3; scratch = c.loop-i.invariant.2 }
 
 -- the hint's clause is a unit
-its-unit : (c : tie.Else2 invariant-loop decreases-loop) →
-    let at = c.before.before.before.before.before.before.loop in
-    let a = c.before.before.before.before.before.before.before.before.before.args in
-    IsUnit (length at.marks / 2)
-    (hint_outcome (length at.marks / 2) a.known.now (false_in at.marks a.turn) (get_or a.hints.now at.i 0))
+its-unit : (c : Else-outcome-eq1) →
+    IsUnit (length c.loop-i.marks / 2)
+    (hint_outcome (length c.loop-i.marks / 2) c.args.known.now (false_in c.loop-i.marks c.args.turn) (get_or c.args.hints.now c.loop-i.i 0))
 its-unit c =
-    let at = c.before.before.before.before.before.before.loop in
-    let a = c.before.before.before.before.before.before.before.before.before.args in
-    let n = length at.marks / 2 in
-    let f = false_in at.marks a.turn in
-    let h = get_or a.hints.now at.i 0 in
-    let e = c.before.before.hint-outcome.ensures in
-    code-unit n (hint_outcome n a.known.now f h) (hint-sane n a.known.now f h) (λ p. c.before.if1.false (e ∙ p)) (λ p. c.if2.false (e ∙ p))
+    let c.loop-i = c.loop-i in
+    let c.args = c.args in
+    let n = length c.loop-i.marks / 2 in
+    let f = false_in c.loop-i.marks c.args.turn in
+    let h = get_or c.args.hints.now c.loop-i.i 0 in
+    let e = c.hint_outcome-outcome.ensures in
+    code-unit n (hint_outcome n c.args.known.now f h) (hint-sane n c.args.known.now f h) (λ p. c.if-outcome-eq0.false (e ∙ p)) (λ p. c.if-outcome-eq1.false (e ∙ p))
 
 pub opposite-other-requires : goal.opposite-other-requires
 opposite-other-requires c = omega (arith, c.hint_outcome-outcome.ensures, (its-unit (goal.at.opposite-other-requires c).Else-outcome-eq1).least)
 
 -- the mark of its opposite
-room : (c : tie.After-opposite invariant-loop decreases-loop) → c.opposite.result < length c.before.before.before.before.before.before.before.loop.marks
-room c = omega (arith, c.before.before.before.hint-outcome.ensures, (its-unit c.before).most, c.opposite.ensures.1)
+room : (c : After-opposite-other) → c.opposite-other.result < length c.loop-i.marks
+room c = omega (arith, c.hint_outcome-outcome.ensures, (its-unit c⟨Else2⟩).most, c.opposite-other.ensures.1)
 
 pub offset_bounds-marks-other : goal.offset_bounds-marks-other
 offset_bounds-marks-other c =
-    record { fits = omega (arith, room (goal.at.offset_bounds-marks-other c).After-opposite-other, c.loop-i.invariant.1, c.well-formed.1.1.0.1) }
+    record { fits = omega (arith, room (goal.at.offset_bounds-marks-other c).After-opposite-other, c.loop-i.invariant.1, c.well_formed.1.1.0.1) }
 
 pub bounds-marks-other : goal.bounds-marks-other
 bounds-marks-other c = room (goal.at.bounds-marks-other c).After-opposite-other

@@ -20,6 +20,7 @@ use Rattle.refutation_lemmas.specs.declared.Checked.TheVariants.{Refuted, Unjust
 use Rattle.refutation_lemmas.proofs.Lemmas.{checked-here, checked-none, checked-over}
 use Rattle.refutation_lemmas.proofs.Soundness.{refuted-unsatisfiable}
 use Rattle.refutation_lemmas.proofs.check.Goals as goal
+use Rattle.refutation_lemmas.proofs.check.Goals.{After-is_justified}
 
 -- what is found of all lemmas is refuted only where the formula is
 found : (formula lemmas : List ℤ) (hints : List ℕ) (k m left : ℕ) (r : Checked) → k ≡ m → left ≡ k → r ≡ checked (k / 2) formula lemmas hints
@@ -27,19 +28,19 @@ found : (formula lemmas : List ℤ) (hints : List ℕ) (k m left : ℕ) (r : Che
 found formula lemmas hints k m left r e l p =
     (p ∙ ap (λ (j : ℕ). checked (j / 2) formula lemmas hints) e, (λ q. refuted-unsatisfiable (k / 2) formula lemmas hints (sym p ∙ q), l ∙ e))
 
-module _ (c : tie.After-is-justified invariant-loop decreases-loop) where
+module _ (c : After-is_justified) where
   -- what a lemma is checked with
-  abbrev at-loop : tie.At-loop invariant-loop decreases-loop
-  at-loop = c.before.before.before.before.before.before.before.before.before.before
+  abbrev at-loop : tie.At-loop
+  at-loop = c⟨At-loop⟩
 
-  abbrev start : tie.Start invariant-loop decreases-loop
-  start = c.before.before.before.before.before.before.before.before.before.before.before.before.before.before.before.before.before
+  abbrev start : tie.Start
+  start = c⟨Start⟩
 
   abbrev n : ℕ
-  n = length c.before.before.before.before.before.before.before.before.before.before.before.before.before.clear.new.0 / 2
+  n = length c.clear.new.marks / 2
 
   abbrev end : ℕ
-  end = c.before.before.before.before.before.before.before.before.clause-end.result
+  end = c.clause_end-end.result
 
   abbrev count : ℕ
   count = get_or start.args.hints.now at-loop.loop.i 0
@@ -54,19 +55,19 @@ module _ (c : tie.After-is-justified invariant-loop decreases-loop) where
       (take count (drop (at-loop.loop.i + 1) start.args.hints.now))
 
   -- the marks are as many as they were
-  as_many : length c.is-justified.new.1.1.1.1.1.1.0 ≡ length c.before.before.before.before.before.before.before.before.before.before.before.before.before.clear.new.0
-  as_many = c.is-justified.auto.1.1.1.1.1.1.0 ∙ c.before.before.before.before.before.next-turn.auto.0 ∙ at-loop.loop.inv.2
+  as_many : length c.is_justified.new.at.1.1.1.1.1.0 ≡ length c.clear.new.marks
+  as_many = c.is_justified.auto.1.1.1.1.1.1.0 ∙ c.next_turn-turn.auto.0 ∙ at-loop.loop.inv.2
 
-  justified : c.is-justified.result ≡ (enough && lemma-follows)
+  justified : c.is_justified.result ≡ (enough && lemma-follows)
   justified =
-      c.is-justified.ensures.0
+      c.is_justified.ensures.answer
       ∙ ap
       (λ (k : ℕ).
       enough
       && follows (k / 2) (take at-loop.loop.at start.args.store.now)
       (take (end - at-loop.loop.at) (drop at-loop.loop.at start.args.store.now))
       (take count (drop (at-loop.loop.i + 1) start.args.hints.now)))
-      (c.before.before.before.before.before.next-turn.auto.0 ∙ at-loop.loop.inv.2)
+      (c.next_turn-turn.auto.0 ∙ at-loop.loop.inv.2)
 
   -- and what is found of the lemmas behind it
   abbrev rest : Checked
@@ -75,21 +76,21 @@ module _ (c : tie.After-is-justified invariant-loop decreases-loop) where
       (drop (at-loop.loop.i + 1 + count) start.args.hints.now) (at-loop.loop.lemma + 1)
 
   step :
-      (t q : Bool) → c.is-justified.result ≡ t → eqb end at-loop.loop.at ≡ q
+      (t q : Bool) → c.is_justified.result ≡ t → eqb end at-loop.loop.at ≡ q
       → checked_from n (take at-loop.loop.at start.args.store.now) (clauses_in (drop at-loop.loop.at start.args.store.now))
       (drop at-loop.loop.i start.args.hints.now) at-loop.loop.lemma
       ≡ cond t (cond q Refuted rest) (Unjustified at-loop.loop.lemma)
   step t q p e =
-      checked-here start.args.store.now at-loop.loop.at end c.before.before.before.before.before.before.before.before.clause-end.ensures c.before.before.before.before.before.before.before.if1.false n
-      start.args.hints.now at-loop.loop.i at-loop.loop.lemma c.before.before.before.before.before.before.before.before.before.loop-test.true
+      checked-here start.args.store.now at-loop.loop.at end c.clause_end-end.ensures c.if-store-end.false n
+      start.args.hints.now at-loop.loop.i at-loop.loop.lemma c.loop-i-test.true
       ∙ ap (λ (x : Bool). cond x (cond (eqb end at-loop.loop.at) Refuted rest) (Unjustified at-loop.loop.lemma)) (sym justified ∙ p)
       ∙ ap (λ (x : Bool). cond t (cond x Refuted rest) (Unjustified at-loop.loop.lemma)) e
 
   -- its hints are there
-  hints-there : c.is-justified.result ≡ true → at-loop.loop.i + 1 + count ≤ length start.args.hints.now
+  hints-there : c.is_justified.result ≡ true → at-loop.loop.i + 1 + count ≤ length start.args.hints.now
   hints-there t =
       let there = leb-true count (length (drop (at-loop.loop.i + 1) start.args.hints.now)) ((and-true enough lemma-follows).0 (sym justified ∙ t)).0 in
-      omega (arith, simp length-drop at there, c.before.before.before.before.before.before.before.before.before.loop-test.true)
+      omega (arith, simp length-drop at there, c.loop-i-test.true)
 
 pub loop-i-init : goal.loop-i-init
 unfolding checked
@@ -133,13 +134,13 @@ returns-then-end-at c =
     (sym here ∙ c.loop-i.invariant.4)
 
 pub overflow_add-at : goal.overflow_add-at
-overflow_add-at c = omega (arith, c.if-store-end.false, c.well-formed.0.0)
+overflow_add-at c = omega (arith, c.if-store-end.false, c.well_formed.0.0)
 
 pub overflow_add-i : goal.overflow_add-i
-overflow_add-i c = omega (arith, hints-there (goal.at.overflow_add-i c).After-is_justified c.if-is_justified.true, c.well-formed.1.1.0.0)
+overflow_add-i c = omega (arith, hints-there (goal.at.overflow_add-i c).After-is_justified c.if-is_justified.true, c.well_formed.1.1.0.0)
 
 pub overflow_add-lemma : goal.overflow_add-lemma
-overflow_add-lemma c = omega (arith, hints-there (goal.at.overflow_add-lemma c).After-is_justified c.if-is_justified.true, c.loop-i.invariant.1, c.well-formed.1.1.0.0)
+overflow_add-lemma c = omega (arith, hints-there (goal.at.overflow_add-lemma c).After-is_justified c.if-is_justified.true, c.loop-i.invariant.1, c.well_formed.1.1.0.0)
 
 pub loop-i-smaller : goal.loop-i-smaller
 loop-i-smaller c = omega (arith, hints-there (goal.at.loop-i-smaller c).After-is_justified c.if-is_justified.true, c.loop-i-test.true)

@@ -11,13 +11,14 @@ use Rattle.refutation_lemmas.specs.Ends.{before_end}
 use Rattle.refutation_hints.proofs.Marks.{slot_read}
 use Rattle.refutation_lemmas.proofs.Ends.{ends_at, goes_on, ended}
 use Rattle.refutation_lemmas.proofs.clause_end.Goals as goal
+use Rattle.refutation_lemmas.proofs.clause_end.Goals.{After-slot}
 
 -- what is read at the loop's place
-read : (c : tie.After-slot invariant-loop decreases-loop) →
-    c.slot.result ≡ slot_of (get_or c.before.before.before.before.args.store.now c.before.before.before.loop.i (pos 0))
+read : (c : After-slot) →
+    c.slot.result ≡ slot_of (get_or c.args.store.now c.loop-i.i (pos 0))
 read c =
     c.slot.ensures
-    ∙ slot_read c.before.before.before.before.args.store.now c.before.before.before.loop.i c.before.slot-arg.given
+    ∙ slot_read c.args.store.now c.loop-i.i c.slot-arg-1.given
 
 pub loop-i-init : goal.loop-i-init
 loop-i-init c = refl

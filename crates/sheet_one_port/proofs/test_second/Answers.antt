@@ -12,6 +12,7 @@ use Rattle.netlist.proofs.Places.{has-line_at}
 use Rattle.netlist_tests.proofs.Record.{PassedTo, passed-next, refused-next, passed-all}
 use Rattle.sheet_one_port.specs.SecondPort.{second_use}
 use Rattle.sheet_one_port.proofs.test_second.Goals as goal
+use Rattle.sheet_one_port.proofs.test_second.Goals.{After-second_use}
 
 pub loop-place-init : goal.loop-place-init
 unfolding in_order
@@ -28,12 +29,11 @@ second_use-requires c = (
 )
 
 -- what the turn's call says of the line at the next place
-tested : (c : tie.After-second-use invariant-loop decreases-loop) → second_use (net_of c.before.before.before.before.before.args.net c.before.before.before.before.before.args.latches.now c.before.before.before.before.before.args.gates.now) (line_at (net_of c.before.before.before.before.before.args.net c.before.before.before.before.before.args.latches.now c.before.before.before.before.before.args.gates.now) (c.before.before.before.loop.place + 1)) ≡ c.second-use.result
+tested : (c : After-second_use) → second_use (net_of c.args.net c.args.latches.now c.args.gates.now) (line_at (net_of c.args.net c.args.latches.now c.args.gates.now) (c.loop-place.place + 1)) ≡ c.second_use.result
 tested c =
-    let a = c.before.before.before.before.before.args in
-    let d = net_of a.net a.latches.now a.gates.now in
-    ap (second_use d) (sym (line_at-lists a.net a.latches.now a.gates.now (c.before.before.before.loop.place + 1)) ∙ sym c.before.line-at.ensures)
-    ∙ sym c.second-use.ensures
+    let d = net_of c.args.net c.args.latches.now c.args.gates.now in
+    ap (second_use d) (sym (line_at-lists c.args.net c.args.latches.now c.args.gates.now (c.loop-place.place + 1)) ∙ sym c.line_at-line.ensures)
+    ∙ sym c.second_use.ensures
 
 pub returns-then-second_use : goal.returns-then-second_use
 unfolding net_of

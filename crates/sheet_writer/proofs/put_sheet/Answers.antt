@@ -19,6 +19,7 @@ use Rattle.sheet_text.specs.PrintedAt.{printed_at}
 use Rattle.sheet_text.proofs.Placed.{placed}
 use Rattle.sheet_writer.proofs.put_sheet.Invariants.{line_behind}
 use Rattle.sheet_writer.proofs.put_sheet.Goals as goal
+use Rattle.sheet_writer.proofs.put_sheet.Goals.{In-loop-place}
 
 pub control_line-last-requires : goal.control_line-last-requires
 control_line-last-requires c = c.requires.0
@@ -28,10 +29,9 @@ unfolding gather
 loop-place-init c = (omega arith, refl, omega arith, record { counted = refl; leaves = refl })
 
 -- there is room for one line more
-room : (c : tie.In-loop invariant-loop decreases-loop) → c.before.loop.at + 32 ≤ length c.before.loop.out
+room : (c : In-loop-place) → c.loop-place.at + 32 ≤ length c.loop-place.out
 room c =
-    let at = c.before.loop in
-    omega (arith, at.invariant.1, at.invariant.2, c.before.before.control-line.ensures, c.before.before.before.before.requires.1)
+    omega (arith, c.loop-place.invariant.1, c.loop-place.invariant.2, c.control_line-last.ensures, c.requires.1)
 
 pub slice_bounds-put_line_at-count : goal.slice_bounds-put_line_at-count
 slice_bounds-put_line_at-count c = omega (arith, room (goal.at.slice_bounds-put_line_at-count c).In-loop-place)

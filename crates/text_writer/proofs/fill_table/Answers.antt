@@ -13,16 +13,16 @@ use Rattle.model.proofs.Wrote.{wrote_then}
 use Rattle.text_writer.specs.Table.{four_digits, table_below}
 use Rattle.text_writer.proofs.Table.{length-table_below}
 use Rattle.text_writer.proofs.fill_table.Goals as goal
+use Rattle.text_writer.proofs.fill_table.Goals.{In-loop-x}
 
 pub loop-x-init : goal.loop-x-init
 unfolding table_below
 loop-x-init c = (omega arith, refl, record { counted = refl; leaves = refl })
 
 -- there is room for four digits more
-room : (c : tie.In-loop invariant-loop decreases-loop) → c.before.loop.at + 4 ≤ length c.before.loop.table
+room : (c : In-loop-x) → c.loop-x.at + 4 ≤ length c.loop-x.table
 room c =
-    let at = c.before.loop in
-    omega (arith, at.invariant.1, at.invariant.2.counted, length-table_below at.x, c.before.before.before.requires)
+    omega (arith, c.loop-x.invariant.1, c.loop-x.invariant.2.counted, length-table_below c.loop-x.x, c.requires)
 
 pub slice_bounds-put_four_digits-count : goal.slice_bounds-put_four_digits-count
 slice_bounds-put_four_digits-count c = omega (arith, room (goal.at.slice_bounds-put_four_digits-count c).In-loop-x)

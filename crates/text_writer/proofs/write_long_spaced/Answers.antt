@@ -16,10 +16,10 @@ use Rattle.text_writer.proofs.write_long_spaced.Goals as goal
 use Rattle.text_writer.proofs.write_long_spaced.Goals.{After-write_leading-first, Start}
 
 -- the two parts of the text
-abbrev leading : tie.Start → List ℕ
+abbrev leading : (c : Start) → List ℕ
 leading c = digits (c.args.x / 10000)
 
-abbrev others : tie.Start → List ℕ
+abbrev others : (c : Start) → List ℕ
 others c = four_digits (c.args.x % 10000) ++ space ∷ []
 
 room : (c : Start) → length (leading c ++ others c) ≤ length c.args.out.now

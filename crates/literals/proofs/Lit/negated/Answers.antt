@@ -11,4 +11,4 @@ returns c =
     let z = c.args.self.0 in
     let is-lit = c.requires in
     rw (minus_is z is-lit.bounded)
-    (literal_at-neg z is-lit.nonzero, record { nonzero = rw (nat_abs-neg z) is-lit.nonzero; bounded = rw (nat_abs-neg z) is-lit.bounded })
+    (record { literal = literal_at-neg z is-lit.nonzero; number = record { nonzero = rw (nat_abs-neg z) is-lit.nonzero; bounded = rw (nat_abs-neg z) is-lit.bounded } })

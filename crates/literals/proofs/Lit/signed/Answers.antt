@@ -9,7 +9,7 @@ use Rattle.literals.proofs.Lit.signed.Goals as goal
 pub returns-then-x-eq1 : goal.returns-then-x-eq1
 returns-then-x-eq1 c =
     rw (code_at-inverted c.args.b c.args.x c.requires.1 c.if-x-eq1.true)
-    (c.negated.ensures.literal ∙ ap neg c.variable-wire.ensures.literal, c.negated.ensures.number)
+    (record { literal = c.negated.ensures.literal ∙ ap neg c.variable-wire.ensures.literal; number = c.negated.ensures.number })
 
 pub returns : goal.returns
 returns c =

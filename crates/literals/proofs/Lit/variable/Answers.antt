@@ -11,4 +11,4 @@ pub returns : goal.returns
 unfolding literal_at
 returns c =
     rw (variable-is c.args.b c.args.w c.requires.0)
-    (refl, record { nonzero = omega arith; bounded = omega arith })
+    (record { literal = refl; number = record { nonzero = omega arith; bounded = omega arith } })

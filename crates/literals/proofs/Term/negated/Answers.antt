@@ -11,11 +11,11 @@ negated-requires c = rw c.in-Number.is at c.requires
 
 pub returns-in-True : goal.returns-in-True
 unfolding literal_of neg
-returns-in-True c = rw c.in-True.is (refl, tt)
+returns-in-True c = rw c.in-True.is (record { literal = refl; number = tt })
 
 pub returns-in-False : goal.returns-in-False
 unfolding literal_of neg
-returns-in-False c = rw c.in-False.is (refl, tt)
+returns-in-False c = rw c.in-False.is (record { literal = refl; number = tt })
 
 pub returns-in-Number : goal.returns-in-Number
 unfolding literal_of

@@ -16,4 +16,4 @@ returns-in-False c = absurd (true≢false (sym (rw c.in-False.is at c.requires.1
 
 pub returns-in-Number : goal.returns-in-Number
 unfolding literal_of
-returns-in-Number c = rw c.in-Number.is (refl, rw c.in-Number.is at c.requires.0)
+returns-in-Number c = rw c.in-Number.is (record { literal = refl; number = rw c.in-Number.is at c.requires.0 })
